@@ -1,0 +1,11 @@
+pub mod Digits
+pub mod Lists
+pub mod Headers
+pub mod Reading
+pub mod Encodings
+pub mod Frames
+pub mod Texts
+pub mod Views
+pub mod Depths
+pub mod Splits
+pub mod Printing

@@ -1,0 +1,9 @@
+use Rattle.std.proofs.Common.{◌^◌}
+use Rattle.rlp.specs.Item.{list_of}
+use Rattle.rlp.specs.Encoding.{encoding, join}
+use Rattle.rlp.proofs.Encodings.{encoding_list, small_payload}
+use Rattle.rlp.proofs.Views.{sized_items}
+use Rattle.rlp.proofs.laws.parts_of_sized_are_sized.Goals as goal
+
+pub returns : goal.returns
+returns c = λ xs sized. sized_items xs (2 ^ 64) (small_payload 0xc0 (join xs) (encoding (list_of xs)) (encoding_list xs) sized)

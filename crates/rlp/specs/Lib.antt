@@ -1,0 +1,9 @@
+pub mod Item
+pub mod WrittenHeader
+pub mod Encoding
+pub mod Header
+pub mod Framing
+pub mod Split
+pub mod View
+pub mod Text
+pub mod Depth

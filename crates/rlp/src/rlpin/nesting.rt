@@ -1,0 +1,34 @@
+//! How deep the lists of a view nest.
+
+ghost use Rattle.std.specs.Prelude.{◌≤◌, ◌↔◌, IsTrue};
+ghost use Rattle.rlp.specs.Depth.{depth};
+
+use crate::rlpin::iter::split_first;
+use crate::rlpin::view::Rlp;
+
+impl Rlp<'_> {
+    /// Whether the depth is at most `limit`. Anything but a framed list has depth 0, and a framed list 1 more than the deepest of its items, or 1 without items.
+    ///
+    /// It goes no deeper than `limit` lists, so it bounds the work of [`Display`](std::fmt::Display) on bytes of any origin.
+    pub fn is_nested_within(&self, limit: usize) -> bool
+        ensures { IsTrue result ↔ (depth self.now.bytes ≤ limit) }
+    {
+        if !self.is_list() {
+            return true;
+        }
+        let Ok(value) = self.data() else {
+            return true;
+        };
+        if limit == 0 {
+            return false;
+        }
+        let mut rest = value;
+        while let Some((item, others)) = split_first(rest) {
+            if !item.is_nested_within(limit - 1) {
+                return false;
+            }
+            rest = others;
+        }
+        true
+    }
+}

@@ -1,0 +1,40 @@
+-- The lines of a text.
+use Rattle.std.specs.Prelude.{ℕ, ◌==◌, List, [], ◌∷◌, ◌++◌}
+use Rattle.std.specs.List.{slice_split}
+
+-- the pieces of a text, which is cut at each newline
+unfoldable pub pieces : List ℕ → List (List ℕ)
+pieces t = slice_split (λ byte. byte == 10) t
+
+-- all but the last of some pieces
+abbrev pub all_but_last : List (List ℕ) → List (List ℕ)
+all_but_last [] = []
+all_but_last (piece ∷ []) = []
+all_but_last (piece ∷ next ∷ rest) = piece ∷ all_but_last (next ∷ rest)
+
+-- the last of some pieces
+abbrev pub last_of : List (List ℕ) → List ℕ
+last_of [] = []
+last_of (piece ∷ []) = piece
+last_of (piece ∷ next ∷ rest) = last_of (next ∷ rest)
+
+-- the lines of a text that a newline ends: all of its pieces but the last
+unfoldable pub ended_lines : List ℕ → List (List ℕ)
+ended_lines t = all_but_last (pieces t)
+
+-- what stands after the last newline of a text
+unfoldable pub last_piece : List ℕ → List ℕ
+last_piece t = last_of (pieces t)
+
+-- a last piece is a line if it isn't empty
+abbrev pub line_of_last : List ℕ → List (List ℕ)
+line_of_last [] = []
+line_of_last (byte ∷ rest) = (byte ∷ rest) ∷ []
+
+-- the line of a text that no newline ends, if there is one
+abbrev pub unended_line : List ℕ → List (List ℕ)
+unended_line t = line_of_last (last_piece t)
+
+-- the lines of a text: those that a newline ends, and then what stands after the last newline, if that isn't empty
+abbrev pub lines : List ℕ → List (List ℕ)
+lines t = ended_lines t ++ unended_line t

@@ -1,0 +1,33 @@
+-- The bookkeeping of the loop over the input, which only clauses of private functions cite.
+use Rattle.std.specs.Prelude.{ℕ, ◌≡◌, ◌<◌, Bool, true, false, List, [], ◌∷◌, ◌++◌, length, Option, ◌⊎◌}
+use Rattle.std.specs.Io.KnownBytes.{Appends, Keeps}
+use Rattle.rlp_tool.specs.Answer.{longest_line}
+use Rattle.rlp_tool.specs.Lines.{pieces, ended_lines, last_piece}
+use Rattle.rlp_tool.specs.Replies.{replies_to, replies}
+use Rattle.rlp_tool.specs.Run.{AppendsPart}
+use Rattle.rlp_tool.specs.declared.serving.RunFault.{RunFault}
+use Rattle.rlp_tool.specs.declared.serving.RunFault.TheVariants.{Memory, Write}
+
+-- no newline is among these bytes
+abbrev pub IsOnePiece : List ℕ → Type 0
+IsOnePiece run = pieces run ≡ run ∷ []
+
+-- the bytes kept of a line that has begun, or that it is too long
+abbrev pub IsLine : List ℕ → Bool → List ℕ → Type 0
+IsLine kept false begun = kept ≡ begun
+IsLine kept true begun = longest_line < length begun
+
+-- after a text, of whose replies some were written and the others wait, and whose last piece is kept
+pub record IsAfter (text written waiting kept : List ℕ) (over : Bool) : Type 0 where
+  pub answered : written ++ waiting ≡ replies_to (ended_lines text)
+  pub line : IsLine kept over (last_piece text)
+
+-- after a text, of whose lines all that are ended were answered, and whose last piece is kept
+pub record IsServed (start now : Option (List ℕ)) (text kept : List ℕ) (over : Bool) : Type 0 where
+  pub wrote : Appends start now (replies_to (ended_lines text))
+  pub line : IsLine kept over (last_piece text)
+
+-- how the answers to a text stop: without memory nothing more was written, and a writer that failed has a beginning of the replies
+abbrev pub IsStop : RunFault → Option (List ℕ) → Option (List ℕ) → Option (List ℕ) → List ℕ → Bool → Type 0
+IsStop fault start old new text failed =
+    ((fault ≡ Memory) × Keeps old new) ⊎ ((fault ≡ Write) × AppendsPart start new (replies text) × (failed ≡ true))

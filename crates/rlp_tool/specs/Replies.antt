@@ -1,0 +1,17 @@
+-- What is written for the lines of a text.
+use Rattle.std.specs.Prelude.{ℕ, List, [], ◌∷◌, ◌++◌}
+use Rattle.std.specs.List.{flat_map}
+use Rattle.rlp_tool.specs.Answer.{answer}
+use Rattle.rlp_tool.specs.Lines.{lines}
+
+-- a line's answer, with a newline
+abbrev pub reply : List ℕ → List ℕ
+reply line = answer line ++ 10 ∷ []
+
+-- the replies to some lines, one after the other
+unfoldable pub replies_to : List (List ℕ) → List ℕ
+replies_to some_lines = flat_map reply some_lines
+
+-- the replies to all lines of a text
+abbrev pub replies : List ℕ → List ℕ
+replies t = replies_to (lines t)

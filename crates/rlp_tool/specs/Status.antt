@@ -1,0 +1,9 @@
+use Rattle.std.specs.Prelude.{ℕ}
+use Rattle.rlp_tool.specs.declared.serving.RunFault.{RunFault}
+use Rattle.rlp_tool.specs.declared.serving.RunFault.TheVariants.{Memory, Read, Write}
+
+-- the status that a program ends with after a fault
+abbrev pub status_of : RunFault → ℕ
+status_of Memory = 1
+status_of Read = 2
+status_of Write = 3

@@ -1,0 +1,7 @@
+use Rattle.std.specs.Prelude.{ℕ, Bool}
+
+-- a reader or writer, whether it has failed, and how often it was read
+pub record Watched (T : Type 0) : Type 0 where
+  pub inner : T
+  pub failed : Bool
+  pub reads : ℕ

@@ -1,0 +1,135 @@
+//! The line that has begun.
+ghost use Rattle.std.specs.Prelude.{◌≡◌, ◌++◌, ◌+◌, ◌<◌, ◌≤◌, ◌==◌, ℕ, List, [], ◌∷◌, length, take, position, string_bytes, OnOk, IsTrue, ◌↔◌};
+ghost use Rattle.rlp_tool.specs.Answer.{answer};
+ghost use Rattle.rlp_tool.specs.Replies.{reply, replies_to};
+ghost use Rattle.rlp_tool.specs.Lines.{last_piece, unended_line};
+ghost use Rattle.rlp_tool.specs.Progress.{IsOnePiece, IsLine, IsAfter};
+
+use crate::answer::answer_within;
+use std::alloc::{AllocError, Global};
+
+/// The most bytes that a line may have, its newline not counted.
+const LONGEST_LINE: usize = 131_072;
+
+/// The bytes of a line that has begun, or that it is too long already.
+#[derive(Drop)]
+pub(crate) struct Line {
+    bytes: Vec<u8>,
+    over: bool,
+    ghost within: { length bytes.items ≤ 131072 },
+}
+
+impl Line {
+    pub(crate) fn new(alloc: Global) -> Line
+        ensures { IsLine result.bytes.items result.over [] }
+    {
+        Line {
+            bytes: Vec::new(alloc),
+            over: false,
+        }
+    }
+
+    /// Adds bytes without a newline.
+    fn extend(&mut self, run: &[u8]) -> Result<(), AllocError>
+        ensures { (begun : List ℕ) → IsLine self.old.bytes.items self.old.over begun
+            → OnOk result (IsLine self.new.bytes.items self.new.over (begun ++ run.now)) }
+    {
+        if self.over {
+            return Ok(());
+        }
+        if run.len() > LONGEST_LINE - self.bytes.len() {
+            self.over = true;
+            return Ok(());
+        }
+        self.bytes.extend_from_slice(run)
+    }
+
+    /// Appends the answer.
+    #[tactic(auto, unfolding(crate::specs::Answer::answer))]
+    fn answer(&self, alloc: Global, out: &mut String) -> Result<(), AllocError>
+        ensures { (begun : List ℕ) → IsLine self.now.bytes.items self.now.over begun
+            → OnOk result (string_bytes out.new ≡ string_bytes out.old ++ answer begun) }
+    {
+        if self.over {
+            return out.push_str("error long line");
+        }
+        answer_within(alloc, self.bytes.as_slice(), out)
+    }
+
+    /// Appends the answer and a newline.
+    fn reply(&self, alloc: Global, out: &mut String) -> Result<(), AllocError>
+        ensures { (begun : List ℕ) → IsLine self.now.bytes.items self.now.over begun
+            → OnOk result (string_bytes out.new ≡ string_bytes out.old ++ reply begun) }
+    {
+        self.answer(alloc, out)?;
+        out.push('\n')
+    }
+
+    fn is_empty(&self) -> bool
+        ensures { (begun : List ℕ) → IsLine self.now.bytes.items self.now.over begun
+            → IsTrue result ↔ (begun ≡ []) }
+    {
+        !self.over && self.bytes.is_empty()
+    }
+
+    fn clear(&mut self)
+        ensures { IsLine self.new.bytes.items self.new.over [] }
+    {
+        self.bytes.clear();
+        self.over = false;
+    }
+
+    /// Ends the line by some bytes and a newline, and appends the reply.
+    fn end(&mut self, alloc: Global, run: &[u8], out: &mut String) -> Result<(), AllocError>
+        ensures { (text written : List ℕ)
+            → IsAfter text written (string_bytes out.old) self.old.bytes.items self.old.over
+            → IsOnePiece run.now
+            → OnOk result (IsAfter (text ++ run.now ++ 10 ∷ []) written (string_bytes out.new)
+            self.new.bytes.items self.new.over) }
+    {
+        self.extend(run)?;
+        self.reply(alloc, out)?;
+        self.clear();
+        Ok(())
+    }
+
+    /// Takes bytes, and appends the replies to the lines that end among them.
+    pub(crate) fn feed(
+        &mut self,
+        alloc: Global,
+        bytes: &[u8],
+        out: &mut String,
+    ) -> Result<(), AllocError>
+        ensures { (text written : List ℕ)
+            → IsAfter text written (string_bytes out.old) self.old.bytes.items self.old.over
+            → OnOk result (IsAfter (text ++ bytes.now) written (string_bytes out.new)
+            self.new.bytes.items self.new.over) }
+    {
+        let mut rest = bytes;
+        while let Some(at) = newline_at(rest) {
+            let (run, others) = rest.split_at(at);
+            self.end(alloc, run, out)?;
+            rest = &others[1..];
+        }
+        self.extend(rest)
+    }
+
+    /// Appends the reply to a last line, if one has begun.
+    #[tactic(auto, using(crate::proofs::ProgressLemmas::last_line))]
+    pub(crate) fn finish(&self, alloc: Global, out: &mut String) -> Result<(), AllocError>
+        ensures { (text : List ℕ) → IsLine self.now.bytes.items self.now.over (last_piece text)
+            → OnOk result (string_bytes out.new ≡ string_bytes out.old ++ replies_to (unended_line text)) }
+    {
+        if self.is_empty() {
+            return Ok(());
+        }
+        self.reply(alloc, out)
+    }
+}
+
+/// Where the first newline is.
+fn newline_at(bytes: &[u8]) -> Option<usize>
+    ensures { result ≡ position (λ byte. byte == 10) bytes.now }
+{
+    bytes.iter().position(|byte| *byte == b'\n')
+}

@@ -1,0 +1,128 @@
+//! A reader or writer that keeps whether it has failed, and how often it was read.
+ghost use Rattle.std.specs.Prelude.{◌≡◌, ◌+◌, ◌-◌, ◌^◌, ◌<◌, ◌≤◌, ℕ, min, true, false, length, OnOk, OnErr, IfOk, ◌||◌};
+ghost use Rattle.std.specs.Io.KnownBytes.{ReadConsumes, WriteAppends, Keeps};
+ghost use Rattle.std.specs.Io.{ReadsAtMost, WritesAtMost};
+
+use std::io;
+use std::io::{Read, Write};
+use std::marker::Model;
+
+/// A reader or writer, with whether a call of it has failed, and how many reads were made.
+#[derive(Drop)]
+pub struct Noted<T> {
+    inner: T,
+    failed: bool,
+    reads: u64,
+}
+
+impl<T> Model for Noted<T> {
+    ghost use Rattle.rlp_tool.specs.Watched.{Watched};
+
+    ghost Value = { Watched T };
+
+    ghost view = { λ n. record { inner = n.inner; failed = n.failed; reads = n.reads } };
+}
+
+impl<T> Noted<T> {
+    /// It has not failed, and no read was made.
+    pub fn new(inner: T) -> Noted<T>
+        ensures inner { result.inner ≡ inner }
+        ensures failed { result.failed ≡ false }
+        ensures reads { result.reads ≡ 0 }
+    {
+        Noted {
+            inner,
+            failed: false,
+            reads: 0,
+        }
+    }
+
+    /// The reader or writer itself.
+    pub fn inner(&self) -> &T
+        ensures { result.now ≡ self.now.inner }
+    {
+        &self.inner
+    }
+
+    /// Whether a call has failed.
+    pub fn failed(&self) -> bool
+        ensures { result ≡ self.now.failed }
+    {
+        self.failed
+    }
+
+    /// How many reads were made. The count stays at `u64::MAX` once it is there.
+    pub fn reads(&self) -> u64
+        ensures { result ≡ self.now.reads }
+    {
+        self.reads
+    }
+
+    /// From here on it counts as failed, if there was a fault.
+    fn note(&mut self, fault: bool)
+        ensures { self.new ≡ record self.old { failed = self.old.failed || fault } }
+    {
+        self.failed |= fault;
+    }
+}
+
+impl<R: Read> Noted<R> {
+    /// Reads once.
+    ///
+    /// # Errors
+    ///
+    /// The reader's own, after which it counts as failed.
+    pub fn read(&mut self, buf: &mut [u8]) -> io::Result<usize>
+        ensures bound { ReadsAtMost result buf.new }
+        ensures bytes { ReadConsumes (R.remaining self.old.inner) (R.remaining self.new.inner) result buf.new }
+        ensures ok { OnOk result (self.new.failed ≡ self.old.failed) }
+        ensures err { OnErr result (self.new.failed ≡ true) }
+        ensures reads { self.new.reads ≡ min (self.old.reads + 1) (2 ^ 64 - 1) }
+    {
+        self.reads = self.reads.saturating_add(1);
+        let result = self.inner.read(buf);
+        self.note(result.is_err());
+        result
+    }
+}
+
+impl<W: Write> Noted<W> {
+    /// Writes once, and answers how many bytes were taken.
+    ///
+    /// # Errors
+    ///
+    /// The writer's own, after which it counts as failed, as it does where it takes none of one or more bytes.
+    pub fn write(&mut self, buf: &[u8]) -> io::Result<usize>
+        ensures bound { WritesAtMost result buf.now }
+        ensures bytes { WriteAppends (W.contents self.old.inner) (W.contents self.new.inner) result buf.now }
+        ensures some_taken { IfOk result (λ n. 0 < n → self.new.failed ≡ self.old.failed) }
+        ensures nothing_given { length buf.now ≡ 0 → OnOk result (self.new.failed ≡ self.old.failed) }
+        ensures none_taken { IfOk result (λ n. n ≡ 0 → 0 < length buf.now → self.new.failed ≡ true) }
+        ensures err { OnErr result (self.new.failed ≡ true) }
+        ensures reads { self.new.reads ≡ self.old.reads }
+    {
+        let result = self.inner.write(buf);
+        let fault = match &result {
+            Ok(count) => *count == 0 && !buf.is_empty(),
+            Err(_) => true,
+        };
+        self.note(fault);
+        result
+    }
+
+    /// Flushes.
+    ///
+    /// # Errors
+    ///
+    /// The writer's own, after which it counts as failed.
+    pub fn flush(&mut self) -> io::Result<()>
+        ensures bytes { Keeps (W.contents self.old.inner) (W.contents self.new.inner) }
+        ensures ok { OnOk result (self.new.failed ≡ self.old.failed) }
+        ensures err { OnErr result (self.new.failed ≡ true) }
+        ensures reads { self.new.reads ≡ self.old.reads }
+    {
+        let result = self.inner.flush();
+        self.note(result.is_err());
+        result
+    }
+}

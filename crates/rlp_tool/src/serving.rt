@@ -1,0 +1,174 @@
+//! The loop over the input.
+ghost use Rattle.std.specs.Prelude.{◌≡◌, ◌-◌, ◌^◌, ◌++◌, ◌<◌, ◌≤◌, ◌⊎◌, ℕ, List, length, OnOk, OnErr, IfErr, Option, true, false};
+ghost use Rattle.std.specs.Io.KnownBytes.{Appends};
+ghost use Rattle.rlp_tool.specs.Replies.{replies};
+ghost use Rattle.rlp_tool.specs.Progress.{IsServed, IsStop};
+ghost use Rattle.rlp_tool.specs.Run.{AppendsPart, AnswersAll, AnswersSome, AnswersEnded, AnswersPart};
+
+use crate::line::Line;
+use crate::noted::Noted;
+use std::alloc::Global;
+use std::io::{Read, Write};
+
+/// How many bytes are asked of the input at once.
+const CHUNK: usize = 16_384;
+
+/// Why a run ended before the end of its input.
+#[derive(Debug, PartialEq, Eq, Drop)]
+pub enum RunFault {
+    /// More memory was refused.
+    Memory,
+    /// A read failed, or there were `u64::MAX` reads without an end.
+    Read,
+    /// A write or the last flush failed, or a write took no byte.
+    Write,
+}
+
+impl RunFault {
+    ghost use Rattle.rlp_tool.specs.Status.{status_of};
+
+    /// The status that a program ends with after this fault.
+    pub fn status(&self) -> u8
+        ensures { result ≡ status_of self.now }
+    {
+        match self {
+            RunFault::Memory => 1,
+            RunFault::Read => 2,
+            RunFault::Write => 3,
+        }
+    }
+}
+
+/// Writes all the bytes.
+fn write_whole<W: Write>(output: &mut Noted<W>, bytes: &[u8]) -> Result<(), RunFault>
+    ensures ok { OnOk result (Appends (W.contents output.old.inner) (W.contents output.new.inner) bytes.now) }
+    ensures kept { OnOk result (output.new.failed ≡ output.old.failed) }
+    ensures part { OnErr result (AppendsPart (W.contents output.old.inner) (W.contents output.new.inner) bytes.now) }
+    ensures failed { OnErr result (output.new.failed ≡ true) }
+    ensures fault { IfErr result (λ fault. fault ≡ RunFault.Write) }
+{
+    let mut rest = bytes;
+    while !rest.is_empty() {
+        match output.write(rest) {
+            Ok(0) => return Err(RunFault::Write),
+            Ok(count) => rest = &rest[count..],
+            Err(_) => return Err(RunFault::Write),
+        }
+    }
+    Ok(())
+}
+
+/// Writes all the bytes, and flushes.
+fn write_last<W: Write>(output: &mut Noted<W>, bytes: &[u8]) -> Result<(), RunFault>
+    ensures ok { OnOk result (Appends (W.contents output.old.inner) (W.contents output.new.inner) bytes.now) }
+    ensures kept { OnOk result (output.new.failed ≡ output.old.failed) }
+    ensures part { OnErr result (AppendsPart (W.contents output.old.inner) (W.contents output.new.inner) bytes.now) }
+    ensures failed { OnErr result (output.new.failed ≡ true) }
+    ensures fault { IfErr result (λ fault. fault ≡ RunFault.Write) }
+{
+    write_whole(output, bytes)?;
+    match output.flush() {
+        Ok(()) => Ok(()),
+        Err(_) => Err(RunFault::Write),
+    }
+}
+
+/// Answers the lines that end in these bytes.
+fn serve<W: Write>(
+    alloc: Global,
+    line: &mut Line,
+    answers: &mut String,
+    output: &mut Noted<W>,
+    bytes: &[u8],
+) -> Result<(), RunFault>
+    ensures ok { (start : Option (List ℕ)) (text : List ℕ)
+        → IsServed start (W.contents output.old.inner) text line.old.bytes.items line.old.over
+        → OnOk result (IsServed start (W.contents output.new.inner) (text ++ bytes.now)
+        line.new.bytes.items line.new.over) }
+    ensures kept { OnOk result (output.new.failed ≡ output.old.failed) }
+    ensures stop { (start : Option (List ℕ)) (text : List ℕ)
+        → IsServed start (W.contents output.old.inner) text line.old.bytes.items line.old.over
+        → IfErr result (λ fault. IsStop fault start
+        (W.contents output.old.inner) (W.contents output.new.inner) (text ++ bytes.now) output.new.failed) }
+{
+    answers.clear();
+    match line.feed(alloc, bytes, answers) {
+        Ok(()) => write_whole(output, answers.as_bytes()),
+        Err(_) => Err(RunFault::Memory),
+    }
+}
+
+/// Answers a last line that has no newline, and flushes.
+fn finish<W: Write>(
+    alloc: Global,
+    line: &Line,
+    answers: &mut String,
+    output: &mut Noted<W>,
+) -> Result<(), RunFault>
+    ensures ok { (start : Option (List ℕ)) (text : List ℕ)
+        → IsServed start (W.contents output.old.inner) text line.now.bytes.items line.now.over
+        → OnOk result (Appends start (W.contents output.new.inner) (replies text)) }
+    ensures kept { OnOk result (output.new.failed ≡ output.old.failed) }
+    ensures stop { (start : Option (List ℕ)) (text : List ℕ)
+        → IsServed start (W.contents output.old.inner) text line.now.bytes.items line.now.over
+        → IfErr result (λ fault. IsStop fault start
+        (W.contents output.old.inner) (W.contents output.new.inner) text output.new.failed) }
+{
+    answers.clear();
+    match line.finish(alloc, answers) {
+        Ok(()) => write_last(output, answers.as_bytes()),
+        Err(_) => Err(RunFault::Memory),
+    }
+}
+
+/// Answers each line of the input, up to its end.
+///
+/// # Errors
+///
+/// The fault that stopped it. What was written by then is whole answers, but for `Write`.
+pub fn run<R: Read, W: Write>(
+    alloc: Global,
+    input: &mut Noted<R>,
+    output: &mut Noted<W>,
+) -> Result<(), RunFault>
+    requires input { input.old.failed ≡ false }
+    requires output { output.old.failed ≡ false }
+
+    // At the end of the input all lines were answered, and neither device had failed.
+    ensures ok { OnOk result (AnswersAll
+        (R.remaining input.old.inner) (R.remaining input.new.inner)
+        (W.contents output.old.inner) (W.contents output.new.inner)) }
+    ensures faultless { OnOk result ((input.new.failed ≡ false) × (output.new.failed ≡ false)) }
+
+    // What each fault leaves, and which device had failed then.
+    ensures memory { result ≡ Err RunFault.Memory → AnswersSome
+        (R.remaining input.old.inner) (R.remaining input.new.inner)
+        (W.contents output.old.inner) (W.contents output.new.inner) }
+    ensures read { result ≡ Err RunFault.Read → AnswersEnded
+        (R.remaining input.old.inner) (R.remaining input.new.inner)
+        (W.contents output.old.inner) (W.contents output.new.inner) }
+    ensures read_only { result ≡ Err RunFault.Read → (input.new.failed ≡ true) ⊎ (input.new.reads ≡ 2 ^ 64 - 1) }
+    ensures write { result ≡ Err RunFault.Write → AnswersPart
+        (R.remaining input.old.inner) (R.remaining input.new.inner)
+        (W.contents output.old.inner) (W.contents output.new.inner) }
+    ensures write_only { result ≡ Err RunFault.Write → output.new.failed ≡ true }
+{
+    let _start = input.reads();
+    let mut line = Line::new(alloc);
+    let mut answers = String::new(alloc);
+    let mut buffer = [0u8; CHUNK];
+    for _turn in 0..u64::MAX {
+        let count = match input.read(&mut buffer) {
+            Ok(count) => count,
+            Err(_) => return Err(RunFault::Read),
+        };
+        if count == 0 {
+            return finish(alloc, &line, &mut answers, output);
+        }
+        let chunk = &buffer[..count];
+        if let Err(fault) = serve(alloc, &mut line, &mut answers, output, chunk) {
+            return Err(fault);
+        }
+    }
+    Err(RunFault::Read)
+}
