@@ -9,3 +9,13 @@ pub mod Views
 pub mod Depths
 pub mod Splits
 pub mod Printing
+pub mod Strings
+pub mod Numbers
+pub mod Values
+pub mod OneReading
+pub mod HighFirst
+pub mod Written
+pub mod Growth
+pub mod Layouts
+pub mod States
+pub mod Descriptions

@@ -7,3 +7,13 @@ pub mod Split
 pub mod View
 pub mod Text
 pub mod Depth
+pub mod Value
+pub mod StringReading
+pub mod ValueReading
+pub mod Stack
+pub mod Stream
+pub mod Growth
+pub mod Calls
+pub mod Layout
+pub mod Chain
+pub mod Described

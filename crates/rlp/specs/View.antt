@@ -6,6 +6,10 @@ use Rattle.rlp.specs.Split.{items}
 pub record View : Type 0 where
   pub bytes : List ℕ
 
+-- the view of these bytes
+abbrev pub view_of : List ℕ → View
+view_of b = record { bytes = b }
+
 -- the views of the items of a view
 abbrev pub item_views : View → List View
 item_views v = map (λ b. record v { bytes = b }) (items v.bytes)

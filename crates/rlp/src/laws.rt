@@ -13,6 +13,17 @@ ghost use Rattle.rlp.specs.Split.{IsCut, IsSplit, split, items, rest};
 ghost use Rattle.rlp.specs.Text.{text, text_by};
 ghost use Rattle.rlp.specs.Depth.{depth, depth_by};
 
+mod described;
+mod reading;
+mod streams;
+
+pub use described::stream_joins_what_is_described;
+pub use reading::{bytes_are_read, number_is_read, string_is_read, text_is_read};
+pub use streams::{
+    bytes_go_to_the_end, closed_size_goes_by_length, closing_keeps_what_is_closed,
+    constants_are_encodings, finished_streams_gain_encodings, growth_is_an_order, growth_of_moves,
+};
+
 /// The digits of a number are below 256, begin with no zero, and are that number's and no other's.
 pub fn digits_are_canonical()
     ensures bytes { (n : ℕ) → AreBytes (big_endian n) }

@@ -10,9 +10,53 @@
 //! ```
 #![tactic(auto)]
 
+ghost use Rattle.std.specs.Prelude.{◌≡◌, IfOk, IfErr, IsTrue, OnOk, ◌⊎◌};
+ghost use Rattle.rlp.specs.Encoding.{encoding};
+ghost use Rattle.rlp.specs.declared.error.DecoderError.TheVariants.{OutOfMemory};
+ghost use Rattle.rlp.specs.View.{view_of};
+
 mod error;
+mod impls;
 pub mod laws;
 mod rlpin;
+mod stream;
+mod traits;
 
+use bytes::BytesMut;
 pub use error::DecoderError;
-pub use rlpin::{PayloadInfo, Rlp, RlpIterator};
+pub use rlpin::{BasicDecoder, PayloadInfo, Rlp, RlpIterator};
+use std::alloc::{AllocError, Global};
+pub use stream::{BasicEncoder, Chain, RlpStream};
+pub use traits::{Decodable, Encodable};
+
+/// The encoding of the empty string.
+pub const NULL_RLP: [u8; 1] = [0x80];
+
+/// The encoding of the empty list.
+pub const EMPTY_LIST_RLP: [u8; 1] = [0xc0];
+
+/// The encoding of a value. `AllocError` where memory is refused, or where the value's own
+/// [`Encodable::rlp_append`] answers it.
+///
+/// ```rust
+/// assert_eq!(rt; rlp::encode(alloc, &256u64)?.as_slice(), [0x82, 0x01, 0x00]);
+/// assert_eq!(rt; rlp::encode(alloc, &"cat")?.as_slice(), [0x83, 0x63, 0x61, 0x74]);
+/// ```
+pub fn encode<E: Encodable>(alloc: Global, object: &E) -> Result<BytesMut, AllocError>
+    ensures fits { OnOk result (E.fits object.now) }
+    ensures bytes { IfOk result (λ b. b.items ≡ encoding (E.item object.now)) }
+{
+    object.rlp_bytes(alloc)
+}
+
+/// The value that the bytes begin with, as its type reads it: [`Decodable::decode`] of a view of them. What follows the value's item is never looked at.
+///
+/// ```rust
+/// assert_eq!(rt; rlp::decode::<u64>(alloc, &[0x82, 0x01, 0x00])?, 256);
+/// ```
+pub fn decode<T: Decodable>(alloc: Global, bytes: &[u8]) -> Result<T, DecoderError>
+    ensures value { IfOk result (λ v. T.gives (view_of bytes.now) v) }
+    ensures fault { IfErr result (λ e. (T.faults (view_of bytes.now) e) ⊎ ((e ≡ OutOfMemory) × IsTrue T.may_lack_memory)) }
+{
+    Rlp::new(bytes).as_val(alloc)
+}

@@ -1,5 +1,6 @@
 //! Reading: headers, views of bytes, and the items of a view.
 
+mod decoder;
 mod header;
 mod iter;
 mod nesting;
@@ -8,6 +9,8 @@ mod tests;
 mod text;
 mod view;
 
+pub use decoder::BasicDecoder;
 pub use header::PayloadInfo;
+pub(crate) use header::number_of;
 pub use iter::RlpIterator;
 pub use view::Rlp;

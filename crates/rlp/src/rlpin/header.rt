@@ -105,7 +105,7 @@ fn long_form(rest: &[u8], len: usize, zero_fault: DecoderError) -> Result<Payloa
 }
 
 /// The number that these digits write, greatest first.
-fn number_of(digits: &[u8]) -> usize
+pub(crate) fn number_of(digits: &[u8]) -> usize
     requires { length digits.now ≤ 8 }
     ensures { result ≡ number_from_digits 256 digits.now }
 {

@@ -1,0 +1,136 @@
+-- What a stream writes is the join of the items that its calls describe.
+use Rattle.std.proofs.Common.{◌≡◌, ℕ, suc, ◌+◌, Bool, true, false, cond, List, [], ◌∷◌, ◌++◌, length, map, Some, None, refl, sym, ap, ◌∙◌, append-nil, Result, Ok, Err, IsTrue, not, All}
+use Rattle.std.proofs.lemmas.List.Concat.{flat_map-append}
+use Rattle.rlp.specs.WrittenHeader.{big_endian, written_header}
+use Rattle.rlp.specs.Item.{Item, string, list_of}
+use Rattle.rlp.specs.Encoding.{encoding, join, IsSized}
+use Rattle.rlp.specs.Stack.{OpenList, Stack, empty_stack, stack_put, stack_shut, shut_around, stack_count, count_around, is_last}
+use Rattle.rlp.specs.Stream.{State, initial_state, list_encoding, put, count}
+use Rattle.rlp.specs.Calls.{Call, effect, is_within_size, is_admitted, after, after_from}
+use Rattle.rlp.specs.Described.{Step, one_list, items_after, items_after_all, Describes, by_append, by_empty_data, by_raw, by_checked_raw, by_refused_raw, by_empty_list, by_list, by_unbounded_list, by_finalize, by_internal_list, by_clear, AreDescribed, IsDescribed, joined_stack, joined_list}
+use Rattle.rlp.proofs.Encodings.{encoding_list, join_same}
+
+one_list_joined : (xs : List Item) → list_encoding (join xs) ≡ join (one_list xs)
+one_list_joined xs = sym (encoding_list xs) ∙ sym (append-nil (encoding (list_of xs)))
+
+-- a closed list, put behind what stands in the payload around it
+closed_joined : (outer xs : List Item) → join outer ++ list_encoding (join xs) ≡ join (outer ++ one_list xs)
+closed_joined outer xs = ap (λ (b : List ℕ). join outer ++ b) (one_list_joined xs) ∙ sym (flat_map-append encoding outer (one_list xs))
+
+put_joined : (xs : List Item) (s : Stack Item) → stack_put (join xs) (joined_stack s) ≡ joined_stack (stack_put xs s)
+put_joined xs s = ap (λ (p : List ℕ). record (joined_stack s) { inner = p }) (sym (flat_map-append encoding s.inner xs))
+
+shut_around_joined : (p : List Item) (ls : List (OpenList Item)) → shut_around list_encoding (join p) (map joined_list ls) ≡ joined_stack (shut_around one_list p ls)
+shut_around_joined p [] = refl
+shut_around_joined p (l ∷ ls) =
+    let stack : List ℕ → Stack ℕ = λ b. record { inner = b; lists = map joined_list ls } in ap stack (closed_joined l.outer p)
+
+shut_joined : (s : Stack Item) → stack_shut list_encoding (joined_stack s) ≡ joined_stack (stack_shut one_list s)
+shut_joined s = shut_around_joined s.inner s.lists
+
+cond_joined : (b : Bool) (x y : Stack ℕ) (s t : Stack Item) → x ≡ joined_stack s → y ≡ joined_stack t → cond b x y ≡ joined_stack (cond b s t)
+cond_joined true x y s t e f = e
+cond_joined false x y s t e f = f
+
+count_around_joined : (k : ℕ) (p : List Item) (ls : List (OpenList Item)) → count_around list_encoding k (join p) (map joined_list ls) ≡ joined_stack (count_around one_list k p ls)
+count_around_joined k p [] = refl
+count_around_joined k p (l ∷ ls) =
+    cond_joined (is_last k l.awaits) _ _ _ _
+    (ap (λ (b : List ℕ). count_around list_encoding 1 b (map joined_list ls)) (closed_joined l.outer p) ∙ count_around_joined 1 (l.outer ++ one_list p) ls)
+    refl
+
+count_joined : (k : ℕ) (s : Stack Item) → stack_count list_encoding k (joined_stack s) ≡ joined_stack (stack_count one_list k s)
+count_joined k s = count_around_joined k s.inner s.lists
+
+brought_joined : (xs : List Item) (k : ℕ) (s : Stack Item) → stack_count list_encoding k (stack_put (join xs) (joined_stack s)) ≡ joined_stack (stack_count one_list k (stack_put xs s))
+brought_joined xs k s = ap (stack_count list_encoding k) (put_joined xs s) ∙ count_joined k (stack_put xs s)
+
+one_joined : (x : Item) (s : Stack Item) → stack_count list_encoding 1 (stack_put (encoding x) (joined_stack s)) ≡ joined_stack (stack_count one_list 1 (stack_put (x ∷ []) s))
+one_joined x s = ap (λ (b : List ℕ). stack_count list_encoding 1 (stack_put b (joined_stack s))) (sym (append-nil (encoding x))) ∙ brought_joined (x ∷ []) 1 s
+
+empty_string : encoding (string []) ≡ 0x80 ∷ []
+unfolding encoding written_header big_endian
+empty_string = refl
+
+taken : (b : Bool) (x y : State) (t : Stack ℕ) → IsTrue b → x.stack ≡ t → (cond b x y).stack ≡ t
+taken true x y t h e = e
+taken false x y t h e = absurd (let no : ⊥ = cc in no)
+
+not_taken : (b : Bool) (x y : State) → IsTrue (not b) → (cond b x y).stack ≡ y.stack
+not_taken true x y h = absurd (let no : ⊥ = cc in no)
+not_taken false x y h = refl
+
+effect_joined : (s : State) {c : Call} {m : Step} → Describes s c m → (t : Stack Item) → s.stack ≡ joined_stack t → (effect c s).stack ≡ joined_stack (items_after m t)
+effect_joined s (by_append x) t e = ap (λ (k : Stack ℕ). stack_count list_encoding 1 (stack_put (encoding x) k)) e ∙ one_joined x t
+effect_joined s by_empty_data t e =
+    ap (λ (k : Stack ℕ). stack_count list_encoding 1 (stack_put (0x80 ∷ []) k)) e ∙ ap (λ (b : List ℕ). stack_count list_encoding 1 (stack_put b (joined_stack t))) (sym empty_string) ∙ one_joined (string []) t
+effect_joined s (by_raw xs a) t e = ap (λ (k : Stack ℕ). stack_count list_encoding (length xs) (stack_put (join xs) k)) e ∙ brought_joined xs (length xs) t
+effect_joined s (by_checked_raw xs limit a h) t e =
+    taken (is_within_size (join xs) limit s) (count (length xs) (put (join xs) s)) s _ h (ap (λ (k : Stack ℕ). stack_count list_encoding (length xs) (stack_put (join xs) k)) e ∙ brought_joined xs (length xs) t)
+effect_joined s (by_refused_raw b k limit h) t e = not_taken (is_within_size b limit s) (count k (put b s)) s h ∙ e
+effect_joined s by_empty_list t e = ap (λ (k : Stack ℕ). stack_count list_encoding 1 (stack_put (encoding (list_of [])) k)) e ∙ one_joined (list_of []) t
+effect_joined s (by_list n) t e = let with_list : Stack ℕ → Stack ℕ = λ k. record { inner = []; lists = record { awaits = Some (suc n); outer = k.inner } ∷ k.lists } in ap with_list e
+effect_joined s by_unbounded_list t e = let with_list : Stack ℕ → Stack ℕ = λ k. record { inner = []; lists = record { awaits = None; outer = k.inner } ∷ k.lists } in ap with_list e
+effect_joined s by_finalize t e =
+    ap (λ (k : Stack ℕ). stack_count list_encoding 1 (stack_shut list_encoding k)) e ∙ ap (stack_count list_encoding 1) (shut_joined t) ∙ count_joined 1 (stack_shut one_list t)
+effect_joined s (by_internal_list xs) t e = ap (λ (k : Stack ℕ). stack_count list_encoding 1 (stack_put (encoding (list_of xs)) k)) e ∙ one_joined (list_of xs) t
+effect_joined s by_clear t e = refl
+
+cond_true : {A : Type 0} (b : Bool) (x y : A) → IsTrue b → cond b x y ≡ x
+cond_true true x y h = refl
+cond_true false x y h = absurd (let no : ⊥ = cc in no)
+
+-- ---- the front stays
+
+cond_front : (b : Bool) (x y : State) (f : List ℕ) → x.front ≡ f → y.front ≡ f → (cond b x y).front ≡ f
+cond_front true x y f e g = e
+cond_front false x y f e g = g
+
+effect_front : (s : State) {c : Call} {m : Step} → Describes s c m → (effect c s).front ≡ s.front
+effect_front s (by_append x) = refl
+effect_front s by_empty_data = refl
+effect_front s (by_raw xs a) = refl
+effect_front s (by_checked_raw xs limit a h) = cond_front (is_within_size (join xs) limit s) (count (length xs) (put (join xs) s)) s s.front refl refl
+effect_front s (by_refused_raw b k limit h) = cond_front (is_within_size b limit s) (count k (put b s)) s s.front refl refl
+effect_front s by_empty_list = refl
+effect_front s (by_list n) = refl
+effect_front s by_unbounded_list = refl
+effect_front s by_finalize = refl
+effect_front s (by_internal_list xs) = refl
+effect_front s by_clear = refl
+
+-- ---- all calls
+
+-- what described calls leave
+abbrev pub Leaves : Result State ℕ → List ℕ → Stack ℕ → Type 0
+Leaves r front stack = (last : State) × (r ≡ Ok last) × (last.front ≡ front) × (last.stack ≡ stack)
+
+-- described calls are all admitted, and leave the joins
+after_described : (calls : List Call) (steps : List Step) (n : ℕ) (s : State) (t : Stack Item) → AreDescribed s calls steps → s.stack ≡ joined_stack t
+    → Leaves (after_from n s calls) s.front (joined_stack (items_after_all steps t))
+after_described [] [] n s t d e = (s, refl, refl, e)
+after_described [] (m ∷ steps) n s t d e = absurd d
+after_described (c ∷ calls) [] n s t d e = absurd d
+after_described (c ∷ calls) (m ∷ steps) n s t d e =
+    let r : Leaves (after_from (n + 1) (effect c s) calls) (effect c s).front (joined_stack (items_after_all steps (items_after m t))) =
+    after_described calls steps (n + 1) (effect c s) (items_after m t) d.2 (effect_joined s d.1 t e) in
+    (r.0, cond_true (is_admitted c s) (after_from (n + 1) (effect c s) calls) (Err n) d.0 ∙ r.1, r.2 ∙ effect_front s d.1, r.3)
+
+pub described_joins : (front : List ℕ) (calls : List Call) (steps : List Step) → AreDescribed (initial_state front) calls steps
+    → Leaves (after front calls) front (joined_stack (items_after_all steps empty_stack))
+described_joins front calls steps d = after_described calls steps 1 (initial_state front) empty_stack d refl
+
+-- with no list left open, the join of the items stands at the top
+pub described_finishes : (front : List ℕ) (calls : List Call) (xs : List Item) → IsDescribed front calls xs
+    → Leaves (after front calls) front (record { inner = join xs; lists = [] })
+described_finishes front calls xs d =
+    let r = described_joins front calls d.steps d.described in (r.0, r.1, r.2, r.3 ∙ ap joined_stack d.finished)
+
+-- no other items are described
+pub described_once : (front : List ℕ) (calls : List Call) (xs ys : List Item) → All IsSized xs → All IsSized ys → IsDescribed front calls xs → IsDescribed front calls ys → xs ≡ ys
+described_once front calls xs ys a b d e =
+    let r = described_finishes front calls xs d in
+    let q = described_finishes front calls ys e in
+    let last : r.0 ≡ q.0 = let both : Ok r.0 ≡ Ok q.0 = sym r.1 ∙ q.1 in cc in
+    let stacks : record { inner = join xs; lists = [] } ≡ record { inner = join ys; lists = [] } = sym r.3 ∙ ap (λ (s : State). s.stack) last ∙ q.3 in
+    join_same xs ys a b (ap (λ (s : Stack ℕ). s.inner) stacks)

@@ -1,0 +1,57 @@
+-- Which states a state grows to. Whoever writes an `Encodable` needs the ruleset `growth`.
+use Rattle.std.proofs.Common.{◌≡◌, ℕ, List, [], ◌∷◌, ◌++◌, Option, refl, sym, ◌∙◌, subst, append-nil, append_assoc}
+use Rattle.rlp.specs.Stack.{OpenList}
+use Rattle.rlp.specs.Stream.{State, put, with_list}
+use Rattle.rlp.specs.Growth.{AreSameAround, Stands, GrowsTo}
+use Rattle.rlp.specs.Growth.Stands.{here, within}
+
+same_around : (ls : List (OpenList ℕ)) → AreSameAround ls ls
+same_around [] = tt
+same_around (l ∷ ls) = (refl, refl)
+
+stands_more : (p x : List ℕ) (ls : List (OpenList ℕ)) → Stands p ls (p ++ x) ls
+stands_more p x ls = here x ls (same_around ls)
+
+stands_same : (p : List ℕ) (ls : List (OpenList ℕ)) → Stands p ls p ls
+stands_same p ls = subst (λ (q : List ℕ). Stands p ls q ls) (append-nil p) (stands_more p [] ls)
+
+-- a state that stays
+pub grows_same : (s t : State) → t ≡ s → GrowsTo s t
+grows_same s t e = subst (λ (u : State). GrowsTo s u) (sym e) (record { front = refl; stands = stands_same s.stack.inner s.stack.lists })
+
+-- more bytes in the innermost payload
+pub grows_put : (s t : State) (x : List ℕ) → t ≡ put x s → GrowsTo s t
+grows_put s t x e = subst (λ (u : State). GrowsTo s u) (sym e) (record { front = refl; stands = stands_more s.stack.inner x s.stack.lists })
+
+-- one more open list
+pub grows_with_list : (s t : State) (awaits : Option ℕ) → t ≡ with_list awaits s → GrowsTo s t
+grows_with_list s t awaits e =
+    subst (λ (u : State). GrowsTo s u) (sym e)
+    (record { front = refl; stands = within [] (record { awaits = awaits; outer = s.stack.inner }) s.stack.lists (stands_same s.stack.inner s.stack.lists) })
+
+same_around_trans : (ls ms ns : List (OpenList ℕ)) → AreSameAround ls ms → AreSameAround ms ns → AreSameAround ls ns
+same_around_trans [] [] [] h k = tt
+same_around_trans [] [] (n ∷ ns) h k = absurd k
+same_around_trans [] (m ∷ ms) ns h k = absurd h
+same_around_trans (l ∷ ls) [] ns h k = absurd h
+same_around_trans (l ∷ ls) (m ∷ ms) [] h k = absurd k
+same_around_trans (l ∷ ls) (m ∷ ms) (n ∷ ns) h k = (h.0 ∙ k.0, h.1 ∙ k.1)
+
+-- more bytes after a payload in which the first stands
+stands_longer : (p : List ℕ) (ls : List (OpenList ℕ)) {q : List ℕ} {ms : List (OpenList ℕ)} → Stands p ls q ms → (more : List ℕ) (ns : List (OpenList ℕ)) → AreSameAround ms ns → Stands p ls (q ++ more) ns
+stands_longer p ls (here first ms same) more ns k =
+    subst (λ (q : List ℕ). Stands p ls q ns) (sym (append_assoc p first more)) (here (first ++ more) ns (same_around_trans ls ms ns same k))
+stands_longer p ls (within q m ms st) more [] k = absurd k
+stands_longer p ls (within q m ms st) more (n ∷ ns) k =
+    within (q ++ more) n ns (subst (λ (zs : List (OpenList ℕ)). Stands p ls n.outer zs) k.1 (subst (λ (o : List ℕ). Stands p ls o ms) k.0 st))
+
+stands_trans : (p : List ℕ) (ls : List (OpenList ℕ)) (q : List ℕ) (ms : List (OpenList ℕ)) → Stands p ls q ms → {r : List ℕ} {ns : List (OpenList ℕ)} → Stands q ms r ns → Stands p ls r ns
+stands_trans p ls q ms st (here more ns same) = stands_longer p ls st more ns same
+stands_trans p ls q ms st (within r n ns st2) = within r n ns (stands_trans p ls q ms st st2)
+
+-- growth upon growth
+pub grows_trans : (s t u : State) → GrowsTo s t → GrowsTo t u → GrowsTo s u
+grows_trans s t u g h =
+    record { front = h.front ∙ g.front; stands = stands_trans s.stack.inner s.stack.lists t.stack.inner t.stack.lists g.stands h.stands }
+
+pub ruleset growth = (grows_same, grows_put, grows_with_list, grows_trans)

@@ -1,0 +1,78 @@
+-- The digits of a number are the last of its bytes, highest first.
+use Rattle.std.proofs.Common.{◌≡◌, ℕ, zero, suc, ◌+◌, ◌*◌, ◌/◌, ◌%◌, ◌^◌, ◌<◌, ◌≤◌, [], ◌∷◌, ◌++◌, length, drop, refl, sym, ap, ◌∙◌, arith}
+use Rattle.std.proofs.Math.Nat.{pow-suc, pow-succ', one-le-pow, div-div-eq-div-mul, pow-le-pow_right}
+use Rattle.std.proofs.lemmas.Nat.{pow-add, div_below, le-div, leading_top}
+use Rattle.std.specs.Int.{byte_at, bytes_high_first}
+use Rattle.std.specs.Int.Count.{count_leading_zeros, leading_of_zero}
+use Rattle.rlp.specs.WrittenHeader.{big_endian}
+use Rattle.rlp.proofs.Digits.{big_endian_zero, big_endian_digit, big_endian_step}
+
+-- a byte of n is the one below it of n / 256
+byte_above : (k n : ℕ) → byte_at (suc k) n ≡ byte_at k (n / 256)
+byte_above zero n = refl
+byte_above (suc k) n =
+    ap (λ p. n / p % 256) (pow-succ' 256 (suc k)) ∙ ap (λ q. q % 256) (sym (div-div-eq-div-mul n 256 (256 ^ suc k)))
+
+high_first_step : (k n : ℕ) → bytes_high_first (suc k) n ≡ bytes_high_first k (n / 256) ++ (n % 256) ∷ []
+high_first_step zero n = refl
+high_first_step (suc k) n = let below = high_first_step k n in let above = byte_above k n in cc
+
+length-bytes_high_first : (k n : ℕ) → length (bytes_high_first k n) ≡ k
+length-bytes_high_first zero n = refl
+length-bytes_high_first (suc k) n = ap suc (length-bytes_high_first k n)
+
+-- as many bytes as n has digits are its digits
+digits_high_first : (k n : ℕ) → 256 ^ k ≤ n → n < 256 ^ suc k → bytes_high_first (suc k) n ≡ big_endian n
+digits_high_first zero n low high =
+    let whole : n % 256 ≡ n = omega arith in
+    ap (λ d. d ∷ []) whole ∙ sym (big_endian_digit n (omega arith) (omega arith))
+digits_high_first (suc k) n low high =
+    let below : 256 ^ k ≤ n / 256 = le-div (256 ^ k) n 256 (omega arith) (omega (arith, pow-suc 256 k)) in
+    let above : n / 256 < 256 ^ suc k = div_below n 256 (256 ^ suc k) (omega arith) (omega (arith, pow-suc 256 (suc k))) in
+    let some : 0 < n = omega (arith, pow-suc 256 k, one-le-pow k 256 (omega arith)) in
+    high_first_step (suc k) n ∙ ap (λ ds. ds ++ (n % 256) ∷ []) (digits_high_first k (n / 256) below above) ∙ sym (big_endian_step n some)
+
+drop-bytes_high_first : (z k m n : ℕ) → z + k ≡ m → drop z (bytes_high_first m n) ≡ bytes_high_first k n
+drop-bytes_high_first zero k m n e = let same : m ≡ k = omega arith in ap (λ j. bytes_high_first j n) same
+drop-bytes_high_first (suc z) k zero n e = absurd (omega arith)
+drop-bytes_high_first (suc z) k (suc m) n e = drop-bytes_high_first z k m n (omega arith)
+
+pow_bytes : (k : ℕ) → 256 ^ k ≡ 2 ^ (8 * k)
+pow_bytes zero = refl
+pow_bytes (suc k) =
+    let split : 2 ^ (8 * k + 8) ≡ 2 ^ (8 * k) * 256 = pow-add 2 (8 * k) 8 in
+    let places : 8 * suc k ≡ 8 * k + 8 = omega arith in
+    pow-suc 256 k ∙ ap (λ p. p * 256) (pow_bytes k) ∙ sym split ∙ ap (λ e. 2 ^ e) (sym places)
+
+-- what the count of leading zero bits says of the eight bytes
+record LeadingBytes (n : ℕ) : Type 0 where
+  pub digits : drop (count_leading_zeros 64 n / 8) (bytes_high_first 8 n) ≡ big_endian n
+  pub len : count_leading_zeros 64 n / 8 + length (big_endian n) ≡ 8
+
+some_bytes : (n : ℕ) → 0 < n → n < 2 ^ 64 → LeadingBytes n
+some_bytes n some small =
+    let top = leading_top 64 n some small in
+    let j = top.0 in
+    let at : count_leading_zeros 64 n + suc j ≡ 64 = top.1 in
+    let zeros = count_leading_zeros 64 n / 8 in
+    let k = j / 8 in
+    let all : zeros + suc k ≡ 8 = omega arith in
+    let least : 256 ^ k ≤ n = let le : 2 ^ (8 * k) ≤ 2 ^ j = pow-le-pow_right (omega arith) (omega arith) in omega (arith, le, pow_bytes k, top.2) in
+    let below : n < 256 ^ suc k = let le : 2 ^ suc j ≤ 2 ^ (8 * suc k) = pow-le-pow_right (omega arith) (omega arith) in omega (arith, le, pow_bytes (suc k), top.3) in
+    let digits : bytes_high_first (suc k) n ≡ big_endian n = digits_high_first k n least below in
+    let number : length (big_endian n) ≡ suc k = ap length (sym digits) ∙ length-bytes_high_first (suc k) n in
+    record { digits = drop-bytes_high_first zeros (suc k) 8 n all ∙ digits; len = omega (arith, number, all) }
+
+leading_bytes : (n : ℕ) → n < 2 ^ 64 → LeadingBytes n
+leading_bytes zero small =
+    let all : count_leading_zeros 64 0 ≡ 64 = leading_of_zero 64 in
+    record { digits = rw all (sym big_endian_zero); len = rw (all, big_endian_zero) refl }
+leading_bytes (suc n) small = some_bytes (suc n) (omega arith) small
+
+pub leading_digits : (n : ℕ) → n < 2 ^ 64 → drop (count_leading_zeros 64 n / 8) (bytes_high_first 8 n) ≡ big_endian n
+leading_digits n small = (leading_bytes n small).digits
+
+pub leading_len : (n : ℕ) → n < 2 ^ 64 → count_leading_zeros 64 n / 8 + length (big_endian n) ≡ 8
+leading_len n small = (leading_bytes n small).len
+
+pub ruleset leading = (leading_digits, leading_len)

@@ -1,0 +1,162 @@
+-- Bytes give one value of a type that is read from one string, or have one fault.
+use Rattle.std.proofs.Common.{◌≡◌, ℕ, zero, suc, ◌^◌, ◌<◌, ◌≤◌, ◌⊎◌, inl, inr, ⊎_elim, List, [], ◌∷◌, ◌++◌, length, get_or, true, false, refl, sym, ◌∙◌, subst, arith, Result, Ok, Err, IsUtf8}
+use Rattle.std.specs.Int.Digits.{number_from_digits}
+use Rattle.std.specs.Str.{is_utf8}
+use Rattle.std.proofs.lemmas.Bool.{cases_Bool, cases_lt, cond-true, cond-false}
+use Rattle.std.proofs.lemmas.Int.Digits.{length-digits_of-le}
+use Rattle.std.proofs.lemmas.List.Elements.{All-from_recursion, recursion_from_All}
+use Rattle.std.proofs.lemmas.Str.{IsUtf8-from_is_utf8, is_utf8-from_IsUtf8}
+use Rattle.rlp.specs.declared.error.DecoderError.{DecoderError}
+use Rattle.rlp.specs.declared.error.DecoderError.TheVariants.{RlpIsTooBig, RlpInvalidIndirection, RlpExpectedToBeData}
+use Rattle.rlp.specs.Item.{string}
+use Rattle.rlp.specs.WrittenHeader.{big_endian, written_header, AreBytes}
+use Rattle.rlp.specs.Encoding.{encoding, string_encoding, is_low_byte}
+use Rattle.rlp.specs.StringReading.{IsString, ReadsString, read_string}
+use Rattle.rlp.specs.Value.{FitsBytes}
+use Rattle.rlp.specs.ValueReading.{GivesValue, FaultsAs, no_string, no_value, GivesNumber, IsDigitsFault, too_long, leading_zero, FaultsAsNumber, GivesBytes, FaultsAsBytes, GivesText, IsTextFault, FaultsAsText, HasOneReading}
+use Rattle.rlp.specs.View.{view_of}
+use Rattle.rlp.proofs.Digits.{big_endian_is, big_endian_same, big_endian_first, big_endian_zero}
+use Rattle.rlp.proofs.Numbers.{pow-bytes, digits_fit, digits_again, none_is_zero}
+use Rattle.rlp.proofs.Reading.{Bytes}
+use Rattle.rlp.proofs.Strings.{string_reads, string_only}
+
+-- ---- what a string holds are bytes
+
+front_bytes : (s t : List ℕ) → Bytes (s ++ t) → Bytes s
+front_bytes [] t h = tt
+front_bytes (c ∷ s) t (low, h) = (low, front_bytes s t h)
+
+back_bytes : (s t : List ℕ) → Bytes (s ++ t) → Bytes t
+back_bytes [] t h = h
+back_bytes (c ∷ s) t (low, h) = back_bytes s t h
+
+encoded_bytes : (d : List ℕ) → Bytes (string_encoding d) → Bytes d
+encoded_bytes d h =
+    ⊎_elim
+    (λ low. let e : string_encoding d ≡ d = cond-true (is_low_byte d) d (written_header 0x80 (length d) ++ d) low in subst Bytes e h)
+    (λ high. let e : string_encoding d ≡ written_header 0x80 (length d) ++ d = cond-false (is_low_byte d) d (written_header 0x80 (length d) ++ d) high in
+    back_bytes (written_header 0x80 (length d)) d (subst Bytes e h))
+    (cases_Bool (is_low_byte d))
+
+string_bytes : (b d : List ℕ) → AreBytes b → IsString b d → AreBytes d
+unfolding encoding
+string_bytes b d bytes (rest, is) =
+    All-from_recursion (λ byte. byte < 2 ^ 8) d (encoded_bytes d (front_bytes (string_encoding d) rest (subst Bytes is (recursion_from_All (λ byte. byte < 2 ^ 8) b bytes))))
+
+-- ---- one reading, where the strings of values and the faulty ones are told apart
+
+record IsTold {A : Type 0} (Fits : A → Type 0) (text : A → List ℕ) (IsFaulty : List ℕ → DecoderError → Type 0) : Type 0 where
+  pub told : (d : List ℕ) → AreBytes d → ((x : A) × (Fits x) × (text x ≡ d)) ⊎ ((e : DecoderError) × IsFaulty d e)
+  pub same : (x y : A) → text x ≡ text y → x ≡ y
+  pub sound : (x : A) (e : DecoderError) → Fits x → ¬ IsFaulty (text x) e
+  pub one : (d : List ℕ) (e f : DecoderError) → IsFaulty d e → IsFaulty d f → e ≡ f
+
+-- what stands at the front is what is read
+stands_read : (b d : List ℕ) (e : DecoderError) → length b < 2 ^ 64 → IsString b d → read_string b ≡ Err e → ⊥
+stands_read b d e fits stands is = let same : Ok d ≡ Err e = sym (string_only b d fits stands) ∙ is in cc
+
+same_string : (b d s : List ℕ) → length b < 2 ^ 64 → IsString b d → IsString b s → d ≡ s
+same_string b d s fits one two = let same = sym (string_only b d fits one) ∙ string_only b s fits two in cc
+
+module _ {A : Type 0} (Fits : A → Type 0) (text : A → List ℕ) (IsFaulty : List ℕ → DecoderError → Type 0) (is : IsTold Fits text IsFaulty) (b : List ℕ) (fits : length b < 2 ^ 64) where
+  abbrev Given : A → Type 0
+  Given x = GivesValue Fits (λ x. string (text x)) (view_of b) x
+
+  abbrev Fault : DecoderError → Type 0
+  Fault e = FaultsAs IsFaulty (view_of b) e
+
+  some_found : (d : List ℕ) → IsString b d → ((x : A) × (Fits x) × (text x ≡ d)) ⊎ ((e : DecoderError) × IsFaulty d e) → ((x : A) × Given x) ⊎ ((e : DecoderError) × Fault e)
+  some_found d stands (inl (x, fit, same)) = inl (x, record { fits = fit; begins = subst (IsString b) (sym same) stands })
+  some_found d stands (inr (e, faulty)) = inr (e, no_value d e stands faulty)
+
+  some_read : AreBytes b → (r : Result (List ℕ) DecoderError) → read_string b ≡ r → ReadsString b r → ((x : A) × Given x) ⊎ ((e : DecoderError) × Fault e)
+  some_read bytes (Ok d) same stands = some_found d stands (is.told d (string_bytes b d bytes stands))
+  some_read bytes (Err e) same none = inr (e, no_string e same)
+
+  not_both_by : (x : A) (e : DecoderError) → Given x → ¬ Fault e
+  not_both_by x e gives (no_string g same) = stands_read b (text x) g fits gives.begins same
+  not_both_by x e gives (no_value d g stands faulty) =
+      is.sound x g gives.fits (subst (λ d. IsFaulty d g) (same_string b d (text x) fits stands gives.begins) faulty)
+
+  one_fault_by : (e f : DecoderError) → Fault e → Fault f → e ≡ f
+  one_fault_by e f (no_string g one) (no_string h two) = let same = sym one ∙ two in cc
+  one_fault_by e f (no_string g one) (no_value d h stands faulty) = absurd (stands_read b d g fits stands one)
+  one_fault_by e f (no_value d g stands faulty) (no_string h two) = absurd (stands_read b d h fits stands two)
+  one_fault_by e f (no_value d g stands faulty) (no_value s h stands' faulty') =
+      is.one s g h (subst (λ d. IsFaulty d g) (same_string b d s fits stands stands') faulty) faulty'
+
+  reading : AreBytes b → HasOneReading Given Fault
+  reading bytes = record {
+    some = some_read bytes (read_string b) refl (string_reads b bytes fits);
+    one_value = λ x y one two. is.same x y (same_string b (text x) (text y) fits one.begins two.begins);
+    one_fault = one_fault_by;
+    not_both = not_both_by;
+  }
+
+-- ---- numbers
+
+few_digits : (width n : ℕ) → FitsBytes width n → length (big_endian n) ≤ width
+few_digits width n fit =
+    let small : n < 256 ^ width = rw (pow-bytes width) fit in
+    rw (big_endian_is) (length-digits_of-le 256 width n (omega arith) small)
+
+told_digits : (width : ℕ) (d : List ℕ) → AreBytes d → ((n : ℕ) × (FitsBytes width n) × (big_endian n ≡ d)) ⊎ ((e : DecoderError) × IsDigitsFault width d e)
+told_digits width [] bytes = let value = none_is_zero width [] (omega arith) in inl (number_from_digits 256 [], value.0, value.1)
+told_digits width (zero ∷ more) bytes =
+    ⊎_elim
+    (λ long. inr (RlpIsTooBig, too_long long))
+    (λ few. inr (RlpInvalidIndirection, leading_zero more few refl))
+    (cases_lt width (length (0 ∷ more)))
+told_digits width (suc first ∷ more) bytes =
+    ⊎_elim
+    (λ long. inr (RlpIsTooBig, too_long long))
+    (λ few. inl (number_from_digits 256 (suc first ∷ more), digits_fit width (suc first ∷ more) bytes few, digits_again (suc first) more bytes (omega arith)))
+    (cases_lt width (length (suc first ∷ more)))
+
+no_leading_zero : (n : ℕ) (more : List ℕ) → big_endian n ≡ 0 ∷ more → ⊥
+no_leading_zero zero more same = let none : [] ≡ 0 ∷ more = sym big_endian_zero ∙ same in cc
+no_leading_zero (suc n) more same = let first : 0 < get_or (big_endian (suc n)) 0 0 = big_endian_first (suc n) (omega arith) in
+    let above : 0 < get_or (0 ∷ more) 0 0 = rw same at first in omega arith
+
+sound_digits : (width n : ℕ) (e : DecoderError) → FitsBytes width n → ¬ IsDigitsFault width (big_endian n) e
+sound_digits width n e fit (too_long long) = omega (arith, few_digits width n fit)
+sound_digits width n e fit (leading_zero more few same) = no_leading_zero n more same
+
+one_digits : (width : ℕ) (d : List ℕ) (e f : DecoderError) → IsDigitsFault width d e → IsDigitsFault width d f → e ≡ f
+one_digits width d e f (too_long long) (too_long long') = refl
+one_digits width d e f (too_long long) (leading_zero more few same) = absurd (omega arith)
+one_digits width d e f (leading_zero more few same) (too_long long) = absurd (omega arith)
+one_digits width d e f (leading_zero more few same) (leading_zero more' few' same') = refl
+
+pub number_reading : (b : List ℕ) → AreBytes b → length b < 2 ^ 64 → (width : ℕ) → HasOneReading (GivesNumber width (view_of b)) (FaultsAsNumber width (view_of b))
+number_reading b bytes fits width =
+    reading (FitsBytes width) big_endian (IsDigitsFault width)
+    (record { told = told_digits width; same = big_endian_same; sound = sound_digits width; one = one_digits width }) b fits bytes
+
+-- ---- byte strings
+
+bytes_some : (b : List ℕ) (r : Result (List ℕ) DecoderError) → read_string b ≡ r → ReadsString b r → ((d : List ℕ) × GivesBytes (view_of b) d) ⊎ ((e : DecoderError) × FaultsAsBytes (view_of b) e)
+bytes_some b (Ok d) same stands = inl (d, record { fits = tt; begins = stands })
+bytes_some b (Err e) same none = inr (e, same)
+
+pub bytes_reading : (b : List ℕ) → AreBytes b → length b < 2 ^ 64 → HasOneReading (GivesBytes (view_of b)) (FaultsAsBytes (view_of b))
+bytes_reading b bytes fits = record {
+  some = bytes_some b (read_string b) refl (string_reads b bytes fits);
+  one_value = λ d s one two. same_string b d s fits one.begins two.begins;
+  one_fault = λ e f one two. let same = sym one ∙ two in cc;
+  not_both = λ d e one two. stands_read b d e fits one.begins two;
+}
+
+-- ---- text
+
+told_text : (d : List ℕ) → AreBytes d → ((t : List ℕ) × (IsUtf8 t) × (t ≡ d)) ⊎ ((e : DecoderError) × IsTextFault d e)
+told_text d bytes =
+    ⊎_elim
+    (λ good. inl (d, IsUtf8-from_is_utf8 d good, refl))
+    (λ bad. inr (RlpExpectedToBeData, ((λ good. let same : true ≡ false = sym (is_utf8-from_IsUtf8 d good) ∙ bad in cc), refl)))
+    (cases_Bool (is_utf8 d))
+
+pub text_reading : (b : List ℕ) → AreBytes b → length b < 2 ^ 64 → HasOneReading (GivesText (view_of b)) (FaultsAsText (view_of b))
+text_reading b bytes fits =
+    reading IsUtf8 (λ t. t) IsTextFault
+    (record { told = told_text; same = λ t u same. same; sound = λ t e good bad. bad.0 good; one = λ d e f one two. one.1 ∙ sym two.1 }) b fits bytes

@@ -1,0 +1,9 @@
+use Rattle.std.proofs.Common.{◌<◌, ◌^◌, length, arith}
+use Rattle.rlp.proofs.Reading.{bytes_held}
+use Rattle.rlp.proofs.OneReading.{number_reading}
+use Rattle.rlp.proofs.laws.reading.number_is_read.Goals as goal
+
+pub returns : goal.returns
+returns c =
+    let fits : length c.args.bytes.now < 2 ^ 64 = omega arith in
+    number_reading c.args.bytes.now (bytes_held c.args.bytes.now c.type_inv.bytes) fits

@@ -1,0 +1,16 @@
+-- Which item a value is.
+use Rattle.std.specs.Prelude.{ℕ, ◌≡◌, ◌*◌, ◌^◌, ◌<◌}
+use Rattle.rlp.specs.Item.{Item, string}
+use Rattle.rlp.specs.WrittenHeader.{big_endian}
+
+-- a number is the string of its digits to the base 256, the greatest first
+abbrev pub number_item : ℕ → Item
+number_item n = string (big_endian n)
+
+-- n is a number of that many bytes. In definitions and laws a number has no greatest value, so each type says which ones it has.
+abbrev pub FitsBytes : ℕ → ℕ → Type 0
+FitsBytes width n = n < 2 ^ (8 * width)
+
+-- two values of a type are alike if their items are equal, by what the type calls the item of a value
+abbrev pub AreAlike : {T : Type 0} → (T → Item) → T → T → Type 0
+AreAlike item v w = item v ≡ item w

@@ -1,0 +1,59 @@
+-- Which value a view gives, and why it gives none: numbers, byte strings and text.
+use Rattle.std.specs.Prelude.{ℕ, ◌≡◌, ◌≤◌, ◌<◌, ◌⊎◌, ⊤, List, ◌∷◌, length, IsUtf8, Err}
+use Rattle.rlp.specs.declared.error.DecoderError.{DecoderError}
+use Rattle.rlp.specs.declared.error.DecoderError.TheVariants.{RlpIsTooBig, RlpInvalidIndirection, RlpExpectedToBeData}
+use Rattle.rlp.specs.Item.{Item, string}
+use Rattle.rlp.specs.Encoding.{encoding, BeginsWith}
+use Rattle.rlp.specs.StringReading.{IsString, read_string}
+use Rattle.rlp.specs.Value.{number_item, FitsBytes}
+use Rattle.rlp.specs.View.{View}
+
+-- The view gives the value x: x is a value of its type, and the view begins with the encoding of its item.
+pub record GivesValue {A : Type 0} (Fits : A → Type 0) (item : A → Item) (v : View) (x : A) : Type 0 where
+  pub fits : Fits x
+  pub begins : BeginsWith v.bytes (encoding (item x))
+
+-- Why a view gives no value of a type that is read from one string: none stands at its front, or one that is no value's.
+pub data FaultsAs (IsFaulty : List ℕ → DecoderError → Type 0) (v : View) : DecoderError → Type 0 where
+  no_string : (e : DecoderError) → read_string v.bytes ≡ Err e → FaultsAs IsFaulty v e
+  no_value : (d : List ℕ) (e : DecoderError) → IsString v.bytes d → IsFaulty d e → FaultsAs IsFaulty v e
+
+-- the view gives the number n, which has that many bytes at most
+abbrev pub GivesNumber : ℕ → View → ℕ → Type 0
+GivesNumber width v n = GivesValue (FitsBytes width) number_item v n
+
+-- Why a string is that of no number of so many bytes, in the order of the tests: it is longer, or it begins with a zero.
+pub data IsDigitsFault (width : ℕ) (digits : List ℕ) : DecoderError → Type 0 where
+  too_long : width < length digits → IsDigitsFault width digits RlpIsTooBig
+  leading_zero : (more : List ℕ) → length digits ≤ width → digits ≡ 0 ∷ more → IsDigitsFault width digits RlpInvalidIndirection
+
+-- why a view gives no number of that many bytes
+abbrev pub FaultsAsNumber : ℕ → View → DecoderError → Type 0
+FaultsAsNumber width v e = FaultsAs (IsDigitsFault width) v e
+
+-- the view gives these bytes
+abbrev pub GivesBytes : View → List ℕ → Type 0
+GivesBytes v d = GivesValue (λ d. ⊤) string v d
+
+-- why a view gives no bytes: no string stands at its front
+abbrev pub FaultsAsBytes : View → DecoderError → Type 0
+FaultsAsBytes v e = read_string v.bytes ≡ Err e
+
+-- the view gives the text of these bytes
+abbrev pub GivesText : View → List ℕ → Type 0
+GivesText v t = GivesValue IsUtf8 string v t
+
+-- why a string is no text: it isn't UTF-8
+abbrev pub IsTextFault : List ℕ → DecoderError → Type 0
+IsTextFault d e = (¬ IsUtf8 d) × (e ≡ RlpExpectedToBeData)
+
+-- why a view gives no text
+abbrev pub FaultsAsText : View → DecoderError → Type 0
+FaultsAsText v e = FaultsAs IsTextFault v e
+
+-- One reading and no other: a value, and only one, or a fault, and only one. `Gives` says which values are read, and `Faults` which faults.
+pub record HasOneReading {A : Type 0} (Gives : A → Type 0) (Faults : DecoderError → Type 0) : Type 0 where
+  pub some : ((x : A) × Gives x) ⊎ ((e : DecoderError) × Faults e)
+  pub one_value : (x y : A) → Gives x → Gives y → x ≡ y
+  pub one_fault : (e f : DecoderError) → Faults e → Faults f → e ≡ f
+  pub not_both : (x : A) (e : DecoderError) → Gives x → ¬ Faults e

@@ -1,0 +1,55 @@
+//! Byte strings: the string of the bytes.
+
+use crate::error::DecoderError;
+use crate::rlpin::Rlp;
+use crate::stream::RlpStream;
+use crate::traits::{Decodable, Encodable};
+use std::alloc::{AllocError, Global};
+
+impl Encodable for Vec<u8> {
+    ghost use Rattle.std.specs.Prelude.{⊤};
+    ghost use Rattle.rlp.specs.Item.{string};
+
+    ghost item = { λ v. string v.items };
+
+    ghost fits = { λ v. ⊤ };
+
+    #[tactic(auto, using(crate::proofs::Growth::growth))]
+    fn rlp_append(&self, s: &mut RlpStream) -> Result<(), AllocError> {
+        s.encoder().encode_value(self.as_slice())
+    }
+}
+
+impl Encodable for &[u8] {
+    ghost use Rattle.std.specs.Prelude.{⊤};
+    ghost use Rattle.rlp.specs.Item.{string};
+
+    ghost item = { λ v. string v.now };
+
+    ghost fits = { λ v. ⊤ };
+
+    #[tactic(auto, using(crate::proofs::Growth::growth))]
+    fn rlp_append(&self, s: &mut RlpStream) -> Result<(), AllocError> {
+        s.encoder().encode_value(self)
+    }
+}
+
+/// The bytes of a string, by one copy.
+impl Decodable for Vec<u8> {
+    ghost use Rattle.std.specs.Prelude.{true};
+    ghost use Rattle.rlp.specs.ValueReading.{GivesBytes, FaultsAsBytes};
+
+    ghost gives = { λ v x. GivesBytes v x.items };
+
+    ghost faults = { λ v e. FaultsAsBytes v e };
+
+    ghost may_lack_memory = { true };
+
+    fn decode(alloc: Global, rlp: &Rlp<'_>) -> Result<Vec<u8>, DecoderError> {
+        rlp.decoder()
+            .decode_value(|string: &[u8]| match Vec::from_slice(alloc, string) {
+                Ok(bytes) => Ok(bytes),
+                Err(_) => Err(DecoderError::OutOfMemory),
+            })
+    }
+}

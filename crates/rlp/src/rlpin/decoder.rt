@@ -1,0 +1,149 @@
+//! A decoder of one string.
+
+ghost use Rattle.std.specs.Prelude.{◌≡◌, ◌≤◌, length, Ok, Err, IfOk, IfErr, IsErrAnd, IsTrue, MatchResult, ◌⊎◌};
+ghost use Rattle.std.specs.Fn.{FnReturnsAt};
+ghost use Rattle.rlp.specs.declared.error.DecoderError.TheVariants.{OutOfMemory};
+ghost use Rattle.rlp.specs.StringReading.{IsString, HasNoString, ReadsString, read_string, short_string, long_string, long_value};
+
+use crate::error::DecoderError;
+use crate::rlpin::header::number_of;
+use crate::rlpin::view::Rlp;
+use crate::traits::Decodable;
+use std::alloc::Global;
+use std::marker::Model;
+
+/// A decoder of the string at the front of bytes. Contracts see it as the record `View` of its bytes.
+#[derive(Drop)]
+pub struct BasicDecoder<'a> {
+    rlp: &'a [u8],
+}
+
+impl<'a> Model for BasicDecoder<'a> {
+    ghost use Rattle.rlp.specs.View.{View};
+
+    ghost Value = { View };
+
+    ghost view = { λ d. record { bytes = d.rlp.now } };
+}
+
+impl<'a> BasicDecoder<'a> {
+    /// A decoder of these bytes. It looks at none of them yet.
+    pub fn new(rlp: &'a [u8]) -> BasicDecoder<'a>
+        ensures { result.bytes ≡ rlp.now }
+    {
+        BasicDecoder { rlp }
+    }
+
+    /// What `f` answers on the string at the front of the bytes, without its header. What follows the string is never looked at.
+    ///
+    /// Where no string stands there, `f` isn't called, and the fault is `RlpIsTooShort` for no bytes,
+    /// `RlpExpectedToBeData` for a list, `RlpInconsistentLengthAndData` where the bytes end before the string or its
+    /// length does, `RlpInvalidLength` where header and string would pass 2^64 - 1 bytes, and
+    /// `RlpInvalidIndirection` where a shorter spelling of the string or of its length is the canonical one.
+    ///
+    /// ```rust
+    /// let decoder = rlp::BasicDecoder::new(&[0x83, b'c', b'a', b't']);
+    /// let len = decoder.decode_value(|string: &[u8]| -> Result<usize, rlp::DecoderError> { Ok(string.len()) })?;
+    /// assert_eq!(rt; len, 3);
+    /// ```
+    pub fn decode_value<T, E, F>(&self, f: F) -> Result<T, E>
+    where
+        E: From<DecoderError>,
+        F: Fn(&[u8]) -> Result<T, E> + Drop,
+        requires { F.IsAlwaysCallable f }
+        ensures found { IfOk (read_string self.now.bytes) (λ d. IsString self.now.bytes d × FnReturnsAt F.Fn f d result) }
+        ensures missing { IfErr (read_string self.now.bytes) (λ e. HasNoString self.now.bytes × IsErrAnd result (λ x. E.from_gives e x)) }
+    {
+        match string_in(self.rlp) {
+            Ok(string) => f(string),
+            Err(fault) => Err(E::from(fault)),
+        }
+    }
+}
+
+impl<'a> Rlp<'a> {
+    /// A decoder of the view's bytes.
+    pub fn decoder(&self) -> BasicDecoder<'a>
+        ensures { result ≡ self.now }
+    {
+        BasicDecoder::new(self.as_raw())
+    }
+
+    /// The value that the view begins with, as its type reads it: [`Decodable::decode`].
+    pub fn as_val<T: Decodable>(&self, alloc: Global) -> Result<T, DecoderError>
+        ensures value { IfOk result (λ v. T.gives self.now v) }
+        ensures fault { IfErr result (λ e. (T.faults self.now e) ⊎ ((e ≡ OutOfMemory) × IsTrue T.may_lack_memory)) }
+    {
+        T::decode(alloc, self)
+    }
+}
+
+/// The string at the front of the bytes, without its header.
+fn string_in(bytes: &[u8]) -> Result<&[u8], DecoderError>
+    ensures exact { MatchResult result (λ d. read_string bytes.now ≡ Ok d.now) (λ e. read_string bytes.now ≡ Err e) }
+    ensures read { ReadsString bytes.now (read_string bytes.now) }
+{
+    by_first_byte(bytes)
+}
+
+/// The string, by the table of first bytes.
+#[tactic(auto, using(crate::proofs::Strings::first_bytes), unfolding(crate::specs::StringReading::read_string))]
+fn by_first_byte(bytes: &[u8]) -> Result<&[u8], DecoderError>
+    ensures { MatchResult result (λ d. read_string bytes.now ≡ Ok d.now) (λ e. read_string bytes.now ≡ Err e) }
+{
+    match bytes {
+        [] => Err(DecoderError::RlpIsTooShort),
+        [first, rest @ ..] => match *first {
+            0x00..=0x7f => Ok(&bytes[..1]),
+            first @ 0x80..=0xb7 => short_form(rest, (first - 0x80) as usize),
+            first @ 0xb8..=0xbf => long_form(rest, (first - 0xb7) as usize),
+            0xc0..=0xff => Err(DecoderError::RlpExpectedToBeData),
+        },
+    }
+}
+
+/// The string of `len` bytes that `rest` begins with, where its first byte announced the length.
+fn short_form(rest: &[u8], len: usize) -> Result<&[u8], DecoderError>
+    ensures { MatchResult result (λ d. short_string len rest.now ≡ Ok d.now) (λ e. short_string len rest.now ≡ Err e) }
+{
+    if rest.len() < len {
+        return Err(DecoderError::RlpInconsistentLengthAndData);
+    }
+    match &rest[..len] {
+        [byte] if *byte < 0x80 => Err(DecoderError::RlpInvalidIndirection),
+        string => Ok(string),
+    }
+}
+
+/// The string after `len` bytes of length, which `rest` begins with.
+fn long_form(rest: &[u8], len: usize) -> Result<&[u8], DecoderError>
+    requires positive { 1 ≤ len }
+    requires few { len ≤ 8 }
+    ensures { MatchResult result (λ d. long_string len rest.now ≡ Ok d.now) (λ e. long_string len rest.now ≡ Err e) }
+{
+    if rest.len() < len {
+        return Err(DecoderError::RlpInconsistentLengthAndData);
+    }
+    if rest[0] == 0 {
+        return Err(DecoderError::RlpInvalidIndirection);
+    }
+    let (digits, after) = rest.split_at(len);
+    string_of(after, len, number_of(digits))
+}
+
+/// The string of `value_len` bytes that `after` begins with, where `len` bytes of length say so.
+fn string_of(after: &[u8], len: usize, value_len: usize) -> Result<&[u8], DecoderError>
+    requires { len ≤ 8 }
+    ensures { MatchResult result (λ d. long_value len value_len after.now ≡ Ok d.now) (λ e. long_value len value_len after.now ≡ Err e) }
+{
+    if value_len <= 55 {
+        return Err(DecoderError::RlpInvalidIndirection);
+    }
+    if (1 + len).checked_add(value_len).is_none() {
+        return Err(DecoderError::RlpInvalidLength);
+    }
+    if after.len() < value_len {
+        return Err(DecoderError::RlpInconsistentLengthAndData);
+    }
+    Ok(&after[..value_len])
+}

@@ -1,0 +1,65 @@
+//! Headers as they are written.
+
+ghost use Rattle.std.specs.Prelude.{◌≡◌, ◌+◌, ◌<◌, length, drop};
+ghost use Rattle.std.specs.Int.{w64, to_be_bytes};
+ghost use Rattle.rlp.specs.WrittenHeader.{big_endian, written_header};
+
+use std::marker::Model;
+
+// The greatest length up to which a header is one byte.
+const SHORT: usize = 55;
+
+/// A header, computed before anything is written: the last bytes of the array.
+#[derive(Drop)]
+pub(crate) struct HeaderBytes {
+    bytes: [u8; 9],
+    start: usize,
+}
+
+impl Model for HeaderBytes {
+    ghost use Rattle.std.specs.Prelude.{ℕ, List, ◌≤◌, drop};
+
+    ghost Value = { List ℕ };
+
+    ghost view = { λ h. drop h.start h.bytes };
+
+    ghost invariant = { λ h. h.start ≤ 9 };
+}
+
+impl HeaderBytes {
+    /// Its bytes.
+    pub(crate) fn as_slice(&self) -> &[u8]
+        ensures { result.now ≡ self.now }
+    {
+        &self.bytes[self.start..]
+    }
+}
+
+/// The header of a string of so many bytes.
+#[tactic(auto, using(crate::proofs::Written::written))]
+pub(crate) fn string_header(len: usize) -> HeaderBytes
+    ensures { result ≡ written_header 0x80 len }
+{
+    let mut bytes = [0; 9];
+    if len <= SHORT {
+        bytes[8] = 0x80 + len as u8;
+        return HeaderBytes { bytes, start: 8 };
+    }
+    let number = len as u64;
+    let zeros = leading_zero_bytes(number);
+    bytes[1..].copy_from_slice(&number.to_be_bytes());
+    bytes[zeros] = 0xb7 + (8 - zeros) as u8;
+    HeaderBytes {
+        bytes,
+        start: zeros,
+    }
+}
+
+/// How many of a number's eight bytes are zeros in front of its digits.
+#[tactic(auto, using(crate::proofs::HighFirst::leading))]
+pub(crate) fn leading_zero_bytes(number: u64) -> usize
+    ensures digits { drop result (to_be_bytes w64 number) ≡ big_endian number }
+    ensures len { result + length (big_endian number) ≡ 8 }
+{
+    number.leading_zeros() as usize / 8
+}

@@ -1,0 +1,31 @@
+//! Values that are read.
+
+ghost use Rattle.std.specs.Prelude.{◌≡◌, Bool, IfOk, IfErr, IsTrue, ◌⊎◌};
+ghost use Rattle.rlp.specs.declared.error.DecoderError.{DecoderError};
+ghost use Rattle.rlp.specs.declared.error.DecoderError.TheVariants.{OutOfMemory};
+ghost use Rattle.rlp.specs.View.{View};
+
+use crate::error::DecoderError;
+use crate::rlpin::Rlp;
+use std::alloc::Global;
+
+/// A value that is read from the front of a view.
+///
+/// An implementation says which views give which values and which have which faults, and `decode` answers nothing else. Most read one string by [`BasicDecoder::decode_value`](crate::BasicDecoder::decode_value), or another type's value by [`Rlp::as_val`].
+pub trait Decodable: Sized + Drop {
+    /// The view gives the value.
+    ghost gives: { View → Self → Type 0 };
+
+    /// The view gives no value, for this reason.
+    ghost faults: { View → DecoderError → Type 0 };
+
+    /// Whether reading may answer `OutOfMemory` where memory is refused.
+    ghost may_lack_memory: { Bool };
+
+    /// The value that the view begins with. What follows the value's item is never looked at.
+    ///
+    /// The faults are the type's own, and `OutOfMemory` where the type takes memory and it is refused.
+    fn decode(alloc: Global, rlp: &Rlp<'_>) -> Result<Self, DecoderError>
+        ensures value { IfOk result (λ v. gives rlp.now v) }
+        ensures fault { IfErr result (λ e. (faults rlp.now e) ⊎ ((e ≡ OutOfMemory) × IsTrue may_lack_memory)) };
+}

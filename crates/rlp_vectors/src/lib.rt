@@ -1,0 +1,73 @@
+//! Callers of `rlp` with what is proved of them, worked rows, and the tests that the Rust crate carries.
+#![tactic(auto)]
+
+ghost use Rattle.std.specs.Prelude.{◌≡◌, ◌++◌, ◌⊎◌, OnOk, OnErr, IfOk};
+ghost use Rattle.rlp.specs.Encoding.{encoding};
+ghost use Rattle.rlp.specs.Stream.{add};
+
+use bytes::BytesMut;
+use rlp::{DecoderError, Encodable, Rlp, RlpStream};
+use std::alloc::{AllocError, Global};
+
+#[cfg(test)]
+mod decoding;
+mod nonce;
+mod refusing;
+
+pub use nonce::Nonce;
+pub use refusing::Refusing;
+
+/// Appends one value, and is refused as a whole.
+pub fn append_one<A: Encodable>(s: &mut RlpStream, a: &A) -> Result<(), AllocError>
+    ensures ok { OnOk result (s.new.state ≡ add (A.item a.now) s.old.state) }
+    ensures refused { OnErr result (s.new.state ≡ s.old.state) }
+{
+    s.append(a)?;
+    Ok(())
+}
+
+/// Appends three values. The first that is refused leaves those before it.
+pub fn append_three<A: Encodable, B: Encodable, C: Encodable>(
+    s: &mut RlpStream,
+    a: &A,
+    b: &B,
+    c: &C,
+) -> Result<(), AllocError>
+    ensures fits { OnOk result (A.fits a.now × B.fits b.now × C.fits c.now) }
+    ensures ok { OnOk result (s.new.state
+        ≡ add (C.item c.now) (add (B.item b.now) (add (A.item a.now) s.old.state))) }
+    ensures refused { OnErr result ((s.new.state ≡ s.old.state)
+        ⊎ ((s.new.state ≡ add (A.item a.now) s.old.state)
+        ⊎ (s.new.state ≡ add (B.item b.now) (add (A.item a.now) s.old.state)))) }
+{
+    s.append(a)?.append(b)?.append(c)?;
+    Ok(())
+}
+
+/// The bytes of three values, one after another.
+pub fn bytes_of_three<A: Encodable, B: Encodable, C: Encodable>(
+    alloc: Global,
+    a: &A,
+    b: &B,
+    c: &C,
+) -> Result<BytesMut, AllocError>
+    ensures { IfOk result (λ o. o.items
+        ≡ encoding (A.item a.now) ++ encoding (B.item b.now) ++ encoding (C.item c.now)) }
+{
+    let mut s = RlpStream::new(alloc)?;
+    s.append(a)?.append(b)?.append(c)?;
+    Ok(s.out())
+}
+
+/// The first item's value, and the text of the whole.
+pub fn first_and_text<'a>(
+    alloc: Global,
+    view: &Rlp<'a>,
+) -> Result<(&'a [u8], String), DecoderError> {
+    let first = view.iter().next().ok_or(DecoderError::RlpIsTooShort)?;
+    let text = format!(in alloc; "{view}").map_err(|_| DecoderError::OutOfMemory)?;
+    Ok((first.data()?, text))
+}
+
+#[cfg(test)]
+mod encoding;

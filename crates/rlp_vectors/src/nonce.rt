@@ -1,0 +1,38 @@
+//! A type of one's own that is written and read as the number that it is.
+
+use rlp::{Decodable, DecoderError, Encodable, Rlp, RlpStream};
+use std::alloc::{AllocError, Global};
+
+/// How many transactions an account has sent.
+#[derive(Debug, PartialEq, Eq, Drop)]
+pub struct Nonce(pub u64);
+
+/// As a `u64`.
+impl Encodable for Nonce {
+    ghost use Rattle.rlp.specs.Value.{FitsBytes, number_item};
+
+    ghost item = { λ n. number_item n.0 };
+
+    ghost fits = { λ n. FitsBytes 8 n.0 };
+
+    fn rlp_append(&self, s: &mut RlpStream) -> Result<(), AllocError> {
+        self.0.rlp_append(s)
+    }
+}
+
+/// As a `u64`.
+impl Decodable for Nonce {
+    ghost use Rattle.std.specs.Prelude.{false};
+    ghost use Rattle.rlp.specs.ValueReading.{FaultsAsNumber, GivesNumber};
+
+    ghost gives = { λ v n. GivesNumber 8 v n.0 };
+
+    ghost faults = { λ v e. FaultsAsNumber 8 v e };
+
+    ghost may_lack_memory = { false };
+
+    fn decode(alloc: Global, rlp: &Rlp<'_>) -> Result<Nonce, DecoderError> {
+        let sent = rlp.as_val(alloc)?;
+        Ok(Nonce(sent))
+    }
+}

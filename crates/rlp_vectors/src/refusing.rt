@@ -1,0 +1,23 @@
+//! A value that is always refused, in the midst of its bytes.
+
+use rlp::{Encodable, RlpStream};
+use std::alloc::AllocError;
+
+/// It writes a string, and is refused then.
+#[derive(Debug, Drop)]
+pub struct Refusing;
+
+impl Encodable for Refusing {
+    ghost use Rattle.std.specs.Prelude.{⊤, []};
+    ghost use Rattle.rlp.specs.Item.{string};
+
+    ghost item = { λ v. string [] };
+
+    ghost fits = { λ v. ⊤ };
+
+    #[tactic(auto, using(rlp::proofs::Growth::growth))]
+    fn rlp_append(&self, s: &mut RlpStream) -> Result<(), AllocError> {
+        s.encoder().encode_value(&[1, 2, 3])?;
+        Err(AllocError)
+    }
+}
