@@ -19,3 +19,6 @@ pub mod Growth
 pub mod Layouts
 pub mod States
 pub mod Descriptions
+pub mod Places
+pub mod ListValues
+pub mod Numbered

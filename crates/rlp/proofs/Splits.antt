@@ -58,8 +58,9 @@ pub length-items : (b : List ℕ) → length (items b) ≤ length (payload b)
 unfolding items
 length-items b = length-split (payload b)
 
-pub length-item_views : (v : View) → length (item_views v) ≤ length (items v.bytes)
-unfolding view_of
-length-item_views v = omega (arith, length-map (items v.bytes) (view_of v))
+-- as many views as items
+pub length-item_views : (v : View) → length (item_views v) ≡ length (split (payload v.bytes))
+unfolding view_of items
+length-item_views v = length-map (items v.bytes) (view_of v)
 
-pub ruleset splits = (drop-next, drop-past, drop-inside, length-split, drop-item_views, drop-item_views-past, length-item_views)
+pub ruleset splits = (drop-next, drop-past, drop-inside, length-split, drop-item_views, drop-item_views-past, length-item_views, length-drop)

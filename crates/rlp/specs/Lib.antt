@@ -17,3 +17,4 @@ pub mod Calls
 pub mod Layout
 pub mod Chain
 pub mod Described
+pub mod ListReading

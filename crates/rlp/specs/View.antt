@@ -1,6 +1,13 @@
 -- What contracts see of a view, and what a view of bytes answers.
-use Rattle.std.specs.Prelude.{ℕ, ◌-◌, Bool, true, false, ◌||◌, ◌==◌, if◌then◌else◌, nat_lt, nat_le, List, [], ◌∷◌, map, slice_index_or}
-use Rattle.rlp.specs.Split.{items}
+use Rattle.std.specs.Prelude.{ℕ, ◌+◌, ◌-◌, Bool, true, false, ◌||◌, ◌==◌, if◌then◌else◌, nat_lt, nat_le, List, [], ◌∷◌, length, take, map, slice_index_or, Result, Ok, Err}
+use Rattle.std.specs.List.{concat}
+use Rattle.rlp.specs.declared.error.DecoderError.{DecoderError}
+use Rattle.rlp.specs.declared.error.DecoderError.TheVariants.{RlpExpectedToBeList}
+use Rattle.rlp.specs.declared.rlpin.header.PayloadInfo.{PayloadInfo}
+use Rattle.rlp.specs.declared.rlpin.view.Prototype.{Prototype}
+use Rattle.rlp.specs.declared.rlpin.view.Prototype.TheVariants as prototype
+use Rattle.rlp.specs.Framing.{fault, framing, map_ok, value}
+use Rattle.rlp.specs.Split.{begins_as_list, items, rest}
 
 -- A view is of these bytes.
 pub record View : Type 0 where
@@ -45,3 +52,41 @@ begins_as_int (first ∷ rest) =
     else (if nat_lt first 0xb8 then has_nonzero_at 0 rest
     else (if nat_lt first 0xc0 then has_nonzero_at (first - 0xb7) rest
     else false))
+
+-- ---- the items of a view, by number and by place
+
+-- how many items: only bytes that begin as a list have a number of them
+unfoldable pub item_count : View → Result ℕ DecoderError
+item_count v = if begins_as_list v.bytes then Ok (length (items v.bytes)) else Err RlpExpectedToBeList
+
+-- Item i and its place, counted from the view's first byte, where the list's header has h bytes. Past the last item it is the fault of what follows the items.
+abbrev pub item_after : View → ℕ → ℕ → Result (View × ℕ) DecoderError
+item_after v i h =
+    if nat_lt i (length (items v.bytes)) then Ok (record v { bytes = slice_index_or (items v.bytes) i [] }, h + length (concat (take i (items v.bytes))))
+    else Err (fault (rest v.bytes))
+
+abbrev pub item_by : View → ℕ → Result PayloadInfo DecoderError → Result (View × ℕ) DecoderError
+item_by v i (Err e) = Err e
+item_by v i (Ok p) = item_after v i p.header_len
+
+-- Item i and its place: first the bytes must begin as a list, then they must be framed.
+unfoldable pub item_with_place : View → ℕ → Result (View × ℕ) DecoderError
+item_with_place v i = if begins_as_list v.bytes then item_by v i (framing v.bytes) else Err RlpExpectedToBeList
+
+-- the same without the place
+abbrev pub item_at : View → ℕ → Result View DecoderError
+item_at v i = map_ok (λ p. p.0) (item_with_place v i)
+
+-- the length of a value
+abbrev pub value_length : Result (List ℕ) DecoderError → ℕ
+value_length (Ok v) = length v
+value_length (Err e) = 0
+
+-- the length of a framed string, and 0 for anything else
+abbrev pub data_size : List ℕ → ℕ
+data_size b = if begins_as_data b then value_length (value b) else 0
+
+-- what stands at the front: no bytes, a string with its length, or a list with the number of its items
+abbrev pub prototype_of : List ℕ → Prototype
+prototype_of [] = prototype.Null
+prototype_of (first ∷ more) = if begins_as_list (first ∷ more) then prototype.List (length (items (first ∷ more))) else prototype.Data (data_size (first ∷ more))

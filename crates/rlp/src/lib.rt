@@ -13,7 +13,8 @@
 ghost use Rattle.std.specs.Prelude.{◌≡◌, IfOk, IfErr, IsTrue, OnOk, ◌⊎◌};
 ghost use Rattle.rlp.specs.Encoding.{encoding};
 ghost use Rattle.rlp.specs.declared.error.DecoderError.TheVariants.{OutOfMemory};
-ghost use Rattle.rlp.specs.View.{view_of};
+ghost use Rattle.rlp.specs.ListReading.{FaultsFirst, GivesEach};
+ghost use Rattle.rlp.specs.View.{item_views, view_of};
 
 mod error;
 mod impls;
@@ -24,7 +25,7 @@ mod traits;
 
 use bytes::BytesMut;
 pub use error::DecoderError;
-pub use rlpin::{BasicDecoder, PayloadInfo, Rlp, RlpIterator};
+pub use rlpin::{BasicDecoder, PayloadInfo, Prototype, Rlp, RlpIterator};
 use std::alloc::{AllocError, Global};
 pub use stream::{BasicEncoder, Chain, RlpStream};
 pub use traits::{Decodable, Encodable};
@@ -59,4 +60,16 @@ pub fn decode<T: Decodable>(alloc: Global, bytes: &[u8]) -> Result<T, DecoderErr
     ensures fault { IfErr result (λ e. (T.faults (view_of bytes.now) e) ⊎ ((e ≡ OutOfMemory) × IsTrue T.may_lack_memory)) }
 {
     Rlp::new(bytes).as_val(alloc)
+}
+
+/// The values of the items of the list that the bytes begin with, in order: [`Rlp::as_list`] of a view of them. What follows the list is never looked at.
+///
+/// ```rust
+/// assert_eq!(rt; rlp::decode_list::<u64>(alloc, &[0xc2, 0x05, 0x06])?.as_slice(), [5, 6].as_slice());
+/// ```
+pub fn decode_list<T: Decodable>(alloc: Global, bytes: &[u8]) -> Result<Vec<T>, DecoderError>
+    ensures value { IfOk result (λ values. GivesEach T.gives (item_views (view_of bytes.now)) values.items) }
+    ensures fault { IfErr result (λ e. (e ≡ OutOfMemory) ⊎ FaultsFirst T.gives T.faults (item_views (view_of bytes.now)) e) }
+{
+    Rlp::new(bytes).as_list(alloc)
 }

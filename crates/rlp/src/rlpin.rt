@@ -2,7 +2,9 @@
 
 mod decoder;
 mod header;
+mod items;
 mod iter;
+mod lists;
 mod nesting;
 #[cfg(test)]
 mod tests;
@@ -13,4 +15,4 @@ pub use decoder::BasicDecoder;
 pub use header::PayloadInfo;
 pub(crate) use header::number_of;
 pub use iter::RlpIterator;
-pub use view::Rlp;
+pub use view::{Prototype, Rlp};

@@ -71,3 +71,5 @@ pub fn first_and_text<'a>(
 
 #[cfg(test)]
 mod encoding;
+#[cfg(test)]
+mod views;

@@ -1,25 +1,14 @@
 //! The items of a view, one by one.
 
-ghost use Rattle.std.specs.Prelude.{◌≡◌, ◌∷◌, [], ℕ, ◌+◌, ◌<◌, ◌≤◌, ◌^◌, length, drop, List, MatchOption, IfSome};
-ghost use Rattle.std.specs.Iterator.{YieldsFirst, item_count};
+ghost use Rattle.std.specs.Prelude.{◌≡◌, ◌∷◌, [], ℕ, ◌+◌, ◌<◌, ◌≤◌, ◌^◌, length, drop, List, MatchOption, IfSome, Some};
+ghost use Rattle.std.specs.Iterator.{YieldsFirst, item_count, UpTo, at_most};
+ghost use Rattle.std.specs.Iterator.SizeHint.{IsWithinCount};
 ghost use Rattle.rlp.specs.Split.{items, split};
 ghost use Rattle.rlp.specs.View.{View, item_views};
 
-use crate::rlpin::header::framing_of;
+use crate::rlpin::items::{count_items, split_first};
 use crate::rlpin::view::Rlp;
 use std::marker::Model;
-
-/// The first item of a payload and the bytes after it, or `None` where no item stands there.
-pub(crate) fn split_first<'a>(payload: &'a [u8]) -> Option<(Rlp<'a>, &'a [u8])>
-    ensures parts { MatchOption result (split payload.now ≡ []) (λ r. split payload.now ≡ r.0.bytes ∷ split r.1.now) }
-    ensures shorter { IfSome result (λ r. length r.1.now < length payload.now) }
-{
-    let Ok(info) = framing_of(payload) else {
-        return None;
-    };
-    let (item, rest) = payload.split_at(info.header_len + info.value_len);
-    Some((Rlp::new(item), rest))
-}
 
 impl<'a> Rlp<'a> {
     /// The items of the list that the view begins with, in order, as views.
@@ -86,6 +75,34 @@ impl<'a, 'view> Iterator for RlpIterator<'a, 'view> {
         let item = self.rlp.item_at(self.index)?;
         self.index += 1;
         Some(item)
+    }
+
+    fn size_hint(&self) -> (usize, Option<usize>)
+        ensures lower { IsWithinCount result.0 (at_most (length self.now.left)) }
+        ensures upper { IfSome result.1 (UpTo (at_most (length self.now.left))) }
+        ensures exact { (result.0 ≡ length self.now.left) × (result.1 ≡ Some (length self.now.left)) }
+    {
+        let count = self.count_left();
+        (count, Some(count))
+    }
+}
+
+impl<'a, 'view> ExactSizeIterator for RlpIterator<'a, 'view> {
+    /// How many items are still to come, by a walk over them.
+    fn len(&self) -> usize
+        ensures { result ≡ length self.now.left }
+    {
+        self.count_left()
+    }
+}
+
+impl<'a, 'view> RlpIterator<'a, 'view> {
+    /// How many items are still to come.
+    #[tactic(auto, using(crate::proofs::Splits::splits))]
+    fn count_left(&self) -> usize
+        ensures { result ≡ length self.now.left }
+    {
+        count_items(self.rlp.payload()) - self.index
     }
 }
 

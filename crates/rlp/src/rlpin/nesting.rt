@@ -3,7 +3,7 @@
 ghost use Rattle.std.specs.Prelude.{◌≤◌, ◌↔◌, IsTrue};
 ghost use Rattle.rlp.specs.Depth.{depth};
 
-use crate::rlpin::iter::split_first;
+use crate::rlpin::items::split_first;
 use crate::rlpin::view::Rlp;
 
 impl Rlp<'_> {

@@ -4,7 +4,7 @@ ghost use Rattle.std.specs.Prelude.{◌≡◌, ◌<◌, ◌++◌, ◌∷◌, [],
 ghost use Rattle.std.specs.Fmt.{WritesStyledOnOk};
 ghost use Rattle.rlp.specs.Text.{hex, hex_digit, hex_pair, text};
 
-use crate::rlpin::iter::split_first;
+use crate::rlpin::items::split_first;
 use crate::rlpin::view::Rlp;
 use std::fmt;
 use std::fmt::Display;

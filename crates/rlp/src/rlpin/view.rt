@@ -3,10 +3,11 @@
 ghost use Rattle.std.specs.Prelude.{◌≡◌, ◌↔◌, ℕ, List, [], IsTrue, Ok, Err, MatchResult, true};
 ghost use Rattle.rlp.specs.Framing.{framing, value};
 ghost use Rattle.rlp.specs.Split.{begins_as_list, payload};
-ghost use Rattle.rlp.specs.View.{begins_as_data, begins_as_empty, begins_as_int, has_nonzero_at};
+ghost use Rattle.rlp.specs.View.{begins_as_data, begins_as_empty, begins_as_int, data_size, has_nonzero_at, prototype_of};
 
 use crate::error::DecoderError;
 use crate::rlpin::header::{PayloadInfo, framing_of};
+use crate::rlpin::items::count_items;
 use std::marker::Model;
 
 /// A view of bytes that may begin with an item.
@@ -23,6 +24,17 @@ impl<'a> Model for Rlp<'a> {
     ghost Value = { View };
 
     ghost view = { λ r. record { bytes = r.bytes.now } };
+}
+
+/// What stands at the front of a view.
+#[derive(Debug, Drop)]
+pub enum Prototype {
+    /// No bytes.
+    Null,
+    /// A string of so many bytes.
+    Data(usize),
+    /// A list of so many items.
+    List(usize),
 }
 
 impl<'a> Rlp<'a> {
@@ -66,6 +78,33 @@ impl<'a> Rlp<'a> {
         let info = framing_of(self.bytes)?;
         let after_header = &self.bytes[info.header_len..];
         Ok(&after_header[..info.value_len])
+    }
+
+    /// The length of the string that the view begins with, and 0 where no framed string stands there.
+    pub fn size(&self) -> usize
+        ensures { result ≡ data_size self.now.bytes }
+    {
+        if !self.is_data() {
+            return 0;
+        }
+        match self.data() {
+            Ok(value) => value.len(),
+            Err(_) => 0,
+        }
+    }
+
+    /// What the view begins with: no bytes, a string with its [`Rlp::size`], or a list with the number of its items. It is always `Ok`; bytes that aren't framed are a string of size 0 or a list of no items, by their first byte.
+    #[tactic(auto, unfolding(crate::specs::Split::items))]
+    pub fn prototype(&self) -> Result<Prototype, DecoderError>
+        ensures { result ≡ Ok (prototype_of self.now.bytes) }
+    {
+        if self.is_null() {
+            return Ok(Prototype::Null);
+        }
+        if self.is_list() {
+            return Ok(Prototype::List(count_items(self.payload())));
+        }
+        Ok(Prototype::Data(self.size()))
     }
 
     /// Whether there are no bytes.

@@ -1,0 +1,114 @@
+-- Where the items of a list stand, as a walk over them goes.
+use Rattle.std.proofs.Common.{ℕ, zero, suc, ◌+◌, ◌-◌, ◌<◌, ◌≤◌, ◌≡◌, true, false, List, [], ◌∷◌, ◌++◌, length, take, drop, get_or, Ok, Err, refl, sym, ◌∙◌, ap, arith, append_assoc, append-nil, length-append, length-drop, length-take-le, add-one, ltb, lt-ltb, le-ltb, drop_at}
+use Rattle.std.proofs.lemmas.Bool.{cond-true, cond-false}
+use Rattle.std.specs.List.{concat}
+use Rattle.rlp.specs.declared.error.DecoderError.{DecoderError}
+use Rattle.rlp.specs.declared.error.DecoderError.TheVariants.{RlpExpectedToBeList}
+use Rattle.rlp.specs.declared.rlpin.header.PayloadInfo.{PayloadInfo}
+use Rattle.rlp.specs.Framing.{fault, fault_in, framing, map_ok, total_len, value}
+use Rattle.rlp.specs.Split.{begins_as_list, items, payload, payload_in, rest, split}
+use Rattle.rlp.specs.View.{View, item_with_place, item_after, item_by}
+use Rattle.rlp.proofs.Splits.{drop-next, drop-inside}
+
+-- the fault of bytes that have none of the headers
+pub fault-err : (b : List ℕ) (e : DecoderError) → framing b ≡ Err e → e ≡ fault b
+unfolding fault
+fault-err b e is = sym (ap fault_in is)
+
+module _ {A : Type 0} where
+  take-next : (i : ℕ) (xs ys : List A) (x : A) → drop i xs ≡ x ∷ ys → take (suc i) xs ≡ take i xs ++ x ∷ []
+  take-next zero [] ys x e = cc
+  take-next zero (y ∷ xs) ys x e = let same : y ≡ x = cc in cc
+  take-next (suc i) [] ys x e = cc
+  take-next (suc i) (y ∷ xs) ys x e = ap (λ zs. y ∷ zs) (take-next i xs ys x e)
+
+  get_or-drop : (i : ℕ) (xs ys : List A) (x d : A) → drop i xs ≡ x ∷ ys → get_or xs i d ≡ x
+  get_or-drop zero [] ys x d e = cc
+  get_or-drop zero (y ∷ xs) ys x d e = cc
+  get_or-drop (suc i) [] ys x d e = cc
+  get_or-drop (suc i) (y ∷ xs) ys x d e = get_or-drop i xs ys x d e
+
+  take-past : (i : ℕ) (xs : List A) → drop i xs ≡ [] → take i xs ≡ xs
+  take-past zero [] e = refl
+  take-past zero (y ∷ xs) e = cc
+  take-past (suc i) [] e = refl
+  take-past (suc i) (y ∷ xs) e = ap (λ zs. y ∷ zs) (take-past i xs e)
+
+concat-more : (xs : List (List ℕ)) (x : List ℕ) → concat (xs ++ x ∷ []) ≡ concat xs ++ x
+concat-more [] x = append-nil x
+concat-more (y ∷ xs) x = ap (λ zs. y ++ zs) (concat-more xs x) ∙ sym (append_assoc y (concat xs) x)
+
+-- the payload of a framed list
+pub payload-list : (b : List ℕ) (p : PayloadInfo) → begins_as_list b ≡ true → framing b ≡ Ok p → take p.value_len (drop p.header_len b) ≡ payload b
+unfolding payload value
+payload-list b p kind is = sym (ap (λ k. payload_in k (value b)) kind ∙ ap (λ r. payload_in true (map_ok (λ q. take q.value_len (drop q.header_len b)) r)) is)
+
+-- after the first k items of b, this stands in its payload
+pub record IsWalked (b : List ℕ) (k : ℕ) (left : List ℕ) : Type 0 where
+  pub others : split left ≡ drop k (items b)
+  pub whole : payload b ≡ concat (take k (items b)) ++ left
+
+pub walked-none : (b p : List ℕ) → p ≡ payload b → IsWalked b 0 p
+unfolding items
+walked-none b p e = record { others = ap split e; whole = sym e }
+
+pub walked-one : (b item others left : List ℕ) (k : ℕ) → IsWalked b k left → split left ≡ item ∷ split others → left ≡ item ++ others → IsWalked b (k + 1) others
+walked-one b item others left k is parts whole =
+    let here : drop k (items b) ≡ item ∷ split others = sym is.others ∙ parts in
+    record {
+      others = sym (drop-next k (items b) (split others) item here);
+      whole =
+          is.whole ∙ ap (λ s. concat (take k (items b)) ++ s) whole
+          ∙ sym (append_assoc (concat (take k (items b))) item others)
+          ∙ ap (λ s. s ++ others) (sym (concat-more (take k (items b)) item) ∙ ap concat (sym (take-next k (items b) (split others) item here)) ∙ ap (λ n. concat (take n (items b))) (sym (add-one k)));
+    }
+
+item_by-list : (v : View) (i : ℕ) (p : PayloadInfo) → begins_as_list v.bytes ≡ true → framing v.bytes ≡ Ok p → item_with_place v i ≡ item_after v i p.header_len
+unfolding item_with_place
+item_by-list v i p kind is = cond-true (begins_as_list v.bytes) _ _ kind ∙ ap (item_by v i) is
+
+-- the item that a walk of i items comes to, and its place
+pub walked-item : (v item : View) (i : ℕ) (p : PayloadInfo) (others left : List ℕ) → begins_as_list v.bytes ≡ true → framing v.bytes ≡ Ok p → length (payload v.bytes) ≡ p.value_len
+    → IsWalked v.bytes i left → split left ≡ item.bytes ∷ split others → left ≡ item.bytes ++ others
+    → Ok (item, p.header_len + (p.value_len - length others - length item.bytes)) ≡ item_with_place v i
+walked-item v item i p others left kind is long walked parts whole =
+    let here : drop i (items v.bytes) ≡ item.bytes ∷ split others = sym walked.others ∙ parts in
+    let inside : i < length (items v.bytes) = drop-inside i (items v.bytes) (split others) item.bytes here in
+    let lengths : length (payload v.bytes) ≡ length (concat (take i (items v.bytes))) + length left = ap length walked.whole ∙ length-append (concat (take i (items v.bytes))) left in
+    let place : p.header_len + (p.value_len - length others - length item.bytes) ≡ p.header_len + length (concat (take i (items v.bytes))) = omega (arith, ap length whole, length-append item.bytes others) in
+    let found : item.bytes ≡ get_or (items v.bytes) i [] = sym (get_or-drop i (items v.bytes) (split others) item.bytes [] here) in
+    ap (λ n. Ok (item, n)) place
+    ∙ ap (λ (b : List ℕ). Ok (record v { bytes = b }, p.header_len + length (concat (take i (items v.bytes))))) found
+    ∙ sym (cond-true (ltb i (length (items v.bytes))) _ _ (lt-ltb i (length (items v.bytes)) inside))
+    ∙ sym (item_by-list v i p kind is)
+
+-- past the last item stands the fault of what follows the items
+pub walked-past : (v : View) (i k : ℕ) (p : PayloadInfo) (left : List ℕ) (e : DecoderError) → begins_as_list v.bytes ≡ true → framing v.bytes ≡ Ok p
+    → IsWalked v.bytes k left → split left ≡ [] → e ≡ fault left → k ≤ i
+    → Err e ≡ item_with_place v i
+unfolding rest
+walked-past v i k p left e kind is walked none same below =
+    let gone : drop k (items v.bytes) ≡ [] = sym walked.others ∙ none in
+    let few : length (items v.bytes) ≤ k = let zero_left : length (items v.bytes) - k ≡ 0 = sym (length-drop k (items v.bytes)) ∙ ap length gone in omega arith in
+    let past : ltb i (length (items v.bytes)) ≡ false = le-ltb i (length (items v.bytes)) (omega arith) in
+    let whole : payload v.bytes ≡ concat (items v.bytes) ++ left = walked.whole ∙ ap (λ fs. concat fs ++ left) (take-past k (items v.bytes) gone) in
+    let after : rest v.bytes ≡ left = ap (drop (length (concat (items v.bytes)))) whole ∙ drop_at (concat (items v.bytes)) left (length (concat (items v.bytes))) refl in
+    ap Err (same ∙ ap fault (sym after))
+    ∙ sym (cond-false (ltb i (length (items v.bytes))) _ _ past)
+    ∙ sym (item_by-list v i p kind is)
+
+pub not_framed_item : (v : View) (i : ℕ) (e : DecoderError) → begins_as_list v.bytes ≡ true → framing v.bytes ≡ Err e → Err e ≡ item_with_place v i
+unfolding item_with_place
+not_framed_item v i e kind is = sym (cond-true (begins_as_list v.bytes) _ _ kind ∙ ap (item_by v i) is)
+
+pub not_list_item : (v : View) (i : ℕ) → begins_as_list v.bytes ≡ false → Err RlpExpectedToBeList ≡ item_with_place v i
+unfolding item_with_place
+not_list_item v i kind = sym (cond-false (begins_as_list v.bytes) _ _ kind)
+
+-- what a walk has before it, in bytes
+pub walked-length : (b item others left : List ℕ) (k n : ℕ) → IsWalked b k left → left ≡ item ++ others → length (payload b) ≡ n → length item + length others ≤ n
+walked-length b item others left k n is whole long =
+    omega (arith, ap length is.whole, length-append (concat (take k (items b))) left, ap length whole, length-append item others)
+
+pub length-payload : (b : List ℕ) (p : PayloadInfo) → begins_as_list b ≡ true → framing b ≡ Ok p → total_len p ≤ length b → length (payload b) ≡ p.value_len
+length-payload b p kind is within = ap length (sym (payload-list b p kind is)) ∙ length-take-le p.value_len (drop p.header_len b) (omega (arith, length-drop p.header_len b))

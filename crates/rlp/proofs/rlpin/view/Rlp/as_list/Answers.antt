@@ -1,0 +1,29 @@
+use Rattle.std.proofs.Common.{◌++◌, ◌∷◌, [], subst, sym}
+use Rattle.rlp.specs.ListReading.{GivesEach}
+use Rattle.rlp.specs.View.{item_views}
+use Rattle.rlp.proofs.ListValues.{split_views, item_views-payload, views-next, views-more, views-all, gives-more, faults-first}
+use Rattle.rlp.proofs.rlpin.view.Rlp.as_list.Goals as goal
+
+pub loop-item-init : goal.loop-item-init
+loop-item-init g c = record {
+  done = [];
+  all = item_views-payload c.args.self.now c.payload-rest.result.now c.payload-rest.ensures;
+  read = rw c.new-values.ensures.items tt;
+}
+
+pub loop-item-preserved : goal.loop-item-preserved
+loop-item-preserved g c = record {
+  done = c.loop-item.invariant.done ++ c.in-Some.item ∷ [];
+  all = views-more c.args.self.now c.in-Some.item c.loop-item.invariant.done (item_views c.args.self.now) c.loop-item.rest.now c.in-Some.others.now c.loop-item.invariant.all c.in-Some.ensures.parts;
+  read = rw c.in-Ok-push.ensures.items (gives-more g.T.Decodable.gives c.loop-item.invariant.done c.loop-item.values.items c.in-Some.item c.in-Ok.value c.loop-item.invariant.read c.in-Ok.ensures.value);
+}
+
+pub returns-clause-value : goal.returns-clause-value
+returns-clause-value g c =
+    let all = views-all c.args.self.now c.loop-item.invariant.done (item_views c.args.self.now) c.loop-item.rest.now c.loop-item.invariant.all c.in_default.ensures.parts in
+    subst (λ vs. GivesEach g.T.Decodable.gives vs c.loop-item.values.items) all c.loop-item.invariant.read
+
+pub returns-in-Err-clause-fault : goal.returns-in-Err-clause-fault
+returns-in-Err-clause-fault g c =
+    let all = views-next c.args.self.now c.in-Some.item c.loop-item.invariant.done (item_views c.args.self.now) c.loop-item.rest.now c.in-Some.others.now c.loop-item.invariant.all c.in-Some.ensures.parts in
+    faults-first g.T.Decodable.gives g.T.Decodable.faults (item_views c.args.self.now) c.loop-item.invariant.done (split_views c.args.self.now c.in-Some.others.now) c.in-Some.item c.loop-item.values.items c.in-Err.fault (sym all) c.loop-item.invariant.read c.in-Err.ensures.fault
