@@ -25,11 +25,6 @@ item_views v = map (λ b. record v { bytes = b }) (items v.bytes)
 pub record Remaining : Type 0 where
   pub left : List View
 
--- whether there are no bytes
-abbrev pub is_null : List ℕ → Bool
-is_null [] = true
-is_null (first ∷ rest) = false
-
 -- whether the first byte is the encoding of the empty string or of the empty list
 abbrev pub begins_as_empty : List ℕ → Bool
 begins_as_empty [] = false
@@ -65,6 +60,7 @@ item_after v i h =
     if nat_lt i (length (items v.bytes)) then Ok (record v { bytes = slice_index_or (items v.bytes) i [] }, h + length (concat (take i (items v.bytes))))
     else Err (fault (rest v.bytes))
 
+-- item i and its place by the list's header, or the fault of bytes that aren't framed
 abbrev pub item_by : View → ℕ → Result PayloadInfo DecoderError → Result (View × ℕ) DecoderError
 item_by v i (Err e) = Err e
 item_by v i (Ok p) = item_after v i p.header_len

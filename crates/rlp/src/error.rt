@@ -58,7 +58,8 @@ impl DecoderError {
     }
 }
 
-/// The variant's name, and for `Custom` the text too, as in `Custom("text")`. The formatter's flags change nothing.
+/// The variant's name, and for `Custom` the text too, as in `Custom("text")`. The formatter's flags
+/// change nothing.
 impl fmt::Display for DecoderError {
     ghost use Rattle.std.specs.Prelude.{Some};
     ghost use Rattle.rlp.specs.Text.{error_name};

@@ -1,4 +1,5 @@
-//! Laws over the definitions of the format alone. None of these functions does anything: each contract is the law.
+//! Laws over the definitions of the format alone. None of these functions does anything: each
+//! contract is the law.
 
 ghost use Rattle.std.specs.Prelude.{◌≡◌, ℕ, ◌^◌, ◌<◌, ◌≤◌, ◌+◌, ◌↔◌, ◌⊎◌, List, [], ◌++◌, length, map, All, get_or, take, drop, ◌∷◌, Ok, Err, IsTrue, MatchResult, is_ok};
 ghost use Rattle.std.specs.List.{concat};
@@ -31,31 +32,39 @@ pub fn digits_are_canonical()
     ensures bytes { (n : ℕ) → AreBytes (big_endian n) }
     ensures no_leading_zero { (n : ℕ) → 0 < n → 0 < get_or (big_endian n) 0 0 }
     ensures value { (n : ℕ) → number_from_digits 256 (big_endian n) ≡ n }
-    ensures only { (d : ℕ) (ds : List ℕ) → 0 < d → AreBytes (d ∷ ds) → big_endian (number_from_digits 256 (d ∷ ds)) ≡ d ∷ ds }
+    ensures only { (d : ℕ) (ds : List ℕ) → 0 < d → AreBytes (d ∷ ds)
+        → big_endian (number_from_digits 256 (d ∷ ds)) ≡ d ∷ ds }
 {}
 
 /// No written header begins another.
 pub fn headers_are_prefix_free()
-    ensures { (base1 base2 m n : ℕ) (x y : List ℕ) → IsBase base1 → IsBase base2 → m < 2 ^ 64 → n < 2 ^ 64
+    ensures { (base1 base2 m n : ℕ) (x y : List ℕ) → IsBase base1 → IsBase base2 → m < 2 ^ 64
+        → n < 2 ^ 64
         → written_header base1 m ++ x ≡ written_header base2 n ++ y → (base1 ≡ base2) × (m ≡ n) }
 {}
 
 /// The encoding of a list is the header of its joined items and they.
 pub fn list_is_header_and_items()
-    ensures { (xs : List Item) → encoding (list_of xs) ≡ written_header 0xc0 (length (join xs)) ++ join xs }
+    ensures { (xs : List Item)
+        → encoding (list_of xs) ≡ written_header 0xc0 (length (join xs)) ++ join xs }
 {}
 
 /// At most one header stands at the front of bytes, and `header` reads it, or says why none does.
 pub fn header_is_read(bytes: &[u8])
     ensures read { ReadsHeader bytes.now (header bytes.now) }
-    ensures unique { (h n k m : ℕ) → HasHeader bytes.now h n → HasHeader bytes.now k m → (h ≡ k) × (n ≡ m) }
+    ensures unique { (h n k m : ℕ) → HasHeader bytes.now h n → HasHeader bytes.now k m → (h ≡ k)
+        × (n ≡ m) }
 {}
 
-/// Where header and value lie within the bytes, `frame` gives both and `value` the value; otherwise `fault` says why not.
+/// Where header and value lie within the bytes, `frame` gives both and `value` the value; otherwise
+/// `fault` says why not.
 pub fn framing_is_read(bytes: &[u8])
-    ensures frame { (h n : ℕ) → HasHeader bytes.now h n → h + n ≤ length bytes.now → frame bytes.now ≡ Ok (take (h + n) bytes.now) }
-    ensures value { (h n : ℕ) → HasHeader bytes.now h n → h + n ≤ length bytes.now → value bytes.now ≡ Ok (take n (drop h bytes.now)) }
-    ensures fault { ¬ IsFramed bytes.now → IsFault bytes.now (fault bytes.now) × (frame bytes.now ≡ Err (fault bytes.now)) × (value bytes.now ≡ Err (fault bytes.now)) }
+    ensures frame { (h n : ℕ) → HasHeader bytes.now h n → h + n ≤ length bytes.now
+        → frame bytes.now ≡ Ok (take (h + n) bytes.now) }
+    ensures value { (h n : ℕ) → HasHeader bytes.now h n → h + n ≤ length bytes.now
+        → value bytes.now ≡ Ok (take n (drop h bytes.now)) }
+    ensures fault { ¬ IsFramed bytes.now → IsFault bytes.now (fault bytes.now)
+        × (frame bytes.now ≡ Err (fault bytes.now)) × (value bytes.now ≡ Err (fault bytes.now)) }
 {}
 
 /// `frame` answers for framed bytes alone, and framed items are those that are their own frame.
@@ -64,40 +73,49 @@ pub fn frame_is_of_framed(bytes: &[u8])
     ensures item { (frame bytes.now ≡ Ok bytes.now) ↔ IsFramedItem bytes.now }
 {}
 
-/// Of items whose encodings are shorter than 2^64 bytes, no encoding begins another, whatever follows them.
+/// Of items whose encodings are shorter than 2^64 bytes, no encoding begins another, whatever
+/// follows them.
 pub fn encoding_is_prefix_free()
-    ensures { (x y : Item) (p q : List ℕ) → IsSized x → IsSized y → encoding x ++ p ≡ encoding y ++ q → x ≡ y }
+    ensures { (x y : Item) (p q : List ℕ) → IsSized x → IsSized y
+        → encoding x ++ p ≡ encoding y ++ q → x ≡ y }
 {}
 
 /// The same over a slice: bytes begin with the encoding of at most one item.
 pub fn encoding_in_front_is_unique(bytes: &[u8])
-    ensures { (x y : Item) → BeginsWith bytes.now (encoding x) → BeginsWith bytes.now (encoding y) → x ≡ y }
+    ensures { (x y : Item) → BeginsWith bytes.now (encoding x) → BeginsWith bytes.now (encoding y)
+        → x ≡ y }
 {}
 
 /// The joined encodings of two lists of items are equal exactly if the lists are.
 pub fn join_is_injective()
-    ensures { (xs ys : List Item) → All IsSized xs → All IsSized ys → (join xs ≡ join ys) ↔ (xs ≡ ys) }
+    ensures { (xs ys : List Item) → All IsSized xs → All IsSized ys → (join xs ≡ join ys)
+        ↔ (xs ≡ ys) }
 {}
 
 /// Bytes that begin with an encoding are framed, and their frame is that encoding.
 pub fn encoding_is_framed(bytes: &[u8])
-    ensures { (x : Item) → BeginsWith bytes.now (encoding x) → IsFramed bytes.now × (frame bytes.now ≡ Ok (encoding x)) }
+    ensures { (x : Item) → BeginsWith bytes.now (encoding x) → IsFramed bytes.now
+        × (frame bytes.now ≡ Ok (encoding x)) }
 {}
 
 /// Of two lists of framed items whose joins begin the bytes, one is a beginning of the other.
 pub fn cuts_begin_one_another(bytes: &[u8])
-    ensures { (fs gs : List (List ℕ)) → IsCut bytes.now fs → IsCut bytes.now gs → BeginsWith gs fs ⊎ BeginsWith fs gs }
+    ensures { (fs gs : List (List ℕ)) → IsCut bytes.now fs → IsCut bytes.now gs → BeginsWith gs fs
+        ⊎ BeginsWith fs gs }
 {}
 
-/// `split` gives the longest list of framed items whose join begins the bytes, and there is only one.
+/// `split` gives the longest list of framed items whose join begins the bytes, and there is only
+/// one.
 pub fn split_is_longest(bytes: &[u8])
     ensures longest { IsSplit bytes.now (split bytes.now) }
     ensures only { (fs : List (List ℕ)) → IsSplit bytes.now fs → fs ≡ split bytes.now }
 {}
 
-/// The split goes one framed item at a time: where the bytes are framed it is their frame and the split of what follows, and otherwise it has no item.
+/// The split goes one framed item at a time: where the bytes are framed it is their frame and the
+/// split of what follows, and otherwise it has no item.
 pub fn split_goes_by_frames(bytes: &[u8])
-    ensures framed { (h n : ℕ) → framing bytes.now ≡ Ok (payload_info h n) → split bytes.now ≡ take (h + n) bytes.now ∷ split (drop (h + n) bytes.now) }
+    ensures framed { (h n : ℕ) → framing bytes.now ≡ Ok (payload_info h n)
+        → split bytes.now ≡ take (h + n) bytes.now ∷ split (drop (h + n) bytes.now) }
     ensures unframed { (e : DecoderError) → framing bytes.now ≡ Err e → split bytes.now ≡ [] }
 {}
 
@@ -108,13 +126,17 @@ pub fn parts_of_sized_are_sized()
 
 /// Joined encodings split into themselves, and nothing is left.
 pub fn join_splits_into_encodings()
-    ensures { (xs : List Item) → All IsSized xs → (split (join xs) ≡ map encoding xs) × (concat (split (join xs)) ≡ join xs) }
+    ensures { (xs : List Item) → All IsSized xs → (split (join xs) ≡ map encoding xs)
+        × (concat (split (join xs)) ≡ join xs) }
 {}
 
-/// Of bytes that begin with the encoding of a list, the items are the encodings of its items, in order, and nothing is left.
+/// Of bytes that begin with the encoding of a list, the items are the encodings of its items, in
+/// order, and nothing is left.
 pub fn list_gives_its_items(bytes: &[u8])
-    ensures items { (xs : List Item) → BeginsWith bytes.now (encoding (list_of xs)) → items bytes.now ≡ map encoding xs }
-    ensures rest { (xs : List Item) → BeginsWith bytes.now (encoding (list_of xs)) → rest bytes.now ≡ [] }
+    ensures items { (xs : List Item) → BeginsWith bytes.now (encoding (list_of xs))
+        → items bytes.now ≡ map encoding xs }
+    ensures rest { (xs : List Item) → BeginsWith bytes.now (encoding (list_of xs))
+        → rest bytes.now ≡ [] }
 {}
 
 /// What follows the items in the value of a list isn't framed.

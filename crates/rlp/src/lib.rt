@@ -1,6 +1,8 @@
-//! The Recursive Length Prefix format: the canonical bytes of an item, which is a byte string or a list of items.
+//! The Recursive Length Prefix format: the canonical bytes of an item, which is a byte string or a
+//! list of items.
 //!
-//! A [`Rlp`] is a view of bytes that may hold an item. It reads no more than is asked, and every answer is a function of its bytes.
+//! A [`Rlp`] is a view of bytes that may hold an item. It reads no more than is asked, and every
+//! answer is a function of its bytes.
 //!
 //! ```rust
 //! let view = rlp::Rlp::new(&[0xc2, 0x05, 0x06]);
@@ -50,26 +52,31 @@ pub fn encode<E: Encodable>(alloc: Global, object: &E) -> Result<BytesMut, Alloc
     object.rlp_bytes(alloc)
 }
 
-/// The value that the bytes begin with, as its type reads it: [`Decodable::decode`] of a view of them. What follows the value's item is never looked at.
+/// The value that the bytes begin with, as its type reads it: [`Decodable::decode`] of a view of
+/// them. What follows the value's item is never looked at.
 ///
 /// ```rust
 /// assert_eq!(rt; rlp::decode::<u64>(alloc, &[0x82, 0x01, 0x00])?, 256);
 /// ```
 pub fn decode<T: Decodable>(alloc: Global, bytes: &[u8]) -> Result<T, DecoderError>
     ensures value { IfOk result (λ v. T.gives (view_of bytes.now) v) }
-    ensures fault { IfErr result (λ e. (T.faults (view_of bytes.now) e) ⊎ ((e ≡ OutOfMemory) × IsTrue T.may_lack_memory)) }
+    ensures fault { IfErr result (λ e. (T.faults (view_of bytes.now) e) ⊎ ((e ≡ OutOfMemory)
+        × IsTrue T.may_lack_memory)) }
 {
     Rlp::new(bytes).as_val(alloc)
 }
 
-/// The values of the items of the list that the bytes begin with, in order: [`Rlp::as_list`] of a view of them. What follows the list is never looked at.
+/// The values of the items of the list that the bytes begin with, in order: [`Rlp::as_list`] of a
+/// view of them. What follows the list is never looked at.
 ///
 /// ```rust
 /// assert_eq!(rt; rlp::decode_list::<u64>(alloc, &[0xc2, 0x05, 0x06])?.as_slice(), [5, 6].as_slice());
 /// ```
 pub fn decode_list<T: Decodable>(alloc: Global, bytes: &[u8]) -> Result<Vec<T>, DecoderError>
-    ensures value { IfOk result (λ values. GivesEach T.gives (item_views (view_of bytes.now)) values.items) }
-    ensures fault { IfErr result (λ e. (e ≡ OutOfMemory) ⊎ FaultsFirst T.gives T.faults (item_views (view_of bytes.now)) e) }
+    ensures value { IfOk result
+        (λ values. GivesEach T.gives (item_views (view_of bytes.now)) values.items) }
+    ensures fault { IfErr result (λ e. (e ≡ OutOfMemory)
+        ⊎ FaultsFirst T.gives T.faults (item_views (view_of bytes.now)) e) }
 {
     Rlp::new(bytes).as_list(alloc)
 }

@@ -82,8 +82,8 @@ impl RlpStream {
         true
     }
 
-    /// The bytes as they stand: those handed in, what stands at the top, and for each open list from
-    /// the outside in one byte `0x00`, in place of its header, and what stands in it.
+    /// The bytes as they stand: those handed in, what stands at the top, and for each open list
+    /// from the outside in one byte `0x00`, in place of its header, and what stands in it.
     pub fn as_raw(&self) -> &[u8]
         ensures { result.now ≡ raw_text self.now.state }
     {
@@ -146,8 +146,8 @@ impl RlpStream {
     /// Appends a value: puts its encoding, and counts one item in the innermost open list.
     ///
     /// The result lends the stream on, so that calls chain by `?`. `AllocError` where memory is
-    /// refused, or where the value's own [`Encodable::rlp_append`] answers it; the stream is then as
-    /// it was before the call.
+    /// refused, or where the value's own [`Encodable::rlp_append`] answers it; the stream is then
+    /// as it was before the call.
     pub fn append<E: Encodable>(&mut self, value: &E) -> Result<Chain<'_>, AllocError>
         ensures* refused { sem 𝓛 (stays_if_refused self.entry result) }
         ensures fits { OnOk result (E.fits value.now) }

@@ -1,3 +1,4 @@
+-- The number that a program ends with.
 use Rattle.std.specs.Prelude.{ℕ}
 use Rattle.rlp_tool.specs.declared.serving.RunFault.{RunFault}
 use Rattle.rlp_tool.specs.declared.serving.RunFault.TheVariants.{Memory, Read, Write}

@@ -1,3 +1,4 @@
+-- What contracts see of a reader or writer that is watched.
 use Rattle.std.specs.Prelude.{ℕ, Bool}
 
 -- a reader or writer, whether it has failed, and how often it was read

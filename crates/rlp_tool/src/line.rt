@@ -118,7 +118,8 @@ impl Line {
     #[tactic(auto, using(crate::proofs::ProgressLemmas::last_line))]
     pub(crate) fn finish(&self, alloc: Global, out: &mut String) -> Result<(), AllocError>
         ensures { (text : List ℕ) → IsLine self.now.bytes.items self.now.over (last_piece text)
-            → OnOk result (string_bytes out.new ≡ string_bytes out.old ++ replies_to (unended_line text)) }
+            → OnOk result (string_bytes out.new ≡ string_bytes out.old ++ replies_to
+            (unended_line text)) }
     {
         if self.is_empty() {
             return Ok(());

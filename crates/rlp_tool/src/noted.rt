@@ -74,7 +74,8 @@ impl<R: Read> Noted<R> {
     /// The reader's own, after which it counts as failed.
     pub fn read(&mut self, buf: &mut [u8]) -> io::Result<usize>
         ensures bound { ReadsAtMost result buf.new }
-        ensures bytes { ReadConsumes (R.remaining self.old.inner) (R.remaining self.new.inner) result buf.new }
+        ensures bytes { ReadConsumes (R.remaining self.old.inner)
+            (R.remaining self.new.inner) result buf.new }
         ensures ok { OnOk result (self.new.failed ≡ self.old.failed) }
         ensures err { OnErr result (self.new.failed ≡ true) }
         ensures reads { self.new.reads ≡ min (self.old.reads + 1) (2 ^ 64 - 1) }
@@ -91,13 +92,17 @@ impl<W: Write> Noted<W> {
     ///
     /// # Errors
     ///
-    /// The writer's own, after which it counts as failed, as it does where it takes none of one or more bytes.
+    /// The writer's own, after which it counts as failed, as it does where it takes none of one or
+    /// more bytes.
     pub fn write(&mut self, buf: &[u8]) -> io::Result<usize>
         ensures bound { WritesAtMost result buf.now }
-        ensures bytes { WriteAppends (W.contents self.old.inner) (W.contents self.new.inner) result buf.now }
+        ensures bytes { WriteAppends (W.contents self.old.inner)
+            (W.contents self.new.inner) result buf.now }
         ensures some_taken { IfOk result (λ n. 0 < n → self.new.failed ≡ self.old.failed) }
-        ensures nothing_given { length buf.now ≡ 0 → OnOk result (self.new.failed ≡ self.old.failed) }
-        ensures none_taken { IfOk result (λ n. n ≡ 0 → 0 < length buf.now → self.new.failed ≡ true) }
+        ensures nothing_given { length buf.now ≡ 0
+            → OnOk result (self.new.failed ≡ self.old.failed) }
+        ensures none_taken { IfOk result (λ n. n ≡ 0 → 0 < length buf.now
+            → self.new.failed ≡ true) }
         ensures err { OnErr result (self.new.failed ≡ true) }
         ensures reads { self.new.reads ≡ self.old.reads }
     {

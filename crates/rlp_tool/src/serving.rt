@@ -41,9 +41,11 @@ impl RunFault {
 
 /// Writes all the bytes.
 fn write_whole<W: Write>(output: &mut Noted<W>, bytes: &[u8]) -> Result<(), RunFault>
-    ensures ok { OnOk result (Appends (W.contents output.old.inner) (W.contents output.new.inner) bytes.now) }
+    ensures ok { OnOk result (Appends (W.contents output.old.inner)
+        (W.contents output.new.inner) bytes.now) }
     ensures kept { OnOk result (output.new.failed ≡ output.old.failed) }
-    ensures part { OnErr result (AppendsPart (W.contents output.old.inner) (W.contents output.new.inner) bytes.now) }
+    ensures part { OnErr result (AppendsPart (W.contents output.old.inner)
+        (W.contents output.new.inner) bytes.now) }
     ensures failed { OnErr result (output.new.failed ≡ true) }
     ensures fault { IfErr result (λ fault. fault ≡ RunFault.Write) }
 {
@@ -60,9 +62,11 @@ fn write_whole<W: Write>(output: &mut Noted<W>, bytes: &[u8]) -> Result<(), RunF
 
 /// Writes all the bytes, and flushes.
 fn write_last<W: Write>(output: &mut Noted<W>, bytes: &[u8]) -> Result<(), RunFault>
-    ensures ok { OnOk result (Appends (W.contents output.old.inner) (W.contents output.new.inner) bytes.now) }
+    ensures ok { OnOk result (Appends (W.contents output.old.inner)
+        (W.contents output.new.inner) bytes.now) }
     ensures kept { OnOk result (output.new.failed ≡ output.old.failed) }
-    ensures part { OnErr result (AppendsPart (W.contents output.old.inner) (W.contents output.new.inner) bytes.now) }
+    ensures part { OnErr result (AppendsPart (W.contents output.old.inner)
+        (W.contents output.new.inner) bytes.now) }
     ensures failed { OnErr result (output.new.failed ≡ true) }
     ensures fault { IfErr result (λ fault. fault ≡ RunFault.Write) }
 {
@@ -89,7 +93,8 @@ fn serve<W: Write>(
     ensures stop { (start : Option (List ℕ)) (text : List ℕ)
         → IsServed start (W.contents output.old.inner) text line.old.bytes.items line.old.over
         → IfErr result (λ fault. IsStop fault start
-        (W.contents output.old.inner) (W.contents output.new.inner) (text ++ bytes.now) output.new.failed) }
+        (W.contents output.old.inner) (W.contents output.new.inner)
+        (text ++ bytes.now) output.new.failed) }
 {
     answers.clear();
     match line.feed(alloc, bytes, answers) {
@@ -147,7 +152,8 @@ pub fn run<R: Read, W: Write>(
     ensures read { result ≡ Err RunFault.Read → AnswersEnded
         (R.remaining input.old.inner) (R.remaining input.new.inner)
         (W.contents output.old.inner) (W.contents output.new.inner) }
-    ensures read_only { result ≡ Err RunFault.Read → (input.new.failed ≡ true) ⊎ (input.new.reads ≡ 2 ^ 64 - 1) }
+    ensures read_only { result ≡ Err RunFault.Read → (input.new.failed ≡ true)
+        ⊎ (input.new.reads ≡ 2 ^ 64 - 1) }
     ensures write { result ≡ Err RunFault.Write → AnswersPart
         (R.remaining input.old.inner) (R.remaining input.new.inner)
         (W.contents output.old.inner) (W.contents output.new.inner) }

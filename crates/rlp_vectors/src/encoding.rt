@@ -166,7 +166,8 @@ fn refused_appends_leave_the_stream(rt: HostRuntime) -> Result<(), AllocError> {
     Ok(())
 }
 
-// Where an allocation is refused, as `rt try --test --fail-alloc N` has it, that append alone is missing.
+// Where an allocation is refused, as `rt try --test --fail-alloc N` has it, that append alone is
+// missing.
 #[test]
 fn refused_growth_leaves_the_stream(rt: HostRuntime) -> io::Result<()> {
     let alloc = rt.alloc();

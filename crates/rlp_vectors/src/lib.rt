@@ -1,4 +1,5 @@
-//! Callers of `rlp` with what is proved of them, worked rows, and the tests that the Rust crate carries.
+//! Callers of `rlp` with what is proved of them, worked rows, and the tests that the Rust crate
+//! carries.
 #![tactic(auto)]
 
 ghost use Rattle.std.specs.Prelude.{◌≡◌, ◌++◌, ◌⊎◌, OnOk, OnErr, IfOk};

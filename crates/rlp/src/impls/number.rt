@@ -29,7 +29,8 @@ impl Encodable for u64 {
 
 /// A number of at most eight bytes. No memory is taken.
 ///
-/// A string of more bytes is `RlpIsTooBig`, and one that begins with a zero byte `RlpInvalidIndirection`: zero is the empty string.
+/// A string of more bytes is `RlpIsTooBig`, and one that begins with a zero byte
+/// `RlpInvalidIndirection`: zero is the empty string.
 impl Decodable for u64 {
     ghost use Rattle.std.specs.Prelude.{false};
     ghost use Rattle.rlp.specs.ValueReading.{GivesNumber, FaultsAsNumber};
@@ -56,11 +57,13 @@ fn number_within(digits: &[u8], width: usize) -> Result<usize, DecoderError>
     Ok(number_of(digits))
 }
 
-/// Tests whether these are the digits of a number of `width` bytes: how many they are first, and then the first of them.
+/// Tests whether these are the digits of a number of `width` bytes: how many they are first, and
+/// then the first of them.
 #[tactic(auto, using(crate::proofs::Numbers::digit_faults))]
 fn check_digits(digits: &[u8], width: usize) -> Result<(), DecoderError>
     ensures few { IfOk result (λ _. length digits.now ≤ width) }
-    ensures value { IfOk result (λ _. FitsBytes width (number_from_digits 256 digits.now) × (big_endian (number_from_digits 256 digits.now) ≡ digits.now)) }
+    ensures value { IfOk result (λ _. FitsBytes width (number_from_digits 256 digits.now)
+        × (big_endian (number_from_digits 256 digits.now) ≡ digits.now)) }
     ensures fault { IfErr result (λ e. IsDigitsFault width digits.now e) }
 {
     if digits.len() > width {

@@ -8,12 +8,19 @@ ghost use Rattle.rlp.specs.Stream.{State, initial_state};
 ghost use Rattle.rlp.specs.Calls.{Call, after};
 ghost use Rattle.rlp.specs.Described.{Step, AreDescribed, IsDescribed, items_after_all, joined_stack};
 
-/// Calls that describe items are admitted, and each payload that they leave is the join of the items that stand there. With no list left open that is the front, and the join of the items described, and no other items are described.
+/// Calls that describe items are admitted, and each payload that they leave is the join of the
+/// items that stand there. With no list left open that is the front, and the join of the items
+/// described, and no other items are described.
 pub fn stream_joins_what_is_described()
-    ensures payloads { (front : List ℕ) (calls : List Call) (steps : List Step) → AreDescribed (initial_state front) calls steps
-        → (last : State) × (after front calls ≡ Ok last) × (last.front ≡ front) × (last.stack ≡ joined_stack (items_after_all steps empty_stack)) }
-    ensures finished { (front : List ℕ) (calls : List Call) (items : List Item) → IsDescribed front calls items
-        → (last : State) × (after front calls ≡ Ok last) × (last.front ≡ front) × (last.stack ≡ record { inner = join items; lists = [] }) }
-    ensures only { (front : List ℕ) (calls : List Call) (xs ys : List Item) → All IsSized xs → All IsSized ys
+    ensures payloads { (front : List ℕ) (calls : List Call) (steps : List Step)
+        → AreDescribed (initial_state front) calls steps
+        → (last : State) × (after front calls ≡ Ok last) × (last.front ≡ front)
+        × (last.stack ≡ joined_stack (items_after_all steps empty_stack)) }
+    ensures finished { (front : List ℕ) (calls : List Call) (items : List Item)
+        → IsDescribed front calls items
+        → (last : State) × (after front calls ≡ Ok last) × (last.front ≡ front)
+        × (last.stack ≡ record { inner = join items; lists = [] }) }
+    ensures only { (front : List ℕ) (calls : List Call) (xs ys : List Item) → All IsSized xs
+        → All IsSized ys
         → IsDescribed front calls xs → IsDescribed front calls ys → xs ≡ ys }
 {}

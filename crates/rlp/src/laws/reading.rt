@@ -5,7 +5,8 @@ ghost use Rattle.rlp.specs.StringReading.{IsString, ReadsString, read_string};
 ghost use Rattle.rlp.specs.ValueReading.{GivesNumber, FaultsAsNumber, GivesBytes, FaultsAsBytes, GivesText, FaultsAsText, HasOneReading};
 ghost use Rattle.rlp.specs.View.{view_of};
 
-/// `read_string` gives the one string whose encoding stands at the front of the bytes, and a fault only where there is none.
+/// `read_string` gives the one string whose encoding stands at the front of the bytes, and a fault
+/// only where there is none.
 pub fn string_is_read(bytes: &[u8])
     ensures read { ReadsString bytes.now (read_string bytes.now) }
     ensures only { (d : List ℕ) → IsString bytes.now d → read_string bytes.now ≡ Ok d }
@@ -13,7 +14,9 @@ pub fn string_is_read(bytes: &[u8])
 
 /// Of each width, bytes give one number and have no fault, or give none and have one fault.
 pub fn number_is_read(bytes: &[u8])
-    ensures { (width : ℕ) → HasOneReading (GivesNumber width (view_of bytes.now)) (FaultsAsNumber width (view_of bytes.now)) }
+    ensures { (width : ℕ)
+        → HasOneReading (GivesNumber width (view_of bytes.now)) (FaultsAsNumber width
+        (view_of bytes.now)) }
 {}
 
 /// Bytes give one byte string and have no fault, or give none and have one fault.

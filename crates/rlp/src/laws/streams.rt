@@ -14,7 +14,8 @@ pub fn constants_are_encodings()
     ensures empty_list { EMPTY_LIST_RLP ≡ encoding (list_of []) }
 {}
 
-/// Closing the innermost list leaves the bytes that there are once every list is closed, and so does counting.
+/// Closing the innermost list leaves the bytes that there are once every list is closed, and so
+/// does counting.
 pub fn closing_keeps_what_is_closed()
     ensures shut { (s : State) → closed_text (shut s) ≡ closed_text s }
     ensures count { (k : ℕ) (s : State) → closed_text (count k s) ≡ closed_text s }
@@ -29,14 +30,18 @@ pub fn closed_size_goes_by_length()
 /// Bytes that are put stand at the end of the buffer, and a new list opens there with a byte 0.
 pub fn bytes_go_to_the_end()
     ensures put { (x : List ℕ) (s : State) → raw_text (put x s) ≡ raw_text s ++ x }
-    ensures opened { (awaits : Option ℕ) (s : State) → raw_text (with_list awaits s) ≡ raw_text s ++ 0 ∷ [] }
+    ensures opened { (awaits : Option ℕ) (s : State)
+        → raw_text (with_list awaits s) ≡ raw_text s ++ 0 ∷ [] }
 {}
 
-/// With no list open, an item that is appended or written by its value adds its encoding to the top, and none is open then.
+/// With no list open, an item that is appended or written by its value adds its encoding to the
+/// top, and none is open then.
 pub fn finished_streams_gain_encodings()
     ensures add { (x : Item) (s : State) → IsFinished s
-        → add x s ≡ record { front = s.front; stack = record { inner = s.stack.inner ++ encoding x; lists = [] }; mark = is_list x } }
-    ensures put_item { (x : Item) (s : State) → IsFinished s → (put_item x s).stack ≡ record { inner = s.stack.inner ++ encoding x; lists = [] } }
+        → add x s
+        ≡ record { front = s.front; stack = record { inner = s.stack.inner ++ encoding x; lists = [] }; mark = is_list x } }
+    ensures put_item { (x : Item) (s : State) → IsFinished s
+        → (put_item x s).stack ≡ record { inner = s.stack.inner ++ encoding x; lists = [] } }
 {}
 
 /// A state grows to itself, and growth goes on.

@@ -8,23 +8,38 @@ ghost use Rattle.rlp.specs.ValueReading.{GivesBytes, GivesNumber, GivesText};
 ghost use Rattle.rlp.specs.ListReading.{GivesEach};
 ghost use Rattle.rlp.specs.View.{View, item_at, item_count, item_views, view_of};
 
-/// The item by number is the one in that place among the items in order, and past the last item every number has the same fault.
+/// The item by number is the one in that place among the items in order, and past the last item
+/// every number has the same fault.
 pub fn items_by_number_are_in_order(bytes: &[u8])
-    ensures there { (i : ℕ) (item : View) → (item_at (view_of bytes.now) i ≡ Ok item) ↔ (slice_get (item_views (view_of bytes.now)) i ≡ Some item) }
-    ensures past { (i j : ℕ) → length (item_views (view_of bytes.now)) ≤ i → length (item_views (view_of bytes.now)) ≤ j → item_at (view_of bytes.now) i ≡ item_at (view_of bytes.now) j }
+    ensures there { (i : ℕ) (item : View) → (item_at (view_of bytes.now) i ≡ Ok item)
+        ↔ (slice_get (item_views (view_of bytes.now)) i ≡ Some item) }
+    ensures past { (i j : ℕ) → length (item_views (view_of bytes.now)) ≤ i
+        → length (item_views (view_of bytes.now)) ≤ j
+        → item_at (view_of bytes.now) i ≡ item_at (view_of bytes.now) j }
 {}
 
-/// A view of bytes that begin with the encoding of a list has as many items, in order and by number, and each is the encoding of the item in its place.
+/// A view of bytes that begin with the encoding of a list has as many items, in order and by
+/// number, and each is the encoding of the item in its place.
 pub fn view_of_list_has_its_items(bytes: &[u8])
-    ensures count { (xs : List Item) → BeginsWith bytes.now (encoding (list_of xs)) → item_count (view_of bytes.now) ≡ Ok (length xs) }
-    ensures items { (xs : List Item) → BeginsWith bytes.now (encoding (list_of xs)) → item_views (view_of bytes.now) ≡ map (λ x. view_of (encoding x)) xs }
-    ensures at { (before after : List Item) (x : Item) → BeginsWith bytes.now (encoding (list_of (before ++ x ∷ after))) → item_at (view_of bytes.now) (length before) ≡ Ok (view_of (encoding x)) }
+    ensures count { (xs : List Item) → BeginsWith bytes.now (encoding (list_of xs))
+        → item_count (view_of bytes.now) ≡ Ok (length xs) }
+    ensures items { (xs : List Item) → BeginsWith bytes.now (encoding (list_of xs))
+        → item_views (view_of bytes.now) ≡ map (λ x. view_of (encoding x)) xs }
+    ensures at { (before after : List Item) (x : Item)
+        → BeginsWith bytes.now (encoding (list_of (before ++ x ∷ after)))
+        → item_at (view_of bytes.now) (length before) ≡ Ok (view_of (encoding x)) }
 {}
 
-/// A list of numbers, byte strings or texts that was encoded gives each of its values back, in order.
+/// A list of numbers, byte strings or texts that was encoded gives each of its values back, in
+/// order.
 pub fn list_of_values_is_read(bytes: &[u8])
-    ensures numbers { (width : ℕ) (ns : List ℕ) → All (FitsBytes width) ns → BeginsWith bytes.now (encoding (list_of (map number_item ns)))
+    ensures numbers { (width : ℕ) (ns : List ℕ) → All (FitsBytes width) ns
+        → BeginsWith bytes.now (encoding (list_of (map number_item ns)))
         → GivesEach (GivesNumber width) (item_views (view_of bytes.now)) ns }
-    ensures strings { (ds : List (List ℕ)) → BeginsWith bytes.now (encoding (list_of (map string ds))) → GivesEach GivesBytes (item_views (view_of bytes.now)) ds }
-    ensures texts { (ts : List (List ℕ)) → All IsUtf8 ts → BeginsWith bytes.now (encoding (list_of (map string ts))) → GivesEach GivesText (item_views (view_of bytes.now)) ts }
+    ensures strings { (ds : List (List ℕ))
+        → BeginsWith bytes.now (encoding (list_of (map string ds)))
+        → GivesEach GivesBytes (item_views (view_of bytes.now)) ds }
+    ensures texts { (ts : List (List ℕ)) → All IsUtf8 ts
+        → BeginsWith bytes.now (encoding (list_of (map string ts)))
+        → GivesEach GivesText (item_views (view_of bytes.now)) ts }
 {}

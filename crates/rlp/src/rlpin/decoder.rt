@@ -12,7 +12,8 @@ use crate::traits::Decodable;
 use std::alloc::Global;
 use std::marker::Model;
 
-/// A decoder of the string at the front of bytes. Contracts see it as the record `View` of its bytes.
+/// A decoder of the string at the front of bytes. Contracts see it as the record `View` of its
+/// bytes.
 #[derive(Drop)]
 pub struct BasicDecoder<'a> {
     rlp: &'a [u8],
@@ -34,12 +35,14 @@ impl<'a> BasicDecoder<'a> {
         BasicDecoder { rlp }
     }
 
-    /// What `f` answers on the string at the front of the bytes, without its header. What follows the string is never looked at.
+    /// What `f` answers on the string at the front of the bytes, without its header. What follows
+    /// the string is never looked at.
     ///
-    /// Where no string stands there, `f` isn't called, and the fault is `RlpIsTooShort` for no bytes,
-    /// `RlpExpectedToBeData` for a list, `RlpInconsistentLengthAndData` where the bytes end before the string or its
-    /// length does, `RlpInvalidLength` where header and string would pass 2^64 - 1 bytes, and
-    /// `RlpInvalidIndirection` where a shorter spelling of the string or of its length is the canonical one.
+    /// Where no string stands there, `f` isn't called, and the fault is `RlpIsTooShort` for no
+    /// bytes, `RlpExpectedToBeData` for a list, `RlpInconsistentLengthAndData` where the bytes end
+    /// before the string or its length does, `RlpInvalidLength` where header and string would pass
+    /// 2^64 - 1 bytes, and `RlpInvalidIndirection` where a shorter spelling of the string or of its
+    /// length is the canonical one.
     ///
     /// ```rust
     /// let decoder = rlp::BasicDecoder::new(&[0x83, b'c', b'a', b't']);
@@ -51,8 +54,10 @@ impl<'a> BasicDecoder<'a> {
         E: From<DecoderError>,
         F: Fn(&[u8]) -> Result<T, E> + Drop,
         requires { F.IsAlwaysCallable f }
-        ensures found { IfOk (read_string self.now.bytes) (λ d. IsString self.now.bytes d × FnReturnsAt F.Fn f d result) }
-        ensures missing { IfErr (read_string self.now.bytes) (λ e. HasNoString self.now.bytes × IsErrAnd result (λ x. E.from_gives e x)) }
+        ensures found { IfOk (read_string self.now.bytes) (λ d. IsString self.now.bytes d
+            × FnReturnsAt F.Fn f d result) }
+        ensures missing { IfErr (read_string self.now.bytes) (λ e. HasNoString self.now.bytes
+            × IsErrAnd result (λ x. E.from_gives e x)) }
     {
         match string_in(self.rlp) {
             Ok(string) => f(string),
@@ -72,7 +77,8 @@ impl<'a> Rlp<'a> {
     /// The value that the view begins with, as its type reads it: [`Decodable::decode`].
     pub fn as_val<T: Decodable>(&self, alloc: Global) -> Result<T, DecoderError>
         ensures value { IfOk result (λ v. T.gives self.now v) }
-        ensures fault { IfErr result (λ e. (T.faults self.now e) ⊎ ((e ≡ OutOfMemory) × IsTrue T.may_lack_memory)) }
+        ensures fault { IfErr result (λ e. (T.faults self.now e) ⊎ ((e ≡ OutOfMemory)
+            × IsTrue T.may_lack_memory)) }
     {
         T::decode(alloc, self)
     }
@@ -80,7 +86,8 @@ impl<'a> Rlp<'a> {
 
 /// The string at the front of the bytes, without its header.
 fn string_in(bytes: &[u8]) -> Result<&[u8], DecoderError>
-    ensures exact { MatchResult result (λ d. read_string bytes.now ≡ Ok d.now) (λ e. read_string bytes.now ≡ Err e) }
+    ensures exact { MatchResult result (λ d. read_string bytes.now ≡ Ok d.now)
+        (λ e. read_string bytes.now ≡ Err e) }
     ensures read { ReadsString bytes.now (read_string bytes.now) }
 {
     by_first_byte(bytes)
@@ -89,7 +96,8 @@ fn string_in(bytes: &[u8]) -> Result<&[u8], DecoderError>
 /// The string, by the table of first bytes.
 #[tactic(auto, using(crate::proofs::Strings::first_bytes), unfolding(crate::specs::StringReading::read_string))]
 fn by_first_byte(bytes: &[u8]) -> Result<&[u8], DecoderError>
-    ensures { MatchResult result (λ d. read_string bytes.now ≡ Ok d.now) (λ e. read_string bytes.now ≡ Err e) }
+    ensures { MatchResult result (λ d. read_string bytes.now ≡ Ok d.now)
+        (λ e. read_string bytes.now ≡ Err e) }
 {
     match bytes {
         [] => Err(DecoderError::RlpIsTooShort),
@@ -104,7 +112,8 @@ fn by_first_byte(bytes: &[u8]) -> Result<&[u8], DecoderError>
 
 /// The string of `len` bytes that `rest` begins with, where its first byte announced the length.
 fn short_form(rest: &[u8], len: usize) -> Result<&[u8], DecoderError>
-    ensures { MatchResult result (λ d. short_string len rest.now ≡ Ok d.now) (λ e. short_string len rest.now ≡ Err e) }
+    ensures { MatchResult result (λ d. short_string len rest.now ≡ Ok d.now)
+        (λ e. short_string len rest.now ≡ Err e) }
 {
     if rest.len() < len {
         return Err(DecoderError::RlpInconsistentLengthAndData);
@@ -119,7 +128,8 @@ fn short_form(rest: &[u8], len: usize) -> Result<&[u8], DecoderError>
 fn long_form(rest: &[u8], len: usize) -> Result<&[u8], DecoderError>
     requires positive { 1 ≤ len }
     requires few { len ≤ 8 }
-    ensures { MatchResult result (λ d. long_string len rest.now ≡ Ok d.now) (λ e. long_string len rest.now ≡ Err e) }
+    ensures { MatchResult result (λ d. long_string len rest.now ≡ Ok d.now)
+        (λ e. long_string len rest.now ≡ Err e) }
 {
     if rest.len() < len {
         return Err(DecoderError::RlpInconsistentLengthAndData);
@@ -134,7 +144,8 @@ fn long_form(rest: &[u8], len: usize) -> Result<&[u8], DecoderError>
 /// The string of `value_len` bytes that `after` begins with, where `len` bytes of length say so.
 fn string_of(after: &[u8], len: usize, value_len: usize) -> Result<&[u8], DecoderError>
     requires { len ≤ 8 }
-    ensures { MatchResult result (λ d. long_value len value_len after.now ≡ Ok d.now) (λ e. long_value len value_len after.now ≡ Err e) }
+    ensures { MatchResult result (λ d. long_value len value_len after.now ≡ Ok d.now)
+        (λ e. long_value len value_len after.now ≡ Err e) }
 {
     if value_len <= 55 {
         return Err(DecoderError::RlpInvalidIndirection);

@@ -30,7 +30,8 @@ impl PayloadInfo {
         by_first_byte(header_bytes)
     }
 
-    /// How many bytes header and value have together. [`PayloadInfo::checked_total`] tests whether that is a `usize`.
+    /// How many bytes header and value have together. [`PayloadInfo::checked_total`] tests whether
+    /// that is a `usize`.
     pub fn total(&self) -> usize
         requires { total_len self.now < 2 ^ 64 }
         ensures { result ≡ total_len self.now }
@@ -38,7 +39,8 @@ impl PayloadInfo {
         self.header_len + self.value_len
     }
 
-    /// How many bytes header and value have together, or `None` where that is more than a `usize` holds.
+    /// How many bytes header and value have together, or `None` where that is more than a `usize`
+    /// holds.
     pub fn checked_total(&self) -> Option<usize>
         ensures { SomeIff result (total_len self.now < 2 ^ 64) (total_len self.now) }
     {

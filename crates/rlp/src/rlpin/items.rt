@@ -1,4 +1,5 @@
-//! The step from item to item, by which every walk over a list goes, and what a view answers by walking.
+//! The step from item to item, by which every walk over a list goes, and what a view answers by
+//! walking.
 
 ghost use Rattle.std.specs.Prelude.{◌≡◌, ◌∷◌, ◌++◌, [], ◌<◌, length, IfSome, MatchOption, MatchResult};
 ghost use Rattle.rlp.specs.Framing.{fault};
@@ -11,9 +12,12 @@ use crate::rlpin::view::Rlp;
 
 /// The first item of a payload and the bytes after it, or why no item stands there.
 pub(crate) fn take_item<'a>(payload: &'a [u8]) -> Result<(Rlp<'a>, &'a [u8]), DecoderError>
-    ensures parts { MatchResult result (λ r. split payload.now ≡ r.0.bytes ∷ split r.1.now) (λ _. split payload.now ≡ []) }
-    ensures whole { MatchResult result (λ r. payload.now ≡ r.0.bytes ++ r.1.now) (λ e. e ≡ fault payload.now) }
-    ensures shorter { MatchResult result (λ r. length r.1.now < length payload.now) (λ _. Unit {0}) }
+    ensures parts { MatchResult result (λ r. split payload.now ≡ r.0.bytes ∷ split r.1.now)
+        (λ _. split payload.now ≡ []) }
+    ensures whole { MatchResult result (λ r. payload.now ≡ r.0.bytes ++ r.1.now)
+        (λ e. e ≡ fault payload.now) }
+    ensures shorter { MatchResult result (λ r. length r.1.now < length payload.now)
+        (λ _. Unit {0}) }
 {
     let info = match framing_of(payload) {
         Ok(info) => info,
@@ -25,7 +29,8 @@ pub(crate) fn take_item<'a>(payload: &'a [u8]) -> Result<(Rlp<'a>, &'a [u8]), De
 
 /// The first item of a payload and the bytes after it, or `None` where no item stands there.
 pub(crate) fn split_first<'a>(payload: &'a [u8]) -> Option<(Rlp<'a>, &'a [u8])>
-    ensures parts { MatchOption result (split payload.now ≡ []) (λ r. split payload.now ≡ r.0.bytes ∷ split r.1.now) }
+    ensures parts { MatchOption result (split payload.now ≡ [])
+        (λ r. split payload.now ≡ r.0.bytes ∷ split r.1.now) }
     ensures shorter { IfSome result (λ r. length r.1.now < length payload.now) }
 {
     match take_item(payload) {
@@ -50,7 +55,8 @@ pub(crate) fn count_items(payload: &[u8]) -> usize
 impl<'a> Rlp<'a> {
     /// How many items the list has that the view begins with.
     ///
-    /// `RlpExpectedToBeList` where there is no byte or the first is one of a string. A list that isn't framed has no items.
+    /// `RlpExpectedToBeList` where there is no byte or the first is one of a string. A list that
+    /// isn't framed has no items.
     #[tactic(auto, unfolding(crate::specs::View::item_count, crate::specs::Split::items))]
     pub fn item_count(&self) -> Result<usize, DecoderError>
         ensures { result ≡ item_count self.now }
@@ -73,7 +79,10 @@ impl<'a> Rlp<'a> {
 
     /// The item at `index`, counted from 0, and its place, counted from the view's first byte.
     ///
-    /// `RlpExpectedToBeList` where there is no byte or the first is one of a string; then the fault of [`Rlp::payload_info`] where the list isn't framed; then, past the last item, the fault of the bytes that follow the items in the list, which is `RlpIsTooShort` where none do. It reads the list's header and at most `index + 1` more.
+    /// `RlpExpectedToBeList` where there is no byte or the first is one of a string; then the fault
+    /// of [`Rlp::payload_info`] where the list isn't framed; then, past the last item, the fault of
+    /// the bytes that follow the items in the list, which is `RlpIsTooShort` where none do. It
+    /// reads the list's header and at most `index + 1` more.
     pub fn at_with_offset(&self, index: usize) -> Result<(Rlp<'a>, usize), DecoderError>
         ensures { result ≡ item_with_place self.now index }
     {

@@ -13,7 +13,8 @@ use std::marker::Model;
 impl<'a> Rlp<'a> {
     /// The items of the list that the view begins with, in order, as views.
     ///
-    /// Anything but a framed list has none. They end where the list's value does, or before it at the first bytes that aren't framed. The items outlive the view.
+    /// Anything but a framed list has none. They end where the list's value does, or before it at
+    /// the first bytes that aren't framed. The items outlive the view.
     ///
     /// ```rust
     /// let list = rlp::Rlp::new(&[0xc2, 0x05, 0x06]);
@@ -33,7 +34,8 @@ impl<'a> Rlp<'a> {
     #[tactic(auto, unfolding(crate::specs::Split::items), using(crate::proofs::Splits::splits))]
     fn item_at(&self, index: usize) -> Option<Rlp<'a>>
         ensures fits { IfSome result (λ _. index + 1 < 2 ^ 64) }
-        ensures item { MatchOption result (drop index (item_views self.now) ≡ []) (λ x. drop index (item_views self.now) ≡ x ∷ drop (index + 1) (item_views self.now)) }
+        ensures item { MatchOption result (drop index (item_views self.now) ≡ [])
+            (λ x. drop index (item_views self.now) ≡ x ∷ drop (index + 1) (item_views self.now)) }
     {
         let mut rest = self.payload();
         let _most = rest.len();
@@ -46,7 +48,8 @@ impl<'a> Rlp<'a> {
     }
 }
 
-/// The items of a view, in order. Contracts see it as the record `Remaining` of the views that it has still to give.
+/// The items of a view, in order. Contracts see it as the record `Remaining` of the views that it
+/// has still to give.
 #[derive(Drop)]
 pub struct RlpIterator<'a, 'view> {
     rlp: &'view Rlp<'a>,
@@ -80,7 +83,8 @@ impl<'a, 'view> Iterator for RlpIterator<'a, 'view> {
     fn size_hint(&self) -> (usize, Option<usize>)
         ensures lower { IsWithinCount result.0 (at_most (length self.now.left)) }
         ensures upper { IfSome result.1 (UpTo (at_most (length self.now.left))) }
-        ensures exact { (result.0 ≡ length self.now.left) × (result.1 ≡ Some (length self.now.left)) }
+        ensures exact { (result.0 ≡ length self.now.left)
+            × (result.1 ≡ Some (length self.now.left)) }
     {
         let count = self.count_left();
         (count, Some(count))

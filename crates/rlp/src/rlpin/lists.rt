@@ -14,15 +14,18 @@ use std::alloc::Global;
 impl<'a> Rlp<'a> {
     /// The values of the items, in order.
     ///
-    /// The fault is that of an item before which every item gives a value, or `OutOfMemory`. Anything but a framed list has no items, and gives an empty list.
+    /// The fault is that of an item before which every item gives a value, or `OutOfMemory`.
+    /// Anything but a framed list has no items, and gives an empty list.
     ///
     /// ```rust
     /// let list = rlp::Rlp::new(&[0xc2, 0x05, 0x06]);
     /// assert_eq!(rt; list.as_list::<u64>(alloc)?.as_slice(), [5, 6].as_slice());
     /// ```
     pub fn as_list<T: Decodable>(&self, alloc: Global) -> Result<Vec<T>, DecoderError>
-        ensures value { IfOk result (λ values. GivesEach T.gives (item_views self.now) values.items) }
-        ensures fault { IfErr result (λ e. (e ≡ OutOfMemory) ⊎ FaultsFirst T.gives T.faults (item_views self.now) e) }
+        ensures value { IfOk result
+            (λ values. GivesEach T.gives (item_views self.now) values.items) }
+        ensures fault { IfErr result (λ e. (e ≡ OutOfMemory)
+            ⊎ FaultsFirst T.gives T.faults (item_views self.now) e) }
     {
         let mut values = Vec::new(alloc);
         let mut rest = self.payload();
@@ -43,7 +46,9 @@ impl<'a> Rlp<'a> {
     ///
     /// The faults are those of the two.
     pub fn val_at<T: Decodable>(&self, alloc: Global, index: usize) -> Result<T, DecoderError>
-        ensures { MatchResult (item_at self.now index) (λ item. ReadsValue T.gives T.faults T.may_lack_memory item result) (λ e. result ≡ Err e) }
+        ensures { MatchResult (item_at self.now index)
+            (λ item. ReadsValue T.gives T.faults T.may_lack_memory item result)
+            (λ e. result ≡ Err e) }
     {
         match self.at(index) {
             Ok(item) => item.as_val(alloc),
@@ -51,12 +56,16 @@ impl<'a> Rlp<'a> {
         }
     }
 
-    /// The values of the items of the item at `index`, counted from 0: [`Rlp::at`], and then [`Rlp::as_list`].
+    /// The values of the items of the item at `index`, counted from 0: [`Rlp::at`], and then
+    /// [`Rlp::as_list`].
     ///
     /// The faults are those of the two.
     pub fn list_at<T: Decodable>(&self, alloc: Global, index: usize) -> Result<Vec<T>, DecoderError>
-        ensures value { MatchResult (item_at self.now index) (λ item. IfOk result (λ values. GivesEach T.gives (item_views item) values.items)) (λ e. result ≡ Err e) }
-        ensures fault { MatchResult (item_at self.now index) (λ item. IfErr result (λ e. (e ≡ OutOfMemory) ⊎ FaultsFirst T.gives T.faults (item_views item) e)) (λ e. result ≡ Err e) }
+        ensures value { MatchResult (item_at self.now index) (λ item. IfOk result
+            (λ values. GivesEach T.gives (item_views item) values.items)) (λ e. result ≡ Err e) }
+        ensures fault { MatchResult (item_at self.now index) (λ item. IfErr result
+            (λ e. (e ≡ OutOfMemory) ⊎ FaultsFirst T.gives T.faults (item_views item) e))
+            (λ e. result ≡ Err e) }
     {
         match self.at(index) {
             Ok(item) => item.as_list(alloc),

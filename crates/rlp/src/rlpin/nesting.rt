@@ -7,9 +7,11 @@ use crate::rlpin::items::split_first;
 use crate::rlpin::view::Rlp;
 
 impl Rlp<'_> {
-    /// Whether the depth is at most `limit`. Anything but a framed list has depth 0, and a framed list 1 more than the deepest of its items, or 1 without items.
+    /// Whether the depth is at most `limit`. Anything but a framed list has depth 0, and a framed
+    /// list 1 more than the deepest of its items, or 1 without items.
     ///
-    /// It goes no deeper than `limit` lists, so it bounds the work of [`Display`](std::fmt::Display) on bytes of any origin.
+    /// It goes no deeper than `limit` lists, so it bounds the work of
+    /// [`Display`](std::fmt::Display) on bytes of any origin.
     pub fn is_nested_within(&self, limit: usize) -> bool
         ensures { IsTrue result ↔ (depth self.now.bytes ≤ limit) }
     {

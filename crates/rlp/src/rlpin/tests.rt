@@ -1,4 +1,5 @@
-//! Rows of the format: expected values are worked out by hand or taken from the format's public examples.
+//! Rows of the format: expected values are worked out by hand or taken from the format's public
+//! examples.
 
 use super::{PayloadInfo, Rlp};
 use crate::error::DecoderError;

@@ -9,7 +9,9 @@ use crate::rlpin::view::Rlp;
 use std::fmt;
 use std::fmt::Display;
 
-/// `null` for no bytes, `"0x` and the digits of a string, `[`, the texts of a list's items with `, ` between and `]`. Bytes that aren't framed print the name of their fault, as [`Rlp::payload_info`] answers it. The formatter's flags change nothing.
+/// `null` for no bytes, `"0x` and the digits of a string, `[`, the texts of a list's items with `,
+/// ` between and `]`. Bytes that aren't framed print the name of their fault, as
+/// [`Rlp::payload_info`] answers it. The formatter's flags change nothing.
 impl fmt::Display for Rlp<'_> {
     ghost use Rattle.std.specs.Prelude.{Some};
     ghost use Rattle.rlp.specs.Text.{text};
@@ -51,7 +53,8 @@ fn write_text<W: fmt::Write>(f: &mut fmt::Formatter<W>, view: &Rlp<'_>) -> fmt::
 
 /// Writes the text of a string.
 fn write_string<W: fmt::Write>(f: &mut fmt::Formatter<W>, value: &[u8]) -> fmt::Result
-    ensures { WritesStyledOnOk W.write_str_gives f.old result (codes "\"0x" ++ hex value.now ++ codes "\"") f.new }
+    ensures { WritesStyledOnOk W.write_str_gives f.old result
+        (codes "\"0x" ++ hex value.now ++ codes "\"") f.new }
 {
     f.write_str("\"0x")?;
     write_hex(f, value)?;

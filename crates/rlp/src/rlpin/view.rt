@@ -12,7 +12,9 @@ use std::marker::Model;
 
 /// A view of bytes that may begin with an item.
 ///
-/// It holds the bytes and nothing else, so every answer is a function of them: asked again, it is the same. Contracts see a view as the record `View` of its bytes. What stands after the first item is never looked at.
+/// It holds the bytes and nothing else, so every answer is a function of them: asked again, it is
+/// the same. Contracts see a view as the record `View` of its bytes. What stands after the first
+/// item is never looked at.
 #[derive(Debug, Drop)]
 pub struct Rlp<'a> {
     bytes: &'a [u8],
@@ -73,14 +75,16 @@ impl<'a> Rlp<'a> {
     /// The faults are those of [`Rlp::payload_info`].
     #[tactic(auto, unfolding(crate::specs::Framing::value))]
     pub fn data(&self) -> Result<&'a [u8], DecoderError>
-        ensures { MatchResult result (λ d. value self.now.bytes ≡ Ok d.now) (λ e. value self.now.bytes ≡ Err e) }
+        ensures { MatchResult result (λ d. value self.now.bytes ≡ Ok d.now)
+            (λ e. value self.now.bytes ≡ Err e) }
     {
         let info = framing_of(self.bytes)?;
         let after_header = &self.bytes[info.header_len..];
         Ok(&after_header[..info.value_len])
     }
 
-    /// The length of the string that the view begins with, and 0 where no framed string stands there.
+    /// The length of the string that the view begins with, and 0 where no framed string stands
+    /// there.
     pub fn size(&self) -> usize
         ensures { result ≡ data_size self.now.bytes }
     {
@@ -93,7 +97,9 @@ impl<'a> Rlp<'a> {
         }
     }
 
-    /// What the view begins with: no bytes, a string with its [`Rlp::size`], or a list with the number of its items. It is always `Ok`; bytes that aren't framed are a string of size 0 or a list of no items, by their first byte.
+    /// What the view begins with: no bytes, a string with its [`Rlp::size`], or a list with the
+    /// number of its items. It is always `Ok`; bytes that aren't framed are a string of size 0 or a
+    /// list of no items, by their first byte.
     #[tactic(auto, unfolding(crate::specs::Split::items))]
     pub fn prototype(&self) -> Result<Prototype, DecoderError>
         ensures { result ≡ Ok (prototype_of self.now.bytes) }
@@ -144,9 +150,11 @@ impl<'a> Rlp<'a> {
         }
     }
 
-    /// Whether the bytes begin as a number does: with one byte up to `0x80`, or as a string whose first byte is there and isn't zero.
+    /// Whether the bytes begin as a number does: with one byte up to `0x80`, or as a string whose
+    /// first byte is there and isn't zero.
     ///
-    /// It looks for that one byte and no further, so `00` begins as a number, and so does a string that ends early.
+    /// It looks for that one byte and no further, so `00` begins as a number, and so does a string
+    /// that ends early.
     pub fn is_int(&self) -> bool
         ensures { result ≡ begins_as_int self.now.bytes }
     {

@@ -11,7 +11,10 @@ use std::alloc::Global;
 
 /// A value that is read from the front of a view.
 ///
-/// An implementation says which views give which values and which have which faults, and `decode` answers nothing else. Most read one string by [`BasicDecoder::decode_value`](crate::BasicDecoder::decode_value), or another type's value by [`Rlp::as_val`].
+/// An implementation says which views give which values and which have which faults, and `decode`
+/// answers nothing else. Most read one string by
+/// [`BasicDecoder::decode_value`](crate::BasicDecoder::decode_value), or another type's value by
+/// [`Rlp::as_val`].
 pub trait Decodable: Sized + Drop {
     /// The view gives the value.
     ghost gives: { View → Self → Type 0 };
@@ -24,8 +27,10 @@ pub trait Decodable: Sized + Drop {
 
     /// The value that the view begins with. What follows the value's item is never looked at.
     ///
-    /// The faults are the type's own, and `OutOfMemory` where the type takes memory and it is refused.
+    /// The faults are the type's own, and `OutOfMemory` where the type takes memory and it is
+    /// refused.
     fn decode(alloc: Global, rlp: &Rlp<'_>) -> Result<Self, DecoderError>
         ensures value { IfOk result (λ v. gives rlp.now v) }
-        ensures fault { IfErr result (λ e. (faults rlp.now e) ⊎ ((e ≡ OutOfMemory) × IsTrue may_lack_memory)) };
+        ensures fault { IfErr result (λ e. (faults rlp.now e) ⊎ ((e ≡ OutOfMemory)
+            × IsTrue may_lack_memory)) };
 }

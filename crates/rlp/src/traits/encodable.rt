@@ -42,7 +42,8 @@ pub trait Encodable {
     ghost fits: { Self → Type 0 };
 
     /// Writes the value into a stream. The encoding of a string is put, and nothing is counted. The
-    /// encoding of a list is put, one item is counted, and the mark is set, which tells the caller so.
+    /// encoding of a list is put, one item is counted, and the mark is set, which tells the caller
+    /// so.
     ///
     /// `AllocError` where memory is refused, or for a reason of the type's own. The stream then
     /// holds its old bytes and its old open lists, and perhaps more behind them:
