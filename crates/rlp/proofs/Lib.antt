@@ -22,3 +22,4 @@ pub mod Descriptions
 pub mod Places
 pub mod ListValues
 pub mod Numbered
+pub mod Awaits

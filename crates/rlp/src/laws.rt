@@ -24,6 +24,7 @@ pub use reading::{bytes_are_read, number_is_read, string_is_read, text_is_read};
 pub use streams::{
     bytes_go_to_the_end, closed_size_goes_by_length, closing_keeps_what_is_closed,
     constants_are_encodings, finished_streams_gain_encodings, growth_is_an_order, growth_of_moves,
+    open_lists_await_items,
 };
 pub use views::{items_by_number_are_in_order, list_of_values_is_read, view_of_list_has_its_items};
 

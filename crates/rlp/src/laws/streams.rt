@@ -4,6 +4,8 @@ ghost use Rattle.std.specs.Prelude.{◌≡◌, ℕ, List, [], ◌∷◌, ◌++�
 ghost use Rattle.rlp.specs.Item.{Item, string, list_of};
 ghost use Rattle.rlp.specs.Encoding.{encoding};
 ghost use Rattle.rlp.specs.Stream.{State, IsFinished, put, shut, count, with_list, add, put_item, is_list, raw_text, closed_text, closed_size, closed_size_with};
+ghost use Rattle.rlp.specs.Stack.{AllAwait};
+ghost use Rattle.rlp.specs.Calls.{Call, effect};
 ghost use Rattle.rlp.specs.Growth.{GrowsTo};
 
 use crate::{EMPTY_LIST_RLP, NULL_RLP};
@@ -54,4 +56,9 @@ pub fn growth_is_an_order()
 pub fn growth_of_moves()
     ensures put { (x : List ℕ) (s : State) → GrowsTo s (put x s) }
     ensures opened { (awaits : Option ℕ) (s : State) → GrowsTo s (with_list awaits s) }
+{}
+
+/// A bounded list is open only while it awaits an item: no call leaves one open that awaits none.
+pub fn open_lists_await_items()
+    ensures { (c : Call) (s : State) → AllAwait s.stack.lists → AllAwait (effect c s).stack.lists }
 {}
