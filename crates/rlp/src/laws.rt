@@ -1,7 +1,7 @@
 //! Laws over the definitions of the format alone. None of these functions does anything: each
 //! contract is the law.
 
-ghost use Rattle.std.specs.Prelude.{◌≡◌, ℕ, ◌^◌, ◌<◌, ◌≤◌, ◌+◌, ◌↔◌, ◌⊎◌, List, [], ◌++◌, length, map, All, get_or, take, drop, ◌∷◌, Ok, Err, IsTrue, MatchResult, is_ok};
+ghost use Rattle.std.specs.Prelude.{◌≡◌, ℕ, ◌^◌, ◌<◌, ◌≤◌, ◌+◌, ◌↔◌, ◌⊎◌, List, [], ◌++◌, length, map, All, get_or, take, drop, ◌∷◌, Ok, Err, IsTrue, is_ok};
 ghost use Rattle.std.specs.List.{concat};
 ghost use Rattle.std.specs.Int.Digits.{number_from_digits};
 ghost use Rattle.rlp.specs.Item.{Item, list_of, item_depth};

@@ -5,7 +5,6 @@ ghost use Rattle.std.specs.Borrow.{sem};
 ghost use Rattle.rlp.specs.Item.{string};
 ghost use Rattle.rlp.specs.Encoding.{encoding};
 ghost use Rattle.rlp.specs.Stream.{initial_state, IsFinished, put, add, raw_text};
-ghost use Rattle.rlp.specs.Growth.{GrowsTo};
 ghost use Rattle.rlp.specs.Chain.{stays_if_refused, HoldsStream, LeavesState};
 
 mod chain;

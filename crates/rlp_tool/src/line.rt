@@ -1,5 +1,5 @@
 //! The line that has begun.
-ghost use Rattle.std.specs.Prelude.{◌≡◌, ◌++◌, ◌+◌, ◌<◌, ◌≤◌, ◌==◌, ℕ, List, [], ◌∷◌, length, take, position, string_bytes, OnOk, IsTrue, ◌↔◌};
+ghost use Rattle.std.specs.Prelude.{◌≡◌, ◌++◌, ◌+◌, ◌<◌, ◌≤◌, ◌==◌, ℕ, List, [], ◌∷◌, length, position, string_bytes, OnOk, IsTrue, ◌↔◌};
 ghost use Rattle.rlp_tool.specs.Answer.{answer};
 ghost use Rattle.rlp_tool.specs.Replies.{reply, replies_to};
 ghost use Rattle.rlp_tool.specs.Lines.{last_piece, unended_line};

@@ -1,5 +1,5 @@
 //! The loop over the input.
-ghost use Rattle.std.specs.Prelude.{◌≡◌, ◌-◌, ◌^◌, ◌++◌, ◌<◌, ◌≤◌, ◌⊎◌, ℕ, List, length, OnOk, OnErr, IfErr, Option, true, false};
+ghost use Rattle.std.specs.Prelude.{◌≡◌, ◌-◌, ◌^◌, ◌++◌, ◌<◌, ◌⊎◌, ℕ, List, OnOk, OnErr, IfErr, Option, true, false};
 ghost use Rattle.std.specs.Io.KnownBytes.{Appends};
 ghost use Rattle.rlp_tool.specs.Replies.{replies};
 ghost use Rattle.rlp_tool.specs.Progress.{IsServed, IsStop};

@@ -14,9 +14,11 @@ use std::alloc::{AllocError, Global};
 mod decoding;
 mod nonce;
 mod refusing;
+mod uses;
 
 pub use nonce::Nonce;
 pub use refusing::Refusing;
+pub use uses::{append_by_stream, append_each, chain_and_encoder};
 
 /// Appends one value, and is refused as a whole.
 pub fn append_one<A: Encodable>(s: &mut RlpStream, a: &A) -> Result<(), AllocError>

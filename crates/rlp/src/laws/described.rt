@@ -1,8 +1,8 @@
 //! Laws over the items that a stream's calls describe.
 
-ghost use Rattle.std.specs.Prelude.{◌≡◌, ℕ, List, [], ◌∷◌, All, Ok};
-ghost use Rattle.rlp.specs.Item.{Item, string, list_of};
-ghost use Rattle.rlp.specs.Encoding.{encoding, join, IsSized};
+ghost use Rattle.std.specs.Prelude.{◌≡◌, ℕ, List, [], All, Ok};
+ghost use Rattle.rlp.specs.Item.{Item};
+ghost use Rattle.rlp.specs.Encoding.{join, IsSized};
 ghost use Rattle.rlp.specs.Stack.{empty_stack};
 ghost use Rattle.rlp.specs.Stream.{State, initial_state};
 ghost use Rattle.rlp.specs.Calls.{Call, after};

@@ -1,10 +1,10 @@
 //! The items of a view, one by one.
 
-ghost use Rattle.std.specs.Prelude.{◌≡◌, ◌∷◌, [], ℕ, ◌+◌, ◌<◌, ◌≤◌, ◌^◌, length, drop, List, MatchOption, IfSome, Some};
+ghost use Rattle.std.specs.Prelude.{◌≡◌, ◌∷◌, [], ◌+◌, ◌<◌, ◌≤◌, ◌^◌, length, drop, MatchOption, IfSome, Some};
 ghost use Rattle.std.specs.Iterator.{YieldsFirst, item_count, UpTo, at_most};
 ghost use Rattle.std.specs.Iterator.SizeHint.{IsWithinCount};
-ghost use Rattle.rlp.specs.Split.{items, split};
-ghost use Rattle.rlp.specs.View.{View, item_views};
+ghost use Rattle.rlp.specs.Split.{items};
+ghost use Rattle.rlp.specs.View.{item_views};
 
 use crate::rlpin::items::{count_items, split_first};
 use crate::rlpin::view::Rlp;

@@ -1,6 +1,6 @@
 //! A view of bytes, and what it answers of their first item.
 
-ghost use Rattle.std.specs.Prelude.{◌≡◌, ◌↔◌, ℕ, List, [], IsTrue, Ok, Err, MatchResult, true};
+ghost use Rattle.std.specs.Prelude.{◌≡◌, ◌↔◌, List, [], IsTrue, Ok, Err, MatchResult, true};
 ghost use Rattle.rlp.specs.Framing.{framing, value};
 ghost use Rattle.rlp.specs.Split.{begins_as_list, payload};
 ghost use Rattle.rlp.specs.View.{begins_as_data, begins_as_empty, begins_as_int, data_size, has_nonzero_at, prototype_of};
