@@ -10,9 +10,9 @@ use Rattle.std.specs.List.{position}
 use Rattle.std.proofs.lemmas.List.{take_rest, drop_more}
 use Rattle.std.proofs.lemmas.List.Quantifiers.{position-Some}
 use Rattle.std.proofs.lemmas.List.Concat.{flat_map-append}
-use Rattle.rlp_tool.specs.Lines.{ended_lines, last_piece, line_of_last, unended_line}
+use Rattle.rlp_tool.specs.Lines.{lines, ended_lines, last_piece, line_of_last, unended_line}
 use Rattle.rlp_tool.specs.Replies.{reply, replies_to, replies}
-use Rattle.rlp_tool.specs.Progress.{IsOnePiece, IsLine, IsAfter, IsServed, IsStop}
+use Rattle.rlp_tool.specs.Progress.{AreSomeReplies, AppendsSome, IsOnePiece, IsLine, IsAfter, IsServed, IsStop}
 use Rattle.rlp_tool.proofs.LinesLemmas.{ended_lines-run, last_piece-run, ended_lines-line, last_piece-line, one_piece-take, one_piece-whole, is_newline, take-lines, ended_lines-nil, last_piece-nil}
 
 pub replies_to-append : (xs ys : List (List ℕ)) → replies_to (xs ++ ys) ≡ replies_to xs ++ replies_to ys
@@ -104,6 +104,24 @@ IsFeeding-end (Ok unit) {waiting' = waiting'} rest kept'' over'' feeding e text 
     let after = feeding.after text written before in
     subst (λ t. IsAfter t written waiting' kept'' over'') (append_assoc text feeding.done rest ∙ ap (λ t. text ++ t) feeding.parts) (IsAfter-run rest after (one_piece-whole rest e) (step (last_piece (text ++ feeding.done)) after.line))
 
+pub OnErr-always : {T E P : Type 0} (result : Result T E) → P → OnErr result P
+OnErr-always (Ok value) holds = tt
+OnErr-always (Err error) holds = holds
+
+-- memory was refused before the rest
+pub IsFeeding-refused : {waiting kept waiting' kept' bytes : List ℕ} {over over' : Bool} (rest new : List ℕ) → IsFeeding waiting kept over waiting' kept' over' bytes rest → new ≡ waiting' → (text written : List ℕ) → IsAfter text written waiting kept over
+    → AreSomeReplies (text ++ bytes) (written ++ new)
+IsFeeding-refused {bytes = bytes} rest new feeding same text written before =
+    let done = feeding.after text written before in
+    let whole : (text ++ feeding.done) ++ rest ≡ text ++ bytes = append_assoc text feeding.done rest ∙ ap (λ t. text ++ t) feeding.parts in
+    record {
+      count = length (ended_lines (text ++ feeding.done));
+      replies =
+          ap (λ w. written ++ w) same ∙ done.answered
+          ∙ ap replies_to (sym (take-lines (text ++ feeding.done) rest))
+          ∙ ap (λ t. replies_to (take (length (ended_lines (text ++ feeding.done))) (lines t))) whole;
+    }
+
 -- an empty line that has begun is no line
 pub replies_to-none : (begun : List ℕ) → begun ≡ [] → replies_to (line_of_last begun) ≡ []
 unfolding replies_to
@@ -131,7 +149,7 @@ IsServed-written (Ok unit) new bytes {start} {old} {text} served after all wrote
 }
 
 -- a writer that failed has a beginning of the replies
-IsStop-front : (result : Result (Unit {0}) RunFault) (start old new : Option (List ℕ)) (failed : Bool) (text front bytes rest : List ℕ) → Appends start old front → (front ++ bytes) ++ rest ≡ replies text → OnErr result (AppendsPart old new bytes) → OnErr result (failed ≡ true) → IfErr result (λ fault. fault ≡ Write) → IfErr result (λ fault. IsStop fault start old new text failed)
+IsStop-front : (result : Result (Unit {0}) RunFault) (start old new : Option (List ℕ)) (failed : Bool) (text front bytes rest : List ℕ) → Appends start old front → (front ++ bytes) ++ rest ≡ replies text → OnErr result (AppendsPart old new bytes) → OnErr result (failed ≡ true) → IfErr result (λ fault. fault ≡ Write) → IfErr result (λ fault. IsStop fault start new text failed)
 IsStop-front (Ok unit) start old new failed text front bytes rest before parts part broken write = tt
 IsStop-front (Err fault) start old new failed text front bytes rest before parts part broken write =
     let all = front ++ take part.count bytes in
@@ -139,18 +157,43 @@ IsStop-front (Err fault) start old new failed text front bytes rest before parts
     inr (write, AppendsPart-front start new all (drop part.count bytes ++ rest) (replies text) (Appends-trans start old new front (take part.count bytes) before part.wrote) (split ∙ parts), broken)
 
 -- the writer failed among the replies to lines that ended
-pub IsStop-written : (result : Result (Unit {0}) RunFault) (new : Option (List ℕ)) (failed : Bool) (bytes : List ℕ) {start old : Option (List ℕ)} {text text' waiting kept kept' : List ℕ} {over over' : Bool} → IsServed start old text kept over → IsAfter text' (replies_to (ended_lines text)) waiting kept' over' → bytes ≡ waiting → OnErr result (AppendsPart old new bytes) → OnErr result (failed ≡ true) → IfErr result (λ fault. fault ≡ Write) → IfErr result (λ fault. IsStop fault start old new text' failed)
+pub IsStop-written : (result : Result (Unit {0}) RunFault) (new : Option (List ℕ)) (failed : Bool) (bytes : List ℕ) {start old : Option (List ℕ)} {text text' waiting kept kept' : List ℕ} {over over' : Bool} → IsServed start old text kept over → IsAfter text' (replies_to (ended_lines text)) waiting kept' over' → bytes ≡ waiting → OnErr result (AppendsPart old new bytes) → OnErr result (failed ≡ true) → IfErr result (λ fault. fault ≡ Write) → IfErr result (λ fault. IsStop fault start new text' failed)
 IsStop-written result new failed bytes {start} {old} {text} {text'} served after all =
     let front = replies_to (ended_lines text) in
     let rest = replies_to (unended_line text') in
     IsStop-front result start old new failed text' front bytes rest served.wrote (ap (λ w. (front ++ w) ++ rest) all ∙ ap (λ w. w ++ rest) after.answered ∙ sym (replies_to-append (ended_lines text') (unended_line text')))
+
+-- the replies to some first lines begin those to all
+replies_to-take : (count : ℕ) (text : List ℕ) → replies_to (take count (lines text)) ++ replies_to (drop count (lines text)) ≡ replies text
+replies_to-take count text = sym (replies_to-append (take count (lines text)) (drop count (lines text))) ∙ ap replies_to (take-append-drop count (lines text))
+
+-- memory was refused, and what waited before was written, or the writer failed then
+pub IsStop-some : (start old new : Option (List ℕ)) (failed : Bool) (text' bytes waiting : List ℕ) {text kept : List ℕ} {over : Bool} (result : Result (Unit {0}) RunFault) → IsServed start old text kept over → AreSomeReplies text' (replies_to (ended_lines text) ++ waiting) → bytes ≡ waiting
+    → OnErr result (AppendsPart old new bytes) → OnErr result (failed ≡ true) → IfErr result (λ fault. fault ≡ Write) → IfErr result (λ fault. IsStop fault start new text' failed)
+IsStop-some start old new failed text' bytes waiting {text} result served some all =
+    let front = replies_to (ended_lines text) in
+    IsStop-front result start old new failed text' front bytes (replies_to (drop some.count (lines text'))) served.wrote
+    (ap (λ w. (front ++ w) ++ replies_to (drop some.count (lines text'))) all ∙ ap (λ w. w ++ replies_to (drop some.count (lines text'))) some.replies ∙ replies_to-take some.count text')
+
+pub AppendsSome-written : (start old new : Option (List ℕ)) (text' bytes waiting : List ℕ) {text kept : List ℕ} {over : Bool} → IsServed start old text kept over → AreSomeReplies text' (replies_to (ended_lines text) ++ waiting) → bytes ≡ waiting → Appends old new bytes → AppendsSome start new text'
+AppendsSome-written start old new text' bytes waiting {text} served some all wrote = record {
+  count = some.count;
+  wrote = subst (Appends start new) (ap (λ w. replies_to (ended_lines text) ++ w) all ∙ some.replies) (Appends-trans start old new (replies_to (ended_lines text)) bytes served.wrote wrote);
+}
+
+-- nothing of the last line was written
+pub AppendsSome-served : (start now : Option (List ℕ)) (text : List ℕ) {kept : List ℕ} {over : Bool} → IsServed start now text kept over → AppendsSome start now text
+AppendsSome-served start now text served = record {
+  count = length (ended_lines text);
+  wrote = subst (λ t. Appends start now (replies_to t)) (sym (ap (λ t. take (length (ended_lines text)) (lines t)) (sym (append-nil text)) ∙ take-lines text [])) served.wrote;
+}
 
 -- the replies to a text are those to its ended lines and then that to its last line
 replies-parts : (text bytes : List ℕ) → bytes ≡ replies_to (unended_line text) → replies_to (ended_lines text) ++ bytes ≡ replies text
 replies-parts text bytes last = ap (λ w. replies_to (ended_lines text) ++ w) last ∙ sym (replies_to-append (ended_lines text) (unended_line text))
 
 -- the writer failed in the reply to the last line
-pub IsStop-last : (result : Result (Unit {0}) RunFault) (new : Option (List ℕ)) (failed : Bool) (bytes : List ℕ) {start old : Option (List ℕ)} {text kept : List ℕ} {over : Bool} → IsServed start old text kept over → bytes ≡ replies_to (unended_line text) → OnErr result (AppendsPart old new bytes) → OnErr result (failed ≡ true) → IfErr result (λ fault. fault ≡ Write) → IfErr result (λ fault. IsStop fault start old new text failed)
+pub IsStop-last : (result : Result (Unit {0}) RunFault) (new : Option (List ℕ)) (failed : Bool) (bytes : List ℕ) {start old : Option (List ℕ)} {text kept : List ℕ} {over : Bool} → IsServed start old text kept over → bytes ≡ replies_to (unended_line text) → OnErr result (AppendsPart old new bytes) → OnErr result (failed ≡ true) → IfErr result (λ fault. fault ≡ Write) → IfErr result (λ fault. IsStop fault start new text failed)
 IsStop-last result new failed bytes {start} {old} {text} served last =
     let front = replies_to (ended_lines text) in
     IsStop-front result start old new failed text front bytes [] served.wrote (append-nil (front ++ bytes) ∙ replies-parts text bytes last)
@@ -203,7 +246,7 @@ pub record StopLeaves (result : Result (Unit {0}) RunFault) (in0 in1 out0 out1 :
   pub write : result ≡ Err Write → AnswersPart in0 in1 out0 out1
   pub write_only : result ≡ Err Write → failed ≡ true
 
-pub StopLeaves-IsStop : (result : Result (Unit {0}) RunFault) {in0 in1 out0 out1 : Option (List ℕ)} {kept : List ℕ} {over : Bool} (in2 out2 : Option (List ℕ)) (failed : Bool) (text more : List ℕ) (running : IsRunning in0 in1 out0 out1 kept over) → Consumes in1 in2 more → text ≡ running.took ++ more → IfErr result (λ fault. IsStop fault out0 out1 out2 text failed) → StopLeaves result in0 in2 out0 out2 failed
+pub StopLeaves-IsStop : (result : Result (Unit {0}) RunFault) {in0 in1 out0 out1 : Option (List ℕ)} {kept : List ℕ} {over : Bool} (in2 out2 : Option (List ℕ)) (failed : Bool) (text more : List ℕ) (running : IsRunning in0 in1 out0 out1 kept over) → Consumes in1 in2 more → text ≡ running.took ++ more → IfErr result (λ fault. IsStop fault out0 out2 text failed) → StopLeaves result in0 in2 out0 out2 failed
 StopLeaves-IsStop (Ok unit) in2 out2 failed text more running read whole stop = record {
   memory = λ e. absurd (cc);
   not_read = λ e. cc;
@@ -214,10 +257,10 @@ StopLeaves-IsStop (Err fault) {in0} {in1} {out0} {out1} in2 out2 failed text mor
     let is : fault ≡ Memory = refused.0 in
     record {
       memory = λ e. record {
-        took = running.took ++ more;
-        read = Consumes-trans in0 in1 in2 running.took more running.read read;
-        count = length (ended_lines running.took);
-        wrote = subst (λ ls. Appends out0 out2 (replies_to ls)) (sym (take-lines running.took more)) (Appends-kept out0 out1 out2 (replies_to (ended_lines running.took)) running.served.wrote refused.1);
+        took = text;
+        read = subst (Consumes in0 in2) (sym whole) (Consumes-trans in0 in1 in2 running.took more running.read read);
+        count = refused.1.count;
+        wrote = refused.1.wrote;
       };
       not_read = λ e. cc;
       write = λ e. absurd (cc);

@@ -1,8 +1,8 @@
 -- The bookkeeping of the loop over the input, which only clauses of private functions cite.
-use Rattle.std.specs.Prelude.{ℕ, ◌≡◌, ◌<◌, Bool, true, false, List, [], ◌∷◌, ◌++◌, length, Option, ◌⊎◌}
-use Rattle.std.specs.Io.KnownBytes.{Appends, Keeps}
+use Rattle.std.specs.Prelude.{ℕ, ◌≡◌, ◌<◌, Bool, true, false, List, [], ◌∷◌, ◌++◌, length, take, Option, ◌⊎◌}
+use Rattle.std.specs.Io.KnownBytes.{Appends}
 use Rattle.rlp_tool.specs.Answer.{longest_line}
-use Rattle.rlp_tool.specs.Lines.{pieces, ended_lines, last_piece}
+use Rattle.rlp_tool.specs.Lines.{pieces, lines, ended_lines, last_piece}
 use Rattle.rlp_tool.specs.Replies.{replies_to, replies}
 use Rattle.rlp_tool.specs.Run.{AppendsPart}
 use Rattle.rlp_tool.specs.declared.serving.RunFault.{RunFault}
@@ -27,7 +27,17 @@ pub record IsServed (start now : Option (List ℕ)) (text kept : List ℕ) (over
   pub wrote : Appends start now (replies_to (ended_lines text))
   pub line : IsLine kept over (last_piece text)
 
--- how the answers to a text stop: without memory nothing more was written, and a writer that failed has a beginning of the replies
-abbrev pub IsStop : RunFault → Option (List ℕ) → Option (List ℕ) → Option (List ℕ) → List ℕ → Bool → Type 0
-IsStop fault start old new text failed =
-    ((fault ≡ Memory) × Keeps old new) ⊎ ((fault ≡ Write) × AppendsPart start new (replies text) × (failed ≡ true))
+-- the whole replies to some first lines of a text
+pub record AreSomeReplies (text bytes : List ℕ) : Type 0 where
+  pub count : ℕ
+  pub replies : bytes ≡ replies_to (take count (lines text))
+
+-- the whole replies to some first lines of a text were written
+pub record AppendsSome (start now : Option (List ℕ)) (text : List ℕ) : Type 0 where
+  pub count : ℕ
+  pub wrote : Appends start now (replies_to (take count (lines text)))
+
+-- how the answers to a text stop: without memory the whole replies to some first lines were written, and a writer that failed has a beginning of the replies
+abbrev pub IsStop : RunFault → Option (List ℕ) → Option (List ℕ) → List ℕ → Bool → Type 0
+IsStop fault start new text failed =
+    ((fault ≡ Memory) × AppendsSome start new text) ⊎ ((fault ≡ Write) × AppendsPart start new (replies text) × (failed ≡ true))

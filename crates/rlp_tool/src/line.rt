@@ -1,9 +1,9 @@
 //! The line that has begun.
-ghost use Rattle.std.specs.Prelude.{◌≡◌, ◌++◌, ◌+◌, ◌<◌, ◌≤◌, ◌==◌, ℕ, List, [], ◌∷◌, length, position, string_bytes, OnOk, IsTrue, ◌↔◌};
+ghost use Rattle.std.specs.Prelude.{◌≡◌, ◌++◌, ◌+◌, ◌<◌, ◌≤◌, ◌==◌, ℕ, List, [], ◌∷◌, length, position, string_bytes, OnOk, OnErr, IsTrue, ◌↔◌};
 ghost use Rattle.rlp_tool.specs.Answer.{answer};
 ghost use Rattle.rlp_tool.specs.Replies.{reply, replies_to};
 ghost use Rattle.rlp_tool.specs.Lines.{last_piece, unended_line};
-ghost use Rattle.rlp_tool.specs.Progress.{IsOnePiece, IsLine, IsAfter};
+ghost use Rattle.rlp_tool.specs.Progress.{AreSomeReplies, IsOnePiece, IsLine, IsAfter};
 
 use crate::answer::answer_within;
 use std::alloc::{AllocError, Global};
@@ -16,6 +16,8 @@ const LONGEST_LINE: usize = 131_072;
 pub(crate) struct Line {
     bytes: Vec<u8>,
     over: bool,
+    // Where a reply is put together, so that others get it whole or not at all.
+    reply: String,
     ghost within: { length bytes.items ≤ 131072 },
 }
 
@@ -26,6 +28,7 @@ impl Line {
         Line {
             bytes: Vec::new(alloc),
             over: false,
+            reply: String::new(alloc),
         }
     }
 
@@ -44,25 +47,28 @@ impl Line {
         self.bytes.extend_from_slice(run)
     }
 
-    /// Appends the answer.
+    /// The answer, in the place where a reply is put together.
     #[tactic(auto, unfolding(crate::specs::Answer::answer))]
-    fn answer(&self, alloc: Global, out: &mut String) -> Result<(), AllocError>
-        ensures { (begun : List ℕ) → IsLine self.now.bytes.items self.now.over begun
-            → OnOk result (string_bytes out.new ≡ string_bytes out.old ++ answer begun) }
+    fn put_answer(&mut self, alloc: Global) -> Result<(), AllocError>
+        ensures { (begun : List ℕ) → IsLine self.old.bytes.items self.old.over begun
+            → OnOk result (string_bytes self.new.reply ≡ answer begun) }
     {
+        self.reply.clear();
         if self.over {
-            return out.push_str("error long line");
+            return self.reply.push_str("error long line");
         }
-        answer_within(alloc, self.bytes.as_slice(), out)
+        answer_within(alloc, self.bytes.as_slice(), &mut self.reply)
     }
 
-    /// Appends the answer and a newline.
-    fn reply(&self, alloc: Global, out: &mut String) -> Result<(), AllocError>
-        ensures { (begun : List ℕ) → IsLine self.now.bytes.items self.now.over begun
+    /// Appends the answer and a newline, both or nothing.
+    fn reply(&mut self, alloc: Global, out: &mut String) -> Result<(), AllocError>
+        ensures ok { (begun : List ℕ) → IsLine self.old.bytes.items self.old.over begun
             → OnOk result (string_bytes out.new ≡ string_bytes out.old ++ reply begun) }
+        ensures refused { OnErr result (string_bytes out.new ≡ string_bytes out.old) }
     {
-        self.answer(alloc, out)?;
-        out.push('\n')
+        self.put_answer(alloc)?;
+        self.reply.push('\n')?;
+        out.push_str(self.reply.as_str())
     }
 
     fn is_empty(&self) -> bool
@@ -81,11 +87,12 @@ impl Line {
 
     /// Ends the line by some bytes and a newline, and appends the reply.
     fn end(&mut self, alloc: Global, run: &[u8], out: &mut String) -> Result<(), AllocError>
-        ensures { (text written : List ℕ)
+        ensures ok { (text written : List ℕ)
             → IsAfter text written (string_bytes out.old) self.old.bytes.items self.old.over
             → IsOnePiece run.now
             → OnOk result (IsAfter (text ++ run.now ++ 10 ∷ []) written (string_bytes out.new)
             self.new.bytes.items self.new.over) }
+        ensures refused { OnErr result (string_bytes out.new ≡ string_bytes out.old) }
     {
         self.extend(run)?;
         self.reply(alloc, out)?;
@@ -93,17 +100,21 @@ impl Line {
         Ok(())
     }
 
-    /// Takes bytes, and appends the replies to the lines that end among them.
+    /// Takes bytes, and appends the replies to the lines that end among them, up to the first whose
+    /// memory is refused.
     pub(crate) fn feed(
         &mut self,
         alloc: Global,
         bytes: &[u8],
         out: &mut String,
     ) -> Result<(), AllocError>
-        ensures { (text written : List ℕ)
+        ensures ok { (text written : List ℕ)
             → IsAfter text written (string_bytes out.old) self.old.bytes.items self.old.over
             → OnOk result (IsAfter (text ++ bytes.now) written (string_bytes out.new)
             self.new.bytes.items self.new.over) }
+        ensures refused { (text written : List ℕ)
+            → IsAfter text written (string_bytes out.old) self.old.bytes.items self.old.over
+            → OnErr result (AreSomeReplies (text ++ bytes.now) (written ++ string_bytes out.new)) }
     {
         let mut rest = bytes;
         while let Some(at) = newline_at(rest) {
@@ -116,10 +127,10 @@ impl Line {
 
     /// Appends the reply to a last line, if one has begun.
     #[tactic(auto, using(crate::proofs::ProgressLemmas::last_line))]
-    pub(crate) fn finish(&self, alloc: Global, out: &mut String) -> Result<(), AllocError>
-        ensures { (text : List ℕ) → IsLine self.now.bytes.items self.now.over (last_piece text)
-            → OnOk result (string_bytes out.new ≡ string_bytes out.old ++ replies_to
-            (unended_line text)) }
+    pub(crate) fn finish(&mut self, alloc: Global, out: &mut String) -> Result<(), AllocError>
+        ensures { (text : List ℕ) → IsLine self.old.bytes.items self.old.over (last_piece text)
+            → OnOk result (string_bytes out.new
+            ≡ string_bytes out.old ++ replies_to (unended_line text)) }
     {
         if self.is_empty() {
             return Ok(());

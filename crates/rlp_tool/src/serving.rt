@@ -77,7 +77,7 @@ fn write_last<W: Write>(output: &mut Noted<W>, bytes: &[u8]) -> Result<(), RunFa
     }
 }
 
-/// Answers the lines that end in these bytes.
+/// Answers the lines that end in these bytes, or those before the first whose memory is refused.
 fn serve<W: Write>(
     alloc: Global,
     line: &mut Line,
@@ -93,31 +93,33 @@ fn serve<W: Write>(
     ensures stop { (start : Option (List ℕ)) (text : List ℕ)
         → IsServed start (W.contents output.old.inner) text line.old.bytes.items line.old.over
         → IfErr result (λ fault. IsStop fault start
-        (W.contents output.old.inner) (W.contents output.new.inner)
-        (text ++ bytes.now) output.new.failed) }
+        (W.contents output.new.inner) (text ++ bytes.now) output.new.failed) }
 {
     answers.clear();
     match line.feed(alloc, bytes, answers) {
         Ok(()) => write_whole(output, answers.as_bytes()),
-        Err(_) => Err(RunFault::Memory),
+        Err(_) => match write_whole(output, answers.as_bytes()) {
+            Ok(()) => Err(RunFault::Memory),
+            Err(fault) => Err(fault),
+        },
     }
 }
 
 /// Answers a last line that has no newline, and flushes.
 fn finish<W: Write>(
     alloc: Global,
-    line: &Line,
+    line: &mut Line,
     answers: &mut String,
     output: &mut Noted<W>,
 ) -> Result<(), RunFault>
     ensures ok { (start : Option (List ℕ)) (text : List ℕ)
-        → IsServed start (W.contents output.old.inner) text line.now.bytes.items line.now.over
+        → IsServed start (W.contents output.old.inner) text line.old.bytes.items line.old.over
         → OnOk result (Appends start (W.contents output.new.inner) (replies text)) }
     ensures kept { OnOk result (output.new.failed ≡ output.old.failed) }
     ensures stop { (start : Option (List ℕ)) (text : List ℕ)
-        → IsServed start (W.contents output.old.inner) text line.now.bytes.items line.now.over
+        → IsServed start (W.contents output.old.inner) text line.old.bytes.items line.old.over
         → IfErr result (λ fault. IsStop fault start
-        (W.contents output.old.inner) (W.contents output.new.inner) text output.new.failed) }
+        (W.contents output.new.inner) text output.new.failed) }
 {
     answers.clear();
     match line.finish(alloc, answers) {
@@ -169,7 +171,7 @@ pub fn run<R: Read, W: Write>(
             Err(_) => return Err(RunFault::Read),
         };
         if count == 0 {
-            return finish(alloc, &line, &mut answers, output);
+            return finish(alloc, &mut line, &mut answers, output);
         }
         let chunk = &buffer[..count];
         if let Err(fault) = serve(alloc, &mut line, &mut answers, output, chunk) {

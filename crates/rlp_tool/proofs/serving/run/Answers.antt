@@ -5,17 +5,17 @@ use Rattle.rlp_tool.proofs.serving.run.Given as given
 use Rattle.rlp_tool.proofs.serving.run.Goals as goal
 
 -- the answers to a chunk of the input stopped
-stopped : (g : given.Over) (c : goal.After-drop-line-in-Err-serve g) → StopLeaves (Err c.in-Err-serve.fault) (g.R.Read.remaining c.args.input.now.inner) (g.R.Read.remaining c.read.new.self.inner) (g.W.Write.contents c.args.output.now.inner) (g.W.Write.contents c.serve.new.output.inner) c.serve.new.output.failed
+stopped : (g : given.Over) (c : goal.After-drop-line-in-Err-serve-2 g) → StopLeaves (Err c.in-Err-serve.fault) (g.R.Read.remaining c.args.input.now.inner) (g.R.Read.remaining c.read.new.self.inner) (g.W.Write.contents c.args.output.now.inner) (g.W.Write.contents c.serve.new.output.inner) c.serve.new.output.failed
 stopped g c =
     let running = c.loop-turn.invariant.running in
     StopLeaves-IsStop (Err c.in-Err-serve.fault) (g.R.Read.remaining c.read.new.self.inner) (g.W.Write.contents c.serve.new.output.inner) c.serve.new.output.failed (running.took ++ take c.in-Ok.count c.read.new.buf) (take c.in-Ok.count c.read.new.buf) running c.in-Ok.ensures.bytes.0 refl (c.in-Err-serve.ensures.stop (g.W.Write.contents c.args.output.now.inner) running.took running.served)
 
 -- nothing is left to read
-none_left : (g : given.Over) (c : goal.After-drop-line-then-count-eq0 g) → Consumes (g.R.Read.remaining c.loop-turn.input.inner) (g.R.Read.remaining c.read.new.self.inner) []
+none_left : (g : given.Over) (c : goal.After-drop-line-then-count-eq0-2 g) → Consumes (g.R.Read.remaining c.loop-turn.input.inner) (g.R.Read.remaining c.read.new.self.inner) []
 none_left g c = subst (λ (n : ℕ). Consumes (g.R.Read.remaining c.loop-turn.input.inner) (g.R.Read.remaining c.read.new.self.inner) (take n c.read.new.buf)) c.if-count-eq0.true c.in-Ok.ensures.bytes.0
 
 -- the answer to the last line stopped
-stopped_at_end : (g : given.Over) (c : goal.After-drop-line-then-count-eq0 g) → StopLeaves c.finish.result (g.R.Read.remaining c.args.input.now.inner) (g.R.Read.remaining c.read.new.self.inner) (g.W.Write.contents c.args.output.now.inner) (g.W.Write.contents c.finish.new.output.inner) c.finish.new.output.failed
+stopped_at_end : (g : given.Over) (c : goal.After-drop-line-then-count-eq0-2 g) → StopLeaves c.finish.result (g.R.Read.remaining c.args.input.now.inner) (g.R.Read.remaining c.read.new.self.inner) (g.W.Write.contents c.args.output.now.inner) (g.W.Write.contents c.finish.new.output.inner) c.finish.new.output.failed
 stopped_at_end g c =
     let running = c.loop-turn.invariant.running in
     StopLeaves-IsStop c.finish.result (g.R.Read.remaining c.read.new.self.inner) (g.W.Write.contents c.finish.new.output.inner) c.finish.new.output.failed running.took [] running (none_left g c) (sym (append-nil running.took)) (c.finish.ensures.stop (g.W.Write.contents c.args.output.now.inner) running.took running.served)

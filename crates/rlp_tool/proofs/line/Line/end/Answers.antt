@@ -3,6 +3,6 @@ use Rattle.std.proofs.Common.{◌++◌}
 use Rattle.rlp_tool.proofs.ProgressLemmas.{IsAfter-line}
 use Rattle.rlp_tool.proofs.line.Line.end.Goals as goal
 
-pub returns : goal.returns
-returns c text written before one =
-    IsAfter-line c.args.run.now before one (c.in_ok-reply.ensures (last_piece text ++ c.args.run.now) (c.in_ok-extend.ensures (last_piece text) before.line)) c.clear.ensures
+pub returns-clause-ok : goal.returns-clause-ok
+returns-clause-ok c text written before one =
+    IsAfter-line c.args.run.now before one (c.in_ok-reply.ensures.ok (last_piece text ++ c.args.run.now) (c.in_ok-extend.ensures (last_piece text) before.line)) c.clear.ensures
