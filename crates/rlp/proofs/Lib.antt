@@ -23,3 +23,4 @@ pub mod Places
 pub mod ListValues
 pub mod Numbered
 pub mod Awaits
+pub mod Hexes

@@ -1,13 +1,17 @@
 //! The printed text of a view.
 
-ghost use Rattle.std.specs.Prelude.{◌≡◌, ◌<◌, ◌++◌, ◌∷◌, [], codes};
+ghost use Rattle.std.specs.Prelude.{◌≡◌, ◌<◌, ◌≤◌, ◌*◌, ◌++◌, length, codes};
 ghost use Rattle.std.specs.Fmt.{WritesStyledOnOk};
-ghost use Rattle.rlp.specs.Text.{hex, hex_digit, hex_pair, text};
+ghost use Rattle.rlp.specs.Text.{hex, hex_digit, text};
 
 use crate::rlpin::items::split_first;
 use crate::rlpin::view::Rlp;
 use std::fmt;
 use std::fmt::Display;
+use std::str::from_utf8;
+
+/// How many bytes are written at once as digits.
+const AT_ONCE: usize = 64;
 
 /// `null` for no bytes, `"0x` and the digits of a string, `[`, the texts of a list's items with `,
 /// ` between and `]`. Bytes that aren't framed print the name of their fault, as
@@ -65,38 +69,49 @@ fn write_string<W: fmt::Write>(f: &mut fmt::Formatter<W>, value: &[u8]) -> fmt::
 fn write_hex<W: fmt::Write>(f: &mut fmt::Formatter<W>, bytes: &[u8]) -> fmt::Result
     ensures { WritesStyledOnOk W.write_str_gives f.old result (hex bytes.now) f.new }
 {
-    for byte in bytes {
-        write_pair(f, *byte)?;
+    let mut rest = bytes;
+    while rest.len() > AT_ONCE {
+        let (front, after) = rest.split_at(AT_ONCE);
+        write_few(f, front)?;
+        rest = after;
     }
-    Ok(())
+    write_few(f, rest)
 }
 
-/// Writes a byte as two digits.
-fn write_pair<W: fmt::Write>(f: &mut fmt::Formatter<W>, byte: u8) -> fmt::Result
-    ensures { WritesStyledOnOk W.write_str_gives f.old result (hex_pair byte) f.new }
+/// Writes each of a few bytes as two digits, in one piece.
+fn write_few<W: fmt::Write>(f: &mut fmt::Formatter<W>, bytes: &[u8]) -> fmt::Result
+    requires { length bytes.now ≤ 64 }
+    ensures { WritesStyledOnOk W.write_str_gives f.old result (hex bytes.now) f.new }
 {
-    write_digit(f, byte / 16)?;
-    write_digit(f, byte % 16)
+    let mut room = [0u8; 2 * AT_ONCE];
+    let digits = &mut room[..2 * bytes.len()];
+    put_digits(bytes, digits);
+    match from_utf8(digits) {
+        Ok(digits) => f.write_str(digits),
+        Err(_) => Err(fmt::Error),
+    }
 }
 
-/// Writes one digit.
-#[tactic(auto, using(std::proofs::lemmas::Str::encode_ascii))]
-fn write_digit<W: fmt::Write>(f: &mut fmt::Formatter<W>, digit: u8) -> fmt::Result
-    requires { digit < 16 }
-    ensures { WritesStyledOnOk W.write_str_gives f.old result (hex_digit digit ∷ []) f.new }
+/// Fills the room with each byte as two digits.
+fn put_digits(bytes: &[u8], digits: &mut [u8])
+    requires { length digits.old ≡ 2 * length bytes.now }
+    ensures { digits.new ≡ hex bytes.now }
 {
-    f.write_char(digit_char(digit))
+    'bytes: for i in 0..bytes.len() {
+        let byte = bytes[i];
+        digits[2 * i] = digit_char(byte / 16);
+        digits[2 * i + 1] = digit_char(byte % 16);
+    }
 }
 
 /// The character of a digit, in lower case.
-fn digit_char(digit: u8) -> char
+fn digit_char(digit: u8) -> u8
     requires { digit < 16 }
-    ensures value { result ≡ hex_digit digit }
-    ensures ascii { result < 128 }
+    ensures { result ≡ hex_digit digit }
 {
     if digit < 10 {
-        (b'0' + digit) as char
+        b'0' + digit
     } else {
-        (b'a' - 10 + digit) as char
+        b'a' - 10 + digit
     }
 }
