@@ -1,15 +1,20 @@
 -- Lines of a text that grows at its end.
-use Rattle.std.proofs.Common.{ℕ, ◌≡◌, ◌<◌, ◌==◌, nat_lt, cond, Some, None, Bool, true, false, List, [], ◌∷◌, ◌++◌, length, take, get_or, refl, sym, ap, ◌∙◌, append_assoc, append-nil, arith, length-take}
+use Rattle.std.proofs.Common.{ℕ, Option, ◌≡◌, ◌<◌, ◌==◌, nat_lt, cond, Some, None, Bool, true, false, List, [], ◌∷◌, ◌++◌, length, take, get_or, refl, sym, ap, ◌∙◌, append_assoc, append-nil, arith, length-take}
 use Rattle.std.proofs.Math.Seq.{take-append_seam}
 use Rattle.std.proofs.lemmas.List.{get_or-take}
 use Rattle.std.proofs.lemmas.List.Splits.{slice_split-cons_yes, slice_split-cons_no, slice_split_none, length-slice_split}
 use Rattle.std.proofs.lemmas.List.Elements.{All-from_get_or}
 use Rattle.std.proofs.lemmas.Bool.Decides.{nat_tests}
 use Rattle.std.proofs.lemmas.List.Quantifiers.{position-Some}
-use Rattle.std.proofs.lemmas.List.Sums.{fails_before_first}
+use Rattle.std.proofs.lemmas.List.Sums.{fails_before_first, position_or_len_is}
+use Rattle.memchr.specs.Find.{IsFirstByte, is_byte}
 use Rattle.std.specs.List.{onto_first, position, position_or_len}
 use Rattle.rlp_tool.specs.Lines.{pieces, all_but_last, last_of, ended_lines, last_piece, line_of_last, lines}
 use Rattle.rlp_tool.specs.Progress.{IsOnePiece}
+
+is-false : (b : Bool) → (b ≡ true → ⊥) → b ≡ false
+is-false true other = absurd (other refl)
+is-false false other = refl
 
 -- pieces whose first continues another piece
 abbrev onto : List ℕ → List (List ℕ) → List (List ℕ)
@@ -155,3 +160,14 @@ ended_lines-nil = ap all_but_last pieces-nil
 pub last_piece-nil : last_piece [] ≡ []
 unfolding last_piece
 last_piece-nil = ap last_of pieces-nil
+
+-- the first newline that a search finds
+pub first_newline : (bytes : List ℕ) (r : Option ℕ) → IsFirstByte (is_byte 10) bytes r → r ≡ position (λ byte. byte == 10) bytes
+first_newline bytes None h =
+    let all : position_or_len (λ byte. byte == 10) bytes ≡ length bytes = position_or_len_is (λ byte. byte == 10) bytes (length bytes) 0 (omega arith) (λ k lt. is-false (get_or bytes k 0 == 10) (h k (omega arith) lt)) (λ lt. absurd (omega arith)) in
+    grind (arith, all)
+first_newline bytes (Some at) h =
+    let first = h.0 in
+    let found : position_or_len (λ byte. byte == 10) bytes ≡ at = position_or_len_is (λ byte. byte == 10) bytes at 0 (omega (arith, first.high)) (λ k lt. is-false (get_or bytes k 0 == 10) (first.before k (omega arith) lt)) (λ lt. h.1) in
+    let inside : at < length bytes = first.high in
+    grind (arith, found, inside)

@@ -6,6 +6,7 @@ ghost use Rattle.rlp_tool.specs.Lines.{last_piece, unended_line};
 ghost use Rattle.rlp_tool.specs.Progress.{AreSomeReplies, IsOnePiece, IsLine, IsAfter};
 
 use crate::answer::answer_within;
+use memchr::memchr;
 use std::alloc::{AllocError, Global};
 
 /// The most bytes that a line may have, its newline not counted.
@@ -140,8 +141,9 @@ impl Line {
 }
 
 /// Where the first newline is.
+#[tactic(auto, using(crate::proofs::LinesLemmas::first_newline))]
 fn newline_at(bytes: &[u8]) -> Option<usize>
     ensures { result ≡ position (λ byte. byte == 10) bytes.now }
 {
-    bytes.iter().position(|byte| *byte == b'\n')
+    memchr(b'\n', bytes)
 }
