@@ -49,6 +49,7 @@ impl PayloadInfo {
 }
 
 /// The header, by the table of first bytes.
+#[inline(always)]
 #[tactic(auto, using(crate::proofs::Reading::rows), unfolding(crate::specs::Header::header))]
 fn by_first_byte(bytes: &[u8]) -> Result<PayloadInfo, DecoderError>
     ensures { result ≡ header bytes.now }
@@ -119,6 +120,7 @@ pub(crate) fn number_of(digits: &[u8]) -> usize
 }
 
 /// The header of framed bytes, or why they aren't framed.
+#[inline(always)]
 #[tactic(auto, unfolding(crate::specs::Framing::framing))]
 pub(crate) fn framing_of(bytes: &[u8]) -> Result<PayloadInfo, DecoderError>
     ensures exact { result ≡ framing bytes.now }

@@ -11,6 +11,7 @@ use crate::rlpin::header::framing_of;
 use crate::rlpin::view::Rlp;
 
 /// The first item of a payload and the bytes after it, or why no item stands there.
+#[inline(always)]
 pub(crate) fn take_item<'a>(payload: &'a [u8]) -> Result<(Rlp<'a>, &'a [u8]), DecoderError>
     ensures parts { MatchResult result (λ r. split payload.now ≡ r.0.bytes ∷ split r.1.now)
         (λ _. split payload.now ≡ []) }
@@ -28,6 +29,7 @@ pub(crate) fn take_item<'a>(payload: &'a [u8]) -> Result<(Rlp<'a>, &'a [u8]), De
 }
 
 /// The first item of a payload and the bytes after it, or `None` where no item stands there.
+#[inline(always)]
 pub(crate) fn split_first<'a>(payload: &'a [u8]) -> Option<(Rlp<'a>, &'a [u8])>
     ensures parts { MatchOption result (split payload.now ≡ [])
         (λ r. split payload.now ≡ r.0.bytes ∷ split r.1.now) }
