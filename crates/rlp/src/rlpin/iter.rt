@@ -1,9 +1,8 @@
 //! The items of a view, one by one.
 
-ghost use Rattle.std.specs.Prelude.{◌≡◌, ◌∷◌, [], ◌+◌, ◌<◌, ◌≤◌, ◌^◌, length, drop, MatchOption, IfSome, Some};
+ghost use Rattle.std.specs.Prelude.{◌≡◌, ◌<◌, ◌^◌, length, IfSome, Some};
 ghost use Rattle.std.specs.Iterator.{YieldsFirst, item_count, UpTo, at_most};
 ghost use Rattle.std.specs.Iterator.SizeHint.{IsWithinCount};
-ghost use Rattle.rlp.specs.Split.{items};
 ghost use Rattle.rlp.specs.View.{item_views};
 
 use crate::rlpin::items::{count_items, split_first};
@@ -29,23 +28,6 @@ impl<'a> Rlp<'a> {
         let _most = self.payload().len();
         self.into_iter()
     }
-
-    /// The item at a place, by a walk from the first one.
-    #[tactic(auto, unfolding(crate::specs::Split::items), using(crate::proofs::Splits::splits))]
-    fn item_at(&self, index: usize) -> Option<Rlp<'a>>
-        ensures fits { IfSome result (λ _. index + 1 < 2 ^ 64) }
-        ensures item { MatchOption result (drop index (item_views self.now) ≡ [])
-            (λ x. drop index (item_views self.now) ≡ x ∷ drop (index + 1) (item_views self.now)) }
-    {
-        let mut rest = self.payload();
-        let _most = rest.len();
-        for _i in 0..index {
-            let (_, others) = split_first(rest)?;
-            rest = others;
-        }
-        let (item, _) = split_first(rest)?;
-        Some(item)
-    }
 }
 
 /// The items of a view, in order. Contracts see it as the record `Remaining` of the views that it
@@ -53,18 +35,20 @@ impl<'a> Rlp<'a> {
 #[derive(Drop)]
 pub struct RlpIterator<'a, 'view> {
     rlp: &'view Rlp<'a>,
-    index: usize,
+    // What of the payload follows the items that were given.
+    rest: &'a [u8],
 }
 
 impl<'a, 'view> Model for RlpIterator<'a, 'view> {
-    ghost use Rattle.std.specs.Prelude.{drop, ◌≤◌, length};
-    ghost use Rattle.rlp.specs.View.{Remaining, item_views};
+    ghost use Rattle.std.specs.Prelude.{map};
+    ghost use Rattle.rlp.specs.Split.{split};
+    ghost use Rattle.rlp.specs.View.{Remaining};
 
     ghost Value = { Remaining };
 
-    ghost view = { λ i. record { left = drop i.index (item_views i.rlp.now) } };
-
-    ghost invariant = { λ i. i.index ≤ length (item_views i.rlp.now) };
+    ghost view = { λ i. record {
+      left = map (λ b. record i.rlp.now { bytes = b }) (split i.rest.now);
+    } };
 }
 
 impl<'a, 'view> Iterator for RlpIterator<'a, 'view> {
@@ -75,8 +59,8 @@ impl<'a, 'view> Iterator for RlpIterator<'a, 'view> {
     ghost remaining = { item_count (λ i. i.left) };
 
     fn next(&mut self) -> Option<Rlp<'a>> {
-        let item = self.rlp.item_at(self.index)?;
-        self.index += 1;
+        let (item, others) = split_first(self.rest)?;
+        self.rest = others;
         Some(item)
     }
 
@@ -106,7 +90,7 @@ impl<'a, 'view> RlpIterator<'a, 'view> {
     fn count_left(&self) -> usize
         ensures { result ≡ length self.now.left }
     {
-        count_items(self.rlp.payload()) - self.index
+        count_items(self.rest)
     }
 }
 
@@ -117,10 +101,11 @@ impl<'a, 'view> IntoIterator for &'view Rlp<'a> {
 
     ghost into_iter_gives = { λ r i. i.left ≡ item_views r.now };
 
+    #[tactic(auto, unfolding(crate::specs::Split::items))]
     fn into_iter(self) -> RlpIterator<'a, 'view> {
         RlpIterator {
             rlp: self,
-            index: 0,
+            rest: self.payload(),
         }
     }
 }
