@@ -1,7 +1,9 @@
 -- Which states a state grows to. Whoever writes an `Encodable` needs the ruleset `growth`.
-use Rattle.std.proofs.Common.{◌≡◌, ℕ, List, [], ◌∷◌, ◌++◌, Option, refl, sym, ◌∙◌, subst, append-nil, append_assoc}
+use Rattle.std.proofs.Common.{◌≡◌, ℕ, true, false, List, [], ◌∷◌, ◌++◌, Option, refl, sym, ap, ◌∙◌, subst, append-nil, append_assoc}
+use Rattle.rlp.specs.Item.{Item, string, list}
+use Rattle.rlp.specs.Encoding.{encoding}
 use Rattle.rlp.specs.Stack.{OpenList}
-use Rattle.rlp.specs.Stream.{State, put, with_list}
+use Rattle.rlp.specs.Stream.{State, put, with_list, put_item}
 use Rattle.rlp.specs.Growth.{AreSameAround, Stands, GrowsTo}
 use Rattle.rlp.specs.Growth.Stands.{here, within}
 
@@ -22,6 +24,15 @@ grows_same s t e = subst (λ (u : State). GrowsTo s u) (sym e) (record { front =
 -- more bytes in the innermost payload
 pub grows_put : (s t : State) (x : List ℕ) → t ≡ put x s → GrowsTo s t
 grows_put s t x e = subst (λ (u : State). GrowsTo s u) (sym e) (record { front = refl; stands = stands_more s.stack.inner x s.stack.lists })
+
+-- one more open list, with something in it
+pub grows_in_list : (s t : State) (l : OpenList ℕ) → t.front ≡ s.front → t.stack.lists ≡ l ∷ s.stack.lists → l.outer ≡ s.stack.inner → GrowsTo s t
+grows_in_list s t l front lists outer =
+    let inside : Stands s.stack.inner s.stack.lists l.outer s.stack.lists = subst (λ (q : List ℕ). Stands s.stack.inner s.stack.lists q s.stack.lists) (sym outer) (stands_same s.stack.inner s.stack.lists) in
+    record {
+      front = front;
+      stands = subst (λ (ls : List (OpenList ℕ)). Stands s.stack.inner s.stack.lists t.stack.inner ls) (sym lists) (within t.stack.inner l s.stack.lists inside);
+    }
 
 -- one more open list
 pub grows_with_list : (s t : State) (awaits : Option ℕ) → t ≡ with_list awaits s → GrowsTo s t
@@ -54,4 +65,12 @@ pub grows_trans : (s t u : State) → GrowsTo s t → GrowsTo t u → GrowsTo s 
 grows_trans s t u g h =
     record { front = h.front ∙ g.front; stands = stands_trans s.stack.inner s.stack.lists t.stack.inner t.stack.lists g.stands h.stands }
 
-pub ruleset growth = (grows_same, grows_put, grows_with_list, grows_trans)
+-- what a value put, where it left the mark false: it was a string
+unmarked_put : (x : Item) (s t : State) → t ≡ put_item x s → t.mark ≡ false → t ≡ put (encoding x) s
+unmarked_put (string b) s t is unmarked = is
+unmarked_put (list xs) s t is unmarked = absurd (let marked : true ≡ false = sym (ap (λ (u : State). u.mark) is) ∙ unmarked in let no : ⊥ = cc in no)
+
+pub grows_unmarked : (x : Item) (s t u : State) → t ≡ put_item x s → t.mark ≡ false → u ≡ t → GrowsTo s u
+grows_unmarked x s t u is unmarked e = grows_put s u (encoding x) (e ∙ unmarked_put x s t is unmarked)
+
+pub ruleset growth = (grows_same, grows_put, grows_with_list, grows_in_list, grows_trans)

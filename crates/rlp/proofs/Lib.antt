@@ -24,3 +24,9 @@ pub mod ListValues
 pub mod Numbered
 pub mod Awaits
 pub mod Hexes
+pub mod Closing
+pub mod Laid
+pub mod Opened
+pub mod ClosedSize
+pub mod Listed
+pub mod Filling

@@ -1,11 +1,13 @@
 -- What moves do to the texts of a stream's state.
-use Rattle.std.proofs.Common.{◌≡◌, ℕ, ◌+◌, Bool, true, false, cond, List, [], ◌∷◌, ◌++◌, length, replicate, flat_map, Option, refl, sym, ap, ◌∙◌, append-nil, append_assoc, length-append}
+use Rattle.std.proofs.Common.{◌≡◌, ℕ, ◌+◌, ◌<◌, ◌^◌, nat_le, arith, Bool, true, false, cond, List, [], ◌∷◌, ◌++◌, length, replicate, flat_map, Option, refl, sym, ap, ◌∙◌, append-nil, append_assoc, length-append}
+use Rattle.std.proofs.lemmas.Bool.Decides.{nat_tests}
 use Rattle.std.proofs.lemmas.List.{length-replicate}
 use Rattle.std.proofs.lemmas.List.Concat.{flat_map-append}
 use Rattle.rlp.specs.Item.{Item, string, list}
 use Rattle.rlp.specs.WrittenHeader.{written_header}
 use Rattle.rlp.specs.Encoding.{encoding}
 use Rattle.rlp.specs.Stack.{OpenList, Level, Stack, top_around, levels_around, closed_payload_around, count_around, is_last}
+use Rattle.rlp.specs.Calls.{effect, finalize_unbounded_list, is_within_size}
 use Rattle.rlp.specs.Stream.{State, IsFinished, list_encoding, put, shut, count, with_list, add, put_item, is_list, raw_text, closed_text, closed_size, closed_size_with}
 
 -- ---- what is closed
@@ -46,6 +48,30 @@ pub closed_size-put : (x : List ℕ) (s : State) → closed_size (put x s) ≡ c
 closed_size-put x s =
     length-closed_payload_around (s.stack.inner ++ x) (s.stack.inner ++ replicate (length x) 0) s.stack.lists
     (length-append s.stack.inner x ∙ ap (λ n. length s.stack.inner + n) (sym (length-replicate (length x) 0)) ∙ sym (length-append s.stack.inner (replicate (length x) 0)))
+
+-- finalizing a list closes it, and counts it in the list around
+pub size_kept : (s t : State) → t ≡ effect finalize_unbounded_list s → closed_size t ≡ closed_size s
+size_kept s t e = ap closed_size e ∙ ap length (closed_text-count 1 (shut s) ∙ closed_text-shut s)
+
+-- the test of a size that was found, and of one that is too large to be found
+pub within_size-found : (bytes : List ℕ) (limit size : ℕ) (s : State) → size ≡ closed_size_with (length bytes) s → nat_le size limit ≡ is_within_size bytes limit s
+within_size-found bytes limit size s e = ap (λ n. nat_le n limit) (e ∙ sym (closed_size-put bytes s))
+
+pub within_size-too_large : (bytes : List ℕ) (limit : ℕ) (s : State) → limit < 2 ^ 64 → ¬ (closed_size_with (length bytes) s < 2 ^ 64) → is_within_size bytes limit s ≡ false
+within_size-too_large bytes limit s small large =
+    let same = closed_size-put bytes s in
+    let above : ¬ (closed_size (put bytes s) < 2 ^ 64) = rw same large in
+    grind (arith, nat_tests)
+
+pub ruleset within_size = (within_size-found, within_size-too_large)
+
+-- with no list open, all that was written is closed
+pub closed_text-finished : (s : State) → IsFinished s → closed_text s ≡ s.stack.inner
+closed_text-finished s e = ap (closed_payload_around list_encoding s.stack.inner) e
+
+-- the front and what is closed are all the bytes then
+pub out_size : (s : State) → IsFinished s → length (s.front ++ s.stack.inner) ≡ length s.front + closed_size s
+out_size s e = length-append s.front s.stack.inner ∙ ap (λ b. length s.front + length b) (sym (closed_text-finished s e))
 
 -- ---- the bytes
 

@@ -16,5 +16,8 @@ pub mod Growth
 pub mod Calls
 pub mod Layout
 pub mod Chain
+pub mod Iterated
 pub mod Described
 pub mod ListReading
+pub mod Placeholders
+pub mod Closing

@@ -120,3 +120,8 @@ is_unbounded (l ∷ ls) = none_in l.awaits
     none_in : Option ℕ → Bool
     none_in None = true
     none_in (Some n) = false
+
+-- what the innermost open list awaits, if one is open and has a bound
+abbrev pub awaited : {A : Type 0} → List (OpenList A) → Option ℕ
+awaited [] = None
+awaited (l ∷ ls) = l.awaits

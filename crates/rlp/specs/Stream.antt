@@ -11,10 +11,15 @@ pub record State : Type 0 where
   pub stack : Stack ℕ
   pub mark : Bool
 
--- What clauses see of a stream: its state, and how many more bytes its buffer takes with no allocation.
+-- What clauses see of a stream: its state; how many more bytes its buffer takes with no allocation; and how many payload bytes its closings have moved.
 pub record Seen : Type 0 where
   pub state : State
   pub spare : ℕ
+  pub moved : ℕ
+
+-- The state is the old one, the mark included, and no payload byte was moved. The room may be another.
+abbrev pub IsAsBefore : Seen → Seen → Type 0
+IsAsBefore old new = (new.state ≡ old.state) × (new.moved ≡ old.moved)
 
 -- a new stream over these bytes
 abbrev pub initial_state : List ℕ → State
@@ -64,6 +69,11 @@ add x s = let counted : State = count 1 (put (encoding x) (with_mark false s)) i
 -- What a value's `rlp_append` does. The encoding of a string is put, and nothing else changes. That of a list is put, one is counted, and the mark is true.
 abbrev pub put_item : Item → State → State
 put_item x s = if is_list x then with_mark true (count 1 (put (encoding x) s)) else put (encoding x) s
+
+-- items appended, one after another
+abbrev pub add_all : List Item → State → State
+add_all [] s = s
+add_all (x ∷ xs) s = add_all xs (add x s)
 
 -- ---- texts
 

@@ -12,7 +12,8 @@
 //! ```
 #![tactic(auto)]
 
-ghost use Rattle.std.specs.Prelude.{◌≡◌, IfOk, IfErr, IsTrue, OnOk, ◌⊎◌};
+ghost use Rattle.std.specs.Prelude.{◌≡◌, IfOk, IfErr, IsTrue, OnOk, ◌⊎◌, map, All};
+ghost use Rattle.rlp.specs.Item.{list_of};
 ghost use Rattle.rlp.specs.Encoding.{encoding};
 ghost use Rattle.rlp.specs.declared.error.DecoderError.TheVariants.{OutOfMemory};
 ghost use Rattle.rlp.specs.ListReading.{FaultsFirst, GivesEach};
@@ -50,6 +51,21 @@ pub fn encode<E: Encodable>(alloc: Global, object: &E) -> Result<BytesMut, Alloc
     ensures bytes { IfOk result (λ b. b.items ≡ encoding (E.item object.now)) }
 {
     object.rlp_bytes(alloc)
+}
+
+/// The encoding of the list of the values. `AllocError` as for [`encode`].
+///
+/// ```rust
+/// assert_eq!(rt; rlp::encode_list(alloc, &["cat", "dog"])?.len(), 9);
+/// ```
+pub fn encode_list<E: Encodable>(alloc: Global, object: &[E]) -> Result<BytesMut, AllocError>
+    ensures fits { OnOk result (All E.fits object.now) }
+    ensures bytes { IfOk result
+        (λ b. b.items ≡ encoding (list_of (map E.item object.now))) }
+{
+    let mut s = RlpStream::new(alloc)?;
+    s.append_list(object)?;
+    Ok(s.out())
 }
 
 /// The value that the bytes begin with, as its type reads it: [`Decodable::decode`] of a view of

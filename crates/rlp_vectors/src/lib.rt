@@ -10,12 +10,14 @@ use bytes::BytesMut;
 use rlp::{DecoderError, Encodable, Rlp, RlpStream};
 use std::alloc::{AllocError, Global};
 
+mod couple;
 #[cfg(test)]
 mod decoding;
 mod nonce;
 mod refusing;
 mod uses;
 
+pub use couple::{Alone, Couple, append_list_in_list, write_list_in_list};
 pub use nonce::Nonce;
 pub use refusing::Refusing;
 pub use uses::{append_by_stream, append_each, chain_and_encoder};

@@ -1,6 +1,6 @@
 //! Laws over the state of a stream.
 
-ghost use Rattle.std.specs.Prelude.{◌≡◌, ℕ, List, [], ◌∷◌, ◌++◌, length, Option};
+ghost use Rattle.std.specs.Prelude.{◌≡◌, ℕ, List, [], ◌∷◌, ◌++◌, ◌+◌, length, Option};
 ghost use Rattle.rlp.specs.Item.{Item, string, list_of};
 ghost use Rattle.rlp.specs.Encoding.{encoding};
 ghost use Rattle.rlp.specs.Stream.{State, IsFinished, put, shut, count, with_list, add, put_item, is_list, raw_text, closed_text, closed_size, closed_size_with};
@@ -44,6 +44,12 @@ pub fn finished_streams_gain_encodings()
         ≡ record { front = s.front; stack = record { inner = s.stack.inner ++ encoding x; lists = [] }; mark = is_list x } }
     ensures put_item { (x : Item) (s : State) → IsFinished s
         → (put_item x s).stack ≡ record { inner = s.stack.inner ++ encoding x; lists = [] } }
+{}
+
+/// With no list open, the front and what is closed are all the bytes that there are.
+pub fn finished_streams_have_their_closed_size()
+    ensures { (s : State) → IsFinished s
+        → length (s.front ++ s.stack.inner) ≡ length s.front + closed_size s }
 {}
 
 /// A state grows to itself, and growth goes on.

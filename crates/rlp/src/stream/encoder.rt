@@ -1,17 +1,25 @@
-//! Strings as bytes of a stream.
+//! Strings that are written uncounted.
 
-ghost use Rattle.std.specs.Prelude.{◌≡◌, OnOk, OnErr, ◌++◌};
+ghost use Rattle.std.specs.Prelude.{◌≡◌, ◌<◌, ℕ, List, OnOk, OnErr, length};
+ghost use Rattle.std.specs.Iterator.{IsFiniteIterable};
 ghost use Rattle.rlp.specs.Item.{string};
-ghost use Rattle.rlp.specs.Encoding.{encoding, is_low_byte};
-ghost use Rattle.rlp.specs.Stream.{put};
+ghost use Rattle.rlp.specs.Encoding.{encoding};
+ghost use Rattle.rlp.specs.Calls.{effect, encode_value};
+ghost use Rattle.rlp.specs.Stream.{IsAsBefore};
+ghost use Rattle.rlp.specs.Iterated.{GivesAll};
 
 use crate::stream::RlpStream;
-use crate::stream::header::string_header;
-use bytes::BytesMut;
 use std::alloc::AllocError;
 
 /// A writer of strings into a stream that it borrows. What it writes isn't counted, and the mark
 /// stays. [`crate::Encodable::rlp_append`] of a type that is a string writes by it.
+///
+/// ```rust
+/// let mut s = rlp::RlpStream::new_list(alloc, 1)?;
+/// s.encoder().encode_value(&[0x01])?;
+/// s.append(&2u64)?;
+/// assert_eq!(rt; s.out().as_slice(), [0xc2, 0x01, 0x02]);
+/// ```
 #[derive(Drop)]
 pub struct BasicEncoder<'a> {
     /// The stream that it writes into.
@@ -20,47 +28,32 @@ pub struct BasicEncoder<'a> {
 
 impl BasicEncoder<'_> {
     /// Puts the encoding of a string behind what stands in the innermost open list, or at the top.
-    /// `AllocError` where memory is refused; then nothing is written.
+    /// `AllocError` where memory is refused, which it is only where the room was less than the
+    /// encoding; then nothing is written.
     pub fn encode_value(&mut self, value: &[u8]) -> Result<(), AllocError>
         ensures same_reference { self.new.stream.ghost_name ≡ self.old.stream.ghost_name }
-        ensures ok { OnOk result
-            (self.new.stream.now.state
-            ≡ put (encoding (string value.now)) self.old.stream.now.state) }
-        ensures refused { OnErr result
-            (self.new.stream.now.state ≡ self.old.stream.now.state) }
+        ensures ok { OnOk result (self.new.stream.now.state
+            ≡ effect (encode_value value.now) self.old.stream.now.state) }
+        ensures refused { OnErr result (IsAsBefore self.old.stream.now self.new.stream.now) }
+        ensures room { OnErr result
+            (self.old.stream.now.spare < length (encoding (string value.now))) }
+        ensures moved { self.new.stream.now.moved ≡ self.old.stream.now.moved }
     {
         self.stream.put_string(value)
     }
-}
 
-/// Whether a string is its own encoding.
-fn is_low_byte(value: &[u8]) -> bool
-    ensures { result ≡ is_low_byte value.now }
-{
-    match value {
-        [byte] => *byte < 0x80,
-        _ => false,
+    /// The same for the string of the bytes that an iterator gives. They are written as they come,
+    /// and the header is made for as many as came. The iterator must end.
+    pub fn encode_iter<I: IntoIterator<Item = u8>>(&mut self, value: I) -> Result<(), AllocError>
+        requires { IsFiniteIterable I.into_iter_gives I.IntoIter.can_next I.IntoIter.remaining value }
+        ensures same_reference { self.new.stream.ghost_name ≡ self.old.stream.ghost_name }
+        ensures ok { OnOk result ((s : List ℕ)
+            × GivesAll I.into_iter_gives I.IntoIter.next_gives value s
+            × (self.new.stream.now.state
+            ≡ effect (encode_value s) self.old.stream.now.state)) }
+        ensures refused { OnErr result (IsAsBefore self.old.stream.now self.new.stream.now) }
+        ensures moved { self.new.stream.now.moved ≡ self.old.stream.now.moved }
+    {
+        self.stream.put_string_of(value)
     }
-}
-
-/// Writes the encoding of a string at the end of a buffer, after room was made for all of it: the
-/// header, which is computed before, and then the string by one copy.
-#[tactic(auto, using(crate::proofs::Written::written))]
-pub(crate) fn write_string(buffer: &mut BytesMut, value: &[u8]) -> Result<(), AllocError>
-    ensures ok { OnOk result
-        (buffer.new.items ≡ buffer.old.items ++ encoding (string value.now)) }
-    ensures refused { OnErr result (buffer.new.items ≡ buffer.old.items) }
-{
-    if is_low_byte(value) {
-        buffer.extend_from_slice(value)?;
-        return Ok(());
-    }
-    let header = string_header(value.len());
-    let Some(total) = header.as_slice().len().checked_add(value.len()) else {
-        return Err(AllocError);
-    };
-    buffer.reserve(total)?;
-    buffer.extend_reserved(header.as_slice());
-    buffer.extend_reserved(value);
-    Ok(())
 }

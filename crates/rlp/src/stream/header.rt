@@ -1,6 +1,6 @@
 //! Headers as they are written.
 
-ghost use Rattle.std.specs.Prelude.{◌≡◌, ◌+◌, ◌<◌, length, drop};
+ghost use Rattle.std.specs.Prelude.{◌≡◌, ◌+◌, ◌<◌, ◌≤◌, length, drop};
 ghost use Rattle.std.specs.Int.{w64, to_be_bytes};
 ghost use Rattle.rlp.specs.WrittenHeader.{big_endian, written_header};
 
@@ -36,23 +36,51 @@ impl HeaderBytes {
 }
 
 /// The header of a string of so many bytes.
-#[tactic(auto, using(crate::proofs::Written::written))]
 pub(crate) fn string_header(len: usize) -> HeaderBytes
     ensures { result ≡ written_header 0x80 len }
 {
+    header(0x80, len)
+}
+
+/// The header of a list whose payload has so many bytes.
+pub(crate) fn list_header(len: usize) -> HeaderBytes
+    ensures { result ≡ written_header 0xc0 len }
+{
+    header(0xc0, len)
+}
+
+/// The header of a payload of so many bytes, where short ones have their length added to `base`.
+#[tactic(auto, using(crate::proofs::Written::written))]
+fn header(base: u8, len: usize) -> HeaderBytes
+    requires { base ≤ 0xc0 }
+    ensures { result ≡ written_header base len }
+{
     let mut bytes = [0; 9];
     if len <= SHORT {
-        bytes[8] = 0x80 + len as u8;
+        bytes[8] = base + len as u8;
         return HeaderBytes { bytes, start: 8 };
     }
     let number = len as u64;
     let zeros = leading_zero_bytes(number);
     bytes[1..].copy_from_slice(&number.to_be_bytes());
-    bytes[zeros] = 0xb7 + (8 - zeros) as u8;
+    bytes[zeros] = base + 55 + (8 - zeros) as u8;
     HeaderBytes {
         bytes,
         start: zeros,
     }
+}
+
+/// How many bytes the header of a list has whose payload has so many.
+#[tactic(auto, using(crate::proofs::Written::written))]
+pub(crate) fn list_header_len(len: usize) -> usize
+    ensures value { result ≡ length (written_header 0xc0 len) }
+    ensures some { 0 < result }
+    ensures few { result ≤ 9 }
+{
+    if len > SHORT {
+        return 9 - leading_zero_bytes(len as u64);
+    }
+    1
 }
 
 /// How many of a number's eight bytes are zeros in front of its digits.

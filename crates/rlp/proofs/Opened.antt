@@ -1,0 +1,22 @@
+-- A list of so many items, opened or written at once.
+use Rattle.std.proofs.Common.{◌≡◌, ℕ, zero, suc, ◌<◌, true, List, [], ◌∷◌, Some, refl, sym, ◌∙◌, ap, arith}
+use Rattle.rlp.specs.WrittenHeader.{big_endian, written_header}
+use Rattle.rlp.specs.Item.{list_of}
+use Rattle.rlp.specs.Encoding.{encoding, join_items}
+use Rattle.rlp.specs.Stream.{State, put, count, with_list, with_mark}
+use Rattle.rlp.specs.Calls.{with_list_of}
+
+empty_list : encoding (list_of []) ≡ 0xc0 ∷ []
+unfolding encoding join_items written_header big_endian
+empty_list = refl
+
+-- a list of no items
+pub opened_none : (n : ℕ) (s : State) → n ≡ 0 → with_mark true (count 1 (put (0xc0 ∷ []) s)) ≡ with_list_of n s
+opened_none n s e =
+    ap (λ (b : List ℕ). with_mark true (count 1 (put b s))) (sym empty_list) ∙ ap (λ m. with_list_of m s) (sym e)
+
+pub opened_some : (n : ℕ) (s : State) → 0 < n → with_list (Some n) s ≡ with_list_of n s
+opened_some zero s some = absurd (omega arith)
+opened_some (suc n) s some = refl
+
+pub ruleset opened = (opened_none, opened_some)

@@ -1,0 +1,209 @@
+//! Closing open lists, all that a call closes in one pass over their bytes.
+
+ghost use Rattle.std.specs.Prelude.{◌≡◌, ◌+◌, ◌*◌, ◌^◌, ◌<◌, ◌≤◌, nat_lt, [], ◌++◌, length, take, drop, reverse, OnOk, OnErr, IfOk};
+ghost use Rattle.std.specs.Option.{SomeIff};
+ghost use Rattle.rlp.specs.Stack.{is_last};
+ghost use Rattle.rlp.specs.Placeholders.{Descends};
+ghost use Rattle.rlp.specs.Closing.{filled, counted, closed_bytes, closed_len, growth, left_of};
+
+use crate::stream::header::{list_header, list_header_len};
+use crate::stream::moved::Moved;
+use crate::stream::open_lists::{Placeholder, count_innermost};
+use bytes::BytesMut;
+use std::alloc::AllocError;
+
+// A buffer takes fewer bytes than this.
+const LARGEST: usize = 1 << 63;
+
+/// What counting will do.
+#[derive(Clone, Copy)]
+struct Plan {
+    /// How many lists it closes.
+    closing: usize,
+    /// By how many bytes their headers make the buffer longer.
+    growth: usize,
+}
+
+/// Whether so many items are the last that a list awaits.
+fn is_last(items: usize, awaits: Option<usize>) -> bool
+    ensures { result ≡ is_last items awaits }
+{
+    match awaits {
+        Some(awaited) => awaited <= items,
+        None => false,
+    }
+}
+
+/// Finds how many lists the count of so many items closes, and by how many bytes the buffer grows
+/// then. It goes over these lists from the inside out, and takes no memory.
+fn plan_count(lists: &[Placeholder], end: usize, items: usize) -> Plan
+    requires order { Descends end (reverse lists.now) }
+    requires size { end + 8 * length lists.now < 2 ^ 64 }
+    ensures closing { result.closing ≡ filled items (reverse lists.now) }
+    ensures growth { result.growth ≡ growth (filled items (reverse lists.now)) end 0 (reverse lists.now) }
+    ensures enough { result.closing ≤ length lists.now }
+    ensures small { result.growth ≤ 8 * length lists.now }
+{
+    let mut rest = lists;
+    let mut left = end;
+    let mut tail = 0;
+    let mut counted = items;
+    let mut closing = 0;
+    let mut growth = 0;
+    while let Some((list, outer)) = rest.split_last()
+        && is_last(counted, list.awaits)
+    {
+        let len = left - (list.position + 1) + tail;
+        let header = list_header_len(len);
+        closing += 1;
+        growth += header - 1;
+        tail = header + len;
+        left = list.position;
+        rest = outer;
+        counted = 1;
+    }
+    Plan { closing, growth }
+}
+
+/// How many bytes stand behind `start` once every list is closed, where `more` bytes are put behind
+/// the first `end`. `None` where these are 2^64 or more.
+pub(crate) fn closed_len(
+    lists: &[Placeholder],
+    start: usize,
+    end: usize,
+    more: usize,
+) -> Option<usize>
+    requires order { Descends end (reverse lists.now) }
+    requires lowest { start ≤ left_of (length (reverse lists.now)) end (reverse lists.now) }
+    ensures { SomeIff result (closed_len start end more (reverse lists.now) < 2 ^ 64)
+        (closed_len start end more (reverse lists.now)) }
+{
+    let mut rest = lists;
+    let mut left = end;
+    let mut tail = more;
+    while let Some((list, outer)) = rest.split_last() {
+        let Some(len) = (left - (list.position + 1)).checked_add(tail) else {
+            return None;
+        };
+        let Some(written) = list_header_len(len).checked_add(len) else {
+            return None;
+        };
+        tail = written;
+        left = list.position;
+        rest = outer;
+    }
+    (left - start).checked_add(tail)
+}
+
+/// Brings bytes to a later place in the buffer, and adds to `moved` how many. Where they stand
+/// there already, none is moved. No other function moves payload bytes.
+fn shift(bytes: &mut [u8], from: usize, len: usize, to: usize, moved: &mut Moved)
+    requires forward { from ≤ to }
+    requires within { to + len ≤ length bytes.old }
+    ensures bytes { bytes.new
+        ≡ take to bytes.old ++ (take len (drop from bytes.old) ++ drop (to + len) bytes.old) }
+    ensures counted { from < to → moved.new.total ≡ moved.old.total + len }
+    ensures in_place { from ≡ to → moved.new.total ≡ moved.old.total }
+{
+    if from != to {
+        bytes.copy_within(from..from + len, to);
+        moved.add(len);
+    }
+}
+
+/// Writes over the bytes from a place on.
+pub(super) fn write_at(bytes: &mut [u8], at: usize, part: &[u8])
+    requires { at + length part.now ≤ length bytes.old }
+    ensures { bytes.new
+        ≡ take at bytes.old ++ (part.now ++ drop (at + length part.now) bytes.old) }
+{
+    bytes[at..at + part.len()].copy_from_slice(part);
+}
+
+/// Closes the innermost lists, as many as are said. `end` bytes stand in front, and the room for
+/// the growth behind them. Each stretch of payload bytes between two placeholders goes once to its
+/// last place, from the inside out, and each header is written in front of what follows it.
+fn close_lists(
+    bytes: &mut [u8],
+    lists: &mut Vec<Placeholder>,
+    closing: usize,
+    end: usize,
+    moved: &mut Moved,
+)
+    requires order { Descends end (reverse lists.old.items) }
+    requires enough { closing ≤ length lists.old.items }
+    requires room { end + growth closing end 0 (reverse lists.old.items) ≡ length bytes.old }
+    ensures bytes { bytes.new
+        ≡ closed_bytes closing (take end bytes.old) [] (reverse lists.old.items) }
+    ensures lists { reverse lists.new.items ≡ drop closing (reverse lists.old.items) }
+    ensures moved { moved.new.total + left_of closing end (reverse lists.old.items)
+        ≤ moved.old.total + end }
+    ensures in_place { growth closing end 0 (reverse lists.old.items) ≡ 0
+        → moved.new.total ≡ moved.old.total }
+{
+    let mut left = closing;
+    let mut from = end;
+    let mut to = bytes.len();
+    while left > 0
+        && let Some(list) = lists.pop()
+    {
+        let begin = list.position + 1;
+        let len = from - begin;
+        to -= len;
+        shift(bytes, begin, len, to, moved);
+        let written = list_header(bytes.len() - to);
+        let header = written.as_slice();
+        to -= header.len();
+        write_at(bytes, to, header);
+        from = list.position;
+        left -= 1;
+    }
+}
+
+/// Puts bytes behind those of a buffer, and counts so many items in the innermost open list: a list
+/// that is full then is closed, and one item is counted in the list around it, and so on outwards.
+/// Answers whether a list was closed. All room is made before anything changes.
+pub(crate) fn put_counted(
+    buffer: &mut BytesMut,
+    lists: &mut Vec<Placeholder>,
+    bytes: &[u8],
+    items: usize,
+    moved: &mut Moved,
+) -> Result<bool, AllocError>
+    requires order { Descends (length buffer.old.items) (reverse lists.old.items) }
+    ensures bytes { OnOk result (buffer.new.items
+        ≡ closed_bytes (filled items (reverse lists.old.items)) (buffer.old.items ++ bytes.now) []
+        (reverse lists.old.items)) }
+    ensures lists { OnOk result (reverse lists.new.items
+        ≡ counted items (reverse lists.old.items)) }
+    ensures closed { IfOk result (λ closed. closed ≡ nat_lt 0 (filled items (reverse lists.old.items))) }
+    ensures moved { OnOk result
+        (moved.new.total
+        + left_of (filled items (reverse lists.old.items))
+        (length (buffer.old.items ++ bytes.now)) (reverse lists.old.items)
+        ≤ moved.old.total + length (buffer.old.items ++ bytes.now)) }
+    ensures in_place { OnOk result
+        (growth (filled items (reverse lists.old.items))
+        (length (buffer.old.items ++ bytes.now)) 0 (reverse lists.old.items) ≡ 0
+        → moved.new.total ≡ moved.old.total) }
+    ensures refused { OnErr result ((buffer.new.items ≡ buffer.old.items)
+        × (lists.new.items ≡ lists.old.items) × (moved.new.total ≡ moved.old.total)) }
+    ensures room { lists.old.items ≡ [] → OnErr result (buffer.old.spare < length bytes.now) }
+{
+    if lists.is_empty() {
+        buffer.extend_from_slice(bytes)?;
+        return Ok(false);
+    }
+    let end = match buffer.len().checked_add(bytes.len()) {
+        Some(end) if end < LARGEST => end,
+        _ => return Err(AllocError),
+    };
+    let plan = plan_count(lists.as_slice(), end, items);
+    buffer.reserve(bytes.len() + plan.growth)?;
+    buffer.extend_reserved(bytes);
+    buffer.advance_mut(plan.growth);
+    close_lists(buffer.as_mut_slice(), lists, plan.closing, end, moved);
+    let more = if plan.closing == 0 { items } else { 1 };
+    count_innermost(lists, more);
+    Ok(plan.closing > 0)
+}

@@ -1,0 +1,51 @@
+//! The open lists of a stream, as it keeps them: in the order in which they were opened.
+
+ghost use Rattle.std.specs.Prelude.{◌≡◌, reverse, take};
+ghost use Rattle.rlp.specs.Stack.{awaits_after};
+ghost use Rattle.rlp.specs.Placeholders.{with_innermost, innermost_awaits, is_innermost_unbounded};
+
+/// An open list, as a stream keeps it.
+#[derive(Clone, Copy)]
+pub(crate) struct Placeholder {
+    /// Where a byte 0 stands in the place of the list's header.
+    pub(crate) position: usize,
+    /// How many items the list still awaits, or `None` where it has no bound.
+    pub(crate) awaits: Option<usize>,
+}
+
+/// What the innermost list awaits. `None` where it has no bound, and where no list is open.
+pub(crate) fn innermost_awaits(lists: &[Placeholder]) -> Option<usize>
+    ensures { result ≡ innermost_awaits (reverse lists.now) }
+{
+    lists.last()?.awaits
+}
+
+/// Whether a list is open, and the innermost has no bound.
+pub(crate) fn is_unbounded(lists: &[Placeholder]) -> bool
+    ensures { result ≡ is_innermost_unbounded (reverse lists.now) }
+{
+    match lists.last() {
+        Some(list) => list.awaits.is_none(),
+        None => false,
+    }
+}
+
+/// Has the innermost list await so many items.
+pub(crate) fn set_innermost(lists: &mut Vec<Placeholder>, awaits: Option<usize>)
+    ensures { reverse lists.new.items ≡ with_innermost (λ _. awaits) (reverse lists.old.items) }
+{
+    if let Some(list) = lists.last_mut() {
+        list.awaits = awaits;
+    }
+}
+
+/// Counts items in the innermost list, which awaits more than these.
+pub(crate) fn count_innermost(lists: &mut Vec<Placeholder>, items: usize)
+    ensures { reverse lists.new.items ≡ with_innermost (awaits_after items) (reverse lists.old.items) }
+{
+    if let Some(list) = lists.last_mut()
+        && let Some(awaited) = list.awaits
+    {
+        list.awaits = Some(awaited.saturating_sub(items));
+    }
+}

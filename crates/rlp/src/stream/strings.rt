@@ -1,0 +1,137 @@
+//! Encodings of strings at the end of a buffer.
+
+ghost use Rattle.std.specs.Prelude.{◌≡◌, ◌≤◌, ◌<◌, ◌+◌, ◌-◌, ◌++◌, ℕ, List, OnOk, OnErr, length, take, drop};
+ghost use Rattle.std.specs.Iterator.{IsFiniteIterable};
+ghost use Rattle.rlp.specs.Item.{string};
+ghost use Rattle.rlp.specs.Encoding.{encoding, is_low_byte, BeginsWith};
+ghost use Rattle.rlp.specs.Iterated.{GivesAll};
+
+use crate::stream::closing::write_at;
+use crate::stream::header::string_header;
+use bytes::BytesMut;
+use std::alloc::AllocError;
+
+/// Whether a string is its own encoding.
+fn is_low_byte(value: &[u8]) -> bool
+    ensures { result ≡ is_low_byte value.now }
+{
+    match value {
+        [byte] => *byte < 0x80,
+        _ => false,
+    }
+}
+
+/// Writes the encoding of a string at the end of a buffer, after room was made for all of it: the
+/// header, which is computed before, and then the string by one copy.
+#[tactic(auto, using(crate::proofs::Written::written))]
+pub(crate) fn write_string(buffer: &mut BytesMut, value: &[u8]) -> Result<(), AllocError>
+    ensures ok { OnOk result
+        (buffer.new.items ≡ buffer.old.items ++ encoding (string value.now)) }
+    ensures refused { OnErr result (buffer.new.items ≡ buffer.old.items) }
+    ensures room { OnErr result (buffer.old.spare < length (encoding (string value.now))) }
+{
+    if is_low_byte(value) {
+        buffer.extend_from_slice(value)?;
+        return Ok(());
+    }
+    let header = string_header(value.len());
+    buffer.reserve(header.as_slice().len() + value.len())?;
+    buffer.extend_reserved(header.as_slice());
+    buffer.extend_reserved(value);
+    Ok(())
+}
+
+/// Writes the bytes that an iterator gives at the end of a buffer. What is refused may leave some.
+fn write_bytes_of<I: IntoIterator<Item = u8>>(
+    buffer: &mut BytesMut,
+    value: I,
+) -> Result<(), AllocError>
+    requires { IsFiniteIterable I.into_iter_gives I.IntoIter.can_next I.IntoIter.remaining value }
+    ensures ok { OnOk result ((s : List ℕ)
+        × GivesAll I.into_iter_gives I.IntoIter.next_gives value s
+        × (buffer.new.items ≡ buffer.old.items ++ s)) }
+    ensures refused { OnErr result (BeginsWith buffer.new.items buffer.old.items) }
+{
+    for byte in value {
+        buffer.extend_from_slice(&[byte])?;
+    }
+    Ok(())
+}
+
+/// Brings bytes to a later place.
+fn bring(bytes: &mut [u8], from: usize, len: usize, to: usize)
+    requires forward { from ≤ to }
+    requires within { to + len ≤ length bytes.old }
+    ensures { bytes.new
+        ≡ take to bytes.old ++ (take len (drop from bytes.old) ++ drop (to + len) bytes.old) }
+{
+    bytes.copy_within(from..from + len, to);
+}
+
+/// Inserts a part at a place. As many bytes are lost at the end.
+fn insert(bytes: &mut [u8], at: usize, part: &[u8])
+    requires { at + length part.now ≤ length bytes.old }
+    ensures { bytes.new ≡ take at bytes.old
+        ++ (part.now ++ take (length bytes.old - length part.now - at) (drop at bytes.old)) }
+{
+    let len = bytes.len() - part.len() - at;
+    bring(bytes, at, len, at + part.len());
+    write_at(bytes, at, part);
+}
+
+/// Makes an encoding of the string that stands in a buffer from a place on: puts its header before
+/// it, where it isn't its own encoding.
+fn write_header_before(buffer: &mut BytesMut, start: usize) -> Result<(), AllocError>
+    requires { start ≤ length buffer.old.items }
+    ensures ok { OnOk result (buffer.new.items
+        ≡ take start buffer.old.items ++ encoding (string (drop start buffer.old.items))) }
+    ensures refused { OnErr result (buffer.new.items ≡ buffer.old.items) }
+{
+    let string = &buffer.as_slice()[start..];
+    if is_low_byte(string) {
+        return Ok(());
+    }
+    let header = string_header(string.len());
+    buffer.extend_from_slice(header.as_slice())?;
+    insert(buffer.as_mut_slice(), start, header.as_slice());
+    Ok(())
+}
+
+/// Writes the encoding of the string that an iterator gives at the end of a buffer. The bytes are
+/// written as they come, and make place for the header of as many as came.
+pub(crate) fn write_string_of<I: IntoIterator<Item = u8>>(
+    buffer: &mut BytesMut,
+    value: I,
+) -> Result<(), AllocError>
+    requires { IsFiniteIterable I.into_iter_gives I.IntoIter.can_next I.IntoIter.remaining value }
+    ensures ok { OnOk result ((s : List ℕ)
+        × GivesAll I.into_iter_gives I.IntoIter.next_gives value s
+        × (buffer.new.items ≡ buffer.old.items ++ encoding (string s))) }
+    ensures refused { OnErr result (buffer.new.items ≡ buffer.old.items) }
+{
+    let start = buffer.len();
+    match write_parts_of(buffer, value) {
+        Ok(()) => Ok(()),
+        Err(e) => {
+            buffer.truncate(start);
+            Err(e)
+        }
+    }
+}
+
+/// The same, where what is refused may leave some of the bytes.
+fn write_parts_of<I: IntoIterator<Item = u8>>(
+    buffer: &mut BytesMut,
+    value: I,
+) -> Result<(), AllocError>
+    requires { IsFiniteIterable I.into_iter_gives I.IntoIter.can_next I.IntoIter.remaining value }
+    ensures ok { OnOk result ((s : List ℕ)
+        × GivesAll I.into_iter_gives I.IntoIter.next_gives value s
+        × (buffer.new.items ≡ buffer.old.items ++ encoding (string s))) }
+    ensures refused { OnErr result (BeginsWith buffer.new.items buffer.old.items) }
+{
+    let start = buffer.len();
+    write_bytes_of(buffer, value)?;
+    write_header_before(buffer, start)?;
+    Ok(())
+}
