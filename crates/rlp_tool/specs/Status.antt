@@ -1,5 +1,5 @@
 -- The number that a program ends with.
-use Rattle.std.specs.Prelude.{ℕ}
+use Rattle.std.specs.Prelude.{ℕ, Result, Ok, Err}
 use Rattle.rlp_tool.specs.declared.serving.RunFault.{RunFault}
 use Rattle.rlp_tool.specs.declared.serving.RunFault.TheVariants.{Memory, Read, Write}
 
@@ -8,3 +8,8 @@ abbrev pub status_of : RunFault → ℕ
 status_of Memory = 1
 status_of Read = 2
 status_of Write = 3
+
+-- the status that a program ends with after a run
+abbrev pub exit_status : Result (Unit {0}) RunFault → ℕ
+exit_status (Ok end) = 0
+exit_status (Err fault) = status_of fault

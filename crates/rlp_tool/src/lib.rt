@@ -5,8 +5,8 @@ mod answer;
 mod line;
 mod noted;
 mod serving;
-#[cfg(test)]
-mod tests;
+mod status;
 
 pub use noted::Noted;
 pub use serving::{RunFault, run};
+pub use status::exit_status;

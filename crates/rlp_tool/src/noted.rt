@@ -1,4 +1,5 @@
-//! A reader or writer that keeps whether it has failed, and how often it was read.
+//! A reader or writer that keeps whether it has failed, how often it was read, and whether it was
+//! flushed.
 ghost use Rattle.std.specs.Prelude.{◌≡◌, ◌+◌, ◌-◌, ◌^◌, ◌<◌, min, true, false, length, OnOk, OnErr, IfOk, ◌||◌};
 ghost use Rattle.std.specs.Io.KnownBytes.{ReadConsumes, WriteAppends, Keeps};
 ghost use Rattle.std.specs.Io.{ReadsAtMost, WritesAtMost};
@@ -7,12 +8,14 @@ use std::io;
 use std::io::{Read, Write};
 use std::marker::Model;
 
-/// A reader or writer, with whether a call of it has failed, and how many reads were made.
+/// A reader or writer, with whether a call of it has failed, how many reads were made, and whether
+/// it was flushed since the last write that took bytes.
 #[derive(Drop)]
 pub struct Noted<T> {
     inner: T,
     failed: bool,
     reads: u64,
+    flushed: bool,
 }
 
 impl<T> Model for Noted<T> {
@@ -20,20 +23,27 @@ impl<T> Model for Noted<T> {
 
     ghost Value = { Watched T };
 
-    ghost view = { λ n. record { inner = n.inner; failed = n.failed; reads = n.reads } };
+    ghost view = { λ n. record {
+      inner = n.inner;
+      failed = n.failed;
+      reads = n.reads;
+      flushed = n.flushed;
+    } };
 }
 
 impl<T> Noted<T> {
-    /// It has not failed, and no read was made.
+    /// It has not failed, and no read and no flush was made.
     pub fn new(inner: T) -> Noted<T>
         ensures inner { result.inner ≡ inner }
         ensures failed { result.failed ≡ false }
         ensures reads { result.reads ≡ 0 }
+        ensures flushed { result.flushed ≡ false }
     {
         Noted {
             inner,
             failed: false,
             reads: 0,
+            flushed: false,
         }
     }
 
@@ -58,6 +68,13 @@ impl<T> Noted<T> {
         self.reads
     }
 
+    /// Whether a flush was made, and no write took a byte since the last one.
+    pub fn flushed(&self) -> bool
+        ensures { result ≡ self.now.flushed }
+    {
+        self.flushed
+    }
+
     /// From here on it counts as failed, if there was a fault.
     fn note(&mut self, fault: bool)
         ensures { self.new ≡ record self.old { failed = self.old.failed || fault } }
@@ -79,6 +96,7 @@ impl<R: Read> Noted<R> {
         ensures ok { OnOk result (self.new.failed ≡ self.old.failed) }
         ensures err { OnErr result (self.new.failed ≡ true) }
         ensures reads { self.new.reads ≡ min (self.old.reads + 1) (2 ^ 64 - 1) }
+        ensures flushed { self.new.flushed ≡ self.old.flushed }
     {
         self.reads = self.reads.saturating_add(1);
         let result = self.inner.read(buf);
@@ -88,7 +106,8 @@ impl<R: Read> Noted<R> {
 }
 
 impl<W: Write> Noted<W> {
-    /// Writes once, and answers how many bytes were taken.
+    /// Writes once, and answers how many bytes were taken. Where it takes any, it counts as not
+    /// flushed.
     ///
     /// # Errors
     ///
@@ -105,17 +124,22 @@ impl<W: Write> Noted<W> {
             → self.new.failed ≡ true) }
         ensures err { OnErr result (self.new.failed ≡ true) }
         ensures reads { self.new.reads ≡ self.old.reads }
+
+        // Bytes that were taken wait for a flush.
+        ensures unflushed { IfOk result (λ n. 0 < n → self.new.flushed ≡ false) }
+        ensures flushed { IfOk result (λ n. n ≡ 0 → self.new.flushed ≡ self.old.flushed) }
+        ensures flushed_still { OnErr result (self.new.flushed ≡ self.old.flushed) }
     {
         let result = self.inner.write(buf);
-        let fault = match &result {
-            Ok(count) => *count == 0 && !buf.is_empty(),
-            Err(_) => true,
-        };
-        self.note(fault);
+        match &result {
+            Ok(0) => self.note(!buf.is_empty()),
+            Ok(_) => self.flushed = false,
+            Err(_) => self.note(true),
+        }
         result
     }
 
-    /// Flushes.
+    /// Flushes, after which it counts as flushed.
     ///
     /// # Errors
     ///
@@ -125,9 +149,14 @@ impl<W: Write> Noted<W> {
         ensures ok { OnOk result (self.new.failed ≡ self.old.failed) }
         ensures err { OnErr result (self.new.failed ≡ true) }
         ensures reads { self.new.reads ≡ self.old.reads }
+        ensures flushed { OnOk result (self.new.flushed ≡ true) }
+        ensures flushed_still { OnErr result (self.new.flushed ≡ self.old.flushed) }
     {
         let result = self.inner.flush();
-        self.note(result.is_err());
+        match &result {
+            Ok(()) => self.flushed = true,
+            Err(_) => self.note(true),
+        }
         result
     }
 }

@@ -65,6 +65,7 @@ fn write_last<W: Write>(output: &mut Noted<W>, bytes: &[u8]) -> Result<(), RunFa
     ensures ok { OnOk result (Appends (W.contents output.old.inner)
         (W.contents output.new.inner) bytes.now) }
     ensures kept { OnOk result (output.new.failed ≡ output.old.failed) }
+    ensures flushed { OnOk result (output.new.flushed ≡ true) }
     ensures part { OnErr result (AppendsPart (W.contents output.old.inner)
         (W.contents output.new.inner) bytes.now) }
     ensures failed { OnErr result (output.new.failed ≡ true) }
@@ -116,6 +117,7 @@ fn finish<W: Write>(
         → IsServed start (W.contents output.old.inner) text line.old.bytes.items line.old.over
         → OnOk result (Appends start (W.contents output.new.inner) (replies text)) }
     ensures kept { OnOk result (output.new.failed ≡ output.old.failed) }
+    ensures flushed { OnOk result (output.new.flushed ≡ true) }
     ensures stop { (start : Option (List ℕ)) (text : List ℕ)
         → IsServed start (W.contents output.old.inner) text line.old.bytes.items line.old.over
         → IfErr result (λ fault. IsStop fault start
@@ -141,11 +143,13 @@ pub fn run<R: Read, W: Write>(
     requires input { input.old.failed ≡ false }
     requires output { output.old.failed ≡ false }
 
-    // At the end of the input all lines were answered, and neither device had failed.
+    // At the end of the input all lines were answered and the output was flushed, and neither device
+    // had failed.
     ensures ok { OnOk result (AnswersAll
         (R.remaining input.old.inner) (R.remaining input.new.inner)
         (W.contents output.old.inner) (W.contents output.new.inner)) }
     ensures faultless { OnOk result ((input.new.failed ≡ false) × (output.new.failed ≡ false)) }
+    ensures flushed { OnOk result (output.new.flushed ≡ true) }
 
     // What each fault leaves, and which device had failed then.
     ensures memory { result ≡ Err RunFault.Memory → AnswersSome
@@ -161,11 +165,10 @@ pub fn run<R: Read, W: Write>(
         (W.contents output.old.inner) (W.contents output.new.inner) }
     ensures write_only { result ≡ Err RunFault.Write → output.new.failed ≡ true }
 {
-    let _start = input.reads();
     let mut line = Line::new(alloc);
     let mut answers = String::new(alloc);
     let mut buffer = [0u8; CHUNK];
-    for _turn in 0..u64::MAX {
+    'reading: while input.reads() < u64::MAX {
         let count = match input.read(&mut buffer) {
             Ok(count) => count,
             Err(_) => return Err(RunFault::Read),
