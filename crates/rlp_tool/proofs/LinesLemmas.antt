@@ -1,5 +1,5 @@
 -- Lines of a text that grows at its end.
-use Rattle.std.proofs.Common.{ℕ, Option, ◌≡◌, ◌<◌, ◌==◌, nat_lt, cond, Some, None, Bool, true, false, List, [], ◌∷◌, ◌++◌, length, take, get_or, refl, sym, ap, ◌∙◌, append_assoc, append-nil, arith, length-take}
+use Rattle.std.proofs.Common.{ℕ, Option, ◌≡◌, ◌≢◌, ◌<◌, ◌≤◌, ◌==◌, subst, length-append, nat_lt, cond, Some, None, Bool, true, false, List, [], ◌∷◌, ◌++◌, length, take, get_or, refl, sym, ap, ◌∙◌, append_assoc, append-nil, arith, length-take}
 use Rattle.std.proofs.Math.Seq.{take-append_seam}
 use Rattle.std.proofs.lemmas.List.{get_or-take}
 use Rattle.std.proofs.lemmas.List.Splits.{slice_split-cons_yes, slice_split-cons_no, slice_split_none, length-slice_split}
@@ -128,6 +128,57 @@ take-lines t x =
     let grown = ended_lines-append t x in
     ap (λ ls. take (length (ended_lines t)) (ls ++ line_of_last (last_piece (t ++ x)))) grown.1 ∙ ap (take (length (ended_lines t))) (append_assoc (ended_lines t) grown.0 (line_of_last (last_piece (t ++ x)))) ∙ take-append_seam (ended_lines t) (grown.0 ++ line_of_last (last_piece (t ++ x)))
 
+pub length-ended_lines-append : (t x : List ℕ) → length (ended_lines t) ≤ length (ended_lines (t ++ x))
+length-ended_lines-append t x =
+    let grown = ended_lines-append t x in
+    omega (arith, ap length grown.1, length-append (ended_lines t) grown.0)
+
+-- the lines of a text by its pieces
+abbrev lines_of : List (List ℕ) → List (List ℕ)
+lines_of ps = all_but_last ps ++ line_of_last (last_of ps)
+
+lines_of-append : (ps qs : List (List ℕ)) → 0 < length qs → lines_of (ps ++ qs) ≡ ps ++ lines_of qs
+lines_of-append ps qs h = ap (λ l. l ++ line_of_last (last_of (ps ++ qs))) (all_but_last-append ps qs h) ∙ ap (λ l. (ps ++ all_but_last qs) ++ line_of_last l) (last_of-append ps qs h) ∙ append_assoc ps (all_but_last qs) (line_of_last (last_of qs))
+
+length-line_of_last : (piece : List ℕ) → piece ≢ [] → 0 < length (line_of_last piece)
+length-line_of_last [] some = absurd (some refl)
+length-line_of_last (byte ∷ rest) some = omega arith
+
+line_of_longer : (begun : List ℕ) (b : ℕ) (piece : List ℕ) → 0 < length (line_of_last (begun ++ b ∷ piece))
+line_of_longer [] b piece = omega arith
+line_of_longer (x ∷ begun) b piece = omega arith
+
+line_after_newline : (begun : List ℕ) (ps : List (List ℕ)) → 0 < length ps → 0 < length (lines_of (onto begun ([] ∷ ps)))
+line_after_newline begun [] h = absurd (omega arith)
+line_after_newline begun (p ∷ ps) h = omega arith
+
+line_after_byte : (begun : List ℕ) (b : ℕ) (ps : List (List ℕ)) → 0 < length ps → 0 < length (lines_of (onto begun (onto_first b ps)))
+line_after_byte begun b [] h = absurd (omega arith)
+line_after_byte begun b (p ∷ []) h = line_of_longer begun b p
+line_after_byte begun b (p ∷ q ∷ ps) h = omega arith
+
+-- a piece that a byte follows is in a line
+line_of_more : (begun : List ℕ) (b : ℕ) (x : List ℕ) → 0 < length (lines_of (onto begun (pieces (b ∷ x))))
+line_of_more begun b x =
+    let P : List (List ℕ) → Type 0 = λ ps. 0 < length (lines_of (onto begun ps)) in
+    elim (b == 10) as (λ test. (b == 10) ≡ test → 0 < length (lines_of (onto begun (pieces (b ∷ x))))) [
+      | true ↦ λ e. subst P (sym (pieces-cons_yes b x e)) (line_after_newline begun (pieces x) (some_piece x))
+      | false ↦ λ e. subst P (sym (pieces-cons_no b x e)) (line_after_byte begun b (pieces x) (some_piece x))
+    ] refl
+
+-- what follows a text makes a line more than those that are ended
+pub length-lines-more : (t x : List ℕ) → x ≢ [] → length (ended_lines t) < length (lines (t ++ x))
+unfolding ended_lines last_piece
+length-lines-more t [] some = absurd (some refl)
+length-lines-more t (b ∷ x) some =
+    let rest = onto (last_of (pieces t)) (pieces (b ∷ x)) in
+    let whole : lines (t ++ b ∷ x) ≡ all_but_last (pieces t) ++ lines_of rest = ap lines_of (pieces-append t (b ∷ x)) ∙ lines_of-append (all_but_last (pieces t)) rest (length-onto (last_of (pieces t)) (pieces (b ∷ x))) in
+    omega (arith, ap length whole, length-append (all_but_last (pieces t)) (lines_of rest), line_of_more (last_of (pieces t)) b x)
+
+-- a line that has begun is a line more than those that are ended
+pub length-lines-begun : (t : List ℕ) → last_piece t ≢ [] → length (ended_lines t) < length (lines t)
+length-lines-begun t some = omega (arith, length-append (ended_lines t) (line_of_last (last_piece t)), length-line_of_last (last_piece t) some)
+
 -- where no byte is a newline
 one_piece : (xs : List ℕ) → ((k : ℕ) → k < length xs → (get_or xs k 0 == 10) ≡ false) → IsOnePiece xs
 unfolding pieces
@@ -145,6 +196,11 @@ one_piece-take xs at e =
 position-None : (test : Bool) (at : ℕ) → cond test (Some at) None ≡ None → test ≡ false
 position-None true at e = cc
 position-None false at e = refl
+
+-- what a newline is found in has a byte
+pub some_byte : (xs : List ℕ) (at : ℕ) → position (λ byte. byte == 10) xs ≡ Some at → xs ≢ []
+some_byte [] at e = let found = position-Some (λ byte. byte == 10) [] at 0 e in absurd (omega (arith, found.0))
+some_byte (x ∷ xs) at e = λ none. cc
 
 -- bytes without a newline
 pub one_piece-whole : (xs : List ℕ) → position (λ byte. byte == 10) xs ≡ None → IsOnePiece xs

@@ -1,9 +1,9 @@
 -- Steps of the loop over the input.
-use Rattle.std.proofs.Common.{ℕ, ◌≡◌, ◌<◌, Bool, true, false, List, [], ◌∷◌, ◌++◌, length, take, drop, get_or, nat_eq, ◌+◌, ◌-◌, ◌==◌, arith, ◌≢◌, Option, Some, None, Result, Ok, Err, OnOk, OnErr, IfErr, inl, inr, refl, sym, ap, ◌∙◌, append_assoc, append-nil, subst, take-append-drop}
+use Rattle.std.proofs.Common.{ℕ, ◌≡◌, ◌<◌, ◌≤◌, Bool, true, false, List, [], ◌∷◌, ◌++◌, length, take, drop, get_or, nat_eq, ◌+◌, ◌-◌, ◌==◌, arith, ◌≢◌, Option, Some, None, Result, Ok, Err, OnOk, OnErr, IfErr, inl, inr, refl, sym, ap, ◌∙◌, append_assoc, append-nil, subst, take-append-drop}
 use Rattle.std.proofs.Math.Seq.{take-append_seam}
 use Rattle.std.proofs.KnownBytes.{Appends-nil, Appends-trans, Appends-kept, Consumes-nil, Consumes-trans}
 use Rattle.std.specs.Io.KnownBytes.{Appends, Consumes, Keeps, IsAtEnd}
-use Rattle.rlp_tool.specs.Run.{AppendsPart, AnswersAll, AnswersSome, AnswersPart}
+use Rattle.rlp_tool.specs.Run.{AppendsPart, AnswersAll, AnswersBefore, AnswersPart, longest_read}
 use Rattle.rlp_tool.specs.declared.serving.RunFault.{RunFault}
 use Rattle.rlp_tool.specs.declared.serving.RunFault.TheVariants.{Memory, Read, Write}
 use Rattle.std.specs.List.{position}
@@ -12,8 +12,8 @@ use Rattle.std.proofs.lemmas.List.Quantifiers.{position-Some}
 use Rattle.std.proofs.lemmas.List.Concat.{flat_map-append}
 use Rattle.rlp_tool.specs.Lines.{lines, ended_lines, last_piece, line_of_last, unended_line}
 use Rattle.rlp_tool.specs.Replies.{reply, replies_to, replies}
-use Rattle.rlp_tool.specs.Progress.{AreSomeReplies, AppendsSome, IsOnePiece, IsLine, IsAfter, IsServed, IsStop}
-use Rattle.rlp_tool.proofs.LinesLemmas.{ended_lines-run, last_piece-run, ended_lines-line, last_piece-line, one_piece-take, one_piece-whole, is_newline, take-lines, ended_lines-nil, last_piece-nil}
+use Rattle.rlp_tool.specs.Progress.{AreRepliesBefore, AppendsBefore, IsOnePiece, IsLine, IsAfter, IsServed, IsStop}
+use Rattle.rlp_tool.proofs.LinesLemmas.{ended_lines-run, last_piece-run, ended_lines-line, last_piece-line, one_piece-take, one_piece-whole, is_newline, take-lines, length-ended_lines-append, length-lines-more, length-lines-begun, ended_lines-nil, last_piece-nil}
 
 pub replies_to-append : (xs ys : List (List ℕ)) → replies_to (xs ++ ys) ≡ replies_to xs ++ replies_to ys
 unfolding replies_to
@@ -108,18 +108,26 @@ pub OnErr-always : {T E P : Type 0} (result : Result T E) → P → OnErr result
 OnErr-always (Ok value) holds = tt
 OnErr-always (Err error) holds = holds
 
+pub OnErr-step : {T E P Q : Type 0} (result : Result T E) → OnErr result P → (P → Q) → OnErr result Q
+OnErr-step (Ok value) holds step = tt
+OnErr-step (Err error) holds step = step holds
+
 -- memory was refused before the rest
-pub IsFeeding-refused : {waiting kept waiting' kept' bytes : List ℕ} {over over' : Bool} (rest new : List ℕ) → IsFeeding waiting kept over waiting' kept' over' bytes rest → new ≡ waiting' → (text written : List ℕ) → IsAfter text written waiting kept over
-    → AreSomeReplies (text ++ bytes) (written ++ new)
-IsFeeding-refused {bytes = bytes} rest new feeding same text written before =
+pub IsFeeding-refused : {waiting kept waiting' kept' bytes : List ℕ} {over over' : Bool} (rest new : List ℕ) → IsFeeding waiting kept over waiting' kept' over' bytes rest → new ≡ waiting' → (text written : List ℕ) → IsAfter text written waiting kept over → rest ≢ []
+    → AreRepliesBefore text (text ++ bytes) (written ++ new)
+IsFeeding-refused {bytes = bytes} rest new feeding same text written before some =
     let done = feeding.after text written before in
-    let whole : (text ++ feeding.done) ++ rest ≡ text ++ bytes = append_assoc text feeding.done rest ∙ ap (λ t. text ++ t) feeding.parts in
+    let answered = text ++ feeding.done in
+    let whole : answered ++ rest ≡ text ++ bytes = append_assoc text feeding.done rest ∙ ap (λ t. text ++ t) feeding.parts in
+    let IsBelow : List ℕ → Type 0 = λ t. length (ended_lines answered) < length (lines t) in
     record {
-      count = length (ended_lines (text ++ feeding.done));
+      refused = length (ended_lines answered);
+      unended = length-ended_lines-append text feeding.done;
+      is_line = subst IsBelow whole (length-lines-more answered rest some);
       replies =
           ap (λ w. written ++ w) same ∙ done.answered
-          ∙ ap replies_to (sym (take-lines (text ++ feeding.done) rest))
-          ∙ ap (λ t. replies_to (take (length (ended_lines (text ++ feeding.done))) (lines t))) whole;
+          ∙ ap replies_to (sym (take-lines answered rest))
+          ∙ ap (λ t. replies_to (take (length (ended_lines answered)) (lines t))) whole;
     }
 
 -- an empty line that has begun is no line
@@ -149,42 +157,46 @@ IsServed-written (Ok unit) new bytes {start} {old} {text} served after all wrote
 }
 
 -- a writer that failed has a beginning of the replies
-IsStop-front : (result : Result (Unit {0}) RunFault) (start old new : Option (List ℕ)) (failed : Bool) (text front bytes rest : List ℕ) → Appends start old front → (front ++ bytes) ++ rest ≡ replies text → OnErr result (AppendsPart old new bytes) → OnErr result (failed ≡ true) → IfErr result (λ fault. fault ≡ Write) → IfErr result (λ fault. IsStop fault start new text failed)
-IsStop-front (Ok unit) start old new failed text front bytes rest before parts part broken write = tt
-IsStop-front (Err fault) start old new failed text front bytes rest before parts part broken write =
+IsStop-front : (result : Result (Unit {0}) RunFault) (start old new : Option (List ℕ)) (failed : Bool) (earlier text front bytes rest : List ℕ) → Appends start old front → (front ++ bytes) ++ rest ≡ replies text → OnErr result (AppendsPart old new bytes) → OnErr result (failed ≡ true) → IfErr result (λ fault. fault ≡ Write) → IfErr result (λ fault. IsStop fault start new earlier text failed)
+IsStop-front (Ok unit) start old new failed earlier text front bytes rest before parts part broken write = tt
+IsStop-front (Err fault) start old new failed earlier text front bytes rest before parts part broken write =
     let all = front ++ take part.count bytes in
     let split : all ++ (drop part.count bytes ++ rest) ≡ (front ++ bytes) ++ rest = sym (append_assoc all (drop part.count bytes) rest) ∙ ap (λ l. l ++ rest) (append_assoc front (take part.count bytes) (drop part.count bytes) ∙ ap (λ l. front ++ l) (take-append-drop part.count bytes)) in
     inr (write, AppendsPart-front start new all (drop part.count bytes ++ rest) (replies text) (Appends-trans start old new front (take part.count bytes) before part.wrote) (split ∙ parts), broken)
 
 -- the writer failed among the replies to lines that ended
-pub IsStop-written : (result : Result (Unit {0}) RunFault) (new : Option (List ℕ)) (failed : Bool) (bytes : List ℕ) {start old : Option (List ℕ)} {text text' waiting kept kept' : List ℕ} {over over' : Bool} → IsServed start old text kept over → IsAfter text' (replies_to (ended_lines text)) waiting kept' over' → bytes ≡ waiting → OnErr result (AppendsPart old new bytes) → OnErr result (failed ≡ true) → IfErr result (λ fault. fault ≡ Write) → IfErr result (λ fault. IsStop fault start new text' failed)
+pub IsStop-written : (result : Result (Unit {0}) RunFault) (new : Option (List ℕ)) (failed : Bool) (bytes : List ℕ) {start old : Option (List ℕ)} {text text' waiting kept kept' : List ℕ} {over over' : Bool} → IsServed start old text kept over → IsAfter text' (replies_to (ended_lines text)) waiting kept' over' → bytes ≡ waiting → OnErr result (AppendsPart old new bytes) → OnErr result (failed ≡ true) → IfErr result (λ fault. fault ≡ Write) → IfErr result (λ fault. IsStop fault start new text text' failed)
 IsStop-written result new failed bytes {start} {old} {text} {text'} served after all =
     let front = replies_to (ended_lines text) in
     let rest = replies_to (unended_line text') in
-    IsStop-front result start old new failed text' front bytes rest served.wrote (ap (λ w. (front ++ w) ++ rest) all ∙ ap (λ w. w ++ rest) after.answered ∙ sym (replies_to-append (ended_lines text') (unended_line text')))
+    IsStop-front result start old new failed text text' front bytes rest served.wrote (ap (λ w. (front ++ w) ++ rest) all ∙ ap (λ w. w ++ rest) after.answered ∙ sym (replies_to-append (ended_lines text') (unended_line text')))
 
 -- the replies to some first lines begin those to all
 replies_to-take : (count : ℕ) (text : List ℕ) → replies_to (take count (lines text)) ++ replies_to (drop count (lines text)) ≡ replies text
 replies_to-take count text = sym (replies_to-append (take count (lines text)) (drop count (lines text))) ∙ ap replies_to (take-append-drop count (lines text))
 
 -- memory was refused, and what waited before was written, or the writer failed then
-pub IsStop-some : (start old new : Option (List ℕ)) (failed : Bool) (text' bytes waiting : List ℕ) {text kept : List ℕ} {over : Bool} (result : Result (Unit {0}) RunFault) → IsServed start old text kept over → AreSomeReplies text' (replies_to (ended_lines text) ++ waiting) → bytes ≡ waiting
-    → OnErr result (AppendsPart old new bytes) → OnErr result (failed ≡ true) → IfErr result (λ fault. fault ≡ Write) → IfErr result (λ fault. IsStop fault start new text' failed)
+pub IsStop-some : (start old new : Option (List ℕ)) (failed : Bool) (text' bytes waiting : List ℕ) {text kept : List ℕ} {over : Bool} (result : Result (Unit {0}) RunFault) → IsServed start old text kept over → AreRepliesBefore text text' (replies_to (ended_lines text) ++ waiting) → bytes ≡ waiting
+    → OnErr result (AppendsPart old new bytes) → OnErr result (failed ≡ true) → IfErr result (λ fault. fault ≡ Write) → IfErr result (λ fault. IsStop fault start new text text' failed)
 IsStop-some start old new failed text' bytes waiting {text} result served some all =
     let front = replies_to (ended_lines text) in
-    IsStop-front result start old new failed text' front bytes (replies_to (drop some.count (lines text'))) served.wrote
-    (ap (λ w. (front ++ w) ++ replies_to (drop some.count (lines text'))) all ∙ ap (λ w. w ++ replies_to (drop some.count (lines text'))) some.replies ∙ replies_to-take some.count text')
+    IsStop-front result start old new failed text text' front bytes (replies_to (drop some.refused (lines text'))) served.wrote
+    (ap (λ w. (front ++ w) ++ replies_to (drop some.refused (lines text'))) all ∙ ap (λ w. w ++ replies_to (drop some.refused (lines text'))) some.replies ∙ replies_to-take some.refused text')
 
-pub AppendsSome-written : (start old new : Option (List ℕ)) (text' bytes waiting : List ℕ) {text kept : List ℕ} {over : Bool} → IsServed start old text kept over → AreSomeReplies text' (replies_to (ended_lines text) ++ waiting) → bytes ≡ waiting → Appends old new bytes → AppendsSome start new text'
-AppendsSome-written start old new text' bytes waiting {text} served some all wrote = record {
-  count = some.count;
+pub AppendsBefore-written : (start old new : Option (List ℕ)) (text' bytes waiting : List ℕ) {text kept : List ℕ} {over : Bool} → IsServed start old text kept over → AreRepliesBefore text text' (replies_to (ended_lines text) ++ waiting) → bytes ≡ waiting → Appends old new bytes → AppendsBefore start new text text'
+AppendsBefore-written start old new text' bytes waiting {text} served some all wrote = record {
+  refused = some.refused;
+  unended = some.unended;
+  is_line = some.is_line;
   wrote = subst (Appends start new) (ap (λ w. replies_to (ended_lines text) ++ w) all ∙ some.replies) (Appends-trans start old new (replies_to (ended_lines text)) bytes served.wrote wrote);
 }
 
 -- nothing of the last line was written
-pub AppendsSome-served : (start now : Option (List ℕ)) (text : List ℕ) {kept : List ℕ} {over : Bool} → IsServed start now text kept over → AppendsSome start now text
-AppendsSome-served start now text served = record {
-  count = length (ended_lines text);
+pub AppendsBefore-served : (start now : Option (List ℕ)) (text : List ℕ) {kept : List ℕ} {over : Bool} → IsServed start now text kept over → last_piece text ≢ [] → AppendsBefore start now text text
+AppendsBefore-served start now text served some = record {
+  refused = length (ended_lines text);
+  unended = omega arith;
+  is_line = length-lines-begun text some;
   wrote = subst (λ t. Appends start now (replies_to t)) (sym (ap (λ t. take (length (ended_lines text)) (lines t)) (sym (append-nil text)) ∙ take-lines text [])) served.wrote;
 }
 
@@ -193,10 +205,10 @@ replies-parts : (text bytes : List ℕ) → bytes ≡ replies_to (unended_line t
 replies-parts text bytes last = ap (λ w. replies_to (ended_lines text) ++ w) last ∙ sym (replies_to-append (ended_lines text) (unended_line text))
 
 -- the writer failed in the reply to the last line
-pub IsStop-last : (result : Result (Unit {0}) RunFault) (new : Option (List ℕ)) (failed : Bool) (bytes : List ℕ) {start old : Option (List ℕ)} {text kept : List ℕ} {over : Bool} → IsServed start old text kept over → bytes ≡ replies_to (unended_line text) → OnErr result (AppendsPart old new bytes) → OnErr result (failed ≡ true) → IfErr result (λ fault. fault ≡ Write) → IfErr result (λ fault. IsStop fault start new text failed)
+pub IsStop-last : (result : Result (Unit {0}) RunFault) (new : Option (List ℕ)) (failed : Bool) (bytes : List ℕ) {start old : Option (List ℕ)} {text kept : List ℕ} {over : Bool} → IsServed start old text kept over → bytes ≡ replies_to (unended_line text) → OnErr result (AppendsPart old new bytes) → OnErr result (failed ≡ true) → IfErr result (λ fault. fault ≡ Write) → IfErr result (λ fault. IsStop fault start new text text failed)
 IsStop-last result new failed bytes {start} {old} {text} served last =
     let front = replies_to (ended_lines text) in
-    IsStop-front result start old new failed text front bytes [] served.wrote (append-nil (front ++ bytes) ∙ replies-parts text bytes last)
+    IsStop-front result start old new failed text text front bytes [] served.wrote (append-nil (front ++ bytes) ∙ replies-parts text bytes last)
 
 -- the reply to the last line was written
 pub Appends-last : (result : Result (Unit {0}) RunFault) (new : Option (List ℕ)) (bytes : List ℕ) {start old : Option (List ℕ)} {text kept : List ℕ} {over : Bool} → IsServed start old text kept over → bytes ≡ replies_to (unended_line text) → OnOk result (Appends old new bytes) → OnOk result (Appends start new (replies text))
@@ -241,32 +253,36 @@ AnswersAll-end (Ok unit) {in0} {in1} in2 out2 running read end wrote = record {
 
 -- what a stop leaves
 pub record StopLeaves (result : Result (Unit {0}) RunFault) (in0 in1 out0 out1 : Option (List ℕ)) (failed : Bool) : Type 0 where
-  pub memory : result ≡ Err Memory → AnswersSome in0 in1 out0 out1
+  pub memory : result ≡ Err Memory → AnswersBefore in0 in1 out0 out1
   pub not_read : result ≢ Err Read
   pub write : result ≡ Err Write → AnswersPart in0 in1 out0 out1
   pub write_only : result ≡ Err Write → failed ≡ true
 
-pub StopLeaves-IsStop : (result : Result (Unit {0}) RunFault) {in0 in1 out0 out1 : Option (List ℕ)} {kept : List ℕ} {over : Bool} (in2 out2 : Option (List ℕ)) (failed : Bool) (text more : List ℕ) (running : IsRunning in0 in1 out0 out1 kept over) → Consumes in1 in2 more → text ≡ running.took ++ more → IfErr result (λ fault. IsStop fault out0 out2 text failed) → StopLeaves result in0 in2 out0 out2 failed
-StopLeaves-IsStop (Ok unit) in2 out2 failed text more running read whole stop = record {
+pub StopLeaves-IsStop : (result : Result (Unit {0}) RunFault) {in0 in1 out0 out1 : Option (List ℕ)} {kept : List ℕ} {over : Bool} (in2 out2 : Option (List ℕ)) (failed : Bool) (text more : List ℕ) (running : IsRunning in0 in1 out0 out1 kept over) → Consumes in1 in2 more → length more ≤ longest_read → text ≡ running.took ++ more → IfErr result (λ fault. IsStop fault out0 out2 running.took text failed) → StopLeaves result in0 in2 out0 out2 failed
+StopLeaves-IsStop (Ok unit) in2 out2 failed text more running read one_read whole stop = record {
   memory = λ e. absurd (cc);
   not_read = λ e. cc;
   write = λ e. absurd (cc);
   write_only = λ e. absurd (cc);
 }
-StopLeaves-IsStop (Err fault) {in0} {in1} {out0} {out1} in2 out2 failed text more running read whole (inl refused) =
+StopLeaves-IsStop (Err fault) {in0} {in1} {out0} {out1} in2 out2 failed text more running read one_read whole (inl refused) =
     let is : fault ≡ Memory = refused.0 in
     record {
       memory = λ e. record {
-        took = text;
-        read = subst (Consumes in0 in2) (sym whole) (Consumes-trans in0 in1 in2 running.took more running.read read);
-        count = refused.1.count;
-        wrote = refused.1.wrote;
+        earlier = running.took;
+        last = more;
+        read = Consumes-trans in0 in1 in2 running.took more running.read read;
+        one_read = one_read;
+        refused = refused.1.refused;
+        unended = refused.1.unended;
+        is_line = subst (λ t. refused.1.refused < length (lines t)) whole refused.1.is_line;
+        wrote = subst (λ t. Appends out0 out2 (replies_to (take refused.1.refused (lines t)))) whole refused.1.wrote;
       };
       not_read = λ e. cc;
       write = λ e. absurd (cc);
       write_only = λ e. absurd (cc);
     }
-StopLeaves-IsStop (Err fault) {in0} {in1} {out0} {out1} in2 out2 failed text more running read whole (inr broken) =
+StopLeaves-IsStop (Err fault) {in0} {in1} {out0} {out1} in2 out2 failed text more running read one_read whole (inr broken) =
     let is : fault ≡ Write = broken.0 in
     record {
       memory = λ e. absurd (cc);

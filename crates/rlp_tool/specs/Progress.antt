@@ -1,5 +1,5 @@
 -- The bookkeeping of the loop over the input, which only clauses of private functions cite.
-use Rattle.std.specs.Prelude.{ℕ, ◌≡◌, ◌<◌, Bool, true, false, List, [], ◌∷◌, ◌++◌, length, take, Option, ◌⊎◌}
+use Rattle.std.specs.Prelude.{ℕ, ◌≡◌, ◌<◌, ◌≤◌, Bool, true, false, List, [], ◌∷◌, ◌++◌, length, take, Option, ◌⊎◌}
 use Rattle.std.specs.Io.KnownBytes.{Appends}
 use Rattle.rlp_tool.specs.Answer.{longest_line}
 use Rattle.rlp_tool.specs.Lines.{pieces, lines, ended_lines, last_piece}
@@ -27,17 +27,21 @@ pub record IsServed (start now : Option (List ℕ)) (text kept : List ℕ) (over
   pub wrote : Appends start now (replies_to (ended_lines text))
   pub line : IsLine kept over (last_piece text)
 
--- the whole replies to some first lines of a text
-pub record AreSomeReplies (text bytes : List ℕ) : Type 0 where
-  pub count : ℕ
-  pub replies : bytes ≡ replies_to (take count (lines text))
+-- the whole replies to the lines before one of a text, which hadn't ended in the earlier part of the text
+pub record AreRepliesBefore (earlier text bytes : List ℕ) : Type 0 where
+  pub refused : ℕ
+  pub unended : length (ended_lines earlier) ≤ refused
+  pub is_line : refused < length (lines text)
+  pub replies : bytes ≡ replies_to (take refused (lines text))
 
--- the whole replies to some first lines of a text were written
-pub record AppendsSome (start now : Option (List ℕ)) (text : List ℕ) : Type 0 where
-  pub count : ℕ
-  pub wrote : Appends start now (replies_to (take count (lines text)))
+-- such replies were written
+pub record AppendsBefore (start now : Option (List ℕ)) (earlier text : List ℕ) : Type 0 where
+  pub refused : ℕ
+  pub unended : length (ended_lines earlier) ≤ refused
+  pub is_line : refused < length (lines text)
+  pub wrote : Appends start now (replies_to (take refused (lines text)))
 
--- how the answers to a text stop: without memory the whole replies to some first lines were written, and a writer that failed has a beginning of the replies
-abbrev pub IsStop : RunFault → Option (List ℕ) → Option (List ℕ) → List ℕ → Bool → Type 0
-IsStop fault start new text failed =
-    ((fault ≡ Memory) × AppendsSome start new text) ⊎ ((fault ≡ Write) × AppendsPart start new (replies text) × (failed ≡ true))
+-- how the answers to a text stop: without memory the whole replies to the lines before the refused one were written, and a writer that failed has a beginning of the replies
+abbrev pub IsStop : RunFault → Option (List ℕ) → Option (List ℕ) → List ℕ → List ℕ → Bool → Type 0
+IsStop fault start new earlier text failed =
+    ((fault ≡ Memory) × AppendsBefore start new earlier text) ⊎ ((fault ≡ Write) × AppendsPart start new (replies text) × (failed ≡ true))

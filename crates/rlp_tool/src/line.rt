@@ -1,9 +1,9 @@
 //! The line that has begun.
-ghost use Rattle.std.specs.Prelude.{◌≡◌, ◌++◌, ◌+◌, ◌<◌, ◌≤◌, ◌==◌, ℕ, List, [], ◌∷◌, length, position, string_bytes, OnOk, OnErr, IsTrue, ◌↔◌};
+ghost use Rattle.std.specs.Prelude.{◌≡◌, ◌++◌, ◌+◌, ◌≢◌, ◌<◌, ◌≤◌, ◌==◌, ℕ, List, [], ◌∷◌, length, position, string_bytes, OnOk, OnErr, IsTrue, ◌↔◌};
 ghost use Rattle.rlp_tool.specs.Answer.{answer};
 ghost use Rattle.rlp_tool.specs.Replies.{reply, replies_to};
 ghost use Rattle.rlp_tool.specs.Lines.{last_piece, unended_line};
-ghost use Rattle.rlp_tool.specs.Progress.{AreSomeReplies, IsOnePiece, IsLine, IsAfter};
+ghost use Rattle.rlp_tool.specs.Progress.{AreRepliesBefore, IsOnePiece, IsLine, IsAfter};
 
 use crate::answer::answer_within;
 use memchr::memchr;
@@ -35,10 +35,11 @@ impl Line {
 
     /// Adds bytes without a newline.
     fn extend(&mut self, run: &[u8]) -> Result<(), AllocError>
-        ensures { (begun : List ℕ) → IsLine self.old.bytes.items self.old.over begun
+        ensures ok { (begun : List ℕ) → IsLine self.old.bytes.items self.old.over begun
             → OnOk result (IsLine self.new.bytes.items self.new.over (begun ++ run.now)) }
+        ensures refused { OnErr result (run.now ≢ []) }
     {
-        if self.over {
+        if self.over || run.is_empty() {
             return Ok(());
         }
         if run.len() > LONGEST_LINE - self.bytes.len() {
@@ -115,7 +116,7 @@ impl Line {
             self.new.bytes.items self.new.over) }
         ensures refused { (text written : List ℕ)
             → IsAfter text written (string_bytes out.old) self.old.bytes.items self.old.over
-            → OnErr result (AreSomeReplies (text ++ bytes.now) (written ++ string_bytes out.new)) }
+            → OnErr result (AreRepliesBefore text (text ++ bytes.now) (written ++ string_bytes out.new)) }
     {
         let mut rest = bytes;
         while let Some(at) = newline_at(rest) {
@@ -129,9 +130,11 @@ impl Line {
     /// Appends the reply to a last line, if one has begun.
     #[tactic(auto, using(crate::proofs::ProgressLemmas::last_line))]
     pub(crate) fn finish(&mut self, alloc: Global, out: &mut String) -> Result<(), AllocError>
-        ensures { (text : List ℕ) → IsLine self.old.bytes.items self.old.over (last_piece text)
+        ensures ok { (text : List ℕ) → IsLine self.old.bytes.items self.old.over (last_piece text)
             → OnOk result (string_bytes out.new
             ≡ string_bytes out.old ++ replies_to (unended_line text)) }
+        ensures refused { (begun : List ℕ) → IsLine self.old.bytes.items self.old.over begun
+            → OnErr result (begun ≢ []) }
     {
         if self.is_empty() {
             return Ok(());

@@ -1,9 +1,9 @@
 //! The loop over the input.
-ghost use Rattle.std.specs.Prelude.{◌≡◌, ◌-◌, ◌^◌, ◌++◌, ◌<◌, ◌⊎◌, ℕ, List, OnOk, OnErr, IfErr, Option, true, false};
+ghost use Rattle.std.specs.Prelude.{◌≡◌, ◌-◌, ◌^◌, ◌++◌, ◌<◌, ◌⊎◌, ℕ, List, OnOk, OnErr, IfErr, Option, string_bytes, true, false};
 ghost use Rattle.std.specs.Io.KnownBytes.{Appends};
 ghost use Rattle.rlp_tool.specs.Replies.{replies};
 ghost use Rattle.rlp_tool.specs.Progress.{IsServed, IsStop};
-ghost use Rattle.rlp_tool.specs.Run.{AppendsPart, AnswersAll, AnswersSome, AnswersEnded, AnswersPart};
+ghost use Rattle.rlp_tool.specs.Run.{AppendsPart, AnswersAll, AnswersBefore, AnswersEnded, AnswersPart};
 
 use crate::line::Line;
 use crate::noted::Noted;
@@ -94,7 +94,11 @@ fn serve<W: Write>(
     ensures stop { (start : Option (List ℕ)) (text : List ℕ)
         → IsServed start (W.contents output.old.inner) text line.old.bytes.items line.old.over
         → IfErr result (λ fault. IsStop fault start
-        (W.contents output.new.inner) (text ++ bytes.now) output.new.failed) }
+        (W.contents output.new.inner) text (text ++ bytes.now) output.new.failed) }
+
+    // The whole replies that were put together are written, also where memory was refused then.
+    ensures waiting { result ≡ Err RunFault.Memory → Appends (W.contents output.old.inner)
+        (W.contents output.new.inner) (string_bytes answers.new) }
 {
     answers.clear();
     match line.feed(alloc, bytes, answers) {
@@ -121,7 +125,7 @@ fn finish<W: Write>(
     ensures stop { (start : Option (List ℕ)) (text : List ℕ)
         → IsServed start (W.contents output.old.inner) text line.old.bytes.items line.old.over
         → IfErr result (λ fault. IsStop fault start
-        (W.contents output.new.inner) text output.new.failed) }
+        (W.contents output.new.inner) text text output.new.failed) }
 {
     answers.clear();
     match line.finish(alloc, answers) {
@@ -134,7 +138,8 @@ fn finish<W: Write>(
 ///
 /// # Errors
 ///
-/// The fault that stopped it. What was written by then is whole answers, but for `Write`.
+/// The fault that stopped it. What was written by then is whole answers, but for `Write`; after
+/// `Memory` they are those of exactly the lines before one that hadn't ended before the last read.
 pub fn run<R: Read, W: Write>(
     alloc: Global,
     input: &mut Noted<R>,
@@ -152,7 +157,7 @@ pub fn run<R: Read, W: Write>(
     ensures flushed { OnOk result (output.new.flushed ≡ true) }
 
     // What each fault leaves, and which device had failed then.
-    ensures memory { result ≡ Err RunFault.Memory → AnswersSome
+    ensures memory { result ≡ Err RunFault.Memory → AnswersBefore
         (R.remaining input.old.inner) (R.remaining input.new.inner)
         (W.contents output.old.inner) (W.contents output.new.inner) }
     ensures read { result ≡ Err RunFault.Read → AnswersEnded

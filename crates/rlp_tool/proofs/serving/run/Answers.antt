@@ -1,4 +1,4 @@
-use Rattle.std.proofs.Common.{◌++◌, [], ℕ, take, sym, subst, append-nil, rules, refl, Err, ◌∙◌}
+use Rattle.std.proofs.Common.{◌++◌, [], ℕ, take, sym, subst, append-nil, length-take, arith, rules, refl, Err, ◌∙◌}
 use Rattle.std.specs.Io.KnownBytes.{Consumes}
 use Rattle.rlp_tool.proofs.ProgressLemmas.{IsRunning-begin, IsRunning-more, AnswersAll-end, StopLeaves, StopLeaves-IsStop}
 use Rattle.rlp_tool.proofs.serving.run.Given as given
@@ -8,7 +8,7 @@ use Rattle.rlp_tool.proofs.serving.run.Goals as goal
 stopped : (g : given.Over) (c : goal.After-drop-line-in-Err-serve-2 g) → StopLeaves (Err c.in-Err-serve.fault) (g.R.Read.remaining c.args.input.now.inner) (g.R.Read.remaining c.read.new.self.inner) (g.W.Write.contents c.args.output.now.inner) (g.W.Write.contents c.serve.new.output.inner) c.serve.new.output.failed
 stopped g c =
     let running = c.reading.invariant.running in
-    StopLeaves-IsStop (Err c.in-Err-serve.fault) (g.R.Read.remaining c.read.new.self.inner) (g.W.Write.contents c.serve.new.output.inner) c.serve.new.output.failed (running.took ++ take c.in-Ok.count c.read.new.buf) (take c.in-Ok.count c.read.new.buf) running c.in-Ok.ensures.bytes.0 refl (c.in-Err-serve.ensures.stop (g.W.Write.contents c.args.output.now.inner) running.took running.served)
+    StopLeaves-IsStop (Err c.in-Err-serve.fault) (g.R.Read.remaining c.read.new.self.inner) (g.W.Write.contents c.serve.new.output.inner) c.serve.new.output.failed (running.took ++ take c.in-Ok.count c.read.new.buf) (take c.in-Ok.count c.read.new.buf) running c.in-Ok.ensures.bytes.0 (omega (arith, length-take c.in-Ok.count c.read.new.buf)) refl (c.in-Err-serve.ensures.stop (g.W.Write.contents c.args.output.now.inner) running.took running.served)
 
 -- nothing is left to read
 none_left : (g : given.Over) (c : goal.After-drop-line-then-count-eq0-2 g) → Consumes (g.R.Read.remaining c.reading.input.inner) (g.R.Read.remaining c.read.new.self.inner) []
@@ -18,7 +18,7 @@ none_left g c = subst (λ (n : ℕ). Consumes (g.R.Read.remaining c.reading.inpu
 stopped_at_end : (g : given.Over) (c : goal.After-drop-line-then-count-eq0-2 g) → StopLeaves c.finish.result (g.R.Read.remaining c.args.input.now.inner) (g.R.Read.remaining c.read.new.self.inner) (g.W.Write.contents c.args.output.now.inner) (g.W.Write.contents c.finish.new.output.inner) c.finish.new.output.failed
 stopped_at_end g c =
     let running = c.reading.invariant.running in
-    StopLeaves-IsStop c.finish.result (g.R.Read.remaining c.read.new.self.inner) (g.W.Write.contents c.finish.new.output.inner) c.finish.new.output.failed running.took [] running (none_left g c) (sym (append-nil running.took)) (c.finish.ensures.stop (g.W.Write.contents c.args.output.now.inner) running.took running.served)
+    StopLeaves-IsStop c.finish.result (g.R.Read.remaining c.read.new.self.inner) (g.W.Write.contents c.finish.new.output.inner) c.finish.new.output.failed running.took [] running (none_left g c) (omega arith) (sym (append-nil running.took)) (c.finish.ensures.stop (g.W.Write.contents c.args.output.now.inner) running.took running.served)
 
 pub reading-init : goal.reading-init
 reading-init g c = record {

@@ -1,7 +1,7 @@
 use Rattle.std.proofs.Common.{Err, inl, refl, string_bytes, ◌++◌}
 use Rattle.rlp_tool.specs.Lines.{ended_lines}
 use Rattle.rlp_tool.specs.Replies.{replies_to}
-use Rattle.rlp_tool.proofs.ProgressLemmas.{AppendsSome-written, IsAfter-served, IsServed-written, IsStop-some, IsStop-written}
+use Rattle.rlp_tool.proofs.ProgressLemmas.{AppendsBefore-written, IsAfter-served, IsServed-written, IsStop-some, IsStop-written}
 use Rattle.rlp_tool.proofs.serving.serve.Goals as goal
 
 pub returns-in-Ok-clause-ok : goal.returns-in-Ok-clause-ok
@@ -17,7 +17,7 @@ returns-in-Ok-clause-stop g c start text served =
 pub returns-in-Ok-write_whole-clause-stop : goal.returns-in-Ok-write_whole-clause-stop
 returns-in-Ok-write_whole-clause-stop g c start text served =
     let some = c.in-Err.ensures.refused text (replies_to (ended_lines text)) (IsAfter-served served c.clear.ensures.bytes) in
-    inl (refl, AppendsSome-written start (g.W.Write.contents c.args.output.now.inner) (g.W.Write.contents c.write_whole-in-Err.new.output.inner) (text ++ c.args.bytes.now) c.as_bytes-in-Err.result.now (string_bytes c.feed.new.out) served some c.as_bytes-in-Err.ensures.value c.in-Ok-write_whole.ensures.ok)
+    inl (refl, AppendsBefore-written start (g.W.Write.contents c.args.output.now.inner) (g.W.Write.contents c.write_whole-in-Err.new.output.inner) (text ++ c.args.bytes.now) c.as_bytes-in-Err.result.now (string_bytes c.feed.new.out) served some c.as_bytes-in-Err.ensures.value c.in-Ok-write_whole.ensures.ok)
 
 pub returns-in-Err-write_whole-clause-stop : goal.returns-in-Err-write_whole-clause-stop
 returns-in-Err-write_whole-clause-stop g c start text served =

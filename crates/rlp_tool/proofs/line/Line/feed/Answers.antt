@@ -1,5 +1,6 @@
 use Rattle.std.proofs.Common.{◌∙◌, refl, string_bytes, sym}
-use Rattle.rlp_tool.proofs.ProgressLemmas.{IsFeeding-line, IsFeeding-end, IsFeeding-refused, OnErr-always}
+use Rattle.rlp_tool.proofs.ProgressLemmas.{IsFeeding-line, IsFeeding-end, IsFeeding-refused, OnErr-always, OnErr-step}
+use Rattle.rlp_tool.proofs.LinesLemmas.{some_byte}
 use Rattle.rlp_tool.proofs.line.Line.feed.Goals as goal
 
 pub loop-at-preserved : goal.loop-at-preserved
@@ -8,12 +9,12 @@ loop-at-preserved c =
 
 pub returns-in_err-end-clause-refused : goal.returns-in_err-end-clause-refused
 returns-in_err-end-clause-refused c text written before =
-    OnErr-always c.from_residual.result (IsFeeding-refused c.loop-at.rest.now (string_bytes c.end.new.out) c.loop-at.invariant c.in_err-end.ensures.refused text written before)
+    OnErr-always c.from_residual.result (IsFeeding-refused c.loop-at.rest.now (string_bytes c.end.new.out) c.loop-at.invariant c.in_err-end.ensures.refused text written before (some_byte c.loop-at.rest.now c.in-Some.at (sym c.in-Some.ensures)))
 
 pub returns-clause-refused : goal.returns-clause-refused
 returns-clause-refused c text written before =
-    OnErr-always c.extend.result (IsFeeding-refused c.loop-at.rest.now (string_bytes c.loop-at.out) c.loop-at.invariant refl text written before)
+    OnErr-step c.extend.result c.extend.ensures.refused (IsFeeding-refused c.loop-at.rest.now (string_bytes c.loop-at.out) c.loop-at.invariant refl text written before)
 
 pub returns-clause-ok : goal.returns-clause-ok
 returns-clause-ok c text written before =
-    IsFeeding-end c.extend.result c.loop-at.rest.now c.extend.new.self.bytes.items c.extend.new.self.over c.loop-at.invariant (sym c.newline_at.ensures ∙ c.in_default.is) text written before c.extend.ensures
+    IsFeeding-end c.extend.result c.loop-at.rest.now c.extend.new.self.bytes.items c.extend.new.self.over c.loop-at.invariant (sym c.newline_at.ensures ∙ c.in_default.is) text written before c.extend.ensures.ok
