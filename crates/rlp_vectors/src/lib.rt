@@ -77,4 +77,10 @@ pub fn first_and_text<'a>(
 #[cfg(test)]
 mod encoding;
 #[cfg(test)]
+mod tool_answers;
+#[cfg(test)]
+mod tool_devices;
+#[cfg(test)]
+mod tool_faults;
+#[cfg(test)]
 mod views;
