@@ -18,7 +18,7 @@ const CHUNK: usize = 16_384;
 pub enum RunFault {
     /// More memory was refused.
     Memory,
-    /// A read failed, or there were `u64::MAX` reads without an end.
+    /// A read failed, or the reader's count of reads came to `u64::MAX` without an end.
     Read,
     /// A write or the last flush failed, or a write took no byte.
     Write,
