@@ -6,8 +6,6 @@ mod items;
 mod iter;
 mod lists;
 mod nesting;
-#[cfg(test)]
-mod tests;
 mod text;
 mod view;
 

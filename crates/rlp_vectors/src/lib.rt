@@ -10,15 +10,59 @@ use bytes::BytesMut;
 use rlp::{DecoderError, Encodable, Rlp, RlpStream};
 use std::alloc::{AllocError, Global};
 
+#[cfg(test)]
+mod chains;
+#[cfg(test)]
+mod closing;
 mod couple;
 #[cfg(test)]
 mod decoding;
+#[cfg(test)]
+mod encoding;
+#[cfg(test)]
+mod faults;
+#[cfg(test)]
+mod guarded;
+#[cfg(test)]
+mod handed_in;
+#[cfg(test)]
+mod headers;
+#[cfg(test)]
+mod lists;
+#[cfg(test)]
+mod nested_streams;
 mod nonce;
+mod pair;
+#[cfg(test)]
+mod plain;
 mod refusing;
+#[cfg(test)]
+mod sizes;
+#[cfg(test)]
+mod steps;
+#[cfg(test)]
+mod streams;
+#[cfg(test)]
+mod tool_answers;
+#[cfg(test)]
+mod tool_devices;
+#[cfg(test)]
+mod tool_faults;
+#[cfg(test)]
+mod trees;
 mod uses;
+#[cfg(test)]
+mod views;
+#[cfg(test)]
+mod views_kinds;
+#[cfg(test)]
+mod views_text;
+#[cfg(test)]
+mod views_values;
 
 pub use couple::{Alone, Couple, append_list_in_list, write_list_in_list};
 pub use nonce::Nonce;
+pub use pair::Pair;
 pub use refusing::Refusing;
 pub use uses::{append_by_stream, append_each, chain_and_encoder};
 
@@ -73,14 +117,3 @@ pub fn first_and_text<'a>(
     let text = format!(in alloc; "{view}").map_err(|_| DecoderError::OutOfMemory)?;
     Ok((first.data()?, text))
 }
-
-#[cfg(test)]
-mod encoding;
-#[cfg(test)]
-mod tool_answers;
-#[cfg(test)]
-mod tool_devices;
-#[cfg(test)]
-mod tool_faults;
-#[cfg(test)]
-mod views;

@@ -31,56 +31,62 @@ pub fn append_each(s: &mut RlpStream, values: &[u64]) -> Result<(), AllocError> 
 mod tests {
     use super::*;
     use crate::first_and_text;
+    use crate::guarded::finishes_as;
     use rlp::{BasicDecoder, DecoderError, Rlp};
     use std::test::Fail;
 
-    #[test]
-    fn chains_as_shown(rt: HostRuntime) -> Result<(), Fail> {
-        let mut s = chain_and_encoder(rt.alloc())?;
-        assert_eq!(rt; s.as_raw(), &[1, 2, 3, 4][..]);
+    fn chains_agree(alloc: Global) -> Result<bool, AllocError> {
+        let mut s = chain_and_encoder(alloc)?;
+        let begun = s.as_raw() == [1, 2, 3, 4].as_slice();
         append_by_stream(&mut s)?;
         append_each(&mut s, &[128, 0])?;
-        assert_eq!(rt;
-            s.out().as_slice(),
-            &[1, 2, 3, 4, 1, 2, 0x81, 0x80, 0x80][..]
-        );
+        Ok(begun && finishes_as(s, &[1, 2, 3, 4, 1, 2, 0x81, 0x80, 0x80]))
+    }
+
+    #[test]
+    fn chains_as_shown(rt: HostRuntime) -> Result<(), Fail> {
+        assert!(rt; chains_agree(rt.alloc())?);
         Ok(())
+    }
+
+    fn views_agree(alloc: Global) -> Result<bool, DecoderError> {
+        let view = Rlp::new(&[0xc4, 0xc2, 0x01, 0x02, 0x03]);
+        let (first, text) = first_and_text(alloc, &view)?;
+        Ok(
+            view.item_count()? == 2
+                && view.iter().count() == 2
+                && view.list_at::<u64>(alloc, 0)?.as_slice() == [1, 2].as_slice()
+                && view.val_at::<u64>(alloc, 1)? == 3
+                && first == [0x01, 0x02].as_slice()
+                && text.as_str() == "[[\"0x01\", \"0x02\"], \"0x03\"]",
+        )
     }
 
     #[test]
     fn views_as_shown(rt: HostRuntime) -> Result<(), Fail> {
-        let alloc = rt.alloc();
-        let view = Rlp::new(&[0xc4, 0xc2, 0x01, 0x02, 0x03]);
-        assert_eq!(rt; view.item_count()?, 2);
-        assert_eq!(rt; view.iter().count(), 2);
-        assert_eq!(rt;
-            view.list_at::<u64>(alloc, 0)?.as_slice(),
-            [1, 2].as_slice()
-        );
-        assert_eq!(rt; view.val_at::<u64>(alloc, 1)?, 3);
-        let (first, text) = first_and_text(alloc, &view)?;
-        assert_eq!(rt; first, &[0x01, 0x02][..]);
-        assert_eq!(rt; text.as_str(), "[[\"0x01\", \"0x02\"], \"0x03\"]");
+        assert!(rt; views_agree(rt.alloc())?);
         Ok(())
     }
 
-    #[test]
-    fn values_as_shown(rt: HostRuntime) -> Result<(), Fail> {
-        let alloc = rt.alloc();
+    fn value_is_read_back(alloc: Global) -> Result<bool, Fail> {
         let bytes = rlp::encode(alloc, &256u64)?;
         let back = rlp::decode::<u64>(alloc, bytes.as_slice())?;
-        assert_eq!(rt; back, 256);
         let mut s = RlpStream::new(alloc)?;
         s.append(&"cat")?.append(&back)?.append(&"")?;
-        assert_eq!(rt;
-            s.out().as_slice(),
-            &[0x83, 0x63, 0x61, 0x74, 0x82, 0x01, 0x00, 0x80][..]
-        );
+        Ok(back == 256 && finishes_as(s, &[0x83, 0x63, 0x61, 0x74, 0x82, 0x01, 0x00, 0x80]))
+    }
+
+    fn length_is_read() -> Result<bool, DecoderError> {
         let decoder = BasicDecoder::new(&[0x83, b'c', b'a', b't']);
         let len = decoder.decode_value(|string: &[u8]| -> Result<usize, DecoderError> {
             Ok(string.len())
         })?;
-        assert_eq!(rt; len, 3);
+        Ok(len == 3)
+    }
+
+    #[test]
+    fn values_as_shown(rt: HostRuntime) -> Result<(), Fail> {
+        assert!(rt; value_is_read_back(rt.alloc())? && length_is_read()?);
         Ok(())
     }
 }

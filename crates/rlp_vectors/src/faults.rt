@@ -1,0 +1,11 @@
+//! Faults beside what is wanted.
+
+use rlp::DecoderError;
+
+/// Whether there is a fault, and it is this one.
+pub(crate) fn is_fault(found: Option<DecoderError>, want: &DecoderError) -> bool {
+    match found {
+        Some(found) => found == *want,
+        None => false,
+    }
+}

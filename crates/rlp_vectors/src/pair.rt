@@ -1,0 +1,24 @@
+//! A type of one's own that is written as a list.
+
+use rlp::{Encodable, RlpStream};
+use std::alloc::AllocError;
+
+/// Two numbers, written as the list of both.
+#[derive(Debug, Clone, Copy, PartialEq, Eq)]
+pub struct Pair(pub u64, pub u64);
+
+impl Encodable for Pair {
+    ghost use Rattle.std.specs.Prelude.{[], ◌∷◌};
+    ghost use Rattle.rlp.specs.Item.{list_of};
+    ghost use Rattle.rlp.specs.Value.{FitsBytes, number_item};
+
+    ghost item = { λ p. list_of (number_item p.0 ∷ number_item p.1 ∷ []) };
+
+    ghost fits = { λ p. FitsBytes 8 p.0 × FitsBytes 8 p.1 };
+
+    #[tactic(auto, using(rlp::proofs::Filling::filling))]
+    fn rlp_append(&self, s: &mut RlpStream) -> Result<(), AllocError> {
+        s.begin_list(2)?.append(&self.0)?.append(&self.1)?;
+        Ok(())
+    }
+}
