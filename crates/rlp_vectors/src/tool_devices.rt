@@ -16,7 +16,7 @@ pub(crate) struct Source<'a> {
 impl<'a> Read for Source<'a> {
     fn read(&mut self, buf: &mut [u8]) -> io::Result<usize> {
         if self.calls == 0 {
-            return Err(io::Error::from(ErrorKind::Other));
+            return Err(io::Error::from(ErrorKind::TimedOut));
         }
         self.calls -= 1;
         let count = self.most.min(self.bytes.len()).min(buf.len());
@@ -50,7 +50,7 @@ impl Write for Sink {
     fn write(&mut self, buf: &[u8]) -> io::Result<usize> {
         if self.calls == 0 {
             return match self.failure {
-                Failure::Error => Err(io::Error::from(ErrorKind::Other)),
+                Failure::Error => Err(io::Error::from(ErrorKind::BrokenPipe)),
                 Failure::TakesNone => Ok(0),
             };
         }
@@ -66,7 +66,7 @@ impl Write for Sink {
         if self.flushes {
             Ok(())
         } else {
-            Err(io::Error::from(ErrorKind::Other))
+            Err(io::Error::from(ErrorKind::StorageFull))
         }
     }
 }

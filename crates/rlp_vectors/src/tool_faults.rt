@@ -4,6 +4,7 @@ use crate::tool_devices::{Failure, Plan, Sink, Source, ran, sound};
 use rlp_tool::{Noted, RunFault, exit_status};
 use std::alloc::{AllocError, Global};
 use std::io;
+use std::io::ErrorKind;
 
 /// Whether a run over these bytes ends with this fault, and writes these.
 fn stops(
@@ -107,6 +108,34 @@ fn writer_faults_late(alloc: Global) -> io::Result<bool> {
 fn noted_faults_at_once(rt: HostRuntime) -> Result<(), io::Error> {
     assert!(rt; reader_faults_late()? && writer_faults_late(rt.alloc())?);
     Ok(())
+}
+
+/// Whether the errors of a reader and a writer are handed on as they are.
+fn errors_are_handed_on(alloc: Global) -> bool {
+    let mut source = Noted::new(Source {
+        bytes: b"",
+        most: 1,
+        calls: 0,
+    });
+    let mut sink = Noted::new(Sink {
+        taken: Vec::new(alloc),
+        largest: 0,
+        most: 1,
+        calls: 0,
+        failure: Failure::Error,
+        flushes: false,
+    });
+    let read = source.read(&mut [0u8; 4]);
+    let written = sink.write(b"c0");
+    let flushed = sink.flush();
+    matches!(read, Err(error) if error.kind() == ErrorKind::TimedOut)
+        && matches!(written, Err(error) if error.kind() == ErrorKind::BrokenPipe)
+        && matches!(flushed, Err(error) if error.kind() == ErrorKind::StorageFull)
+}
+
+#[test]
+fn noted_hands_errors_on(rt: HostRuntime) {
+    assert!(rt; errors_are_handed_on(rt.alloc()));
 }
 
 /// What runs answer, and the status that the program ends with then.
