@@ -116,7 +116,8 @@ impl Line {
             self.new.bytes.items self.new.over) }
         ensures refused { (text written : List ℕ)
             → IsAfter text written (string_bytes out.old) self.old.bytes.items self.old.over
-            → OnErr result (AreRepliesBefore text (text ++ bytes.now) (written ++ string_bytes out.new)) }
+            → OnErr result (AreRepliesBefore text (text ++ bytes.now)
+            (written ++ string_bytes out.new)) }
     {
         let mut rest = bytes;
         while let Some(at) = newline_at(rest) {

@@ -148,7 +148,7 @@ pub fn run<R: Read, W: Write>(
     requires input { input.old.failed ≡ false }
     requires output { output.old.failed ≡ false }
 
-    // At the end of the input all lines were answered and the output was flushed, and neither device
+    // At the end of the input all lines were answered, the output was flushed, and neither device
     // had failed.
     ensures ok { OnOk result (AnswersAll
         (R.remaining input.old.inner) (R.remaining input.new.inner)
