@@ -7,10 +7,10 @@ use Rattle.rlp.specs.Encoding.{encoding, IsSized, BeginsWith}
 use Rattle.rlp.specs.Framing.{value}
 use Rattle.rlp.specs.Split.{begins_as_list}
 use Rattle.rlp.specs.Depth.{depth, framed_depth, greatest}
-use Rattle.rlp.proofs.Headers.{shape}
-use Rattle.rlp.proofs.Encodings.{AllSized, parts_sized, list_written, items_from-listed, string_cases}
+use Rattle.rlp.specs.Lemmas.Headers.{shape}
+use Rattle.rlp.specs.Lemmas.Encodings.{AllSized, parts_sized, list_written, items_from-listed, string_cases}
 use Rattle.rlp.proofs.Texts.{depth_is}
-use Rattle.rlp.proofs.Views.{list_shape, items_of_list}
+use Rattle.rlp.specs.Lemmas.Views.{list_shape, items_of_list}
 
 greatest_from : (a : ℕ) (xs : List Item) → fold max a (map item_depth xs) ≡ max a (items_depth (items_from xs))
 greatest_from a [] = omega arith

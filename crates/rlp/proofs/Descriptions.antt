@@ -8,7 +8,7 @@ use Rattle.rlp.specs.Stack.{OpenList, Stack, empty_stack, stack_put, stack_shut,
 use Rattle.rlp.specs.Stream.{State, initial_state, list_encoding, put, count}
 use Rattle.rlp.specs.Calls.{Call, effect, is_within_size, is_admitted, after, after_from}
 use Rattle.rlp.specs.Described.{Step, one_list, items_after, items_after_all, Describes, by_append, by_empty_data, by_raw, by_checked_raw, by_refused_raw, by_empty_list, by_list, by_unbounded_list, by_finalize, by_internal_list, by_clear, AreDescribed, IsDescribed, joined_stack, joined_list}
-use Rattle.rlp.proofs.Encodings.{encoding_list, join_same}
+use Rattle.rlp.specs.Lemmas.Encodings.{encoding_list, join_same}
 
 one_list_joined : (xs : List Item) → list_encoding (join xs) ≡ join (one_list xs)
 one_list_joined xs = sym (encoding_list xs) ∙ sym (append-nil (encoding (list_of xs)))

@@ -1,18 +1,8 @@
-pub mod Digits
-pub mod Lists
-pub mod Headers
-pub mod Reading
-pub mod Encodings
-pub mod Frames
 pub mod Texts
-pub mod Views
 pub mod Depths
 pub mod Splits
 pub mod Printing
-pub mod Strings
-pub mod Numbers
 pub mod Values
-pub mod OneReading
 pub mod HighFirst
 pub mod Written
 pub mod Growth
@@ -21,7 +11,6 @@ pub mod States
 pub mod Descriptions
 pub mod Places
 pub mod ListValues
-pub mod Numbered
 pub mod Awaits
 pub mod Hexes
 pub mod Closing

@@ -6,7 +6,7 @@ use Rattle.std.specs.Prelude.{slice_set}
 use Rattle.rlp.specs.Item.{string}
 use Rattle.rlp.specs.WrittenHeader.{big_endian, written_header}
 use Rattle.rlp.specs.Encoding.{encoding, is_low_byte}
-use Rattle.rlp.proofs.Headers.{written_header_short, written_header_long}
+use Rattle.rlp.specs.Lemmas.Headers.{written_header_short, written_header_long}
 
 -- a string that is its own encoding
 pub encoding_low : (s : List ℕ) → is_low_byte s ≡ true → encoding (string s) ≡ s

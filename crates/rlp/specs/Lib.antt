@@ -21,3 +21,5 @@ pub mod Described
 pub mod ListReading
 pub mod Placeholders
 pub mod Closing
+pub mod RoundTrip
+pub mod Lemmas

@@ -31,7 +31,7 @@ pub use error::DecoderError;
 pub use rlpin::{BasicDecoder, PayloadInfo, Prototype, Rlp, RlpIterator};
 use std::alloc::{AllocError, Global};
 pub use stream::{BasicEncoder, Chain, RlpStream};
-pub use traits::{Decodable, Encodable};
+pub use traits::{Decodable, Encodable, RoundTrip, Scalar};
 
 /// The encoding of the empty string.
 pub const NULL_RLP: [u8; 1] = [0x80];

@@ -2,6 +2,8 @@
 
 mod decodable;
 mod encodable;
+mod round_trip;
 
 pub use decodable::Decodable;
 pub use encodable::Encodable;
+pub use round_trip::{RoundTrip, Scalar};

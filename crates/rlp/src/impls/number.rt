@@ -9,7 +9,7 @@ ghost use Rattle.rlp.specs.ValueReading.{IsDigitsFault};
 use crate::error::DecoderError;
 use crate::rlpin::{Rlp, number_of};
 use crate::stream::{RlpStream, leading_zero_bytes};
-use crate::traits::{Decodable, Encodable};
+use crate::traits::{Decodable, Encodable, RoundTrip, Scalar};
 use std::alloc::{AllocError, Global};
 
 impl Encodable for u64 {
@@ -47,6 +47,18 @@ impl Decodable for u64 {
     }
 }
 
+impl RoundTrip for u64 {
+    ghost use Rattle.rlp.specs.Lemmas.RoundTrips.{number_reads_back};
+
+    ghost round_trip = { number_reads_back 8 };
+}
+
+impl Scalar for u64 {
+    ghost use Rattle.rlp.specs.Lemmas.RoundTrips.{itself};
+
+    ghost exact = { λ view v. itself };
+}
+
 /// The number whose digits these are, where it is one of `width` bytes.
 fn number_within(digits: &[u8], width: usize) -> Result<usize, DecoderError>
     requires { width ≤ 8 }
@@ -59,7 +71,7 @@ fn number_within(digits: &[u8], width: usize) -> Result<usize, DecoderError>
 
 /// Tests whether these are the digits of a number of `width` bytes: how many they are first, and
 /// then the first of them.
-#[tactic(auto, using(crate::proofs::Numbers::digit_faults))]
+#[tactic(auto, using(crate::specs::Lemmas::Numbers::digit_faults))]
 fn check_digits(digits: &[u8], width: usize) -> Result<(), DecoderError>
     ensures few { IfOk result (λ _. length digits.now ≤ width) }
     ensures value { IfOk result (λ _. FitsBytes width (number_from_digits 256 digits.now)

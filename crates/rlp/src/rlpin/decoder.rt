@@ -94,7 +94,7 @@ fn string_in(bytes: &[u8]) -> Result<&[u8], DecoderError>
 }
 
 /// The string, by the table of first bytes.
-#[tactic(auto, using(crate::proofs::Strings::first_bytes), unfolding(crate::specs::StringReading::read_string))]
+#[tactic(auto, using(crate::specs::Lemmas::Strings::first_bytes), unfolding(crate::specs::StringReading::read_string))]
 fn by_first_byte(bytes: &[u8]) -> Result<&[u8], DecoderError>
     ensures { MatchResult result (λ d. read_string bytes.now ≡ Ok d.now)
         (λ e. read_string bytes.now ≡ Err e) }

@@ -50,7 +50,7 @@ impl PayloadInfo {
 
 /// The header, by the table of first bytes.
 #[inline(always)]
-#[tactic(auto, using(crate::proofs::Reading::rows), unfolding(crate::specs::Header::header))]
+#[tactic(auto, using(crate::specs::Lemmas::Reading::rows), unfolding(crate::specs::Header::header))]
 fn by_first_byte(bytes: &[u8]) -> Result<PayloadInfo, DecoderError>
     ensures { result ≡ header bytes.now }
 {

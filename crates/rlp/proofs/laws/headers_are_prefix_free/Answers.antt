@@ -1,4 +1,4 @@
-use Rattle.rlp.proofs.Headers.{written_header_prefix_free}
+use Rattle.rlp.specs.Lemmas.Headers.{written_header_prefix_free}
 use Rattle.rlp.proofs.laws.headers_are_prefix_free.Goals as goal
 
 pub returns : goal.returns

@@ -1,4 +1,4 @@
-use Rattle.rlp.proofs.Encodings.{encoding_list}
+use Rattle.rlp.specs.Lemmas.Encodings.{encoding_list}
 use Rattle.rlp.proofs.laws.list_is_header_and_items.Goals as goal
 
 pub returns : goal.returns

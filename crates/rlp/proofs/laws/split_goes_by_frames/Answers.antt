@@ -1,5 +1,5 @@
-use Rattle.rlp.proofs.Reading.{bytes_held}
-use Rattle.rlp.proofs.Frames.{split_framed, split_unframed}
+use Rattle.rlp.specs.Lemmas.Reading.{bytes_held}
+use Rattle.rlp.specs.Lemmas.Frames.{split_framed, split_unframed}
 use Rattle.rlp.proofs.laws.split_goes_by_frames.Goals as goal
 
 pub returns : goal.returns

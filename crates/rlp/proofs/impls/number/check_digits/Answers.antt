@@ -1,4 +1,4 @@
-use Rattle.rlp.proofs.Numbers.{none_is_zero, leading_is_value}
+use Rattle.rlp.specs.Lemmas.Numbers.{none_is_zero, leading_is_value}
 use Rattle.rlp.proofs.impls.number.check_digits.Goals as goal
 
 pub returns-in-empty-clause-value : goal.returns-in-empty-clause-value

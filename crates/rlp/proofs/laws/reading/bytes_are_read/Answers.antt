@@ -1,6 +1,6 @@
 use Rattle.std.proofs.Common.{◌<◌, ◌^◌, length, arith}
-use Rattle.rlp.proofs.Reading.{bytes_held}
-use Rattle.rlp.proofs.OneReading.{bytes_reading}
+use Rattle.rlp.specs.Lemmas.Reading.{bytes_held}
+use Rattle.rlp.specs.Lemmas.OneReading.{bytes_reading}
 use Rattle.rlp.proofs.laws.reading.bytes_are_read.Goals as goal
 
 pub returns : goal.returns

@@ -1,5 +1,5 @@
 use Rattle.rlp.specs.View.{view_of}
-use Rattle.rlp.proofs.Numbered.{item_at-slice_get, item_at-past_same}
+use Rattle.rlp.specs.Lemmas.Numbered.{item_at-slice_get, item_at-past_same}
 use Rattle.rlp.proofs.laws.views.items_by_number_are_in_order.Goals as goal
 
 pub returns : goal.returns

@@ -1,6 +1,6 @@
 use Rattle.std.proofs.Common.{◌<◌, ◌^◌, length, arith}
-use Rattle.rlp.proofs.Reading.{bytes_held}
-use Rattle.rlp.proofs.Strings.{string_reads}
+use Rattle.rlp.specs.Lemmas.Reading.{bytes_held}
+use Rattle.rlp.specs.Lemmas.Strings.{string_reads}
 use Rattle.rlp.proofs.rlpin.decoder.string_in.Goals as goal
 
 pub returns-clause-read : goal.returns-clause-read

@@ -1,5 +1,5 @@
 use Rattle.std.proofs.Common.{arith}
-use Rattle.rlp.proofs.Frames.{header_some}
+use Rattle.rlp.specs.Lemmas.Frames.{header_some}
 use Rattle.rlp.proofs.rlpin.header.framing_of.Goals as goal
 
 pub returns-in-Some-clause-within : goal.returns-in-Some-clause-within

@@ -1,5 +1,5 @@
 use Rattle.std.proofs.Common.{arith}
-use Rattle.rlp.proofs.Reading.{number_below, bytes_held}
+use Rattle.rlp.specs.Lemmas.Reading.{number_below, bytes_held}
 use Rattle.rlp.proofs.rlpin.header.number_of.Goals as goal
 
 pub overflow_mul-number : goal.overflow_mul-number

@@ -1,6 +1,6 @@
 use Rattle.std.proofs.Common.{sym}
-use Rattle.rlp.proofs.Reading.{bytes_held}
-use Rattle.rlp.proofs.Frames.{split_framed, split_unframed}
+use Rattle.rlp.specs.Lemmas.Reading.{bytes_held}
+use Rattle.rlp.specs.Lemmas.Frames.{split_framed, split_unframed}
 use Rattle.rlp.proofs.Places.{fault-err}
 use Rattle.rlp.proofs.rlpin.items.take_item.Goals as goal
 

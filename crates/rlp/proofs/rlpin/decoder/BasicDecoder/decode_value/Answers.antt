@@ -1,5 +1,5 @@
 use Rattle.std.proofs.Common.{sym}
-use Rattle.rlp.proofs.Strings.{missing_from}
+use Rattle.rlp.specs.Lemmas.Strings.{missing_from}
 use Rattle.rlp.proofs.rlpin.decoder.BasicDecoder.decode_value.Goals as goal
 
 pub returns-clause-missing : goal.returns-clause-missing

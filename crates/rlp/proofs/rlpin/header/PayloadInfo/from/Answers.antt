@@ -1,6 +1,6 @@
 use Rattle.std.proofs.Common.{subst, sym}
 use Rattle.rlp.specs.Header.{ReadsHeader}
-use Rattle.rlp.proofs.Reading.{header_reads, bytes_held}
+use Rattle.rlp.specs.Lemmas.Reading.{header_reads, bytes_held}
 use Rattle.rlp.proofs.rlpin.header.PayloadInfo.from.Goals as goal
 
 pub returns-clause-read : goal.returns-clause-read

@@ -15,10 +15,10 @@ use Rattle.rlp.specs.StringReading.{IsString, ReadsString, read_string}
 use Rattle.rlp.specs.Value.{FitsBytes}
 use Rattle.rlp.specs.ValueReading.{GivesValue, FaultsAs, no_string, no_value, GivesNumber, IsDigitsFault, too_long, leading_zero, FaultsAsNumber, GivesBytes, FaultsAsBytes, GivesText, IsTextFault, FaultsAsText, HasOneReading}
 use Rattle.rlp.specs.View.{view_of}
-use Rattle.rlp.proofs.Digits.{big_endian_is, big_endian_same, big_endian_first, big_endian_zero}
-use Rattle.rlp.proofs.Numbers.{pow-bytes, digits_fit, digits_again, none_is_zero}
-use Rattle.rlp.proofs.Reading.{Bytes}
-use Rattle.rlp.proofs.Strings.{string_reads, string_only}
+use Rattle.rlp.specs.Lemmas.Digits.{big_endian_is, big_endian_same, big_endian_first, big_endian_zero}
+use Rattle.rlp.specs.Lemmas.Numbers.{pow-bytes, digits_fit, digits_again, none_is_zero}
+use Rattle.rlp.specs.Lemmas.Reading.{Bytes}
+use Rattle.rlp.specs.Lemmas.Strings.{string_reads, string_only}
 
 -- ---- what a string holds are bytes
 
@@ -52,10 +52,10 @@ record IsTold {A : Type 0} (Fits : A → Type 0) (text : A → List ℕ) (IsFaul
   pub one : (d : List ℕ) (e f : DecoderError) → IsFaulty d e → IsFaulty d f → e ≡ f
 
 -- what stands at the front is what is read
-stands_read : (b d : List ℕ) (e : DecoderError) → length b < 2 ^ 64 → IsString b d → read_string b ≡ Err e → ⊥
+pub stands_read : (b d : List ℕ) (e : DecoderError) → length b < 2 ^ 64 → IsString b d → read_string b ≡ Err e → ⊥
 stands_read b d e fits stands is = let same : Ok d ≡ Err e = sym (string_only b d fits stands) ∙ is in cc
 
-same_string : (b d s : List ℕ) → length b < 2 ^ 64 → IsString b d → IsString b s → d ≡ s
+pub same_string : (b d s : List ℕ) → length b < 2 ^ 64 → IsString b d → IsString b s → d ≡ s
 same_string b d s fits one two = let same = sym (string_only b d fits one) ∙ string_only b s fits two in cc
 
 module _ {A : Type 0} (Fits : A → Type 0) (text : A → List ℕ) (IsFaulty : List ℕ → DecoderError → Type 0) (is : IsTold Fits text IsFaulty) (b : List ℕ) (fits : length b < 2 ^ 64) where
@@ -118,7 +118,7 @@ no_leading_zero zero more same = let none : [] ≡ 0 ∷ more = sym big_endian_z
 no_leading_zero (suc n) more same = let first : 0 < get_or (big_endian (suc n)) 0 0 = big_endian_first (suc n) (omega arith) in
     let above : 0 < get_or (0 ∷ more) 0 0 = rw same at first in omega arith
 
-sound_digits : (width n : ℕ) (e : DecoderError) → FitsBytes width n → ¬ IsDigitsFault width (big_endian n) e
+pub sound_digits : (width n : ℕ) (e : DecoderError) → FitsBytes width n → ¬ IsDigitsFault width (big_endian n) e
 sound_digits width n e fit (too_long long) = omega (arith, few_digits width n fit)
 sound_digits width n e fit (leading_zero more few same) = no_leading_zero n more same
 

@@ -14,9 +14,9 @@ use Rattle.rlp.specs.Encoding.{encoding, join, IsSized, BeginsWith}
 use Rattle.rlp.specs.Header.{HasHeader, lone, written, header, ReadsHeader, payload_info}
 use Rattle.rlp.specs.Framing.{IsFramed, IsFramedItem, IsFault, no_header, cut_short, fault, fault_in, framing, framing_in, frame, value, map_ok, total_len}
 use Rattle.rlp.specs.Split.{IsCut, IsSplit, split, split_within, frame_and_more}
-use Rattle.rlp.proofs.Reading.{read, header_unique, header_reads}
-use Rattle.rlp.proofs.Encodings.{IsForm, form, first_of_header}
-use Rattle.rlp.proofs.Lists.{same_front}
+use Rattle.rlp.specs.Lemmas.Reading.{read, header_unique, header_reads}
+use Rattle.rlp.specs.Lemmas.Encodings.{IsForm, form, first_of_header}
+use Rattle.rlp.specs.Lemmas.Lists.{same_front}
 
 -- a header stands at the front of longer bytes too
 pub longer : {b : List ℕ} {h n : ℕ} (more : List ℕ) → HasHeader b h n → HasHeader (b ++ more) h n

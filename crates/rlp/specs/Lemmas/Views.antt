@@ -11,9 +11,9 @@ use Rattle.rlp.specs.Split.{split, split_within, begins_as_list, payload, payloa
 use Rattle.rlp.specs.declared.error.DecoderError.{DecoderError}
 use Rattle.rlp.specs.declared.rlpin.header.PayloadInfo.{PayloadInfo}
 use Rattle.std.proofs.lemmas.List.Elements.{All-nil, All-take, All-drop}
-use Rattle.rlp.proofs.Encodings.{encoding_list, small_payload}
-use Rattle.rlp.proofs.Headers.{shape}
-use Rattle.rlp.proofs.Frames.{walk, value_is, split_join, join_is}
+use Rattle.rlp.specs.Lemmas.Encodings.{encoding_list, small_payload}
+use Rattle.rlp.specs.Lemmas.Headers.{shape}
+use Rattle.rlp.specs.Lemmas.Frames.{walk, value_is, split_join, join_is}
 
 list_first : (n : ℕ) (more : List ℕ) → n < 2 ^ 64 → begins_as_list (written_header 0xc0 n ++ more) ≡ true
 list_first n more small =

@@ -9,8 +9,8 @@ use Rattle.rlp.specs.WrittenHeader.{big_endian, AreBytes}
 use Rattle.rlp.specs.Value.{FitsBytes}
 use Rattle.rlp.specs.declared.error.DecoderError.TheVariants.{RlpInvalidIndirection}
 use Rattle.rlp.specs.ValueReading.{IsDigitsFault, too_long, leading_zero}
-use Rattle.rlp.proofs.Reading.{bytes_held}
-use Rattle.rlp.proofs.Digits.{big_endian_again, big_endian_zero}
+use Rattle.rlp.specs.Lemmas.Reading.{bytes_held}
+use Rattle.rlp.specs.Lemmas.Digits.{big_endian_again, big_endian_zero}
 
 pub pow-bytes : (width : ℕ) → 256 ^ width ≡ 2 ^ (8 * width)
 pow-bytes zero = refl

@@ -11,10 +11,10 @@ use Rattle.rlp.specs.Item.{string}
 use Rattle.rlp.specs.WrittenHeader.{written_header, AreBytes}
 use Rattle.rlp.specs.Encoding.{encoding, string_encoding, is_low_byte}
 use Rattle.rlp.specs.StringReading.{IsString, HasNoString, ReadsString, short_string, long_value, long_string, read_string}
-use Rattle.rlp.proofs.Digits.{big_endian_first, big_endian_value}
-use Rattle.rlp.proofs.Headers.{Parts, shape, written_header_short}
-use Rattle.rlp.proofs.Encodings.{low_byte, small_payload, front_sized}
-use Rattle.rlp.proofs.Reading.{Bytes, long_whole}
+use Rattle.rlp.specs.Lemmas.Digits.{big_endian_first, big_endian_value}
+use Rattle.rlp.specs.Lemmas.Headers.{Parts, shape, written_header_short}
+use Rattle.rlp.specs.Lemmas.Encodings.{low_byte, small_payload, front_sized}
+use Rattle.rlp.specs.Lemmas.Reading.{Bytes, long_whole}
 
 pub string_low : (first : ℕ) (rest : List ℕ) → first < 0x80 → read_string (first ∷ rest) ≡ Ok (first ∷ [])
 unfolding read_string

@@ -7,8 +7,8 @@ use Rattle.rlp.specs.WrittenHeader.{written_header, IsBase}
 use Rattle.rlp.specs.Encoding.{encoding, join, join_items, string_encoding, is_low_byte, IsSized}
 use Rattle.std.specs.List.{AllByRecursion}
 use Rattle.std.proofs.lemmas.List.Elements.{recursion_from_All}
-use Rattle.rlp.proofs.Headers.{shape, written_header_prefix_free}
-use Rattle.rlp.proofs.Lists.{same_front, head_same, tail_same}
+use Rattle.rlp.specs.Lemmas.Headers.{shape, written_header_prefix_free}
+use Rattle.rlp.specs.Lemmas.Lists.{same_front, head_same, tail_same}
 
 -- bytes that are one byte below 0x80, or a header and as many bytes as it says
 pub record IsLone (b : List ℕ) : Type 0 where

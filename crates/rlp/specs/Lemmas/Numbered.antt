@@ -14,7 +14,7 @@ use Rattle.rlp.specs.Split.{begins_as_list, items, payload, payload_in, rest, sp
 use Rattle.rlp.specs.View.{View, view_of, item_views, item_count, item_with_place, item_after, item_by, item_at}
 use Rattle.rlp.specs.ValueReading.{GivesValue}
 use Rattle.rlp.specs.ListReading.{GivesEach}
-use Rattle.rlp.proofs.Views.{items_of_list, list_shape}
+use Rattle.rlp.specs.Lemmas.Views.{items_of_list, list_shape}
 
 -- ---- a view whose items are asked for by number is a framed list
 

@@ -12,8 +12,8 @@ use Rattle.rlp.specs.declared.rlpin.header.PayloadInfo.{PayloadInfo}
 use Rattle.rlp.specs.declared.error.DecoderError.TheVariants.{RlpIsTooShort, RlpDataLenWithZeroPrefix, RlpListLenWithZeroPrefix, RlpInvalidIndirection}
 use Rattle.rlp.specs.WrittenHeader.{big_endian, written_header, IsBase, AreBytes}
 use Rattle.rlp.specs.Header.{HasHeader, lone, written, header, long_header, header_fault, HasNoHeader, announced, ReadsHeader, payload_info}
-use Rattle.rlp.proofs.Digits.{big_endian_value, big_endian_first, big_endian_again}
-use Rattle.rlp.proofs.Headers.{shape, Parts, written_header_short, written_header_long}
+use Rattle.rlp.specs.Lemmas.Digits.{big_endian_value, big_endian_first, big_endian_again}
+use Rattle.rlp.specs.Lemmas.Headers.{shape, Parts, written_header_short, written_header_long}
 
 pub header_low : (first : ℕ) (rest : List ℕ) → first < 0x80 → header (first ∷ rest) ≡ Ok (payload_info 0 1)
 unfolding header
