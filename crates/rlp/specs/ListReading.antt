@@ -1,8 +1,8 @@
 -- Which values the items of a list give, and what is answered of an item by its number.
-use Rattle.std.specs.Prelude.{◌≡◌, ◌++◌, ◌∷◌, ◌⊎◌, Bool, IsTrue, List, [], Result, MatchResult}
+use Rattle.std.specs.Prelude.{◌≡◌, ◌++◌, ◌∷◌, ◌⊎◌, ◌<◌, ℕ, Bool, IsTrue, List, [], Option, Some, None, Result, Ok, Err, MatchResult, IsOkAnd}
 use Rattle.rlp.specs.declared.error.DecoderError.{DecoderError}
-use Rattle.rlp.specs.declared.error.DecoderError.TheVariants.{OutOfMemory}
-use Rattle.rlp.specs.View.{View}
+use Rattle.rlp.specs.declared.error.DecoderError.TheVariants.{OutOfMemory, RlpIncorrectListLen}
+use Rattle.rlp.specs.View.{View, item_at, item_count}
 
 -- there are as many values as views, and each view gives the value in its place
 abbrev pub GivesEach : {A : Type 0} → (View → A → Type 0) → List View → List A → Type 0
@@ -24,3 +24,22 @@ pub record FaultsFirst {A : Type 0} (gives : View → A → Type 0) (faults : Vi
 -- the right answer for a view, by what its type gives and faults, and whether that may lack memory
 abbrev pub ReadsValue : {A : Type 0} → (View → A → Type 0) → (View → DecoderError → Type 0) → Bool → View → Result A DecoderError → Type 0
 ReadsValue gives faults may_lack_memory v answer = MatchResult answer (λ x. gives v x) (λ e. faults v e ⊎ ((e ≡ OutOfMemory) × IsTrue may_lack_memory))
+
+-- item i of the view gives the value
+abbrev pub GivesAt : {A : Type 0} → (View → A → Type 0) → View → ℕ → A → Type 0
+GivesAt gives v i x = IsOkAnd (item_at v i) (λ item. gives item x)
+
+-- item i of the view has the fault, or that number has it
+abbrev pub FaultsAt : (View → DecoderError → Type 0) → View → ℕ → DecoderError → Type 0
+FaultsAt faults v i e = MatchResult (item_at v i) (λ item. faults item e) (λ f. e ≡ f)
+
+-- Which option a view gives: none of a list of no items, and of a list of one what the item gives.
+pub data GivesOption {A : Type 0} (gives : View → A → Type 0) (v : View) : Option A → Type 0 where
+  no_value : item_count v ≡ Ok 0 → GivesOption gives v None
+  one_value : (x : A) → item_count v ≡ Ok 1 → GivesAt gives v 0 x → GivesOption gives v (Some x)
+
+-- Why a view gives no option: it is no list, it has more than one item, or its one item has the fault.
+pub data FaultsAsOption (faults : View → DecoderError → Type 0) (v : View) : DecoderError → Type 0 where
+  no_list : (e : DecoderError) → item_count v ≡ Err e → FaultsAsOption faults v e
+  many_items : (n : ℕ) → item_count v ≡ Ok n → 1 < n → FaultsAsOption faults v RlpIncorrectListLen
+  faulty_item : (e : DecoderError) → item_count v ≡ Ok 1 → FaultsAt faults v 0 e → FaultsAsOption faults v e

@@ -1,11 +1,12 @@
 -- Which value a view gives, and why it gives none: numbers, byte strings and text.
-use Rattle.std.specs.Prelude.{ℕ, ◌≡◌, ◌≤◌, ◌<◌, ◌⊎◌, ⊤, List, ◌∷◌, length, IsUtf8, Err}
+use Rattle.std.specs.Prelude.{ℕ, ◌≡◌, ◌≤◌, ◌<◌, ◌⊎◌, ⊤, List, ◌∷◌, ◌++◌, length, codes, IsUtf8, Err, Bool}
 use Rattle.rlp.specs.declared.error.DecoderError.{DecoderError}
 use Rattle.rlp.specs.declared.error.DecoderError.TheVariants.{RlpIsTooBig, RlpInvalidIndirection, RlpExpectedToBeData}
 use Rattle.rlp.specs.Item.{Item, string}
 use Rattle.rlp.specs.Encoding.{encoding, BeginsWith}
 use Rattle.rlp.specs.StringReading.{IsString, read_string}
-use Rattle.rlp.specs.Value.{number_item, FitsBytes}
+use Rattle.rlp.specs.Value.{number_item, FitsBytes, AreAlike, bit}
+use Rattle.rlp.specs.Text.{error_name}
 use Rattle.rlp.specs.View.{View}
 
 -- The view gives the value x: x is a value of its type, and the view begins with the encoding of its item.
@@ -51,9 +52,26 @@ IsTextFault d e = (¬ IsUtf8 d) × (e ≡ RlpExpectedToBeData)
 abbrev pub FaultsAsText : View → DecoderError → Type 0
 FaultsAsText v e = FaultsAs IsTextFault v e
 
--- One reading and no other: a value, and only one, or a fault, and only one. `Gives` says which values are read, and `Faults` which faults.
-pub record HasOneReading {A : Type 0} (Gives : A → Type 0) (Faults : DecoderError → Type 0) : Type 0 where
+-- the fault is `Custom` with this text
+abbrev pub IsCustom : List ℕ → DecoderError → Type 0
+IsCustom text e = error_name e ≡ codes "Custom(\"" ++ text ++ codes "\")"
+
+-- the view gives the truth value of the number 0 or 1
+abbrev pub GivesBool : View → Bool → Type 0
+GivesBool v b = GivesNumber 1 v (bit b)
+
+-- Why a view gives no truth value: it gives no number of one byte, or another one.
+pub data FaultsAsBool (v : View) : DecoderError → Type 0 where
+  no_number : (e : DecoderError) → FaultsAsNumber 1 v e → FaultsAsBool v e
+  other_number : (n : ℕ) (e : DecoderError) → GivesNumber 1 v n → 1 < n → IsCustom (codes "invalid boolean value") e → FaultsAsBool v e
+
+-- two faults are the same if they are of one variant, and `Custom` ones have one text
+abbrev pub IsSameFault : DecoderError → DecoderError → Type 0
+IsSameFault e f = error_name e ≡ error_name f
+
+-- One reading and no other: a value, alike ones counted once, or a fault, and only one. `Gives` says which values are read, and `Faults` which faults.
+pub record HasOneReading {A : Type 0} (item : A → Item) (Gives : A → Type 0) (Faults : DecoderError → Type 0) : Type 0 where
   pub some : ((x : A) × Gives x) ⊎ ((e : DecoderError) × Faults e)
-  pub one_value : (x y : A) → Gives x → Gives y → x ≡ y
-  pub one_fault : (e f : DecoderError) → Faults e → Faults f → e ≡ f
+  pub one_value : (x y : A) → Gives x → Gives y → AreAlike item x y
+  pub one_fault : (e f : DecoderError) → Faults e → Faults f → IsSameFault e f
   pub not_both : (x : A) (e : DecoderError) → Gives x → ¬ Faults e

@@ -1,5 +1,5 @@
 -- Bytes give one value of a type that is read from one string, or have one fault.
-use Rattle.std.proofs.Common.{◌≡◌, ℕ, zero, suc, ◌^◌, ◌<◌, ◌≤◌, ◌⊎◌, inl, inr, ⊎_elim, List, [], ◌∷◌, ◌++◌, length, get_or, true, false, refl, sym, ◌∙◌, subst, arith, Result, Ok, Err, IsUtf8}
+use Rattle.std.proofs.Common.{◌≡◌, ℕ, zero, suc, ◌^◌, ◌<◌, ◌≤◌, ◌⊎◌, inl, inr, ⊎_elim, List, [], ◌∷◌, ◌++◌, length, get_or, true, false, refl, sym, ap, ◌∙◌, subst, arith, Result, Ok, Err, IsUtf8}
 use Rattle.std.specs.Int.Digits.{number_from_digits}
 use Rattle.std.specs.Str.{is_utf8}
 use Rattle.std.proofs.lemmas.Bool.{cases_Bool, cases_lt, cond-true, cond-false}
@@ -12,10 +12,11 @@ use Rattle.rlp.specs.Item.{string}
 use Rattle.rlp.specs.WrittenHeader.{big_endian, written_header, AreBytes}
 use Rattle.rlp.specs.Encoding.{encoding, string_encoding, is_low_byte}
 use Rattle.rlp.specs.StringReading.{IsString, ReadsString, read_string}
-use Rattle.rlp.specs.Value.{FitsBytes}
+use Rattle.rlp.specs.Value.{FitsBytes, number_item}
 use Rattle.rlp.specs.ValueReading.{GivesValue, FaultsAs, no_string, no_value, GivesNumber, IsDigitsFault, too_long, leading_zero, FaultsAsNumber, GivesBytes, FaultsAsBytes, GivesText, IsTextFault, FaultsAsText, HasOneReading}
+use Rattle.rlp.specs.Text.{error_name}
 use Rattle.rlp.specs.View.{view_of}
-use Rattle.rlp.specs.Lemmas.Digits.{big_endian_is, big_endian_same, big_endian_first, big_endian_zero}
+use Rattle.rlp.specs.Lemmas.Digits.{big_endian_is, big_endian_first, big_endian_zero}
 use Rattle.rlp.specs.Lemmas.Numbers.{pow-bytes, digits_fit, digits_again, none_is_zero}
 use Rattle.rlp.specs.Lemmas.Reading.{Bytes}
 use Rattle.rlp.specs.Lemmas.Strings.{string_reads, string_only}
@@ -47,7 +48,6 @@ string_bytes b d bytes (rest, is) =
 
 record IsTold {A : Type 0} (Fits : A → Type 0) (text : A → List ℕ) (IsFaulty : List ℕ → DecoderError → Type 0) : Type 0 where
   pub told : (d : List ℕ) → AreBytes d → ((x : A) × (Fits x) × (text x ≡ d)) ⊎ ((e : DecoderError) × IsFaulty d e)
-  pub same : (x y : A) → text x ≡ text y → x ≡ y
   pub sound : (x : A) (e : DecoderError) → Fits x → ¬ IsFaulty (text x) e
   pub one : (d : List ℕ) (e f : DecoderError) → IsFaulty d e → IsFaulty d f → e ≡ f
 
@@ -85,11 +85,11 @@ module _ {A : Type 0} (Fits : A → Type 0) (text : A → List ℕ) (IsFaulty : 
   one_fault_by e f (no_value d g stands faulty) (no_value s h stands' faulty') =
       is.one s g h (subst (λ d. IsFaulty d g) (same_string b d s fits stands stands') faulty) faulty'
 
-  reading : AreBytes b → HasOneReading Given Fault
+  reading : AreBytes b → HasOneReading (λ x. string (text x)) Given Fault
   reading bytes = record {
     some = some_read bytes (read_string b) refl (string_reads b bytes fits);
-    one_value = λ x y one two. is.same x y (same_string b (text x) (text y) fits one.begins two.begins);
-    one_fault = one_fault_by;
+    one_value = λ x y one two. ap string (same_string b (text x) (text y) fits one.begins two.begins);
+    one_fault = λ e f one two. ap error_name (one_fault_by e f one two);
     not_both = not_both_by;
   }
 
@@ -128,10 +128,10 @@ one_digits width d e f (too_long long) (leading_zero more few same) = absurd (om
 one_digits width d e f (leading_zero more few same) (too_long long) = absurd (omega arith)
 one_digits width d e f (leading_zero more few same) (leading_zero more' few' same') = refl
 
-pub number_reading : (b : List ℕ) → AreBytes b → length b < 2 ^ 64 → (width : ℕ) → HasOneReading (GivesNumber width (view_of b)) (FaultsAsNumber width (view_of b))
+pub number_reading : (b : List ℕ) → AreBytes b → length b < 2 ^ 64 → (width : ℕ) → HasOneReading number_item (GivesNumber width (view_of b)) (FaultsAsNumber width (view_of b))
 number_reading b bytes fits width =
     reading (FitsBytes width) big_endian (IsDigitsFault width)
-    (record { told = told_digits width; same = big_endian_same; sound = sound_digits width; one = one_digits width }) b fits bytes
+    (record { told = told_digits width; sound = sound_digits width; one = one_digits width }) b fits bytes
 
 -- ---- byte strings
 
@@ -139,11 +139,11 @@ bytes_some : (b : List ℕ) (r : Result (List ℕ) DecoderError) → read_string
 bytes_some b (Ok d) same stands = inl (d, record { fits = tt; begins = stands })
 bytes_some b (Err e) same none = inr (e, same)
 
-pub bytes_reading : (b : List ℕ) → AreBytes b → length b < 2 ^ 64 → HasOneReading (GivesBytes (view_of b)) (FaultsAsBytes (view_of b))
+pub bytes_reading : (b : List ℕ) → AreBytes b → length b < 2 ^ 64 → HasOneReading string (GivesBytes (view_of b)) (FaultsAsBytes (view_of b))
 bytes_reading b bytes fits = record {
   some = bytes_some b (read_string b) refl (string_reads b bytes fits);
-  one_value = λ d s one two. same_string b d s fits one.begins two.begins;
-  one_fault = λ e f one two. let same = sym one ∙ two in cc;
+  one_value = λ d s one two. ap string (same_string b d s fits one.begins two.begins);
+  one_fault = λ e f one two. let same = sym one ∙ two in let faults : e ≡ f = cc in ap error_name faults;
   not_both = λ d e one two. stands_read b d e fits one.begins two;
 }
 
@@ -156,7 +156,7 @@ told_text d bytes =
     (λ bad. inr (RlpExpectedToBeData, ((λ good. let same : true ≡ false = sym (is_utf8-from_IsUtf8 d good) ∙ bad in cc), refl)))
     (cases_Bool (is_utf8 d))
 
-pub text_reading : (b : List ℕ) → AreBytes b → length b < 2 ^ 64 → HasOneReading (GivesText (view_of b)) (FaultsAsText (view_of b))
+pub text_reading : (b : List ℕ) → AreBytes b → length b < 2 ^ 64 → HasOneReading string (GivesText (view_of b)) (FaultsAsText (view_of b))
 text_reading b bytes fits =
     reading IsUtf8 (λ t. t) IsTextFault
-    (record { told = told_text; same = λ t u same. same; sound = λ t e good bad. bad.0 good; one = λ d e f one two. one.1 ∙ sym two.1 }) b fits bytes
+    (record { told = told_text; sound = λ t e good bad. bad.0 good; one = λ d e f one two. one.1 ∙ sym two.1 }) b fits bytes

@@ -1,12 +1,13 @@
 -- Values whose encodings are read back.
-use Rattle.std.proofs.Common.{◌≡◌, ◌↔◌, ℕ, ◌^◌, ◌<◌, List, length, sym, ap, subst, Err}
+use Rattle.std.proofs.Common.{◌≡◌, ◌↔◌, ℕ, ◌^◌, ◌<◌, List, length, sym, ap, subst, Err, IsUtf8}
+use Rattle.std.specs.Bool.{⊤}
 use Rattle.rlp.specs.declared.error.DecoderError.{DecoderError}
 use Rattle.rlp.specs.Item.{Item, string}
 use Rattle.rlp.specs.Encoding.{BeginsWith, encoding}
 use Rattle.rlp.specs.StringReading.{IsString, read_string}
 use Rattle.rlp.specs.Value.{FitsBytes, number_item}
 use Rattle.rlp.specs.WrittenHeader.{big_endian}
-use Rattle.rlp.specs.ValueReading.{GivesValue, FaultsAs, no_string, no_value, GivesNumber, IsDigitsFault, FaultsAsNumber}
+use Rattle.rlp.specs.ValueReading.{GivesValue, FaultsAs, no_string, no_value, GivesNumber, IsDigitsFault, FaultsAsNumber, GivesBytes, FaultsAsBytes, GivesText, IsTextFault, FaultsAsText}
 use Rattle.rlp.specs.View.{View}
 use Rattle.rlp.specs.RoundTrip.{ReadsBack}
 use Rattle.rlp.specs.Lemmas.OneReading.{stands_read, same_string, sound_digits}
@@ -14,28 +15,42 @@ use Rattle.rlp.specs.Lemmas.OneReading.{stands_read, same_string, sound_digits}
 pub itself : {P : Type 0} → P ↔ P
 itself = (λ p. p, λ p. p)
 
+-- ---- a type of which contracts see another one's value
+
+pub reads_back_through : {A B : Type 0} (value : B → A) {Fits : A → Type 0} {item : A → Item} {gives : View → A → Type 0} {faults : View → DecoderError → Type 0} {view : View} {v : B}
+    → ReadsBack Fits item gives faults view (value v) → ReadsBack (λ w. Fits (value w)) (λ w. item (value w)) (λ view w. gives view (value w)) faults view v
+reads_back_through value back = record { alike = λ w. back.alike (value w); no_fault = back.no_fault }
+
+pub given_through : {A B : Type 0} (Fits : A → Type 0) (item : A → Item) (value : B → A) (view : View) (v : B) → GivesValue Fits item view (value v) ↔ GivesValue (λ w. Fits (value w)) (λ w. item (value w)) view v
+given_through Fits item value view v = (λ g. record { fits = g.fits; begins = g.begins }, λ g. record { fits = g.fits; begins = g.begins })
+
+-- ---- a type that is read from one string
+
 string_same : (d s : List ℕ) → string d ≡ string s → d ≡ s
 string_same d s e = cc
 
--- ---- a type that is read from one string, where value is what its contracts see of it
-
-module _ {A S : Type 0} (Fits : S → Type 0) (text : S → List ℕ) (value : A → S) (view : View) (v : A) (fits : length view.bytes < 2 ^ 64) where
+module _ {A : Type 0} (Fits : A → Type 0) (text : A → List ℕ) (view : View) (v : A) (fits : length view.bytes < 2 ^ 64) (begins : IsString view.bytes (text v)) where
   -- the values that are given are those alike
-  pub alike_given : Fits (value v) → IsString view.bytes (text (value v)) → (w : A) → GivesValue Fits (λ s. string (text s)) view (value w) ↔ (Fits (value w) × (string (text (value w)) ≡ string (text (value v))))
-  alike_given fit begins w = (
-    λ given. (given.fits, ap string (same_string view.bytes (text (value w)) (text (value v)) fits given.begins begins)),
-    λ (fit', same). record { fits = fit'; begins = subst (IsString view.bytes) (sym (string_same (text (value w)) (text (value v)) same)) begins },
+  alike_given : (w : A) → GivesValue Fits (λ x. string (text x)) view w ↔ (Fits w × (string (text w) ≡ string (text v)))
+  alike_given w = (
+    λ given. (given.fits, ap string (same_string view.bytes (text w) (text v) fits given.begins begins)),
+    λ (fit, same). record { fits = fit; begins = subst (IsString view.bytes) (sym (string_same (text w) (text v) same)) begins },
   )
 
-  none_faulty : (IsFaulty : List ℕ → DecoderError → Type 0) → ((s : S) (e : DecoderError) → Fits s → ¬ IsFaulty (text s) e) → Fits (value v) → IsString view.bytes (text (value v)) → (e : DecoderError) → ¬ FaultsAs IsFaulty view e
-  none_faulty IsFaulty sound fit begins e (no_string g none) = stands_read view.bytes (text (value v)) g fits begins none
-  none_faulty IsFaulty sound fit begins e (no_value d g stands faulty) =
-      sound (value v) g fit (subst (λ d. IsFaulty d g) (same_string view.bytes d (text (value v)) fits stands begins) faulty)
+  none_faulty : (IsFaulty : List ℕ → DecoderError → Type 0) → ((e : DecoderError) → ¬ IsFaulty (text v) e) → (e : DecoderError) → ¬ FaultsAs IsFaulty view e
+  none_faulty IsFaulty sound e (no_string g none) = stands_read view.bytes (text v) g fits begins none
+  none_faulty IsFaulty sound e (no_value d g stands faulty) = sound g (subst (λ d. IsFaulty d g) (same_string view.bytes d (text v) fits stands begins) faulty)
 
-  pub reads_back : (IsFaulty : List ℕ → DecoderError → Type 0) → ((s : S) (e : DecoderError) → Fits s → ¬ IsFaulty (text s) e) → Fits (value v) → IsString view.bytes (text (value v))
-      → ReadsBack (λ w. Fits (value w)) (λ w. string (text (value w))) (λ view w. GivesValue Fits (λ s. string (text s)) view (value w)) (FaultsAs IsFaulty) view v
-  reads_back IsFaulty sound fit begins = record { alike = alike_given fit begins; no_fault = none_faulty IsFaulty sound fit begins }
+  pub reads_back : (IsFaulty : List ℕ → DecoderError → Type 0) → ((e : DecoderError) → ¬ IsFaulty (text v) e)
+      → ReadsBack Fits (λ x. string (text x)) (λ view w. GivesValue Fits (λ x. string (text x)) view w) (FaultsAs IsFaulty) view v
+  reads_back IsFaulty sound = record { alike = alike_given; no_fault = none_faulty IsFaulty sound }
 
 pub number_reads_back : (width : ℕ) (view : View) (n : ℕ) → length view.bytes < 2 ^ 64 → FitsBytes width n → BeginsWith view.bytes (encoding (number_item n))
     → ReadsBack (FitsBytes width) number_item (GivesNumber width) (FaultsAsNumber width) view n
-number_reads_back width view n fits fit begins = reads_back (FitsBytes width) big_endian (λ (m : ℕ). m) view n fits (IsDigitsFault width) (sound_digits width) fit begins
+number_reads_back width view n fits fit begins = reads_back (FitsBytes width) big_endian view n fits begins (IsDigitsFault width) (λ e. sound_digits width n e fit)
+
+pub bytes_reads_back : (view : View) (d : List ℕ) → length view.bytes < 2 ^ 64 → BeginsWith view.bytes (encoding (string d)) → ReadsBack (λ d. ⊤) string GivesBytes FaultsAsBytes view d
+bytes_reads_back view d fits begins = record { alike = alike_given (λ d. ⊤) (λ d. d) view d fits begins; no_fault = λ e none. stands_read view.bytes d e fits begins none }
+
+pub text_reads_back : (view : View) (t : List ℕ) → length view.bytes < 2 ^ 64 → IsUtf8 t → BeginsWith view.bytes (encoding (string t)) → ReadsBack IsUtf8 string GivesText FaultsAsText view t
+text_reads_back view t fits good begins = reads_back IsUtf8 (λ t. t) view t fits begins IsTextFault (λ e bad. bad.0 good)

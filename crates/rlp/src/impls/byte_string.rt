@@ -3,7 +3,7 @@
 use crate::error::DecoderError;
 use crate::rlpin::Rlp;
 use crate::stream::RlpStream;
-use crate::traits::{Decodable, Encodable};
+use crate::traits::{Decodable, Encodable, RoundTrip, Scalar};
 use std::alloc::{AllocError, Global};
 
 impl Encodable for Vec<u8> {
@@ -52,4 +52,21 @@ impl Decodable for Vec<u8> {
                 Err(_) => Err(DecoderError::OutOfMemory),
             })
     }
+}
+
+impl RoundTrip for Vec<u8> {
+    ghost use Rattle.std.specs.Vec.{vec_items};
+    ghost use Rattle.rlp.specs.Lemmas.RoundTrips.{bytes_reads_back, reads_back_through};
+
+    ghost round_trip = { λ view v fits fit begins. reads_back_through vec_items
+        (bytes_reads_back view (vec_items v) fits begins) };
+}
+
+impl Scalar for Vec<u8> {
+    ghost use Rattle.std.specs.Prelude.{⊤};
+    ghost use Rattle.std.specs.Vec.{vec_items};
+    ghost use Rattle.rlp.specs.Item.{string};
+    ghost use Rattle.rlp.specs.Lemmas.RoundTrips.{given_through};
+
+    ghost exact = { given_through (λ d. ⊤) string vec_items };
 }

@@ -3,7 +3,7 @@
 use crate::error::DecoderError;
 use crate::rlpin::Rlp;
 use crate::stream::RlpStream;
-use crate::traits::{Decodable, Encodable};
+use crate::traits::{Decodable, Encodable, RoundTrip, Scalar};
 use std::alloc::{AllocError, Global};
 
 impl Encodable for String {
@@ -58,4 +58,21 @@ impl Decodable for String {
             }
         })
     }
+}
+
+impl RoundTrip for String {
+    ghost use Rattle.std.specs.String.{string_bytes};
+    ghost use Rattle.rlp.specs.Lemmas.RoundTrips.{text_reads_back, reads_back_through};
+
+    ghost round_trip = { λ view v fits fit begins. reads_back_through string_bytes
+        (text_reads_back view (string_bytes v) fits fit begins) };
+}
+
+impl Scalar for String {
+    ghost use Rattle.std.specs.Prelude.{IsUtf8};
+    ghost use Rattle.std.specs.String.{string_bytes};
+    ghost use Rattle.rlp.specs.Item.{string};
+    ghost use Rattle.rlp.specs.Lemmas.RoundTrips.{given_through};
+
+    ghost exact = { given_through IsUtf8 string string_bytes };
 }

@@ -1,8 +1,10 @@
 //! What is read from the front of bytes: strings, numbers, byte strings and text.
 
 ghost use Rattle.std.specs.Prelude.{◌≡◌, ℕ, List, Ok};
+ghost use Rattle.rlp.specs.Item.{string};
 ghost use Rattle.rlp.specs.StringReading.{IsString, ReadsString, read_string};
 ghost use Rattle.rlp.specs.ValueReading.{GivesNumber, FaultsAsNumber, GivesBytes, FaultsAsBytes, GivesText, FaultsAsText, HasOneReading};
+ghost use Rattle.rlp.specs.Value.{number_item};
 ghost use Rattle.rlp.specs.View.{view_of};
 
 /// `read_string` gives the one string whose encoding stands at the front of the bytes, and a fault
@@ -15,16 +17,16 @@ pub fn string_is_read(bytes: &[u8])
 /// Of each width, bytes give one number and have no fault, or give none and have one fault.
 pub fn number_is_read(bytes: &[u8])
     ensures { (width : ℕ)
-        → HasOneReading (GivesNumber width (view_of bytes.now)) (FaultsAsNumber width
-        (view_of bytes.now)) }
+        → HasOneReading number_item (GivesNumber width (view_of bytes.now))
+        (FaultsAsNumber width (view_of bytes.now)) }
 {}
 
 /// Bytes give one byte string and have no fault, or give none and have one fault.
 pub fn bytes_are_read(bytes: &[u8])
-    ensures { HasOneReading (GivesBytes (view_of bytes.now)) (FaultsAsBytes (view_of bytes.now)) }
+    ensures { HasOneReading string (GivesBytes (view_of bytes.now)) (FaultsAsBytes (view_of bytes.now)) }
 {}
 
 /// Bytes give one text and have no fault, or give none and have one fault.
 pub fn text_is_read(bytes: &[u8])
-    ensures { HasOneReading (GivesText (view_of bytes.now)) (FaultsAsText (view_of bytes.now)) }
+    ensures { HasOneReading string (GivesText (view_of bytes.now)) (FaultsAsText (view_of bytes.now)) }
 {}
