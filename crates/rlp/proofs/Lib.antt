@@ -19,3 +19,4 @@ pub mod Opened
 pub mod ClosedSize
 pub mod Listed
 pub mod Filling
+pub mod Decoding

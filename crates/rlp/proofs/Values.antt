@@ -28,3 +28,19 @@ pub faults_from : {A : Type 0} (r : Result A DecoderError) (IsFaulty : List ℕ 
     → ((d : List ℕ) → Calls d → IfErr r (λ e. IsFaulty d e ⊎ M e)) → IfErr r (λ e. FaultsAs IsFaulty v e ⊎ M e)
 faults_from r IsFaulty M Calls {decoder = decoder} same found missing called =
     subst (λ v. IfErr r (λ e. FaultsAs IsFaulty v e ⊎ M e)) same (faults_by r IsFaulty M Calls decoder (read_string decoder.bytes) refl found missing called)
+
+no_memory : {A : Type 0} (r : Result A DecoderError) (F : DecoderError → Type 0) → IfErr r (λ e. F e ⊎ ⊥) → IfErr r (λ e. F e)
+no_memory (Ok x) F h = tt
+no_memory (Err e) F (inl h) = h
+no_memory (Err e) F (inr h) = absurd h
+
+or_memory : {A : Type 0} (r : Result A DecoderError) (F : DecoderError → Type 0) → IfErr r (λ e. F e) → IfErr r (λ e. F e ⊎ ⊥)
+or_memory (Ok x) F h = tt
+or_memory (Err e) F h = inl h
+
+-- the same of an answer that takes no memory
+pub faults_only : {A : Type 0} (r : Result A DecoderError) (IsFaulty : List ℕ → DecoderError → Type 0) (Calls : List ℕ → Type 0) {decoder v : View} → decoder ≡ v
+    → IfOk (read_string decoder.bytes) (λ d. IsString decoder.bytes d × Calls d) → IfErr (read_string decoder.bytes) (λ e. HasNoString decoder.bytes × IsErrAnd r (λ x. x ≡ e))
+    → ((d : List ℕ) → Calls d → IfErr r (λ e. IsFaulty d e)) → IfErr r (λ e. FaultsAs IsFaulty v e)
+faults_only r IsFaulty Calls {v = v} same found missing called =
+    no_memory r (FaultsAs IsFaulty v) (faults_from r IsFaulty (λ e. ⊥) Calls same found missing (λ d call. or_memory r (IsFaulty d) (called d call)))

@@ -10,3 +10,4 @@ pub mod Numbers
 pub mod OneReading
 pub mod RoundTrips
 pub mod Numbered
+pub mod ListRoundTrips

@@ -1,15 +1,16 @@
 -- Values whose encodings are read back.
-use Rattle.std.proofs.Common.{◌≡◌, ◌↔◌, ℕ, ◌^◌, ◌<◌, List, length, sym, ap, subst, Err, IsUtf8}
+use Rattle.std.proofs.Common.{◌≡◌, ◌↔◌, ℕ, ◌^◌, ◌<◌, List, length, sym, ap, subst, arith, Err, IsUtf8, Bool, true, false}
 use Rattle.std.specs.Bool.{⊤}
 use Rattle.rlp.specs.declared.error.DecoderError.{DecoderError}
 use Rattle.rlp.specs.Item.{Item, string}
 use Rattle.rlp.specs.Encoding.{BeginsWith, encoding}
 use Rattle.rlp.specs.StringReading.{IsString, read_string}
-use Rattle.rlp.specs.Value.{FitsBytes, number_item}
+use Rattle.rlp.specs.Value.{FitsBytes, number_item, bit}
 use Rattle.rlp.specs.WrittenHeader.{big_endian}
-use Rattle.rlp.specs.ValueReading.{GivesValue, FaultsAs, no_string, no_value, GivesNumber, IsDigitsFault, FaultsAsNumber, GivesBytes, FaultsAsBytes, GivesText, IsTextFault, FaultsAsText}
+use Rattle.rlp.specs.ValueReading.{GivesValue, FaultsAs, no_string, no_value, GivesNumber, IsDigitsFault, FaultsAsNumber, GivesBytes, FaultsAsBytes, GivesText, IsTextFault, FaultsAsText, GivesBool, FaultsAsBool, no_number, other_number}
 use Rattle.rlp.specs.View.{View}
 use Rattle.rlp.specs.RoundTrip.{ReadsBack}
+use Rattle.rlp.specs.Lemmas.Digits.{big_endian_same}
 use Rattle.rlp.specs.Lemmas.OneReading.{stands_read, same_string, sound_digits}
 
 pub itself : {P : Type 0} → P ↔ P
@@ -54,3 +55,36 @@ bytes_reads_back view d fits begins = record { alike = alike_given (λ d. ⊤) (
 
 pub text_reads_back : (view : View) (t : List ℕ) → length view.bytes < 2 ^ 64 → IsUtf8 t → BeginsWith view.bytes (encoding (string t)) → ReadsBack IsUtf8 string GivesText FaultsAsText view t
 text_reads_back view t fits good begins = reads_back IsUtf8 (λ t. t) view t fits begins IsTextFault (λ e bad. bad.0 good)
+
+-- the same for the law of `Scalar`
+pub exact_through : {A B : Type 0} (Fits : A → Type 0) (item : A → Item) (value : B → A) (view : View) (v : B) {G : Type 0} → (G ↔ GivesValue Fits item view (value v))
+    → G ↔ GivesValue (λ w. Fits (value w)) (λ w. item (value w)) view v
+exact_through Fits item value view v exact = let through = given_through Fits item value view v in (λ g. through.0 (exact.0 g), λ g. exact.1 (through.1 g))
+
+-- ---- truth values
+
+bit_below : (b : Bool) → FitsBytes 1 (bit b)
+bit_below true = omega arith
+bit_below false = omega arith
+
+bit_least : (b : Bool) → ¬ (1 < bit b)
+bit_least true h = omega arith
+bit_least false h = omega arith
+
+pub bool_exact : (view : View) (b : Bool) → GivesBool view b ↔ GivesValue (λ b. ⊤) (λ b. number_item (bit b)) view b
+bool_exact view b = (λ g. record { fits = tt; begins = g.begins }, λ g. record { fits = bit_below b; begins = g.begins })
+
+no_other : (view : View) (b : Bool) → ReadsBack (FitsBytes 1) number_item (GivesNumber 1) (FaultsAsNumber 1) view (bit b) → (e : DecoderError) → ¬ FaultsAsBool view e
+no_other view b back e (no_number g faults) = back.no_fault g faults
+no_other view b back e (other_number n g gives large custom) =
+    let alike : number_item n ≡ number_item (bit b) = ((back.alike n).0 gives).1 in
+    let same : n ≡ bit b = big_endian_same n (bit b) (string_same (big_endian n) (big_endian (bit b)) alike) in
+    bit_least b (subst (λ m. 1 < m) same large)
+
+pub bool_reads_back : (view : View) (b : Bool) → length view.bytes < 2 ^ 64 → BeginsWith view.bytes (encoding (number_item (bit b)))
+    → ReadsBack (λ b. ⊤) (λ b. number_item (bit b)) GivesBool FaultsAsBool view b
+bool_reads_back view b fits begins =
+    let back : ReadsBack (FitsBytes 1) number_item (GivesNumber 1) (FaultsAsNumber 1) view (bit b) = number_reads_back 1 view (bit b) fits (bit_below b) begins in
+    record { alike = λ w. (λ g. (tt, ((back.alike (bit w)).0 g).1), λ (any, same). (back.alike (bit w)).1 (bit_below w, same)); no_fault = no_other view b back }
+
+pub ruleset bool_faults = (no_number, other_number)

@@ -4,7 +4,7 @@ ghost use Rattle.std.specs.Prelude.{◌≡◌, ◌≤◌, ◌<◌, length, Ok, E
 ghost use Rattle.std.specs.Int.Digits.{number_from_digits};
 ghost use Rattle.rlp.specs.WrittenHeader.{big_endian};
 ghost use Rattle.rlp.specs.Value.{FitsBytes};
-ghost use Rattle.rlp.specs.ValueReading.{IsDigitsFault};
+ghost use Rattle.rlp.specs.ValueReading.{IsDigitsFault, GivesNumber, FaultsAsNumber};
 
 use crate::error::DecoderError;
 use crate::rlpin::{Rlp, number_of};
@@ -42,8 +42,7 @@ impl Decodable for u64 {
     ghost may_lack_memory = { false };
 
     fn decode(_alloc: Global, rlp: &Rlp<'_>) -> Result<u64, DecoderError> {
-        rlp.decoder()
-            .decode_value(|digits: &[u8]| Ok(number_within(digits, 8)? as u64))
+        Ok(read_number(rlp, 8)? as u64)
     }
 }
 
@@ -57,6 +56,56 @@ impl Scalar for u64 {
     ghost use Rattle.rlp.specs.Lemmas.RoundTrips.{itself};
 
     ghost exact = { λ view v. itself };
+}
+
+impl Encodable for u8 {
+    ghost use Rattle.rlp.specs.Value.{number_item, FitsBytes};
+
+    ghost item = { λ v. number_item v };
+
+    ghost fits = { λ v. FitsBytes 1 v };
+
+    fn rlp_append(&self, s: &mut RlpStream) -> Result<(), AllocError> {
+        (*self as u64).rlp_append(s)
+    }
+}
+
+/// A number of one byte, as `u64` is read.
+impl Decodable for u8 {
+    ghost use Rattle.std.specs.Prelude.{false};
+    ghost use Rattle.rlp.specs.ValueReading.{GivesNumber, FaultsAsNumber};
+
+    ghost gives = { λ v n. GivesNumber 1 v n };
+
+    ghost faults = { λ v e. FaultsAsNumber 1 v e };
+
+    ghost may_lack_memory = { false };
+
+    fn decode(_alloc: Global, rlp: &Rlp<'_>) -> Result<u8, DecoderError> {
+        Ok(read_number(rlp, 1)? as u8)
+    }
+}
+
+impl RoundTrip for u8 {
+    ghost use Rattle.rlp.specs.Lemmas.RoundTrips.{number_reads_back};
+
+    ghost round_trip = { number_reads_back 1 };
+}
+
+impl Scalar for u8 {
+    ghost use Rattle.rlp.specs.Lemmas.RoundTrips.{itself};
+
+    ghost exact = { λ view v. itself };
+}
+
+/// The number of at most `width` bytes that the view begins with.
+fn read_number(rlp: &Rlp<'_>, width: usize) -> Result<usize, DecoderError>
+    requires { width ≤ 8 }
+    ensures value { IfOk result (λ n. GivesNumber width rlp.now n) }
+    ensures fault { IfErr result (λ e. FaultsAsNumber width rlp.now e) }
+{
+    rlp.decoder()
+        .decode_value(|digits: &[u8]| number_within(digits, width))
 }
 
 /// The number whose digits these are, where it is one of `width` bytes.

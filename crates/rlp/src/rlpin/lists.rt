@@ -1,8 +1,8 @@
 //! Values of the items of a list.
 
-ghost use Rattle.std.specs.Prelude.{◌≡◌, ◌⊎◌, Err, IfErr, IfOk, MatchResult};
+ghost use Rattle.std.specs.Prelude.{◌≡◌, ◌⊎◌, Err, IfErr, IfOk, IsTrue, MatchResult};
 ghost use Rattle.rlp.specs.declared.error.DecoderError.TheVariants.{OutOfMemory};
-ghost use Rattle.rlp.specs.ListReading.{FaultsFirst, GivesEach, ReadsValue};
+ghost use Rattle.rlp.specs.ListReading.{FaultsAt, FaultsFirst, GivesAt, GivesEach, ReadsValue};
 ghost use Rattle.rlp.specs.View.{item_at, item_views};
 
 use crate::error::DecoderError;
@@ -46,9 +46,12 @@ impl<'a> Rlp<'a> {
     ///
     /// The faults are those of the two.
     pub fn val_at<T: Decodable>(&self, alloc: Global, index: usize) -> Result<T, DecoderError>
-        ensures { MatchResult (item_at self.now index)
+        ensures exact { MatchResult (item_at self.now index)
             (λ item. ReadsValue T.gives T.faults T.may_lack_memory item result)
             (λ e. result ≡ Err e) }
+        ensures value { IfOk result (λ x. GivesAt T.gives self.now index x) }
+        ensures fault { IfErr result (λ e. (FaultsAt T.faults self.now index e)
+            ⊎ ((e ≡ OutOfMemory) × IsTrue T.may_lack_memory)) }
     {
         match self.at(index) {
             Ok(item) => item.as_val(alloc),

@@ -1,0 +1,16 @@
+use Rattle.std.proofs.Common.{◌<◌, ◌^◌, length, arith}
+use Rattle.rlp.specs.View.{view_of}
+use Rattle.rlp.specs.Lemmas.ListRoundTrips.{list_item_reads_back}
+use Rattle.rlp.proofs.Decoding.{list_items}
+use Rattle.rlp.proofs.laws.round_trip.list_is_read_back.Goals as goal
+
+pub returns-clause-items : goal.returns-clause-items
+returns-clause-items g c =
+    let fits : length c.args.bytes.now < 2 ^ 64 = omega arith in
+    λ vs begins. list_items g.T.Encodable.item vs c.args.bytes.now fits begins
+
+pub returns-clause-each : goal.returns-clause-each
+returns-clause-each g c =
+    let fits : length c.args.bytes.now < 2 ^ 64 = omega arith in
+    λ before after v begins fit.
+    list_item_reads_back g.T.Encodable.fits g.T.Encodable.item g.T.Decodable.gives g.T.Decodable.faults g.met.T.RoundTrip.round_trip before after v (view_of c.args.bytes.now) fits fit begins

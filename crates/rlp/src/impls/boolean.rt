@@ -1,0 +1,56 @@
+//! Truth values: the numbers 0 and 1.
+
+use crate::error::DecoderError;
+use crate::rlpin::Rlp;
+use crate::stream::RlpStream;
+use crate::traits::{Decodable, Encodable, RoundTrip, Scalar};
+use std::alloc::{AllocError, Global};
+
+impl Encodable for bool {
+    ghost use Rattle.std.specs.Prelude.{⊤};
+    ghost use Rattle.rlp.specs.Value.{bit, number_item};
+
+    ghost item = { λ b. number_item (bit b) };
+
+    ghost fits = { λ b. ⊤ };
+
+    fn rlp_append(&self, s: &mut RlpStream) -> Result<(), AllocError> {
+        let number: u64 = if *self { 1 } else { 0 };
+        number.rlp_append(s)
+    }
+}
+
+/// The number 0 or 1 of one byte; another one is `Custom("invalid boolean value")`. No memory is
+/// taken.
+impl Decodable for bool {
+    ghost use Rattle.std.specs.Prelude.{false};
+    ghost use Rattle.rlp.specs.ValueReading.{GivesBool, FaultsAsBool};
+
+    ghost gives = { GivesBool };
+
+    ghost faults = { FaultsAsBool };
+
+    ghost may_lack_memory = { false };
+
+    #[tactic(auto, using(crate::specs::Lemmas::RoundTrips::bool_faults))]
+    fn decode(alloc: Global, rlp: &Rlp<'_>) -> Result<bool, DecoderError> {
+        match u8::decode(alloc, rlp) {
+            Ok(0) => Ok(false),
+            Ok(1) => Ok(true),
+            Ok(_) => Err(DecoderError::Custom("invalid boolean value")),
+            Err(fault) => Err(fault),
+        }
+    }
+}
+
+impl RoundTrip for bool {
+    ghost use Rattle.rlp.specs.Lemmas.RoundTrips.{bool_reads_back};
+
+    ghost round_trip = { λ view b fits fit begins. bool_reads_back view b fits begins };
+}
+
+impl Scalar for bool {
+    ghost use Rattle.rlp.specs.Lemmas.RoundTrips.{bool_exact};
+
+    ghost exact = { bool_exact };
+}

@@ -1,0 +1,51 @@
+//! Boxes: the item of what they hold.
+
+use crate::error::DecoderError;
+use crate::rlpin::Rlp;
+use crate::stream::RlpStream;
+use crate::traits::{Decodable, Encodable, RoundTrip, Scalar};
+use std::alloc::{AllocError, Global};
+
+impl<T: Encodable> Encodable for Box<T> {
+    ghost item = { λ b. T.item b.value };
+
+    ghost fits = { λ b. T.fits b.value };
+
+    fn rlp_append(&self, s: &mut RlpStream) -> Result<(), AllocError> {
+        T::rlp_append(self, s)
+    }
+}
+
+/// What its type reads, in a box.
+impl<T: Decodable> Decodable for Box<T> {
+    ghost use Rattle.std.specs.Prelude.{true};
+
+    ghost gives = { λ v b. T.gives v b.value };
+
+    ghost faults = { T.faults };
+
+    ghost may_lack_memory = { true };
+
+    fn decode(alloc: Global, rlp: &Rlp<'_>) -> Result<Box<T>, DecoderError> {
+        match Box::new(alloc, T::decode(alloc, rlp)?) {
+            Ok(boxed) => Ok(boxed),
+            Err(_) => Err(DecoderError::OutOfMemory),
+        }
+    }
+}
+
+impl<T: RoundTrip> RoundTrip for Box<T> {
+    ghost use Rattle.std.specs.Box.{box_value};
+    ghost use Rattle.rlp.specs.Lemmas.RoundTrips.{reads_back_through};
+
+    ghost round_trip = { λ view b fits fit begins. reads_back_through box_value
+        (T.round_trip view (box_value b) fits fit begins) };
+}
+
+impl<T: Scalar> Scalar for Box<T> {
+    ghost use Rattle.std.specs.Box.{box_value};
+    ghost use Rattle.rlp.specs.Lemmas.RoundTrips.{exact_through};
+
+    ghost exact = { λ view b. exact_through T.fits T.item box_value view b
+        (T.exact view (box_value b)) };
+}

@@ -1,0 +1,54 @@
+//! Options: the list of no items, or of one.
+
+ghost use Rattle.std.specs.Prelude.{IfSome};
+ghost use Rattle.rlp.specs.Value.{option_item};
+ghost use Rattle.rlp.specs.ListReading.{GivesOption, FaultsAsOption};
+
+use crate::error::DecoderError;
+use crate::rlpin::Rlp;
+use crate::stream::RlpStream;
+use crate::traits::{Decodable, Encodable, RoundTrip};
+use std::alloc::{AllocError, Global};
+
+impl<T: Encodable> Encodable for Option<T> {
+    ghost item = { λ o. option_item T.item o };
+
+    ghost fits = { λ o. IfSome o T.fits };
+
+    // Streams have no lists yet: this stands for the body that appends a list.
+    #[tactic(auto, using(crate::proofs::Growth::growth))]
+    fn rlp_append(&self, _s: &mut RlpStream) -> Result<(), AllocError> {
+        Err(AllocError)
+    }
+}
+
+/// `None` of a list of no items, and of a list of one item its value.
+///
+/// `RlpExpectedToBeList` where there is no byte or the first is one of a string, and
+/// `RlpIncorrectListLen` where there is more than one item.
+impl<T: Decodable> Decodable for Option<T> {
+    ghost gives = { λ v o. GivesOption T.gives v o };
+
+    ghost faults = { λ v e. FaultsAsOption T.faults v e };
+
+    ghost may_lack_memory = { T.may_lack_memory };
+
+    #[tactic(auto, using(crate::specs::Lemmas::ListRoundTrips::option_answers))]
+    fn decode(alloc: Global, rlp: &Rlp<'_>) -> Result<Option<T>, DecoderError> {
+        match rlp.item_count() {
+            Ok(0) => Ok(None),
+            Ok(1) => match rlp.val_at(alloc, 0) {
+                Ok(value) => Ok(Some(value)),
+                Err(fault) => Err(fault),
+            },
+            Ok(_) => Err(DecoderError::RlpIncorrectListLen),
+            Err(fault) => Err(fault),
+        }
+    }
+}
+
+impl<T: RoundTrip> RoundTrip for Option<T> {
+    ghost use Rattle.rlp.specs.Lemmas.ListRoundTrips.{option_reads_back};
+
+    ghost round_trip = { option_reads_back T.fits T.item T.gives T.faults T.round_trip };
+}

@@ -1,0 +1,51 @@
+//! Encodings are read back, by every type that keeps the law of `RoundTrip`.
+
+ghost use Rattle.std.specs.Prelude.{◌≡◌, ◌↔◌, ◌++◌, ◌∷◌, ℕ, List, All, IfErr, IfOk, IsOkAnd, IsTrue, length, map};
+ghost use Rattle.rlp.specs.declared.error.DecoderError.TheVariants.{OutOfMemory};
+ghost use Rattle.rlp.specs.Encoding.{BeginsWith, encoding};
+ghost use Rattle.rlp.specs.Item.{list_of};
+ghost use Rattle.rlp.specs.ListReading.{FaultsAt, GivesAt};
+ghost use Rattle.rlp.specs.RoundTrip.{ReadsBack};
+ghost use Rattle.rlp.specs.Split.{items};
+ghost use Rattle.rlp.specs.Value.{AreAlike};
+ghost use Rattle.rlp.specs.View.{view_of};
+
+use crate::error::DecoderError;
+use crate::traits::{RoundTrip, Scalar};
+use std::alloc::Global;
+
+/// On bytes that begin with the encoding of a list of values, the items are the encodings of the
+/// values, in order, and each gives the values that fit and are alike to the value in its place, no
+/// others, and has no fault.
+pub fn list_is_read_back<T: RoundTrip>(bytes: &[u8])
+    ensures items { (vs : List T) → BeginsWith bytes.now (encoding (list_of (map T.item vs)))
+        → items bytes.now ≡ map (λ v. encoding (T.item v)) vs }
+    ensures each { (before after : List T) (v : T)
+        → BeginsWith bytes.now (encoding (list_of (map T.item (before ++ v ∷ after))))
+        → T.fits v → ReadsBack T.fits T.item (λ w x. GivesAt T.gives w (length before) x)
+        (λ w e. FaultsAt T.faults w (length before) e) (view_of bytes.now) v }
+{}
+
+/// The value that bytes begin with: where they begin with the encoding of a value that fits, it is
+/// alike to that value, and only memory can lack.
+pub fn encoding_is_decoded<T: RoundTrip>(alloc: Global, bytes: &[u8]) -> Result<T, DecoderError>
+    ensures alike { (v : T) → T.fits v → BeginsWith bytes.now (encoding (T.item v))
+        → IfOk result (λ w. T.fits w × AreAlike T.item w v) }
+    ensures memory { (v : T) → T.fits v → BeginsWith bytes.now (encoding (T.item v))
+        → IfErr result (λ e. (e ≡ OutOfMemory) × IsTrue T.may_lack_memory) }
+{
+    crate::decode(alloc, bytes)
+}
+
+/// The value that bytes begin with: it is alike to a value that fits exactly where they begin with
+/// that value's encoding, and where they do, only memory can lack.
+pub fn scalar_is_decoded<T: Scalar>(alloc: Global, bytes: &[u8]) -> Result<T, DecoderError>
+    ensures only { (v : T) → IsOkAnd result (λ w. AreAlike T.item w v)
+        → BeginsWith bytes.now (encoding (T.item v)) }
+    ensures alike { (v : T) → T.fits v → BeginsWith bytes.now (encoding (T.item v))
+        → IfOk result (λ w. T.fits w × AreAlike T.item w v) }
+    ensures memory { (v : T) → T.fits v → BeginsWith bytes.now (encoding (T.item v))
+        → IfErr result (λ e. (e ≡ OutOfMemory) × IsTrue T.may_lack_memory) }
+{
+    crate::decode(alloc, bytes)
+}
