@@ -11,3 +11,4 @@ pub mod OneReading
 pub mod RoundTrips
 pub mod Numbered
 pub mod ListRoundTrips
+pub mod Fields

@@ -1,5 +1,5 @@
 -- Which values the items of a list give, and what is answered of an item by its number.
-use Rattle.std.specs.Prelude.{◌≡◌, ◌++◌, ◌∷◌, ◌⊎◌, ◌<◌, ℕ, Bool, IsTrue, List, [], Option, Some, None, Result, Ok, Err, MatchResult, IsOkAnd}
+use Rattle.std.specs.Prelude.{◌≡◌, ◌≢◌, ◌++◌, ◌∷◌, ◌⊎◌, ◌<◌, ℕ, Bool, IsTrue, List, [], Option, Some, None, Result, Ok, Err, MatchResult, IsOkAnd}
 use Rattle.rlp.specs.declared.error.DecoderError.{DecoderError}
 use Rattle.rlp.specs.declared.error.DecoderError.TheVariants.{OutOfMemory, RlpIncorrectListLen}
 use Rattle.rlp.specs.View.{View, item_at, item_count}
@@ -43,3 +43,13 @@ pub data FaultsAsOption (faults : View → DecoderError → Type 0) (v : View) :
   no_list : (e : DecoderError) → item_count v ≡ Err e → FaultsAsOption faults v e
   many_items : (n : ℕ) → item_count v ≡ Ok n → 1 < n → FaultsAsOption faults v RlpIncorrectListLen
   faulty_item : (e : DecoderError) → item_count v ≡ Ok 1 → FaultsAt faults v 0 e → FaultsAsOption faults v e
+
+-- Why a view gives no value whose item is a list of n items, where IsFaulty says why of the items: it is no list, it has another number of items, or an item is at fault.
+pub data FaultsAsFields (n : ℕ) (IsFaulty : View → DecoderError → Type 0) (v : View) : DecoderError → Type 0 where
+  no_fields : (e : DecoderError) → item_count v ≡ Err e → FaultsAsFields n IsFaulty v e
+  other_count : (m : ℕ) → item_count v ≡ Ok m → m ≢ n → FaultsAsFields n IsFaulty v RlpIncorrectListLen
+  faulty_field : (e : DecoderError) → item_count v ≡ Ok n → IsFaulty v e → FaultsAsFields n IsFaulty v e
+
+-- the first of two fields is at fault, or it gives a value and the second is at fault
+abbrev pub FaultsInOrder : {A : Type 0} → (View → A → Type 0) → (View → DecoderError → Type 0) → ℕ → (View → DecoderError → Type 0) → View → DecoderError → Type 0
+FaultsInOrder {A} gives faults i Later v e = FaultsAt faults v i e ⊎ (((x : A) × GivesAt gives v i x) × Later v e)
