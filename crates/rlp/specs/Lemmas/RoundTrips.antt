@@ -88,3 +88,13 @@ bool_reads_back view b fits begins =
     record { alike = λ w. (λ g. (tt, ((back.alike (bit w)).0 g).1), λ (any, same). (back.alike (bit w)).1 (bit_below w, same)); no_fault = no_other view b back }
 
 pub ruleset bool_faults = (no_number, other_number)
+
+-- ---- the law of `RoundTrip`, for types of which contracts see bytes or text
+
+pub bytes_in : {B : Type 0} (value : B → List ℕ) (view : View) (b : B) → length view.bytes < 2 ^ 64 → ⊤ → BeginsWith view.bytes (encoding (string (value b)))
+    → ReadsBack (λ b. ⊤) (λ b. string (value b)) (λ view b. GivesBytes view (value b)) FaultsAsBytes view b
+bytes_in value view b fits fit begins = reads_back_through value (bytes_reads_back view (value b) fits begins)
+
+pub text_in : {B : Type 0} (value : B → List ℕ) (view : View) (b : B) → length view.bytes < 2 ^ 64 → IsUtf8 (value b) → BeginsWith view.bytes (encoding (string (value b)))
+    → ReadsBack (λ b. IsUtf8 (value b)) (λ b. string (value b)) (λ view b. GivesText view (value b)) FaultsAsText view b
+text_in value view b fits fit begins = reads_back_through value (text_reads_back view (value b) fits fit begins)

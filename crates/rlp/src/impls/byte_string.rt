@@ -56,10 +56,9 @@ impl Decodable for Vec<u8> {
 
 impl RoundTrip for Vec<u8> {
     ghost use Rattle.std.specs.Vec.{vec_items};
-    ghost use Rattle.rlp.specs.Lemmas.RoundTrips.{bytes_reads_back, reads_back_through};
+    ghost use Rattle.rlp.specs.Lemmas.RoundTrips.{bytes_in};
 
-    ghost round_trip = { λ view v fits fit begins. reads_back_through vec_items
-        (bytes_reads_back view (vec_items v) fits begins) };
+    ghost round_trip = { bytes_in vec_items };
 }
 
 impl Scalar for Vec<u8> {

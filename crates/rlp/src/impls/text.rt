@@ -62,10 +62,9 @@ impl Decodable for String {
 
 impl RoundTrip for String {
     ghost use Rattle.std.specs.String.{string_bytes};
-    ghost use Rattle.rlp.specs.Lemmas.RoundTrips.{text_reads_back, reads_back_through};
+    ghost use Rattle.rlp.specs.Lemmas.RoundTrips.{text_in};
 
-    ghost round_trip = { λ view v fits fit begins. reads_back_through string_bytes
-        (text_reads_back view (string_bytes v) fits fit begins) };
+    ghost round_trip = { text_in string_bytes };
 }
 
 impl Scalar for String {
