@@ -20,3 +20,5 @@ pub mod ClosedSize
 pub mod Listed
 pub mod Filling
 pub mod Decoding
+pub mod Slices
+pub mod ListReadings

@@ -21,7 +21,10 @@ mod streams;
 mod views;
 
 pub use described::stream_joins_what_is_described;
-pub use reading::{bytes_are_read, number_is_read, string_is_read, text_is_read};
+pub use reading::{
+    bytes_are_read, number_is_read, option_is_read, option_of_bytes_is_read, string_is_read,
+    text_is_read,
+};
 pub use round_trip::{encoding_is_decoded, list_is_read_back, scalar_is_decoded};
 pub use streams::{
     bytes_go_to_the_end, closed_size_goes_by_length, closing_keeps_what_is_closed,

@@ -23,11 +23,11 @@ use Rattle.rlp.specs.Lemmas.Strings.{string_reads, string_only}
 
 -- ---- what a string holds are bytes
 
-front_bytes : (s t : List ℕ) → Bytes (s ++ t) → Bytes s
+pub front_bytes : (s t : List ℕ) → Bytes (s ++ t) → Bytes s
 front_bytes [] t h = tt
 front_bytes (c ∷ s) t (low, h) = (low, front_bytes s t h)
 
-back_bytes : (s t : List ℕ) → Bytes (s ++ t) → Bytes t
+pub back_bytes : (s t : List ℕ) → Bytes (s ++ t) → Bytes t
 back_bytes [] t h = h
 back_bytes (c ∷ s) t (low, h) = back_bytes s t h
 

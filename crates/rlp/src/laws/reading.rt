@@ -1,11 +1,15 @@
 //! What is read from the front of bytes: strings, numbers, byte strings and text.
 
-ghost use Rattle.std.specs.Prelude.{◌≡◌, ℕ, List, Ok};
+ghost use Rattle.std.specs.Prelude.{◌≡◌, ◌<◌, ◌^◌, ℕ, List, Ok, length};
 ghost use Rattle.rlp.specs.Item.{string};
 ghost use Rattle.rlp.specs.StringReading.{IsString, ReadsString, read_string};
 ghost use Rattle.rlp.specs.ValueReading.{GivesNumber, FaultsAsNumber, GivesBytes, FaultsAsBytes, GivesText, FaultsAsText, HasOneReading};
-ghost use Rattle.rlp.specs.Value.{number_item};
-ghost use Rattle.rlp.specs.View.{view_of};
+ghost use Rattle.rlp.specs.Value.{number_item, option_item};
+ghost use Rattle.rlp.specs.View.{View, view_of};
+ghost use Rattle.rlp.specs.ListReading.{GivesOption, FaultsAsOption};
+ghost use Rattle.rlp.specs.WrittenHeader.{AreBytes};
+
+use crate::traits::{Decodable, Encodable};
 
 /// `read_string` gives the one string whose encoding stands at the front of the bytes, and a fault
 /// only where there is none.
@@ -29,4 +33,20 @@ pub fn bytes_are_read(bytes: &[u8])
 /// Bytes give one text and have no fault, or give none and have one fault.
 pub fn text_is_read(bytes: &[u8])
     ensures { HasOneReading string (GivesText (view_of bytes.now)) (FaultsAsText (view_of bytes.now)) }
+{}
+
+/// Where each item gives one value of a type or has one fault, bytes give one option of it or have
+/// one fault.
+pub fn option_is_read<T: Encodable + Decodable>(bytes: &[u8])
+    ensures { ((item : View) → AreBytes item.bytes → length item.bytes < 2 ^ 64
+        → HasOneReading T.item (T.gives item) (T.faults item))
+        → HasOneReading (option_item T.item) (λ o. GivesOption T.gives (view_of bytes.now) o)
+        (λ e. FaultsAsOption T.faults (view_of bytes.now) e) }
+{}
+
+/// Bytes give one option of a byte string or have one fault.
+pub fn option_of_bytes_is_read(bytes: &[u8])
+    ensures { HasOneReading (option_item string)
+        (λ o. GivesOption GivesBytes (view_of bytes.now) o)
+        (λ e. FaultsAsOption FaultsAsBytes (view_of bytes.now) e) }
 {}

@@ -1,0 +1,82 @@
+-- One reading of values whose items are lists.
+use Rattle.std.proofs.Common.{◌≡◌, ℕ, zero, suc, ◌^◌, ◌<◌, ◌≤◌, ◌⊎◌, inl, inr, ⊎_elim, Bool, true, false, List, [], ◌∷◌, ◌++◌, length, map, refl, sym, ap, ◌∙◌, subst, arith, length-append, Option, Some, None, Result, Ok, Err, IsOkAnd, MatchResult}
+use Rattle.std.specs.List.{concat, slice_get}
+use Rattle.std.proofs.lemmas.Bool.{cases_Bool, cond-true, cond-false}
+use Rattle.std.proofs.lemmas.List.Elements.{All-from_recursion, recursion_from_All}
+use Rattle.rlp.specs.declared.error.DecoderError.{DecoderError}
+use Rattle.rlp.specs.declared.error.DecoderError.TheVariants.{RlpExpectedToBeList, RlpIncorrectListLen, Custom}
+use Rattle.rlp.specs.Item.{Item, list_of}
+use Rattle.rlp.specs.Text.{error_name}
+use Rattle.rlp.specs.Split.{split, begins_as_list, items, payload}
+use Rattle.rlp.specs.WrittenHeader.{AreBytes}
+use Rattle.rlp.specs.Value.{AreAlike, option_item, bit, number_item}
+use Rattle.rlp.specs.ValueReading.{HasOneReading, IsSameFault, GivesBool, FaultsAsBool, no_number, other_number, GivesNumber, FaultsAsNumber}
+use Rattle.rlp.specs.View.{View, view_of, item_at, item_count, item_views}
+use Rattle.rlp.specs.ListReading.{GivesAt, FaultsAt, GivesOption, no_value, one_value, FaultsAsOption, no_list, many_items, faulty_item}
+use Rattle.rlp.specs.Lemmas.OneReading.{front_bytes, back_bytes}
+use Rattle.rlp.specs.Lemmas.Reading.{Bytes}
+use Rattle.rlp.specs.Lemmas.Frames.{walk}
+use Rattle.rlp.specs.Lemmas.Views.{payload_bytes}
+use Rattle.rlp.specs.Lemmas.Numbered.{Numbered, item_there, no_item, numbered, item_at-slice_get}
+use Rattle.rlp.proofs.Slices.{part_of_items}
+
+-- bytes that a slice can hold
+pub record IsSlice (b : List ℕ) : Type 0 where
+  pub bytes : AreBytes b
+  pub short : length b < 2 ^ 64
+
+-- ---- one item of a list
+
+module _ {A : Type 0} (item : A → Item) (gives : View → A → Type 0) (faults : View → DecoderError → Type 0) (law : (v : View) → AreBytes v.bytes → length v.bytes < 2 ^ 64 → HasOneReading item (gives v) (faults v)) where
+  read_by : (r : Result View DecoderError) → ((v : View) → r ≡ Ok v → AreBytes v.bytes × (length v.bytes < 2 ^ 64)) → HasOneReading item (λ x. IsOkAnd r (λ v. gives v x)) (λ e. MatchResult r (λ v. faults v e) (λ f. e ≡ f))
+  read_by (Ok v) slice = let (bytes, short) = slice v refl in law v bytes short
+  read_by (Err f) slice = record {
+    some = inr (f, refl);
+    one_value = λ x y g h. absurd g;
+    one_fault = λ d e same same'. ap error_name (same ∙ sym same');
+    not_both = λ x e g h. g;
+  }
+
+  pub at_reading : (view : View) (i : ℕ) → AreBytes view.bytes → length view.bytes < 2 ^ 64 → HasOneReading item (λ x. GivesAt gives view i x) (λ e. FaultsAt faults view i e)
+  at_reading view i bytes short = read_by (item_at view i) (λ v is. part_of_items view v i bytes short is)
+
+  -- ---- options
+
+  module _ (view : View) (field : HasOneReading item (λ x. GivesAt gives view 0 x) (λ e. FaultsAt faults view 0 e)) where
+    some_counted : (r : Result ℕ DecoderError) → item_count view ≡ r → ((o : Option A) × GivesOption gives view o) ⊎ ((e : DecoderError) × FaultsAsOption faults view e)
+    some_counted (Err e) is = inr (e, no_list e is)
+    some_counted (Ok zero) is = inl (None, no_value is)
+    some_counted (Ok (suc zero)) is = elim field.some [ inl (x, g) ↦ inl (Some x, one_value x is g) | inr (e, f) ↦ inr (e, faulty_item e is f) ]
+    some_counted (Ok (suc (suc n))) is = inr (RlpIncorrectListLen, many_items (suc (suc n)) is (omega arith))
+
+    one_given : (o p : Option A) → GivesOption gives view o → GivesOption gives view p → option_item item o ≡ option_item item p
+    one_given o p (no_value is) (no_value is') = refl
+    one_given o p (no_value is) (one_value y is' h) = absurd (let no : ⊥ = cc in no)
+    one_given o p (one_value x is g) (no_value is') = absurd (let no : ⊥ = cc in no)
+    one_given o p (one_value x is g) (one_value y is' h) = ap (λ i. list_of (i ∷ [])) (field.one_value x y g h)
+
+    one_faulty : (e f : DecoderError) → FaultsAsOption faults view e → FaultsAsOption faults view f → IsSameFault e f
+    one_faulty e f (no_list g is) (no_list h is') = let same : g ≡ h = cc in ap error_name same
+    one_faulty e f (no_list g is) (many_items m is' many) = absurd (let no : ⊥ = cc in no)
+    one_faulty e f (no_list g is) (faulty_item h is' at) = absurd (let no : ⊥ = cc in no)
+    one_faulty e f (many_items m is many) (no_list h is') = absurd (let no : ⊥ = cc in no)
+    one_faulty e f (many_items m is many) (many_items n is' many') = refl
+    one_faulty e f (many_items m is many) (faulty_item h is' at) = let same : m ≡ 1 = cc in absurd (omega arith)
+    one_faulty e f (faulty_item g is at) (no_list h is') = absurd (let no : ⊥ = cc in no)
+    one_faulty e f (faulty_item g is at) (many_items n is' many) = let same : n ≡ 1 = cc in absurd (omega arith)
+    one_faulty e f (faulty_item g is at) (faulty_item h is' at') = field.one_fault g h at at'
+
+    not_both_by : (o : Option A) (e : DecoderError) → GivesOption gives view o → ¬ FaultsAsOption faults view e
+    not_both_by o e (no_value is) (no_list g is') = cc
+    not_both_by o e (no_value is) (many_items n is' many) = let same : n ≡ 0 = cc in omega arith
+    not_both_by o e (no_value is) (faulty_item g is' at) = cc
+    not_both_by o e (one_value x is g) (no_list h is') = cc
+    not_both_by o e (one_value x is g) (many_items n is' many) = let same : n ≡ 1 = cc in omega arith
+    not_both_by o e (one_value x is g) (faulty_item h is' at) = field.not_both x h g at
+
+    by_field : HasOneReading (option_item item) (λ o. GivesOption gives view o) (λ e. FaultsAsOption faults view e)
+    by_field = record { some = some_counted (item_count view) refl; one_value = one_given; one_fault = one_faulty; not_both = not_both_by }
+
+  pub option_reading : (view : View) → AreBytes view.bytes → length view.bytes < 2 ^ 64 → HasOneReading (option_item item) (λ o. GivesOption gives view o) (λ e. FaultsAsOption faults view e)
+  option_reading view bytes short = by_field view (at_reading view 0 bytes short)
+
