@@ -44,35 +44,48 @@ pow_bytes (suc k) =
     let places : 8 * suc k ≡ 8 * k + 8 = omega arith in
     pow-suc 256 k ∙ ap (λ p. p * 256) (pow_bytes k) ∙ sym split ∙ ap (λ e. 2 ^ e) (sym places)
 
--- what the count of leading zero bits says of the eight bytes
-record LeadingBytes (n : ℕ) : Type 0 where
-  pub digits : drop (count_leading_zeros 64 n / 8) (bytes_high_first 8 n) ≡ big_endian n
-  pub len : count_leading_zeros 64 n / 8 + length (big_endian n) ≡ 8
+-- what the count of leading zero bits says of a number's bytes, so many of them
+record LeadingBytes (m n : ℕ) : Type 0 where
+  pub digits : drop (count_leading_zeros (8 * m) n / 8) (bytes_high_first m n) ≡ big_endian n
+  pub len : count_leading_zeros (8 * m) n / 8 + length (big_endian n) ≡ m
 
-some_bytes : (n : ℕ) → 0 < n → n < 2 ^ 64 → LeadingBytes n
-some_bytes n some small =
-    let top = leading_top 64 n some small in
+some_bytes : (m n : ℕ) → 0 < n → n < 2 ^ (8 * m) → LeadingBytes m n
+some_bytes m n some small =
+    let top = leading_top (8 * m) n some small in
     let j = top.0 in
-    let at : count_leading_zeros 64 n + suc j ≡ 64 = top.1 in
-    let zeros = count_leading_zeros 64 n / 8 in
+    let at : count_leading_zeros (8 * m) n + suc j ≡ 8 * m = top.1 in
+    let zeros = count_leading_zeros (8 * m) n / 8 in
     let k = j / 8 in
-    let all : zeros + suc k ≡ 8 = omega arith in
+    let all : zeros + suc k ≡ m = omega arith in
     let least : 256 ^ k ≤ n = let le : 2 ^ (8 * k) ≤ 2 ^ j = pow-le-pow_right (omega arith) (omega arith) in omega (arith, le, pow_bytes k, top.2) in
     let below : n < 256 ^ suc k = let le : 2 ^ suc j ≤ 2 ^ (8 * suc k) = pow-le-pow_right (omega arith) (omega arith) in omega (arith, le, pow_bytes (suc k), top.3) in
     let digits : bytes_high_first (suc k) n ≡ big_endian n = digits_high_first k n least below in
     let number : length (big_endian n) ≡ suc k = ap length (sym digits) ∙ length-bytes_high_first (suc k) n in
-    record { digits = drop-bytes_high_first zeros (suc k) 8 n all ∙ digits; len = omega (arith, number, all) }
+    record { digits = drop-bytes_high_first zeros (suc k) m n all ∙ digits; len = omega (arith, number, all) }
 
-leading_bytes : (n : ℕ) → n < 2 ^ 64 → LeadingBytes n
-leading_bytes zero small =
-    let all : count_leading_zeros 64 0 ≡ 64 = leading_of_zero 64 in
-    record { digits = rw all (sym big_endian_zero); len = rw (all, big_endian_zero) refl }
-leading_bytes (suc n) small = some_bytes (suc n) (omega arith) small
+no_bytes : (m : ℕ) → 8 * m / 8 ≡ m
+no_bytes m = omega arith
+
+drop_bytes : (m n : ℕ) → drop m (bytes_high_first m n) ≡ []
+drop_bytes m n = drop-bytes_high_first m 0 m n (omega arith)
+
+leading_bytes : (m n : ℕ) → n < 2 ^ (8 * m) → LeadingBytes m n
+leading_bytes m zero small =
+    let all : count_leading_zeros (8 * m) 0 ≡ 8 * m = leading_of_zero (8 * m) in
+    let bytes : count_leading_zeros (8 * m) 0 / 8 ≡ m = ap (λ z. z / 8) all ∙ no_bytes m in
+    record { digits = ap (λ z. drop z (bytes_high_first m 0)) bytes ∙ drop_bytes m 0 ∙ sym big_endian_zero; len = omega (arith, bytes, ap length big_endian_zero) }
+leading_bytes m (suc n) small = some_bytes m (suc n) (omega arith) small
 
 pub leading_digits : (n : ℕ) → n < 2 ^ 64 → drop (count_leading_zeros 64 n / 8) (bytes_high_first 8 n) ≡ big_endian n
-leading_digits n small = (leading_bytes n small).digits
+leading_digits n small = (leading_bytes 8 n small).digits
 
 pub leading_len : (n : ℕ) → n < 2 ^ 64 → count_leading_zeros 64 n / 8 + length (big_endian n) ≡ 8
-leading_len n small = (leading_bytes n small).len
+leading_len n small = (leading_bytes 8 n small).len
 
-pub ruleset leading = (leading_digits, leading_len)
+pub wide_leading_digits : (n : ℕ) → n < 2 ^ 128 → drop (count_leading_zeros 128 n / 8) (bytes_high_first 16 n) ≡ big_endian n
+wide_leading_digits n small = (leading_bytes 16 n small).digits
+
+pub wide_leading_len : (n : ℕ) → n < 2 ^ 128 → count_leading_zeros 128 n / 8 + length (big_endian n) ≡ 16
+wide_leading_len n small = (leading_bytes 16 n small).len
+
+pub ruleset leading = (leading_digits, leading_len, wide_leading_digits, wide_leading_len)

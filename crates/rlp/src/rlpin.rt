@@ -10,7 +10,8 @@ mod text;
 mod view;
 
 pub use decoder::BasicDecoder;
+pub(crate) use decoder::string_in;
 pub use header::PayloadInfo;
-pub(crate) use header::number_of;
+pub(crate) use header::{number_of, wide_number_of};
 pub use iter::RlpIterator;
 pub use view::{Prototype, Rlp};

@@ -30,6 +30,8 @@ use closing::closed_len;
 pub use encoder::BasicEncoder;
 pub(crate) use header::leading_zero_bytes;
 use listed::Listed;
+use encoder::write_string;
+pub(crate) use header::{leading_zero_bytes, wide_leading_zero_bytes};
 use moved::Moved;
 use open_lists::{Placeholder, innermost_awaits, is_unbounded};
 use std::alloc::{AllocError, Global};

@@ -7,10 +7,139 @@ ghost use Rattle.rlp.specs.Value.{FitsBytes};
 ghost use Rattle.rlp.specs.ValueReading.{IsDigitsFault, GivesNumber, FaultsAsNumber};
 
 use crate::error::DecoderError;
-use crate::rlpin::{Rlp, number_of};
-use crate::stream::{RlpStream, leading_zero_bytes};
+use crate::rlpin::{Rlp, number_of, string_in, wide_number_of};
+use crate::stream::{RlpStream, leading_zero_bytes, wide_leading_zero_bytes};
 use crate::traits::{Decodable, Encodable, RoundTrip, Scalar};
 use std::alloc::{AllocError, Global};
+
+impl Encodable for u8 {
+    ghost use Rattle.rlp.specs.Value.{number_item, FitsBytes};
+
+    ghost item = { λ v. number_item v };
+
+    ghost fits = { λ v. FitsBytes 1 v };
+
+    fn rlp_append(&self, s: &mut RlpStream) -> Result<(), AllocError> {
+        (*self as u64).rlp_append(s)
+    }
+}
+
+/// A number of one byte, read as `u64` is.
+impl Decodable for u8 {
+    ghost use Rattle.std.specs.Prelude.{false};
+    ghost use Rattle.rlp.specs.ValueReading.{GivesNumber, FaultsAsNumber};
+
+    ghost gives = { λ v n. GivesNumber 1 v n };
+
+    ghost faults = { λ v e. FaultsAsNumber 1 v e };
+
+    ghost may_lack_memory = { false };
+
+    fn decode(_alloc: Global, rlp: &Rlp<'_>) -> Result<u8, DecoderError> {
+        match number_digits(rlp, 1) {
+            Ok(digits) => Ok(number_of(digits) as u8),
+            Err(fault) => Err(fault),
+        }
+    }
+}
+
+impl RoundTrip for u8 {
+    ghost use Rattle.rlp.specs.Lemmas.RoundTrips.{number_reads_back};
+
+    ghost round_trip = { number_reads_back 1 };
+}
+
+impl Scalar for u8 {
+    ghost use Rattle.rlp.specs.Lemmas.RoundTrips.{itself};
+
+    ghost exact = { λ view v. itself };
+}
+
+impl Encodable for u16 {
+    ghost use Rattle.rlp.specs.Value.{number_item, FitsBytes};
+
+    ghost item = { λ v. number_item v };
+
+    ghost fits = { λ v. FitsBytes 2 v };
+
+    fn rlp_append(&self, s: &mut RlpStream) -> Result<(), AllocError> {
+        (*self as u64).rlp_append(s)
+    }
+}
+
+/// A number of two bytes, read as `u64` is.
+impl Decodable for u16 {
+    ghost use Rattle.std.specs.Prelude.{false};
+    ghost use Rattle.rlp.specs.ValueReading.{GivesNumber, FaultsAsNumber};
+
+    ghost gives = { λ v n. GivesNumber 2 v n };
+
+    ghost faults = { λ v e. FaultsAsNumber 2 v e };
+
+    ghost may_lack_memory = { false };
+
+    fn decode(_alloc: Global, rlp: &Rlp<'_>) -> Result<u16, DecoderError> {
+        match number_digits(rlp, 2) {
+            Ok(digits) => Ok(number_of(digits) as u16),
+            Err(fault) => Err(fault),
+        }
+    }
+}
+
+impl RoundTrip for u16 {
+    ghost use Rattle.rlp.specs.Lemmas.RoundTrips.{number_reads_back};
+
+    ghost round_trip = { number_reads_back 2 };
+}
+
+impl Scalar for u16 {
+    ghost use Rattle.rlp.specs.Lemmas.RoundTrips.{itself};
+
+    ghost exact = { λ view v. itself };
+}
+
+impl Encodable for u32 {
+    ghost use Rattle.rlp.specs.Value.{number_item, FitsBytes};
+
+    ghost item = { λ v. number_item v };
+
+    ghost fits = { λ v. FitsBytes 4 v };
+
+    fn rlp_append(&self, s: &mut RlpStream) -> Result<(), AllocError> {
+        (*self as u64).rlp_append(s)
+    }
+}
+
+/// A number of four bytes, read as `u64` is.
+impl Decodable for u32 {
+    ghost use Rattle.std.specs.Prelude.{false};
+    ghost use Rattle.rlp.specs.ValueReading.{GivesNumber, FaultsAsNumber};
+
+    ghost gives = { λ v n. GivesNumber 4 v n };
+
+    ghost faults = { λ v e. FaultsAsNumber 4 v e };
+
+    ghost may_lack_memory = { false };
+
+    fn decode(_alloc: Global, rlp: &Rlp<'_>) -> Result<u32, DecoderError> {
+        match number_digits(rlp, 4) {
+            Ok(digits) => Ok(number_of(digits) as u32),
+            Err(fault) => Err(fault),
+        }
+    }
+}
+
+impl RoundTrip for u32 {
+    ghost use Rattle.rlp.specs.Lemmas.RoundTrips.{number_reads_back};
+
+    ghost round_trip = { number_reads_back 4 };
+}
+
+impl Scalar for u32 {
+    ghost use Rattle.rlp.specs.Lemmas.RoundTrips.{itself};
+
+    ghost exact = { λ view v. itself };
+}
 
 impl Encodable for u64 {
     ghost use Rattle.rlp.specs.Value.{number_item, FitsBytes};
@@ -42,7 +171,10 @@ impl Decodable for u64 {
     ghost may_lack_memory = { false };
 
     fn decode(_alloc: Global, rlp: &Rlp<'_>) -> Result<u64, DecoderError> {
-        Ok(read_number(rlp, 8)? as u64)
+        match number_digits(rlp, 8) {
+            Ok(digits) => Ok(number_of(digits) as u64),
+            Err(fault) => Err(fault),
+        }
     }
 }
 
@@ -58,64 +190,110 @@ impl Scalar for u64 {
     ghost exact = { λ view v. itself };
 }
 
-impl Encodable for u8 {
+impl Encodable for usize {
     ghost use Rattle.rlp.specs.Value.{number_item, FitsBytes};
 
     ghost item = { λ v. number_item v };
 
-    ghost fits = { λ v. FitsBytes 1 v };
+    ghost fits = { λ v. FitsBytes 8 v };
 
     fn rlp_append(&self, s: &mut RlpStream) -> Result<(), AllocError> {
         (*self as u64).rlp_append(s)
     }
 }
 
-/// A number of one byte, as `u64` is read.
-impl Decodable for u8 {
+/// As `u64`.
+impl Decodable for usize {
     ghost use Rattle.std.specs.Prelude.{false};
     ghost use Rattle.rlp.specs.ValueReading.{GivesNumber, FaultsAsNumber};
 
-    ghost gives = { λ v n. GivesNumber 1 v n };
+    ghost gives = { λ v n. GivesNumber 8 v n };
 
-    ghost faults = { λ v e. FaultsAsNumber 1 v e };
+    ghost faults = { λ v e. FaultsAsNumber 8 v e };
 
     ghost may_lack_memory = { false };
 
-    fn decode(_alloc: Global, rlp: &Rlp<'_>) -> Result<u8, DecoderError> {
-        Ok(read_number(rlp, 1)? as u8)
+    fn decode(_alloc: Global, rlp: &Rlp<'_>) -> Result<usize, DecoderError> {
+        match number_digits(rlp, 8) {
+            Ok(digits) => Ok(number_of(digits)),
+            Err(fault) => Err(fault),
+        }
     }
 }
 
-impl RoundTrip for u8 {
+impl RoundTrip for usize {
     ghost use Rattle.rlp.specs.Lemmas.RoundTrips.{number_reads_back};
 
-    ghost round_trip = { number_reads_back 1 };
+    ghost round_trip = { number_reads_back 8 };
 }
 
-impl Scalar for u8 {
+impl Scalar for usize {
     ghost use Rattle.rlp.specs.Lemmas.RoundTrips.{itself};
 
     ghost exact = { λ view v. itself };
 }
 
-/// The number of at most `width` bytes that the view begins with.
-fn read_number(rlp: &Rlp<'_>, width: usize) -> Result<usize, DecoderError>
-    requires { width ≤ 8 }
-    ensures value { IfOk result (λ n. GivesNumber width rlp.now n) }
-    ensures fault { IfErr result (λ e. FaultsAsNumber width rlp.now e) }
-{
-    rlp.decoder()
-        .decode_value(|digits: &[u8]| number_within(digits, width))
+impl Encodable for u128 {
+    ghost use Rattle.rlp.specs.Value.{number_item, FitsBytes};
+
+    ghost item = { λ v. number_item v };
+
+    ghost fits = { λ v. FitsBytes 16 v };
+
+    #[tactic(auto, using(crate::proofs::Growth::growth))]
+    fn rlp_append(&self, s: &mut RlpStream) -> Result<(), AllocError> {
+        let bytes = self.to_be_bytes();
+        s.encoder()
+            .encode_value(&bytes[wide_leading_zero_bytes(*self)..])
+    }
 }
 
-/// The number whose digits these are, where it is one of `width` bytes.
-fn number_within(digits: &[u8], width: usize) -> Result<usize, DecoderError>
-    requires { width ≤ 8 }
-    ensures value { IfOk result (λ n. FitsBytes width n × (big_endian n ≡ digits.now)) }
-    ensures fault { IfErr result (λ e. IsDigitsFault width digits.now e) }
+/// A number of at most sixteen bytes, read as `u64` is.
+impl Decodable for u128 {
+    ghost use Rattle.std.specs.Prelude.{false};
+    ghost use Rattle.rlp.specs.ValueReading.{GivesNumber, FaultsAsNumber};
+
+    ghost gives = { λ v n. GivesNumber 16 v n };
+
+    ghost faults = { λ v e. FaultsAsNumber 16 v e };
+
+    ghost may_lack_memory = { false };
+
+    fn decode(_alloc: Global, rlp: &Rlp<'_>) -> Result<u128, DecoderError> {
+        match number_digits(rlp, 16) {
+            Ok(digits) => Ok(wide_number_of(digits)),
+            Err(fault) => Err(fault),
+        }
+    }
+}
+
+impl RoundTrip for u128 {
+    ghost use Rattle.rlp.specs.Lemmas.RoundTrips.{number_reads_back};
+
+    ghost round_trip = { number_reads_back 16 };
+}
+
+impl Scalar for u128 {
+    ghost use Rattle.rlp.specs.Lemmas.RoundTrips.{itself};
+
+    ghost exact = { λ view v. itself };
+}
+
+/// The digits of the number of at most `width` bytes that the view begins with.
+#[tactic(auto, using(crate::specs::Lemmas::Numbers::number_answers))]
+fn number_digits<'a>(rlp: &Rlp<'a>, width: usize) -> Result<&'a [u8], DecoderError>
+    ensures few { IfOk result (λ d. length d.now ≤ width) }
+    ensures value { IfOk result (λ d. GivesNumber width rlp.now (number_from_digits 256 d.now)) }
+    ensures fault { IfErr result (λ e. FaultsAsNumber width rlp.now e) }
 {
-    check_digits(digits, width)?;
-    Ok(number_of(digits))
+    let digits = match string_in(rlp.as_raw()) {
+        Ok(digits) => digits,
+        Err(fault) => return Err(fault),
+    };
+    match check_digits(digits, width) {
+        Ok(()) => Ok(digits),
+        Err(fault) => Err(fault),
+    }
 }
 
 /// Tests whether these are the digits of a number of `width` bytes: how many they are first, and

@@ -85,7 +85,7 @@ impl<'a> Rlp<'a> {
 }
 
 /// The string at the front of the bytes, without its header.
-fn string_in(bytes: &[u8]) -> Result<&[u8], DecoderError>
+pub(crate) fn string_in(bytes: &[u8]) -> Result<&[u8], DecoderError>
     ensures exact { MatchResult result (λ d. read_string bytes.now ≡ Ok d.now)
         (λ e. read_string bytes.now ≡ Err e) }
     ensures read { ReadsString bytes.now (read_string bytes.now) }

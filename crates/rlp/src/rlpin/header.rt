@@ -119,6 +119,20 @@ pub(crate) fn number_of(digits: &[u8]) -> usize
     number
 }
 
+/// The number that up to sixteen digits write, greatest first: that of the first ones, moved up by
+/// eight places, and that of the last eight.
+#[tactic(auto, using(crate::specs::Lemmas::Numbers::wide_number))]
+pub(crate) fn wide_number_of(digits: &[u8]) -> u128
+    requires { length digits.now ≤ 16 }
+    ensures { result ≡ number_from_digits 256 digits.now }
+{
+    if digits.len() <= 8 {
+        return number_of(digits) as u128;
+    }
+    let (high, low) = digits.split_at(digits.len() - 8);
+    number_of(high) as u128 * 0x1_0000_0000_0000_0000 + number_of(low) as u128
+}
+
 /// The header of framed bytes, or why they aren't framed.
 #[inline(always)]
 #[tactic(auto, unfolding(crate::specs::Framing::framing))]

@@ -1,7 +1,7 @@
 //! Headers as they are written.
 
 ghost use Rattle.std.specs.Prelude.{◌≡◌, ◌+◌, ◌<◌, ◌≤◌, length, drop};
-ghost use Rattle.std.specs.Int.{w64, to_be_bytes};
+ghost use Rattle.std.specs.Int.{w64, w128, to_be_bytes};
 ghost use Rattle.rlp.specs.WrittenHeader.{big_endian, written_header};
 
 use std::marker::Model;
@@ -88,6 +88,15 @@ pub(crate) fn list_header_len(len: usize) -> usize
 pub(crate) fn leading_zero_bytes(number: u64) -> usize
     ensures digits { drop result (to_be_bytes w64 number) ≡ big_endian number }
     ensures len { result + length (big_endian number) ≡ 8 }
+{
+    number.leading_zeros() as usize / 8
+}
+
+/// The same of a number of sixteen bytes.
+#[tactic(auto, using(crate::proofs::HighFirst::leading))]
+pub(crate) fn wide_leading_zero_bytes(number: u128) -> usize
+    ensures digits { drop result (to_be_bytes w128 number) ≡ big_endian number }
+    ensures len { result + length (big_endian number) ≡ 16 }
 {
     number.leading_zeros() as usize / 8
 }
