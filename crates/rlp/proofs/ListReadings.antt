@@ -1,5 +1,5 @@
 -- One reading of values whose items are lists.
-use Rattle.std.proofs.Common.{◌≡◌, ℕ, zero, suc, ◌^◌, ◌<◌, ◌≤◌, ◌⊎◌, inl, inr, ⊎_elim, Bool, true, false, List, [], ◌∷◌, ◌++◌, length, map, refl, sym, ap, ◌∙◌, subst, arith, length-append, Option, Some, None, Result, Ok, Err, IsOkAnd, MatchResult}
+use Rattle.std.proofs.Common.{◌≡◌, ℕ, zero, suc, ◌^◌, ◌<◌, ◌≤◌, ◌⊎◌, inl, inr, ⊎_elim, Bool, true, false, List, [], ◌∷◌, ◌++◌, length, map, refl, sym, ap, ◌∙◌, subst, arith, length-append, codes, Option, Some, None, Result, Ok, Err, IsOkAnd, MatchResult}
 use Rattle.std.specs.List.{concat, slice_get}
 use Rattle.std.proofs.lemmas.Bool.{cases_Bool, cond-true, cond-false}
 use Rattle.std.proofs.lemmas.List.Elements.{All-from_recursion, recursion_from_All}
@@ -8,12 +8,14 @@ use Rattle.rlp.specs.declared.error.DecoderError.TheVariants.{RlpExpectedToBeLis
 use Rattle.rlp.specs.Item.{Item, list_of}
 use Rattle.rlp.specs.Text.{error_name}
 use Rattle.rlp.specs.Split.{split, begins_as_list, items, payload}
-use Rattle.rlp.specs.WrittenHeader.{AreBytes}
+use Rattle.rlp.specs.WrittenHeader.{AreBytes, big_endian}
 use Rattle.rlp.specs.Value.{AreAlike, option_item, bit, number_item}
 use Rattle.rlp.specs.ValueReading.{HasOneReading, IsSameFault, GivesBool, FaultsAsBool, no_number, other_number, GivesNumber, FaultsAsNumber}
 use Rattle.rlp.specs.View.{View, view_of, item_at, item_count, item_views}
 use Rattle.rlp.specs.ListReading.{GivesAt, FaultsAt, GivesOption, no_value, one_value, FaultsAsOption, no_list, many_items, faulty_item}
 use Rattle.rlp.specs.Lemmas.OneReading.{front_bytes, back_bytes}
+use Rattle.rlp.specs.Lemmas.Digits.{big_endian_same}
+use Rattle.rlp.specs.Lemmas.RoundTrips.{bit_least}
 use Rattle.rlp.specs.Lemmas.Reading.{Bytes}
 use Rattle.rlp.specs.Lemmas.Frames.{walk}
 use Rattle.rlp.specs.Lemmas.Views.{payload_bytes}
@@ -80,3 +82,35 @@ module _ {A : Type 0} (item : A → Item) (gives : View → A → Type 0) (fault
   pub option_reading : (view : View) → AreBytes view.bytes → length view.bytes < 2 ^ 64 → HasOneReading (option_item item) (λ o. GivesOption gives view o) (λ e. FaultsAsOption faults view e)
   option_reading view bytes short = by_field view (at_reading view 0 bytes short)
 
+
+-- ---- truth values
+
+abbrev custom : DecoderError
+custom = Custom (record { ref_ptr = (0, 0); now = codes "invalid boolean value" })
+
+module _ (view : View) (numbers : HasOneReading number_item (λ n. GivesNumber 1 view n) (λ e. FaultsAsNumber 1 view e)) where
+  some_bool : (n : ℕ) → GivesNumber 1 view n → ((b : Bool) × GivesBool view b) ⊎ ((e : DecoderError) × FaultsAsBool view e)
+  some_bool zero g = inl (false, g)
+  some_bool (suc zero) g = inl (true, g)
+  some_bool (suc (suc n)) g = inr (custom, other_number (suc (suc n)) custom g (omega arith) refl)
+
+  one_bool_fault : (e f : DecoderError) → FaultsAsBool view e → FaultsAsBool view f → IsSameFault e f
+  one_bool_fault e f (no_number g bad) (no_number h bad') = numbers.one_fault g h bad bad'
+  one_bool_fault e f (no_number g bad) (other_number n h gives large is) = absurd (numbers.not_both n g gives bad)
+  one_bool_fault e f (other_number n g gives large is) (no_number h bad) = absurd (numbers.not_both n h gives bad)
+  one_bool_fault e f (other_number n g gives large is) (other_number m h gives' large' is') = is ∙ sym is'
+
+  not_both_bool : (b : Bool) (e : DecoderError) → GivesBool view b → ¬ FaultsAsBool view e
+  not_both_bool b e g (no_number f bad) = numbers.not_both (bit b) f g bad
+  not_both_bool b e g (other_number n f gives large is) =
+      let alike : number_item n ≡ number_item (bit b) = numbers.one_value n (bit b) gives g in
+      let digits : big_endian n ≡ big_endian (bit b) = cc in
+      bit_least b (subst (λ m. 1 < m) (big_endian_same n (bit b) digits) large)
+
+  pub bool_reading : HasOneReading (λ b. number_item (bit b)) (λ b. GivesBool view b) (λ e. FaultsAsBool view e)
+  bool_reading = record {
+    some = elim numbers.some [ inl (n, g) ↦ some_bool n g | inr (e, f) ↦ inr (e, no_number e f) ];
+    one_value = λ b c g h. numbers.one_value (bit b) (bit c) g h;
+    one_fault = one_bool_fault;
+    not_both = not_both_bool;
+  }

@@ -67,7 +67,7 @@ bit_below : (b : Bool) → FitsBytes 1 (bit b)
 bit_below true = omega arith
 bit_below false = omega arith
 
-bit_least : (b : Bool) → ¬ (1 < bit b)
+pub bit_least : (b : Bool) → ¬ (1 < bit b)
 bit_least true h = omega arith
 bit_least false h = omega arith
 

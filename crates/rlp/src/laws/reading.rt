@@ -3,8 +3,8 @@
 ghost use Rattle.std.specs.Prelude.{◌≡◌, ◌<◌, ◌^◌, ℕ, List, Ok, length};
 ghost use Rattle.rlp.specs.Item.{string};
 ghost use Rattle.rlp.specs.StringReading.{IsString, ReadsString, read_string};
-ghost use Rattle.rlp.specs.ValueReading.{GivesNumber, FaultsAsNumber, GivesBytes, FaultsAsBytes, GivesText, FaultsAsText, HasOneReading};
-ghost use Rattle.rlp.specs.Value.{number_item, option_item};
+ghost use Rattle.rlp.specs.ValueReading.{GivesNumber, FaultsAsNumber, GivesBytes, FaultsAsBytes, GivesText, FaultsAsText, GivesBool, FaultsAsBool, HasOneReading};
+ghost use Rattle.rlp.specs.Value.{bit, number_item, option_item};
 ghost use Rattle.rlp.specs.View.{View, view_of};
 ghost use Rattle.rlp.specs.ListReading.{GivesOption, FaultsAsOption};
 ghost use Rattle.rlp.specs.WrittenHeader.{AreBytes};
@@ -49,4 +49,10 @@ pub fn option_of_bytes_is_read(bytes: &[u8])
     ensures { HasOneReading (option_item string)
         (λ o. GivesOption GivesBytes (view_of bytes.now) o)
         (λ e. FaultsAsOption FaultsAsBytes (view_of bytes.now) e) }
+{}
+
+/// Bytes give one truth value and have no fault, or give none and have one fault.
+pub fn bool_is_read(bytes: &[u8])
+    ensures { HasOneReading (λ b. number_item (bit b)) (λ b. GivesBool (view_of bytes.now) b)
+        (λ e. FaultsAsBool (view_of bytes.now) e) }
 {}
