@@ -7,7 +7,6 @@ use Rattle.rlp.specs.declared.error.DecoderError.TheVariants.{OutOfMemory}
 use Rattle.rlp.specs.Item.{Item, list_of}
 use Rattle.rlp.specs.Encoding.{BeginsWith, encoding, join}
 use Rattle.rlp.specs.Split.{items}
-use Rattle.rlp.specs.Value.{AreAlike}
 use Rattle.rlp.specs.ValueReading.{GivesValue}
 use Rattle.rlp.specs.View.{View, view_of, item_views}
 use Rattle.rlp.specs.ListReading.{GivesEach, FaultsFirst}

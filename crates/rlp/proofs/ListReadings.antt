@@ -1,25 +1,16 @@
 -- One reading of values whose items are lists.
-use Rattle.std.proofs.Common.{◌≡◌, ℕ, zero, suc, ◌^◌, ◌<◌, ◌≤◌, ◌⊎◌, inl, inr, ⊎_elim, Bool, true, false, List, [], ◌∷◌, ◌++◌, length, map, refl, sym, ap, ◌∙◌, subst, arith, length-append, codes, Option, Some, None, Result, Ok, Err, IsOkAnd, MatchResult}
-use Rattle.std.specs.List.{concat, slice_get}
-use Rattle.std.proofs.lemmas.Bool.{cases_Bool, cond-true, cond-false}
-use Rattle.std.proofs.lemmas.List.Elements.{All-from_recursion, recursion_from_All}
+use Rattle.std.proofs.Common.{◌≡◌, ℕ, zero, suc, ◌^◌, ◌<◌, ◌⊎◌, inl, inr, Bool, true, false, List, [], ◌∷◌, length, refl, sym, ap, ◌∙◌, subst, arith, codes, Option, Some, None, Result, Ok, Err, IsOkAnd, MatchResult}
 use Rattle.rlp.specs.declared.error.DecoderError.{DecoderError}
-use Rattle.rlp.specs.declared.error.DecoderError.TheVariants.{RlpExpectedToBeList, RlpIncorrectListLen, Custom}
+use Rattle.rlp.specs.declared.error.DecoderError.TheVariants.{RlpIncorrectListLen, Custom}
 use Rattle.rlp.specs.Item.{Item, list_of}
 use Rattle.rlp.specs.Text.{error_name}
-use Rattle.rlp.specs.Split.{split, begins_as_list, items, payload}
 use Rattle.rlp.specs.WrittenHeader.{AreBytes, big_endian}
-use Rattle.rlp.specs.Value.{AreAlike, option_item, bit, number_item}
+use Rattle.rlp.specs.Value.{option_item, bit, number_item}
 use Rattle.rlp.specs.ValueReading.{HasOneReading, IsSameFault, GivesBool, FaultsAsBool, no_number, other_number, GivesNumber, FaultsAsNumber}
-use Rattle.rlp.specs.View.{View, view_of, item_at, item_count, item_views}
+use Rattle.rlp.specs.View.{View, item_at, item_count}
 use Rattle.rlp.specs.ListReading.{GivesAt, FaultsAt, GivesOption, no_value, one_value, FaultsAsOption, no_list, many_items, faulty_item}
-use Rattle.rlp.specs.Lemmas.OneReading.{front_bytes, back_bytes}
 use Rattle.rlp.specs.Lemmas.Digits.{big_endian_same}
 use Rattle.rlp.specs.Lemmas.RoundTrips.{bit_least}
-use Rattle.rlp.specs.Lemmas.Reading.{Bytes}
-use Rattle.rlp.specs.Lemmas.Frames.{walk}
-use Rattle.rlp.specs.Lemmas.Views.{payload_bytes}
-use Rattle.rlp.specs.Lemmas.Numbered.{Numbered, item_there, no_item, numbered, item_at-slice_get}
 use Rattle.rlp.proofs.Slices.{part_of_items}
 
 -- bytes that a slice can hold
@@ -81,7 +72,6 @@ module _ {A : Type 0} (item : A → Item) (gives : View → A → Type 0) (fault
 
   pub option_reading : (view : View) → AreBytes view.bytes → length view.bytes < 2 ^ 64 → HasOneReading (option_item item) (λ o. GivesOption gives view o) (λ e. FaultsAsOption faults view e)
   option_reading view bytes short = by_field view (at_reading view 0 bytes short)
-
 
 -- ---- truth values
 

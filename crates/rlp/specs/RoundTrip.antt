@@ -1,5 +1,5 @@
 -- What types promise of reading the encodings of their values.
-use Rattle.std.specs.Prelude.{ℕ, ◌≡◌, ◌↔◌, List}
+use Rattle.std.specs.Prelude.{◌↔◌}
 use Rattle.rlp.specs.declared.error.DecoderError.{DecoderError}
 use Rattle.rlp.specs.Item.{Item}
 use Rattle.rlp.specs.Value.{AreAlike}

@@ -22,12 +22,10 @@ mod views;
 
 pub use described::stream_joins_what_is_described;
 pub use reading::{
-    bool_is_read, bytes_are_read, number_is_read, option_is_read, option_of_bytes_is_read, string_is_read,
-    text_is_read,
+    bool_is_read, bytes_are_read, number_is_read, option_is_read, option_of_bytes_is_read,
+    string_is_read, text_is_read,
 };
-pub use round_trip::{
-    encoding_is_decoded, list_is_decoded, list_is_read_back, scalar_is_decoded,
-};
+pub use round_trip::{encoding_is_decoded, list_is_decoded, list_is_read_back, scalar_is_decoded};
 pub use streams::{
     bytes_go_to_the_end, closed_size_goes_by_length, closing_keeps_what_is_closed,
     constants_are_encodings, finished_streams_gain_encodings, growth_is_an_order, growth_of_moves,

@@ -46,19 +46,12 @@ impl Decodable for Pair {
 
     #[tactic(auto, using(rlp::specs::Lemmas::Fields::fields))]
     fn decode(alloc: Global, rlp: &Rlp<'_>) -> Result<Pair, DecoderError> {
-        match rlp.item_count() {
-            Ok(2) => {}
-            Ok(_) => return Err(DecoderError::RlpIncorrectListLen),
-            Err(fault) => return Err(fault),
+        if rlp.item_count()? != 2 {
+            return Err(DecoderError::RlpIncorrectListLen);
         }
-        let number = match rlp.val_at(alloc, 0) {
-            Ok(number) => number,
-            Err(fault) => return Err(fault),
-        };
-        match rlp.val_at(alloc, 1) {
-            Ok(bytes) => Ok(Pair { number, bytes }),
-            Err(fault) => Err(fault),
-        }
+        let number = rlp.val_at(alloc, 0)?;
+        let bytes = rlp.val_at(alloc, 1)?;
+        Ok(Pair { number, bytes })
     }
 }
 

@@ -1,10 +1,10 @@
 -- Values whose items are lists of fields, and whose encodings are read back.
-use Rattle.std.proofs.Common.{◌≡◌, ◌≢◌, ◌↔◌, ℕ, ◌^◌, ◌<◌, ◌⊎◌, inl, inr, List, [], ◌∷◌, ◌++◌, length, sym, ap, ◌∙◌, refl, subst, arith, Ok, Err}
+use Rattle.std.proofs.Common.{◌≡◌, ◌≢◌, ◌↔◌, ℕ, ◌^◌, ◌<◌, inl, inr, List, [], ◌∷◌, length, sym, ap, ◌∙◌, refl, Ok}
 use Rattle.rlp.specs.declared.error.DecoderError.{DecoderError}
 use Rattle.rlp.specs.declared.error.DecoderError.TheVariants.{RlpIncorrectListLen}
-use Rattle.rlp.specs.Item.{Item, list_of, items_from, listed, list}
-use Rattle.rlp.specs.Encoding.{BeginsWith, encoding, join, IsSized}
-use Rattle.rlp.specs.View.{View, view_of, item_at, item_count}
+use Rattle.rlp.specs.Item.{Item, list_of, items_from, listed}
+use Rattle.rlp.specs.Encoding.{encoding, join, IsSized}
+use Rattle.rlp.specs.View.{View, item_count}
 use Rattle.rlp.specs.ListReading.{GivesAt, FaultsAt, FaultsInOrder, FaultsAsFields, no_fields, other_count, faulty_field}
 use Rattle.rlp.specs.RoundTrip.{ReadsBack}
 use Rattle.rlp.specs.Lemmas.Encodings.{encoding_list, small_payload, front_sized}
@@ -31,7 +31,7 @@ module _ {A P : Type 0} (field : P → A) {Fits : A → Type 0} {item : A → It
   pub last_field : FieldsReadBack (λ q. Fits (field q)) (λ q. item (field q) ∷ []) (λ v q. GivesAt gives v i (field q)) (λ v e. FaultsAt faults v i e) view p
   last_field = record {
     alike = λ q. let one = back.alike (field q) in
-      (λ g. let h = one.0 g in (h.0, ap (λ x. x ∷ []) h.1), λ (fit, same). one.1 (fit, (cons_same (item (field q)) (item (field p)) [] [] same).0));
+        (λ g. let h = one.0 g in (h.0, ap (λ x. x ∷ []) h.1), λ (fit, same). one.1 (fit, (cons_same (item (field q)) (item (field p)) [] [] same).0));
     no_fault = back.no_fault;
   }
 

@@ -1,5 +1,5 @@
 -- Values whose items are lists, and whose encodings are read back.
-use Rattle.std.proofs.Common.{◌≡◌, ◌≢◌, ◌↔◌, ℕ, ◌^◌, ◌<◌, List, [], ◌∷◌, ◌++◌, length, sym, ap, ◌∙◌, refl, subst, arith, append-nil, Option, Some, None, Result, Ok, Err, IsOkAnd, MatchResult, IfSome, map, length-append}
+use Rattle.std.proofs.Common.{◌≡◌, ◌≢◌, ◌↔◌, ℕ, ◌^◌, ◌<◌, List, [], ◌∷◌, ◌++◌, length, sym, ap, refl, subst, arith, append-nil, Option, Some, None, Result, Ok, IsOkAnd, MatchResult, IfSome, map, length-append}
 use Rattle.std.proofs.lemmas.List.{length-map}
 use Rattle.rlp.specs.declared.error.DecoderError.{DecoderError}
 use Rattle.rlp.specs.declared.error.DecoderError.TheVariants.{RlpIncorrectListLen}

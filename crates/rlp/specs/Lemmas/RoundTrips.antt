@@ -1,13 +1,13 @@
 -- Values whose encodings are read back.
-use Rattle.std.proofs.Common.{◌≡◌, ◌↔◌, ℕ, ◌^◌, ◌<◌, List, length, sym, ap, subst, arith, Err, IsUtf8, Bool, true, false}
+use Rattle.std.proofs.Common.{◌≡◌, ◌≢◌, codes, ◌↔◌, ℕ, ◌^◌, ◌<◌, List, length, sym, ap, subst, arith, IsUtf8, Bool, true, false}
 use Rattle.std.specs.Bool.{⊤}
 use Rattle.rlp.specs.declared.error.DecoderError.{DecoderError}
 use Rattle.rlp.specs.Item.{Item, string}
 use Rattle.rlp.specs.Encoding.{BeginsWith, encoding}
-use Rattle.rlp.specs.StringReading.{IsString, read_string}
+use Rattle.rlp.specs.StringReading.{IsString}
 use Rattle.rlp.specs.Value.{FitsBytes, number_item, bit}
 use Rattle.rlp.specs.WrittenHeader.{big_endian}
-use Rattle.rlp.specs.ValueReading.{GivesValue, FaultsAs, no_string, no_value, GivesNumber, IsDigitsFault, FaultsAsNumber, GivesBytes, FaultsAsBytes, GivesText, IsTextFault, FaultsAsText, GivesBool, FaultsAsBool, no_number, other_number}
+use Rattle.rlp.specs.ValueReading.{GivesValue, FaultsAs, no_string, no_value, GivesNumber, IsDigitsFault, FaultsAsNumber, GivesBytes, FaultsAsBytes, GivesText, IsTextFault, FaultsAsText, IsCustom, GivesBool, FaultsAsBool, no_number, other_number}
 use Rattle.rlp.specs.View.{View}
 use Rattle.rlp.specs.RoundTrip.{ReadsBack}
 use Rattle.rlp.specs.Lemmas.Digits.{big_endian_same}
@@ -87,7 +87,10 @@ bool_reads_back view b fits begins =
     let back : ReadsBack (FitsBytes 1) number_item (GivesNumber 1) (FaultsAsNumber 1) view (bit b) = number_reads_back 1 view (bit b) fits (bit_below b) begins in
     record { alike = λ w. (λ g. (tt, ((back.alike (bit w)).0 g).1), λ (any, same). (back.alike (bit w)).1 (bit_below w, same)); no_fault = no_other view b back }
 
-pub ruleset bool_faults = (no_number, other_number)
+pub other_bool : (v : View) (n : ℕ) (e : DecoderError) → GivesNumber 1 v n → n ≢ 0 → n ≢ 1 → IsCustom (codes "invalid boolean value") e → FaultsAsBool v e
+other_bool v n e gives none one is = other_number n e gives (omega arith) is
+
+pub ruleset bool_faults = (no_number, other_bool)
 
 -- ---- the law of `RoundTrip`, for types of which contracts see bytes or text
 

@@ -35,14 +35,10 @@ impl<T: Decodable> Decodable for Option<T> {
 
     #[tactic(auto, using(crate::specs::Lemmas::ListRoundTrips::option_answers))]
     fn decode(alloc: Global, rlp: &Rlp<'_>) -> Result<Option<T>, DecoderError> {
-        match rlp.item_count() {
-            Ok(0) => Ok(None),
-            Ok(1) => match rlp.val_at(alloc, 0) {
-                Ok(value) => Ok(Some(value)),
-                Err(fault) => Err(fault),
-            },
-            Ok(_) => Err(DecoderError::RlpIncorrectListLen),
-            Err(fault) => Err(fault),
+        match rlp.item_count()? {
+            0 => Ok(None),
+            1 => Ok(Some(rlp.val_at(alloc, 0)?)),
+            _ => Err(DecoderError::RlpIncorrectListLen),
         }
     }
 }

@@ -53,10 +53,7 @@ pub fn scalar_is_decoded<T: Scalar>(alloc: Global, bytes: &[u8]) -> Result<T, De
 /// The values of the items of a list: where bytes begin with the encoding of a list of values that
 /// fit, there are as many, each fits and is alike to the value in its place, and only memory can
 /// lack.
-pub fn list_is_decoded<T: RoundTrip>(
-    alloc: Global,
-    bytes: &[u8],
-) -> Result<Vec<T>, DecoderError>
+pub fn list_is_decoded<T: RoundTrip>(alloc: Global, bytes: &[u8]) -> Result<Vec<T>, DecoderError>
     ensures alike { (vs : List T) → All T.fits vs
         → BeginsWith bytes.now (encoding (list_of (map T.item vs)))
         → IfOk result (λ ws. All T.fits ws.items × (map T.item ws.items ≡ map T.item vs)) }
