@@ -4,7 +4,6 @@
 mod pair;
 
 pub use pair::Pair;
-
 use rlp::{DecoderError, laws};
 use std::alloc::Global;
 

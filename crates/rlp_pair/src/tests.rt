@@ -8,13 +8,33 @@ fn options(rt: HostRuntime) -> Result<(), Fail> {
     let text: Option<String> = decode(alloc, &[0xc4, 0x83, b'c', b'a', b't'])?;
     assert!(rt; matches!(text, Some(t) if t.as_str() == "cat"));
     assert!(rt; decode::<Option<u8>>(alloc, &[0xc0, 0xff])?.is_none());
-    assert!(rt; matches!(decode::<Option<u8>>(alloc, &[0xc1, 0x00]), Err(DecoderError::RlpInvalidIndirection)));
-    assert!(rt; matches!(decode::<Option<u8>>(alloc, &[0xc2, 0x05, 0x06]), Err(DecoderError::RlpIncorrectListLen)));
-    assert!(rt; matches!(decode::<Option<u8>>(alloc, &[0x05]), Err(DecoderError::RlpExpectedToBeList)));
+    assert!(rt;
+        matches!(
+            decode::<Option<u8>>(alloc, &[0xc1, 0x00]),
+            Err(DecoderError::RlpInvalidIndirection)
+        )
+    );
+    assert!(rt;
+        matches!(
+            decode::<Option<u8>>(alloc, &[0xc2, 0x05, 0x06]),
+            Err(DecoderError::RlpIncorrectListLen)
+        )
+    );
+    assert!(rt;
+        matches!(
+            decode::<Option<u8>>(alloc, &[0x05]),
+            Err(DecoderError::RlpExpectedToBeList)
+        )
+    );
     assert!(rt; matches!(decode::<Option<u8>>(alloc, &[0xc2, 0x05, 0x82])?, Some(5)));
     assert!(rt; decode::<Option<u8>>(alloc, &[0xc5])?.is_none());
     assert!(rt; matches!(decode::<Option<Box<u8>>>(alloc, &[0xc1, 0x05])?, Some(b) if *b == 5));
-    assert!(rt; matches!(decode::<bool>(alloc, &[0x02]), Err(DecoderError::Custom("invalid boolean value"))));
+    assert!(rt;
+        matches!(
+            decode::<bool>(alloc, &[0x02]),
+            Err(DecoderError::Custom("invalid boolean value"))
+        )
+    );
     assert!(rt; decode::<bool>(alloc, &[0x01])?);
     Ok(())
 }
