@@ -46,3 +46,34 @@ fn pairs(rt: HostRuntime) -> Result<(), Fail> {
     assert_eq!(rt; pair.bytes.as_slice(), [0x80, 0x81].as_slice());
     Ok(())
 }
+
+#[test]
+fn wide_numbers(rt: HostRuntime) -> Result<(), Fail> {
+    let alloc = rt.alloc();
+    let wide: u128 = 0x0102030405060708090a;
+    let bytes = rlp::encode(alloc, &wide)?;
+    assert_eq!(rt;
+        bytes.as_slice(),
+        [0x8a, 1, 2, 3, 4, 5, 6, 7, 8, 9, 10].as_slice()
+    );
+    assert!(rt; decode::<u128>(alloc, bytes.as_slice())? == wide);
+    assert!(rt;
+        matches!(
+            decode::<u64>(alloc, bytes.as_slice()),
+            Err(DecoderError::RlpIsTooBig)
+        )
+    );
+    assert!(rt;
+        matches!(
+            decode::<u16>(alloc, &[0x82, 0x00, 0x01]),
+            Err(DecoderError::RlpInvalidIndirection)
+        )
+    );
+    assert!(rt;
+        matches!(
+            decode::<u16>(alloc, &[0x83, 0x00, 0x00, 0x01]),
+            Err(DecoderError::RlpIsTooBig)
+        )
+    );
+    Ok(())
+}
