@@ -8,7 +8,7 @@ use Rattle.rlp.specs.Stack.{is_last, awaits_after}
 use Rattle.rlp.specs.Stream.{list_encoding}
 use Rattle.rlp.specs.Placeholders.{Descends, with_innermost}
 use Rattle.rlp.specs.Closing.{filled, counted, closed_bytes, header_len, growth, left_of}
-use Rattle.rlp.proofs.Headers.{written_header_short, written_header_long}
+use Rattle.rlp.specs.Lemmas.Headers.{written_header_short, written_header_long}
 
 pub reverse_push : (ps : List Placeholder) (p : Placeholder) → reverse (ps ++ p ∷ []) ≡ p ∷ reverse ps
 reverse_push ps p = reverse-append ps (p ∷ [])

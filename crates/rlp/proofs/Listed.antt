@@ -5,7 +5,7 @@ use Rattle.rlp.specs.Item.{Item, list_of}
 use Rattle.rlp.specs.Encoding.{encoding, join}
 use Rattle.rlp.specs.Stack.{OpenList, count_around}
 use Rattle.rlp.specs.Stream.{State, list_encoding, add, put_item, with_list, is_list, add_all}
-use Rattle.rlp.proofs.Encodings.{encoding_list}
+use Rattle.rlp.specs.Lemmas.Encodings.{encoding_list}
 
 pub or_true : (b : Bool) → (b || true) ≡ true
 or_true true = refl

@@ -1,6 +1,6 @@
 use Rattle.std.proofs.Common.{◌≡◌, length, ap, arith, suc}
 use Rattle.rlp.specs.WrittenHeader.{big_endian, written_header}
-use Rattle.rlp.proofs.Headers.{written_header_long}
+use Rattle.rlp.specs.Lemmas.Headers.{written_header_long}
 use Rattle.rlp.proofs.stream.header.list_header_len.Goals as goal
 
 pub returns-then-len-gt-SHORT-clause-value : goal.returns-then-len-gt-SHORT-clause-value
