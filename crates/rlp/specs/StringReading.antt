@@ -1,5 +1,5 @@
 -- How one string is read from the front of bytes.
-use Rattle.std.specs.Prelude.{ℕ, ◌+◌, ◌-◌, ◌^◌, if◌then◌else◌, ◌==◌, nat_lt, nat_le, List, [], ◌∷◌, length, take, drop, slice_index, Result, Ok, Err, MatchResult}
+use Rattle.std.specs.Prelude.{ℕ, ◌≡◌, ◌+◌, ◌-◌, ◌^◌, if◌then◌else◌, ◌==◌, nat_lt, nat_le, List, [], ◌∷◌, length, take, drop, slice_index, Result, Ok, Err, MatchResult}
 use Rattle.std.specs.Int.Digits.{number_from_digits}
 use Rattle.rlp.specs.declared.error.DecoderError.{DecoderError}
 use Rattle.rlp.specs.declared.error.DecoderError.TheVariants.{RlpIsTooShort, RlpExpectedToBeData, RlpInvalidIndirection, RlpInconsistentLengthAndData, RlpInvalidLength}
@@ -14,11 +14,37 @@ IsString b d = BeginsWith b (encoding (string d))
 abbrev pub HasNoString : List ℕ → Type 0
 HasNoString b = (d : List ℕ) → ¬ IsString b d
 
--- the right answer for b: the string at its front, or a fault where none stands there
-abbrev pub ReadsString : List ℕ → Result (List ℕ) DecoderError → Type 0
-ReadsString b answer = MatchResult answer (λ d. IsString b d) (λ e. HasNoString b)
+-- why no string stands after a first byte that announces n bytes, at most 55: they aren't all there, or a single byte below 0x80 would stand for itself
+abbrev pub short_string_fault : ℕ → List ℕ → DecoderError
+short_string_fault n rest = if nat_lt (length rest) n then RlpInconsistentLengthAndData else RlpInvalidIndirection
 
--- ---- the string at the front, or why none stands there, by the first byte. The law `string_is_read` says that the strings are those of `IsString`.
+-- why no string of n bytes stands after k bytes of length: a length up to 55 belongs in the first byte, header and string have to be fewer than 2^64 bytes, and the n bytes aren't all there
+abbrev pub long_value_fault : ℕ → ℕ → DecoderError
+long_value_fault k n =
+    if nat_le n 55 then RlpInvalidIndirection
+    else (if nat_lt (2 ^ 64 - 1) (1 + k + n) then RlpInvalidLength
+    else RlpInconsistentLengthAndData)
+
+-- why no string stands after a first byte that announces k bytes of length: these aren't all there, the first of them is zero, or by the length that they write
+abbrev pub long_string_fault : ℕ → List ℕ → DecoderError
+long_string_fault k rest =
+    if nat_lt (length rest) k then RlpInconsistentLengthAndData
+    else (if slice_index rest 0 == 0 then RlpInvalidIndirection
+    else long_value_fault k (number_from_digits 256 (take k rest)))
+
+-- Why no string stands at the front of b: the first case that applies. It says nothing of bytes that begin with a string.
+abbrev pub string_fault : List ℕ → DecoderError
+string_fault [] = RlpIsTooShort
+string_fault (first ∷ rest) =
+    if nat_lt first 0xb8 then short_string_fault (first - 0x80) rest
+    else (if nat_lt first 0xc0 then long_string_fault (first - 0xb7) rest
+    else RlpExpectedToBeData)
+
+-- the right answer for b: the string at its front, or, where none stands there, the fault
+abbrev pub ReadsString : List ℕ → Result (List ℕ) DecoderError → Type 0
+ReadsString b answer = MatchResult answer (λ d. IsString b d) (λ e. HasNoString b × (e ≡ string_fault b))
+
+-- ---- the same, computed by the first byte. The law `string_is_read` says that the strings are those of `IsString`, and the faults `string_fault`.
 
 -- After a first byte that announces n bytes, at most 55: they have to be there, and a single byte below 0x80 would stand for itself.
 abbrev pub short_string : ℕ → List ℕ → Result (List ℕ) DecoderError

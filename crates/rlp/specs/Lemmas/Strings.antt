@@ -1,16 +1,16 @@
 -- `read_string` gives the one string that stands at the front of bytes.
-use Rattle.std.proofs.Common.{◌≡◌, ℕ, suc, ◌+◌, ◌-◌, ◌^◌, ◌<◌, ◌≤◌, inl, inr, ⊎_elim, false, ◌==◌, ltb, leb, List, [], ◌∷◌, ◌++◌, length, take, drop, get_or, refl, sym, ap, ◌∙◌, subst, arith, Ok, Err, Result, MatchResult, IfErr, ne_eqb, le-ltb, lt-ltb, ltb-false, leb-false, take_at, drop_at, length-append, length-take-le, append_assoc, take-append-drop, pos_of_ne-zero}
+use Rattle.std.proofs.Common.{◌≡◌, ℕ, suc, ◌+◌, ◌-◌, ◌^◌, ◌<◌, ◌≤◌, inl, inr, ⊎_elim, Bool, true, false, if◌then◌else◌, slice_index, ◌==◌, ltb, leb, List, [], ◌∷◌, ◌++◌, length, take, drop, get_or, refl, sym, ap, ◌∙◌, subst, arith, Ok, Err, Result, MatchResult, IfErr, ne_eqb, le-ltb, lt-ltb, ltb-false, leb-false, take_at, drop_at, length-append, length-take-le, append_assoc, take-append-drop, pos_of_ne-zero}
 use Rattle.std.specs.Bool.{⊤}
 use Rattle.std.specs.Int.Digits.{number_from_digits}
 use Rattle.std.proofs.lemmas.Bool.{cases_Bool, cases_lt, cond_both, cond-true, cond-false, lt-leb, eqb-false}
 use Rattle.std.proofs.lemmas.Bool.Decides.{nat_tests}
 use Rattle.std.proofs.lemmas.List.Elements.{recursion_from_All}
 use Rattle.rlp.specs.declared.error.DecoderError.{DecoderError}
-use Rattle.rlp.specs.declared.error.DecoderError.TheVariants.{RlpExpectedToBeData}
+use Rattle.rlp.specs.declared.error.DecoderError.TheVariants.{RlpIsTooShort, RlpExpectedToBeData, RlpInvalidIndirection, RlpInconsistentLengthAndData, RlpInvalidLength}
 use Rattle.rlp.specs.Item.{string}
 use Rattle.rlp.specs.WrittenHeader.{written_header, AreBytes}
 use Rattle.rlp.specs.Encoding.{encoding, string_encoding, is_low_byte}
-use Rattle.rlp.specs.StringReading.{IsString, HasNoString, ReadsString, short_string, long_value, long_string, read_string}
+use Rattle.rlp.specs.StringReading.{IsString, HasNoString, ReadsString, short_string, long_value, long_string, read_string, short_string_fault, long_value_fault, long_string_fault, string_fault}
 use Rattle.rlp.specs.Lemmas.Digits.{big_endian_first, big_endian_value}
 use Rattle.rlp.specs.Lemmas.Headers.{Parts, shape, written_header_short}
 use Rattle.rlp.specs.Lemmas.Encodings.{low_byte, small_payload, front_sized}
@@ -181,16 +181,59 @@ unfolding read_string
 stands [] bytes = stands_err _ _
 stands (first ∷ rest) bytes = first_stands first rest bytes.1
 
-answer_from : (b : List ℕ) (r : Result (List ℕ) DecoderError) → length b < 2 ^ 64 → read_string b ≡ r → Stands b r → MatchResult r (λ d. IsString b d) (λ _. (d : List ℕ) → ¬ IsString b d)
+-- ---- the fault is that of the table
+
+cond_fault : (b : Bool) (r s : Result (List ℕ) DecoderError) (e f g : DecoderError) → (r ≡ Err e → e ≡ f) → (s ≡ Err e → e ≡ g) → (if b then r else s) ≡ Err e → e ≡ (if b then f else g)
+cond_fault true r s e f g then_f else_g is = then_f is
+cond_fault false r s e f g then_f else_g is = else_g is
+
+fault_same : (e f : DecoderError) → (let r : Result (List ℕ) DecoderError = Err f in r) ≡ Err e → e ≡ f
+fault_same e f is = cc
+
+cond_ok : (b : Bool) (d : List ℕ) (s : Result (List ℕ) DecoderError) (e : DecoderError) → (if b then Ok d else s) ≡ Err e → s ≡ Err e
+cond_ok true d s e is = cc
+cond_ok false d s e is = is
+
+indirection : (b : Bool) (d : List ℕ) (e : DecoderError) → (if b then Err RlpInvalidIndirection else Ok d) ≡ Err e → e ≡ RlpInvalidIndirection
+indirection true d e is = cc
+indirection false d e is = cc
+
+short_fault : (n : ℕ) (rest : List ℕ) (e : DecoderError) → short_string n rest ≡ Err e → e ≡ short_string_fault n rest
+short_fault n rest e =
+    cond_fault (ltb (length rest) n) _ _ e _ _ (fault_same e RlpInconsistentLengthAndData) (indirection (is_low_byte (take n rest)) (take n rest) e)
+
+inconsistent : (b : Bool) (d : List ℕ) (e : DecoderError) → (if b then Err RlpInconsistentLengthAndData else Ok d) ≡ Err e → e ≡ RlpInconsistentLengthAndData
+inconsistent true d e is = cc
+inconsistent false d e is = cc
+
+value_fault : (k n : ℕ) (rest : List ℕ) (e : DecoderError) → long_value k n rest ≡ Err e → e ≡ long_value_fault k n
+value_fault k n rest e =
+    cond_fault (leb n 55) _ _ e _ _ (fault_same e RlpInvalidIndirection)
+    (cond_fault (ltb (2 ^ 64 - 1) (1 + k + n)) _ _ e _ _ (fault_same e RlpInvalidLength) (inconsistent (ltb (length rest) n) (take n rest) e))
+
+long_fault : (k : ℕ) (rest : List ℕ) (e : DecoderError) → long_string k rest ≡ Err e → e ≡ long_string_fault k rest
+long_fault k rest e =
+    cond_fault (ltb (length rest) k) _ _ e _ _ (fault_same e RlpInconsistentLengthAndData)
+    (cond_fault (slice_index rest 0 == 0) _ _ e _ _ (fault_same e RlpInvalidIndirection) (value_fault k (number_from_digits 256 (take k rest)) (drop k rest) e))
+
+fault_read : (b : List ℕ) (e : DecoderError) → read_string b ≡ Err e → e ≡ string_fault b
+unfolding read_string
+fault_read [] e is = fault_same e RlpIsTooShort is
+fault_read (first ∷ rest) e is =
+    cond_fault (ltb first 0xb8) _ _ e _ _ (short_fault (first - 0x80) rest e)
+    (cond_fault (ltb first 0xc0) _ _ e _ _ (long_fault (first - 0xb7) rest e) (fault_same e RlpExpectedToBeData))
+    (cond_ok (ltb first 0x80) (first ∷ []) _ e is)
+
+answer_from : (b : List ℕ) (r : Result (List ℕ) DecoderError) → length b < 2 ^ 64 → read_string b ≡ r → Stands b r → ReadsString b r
 unfolding Stands
 answer_from b (Ok d) fits is there = there
-answer_from b (Err e) fits is there = λ d has. let same = sym (string_only b d fits has) ∙ is in cc
+answer_from b (Err e) fits is there = ((λ d has. let same = sym (string_only b d fits has) ∙ is in cc), fault_read b e is)
 
-pub string_reads : (b : List ℕ) → AreBytes b → length b < 2 ^ 64 → MatchResult (read_string b) (λ d. IsString b d) (λ _. (d : List ℕ) → ¬ IsString b d)
+pub string_reads : (b : List ℕ) → AreBytes b → length b < 2 ^ 64 → ReadsString b (read_string b)
 string_reads b bytes fits = answer_from b (read_string b) fits refl (stands b (recursion_from_All (λ byte. byte < 2 ^ 8) b bytes))
 
 pub ruleset first_bytes = (string_low, string_short, string_long, string_list)
 
 -- where a string is missing, there is none, and what holds of the fault holds
 pub missing_from : (b : List ℕ) (e : DecoderError) (F : DecoderError → Type 0) → ReadsString b (read_string b) → read_string b ≡ Err e → F e → IfErr (read_string b) (λ e. HasNoString b × F e)
-missing_from b e F read is holds = subst (λ r. IfErr r (λ e. HasNoString b × F e)) (sym is) (subst (ReadsString b) is read, holds)
+missing_from b e F read is holds = let answer : ReadsString b (Err e) = subst (ReadsString b) is read in subst (λ r. IfErr r (λ e. HasNoString b × F e)) (sym is) (answer.0, holds)

@@ -11,8 +11,8 @@ ghost use Rattle.rlp.specs.WrittenHeader.{AreBytes};
 
 use crate::traits::{Decodable, Encodable};
 
-/// `read_string` gives the one string whose encoding stands at the front of the bytes, and a fault
-/// only where there is none.
+/// `read_string` gives the one string whose encoding stands at the front of the bytes, and where none
+/// stands there the fault of the first case that applies.
 pub fn string_is_read(bytes: &[u8])
     ensures read { ReadsString bytes.now (read_string bytes.now) }
     ensures only { (d : List ℕ) → IsString bytes.now d → read_string bytes.now ≡ Ok d }
