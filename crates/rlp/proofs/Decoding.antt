@@ -9,7 +9,7 @@ use Rattle.rlp.specs.Encoding.{BeginsWith, encoding, join}
 use Rattle.rlp.specs.Split.{items}
 use Rattle.rlp.specs.ValueReading.{GivesValue}
 use Rattle.rlp.specs.View.{View, view_of, item_views}
-use Rattle.rlp.specs.ListReading.{GivesEach, FaultsFirst}
+use Rattle.rlp.specs.ListReading.{GivesEach, GivesList, FaultsAsList, not_list, faulty_in_list}
 use Rattle.rlp.specs.Lemmas.ListRoundTrips.{AlwaysReadsBack}
 use Rattle.rlp.specs.RoundTrip.{ReadsBack}
 use Rattle.rlp.specs.Lemmas.Encodings.{encoding_list, front_sized, small_payload}
@@ -69,11 +69,15 @@ module _ {A : Type 0} (Fits : A → Type 0) (item : A → Item) (gives : View �
     backs = all_back law vs (recursion_from_All Fits vs all)
         (small_payload 0xc0 (join (map item vs)) (encoding (list_of (map item vs))) (encoding_list (map item vs)) (front_sized (list_of (map item vs)) b begins.0 fits begins.1))
 
-    pub list_alike : {B : Type 0} (content : B → List A) (r : Result B DecoderError) → IfOk r (λ x. GivesEach gives (item_views (view_of b)) (content x)) → IfOk r (λ x. All Fits (content x) × (map item (content x) ≡ map item vs))
-    list_alike content (Ok x) each = let h = each_alike vs (content x) backs (subst (λ ws. GivesEach gives ws (content x)) views_are each) in (All-from_recursion Fits (content x) h.0, h.1)
+    pub list_alike : {B : Type 0} (content : B → List A) (r : Result B DecoderError) → IfOk r (λ x. GivesList gives (view_of b) (content x)) → IfOk r (λ x. All Fits (content x) × (map item (content x) ≡ map item vs))
+    list_alike content (Ok x) each = let h = each_alike vs (content x) backs (subst (λ ws. GivesEach gives ws (content x)) views_are each.each) in (All-from_recursion Fits (content x) h.0, h.1)
     list_alike content (Err e) each = tt
 
-    pub list_memory : {B : Type 0} (r : Result B DecoderError) → IfErr r (λ e. (e ≡ OutOfMemory) ⊎ FaultsFirst gives faults (item_views (view_of b)) e) → IfErr r (λ e. e ≡ OutOfMemory)
-    list_memory (Ok x) h = tt
-    list_memory (Err e) (inl lacks) = lacks
-    list_memory (Err e) (inr first) = absurd (none_first vs first.before first.after first.faulty e backs (sym views_are ∙ first.all) first.bad)
+    no_list_fault : (e : DecoderError) → ¬ FaultsAsList gives faults (view_of b) e
+    no_list_fault e (not_list is) = cc
+    no_list_fault e (faulty_in_list is first) = none_first vs first.before first.after first.reached e backs (sym views_are ∙ first.all) first.is
+
+    pub list_memory : {B : Type 0} (r : Result B DecoderError) (M : DecoderError → Type 0) → IfErr r (λ e. FaultsAsList gives faults (view_of b) e ⊎ M e) → IfErr r (λ e. M e)
+    list_memory (Ok x) M h = tt
+    list_memory (Err e) M (inl fault) = absurd (no_list_fault e fault)
+    list_memory (Err e) M (inr memory) = memory

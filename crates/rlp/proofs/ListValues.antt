@@ -1,10 +1,11 @@
 -- The values of the items of a list, as they come one after another.
-use Rattle.std.proofs.Common.{ℕ, ◌≡◌, List, [], ◌∷◌, ◌++◌, ◌⊎◌, inl, inr, map, sym, ◌∙◌, ap, append_assoc, append-nil}
+use Rattle.std.proofs.Common.{ℕ, ◌≡◌, List, [], ◌∷◌, ◌++◌, ◌⊎◌, inl, inr, map, refl, sym, ◌∙◌, ap, append_assoc, append-nil}
 use Rattle.rlp.specs.declared.error.DecoderError.{DecoderError}
 use Rattle.rlp.specs.declared.error.DecoderError.TheVariants.{OutOfMemory}
 use Rattle.rlp.specs.Split.{items, payload, split}
 use Rattle.rlp.specs.View.{View, item_views}
-use Rattle.rlp.specs.ListReading.{GivesEach, FaultsFirst}
+use Rattle.rlp.specs.ValueReading.{GivesSome}
+use Rattle.rlp.specs.ListReading.{GivesEach, ComesTo, FaultsAsList, faulty_in_list, MayLackAsList}
 
 -- the views of the items that bytes begin with, as v is one
 abbrev pub split_views : View → List ℕ → List View
@@ -29,8 +30,16 @@ gives-more gives [] (y ∷ xs) v x each one = absurd each
 gives-more gives (w ∷ vs) [] v x each one = absurd each
 gives-more gives (w ∷ vs) (y ∷ xs) v x each one = (each.0, gives-more gives vs xs v x each.1 one)
 
--- a fault of an item before which each item gives a value, or want of memory
-pub faults-first : {A M : Type 0} (gives : View → A → Type 0) (faults : View → DecoderError → Type 0) (views done more : List View) (item : View) (xs : List A) (e : DecoderError)
-    → views ≡ done ++ item ∷ more → GivesEach gives done xs → (faults item e) ⊎ ((e ≡ OutOfMemory) × M) → (e ≡ OutOfMemory) ⊎ FaultsFirst gives faults views e
-faults-first gives faults views done more item xs e all good (inl bad) = inr (record { before = done; values = xs; faulty = item; after = more; all = all; good = good; bad = bad })
-faults-first gives faults views done more item xs e all good (inr (lacks, may)) = inl lacks
+module _ {A : Type 0} (gives : View → A → Type 0) (faults : View → DecoderError → Type 0) (may_lack : View → Type 0) (v : View) (done more : List View) (item : View) (xs : List A)
+    (all : item_views v ≡ done ++ item ∷ more) (good : GivesEach gives done xs) where
+  reached : (IsSuch : View → Type 0) → IsSuch item → ComesTo gives IsSuch (item_views v)
+  reached IsSuch is = record { before = done; values = xs; reached = item; after = more; all = all; good = good; is = is }
+
+  -- a fault of an item before which each item gives a value, or want of memory there
+  pub faults-first : (e : DecoderError) → (faults item e) ⊎ ((e ≡ OutOfMemory) × may_lack item) → FaultsAsList gives faults v e ⊎ ((e ≡ OutOfMemory) × MayLackAsList gives may_lack v)
+  faults-first e (inl bad) = inl (faulty_in_list refl (reached (λ v. faults v e) bad))
+  faults-first e (inr (lacks, may)) = inr (lacks, record { is_list = refl; comes = reached (λ v. GivesSome gives v ⊎ may_lack v) (inr may) })
+
+  -- an item gives a value, for which there is no room
+  pub no-room : (x : A) → gives item x → MayLackAsList gives may_lack v
+  no-room x given = record { is_list = refl; comes = reached (λ v. GivesSome gives v ⊎ may_lack v) (inl (x, given)) }

@@ -1,46 +1,47 @@
 -- What a type that is read from one string answers, by what it makes of the string.
 use Rattle.std.proofs.Common.{◌≡◌, ℕ, List, ◌⊎◌, inl, inr, refl, sym, subst, Result, Ok, Err, IfOk, IfErr, IsErrAnd}
 use Rattle.rlp.specs.declared.error.DecoderError.{DecoderError}
-use Rattle.rlp.specs.StringReading.{IsString, HasNoString, read_string}
-use Rattle.rlp.specs.ValueReading.{FaultsAs, no_string, no_value}
-use Rattle.rlp.specs.View.{View}
+use Rattle.rlp.specs.declared.error.DecoderError.TheVariants.{OutOfMemory}
+use Rattle.rlp.specs.Item.{string}
+use Rattle.rlp.specs.ValueReading.{FaultsAs, no_string, no_value, FaultsAsBytes, GivesBytes, GivesSome, GivesValue}
+use Rattle.rlp.specs.View.{View, HoldsString, HoldsNoString, view_string}
 
-found_faults : {A : Type 0} (r : Result A DecoderError) (IsFaulty : List ℕ → DecoderError → Type 0) (M : DecoderError → Type 0) (v : View) (d : List ℕ) → IsString v.bytes d
-    → IfErr r (λ e. IsFaulty d e ⊎ M e) → IfErr r (λ e. FaultsAs IsFaulty v e ⊎ M e)
-found_faults (Ok x) IsFaulty M v d is faulty = faulty
-found_faults (Err e) IsFaulty M v d is (inl fault) = inl (no_value d e is fault)
-found_faults (Err e) IsFaulty M v d is (inr memory) = inr memory
+-- the decoder of a view calls on the string that it finds, and else answers why it finds none
+pub record Answers {A : Type 0} (r : Result A DecoderError) (Calls : List ℕ → Type 0) (v : View) : Type 0 where
+  pub found : IfOk (view_string v) (λ d. HoldsString v d × Calls d)
+  pub missing : IfErr (view_string v) (λ e. HoldsNoString v × IsErrAnd r (λ x. x ≡ e))
 
-missing_faults : {A : Type 0} (r : Result A DecoderError) (IsFaulty : List ℕ → DecoderError → Type 0) (M : DecoderError → Type 0) (v : View) (e : DecoderError) → read_string v.bytes ≡ Err e
-    → IsErrAnd r (λ x. x ≡ e) → IfErr r (λ e. FaultsAs IsFaulty v e ⊎ M e)
-missing_faults (Ok x) IsFaulty M v e is err = absurd err
-missing_faults (Err x) IsFaulty M v e is same = inl (subst (FaultsAs IsFaulty v) (sym same) (no_string e is))
+module _ {A : Type 0} (r : Result A DecoderError) (Fault : DecoderError → Type 0) where
+  missing_by : (e : DecoderError) → IsErrAnd r (λ x. x ≡ e) → Fault e → IfErr r Fault
+  missing_by e err fault = elim r as (λ r. IsErrAnd r (λ x. x ≡ e) → IfErr r Fault) [ Ok x ↦ λ err. absurd err | Err x ↦ λ same. subst Fault (sym same) fault ] err
 
-faults_by : {A : Type 0} (r : Result A DecoderError) (IsFaulty : List ℕ → DecoderError → Type 0) (M : DecoderError → Type 0) (Calls : List ℕ → Type 0) (v : View) (s : Result (List ℕ) DecoderError)
-    → read_string v.bytes ≡ s → IfOk s (λ d. IsString v.bytes d × Calls d) → IfErr s (λ e. HasNoString v.bytes × IsErrAnd r (λ x. x ≡ e))
-    → ((d : List ℕ) → Calls d → IfErr r (λ e. IsFaulty d e ⊎ M e)) → IfErr r (λ e. FaultsAs IsFaulty v e ⊎ M e)
-faults_by r IsFaulty M Calls v (Ok d) is (stands, call) missing called = found_faults r IsFaulty M v d stands (called d call)
-faults_by r IsFaulty M Calls v (Err e) is found (none, err) called = missing_faults r IsFaulty M v e is err
+  by_string : {Calls : List ℕ → Type 0} (v : View) (s : Result (List ℕ) DecoderError) → view_string v ≡ s → IfOk s (λ d. HoldsString v d × Calls d) → IfErr s (λ e. HoldsNoString v × IsErrAnd r (λ x. x ≡ e))
+      → ((e : DecoderError) → view_string v ≡ Err e → Fault e) → ((d : List ℕ) → HoldsString v d → Calls d → IfErr r Fault) → IfErr r Fault
+  by_string v (Ok d) is (holds, call) missing none some = some d holds call
+  by_string v (Err e) is found (absent, err) none some = missing_by e err (none e is)
+
+if_err : {A : Type 0} (r : Result A DecoderError) {F G : DecoderError → Type 0} → ((e : DecoderError) → F e → G e) → IfErr r F → IfErr r G
+if_err (Ok x) f h = tt
+if_err (Err e) f h = f e h
+
+-- a fault of a string that was found, or want of memory where it is a value's
+fault_found : (IsFaulty : List ℕ → DecoderError → Type 0) (Fits : List ℕ → Type 0) (v : View) (d : List ℕ) → HoldsString v d → (e : DecoderError) → IsFaulty d e ⊎ ((e ≡ OutOfMemory) × Fits d)
+    → FaultsAs IsFaulty v e ⊎ ((e ≡ OutOfMemory) × GivesSome (GivesValue Fits string) v)
+fault_found IsFaulty Fits v d holds e (inl faulty) = inl (no_value d e holds faulty)
+fault_found IsFaulty Fits v d holds e (inr (lacks, fit)) = inr (lacks, (d, record { fits = fit; begins = holds }))
 
 -- the fault of an answer that was made of the string found, or of the fault where none stands
-pub faults_from : {A : Type 0} (r : Result A DecoderError) (IsFaulty : List ℕ → DecoderError → Type 0) (M : DecoderError → Type 0) (Calls : List ℕ → Type 0) {decoder v : View} → decoder ≡ v
-    → IfOk (read_string decoder.bytes) (λ d. IsString decoder.bytes d × Calls d) → IfErr (read_string decoder.bytes) (λ e. HasNoString decoder.bytes × IsErrAnd r (λ x. x ≡ e))
-    → ((d : List ℕ) → Calls d → IfErr r (λ e. IsFaulty d e ⊎ M e)) → IfErr r (λ e. FaultsAs IsFaulty v e ⊎ M e)
-faults_from r IsFaulty M Calls {decoder = decoder} same found missing called =
-    subst (λ v. IfErr r (λ e. FaultsAs IsFaulty v e ⊎ M e)) same (faults_by r IsFaulty M Calls decoder (read_string decoder.bytes) refl found missing called)
+pub faults_from : {A : Type 0} (r : Result A DecoderError) (IsFaulty : List ℕ → DecoderError → Type 0) (Fits : List ℕ → Type 0) {Calls : List ℕ → Type 0} {decoder v : View} → decoder ≡ v → Answers r Calls decoder
+    → ((d : List ℕ) → Calls d → IfErr r (λ e. IsFaulty d e ⊎ ((e ≡ OutOfMemory) × Fits d))) → IfErr r (λ e. FaultsAs IsFaulty v e ⊎ ((e ≡ OutOfMemory) × GivesSome (GivesValue Fits string) v))
+faults_from r IsFaulty Fits {decoder = decoder} same answers called =
+    subst (λ v. IfErr r (λ e. FaultsAs IsFaulty v e ⊎ ((e ≡ OutOfMemory) × GivesSome (GivesValue Fits string) v))) same
+    (by_string r (λ e. FaultsAs IsFaulty decoder e ⊎ ((e ≡ OutOfMemory) × GivesSome (GivesValue Fits string) decoder)) decoder (view_string decoder) refl answers.found answers.missing
+    (λ e is. inl (no_string e is)) (λ d holds call. if_err r (fault_found IsFaulty Fits decoder d holds) (called d call)))
 
-no_memory : {A : Type 0} (r : Result A DecoderError) (F : DecoderError → Type 0) → IfErr r (λ e. F e ⊎ ⊥) → IfErr r (λ e. F e)
-no_memory (Ok x) F h = tt
-no_memory (Err e) F (inl h) = h
-no_memory (Err e) F (inr h) = absurd h
-
-or_memory : {A : Type 0} (r : Result A DecoderError) (F : DecoderError → Type 0) → IfErr r (λ e. F e) → IfErr r (λ e. F e ⊎ ⊥)
-or_memory (Ok x) F h = tt
-or_memory (Err e) F h = inl h
-
--- the same of an answer that takes no memory
-pub faults_only : {A : Type 0} (r : Result A DecoderError) (IsFaulty : List ℕ → DecoderError → Type 0) (Calls : List ℕ → Type 0) {decoder v : View} → decoder ≡ v
-    → IfOk (read_string decoder.bytes) (λ d. IsString decoder.bytes d × Calls d) → IfErr (read_string decoder.bytes) (λ e. HasNoString decoder.bytes × IsErrAnd r (λ x. x ≡ e))
-    → ((d : List ℕ) → Calls d → IfErr r (λ e. IsFaulty d e)) → IfErr r (λ e. FaultsAs IsFaulty v e)
-faults_only r IsFaulty Calls {v = v} same found missing called =
-    no_memory r (FaultsAs IsFaulty v) (faults_from r IsFaulty (λ e. ⊥) Calls same found missing (λ d call. or_memory r (IsFaulty d) (called d call)))
+-- the same where any string is a value's
+pub bytes_faults_from : {A : Type 0} (r : Result A DecoderError) {Calls : List ℕ → Type 0} {decoder v : View} → decoder ≡ v → Answers r Calls decoder
+    → ((d : List ℕ) → Calls d → IfErr r (λ e. e ≡ OutOfMemory)) → IfErr r (λ e. FaultsAsBytes v e ⊎ ((e ≡ OutOfMemory) × GivesSome GivesBytes v))
+bytes_faults_from r {decoder = decoder} same answers called =
+    subst (λ v. IfErr r (λ e. FaultsAsBytes v e ⊎ ((e ≡ OutOfMemory) × GivesSome GivesBytes v))) same
+    (by_string r (λ e. FaultsAsBytes decoder e ⊎ ((e ≡ OutOfMemory) × GivesSome GivesBytes decoder)) decoder (view_string decoder) refl answers.found answers.missing
+    (λ e is. inl is) (λ d holds call. if_err r (λ e lacks. inr (lacks, (d, record { fits = tt; begins = holds }))) (called d call)))

@@ -4,12 +4,14 @@ pub mod Encoding
 pub mod Header
 pub mod Framing
 pub mod Split
+pub mod StringReading
 pub mod View
 pub mod Text
 pub mod Depth
 pub mod Value
-pub mod StringReading
 pub mod ValueReading
+pub mod ListReading
+pub mod RoundTrip
 pub mod Stack
 pub mod Stream
 pub mod Growth
@@ -18,8 +20,6 @@ pub mod Layout
 pub mod Chain
 pub mod Iterated
 pub mod Described
-pub mod ListReading
 pub mod Placeholders
 pub mod Closing
-pub mod RoundTrip
 pub mod Lemmas

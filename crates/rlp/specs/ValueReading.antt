@@ -3,21 +3,23 @@ use Rattle.std.specs.Prelude.{ℕ, ◌≡◌, ◌≤◌, ◌<◌, ◌⊎◌, ⊤
 use Rattle.rlp.specs.declared.error.DecoderError.{DecoderError}
 use Rattle.rlp.specs.declared.error.DecoderError.TheVariants.{RlpIsTooBig, RlpInvalidIndirection, RlpExpectedToBeData}
 use Rattle.rlp.specs.Item.{Item, string}
-use Rattle.rlp.specs.Encoding.{encoding, BeginsWith}
-use Rattle.rlp.specs.StringReading.{IsString, read_string}
 use Rattle.rlp.specs.Value.{number_item, FitsBytes, AreAlike, bit}
 use Rattle.rlp.specs.Text.{error_name}
-use Rattle.rlp.specs.View.{View}
+use Rattle.rlp.specs.View.{View, HoldsItem, HoldsString, view_string}
 
 -- The view gives the value x: x is a value of its type, and the view begins with the encoding of its item.
 pub record GivesValue {A : Type 0} (Fits : A → Type 0) (item : A → Item) (v : View) (x : A) : Type 0 where
   pub fits : Fits x
-  pub begins : BeginsWith v.bytes (encoding (item x))
+  pub begins : HoldsItem v (item x)
 
 -- Why a view gives no value of a type that is read from one string: none stands at its front, or one that is no value's.
 pub data FaultsAs (IsFaulty : List ℕ → DecoderError → Type 0) (v : View) : DecoderError → Type 0 where
-  no_string : (e : DecoderError) → read_string v.bytes ≡ Err e → FaultsAs IsFaulty v e
-  no_value : (d : List ℕ) (e : DecoderError) → IsString v.bytes d → IsFaulty d e → FaultsAs IsFaulty v e
+  no_string : (e : DecoderError) → view_string v ≡ Err e → FaultsAs IsFaulty v e
+  no_value : (d : List ℕ) (e : DecoderError) → HoldsString v d → IsFaulty d e → FaultsAs IsFaulty v e
+
+-- the view gives some value
+abbrev pub GivesSome : {A : Type 0} → (View → A → Type 0) → View → Type 0
+GivesSome {A} gives v = (x : A) × gives v x
 
 -- the view gives the number n, which has that many bytes at most
 abbrev pub GivesNumber : ℕ → View → ℕ → Type 0
@@ -38,7 +40,7 @@ GivesBytes v d = GivesValue (λ d. ⊤) string v d
 
 -- why a view gives no bytes: no string stands at its front
 abbrev pub FaultsAsBytes : View → DecoderError → Type 0
-FaultsAsBytes v e = read_string v.bytes ≡ Err e
+FaultsAsBytes v e = view_string v ≡ Err e
 
 -- the view gives the text of these bytes
 abbrev pub GivesText : View → List ℕ → Type 0

@@ -1,13 +1,16 @@
 -- What contracts see of a view, and what a view of bytes answers.
-use Rattle.std.specs.Prelude.{ℕ, ◌+◌, ◌-◌, Bool, true, false, ◌||◌, ◌==◌, if◌then◌else◌, nat_lt, nat_le, List, [], ◌∷◌, length, take, map, slice_index_or, Result, Ok, Err}
+use Rattle.std.specs.Prelude.{ℕ, ◌+◌, ◌-◌, Bool, true, false, Option, None, ◌||◌, ◌==◌, if◌then◌else◌, nat_lt, nat_le, List, [], ◌∷◌, length, take, map, slice_index_or, Result, Ok, Err}
 use Rattle.std.specs.List.{concat}
 use Rattle.rlp.specs.declared.error.DecoderError.{DecoderError}
 use Rattle.rlp.specs.declared.error.DecoderError.TheVariants.{RlpExpectedToBeList}
 use Rattle.rlp.specs.declared.rlpin.header.PayloadInfo.{PayloadInfo}
 use Rattle.rlp.specs.declared.rlpin.view.Prototype.{Prototype}
 use Rattle.rlp.specs.declared.rlpin.view.Prototype.TheVariants as prototype
+use Rattle.rlp.specs.Item.{Item, string}
+use Rattle.rlp.specs.Encoding.{BeginsWith, encoding}
 use Rattle.rlp.specs.Framing.{fault, framing, map_ok, value}
 use Rattle.rlp.specs.Split.{begins_as_list, items, rest}
+use Rattle.rlp.specs.StringReading.{read_string}
 
 -- A view is of these bytes.
 pub record View : Type 0 where
@@ -16,6 +19,34 @@ pub record View : Type 0 where
 -- the view of these bytes
 abbrev pub view_of : List ℕ → View
 view_of b = record { bytes = b }
+
+-- the lengths of the header and the value at the front of a view, or why they don't lie within it
+abbrev pub view_header : View → Result PayloadInfo DecoderError
+view_header v = framing v.bytes
+
+-- the value alone
+abbrev pub view_value : View → Result (List ℕ) DecoderError
+view_value v = value v.bytes
+
+-- the string at the front of a view, or why none stands there
+abbrev pub view_string : View → Result (List ℕ) DecoderError
+view_string v = read_string v.bytes
+
+-- the view begins with the encoding of the item
+abbrev pub HoldsItem : View → Item → Type 0
+HoldsItem v x = BeginsWith v.bytes (encoding x)
+
+-- the view begins with the encoding of the string
+abbrev pub HoldsString : View → List ℕ → Type 0
+HoldsString v d = HoldsItem v (string d)
+
+-- no string's encoding stands at the front of the view
+abbrev pub HoldsNoString : View → Type 0
+HoldsNoString v = (d : List ℕ) → ¬ HoldsString v d
+
+-- Why a view isn't read as a list, for a reason apart from its items. No view has such a fault: bytes that are no framed list are read as one of no items, and what follows the items in a list is never looked at.
+abbrev pub list_fault : View → Option DecoderError
+list_fault v = None
 
 -- the views of the items of a view
 abbrev pub item_views : View → List View

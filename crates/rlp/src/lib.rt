@@ -14,10 +14,11 @@
 
 ghost use Rattle.std.specs.Prelude.{◌≡◌, IfOk, IfErr, IsTrue, OnOk, ◌⊎◌, map, All};
 ghost use Rattle.rlp.specs.Item.{list_of};
+ghost use Rattle.std.specs.Prelude.{◌≡◌, IfOk, IfErr, OnOk, ◌⊎◌};
 ghost use Rattle.rlp.specs.Encoding.{encoding};
 ghost use Rattle.rlp.specs.declared.error.DecoderError.TheVariants.{OutOfMemory};
-ghost use Rattle.rlp.specs.ListReading.{FaultsFirst, GivesEach};
-ghost use Rattle.rlp.specs.View.{item_views, view_of};
+ghost use Rattle.rlp.specs.ListReading.{FaultsAsList, GivesList, MayLackAsList};
+ghost use Rattle.rlp.specs.View.{view_of};
 
 mod error;
 mod impls;
@@ -77,7 +78,7 @@ pub fn encode_list<E: Encodable>(alloc: Global, object: &[E]) -> Result<BytesMut
 pub fn decode<T: Decodable>(alloc: Global, bytes: &[u8]) -> Result<T, DecoderError>
     ensures value { IfOk result (λ v. T.gives (view_of bytes.now) v) }
     ensures fault { IfErr result (λ e. (T.faults (view_of bytes.now) e) ⊎ ((e ≡ OutOfMemory)
-        × IsTrue T.may_lack_memory)) }
+        × T.may_lack_memory (view_of bytes.now))) }
 {
     Rlp::new(bytes).as_val(alloc)
 }
@@ -90,9 +91,9 @@ pub fn decode<T: Decodable>(alloc: Global, bytes: &[u8]) -> Result<T, DecoderErr
 /// ```
 pub fn decode_list<T: Decodable>(alloc: Global, bytes: &[u8]) -> Result<Vec<T>, DecoderError>
     ensures value { IfOk result
-        (λ values. GivesEach T.gives (item_views (view_of bytes.now)) values.items) }
-    ensures fault { IfErr result (λ e. (e ≡ OutOfMemory)
-        ⊎ FaultsFirst T.gives T.faults (item_views (view_of bytes.now)) e) }
+        (λ values. GivesList T.gives (view_of bytes.now) values.items) }
+    ensures fault { IfErr result (λ e. (FaultsAsList T.gives T.faults (view_of bytes.now) e)
+        ⊎ ((e ≡ OutOfMemory) × MayLackAsList T.gives T.may_lack_memory (view_of bytes.now))) }
 {
     Rlp::new(bytes).as_list(alloc)
 }

@@ -23,14 +23,13 @@ impl Encodable for bool {
 /// The number 0 or 1 of one byte; another one is `Custom("invalid boolean value")`. No memory is
 /// taken.
 impl Decodable for bool {
-    ghost use Rattle.std.specs.Prelude.{false};
     ghost use Rattle.rlp.specs.ValueReading.{GivesBool, FaultsAsBool};
 
     ghost gives = { GivesBool };
 
     ghost faults = { FaultsAsBool };
 
-    ghost may_lack_memory = { false };
+    ghost may_lack_memory = { λ v. ⊥ };
 
     #[tactic(auto, using(crate::specs::Lemmas::RoundTrips::bool_faults))]
     fn decode(alloc: Global, rlp: &Rlp<'_>) -> Result<bool, DecoderError> {

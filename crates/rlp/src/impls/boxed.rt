@@ -18,13 +18,14 @@ impl<T: Encodable> Encodable for Box<T> {
 
 /// What its type reads, in a box.
 impl<T: Decodable> Decodable for Box<T> {
-    ghost use Rattle.std.specs.Prelude.{true};
+    ghost use Rattle.std.specs.Prelude.{◌⊎◌};
+    ghost use Rattle.rlp.specs.ValueReading.{GivesSome};
 
     ghost gives = { λ v b. T.gives v b.value };
 
     ghost faults = { T.faults };
 
-    ghost may_lack_memory = { true };
+    ghost may_lack_memory = { λ v. GivesSome T.gives v ⊎ T.may_lack_memory v };
 
     fn decode(alloc: Global, rlp: &Rlp<'_>) -> Result<Box<T>, DecoderError> {
         match Box::new(alloc, T::decode(alloc, rlp)?) {

@@ -36,14 +36,13 @@ impl Encodable for &[u8] {
 
 /// The bytes of a string, by one copy.
 impl Decodable for Vec<u8> {
-    ghost use Rattle.std.specs.Prelude.{true};
-    ghost use Rattle.rlp.specs.ValueReading.{GivesBytes, FaultsAsBytes};
+    ghost use Rattle.rlp.specs.ValueReading.{GivesBytes, FaultsAsBytes, GivesSome};
 
     ghost gives = { λ v x. GivesBytes v x.items };
 
     ghost faults = { λ v e. FaultsAsBytes v e };
 
-    ghost may_lack_memory = { true };
+    ghost may_lack_memory = { λ v. GivesSome GivesBytes v };
 
     fn decode(alloc: Global, rlp: &Rlp<'_>) -> Result<Vec<u8>, DecoderError> {
         rlp.decoder()

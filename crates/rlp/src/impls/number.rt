@@ -26,14 +26,13 @@ impl Encodable for u8 {
 
 /// A number of one byte, read as `u64` is.
 impl Decodable for u8 {
-    ghost use Rattle.std.specs.Prelude.{false};
     ghost use Rattle.rlp.specs.ValueReading.{GivesNumber, FaultsAsNumber};
 
     ghost gives = { λ v n. GivesNumber 1 v n };
 
     ghost faults = { λ v e. FaultsAsNumber 1 v e };
 
-    ghost may_lack_memory = { false };
+    ghost may_lack_memory = { λ v. ⊥ };
 
     fn decode(_alloc: Global, rlp: &Rlp<'_>) -> Result<u8, DecoderError> {
         match number_digits(rlp, 1) {
@@ -69,14 +68,13 @@ impl Encodable for u16 {
 
 /// A number of two bytes, read as `u64` is.
 impl Decodable for u16 {
-    ghost use Rattle.std.specs.Prelude.{false};
     ghost use Rattle.rlp.specs.ValueReading.{GivesNumber, FaultsAsNumber};
 
     ghost gives = { λ v n. GivesNumber 2 v n };
 
     ghost faults = { λ v e. FaultsAsNumber 2 v e };
 
-    ghost may_lack_memory = { false };
+    ghost may_lack_memory = { λ v. ⊥ };
 
     fn decode(_alloc: Global, rlp: &Rlp<'_>) -> Result<u16, DecoderError> {
         match number_digits(rlp, 2) {
@@ -112,14 +110,13 @@ impl Encodable for u32 {
 
 /// A number of four bytes, read as `u64` is.
 impl Decodable for u32 {
-    ghost use Rattle.std.specs.Prelude.{false};
     ghost use Rattle.rlp.specs.ValueReading.{GivesNumber, FaultsAsNumber};
 
     ghost gives = { λ v n. GivesNumber 4 v n };
 
     ghost faults = { λ v e. FaultsAsNumber 4 v e };
 
-    ghost may_lack_memory = { false };
+    ghost may_lack_memory = { λ v. ⊥ };
 
     fn decode(_alloc: Global, rlp: &Rlp<'_>) -> Result<u32, DecoderError> {
         match number_digits(rlp, 4) {
@@ -161,14 +158,13 @@ impl Encodable for u64 {
 /// A string of more bytes is `RlpIsTooBig`, and one that begins with a zero byte
 /// `RlpInvalidIndirection`: zero is the empty string.
 impl Decodable for u64 {
-    ghost use Rattle.std.specs.Prelude.{false};
     ghost use Rattle.rlp.specs.ValueReading.{GivesNumber, FaultsAsNumber};
 
     ghost gives = { λ v n. GivesNumber 8 v n };
 
     ghost faults = { λ v e. FaultsAsNumber 8 v e };
 
-    ghost may_lack_memory = { false };
+    ghost may_lack_memory = { λ v. ⊥ };
 
     fn decode(_alloc: Global, rlp: &Rlp<'_>) -> Result<u64, DecoderError> {
         match number_digits(rlp, 8) {
@@ -204,14 +200,13 @@ impl Encodable for usize {
 
 /// As `u64`.
 impl Decodable for usize {
-    ghost use Rattle.std.specs.Prelude.{false};
     ghost use Rattle.rlp.specs.ValueReading.{GivesNumber, FaultsAsNumber};
 
     ghost gives = { λ v n. GivesNumber 8 v n };
 
     ghost faults = { λ v e. FaultsAsNumber 8 v e };
 
-    ghost may_lack_memory = { false };
+    ghost may_lack_memory = { λ v. ⊥ };
 
     fn decode(_alloc: Global, rlp: &Rlp<'_>) -> Result<usize, DecoderError> {
         match number_digits(rlp, 8) {
@@ -250,14 +245,13 @@ impl Encodable for u128 {
 
 /// A number of at most sixteen bytes, read as `u64` is.
 impl Decodable for u128 {
-    ghost use Rattle.std.specs.Prelude.{false};
     ghost use Rattle.rlp.specs.ValueReading.{GivesNumber, FaultsAsNumber};
 
     ghost gives = { λ v n. GivesNumber 16 v n };
 
     ghost faults = { λ v e. FaultsAsNumber 16 v e };
 
-    ghost may_lack_memory = { false };
+    ghost may_lack_memory = { λ v. ⊥ };
 
     fn decode(_alloc: Global, rlp: &Rlp<'_>) -> Result<u128, DecoderError> {
         match number_digits(rlp, 16) {

@@ -2,7 +2,7 @@
 
 ghost use Rattle.std.specs.Prelude.{IfSome};
 ghost use Rattle.rlp.specs.Value.{option_item};
-ghost use Rattle.rlp.specs.ListReading.{GivesOption, FaultsAsOption};
+ghost use Rattle.rlp.specs.ListReading.{GivesOption, FaultsAsOption, MayLackAsOption};
 
 use crate::error::DecoderError;
 use crate::rlpin::Rlp;
@@ -31,7 +31,7 @@ impl<T: Decodable> Decodable for Option<T> {
 
     ghost faults = { λ v e. FaultsAsOption T.faults v e };
 
-    ghost may_lack_memory = { T.may_lack_memory };
+    ghost may_lack_memory = { λ v. MayLackAsOption T.may_lack_memory v };
 
     #[tactic(auto, using(crate::specs::Lemmas::ListRoundTrips::option_answers))]
     fn decode(alloc: Global, rlp: &Rlp<'_>) -> Result<Option<T>, DecoderError> {

@@ -37,15 +37,14 @@ impl Encodable for &str {
 
 /// The text of a string, by one copy. Bytes that aren't UTF-8 are `RlpExpectedToBeData`.
 impl Decodable for String {
-    ghost use Rattle.std.specs.Prelude.{true};
     ghost use Rattle.std.specs.String.{string_bytes};
-    ghost use Rattle.rlp.specs.ValueReading.{GivesText, FaultsAsText};
+    ghost use Rattle.rlp.specs.ValueReading.{GivesText, FaultsAsText, GivesSome};
 
     ghost gives = { λ v x. GivesText v (string_bytes x) };
 
     ghost faults = { λ v e. FaultsAsText v e };
 
-    ghost may_lack_memory = { true };
+    ghost may_lack_memory = { λ v. GivesSome GivesText v };
 
     fn decode(alloc: Global, rlp: &Rlp<'_>) -> Result<String, DecoderError> {
         rlp.decoder().decode_value(|string: &[u8]| {

@@ -1,10 +1,10 @@
 //! Encodings are read back, by every type that keeps the law of `RoundTrip`.
 
-ghost use Rattle.std.specs.Prelude.{◌≡◌, ◌↔◌, ◌++◌, ◌∷◌, ℕ, List, All, IfErr, IfOk, IsOkAnd, IsTrue, length, map};
+ghost use Rattle.std.specs.Prelude.{◌≡◌, ◌↔◌, ◌++◌, ◌∷◌, ℕ, List, All, IfErr, IfOk, IsOkAnd, length, map};
 ghost use Rattle.rlp.specs.declared.error.DecoderError.TheVariants.{OutOfMemory};
 ghost use Rattle.rlp.specs.Encoding.{BeginsWith, encoding};
 ghost use Rattle.rlp.specs.Item.{list_of};
-ghost use Rattle.rlp.specs.ListReading.{FaultsAt, GivesAt};
+ghost use Rattle.rlp.specs.ListReading.{FaultsAt, GivesAt, MayLackAsList};
 ghost use Rattle.rlp.specs.RoundTrip.{ReadsBack};
 ghost use Rattle.rlp.specs.Split.{items};
 ghost use Rattle.rlp.specs.Value.{AreAlike};
@@ -32,7 +32,7 @@ pub fn encoding_is_decoded<T: RoundTrip>(alloc: Global, bytes: &[u8]) -> Result<
     ensures alike { (v : T) → T.fits v → BeginsWith bytes.now (encoding (T.item v))
         → IfOk result (λ w. T.fits w × AreAlike T.item w v) }
     ensures memory { (v : T) → T.fits v → BeginsWith bytes.now (encoding (T.item v))
-        → IfErr result (λ e. (e ≡ OutOfMemory) × IsTrue T.may_lack_memory) }
+        → IfErr result (λ e. (e ≡ OutOfMemory) × T.may_lack_memory (view_of bytes.now)) }
 {
     crate::decode(alloc, bytes)
 }
@@ -45,7 +45,7 @@ pub fn scalar_is_decoded<T: Scalar>(alloc: Global, bytes: &[u8]) -> Result<T, De
     ensures alike { (v : T) → T.fits v → BeginsWith bytes.now (encoding (T.item v))
         → IfOk result (λ w. T.fits w × AreAlike T.item w v) }
     ensures memory { (v : T) → T.fits v → BeginsWith bytes.now (encoding (T.item v))
-        → IfErr result (λ e. (e ≡ OutOfMemory) × IsTrue T.may_lack_memory) }
+        → IfErr result (λ e. (e ≡ OutOfMemory) × T.may_lack_memory (view_of bytes.now)) }
 {
     crate::decode(alloc, bytes)
 }
@@ -59,7 +59,8 @@ pub fn list_is_decoded<T: RoundTrip>(alloc: Global, bytes: &[u8]) -> Result<Vec<
         → IfOk result (λ ws. All T.fits ws.items × (map T.item ws.items ≡ map T.item vs)) }
     ensures memory { (vs : List T) → All T.fits vs
         → BeginsWith bytes.now (encoding (list_of (map T.item vs)))
-        → IfErr result (λ e. e ≡ OutOfMemory) }
+        → IfErr result (λ e. (e ≡ OutOfMemory)
+        × MayLackAsList T.gives T.may_lack_memory (view_of bytes.now)) }
 {
     crate::decode_list(alloc, bytes)
 }

@@ -1,9 +1,10 @@
 //! A decoder of one string.
 
-ghost use Rattle.std.specs.Prelude.{◌≡◌, ◌≤◌, length, Ok, Err, IfOk, IfErr, IsErrAnd, IsTrue, MatchResult, ◌⊎◌};
+ghost use Rattle.std.specs.Prelude.{◌≡◌, ◌≤◌, length, Ok, Err, IfOk, IfErr, IsErrAnd, MatchResult, ◌⊎◌};
 ghost use Rattle.std.specs.Fn.{FnReturnsAt};
 ghost use Rattle.rlp.specs.declared.error.DecoderError.TheVariants.{OutOfMemory};
-ghost use Rattle.rlp.specs.StringReading.{IsString, HasNoString, ReadsString, read_string, short_string, long_string, long_value};
+ghost use Rattle.rlp.specs.StringReading.{ReadsString, read_string, short_string, long_string, long_value};
+ghost use Rattle.rlp.specs.View.{HoldsNoString, HoldsString, view_of, view_string};
 
 use crate::error::DecoderError;
 use crate::rlpin::header::number_of;
@@ -30,7 +31,7 @@ impl<'a> Model for BasicDecoder<'a> {
 impl<'a> BasicDecoder<'a> {
     /// A decoder of these bytes. It looks at none of them yet.
     pub fn new(rlp: &'a [u8]) -> BasicDecoder<'a>
-        ensures { result.bytes ≡ rlp.now }
+        ensures { result ≡ view_of rlp.now }
     {
         BasicDecoder { rlp }
     }
@@ -54,9 +55,9 @@ impl<'a> BasicDecoder<'a> {
         E: From<DecoderError>,
         F: Fn(&[u8]) -> Result<T, E> + Drop,
         requires { F.IsAlwaysCallable f }
-        ensures found { IfOk (read_string self.now.bytes) (λ d. IsString self.now.bytes d
+        ensures found { IfOk (view_string self.now) (λ d. HoldsString self.now d
             × FnReturnsAt F.Fn f d result) }
-        ensures missing { IfErr (read_string self.now.bytes) (λ e. HasNoString self.now.bytes
+        ensures missing { IfErr (view_string self.now) (λ e. HoldsNoString self.now
             × IsErrAnd result (λ x. E.from_gives e x)) }
     {
         match string_in(self.rlp) {
@@ -78,7 +79,7 @@ impl<'a> Rlp<'a> {
     pub fn as_val<T: Decodable>(&self, alloc: Global) -> Result<T, DecoderError>
         ensures value { IfOk result (λ v. T.gives self.now v) }
         ensures fault { IfErr result (λ e. (T.faults self.now e) ⊎ ((e ≡ OutOfMemory)
-            × IsTrue T.may_lack_memory)) }
+            × T.may_lack_memory self.now)) }
     {
         T::decode(alloc, self)
     }

@@ -1,9 +1,9 @@
 //! Values of the items of a list.
 
-ghost use Rattle.std.specs.Prelude.{◌≡◌, ◌⊎◌, Err, IfErr, IfOk, IsTrue, MatchResult};
+ghost use Rattle.std.specs.Prelude.{◌≡◌, ◌⊎◌, Err, IfErr, IfOk, MatchResult};
 ghost use Rattle.rlp.specs.declared.error.DecoderError.TheVariants.{OutOfMemory};
-ghost use Rattle.rlp.specs.ListReading.{FaultsAt, FaultsFirst, GivesAt, GivesEach, ReadsValue};
-ghost use Rattle.rlp.specs.View.{item_at, item_views};
+ghost use Rattle.rlp.specs.ListReading.{FaultsAsList, FaultsAt, GivesAt, GivesList, MayLackAsList, MayLackAt, ReadsValue};
+ghost use Rattle.rlp.specs.View.{item_at};
 
 use crate::error::DecoderError;
 use crate::rlpin::items::split_first;
@@ -14,7 +14,8 @@ use std::alloc::Global;
 impl<'a> Rlp<'a> {
     /// The values of the items, in order.
     ///
-    /// The fault is that of an item before which every item gives a value, or `OutOfMemory`.
+    /// The fault is that of an item before which every item gives a value, or `OutOfMemory` where
+    /// memory is refused for the value of an item, or for room for it.
     /// Anything but a framed list has no items, and gives an empty list.
     ///
     /// ```rust
@@ -22,10 +23,9 @@ impl<'a> Rlp<'a> {
     /// assert_eq!(rt; list.as_list::<u64>(alloc)?.as_slice(), [5, 6].as_slice());
     /// ```
     pub fn as_list<T: Decodable>(&self, alloc: Global) -> Result<Vec<T>, DecoderError>
-        ensures value { IfOk result
-            (λ values. GivesEach T.gives (item_views self.now) values.items) }
-        ensures fault { IfErr result (λ e. (e ≡ OutOfMemory)
-            ⊎ FaultsFirst T.gives T.faults (item_views self.now) e) }
+        ensures value { IfOk result (λ values. GivesList T.gives self.now values.items) }
+        ensures fault { IfErr result (λ e. (FaultsAsList T.gives T.faults self.now e)
+            ⊎ ((e ≡ OutOfMemory) × MayLackAsList T.gives T.may_lack_memory self.now)) }
     {
         let mut values = Vec::new(alloc);
         let mut rest = self.payload();
@@ -51,7 +51,7 @@ impl<'a> Rlp<'a> {
             (λ e. result ≡ Err e) }
         ensures value { IfOk result (λ x. GivesAt T.gives self.now index x) }
         ensures fault { IfErr result (λ e. (FaultsAt T.faults self.now index e)
-            ⊎ ((e ≡ OutOfMemory) × IsTrue T.may_lack_memory)) }
+            ⊎ ((e ≡ OutOfMemory) × MayLackAt T.may_lack_memory self.now index)) }
     {
         match self.at(index) {
             Ok(item) => item.as_val(alloc),
@@ -65,9 +65,10 @@ impl<'a> Rlp<'a> {
     /// The faults are those of the two.
     pub fn list_at<T: Decodable>(&self, alloc: Global, index: usize) -> Result<Vec<T>, DecoderError>
         ensures value { MatchResult (item_at self.now index) (λ item. IfOk result
-            (λ values. GivesEach T.gives (item_views item) values.items)) (λ e. result ≡ Err e) }
+            (λ values. GivesList T.gives item values.items)) (λ e. result ≡ Err e) }
         ensures fault { MatchResult (item_at self.now index) (λ item. IfErr result
-            (λ e. (e ≡ OutOfMemory) ⊎ FaultsFirst T.gives T.faults (item_views item) e))
+            (λ e. (FaultsAsList T.gives T.faults item e)
+            ⊎ ((e ≡ OutOfMemory) × MayLackAsList T.gives T.may_lack_memory item)))
             (λ e. result ≡ Err e) }
     {
         match self.at(index) {

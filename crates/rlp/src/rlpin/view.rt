@@ -1,9 +1,8 @@
 //! A view of bytes, and what it answers of their first item.
 
 ghost use Rattle.std.specs.Prelude.{◌≡◌, ◌↔◌, List, [], IsTrue, Ok, Err, MatchResult, true};
-ghost use Rattle.rlp.specs.Framing.{framing, value};
 ghost use Rattle.rlp.specs.Split.{begins_as_list, payload};
-ghost use Rattle.rlp.specs.View.{begins_as_data, begins_as_empty, begins_as_int, data_size, has_nonzero_at, prototype_of};
+ghost use Rattle.rlp.specs.View.{begins_as_data, begins_as_empty, begins_as_int, data_size, has_nonzero_at, prototype_of, view_header, view_of, view_value};
 
 use crate::error::DecoderError;
 use crate::rlpin::header::{PayloadInfo, framing_of};
@@ -42,7 +41,7 @@ pub enum Prototype {
 impl<'a> Rlp<'a> {
     /// A view of these bytes. It looks at none of them yet.
     pub fn new(bytes: &'a [u8]) -> Rlp<'a>
-        ensures { result.bytes ≡ bytes.now }
+        ensures { result ≡ view_of bytes.now }
     {
         Rlp { bytes }
     }
@@ -65,7 +64,7 @@ impl<'a> Rlp<'a> {
     ///
     /// Otherwise the fault of [`PayloadInfo::from`], or `RlpIsTooShort` where the value ends early.
     pub fn payload_info(&self) -> Result<PayloadInfo, DecoderError>
-        ensures { result ≡ framing self.now.bytes }
+        ensures { result ≡ view_header self.now }
     {
         framing_of(self.bytes)
     }
@@ -75,8 +74,8 @@ impl<'a> Rlp<'a> {
     /// The faults are those of [`Rlp::payload_info`].
     #[tactic(auto, unfolding(crate::specs::Framing::value))]
     pub fn data(&self) -> Result<&'a [u8], DecoderError>
-        ensures { MatchResult result (λ d. value self.now.bytes ≡ Ok d.now)
-            (λ e. value self.now.bytes ≡ Err e) }
+        ensures { MatchResult result (λ d. view_value self.now ≡ Ok d.now)
+            (λ e. view_value self.now ≡ Err e) }
     {
         let info = framing_of(self.bytes)?;
         let after_header = &self.bytes[info.header_len..];

@@ -1,6 +1,6 @@
 //! Values that are read.
 
-ghost use Rattle.std.specs.Prelude.{◌≡◌, Bool, IfOk, IfErr, IsTrue, ◌⊎◌};
+ghost use Rattle.std.specs.Prelude.{◌≡◌, IfOk, IfErr, ◌⊎◌};
 ghost use Rattle.rlp.specs.declared.error.DecoderError.{DecoderError};
 ghost use Rattle.rlp.specs.declared.error.DecoderError.TheVariants.{OutOfMemory};
 ghost use Rattle.rlp.specs.View.{View};
@@ -22,15 +22,16 @@ pub trait Decodable: Sized + Drop {
     /// The view gives no value, for this reason.
     ghost faults: { View → DecoderError → Type 0 };
 
-    /// Whether reading may answer `OutOfMemory` where memory is refused.
-    ghost may_lack_memory: { Bool };
+    /// Reading the view may answer `OutOfMemory` where memory is refused. A view that gives no value
+    /// mostly has its fault and not this.
+    ghost may_lack_memory: { View → Type 0 };
 
     /// The value that the view begins with. What follows the value's item is never looked at.
     ///
-    /// The faults are the type's own, and `OutOfMemory` where the type takes memory and it is
+    /// The faults are the type's own, and `OutOfMemory` where memory may lack for the view and is
     /// refused.
     fn decode(alloc: Global, rlp: &Rlp<'_>) -> Result<Self, DecoderError>
         ensures value { IfOk result (λ v. gives rlp.now v) }
         ensures fault { IfErr result (λ e. (faults rlp.now e) ⊎ ((e ≡ OutOfMemory)
-            × IsTrue may_lack_memory)) };
+            × may_lack_memory rlp.now)) };
 }

@@ -1,10 +1,9 @@
 //! Values whose encodings are read back.
 
 ghost use Rattle.std.specs.Prelude.{◌↔◌, ◌<◌, ◌^◌, length};
-ghost use Rattle.rlp.specs.Encoding.{BeginsWith, encoding};
 ghost use Rattle.rlp.specs.RoundTrip.{ReadsBack};
 ghost use Rattle.rlp.specs.ValueReading.{GivesValue};
-ghost use Rattle.rlp.specs.View.{View};
+ghost use Rattle.rlp.specs.View.{HoldsItem, View};
 
 use crate::traits::{Decodable, Encodable};
 
@@ -13,7 +12,7 @@ pub trait RoundTrip: Encodable + Decodable {
     // A slice that begins with the encoding of a value gives the values that fit and are alike to
     // it, and no others, and has no fault.
     ghost round_trip: { (view : View) (v : Self) → length view.bytes < 2 ^ 64 → Self.fits v
-        → BeginsWith view.bytes (encoding (Self.item v))
+        → HoldsItem view (Self.item v)
         → ReadsBack Self.fits Self.item Self.gives Self.faults view v };
 }
 

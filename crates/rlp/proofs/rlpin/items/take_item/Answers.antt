@@ -1,4 +1,4 @@
-use Rattle.std.proofs.Common.{sym}
+use Rattle.std.proofs.Common.{◌≡◌, sym, ap}
 use Rattle.rlp.specs.Lemmas.Reading.{bytes_held}
 use Rattle.rlp.specs.Lemmas.Frames.{split_framed, split_unframed}
 use Rattle.rlp.proofs.Places.{fault-err}
@@ -13,4 +13,5 @@ returns-in-Err-clause-whole c = fault-err c.args.payload.now c.in-Err.fault (sym
 pub returns-clause-parts : goal.returns-clause-parts
 returns-clause-parts c =
     let parts = split_framed c.args.payload.now c.in-Ok.info.header_len c.in-Ok.info.value_len (bytes_held c.args.payload.now c.type_inv.payload) (sym c.in-Ok.ensures.exact) in
-    cc (parts, c.split_at.ensures.front, c.split_at.ensures.back)
+    let item : c.new.result.bytes ≡ c.split_at.result.0.now = ap (λ v. v.bytes) c.new.ensures in
+    cc (parts, item, c.split_at.ensures.front, c.split_at.ensures.back)

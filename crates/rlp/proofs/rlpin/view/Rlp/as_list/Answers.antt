@@ -1,7 +1,7 @@
-use Rattle.std.proofs.Common.{◌++◌, ◌∷◌, [], subst, sym}
+use Rattle.std.proofs.Common.{◌++◌, ◌∷◌, [], subst, sym, refl, inr}
 use Rattle.rlp.specs.ListReading.{GivesEach}
 use Rattle.rlp.specs.View.{item_views}
-use Rattle.rlp.proofs.ListValues.{split_views, item_views-payload, views-next, views-more, views-all, gives-more, faults-first}
+use Rattle.rlp.proofs.ListValues.{split_views, item_views-payload, views-next, views-more, views-all, gives-more, faults-first, no-room}
 use Rattle.rlp.proofs.rlpin.view.Rlp.as_list.Goals as goal
 
 pub loop-item-init : goal.loop-item-init
@@ -21,9 +21,14 @@ loop-item-preserved g c = record {
 pub returns-clause-value : goal.returns-clause-value
 returns-clause-value g c =
     let all = views-all c.args.self.now c.loop-item.invariant.done (item_views c.args.self.now) c.loop-item.rest.now c.loop-item.invariant.all c.in_default.ensures.parts in
-    subst (λ vs. GivesEach g.T.Decodable.gives vs c.loop-item.values.items) all c.loop-item.invariant.read
+    record { is_list = refl; each = subst (λ vs. GivesEach g.T.Decodable.gives vs c.loop-item.values.items) all c.loop-item.invariant.read }
 
 pub returns-in-Err-clause-fault : goal.returns-in-Err-clause-fault
 returns-in-Err-clause-fault g c =
     let all = views-next c.args.self.now c.in-Some.item c.loop-item.invariant.done (item_views c.args.self.now) c.loop-item.rest.now c.in-Some.others.now c.loop-item.invariant.all c.in-Some.ensures.parts in
-    faults-first g.T.Decodable.gives g.T.Decodable.faults (item_views c.args.self.now) c.loop-item.invariant.done (split_views c.args.self.now c.in-Some.others.now) c.in-Some.item c.loop-item.values.items c.in-Err.fault (sym all) c.loop-item.invariant.read c.in-Err.ensures.fault
+    faults-first g.T.Decodable.gives g.T.Decodable.faults g.T.Decodable.may_lack_memory c.args.self.now c.loop-item.invariant.done (split_views c.args.self.now c.in-Some.others.now) c.in-Some.item c.loop-item.values.items (sym all) c.loop-item.invariant.read c.in-Err.fault c.in-Err.ensures.fault
+
+pub returns-in-Err-push-clause-fault : goal.returns-in-Err-push-clause-fault
+returns-in-Err-push-clause-fault g c =
+    let all = views-next c.args.self.now c.in-Some.item c.loop-item.invariant.done (item_views c.args.self.now) c.loop-item.rest.now c.in-Some.others.now c.loop-item.invariant.all c.in-Some.ensures.parts in
+    inr (refl, no-room g.T.Decodable.gives g.T.Decodable.faults g.T.Decodable.may_lack_memory c.args.self.now c.loop-item.invariant.done (split_views c.args.self.now c.in-Some.others.now) c.in-Some.item c.loop-item.values.items (sym all) c.loop-item.invariant.read c.in-Ok.value c.in-Ok.ensures.value)
