@@ -3,7 +3,9 @@
 mod boolean;
 mod boxed;
 mod byte_string;
+mod bytes_mut;
+mod bytes_shared;
 mod number;
-mod pair;
 mod option;
+mod pair;
 mod text;

@@ -15,10 +15,17 @@ impl<T: Encodable> Encodable for Option<T> {
 
     ghost fits = { λ o. IfSome o T.fits };
 
-    // Streams have no lists yet: this stands for the body that appends a list.
     #[tactic(auto, using(crate::proofs::Growth::growth))]
-    fn rlp_append(&self, _s: &mut RlpStream) -> Result<(), AllocError> {
-        Err(AllocError)
+    fn rlp_append(&self, s: &mut RlpStream) -> Result<(), AllocError> {
+        match self {
+            None => {
+                s.begin_list(0)?;
+            }
+            Some(value) => {
+                s.begin_list(1)?.append(value)?;
+            }
+        }
+        Ok(())
     }
 }
 

@@ -1,0 +1,55 @@
+//! Buffers that are shared with no copy: the string of the bytes.
+
+use crate::error::DecoderError;
+use crate::rlpin::Rlp;
+use crate::stream::RlpStream;
+use crate::traits::{Decodable, Encodable, RoundTrip, Scalar};
+use bytes::Bytes;
+use std::alloc::{AllocError, Global};
+
+impl Encodable for Bytes {
+    ghost use Rattle.std.specs.Prelude.{⊤};
+    ghost use Rattle.rlp.specs.Item.{string};
+
+    ghost item = { λ v. string v };
+
+    ghost fits = { λ v. ⊤ };
+
+    #[tactic(auto, using(crate::proofs::Growth::growth))]
+    fn rlp_append(&self, s: &mut RlpStream) -> Result<(), AllocError> {
+        s.encoder().encode_value(self.as_slice())
+    }
+}
+
+/// The bytes of a string, by one copy, as a buffer that is shared with no copy.
+impl Decodable for Bytes {
+    ghost use Rattle.rlp.specs.ValueReading.{GivesBytes, FaultsAsBytes, GivesSome};
+
+    ghost gives = { λ v x. GivesBytes v x };
+
+    ghost faults = { λ v e. FaultsAsBytes v e };
+
+    ghost may_lack_memory = { λ v. GivesSome GivesBytes v };
+
+    fn decode(alloc: Global, rlp: &Rlp<'_>) -> Result<Bytes, DecoderError> {
+        rlp.decoder()
+            .decode_value(|string: &[u8]| match Bytes::copy_from_slice(alloc, string) {
+                Ok(bytes) => Ok(bytes),
+                Err(_) => Err(DecoderError::OutOfMemory),
+            })
+    }
+}
+
+impl RoundTrip for Bytes {
+    ghost use Rattle.rlp.specs.Lemmas.RoundTrips.{bytes_in};
+
+    ghost round_trip = { bytes_in (λ (b : Self). b) };
+}
+
+impl Scalar for Bytes {
+    ghost use Rattle.std.specs.Prelude.{⊤};
+    ghost use Rattle.rlp.specs.Item.{string};
+    ghost use Rattle.rlp.specs.Lemmas.RoundTrips.{given_through};
+
+    ghost exact = { given_through (λ d. ⊤) string (λ (b : Self). b) };
+}
