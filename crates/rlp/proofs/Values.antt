@@ -45,3 +45,37 @@ bytes_faults_from r {decoder = decoder} same answers called =
     subst (λ v. IfErr r (λ e. FaultsAsBytes v e ⊎ ((e ≡ OutOfMemory) × GivesSome GivesBytes v))) same
     (by_string r (λ e. FaultsAsBytes decoder e ⊎ ((e ≡ OutOfMemory) × GivesSome GivesBytes decoder)) decoder (view_string decoder) refl answers.found answers.missing
     (λ e is. inl is) (λ d holds call. if_err r (λ e lacks. inr (lacks, (d, record { fits = tt; begins = holds }))) (called d call)))
+
+-- the same of a type that takes no memory
+pub faults_of_string : {A : Type 0} (r : Result A DecoderError) (IsFaulty : List ℕ → DecoderError → Type 0) (M : DecoderError → Type 0) (Calls : List ℕ → Type 0) (decoder v : View) → decoder ≡ v
+    → IfOk (view_string decoder) (λ d. HoldsString decoder d × Calls d) → IfErr (view_string decoder) (λ e. HoldsNoString decoder × IsErrAnd r (λ x. x ≡ e))
+    → ((d : List ℕ) → Calls d → IfErr r (λ e. IsFaulty d e)) → IfErr r (λ e. FaultsAs IsFaulty v e ⊎ M e)
+faults_of_string r IsFaulty M Calls decoder v same found missing called =
+    subst (λ v. IfErr r (λ e. FaultsAs IsFaulty v e ⊎ M e)) same
+    (by_string r (λ e. FaultsAs IsFaulty decoder e ⊎ M e) decoder (view_string decoder) refl found missing
+    (λ e is. inl (no_string e is)) (λ d holds call. if_err r (λ e faulty. inl (no_value d e holds faulty)) (called d call)))
+
+if_ok : {A : Type 0} (r : Result A DecoderError) {F G : A → Type 0} → ((x : A) → F x → G x) → IfOk r F → IfOk r G
+if_ok (Ok x) f h = f x h
+if_ok (Err e) f h = tt
+
+not_ok : {A : Type 0} (r : Result A DecoderError) (G : A → Type 0) (e : DecoderError) → IsErrAnd r (λ x. x ≡ e) → IfOk r G
+not_ok (Ok x) G e err = absurd err
+not_ok (Err x) G e err = tt
+
+value_by : {A : Type 0} (r : Result A DecoderError) (Fits : A → Type 0) (bytes : A → List ℕ) (Calls : List ℕ → Type 0) (v : View) (s : Result (List ℕ) DecoderError)
+    → IfOk s (λ d. HoldsString v d × Calls d) → IfErr s (λ e. HoldsNoString v × IsErrAnd r (λ x. x ≡ e))
+    → ((d : List ℕ) → Calls d → IfOk r (λ x. Fits x × (bytes x ≡ d))) → IfOk r (λ x. GivesValue Fits (λ x. string (bytes x)) v x)
+value_by r Fits bytes Calls v (Ok d) (holds, call) missing called =
+    if_ok r (λ x (fit, same). record { fits = fit; begins = subst (HoldsString v) (sym same) holds }) (called d call)
+value_by r Fits bytes Calls v (Err e) found (absent, err) called = not_ok r (λ x. GivesValue Fits (λ x. string (bytes x)) v x) e err
+
+-- the value that was made of the string found
+pub value_of_string : {A : Type 0} (r : Result A DecoderError) (Fits : A → Type 0) (bytes : A → List ℕ) (Calls : List ℕ → Type 0) (decoder v : View) → decoder ≡ v
+    → IfOk (view_string decoder) (λ d. HoldsString decoder d × Calls d) → IfErr (view_string decoder) (λ e. HoldsNoString decoder × IsErrAnd r (λ x. x ≡ e))
+    → ((d : List ℕ) → Calls d → IfOk r (λ x. Fits x × (bytes x ≡ d))) → IfOk r (λ x. GivesValue Fits (λ x. string (bytes x)) v x)
+value_of_string r Fits bytes Calls decoder v same found missing called =
+    subst (λ v. IfOk r (λ x. GivesValue Fits (λ x. string (bytes x)) v x)) same (value_by r Fits bytes Calls decoder (view_string decoder) found missing called)
+
+-- for bodies that make a value of one string and take no memory
+pub ruleset one_string = (faults_of_string, value_of_string)

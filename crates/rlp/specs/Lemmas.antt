@@ -12,3 +12,4 @@ pub mod RoundTrips
 pub mod Numbered
 pub mod ListRoundTrips
 pub mod Fields
+pub mod Structs

@@ -12,6 +12,7 @@ pub mod Value
 pub mod ValueReading
 pub mod ListReading
 pub mod RoundTrip
+pub mod Codec
 pub mod Stack
 pub mod Stream
 pub mod Growth

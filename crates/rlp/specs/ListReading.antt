@@ -1,5 +1,5 @@
 -- Which values the items of a list give, and what is answered of an item by its number.
-use Rattle.std.specs.Prelude.{◌≡◌, ◌≢◌, ◌++◌, ◌∷◌, ◌⊎◌, ◌<◌, ℕ, List, [], Option, Some, None, Result, Ok, Err, MatchResult, IsOkAnd}
+use Rattle.std.specs.Prelude.{◌≡◌, ◌≢◌, ◌++◌, ◌∷◌, ◌⊎◌, ◌<◌, ℕ, zero, suc, List, [], Option, Some, None, Result, Ok, Err, MatchResult, IsOkAnd}
 use Rattle.rlp.specs.declared.error.DecoderError.{DecoderError}
 use Rattle.rlp.specs.declared.error.DecoderError.TheVariants.{OutOfMemory, RlpIncorrectListLen}
 use Rattle.rlp.specs.View.{View, item_at, item_count, item_views, list_fault}
@@ -86,3 +86,20 @@ pub data FaultsAsFields (n : ℕ) (IsFaulty : View → DecoderError → Type 0) 
 -- the first of two fields is at fault, or it gives a value and the second is at fault
 abbrev pub FaultsInOrder : {A : Type 0} → (View → A → Type 0) → (View → DecoderError → Type 0) → ℕ → (View → DecoderError → Type 0) → View → DecoderError → Type 0
 FaultsInOrder {A} gives faults i Later v e = FaultsAt faults v i e ⊎ (((x : A) × GivesAt gives v i x) × Later v e)
+
+-- each of the first k fields is given by the item in its place
+abbrev pub GivesBefore : (ℕ → ℕ → View → Type 0) → View → ℕ → Type 0
+GivesBefore some v zero = Unit {0}
+GivesBefore some v (suc k) = GivesBefore some v k × some k k v
+
+-- One of so many items is at fault, by the type of its field, and each before it gives a value of its field.
+pub data FaultsInField (count : ℕ) (some : ℕ → ℕ → View → Type 0) (faults : ℕ → View → DecoderError → Type 0) (v : View) (e : DecoderError) : Type 0 where
+  in_field : (k : ℕ) → k < count → GivesBefore some v k → FaultsAt (faults k) v k e → FaultsInField count some faults v e
+
+-- memory may lack for a struct of so many fields: the view has as many items, and memory may lack for the value of one before which each gives a value
+pub record MayLackAsStruct (count : ℕ) (some : ℕ → ℕ → View → Type 0) (may_lack : ℕ → View → Type 0) (v : View) : Type 0 where
+  pub many : item_count v ≡ Ok count
+  pub place : ℕ
+  pub few : place < count
+  pub before : GivesBefore some v place
+  pub may : MayLackAt (may_lack place) v place

@@ -1,7 +1,7 @@
 -- Which value a view gives, and why it gives none: numbers, byte strings and text.
 use Rattle.std.specs.Prelude.{ℕ, ◌≡◌, ◌≤◌, ◌<◌, ◌⊎◌, ⊤, List, ◌∷◌, ◌++◌, length, codes, IsUtf8, Err, Bool}
 use Rattle.rlp.specs.declared.error.DecoderError.{DecoderError}
-use Rattle.rlp.specs.declared.error.DecoderError.TheVariants.{RlpIsTooBig, RlpInvalidIndirection, RlpExpectedToBeData}
+use Rattle.rlp.specs.declared.error.DecoderError.TheVariants.{RlpIsTooBig, RlpIsTooShort, RlpInvalidIndirection, RlpExpectedToBeData}
 use Rattle.rlp.specs.Item.{Item, string}
 use Rattle.rlp.specs.Value.{number_item, FitsBytes, AreAlike, bit}
 use Rattle.rlp.specs.Text.{error_name}
@@ -53,6 +53,11 @@ IsTextFault d e = (¬ IsUtf8 d) × (e ≡ RlpExpectedToBeData)
 -- why a view gives no text
 abbrev pub FaultsAsText : View → DecoderError → Type 0
 FaultsAsText v e = FaultsAs IsTextFault v e
+
+-- Why a string hasn't n bytes: it is shorter, or longer.
+pub data IsLengthFault (n : ℕ) (d : List ℕ) : DecoderError → Type 0 where
+  shorter : length d < n → IsLengthFault n d RlpIsTooShort
+  longer : n < length d → IsLengthFault n d RlpIsTooBig
 
 -- the fault is `Custom` with this text
 abbrev pub IsCustom : List ℕ → DecoderError → Type 0

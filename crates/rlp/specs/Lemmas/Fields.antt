@@ -16,10 +16,10 @@ pub record FieldsReadBack {P : Type 0} (Fits : P → Type 0) (items : P → List
   pub alike : (q : P) → gives view q ↔ (Fits q × (items q ≡ items p))
   pub no_fault : (e : DecoderError) → ¬ faults view e
 
-cons_same : (x y : Item) (xs ys : List Item) → x ∷ xs ≡ y ∷ ys → (x ≡ y) × (xs ≡ ys)
+pub cons_same : (x y : Item) (xs ys : List Item) → x ∷ xs ≡ y ∷ ys → (x ≡ y) × (xs ≡ ys)
 cons_same x y xs ys e = (let h : x ≡ y = cc in h, let t : xs ≡ ys = cc in t)
 
-list_same : (xs ys : List Item) → list_of xs ≡ list_of ys → xs ≡ ys
+pub list_same : (xs ys : List Item) → list_of xs ≡ list_of ys → xs ≡ ys
 list_same xs ys e = let inner : items_from xs ≡ items_from ys = cc in sym (listed_from xs) ∙ ap listed inner ∙ listed_from ys
   where
     listed_from : (xs : List Item) → listed (items_from xs) ≡ xs

@@ -7,7 +7,7 @@ use Rattle.rlp.specs.Encoding.{BeginsWith, encoding}
 use Rattle.rlp.specs.StringReading.{IsString}
 use Rattle.rlp.specs.Value.{FitsBytes, number_item, bit}
 use Rattle.rlp.specs.WrittenHeader.{big_endian}
-use Rattle.rlp.specs.ValueReading.{GivesValue, FaultsAs, no_string, no_value, GivesNumber, IsDigitsFault, FaultsAsNumber, GivesBytes, FaultsAsBytes, GivesText, IsTextFault, FaultsAsText, IsCustom, GivesBool, FaultsAsBool, no_number, other_number}
+use Rattle.rlp.specs.ValueReading.{GivesValue, FaultsAs, no_string, no_value, GivesNumber, IsDigitsFault, FaultsAsNumber, GivesBytes, FaultsAsBytes, GivesText, IsTextFault, FaultsAsText, IsCustom, GivesBool, FaultsAsBool, no_number, other_number, IsLengthFault, shorter, longer}
 use Rattle.rlp.specs.View.{View}
 use Rattle.rlp.specs.RoundTrip.{ReadsBack}
 use Rattle.rlp.specs.Lemmas.Digits.{big_endian_same}
@@ -55,6 +55,12 @@ bytes_reads_back view d fits begins = record { alike = alike_given (λ d. ⊤) (
 
 pub text_reads_back : (view : View) (t : List ℕ) → length view.bytes < 2 ^ 64 → IsUtf8 t → BeginsWith view.bytes (encoding (string t)) → ReadsBack IsUtf8 string GivesText FaultsAsText view t
 text_reads_back view t fits good begins = reads_back IsUtf8 (λ t. t) view t fits begins IsTextFault (λ e bad. bad.0 good)
+
+pub sound_length : (n : ℕ) (d : List ℕ) (e : DecoderError) → length d ≡ n → ¬ IsLengthFault n d e
+sound_length n d e fit (shorter few) = omega arith
+sound_length n d e fit (longer many) = omega arith
+
+pub ruleset length_faults = (shorter, longer)
 
 -- the same for the law of `Scalar`
 pub exact_through : {A B : Type 0} (Fits : A → Type 0) (item : A → Item) (value : B → A) (view : View) (v : B) {G : Type 0} → (G ↔ GivesValue Fits item view (value v))

@@ -1,0 +1,158 @@
+-- Types of which a struct is made, and structs that are lists of their fields.
+use Rattle.std.specs.Prelude.{ℕ, suc, ◌≡◌, ◌^◌, ◌<◌, ◌↔◌, ⊤, IsUtf8, IfSome, Bool, List, [], ◌∷◌, length, Ok, Option, refl, ◌+◌}
+use Rattle.std.proofs.Common.{ap}
+use Rattle.rlp.specs.declared.error.DecoderError.{DecoderError}
+use Rattle.rlp.specs.Item.{Item, string, list_of}
+use Rattle.rlp.specs.View.{View, HoldsItem, item_count}
+use Rattle.rlp.specs.Value.{FitsBytes, bit, number_item, option_item}
+use Rattle.rlp.specs.ValueReading.{FaultsAs, FaultsAsBool, FaultsAsBytes, FaultsAsNumber, FaultsAsText, GivesBool, GivesBytes, GivesNumber, GivesSome, GivesText, GivesValue, IsLengthFault}
+use Rattle.rlp.specs.ListReading.{FaultsAsFields, FaultsAsOption, FaultsAt, FaultsInField, GivesAt, GivesOption, MayLackAsOption, MayLackAsStruct}
+use Rattle.rlp.specs.RoundTrip.{ReadsBack}
+use Rattle.rlp.specs.Lemmas.RoundTrips.{bool_reads_back, bytes_in, number_reads_back, reads_back, sound_length, text_in}
+use Rattle.rlp.specs.Lemmas.ListRoundTrips.{option_reads_back}
+use Rattle.rlp.specs.Lemmas.Structs.{HoldsFrom, by_place, first_alike, first_sound, more_alike, more_sound, struct_reads_back}
+
+-- How the values of a type are written and read: what its `Encodable`, `Decodable` and `RoundTrip` say, in one record.
+pub record Codec (A : Type 0) : Type 1 where
+  pub Fits : A → Type 0
+  pub item : A → Item
+  pub gives : View → A → Type 0
+  pub faults : View → DecoderError → Type 0
+  pub may_lack : View → Type 0
+  pub reads_back : (view : View) (v : A) → length view.bytes < 2 ^ 64 → Fits v → HoldsItem view (item v) → ReadsBack Fits item gives faults view v
+
+-- ---- the provided types
+
+-- numbers of that many bytes
+abbrev pub number : ℕ → Codec ℕ
+number width = record {
+  Fits = FitsBytes width;
+  item = number_item;
+  gives = GivesNumber width;
+  faults = FaultsAsNumber width;
+  may_lack = λ v. ⊥;
+  reads_back = number_reads_back width;
+}
+
+-- truth values
+abbrev pub truth_value : Codec Bool
+truth_value = record {
+  Fits = λ b. ⊤;
+  item = λ b. number_item (bit b);
+  gives = GivesBool;
+  faults = FaultsAsBool;
+  may_lack = λ v. ⊥;
+  reads_back = λ view b fits fit begins. bool_reads_back view b fits begins;
+}
+
+-- a type of which contracts see a byte string
+abbrev pub byte_string : {B : Type 0} → (B → List ℕ) → Codec B
+byte_string bytes = record {
+  Fits = λ b. ⊤;
+  item = λ b. string (bytes b);
+  gives = λ v b. GivesBytes v (bytes b);
+  faults = FaultsAsBytes;
+  may_lack = λ v. GivesSome GivesBytes v;
+  reads_back = bytes_in bytes;
+}
+
+-- a type of which contracts see a text
+abbrev pub text : {B : Type 0} → (B → List ℕ) → Codec B
+text bytes = record {
+  Fits = λ b. IsUtf8 (bytes b);
+  item = λ b. string (bytes b);
+  gives = λ v b. GivesText v (bytes b);
+  faults = FaultsAsText;
+  may_lack = λ v. GivesSome GivesText v;
+  reads_back = text_in bytes;
+}
+
+-- A type that is read from one string: the strings of the values that fit are read, and others have the faults of IsFaulty. No memory is taken.
+abbrev pub string_type : {B : Type 0} (Fits : B → Type 0) (bytes : B → List ℕ) (IsFaulty : List ℕ → DecoderError → Type 0) → ((b : B) (e : DecoderError) → Fits b → ¬ IsFaulty (bytes b) e) → Codec B
+string_type Fits bytes IsFaulty sound = record {
+  Fits = Fits;
+  item = λ b. string (bytes b);
+  gives = λ v b. GivesValue Fits (λ b. string (bytes b)) v b;
+  faults = λ v e. FaultsAs IsFaulty v e;
+  may_lack = λ v. ⊥;
+  reads_back = λ view b fits fit begins. reads_back Fits bytes view b fits begins IsFaulty (λ e. sound b e fit);
+}
+
+-- a type of n bytes, no more and no fewer
+abbrev pub fixed_bytes : {B : Type 0} → ℕ → (B → List ℕ) → Codec B
+fixed_bytes n bytes = string_type (λ b. length (bytes b) ≡ n) bytes (IsLengthFault n) (λ b e fit. sound_length n (bytes b) e fit)
+
+-- options of a type
+abbrev pub option : {A : Type 0} → Codec A → Codec (Option A)
+option c = record {
+  Fits = λ o. IfSome o c.Fits;
+  item = option_item c.item;
+  gives = λ v o. GivesOption c.gives v o;
+  faults = λ v e. FaultsAsOption c.faults v e;
+  may_lack = λ v. MayLackAsOption c.may_lack v;
+  reads_back = option_reads_back c.Fits c.item c.gives c.faults c.reads_back;
+}
+
+-- ---- structs
+
+-- The fields of a struct from some field on, in order. `gives i` says what the items from place i on give, `some k i` that item i gives some value of field k, and `faults k` and `may_lack k` are of the type of field k.
+pub record Fields (P : Type 0) : Type 1 where
+  pub count : ℕ
+  pub Fits : P → Type 0
+  pub items : P → List Item
+  pub gives : ℕ → View → P → Type 0
+  pub some : ℕ → ℕ → View → Type 0
+  pub faults : ℕ → View → DecoderError → Type 0
+  pub may_lack : ℕ → View → Type 0
+  pub counted : (p : P) → length (items p) ≡ count
+  pub alike : (i : ℕ) (view : View) (p : P) → Fits p → HoldsFrom view i (items p) → (q : P) → gives i view q ↔ (Fits q × (items q ≡ items p))
+  pub sound : (i : ℕ) (view : View) (p : P) → Fits p → HoldsFrom view i (items p) → (k : ℕ) (e : DecoderError) → k < count → ¬ FaultsAt (faults k) view (i + k) e
+
+-- some value of a type stands at place i
+abbrev pub GivesSomeAt : {A : Type 0} → (View → A → Type 0) → ℕ → View → Type 0
+GivesSomeAt {A} gives i v = (x : A) × GivesAt gives v i x
+
+-- the last field
+abbrev pub last_field : {A P : Type 0} → (P → A) → Codec A → Fields P
+last_field field c = record {
+  count = 1;
+  Fits = λ p. c.Fits (field p);
+  items = λ p. c.item (field p) ∷ [];
+  gives = λ i v p. GivesAt c.gives v i (field p);
+  some = by_place (GivesSomeAt c.gives) (λ k i v. ⊥);
+  faults = by_place c.faults (λ k v e. ⊥);
+  may_lack = by_place c.may_lack (λ k v. ⊥);
+  counted = λ p. refl;
+  alike = first_alike field c.Fits c.item c.gives c.faults c.reads_back;
+  sound = first_sound field c.Fits c.item c.gives c.faults c.reads_back;
+}
+
+-- a field before others
+abbrev pub and_field : {A P : Type 0} → (P → A) → Codec A → Fields P → Fields P
+and_field field c more = record {
+  count = suc more.count;
+  Fits = λ p. c.Fits (field p) × more.Fits p;
+  items = λ p. c.item (field p) ∷ more.items p;
+  gives = λ i v p. GivesAt c.gives v i (field p) × more.gives (suc i) v p;
+  some = by_place (GivesSomeAt c.gives) more.some;
+  faults = by_place c.faults more.faults;
+  may_lack = by_place c.may_lack more.may_lack;
+  counted = λ p. ap suc (more.counted p);
+  alike = more_alike field c.Fits c.item c.gives c.faults c.reads_back more.Fits more.items more.gives more.alike;
+  sound = more_sound field c.Fits c.item c.gives c.faults c.reads_back more.Fits more.items more.count more.faults more.sound;
+}
+
+-- Why a view gives no struct of its fields: it is no list, it has another number of items, or an item is at fault and each before it gives a value.
+abbrev pub FaultsAsStruct : ℕ → (ℕ → ℕ → View → Type 0) → (ℕ → View → DecoderError → Type 0) → View → DecoderError → Type 0
+FaultsAsStruct count some faults v e = FaultsAsFields count (λ v e. FaultsInField count some faults v e) v e
+
+-- a struct that is the list of its fields
+abbrev pub struct_of : {P : Type 0} → Fields P → Codec P
+struct_of f = record {
+  Fits = f.Fits;
+  item = λ p. list_of (f.items p);
+  gives = λ v p. (item_count v ≡ Ok f.count) × f.gives 0 v p;
+  faults = FaultsAsStruct f.count f.some f.faults;
+  may_lack = λ v. MayLackAsStruct f.count f.some f.may_lack v;
+  reads_back = struct_reads_back f.count f.Fits f.items f.gives f.some f.faults f.counted f.alike f.sound;
+}

@@ -1,0 +1,163 @@
+-- Structs that are lists of their fields: their encodings are read back, and the rules for bodies that read them.
+use Rattle.std.proofs.Common.{◌≡◌, ◌↔◌, ℕ, zero, suc, ◌+◌, ◌^◌, ◌<◌, ◌⊎◌, inl, inr, List, [], ◌∷◌, ◌++◌, length, sym, ap, ◌∙◌, subst, arith, append_assoc, length-append, Ok}
+use Rattle.rlp.specs.declared.error.DecoderError.{DecoderError}
+use Rattle.rlp.specs.declared.error.DecoderError.TheVariants.{OutOfMemory}
+use Rattle.rlp.specs.Item.{Item, list_of}
+use Rattle.rlp.specs.Encoding.{BeginsWith, encoding, join, IsSized}
+use Rattle.rlp.specs.View.{View, view_of, item_at, item_count}
+use Rattle.rlp.specs.ListReading.{FaultsAsFields, no_fields, other_count, faulty_field, FaultsAt, FaultsInField, in_field, GivesAt, GivesBefore, MayLackAsStruct, MayLackAt}
+use Rattle.rlp.specs.RoundTrip.{ReadsBack}
+use Rattle.rlp.specs.Lemmas.Encodings.{encoding_list, small_payload, front_sized}
+use Rattle.rlp.specs.Lemmas.Numbered.{item_count-list, item_at-list_item}
+use Rattle.rlp.specs.Lemmas.ListRoundTrips.{AlwaysReadsBack, item_reads_back, middle_sized}
+use Rattle.rlp.specs.Lemmas.Fields.{cons_same, count_off, list_same}
+
+-- what stands in the first place, and what in the others
+abbrev pub by_place : {A : Type 1} → A → (ℕ → A) → ℕ → A
+by_place first others zero = first
+by_place first others (suc k) = others k
+
+-- from place i on the items of the view are the encodings of these
+abbrev pub HoldsFrom : View → ℕ → List Item → Type 0
+HoldsFrom view i [] = Unit {0}
+HoldsFrom view i (x ∷ xs) = (item_at view i ≡ Ok (view_of (encoding x))) × (IsSized x × HoldsFrom view (suc i) xs)
+
+holds_from : (before xs : List Item) (view : View) → IsSized (list_of (before ++ xs)) → BeginsWith view.bytes (encoding (list_of (before ++ xs))) → HoldsFrom view (length before) xs
+holds_from before [] view sized begins = tt
+holds_from before (x ∷ xs) view sized begins =
+    let small : length (join (before ++ x ∷ xs)) < 2 ^ 64 = small_payload 0xc0 (join (before ++ x ∷ xs)) (encoding (list_of (before ++ x ∷ xs))) (encoding_list (before ++ x ∷ xs)) sized in
+    let whole : before ++ x ∷ xs ≡ (before ++ x ∷ []) ++ xs = sym (append_assoc before (x ∷ []) xs) in
+    let next : length (before ++ x ∷ []) ≡ suc (length before) = omega (arith, length-append before (x ∷ [])) in
+    let others : HoldsFrom view (length (before ++ x ∷ [])) xs = holds_from (before ++ x ∷ []) xs view (subst (λ ys. IsSized (list_of ys)) whole sized) (subst (λ ys. BeginsWith view.bytes (encoding (list_of ys))) whole begins) in
+    (item_at-list_item before xs x view.bytes sized begins, (middle_sized before xs x small, subst (λ i. HoldsFrom view i xs) next others))
+
+-- ---- the first field, of a type whose values are read back
+
+module _ {A P : Type 0} (field : P → A) (Fits : A → Type 0) (item : A → Item) (gives : View → A → Type 0) (faults : View → DecoderError → Type 0) (law : AlwaysReadsBack Fits item gives faults) where
+  first_back : (i : ℕ) (view : View) (p : P) → Fits (field p) → item_at view i ≡ Ok (view_of (encoding (item (field p)))) → IsSized (item (field p))
+      → ReadsBack Fits item (λ v w. GivesAt gives v i w) (λ v e. FaultsAt faults v i e) view (field p)
+  first_back i view p fit is sized = item_reads_back Fits item gives faults view i (field p) law fit sized is
+
+  pub first_alike : (i : ℕ) (view : View) (p : P) → Fits (field p) → HoldsFrom view i (item (field p) ∷ []) → (q : P)
+      → GivesAt gives view i (field q) ↔ (Fits (field q) × (item (field q) ∷ [] ≡ item (field p) ∷ []))
+  first_alike i view p fit (is, (sized, none)) q =
+      let one = (first_back i view p fit is sized).alike (field q) in
+      (λ g. let h = one.0 g in (h.0, ap (λ x. x ∷ []) h.1), λ (fit', same). one.1 (fit', (cons_same (item (field q)) (item (field p)) [] [] same).0))
+
+  sound_by : (i : ℕ) (view : View) (p : P) (j : ℕ) (e : DecoderError) → Fits (field p) → item_at view i ≡ Ok (view_of (encoding (item (field p)))) → IsSized (item (field p)) → j ≡ i → ¬ FaultsAt faults view j e
+  sound_by i view p j e fit is sized same at = (first_back i view p fit is sized).no_fault e (subst (λ j. FaultsAt faults view j e) same at)
+
+  pub first_sound : (i : ℕ) (view : View) (p : P) → Fits (field p) → HoldsFrom view i (item (field p) ∷ []) → (k : ℕ) (e : DecoderError) → k < 1 → ¬ FaultsAt (by_place faults (λ k v e. ⊥) k) view (i + k) e
+  first_sound i view p fit (is, (sized, none)) zero e few at = sound_by i view p (i + 0) e fit is sized (omega arith) at
+  first_sound i view p fit (is, (sized, none)) (suc k) e few at = omega arith
+
+  module _ (FitMore : P → Type 0) (more : P → List Item) where
+    pub more_alike : (giveMore : ℕ → View → P → Type 0)
+        → ((i : ℕ) (view : View) (p : P) → FitMore p → HoldsFrom view i (more p) → (q : P) → giveMore i view q ↔ (FitMore q × (more q ≡ more p)))
+        → (i : ℕ) (view : View) (p : P) → Fits (field p) × FitMore p → HoldsFrom view i (item (field p) ∷ more p) → (q : P)
+        → (GivesAt gives view i (field q) × giveMore (suc i) view q) ↔ ((Fits (field q) × FitMore q) × (item (field q) ∷ more q ≡ item (field p) ∷ more p))
+    more_alike giveMore later i view p (fit, fits) (is, (sized, others)) q =
+        let one = (first_back i view p fit is sized).alike (field q) in
+        let rest = later (suc i) view p fits others q in (
+          λ (g, gs). let h = one.0 g in let hs = rest.0 gs in ((h.0, hs.0), ap (λ x. x ∷ more q) h.1 ∙ ap (λ xs. item (field p) ∷ xs) hs.1),
+          λ ((fit', fits'), same). let parts = cons_same (item (field q)) (item (field p)) (more q) (more p) same in (one.1 (fit', parts.0), rest.1 (fits', parts.1)),
+        )
+
+    pub more_sound : (count : ℕ) (faultMore : ℕ → View → DecoderError → Type 0)
+        → ((i : ℕ) (view : View) (p : P) → FitMore p → HoldsFrom view i (more p) → (k : ℕ) (e : DecoderError) → k < count → ¬ FaultsAt (faultMore k) view (i + k) e)
+        → (i : ℕ) (view : View) (p : P) → Fits (field p) × FitMore p → HoldsFrom view i (item (field p) ∷ more p) → (k : ℕ) (e : DecoderError) → k < suc count → ¬ FaultsAt (by_place faults faultMore k) view (i + k) e
+    more_sound count faultMore later i view p (fit, fits) (is, (sized, others)) zero e few at = sound_by i view p (i + 0) e fit is sized (omega arith) at
+    more_sound count faultMore later i view p (fit, fits) (is, (sized, others)) (suc k) e few at =
+        let place : i + suc k ≡ suc i + k = omega arith in
+        later (suc i) view p fits others k e (omega arith) (subst (λ j. FaultsAt (faultMore k) view j e) place at)
+
+-- ---- the struct
+
+module _ {P : Type 0} (count : ℕ) (Fits : P → Type 0) (items : P → List Item) (gives : ℕ → View → P → Type 0) (some : ℕ → ℕ → View → Type 0) (faults : ℕ → View → DecoderError → Type 0)
+    (counted : (p : P) → length (items p) ≡ count)
+    (alike : (i : ℕ) (view : View) (p : P) → Fits p → HoldsFrom view i (items p) → (q : P) → gives i view q ↔ (Fits q × (items q ≡ items p)))
+    (sound : (i : ℕ) (view : View) (p : P) → Fits p → HoldsFrom view i (items p) → (k : ℕ) (e : DecoderError) → k < count → ¬ FaultsAt (faults k) view (i + k) e) where
+  no_struct_fault : (view : View) (p : P) → Fits p → HoldsFrom view 0 (items p) → item_count view ≡ Ok count → (e : DecoderError) → ¬ FaultsAsFields count (λ v e. FaultsInField count some faults v e) view e
+  no_struct_fault view p fit holds is e (no_fields g none) = cc
+  no_struct_fault view p fit holds is e (other_count m same other) = let equal : m ≡ count = cc in other equal
+  no_struct_fault view p fit holds is e (faulty_field g same (in_field k few before at)) = sound 0 view p fit holds k g few (subst (λ j. FaultsAt (faults k) view j g) (let zero_add : k ≡ 0 + k = omega arith in zero_add) at)
+
+  pub struct_reads_back : AlwaysReadsBack Fits (λ p. list_of (items p)) (λ v p. (item_count v ≡ Ok count) × gives 0 v p) (λ v e. FaultsAsFields count (λ v e. FaultsInField count some faults v e) v e)
+  struct_reads_back view p fits fit (more, is) =
+      let sized : IsSized (list_of (items p)) = front_sized (list_of (items p)) view.bytes more fits is in
+      let holds : HoldsFrom view 0 (items p) = holds_from [] (items p) view sized (more, is) in
+      let many : item_count view ≡ Ok count = item_count-list (items p) view.bytes sized (more, is) ∙ ap Ok (counted p) in
+      record {
+        alike = λ q. let whole = alike 0 view p fit holds q in (
+          λ (n, g). let h = whole.0 g in (h.0, ap list_of h.1),
+          λ (fit', same). (many, whole.1 (fit', list_same (items q) (items p) same)),
+        );
+        no_fault = no_struct_fault view p fit holds many;
+      }
+
+-- ---- rules for bodies that read a struct
+
+module _ (count : ℕ) (some : ℕ → ℕ → View → Type 0) (faults : ℕ → View → DecoderError → Type 0) (may_lack : ℕ → View → Type 0) (v : View) (e : DecoderError) where
+  abbrev pub StructFails : Type 0
+  StructFails = FaultsAsFields count (λ v e. FaultsInField count some faults v e) v e ⊎ ((e ≡ OutOfMemory) × MayLackAsStruct count some may_lack v)
+
+  pub field_fails : (k : ℕ) → FaultsAt (faults k) v k e ⊎ ((e ≡ OutOfMemory) × MayLackAt (may_lack k) v k) → item_count v ≡ Ok count → k < count → GivesBefore some v k → StructFails
+  field_fails k (inl fault) many few before = inl (faulty_field e many (in_field k few before fault))
+  field_fails k (inr (lacks, may)) many few before = inr (lacks, record { many = many; place = k; few = few; before = before; may = may })
+
+  abbrev pub FieldFails : ℕ → Type 0
+  FieldFails k = FaultsAt (faults k) v k e ⊎ ((e ≡ OutOfMemory) × MayLackAt (may_lack k) v k) → item_count v ≡ Ok count → k < count → GivesBefore some v k → StructFails
+
+  pub field_0 : FieldFails 0
+  field_0 = field_fails 0
+
+  pub field_1 : FieldFails 1
+  field_1 = field_fails 1
+
+  pub field_2 : FieldFails 2
+  field_2 = field_fails 2
+
+  pub field_3 : FieldFails 3
+  field_3 = field_fails 3
+
+  pub field_4 : FieldFails 4
+  field_4 = field_fails 4
+
+  pub field_5 : FieldFails 5
+  field_5 = field_fails 5
+
+  pub field_6 : FieldFails 6
+  field_6 = field_fails 6
+
+  pub field_7 : FieldFails 7
+  field_7 = field_fails 7
+
+  pub field_8 : FieldFails 8
+  field_8 = field_fails 8
+
+  pub field_9 : FieldFails 9
+  field_9 = field_fails 9
+
+  pub field_10 : FieldFails 10
+  field_10 = field_fails 10
+
+  pub field_11 : FieldFails 11
+  field_11 = field_fails 11
+
+  pub field_12 : FieldFails 12
+  field_12 = field_fails 12
+
+  pub field_13 : FieldFails 13
+  field_13 = field_fails 13
+
+  pub field_14 : FieldFails 14
+  field_14 = field_fails 14
+
+  pub field_15 : FieldFails 15
+  field_15 = field_fails 15
+
+  pub field_16 : FieldFails 16
+  field_16 = field_fails 16
+
+-- for bodies that read the fields of a struct, up to seventeen
+pub ruleset struct_fields = (no_fields, count_off, field_0, field_1, field_2, field_3, field_4, field_5, field_6, field_7, field_8, field_9, field_10, field_11, field_12, field_13, field_14, field_15, field_16)
