@@ -23,7 +23,7 @@ mod views;
 pub use described::stream_joins_what_is_described;
 pub use reading::{
     bool_is_read, bytes_are_read, number_is_read, option_is_read, option_of_bytes_is_read,
-    string_is_read, text_is_read,
+    option_of_option_is_read, options_are_read, string_is_read, text_is_read,
 };
 pub use round_trip::{encoding_is_decoded, list_is_decoded, list_is_read_back, scalar_is_decoded};
 pub use streams::{

@@ -51,6 +51,28 @@ pub fn option_of_bytes_is_read(bytes: &[u8])
         (λ e. FaultsAsOption FaultsAsBytes (view_of bytes.now) e) }
 {}
 
+/// Bytes give one option of a number of each width, of a truth value or of a text, or have one fault.
+pub fn options_are_read(bytes: &[u8])
+    ensures numbers { (width : ℕ) → HasOneReading (option_item number_item)
+        (λ o. GivesOption (GivesNumber width) (view_of bytes.now) o)
+        (λ e. FaultsAsOption (FaultsAsNumber width) (view_of bytes.now) e) }
+    ensures truth_values { HasOneReading (option_item (λ b. number_item (bit b)))
+        (λ o. GivesOption GivesBool (view_of bytes.now) o)
+        (λ e. FaultsAsOption FaultsAsBool (view_of bytes.now) e) }
+    ensures texts { HasOneReading (option_item string)
+        (λ o. GivesOption GivesText (view_of bytes.now) o)
+        (λ e. FaultsAsOption FaultsAsText (view_of bytes.now) e) }
+{}
+
+/// Where each item gives one value of a type or has one fault, so do options of its options.
+pub fn option_of_option_is_read<T: Encodable + Decodable>(bytes: &[u8])
+    ensures { ((item : View) → AreBytes item.bytes → length item.bytes < 2 ^ 64
+        → HasOneReading T.item (T.gives item) (T.faults item))
+        → HasOneReading (option_item (option_item T.item))
+        (λ o. GivesOption (λ v p. GivesOption T.gives v p) (view_of bytes.now) o)
+        (λ e. FaultsAsOption (λ v f. FaultsAsOption T.faults v f) (view_of bytes.now) e) }
+{}
+
 /// Bytes give one truth value and have no fault, or give none and have one fault.
 pub fn bool_is_read(bytes: &[u8])
     ensures { HasOneReading (λ b. number_item (bit b)) (λ b. GivesBool (view_of bytes.now) b)

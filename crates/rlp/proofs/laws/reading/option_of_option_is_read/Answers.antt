@@ -1,0 +1,14 @@
+use Rattle.std.proofs.Common.{◌<◌, ◌^◌, length, arith}
+use Rattle.rlp.specs.Value.{option_item}
+use Rattle.rlp.specs.ListReading.{GivesOption, FaultsAsOption}
+use Rattle.rlp.specs.View.{view_of}
+use Rattle.rlp.specs.Lemmas.Reading.{bytes_held}
+use Rattle.rlp.proofs.ListReadings.{option_reading}
+use Rattle.rlp.proofs.laws.reading.option_of_option_is_read.Goals as goal
+
+pub returns : goal.returns
+returns g c =
+    let fits : length c.args.bytes.now < 2 ^ 64 = omega arith in
+    λ law. option_reading (option_item g.T.Encodable.item) (λ v o. GivesOption g.T.Decodable.gives v o) (λ v e. FaultsAsOption g.T.Decodable.faults v e)
+    (λ v bytes short. option_reading g.T.Encodable.item g.T.Decodable.gives g.T.Decodable.faults law v bytes short)
+    (view_of c.args.bytes.now) (bytes_held c.args.bytes.now c.type_inv.bytes) fits
