@@ -46,13 +46,13 @@ bytes_faults_from r {decoder = decoder} same answers called =
     (by_string r (λ e. FaultsAsBytes decoder e ⊎ ((e ≡ OutOfMemory) × GivesSome GivesBytes decoder)) decoder (view_string decoder) refl answers.found answers.missing
     (λ e is. inl is) (λ d holds call. if_err r (λ e lacks. inr (lacks, (d, record { fits = tt; begins = holds }))) (called d call)))
 
--- the same of a type that takes no memory
-pub faults_of_string : {A : Type 0} (r : Result A DecoderError) (IsFaulty : List ℕ → DecoderError → Type 0) (M : DecoderError → Type 0) (Calls : List ℕ → Type 0) (decoder v : View) → decoder ≡ v
+-- the same of a type that takes no memory, whatever L is
+pub faults_of_string : {A : Type 0} (r : Result A DecoderError) (IsFaulty : List ℕ → DecoderError → Type 0) (L : Type 0) (Calls : List ℕ → Type 0) (decoder v : View) → decoder ≡ v
     → IfOk (view_string decoder) (λ d. HoldsString decoder d × Calls d) → IfErr (view_string decoder) (λ e. HoldsNoString decoder × IsErrAnd r (λ x. x ≡ e))
-    → ((d : List ℕ) → Calls d → IfErr r (λ e. IsFaulty d e)) → IfErr r (λ e. FaultsAs IsFaulty v e ⊎ M e)
-faults_of_string r IsFaulty M Calls decoder v same found missing called =
-    subst (λ v. IfErr r (λ e. FaultsAs IsFaulty v e ⊎ M e)) same
-    (by_string r (λ e. FaultsAs IsFaulty decoder e ⊎ M e) decoder (view_string decoder) refl found missing
+    → ((d : List ℕ) → Calls d → IfErr r (λ e. IsFaulty d e)) → IfErr r (λ e. FaultsAs IsFaulty v e ⊎ ((e ≡ OutOfMemory) × L))
+faults_of_string r IsFaulty L Calls decoder v same found missing called =
+    subst (λ v. IfErr r (λ e. FaultsAs IsFaulty v e ⊎ ((e ≡ OutOfMemory) × L))) same
+    (by_string r (λ e. FaultsAs IsFaulty decoder e ⊎ ((e ≡ OutOfMemory) × L)) decoder (view_string decoder) refl found missing
     (λ e is. inl (no_string e is)) (λ d holds call. if_err r (λ e faulty. inl (no_value d e holds faulty)) (called d call)))
 
 if_ok : {A : Type 0} (r : Result A DecoderError) {F G : A → Type 0} → ((x : A) → F x → G x) → IfOk r F → IfOk r G

@@ -105,59 +105,71 @@ module _ (count : ℕ) (some : ℕ → ℕ → View → Type 0) (faults : ℕ �
   field_fails k (inl fault) many few before = inl (faulty_field e many (in_field k few before fault))
   field_fails k (inr (lacks, may)) many few before = inr (lacks, record { many = many; place = k; few = few; before = before; may = may })
 
+  -- the fact, where each of the first k fields is given
+  abbrev pub WhereGiven : ℕ → Type 0 → Type 0
+  WhereGiven zero Fact = Fact
+  WhereGiven (suc k) Fact = WhereGiven k (some k k v → Fact)
+
+  where_given : (k : ℕ) (Fact : Type 0) → (GivesBefore some v k → Fact) → WhereGiven k Fact
+  where_given zero Fact from = from tt
+  where_given (suc k) Fact from = where_given k (some k k v → Fact) (λ before given. from (before, given))
+
   abbrev pub FieldFails : ℕ → Type 0
-  FieldFails k = FaultsAt (faults k) v k e ⊎ ((e ≡ OutOfMemory) × MayLackAt (may_lack k) v k) → item_count v ≡ Ok count → k < count → GivesBefore some v k → StructFails
+  FieldFails k = FaultsAt (faults k) v k e ⊎ ((e ≡ OutOfMemory) × MayLackAt (may_lack k) v k) → item_count v ≡ Ok count → k < count → WhereGiven k StructFails
+
+  field_by : (k : ℕ) → FieldFails k
+  field_by k fails many few = where_given k StructFails (λ before. field_fails k fails many few before)
 
   pub field_0 : FieldFails 0
-  field_0 = field_fails 0
+  field_0 = field_by 0
 
   pub field_1 : FieldFails 1
-  field_1 = field_fails 1
+  field_1 = field_by 1
 
   pub field_2 : FieldFails 2
-  field_2 = field_fails 2
+  field_2 = field_by 2
 
   pub field_3 : FieldFails 3
-  field_3 = field_fails 3
+  field_3 = field_by 3
 
   pub field_4 : FieldFails 4
-  field_4 = field_fails 4
+  field_4 = field_by 4
 
   pub field_5 : FieldFails 5
-  field_5 = field_fails 5
+  field_5 = field_by 5
 
   pub field_6 : FieldFails 6
-  field_6 = field_fails 6
+  field_6 = field_by 6
 
   pub field_7 : FieldFails 7
-  field_7 = field_fails 7
+  field_7 = field_by 7
 
   pub field_8 : FieldFails 8
-  field_8 = field_fails 8
+  field_8 = field_by 8
 
   pub field_9 : FieldFails 9
-  field_9 = field_fails 9
+  field_9 = field_by 9
 
   pub field_10 : FieldFails 10
-  field_10 = field_fails 10
+  field_10 = field_by 10
 
   pub field_11 : FieldFails 11
-  field_11 = field_fails 11
+  field_11 = field_by 11
 
   pub field_12 : FieldFails 12
-  field_12 = field_fails 12
+  field_12 = field_by 12
 
   pub field_13 : FieldFails 13
-  field_13 = field_fails 13
+  field_13 = field_by 13
 
   pub field_14 : FieldFails 14
-  field_14 = field_fails 14
+  field_14 = field_by 14
 
   pub field_15 : FieldFails 15
-  field_15 = field_fails 15
+  field_15 = field_by 15
 
   pub field_16 : FieldFails 16
-  field_16 = field_fails 16
+  field_16 = field_by 16
 
 -- for bodies that read the fields of a struct, up to seventeen
 pub ruleset struct_fields = (no_fields, count_off, field_0, field_1, field_2, field_3, field_4, field_5, field_6, field_7, field_8, field_9, field_10, field_11, field_12, field_13, field_14, field_15, field_16)
