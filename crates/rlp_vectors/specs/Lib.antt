@@ -1,0 +1,4 @@
+pub mod Hash
+pub mod Pair
+pub mod Recipient
+pub mod Transaction

@@ -50,6 +50,12 @@ mod tool_devices;
 mod tool_faults;
 #[cfg(test)]
 mod trees;
+mod hash;
+mod nonce;
+mod pair;
+mod recipient;
+mod refusing;
+mod transaction;
 mod uses;
 #[cfg(test)]
 mod views;
@@ -63,7 +69,12 @@ mod views_values;
 pub use couple::{Alone, Couple, append_list_in_list, write_list_in_list};
 pub use nonce::Nonce;
 pub use pair::Pair;
+pub use hash::Hash;
+pub use nonce::Nonce;
+pub use pair::{Pair, pair_back};
+pub use recipient::Recipient;
 pub use refusing::Refusing;
+pub use transaction::Transaction;
 pub use uses::{append_by_stream, append_each, chain_and_encoder};
 
 /// Appends one value, and is refused as a whole.
@@ -117,3 +128,12 @@ pub fn first_and_text<'a>(
     let text = format!(in alloc; "{view}").map_err(|_| DecoderError::OutOfMemory)?;
     Ok((first.data()?, text))
 }
+
+#[cfg(test)]
+mod codecs;
+#[cfg(test)]
+mod encoding;
+#[cfg(test)]
+mod values;
+#[cfg(test)]
+mod views;

@@ -22,14 +22,13 @@ impl Encodable for Nonce {
 
 /// As a `u64`.
 impl Decodable for Nonce {
-    ghost use Rattle.std.specs.Prelude.{false};
     ghost use Rattle.rlp.specs.ValueReading.{FaultsAsNumber, GivesNumber};
 
     ghost gives = { λ v n. GivesNumber 8 v n.0 };
 
     ghost faults = { λ v e. FaultsAsNumber 8 v e };
 
-    ghost may_lack_memory = { false };
+    ghost may_lack_memory = { λ v. ⊥ };
 
     fn decode(alloc: Global, rlp: &Rlp<'_>) -> Result<Nonce, DecoderError> {
         let sent = rlp.as_val(alloc)?;
