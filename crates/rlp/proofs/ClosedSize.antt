@@ -10,13 +10,10 @@ use Rattle.rlp.specs.Stream.{State, list_encoding, closed_size, closed_size_with
 use Rattle.rlp.specs.Placeholders.{begin_of, lists_of, IsLaid, Descends}
 use Rattle.rlp.specs.Closing.{header_len, closed_len, left_of}
 use Rattle.rlp.specs.Layout.{state_of}
-use Rattle.rlp.proofs.Digits.{big_endian_length}
-use Rattle.rlp.proofs.Headers.{written_header_short, written_header_long}
-use Rattle.rlp.proofs.Closing.{reverse_push, header_some}
-use Rattle.rlp.proofs.Laid.{start_le}
 use Rattle.rlp.specs.Lemmas.Digits.{big_endian_length}
 use Rattle.rlp.specs.Lemmas.Headers.{written_header_short, written_header_long}
-use Rattle.rlp.proofs.Closing.{reverse_push}
+use Rattle.rlp.proofs.Closing.{reverse_push, header_some}
+use Rattle.rlp.proofs.Laid.{start_le}
 
 closed_len_is : (start : ℕ) (b x : List ℕ) (ps : List Placeholder) → IsLaid start b ps → length (closed_payload_around list_encoding (drop (begin_of start ps) b ++ x) (lists_of start b ps)) ≡ closed_len start (length b) (length x) ps
 closed_len_is start b x [] h = omega (arith, length-append (drop start b) x, length-drop start b)

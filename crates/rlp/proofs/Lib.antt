@@ -22,4 +22,3 @@ pub mod Filling
 pub mod Decoding
 pub mod Slices
 pub mod ListReadings
-pub mod Filling

@@ -7,5 +7,4 @@ mod bytes_mut;
 mod bytes_shared;
 mod number;
 mod option;
-mod pair;
 mod text;

@@ -12,9 +12,8 @@
 //! ```
 #![tactic(auto)]
 
-ghost use Rattle.std.specs.Prelude.{◌≡◌, IfOk, IfErr, IsTrue, OnOk, ◌⊎◌, map, All};
+ghost use Rattle.std.specs.Prelude.{◌≡◌, IfOk, IfErr, OnOk, ◌⊎◌, map, All};
 ghost use Rattle.rlp.specs.Item.{list_of};
-ghost use Rattle.std.specs.Prelude.{◌≡◌, IfOk, IfErr, OnOk, ◌⊎◌};
 ghost use Rattle.rlp.specs.Encoding.{encoding};
 ghost use Rattle.rlp.specs.declared.error.DecoderError.TheVariants.{OutOfMemory};
 ghost use Rattle.rlp.specs.ListReading.{FaultsAsList, GivesList, MayLackAsList};

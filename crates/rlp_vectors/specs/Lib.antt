@@ -1,4 +1,4 @@
+pub mod Entry
 pub mod Hash
-pub mod Pair
 pub mod Recipient
 pub mod Transaction

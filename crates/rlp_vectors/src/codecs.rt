@@ -1,6 +1,6 @@
 //! Transactions, against the vectors of the public standard.
 
-use crate::{Hash, Pair, Recipient, Transaction};
+use crate::{Entry, Hash, Recipient, Transaction};
 use rlp::DecoderError;
 use std::alloc::{AllocError, Global};
 use std::test::Fail;
@@ -110,8 +110,8 @@ fn short_hashes(rt: HostRuntime) {
 }
 
 #[test]
-fn pairs(rt: HostRuntime) -> Result<(), DecoderError> {
-    let pair: Pair = rlp::decode(rt.alloc(), &[0xc4, 0x05, 0x82, 0x80, 0x81, 0xff])?;
-    assert!(rt; pair.number == 5 && pair.bytes.as_slice() == [0x80, 0x81].as_slice());
+fn entries(rt: HostRuntime) -> Result<(), DecoderError> {
+    let entry: Entry = rlp::decode(rt.alloc(), &[0xc4, 0x05, 0x82, 0x80, 0x81, 0xff])?;
+    assert!(rt; entry.number == 5 && entry.bytes.as_slice() == [0x80, 0x81].as_slice());
     Ok(())
 }

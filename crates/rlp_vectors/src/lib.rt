@@ -14,17 +14,21 @@ use std::alloc::{AllocError, Global};
 mod chains;
 #[cfg(test)]
 mod closing;
+#[cfg(test)]
+mod codecs;
 mod couple;
 #[cfg(test)]
 mod decoding;
 #[cfg(test)]
 mod encoding;
+mod entry;
 #[cfg(test)]
 mod faults;
 #[cfg(test)]
 mod guarded;
 #[cfg(test)]
 mod handed_in;
+mod hash;
 #[cfg(test)]
 mod headers;
 #[cfg(test)]
@@ -35,6 +39,7 @@ mod nonce;
 mod pair;
 #[cfg(test)]
 mod plain;
+mod recipient;
 mod refusing;
 #[cfg(test)]
 mod sizes;
@@ -48,15 +53,12 @@ mod tool_answers;
 mod tool_devices;
 #[cfg(test)]
 mod tool_faults;
+mod transaction;
 #[cfg(test)]
 mod trees;
-mod hash;
-mod nonce;
-mod pair;
-mod recipient;
-mod refusing;
-mod transaction;
 mod uses;
+#[cfg(test)]
+mod values;
 #[cfg(test)]
 mod views;
 #[cfg(test)]
@@ -67,11 +69,10 @@ mod views_text;
 mod views_values;
 
 pub use couple::{Alone, Couple, append_list_in_list, write_list_in_list};
-pub use nonce::Nonce;
-pub use pair::Pair;
+pub use entry::{Entry, entry_back};
 pub use hash::Hash;
 pub use nonce::Nonce;
-pub use pair::{Pair, pair_back};
+pub use pair::Pair;
 pub use recipient::Recipient;
 pub use refusing::Refusing;
 pub use transaction::Transaction;
@@ -128,12 +129,3 @@ pub fn first_and_text<'a>(
     let text = format!(in alloc; "{view}").map_err(|_| DecoderError::OutOfMemory)?;
     Ok((first.data()?, text))
 }
-
-#[cfg(test)]
-mod codecs;
-#[cfg(test)]
-mod encoding;
-#[cfg(test)]
-mod values;
-#[cfg(test)]
-mod views;

@@ -1,9 +1,9 @@
-use Rattle.std.proofs.Common.{[], ◌∷◌, ap, ◌∙◌, rules}
+use Rattle.std.proofs.Common.{[], ◌∷◌, ap, ◌∙◌, lit<, rules}
 use Rattle.std.specs.Vec.{vec_items}
 use Rattle.rlp.specs.Stream.{add}
 use Rattle.rlp.specs.Codec.{number, byte_string}
 use Rattle.rlp.proofs.Filling.{grows_filling}
-use Rattle.rlp.proofs.Listed.{listed}
+use Rattle.rlp.proofs.Listed.{list_filled}
 use Rattle.rlp_vectors.specs.Recipient.{recipient}
 use Rattle.rlp_vectors.proofs.transaction.TransactionEncodable.rlp_append.Goals as goal
 
@@ -27,7 +27,7 @@ returns-clause-ok c =
     let s6 = c.in_ok-append-7.ensures.ok ∙ ap (add x6) s5 in
     let s7 = c.in_ok-append-8.ensures.ok ∙ ap (add x7) s6 in
     let s8 = c.in_ok-s.ensures.ok ∙ ap (add x8) s7 in
-    let done = s8 ∙ listed x0 (x1 ∷ x2 ∷ x3 ∷ x4 ∷ x5 ∷ x6 ∷ x7 ∷ x8 ∷ []) c.args.s.now.state in
+    let done = s8 ∙ list_filled x0 (x1 ∷ x2 ∷ x3 ∷ x4 ∷ x5 ∷ x6 ∷ x7 ∷ x8 ∷ []) c.args.s.now.state in
     search (rules, done)
 
 pub returns-in_err-append-5-clause-refused : goal.returns-in_err-append-5-clause-refused
@@ -40,7 +40,7 @@ returns-in_err-append-5-clause-refused c =
     let s1 = c.in_ok-append-2.ensures.ok ∙ ap (add x1) s0 in
     let s2 = c.in_ok-append-3.ensures.ok ∙ ap (add x2) s1 in
     let s3 = c.in_ok-append-4.ensures.ok ∙ ap (add x3) s2 in
-    let grown = grows_filling 4 (x0 ∷ x1 ∷ x2 ∷ x3 ∷ []) c.args.s.now.state _ s3 in
+    let grown = grows_filling (x0 ∷ x1 ∷ x2 ∷ x3 ∷ []) 9 c.args.s.now.state _ (lit< tt) s3 in
     search (rules, grown)
 
 pub returns-in_err-append-6-clause-refused : goal.returns-in_err-append-6-clause-refused
@@ -55,7 +55,7 @@ returns-in_err-append-6-clause-refused c =
     let s2 = c.in_ok-append-3.ensures.ok ∙ ap (add x2) s1 in
     let s3 = c.in_ok-append-4.ensures.ok ∙ ap (add x3) s2 in
     let s4 = c.in_ok-append-5.ensures.ok ∙ ap (add x4) s3 in
-    let grown = grows_filling 3 (x0 ∷ x1 ∷ x2 ∷ x3 ∷ x4 ∷ []) c.args.s.now.state _ s4 in
+    let grown = grows_filling (x0 ∷ x1 ∷ x2 ∷ x3 ∷ x4 ∷ []) 9 c.args.s.now.state _ (lit< tt) s4 in
     search (rules, grown)
 
 pub returns-in_err-append-7-clause-refused : goal.returns-in_err-append-7-clause-refused
@@ -72,7 +72,7 @@ returns-in_err-append-7-clause-refused c =
     let s3 = c.in_ok-append-4.ensures.ok ∙ ap (add x3) s2 in
     let s4 = c.in_ok-append-5.ensures.ok ∙ ap (add x4) s3 in
     let s5 = c.in_ok-append-6.ensures.ok ∙ ap (add x5) s4 in
-    let grown = grows_filling 2 (x0 ∷ x1 ∷ x2 ∷ x3 ∷ x4 ∷ x5 ∷ []) c.args.s.now.state _ s5 in
+    let grown = grows_filling (x0 ∷ x1 ∷ x2 ∷ x3 ∷ x4 ∷ x5 ∷ []) 9 c.args.s.now.state _ (lit< tt) s5 in
     search (rules, grown)
 
 pub returns-in_err-append-8-clause-refused : goal.returns-in_err-append-8-clause-refused
@@ -91,7 +91,7 @@ returns-in_err-append-8-clause-refused c =
     let s4 = c.in_ok-append-5.ensures.ok ∙ ap (add x4) s3 in
     let s5 = c.in_ok-append-6.ensures.ok ∙ ap (add x5) s4 in
     let s6 = c.in_ok-append-7.ensures.ok ∙ ap (add x6) s5 in
-    let grown = grows_filling 1 (x0 ∷ x1 ∷ x2 ∷ x3 ∷ x4 ∷ x5 ∷ x6 ∷ []) c.args.s.now.state _ s6 in
+    let grown = grows_filling (x0 ∷ x1 ∷ x2 ∷ x3 ∷ x4 ∷ x5 ∷ x6 ∷ []) 9 c.args.s.now.state _ (lit< tt) s6 in
     search (rules, grown)
 
 pub returns-in_err-s-clause-refused : goal.returns-in_err-s-clause-refused
@@ -112,5 +112,5 @@ returns-in_err-s-clause-refused c =
     let s5 = c.in_ok-append-6.ensures.ok ∙ ap (add x5) s4 in
     let s6 = c.in_ok-append-7.ensures.ok ∙ ap (add x6) s5 in
     let s7 = c.in_ok-append-8.ensures.ok ∙ ap (add x7) s6 in
-    let grown = grows_filling 0 (x0 ∷ x1 ∷ x2 ∷ x3 ∷ x4 ∷ x5 ∷ x6 ∷ x7 ∷ []) c.args.s.now.state _ s7 in
+    let grown = grows_filling (x0 ∷ x1 ∷ x2 ∷ x3 ∷ x4 ∷ x5 ∷ x6 ∷ x7 ∷ []) 9 c.args.s.now.state _ (lit< tt) s7 in
     search (rules, grown)

@@ -2,14 +2,14 @@ use Rattle.std.proofs.Common.{◌≡◌, [], ◌∷◌, ap, sym, ◌∙◌, rule
 use Rattle.rlp.specs.Item.{list_of}
 use Rattle.rlp.specs.Stream.{add, put_item}
 use Rattle.rlp.specs.Value.{option_item}
-use Rattle.rlp.proofs.Listed.{listed}
+use Rattle.rlp.proofs.Listed.{list_filled}
 use Rattle.rlp.proofs.impls.option.OptionEncodable.rlp_append.Goals as goal
 
 pub returns-in_ok-s-in-Some-clause-ok : goal.returns-in_ok-s-in-Some-clause-ok
 returns-in_ok-s-in-Some-clause-ok g c =
     let x = g.T.Encodable.item c.in-Some.value in
     let done : c.in_ok-s-in-Some.field-0.stream.now.state ≡ put_item (list_of (x ∷ [])) c.args.s.now.state =
-    c.in_ok-s-in-Some.ensures.ok ∙ ap (add x) c.in_ok-begin_list-in-Some.ensures.ok ∙ listed x [] c.args.s.now.state in
+    c.in_ok-s-in-Some.ensures.ok ∙ ap (add x) c.in_ok-begin_list-in-Some.ensures.ok ∙ list_filled x [] c.args.s.now.state in
     let whole : c.in_ok-s-in-Some.field-0.stream.now.state ≡ put_item (option_item g.T.Encodable.item c.args.self.now) c.args.s.now.state =
     done ∙ ap (λ o. put_item (option_item g.T.Encodable.item o) c.args.s.now.state) (sym c.in-Some.is) in
     search (rules, whole)
