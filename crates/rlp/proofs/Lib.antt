@@ -22,3 +22,4 @@ pub mod Filling
 pub mod Decoding
 pub mod Slices
 pub mod ListReadings
+pub mod Options

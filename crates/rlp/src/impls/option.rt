@@ -29,7 +29,7 @@ impl<T: Encodable> Encodable for Option<T> {
     }
 }
 
-/// `None` of a list of no items, and of a list of one item its value.
+/// `None` of a list of no items, and of a list of one item its value. It looks at two items at most.
 ///
 /// `RlpExpectedToBeList` where there is no byte or the first is one of a string, and
 /// `RlpIncorrectListLen` where there is more than one item.
@@ -40,12 +40,20 @@ impl<T: Decodable> Decodable for Option<T> {
 
     ghost may_lack_memory = { λ v. MayLackAsOption T.may_lack_memory v };
 
-    #[tactic(auto, using(crate::specs::Lemmas::ListRoundTrips::option_answers))]
+    #[tactic(auto, using(crate::proofs::Options::option_answers))]
     fn decode(alloc: Global, rlp: &Rlp<'_>) -> Result<Option<T>, DecoderError> {
-        match rlp.item_count()? {
-            0 => Ok(None),
-            1 => Ok(Some(rlp.val_at(alloc, 0)?)),
-            _ => Err(DecoderError::RlpIncorrectListLen),
+        if !rlp.is_list() {
+            return Err(DecoderError::RlpExpectedToBeList);
+        }
+        let Ok(item) = rlp.at(0) else {
+            return Ok(None);
+        };
+        if let Ok(_) = rlp.at(1) {
+            return Err(DecoderError::RlpIncorrectListLen);
+        }
+        match item.as_val(alloc) {
+            Ok(value) => Ok(Some(value)),
+            Err(fault) => Err(fault),
         }
     }
 }
