@@ -59,14 +59,16 @@ fn signed_bytes(alloc: Global) -> Result<Vec<u8>, AllocError> {
 /// Whether a transaction is written as these bytes, and read back from them.
 fn goes_both_ways(alloc: Global, t: &Transaction, bytes: &[u8]) -> Result<bool, Fail> {
     let back = rlp::decode::<Transaction>(alloc, bytes)?;
-    Ok(rlp::encode(alloc, t)?.as_slice() == bytes
-        && back.nonce == t.nonce
-        && back.gas_price == t.gas_price
-        && back.gas_limit == t.gas_limit
-        && back.recipient == t.recipient
-        && back.value == t.value
-        && back.v == t.v
-        && back.r.as_slice() == t.r.as_slice())
+    Ok(
+        rlp::encode(alloc, t)?.as_slice() == bytes
+            && back.nonce == t.nonce
+            && back.gas_price == t.gas_price
+            && back.gas_limit == t.gas_limit
+            && back.recipient == t.recipient
+            && back.value == t.value
+            && back.v == t.v
+            && back.r.as_slice() == t.r.as_slice(),
+    )
 }
 
 #[test]

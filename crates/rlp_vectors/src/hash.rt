@@ -39,8 +39,7 @@ impl Decodable for Hash {
 
     #[tactic(auto, using(rlp::proofs::Values::one_string))]
     fn decode(_alloc: Global, rlp: &Rlp<'_>) -> Result<Hash, DecoderError> {
-        rlp.decoder()
-            .decode_value(|string: &[u8]| hash_of(string))
+        rlp.decoder().decode_value(|string: &[u8]| hash_of(string))
     }
 }
 

@@ -153,11 +153,7 @@ fn encode_u128(rt: HostRuntime) -> Result<(), AllocError> {
 
 #[test]
 fn decode_untrusted_u8(rt: HostRuntime) -> Result<(), DecoderError> {
-    let rows = [
-        (&[0x80u8][..], 0u8),
-        (&[0x77], 0x77),
-        (&[0x81, 0xcc], 0xcc),
-    ];
+    let rows = [(&[0x80u8][..], 0u8), (&[0x77], 0x77), (&[0x81, 0xcc], 0xcc)];
     assert!(rt; are_read(rt.alloc(), &rows)?);
     Ok(())
 }
@@ -185,18 +181,15 @@ fn decode_untrusted_u32(rt: HostRuntime) -> Result<(), DecoderError> {
 #[test]
 fn decode_untrusted_u128(rt: HostRuntime) -> Result<(), DecoderError> {
     let rows = [
-        (
-            &[0x88u8, 1, 0, 0, 0, 0, 0, 0, 0][..],
-            0x100000000000000u128,
-        ),
+        (&[0x88u8, 1, 0, 0, 0, 0, 0, 0, 0][..], 0x100000000000000u128),
         (
             &[0x88, 0xff, 0xff, 0xff, 0xff, 0xff, 0xff, 0xff, 0xff],
             0xffffffffffffffff,
         ),
         (
             &[
-                0x90, 0xff, 0xff, 0xff, 0xff, 0xff, 0xff, 0xff, 0xff, 0xff, 0xff, 0xff, 0xff,
-                0xff, 0xff, 0xff, 0xff,
+                0x90, 0xff, 0xff, 0xff, 0xff, 0xff, 0xff, 0xff, 0xff, 0xff, 0xff, 0xff, 0xff, 0xff,
+                0xff, 0xff, 0xff,
             ],
             u128::MAX,
         ),
@@ -231,7 +224,10 @@ fn length_overflow(rt: HostRuntime) {
 #[test]
 fn two_bytes_begin_with_no_zero(rt: HostRuntime) {
     let rows = [
-        (&[0x82u8, 0x00, 0x01][..], DecoderError::RlpInvalidIndirection),
+        (
+            &[0x82u8, 0x00, 0x01][..],
+            DecoderError::RlpInvalidIndirection,
+        ),
         (&[0x83, 0x00, 0x00, 0x01], DecoderError::RlpIsTooBig),
     ];
     assert!(rt; are_faulty::<u16>(rt.alloc(), &rows));
@@ -253,10 +249,7 @@ fn test_bool_same_as_int(rt: HostRuntime) -> Result<(), AllocError> {
 
 #[test]
 fn other_numbers_are_no_truth_values(rt: HostRuntime) {
-    let rows = [(
-        &[0x02u8][..],
-        DecoderError::Custom("invalid boolean value"),
-    )];
+    let rows = [(&[0x02u8][..], DecoderError::Custom("invalid boolean value"))];
     assert!(rt; are_faulty::<bool>(rt.alloc(), &rows));
 }
 
@@ -283,7 +276,10 @@ fn options_have_their_faults(rt: HostRuntime) {
 
 #[test]
 fn options_nest(rt: HostRuntime) -> Result<(), DecoderError> {
-    let rows = [(&[0xc1u8, 0xc0][..], Some(None)), (&[0xc2, 0xc1, 0x05], Some(Some(5u8)))];
+    let rows = [
+        (&[0xc1u8, 0xc0][..], Some(None)),
+        (&[0xc2, 0xc1, 0x05], Some(Some(5u8))),
+    ];
     assert!(rt; are_read(rt.alloc(), &rows)?);
     Ok(())
 }
