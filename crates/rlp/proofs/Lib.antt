@@ -23,3 +23,4 @@ pub mod Decoding
 pub mod Slices
 pub mod ListReadings
 pub mod Options
+pub mod Following

@@ -125,9 +125,11 @@ pub fn split_goes_by_frames(bytes: &[u8])
     ensures unframed { (e : DecoderError) → framing bytes.now ≡ Err e → split bytes.now ≡ [] }
 {}
 
-/// The items of a list whose encoding is shorter than 2^64 bytes have such encodings too.
+/// The items of a list whose encoding is shorter than 2^64 bytes have such encodings too, and so
+/// have items whose joined encodings are shorter than that.
 pub fn parts_of_sized_are_sized()
-    ensures { (xs : List Item) → IsSized (list_of xs) → All IsSized xs }
+    ensures list { (xs : List Item) → IsSized (list_of xs) → All IsSized xs }
+    ensures join { (xs : List Item) → length (join xs) < 2 ^ 64 → All IsSized xs }
 {}
 
 /// Joined encodings split into themselves, and nothing is left.
@@ -154,6 +156,16 @@ pub fn rest_is_not_framed(bytes: &[u8])
 pub fn text_and_depth_go_by_items(bytes: &[u8])
     ensures text { text bytes.now ≡ text_by text bytes.now }
     ensures depth { depth bytes.now ≡ depth_by depth bytes.now }
+{}
+
+/// What follows a framed item makes no difference to its framing, value, items, text and depth:
+/// `c0ff` reads as `c0`, and `8005` as `80`.
+pub fn what_follows_makes_no_difference()
+    ensures framing { (f more : List ℕ) → IsFramedItem f → framing (f ++ more) ≡ framing f }
+    ensures value { (f more : List ℕ) → IsFramedItem f → value (f ++ more) ≡ value f }
+    ensures items { (f more : List ℕ) → IsFramedItem f → items (f ++ more) ≡ items f }
+    ensures text { (f more : List ℕ) → IsFramedItem f → text (f ++ more) ≡ text f }
+    ensures depth { (f more : List ℕ) → IsFramedItem f → depth (f ++ more) ≡ depth f }
 {}
 
 /// Bytes that begin with an encoding have the depth of its item.

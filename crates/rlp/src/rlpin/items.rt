@@ -12,10 +12,10 @@ use crate::rlpin::view::Rlp;
 
 /// The first item of a payload and the bytes after it, or why no item stands there.
 #[inline(always)]
-pub(crate) fn take_item<'a>(payload: &'a [u8]) -> Result<(Rlp<'a>, &'a [u8]), DecoderError>
-    ensures parts { MatchResult result (λ r. split payload.now ≡ r.0.bytes ∷ split r.1.now)
+pub(crate) fn take_item<'a>(payload: &'a [u8]) -> Result<(&'a [u8], &'a [u8]), DecoderError>
+    ensures parts { MatchResult result (λ r. split payload.now ≡ r.0.now ∷ split r.1.now)
         (λ _. split payload.now ≡ []) }
-    ensures whole { MatchResult result (λ r. payload.now ≡ r.0.bytes ++ r.1.now)
+    ensures whole { MatchResult result (λ r. payload.now ≡ r.0.now ++ r.1.now)
         (λ e. e ≡ fault payload.now) }
     ensures shorter { MatchResult result (λ r. length r.1.now < length payload.now)
         (λ _. Unit {0}) }
@@ -24,15 +24,14 @@ pub(crate) fn take_item<'a>(payload: &'a [u8]) -> Result<(Rlp<'a>, &'a [u8]), De
         Ok(info) => info,
         Err(fault) => return Err(fault),
     };
-    let (item, rest) = payload.split_at(info.header_len + info.value_len);
-    Ok((Rlp::new(item), rest))
+    Ok(payload.split_at(info.header_len + info.value_len))
 }
 
 /// The first item of a payload and the bytes after it, or `None` where no item stands there.
 #[inline(always)]
-pub(crate) fn split_first<'a>(payload: &'a [u8]) -> Option<(Rlp<'a>, &'a [u8])>
+pub(crate) fn split_first<'a>(payload: &'a [u8]) -> Option<(&'a [u8], &'a [u8])>
     ensures parts { MatchOption result (split payload.now ≡ [])
-        (λ r. split payload.now ≡ r.0.bytes ∷ split r.1.now) }
+        (λ r. split payload.now ≡ r.0.now ∷ split r.1.now) }
     ensures shorter { IfSome result (λ r. length r.1.now < length payload.now) }
 {
     match take_item(payload) {
@@ -99,7 +98,7 @@ impl<'a> Rlp<'a> {
             rest = others;
         }
         let (item, others) = take_item(rest)?;
-        let before = info.value_len - others.len() - item.as_raw().len();
-        Ok((item, info.header_len + before))
+        let before = info.value_len - others.len() - item.len();
+        Ok((Rlp::new(item), info.header_len + before))
     }
 }

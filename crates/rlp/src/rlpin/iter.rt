@@ -61,7 +61,7 @@ impl<'a, 'view> Iterator for RlpIterator<'a, 'view> {
     fn next(&mut self) -> Option<Rlp<'a>> {
         let (item, others) = split_first(self.rest)?;
         self.rest = others;
-        Some(item)
+        Some(Rlp::new(item))
     }
 
     fn size_hint(&self) -> (usize, Option<usize>)

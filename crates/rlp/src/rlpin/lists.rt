@@ -30,7 +30,7 @@ impl<'a> Rlp<'a> {
         let mut values = Vec::new(alloc);
         let mut rest = self.payload();
         while let Some((item, others)) = split_first(rest) {
-            let value = match T::decode(alloc, &item) {
+            let value = match T::decode(alloc, &Rlp::new(item)) {
                 Ok(value) => value,
                 Err(fault) => return Err(fault),
             };

@@ -26,7 +26,7 @@ impl Rlp<'_> {
         }
         let mut rest = value;
         while let Some((item, others)) = split_first(rest) {
-            if !item.is_nested_within(limit - 1) {
+            if !Rlp::new(item).is_nested_within(limit - 1) {
                 return false;
             }
             rest = others;

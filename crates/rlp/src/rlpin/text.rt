@@ -48,7 +48,7 @@ fn write_text<W: fmt::Write>(f: &mut fmt::Formatter<W>, view: &Rlp<'_>) -> fmt::
     let mut rest = value;
     while let Some((item, others)) = split_first(rest) {
         f.write_str(separator)?;
-        write_text(f, &item)?;
+        write_text(f, &Rlp::new(item))?;
         separator = ", ";
         rest = others;
     }

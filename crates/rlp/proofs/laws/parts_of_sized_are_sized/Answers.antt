@@ -6,4 +6,7 @@ use Rattle.rlp.specs.Lemmas.Views.{sized_items}
 use Rattle.rlp.proofs.laws.parts_of_sized_are_sized.Goals as goal
 
 pub returns : goal.returns
-returns c = λ xs sized. sized_items xs (2 ^ 64) (small_payload 0xc0 (join xs) (encoding (list_of xs)) (encoding_list xs) sized)
+returns c = record {
+  list = λ xs sized. sized_items xs (2 ^ 64) (small_payload 0xc0 (join xs) (encoding (list_of xs)) (encoding_list xs) sized);
+  join = λ xs small. sized_items xs (2 ^ 64) small;
+}

@@ -13,5 +13,4 @@ returns-in-Err-clause-whole c = fault-err c.args.payload.now c.in-Err.fault (sym
 pub returns-clause-parts : goal.returns-clause-parts
 returns-clause-parts c =
     let parts = split_framed c.args.payload.now c.in-Ok.info.header_len c.in-Ok.info.value_len (bytes_held c.args.payload.now c.type_inv.payload) (sym c.in-Ok.ensures.exact) in
-    let item : c.new.result.bytes ≡ c.split_at.result.0.now = ap (λ v. v.bytes) c.new.ensures in
-    cc (parts, item, c.split_at.ensures.front, c.split_at.ensures.back)
+    cc (parts, c.split_at.ensures.front, c.split_at.ensures.back)

@@ -28,20 +28,21 @@ loop-item-init g t c = record {
 
 pub write_text-requires : goal.write_text-requires
 write_text-requires g t c κs within =
-    let next = done-next c.loop-item.invariant.done (items c.args.view.now.bytes) c.loop-item.rest.now c.in-Some.item.bytes c.in-Some.others.now c.loop-item.invariant.all c.in-Some.ensures.parts in
-    let shorter : length c.in-Some.item.bytes < length c.args.view.now.bytes = item-shorter c.args.view.now.bytes c.in-Some.item.bytes c.loop-item.invariant.done (split c.in-Some.others.now) next in
+    let next = done-next c.loop-item.invariant.done (items c.args.view.now.bytes) c.loop-item.rest.now c.in-Some.item.now c.in-Some.others.now c.loop-item.invariant.all c.in-Some.ensures.parts in
+    let shorter : length c.in-Some.item.now < length c.args.view.now.bytes = item-shorter c.args.view.now.bytes c.in-Some.item.now c.loop-item.invariant.done (split c.in-Some.others.now) next in
     search rules
 
 pub loop-item-preserved : goal.loop-item-preserved
 loop-item-preserved g t c = record {
-  done = c.loop-item.invariant.done ++ c.in-Some.item.bytes ∷ [];
-  all = done-more c.loop-item.invariant.done (items c.args.view.now.bytes) c.loop-item.rest.now c.in-Some.item.bytes c.in-Some.others.now c.loop-item.invariant.all c.in-Some.ensures.parts;
-  next_separator = separator_after-more c.loop-item.invariant.done c.in-Some.item.bytes;
+  done = c.loop-item.invariant.done ++ c.in-Some.item.now ∷ [];
+  all = done-more c.loop-item.invariant.done (items c.args.view.now.bytes) c.loop-item.rest.now c.in-Some.item.now c.in-Some.others.now c.loop-item.invariant.all c.in-Some.ensures.parts;
+  next_separator = separator_after-more c.loop-item.invariant.done c.in-Some.item.now;
   wrote = λ flush.
       let before = c.loop-item.invariant.wrote flush in
       let separated = c.in_ok-write_str-2.ensures.styled before.flush (search rules) in
-      let item = c.in_ok-write_text.ensures separated.flush (search rules) in
-      has_written_styled_of_eq _ _ _ _ _ (texts-more c.loop-item.invariant.done c.in-Some.item.bytes _ c.loop-item.invariant.next_separator) (has_written_styled_append _ _ _ _ _ _ before (has_written_styled_append _ _ _ _ _ _ separated item));
+      let written = c.in_ok-write_text.ensures separated.flush (search rules) in
+      let item = rw c.new.ensures at written in
+      has_written_styled_of_eq _ _ _ _ _ (texts-more c.loop-item.invariant.done c.in-Some.item.now _ c.loop-item.invariant.next_separator) (has_written_styled_append _ _ _ _ _ _ before (has_written_styled_append _ _ _ _ _ _ separated item));
 }
 
 pub returns : goal.returns

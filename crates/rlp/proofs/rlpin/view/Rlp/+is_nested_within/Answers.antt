@@ -22,15 +22,15 @@ loop-item-init t c = record {
 
 pub returns-then-not-is_nested_within : goal.returns-then-not-is_nested_within
 returns-then-not-is_nested_within t c =
-    let deep : c.args.limit - 1 < depth c.in-Some.item.bytes = search rules in
-    let all = done-next c.loop-item.invariant.done (items c.args.self.now.bytes) c.loop-item.rest.now c.in-Some.item.bytes c.in-Some.others.now c.loop-item.invariant.all c.in-Some.ensures.parts in
-    deep-item c.args.self.now.bytes c.in-Ok.value.now c.in-Some.item.bytes c.args.limit c.loop-item.invariant.done (split c.in-Some.others.now) (sym c.if-not-is_list.ensures) c.in-Ok.ensures all deep
+    let deep : c.args.limit - 1 < depth c.in-Some.item.now = search rules in
+    let all = done-next c.loop-item.invariant.done (items c.args.self.now.bytes) c.loop-item.rest.now c.in-Some.item.now c.in-Some.others.now c.loop-item.invariant.all c.in-Some.ensures.parts in
+    deep-item c.args.self.now.bytes c.in-Ok.value.now c.in-Some.item.now c.args.limit c.loop-item.invariant.done (split c.in-Some.others.now) (sym c.if-not-is_list.ensures) c.in-Ok.ensures all deep
 
 pub loop-item-preserved : goal.loop-item-preserved
 loop-item-preserved t c = record {
-  done = c.loop-item.invariant.done ++ c.in-Some.item.bytes ∷ [];
-  all = done-more c.loop-item.invariant.done (items c.args.self.now.bytes) c.loop-item.rest.now c.in-Some.item.bytes c.in-Some.others.now c.loop-item.invariant.all c.in-Some.ensures.parts;
-  shallow = greatest-more c.loop-item.invariant.done c.in-Some.item.bytes (c.args.limit - 1) c.loop-item.invariant.shallow (search rules);
+  done = c.loop-item.invariant.done ++ c.in-Some.item.now ∷ [];
+  all = done-more c.loop-item.invariant.done (items c.args.self.now.bytes) c.loop-item.rest.now c.in-Some.item.now c.in-Some.others.now c.loop-item.invariant.all c.in-Some.ensures.parts;
+  shallow = greatest-more c.loop-item.invariant.done c.in-Some.item.now (c.args.limit - 1) c.loop-item.invariant.shallow (search rules);
 }
 
 pub returns : goal.returns

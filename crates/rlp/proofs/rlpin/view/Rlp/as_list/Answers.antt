@@ -1,6 +1,6 @@
 use Rattle.std.proofs.Common.{◌++◌, ◌∷◌, [], subst, sym, refl, inr}
 use Rattle.rlp.specs.ListReading.{GivesEach}
-use Rattle.rlp.specs.View.{item_views}
+use Rattle.rlp.specs.View.{item_views, view_of}
 use Rattle.rlp.proofs.ListValues.{split_views, item_views-payload, views-next, views-more, views-all, gives-more, faults-first, no-room}
 use Rattle.rlp.proofs.rlpin.view.Rlp.as_list.Goals as goal
 
@@ -13,9 +13,9 @@ loop-item-init g c = record {
 
 pub loop-item-preserved : goal.loop-item-preserved
 loop-item-preserved g c = record {
-  done = c.loop-item.invariant.done ++ c.in-Some.item ∷ [];
-  all = views-more c.args.self.now c.in-Some.item c.loop-item.invariant.done (item_views c.args.self.now) c.loop-item.rest.now c.in-Some.others.now c.loop-item.invariant.all c.in-Some.ensures.parts;
-  read = rw c.in-Ok-push.ensures.items (gives-more g.T.Decodable.gives c.loop-item.invariant.done c.loop-item.values.items c.in-Some.item c.in-Ok.value c.loop-item.invariant.read c.in-Ok.ensures.value);
+  done = c.loop-item.invariant.done ++ (view_of c.in-Some.item.now) ∷ [];
+  all = views-more c.args.self.now (view_of c.in-Some.item.now) c.loop-item.invariant.done (item_views c.args.self.now) c.loop-item.rest.now c.in-Some.others.now c.loop-item.invariant.all c.in-Some.ensures.parts;
+  read = rw c.in-Ok-push.ensures.items (gives-more g.T.Decodable.gives c.loop-item.invariant.done c.loop-item.values.items (view_of c.in-Some.item.now) c.in-Ok.value c.loop-item.invariant.read (rw c.new.ensures at c.in-Ok.ensures.value));
 }
 
 pub returns-clause-value : goal.returns-clause-value
@@ -25,10 +25,10 @@ returns-clause-value g c =
 
 pub returns-in-Err-clause-fault : goal.returns-in-Err-clause-fault
 returns-in-Err-clause-fault g c =
-    let all = views-next c.args.self.now c.in-Some.item c.loop-item.invariant.done (item_views c.args.self.now) c.loop-item.rest.now c.in-Some.others.now c.loop-item.invariant.all c.in-Some.ensures.parts in
-    faults-first g.T.Decodable.gives g.T.Decodable.faults g.T.Decodable.may_lack_memory c.args.self.now c.loop-item.invariant.done (split_views c.args.self.now c.in-Some.others.now) c.in-Some.item c.loop-item.values.items (sym all) c.loop-item.invariant.read c.in-Err.fault c.in-Err.ensures.fault
+    let all = views-next c.args.self.now (view_of c.in-Some.item.now) c.loop-item.invariant.done (item_views c.args.self.now) c.loop-item.rest.now c.in-Some.others.now c.loop-item.invariant.all c.in-Some.ensures.parts in
+    faults-first g.T.Decodable.gives g.T.Decodable.faults g.T.Decodable.may_lack_memory c.args.self.now c.loop-item.invariant.done (split_views c.args.self.now c.in-Some.others.now) (view_of c.in-Some.item.now) c.loop-item.values.items (sym all) c.loop-item.invariant.read c.in-Err.fault (rw c.new.ensures at c.in-Err.ensures.fault)
 
 pub returns-in-Err-push-clause-fault : goal.returns-in-Err-push-clause-fault
 returns-in-Err-push-clause-fault g c =
-    let all = views-next c.args.self.now c.in-Some.item c.loop-item.invariant.done (item_views c.args.self.now) c.loop-item.rest.now c.in-Some.others.now c.loop-item.invariant.all c.in-Some.ensures.parts in
-    inr (refl, no-room g.T.Decodable.gives g.T.Decodable.faults g.T.Decodable.may_lack_memory c.args.self.now c.loop-item.invariant.done (split_views c.args.self.now c.in-Some.others.now) c.in-Some.item c.loop-item.values.items (sym all) c.loop-item.invariant.read c.in-Ok.value c.in-Ok.ensures.value)
+    let all = views-next c.args.self.now (view_of c.in-Some.item.now) c.loop-item.invariant.done (item_views c.args.self.now) c.loop-item.rest.now c.in-Some.others.now c.loop-item.invariant.all c.in-Some.ensures.parts in
+    inr (refl, no-room g.T.Decodable.gives g.T.Decodable.faults g.T.Decodable.may_lack_memory c.args.self.now c.loop-item.invariant.done (split_views c.args.self.now c.in-Some.others.now) (view_of c.in-Some.item.now) c.loop-item.values.items (sym all) c.loop-item.invariant.read c.in-Ok.value (rw c.new.ensures at c.in-Ok.ensures.value))

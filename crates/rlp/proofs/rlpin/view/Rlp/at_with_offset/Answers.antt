@@ -2,6 +2,7 @@ use Rattle.std.proofs.Common.{◌≡◌, ◌-◌, length, take, drop, Ok, Err, s
 use Rattle.std.proofs.lemmas.List.{take_rest}
 use Rattle.std.proofs.lemmas.Result.{err_from_is_err_and}
 use Rattle.rlp.specs.Framing.{framing}
+use Rattle.rlp.specs.View.{view_of}
 use Rattle.rlp.proofs.Places.{IsWalked, walked-none, walked-one, walked-item, walked-past, walked-length, not_framed_item, not_list_item, payload-list, length-payload}
 use Rattle.rlp.proofs.rlpin.view.Rlp.at_with_offset.Goals as goal
 
@@ -24,7 +25,7 @@ loop-walked-init c =
 
 pub loop-walked-preserved : goal.loop-walked-preserved
 loop-walked-preserved c =
-    walked-one c.args.self.now.bytes c.in_ok-others.field-0-0.bytes c.in_ok-others.others.now c.loop-walked.rest.now c.loop-walked._walked c.loop-walked.invariant c.in_ok-others.ensures.parts c.in_ok-others.ensures.whole
+    walked-one c.args.self.now.bytes c.in_ok-others.field-0-0.now c.in_ok-others.others.now c.loop-walked.rest.now c.loop-walked._walked c.loop-walked.invariant c.in_ok-others.ensures.parts c.in_ok-others.ensures.whole
 
 pub returns-in_err-others : goal.returns-in_err-others
 returns-in_err-others c =
@@ -42,17 +43,17 @@ pub overflow_sub-before : goal.overflow_sub-before
 overflow_sub-before c =
     let framed : framing c.args.self.now.bytes ≡ Ok c.in_ok-info.info = sym (ap framing (c.as_raw.ensures)) ∙ sym c.in_ok-info.ensures.exact in
     let long = length-payload c.args.self.now.bytes c.in_ok-info.info (sym c.if-not-is_list.ensures) framed (omega (arith, ap length (c.as_raw.ensures), c.in_ok-info.ensures.within)) in
-    omega (arith, walked-length c.args.self.now.bytes c.in_ok-item.item.bytes c.in_ok-item.others.now c.loop-walked.rest.now c.loop-walked._walked c.in_ok-info.info.value_len c.loop-walked.invariant c.in_ok-item.ensures.whole long)
+    omega (arith, walked-length c.args.self.now.bytes c.in_ok-item.item.now c.in_ok-item.others.now c.loop-walked.rest.now c.loop-walked._walked c.in_ok-info.info.value_len c.loop-walked.invariant c.in_ok-item.ensures.whole long)
 
 pub overflow_sub-before-2 : goal.overflow_sub-before-2
 overflow_sub-before-2 c =
     let framed : framing c.args.self.now.bytes ≡ Ok c.in_ok-info.info = sym (ap framing (c.as_raw.ensures)) ∙ sym c.in_ok-info.ensures.exact in
     let long = length-payload c.args.self.now.bytes c.in_ok-info.info (sym c.if-not-is_list.ensures) framed (omega (arith, ap length (c.as_raw.ensures), c.in_ok-info.ensures.within)) in
-    omega (arith, ap length (c.as_raw-3.ensures), walked-length c.args.self.now.bytes c.in_ok-item.item.bytes c.in_ok-item.others.now c.loop-walked.rest.now c.loop-walked._walked c.in_ok-info.info.value_len c.loop-walked.invariant c.in_ok-item.ensures.whole long)
+    omega (arith, walked-length c.args.self.now.bytes c.in_ok-item.item.now c.in_ok-item.others.now c.loop-walked.rest.now c.loop-walked._walked c.in_ok-info.info.value_len c.loop-walked.invariant c.in_ok-item.ensures.whole long)
 
 pub returns : goal.returns
 returns c =
     let framed : framing c.args.self.now.bytes ≡ Ok c.in_ok-info.info = sym (ap framing (c.as_raw.ensures)) ∙ sym c.in_ok-info.ensures.exact in
     let long = length-payload c.args.self.now.bytes c.in_ok-info.info (sym c.if-not-is_list.ensures) framed (omega (arith, ap length (c.as_raw.ensures), c.in_ok-info.ensures.within)) in
     let here : IsWalked c.args.self.now.bytes c.args.index c.loop-walked.rest.now = subst (λ k. IsWalked c.args.self.now.bytes k c.loop-walked.rest.now) (omega arith) c.loop-walked.invariant in
-    rw (ap length (c.as_raw-3.ensures)) (walked-item c.args.self.now c.in_ok-item.item c.args.index c.in_ok-info.info c.in_ok-item.others.now c.loop-walked.rest.now (sym c.if-not-is_list.ensures) framed long here c.in_ok-item.ensures.parts c.in_ok-item.ensures.whole)
+    rw c.new.ensures (walked-item c.args.self.now (view_of c.in_ok-item.item.now) c.args.index c.in_ok-info.info c.in_ok-item.others.now c.loop-walked.rest.now (sym c.if-not-is_list.ensures) framed long here c.in_ok-item.ensures.parts c.in_ok-item.ensures.whole)
