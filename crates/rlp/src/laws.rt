@@ -49,7 +49,7 @@ pub fn headers_are_prefix_free()
         → written_header base1 m ++ x ≡ written_header base2 n ++ y → (base1 ≡ base2) × (m ≡ n) }
 {}
 
-/// The encoding of a list is the header of its joined items and they.
+/// The encoding of a list is a header and the joined encodings of its items.
 pub fn list_is_header_and_items()
     ensures { (xs : List Item)
         → encoding (list_of xs) ≡ written_header 0xc0 (length (join xs)) ++ join xs }

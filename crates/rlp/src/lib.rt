@@ -69,7 +69,7 @@ pub fn encode_list<E: Encodable>(alloc: Global, object: &[E]) -> Result<BytesMut
 }
 
 /// The value that the bytes begin with, as its type reads it: [`Decodable::decode`] of a view of
-/// them. What follows the value's item is never looked at.
+/// them. The types of this crate ignore what follows the value's item.
 ///
 /// ```rust
 /// assert_eq!(rt; rlp::decode::<u64>(alloc, &[0x82, 0x01, 0x00])?, 256);
@@ -83,7 +83,7 @@ pub fn decode<T: Decodable>(alloc: Global, bytes: &[u8]) -> Result<T, DecoderErr
 }
 
 /// The values of the items of the list that the bytes begin with, in order: [`Rlp::as_list`] of a
-/// view of them. What follows the list is never looked at.
+/// view of them. What follows the list is ignored.
 ///
 /// ```rust
 /// assert_eq!(rt; rlp::decode_list::<u64>(alloc, &[0xc2, 0x05, 0x06])?.as_slice(), [5, 6].as_slice());

@@ -76,7 +76,7 @@ pub use pair::Pair;
 pub use recipient::Recipient;
 pub use refusing::Refusing;
 pub use transaction::Transaction;
-pub use uses::{append_by_stream, append_each, chain_and_encoder};
+pub use uses::{append_by_stream, append_each, chain_and_encoder, nested};
 
 /// Appends one value, and is refused as a whole.
 pub fn append_one<A: Encodable>(s: &mut RlpStream, a: &A) -> Result<(), AllocError>

@@ -1,5 +1,6 @@
 //! Uses as the documents show them.
 
+use bytes::BytesMut;
 use rlp::RlpStream;
 use std::alloc::{AllocError, Global};
 
@@ -25,6 +26,22 @@ pub fn append_each(s: &mut RlpStream, values: &[u64]) -> Result<(), AllocError> 
         s.append(value)?;
     }
     Ok(())
+}
+
+/// The bytes of the list of a text, a list of two numbers, and a list of one.
+pub fn nested(alloc: Global) -> Result<Option<BytesMut>, AllocError> {
+    let mut s = RlpStream::new_list(alloc, 3)?;
+    s.append(&"cat")?;
+    s.begin_list(2)?.append(&1u64)?.append(&2u64)?;
+    s.begin_unbounded_list()?.append(&3u64)?;
+    if s.can_finalize() {
+        s.finalize_unbounded_list()?;
+    }
+    if s.is_finished() {
+        Ok(Some(s.out()))
+    } else {
+        Ok(None)
+    }
 }
 
 #[cfg(test)]
@@ -87,6 +104,30 @@ mod tests {
     #[test]
     fn values_as_shown(rt: HostRuntime) -> Result<(), Fail> {
         assert!(rt; value_is_read_back(rt.alloc())? && length_is_read()?);
+        Ok(())
+    }
+
+    fn list_is_read_back(alloc: Global, bytes: &[u8]) -> Result<bool, DecoderError> {
+        let view = Rlp::new(bytes);
+        Ok(
+            bytes == [0xc9, 0x83, 0x63, 0x61, 0x74, 0xc2, 0x01, 0x02, 0xc1, 0x03].as_slice()
+                && view.item_count()? == 3
+                && view.val_at::<String>(alloc, 0)?.as_str() == "cat"
+                && view.list_at::<u64>(alloc, 1)?.as_slice() == [1, 2].as_slice()
+                && view.at(2)?.val_at::<u64>(alloc, 0)? == 3,
+        )
+    }
+
+    fn nested_list_is_read_back(alloc: Global) -> Result<bool, Fail> {
+        match nested(alloc)? {
+            Some(bytes) => Ok(list_is_read_back(alloc, bytes.as_slice())?),
+            None => Ok(false),
+        }
+    }
+
+    #[test]
+    fn nested_list_as_shown(rt: HostRuntime) -> Result<(), Fail> {
+        assert!(rt; nested_list_is_read_back(rt.alloc())?);
         Ok(())
     }
 }

@@ -52,7 +52,7 @@ pub fn finished_streams_have_their_closed_size()
         → length (s.front ++ s.stack.inner) ≡ length s.front + closed_size s }
 {}
 
-/// A state grows to itself, and growth goes on.
+/// A state grows to itself, and where it grows to a second that grows to a third, it grows to that.
 pub fn growth_is_an_order()
     ensures same { (s : State) → GrowsTo s s }
     ensures onward { (s t u : State) → GrowsTo s t → GrowsTo t u → GrowsTo s u }

@@ -10,8 +10,13 @@ impl Rlp<'_> {
     /// Whether the depth is at most `limit`. Anything but a framed list has depth 0, and a framed
     /// list 1 more than the deepest of its items, or 1 without items.
     ///
-    /// It goes no deeper than `limit` lists, so it bounds the work of
-    /// [`Display`](std::fmt::Display) on bytes of any origin.
+    /// It goes no deeper than `limit` lists, so bytes of any origin can be asked before they are
+    /// printed by [`Display`](std::fmt::Display), which goes as deep as they nest.
+    ///
+    /// ```rust
+    /// let list = rlp::Rlp::new(&[0xc2, 0xc1, 0x05]);
+    /// assert!(rt; !list.is_nested_within(1) && list.is_nested_within(2));
+    /// ```
     pub fn is_nested_within(&self, limit: usize) -> bool
         ensures { IsTrue result ↔ (depth self.now.bytes ≤ limit) }
     {

@@ -26,7 +26,7 @@ pub trait Decodable: Sized + Drop {
     /// mostly has its fault and not this.
     ghost may_lack_memory: { View → Type 0 };
 
-    /// The value that the view begins with. What follows the value's item is never looked at.
+    /// The value that the view begins with. The types of this crate ignore what follows its item.
     ///
     /// The faults are the type's own, and `OutOfMemory` where memory may lack for the view and is
     /// refused.
