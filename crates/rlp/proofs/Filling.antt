@@ -1,9 +1,8 @@
 -- A list that is opened, and filled item by item. Whoever writes an `Encodable` that is a list needs these.
 use Rattle.std.proofs.Common.{◌≡◌, ℕ, zero, suc, ◌+◌, ◌-◌, ◌<◌, ◌≤◌, nat_le, ◌||◌, Bool, true, false, List, [], ◌∷◌, ◌++◌, length, take, map, Some, refl, sym, ◌∙◌, ap, subst, arith, cond, append_assoc, append-nil}
-use Rattle.std.proofs.lemmas.Bool.Decides.{nat_tests}
 use Rattle.rlp.specs.WrittenHeader.{written_header}
 use Rattle.rlp.specs.Item.{Item, list, Items, no_items, item_and, list_of}
-use Rattle.rlp.specs.Encoding.{encoding, join, join_items}
+use Rattle.rlp.specs.Encoding.{encoding, join_items}
 use Rattle.rlp.specs.Stack.{OpenList}
 use Rattle.rlp.specs.Stream.{State, add, put_item, with_list, is_list, add_all}
 use Rattle.rlp.specs.Calls.{with_list_of}

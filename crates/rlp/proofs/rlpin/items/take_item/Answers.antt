@@ -1,4 +1,4 @@
-use Rattle.std.proofs.Common.{◌≡◌, sym, ap}
+use Rattle.std.proofs.Common.{sym}
 use Rattle.rlp.specs.Lemmas.Reading.{bytes_held}
 use Rattle.rlp.specs.Lemmas.Frames.{split_framed, split_unframed}
 use Rattle.rlp.proofs.Places.{fault-err}

@@ -1,4 +1,4 @@
-use Rattle.std.proofs.Common.{◌≡◌, IsTrue, length, reverse, ap, sym, ◌∙◌, arith}
+use Rattle.std.proofs.Common.{reverse, ap, sym, ◌∙◌, arith}
 use Rattle.std.proofs.lemmas.Bool.Decides.{nat_tests}
 use Rattle.rlp.specs.Stream.{Seen, closed_size}
 use Rattle.rlp.proofs.ClosedSize.{empty_size, front_size}

@@ -1,4 +1,4 @@
-use Rattle.std.proofs.Common.{◌≡◌, ◌++◌, false, true, length, drop, ap, sym, ◌∙◌}
+use Rattle.std.proofs.Common.{◌≡◌, ◌++◌, false, length, drop, ap, sym, ◌∙◌}
 use Rattle.rlp.specs.WrittenHeader.{written_header}
 use Rattle.rlp.specs.Encoding.{is_low_byte}
 use Rattle.rlp.proofs.Written.{header_written, header_none, all_written, rest_from}
