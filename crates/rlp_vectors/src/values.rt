@@ -1,7 +1,8 @@
 //! Values of every type, written and read.
 
+use crate::guarded::finishes_as;
 use bytes::{Bytes, BytesMut};
-use rlp::{Decodable, DecoderError, Encodable};
+use rlp::{Decodable, DecoderError, Encodable, RlpStream};
 use std::alloc::{AllocError, Global};
 
 /// Whether each value is written as the bytes beside it.
@@ -305,5 +306,18 @@ fn is_boxed(alloc: Global, bytes: &[u8], want: u8) -> Result<bool, DecoderError>
 #[test]
 fn boxes_are_read(rt: HostRuntime) -> Result<(), DecoderError> {
     assert!(rt; is_boxed(rt.alloc(), &[0xc1, 0x05], 5)?);
+    Ok(())
+}
+
+/// Whether an option without a value, written by itself, counts as the one item of a list.
+fn none_fills_a_list(alloc: Global) -> Result<bool, AllocError> {
+    let mut s = RlpStream::new_list(alloc, 1)?;
+    s.append_internal(&None::<u8>)?;
+    Ok(finishes_as(s, &[0xc1, 0xc0]))
+}
+
+#[test]
+fn none_counts_itself(rt: HostRuntime) -> Result<(), AllocError> {
+    assert!(rt; none_fills_a_list(rt.alloc())?);
     Ok(())
 }
