@@ -3,10 +3,10 @@ use Rattle.std.proofs.Common.{ℕ, zero, suc, ◌<◌, ◌≡◌, false, List, [
 use Rattle.std.specs.List.{AllByRecursion}
 use Rattle.std.proofs.lemmas.Bool.{cond_both, leb-false}
 use Rattle.std.proofs.lemmas.List.Elements.{All-from_recursion, recursion_from_All}
-use Rattle.rlp.specs.Item.{string, list}
-use Rattle.rlp.specs.Stack.{OpenList, Stack, AwaitsSome, AllAwait, is_last, awaits_after, count_around, shut_around}
-use Rattle.rlp.specs.Stream.{State, list_encoding}
-use Rattle.rlp.specs.Calls.{Call, append, append_empty_data, append_raw, append_raw_checked, begin_list, begin_unbounded_list, finalize_unbounded_list, append_internal, encode_value, clear, effect, is_within_size}
+use Rattle.rlp.specs.Format.Item.{string, list}
+use Rattle.rlp.specs.Streams.Stack.{OpenList, Stack, AwaitsSome, AllAwait, is_last, awaits_after, count_around, shut_around}
+use Rattle.rlp.specs.Streams.Stream.{State, list_encoding}
+use Rattle.rlp.specs.Streams.Calls.{Call, append, append_empty_data, append_raw, append_raw_checked, begin_list, begin_unbounded_list, finalize_unbounded_list, append_internal, encode_value, clear, effect, is_within_size}
 
 abbrev Awaits : {A : Type 0} → OpenList A → Type 0
 Awaits l = AwaitsSome l.awaits

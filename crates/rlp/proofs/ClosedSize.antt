@@ -4,12 +4,12 @@ use Rattle.std.specs.Option.{SomeIff}
 use Rattle.std.proofs.lemmas.Bool.{cases_lt}
 use Rattle.std.proofs.lemmas.List.{length-take-le, length-replicate, length-reverse}
 use Rattle.rlp.specs.declared.stream.open_lists.Placeholder.{Placeholder}
-use Rattle.rlp.specs.WrittenHeader.{big_endian, written_header}
-use Rattle.rlp.specs.Stack.{closed_payload_around}
-use Rattle.rlp.specs.Stream.{State, list_encoding, closed_size, closed_size_with}
-use Rattle.rlp.specs.Placeholders.{begin_of, lists_of, IsLaid, Descends}
-use Rattle.rlp.specs.Closing.{header_len, closed_len, left_of}
-use Rattle.rlp.specs.Layout.{state_of}
+use Rattle.rlp.specs.Format.WrittenHeader.{big_endian, written_header}
+use Rattle.rlp.specs.Streams.Stack.{closed_payload_around}
+use Rattle.rlp.specs.Streams.Stream.{State, list_encoding, closed_size, closed_size_with}
+use Rattle.rlp.specs.Streams.Placeholders.{begin_of, lists_of, IsLaid, Descends}
+use Rattle.rlp.specs.Streams.Closing.{header_len, closed_len, left_of}
+use Rattle.rlp.specs.Streams.Layout.{state_of}
 use Rattle.rlp.specs.Lemmas.Digits.{big_endian_length}
 use Rattle.rlp.specs.Lemmas.Headers.{written_header_short, written_header_long}
 use Rattle.rlp.proofs.Closing.{reverse_push, header_some}

@@ -3,11 +3,11 @@ use Rattle.std.proofs.Common.{◌≡◌, ℕ, suc, ◌+◌, ◌-◌, ◌*◌, �
 use Rattle.std.proofs.lemmas.Bool.{cases_lt}
 use Rattle.std.proofs.lemmas.List.{take-take, take-append-le, drop_at, drop-drop, drop-take, length-take-le, length_push, set_at, get_or_at, take-append-drop, reverse-append, reverse-reverse}
 use Rattle.rlp.specs.declared.stream.open_lists.Placeholder.{Placeholder}
-use Rattle.rlp.specs.WrittenHeader.{big_endian, written_header}
-use Rattle.rlp.specs.Stack.{is_last, awaits_after}
-use Rattle.rlp.specs.Stream.{list_encoding}
-use Rattle.rlp.specs.Placeholders.{Descends, with_innermost}
-use Rattle.rlp.specs.Closing.{filled, counted, closed_bytes, header_len, growth, left_of}
+use Rattle.rlp.specs.Format.WrittenHeader.{big_endian, written_header}
+use Rattle.rlp.specs.Streams.Stack.{is_last, awaits_after}
+use Rattle.rlp.specs.Streams.Stream.{list_encoding}
+use Rattle.rlp.specs.Streams.Placeholders.{Descends, with_innermost}
+use Rattle.rlp.specs.Streams.Closing.{filled, counted, closed_bytes, header_len, growth, left_of}
 use Rattle.rlp.specs.Lemmas.Headers.{written_header_short, written_header_long}
 
 pub reverse_push : (ps : List Placeholder) (p : Placeholder) → reverse (ps ++ p ∷ []) ≡ p ∷ reverse ps

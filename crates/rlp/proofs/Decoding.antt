@@ -3,14 +3,14 @@ use Rattle.std.proofs.Common.{◌≡◌, ◌↔◌, ℕ, ◌^◌, ◌<◌, ◌�
 use Rattle.std.specs.List.{All, AllByRecursion}
 use Rattle.std.proofs.lemmas.List.Elements.{All-from_recursion, recursion_from_All}
 use Rattle.rlp.specs.declared.error.DecoderError.{DecoderError}
-use Rattle.rlp.specs.Item.{Item, list_of}
-use Rattle.rlp.specs.Encoding.{BeginsWith, encoding, join}
-use Rattle.rlp.specs.Split.{items}
-use Rattle.rlp.specs.ValueReading.{GivesValue}
-use Rattle.rlp.specs.View.{View, view_of, item_views}
-use Rattle.rlp.specs.ListReading.{GivesEach, GivesList, FaultsAsList, not_list, faulty_in_list}
+use Rattle.rlp.specs.Format.Item.{Item, list_of}
+use Rattle.rlp.specs.Format.Encoding.{BeginsWith, encoding, join}
+use Rattle.rlp.specs.Format.Split.{items}
+use Rattle.rlp.specs.Values.ValueReading.{GivesValue}
+use Rattle.rlp.specs.Views.View.{View, view_of, item_views}
+use Rattle.rlp.specs.Values.ListReading.{GivesEach, GivesList, FaultsAsList, not_list, faulty_in_list}
 use Rattle.rlp.specs.Lemmas.ListRoundTrips.{AlwaysReadsBack}
-use Rattle.rlp.specs.RoundTrip.{ReadsBack}
+use Rattle.rlp.specs.Values.RoundTrip.{ReadsBack}
 use Rattle.rlp.specs.Lemmas.Encodings.{encoding_list, front_sized, small_payload}
 use Rattle.rlp.specs.Lemmas.Numbered.{item_views-list, map-map}
 use Rattle.rlp.specs.Lemmas.Views.{items_of_list}

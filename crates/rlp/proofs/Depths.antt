@@ -2,11 +2,11 @@
 use Rattle.std.proofs.Common.{◌≡◌, ℕ, suc, max, ◌<◌, true, false, List, [], ◌∷◌, ◌++◌, length, map, fold, refl, sym, ap, ◌∙◌, subst, arith, ⊎_elim, Ok, Err, Result, append-nil}
 use Rattle.std.proofs.lemmas.Bool.{lt-leb}
 use Rattle.rlp.specs.declared.error.DecoderError.{DecoderError}
-use Rattle.rlp.specs.Item.{Item, string, list, Items, no_items, item_and, items_from, listed, list_of, item_depth, items_depth}
-use Rattle.rlp.specs.Encoding.{encoding, IsSized, BeginsWith}
-use Rattle.rlp.specs.Framing.{value}
-use Rattle.rlp.specs.Split.{begins_as_list}
-use Rattle.rlp.specs.Depth.{depth, framed_depth, greatest}
+use Rattle.rlp.specs.Format.Item.{Item, string, list, Items, no_items, item_and, items_from, listed, list_of, item_depth, items_depth}
+use Rattle.rlp.specs.Format.Encoding.{encoding, IsSized, BeginsWith}
+use Rattle.rlp.specs.Format.Framing.{value}
+use Rattle.rlp.specs.Format.Split.{begins_as_list}
+use Rattle.rlp.specs.Views.Depth.{depth, framed_depth, greatest}
 use Rattle.rlp.specs.Lemmas.Headers.{shape}
 use Rattle.rlp.specs.Lemmas.Encodings.{AllSized, parts_sized, list_written, items_from-listed, string_cases}
 use Rattle.rlp.proofs.Texts.{depth_is}

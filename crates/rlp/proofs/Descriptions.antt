@@ -1,13 +1,13 @@
 -- What a stream writes is the join of the items that its calls describe.
 use Rattle.std.proofs.Common.{◌≡◌, ℕ, suc, ◌+◌, Bool, true, false, cond, List, [], ◌∷◌, ◌++◌, length, map, Some, None, refl, sym, ap, ◌∙◌, append-nil, Result, Ok, Err, IsTrue, not, All}
 use Rattle.std.proofs.lemmas.List.Concat.{flat_map-append}
-use Rattle.rlp.specs.WrittenHeader.{big_endian, written_header}
-use Rattle.rlp.specs.Item.{Item, string, list_of}
-use Rattle.rlp.specs.Encoding.{encoding, join, IsSized}
-use Rattle.rlp.specs.Stack.{OpenList, Stack, empty_stack, stack_put, stack_shut, shut_around, stack_count, count_around, is_last}
-use Rattle.rlp.specs.Stream.{State, initial_state, list_encoding, put, count}
-use Rattle.rlp.specs.Calls.{Call, effect, is_within_size, is_admitted, after, after_from}
-use Rattle.rlp.specs.Described.{Step, one_list, items_after, items_after_all, Describes, by_append, by_empty_data, by_raw, by_checked_raw, by_refused_raw, by_empty_list, by_list, by_unbounded_list, by_finalize, by_internal_list, by_clear, AreDescribed, IsDescribed, joined_stack, joined_list}
+use Rattle.rlp.specs.Format.WrittenHeader.{big_endian, written_header}
+use Rattle.rlp.specs.Format.Item.{Item, string, list_of}
+use Rattle.rlp.specs.Format.Encoding.{encoding, join, IsSized}
+use Rattle.rlp.specs.Streams.Stack.{OpenList, Stack, empty_stack, stack_put, stack_shut, shut_around, stack_count, count_around, is_last}
+use Rattle.rlp.specs.Streams.Stream.{State, initial_state, list_encoding, put, count}
+use Rattle.rlp.specs.Streams.Calls.{Call, effect, is_within_size, is_admitted, after, after_from}
+use Rattle.rlp.specs.Streams.Described.{Step, one_list, items_after, items_after_all, Describes, by_append, by_empty_data, by_raw, by_checked_raw, by_refused_raw, by_empty_list, by_list, by_unbounded_list, by_finalize, by_internal_list, by_clear, AreDescribed, IsDescribed, joined_stack, joined_list}
 use Rattle.rlp.specs.Lemmas.Encodings.{encoding_list, join_same}
 
 one_list_joined : (xs : List Item) → list_encoding (join xs) ≡ join (one_list xs)

@@ -1,12 +1,12 @@
 -- A list that is opened, and filled item by item. Whoever writes an `Encodable` that is a list needs these.
 use Rattle.std.proofs.Common.{◌≡◌, ℕ, zero, suc, ◌+◌, ◌-◌, ◌<◌, ◌≤◌, nat_le, ◌||◌, Bool, true, false, List, [], ◌∷◌, ◌++◌, length, take, map, Some, refl, sym, ◌∙◌, ap, subst, arith, cond, append_assoc, append-nil}
-use Rattle.rlp.specs.WrittenHeader.{written_header}
-use Rattle.rlp.specs.Item.{Item, list, Items, no_items, item_and, list_of}
-use Rattle.rlp.specs.Encoding.{encoding, join_items}
-use Rattle.rlp.specs.Stack.{OpenList}
-use Rattle.rlp.specs.Stream.{State, add, put_item, with_list, is_list, add_all}
-use Rattle.rlp.specs.Calls.{with_list_of}
-use Rattle.rlp.specs.Growth.{GrowsTo}
+use Rattle.rlp.specs.Format.WrittenHeader.{written_header}
+use Rattle.rlp.specs.Format.Item.{Item, list, Items, no_items, item_and, list_of}
+use Rattle.rlp.specs.Format.Encoding.{encoding, join_items}
+use Rattle.rlp.specs.Streams.Stack.{OpenList}
+use Rattle.rlp.specs.Streams.Stream.{State, add, put_item, with_list, is_list, add_all}
+use Rattle.rlp.specs.Streams.Calls.{with_list_of}
+use Rattle.rlp.specs.Streams.Growth.{GrowsTo}
 use Rattle.rlp.proofs.Listed.{list_filled, add_more, or_true}
 use Rattle.rlp.proofs.Growth.{grows_same, grows_put, grows_with_list, grows_in_list, grows_trans}
 

@@ -2,10 +2,10 @@
 use Rattle.std.proofs.Common.{◌≡◌, ℕ, ◌<◌, Bool, true, false, List, [], ◌∷◌, ◌++◌, length, take, drop, Result, Ok, Err, refl, sym, ap, ◌∙◌, arith, length-append, length-drop}
 use Rattle.std.proofs.lemmas.List.{take-append-le, drop-append-le}
 use Rattle.rlp.specs.declared.error.DecoderError.{DecoderError}
-use Rattle.rlp.specs.Framing.{IsFramedItem, framing, value}
-use Rattle.rlp.specs.Split.{begins_as_list, payload, payload_in, items, split}
-use Rattle.rlp.specs.Text.{text, text_by, framed_text}
-use Rattle.rlp.specs.Depth.{depth, depth_by, framed_depth}
+use Rattle.rlp.specs.Format.Framing.{IsFramedItem, framing, value}
+use Rattle.rlp.specs.Format.Split.{begins_as_list, payload, payload_in, items, split}
+use Rattle.rlp.specs.Views.Text.{text, text_by, framed_text}
+use Rattle.rlp.specs.Views.Depth.{depth, depth_by, framed_depth}
 use Rattle.rlp.specs.Lemmas.Frames.{longer, framing_is, value_is, item_some}
 use Rattle.rlp.proofs.Texts.{text_is, depth_is}
 

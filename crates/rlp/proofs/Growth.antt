@@ -1,11 +1,11 @@
 -- Which states a state grows to. Whoever writes an `Encodable` needs the ruleset `growth`.
 use Rattle.std.proofs.Common.{◌≡◌, ℕ, true, false, List, [], ◌∷◌, ◌++◌, Option, refl, sym, ap, ◌∙◌, subst, append-nil, append_assoc}
-use Rattle.rlp.specs.Item.{Item, string, list}
-use Rattle.rlp.specs.Encoding.{encoding}
-use Rattle.rlp.specs.Stack.{OpenList}
-use Rattle.rlp.specs.Stream.{State, put, with_list, put_item}
-use Rattle.rlp.specs.Growth.{AreSameAround, Stands, GrowsTo}
-use Rattle.rlp.specs.Growth.Stands.{here, within}
+use Rattle.rlp.specs.Format.Item.{Item, string, list}
+use Rattle.rlp.specs.Format.Encoding.{encoding}
+use Rattle.rlp.specs.Streams.Stack.{OpenList}
+use Rattle.rlp.specs.Streams.Stream.{State, put, with_list, put_item}
+use Rattle.rlp.specs.Streams.Growth.{AreSameAround, Stands, GrowsTo}
+use Rattle.rlp.specs.Streams.Growth.Stands.{here, within}
 
 same_around : (ls : List (OpenList ℕ)) → AreSameAround ls ls
 same_around [] = tt

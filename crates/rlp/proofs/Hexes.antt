@@ -2,7 +2,7 @@
 use Rattle.std.proofs.Common.{◌≡◌, ℕ, ◌+◌, ◌*◌, ◌<◌, ◌≤◌, List, [], ◌∷◌, ◌++◌, length, take, drop, get_or, slice_index, slice_set, sym, ap, ◌∙◌, arith}
 use Rattle.std.proofs.lemmas.List.{append_assoc, take_all, take_more, take_more_set, take-append-drop, length-set, flat_map_more}
 use Rattle.std.proofs.lemmas.Grind.{flat_map-append}
-use Rattle.rlp.specs.Text.{hex, hex_pair}
+use Rattle.rlp.specs.Views.Text.{hex, hex_pair}
 
 -- two places that are set, one after the other, seen from the front
 take-two_set : (xs : List ℕ) (o x y : ℕ) → o + 1 < length xs

@@ -4,7 +4,7 @@ use Rattle.std.proofs.Math.Nat.{pow-suc, pow-succ', one-le-pow, div-div-eq-div-m
 use Rattle.std.proofs.lemmas.Nat.{pow-add, div_below, le-div, leading_top}
 use Rattle.std.specs.Int.{byte_at, bytes_high_first}
 use Rattle.std.specs.Int.Count.{count_leading_zeros, leading_of_zero}
-use Rattle.rlp.specs.WrittenHeader.{big_endian}
+use Rattle.rlp.specs.Format.WrittenHeader.{big_endian}
 use Rattle.rlp.specs.Lemmas.Digits.{big_endian_zero, big_endian_digit, big_endian_step}
 
 -- a byte of n is the one below it of n / 256

@@ -4,12 +4,12 @@ use Rattle.std.proofs.lemmas.Bool.{cond_both}
 use Rattle.std.proofs.lemmas.Bool.Decides.{nat_tests}
 use Rattle.std.proofs.lemmas.List.{take-take, take-append-le, drop-append-le, take_at, drop_all, length-take-le, length_push, take-append-drop}
 use Rattle.rlp.specs.declared.stream.open_lists.Placeholder.{Placeholder}
-use Rattle.rlp.specs.Stack.{OpenList, AwaitsSome, is_last, awaits_after, count_around, mark_after, is_unbounded, closed_payload_around}
-use Rattle.rlp.specs.WrittenHeader.{written_header}
-use Rattle.rlp.specs.Stream.{list_encoding, put, shut, with_list, with_mark, count, raw_text, closed_size}
-use Rattle.rlp.specs.Placeholders.{begin_of, lists_of, Placed, IsLaid, Descends, with_innermost}
-use Rattle.rlp.specs.Closing.{filled, counted, closed_bytes, left_of}
-use Rattle.rlp.specs.Layout.{stack_of, state_of}
+use Rattle.rlp.specs.Streams.Stack.{OpenList, AwaitsSome, is_last, awaits_after, count_around, mark_after, is_unbounded, closed_payload_around}
+use Rattle.rlp.specs.Format.WrittenHeader.{written_header}
+use Rattle.rlp.specs.Streams.Stream.{list_encoding, put, shut, with_list, with_mark, count, raw_text, closed_size}
+use Rattle.rlp.specs.Streams.Placeholders.{begin_of, lists_of, Placed, IsLaid, Descends, with_innermost}
+use Rattle.rlp.specs.Streams.Closing.{filled, counted, closed_bytes, left_of}
+use Rattle.rlp.specs.Streams.Layout.{stack_of, state_of}
 use Rattle.rlp.proofs.States.{raw_text-put, raw_text-with_list}
 use Rattle.rlp.proofs.Awaits.{await-after}
 use Rattle.rlp.proofs.Closing.{header_some}

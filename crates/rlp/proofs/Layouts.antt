@@ -3,12 +3,12 @@ use Rattle.std.proofs.Common.{◌≡◌, ℕ, ◌+◌, ◌≤◌, Bool, List, []
 use Rattle.std.proofs.lemmas.List.{length-take-le, length-reverse, take-append-drop, take_at, reverse-append, reverse-reverse}
 use Rattle.rlp.specs.declared.stream.open_lists.Placeholder.{Placeholder}
 use Rattle.rlp.specs.declared.stream.rewinding.Place.{Place}
-use Rattle.rlp.specs.Stream.{State}
-use Rattle.rlp.specs.Stack.{OpenList}
-use Rattle.rlp.specs.Growth.{AreSameAround, Stands, GrowsTo}
-use Rattle.rlp.specs.Growth.Stands.{here, within}
-use Rattle.rlp.specs.Placeholders.{begin_of, lists_of, Placed, IsLaid, with_innermost, innermost_awaits}
-use Rattle.rlp.specs.Layout.{state_of}
+use Rattle.rlp.specs.Streams.Stream.{State}
+use Rattle.rlp.specs.Streams.Stack.{OpenList}
+use Rattle.rlp.specs.Streams.Growth.{AreSameAround, Stands, GrowsTo}
+use Rattle.rlp.specs.Streams.Growth.Stands.{here, within}
+use Rattle.rlp.specs.Streams.Placeholders.{begin_of, lists_of, Placed, IsLaid, with_innermost, innermost_awaits}
+use Rattle.rlp.specs.Streams.Layout.{state_of}
 use Rattle.rlp.proofs.Laid.{start_le, below_front}
 
 -- what stands left of a placeholder

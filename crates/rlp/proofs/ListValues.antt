@@ -2,10 +2,10 @@
 use Rattle.std.proofs.Common.{ℕ, ◌≡◌, List, [], ◌∷◌, ◌++◌, ◌⊎◌, inl, inr, map, refl, sym, ◌∙◌, ap, append_assoc, append-nil}
 use Rattle.rlp.specs.declared.error.DecoderError.{DecoderError}
 use Rattle.rlp.specs.declared.error.DecoderError.TheVariants.{OutOfMemory}
-use Rattle.rlp.specs.Split.{items, payload, split}
-use Rattle.rlp.specs.View.{View, item_views}
-use Rattle.rlp.specs.ValueReading.{GivesSome}
-use Rattle.rlp.specs.ListReading.{GivesEach, ComesTo, FaultsAsList, faulty_in_list, MayLackAsList}
+use Rattle.rlp.specs.Format.Split.{items, payload, split}
+use Rattle.rlp.specs.Views.View.{View, item_views}
+use Rattle.rlp.specs.Values.ValueReading.{GivesSome}
+use Rattle.rlp.specs.Values.ListReading.{GivesEach, ComesTo, FaultsAsList, faulty_in_list, MayLackAsList}
 
 -- the views of the items that bytes begin with, as v is one
 abbrev pub split_views : View → List ℕ → List View

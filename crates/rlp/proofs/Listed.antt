@@ -1,10 +1,10 @@
 -- A list that is opened, and the values appended to it.
 use Rattle.std.proofs.Common.{◌≡◌, ℕ, suc, ◌-◌, ◌||◌, nat_le, Bool, true, false, List, [], ◌∷◌, ◌++◌, length, Some, refl, sym, ◌∙◌, ap, arith, append_assoc, append-nil}
 use Rattle.std.proofs.lemmas.Bool.Decides.{nat_tests}
-use Rattle.rlp.specs.Item.{Item, list_of}
-use Rattle.rlp.specs.Encoding.{encoding, join}
-use Rattle.rlp.specs.Stack.{OpenList, count_around}
-use Rattle.rlp.specs.Stream.{State, list_encoding, add, put_item, with_list, is_list, add_all}
+use Rattle.rlp.specs.Format.Item.{Item, list_of}
+use Rattle.rlp.specs.Format.Encoding.{encoding, join}
+use Rattle.rlp.specs.Streams.Stack.{OpenList, count_around}
+use Rattle.rlp.specs.Streams.Stream.{State, list_encoding, add, put_item, with_list, is_list, add_all}
 use Rattle.rlp.specs.Lemmas.Encodings.{encoding_list}
 
 pub or_true : (b : Bool) → (b || true) ≡ true

@@ -1,10 +1,10 @@
 -- A list of so many items, opened or written at once.
 use Rattle.std.proofs.Common.{◌≡◌, ℕ, zero, suc, ◌<◌, true, List, [], ◌∷◌, Some, refl, sym, ◌∙◌, ap, arith}
-use Rattle.rlp.specs.WrittenHeader.{big_endian, written_header}
-use Rattle.rlp.specs.Item.{list_of}
-use Rattle.rlp.specs.Encoding.{encoding, join_items}
-use Rattle.rlp.specs.Stream.{State, put, count, with_list, with_mark}
-use Rattle.rlp.specs.Calls.{with_list_of}
+use Rattle.rlp.specs.Format.WrittenHeader.{big_endian, written_header}
+use Rattle.rlp.specs.Format.Item.{list_of}
+use Rattle.rlp.specs.Format.Encoding.{encoding, join_items}
+use Rattle.rlp.specs.Streams.Stream.{State, put, count, with_list, with_mark}
+use Rattle.rlp.specs.Streams.Calls.{with_list_of}
 
 empty_list : encoding (list_of []) ≡ 0xc0 ∷ []
 unfolding encoding join_items written_header big_endian

@@ -3,9 +3,9 @@ use Rattle.std.proofs.Common.{◌≡◌, ℕ, ◌<◌, ◌≤◌, ◌⊎◌, inl
 use Rattle.std.proofs.lemmas.Bool.{cond-true, cond-false}
 use Rattle.rlp.specs.declared.error.DecoderError.{DecoderError}
 use Rattle.rlp.specs.declared.error.DecoderError.TheVariants.{OutOfMemory, RlpExpectedToBeList, RlpIncorrectListLen}
-use Rattle.rlp.specs.Split.{begins_as_list, items}
-use Rattle.rlp.specs.View.{View, item_at, item_count}
-use Rattle.rlp.specs.ListReading.{GivesOption, no_value, one_value, FaultsAsOption, no_list, many_items, faulty_item, MayLackAsOption}
+use Rattle.rlp.specs.Format.Split.{begins_as_list, items}
+use Rattle.rlp.specs.Views.View.{View, item_at, item_count}
+use Rattle.rlp.specs.Values.ListReading.{GivesOption, no_value, one_value, FaultsAsOption, no_list, many_items, faulty_item, MayLackAsOption}
 use Rattle.rlp.specs.Lemmas.Numbered.{Numbered, item_there, no_item, numbered}
 
 counted : (v : View) → true ≡ begins_as_list v.bytes → item_count v ≡ Ok (length (items v.bytes))

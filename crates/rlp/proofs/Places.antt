@@ -5,9 +5,9 @@ use Rattle.std.specs.List.{concat}
 use Rattle.rlp.specs.declared.error.DecoderError.{DecoderError}
 use Rattle.rlp.specs.declared.error.DecoderError.TheVariants.{RlpExpectedToBeList}
 use Rattle.rlp.specs.declared.rlpin.header.PayloadInfo.{PayloadInfo}
-use Rattle.rlp.specs.Framing.{fault, fault_in, framing, map_ok, total_len, value}
-use Rattle.rlp.specs.Split.{begins_as_list, items, payload, payload_in, rest, split}
-use Rattle.rlp.specs.View.{View, item_with_place, item_after, item_by}
+use Rattle.rlp.specs.Format.Framing.{fault, fault_in, framing, map_ok, total_len, value}
+use Rattle.rlp.specs.Format.Split.{begins_as_list, items, payload, payload_in, rest, split}
+use Rattle.rlp.specs.Views.View.{View, item_with_place, item_after, item_by}
 use Rattle.rlp.proofs.Splits.{drop-next, drop-inside}
 
 -- the fault of bytes that have none of the headers

@@ -3,10 +3,10 @@ use Rattle.std.proofs.Common.{◌≡◌, ℕ, suc, ◌-◌, ◌<◌, ◌≤◌, 
 use Rattle.std.proofs.lemmas.Bool.{false≢true}
 use Rattle.std.proofs.lemmas.List.{map-append}
 use Rattle.rlp.specs.declared.error.DecoderError.{DecoderError}
-use Rattle.rlp.specs.Framing.{value}
-use Rattle.rlp.specs.Split.{begins_as_list, items, payload, payload_in, split}
-use Rattle.rlp.specs.Text.{error_name, hex, separated, framed_text, text}
-use Rattle.rlp.specs.Depth.{greatest, framed_depth, depth}
+use Rattle.rlp.specs.Format.Framing.{value}
+use Rattle.rlp.specs.Format.Split.{begins_as_list, items, payload, payload_in, split}
+use Rattle.rlp.specs.Views.Text.{error_name, hex, separated, framed_text, text}
+use Rattle.rlp.specs.Views.Depth.{greatest, framed_depth, depth}
 use Rattle.rlp.proofs.Texts.{AllWithinLength, items_short, items_nil, text_is, depth_is}
 
 -- what is written before an item, after these

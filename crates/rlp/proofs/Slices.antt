@@ -4,10 +4,10 @@ use Rattle.std.specs.List.{concat, slice_get}
 use Rattle.std.proofs.lemmas.List.Elements.{All-from_recursion, recursion_from_All}
 use Rattle.rlp.specs.declared.error.DecoderError.{DecoderError}
 use Rattle.rlp.specs.declared.rlpin.header.PayloadInfo.{PayloadInfo}
-use Rattle.rlp.specs.Split.{split, split_within, items, payload, begins_as_list, payload_in}
-use Rattle.rlp.specs.Framing.{value, framing, map_ok}
-use Rattle.rlp.specs.WrittenHeader.{AreBytes}
-use Rattle.rlp.specs.View.{View, view_of, item_at, item_views}
+use Rattle.rlp.specs.Format.Split.{split, split_within, items, payload, begins_as_list, payload_in}
+use Rattle.rlp.specs.Format.Framing.{value, framing, map_ok}
+use Rattle.rlp.specs.Format.WrittenHeader.{AreBytes}
+use Rattle.rlp.specs.Views.View.{View, view_of, item_at, item_views}
 use Rattle.std.proofs.Common.{Bool, true, false, take, drop, length-drop}
 use Rattle.std.proofs.lemmas.List.{length-take}
 use Rattle.rlp.specs.Lemmas.OneReading.{front_bytes, back_bytes}

@@ -2,9 +2,9 @@
 use Rattle.std.proofs.Common.{ℕ, zero, suc, ◌+◌, ◌-◌, ◌<◌, ◌≤◌, ◌≡◌, List, [], ◌∷◌, length, drop, map, Result, Ok, Err, sym, ◌∙◌, ap, arith, length-drop, add-one}
 use Rattle.std.proofs.lemmas.List.{drop_all, drop-map, length-map}
 use Rattle.rlp.specs.declared.error.DecoderError.{DecoderError}
-use Rattle.rlp.specs.Framing.{frame}
-use Rattle.rlp.specs.Split.{split, split_within, frame_and_more, items, payload}
-use Rattle.rlp.specs.View.{View, item_views}
+use Rattle.rlp.specs.Format.Framing.{frame}
+use Rattle.rlp.specs.Format.Split.{split, split_within, frame_and_more, items, payload}
+use Rattle.rlp.specs.Views.View.{View, item_views}
 
 frame_and_more-shorter : (turns : ℕ) (p : List ℕ) (r : Result (List ℕ) DecoderError) → ((q : List ℕ) → length (split_within turns q) ≤ turns) → length (frame_and_more (split_within turns) p r) ≤ suc turns
 frame_and_more-shorter turns p (Err e) below = omega arith

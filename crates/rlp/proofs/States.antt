@@ -3,12 +3,12 @@ use Rattle.std.proofs.Common.{◌≡◌, ℕ, ◌+◌, ◌<◌, ◌^◌, nat_le,
 use Rattle.std.proofs.lemmas.Bool.Decides.{nat_tests}
 use Rattle.std.proofs.lemmas.List.{length-replicate}
 use Rattle.std.proofs.lemmas.List.Concat.{flat_map-append}
-use Rattle.rlp.specs.Item.{Item, string, list}
-use Rattle.rlp.specs.WrittenHeader.{written_header}
-use Rattle.rlp.specs.Encoding.{encoding}
-use Rattle.rlp.specs.Stack.{OpenList, Level, Stack, top_around, levels_around, closed_payload_around, count_around, is_last}
-use Rattle.rlp.specs.Calls.{effect, finalize_unbounded_list, is_within_size}
-use Rattle.rlp.specs.Stream.{State, IsFinished, list_encoding, put, shut, count, with_list, add, put_item, is_list, raw_text, closed_text, closed_size, closed_size_with}
+use Rattle.rlp.specs.Format.Item.{Item, string, list}
+use Rattle.rlp.specs.Format.WrittenHeader.{written_header}
+use Rattle.rlp.specs.Format.Encoding.{encoding}
+use Rattle.rlp.specs.Streams.Stack.{OpenList, Level, Stack, top_around, levels_around, closed_payload_around, count_around, is_last}
+use Rattle.rlp.specs.Streams.Calls.{effect, finalize_unbounded_list, is_within_size}
+use Rattle.rlp.specs.Streams.Stream.{State, IsFinished, list_encoding, put, shut, count, with_list, add, put_item, is_list, raw_text, closed_text, closed_size, closed_size_with}
 
 -- ---- what is closed
 

@@ -6,11 +6,11 @@ use Rattle.std.specs.Int.Digits.{number_from_digits}
 use Rattle.std.proofs.lemmas.Bool.{cond_both}
 use Rattle.rlp.specs.declared.error.DecoderError.{DecoderError}
 use Rattle.rlp.specs.declared.rlpin.header.PayloadInfo.{PayloadInfo}
-use Rattle.rlp.specs.Header.{header, long_header, payload_info}
-use Rattle.rlp.specs.Framing.{framing, framing_in, frame, value, map_ok, total_len}
-use Rattle.rlp.specs.Split.{split, split_within, frame_and_more, begins_as_list, payload, payload_in, items}
-use Rattle.rlp.specs.Text.{text, text_by, text_within, framed_text, separated}
-use Rattle.rlp.specs.Depth.{depth, depth_by, depth_within, framed_depth, greatest}
+use Rattle.rlp.specs.Format.Header.{header, long_header, payload_info}
+use Rattle.rlp.specs.Format.Framing.{framing, framing_in, frame, value, map_ok, total_len}
+use Rattle.rlp.specs.Format.Split.{split, split_within, frame_and_more, begins_as_list, payload, payload_in, items}
+use Rattle.rlp.specs.Views.Text.{text, text_by, text_within, framed_text, separated}
+use Rattle.rlp.specs.Views.Depth.{depth, depth_by, depth_within, framed_depth, greatest}
 
 -- each of the lists has at most n elements
 abbrev pub AllWithinLength : ℕ → List (List ℕ) → Type 0

@@ -3,9 +3,9 @@ use Rattle.std.proofs.Common.{◌≡◌, ℕ, ◌+◌, ◌-◌, ◌<◌, ◌≤�
 use Rattle.std.proofs.lemmas.Bool.{cond-true, cond-false}
 use Rattle.std.proofs.lemmas.List.{drop-set, take-append-le, drop-append-le, take-take, take_at, drop_at, drop_all, length-take-le, take-append-drop, take_all}
 use Rattle.std.specs.Prelude.{slice_set}
-use Rattle.rlp.specs.Item.{string}
-use Rattle.rlp.specs.WrittenHeader.{big_endian, written_header}
-use Rattle.rlp.specs.Encoding.{encoding, is_low_byte}
+use Rattle.rlp.specs.Format.Item.{string}
+use Rattle.rlp.specs.Format.WrittenHeader.{big_endian, written_header}
+use Rattle.rlp.specs.Format.Encoding.{encoding, is_low_byte}
 use Rattle.rlp.specs.Lemmas.Headers.{written_header_short, written_header_long}
 
 -- a string that is its own encoding

@@ -2,12 +2,12 @@
 use Rattle.std.specs.Prelude.{ℕ, suc, ◌≡◌, ◌^◌, ◌<◌, ◌↔◌, ⊤, IsUtf8, IfSome, Bool, List, [], ◌∷◌, length, Ok, Option, refl, ◌+◌}
 use Rattle.std.proofs.Common.{ap}
 use Rattle.rlp.specs.declared.error.DecoderError.{DecoderError}
-use Rattle.rlp.specs.Item.{Item, string, list_of}
-use Rattle.rlp.specs.View.{View, HoldsItem, item_count}
-use Rattle.rlp.specs.Value.{FitsBytes, bit, number_item, option_item}
-use Rattle.rlp.specs.ValueReading.{FaultsAs, FaultsAsBool, FaultsAsBytes, FaultsAsNumber, FaultsAsText, GivesBool, GivesBytes, GivesNumber, GivesSome, GivesText, GivesValue, IsLengthFault}
-use Rattle.rlp.specs.ListReading.{FaultsAsFields, FaultsAsOption, FaultsAt, FaultsInField, GivesAt, GivesOption, MayLackAsOption, MayLackAsStruct}
-use Rattle.rlp.specs.RoundTrip.{ReadsBack}
+use Rattle.rlp.specs.Format.Item.{Item, string, list_of}
+use Rattle.rlp.specs.Views.View.{View, HoldsItem, item_count}
+use Rattle.rlp.specs.Values.Value.{FitsBytes, bit, number_item, option_item}
+use Rattle.rlp.specs.Values.ValueReading.{FaultsAs, FaultsAsBool, FaultsAsBytes, FaultsAsNumber, FaultsAsText, GivesBool, GivesBytes, GivesNumber, GivesSome, GivesText, GivesValue, IsLengthFault}
+use Rattle.rlp.specs.Values.ListReading.{FaultsAsFields, FaultsAsOption, FaultsAt, FaultsInField, GivesAt, GivesOption, MayLackAsOption, MayLackAsStruct}
+use Rattle.rlp.specs.Values.RoundTrip.{ReadsBack}
 use Rattle.rlp.specs.Lemmas.RoundTrips.{bool_reads_back, bytes_in, number_reads_back, reads_back, sound_length, text_in}
 use Rattle.rlp.specs.Lemmas.ListRoundTrips.{option_reads_back}
 use Rattle.rlp.specs.Lemmas.Structs.{HoldsFrom, by_place, first_alike, first_sound, more_alike, more_sound, struct_reads_back}

@@ -1,26 +1,14 @@
-pub mod Item
-pub mod WrittenHeader
-pub mod Encoding
-pub mod Header
-pub mod Framing
-pub mod Split
-pub mod StringReading
-pub mod View
-pub mod Text
-pub mod Depth
-pub mod Value
-pub mod ValueReading
-pub mod ListReading
-pub mod RoundTrip
-pub mod Codec
-pub mod Stack
-pub mod Stream
-pub mod Growth
-pub mod Calls
-pub mod Layout
-pub mod Chain
-pub mod Iterated
-pub mod Described
-pub mod Placeholders
-pub mod Closing
+-- The model, in the order in which it reads. Each folder names its files in that order, with a line on each, and no word stands before its definition.
+
+-- items, and the bytes that they are written as
+pub mod Format
+-- what a view of bytes answers
+pub mod Views
+-- values, their items, and which bytes give them
+pub mod Values
+-- streams: their states, and what each call makes of one
+pub mod Streams
+-- what the laws of traits cite, for authors of laws and types; a reader of definitions can pass it by
 pub mod Lemmas
+-- the item and the readings of a type of one's own, from those of its fields
+pub mod Codec

@@ -62,7 +62,7 @@ impl DecoderError {
 /// change nothing.
 impl fmt::Display for DecoderError {
     ghost use Rattle.std.specs.Prelude.{Some};
-    ghost use Rattle.rlp.specs.Text.{error_name};
+    ghost use Rattle.rlp.specs.Views.Text.{error_name};
 
     ghost output = { λ e. Some (error_name e) };
 

@@ -4,15 +4,15 @@
 ghost use Rattle.std.specs.Prelude.{◌≡◌, ℕ, ◌^◌, ◌<◌, ◌≤◌, ◌+◌, ◌↔◌, ◌⊎◌, List, [], ◌++◌, length, map, All, get_or, take, drop, ◌∷◌, Ok, Err, IsTrue, is_ok};
 ghost use Rattle.std.specs.List.{concat};
 ghost use Rattle.std.specs.Int.Digits.{number_from_digits};
-ghost use Rattle.rlp.specs.Item.{Item, list_of, item_depth};
-ghost use Rattle.rlp.specs.WrittenHeader.{big_endian, written_header, IsBase, AreBytes};
-ghost use Rattle.rlp.specs.Encoding.{encoding, join, IsSized, BeginsWith};
+ghost use Rattle.rlp.specs.Format.Item.{Item, list_of, item_depth};
+ghost use Rattle.rlp.specs.Format.WrittenHeader.{big_endian, written_header, IsBase, AreBytes};
+ghost use Rattle.rlp.specs.Format.Encoding.{encoding, join, IsSized, BeginsWith};
 ghost use Rattle.rlp.specs.declared.error.DecoderError.{DecoderError};
-ghost use Rattle.rlp.specs.Header.{HasHeader, ReadsHeader, header, payload_info};
-ghost use Rattle.rlp.specs.Framing.{IsFramed, IsFramedItem, IsFault, fault, framing, value, frame};
-ghost use Rattle.rlp.specs.Split.{IsCut, IsSplit, split, items, rest};
-ghost use Rattle.rlp.specs.Text.{text, text_by};
-ghost use Rattle.rlp.specs.Depth.{depth, depth_by};
+ghost use Rattle.rlp.specs.Format.Header.{HasHeader, ReadsHeader, header, payload_info};
+ghost use Rattle.rlp.specs.Format.Framing.{IsFramed, IsFramedItem, IsFault, fault, framing, value, frame};
+ghost use Rattle.rlp.specs.Format.Split.{IsCut, IsSplit, split, items, rest};
+ghost use Rattle.rlp.specs.Views.Text.{text, text_by};
+ghost use Rattle.rlp.specs.Views.Depth.{depth, depth_by};
 
 mod described;
 mod reading;

@@ -13,11 +13,11 @@
 #![tactic(auto)]
 
 ghost use Rattle.std.specs.Prelude.{◌≡◌, IfOk, IfErr, OnOk, ◌⊎◌, map, All};
-ghost use Rattle.rlp.specs.Item.{list_of};
-ghost use Rattle.rlp.specs.Encoding.{encoding};
+ghost use Rattle.rlp.specs.Format.Item.{list_of};
+ghost use Rattle.rlp.specs.Format.Encoding.{encoding};
 ghost use Rattle.rlp.specs.declared.error.DecoderError.TheVariants.{OutOfMemory};
-ghost use Rattle.rlp.specs.ListReading.{FaultsAsList, GivesList, MayLackAsList};
-ghost use Rattle.rlp.specs.View.{view_of};
+ghost use Rattle.rlp.specs.Values.ListReading.{FaultsAsList, GivesList, MayLackAsList};
+ghost use Rattle.rlp.specs.Views.View.{view_of};
 
 mod error;
 mod impls;

@@ -1,17 +1,15 @@
 //! Reading: headers, views of bytes, and the items of a view.
 
 mod decoder;
+mod display;
 mod header;
 mod items;
 mod iter;
-mod lists;
-mod nesting;
-mod text;
-mod view;
+mod rlp;
 
 pub use decoder::BasicDecoder;
 pub(crate) use decoder::string_in;
 pub use header::PayloadInfo;
 pub(crate) use header::{number_of, wide_number_of};
 pub use iter::RlpIterator;
-pub use view::{Prototype, Rlp};
+pub use rlp::{Prototype, Rlp};

@@ -4,12 +4,12 @@ ghost use Rattle.std.specs.Prelude.{◌≡◌, ◌≤◌, ◌<◌, ◌+◌, ◌^
 ghost use Rattle.std.specs.Borrow.{sem};
 ghost use Rattle.std.specs.Iterator.{IsFiniteIterable};
 ghost use Rattle.std.specs.Option.{SomeIff};
-ghost use Rattle.rlp.specs.Item.{string, list_of};
-ghost use Rattle.rlp.specs.Stack.{awaited, is_unbounded};
-ghost use Rattle.rlp.specs.Calls.{append, append_empty_data, append_raw, append_raw_checked, begin_list, begin_unbounded_list, finalize_unbounded_list, append_internal, clear, effect, is_admitted, is_within_size};
-ghost use Rattle.rlp.specs.Stream.{initial_state, IsFinished, IsAsBefore, raw_text, closed_size, closed_size_with};
-ghost use Rattle.rlp.specs.Iterated.{GivesAll};
-ghost use Rattle.rlp.specs.Chain.{stays_if_refused, rests_if_refused, HoldsStream, LeavesState, MovesWithin};
+ghost use Rattle.rlp.specs.Format.Item.{string, list_of};
+ghost use Rattle.rlp.specs.Streams.Stack.{awaited, is_unbounded};
+ghost use Rattle.rlp.specs.Streams.Calls.{append, append_empty_data, append_raw, append_raw_checked, begin_list, begin_unbounded_list, finalize_unbounded_list, append_internal, clear, effect, is_admitted, is_within_size};
+ghost use Rattle.rlp.specs.Streams.Stream.{initial_state, IsFinished, IsAsBefore, raw_text, closed_size, closed_size_with};
+ghost use Rattle.rlp.specs.Streams.Iterated.{GivesAll};
+ghost use Rattle.rlp.specs.Streams.Chain.{stays_if_refused, rests_if_refused, HoldsStream, LeavesState, MovesWithin};
 
 mod chain;
 mod closing;
@@ -70,9 +70,9 @@ pub struct RlpStream {
 
 impl Model for RlpStream {
     ghost use Rattle.std.specs.Prelude.{reverse};
-    ghost use Rattle.rlp.specs.Stream.{Seen};
-    ghost use Rattle.rlp.specs.Placeholders.{IsLaid};
-    ghost use Rattle.rlp.specs.Layout.{state_of};
+    ghost use Rattle.rlp.specs.Streams.Stream.{Seen};
+    ghost use Rattle.rlp.specs.Streams.Placeholders.{IsLaid};
+    ghost use Rattle.rlp.specs.Streams.Layout.{state_of};
 
     ghost Value = { Seen };
 

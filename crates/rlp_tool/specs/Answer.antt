@@ -4,8 +4,8 @@ use Rattle.std.specs.List.{starts_with}
 use Rattle.std.specs.Str.Lines.{strip_carriage_return}
 use Rattle.hex.specs.Hex.{decode_of}
 use Rattle.hex.specs.declared.error.FromHexError.{FromHexError}
-use Rattle.rlp.specs.Depth.{depth}
-use Rattle.rlp.specs.Text.{text}
+use Rattle.rlp.specs.Views.Depth.{depth}
+use Rattle.rlp.specs.Views.Text.{text}
 
 -- the most bytes that a line may have, its newline not counted
 abbrev pub longest_line : ℕ

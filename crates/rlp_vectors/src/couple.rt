@@ -1,8 +1,8 @@
 //! Two values as a list, and lists of such lists.
 
 ghost use Rattle.std.specs.Prelude.{◌≡◌, [], ◌∷◌, OnOk, OnErr};
-ghost use Rattle.rlp.specs.Item.{list_of};
-ghost use Rattle.rlp.specs.Stream.{add};
+ghost use Rattle.rlp.specs.Format.Item.{list_of};
+ghost use Rattle.rlp.specs.Streams.Stream.{add};
 
 use rlp::{Encodable, RlpStream};
 use std::alloc::AllocError;

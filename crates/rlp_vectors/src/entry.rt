@@ -2,7 +2,7 @@
 
 ghost use Rattle.std.specs.Prelude.{◌≡◌, IfErr, IfOk};
 ghost use Rattle.rlp.specs.declared.error.DecoderError.TheVariants.{OutOfMemory};
-ghost use Rattle.rlp.specs.Encoding.{BeginsWith, encoding};
+ghost use Rattle.rlp.specs.Format.Encoding.{BeginsWith, encoding};
 ghost use Rattle.rlp_vectors.specs.Entry.{entry};
 
 use rlp::{Decodable, DecoderError, Encodable, Rlp, RlpStream, RoundTrip, laws};

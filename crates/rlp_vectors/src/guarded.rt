@@ -1,7 +1,7 @@
 //! Calls on streams that have a condition, each after the test of it.
 
 ghost use Rattle.std.specs.Prelude.{IsTrue};
-ghost use Rattle.rlp.specs.Stack.{has_room};
+ghost use Rattle.rlp.specs.Streams.Stack.{has_room};
 
 use bytes::BytesMut;
 use rlp::{Chain, RlpStream};

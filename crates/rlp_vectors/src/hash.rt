@@ -1,7 +1,7 @@
 //! A type of one's own of 32 bytes.
 
 ghost use Rattle.std.specs.Prelude.{◌≡◌, length, IfErr, IfOk};
-ghost use Rattle.rlp.specs.ValueReading.{IsLengthFault};
+ghost use Rattle.rlp.specs.Values.ValueReading.{IsLengthFault};
 
 use rlp::{Decodable, DecoderError, Encodable, Rlp, RlpStream, RoundTrip};
 use std::alloc::{AllocError, Global};

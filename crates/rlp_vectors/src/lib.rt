@@ -3,8 +3,8 @@
 #![tactic(auto)]
 
 ghost use Rattle.std.specs.Prelude.{◌≡◌, ◌++◌, ◌⊎◌, OnOk, OnErr, IfOk};
-ghost use Rattle.rlp.specs.Encoding.{encoding};
-ghost use Rattle.rlp.specs.Stream.{add};
+ghost use Rattle.rlp.specs.Format.Encoding.{encoding};
+ghost use Rattle.rlp.specs.Streams.Stream.{add};
 
 use bytes::BytesMut;
 use rlp::{DecoderError, Encodable, Rlp, RlpStream};

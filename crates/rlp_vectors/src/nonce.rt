@@ -9,7 +9,7 @@ pub struct Nonce(pub u64);
 
 /// As a `u64`.
 impl Encodable for Nonce {
-    ghost use Rattle.rlp.specs.Value.{FitsBytes, number_item};
+    ghost use Rattle.rlp.specs.Values.Value.{FitsBytes, number_item};
 
     ghost item = { λ n. number_item n.0 };
 
@@ -22,7 +22,7 @@ impl Encodable for Nonce {
 
 /// As a `u64`.
 impl Decodable for Nonce {
-    ghost use Rattle.rlp.specs.ValueReading.{FaultsAsNumber, GivesNumber};
+    ghost use Rattle.rlp.specs.Values.ValueReading.{FaultsAsNumber, GivesNumber};
 
     ghost gives = { λ v n. GivesNumber 8 v n.0 };
 

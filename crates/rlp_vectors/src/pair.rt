@@ -9,8 +9,8 @@ pub struct Pair(pub u64, pub u64);
 
 impl Encodable for Pair {
     ghost use Rattle.std.specs.Prelude.{[], ◌∷◌};
-    ghost use Rattle.rlp.specs.Item.{list_of};
-    ghost use Rattle.rlp.specs.Value.{FitsBytes, number_item};
+    ghost use Rattle.rlp.specs.Format.Item.{list_of};
+    ghost use Rattle.rlp.specs.Values.Value.{FitsBytes, number_item};
 
     ghost item = { λ p. list_of (number_item p.0 ∷ number_item p.1 ∷ []) };
 

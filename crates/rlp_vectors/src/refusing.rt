@@ -9,7 +9,7 @@ pub struct Refusing;
 
 impl Encodable for Refusing {
     ghost use Rattle.std.specs.Prelude.{⊤, []};
-    ghost use Rattle.rlp.specs.Item.{string};
+    ghost use Rattle.rlp.specs.Format.Item.{string};
 
     ghost item = { λ v. string [] };
 

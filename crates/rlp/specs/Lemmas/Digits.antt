@@ -4,7 +4,7 @@ use Rattle.std.specs.Int.Digits.{digits_of, digits_with_fuel, number_from_digits
 use Rattle.std.proofs.lemmas.Int.Digits.{number_digits_of, first_digits_of, length-digits_of-le, all_below_base_digits_of, digits_of_step}
 use Rattle.std.proofs.lemmas.Nat.{div-mul-add, mod-mul-add}
 use Rattle.std.proofs.lemmas.Bool.{cond-false}
-use Rattle.rlp.specs.WrittenHeader.{big_endian, big_endian_within}
+use Rattle.rlp.specs.Format.WrittenHeader.{big_endian, big_endian_within}
 
 pub big_endian_within_is : (turns n : ℕ) → big_endian_within turns n ≡ digits_with_fuel 256 turns n
 big_endian_within_is zero n = refl

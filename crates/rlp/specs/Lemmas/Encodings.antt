@@ -2,9 +2,9 @@
 use Rattle.std.proofs.Common.{◌≡◌, ℕ, ◌^◌, ◌<◌, ◌≤◌, ◌⊎◌, inl, inr, ⊎_elim, List, [], ◌∷◌, ◌++◌, length, refl, sym, ap, ◌∙◌, arith, true, ltb-true, All, length-append, append_assoc}
 use Rattle.std.proofs.lemmas.Bool.{cases_Bool, cond-true, cond-false}
 use Rattle.std.proofs.lemmas.List.{append_cancel_left}
-use Rattle.rlp.specs.Item.{Item, string, list, Items, no_items, item_and, items_from, listed, list_of}
-use Rattle.rlp.specs.WrittenHeader.{written_header, IsBase}
-use Rattle.rlp.specs.Encoding.{encoding, join, join_items, string_encoding, is_low_byte, IsSized}
+use Rattle.rlp.specs.Format.Item.{Item, string, list, Items, no_items, item_and, items_from, listed, list_of}
+use Rattle.rlp.specs.Format.WrittenHeader.{written_header, IsBase}
+use Rattle.rlp.specs.Format.Encoding.{encoding, join, join_items, string_encoding, is_low_byte, IsSized}
 use Rattle.std.specs.List.{AllByRecursion}
 use Rattle.std.proofs.lemmas.List.Elements.{recursion_from_All}
 use Rattle.rlp.specs.Lemmas.Headers.{shape, written_header_prefix_free}

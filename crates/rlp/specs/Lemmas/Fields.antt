@@ -2,11 +2,11 @@
 use Rattle.std.proofs.Common.{◌≡◌, ◌≢◌, ◌↔◌, ℕ, ◌^◌, ◌<◌, inl, inr, List, [], ◌∷◌, length, sym, ap, ◌∙◌, refl, Ok}
 use Rattle.rlp.specs.declared.error.DecoderError.{DecoderError}
 use Rattle.rlp.specs.declared.error.DecoderError.TheVariants.{RlpIncorrectListLen}
-use Rattle.rlp.specs.Item.{Item, list_of, items_from, listed}
-use Rattle.rlp.specs.Encoding.{encoding, join, IsSized}
-use Rattle.rlp.specs.View.{View, item_count}
-use Rattle.rlp.specs.ListReading.{GivesAt, FaultsAt, FaultsInOrder, FaultsAsFields, no_fields, other_count, faulty_field}
-use Rattle.rlp.specs.RoundTrip.{ReadsBack}
+use Rattle.rlp.specs.Format.Item.{Item, list_of, items_from, listed}
+use Rattle.rlp.specs.Format.Encoding.{encoding, join, IsSized}
+use Rattle.rlp.specs.Views.View.{View, item_count}
+use Rattle.rlp.specs.Values.ListReading.{GivesAt, FaultsAt, FaultsInOrder, FaultsAsFields, no_fields, other_count, faulty_field}
+use Rattle.rlp.specs.Values.RoundTrip.{ReadsBack}
 use Rattle.rlp.specs.Lemmas.Encodings.{encoding_list, small_payload, front_sized}
 use Rattle.rlp.specs.Lemmas.Numbered.{item_count-list, item_at-list_item}
 use Rattle.rlp.specs.Lemmas.ListRoundTrips.{AlwaysReadsBack, item_reads_back, middle_sized}

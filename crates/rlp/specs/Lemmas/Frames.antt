@@ -8,12 +8,12 @@ use Rattle.std.proofs.Math.Seq.{take-append-add}
 use Rattle.rlp.specs.declared.error.DecoderError.{DecoderError}
 use Rattle.rlp.specs.declared.rlpin.header.PayloadInfo.{PayloadInfo}
 use Rattle.rlp.specs.declared.error.DecoderError.TheVariants.{RlpIsTooShort}
-use Rattle.rlp.specs.Item.{Item}
-use Rattle.rlp.specs.WrittenHeader.{written_header, AreBytes}
-use Rattle.rlp.specs.Encoding.{encoding, join, IsSized, BeginsWith}
-use Rattle.rlp.specs.Header.{HasHeader, lone, written, header, ReadsHeader, payload_info}
-use Rattle.rlp.specs.Framing.{IsFramed, IsFramedItem, IsFault, no_header, cut_short, fault, fault_in, framing, framing_in, frame, value, map_ok, total_len}
-use Rattle.rlp.specs.Split.{IsCut, IsSplit, split, split_within, frame_and_more}
+use Rattle.rlp.specs.Format.Item.{Item}
+use Rattle.rlp.specs.Format.WrittenHeader.{written_header, AreBytes}
+use Rattle.rlp.specs.Format.Encoding.{encoding, join, IsSized, BeginsWith}
+use Rattle.rlp.specs.Format.Header.{HasHeader, lone, written, header, ReadsHeader, payload_info}
+use Rattle.rlp.specs.Format.Framing.{IsFramed, IsFramedItem, IsFault, no_header, cut_short, fault, fault_in, framing, framing_in, frame, value, map_ok, total_len}
+use Rattle.rlp.specs.Format.Split.{IsCut, IsSplit, split, split_within, frame_and_more}
 use Rattle.rlp.specs.Lemmas.Reading.{read, header_unique, header_reads}
 use Rattle.rlp.specs.Lemmas.Encodings.{IsForm, form, first_of_header}
 use Rattle.rlp.specs.Lemmas.Lists.{same_front}

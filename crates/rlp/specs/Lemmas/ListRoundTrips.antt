@@ -3,12 +3,12 @@ use Rattle.std.proofs.Common.{◌≡◌, ◌≢◌, ◌↔◌, ℕ, ◌^◌, ◌
 use Rattle.std.proofs.lemmas.List.{length-map}
 use Rattle.rlp.specs.declared.error.DecoderError.{DecoderError}
 use Rattle.rlp.specs.declared.error.DecoderError.TheVariants.{RlpIncorrectListLen}
-use Rattle.rlp.specs.Item.{Item, list_of}
-use Rattle.rlp.specs.Encoding.{BeginsWith, encoding, join, IsSized}
-use Rattle.rlp.specs.Value.{option_item}
-use Rattle.rlp.specs.View.{View, view_of, item_at, item_count}
-use Rattle.rlp.specs.ListReading.{GivesAt, FaultsAt, GivesOption, no_value, one_value, FaultsAsOption, no_list, many_items, faulty_item}
-use Rattle.rlp.specs.RoundTrip.{ReadsBack}
+use Rattle.rlp.specs.Format.Item.{Item, list_of}
+use Rattle.rlp.specs.Format.Encoding.{BeginsWith, encoding, join, IsSized}
+use Rattle.rlp.specs.Values.Value.{option_item}
+use Rattle.rlp.specs.Views.View.{View, view_of, item_at, item_count}
+use Rattle.rlp.specs.Values.ListReading.{GivesAt, FaultsAt, GivesOption, no_value, one_value, FaultsAsOption, no_list, many_items, faulty_item}
+use Rattle.rlp.specs.Values.RoundTrip.{ReadsBack}
 use Rattle.rlp.specs.Lemmas.Encodings.{encoding_list, small_payload, front_sized}
 use Rattle.rlp.specs.Lemmas.Views.{sized_items}
 use Rattle.rlp.specs.Lemmas.Numbered.{item_count-list, item_at-list_item}

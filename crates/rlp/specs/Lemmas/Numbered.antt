@@ -7,13 +7,13 @@ use Rattle.std.proofs.lemmas.Option.{slice_get-map, slice_get_past, slice_get-ge
 use Rattle.rlp.specs.declared.error.DecoderError.{DecoderError}
 use Rattle.rlp.specs.declared.error.DecoderError.TheVariants.{RlpExpectedToBeList}
 use Rattle.rlp.specs.declared.rlpin.header.PayloadInfo.{PayloadInfo}
-use Rattle.rlp.specs.Item.{Item, list_of}
-use Rattle.rlp.specs.Encoding.{BeginsWith, encoding, IsSized}
-use Rattle.rlp.specs.Framing.{fault, framing, map_ok, value}
-use Rattle.rlp.specs.Split.{begins_as_list, items, payload, payload_in, rest, split}
-use Rattle.rlp.specs.View.{View, view_of, item_views, item_count, item_with_place, item_after, item_by, item_at}
-use Rattle.rlp.specs.ValueReading.{GivesValue}
-use Rattle.rlp.specs.ListReading.{GivesEach}
+use Rattle.rlp.specs.Format.Item.{Item, list_of}
+use Rattle.rlp.specs.Format.Encoding.{BeginsWith, encoding, IsSized}
+use Rattle.rlp.specs.Format.Framing.{fault, framing, map_ok, value}
+use Rattle.rlp.specs.Format.Split.{begins_as_list, items, payload, payload_in, rest, split}
+use Rattle.rlp.specs.Views.View.{View, view_of, item_views, item_count, item_with_place, item_after, item_by, item_at}
+use Rattle.rlp.specs.Values.ValueReading.{GivesValue}
+use Rattle.rlp.specs.Values.ListReading.{GivesEach}
 use Rattle.rlp.specs.Lemmas.Views.{items_of_list, list_shape}
 
 -- ---- a view whose items are asked for by number is a framed list

@@ -5,13 +5,13 @@ use Rattle.std.proofs.lemmas.Int.Digits.{number_lt, number_after_append}
 use Rattle.std.proofs.lemmas.List.Elements.{All-from_recursion, recursion_from_All}
 use Rattle.std.proofs.lemmas.Nat.{pow-add}
 use Rattle.std.proofs.Math.Nat.{pow-suc, pow-le-pow_right, lt_of_lt_of_le}
-use Rattle.rlp.specs.WrittenHeader.{big_endian, AreBytes}
-use Rattle.rlp.specs.Value.{FitsBytes}
+use Rattle.rlp.specs.Format.WrittenHeader.{big_endian, AreBytes}
+use Rattle.rlp.specs.Values.Value.{FitsBytes}
 use Rattle.rlp.specs.declared.error.DecoderError.TheVariants.{RlpInvalidIndirection}
-use Rattle.rlp.specs.ValueReading.{IsDigitsFault, too_long, leading_zero, GivesNumber, FaultsAsNumber, no_string, no_value}
+use Rattle.rlp.specs.Values.ValueReading.{IsDigitsFault, too_long, leading_zero, GivesNumber, FaultsAsNumber, no_string, no_value}
 use Rattle.rlp.specs.declared.error.DecoderError.{DecoderError}
-use Rattle.rlp.specs.StringReading.{IsString}
-use Rattle.rlp.specs.View.{View}
+use Rattle.rlp.specs.Format.StringReading.{IsString}
+use Rattle.rlp.specs.Views.View.{View}
 use Rattle.rlp.specs.Lemmas.Reading.{bytes_held}
 use Rattle.rlp.specs.Lemmas.Digits.{big_endian_again, big_endian_zero}
 

@@ -8,14 +8,14 @@ use Rattle.std.proofs.lemmas.List.Elements.{All-from_recursion, recursion_from_A
 use Rattle.std.proofs.lemmas.Str.{IsUtf8-from_is_utf8, is_utf8-from_IsUtf8}
 use Rattle.rlp.specs.declared.error.DecoderError.{DecoderError}
 use Rattle.rlp.specs.declared.error.DecoderError.TheVariants.{RlpIsTooBig, RlpInvalidIndirection, RlpExpectedToBeData}
-use Rattle.rlp.specs.Item.{string}
-use Rattle.rlp.specs.WrittenHeader.{big_endian, written_header, AreBytes}
-use Rattle.rlp.specs.Encoding.{encoding, string_encoding, is_low_byte}
-use Rattle.rlp.specs.StringReading.{IsString, ReadsString, read_string}
-use Rattle.rlp.specs.Value.{FitsBytes, number_item}
-use Rattle.rlp.specs.ValueReading.{GivesValue, FaultsAs, no_string, no_value, GivesNumber, IsDigitsFault, too_long, leading_zero, FaultsAsNumber, GivesBytes, FaultsAsBytes, GivesText, IsTextFault, FaultsAsText, HasOneReading}
-use Rattle.rlp.specs.Text.{error_name}
-use Rattle.rlp.specs.View.{view_of}
+use Rattle.rlp.specs.Format.Item.{string}
+use Rattle.rlp.specs.Format.WrittenHeader.{big_endian, written_header, AreBytes}
+use Rattle.rlp.specs.Format.Encoding.{encoding, string_encoding, is_low_byte}
+use Rattle.rlp.specs.Format.StringReading.{IsString, ReadsString, read_string}
+use Rattle.rlp.specs.Values.Value.{FitsBytes, number_item}
+use Rattle.rlp.specs.Values.ValueReading.{GivesValue, FaultsAs, no_string, no_value, GivesNumber, IsDigitsFault, too_long, leading_zero, FaultsAsNumber, GivesBytes, FaultsAsBytes, GivesText, IsTextFault, FaultsAsText, HasOneReading}
+use Rattle.rlp.specs.Views.Text.{error_name}
+use Rattle.rlp.specs.Views.View.{view_of}
 use Rattle.rlp.specs.Lemmas.Digits.{big_endian_is, big_endian_first, big_endian_zero}
 use Rattle.rlp.specs.Lemmas.Numbers.{pow-bytes, digits_fit, digits_again, none_is_zero}
 use Rattle.rlp.specs.Lemmas.Reading.{Bytes}

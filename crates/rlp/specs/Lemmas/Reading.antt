@@ -10,8 +10,8 @@ use Rattle.std.specs.Int.Digits.{number_from_digits}
 use Rattle.rlp.specs.declared.error.DecoderError.{DecoderError}
 use Rattle.rlp.specs.declared.rlpin.header.PayloadInfo.{PayloadInfo}
 use Rattle.rlp.specs.declared.error.DecoderError.TheVariants.{RlpIsTooShort, RlpDataLenWithZeroPrefix, RlpListLenWithZeroPrefix, RlpInvalidIndirection}
-use Rattle.rlp.specs.WrittenHeader.{big_endian, written_header, IsBase, AreBytes}
-use Rattle.rlp.specs.Header.{HasHeader, lone, written, header, long_header, header_fault, HasNoHeader, announced, ReadsHeader, payload_info}
+use Rattle.rlp.specs.Format.WrittenHeader.{big_endian, written_header, IsBase, AreBytes}
+use Rattle.rlp.specs.Format.Header.{HasHeader, lone, written, header, long_header, header_fault, HasNoHeader, announced, ReadsHeader, payload_info}
 use Rattle.rlp.specs.Lemmas.Digits.{big_endian_value, big_endian_first, big_endian_again}
 use Rattle.rlp.specs.Lemmas.Headers.{shape, Parts, written_header_short, written_header_long}
 

@@ -2,14 +2,14 @@
 use Rattle.std.proofs.Common.{◌≡◌, ◌≢◌, codes, ◌↔◌, ℕ, ◌^◌, ◌<◌, List, length, sym, ap, subst, arith, IsUtf8, Bool, true, false}
 use Rattle.std.specs.Bool.{⊤}
 use Rattle.rlp.specs.declared.error.DecoderError.{DecoderError}
-use Rattle.rlp.specs.Item.{Item, string}
-use Rattle.rlp.specs.Encoding.{BeginsWith, encoding}
-use Rattle.rlp.specs.StringReading.{IsString}
-use Rattle.rlp.specs.Value.{FitsBytes, number_item, bit}
-use Rattle.rlp.specs.WrittenHeader.{big_endian}
-use Rattle.rlp.specs.ValueReading.{GivesValue, FaultsAs, no_string, no_value, GivesNumber, IsDigitsFault, FaultsAsNumber, GivesBytes, FaultsAsBytes, GivesText, IsTextFault, FaultsAsText, IsCustom, GivesBool, FaultsAsBool, no_number, other_number, IsLengthFault, shorter, longer}
-use Rattle.rlp.specs.View.{View}
-use Rattle.rlp.specs.RoundTrip.{ReadsBack}
+use Rattle.rlp.specs.Format.Item.{Item, string}
+use Rattle.rlp.specs.Format.Encoding.{BeginsWith, encoding}
+use Rattle.rlp.specs.Format.StringReading.{IsString}
+use Rattle.rlp.specs.Values.Value.{FitsBytes, number_item, bit}
+use Rattle.rlp.specs.Format.WrittenHeader.{big_endian}
+use Rattle.rlp.specs.Values.ValueReading.{GivesValue, FaultsAs, no_string, no_value, GivesNumber, IsDigitsFault, FaultsAsNumber, GivesBytes, FaultsAsBytes, GivesText, IsTextFault, FaultsAsText, IsCustom, GivesBool, FaultsAsBool, no_number, other_number, IsLengthFault, shorter, longer}
+use Rattle.rlp.specs.Views.View.{View}
+use Rattle.rlp.specs.Values.RoundTrip.{ReadsBack}
 use Rattle.rlp.specs.Lemmas.Digits.{big_endian_same}
 use Rattle.rlp.specs.Lemmas.OneReading.{stands_read, same_string, sound_digits}
 

@@ -7,10 +7,10 @@ use Rattle.std.proofs.lemmas.Bool.Decides.{nat_tests}
 use Rattle.std.proofs.lemmas.List.Elements.{recursion_from_All}
 use Rattle.rlp.specs.declared.error.DecoderError.{DecoderError}
 use Rattle.rlp.specs.declared.error.DecoderError.TheVariants.{RlpIsTooShort, RlpExpectedToBeData, RlpInvalidIndirection, RlpInconsistentLengthAndData, RlpInvalidLength}
-use Rattle.rlp.specs.Item.{string}
-use Rattle.rlp.specs.WrittenHeader.{written_header, AreBytes}
-use Rattle.rlp.specs.Encoding.{encoding, string_encoding, is_low_byte}
-use Rattle.rlp.specs.StringReading.{IsString, HasNoString, ReadsString, short_string, long_value, long_string, read_string, short_string_fault, long_value_fault, long_string_fault, string_fault}
+use Rattle.rlp.specs.Format.Item.{string}
+use Rattle.rlp.specs.Format.WrittenHeader.{written_header, AreBytes}
+use Rattle.rlp.specs.Format.Encoding.{encoding, string_encoding, is_low_byte}
+use Rattle.rlp.specs.Format.StringReading.{IsString, HasNoString, ReadsString, short_string, long_value, long_string, read_string, short_string_fault, long_value_fault, long_string_fault, string_fault}
 use Rattle.rlp.specs.Lemmas.Digits.{big_endian_first, big_endian_value}
 use Rattle.rlp.specs.Lemmas.Headers.{Parts, shape, written_header_short}
 use Rattle.rlp.specs.Lemmas.Encodings.{low_byte, small_payload, front_sized}

@@ -2,11 +2,11 @@
 use Rattle.std.proofs.Common.{◌≡◌, ◌↔◌, ℕ, zero, suc, ◌+◌, ◌^◌, ◌<◌, ◌⊎◌, inl, inr, List, [], ◌∷◌, ◌++◌, length, sym, ap, ◌∙◌, subst, arith, append_assoc, length-append, Ok}
 use Rattle.rlp.specs.declared.error.DecoderError.{DecoderError}
 use Rattle.rlp.specs.declared.error.DecoderError.TheVariants.{OutOfMemory}
-use Rattle.rlp.specs.Item.{Item, list_of}
-use Rattle.rlp.specs.Encoding.{BeginsWith, encoding, join, IsSized}
-use Rattle.rlp.specs.View.{View, view_of, item_at, item_count}
-use Rattle.rlp.specs.ListReading.{FaultsAsFields, no_fields, other_count, faulty_field, FaultsAt, FaultsInField, in_field, GivesAt, GivesBefore, MayLackAsStruct, MayLackAt}
-use Rattle.rlp.specs.RoundTrip.{ReadsBack}
+use Rattle.rlp.specs.Format.Item.{Item, list_of}
+use Rattle.rlp.specs.Format.Encoding.{BeginsWith, encoding, join, IsSized}
+use Rattle.rlp.specs.Views.View.{View, view_of, item_at, item_count}
+use Rattle.rlp.specs.Values.ListReading.{FaultsAsFields, no_fields, other_count, faulty_field, FaultsAt, FaultsInField, in_field, GivesAt, GivesBefore, MayLackAsStruct, MayLackAt}
+use Rattle.rlp.specs.Values.RoundTrip.{ReadsBack}
 use Rattle.rlp.specs.Lemmas.Encodings.{encoding_list, small_payload, front_sized}
 use Rattle.rlp.specs.Lemmas.Numbered.{item_count-list, item_at-list_item}
 use Rattle.rlp.specs.Lemmas.ListRoundTrips.{AlwaysReadsBack, item_reads_back, middle_sized}

@@ -2,12 +2,12 @@
 use Rattle.std.proofs.Common.{◌≡◌, ℕ, zero, suc, ◌+◌, ◌^◌, ◌<◌, ◌≤◌, Bool, true, false, List, [], ◌∷◌, ◌++◌, length, take, drop, map, refl, sym, ap, ◌∙◌, subst, arith, Ok, Err, Result, le-leb, length-append, append_assoc, take_at, drop_at, inr, get_or, le_refl}
 use Rattle.std.proofs.lemmas.List.{drop_all}
 use Rattle.std.specs.List.{concat}
-use Rattle.rlp.specs.Item.{Item, list_of}
-use Rattle.rlp.specs.WrittenHeader.{written_header, AreBytes}
-use Rattle.rlp.specs.Encoding.{encoding, join, IsSized, BeginsWith}
-use Rattle.rlp.specs.Header.{written}
-use Rattle.rlp.specs.Framing.{IsFramed, framing, map_ok, value}
-use Rattle.rlp.specs.Split.{split, split_within, begins_as_list, payload, payload_in, items, rest}
+use Rattle.rlp.specs.Format.Item.{Item, list_of}
+use Rattle.rlp.specs.Format.WrittenHeader.{written_header, AreBytes}
+use Rattle.rlp.specs.Format.Encoding.{encoding, join, IsSized, BeginsWith}
+use Rattle.rlp.specs.Format.Header.{written}
+use Rattle.rlp.specs.Format.Framing.{IsFramed, framing, map_ok, value}
+use Rattle.rlp.specs.Format.Split.{split, split_within, begins_as_list, payload, payload_in, items, rest}
 use Rattle.rlp.specs.declared.error.DecoderError.{DecoderError}
 use Rattle.rlp.specs.declared.rlpin.header.PayloadInfo.{PayloadInfo}
 use Rattle.std.proofs.lemmas.List.Elements.{All-nil, All-take, All-drop}

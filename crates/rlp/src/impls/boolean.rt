@@ -8,7 +8,7 @@ use std::alloc::{AllocError, Global};
 
 impl Encodable for bool {
     ghost use Rattle.std.specs.Prelude.{⊤};
-    ghost use Rattle.rlp.specs.Value.{bit, number_item};
+    ghost use Rattle.rlp.specs.Values.Value.{bit, number_item};
 
     ghost item = { λ b. number_item (bit b) };
 
@@ -23,7 +23,7 @@ impl Encodable for bool {
 /// The number 0 or 1 of one byte; another one is `Custom("invalid boolean value")`. No memory is
 /// taken.
 impl Decodable for bool {
-    ghost use Rattle.rlp.specs.ValueReading.{GivesBool, FaultsAsBool};
+    ghost use Rattle.rlp.specs.Values.ValueReading.{GivesBool, FaultsAsBool};
 
     ghost gives = { GivesBool };
 

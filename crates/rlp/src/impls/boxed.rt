@@ -19,7 +19,7 @@ impl<T: Encodable> Encodable for Box<T> {
 /// What its type reads, in a box.
 impl<T: Decodable> Decodable for Box<T> {
     ghost use Rattle.std.specs.Prelude.{◌⊎◌};
-    ghost use Rattle.rlp.specs.ValueReading.{GivesSome};
+    ghost use Rattle.rlp.specs.Values.ValueReading.{GivesSome};
 
     ghost gives = { λ v b. T.gives v b.value };
 

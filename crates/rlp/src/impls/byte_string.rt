@@ -8,7 +8,7 @@ use std::alloc::{AllocError, Global};
 
 impl Encodable for Vec<u8> {
     ghost use Rattle.std.specs.Prelude.{⊤};
-    ghost use Rattle.rlp.specs.Item.{string};
+    ghost use Rattle.rlp.specs.Format.Item.{string};
 
     ghost item = { λ v. string v.items };
 
@@ -22,7 +22,7 @@ impl Encodable for Vec<u8> {
 
 impl Encodable for &[u8] {
     ghost use Rattle.std.specs.Prelude.{⊤};
-    ghost use Rattle.rlp.specs.Item.{string};
+    ghost use Rattle.rlp.specs.Format.Item.{string};
 
     ghost item = { λ v. string v.now };
 
@@ -36,7 +36,7 @@ impl Encodable for &[u8] {
 
 /// The bytes of a string, by one copy.
 impl Decodable for Vec<u8> {
-    ghost use Rattle.rlp.specs.ValueReading.{GivesBytes, FaultsAsBytes, GivesSome};
+    ghost use Rattle.rlp.specs.Values.ValueReading.{GivesBytes, FaultsAsBytes, GivesSome};
 
     ghost gives = { λ v x. GivesBytes v x.items };
 
@@ -63,7 +63,7 @@ impl RoundTrip for Vec<u8> {
 impl Scalar for Vec<u8> {
     ghost use Rattle.std.specs.Prelude.{⊤};
     ghost use Rattle.std.specs.Vec.{vec_items};
-    ghost use Rattle.rlp.specs.Item.{string};
+    ghost use Rattle.rlp.specs.Format.Item.{string};
     ghost use Rattle.rlp.specs.Lemmas.RoundTrips.{given_through};
 
     ghost exact = { given_through (λ d. ⊤) string vec_items };

@@ -9,7 +9,7 @@ use std::alloc::{AllocError, Global};
 
 impl Encodable for BytesMut {
     ghost use Rattle.std.specs.Prelude.{⊤};
-    ghost use Rattle.rlp.specs.Item.{string};
+    ghost use Rattle.rlp.specs.Format.Item.{string};
 
     ghost item = { λ v. string v.items };
 
@@ -23,7 +23,7 @@ impl Encodable for BytesMut {
 
 /// The bytes of a string, by one copy, as a buffer that grows.
 impl Decodable for BytesMut {
-    ghost use Rattle.rlp.specs.ValueReading.{GivesBytes, FaultsAsBytes, GivesSome};
+    ghost use Rattle.rlp.specs.Values.ValueReading.{GivesBytes, FaultsAsBytes, GivesSome};
 
     ghost gives = { λ v x. GivesBytes v x.items };
 
@@ -48,7 +48,7 @@ impl RoundTrip for BytesMut {
 
 impl Scalar for BytesMut {
     ghost use Rattle.std.specs.Prelude.{⊤};
-    ghost use Rattle.rlp.specs.Item.{string};
+    ghost use Rattle.rlp.specs.Format.Item.{string};
     ghost use Rattle.rlp.specs.Lemmas.RoundTrips.{given_through};
 
     ghost exact = { given_through (λ d. ⊤) string (λ (b : Self). b.items) };

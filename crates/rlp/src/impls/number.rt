@@ -2,9 +2,9 @@
 
 ghost use Rattle.std.specs.Prelude.{◌≡◌, ◌≤◌, ◌<◌, length, Ok, Err, IfOk, IfErr};
 ghost use Rattle.std.specs.Int.Digits.{number_from_digits};
-ghost use Rattle.rlp.specs.WrittenHeader.{big_endian};
-ghost use Rattle.rlp.specs.Value.{FitsBytes};
-ghost use Rattle.rlp.specs.ValueReading.{IsDigitsFault, GivesNumber, FaultsAsNumber};
+ghost use Rattle.rlp.specs.Format.WrittenHeader.{big_endian};
+ghost use Rattle.rlp.specs.Values.Value.{FitsBytes};
+ghost use Rattle.rlp.specs.Values.ValueReading.{IsDigitsFault, GivesNumber, FaultsAsNumber};
 
 use crate::error::DecoderError;
 use crate::rlpin::{Rlp, number_of, string_in, wide_number_of};
@@ -13,7 +13,7 @@ use crate::traits::{Decodable, Encodable, RoundTrip, Scalar};
 use std::alloc::{AllocError, Global};
 
 impl Encodable for u8 {
-    ghost use Rattle.rlp.specs.Value.{number_item, FitsBytes};
+    ghost use Rattle.rlp.specs.Values.Value.{number_item, FitsBytes};
 
     ghost item = { λ v. number_item v };
 
@@ -26,7 +26,7 @@ impl Encodable for u8 {
 
 /// A number of one byte, read as `u64` is.
 impl Decodable for u8 {
-    ghost use Rattle.rlp.specs.ValueReading.{GivesNumber, FaultsAsNumber};
+    ghost use Rattle.rlp.specs.Values.ValueReading.{GivesNumber, FaultsAsNumber};
 
     ghost gives = { λ v n. GivesNumber 1 v n };
 
@@ -55,7 +55,7 @@ impl Scalar for u8 {
 }
 
 impl Encodable for u16 {
-    ghost use Rattle.rlp.specs.Value.{number_item, FitsBytes};
+    ghost use Rattle.rlp.specs.Values.Value.{number_item, FitsBytes};
 
     ghost item = { λ v. number_item v };
 
@@ -68,7 +68,7 @@ impl Encodable for u16 {
 
 /// A number of two bytes, read as `u64` is.
 impl Decodable for u16 {
-    ghost use Rattle.rlp.specs.ValueReading.{GivesNumber, FaultsAsNumber};
+    ghost use Rattle.rlp.specs.Values.ValueReading.{GivesNumber, FaultsAsNumber};
 
     ghost gives = { λ v n. GivesNumber 2 v n };
 
@@ -97,7 +97,7 @@ impl Scalar for u16 {
 }
 
 impl Encodable for u32 {
-    ghost use Rattle.rlp.specs.Value.{number_item, FitsBytes};
+    ghost use Rattle.rlp.specs.Values.Value.{number_item, FitsBytes};
 
     ghost item = { λ v. number_item v };
 
@@ -110,7 +110,7 @@ impl Encodable for u32 {
 
 /// A number of four bytes, read as `u64` is.
 impl Decodable for u32 {
-    ghost use Rattle.rlp.specs.ValueReading.{GivesNumber, FaultsAsNumber};
+    ghost use Rattle.rlp.specs.Values.ValueReading.{GivesNumber, FaultsAsNumber};
 
     ghost gives = { λ v n. GivesNumber 4 v n };
 
@@ -139,7 +139,7 @@ impl Scalar for u32 {
 }
 
 impl Encodable for u64 {
-    ghost use Rattle.rlp.specs.Value.{number_item, FitsBytes};
+    ghost use Rattle.rlp.specs.Values.Value.{number_item, FitsBytes};
 
     ghost item = { λ v. number_item v };
 
@@ -158,7 +158,7 @@ impl Encodable for u64 {
 /// A string of more bytes is `RlpIsTooBig`, and one that begins with a zero byte
 /// `RlpInvalidIndirection`: zero is the empty string.
 impl Decodable for u64 {
-    ghost use Rattle.rlp.specs.ValueReading.{GivesNumber, FaultsAsNumber};
+    ghost use Rattle.rlp.specs.Values.ValueReading.{GivesNumber, FaultsAsNumber};
 
     ghost gives = { λ v n. GivesNumber 8 v n };
 
@@ -187,7 +187,7 @@ impl Scalar for u64 {
 }
 
 impl Encodable for usize {
-    ghost use Rattle.rlp.specs.Value.{number_item, FitsBytes};
+    ghost use Rattle.rlp.specs.Values.Value.{number_item, FitsBytes};
 
     ghost item = { λ v. number_item v };
 
@@ -200,7 +200,7 @@ impl Encodable for usize {
 
 /// As `u64`.
 impl Decodable for usize {
-    ghost use Rattle.rlp.specs.ValueReading.{GivesNumber, FaultsAsNumber};
+    ghost use Rattle.rlp.specs.Values.ValueReading.{GivesNumber, FaultsAsNumber};
 
     ghost gives = { λ v n. GivesNumber 8 v n };
 
@@ -229,7 +229,7 @@ impl Scalar for usize {
 }
 
 impl Encodable for u128 {
-    ghost use Rattle.rlp.specs.Value.{number_item, FitsBytes};
+    ghost use Rattle.rlp.specs.Values.Value.{number_item, FitsBytes};
 
     ghost item = { λ v. number_item v };
 
@@ -245,7 +245,7 @@ impl Encodable for u128 {
 
 /// A number of at most sixteen bytes, read as `u64` is.
 impl Decodable for u128 {
-    ghost use Rattle.rlp.specs.ValueReading.{GivesNumber, FaultsAsNumber};
+    ghost use Rattle.rlp.specs.Values.ValueReading.{GivesNumber, FaultsAsNumber};
 
     ghost gives = { λ v n. GivesNumber 16 v n };
 

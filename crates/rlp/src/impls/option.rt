@@ -1,8 +1,8 @@
 //! Options: the list of no items, or of one.
 
 ghost use Rattle.std.specs.Prelude.{IfSome};
-ghost use Rattle.rlp.specs.Value.{option_item};
-ghost use Rattle.rlp.specs.ListReading.{GivesOption, FaultsAsOption, MayLackAsOption};
+ghost use Rattle.rlp.specs.Values.Value.{option_item};
+ghost use Rattle.rlp.specs.Values.ListReading.{GivesOption, FaultsAsOption, MayLackAsOption};
 
 use crate::error::DecoderError;
 use crate::rlpin::Rlp;

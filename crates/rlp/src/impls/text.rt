@@ -9,7 +9,7 @@ use std::alloc::{AllocError, Global};
 impl Encodable for String {
     ghost use Rattle.std.specs.Prelude.{IsUtf8};
     ghost use Rattle.std.specs.String.{string_bytes};
-    ghost use Rattle.rlp.specs.Item.{string};
+    ghost use Rattle.rlp.specs.Format.Item.{string};
 
     ghost item = { λ v. string (string_bytes v) };
 
@@ -23,7 +23,7 @@ impl Encodable for String {
 
 impl Encodable for &str {
     ghost use Rattle.std.specs.Prelude.{IsUtf8};
-    ghost use Rattle.rlp.specs.Item.{string};
+    ghost use Rattle.rlp.specs.Format.Item.{string};
 
     ghost item = { λ v. string v.now };
 
@@ -38,7 +38,7 @@ impl Encodable for &str {
 /// The text of a string, by one copy. Bytes that aren't UTF-8 are `RlpExpectedToBeData`.
 impl Decodable for String {
     ghost use Rattle.std.specs.String.{string_bytes};
-    ghost use Rattle.rlp.specs.ValueReading.{GivesText, FaultsAsText, GivesSome};
+    ghost use Rattle.rlp.specs.Values.ValueReading.{GivesText, FaultsAsText, GivesSome};
 
     ghost gives = { λ v x. GivesText v (string_bytes x) };
 
@@ -69,7 +69,7 @@ impl RoundTrip for String {
 impl Scalar for String {
     ghost use Rattle.std.specs.Prelude.{IsUtf8};
     ghost use Rattle.std.specs.String.{string_bytes};
-    ghost use Rattle.rlp.specs.Item.{string};
+    ghost use Rattle.rlp.specs.Format.Item.{string};
     ghost use Rattle.rlp.specs.Lemmas.RoundTrips.{given_through};
 
     ghost exact = { given_through IsUtf8 string string_bytes };

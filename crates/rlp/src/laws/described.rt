@@ -1,12 +1,12 @@
 //! Laws over the items that a stream's calls describe.
 
 ghost use Rattle.std.specs.Prelude.{◌≡◌, ℕ, List, [], All, Ok};
-ghost use Rattle.rlp.specs.Item.{Item};
-ghost use Rattle.rlp.specs.Encoding.{join, IsSized};
-ghost use Rattle.rlp.specs.Stack.{empty_stack};
-ghost use Rattle.rlp.specs.Stream.{State, initial_state};
-ghost use Rattle.rlp.specs.Calls.{Call, after};
-ghost use Rattle.rlp.specs.Described.{Step, AreDescribed, IsDescribed, items_after_all, joined_stack};
+ghost use Rattle.rlp.specs.Format.Item.{Item};
+ghost use Rattle.rlp.specs.Format.Encoding.{join, IsSized};
+ghost use Rattle.rlp.specs.Streams.Stack.{empty_stack};
+ghost use Rattle.rlp.specs.Streams.Stream.{State, initial_state};
+ghost use Rattle.rlp.specs.Streams.Calls.{Call, after};
+ghost use Rattle.rlp.specs.Streams.Described.{Step, AreDescribed, IsDescribed, items_after_all, joined_stack};
 
 /// Calls that describe items are admitted, and each payload that they leave is the join of the
 /// items that stand there. With no list left open that is the front, and the join of the items

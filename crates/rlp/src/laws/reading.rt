@@ -1,13 +1,13 @@
 //! What is read from the front of bytes: strings, numbers, byte strings and text.
 
 ghost use Rattle.std.specs.Prelude.{◌≡◌, ◌<◌, ◌^◌, ℕ, List, Ok, length};
-ghost use Rattle.rlp.specs.Item.{string};
-ghost use Rattle.rlp.specs.StringReading.{IsString, ReadsString, read_string};
-ghost use Rattle.rlp.specs.ValueReading.{GivesNumber, FaultsAsNumber, GivesBytes, FaultsAsBytes, GivesText, FaultsAsText, GivesBool, FaultsAsBool, HasOneReading};
-ghost use Rattle.rlp.specs.Value.{bit, number_item, option_item};
-ghost use Rattle.rlp.specs.View.{View, view_of};
-ghost use Rattle.rlp.specs.ListReading.{GivesOption, FaultsAsOption};
-ghost use Rattle.rlp.specs.WrittenHeader.{AreBytes};
+ghost use Rattle.rlp.specs.Format.Item.{string};
+ghost use Rattle.rlp.specs.Format.StringReading.{IsString, ReadsString, read_string};
+ghost use Rattle.rlp.specs.Values.ValueReading.{GivesNumber, FaultsAsNumber, GivesBytes, FaultsAsBytes, GivesText, FaultsAsText, GivesBool, FaultsAsBool, HasOneReading};
+ghost use Rattle.rlp.specs.Values.Value.{bit, number_item, option_item};
+ghost use Rattle.rlp.specs.Views.View.{View, view_of};
+ghost use Rattle.rlp.specs.Values.ListReading.{GivesOption, FaultsAsOption};
+ghost use Rattle.rlp.specs.Format.WrittenHeader.{AreBytes};
 
 use crate::traits::{Decodable, Encodable};
 

@@ -2,13 +2,13 @@
 
 ghost use Rattle.std.specs.Prelude.{◌≡◌, ◌↔◌, ◌++◌, ◌∷◌, ℕ, List, All, IfErr, IfOk, IsOkAnd, length, map};
 ghost use Rattle.rlp.specs.declared.error.DecoderError.TheVariants.{OutOfMemory};
-ghost use Rattle.rlp.specs.Encoding.{BeginsWith, encoding};
-ghost use Rattle.rlp.specs.Item.{list_of};
-ghost use Rattle.rlp.specs.ListReading.{FaultsAt, GivesAt, MayLackAsList};
-ghost use Rattle.rlp.specs.RoundTrip.{ReadsBack};
-ghost use Rattle.rlp.specs.Split.{items};
-ghost use Rattle.rlp.specs.Value.{AreAlike};
-ghost use Rattle.rlp.specs.View.{view_of};
+ghost use Rattle.rlp.specs.Format.Encoding.{BeginsWith, encoding};
+ghost use Rattle.rlp.specs.Format.Item.{list_of};
+ghost use Rattle.rlp.specs.Values.ListReading.{FaultsAt, GivesAt, MayLackAsList};
+ghost use Rattle.rlp.specs.Values.RoundTrip.{ReadsBack};
+ghost use Rattle.rlp.specs.Format.Split.{items};
+ghost use Rattle.rlp.specs.Values.Value.{AreAlike};
+ghost use Rattle.rlp.specs.Views.View.{view_of};
 
 use crate::error::DecoderError;
 use crate::traits::{RoundTrip, Scalar};

@@ -1,12 +1,12 @@
 //! Laws over the state of a stream.
 
 ghost use Rattle.std.specs.Prelude.{◌≡◌, ℕ, List, [], ◌∷◌, ◌++◌, ◌+◌, length, Option};
-ghost use Rattle.rlp.specs.Item.{Item, string, list_of};
-ghost use Rattle.rlp.specs.Encoding.{encoding};
-ghost use Rattle.rlp.specs.Stream.{State, IsFinished, put, shut, count, with_list, add, put_item, is_list, raw_text, closed_text, closed_size, closed_size_with};
-ghost use Rattle.rlp.specs.Stack.{AllAwait};
-ghost use Rattle.rlp.specs.Calls.{Call, effect};
-ghost use Rattle.rlp.specs.Growth.{GrowsTo};
+ghost use Rattle.rlp.specs.Format.Item.{Item, string, list_of};
+ghost use Rattle.rlp.specs.Format.Encoding.{encoding};
+ghost use Rattle.rlp.specs.Streams.Stream.{State, IsFinished, put, shut, count, with_list, add, put_item, is_list, raw_text, closed_text, closed_size, closed_size_with};
+ghost use Rattle.rlp.specs.Streams.Stack.{AllAwait};
+ghost use Rattle.rlp.specs.Streams.Calls.{Call, effect};
+ghost use Rattle.rlp.specs.Streams.Growth.{GrowsTo};
 
 use crate::{EMPTY_LIST_RLP, NULL_RLP};
 

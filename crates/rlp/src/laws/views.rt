@@ -1,12 +1,12 @@
 //! What a view answers of the items of a list, and of the encodings of values in a list.
 
 ghost use Rattle.std.specs.Prelude.{◌≡◌, ◌≤◌, ◌↔◌, ◌++◌, ◌∷◌, ℕ, List, All, IsUtf8, Ok, Some, length, map, slice_get};
-ghost use Rattle.rlp.specs.Item.{Item, list_of, string};
-ghost use Rattle.rlp.specs.Encoding.{BeginsWith, encoding};
-ghost use Rattle.rlp.specs.Value.{FitsBytes, number_item};
-ghost use Rattle.rlp.specs.ValueReading.{GivesBytes, GivesNumber, GivesText};
-ghost use Rattle.rlp.specs.ListReading.{GivesEach};
-ghost use Rattle.rlp.specs.View.{View, item_at, item_count, item_views, view_of};
+ghost use Rattle.rlp.specs.Format.Item.{Item, list_of, string};
+ghost use Rattle.rlp.specs.Format.Encoding.{BeginsWith, encoding};
+ghost use Rattle.rlp.specs.Values.Value.{FitsBytes, number_item};
+ghost use Rattle.rlp.specs.Values.ValueReading.{GivesBytes, GivesNumber, GivesText};
+ghost use Rattle.rlp.specs.Values.ListReading.{GivesEach};
+ghost use Rattle.rlp.specs.Views.View.{View, item_at, item_count, item_views, view_of};
 
 /// The item by number is the one in that place among the items in order, and past the last item
 /// every number has the same fault.

@@ -1,16 +1,12 @@
 //! A decoder of one string.
 
-ghost use Rattle.std.specs.Prelude.{◌≡◌, ◌≤◌, length, Ok, Err, IfOk, IfErr, IsErrAnd, MatchResult, ◌⊎◌};
+ghost use Rattle.std.specs.Prelude.{◌≡◌, ◌≤◌, length, Ok, Err, IfOk, IfErr, IsErrAnd, MatchResult};
 ghost use Rattle.std.specs.Fn.{FnReturnsAt};
-ghost use Rattle.rlp.specs.declared.error.DecoderError.TheVariants.{OutOfMemory};
-ghost use Rattle.rlp.specs.StringReading.{ReadsString, read_string, short_string, long_string, long_value};
-ghost use Rattle.rlp.specs.View.{HoldsNoString, HoldsString, view_of, view_string};
+ghost use Rattle.rlp.specs.Format.StringReading.{ReadsString, read_string, short_string, long_string, long_value};
+ghost use Rattle.rlp.specs.Views.View.{HoldsNoString, HoldsString, view_of, view_string};
 
 use crate::error::DecoderError;
 use crate::rlpin::header::number_of;
-use crate::rlpin::view::Rlp;
-use crate::traits::Decodable;
-use std::alloc::Global;
 use std::marker::Model;
 
 /// A decoder of the string at the front of bytes. Contracts see it as the record `View` of its
@@ -21,7 +17,7 @@ pub struct BasicDecoder<'a> {
 }
 
 impl<'a> Model for BasicDecoder<'a> {
-    ghost use Rattle.rlp.specs.View.{View};
+    ghost use Rattle.rlp.specs.Views.View.{View};
 
     ghost Value = { View };
 
@@ -67,24 +63,6 @@ impl<'a> BasicDecoder<'a> {
     }
 }
 
-impl<'a> Rlp<'a> {
-    /// A decoder of the view's bytes.
-    pub fn decoder(&self) -> BasicDecoder<'a>
-        ensures { result ≡ self.now }
-    {
-        BasicDecoder::new(self.as_raw())
-    }
-
-    /// The value that the view begins with, as its type reads it: [`Decodable::decode`].
-    pub fn as_val<T: Decodable>(&self, alloc: Global) -> Result<T, DecoderError>
-        ensures value { IfOk result (λ v. T.gives self.now v) }
-        ensures fault { IfErr result (λ e. (T.faults self.now e) ⊎ ((e ≡ OutOfMemory)
-            × T.may_lack_memory self.now)) }
-    {
-        T::decode(alloc, self)
-    }
-}
-
 /// The string at the front of the bytes, without its header.
 pub(crate) fn string_in(bytes: &[u8]) -> Result<&[u8], DecoderError>
     ensures exact { MatchResult result (λ d. read_string bytes.now ≡ Ok d.now)
@@ -95,7 +73,7 @@ pub(crate) fn string_in(bytes: &[u8]) -> Result<&[u8], DecoderError>
 }
 
 /// The string, by the table of first bytes.
-#[tactic(auto, using(crate::specs::Lemmas::Strings::first_bytes), unfolding(crate::specs::StringReading::read_string))]
+#[tactic(auto, using(crate::specs::Lemmas::Strings::first_bytes), unfolding(crate::specs::Format::StringReading::read_string))]
 fn by_first_byte(bytes: &[u8]) -> Result<&[u8], DecoderError>
     ensures { MatchResult result (λ d. read_string bytes.now ≡ Ok d.now)
         (λ e. read_string bytes.now ≡ Err e) }

@@ -3,8 +3,8 @@
 ghost use Rattle.std.specs.Prelude.{◌≡◌, ◌+◌, ◌<◌, ◌≤◌, ◌^◌, length, IfOk};
 ghost use Rattle.std.specs.Option.{SomeIff};
 ghost use Rattle.std.specs.Int.Digits.{number_from_digits};
-ghost use Rattle.rlp.specs.Header.{ReadsHeader, header, long_header};
-ghost use Rattle.rlp.specs.Framing.{framing, total_len};
+ghost use Rattle.rlp.specs.Format.Header.{ReadsHeader, header, long_header};
+ghost use Rattle.rlp.specs.Format.Framing.{framing, total_len};
 
 use crate::error::DecoderError;
 
@@ -50,7 +50,7 @@ impl PayloadInfo {
 
 /// The header, by the table of first bytes.
 #[inline(always)]
-#[tactic(auto, using(crate::specs::Lemmas::Reading::rows), unfolding(crate::specs::Header::header))]
+#[tactic(auto, using(crate::specs::Lemmas::Reading::rows), unfolding(crate::specs::Format::Header::header))]
 fn by_first_byte(bytes: &[u8]) -> Result<PayloadInfo, DecoderError>
     ensures { result ≡ header bytes.now }
 {
@@ -135,7 +135,7 @@ pub(crate) fn wide_number_of(digits: &[u8]) -> u128
 
 /// The header of framed bytes, or why they aren't framed.
 #[inline(always)]
-#[tactic(auto, unfolding(crate::specs::Framing::framing))]
+#[tactic(auto, unfolding(crate::specs::Format::Framing::framing))]
 pub(crate) fn framing_of(bytes: &[u8]) -> Result<PayloadInfo, DecoderError>
     ensures exact { result ≡ framing bytes.now }
     ensures within { IfOk result (λ p. (0 < total_len p) × (total_len p ≤ length bytes.now)) }

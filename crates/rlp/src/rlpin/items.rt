@@ -1,14 +1,11 @@
-//! The step from item to item, by which every walk over a list goes, and what a view answers by
-//! walking.
+//! The step from item to item, by which every walk over a list goes.
 
 ghost use Rattle.std.specs.Prelude.{◌≡◌, ◌∷◌, ◌++◌, [], ◌<◌, length, IfSome, MatchOption, MatchResult};
-ghost use Rattle.rlp.specs.Framing.{fault};
-ghost use Rattle.rlp.specs.Split.{split};
-ghost use Rattle.rlp.specs.View.{item_at, item_count, item_with_place};
+ghost use Rattle.rlp.specs.Format.Framing.{fault};
+ghost use Rattle.rlp.specs.Format.Split.{split};
 
 use crate::error::DecoderError;
 use crate::rlpin::header::framing_of;
-use crate::rlpin::view::Rlp;
 
 /// The first item of a payload and the bytes after it, or why no item stands there.
 #[inline(always)]
@@ -51,54 +48,4 @@ pub(crate) fn count_items(payload: &[u8]) -> usize
         rest = others;
     }
     count
-}
-
-impl<'a> Rlp<'a> {
-    /// How many items the list has that the view begins with.
-    ///
-    /// `RlpExpectedToBeList` where there is no byte or the first is one of a string. A list that
-    /// isn't framed has no items.
-    #[tactic(auto, unfolding(crate::specs::View::item_count, crate::specs::Split::items))]
-    pub fn item_count(&self) -> Result<usize, DecoderError>
-        ensures { result ≡ item_count self.now }
-    {
-        if !self.is_list() {
-            return Err(DecoderError::RlpExpectedToBeList);
-        }
-        Ok(count_items(self.payload()))
-    }
-
-    /// The item at `index`, counted from 0.
-    ///
-    /// The faults are those of [`Rlp::at_with_offset`].
-    pub fn at(&self, index: usize) -> Result<Rlp<'a>, DecoderError>
-        ensures { result ≡ item_at self.now index }
-    {
-        let (item, _) = self.at_with_offset(index)?;
-        Ok(item)
-    }
-
-    /// The item at `index`, counted from 0, and its place, counted from the view's first byte.
-    ///
-    /// `RlpExpectedToBeList` where there is no byte or the first is one of a string; then the fault
-    /// of [`Rlp::payload_info`] where the list isn't framed; then, past the last item, the fault of
-    /// the bytes that follow the items in the list, which is `RlpIsTooShort` where none do. It
-    /// reads the list's header and at most `index + 1` more.
-    pub fn at_with_offset(&self, index: usize) -> Result<(Rlp<'a>, usize), DecoderError>
-        ensures { result ≡ item_with_place self.now index }
-    {
-        if !self.is_list() {
-            return Err(DecoderError::RlpExpectedToBeList);
-        }
-        let info = framing_of(self.as_raw())?;
-        let after_header = &self.as_raw()[info.header_len..];
-        let mut rest = &after_header[..info.value_len];
-        for _walked in 0..index {
-            let (_, others) = take_item(rest)?;
-            rest = others;
-        }
-        let (item, others) = take_item(rest)?;
-        let before = info.value_len - others.len() - item.len();
-        Ok((Rlp::new(item), info.header_len + before))
-    }
 }

@@ -1,34 +1,13 @@
 //! The items of a view, one by one.
 
-ghost use Rattle.std.specs.Prelude.{◌≡◌, ◌<◌, ◌^◌, length, IfSome, Some};
+ghost use Rattle.std.specs.Prelude.{◌≡◌, length, IfSome, Some};
 ghost use Rattle.std.specs.Iterator.{YieldsFirst, item_count, UpTo, at_most};
 ghost use Rattle.std.specs.Iterator.SizeHint.{IsWithinCount};
-ghost use Rattle.rlp.specs.View.{item_views};
+ghost use Rattle.rlp.specs.Views.View.{item_views};
 
 use crate::rlpin::items::{count_items, split_first};
-use crate::rlpin::view::Rlp;
+use crate::rlpin::rlp::Rlp;
 use std::marker::Model;
-
-impl<'a> Rlp<'a> {
-    /// The items of the list that the view begins with, in order, as views.
-    ///
-    /// Anything but a framed list has none. They end where the list's value does, or before it at
-    /// the first bytes that aren't framed. The items outlive the view.
-    ///
-    /// ```rust
-    /// let list = rlp::Rlp::new(&[0xc2, 0x05, 0x06]);
-    /// for item in list.iter() {
-    ///     assert_eq!(rt; item.as_raw().len(), 1);
-    /// }
-    /// ```
-    pub fn iter<'view>(&'view self) -> RlpIterator<'a, 'view>
-        ensures items { result.left ≡ item_views self.now }
-        ensures few { length result.left < 2 ^ 64 }
-    {
-        let _most = self.payload().len();
-        self.into_iter()
-    }
-}
 
 /// The items of a view, in order. Contracts see it as the record `Remaining` of the views that it
 /// has still to give.
@@ -41,8 +20,8 @@ pub struct RlpIterator<'a, 'view> {
 
 impl<'a, 'view> Model for RlpIterator<'a, 'view> {
     ghost use Rattle.std.specs.Prelude.{map};
-    ghost use Rattle.rlp.specs.Split.{split};
-    ghost use Rattle.rlp.specs.View.{Remaining};
+    ghost use Rattle.rlp.specs.Format.Split.{split};
+    ghost use Rattle.rlp.specs.Views.View.{Remaining};
 
     ghost Value = { Remaining };
 
@@ -101,7 +80,7 @@ impl<'a, 'view> IntoIterator for &'view Rlp<'a> {
 
     ghost into_iter_gives = { λ r i. i.left ≡ item_views r.now };
 
-    #[tactic(auto, unfolding(crate::specs::Split::items))]
+    #[tactic(auto, unfolding(crate::specs::Format::Split::items))]
     fn into_iter(self) -> RlpIterator<'a, 'view> {
         RlpIterator {
             rlp: self,

@@ -3,11 +3,11 @@
 ghost use Rattle.std.specs.Prelude.{◌≡◌, ◌≤◌, ℕ, List, IsTrue, IsOk, IfOk, OnOk, length, map, All};
 ghost use Rattle.std.specs.Borrow.{sem};
 ghost use Rattle.std.specs.Iterator.{IsFiniteIterable};
-ghost use Rattle.rlp.specs.Item.{string, list_of};
-ghost use Rattle.rlp.specs.Calls.{append, append_empty_data, append_raw, append_internal, begin_list, begin_unbounded_list, effect, is_admitted};
-ghost use Rattle.rlp.specs.Stream.{IsFinished};
-ghost use Rattle.rlp.specs.Iterated.{GivesAll};
-ghost use Rattle.rlp.specs.Chain.{stays_if_refused, rests_if_refused, HoldsStream, LeavesState, MovesWithin};
+ghost use Rattle.rlp.specs.Format.Item.{string, list_of};
+ghost use Rattle.rlp.specs.Streams.Calls.{append, append_empty_data, append_raw, append_internal, begin_list, begin_unbounded_list, effect, is_admitted};
+ghost use Rattle.rlp.specs.Streams.Stream.{IsFinished};
+ghost use Rattle.rlp.specs.Streams.Iterated.{GivesAll};
+ghost use Rattle.rlp.specs.Streams.Chain.{stays_if_refused, rests_if_refused, HoldsStream, LeavesState, MovesWithin};
 
 use crate::stream::RlpStream;
 use crate::traits::Encodable;

@@ -2,9 +2,9 @@
 
 ghost use Rattle.std.specs.Prelude.{◌≡◌, ◌+◌, ◌*◌, ◌^◌, ◌<◌, ◌≤◌, nat_lt, [], ◌++◌, length, take, drop, reverse, OnOk, OnErr, IfOk};
 ghost use Rattle.std.specs.Option.{SomeIff};
-ghost use Rattle.rlp.specs.Stack.{is_last};
-ghost use Rattle.rlp.specs.Placeholders.{Descends};
-ghost use Rattle.rlp.specs.Closing.{filled, counted, closed_bytes, closed_len, growth, left_of};
+ghost use Rattle.rlp.specs.Streams.Stack.{is_last};
+ghost use Rattle.rlp.specs.Streams.Placeholders.{Descends};
+ghost use Rattle.rlp.specs.Streams.Closing.{filled, counted, closed_bytes, closed_len, growth, left_of};
 
 use crate::stream::header::{list_header, list_header_len};
 use crate::stream::moved::Moved;

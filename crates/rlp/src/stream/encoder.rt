@@ -2,11 +2,11 @@
 
 ghost use Rattle.std.specs.Prelude.{◌≡◌, ◌<◌, ℕ, List, OnOk, OnErr, length};
 ghost use Rattle.std.specs.Iterator.{IsFiniteIterable};
-ghost use Rattle.rlp.specs.Item.{string};
-ghost use Rattle.rlp.specs.Encoding.{encoding};
-ghost use Rattle.rlp.specs.Calls.{effect, encode_value};
-ghost use Rattle.rlp.specs.Stream.{IsAsBefore};
-ghost use Rattle.rlp.specs.Iterated.{GivesAll};
+ghost use Rattle.rlp.specs.Format.Item.{string};
+ghost use Rattle.rlp.specs.Format.Encoding.{encoding};
+ghost use Rattle.rlp.specs.Streams.Calls.{effect, encode_value};
+ghost use Rattle.rlp.specs.Streams.Stream.{IsAsBefore};
+ghost use Rattle.rlp.specs.Streams.Iterated.{GivesAll};
 
 use crate::stream::RlpStream;
 use std::alloc::AllocError;

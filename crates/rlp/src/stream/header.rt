@@ -2,7 +2,7 @@
 
 ghost use Rattle.std.specs.Prelude.{◌≡◌, ◌+◌, ◌<◌, ◌≤◌, length, drop};
 ghost use Rattle.std.specs.Int.{w64, w128, to_be_bytes};
-ghost use Rattle.rlp.specs.WrittenHeader.{big_endian, written_header};
+ghost use Rattle.rlp.specs.Format.WrittenHeader.{big_endian, written_header};
 
 use std::marker::Model;
 

@@ -1,7 +1,7 @@
 //! The list of some values.
 
 ghost use Rattle.std.specs.Prelude.{map, All};
-ghost use Rattle.rlp.specs.Item.{list_of};
+ghost use Rattle.rlp.specs.Format.Item.{list_of};
 
 use crate::stream::RlpStream;
 use crate::traits::Encodable;

@@ -1,8 +1,8 @@
 //! The open lists of a stream, as it keeps them: in the order in which they were opened.
 
 ghost use Rattle.std.specs.Prelude.{◌≡◌, reverse, take};
-ghost use Rattle.rlp.specs.Stack.{awaits_after};
-ghost use Rattle.rlp.specs.Placeholders.{with_innermost, innermost_awaits, is_innermost_unbounded};
+ghost use Rattle.rlp.specs.Streams.Stack.{awaits_after};
+ghost use Rattle.rlp.specs.Streams.Placeholders.{with_innermost, innermost_awaits, is_innermost_unbounded};
 
 /// An open list, as a stream keeps it.
 #[derive(Clone, Copy)]

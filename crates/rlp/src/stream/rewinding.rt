@@ -1,7 +1,7 @@
 //! Going back to where a call began that was refused on its way.
 
 ghost use Rattle.std.specs.Prelude.{◌≡◌, length, reverse, take};
-ghost use Rattle.rlp.specs.Placeholders.{innermost_awaits, with_innermost};
+ghost use Rattle.rlp.specs.Streams.Placeholders.{innermost_awaits, with_innermost};
 
 use crate::stream::open_lists::{Placeholder, innermost_awaits, set_innermost};
 use bytes::BytesMut;

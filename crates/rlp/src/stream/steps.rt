@@ -2,13 +2,13 @@
 
 ghost use Rattle.std.specs.Prelude.{◌≡◌, ◌≤◌, ◌<◌, ◌+◌, ◌++◌, ℕ, List, [], IsTrue, OnOk, OnErr, length, false};
 ghost use Rattle.std.specs.Iterator.{IsFiniteIterable};
-ghost use Rattle.rlp.specs.Item.{string};
-ghost use Rattle.rlp.specs.Encoding.{encoding};
-ghost use Rattle.rlp.specs.Stack.{AwaitsSome, is_unbounded};
-ghost use Rattle.rlp.specs.Calls.{append, effect, finalize_unbounded_list, is_within_size, with_list_of};
-ghost use Rattle.rlp.specs.Stream.{IsAsBefore, IsFinished, put, with_list, count, add, put_item, closed_size};
-ghost use Rattle.rlp.specs.Growth.{GrowsTo};
-ghost use Rattle.rlp.specs.Iterated.{GivesAll};
+ghost use Rattle.rlp.specs.Format.Item.{string};
+ghost use Rattle.rlp.specs.Format.Encoding.{encoding};
+ghost use Rattle.rlp.specs.Streams.Stack.{AwaitsSome, is_unbounded};
+ghost use Rattle.rlp.specs.Streams.Calls.{append, effect, finalize_unbounded_list, is_within_size, with_list_of};
+ghost use Rattle.rlp.specs.Streams.Stream.{IsAsBefore, IsFinished, put, with_list, count, add, put_item, closed_size};
+ghost use Rattle.rlp.specs.Streams.Growth.{GrowsTo};
+ghost use Rattle.rlp.specs.Streams.Iterated.{GivesAll};
 
 use crate::EMPTY_LIST_RLP;
 use crate::stream::RlpStream;

@@ -2,9 +2,9 @@
 
 ghost use Rattle.std.specs.Prelude.{◌≡◌, ◌≤◌, ◌<◌, ◌+◌, ◌-◌, ◌++◌, ℕ, List, OnOk, OnErr, length, take, drop};
 ghost use Rattle.std.specs.Iterator.{IsFiniteIterable};
-ghost use Rattle.rlp.specs.Item.{string};
-ghost use Rattle.rlp.specs.Encoding.{encoding, is_low_byte, BeginsWith};
-ghost use Rattle.rlp.specs.Iterated.{GivesAll};
+ghost use Rattle.rlp.specs.Format.Item.{string};
+ghost use Rattle.rlp.specs.Format.Encoding.{encoding, is_low_byte, BeginsWith};
+ghost use Rattle.rlp.specs.Streams.Iterated.{GivesAll};
 
 use crate::stream::closing::write_at;
 use crate::stream::header::string_header;

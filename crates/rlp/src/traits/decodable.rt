@@ -3,7 +3,7 @@
 ghost use Rattle.std.specs.Prelude.{◌≡◌, IfOk, IfErr, ◌⊎◌};
 ghost use Rattle.rlp.specs.declared.error.DecoderError.{DecoderError};
 ghost use Rattle.rlp.specs.declared.error.DecoderError.TheVariants.{OutOfMemory};
-ghost use Rattle.rlp.specs.View.{View};
+ghost use Rattle.rlp.specs.Views.View.{View};
 
 use crate::error::DecoderError;
 use crate::rlpin::Rlp;

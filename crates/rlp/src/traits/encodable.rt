@@ -1,10 +1,10 @@
 //! Values that are written.
 
 ghost use Rattle.std.specs.Prelude.{◌≡◌, OnOk, OnErr, IfOk};
-ghost use Rattle.rlp.specs.Item.{Item};
-ghost use Rattle.rlp.specs.Encoding.{encoding};
-ghost use Rattle.rlp.specs.Stream.{put_item};
-ghost use Rattle.rlp.specs.Growth.{GrowsTo};
+ghost use Rattle.rlp.specs.Format.Item.{Item};
+ghost use Rattle.rlp.specs.Format.Encoding.{encoding};
+ghost use Rattle.rlp.specs.Streams.Stream.{put_item};
+ghost use Rattle.rlp.specs.Streams.Growth.{GrowsTo};
 
 use crate::stream::RlpStream;
 use bytes::BytesMut;
@@ -19,7 +19,7 @@ use std::alloc::{AllocError, Global};
 /// pub struct BlockNumber(pub u64);
 ///
 /// impl Encodable for BlockNumber {
-///     ghost use Rattle.rlp.specs.Value.{number_item, FitsBytes};
+///     ghost use Rattle.rlp.specs.Values.Value.{number_item, FitsBytes};
 ///
 ///     ghost item = { λ v. number_item v.0 };
 ///

@@ -1,9 +1,9 @@
 //! Values whose encodings are read back.
 
 ghost use Rattle.std.specs.Prelude.{◌↔◌, ◌<◌, ◌^◌, length};
-ghost use Rattle.rlp.specs.RoundTrip.{ReadsBack};
-ghost use Rattle.rlp.specs.ValueReading.{GivesValue};
-ghost use Rattle.rlp.specs.View.{HoldsItem, View};
+ghost use Rattle.rlp.specs.Values.RoundTrip.{ReadsBack};
+ghost use Rattle.rlp.specs.Values.ValueReading.{GivesValue};
+ghost use Rattle.rlp.specs.Views.View.{HoldsItem, View};
 
 use crate::traits::{Decodable, Encodable};
 

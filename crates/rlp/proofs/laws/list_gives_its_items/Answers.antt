@@ -1,5 +1,5 @@
 use Rattle.std.proofs.Common.{◌<◌, ◌^◌, length, arith}
-use Rattle.rlp.specs.Item.{list_of}
+use Rattle.rlp.specs.Format.Item.{list_of}
 use Rattle.rlp.specs.Lemmas.Encodings.{front_sized}
 use Rattle.rlp.specs.Lemmas.Views.{items_of_list}
 use Rattle.rlp.proofs.laws.list_gives_its_items.Goals as goal

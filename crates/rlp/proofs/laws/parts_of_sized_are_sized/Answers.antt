@@ -1,6 +1,6 @@
 use Rattle.std.proofs.Common.{◌^◌}
-use Rattle.rlp.specs.Item.{list_of}
-use Rattle.rlp.specs.Encoding.{encoding, join}
+use Rattle.rlp.specs.Format.Item.{list_of}
+use Rattle.rlp.specs.Format.Encoding.{encoding, join}
 use Rattle.rlp.specs.Lemmas.Encodings.{encoding_list, small_payload}
 use Rattle.rlp.specs.Lemmas.Views.{sized_items}
 use Rattle.rlp.proofs.laws.parts_of_sized_are_sized.Goals as goal

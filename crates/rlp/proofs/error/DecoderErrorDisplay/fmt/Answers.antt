@@ -1,6 +1,6 @@
 use Rattle.std.proofs.Common.{rules, ap, sym}
 use Rattle.std.proofs.Output.{has_written_styled_append, has_written_styled_of_eq}
-use Rattle.rlp.specs.Text.{error_name}
+use Rattle.rlp.specs.Views.Text.{error_name}
 use Rattle.rlp.proofs.error.DecoderErrorDisplay.fmt.Goals as goal
 
 pub returns-in_ok-write_str-in-Custom-2-clause-styled :

@@ -1,5 +1,5 @@
 use Rattle.std.proofs.Common.{◌<◌, ◌^◌, length, arith}
-use Rattle.rlp.specs.View.{view_of}
+use Rattle.rlp.specs.Views.View.{view_of}
 use Rattle.rlp.specs.Lemmas.OneReading.{number_reading}
 use Rattle.rlp.specs.Lemmas.Reading.{bytes_held}
 use Rattle.rlp.proofs.ListReadings.{bool_reading}

@@ -1,7 +1,7 @@
 use Rattle.std.proofs.Common.{◌<◌, ◌^◌, length, arith}
-use Rattle.rlp.specs.Item.{string}
-use Rattle.rlp.specs.ValueReading.{GivesBytes, FaultsAsBytes}
-use Rattle.rlp.specs.View.{view_of}
+use Rattle.rlp.specs.Format.Item.{string}
+use Rattle.rlp.specs.Values.ValueReading.{GivesBytes, FaultsAsBytes}
+use Rattle.rlp.specs.Views.View.{view_of}
 use Rattle.rlp.specs.Lemmas.OneReading.{bytes_reading}
 use Rattle.rlp.specs.Lemmas.Reading.{bytes_held}
 use Rattle.rlp.proofs.ListReadings.{option_reading}

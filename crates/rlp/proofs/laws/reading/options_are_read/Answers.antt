@@ -1,8 +1,8 @@
 use Rattle.std.proofs.Common.{◌<◌, ◌^◌, length, arith}
-use Rattle.rlp.specs.Item.{string}
-use Rattle.rlp.specs.Value.{bit, number_item}
-use Rattle.rlp.specs.ValueReading.{GivesBool, FaultsAsBool, GivesNumber, FaultsAsNumber, GivesText, FaultsAsText}
-use Rattle.rlp.specs.View.{view_of}
+use Rattle.rlp.specs.Format.Item.{string}
+use Rattle.rlp.specs.Values.Value.{bit, number_item}
+use Rattle.rlp.specs.Values.ValueReading.{GivesBool, FaultsAsBool, GivesNumber, FaultsAsNumber, GivesText, FaultsAsText}
+use Rattle.rlp.specs.Views.View.{view_of}
 use Rattle.rlp.specs.Lemmas.OneReading.{number_reading, text_reading}
 use Rattle.rlp.specs.Lemmas.Reading.{bytes_held}
 use Rattle.rlp.proofs.ListReadings.{bool_reading, option_reading}

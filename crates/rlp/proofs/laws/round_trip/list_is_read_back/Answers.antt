@@ -1,5 +1,5 @@
 use Rattle.std.proofs.Common.{◌<◌, ◌^◌, length, arith}
-use Rattle.rlp.specs.View.{view_of}
+use Rattle.rlp.specs.Views.View.{view_of}
 use Rattle.rlp.specs.Lemmas.ListRoundTrips.{list_item_reads_back}
 use Rattle.rlp.proofs.Decoding.{list_items}
 use Rattle.rlp.proofs.laws.round_trip.list_is_read_back.Goals as goal

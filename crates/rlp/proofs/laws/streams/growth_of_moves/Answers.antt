@@ -1,5 +1,5 @@
 use Rattle.std.proofs.Common.{refl}
-use Rattle.rlp.specs.Stream.{put, with_list}
+use Rattle.rlp.specs.Streams.Stream.{put, with_list}
 use Rattle.rlp.proofs.Growth.{grows_put, grows_with_list}
 use Rattle.rlp.proofs.laws.streams.growth_of_moves.Goals as goal
 

@@ -1,4 +1,4 @@
-use Rattle.rlp.specs.View.{view_of}
+use Rattle.rlp.specs.Views.View.{view_of}
 use Rattle.rlp.specs.Lemmas.Numbered.{item_at-slice_get, item_at-past_same}
 use Rattle.rlp.proofs.laws.views.items_by_number_are_in_order.Goals as goal
 

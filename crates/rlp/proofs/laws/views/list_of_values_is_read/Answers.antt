@@ -1,7 +1,7 @@
 use Rattle.std.proofs.Common.{◌<◌, ◌^◌, length, map, arith, IsUtf8}
 use Rattle.std.proofs.lemmas.List.Elements.{recursion_from_All}
-use Rattle.rlp.specs.Item.{list_of, string}
-use Rattle.rlp.specs.Value.{FitsBytes, number_item}
+use Rattle.rlp.specs.Format.Item.{list_of, string}
+use Rattle.rlp.specs.Values.Value.{FitsBytes, number_item}
 use Rattle.rlp.specs.Lemmas.Encodings.{front_sized}
 use Rattle.rlp.specs.Lemmas.Numbered.{list-gives, all-any}
 use Rattle.rlp.proofs.laws.views.list_of_values_is_read.Goals as goal

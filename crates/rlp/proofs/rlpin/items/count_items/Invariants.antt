@@ -1,5 +1,5 @@
 use Rattle.std.proofs.Common.{◌≡◌, ◌+◌, ◌≤◌, length}
-use Rattle.rlp.specs.Split.{split}
+use Rattle.rlp.specs.Format.Split.{split}
 use Rattle.rlp.proofs.rlpin.items.count_items.Given as goal
 
 -- with the items of the rest there are as many as in the payload, and no more were counted than bytes taken

@@ -1,5 +1,5 @@
 use Rattle.std.proofs.Common.{reverse, sym, ap, ◌∙◌, refl}
-use Rattle.rlp.specs.Stream.{Seen, closed_size_with}
+use Rattle.rlp.specs.Streams.Stream.{Seen, closed_size_with}
 use Rattle.rlp.proofs.Laid.{laid_descends}
 use Rattle.rlp.proofs.ClosedSize.{lowest_start, closed_size_is}
 use Rattle.rlp.proofs.stream.RlpStream.checked_estimate_size.Goals as goal

@@ -1,6 +1,6 @@
 use Rattle.std.proofs.Common.{reverse, ap, sym, ◌∙◌, arith}
 use Rattle.std.proofs.lemmas.Bool.Decides.{nat_tests}
-use Rattle.rlp.specs.Stream.{Seen, closed_size}
+use Rattle.rlp.specs.Streams.Stream.{Seen, closed_size}
 use Rattle.rlp.proofs.ClosedSize.{empty_size, front_size}
 use Rattle.rlp.proofs.stream.RlpStream.is_empty.Goals as goal
 

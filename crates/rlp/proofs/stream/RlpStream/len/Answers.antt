@@ -1,8 +1,8 @@
 use Rattle.std.proofs.Common.{◌≡◌, reverse, sym, ap, ◌∙◌, refl, Some}
-use Rattle.rlp.specs.Stream.{Seen, closed_size, closed_size_with}
-use Rattle.rlp.specs.Placeholders.{Descends}
-use Rattle.rlp.specs.Closing.{closed_len}
-use Rattle.rlp.specs.Layout.{state_of}
+use Rattle.rlp.specs.Streams.Stream.{Seen, closed_size, closed_size_with}
+use Rattle.rlp.specs.Streams.Placeholders.{Descends}
+use Rattle.rlp.specs.Streams.Closing.{closed_len}
+use Rattle.rlp.specs.Streams.Layout.{state_of}
 use Rattle.rlp.proofs.Laid.{laid_descends}
 use Rattle.rlp.proofs.ClosedSize.{lowest_start, closed_size_is, closed_size_none, found_len}
 use Rattle.rlp.proofs.stream.RlpStream.len.Goals as goal

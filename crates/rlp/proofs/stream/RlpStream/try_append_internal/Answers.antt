@@ -1,5 +1,5 @@
 use Rattle.std.proofs.Common.{ap}
-use Rattle.rlp.specs.Stream.{Seen}
+use Rattle.rlp.specs.Streams.Stream.{Seen}
 use Rattle.rlp.proofs.Layouts.{rewound}
 use Rattle.rlp.proofs.stream.RlpStream.try_append_internal.Goals as goal
 

@@ -1,6 +1,6 @@
 use Rattle.std.proofs.Common.{true, IsTrue, reverse, ap, sym, ◌∙◌, append-nil, subst}
-use Rattle.rlp.specs.Stack.{is_unbounded}
-use Rattle.rlp.specs.Stream.{Seen, shut, count, with_mark}
+use Rattle.rlp.specs.Streams.Stack.{is_unbounded}
+use Rattle.rlp.specs.Streams.Stream.{Seen, shut, count, with_mark}
 use Rattle.rlp.proofs.Laid.{laid_descends, laid_counted, laid_last, with_last, state_finalized, moved_counted}
 use Rattle.rlp.proofs.stream.RlpStream.try_finalize.Goals as goal
 

@@ -1,5 +1,5 @@
 use Rattle.std.proofs.Common.{◌∙◌, ap, reverse}
-use Rattle.rlp.specs.Stream.{Seen, with_list}
+use Rattle.rlp.specs.Streams.Stream.{Seen, with_list}
 use Rattle.rlp.proofs.Closing.{reverse_push}
 use Rattle.rlp.proofs.Laid.{state_opened}
 use Rattle.rlp.proofs.stream.RlpStream.try_open.Goals as goal

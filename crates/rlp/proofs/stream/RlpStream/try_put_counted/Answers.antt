@@ -1,6 +1,6 @@
 use Rattle.std.proofs.Common.{◌++◌, ◌<◌, length, reverse, ap, ◌∙◌, arith}
 use Rattle.std.proofs.lemmas.List.{length-reverse}
-use Rattle.rlp.specs.Stream.{Seen, put, count}
+use Rattle.rlp.specs.Streams.Stream.{Seen, put, count}
 use Rattle.rlp.proofs.Laid.{laid_descends, laid_append, laid_counted, mark_open, not_empty, state_put_counted, moved_counted}
 use Rattle.rlp.proofs.stream.RlpStream.try_put_counted.Goals as goal
 

@@ -1,5 +1,5 @@
 use Rattle.std.proofs.Common.{◌≡◌, ◌+◌, ◌-◌, ◌≤◌, [], length, take, drop, reverse}
-use Rattle.rlp.specs.Closing.{closed_bytes, growth, left_of}
+use Rattle.rlp.specs.Streams.Closing.{closed_bytes, growth, left_of}
 use Rattle.rlp.proofs.Closing.{Closes}
 use Rattle.rlp.proofs.stream.closing.close_lists.Given as goal
 

@@ -1,7 +1,7 @@
 use Rattle.std.proofs.Common.{◌≡◌, ◌<◌, reverse, length, drop, ap, sym, ◌∙◌, arith}
-use Rattle.rlp.specs.Stack.{awaits_after}
-use Rattle.rlp.specs.Closing.{filled}
-use Rattle.rlp.specs.Placeholders.{with_innermost}
+use Rattle.rlp.specs.Streams.Stack.{awaits_after}
+use Rattle.rlp.specs.Streams.Closing.{filled}
+use Rattle.rlp.specs.Streams.Placeholders.{with_innermost}
 use Rattle.rlp.proofs.Closing.{descends_le, counted_is}
 use Rattle.rlp.proofs.stream.closing.put_counted.Goals as goal
 use Rattle.rlp.proofs.stream.closing.put_counted.Goals.{then-plan-eq0, else-plan-eq0}

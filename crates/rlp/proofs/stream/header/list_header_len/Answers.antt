@@ -1,5 +1,5 @@
 use Rattle.std.proofs.Common.{◌≡◌, length, ap, arith, suc}
-use Rattle.rlp.specs.WrittenHeader.{big_endian, written_header}
+use Rattle.rlp.specs.Format.WrittenHeader.{big_endian, written_header}
 use Rattle.rlp.specs.Lemmas.Headers.{written_header_long}
 use Rattle.rlp.proofs.stream.header.list_header_len.Goals as goal
 

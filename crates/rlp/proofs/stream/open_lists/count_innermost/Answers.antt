@@ -1,6 +1,6 @@
 use Rattle.std.proofs.Common.{ℕ, Option, Some, refl, arith, ap, sym, ◌∙◌}
 use Rattle.rlp.specs.declared.stream.open_lists.Placeholder.{Placeholder}
-use Rattle.rlp.specs.Stack.{awaits_after}
+use Rattle.rlp.specs.Streams.Stack.{awaits_after}
 use Rattle.rlp.proofs.Closing.{set_last}
 use Rattle.rlp.proofs.stream.open_lists.count_innermost.Goals as goal
 

@@ -1,6 +1,6 @@
 use Rattle.std.proofs.Common.{◌≡◌, ◌++◌, false, length, drop, ap, sym, ◌∙◌}
-use Rattle.rlp.specs.WrittenHeader.{written_header}
-use Rattle.rlp.specs.Encoding.{is_low_byte}
+use Rattle.rlp.specs.Format.WrittenHeader.{written_header}
+use Rattle.rlp.specs.Format.Encoding.{is_low_byte}
 use Rattle.rlp.proofs.Written.{header_written, header_none, all_written, rest_from}
 use Rattle.rlp.proofs.stream.strings.write_header_before.Goals as goal
 

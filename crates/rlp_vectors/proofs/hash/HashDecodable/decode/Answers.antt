@@ -1,5 +1,5 @@
 use Rattle.std.proofs.Common.{rules}
-use Rattle.rlp.specs.ValueReading.{IsLengthFault}
+use Rattle.rlp.specs.Values.ValueReading.{IsLengthFault}
 use Rattle.rlp.proofs.Values.{faults_of_string}
 use Rattle.rlp_vectors.proofs.hash.HashDecodable.decode.Goals as goal
 

@@ -1,6 +1,6 @@
 use Rattle.std.proofs.Common.{◌≡◌, Ok, ap, sym, ◌∙◌, lit<}
 use Rattle.std.proofs.lemmas.Result.{err_from_is_err_and}
-use Rattle.rlp.specs.View.{item_count}
+use Rattle.rlp.specs.Views.View.{item_count}
 use Rattle.rlp.specs.Lemmas.Structs.{field_2, field_3, field_4, field_5, field_6, field_7, field_8}
 use Rattle.rlp_vectors.specs.Transaction.{transaction_fields}
 use Rattle.rlp_vectors.proofs.transaction.TransactionDecodable.decode.Goals as goal

@@ -1,6 +1,6 @@
 use Rattle.std.proofs.Common.{[], ◌∷◌, ap, ◌∙◌, lit<, rules}
 use Rattle.std.specs.Vec.{vec_items}
-use Rattle.rlp.specs.Stream.{add}
+use Rattle.rlp.specs.Streams.Stream.{add}
 use Rattle.rlp.specs.Codec.{number, byte_string}
 use Rattle.rlp.proofs.Filling.{grows_filling}
 use Rattle.rlp.proofs.Listed.{list_filled}

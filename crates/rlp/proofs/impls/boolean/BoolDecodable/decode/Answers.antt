@@ -1,5 +1,5 @@
 use Rattle.std.proofs.Common.{◌<◌, inl, arith, refl}
-use Rattle.rlp.specs.ValueReading.{other_number}
+use Rattle.rlp.specs.Values.ValueReading.{other_number}
 use Rattle.rlp.proofs.impls.boolean.BoolDecodable.decode.Goals as goal
 
 pub returns-in-Ok-clause-fault : goal.returns-in-Ok-clause-fault

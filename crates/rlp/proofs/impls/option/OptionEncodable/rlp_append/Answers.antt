@@ -1,7 +1,7 @@
 use Rattle.std.proofs.Common.{◌≡◌, [], ◌∷◌, ap, sym, ◌∙◌, rules}
-use Rattle.rlp.specs.Item.{list_of}
-use Rattle.rlp.specs.Stream.{add, put_item}
-use Rattle.rlp.specs.Value.{option_item}
+use Rattle.rlp.specs.Format.Item.{list_of}
+use Rattle.rlp.specs.Streams.Stream.{add, put_item}
+use Rattle.rlp.specs.Values.Value.{option_item}
 use Rattle.rlp.proofs.Listed.{list_filled}
 use Rattle.rlp.proofs.impls.option.OptionEncodable.rlp_append.Goals as goal
 

@@ -1,5 +1,5 @@
 use Rattle.std.proofs.Common.{rules, IsUtf8}
-use Rattle.rlp.specs.ValueReading.{IsTextFault}
+use Rattle.rlp.specs.Values.ValueReading.{IsTextFault}
 use Rattle.rlp.proofs.Values.{faults_from}
 use Rattle.rlp.proofs.impls.text.StringDecodable.decode.Goals as goal
 

@@ -1,5 +1,5 @@
 use Rattle.std.proofs.Common.{subst, sym}
-use Rattle.rlp.specs.Header.{ReadsHeader}
+use Rattle.rlp.specs.Format.Header.{ReadsHeader}
 use Rattle.rlp.specs.Lemmas.Reading.{header_reads, bytes_held}
 use Rattle.rlp.proofs.rlpin.header.PayloadInfo.from.Goals as goal
 

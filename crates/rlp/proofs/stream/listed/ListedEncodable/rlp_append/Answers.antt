@@ -2,9 +2,9 @@ use Rattle.std.proofs.Common.{◌≡◌, ◌<◌, ◌+◌, List, [], ◌∷◌, 
 use Rattle.std.specs.Prelude.{OnErr}
 use Rattle.std.proofs.lemmas.Grind.{elements}
 use Rattle.std.proofs.lemmas.List.{map_more, take_all, length-map, length-take-le}
-use Rattle.rlp.specs.Item.{Item}
-use Rattle.rlp.specs.Stream.{State, add, add_all}
-use Rattle.rlp.specs.Calls.{with_list_of}
+use Rattle.rlp.specs.Format.Item.{Item}
+use Rattle.rlp.specs.Streams.Stream.{State, add, add_all}
+use Rattle.rlp.specs.Streams.Calls.{with_list_of}
 use Rattle.rlp.proofs.Filling.{add_all-push, grows_filling, filled_list}
 use Rattle.rlp.proofs.stream.listed.ListedEncodable.rlp_append.Goals as goal
 

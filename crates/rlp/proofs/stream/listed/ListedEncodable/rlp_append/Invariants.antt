@@ -1,7 +1,7 @@
 use Rattle.std.proofs.Common.{◌≡◌, length, take, map}
 use Rattle.std.specs.List.{All}
-use Rattle.rlp.specs.Stream.{add_all}
-use Rattle.rlp.specs.Calls.{with_list_of}
+use Rattle.rlp.specs.Streams.Stream.{add_all}
+use Rattle.rlp.specs.Streams.Calls.{with_list_of}
 use Rattle.rlp.proofs.stream.listed.ListedEncodable.rlp_append.Given as goal
 
 abbrev pub invariant-loop-value : goal.invariant-loop-value

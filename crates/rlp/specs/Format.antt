@@ -1,0 +1,14 @@
+-- an item: a byte string, or a list of items
+pub mod Item
+-- digits of a number, and the header that is written before a value
+pub mod WrittenHeader
+-- the encoding of an item
+pub mod Encoding
+-- the header that bytes begin with
+pub mod Header
+-- where the first item of bytes ends
+pub mod Framing
+-- the items that bytes begin with, and what follows them
+pub mod Split
+-- the string that bytes begin with
+pub mod StringReading

@@ -1,0 +1,67 @@
+-- The items that calls of a stream describe, with no bytes.
+use Rattle.std.specs.Prelude.{ℕ, suc, ◌≡◌, List, [], ◌∷◌, length, map, All, Option, None, Some, IsTrue, not}
+use Rattle.rlp.specs.Format.Item.{Item, string, list_of}
+use Rattle.rlp.specs.Format.Encoding.{join, IsSized}
+use Rattle.rlp.specs.Streams.Stack.{OpenList, Stack, empty_stack, stack_put, stack_with_list, stack_shut, stack_count}
+use Rattle.rlp.specs.Streams.Stream.{State, initial_state}
+use Rattle.rlp.specs.Streams.Calls.{Call, append, append_empty_data, append_raw, append_raw_checked, begin_list, begin_unbounded_list, finalize_unbounded_list, append_internal, clear, effect, is_admitted, is_within_size}
+
+-- What a call brings to the items: some items, a new list, the end of a list, the loss of all, or nothing.
+pub data Step : Type 0 where
+  brings : List Item → Step
+  opens : Option ℕ → Step
+  finishes : Step
+  clears : Step
+  stays : Step
+
+-- a list's items, closed, are one item of the list around it
+abbrev pub one_list : List Item → List Item
+one_list items = list_of items ∷ []
+
+-- the items after a step: the moves of a stream, over items in place of bytes
+abbrev pub items_after : Step → Stack Item → Stack Item
+items_after (brings xs) s = stack_count one_list (length xs) (stack_put xs s)
+items_after (opens awaits) s = stack_with_list awaits s
+items_after finishes s = stack_count one_list 1 (stack_shut one_list s)
+items_after clears s = empty_stack
+items_after stays s = s
+
+-- the items after all steps
+abbrev pub items_after_all : List Step → Stack Item → Stack Item
+items_after_all [] s = s
+items_after_all (m ∷ ms) s = items_after_all ms (items_after m s)
+
+-- Which step a call is, made in the state s. Raw bytes bring items where they are the joined encodings of as many as were announced. A checked raw call that is refused for its size is no step. Strings that are written uncounted are none of these.
+pub data Describes (s : State) : Call → Step → Type 0 where
+  by_append : (x : Item) → Describes s (append x) (brings (x ∷ []))
+  by_empty_data : Describes s append_empty_data (brings (string [] ∷ []))
+  by_raw : (xs : List Item) → All IsSized xs → Describes s (append_raw (join xs) (length xs)) (brings xs)
+  by_checked_raw : (xs : List Item) (limit : ℕ) → All IsSized xs → IsTrue (is_within_size (join xs) limit s) → Describes s (append_raw_checked (join xs) (length xs) limit) (brings xs)
+  by_refused_raw : (bytes : List ℕ) (k limit : ℕ) → IsTrue (not (is_within_size bytes limit s)) → Describes s (append_raw_checked bytes k limit) stays
+  by_empty_list : Describes s (begin_list 0) (brings (list_of [] ∷ []))
+  by_list : (n : ℕ) → Describes s (begin_list (suc n)) (opens (Some (suc n)))
+  by_unbounded_list : Describes s begin_unbounded_list (opens None)
+  by_finalize : Describes s finalize_unbounded_list finishes
+  by_internal_list : (xs : List Item) → Describes s (append_internal (list_of xs)) (brings (list_of xs ∷ []))
+  by_clear : Describes s clear clears
+
+-- from the state s on each call is admitted, and is the step in its place
+abbrev pub AreDescribed : State → List Call → List Step → Type 0
+AreDescribed s [] [] = Unit
+AreDescribed s [] (m ∷ ms) = ⊥
+AreDescribed s (c ∷ cs) [] = ⊥
+AreDescribed s (c ∷ cs) (m ∷ ms) = IsTrue (is_admitted c s) × Describes s c m × AreDescribed (effect c s) cs ms
+
+-- the calls over the front describe these items, and leave no list open
+pub record IsDescribed (front : List ℕ) (calls : List Call) (items : List Item) : Type 0 where
+  pub steps : List Step
+  pub described : AreDescribed (initial_state front) calls steps
+  pub finished : items_after_all steps empty_stack ≡ record { inner = items; lists = [] }
+
+-- an open list, each payload by the joined encodings of its items
+abbrev pub joined_list : OpenList Item → OpenList ℕ
+joined_list l = record { awaits = l.awaits; outer = join l.outer }
+
+-- a stack of items as bytes
+abbrev pub joined_stack : Stack Item → Stack ℕ
+joined_stack s = record { inner = join s.inner; lists = map joined_list s.lists }

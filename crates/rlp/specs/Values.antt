@@ -1,0 +1,8 @@
+-- the item of a value, and which values fit
+pub mod Value
+-- which bytes give which value, and which fault
+pub mod ValueReading
+-- the same of lists of values
+pub mod ListReading
+-- what it is that decoding undoes encoding
+pub mod RoundTrip

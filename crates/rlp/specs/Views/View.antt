@@ -1,0 +1,119 @@
+-- What contracts see of a view, and what a view of bytes answers.
+use Rattle.std.specs.Prelude.{ℕ, ◌+◌, ◌-◌, Bool, true, false, Option, None, ◌||◌, ◌==◌, if◌then◌else◌, nat_lt, nat_le, List, [], ◌∷◌, length, take, map, slice_index_or, Result, Ok, Err}
+use Rattle.std.specs.List.{concat}
+use Rattle.rlp.specs.declared.error.DecoderError.{DecoderError}
+use Rattle.rlp.specs.declared.error.DecoderError.TheVariants.{RlpExpectedToBeList}
+use Rattle.rlp.specs.declared.rlpin.header.PayloadInfo.{PayloadInfo}
+use Rattle.rlp.specs.declared.rlpin.rlp.Prototype.{Prototype}
+use Rattle.rlp.specs.declared.rlpin.rlp.Prototype.TheVariants as prototype
+use Rattle.rlp.specs.Format.Item.{Item, string}
+use Rattle.rlp.specs.Format.Encoding.{BeginsWith, encoding}
+use Rattle.rlp.specs.Format.Framing.{fault, framing, map_ok, value}
+use Rattle.rlp.specs.Format.Split.{begins_as_list, items, rest}
+use Rattle.rlp.specs.Format.StringReading.{read_string}
+
+-- A view is of these bytes.
+pub record View : Type 0 where
+  pub bytes : List ℕ
+
+-- the view of these bytes
+abbrev pub view_of : List ℕ → View
+view_of b = record { bytes = b }
+
+-- the lengths of the header and the value at the front of a view, or why they don't lie within it
+abbrev pub view_header : View → Result PayloadInfo DecoderError
+view_header v = framing v.bytes
+
+-- the value alone
+abbrev pub view_value : View → Result (List ℕ) DecoderError
+view_value v = value v.bytes
+
+-- the string at the front of a view, or why none stands there
+abbrev pub view_string : View → Result (List ℕ) DecoderError
+view_string v = read_string v.bytes
+
+-- the view begins with the encoding of the item
+abbrev pub HoldsItem : View → Item → Type 0
+HoldsItem v x = BeginsWith v.bytes (encoding x)
+
+-- the view begins with the encoding of the string
+abbrev pub HoldsString : View → List ℕ → Type 0
+HoldsString v d = HoldsItem v (string d)
+
+-- no string's encoding stands at the front of the view
+abbrev pub HoldsNoString : View → Type 0
+HoldsNoString v = (d : List ℕ) → ¬ HoldsString v d
+
+-- Why a view isn't read as a list, for a reason apart from its items. No view has such a fault: bytes that are no framed list are read as one of no items, and what follows the items in a list is never looked at.
+abbrev pub list_fault : View → Option DecoderError
+list_fault v = None
+
+-- the views of the items of a view
+abbrev pub item_views : View → List View
+item_views v = map (λ b. record v { bytes = b }) (items v.bytes)
+
+-- What an iterator has still to give, in order.
+pub record Remaining : Type 0 where
+  pub left : List View
+
+-- whether the first byte is the encoding of the empty string or of the empty list
+abbrev pub begins_as_empty : List ℕ → Bool
+begins_as_empty [] = false
+begins_as_empty (first ∷ rest) = (first == 0x80) || (first == 0xc0)
+
+-- whether the first byte is one of a string
+abbrev pub begins_as_data : List ℕ → Bool
+begins_as_data [] = false
+begins_as_data (first ∷ rest) = nat_lt first 0xc0
+
+-- whether a byte stands at place i that isn't zero
+abbrev pub has_nonzero_at : ℕ → List ℕ → Bool
+has_nonzero_at i b = nat_lt 0 (slice_index_or b i 0)
+
+-- Whether the bytes begin as a number does: one byte up to 0x80, or a string whose first byte is there and isn't zero. It is sought after the one byte of a short header, and after the length bytes of a long one.
+abbrev pub begins_as_int : List ℕ → Bool
+begins_as_int [] = false
+begins_as_int (first ∷ rest) =
+    if nat_le first 0x80 then true
+    else (if nat_lt first 0xb8 then has_nonzero_at 0 rest
+    else (if nat_lt first 0xc0 then has_nonzero_at (first - 0xb7) rest
+    else false))
+
+-- ---- the items of a view, by number and by place
+
+-- how many items: only bytes that begin as a list have a number of them
+unfoldable pub item_count : View → Result ℕ DecoderError
+item_count v = if begins_as_list v.bytes then Ok (length (items v.bytes)) else Err RlpExpectedToBeList
+
+-- Item i and its place, counted from the view's first byte, where the list's header has h bytes. Past the last item it is the fault of what follows the items.
+abbrev pub item_after : View → ℕ → ℕ → Result (View × ℕ) DecoderError
+item_after v i h =
+    if nat_lt i (length (items v.bytes)) then Ok (record v { bytes = slice_index_or (items v.bytes) i [] }, h + length (concat (take i (items v.bytes))))
+    else Err (fault (rest v.bytes))
+
+-- item i and its place by the list's header, or the fault of bytes that aren't framed
+abbrev pub item_by : View → ℕ → Result PayloadInfo DecoderError → Result (View × ℕ) DecoderError
+item_by v i (Err e) = Err e
+item_by v i (Ok p) = item_after v i p.header_len
+
+-- Item i and its place: first the bytes must begin as a list, then they must be framed.
+unfoldable pub item_with_place : View → ℕ → Result (View × ℕ) DecoderError
+item_with_place v i = if begins_as_list v.bytes then item_by v i (framing v.bytes) else Err RlpExpectedToBeList
+
+-- the same without the place
+abbrev pub item_at : View → ℕ → Result View DecoderError
+item_at v i = map_ok (λ p. p.0) (item_with_place v i)
+
+-- the length of a value
+abbrev pub value_length : Result (List ℕ) DecoderError → ℕ
+value_length (Ok v) = length v
+value_length (Err e) = 0
+
+-- the length of a framed string, and 0 for anything else
+abbrev pub data_size : List ℕ → ℕ
+data_size b = if begins_as_data b then value_length (value b) else 0
+
+-- what stands at the front: no bytes, a string with its length, or a list with the number of its items
+abbrev pub prototype_of : List ℕ → Prototype
+prototype_of [] = prototype.Null
+prototype_of (first ∷ more) = if begins_as_list (first ∷ more) then prototype.List (length (items (first ∷ more))) else prototype.Data (data_size (first ∷ more))

@@ -1,0 +1,381 @@
+//! A view of bytes, and what it answers of their first item.
+
+ghost use Rattle.std.specs.Prelude.{◌≡◌, ◌≤◌, ◌<◌, ◌^◌, ◌↔◌, ◌⊎◌, List, [], length, true, IsTrue, Ok, Err, IfOk, IfErr, MatchResult};
+ghost use Rattle.rlp.specs.declared.error.DecoderError.TheVariants.{OutOfMemory};
+ghost use Rattle.rlp.specs.Format.Split.{begins_as_list, payload};
+ghost use Rattle.rlp.specs.Views.Depth.{depth};
+ghost use Rattle.rlp.specs.Views.View.{begins_as_data, begins_as_empty, begins_as_int, data_size, has_nonzero_at, item_at, item_count, item_views, item_with_place, prototype_of, view_header, view_of, view_value};
+ghost use Rattle.rlp.specs.Values.ListReading.{FaultsAsList, FaultsAt, GivesAt, GivesList, MayLackAsList, MayLackAt, ReadsValue};
+
+use crate::error::DecoderError;
+use crate::rlpin::decoder::BasicDecoder;
+use crate::rlpin::header::{PayloadInfo, framing_of};
+use crate::rlpin::items::{count_items, split_first, take_item};
+use crate::rlpin::iter::RlpIterator;
+use crate::traits::Decodable;
+use std::alloc::Global;
+use std::marker::Model;
+
+/// A view of bytes that may begin with an item.
+///
+/// It holds the bytes and nothing else, so every answer is a function of them: asked again, it is
+/// the same. Contracts see a view as the record `View` of its bytes. What stands after the first
+/// item is never looked at.
+#[derive(Debug, Drop)]
+pub struct Rlp<'a> {
+    bytes: &'a [u8],
+}
+
+impl<'a> Model for Rlp<'a> {
+    ghost use Rattle.rlp.specs.Views.View.{View};
+
+    ghost Value = { View };
+
+    ghost view = { λ r. record { bytes = r.bytes.now } };
+}
+
+/// What stands at the front of a view.
+#[derive(Debug, Drop)]
+pub enum Prototype {
+    /// No bytes.
+    Null,
+    /// A string of so many bytes.
+    Data(usize),
+    /// A list of so many items.
+    List(usize),
+}
+
+impl<'a> Rlp<'a> {
+    /// A view of these bytes. It looks at none of them yet.
+    pub fn new(bytes: &'a [u8]) -> Rlp<'a>
+        ensures { result ≡ view_of bytes.now }
+    {
+        Rlp { bytes }
+    }
+
+    /// Another view of the same bytes. It takes no memory.
+    pub fn clone(&self) -> Rlp<'a>
+        ensures { result ≡ self.now }
+    {
+        Rlp { bytes: self.bytes }
+    }
+
+    /// All the bytes, those after the first item too.
+    pub fn as_raw(&self) -> &'a [u8]
+        ensures { result.now ≡ self.now.bytes }
+    {
+        self.bytes
+    }
+
+    /// What the view begins with: no bytes, a string with its [`Rlp::size`], or a list with the
+    /// number of its items. It is always `Ok`; bytes that aren't framed are a string of size 0 or a
+    /// list of no items, by their first byte.
+    #[tactic(auto, unfolding(crate::specs::Format::Split::items))]
+    pub fn prototype(&self) -> Result<Prototype, DecoderError>
+        ensures { result ≡ Ok (prototype_of self.now.bytes) }
+    {
+        if self.is_null() {
+            return Ok(Prototype::Null);
+        }
+        if self.is_list() {
+            return Ok(Prototype::List(count_items(self.payload())));
+        }
+        Ok(Prototype::Data(self.size()))
+    }
+
+    /// The header of the first item, where header and value lie within the bytes.
+    ///
+    /// Otherwise the fault of [`PayloadInfo::from`], or `RlpIsTooShort` where the value ends early.
+    pub fn payload_info(&self) -> Result<PayloadInfo, DecoderError>
+        ensures { result ≡ view_header self.now }
+    {
+        framing_of(self.bytes)
+    }
+
+    /// The bytes of the first item after its header: a string's own, or a list's joined items.
+    ///
+    /// The faults are those of [`Rlp::payload_info`].
+    #[tactic(auto, unfolding(crate::specs::Format::Framing::value))]
+    pub fn data(&self) -> Result<&'a [u8], DecoderError>
+        ensures { MatchResult result (λ d. view_value self.now ≡ Ok d.now)
+            (λ e. view_value self.now ≡ Err e) }
+    {
+        let info = framing_of(self.bytes)?;
+        let after_header = &self.bytes[info.header_len..];
+        Ok(&after_header[..info.value_len])
+    }
+
+    /// How many items the list has that the view begins with.
+    ///
+    /// `RlpExpectedToBeList` where there is no byte or the first is one of a string. A list that
+    /// isn't framed has no items.
+    #[tactic(auto, unfolding(crate::specs::Views::View::item_count, crate::specs::Format::Split::items))]
+    pub fn item_count(&self) -> Result<usize, DecoderError>
+        ensures { result ≡ item_count self.now }
+    {
+        if !self.is_list() {
+            return Err(DecoderError::RlpExpectedToBeList);
+        }
+        Ok(count_items(self.payload()))
+    }
+
+    /// The length of the string that the view begins with, and 0 where no framed string stands
+    /// there.
+    pub fn size(&self) -> usize
+        ensures { result ≡ data_size self.now.bytes }
+    {
+        if !self.is_data() {
+            return 0;
+        }
+        match self.data() {
+            Ok(value) => value.len(),
+            Err(_) => 0,
+        }
+    }
+
+    /// The item at `index`, counted from 0.
+    ///
+    /// The faults are those of [`Rlp::at_with_offset`].
+    pub fn at(&self, index: usize) -> Result<Rlp<'a>, DecoderError>
+        ensures { result ≡ item_at self.now index }
+    {
+        let (item, _) = self.at_with_offset(index)?;
+        Ok(item)
+    }
+
+    /// The item at `index`, counted from 0, and its place, counted from the view's first byte.
+    ///
+    /// `RlpExpectedToBeList` where there is no byte or the first is one of a string; then the fault
+    /// of [`Rlp::payload_info`] where the list isn't framed; then, past the last item, the fault of
+    /// the bytes that follow the items in the list, which is `RlpIsTooShort` where none do. It
+    /// reads the list's header and at most `index + 1` more.
+    pub fn at_with_offset(&self, index: usize) -> Result<(Rlp<'a>, usize), DecoderError>
+        ensures { result ≡ item_with_place self.now index }
+    {
+        if !self.is_list() {
+            return Err(DecoderError::RlpExpectedToBeList);
+        }
+        let info = framing_of(self.as_raw())?;
+        let after_header = &self.as_raw()[info.header_len..];
+        let mut rest = &after_header[..info.value_len];
+        for _walked in 0..index {
+            let (_, others) = take_item(rest)?;
+            rest = others;
+        }
+        let (item, others) = take_item(rest)?;
+        let before = info.value_len - others.len() - item.len();
+        Ok((Rlp::new(item), info.header_len + before))
+    }
+
+    /// Whether there are no bytes.
+    pub fn is_null(&self) -> bool
+        ensures { IsTrue result ↔ (self.now.bytes ≡ []) }
+    {
+        matches!(self.bytes, [])
+    }
+
+    /// Whether the first byte is the encoding of the empty string or of the empty list.
+    pub fn is_empty(&self) -> bool
+        ensures { result ≡ begins_as_empty self.now.bytes }
+    {
+        match self.bytes {
+            [] => false,
+            [first, ..] => *first == 0x80 || *first == 0xc0,
+        }
+    }
+
+    /// Whether the first byte is one of a list: `0xc0` or above.
+    pub fn is_list(&self) -> bool
+        ensures { result ≡ begins_as_list self.now.bytes }
+    {
+        match self.bytes {
+            [] => false,
+            [first, ..] => *first >= 0xc0,
+        }
+    }
+
+    /// Whether the first byte is one of a string: below `0xc0`.
+    pub fn is_data(&self) -> bool
+        ensures { result ≡ begins_as_data self.now.bytes }
+    {
+        match self.bytes {
+            [] => false,
+            [first, ..] => *first < 0xc0,
+        }
+    }
+
+    /// Whether the bytes begin as a number does: with one byte up to `0x80`, or as a string whose
+    /// first byte is there and isn't zero.
+    ///
+    /// It looks for that one byte and no further, so `00` begins as a number, and so does a string
+    /// that ends early.
+    pub fn is_int(&self) -> bool
+        ensures { result ≡ begins_as_int self.now.bytes }
+    {
+        match self.bytes {
+            [] => false,
+            [first, rest @ ..] => match *first {
+                0x00..=0x80 => true,
+                0x81..=0xb7 => is_nonzero_at(rest, 0),
+                first @ 0xb8..=0xbf => is_nonzero_at(rest, (first - 0xb7) as usize),
+                0xc0..=0xff => false,
+            },
+        }
+    }
+
+    /// The items of the list that the view begins with, in order, as views.
+    ///
+    /// Anything but a framed list has none. They end where the list's value does, or before it at
+    /// the first bytes that aren't framed. The items outlive the view.
+    ///
+    /// ```rust
+    /// let list = rlp::Rlp::new(&[0xc2, 0x05, 0x06]);
+    /// for item in list.iter() {
+    ///     assert_eq!(rt; item.as_raw().len(), 1);
+    /// }
+    /// ```
+    pub fn iter<'view>(&'view self) -> RlpIterator<'a, 'view>
+        ensures items { result.left ≡ item_views self.now }
+        ensures few { length result.left < 2 ^ 64 }
+    {
+        let _most = self.payload().len();
+        self.into_iter()
+    }
+
+    /// The value that the view begins with, as its type reads it: [`Decodable::decode`].
+    pub fn as_val<T: Decodable>(&self, alloc: Global) -> Result<T, DecoderError>
+        ensures value { IfOk result (λ v. T.gives self.now v) }
+        ensures fault { IfErr result (λ e. (T.faults self.now e) ⊎ ((e ≡ OutOfMemory)
+            × T.may_lack_memory self.now)) }
+    {
+        T::decode(alloc, self)
+    }
+
+    /// The values of the items, in order.
+    ///
+    /// The fault is that of an item before which every item gives a value, or `OutOfMemory` where
+    /// memory is refused for the value of an item, or for room for it.
+    /// Anything but a framed list has no items, and gives an empty list.
+    ///
+    /// ```rust
+    /// let list = rlp::Rlp::new(&[0xc2, 0x05, 0x06]);
+    /// assert_eq!(rt; list.as_list::<u64>(alloc)?.as_slice(), [5, 6].as_slice());
+    /// ```
+    pub fn as_list<T: Decodable>(&self, alloc: Global) -> Result<Vec<T>, DecoderError>
+        ensures value { IfOk result (λ values. GivesList T.gives self.now values.items) }
+        ensures fault { IfErr result (λ e. (FaultsAsList T.gives T.faults self.now e)
+            ⊎ ((e ≡ OutOfMemory) × MayLackAsList T.gives T.may_lack_memory self.now)) }
+    {
+        let mut values = Vec::new(alloc);
+        let mut rest = self.payload();
+        while let Some((item, others)) = split_first(rest) {
+            let value = match T::decode(alloc, &Rlp::new(item)) {
+                Ok(value) => value,
+                Err(fault) => return Err(fault),
+            };
+            match values.push(value) {
+                Ok(()) => rest = others,
+                Err(_) => return Err(DecoderError::OutOfMemory),
+            }
+        }
+        Ok(values)
+    }
+
+    /// The value of the item at `index`, counted from 0: [`Rlp::at`], and then [`Rlp::as_val`].
+    ///
+    /// The faults are those of the two.
+    pub fn val_at<T: Decodable>(&self, alloc: Global, index: usize) -> Result<T, DecoderError>
+        ensures exact { MatchResult (item_at self.now index)
+            (λ item. ReadsValue T.gives T.faults T.may_lack_memory item result)
+            (λ e. result ≡ Err e) }
+        ensures value { IfOk result (λ x. GivesAt T.gives self.now index x) }
+        ensures fault { IfErr result (λ e. (FaultsAt T.faults self.now index e)
+            ⊎ ((e ≡ OutOfMemory) × MayLackAt T.may_lack_memory self.now index)) }
+    {
+        match self.at(index) {
+            Ok(item) => item.as_val(alloc),
+            Err(fault) => Err(fault),
+        }
+    }
+
+    /// The values of the items of the item at `index`, counted from 0: [`Rlp::at`], and then
+    /// [`Rlp::as_list`].
+    ///
+    /// The faults are those of the two.
+    pub fn list_at<T: Decodable>(&self, alloc: Global, index: usize) -> Result<Vec<T>, DecoderError>
+        ensures value { MatchResult (item_at self.now index) (λ item. IfOk result
+            (λ values. GivesList T.gives item values.items)) (λ e. result ≡ Err e) }
+        ensures fault { MatchResult (item_at self.now index) (λ item. IfErr result
+            (λ e. (FaultsAsList T.gives T.faults item e)
+            ⊎ ((e ≡ OutOfMemory) × MayLackAsList T.gives T.may_lack_memory item)))
+            (λ e. result ≡ Err e) }
+    {
+        match self.at(index) {
+            Ok(item) => item.as_list(alloc),
+            Err(fault) => Err(fault),
+        }
+    }
+
+    /// A decoder of the view's bytes.
+    pub fn decoder(&self) -> BasicDecoder<'a>
+        ensures { result ≡ self.now }
+    {
+        BasicDecoder::new(self.as_raw())
+    }
+
+    /// Whether the depth is at most `limit`. Anything but a framed list has depth 0, and a framed
+    /// list 1 more than the deepest of its items, or 1 without items.
+    ///
+    /// It goes no deeper than `limit` lists, so bytes of any origin can be asked before they are
+    /// printed by [`Display`](std::fmt::Display), which goes as deep as they nest.
+    ///
+    /// ```rust
+    /// let list = rlp::Rlp::new(&[0xc2, 0xc1, 0x05]);
+    /// assert!(rt; !list.is_nested_within(1) && list.is_nested_within(2));
+    /// ```
+    pub fn is_nested_within(&self, limit: usize) -> bool
+        ensures { IsTrue result ↔ (depth self.now.bytes ≤ limit) }
+    {
+        if !self.is_list() {
+            return true;
+        }
+        let Ok(value) = self.data() else {
+            return true;
+        };
+        if limit == 0 {
+            return false;
+        }
+        let mut rest = value;
+        while let Some((item, others)) = split_first(rest) {
+            if !Rlp::new(item).is_nested_within(limit - 1) {
+                return false;
+            }
+            rest = others;
+        }
+        true
+    }
+
+    /// The value of a framed list, and no bytes for anything else.
+    #[tactic(auto, unfolding(crate::specs::Format::Split::payload))]
+    pub(crate) fn payload(&self) -> &'a [u8]
+        ensures { result.now ≡ payload self.now.bytes }
+    {
+        if !self.is_list() {
+            return &[];
+        }
+        match self.data() {
+            Ok(value) => value,
+            Err(_) => &[],
+        }
+    }
+}
+
+/// Whether a byte stands at this place that isn't zero.
+fn is_nonzero_at(bytes: &[u8], place: usize) -> bool
+    ensures { result ≡ has_nonzero_at place bytes.now }
+{
+    match bytes.get(place) {
+        Some(byte) => *byte != 0,
+        None => false,
+    }
+}
