@@ -9,8 +9,9 @@ use Rattle.rlp.specs.declared.rlpin.header.PayloadInfo.{PayloadInfo}
 use Rattle.rlp.specs.Format.Header.{header, long_header, payload_info}
 use Rattle.rlp.specs.Format.Framing.{framing, framing_in, frame, value, map_ok, total_len}
 use Rattle.rlp.specs.Format.Split.{split, split_within, frame_and_more, begins_as_list, payload, payload_in, items}
-use Rattle.rlp.specs.Views.Text.{text, text_by, text_within, framed_text, separated}
-use Rattle.rlp.specs.Views.Depth.{depth, depth_by, depth_within, framed_depth, greatest}
+use Rattle.rlp.specs.Views.ByItems.{by_items_within, by_items}
+use Rattle.rlp.specs.Views.Text.{text, text_by, framed_text, separated}
+use Rattle.rlp.specs.Views.Depth.{depth, depth_by, framed_depth, greatest}
 
 -- each of the lists has at most n elements
 abbrev pub AllWithinLength : ℕ → List (List ℕ) → Type 0
@@ -116,22 +117,24 @@ map_agree f g n (b ∷ fs) same a =
     let tails : map f fs ≡ map g fs = map_agree f g n fs same a.1 in
     cc
 
-module _ (A : Type 0) (step : (List ℕ → A) → List ℕ → A)
-    (by_items : (f g : List ℕ → A) (b : List ℕ) → map f (items b) ≡ map g (items b) → step f b ≡ step g b)
-    (within : ℕ → List ℕ → A) (next : (turns : ℕ) (b : List ℕ) → within (suc turns) b ≡ step (within turns) b) where
+module _ (A : Type 0) (none : A) (step : (List ℕ → A) → List ℕ → A)
+    (same_items : (f g : List ℕ → A) (b : List ℕ) → map f (items b) ≡ map g (items b) → step f b ≡ step g b) where
+  abbrev within : ℕ → List ℕ → A
+  within = by_items_within none step
+
   by_short : (f g : List ℕ → A) (b : List ℕ) → ((n : ℕ) → length b ≡ suc n → (q : List ℕ) → length q ≤ n → f q ≡ g q) → step f b ≡ step g b
-  by_short f g [] same = by_items f g [] (ap (map f) items_nil ∙ sym (ap (map g) items_nil))
-  by_short f g (first ∷ rest) same = by_items f g (first ∷ rest) (map_agree f g (length rest) (items (first ∷ rest)) (same (length rest) refl) (items_short (length rest) (first ∷ rest) (omega arith)))
+  by_short f g [] same = same_items f g [] (ap (map f) items_nil ∙ sym (ap (map g) items_nil))
+  by_short f g (first ∷ rest) same = same_items f g (first ∷ rest) (map_agree f g (length rest) (items (first ∷ rest)) (same (length rest) refl) (items_short (length rest) (first ∷ rest) (omega arith)))
 
   enough : (m n : ℕ) (b : List ℕ) → length b ≤ m → length b ≤ n → within (suc m) b ≡ within (suc n) b
   enough zero zero b l k = refl
-  enough zero (suc n) b l k = next zero b ∙ by_short (within zero) (within (suc n)) b (λ j e. absurd (omega arith)) ∙ sym (next (suc n) b)
-  enough (suc m) zero b l k = next (suc m) b ∙ by_short (within (suc m)) (within zero) b (λ j e. absurd (omega arith)) ∙ sym (next zero b)
-  enough (suc m) (suc n) b l k = next (suc m) b ∙ by_short (within (suc m)) (within (suc n)) b (λ j e q s. enough m n q (omega arith) (omega arith)) ∙ sym (next (suc n) b)
+  enough zero (suc n) b l k = by_short (within zero) (within (suc n)) b (λ j e. absurd (omega arith))
+  enough (suc m) zero b l k = by_short (within (suc m)) (within zero) b (λ j e. absurd (omega arith))
+  enough (suc m) (suc n) b l k = by_short (within (suc m)) (within (suc n)) b (λ j e q s. enough m n q (omega arith) (omega arith))
 
-  said_by_items : (f : List ℕ → A) → ((b : List ℕ) → f b ≡ within (suc (length b)) b) → (b : List ℕ) → f b ≡ step f b
-  said_by_items f is b =
-      is b ∙ next (length b) b
+  by_items_step : (f : List ℕ → A) → ((b : List ℕ) → f b ≡ by_items none step b) → (b : List ℕ) → f b ≡ step f b
+  by_items_step f is b =
+      is b
       ∙ by_short (within (length b)) f b (λ j e q s. ap (λ n. within n q) e ∙ enough j (length q) q s (le_refl (length q)) ∙ sym (is q))
 
 text_same : (f g : List ℕ → List ℕ) (b : List ℕ) (is_list : Bool) (r : Result (List ℕ) DecoderError) → map f (items b) ≡ map g (items b) → framed_text f b is_list r ≡ framed_text g b is_list r
@@ -144,13 +147,13 @@ text_step_same : (f g : List ℕ → List ℕ) (b : List ℕ) → map f (items b
 text_step_same f g [] same = refl
 text_step_same f g (first ∷ rest) same = text_same f g (first ∷ rest) (begins_as_list (first ∷ rest)) (value (first ∷ rest)) same
 
-text_turns : (b : List ℕ) → text b ≡ text_within (suc (length b)) b
+text_by_items : (b : List ℕ) → text b ≡ by_items [] text_by b
 unfolding text
-text_turns b = refl
+text_by_items b = refl
 
 -- the text of b, by the texts of its items
 pub text_is : (b : List ℕ) → text b ≡ text_by text b
-text_is b = said_by_items (List ℕ) text_by text_step_same text_within (λ _ _. refl) text text_turns b
+text_is b = by_items_step (List ℕ) [] text_by text_step_same text text_by_items b
 
 depth_same : (f g : List ℕ → ℕ) (b : List ℕ) (is_list : Bool) (r : Result (List ℕ) DecoderError) → map f (items b) ≡ map g (items b) → framed_depth f b is_list r ≡ framed_depth g b is_list r
 depth_same f g b true (Err e) same = refl
@@ -161,10 +164,10 @@ depth_same f g b true (Ok v) same = ap (λ ds. suc (greatest ds)) same
 depth_step_same : (f g : List ℕ → ℕ) (b : List ℕ) → map f (items b) ≡ map g (items b) → depth_by f b ≡ depth_by g b
 depth_step_same f g b same = depth_same f g b (begins_as_list b) (value b) same
 
-depth_turns : (b : List ℕ) → depth b ≡ depth_within (suc (length b)) b
+depth_by_items : (b : List ℕ) → depth b ≡ by_items 0 depth_by b
 unfolding depth
-depth_turns b = refl
+depth_by_items b = refl
 
 -- the depth of b, by the depths of its items
 pub depth_is : (b : List ℕ) → depth b ≡ depth_by depth b
-depth_is b = said_by_items ℕ depth_by depth_step_same depth_within (λ _ _. refl) depth depth_turns b
+depth_is b = by_items_step ℕ 0 depth_by depth_step_same depth depth_by_items b

@@ -1,8 +1,9 @@
 -- How deep the lists in bytes nest.
-use Rattle.std.specs.Prelude.{ℕ, zero, suc, max, Bool, true, false, List, length, map, fold, Result, Ok, Err}
+use Rattle.std.specs.Prelude.{ℕ, suc, max, Bool, true, false, List, map, fold, Result, Ok, Err}
 use Rattle.rlp.specs.declared.error.DecoderError.{DecoderError}
 use Rattle.rlp.specs.Format.Framing.{value}
 use Rattle.rlp.specs.Format.Split.{begins_as_list, items}
+use Rattle.rlp.specs.Views.ByItems.{by_items}
 
 -- the greatest of the numbers, or 0
 abbrev pub greatest : List ℕ → ℕ
@@ -18,11 +19,6 @@ framed_depth depth_of b true (Ok v) = suc (greatest (map depth_of (items b)))
 abbrev pub depth_by : (List ℕ → ℕ) → List ℕ → ℕ
 depth_by depth_of b = framed_depth depth_of b (begins_as_list b) (value b)
 
--- the depth, counted through as many lists as the number allows
-abbrev pub depth_within : ℕ → List ℕ → ℕ
-depth_within zero b = 0
-depth_within (suc turns) b = depth_by (depth_within turns) b
-
--- How deep the lists in b nest. The law `text_and_depth_go_by_items` says that this is `depth_by depth b`: items are shorter than their list.
+-- How deep the lists in b nest. The law `text_and_depth_go_by_items` says that this is `depth_by depth b`.
 unfoldable pub depth : List ℕ → ℕ
-depth b = depth_within (suc (length b)) b
+depth b = by_items 0 depth_by b

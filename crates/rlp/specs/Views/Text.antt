@@ -1,9 +1,10 @@
 -- The text of a view, and of an error.
-use Rattle.std.specs.Prelude.{ℕ, zero, suc, ◌+◌, ◌/◌, ◌%◌, Bool, true, false, if◌then◌else◌, nat_lt, List, [], ◌∷◌, ◌++◌, length, map, flat_map, codes, Result, Ok, Err}
+use Rattle.std.specs.Prelude.{ℕ, ◌+◌, ◌/◌, ◌%◌, Bool, true, false, if◌then◌else◌, nat_lt, List, [], ◌∷◌, ◌++◌, map, flat_map, codes, Result, Ok, Err}
 use Rattle.rlp.specs.declared.error.DecoderError.{DecoderError}
 use Rattle.rlp.specs.declared.error.DecoderError.TheVariants.{RlpIsTooBig, RlpIsTooShort, RlpExpectedToBeList, RlpExpectedToBeData, RlpIncorrectListLen, RlpDataLenWithZeroPrefix, RlpListLenWithZeroPrefix, RlpInvalidIndirection, RlpInconsistentLengthAndData, RlpInvalidLength, Custom, OutOfMemory}
 use Rattle.rlp.specs.Format.Framing.{value}
 use Rattle.rlp.specs.Format.Split.{begins_as_list, items}
+use Rattle.rlp.specs.Views.ByItems.{by_items}
 
 -- what an error prints: its name, and of `Custom` the text too
 abbrev pub error_name : DecoderError → List ℕ
@@ -49,11 +50,6 @@ abbrev pub text_by : (List ℕ → List ℕ) → List ℕ → List ℕ
 text_by text_of [] = codes "null"
 text_by text_of (first ∷ more) = framed_text text_of (first ∷ more) (begins_as_list (first ∷ more)) (value (first ∷ more))
 
--- the text, written through as many lists as the number allows
-abbrev pub text_within : ℕ → List ℕ → List ℕ
-text_within zero b = []
-text_within (suc turns) b = text_by (text_within turns) b
-
--- The text of a view. The law `text_and_depth_go_by_items` says that this is `text_by text b`: items are shorter than their list.
+-- The text of a view. The law `text_and_depth_go_by_items` says that this is `text_by text b`.
 unfoldable pub text : List ℕ → List ℕ
-text b = text_within (suc (length b)) b
+text b = by_items [] text_by b

@@ -9,6 +9,12 @@ ghost use Rattle.rlp.specs.Format.Framing.{framing, total_len};
 use crate::error::DecoderError;
 
 /// The lengths that a header says: its own, and the value's after it.
+///
+/// ```rust
+/// let info = rlp::PayloadInfo::from(&[0xb8, 0x38])?;
+/// assert_eq!(rt; (info.header_len, info.value_len), (2, 56));
+/// assert_eq!(rt; info.checked_total(), Some(58));
+/// ```
 #[derive(Debug, Drop)]
 pub struct PayloadInfo {
     /// How many bytes the header has; none where a byte below `0x80` is its own value.

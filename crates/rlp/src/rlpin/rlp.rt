@@ -136,6 +136,12 @@ impl<'a> Rlp<'a> {
     /// The item at `index`, counted from 0.
     ///
     /// The faults are those of [`Rlp::at_with_offset`].
+    ///
+    /// ```rust
+    /// let list = rlp::Rlp::new(&[0xc4, 0x83, b'c', b'a', b't']);
+    /// assert_eq!(rt; list.at(0)?.as_raw(), [0x83, b'c', b'a', b't'].as_slice());
+    /// assert_eq!(rt; list.at(1).err(), Some(rlp::DecoderError::RlpIsTooShort));
+    /// ```
     pub fn at(&self, index: usize) -> Result<Rlp<'a>, DecoderError>
         ensures { result ≡ item_at self.now index }
     {

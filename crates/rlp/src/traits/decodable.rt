@@ -15,6 +15,24 @@ use std::alloc::Global;
 /// answers nothing else. Most read one string by
 /// [`BasicDecoder::decode_value`](crate::BasicDecoder::decode_value), or another type's value by
 /// [`Rlp::as_val`].
+///
+/// ```rust
+/// pub struct BlockNumber(pub u64);
+///
+/// impl Decodable for BlockNumber {
+///     ghost use Rattle.rlp.specs.Values.ValueReading.{FaultsAsNumber, GivesNumber};
+///
+///     ghost gives = { λ v n. GivesNumber 8 v n.0 };
+///
+///     ghost faults = { λ v e. FaultsAsNumber 8 v e };
+///
+///     ghost may_lack_memory = { λ v. ⊥ };
+///
+///     fn decode(alloc: Global, rlp: &Rlp<'_>) -> Result<BlockNumber, DecoderError> {
+///         Ok(BlockNumber(rlp.as_val(alloc)?))
+///     }
+/// }
+/// ```
 pub trait Decodable: Sized + Drop {
     /// The view gives the value.
     ghost gives: { View → Self → Type 0 };
