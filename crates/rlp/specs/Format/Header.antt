@@ -29,9 +29,9 @@ header_fault [] = RlpIsTooShort
 header_fault (first ∷ []) = RlpIsTooShort
 header_fault (first ∷ second ∷ rest) =
     if (second == 0) && is_within 0xb8 0xbf first then RlpDataLenWithZeroPrefix
-    else (if (second == 0) && is_within 0xf8 0xff first then RlpListLenWithZeroPrefix
-    else (if nat_lt (length (second ∷ rest)) (announced first) then RlpIsTooShort
-    else RlpInvalidIndirection))
+    else if (second == 0) && is_within 0xf8 0xff first then RlpListLenWithZeroPrefix
+    else if nat_lt (length (second ∷ rest)) (announced first) then RlpIsTooShort
+    else RlpInvalidIndirection
 
 -- the right answer for b: the lengths of its header and value, or, where it has no header, the fault
 abbrev pub ReadsHeader : List ℕ → Result PayloadInfo DecoderError → Type 0
@@ -48,16 +48,16 @@ abbrev pub long_header : DecoderError → ℕ → List ℕ → Result PayloadInf
 long_header zero_fault k [] = Err RlpIsTooShort
 long_header zero_fault k (second ∷ rest) =
     if second == 0 then Err zero_fault
-    else (if nat_lt (length (second ∷ rest)) k then Err RlpIsTooShort
-    else (if nat_le (number_from_digits 256 (take k (second ∷ rest))) 55 then Err RlpInvalidIndirection
-    else Ok (payload_info (1 + k) (number_from_digits 256 (take k (second ∷ rest))))))
+    else if nat_lt (length (second ∷ rest)) k then Err RlpIsTooShort
+    else if nat_le (number_from_digits 256 (take k (second ∷ rest))) 55 then Err RlpInvalidIndirection
+    else Ok (payload_info (1 + k) (number_from_digits 256 (take k (second ∷ rest))))
 
 -- the lengths of the header and the value at the front of b, or why no header stands there
 unfoldable pub header : List ℕ → Result PayloadInfo DecoderError
 header [] = Err RlpIsTooShort
 header (first ∷ rest) =
     if nat_lt first 0x80 then Ok (payload_info 0 1)
-    else (if nat_lt first 0xb8 then Ok (payload_info 1 (first - 0x80))
-    else (if nat_lt first 0xc0 then long_header RlpDataLenWithZeroPrefix (first - 0xb7) rest
-    else (if nat_lt first 0xf8 then Ok (payload_info 1 (first - 0xc0))
-    else long_header RlpListLenWithZeroPrefix (first - 0xf7) rest)))
+    else if nat_lt first 0xb8 then Ok (payload_info 1 (first - 0x80))
+    else if nat_lt first 0xc0 then long_header RlpDataLenWithZeroPrefix (first - 0xb7) rest
+    else if nat_lt first 0xf8 then Ok (payload_info 1 (first - 0xc0))
+    else long_header RlpListLenWithZeroPrefix (first - 0xf7) rest

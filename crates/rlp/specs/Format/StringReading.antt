@@ -22,23 +22,23 @@ short_string_fault n rest = if nat_lt (length rest) n then RlpInconsistentLength
 abbrev pub long_value_fault : ℕ → ℕ → DecoderError
 long_value_fault k n =
     if nat_le n 55 then RlpInvalidIndirection
-    else (if nat_lt (2 ^ 64 - 1) (1 + k + n) then RlpInvalidLength
-    else RlpInconsistentLengthAndData)
+    else if nat_lt (2 ^ 64 - 1) (1 + k + n) then RlpInvalidLength
+    else RlpInconsistentLengthAndData
 
 -- why no string stands after a first byte that announces k bytes of length: these aren't all there, the first of them is zero, or by the length that they write
 abbrev pub long_string_fault : ℕ → List ℕ → DecoderError
 long_string_fault k rest =
     if nat_lt (length rest) k then RlpInconsistentLengthAndData
-    else (if slice_index rest 0 == 0 then RlpInvalidIndirection
-    else long_value_fault k (number_from_digits 256 (take k rest)))
+    else if slice_index rest 0 == 0 then RlpInvalidIndirection
+    else long_value_fault k (number_from_digits 256 (take k rest))
 
 -- Why no string stands at the front of b: the first case that applies. It says nothing of bytes that begin with a string.
 abbrev pub string_fault : List ℕ → DecoderError
 string_fault [] = RlpIsTooShort
 string_fault (first ∷ rest) =
     if nat_lt first 0xb8 then short_string_fault (first - 0x80) rest
-    else (if nat_lt first 0xc0 then long_string_fault (first - 0xb7) rest
-    else RlpExpectedToBeData)
+    else if nat_lt first 0xc0 then long_string_fault (first - 0xb7) rest
+    else RlpExpectedToBeData
 
 -- the right answer for b: the string at its front, or, where none stands there, the fault
 abbrev pub ReadsString : List ℕ → Result (List ℕ) DecoderError → Type 0
@@ -50,29 +50,29 @@ ReadsString b answer = MatchResult answer (λ d. IsString b d) (λ e. HasNoStrin
 abbrev pub short_string : ℕ → List ℕ → Result (List ℕ) DecoderError
 short_string n rest =
     if nat_lt (length rest) n then Err RlpInconsistentLengthAndData
-    else (if is_low_byte (take n rest) then Err RlpInvalidIndirection
-    else Ok (take n rest))
+    else if is_low_byte (take n rest) then Err RlpInvalidIndirection
+    else Ok (take n rest)
 
 -- After k bytes of length that say n: a length up to 55 belongs in the first byte, header and string have to be fewer than 2^64 bytes, and the n bytes have to be there.
 abbrev pub long_value : ℕ → ℕ → List ℕ → Result (List ℕ) DecoderError
 long_value k n rest =
     if nat_le n 55 then Err RlpInvalidIndirection
-    else (if nat_lt (2 ^ 64 - 1) (1 + k + n) then Err RlpInvalidLength
-    else (if nat_lt (length rest) n then Err RlpInconsistentLengthAndData
-    else Ok (take n rest)))
+    else if nat_lt (2 ^ 64 - 1) (1 + k + n) then Err RlpInvalidLength
+    else if nat_lt (length rest) n then Err RlpInconsistentLengthAndData
+    else Ok (take n rest)
 
 -- After a first byte that announces k bytes of length: they have to be there, and the first isn't zero.
 abbrev pub long_string : ℕ → List ℕ → Result (List ℕ) DecoderError
 long_string k rest =
     if nat_lt (length rest) k then Err RlpInconsistentLengthAndData
-    else (if slice_index rest 0 == 0 then Err RlpInvalidIndirection
-    else long_value k (number_from_digits 256 (take k rest)) (drop k rest))
+    else if slice_index rest 0 == 0 then Err RlpInvalidIndirection
+    else long_value k (number_from_digits 256 (take k rest)) (drop k rest)
 
 -- The string at the front of b, or why none stands there: a byte below 0x80 is its own string, one below 0xb8 announces the string's length, one below 0xc0 how many bytes the length has, and the others begin a list.
 unfoldable pub read_string : List ℕ → Result (List ℕ) DecoderError
 read_string [] = Err RlpIsTooShort
 read_string (first ∷ rest) =
     if nat_lt first 0x80 then Ok (first ∷ [])
-    else (if nat_lt first 0xb8 then short_string (first - 0x80) rest
-    else (if nat_lt first 0xc0 then long_string (first - 0xb7) rest
-    else Err RlpExpectedToBeData))
+    else if nat_lt first 0xb8 then short_string (first - 0x80) rest
+    else if nat_lt first 0xc0 then long_string (first - 0xb7) rest
+    else Err RlpExpectedToBeData

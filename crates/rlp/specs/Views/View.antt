@@ -75,9 +75,9 @@ abbrev pub begins_as_int : List ℕ → Bool
 begins_as_int [] = false
 begins_as_int (first ∷ rest) =
     if nat_le first 0x80 then true
-    else (if nat_lt first 0xb8 then has_nonzero_at 0 rest
-    else (if nat_lt first 0xc0 then has_nonzero_at (first - 0xb7) rest
-    else false))
+    else if nat_lt first 0xb8 then has_nonzero_at 0 rest
+    else if nat_lt first 0xc0 then has_nonzero_at (first - 0xb7) rest
+    else false
 
 -- ---- the items of a view, by number and by place
 
