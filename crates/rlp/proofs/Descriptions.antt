@@ -7,7 +7,7 @@ use Rattle.rlp.specs.Format.Encoding.{encoding, join, IsSized}
 use Rattle.rlp.specs.Streams.Stack.{OpenList, Stack, empty_stack, stack_put, stack_shut, shut_around, stack_count, count_around, is_last}
 use Rattle.rlp.specs.Streams.Stream.{State, initial_state, list_encoding, put, count}
 use Rattle.rlp.specs.Streams.Calls.{Call, effect, is_within_size, is_admitted, after, after_from}
-use Rattle.rlp.specs.Streams.Described.{Step, one_list, items_after, items_after_all, Describes, by_append, by_empty_data, by_raw, by_checked_raw, by_refused_raw, by_empty_list, by_list, by_unbounded_list, by_finalize, by_internal_list, by_clear, AreDescribed, IsDescribed, joined_stack, joined_list}
+use Rattle.rlp.specs.Streams.Described.{Step, one_list, items_after, items_after_all, Describes, by_append, by_empty_data, by_raw, by_checked_raw, by_refused_raw, by_empty_list, by_list, by_unbounded_list, by_finalize, by_internal_list, by_clear, AreDescribed, IsDescribed, DescribesWhere, AreDescribedWhere, IsDescribedWhere, joined_stack, joined_list}
 use Rattle.rlp.specs.Lemmas.Encodings.{encoding_list, join_same}
 
 one_list_joined : (xs : List Item) → list_encoding (join xs) ≡ join (one_list xs)
@@ -64,8 +64,8 @@ effect_joined : (s : State) {c : Call} {m : Step} → Describes s c m → (t : S
 effect_joined s (by_append x) t e = ap (λ (k : Stack ℕ). stack_count list_encoding 1 (stack_put (encoding x) k)) e ∙ one_joined x t
 effect_joined s by_empty_data t e =
     ap (λ (k : Stack ℕ). stack_count list_encoding 1 (stack_put (0x80 ∷ []) k)) e ∙ ap (λ (b : List ℕ). stack_count list_encoding 1 (stack_put b (joined_stack t))) (sym empty_string) ∙ one_joined (string []) t
-effect_joined s (by_raw xs a) t e = ap (λ (k : Stack ℕ). stack_count list_encoding (length xs) (stack_put (join xs) k)) e ∙ brought_joined xs (length xs) t
-effect_joined s (by_checked_raw xs limit a h) t e =
+effect_joined s (by_raw xs a p) t e = ap (λ (k : Stack ℕ). stack_count list_encoding (length xs) (stack_put (join xs) k)) e ∙ brought_joined xs (length xs) t
+effect_joined s (by_checked_raw xs limit a p h) t e =
     taken (is_within_size (join xs) limit s) (count (length xs) (put (join xs) s)) s _ h (ap (λ (k : Stack ℕ). stack_count list_encoding (length xs) (stack_put (join xs) k)) e ∙ brought_joined xs (length xs) t)
 effect_joined s (by_refused_raw b k limit h) t e = not_taken (is_within_size b limit s) (count k (put b s)) s h ∙ e
 effect_joined s by_empty_list t e = ap (λ (k : Stack ℕ). stack_count list_encoding 1 (stack_put (encoding (list_of [])) k)) e ∙ one_joined (list_of []) t
@@ -89,8 +89,8 @@ cond_front false x y f e g = g
 effect_front : (s : State) {c : Call} {m : Step} → Describes s c m → (effect c s).front ≡ s.front
 effect_front s (by_append x) = refl
 effect_front s by_empty_data = refl
-effect_front s (by_raw xs a) = refl
-effect_front s (by_checked_raw xs limit a h) = cond_front (is_within_size (join xs) limit s) (count (length xs) (put (join xs) s)) s s.front refl refl
+effect_front s (by_raw xs a p) = refl
+effect_front s (by_checked_raw xs limit a p h) = cond_front (is_within_size (join xs) limit s) (count (length xs) (put (join xs) s)) s s.front refl refl
 effect_front s (by_refused_raw b k limit h) = cond_front (is_within_size b limit s) (count k (put b s)) s s.front refl refl
 effect_front s by_empty_list = refl
 effect_front s (by_list n) = refl
@@ -134,3 +134,32 @@ described_once front calls xs ys a b d e =
     let last : r.0 ≡ q.0 = let both : Ok r.0 ≡ Ok q.0 = sym r.1 ∙ q.1 in cc in
     let stacks : record { inner = join xs; lists = [] } ≡ record { inner = join ys; lists = [] } = sym r.3 ∙ ap (λ (s : State). s.stack) last ∙ q.3 in
     join_same xs ys a b (ap (λ (s : Stack ℕ). s.inner) stacks)
+
+-- ---- raw items of some kind alone
+
+described_anyhow : {P : Item → Type 0} (s : State) {c : Call} {m : Step} → DescribesWhere P s c m → Describes s c m
+described_anyhow s (by_append x) = by_append x
+described_anyhow s by_empty_data = by_empty_data
+described_anyhow s (by_raw xs a p) = by_raw xs a (λ k d h. tt)
+described_anyhow s (by_checked_raw xs limit a p h) = by_checked_raw xs limit a (λ k d l. tt) h
+described_anyhow s (by_refused_raw b k limit h) = by_refused_raw b k limit h
+described_anyhow s by_empty_list = by_empty_list
+described_anyhow s (by_list n) = by_list n
+described_anyhow s by_unbounded_list = by_unbounded_list
+described_anyhow s by_finalize = by_finalize
+described_anyhow s (by_internal_list xs) = by_internal_list xs
+described_anyhow s by_clear = by_clear
+
+are_described_anyhow : (P : Item → Type 0) (s : State) (calls : List Call) (steps : List Step) → AreDescribedWhere P s calls steps → AreDescribed s calls steps
+are_described_anyhow P s [] [] d = tt
+are_described_anyhow P s [] (m ∷ steps) d = absurd d
+are_described_anyhow P s (c ∷ calls) [] d = absurd d
+are_described_anyhow P s (c ∷ calls) (m ∷ steps) d = (d.0, described_anyhow s d.1, are_described_anyhow P (effect c s) calls steps d.2)
+
+-- calls that are described where raw items are restricted are described
+pub steps_anyhow : (P : Item → Type 0) (front : List ℕ) (calls : List Call) (steps : List Step) → AreDescribedWhere P (initial_state front) calls steps → AreDescribed (initial_state front) calls steps
+steps_anyhow P front calls steps d = are_described_anyhow P (initial_state front) calls steps d
+
+-- they describe the same items then
+pub items_anyhow : (P : Item → Type 0) (front : List ℕ) (calls : List Call) (xs : List Item) → IsDescribedWhere P front calls xs → IsDescribed front calls xs
+items_anyhow P front calls xs d = record { steps = d.steps; described = steps_anyhow P front calls d.steps d.described; finished = d.finished }

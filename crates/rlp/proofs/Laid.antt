@@ -4,7 +4,7 @@ use Rattle.std.proofs.lemmas.Bool.{cond_both}
 use Rattle.std.proofs.lemmas.Bool.Decides.{nat_tests}
 use Rattle.std.proofs.lemmas.List.{take-take, take-append-le, drop-append-le, take_at, drop_all, length-take-le, length_push, take-append-drop}
 use Rattle.rlp.specs.declared.stream.open_lists.Placeholder.{Placeholder}
-use Rattle.rlp.specs.Streams.Stack.{OpenList, AwaitsSome, is_last, awaits_after, count_around, mark_after, is_unbounded, closed_payload_around}
+use Rattle.rlp.specs.Streams.Stack.{OpenList, is_last, awaits_after, count_around, mark_after, is_unbounded, closed_payload_around}
 use Rattle.rlp.specs.Format.WrittenHeader.{written_header}
 use Rattle.rlp.specs.Streams.Stream.{list_encoding, put, shut, with_list, with_mark, count, raw_text, closed_size}
 use Rattle.rlp.specs.Streams.Placeholders.{begin_of, lists_of, Placed, IsLaid, Descends, with_innermost}
@@ -74,12 +74,6 @@ state_opened start b ps m p h e =
     let none : drop (p.position + 1) (b ++ 0 ∷ []) ≡ [] = drop_all (p.position + 1) (b ++ 0 ∷ []) (omega (arith, length_push b 0)) in
     let rest : take p.position (b ++ 0 ∷ []) ≡ b = take_at b (0 ∷ []) p.position (sym e) in
     rw (take-append-le start b (0 ∷ []) (start_le start b ps h), none, rest) refl
-
-pub laid_opened : (start : ℕ) (b : List ℕ) (ps : List Placeholder) (p : Placeholder) → IsLaid start b ps → p.position ≡ length b → AwaitsSome p.awaits → IsLaid start (b ++ 0 ∷ []) (p ∷ ps)
-laid_opened start b ps p h e a =
-    let none : drop (p.position + 1) (b ++ 0 ∷ []) ≡ [] = drop_all (p.position + 1) (b ++ 0 ∷ []) (omega (arith, length_push b 0)) in
-    let rest : take p.position (b ++ 0 ∷ []) ≡ b = take_at b (0 ∷ []) p.position (sym e) in
-    (record { within = omega (arith, length_push b 0); placeholder = rw (none, rest) refl; awaits_some = a }, rw rest h)
 
 -- ---- the bytes are those of the state
 

@@ -3,7 +3,7 @@ pub mod Depths
 pub mod Splits
 pub mod Printing
 pub mod Values
-pub mod HighFirst
+pub mod DigitBytes
 pub mod Written
 pub mod Growth
 pub mod Layouts

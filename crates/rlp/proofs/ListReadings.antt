@@ -1,5 +1,5 @@
 -- One reading of values whose items are lists.
-use Rattle.std.proofs.Common.{◌≡◌, ℕ, zero, suc, ◌^◌, ◌<◌, ◌⊎◌, inl, inr, Bool, true, false, List, [], ◌∷◌, length, refl, sym, ap, ◌∙◌, subst, arith, codes, Option, Some, None, Result, Ok, Err, IsOkAnd, MatchResult}
+use Rattle.std.proofs.Common.{◌≡◌, ℕ, zero, suc, ◌^◌, ◌<◌, ◌⊎◌, inl, inr, Bool, true, false, [], ◌∷◌, length, refl, sym, ap, ◌∙◌, subst, arith, codes, Option, Some, None, Result, Ok, Err, IsOkAnd, MatchResult}
 use Rattle.rlp.specs.declared.error.DecoderError.{DecoderError}
 use Rattle.rlp.specs.declared.error.DecoderError.TheVariants.{RlpIncorrectListLen, Custom}
 use Rattle.rlp.specs.Format.Item.{Item, list_of}
@@ -12,11 +12,6 @@ use Rattle.rlp.specs.Values.ListReading.{GivesAt, FaultsAt, GivesOption, no_valu
 use Rattle.rlp.specs.Lemmas.Digits.{big_endian_same}
 use Rattle.rlp.specs.Lemmas.RoundTrips.{bit_least}
 use Rattle.rlp.proofs.Slices.{part_of_items}
-
--- bytes that a slice can hold
-pub record IsSlice (b : List ℕ) : Type 0 where
-  pub bytes : AreBytes b
-  pub short : length b < 2 ^ 64
 
 -- ---- one item of a list
 

@@ -1,5 +1,5 @@
 -- How the items of a view come one after another.
-use Rattle.std.proofs.Common.{ℕ, zero, suc, ◌+◌, ◌-◌, ◌<◌, ◌≤◌, ◌≡◌, List, [], ◌∷◌, length, drop, map, Result, Ok, Err, sym, ◌∙◌, ap, arith, length-drop, add-one}
+use Rattle.std.proofs.Common.{ℕ, zero, suc, ◌+◌, ◌-◌, ◌<◌, ◌≤◌, ◌≡◌, List, [], ◌∷◌, length, drop, map, Result, Ok, Err, refl, sym, ◌∙◌, ap, arith, length-drop, add-one}
 use Rattle.std.proofs.lemmas.List.{drop_all, drop-map, length-map}
 use Rattle.rlp.specs.declared.error.DecoderError.{DecoderError}
 use Rattle.rlp.specs.Format.Framing.{frame}
@@ -18,6 +18,11 @@ split_within-shorter (suc turns) p = frame_and_more-shorter turns p (frame p) (s
 pub length-split : (p : List ℕ) → length (split p) ≤ length p
 unfolding split
 length-split p = split_within-shorter (length p) p
+
+-- no bytes have no items
+pub split-nil : split [] ≡ []
+unfolding split
+split-nil = refl
 
 module _ {A : Type 0} where
   drop-suc : (i : ℕ) (xs ys : List A) (x : A) → drop i xs ≡ x ∷ ys → drop (suc i) xs ≡ ys
@@ -54,13 +59,9 @@ pub drop-item_views-past : (v : View) (i j : ℕ) → drop i (items v.bytes) ≡
 unfolding view_of
 drop-item_views-past v i j e h = drop-past i j (item_views v) (drop-map (view_of v) i (items v.bytes) ∙ ap (map (view_of v)) e) h
 
-pub length-items : (b : List ℕ) → length (items b) ≤ length (payload b)
-unfolding items
-length-items b = length-split (payload b)
-
 -- as many views as items
 pub length-item_views : (v : View) → length (item_views v) ≡ length (split (payload v.bytes))
 unfolding view_of items
 length-item_views v = length-map (items v.bytes) (view_of v)
 
-pub ruleset splits = (drop-next, drop-past, drop-inside, length-split, drop-item_views, drop-item_views-past, length-item_views, length-drop)
+pub ruleset splits = (split-nil, drop-next, drop-past, drop-inside, length-split, drop-item_views, drop-item_views-past, length-item_views, length-drop)

@@ -1,15 +1,16 @@
 -- Types of which a struct is made, and structs that are lists of their fields.
-use Rattle.std.specs.Prelude.{ℕ, suc, ◌≡◌, ◌^◌, ◌<◌, ◌↔◌, ⊤, IsUtf8, IfSome, Bool, List, [], ◌∷◌, length, Ok, Option, refl, ◌+◌}
+use Rattle.std.specs.Prelude.{ℕ, suc, ◌≡◌, ◌^◌, ◌<◌, ◌↔◌, ⊤, ◌⊎◌, All, IsUtf8, IfSome, Bool, List, [], ◌∷◌, length, map, Ok, Option, refl, ◌+◌}
 use Rattle.std.proofs.Common.{ap}
 use Rattle.rlp.specs.declared.error.DecoderError.{DecoderError}
 use Rattle.rlp.specs.Format.Item.{Item, string, list_of}
 use Rattle.rlp.specs.Views.View.{View, HoldsItem, item_count}
 use Rattle.rlp.specs.Values.Value.{FitsBytes, bit, number_item, option_item}
 use Rattle.rlp.specs.Values.ValueReading.{FaultsAs, FaultsAsBool, FaultsAsBytes, FaultsAsNumber, FaultsAsText, GivesBool, GivesBytes, GivesNumber, GivesSome, GivesText, GivesValue, IsLengthFault}
-use Rattle.rlp.specs.Values.ListReading.{FaultsAsFields, FaultsAsOption, FaultsAt, FaultsInField, GivesAt, GivesOption, MayLackAsOption, MayLackAsStruct}
+use Rattle.rlp.specs.Values.ListReading.{FaultsAsFields, FaultsAsList, FaultsAsOption, FaultsAt, FaultsInField, GivesAt, GivesList, GivesOption, MayLackAsList, MayLackAsOption, MayLackAsStruct}
 use Rattle.rlp.specs.Values.RoundTrip.{ReadsBack}
-use Rattle.rlp.specs.Lemmas.RoundTrips.{bool_reads_back, bytes_in, number_reads_back, reads_back, sound_length, text_in}
+use Rattle.rlp.specs.Lemmas.RoundTrips.{bool_reads_back, bytes_in, number_reads_back, reads_back, reads_back_through, sound_length, text_in}
 use Rattle.rlp.specs.Lemmas.ListRoundTrips.{option_reads_back}
+use Rattle.rlp.specs.Lemmas.ValueLists.{list_reads_back}
 use Rattle.rlp.specs.Lemmas.Structs.{HoldsFrom, by_place, first_alike, first_sound, more_alike, more_sound, struct_reads_back}
 
 -- How the values of a type are written and read: what its `Encodable`, `Decodable` and `RoundTrip` say, in one record.
@@ -91,6 +92,28 @@ option c = record {
   faults = λ v e. FaultsAsOption c.faults v e;
   may_lack = λ v. MayLackAsOption c.may_lack v;
   reads_back = option_reads_back c.Fits c.item c.gives c.faults c.reads_back;
+}
+
+-- a type of which contracts see another one's value, as a box is
+abbrev pub holding : {A B : Type 0} → (B → A) → Codec A → Codec B
+holding value c = record {
+  Fits = λ b. c.Fits (value b);
+  item = λ b. c.item (value b);
+  gives = λ v b. c.gives v (value b);
+  faults = c.faults;
+  may_lack = λ v. GivesSome c.gives v ⊎ c.may_lack v;
+  reads_back = λ view b fits fit begins. reads_back_through value (c.reads_back view (value b) fits fit begins);
+}
+
+-- a type of which contracts see the values of a list
+abbrev pub list_type : {A B : Type 0} → (B → List A) → Codec A → Codec B
+list_type values c = record {
+  Fits = λ b. All c.Fits (values b);
+  item = λ b. list_of (map c.item (values b));
+  gives = λ v b. GivesList c.gives v (values b);
+  faults = λ v e. FaultsAsList c.gives c.faults v e;
+  may_lack = λ v. MayLackAsList c.gives c.may_lack v;
+  reads_back = list_reads_back c.Fits c.item c.gives c.faults c.reads_back values;
 }
 
 -- ---- structs

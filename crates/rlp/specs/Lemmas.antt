@@ -11,5 +11,5 @@ pub mod OneReading
 pub mod RoundTrips
 pub mod Numbered
 pub mod ListRoundTrips
-pub mod Fields
+pub mod ValueLists
 pub mod Structs

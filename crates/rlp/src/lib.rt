@@ -19,6 +19,8 @@ ghost use Rattle.rlp.specs.declared.error.DecoderError.TheVariants.{OutOfMemory}
 ghost use Rattle.rlp.specs.Values.ListReading.{FaultsAsList, GivesList, MayLackAsList};
 ghost use Rattle.rlp.specs.Views.View.{view_of};
 
+mod count;
+mod digits;
 mod error;
 mod impls;
 pub mod laws;

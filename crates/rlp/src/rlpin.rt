@@ -10,6 +10,5 @@ mod rlp;
 pub use decoder::BasicDecoder;
 pub(crate) use decoder::string_in;
 pub use header::PayloadInfo;
-pub(crate) use header::{number_of, wide_number_of};
 pub use iter::RlpIterator;
 pub use rlp::{Prototype, Rlp};

@@ -16,21 +16,19 @@ mod closing;
 mod encoder;
 mod header;
 mod listed;
-mod moved;
 mod open_lists;
 mod rewinding;
 mod steps;
 mod strings;
 
 use crate::NULL_RLP;
+use crate::count::Count;
 use crate::traits::Encodable;
 use bytes::BytesMut;
 pub use chain::Chain;
 use closing::closed_len;
 pub use encoder::BasicEncoder;
-pub(crate) use header::{leading_zero_bytes, wide_leading_zero_bytes};
 use listed::Listed;
-use moved::Moved;
 use open_lists::{Placeholder, innermost_awaits, is_unbounded};
 use std::alloc::{AllocError, Global};
 use std::marker::Model;
@@ -65,7 +63,7 @@ pub struct RlpStream {
     // The counted mark.
     finished_list: bool,
     // How many payload bytes were moved.
-    moved: Moved,
+    moved: Count,
 }
 
 impl Model for RlpStream {
@@ -117,7 +115,7 @@ impl RlpStream {
             start,
             lists: Vec::new(alloc),
             finished_list: false,
-            moved: Moved::new(),
+            moved: Count::new(),
         }
     }
 

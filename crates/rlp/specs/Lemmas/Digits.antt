@@ -1,10 +1,13 @@
 -- `be` writes a number's digits: they are the number's, they begin with no zero, and no others do.
-use Rattle.std.proofs.Common.{◌≡◌, ℕ, zero, suc, ◌+◌, ◌*◌, ◌/◌, ◌%◌, ◌^◌, ◌<◌, ◌≤◌, List, [], ◌∷◌, ◌++◌, length, get_or, refl, false, eqb, ne_eqb, sym, ap, ◌∙◌, arith, append_assoc, length-append, append-nil, zero-add}
+use Rattle.std.proofs.Common.{◌≡◌, ℕ, zero, suc, ◌+◌, ◌*◌, ◌/◌, ◌%◌, ◌^◌, ◌<◌, ◌≤◌, List, [], ◌∷◌, ◌++◌, length, get_or, lt_of_lt_of_le, refl, false, eqb, ne_eqb, sym, ap, ◌∙◌, arith, append_assoc, length-append, append-nil, zero-add}
 use Rattle.std.specs.Int.Digits.{digits_of, digits_with_fuel, number_from_digits, number_from_digits_after, AllBelowBase}
-use Rattle.std.proofs.lemmas.Int.Digits.{number_digits_of, first_digits_of, length-digits_of-le, all_below_base_digits_of, digits_of_step}
-use Rattle.std.proofs.lemmas.Nat.{div-mul-add, mod-mul-add}
+use Rattle.std.proofs.lemmas.Int.Digits.{number_lt, number_digits_of, first_digits_of, length-digits_of-le, all_below_base_digits_of, digits_of_step}
+use Rattle.std.proofs.lemmas.Nat.{div-mul-add, mod-mul-add, pow-add}
+use Rattle.std.proofs.Math.Nat.{pow-suc, pow-le-pow_right}
+use Rattle.std.proofs.lemmas.List.Elements.{All-from_recursion, recursion_from_All}
 use Rattle.std.proofs.lemmas.Bool.{cond-false}
-use Rattle.rlp.specs.Format.WrittenHeader.{big_endian, big_endian_within}
+use Rattle.rlp.specs.Format.WrittenHeader.{big_endian, big_endian_within, AreBytes}
+use Rattle.rlp.specs.Values.Value.{FitsBytes}
 
 pub big_endian_within_is : (turns n : ℕ) → big_endian_within turns n ≡ digits_with_fuel 256 turns n
 big_endian_within_is zero n = refl
@@ -67,3 +70,25 @@ big_endian_digit d h l =
 -- bytes that begin with no zero are the digits of the number that they write
 pub big_endian_again : (d : ℕ) (ds : List ℕ) → 0 < d → AllBelowBase 256 (d ∷ ds) → big_endian (number_from_digits 256 (d ∷ ds)) ≡ d ∷ ds
 big_endian_again d ds h (low, all) = rw (zero-add d) (big_endian_after d ds h all ∙ ap (λ s. s ++ ds) (big_endian_digit d h low))
+
+-- ---- digits that bytes hold
+
+pub pow-bytes : (width : ℕ) → 256 ^ width ≡ 2 ^ (8 * width)
+pow-bytes zero = refl
+pow-bytes (suc width) =
+    let more : 8 * suc width ≡ 8 * width + 8 = omega arith in
+    pow-suc 256 width ∙ ap (λ p. p * 256) (pow-bytes width) ∙ sym (pow-add 2 (8 * width) 8) ∙ ap (λ k. 2 ^ k) (sym more)
+
+pub digits_fit : (width : ℕ) (digits : List ℕ) → AreBytes digits → length digits ≤ width → FitsBytes width (number_from_digits 256 digits)
+digits_fit width digits bytes few =
+    let below : number_from_digits 256 digits < 256 ^ length digits = number_lt 256 digits (recursion_from_All (λ byte. byte < 2 ^ 8) digits bytes) in
+    let base : 0 < 256 = omega arith in
+    let most : 256 ^ length digits ≤ 256 ^ width = pow-le-pow_right base few in
+    rw (sym (pow-bytes width)) (lt_of_lt_of_le below most)
+
+pub digits_again : (first : ℕ) (rest : List ℕ) → AreBytes (first ∷ rest) → 0 < first → big_endian (number_from_digits 256 (first ∷ rest)) ≡ first ∷ rest
+digits_again first rest bytes leading = big_endian_again first rest leading (recursion_from_All (λ byte. byte < 2 ^ 8) (first ∷ rest) bytes)
+
+pub none_is_zero : (width : ℕ) (digits : List ℕ) → length digits < 1 → FitsBytes width (number_from_digits 256 digits) × (big_endian (number_from_digits 256 digits) ≡ digits)
+none_is_zero width [] h = (digits_fit width [] (All-from_recursion (λ byte. byte < 2 ^ 8) [] tt) (omega arith), big_endian_zero)
+none_is_zero width (d ∷ ds) h = absurd (omega arith)

@@ -168,9 +168,6 @@ stopped_split fs x a stop = record {
 pub nil_unframed : ¬ IsFramed []
 nil_unframed is = omega (arith, header_some is.has_header, is.within)
 
-pub whole_split : (fs : List (List ℕ)) → AllFramed fs → IsSplit (concat fs) fs
-whole_split fs a = subst (λ p. IsSplit p fs) (append-nil (concat fs)) (stopped_split fs [] a nil_unframed)
-
 -- ---- what `frame` gives
 
 shorter : {b : List ℕ} {h n : ℕ} → HasHeader b h n → h + n ≤ length b → HasHeader (take (h + n) b) h n

@@ -1,8 +1,7 @@
 -- Values whose items are lists, and whose encodings are read back.
-use Rattle.std.proofs.Common.{◌≡◌, ◌≢◌, ◌↔◌, ℕ, ◌^◌, ◌<◌, List, [], ◌∷◌, ◌++◌, length, sym, ap, refl, subst, arith, append-nil, Option, Some, None, Result, Ok, IsOkAnd, MatchResult, IfSome, map, length-append}
+use Rattle.std.proofs.Common.{◌≡◌, ◌↔◌, ℕ, ◌^◌, ◌<◌, List, [], ◌∷◌, ◌++◌, length, sym, ap, refl, subst, arith, append-nil, Option, Some, None, Result, Ok, IsOkAnd, MatchResult, IfSome, map, length-append}
 use Rattle.std.proofs.lemmas.List.{length-map}
 use Rattle.rlp.specs.declared.error.DecoderError.{DecoderError}
-use Rattle.rlp.specs.declared.error.DecoderError.TheVariants.{RlpIncorrectListLen}
 use Rattle.rlp.specs.Format.Item.{Item, list_of}
 use Rattle.rlp.specs.Format.Encoding.{BeginsWith, encoding, join, IsSized}
 use Rattle.rlp.specs.Values.Value.{option_item}
@@ -98,10 +97,6 @@ option_reads_back Fits item gives faults law view (Some x) fits fit (more, is) =
       no_fault = some_faulty Fits item gives faults view x count back;
     }
 
-pub many_of : (n : ℕ) (faults : View → DecoderError → Type 0) (v : View) → Ok n ≡ item_count v → n ≢ 0 → n ≢ 1 → FaultsAsOption faults v RlpIncorrectListLen
-many_of n faults v is none one = many_items n (sym is) (omega arith)
-
-pub ruleset option_answers = (no_value, one_value, no_list, many_of, faulty_item)
 
 -- ---- lists of values
 

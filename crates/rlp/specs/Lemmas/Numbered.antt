@@ -1,6 +1,6 @@
--- The items of a view by number, and the values of encoded lists.
-use Rattle.std.proofs.Common.{ℕ, ◌<◌, ◌≤◌, ◌≡◌, ◌⊎◌, inl, inr, ⊎_elim, true, false, List, [], ◌∷◌, ◌++◌, length, map, take, drop, get_or, Some, None, option_map, Result, Ok, Err, ◌↔◌, refl, sym, ◌∙◌, ap, subst, arith, ltb, lt-ltb, le-ltb, append-nil}
-use Rattle.std.specs.List.{slice_get, AllByRecursion}
+-- The items of a view by number.
+use Rattle.std.proofs.Common.{ℕ, ◌<◌, ◌≤◌, ◌≡◌, ◌⊎◌, inl, inr, ⊎_elim, true, false, List, [], ◌∷◌, ◌++◌, length, map, take, drop, get_or, Some, None, option_map, Result, Ok, Err, ◌↔◌, refl, sym, ◌∙◌, ap, arith, ltb, lt-ltb, le-ltb}
+use Rattle.std.specs.List.{slice_get}
 use Rattle.std.proofs.lemmas.Bool.{cases_Bool, cases_lt, cond-true, cond-false}
 use Rattle.std.proofs.lemmas.List.{length-map}
 use Rattle.std.proofs.lemmas.Option.{slice_get-map, slice_get_past, slice_get-get_or}
@@ -12,15 +12,9 @@ use Rattle.rlp.specs.Format.Encoding.{BeginsWith, encoding, IsSized}
 use Rattle.rlp.specs.Format.Framing.{fault, framing, map_ok, value}
 use Rattle.rlp.specs.Format.Split.{begins_as_list, items, payload, payload_in, rest, split}
 use Rattle.rlp.specs.Views.View.{View, view_of, item_views, item_count, item_with_place, item_after, item_by, item_at}
-use Rattle.rlp.specs.Values.ValueReading.{GivesValue}
-use Rattle.rlp.specs.Values.ListReading.{GivesEach}
 use Rattle.rlp.specs.Lemmas.Views.{items_of_list, list_shape}
 
 -- ---- a view whose items are asked for by number is a framed list
-
-pub record IsListWith (b : List ℕ) (p : PayloadInfo) : Type 0 where
-  pub kind : begins_as_list b ≡ true
-  pub framed : framing b ≡ Ok p
 
 split_nothing : split [] ≡ []
 unfolding split
@@ -41,11 +35,6 @@ payload-fault b e kind is = ap (λ k. payload_in k (value b)) kind ∙ ap (λ r.
 framing_cases : (b : List ℕ) (r : Result PayloadInfo DecoderError) → framing b ≡ r → ((p : PayloadInfo) × (framing b ≡ Ok p)) ⊎ ((e : DecoderError) × (framing b ≡ Err e))
 framing_cases b (Ok p) is = inl (p, is)
 framing_cases b (Err e) is = inr (e, is)
-
--- the fault of every number past the last item
-fault_past : View → Result PayloadInfo DecoderError → Result View DecoderError
-fault_past v (Ok p) = Err (fault (rest v.bytes))
-fault_past v (Err e) = Err e
 
 item_at-string : (v : View) (i : ℕ) → begins_as_list v.bytes ≡ false → item_at v i ≡ Err RlpExpectedToBeList
 unfolding item_with_place
@@ -146,19 +135,3 @@ pub item_at-list_item : (before after : List Item) (x : Item) (b : List ℕ) →
 item_at-list_item before after x b sized begins =
     (item_at-slice_get (view_of b) (view_of (encoding x)) (length before)).1
     (ap (λ vs. slice_get vs (length before)) (item_views-list (before ++ x ∷ after) b sized begins) ∙ slice_get-middle (λ (y : Item). view_of (encoding y)) before after x)
-
--- ---- values that were encoded
-
-gives_encoded : {A : Type 0} (Fits : A → Type 0) (item : A → Item) (xs : List A) → AllByRecursion Fits xs → GivesEach (GivesValue Fits item) (map (λ x. view_of (encoding x)) (map item xs)) xs
-gives_encoded Fits item [] all = tt
-gives_encoded Fits item (x ∷ xs) (fits, all) = (record { fits = fits; begins = ([], sym (append-nil (encoding (item x)))) }, gives_encoded Fits item xs all)
-
--- each value of an encoded list is read in its place
-pub list-gives : {A : Type 0} (Fits : A → Type 0) (item : A → Item) (xs : List A) (b : List ℕ) → AllByRecursion Fits xs → IsSized (list_of (map item xs)) → BeginsWith b (encoding (list_of (map item xs)))
-    → GivesEach (GivesValue Fits item) (item_views (view_of b)) xs
-list-gives Fits item xs b all sized begins =
-    subst (λ vs. GivesEach (GivesValue Fits item) vs xs) (sym (item_views-list (map item xs) b sized begins)) (gives_encoded Fits item xs all)
-
-pub all-any : {A : Type 0} (xs : List A) → AllByRecursion (λ _. Unit {0}) xs
-all-any [] = tt
-all-any (x ∷ xs) = (tt, all-any xs)

@@ -16,8 +16,7 @@ use Rattle.rlp.specs.Values.Value.{FitsBytes, number_item}
 use Rattle.rlp.specs.Values.ValueReading.{GivesValue, FaultsAs, no_string, no_value, GivesNumber, IsDigitsFault, too_long, leading_zero, FaultsAsNumber, GivesBytes, FaultsAsBytes, GivesText, IsTextFault, FaultsAsText, HasOneReading}
 use Rattle.rlp.specs.Views.Text.{error_name}
 use Rattle.rlp.specs.Views.View.{view_of}
-use Rattle.rlp.specs.Lemmas.Digits.{big_endian_is, big_endian_first, big_endian_zero}
-use Rattle.rlp.specs.Lemmas.Numbers.{pow-bytes, digits_fit, digits_again, none_is_zero}
+use Rattle.rlp.specs.Lemmas.Digits.{big_endian_is, big_endian_first, big_endian_zero, pow-bytes, digits_fit, digits_again, none_is_zero}
 use Rattle.rlp.specs.Lemmas.Reading.{Bytes}
 use Rattle.rlp.specs.Lemmas.Strings.{string_reads, string_only}
 

@@ -1,5 +1,5 @@
 -- `header` gives the one header that stands at the front, and the fault where none does.
-use Rattle.std.proofs.Common.{◌≡◌, ℕ, zero, suc, ◌+◌, ◌-◌, ◌^◌, ◌<◌, ◌≤◌, inl, inr, ⊎_elim, List, [], ◌∷◌, ◌++◌, length, take, get_or, refl, sym, ap, ◌∙◌, subst, arith, Ok, Err, Result, false, ◌==◌, leb, ltb, ne_eqb, le-ltb, take_at, Fits, w8, length-append, MatchResult, ◌≢◌, length-take, length-take-le, lt_of_lt_of_le, take-append-drop, drop, ltb-true, ltb-false, eqb-true, leb-false}
+use Rattle.std.proofs.Common.{◌≡◌, ℕ, zero, suc, ◌+◌, ◌-◌, ◌^◌, ◌<◌, ◌≤◌, inl, inr, ⊎_elim, List, [], ◌∷◌, ◌++◌, length, take, get_or, refl, sym, ap, ◌∙◌, subst, arith, Ok, Err, Result, false, ◌==◌, leb, ltb, ne_eqb, le-ltb, take_at, Fits, w8, length-append, MatchResult, ◌≢◌, length-take-le, lt_of_lt_of_le, take-append-drop, drop, ltb-true, ltb-false, eqb-true, leb-false}
 use Rattle.std.proofs.lemmas.Bool.Decides.{nat_tests}
 use Rattle.std.proofs.lemmas.Bool.{cases_lt, cond_both, eqb-false, cond-false, lt-leb}
 use Rattle.std.specs.List.{AllByRecursion}
@@ -219,16 +219,6 @@ pub header_reads : (b : List ℕ) → AreBytes b → ReadsHeader b (header b)
 header_reads b bytes = reads_from b (header b) refl (row b (recursion_from_All (λ byte. byte < 2 ^ 8) b bytes))
 
 pub ruleset rows = (header_low, header_string, header_long_string, header_list, header_long_list)
-
--- what fewer than eight bytes write
-pub number_below : (s : List ℕ) (i : ℕ) → AreBytes s → i < 8 → number_from_digits 256 (take i s) < 2 ^ 56
-number_below s i bytes few =
-    let small : Bytes (take i s) = take_bytes i s (recursion_from_All (λ byte. byte < 2 ^ 8) s bytes) in
-    let below : number_from_digits 256 (take i s) < 256 ^ length (take i s) = number_lt 256 (take i s) small in
-    let at_most : length (take i s) ≤ 7 = omega (arith, length-take i s) in
-    let base_above : 0 < 256 = omega arith in
-    let most : 256 ^ length (take i s) ≤ 256 ^ 7 = pow-le-pow_right base_above at_most in
-    lt_of_lt_of_le below most
 
 -- what a slice of `u8` holds, as `type_inv` says it
 pub bytes_held : (b : List ℕ) → ((i : ℕ) → Fits w8 (get_or b i 0)) → AreBytes b

@@ -1,8 +1,8 @@
 -- Structs that are lists of their fields: their encodings are read back, and the rules for bodies that read them.
-use Rattle.std.proofs.Common.{◌≡◌, ◌↔◌, ℕ, zero, suc, ◌+◌, ◌^◌, ◌<◌, ◌⊎◌, inl, inr, List, [], ◌∷◌, ◌++◌, length, sym, ap, ◌∙◌, subst, arith, append_assoc, length-append, Ok}
+use Rattle.std.proofs.Common.{◌≡◌, ◌↔◌, ℕ, zero, suc, ◌+◌, ◌^◌, ◌<◌, ◌⊎◌, inl, inr, List, [], ◌∷◌, ◌++◌, length, sym, ap, ◌∙◌, subst, arith, append_assoc, length-append, Ok, ◌≢◌, refl}
 use Rattle.rlp.specs.declared.error.DecoderError.{DecoderError}
-use Rattle.rlp.specs.declared.error.DecoderError.TheVariants.{OutOfMemory}
-use Rattle.rlp.specs.Format.Item.{Item, list_of}
+use Rattle.rlp.specs.declared.error.DecoderError.TheVariants.{OutOfMemory, RlpIncorrectListLen}
+use Rattle.rlp.specs.Format.Item.{Item, list_of, items_from, listed}
 use Rattle.rlp.specs.Format.Encoding.{BeginsWith, encoding, join, IsSized}
 use Rattle.rlp.specs.Views.View.{View, view_of, item_at, item_count}
 use Rattle.rlp.specs.Values.ListReading.{FaultsAsFields, no_fields, other_count, faulty_field, FaultsAt, FaultsInField, in_field, GivesAt, GivesBefore, MayLackAsStruct, MayLackAt}
@@ -10,7 +10,18 @@ use Rattle.rlp.specs.Values.RoundTrip.{ReadsBack}
 use Rattle.rlp.specs.Lemmas.Encodings.{encoding_list, small_payload, front_sized}
 use Rattle.rlp.specs.Lemmas.Numbered.{item_count-list, item_at-list_item}
 use Rattle.rlp.specs.Lemmas.ListRoundTrips.{AlwaysReadsBack, item_reads_back, middle_sized}
-use Rattle.rlp.specs.Lemmas.Fields.{cons_same, count_off, list_same}
+
+-- equal lists have the same first item, and the same others
+pub cons_same : (x y : Item) (xs ys : List Item) → x ∷ xs ≡ y ∷ ys → (x ≡ y) × (xs ≡ ys)
+cons_same x y xs ys e = (let h : x ≡ y = cc in h, let t : xs ≡ ys = cc in t)
+
+-- the items of a list are those of no other
+pub list_same : (xs ys : List Item) → list_of xs ≡ list_of ys → xs ≡ ys
+list_same xs ys e = let inner : items_from xs ≡ items_from ys = cc in sym (listed_from xs) ∙ ap listed inner ∙ listed_from ys
+  where
+    listed_from : (xs : List Item) → listed (items_from xs) ≡ xs
+    listed_from [] = refl
+    listed_from (x ∷ xs) = ap (λ ys. x ∷ ys) (listed_from xs)
 
 -- what stands in the first place, and what in the others
 abbrev pub by_place : {A : Type 1} → A → (ℕ → A) → ℕ → A
@@ -170,6 +181,10 @@ module _ (count : ℕ) (some : ℕ → ℕ → View → Type 0) (faults : ℕ �
 
   pub field_16 : FieldFails 16
   field_16 = field_by 16
+
+-- a list of another number of items is faulty
+pub count_off : (n m : ℕ) (IsFaulty : View → DecoderError → Type 0) (v : View) → Ok m ≡ item_count v → m ≢ n → FaultsAsFields n IsFaulty v RlpIncorrectListLen
+count_off n m IsFaulty v is other = other_count m (sym is) other
 
 -- for bodies that read the fields of a struct, up to seventeen
 pub ruleset struct_fields = (no_fields, count_off, field_0, field_1, field_2, field_3, field_4, field_5, field_6, field_7, field_8, field_9, field_10, field_11, field_12, field_13, field_14, field_15, field_16)

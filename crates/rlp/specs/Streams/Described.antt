@@ -31,32 +31,48 @@ abbrev pub items_after_all : List Step → Stack Item → Stack Item
 items_after_all [] s = s
 items_after_all (m ∷ ms) s = items_after_all ms (items_after m s)
 
--- Which step a call is, made in the state s. Raw bytes bring items where they are the joined encodings of as many as were announced. A checked raw call that is refused for its size is no step. Strings that are written uncounted are none of these.
-pub data Describes (s : State) : Call → Step → Type 0 where
-  by_append : (x : Item) → Describes s (append x) (brings (x ∷ []))
-  by_empty_data : Describes s append_empty_data (brings (string [] ∷ []))
-  by_raw : (xs : List Item) → All IsSized xs → Describes s (append_raw (join xs) (length xs)) (brings xs)
-  by_checked_raw : (xs : List Item) (limit : ℕ) → All IsSized xs → IsTrue (is_within_size (join xs) limit s) → Describes s (append_raw_checked (join xs) (length xs) limit) (brings xs)
-  by_refused_raw : (bytes : List ℕ) (k limit : ℕ) → IsTrue (not (is_within_size bytes limit s)) → Describes s (append_raw_checked bytes k limit) stays
-  by_empty_list : Describes s (begin_list 0) (brings (list_of [] ∷ []))
-  by_list : (n : ℕ) → Describes s (begin_list (suc n)) (opens (Some (suc n)))
-  by_unbounded_list : Describes s begin_unbounded_list (opens None)
-  by_finalize : Describes s finalize_unbounded_list finishes
-  by_internal_list : (xs : List Item) → Describes s (append_internal (list_of xs)) (brings (list_of xs ∷ []))
-  by_clear : Describes s clear clears
+-- Which step a call is, made in the state s. Raw bytes bring items where they are the joined encodings of as many as were announced, and P holds of each. A checked raw call that is refused for its size is no step. Strings that are written uncounted are none of these.
+pub data DescribesWhere (P : Item → Type 0) (s : State) : Call → Step → Type 0 where
+  by_append : (x : Item) → DescribesWhere P s (append x) (brings (x ∷ []))
+  by_empty_data : DescribesWhere P s append_empty_data (brings (string [] ∷ []))
+  by_raw : (xs : List Item) → All IsSized xs → All P xs → DescribesWhere P s (append_raw (join xs) (length xs)) (brings xs)
+  by_checked_raw : (xs : List Item) (limit : ℕ) → All IsSized xs → All P xs → IsTrue (is_within_size (join xs) limit s) → DescribesWhere P s (append_raw_checked (join xs) (length xs) limit) (brings xs)
+  by_refused_raw : (bytes : List ℕ) (k limit : ℕ) → IsTrue (not (is_within_size bytes limit s)) → DescribesWhere P s (append_raw_checked bytes k limit) stays
+  by_empty_list : DescribesWhere P s (begin_list 0) (brings (list_of [] ∷ []))
+  by_list : (n : ℕ) → DescribesWhere P s (begin_list (suc n)) (opens (Some (suc n)))
+  by_unbounded_list : DescribesWhere P s begin_unbounded_list (opens None)
+  by_finalize : DescribesWhere P s finalize_unbounded_list finishes
+  by_internal_list : (xs : List Item) → DescribesWhere P s (append_internal (list_of xs)) (brings (list_of xs ∷ []))
+  by_clear : DescribesWhere P s clear clears
 
 -- from the state s on each call is admitted, and is the step in its place
-abbrev pub AreDescribed : State → List Call → List Step → Type 0
-AreDescribed s [] [] = Unit
-AreDescribed s [] (m ∷ ms) = ⊥
-AreDescribed s (c ∷ cs) [] = ⊥
-AreDescribed s (c ∷ cs) (m ∷ ms) = IsTrue (is_admitted c s) × Describes s c m × AreDescribed (effect c s) cs ms
+abbrev pub AreDescribedWhere : (Item → Type 0) → State → List Call → List Step → Type 0
+AreDescribedWhere P s [] [] = Unit
+AreDescribedWhere P s [] (m ∷ ms) = ⊥
+AreDescribedWhere P s (c ∷ cs) [] = ⊥
+AreDescribedWhere P s (c ∷ cs) (m ∷ ms) = IsTrue (is_admitted c s) × DescribesWhere P s c m × AreDescribedWhere P (effect c s) cs ms
 
 -- the calls over the front describe these items, and leave no list open
-pub record IsDescribed (front : List ℕ) (calls : List Call) (items : List Item) : Type 0 where
+pub record IsDescribedWhere (P : Item → Type 0) (front : List ℕ) (calls : List Call) (items : List Item) : Type 0 where
   pub steps : List Step
-  pub described : AreDescribed (initial_state front) calls steps
+  pub described : AreDescribedWhere P (initial_state front) calls steps
   pub finished : items_after_all steps empty_stack ≡ record { inner = items; lists = [] }
+
+-- this holds of every item
+abbrev pub IsAny : Item → Type 0
+IsAny x = Unit
+
+-- which step a call is, where raw bytes may bring any items
+abbrev pub Describes : State → Call → Step → Type 0
+Describes s c m = DescribesWhere IsAny s c m
+
+-- from the state s on each call is admitted, and is the step in its place, where raw bytes may bring any items
+abbrev pub AreDescribed : State → List Call → List Step → Type 0
+AreDescribed s calls steps = AreDescribedWhere IsAny s calls steps
+
+-- the calls over the front describe these items, and leave no list open, where raw bytes may bring any items
+abbrev pub IsDescribed : List ℕ → List Call → List Item → Type 0
+IsDescribed front calls items = IsDescribedWhere IsAny front calls items
 
 -- an open list, each payload by the joined encodings of its items
 abbrev pub joined_list : OpenList Item → OpenList ℕ

@@ -1,6 +1,7 @@
 -- What contracts see of a view, and what a view of bytes answers.
-use Rattle.std.specs.Prelude.{ℕ, ◌+◌, ◌-◌, Bool, true, false, Option, None, ◌||◌, ◌==◌, if◌then◌else◌, nat_lt, nat_le, List, [], ◌∷◌, length, take, map, slice_index_or, Result, Ok, Err}
+use Rattle.std.specs.Prelude.{ℕ, ◌≡◌, ◌≤◌, ◌↔◌, ◌+◌, ◌-◌, Bool, IsTrue, IsNone, true, false, Option, None, ◌||◌, ◌==◌, if◌then◌else◌, nat_lt, nat_le, List, [], ◌∷◌, length, take, map, slice_index_or, Result, Ok, Err}
 use Rattle.std.specs.List.{concat}
+use Rattle.std.specs.Iterator.{YieldsFirst}
 use Rattle.rlp.specs.declared.error.DecoderError.{DecoderError}
 use Rattle.rlp.specs.declared.error.DecoderError.TheVariants.{RlpExpectedToBeList}
 use Rattle.rlp.specs.declared.rlpin.header.PayloadInfo.{PayloadInfo}
@@ -52,9 +53,18 @@ list_fault v = None
 abbrev pub item_views : View → List View
 item_views v = map (λ b. record v { bytes = b }) (items v.bytes)
 
--- What an iterator has still to give, in order.
+-- What an iterator has still to give, in order; how many headers were read by its `next` and by the call that made it; and whether it has ended, so that it gives nothing and reads nothing more.
 pub record Remaining : Type 0 where
   pub left : List View
+  pub headers : ℕ
+  pub has_ended : Bool
+
+-- What a call of `next` makes of an iterator. It gives the first item left, or nothing where none is left. It reads one header at most, and none once the iterator has ended, which it has where nothing was given.
+pub record IsStep (old : Remaining) (given : Option View) (new : Remaining) : Type 0 where
+  pub steps : YieldsFirst (λ (i : Remaining). i.left) old given new
+  pub headers : new.headers ≤ old.headers + 1
+  pub headers_once_ended : IsTrue old.has_ended → new.headers ≡ old.headers
+  pub ends : IsNone given ↔ IsTrue new.has_ended
 
 -- whether the first byte is the encoding of the empty string or of the empty list
 abbrev pub begins_as_empty : List ℕ → Bool

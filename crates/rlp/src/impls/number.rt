@@ -6,9 +6,10 @@ ghost use Rattle.rlp.specs.Format.WrittenHeader.{big_endian};
 ghost use Rattle.rlp.specs.Values.Value.{FitsBytes};
 ghost use Rattle.rlp.specs.Values.ValueReading.{IsDigitsFault, GivesNumber, FaultsAsNumber};
 
+use crate::digits::{Digits, number_of, wide_number_of};
 use crate::error::DecoderError;
-use crate::rlpin::{Rlp, number_of, string_in, wide_number_of};
-use crate::stream::{RlpStream, leading_zero_bytes, wide_leading_zero_bytes};
+use crate::rlpin::{Rlp, string_in};
+use crate::stream::RlpStream;
 use crate::traits::{Decodable, Encodable, RoundTrip, Scalar};
 use std::alloc::{AllocError, Global};
 
@@ -147,9 +148,7 @@ impl Encodable for u64 {
 
     #[tactic(auto, using(crate::proofs::Growth::growth))]
     fn rlp_append(&self, s: &mut RlpStream) -> Result<(), AllocError> {
-        let bytes = self.to_be_bytes();
-        s.encoder()
-            .encode_value(&bytes[leading_zero_bytes(*self)..])
+        s.encoder().encode_value(Digits::of(*self).as_slice())
     }
 }
 
@@ -237,9 +236,7 @@ impl Encodable for u128 {
 
     #[tactic(auto, using(crate::proofs::Growth::growth))]
     fn rlp_append(&self, s: &mut RlpStream) -> Result<(), AllocError> {
-        let bytes = self.to_be_bytes();
-        s.encoder()
-            .encode_value(&bytes[wide_leading_zero_bytes(*self)..])
+        s.encoder().encode_value(Digits::of_wide(*self).as_slice())
     }
 }
 

@@ -1,16 +1,17 @@
 //! Laws over the items that a stream's calls describe.
 
-ghost use Rattle.std.specs.Prelude.{◌≡◌, ℕ, List, [], All, Ok};
+ghost use Rattle.std.specs.Prelude.{◌≡◌, ℕ, Bool, List, [], All, IsTrue, Ok};
 ghost use Rattle.rlp.specs.Format.Item.{Item};
 ghost use Rattle.rlp.specs.Format.Encoding.{join, IsSized};
 ghost use Rattle.rlp.specs.Streams.Stack.{empty_stack};
 ghost use Rattle.rlp.specs.Streams.Stream.{State, initial_state};
 ghost use Rattle.rlp.specs.Streams.Calls.{Call, after};
-ghost use Rattle.rlp.specs.Streams.Described.{Step, AreDescribed, IsDescribed, items_after_all, joined_stack};
+ghost use Rattle.rlp.specs.Streams.Described.{Step, AreDescribed, AreDescribedWhere, IsDescribed, IsDescribedWhere, items_after_all, joined_stack};
 
 /// Calls that describe items are admitted, and each payload that they leave is the join of the
 /// items that stand there. With no list left open that is the front, and the join of the items
-/// described, and no other items are described.
+/// described, and no other items are described. All of this holds as well where each item that raw
+/// bytes bring has to pass a test, since the same is described without it.
 pub fn stream_joins_what_is_described()
     ensures payloads { (front : List ℕ) (calls : List Call) (steps : List Step)
         → AreDescribed (initial_state front) calls steps
@@ -23,4 +24,11 @@ pub fn stream_joins_what_is_described()
     ensures only { (front : List ℕ) (calls : List Call) (xs ys : List Item) → All IsSized xs
         → All IsSized ys
         → IsDescribed front calls xs → IsDescribed front calls ys → xs ≡ ys }
+    ensures restricted_steps { (test : Item → Bool) (front : List ℕ) (calls : List Call)
+        (steps : List Step)
+        → AreDescribedWhere (λ x. IsTrue (test x)) (initial_state front) calls steps
+        → AreDescribed (initial_state front) calls steps }
+    ensures restricted_items { (test : Item → Bool) (front : List ℕ) (calls : List Call)
+        (items : List Item) → IsDescribedWhere (λ x. IsTrue (test x)) front calls items
+        → IsDescribed front calls items }
 {}

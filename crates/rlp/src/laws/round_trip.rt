@@ -4,7 +4,7 @@ ghost use Rattle.std.specs.Prelude.{◌≡◌, ◌↔◌, ◌++◌, ◌∷◌, �
 ghost use Rattle.rlp.specs.declared.error.DecoderError.TheVariants.{OutOfMemory};
 ghost use Rattle.rlp.specs.Format.Encoding.{BeginsWith, encoding};
 ghost use Rattle.rlp.specs.Format.Item.{list_of};
-ghost use Rattle.rlp.specs.Values.ListReading.{FaultsAt, GivesAt, MayLackAsList};
+ghost use Rattle.rlp.specs.Values.ListReading.{FaultsAt, GivesAt, GivesList, MayLackAsList};
 ghost use Rattle.rlp.specs.Values.RoundTrip.{ReadsBack};
 ghost use Rattle.rlp.specs.Format.Split.{items};
 ghost use Rattle.rlp.specs.Values.Value.{AreAlike};
@@ -16,7 +16,7 @@ use std::alloc::Global;
 
 /// On bytes that begin with the encoding of a list of values, the items are the encodings of the
 /// values, in order, and each gives the values that fit and are alike to the value in its place, no
-/// others, and has no fault.
+/// others, and has no fault. So the bytes give the list of the values, where all fit.
 pub fn list_is_read_back<T: RoundTrip>(bytes: &[u8])
     ensures items { (vs : List T) → BeginsWith bytes.now (encoding (list_of (map T.item vs)))
         → items bytes.now ≡ map (λ v. encoding (T.item v)) vs }
@@ -24,6 +24,9 @@ pub fn list_is_read_back<T: RoundTrip>(bytes: &[u8])
         → BeginsWith bytes.now (encoding (list_of (map T.item (before ++ v ∷ after))))
         → T.fits v → ReadsBack T.fits T.item (λ w x. GivesAt T.gives w (length before) x)
         (λ w e. FaultsAt T.faults w (length before) e) (view_of bytes.now) v }
+    ensures all { (vs : List T) → All T.fits vs
+        → BeginsWith bytes.now (encoding (list_of (map T.item vs)))
+        → GivesList T.gives (view_of bytes.now) vs }
 {}
 
 /// The value that bytes begin with: where they begin with the encoding of a value that fits, it is

@@ -1,12 +1,10 @@
 //! What a view answers of the items of a list, and of the encodings of values in a list.
 
-ghost use Rattle.std.specs.Prelude.{◌≡◌, ◌≤◌, ◌↔◌, ◌++◌, ◌∷◌, ℕ, List, All, IsUtf8, Ok, Some, length, map, slice_get};
-ghost use Rattle.rlp.specs.Format.Item.{Item, list_of, string};
+ghost use Rattle.std.specs.Prelude.{◌≡◌, ◌≤◌, ◌+◌, ◌↔◌, ◌++◌, ◌∷◌, ℕ, List, None, Ok, Some, length, map, slice_get};
+ghost use Rattle.std.specs.Iterator.{Yields};
+ghost use Rattle.rlp.specs.Format.Item.{Item, list_of};
 ghost use Rattle.rlp.specs.Format.Encoding.{BeginsWith, encoding};
-ghost use Rattle.rlp.specs.Values.Value.{FitsBytes, number_item};
-ghost use Rattle.rlp.specs.Values.ValueReading.{GivesBytes, GivesNumber, GivesText};
-ghost use Rattle.rlp.specs.Values.ListReading.{GivesEach};
-ghost use Rattle.rlp.specs.Views.View.{View, item_at, item_count, item_views, view_of};
+ghost use Rattle.rlp.specs.Views.View.{IsStep, Remaining, View, item_at, item_count, item_views, view_of};
 
 /// The item by number is the one in that place among the items in order, and past the last item
 /// every number has the same fault.
@@ -30,16 +28,13 @@ pub fn view_of_list_has_its_items(bytes: &[u8])
         → item_at (view_of bytes.now) (length before) ≡ Ok (view_of (encoding x)) }
 {}
 
-/// A list of numbers, byte strings or texts that was encoded gives each of its values back, in
-/// order.
-pub fn list_of_values_is_read(bytes: &[u8])
-    ensures numbers { (width : ℕ) (ns : List ℕ) → All (FitsBytes width) ns
-        → BeginsWith bytes.now (encoding (list_of (map number_item ns)))
-        → GivesEach (GivesNumber width) (item_views (view_of bytes.now)) ns }
-    ensures strings { (ds : List (List ℕ))
-        → BeginsWith bytes.now (encoding (list_of (map string ds)))
-        → GivesEach GivesBytes (item_views (view_of bytes.now)) ds }
-    ensures texts { (ts : List (List ℕ)) → All IsUtf8 ts
-        → BeginsWith bytes.now (encoding (list_of (map string ts)))
-        → GivesEach GivesText (item_views (view_of bytes.now)) ts }
+
+/// The calls of `next` up to the first `None` give the items that were left. If one header was read
+/// before, as by `iter`, then n items and `None` have read n + 2 headers at most.
+pub fn iteration_reads_few_headers()
+    ensures items { (start last end : Remaining) (given : List View)
+        → Yields IsStep start given last → IsStep last None end → given ≡ start.left }
+    ensures headers { (start last end : Remaining) (given : List View) → start.headers ≤ 1
+        → Yields IsStep start given last → IsStep last None end
+        → end.headers ≤ length given + 2 }
 {}

@@ -5,8 +5,8 @@ ghost use Rattle.std.specs.Fn.{FnReturnsAt};
 ghost use Rattle.rlp.specs.Format.StringReading.{ReadsString, read_string, short_string, long_string, long_value};
 ghost use Rattle.rlp.specs.Views.View.{HoldsNoString, HoldsString, view_of, view_string};
 
+use crate::digits::number_of;
 use crate::error::DecoderError;
-use crate::rlpin::header::number_of;
 use std::marker::Model;
 
 /// A decoder of the string at the front of bytes. Contracts see it as the record `View` of its

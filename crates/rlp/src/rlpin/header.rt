@@ -2,10 +2,10 @@
 
 ghost use Rattle.std.specs.Prelude.{◌≡◌, ◌+◌, ◌<◌, ◌≤◌, ◌^◌, length, IfOk};
 ghost use Rattle.std.specs.Option.{SomeIff};
-ghost use Rattle.std.specs.Int.Digits.{number_from_digits};
 ghost use Rattle.rlp.specs.Format.Header.{ReadsHeader, header, long_header};
 ghost use Rattle.rlp.specs.Format.Framing.{framing, total_len};
 
+use crate::digits::number_of;
 use crate::error::DecoderError;
 
 /// The lengths that a header says: its own, and the value's after it.
@@ -111,32 +111,6 @@ fn long_form(rest: &[u8], len: usize, zero_fault: DecoderError) -> Result<Payloa
         header_len: 1 + len,
         value_len,
     })
-}
-
-/// The number that these digits write, greatest first.
-pub(crate) fn number_of(digits: &[u8]) -> usize
-    requires { length digits.now ≤ 8 }
-    ensures { result ≡ number_from_digits 256 digits.now }
-{
-    let mut number: usize = 0;
-    for digit in digits {
-        number = number * 256 + *digit as usize;
-    }
-    number
-}
-
-/// The number that up to sixteen digits write, greatest first: that of the first ones, moved up by
-/// eight places, and that of the last eight.
-#[tactic(auto, using(crate::specs::Lemmas::Numbers::wide_number))]
-pub(crate) fn wide_number_of(digits: &[u8]) -> u128
-    requires { length digits.now ≤ 16 }
-    ensures { result ≡ number_from_digits 256 digits.now }
-{
-    if digits.len() <= 8 {
-        return number_of(digits) as u128;
-    }
-    let (high, low) = digits.split_at(digits.len() - 8);
-    number_of(high) as u128 * 0x1_0000_0000_0000_0000 + number_of(low) as u128
 }
 
 /// The header of framed bytes, or why they aren't framed.

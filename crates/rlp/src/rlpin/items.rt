@@ -1,11 +1,35 @@
 //! The step from item to item, by which every walk over a list goes.
 
-ghost use Rattle.std.specs.Prelude.{◌≡◌, ◌∷◌, ◌++◌, [], ◌<◌, length, IfSome, MatchOption, MatchResult};
-ghost use Rattle.rlp.specs.Format.Framing.{fault};
+ghost use Rattle.std.specs.Prelude.{◌≡◌, ◌∷◌, ◌++◌, [], ◌+◌, ◌<◌, ◌≤◌, length, Ok, IfSome, MatchOption, MatchResult};
+ghost use Rattle.rlp.specs.Format.Framing.{fault, framing, total_len, value};
 ghost use Rattle.rlp.specs.Format.Split.{split};
 
 use crate::error::DecoderError;
-use crate::rlpin::header::framing_of;
+use crate::rlpin::header::{PayloadInfo, framing_of};
+
+/// The first item of a payload and the bytes after it, by its header.
+#[inline(always)]
+pub(crate) fn cut_item<'a>(payload: &'a [u8], info: PayloadInfo) -> (&'a [u8], &'a [u8])
+    requires framed { framing payload.now ≡ Ok info }
+    requires within { (0 < total_len info) × (total_len info ≤ length payload.now) }
+    ensures parts { split payload.now ≡ result.0.now ∷ split result.1.now }
+    ensures whole { payload.now ≡ result.0.now ++ result.1.now }
+    ensures shorter { length result.1.now < length payload.now }
+{
+    payload.split_at(info.header_len + info.value_len)
+}
+
+/// The value of the first item, by its header.
+#[inline(always)]
+#[tactic(auto, unfolding(crate::specs::Format::Framing::value))]
+pub(crate) fn cut_value<'a>(bytes: &'a [u8], info: PayloadInfo) -> &'a [u8]
+    requires framed { framing bytes.now ≡ Ok info }
+    requires within { total_len info ≤ length bytes.now }
+    ensures { value bytes.now ≡ Ok result.now }
+{
+    let after_header = &bytes[info.header_len..];
+    &after_header[..info.value_len]
+}
 
 /// The first item of a payload and the bytes after it, or why no item stands there.
 #[inline(always)]
@@ -17,11 +41,10 @@ pub(crate) fn take_item<'a>(payload: &'a [u8]) -> Result<(&'a [u8], &'a [u8]), D
     ensures shorter { MatchResult result (λ r. length r.1.now < length payload.now)
         (λ _. Unit {0}) }
 {
-    let info = match framing_of(payload) {
-        Ok(info) => info,
-        Err(fault) => return Err(fault),
-    };
-    Ok(payload.split_at(info.header_len + info.value_len))
+    match framing_of(payload) {
+        Ok(info) => Ok(cut_item(payload, info)),
+        Err(fault) => Err(fault),
+    }
 }
 
 /// The first item of a payload and the bytes after it, or `None` where no item stands there.

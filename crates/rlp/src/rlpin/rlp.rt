@@ -243,9 +243,9 @@ impl<'a> Rlp<'a> {
     pub fn iter<'view>(&'view self) -> RlpIterator<'a, 'view>
         ensures items { result.left ≡ item_views self.now }
         ensures few { length result.left < 2 ^ 64 }
+        ensures header { result.headers ≤ 1 }
     {
-        let _most = self.payload().len();
-        self.into_iter()
+        RlpIterator::over(self)
     }
 
     /// The value that the view begins with, as its type reads it: [`Decodable::decode`].
@@ -309,12 +309,17 @@ impl<'a> Rlp<'a> {
     ///
     /// The faults are those of the two.
     pub fn list_at<T: Decodable>(&self, alloc: Global, index: usize) -> Result<Vec<T>, DecoderError>
-        ensures value { MatchResult (item_at self.now index) (λ item. IfOk result
-            (λ values. GivesList T.gives item values.items)) (λ e. result ≡ Err e) }
-        ensures fault { MatchResult (item_at self.now index) (λ item. IfErr result
+        ensures exact { MatchResult (item_at self.now index)
+            (λ item. MatchResult result (λ values. GivesList T.gives item values.items)
             (λ e. (FaultsAsList T.gives T.faults item e)
             ⊎ ((e ≡ OutOfMemory) × MayLackAsList T.gives T.may_lack_memory item)))
             (λ e. result ≡ Err e) }
+        ensures value { IfOk result (λ values.
+            GivesAt (λ item xs. GivesList T.gives item xs) self.now index values.items) }
+        ensures fault { IfErr result (λ e.
+            (FaultsAt (λ item f. FaultsAsList T.gives T.faults item f) self.now index e)
+            ⊎ ((e ≡ OutOfMemory)
+            × MayLackAt (λ item. MayLackAsList T.gives T.may_lack_memory item) self.now index)) }
     {
         match self.at(index) {
             Ok(item) => item.as_list(alloc),

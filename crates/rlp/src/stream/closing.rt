@@ -6,8 +6,8 @@ ghost use Rattle.rlp.specs.Streams.Stack.{is_last};
 ghost use Rattle.rlp.specs.Streams.Placeholders.{Descends};
 ghost use Rattle.rlp.specs.Streams.Closing.{filled, counted, closed_bytes, closed_len, growth, left_of};
 
-use crate::stream::header::{list_header, list_header_len};
-use crate::stream::moved::Moved;
+use crate::count::Count;
+use crate::stream::header::{LIST, header, list_header_len};
 use crate::stream::open_lists::{Placeholder, count_innermost};
 use bytes::BytesMut;
 use std::alloc::AllocError;
@@ -97,7 +97,7 @@ pub(crate) fn closed_len(
 
 /// Brings bytes to a later place in the buffer, and adds to `moved` how many. Where they stand
 /// there already, none is moved. No other function moves payload bytes.
-fn shift(bytes: &mut [u8], from: usize, len: usize, to: usize, moved: &mut Moved)
+fn shift(bytes: &mut [u8], from: usize, len: usize, to: usize, moved: &mut Count)
     requires forward { from ≤ to }
     requires within { to + len ≤ length bytes.old }
     ensures bytes { bytes.new
@@ -128,7 +128,7 @@ fn close_lists(
     lists: &mut Vec<Placeholder>,
     closing: usize,
     end: usize,
-    moved: &mut Moved,
+    moved: &mut Count,
 )
     requires order { Descends end (reverse lists.old.items) }
     requires enough { closing ≤ length lists.old.items }
@@ -151,7 +151,7 @@ fn close_lists(
         let len = from - begin;
         to -= len;
         shift(bytes, begin, len, to, moved);
-        let written = list_header(bytes.len() - to);
+        let written = header(LIST, bytes.len() - to);
         let header = written.as_slice();
         to -= header.len();
         write_at(bytes, to, header);
@@ -168,7 +168,7 @@ pub(crate) fn put_counted(
     lists: &mut Vec<Placeholder>,
     bytes: &[u8],
     items: usize,
-    moved: &mut Moved,
+    moved: &mut Count,
 ) -> Result<bool, AllocError>
     requires order { Descends (length buffer.old.items) (reverse lists.old.items) }
     ensures bytes { OnOk result (buffer.new.items

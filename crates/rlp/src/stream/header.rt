@@ -1,10 +1,16 @@
 //! Headers as they are written.
 
-ghost use Rattle.std.specs.Prelude.{◌≡◌, ◌+◌, ◌<◌, ◌≤◌, length, drop};
-ghost use Rattle.std.specs.Int.{w64, w128, to_be_bytes};
+ghost use Rattle.std.specs.Prelude.{◌≡◌, ◌<◌, ◌≤◌, length};
 ghost use Rattle.rlp.specs.Format.WrittenHeader.{big_endian, written_header};
 
+use crate::digits::leading_zero_bytes;
 use std::marker::Model;
+
+/// What is added to the length of a string, where that is short.
+pub(crate) const STRING: u8 = 0x80;
+
+/// The same for the payload of a list.
+pub(crate) const LIST: u8 = 0xc0;
 
 // The greatest length up to which a header is one byte.
 const SHORT: usize = 55;
@@ -35,23 +41,10 @@ impl HeaderBytes {
     }
 }
 
-/// The header of a string of so many bytes.
-pub(crate) fn string_header(len: usize) -> HeaderBytes
-    ensures { result ≡ written_header 0x80 len }
-{
-    header(0x80, len)
-}
-
-/// The header of a list whose payload has so many bytes.
-pub(crate) fn list_header(len: usize) -> HeaderBytes
-    ensures { result ≡ written_header 0xc0 len }
-{
-    header(0xc0, len)
-}
-
-/// The header of a payload of so many bytes, where short ones have their length added to `base`.
+/// The header of a string of so many bytes, where the base is [`STRING`], or of a list whose payload
+/// has so many, where it is [`LIST`].
 #[tactic(auto, using(crate::proofs::Written::written))]
-fn header(base: u8, len: usize) -> HeaderBytes
+pub(crate) fn header(base: u8, len: usize) -> HeaderBytes
     requires { base ≤ 0xc0 }
     ensures { result ≡ written_header base len }
 {
@@ -81,22 +74,4 @@ pub(crate) fn list_header_len(len: usize) -> usize
         return 9 - leading_zero_bytes(len as u64);
     }
     1
-}
-
-/// How many of a number's eight bytes are zeros in front of its digits.
-#[tactic(auto, using(crate::proofs::HighFirst::leading))]
-pub(crate) fn leading_zero_bytes(number: u64) -> usize
-    ensures digits { drop result (to_be_bytes w64 number) ≡ big_endian number }
-    ensures len { result + length (big_endian number) ≡ 8 }
-{
-    number.leading_zeros() as usize / 8
-}
-
-/// The same of a number of sixteen bytes.
-#[tactic(auto, using(crate::proofs::HighFirst::leading))]
-pub(crate) fn wide_leading_zero_bytes(number: u128) -> usize
-    ensures digits { drop result (to_be_bytes w128 number) ≡ big_endian number }
-    ensures len { result + length (big_endian number) ≡ 16 }
-{
-    number.leading_zeros() as usize / 8
 }

@@ -7,7 +7,7 @@ ghost use Rattle.rlp.specs.Format.Encoding.{encoding, is_low_byte, BeginsWith};
 ghost use Rattle.rlp.specs.Streams.Iterated.{GivesAll};
 
 use crate::stream::closing::write_at;
-use crate::stream::header::string_header;
+use crate::stream::header::{STRING, header};
 use bytes::BytesMut;
 use std::alloc::AllocError;
 
@@ -34,7 +34,7 @@ pub(crate) fn write_string(buffer: &mut BytesMut, value: &[u8]) -> Result<(), Al
         buffer.extend_from_slice(value)?;
         return Ok(());
     }
-    let header = string_header(value.len());
+    let header = header(STRING, value.len());
     buffer.reserve(header.as_slice().len() + value.len())?;
     buffer.extend_reserved(header.as_slice());
     buffer.extend_reserved(value);
@@ -91,7 +91,7 @@ fn write_header_before(buffer: &mut BytesMut, start: usize) -> Result<(), AllocE
     if is_low_byte(string) {
         return Ok(());
     }
-    let header = string_header(string.len());
+    let header = header(STRING, string.len());
     buffer.extend_from_slice(header.as_slice())?;
     insert(buffer.as_mut_slice(), start, header.as_slice());
     Ok(())

@@ -1,4 +1,5 @@
-use Rattle.rlp.specs.Lemmas.Numbers.{none_is_zero, leading_is_value}
+use Rattle.rlp.specs.Lemmas.Digits.{none_is_zero}
+use Rattle.rlp.specs.Lemmas.Numbers.{leading_is_value}
 use Rattle.rlp.proofs.impls.number.check_digits.Goals as goal
 
 pub returns-in-empty-clause-value : goal.returns-in-empty-clause-value

@@ -1,6 +1,6 @@
 use Rattle.std.proofs.Common.{sym}
 use Rattle.rlp.specs.Lemmas.Reading.{bytes_held}
-use Rattle.rlp.specs.Lemmas.Frames.{split_framed, split_unframed}
+use Rattle.rlp.specs.Lemmas.Frames.{split_unframed}
 use Rattle.rlp.proofs.Places.{fault-err}
 use Rattle.rlp.proofs.rlpin.items.take_item.Goals as goal
 
@@ -9,8 +9,3 @@ returns-in-Err-clause-parts c = split_unframed c.args.payload.now c.in-Err.fault
 
 pub returns-in-Err-clause-whole : goal.returns-in-Err-clause-whole
 returns-in-Err-clause-whole c = fault-err c.args.payload.now c.in-Err.fault (sym c.in-Err.ensures.exact)
-
-pub returns-clause-parts : goal.returns-clause-parts
-returns-clause-parts c =
-    let parts = split_framed c.args.payload.now c.in-Ok.info.header_len c.in-Ok.info.value_len (bytes_held c.args.payload.now c.type_inv.payload) (sym c.in-Ok.ensures.exact) in
-    cc (parts, c.split_at.ensures.front, c.split_at.ensures.back)

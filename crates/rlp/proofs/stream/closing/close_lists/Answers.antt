@@ -8,7 +8,7 @@ overflow_sub-to-in-loop-left c =
     let h = closes_popped _ _ (c.loop-left.left - 1) _ _ _ c.loop-left.lists.items c.pop.new.self.items c.in-Some.list c.loop-left.invariant.closes c.in-Some.ensures.items next in
     let order = h.order in
     let len = c.loop-left.from - (c.in-Some.list.position + 1) in
-    let fits = closes_fits _ _ _ _ _ _ _ len (c.loop-left.to - len) c.shift.new.bytes c.as_slice-header.result.now h (omega (arith, order.0)) (omega (arith, h.room)) c.shift.ensures.bytes (c.as_slice-header.ensures ∙ c.list_header-written.ensures) in
+    let fits = closes_fits _ _ _ _ _ _ _ len (c.loop-left.to - len) c.shift.new.bytes c.as_slice-header.result.now h (omega (arith, order.0)) (omega (arith, h.room)) c.shift.ensures.bytes (c.as_slice-header.ensures ∙ c.header-written.ensures) in
     omega (arith, fits.0)
 
 pub write_at-requires : goal.write_at-requires
@@ -17,7 +17,7 @@ write_at-requires c =
     let h = closes_popped _ _ (c.loop-left.left - 1) _ _ _ c.loop-left.lists.items c.pop.new.self.items c.in-Some.list c.loop-left.invariant.closes c.in-Some.ensures.items next in
     let order = h.order in
     let len = c.loop-left.from - (c.in-Some.list.position + 1) in
-    let fits = closes_fits _ _ _ _ _ _ _ len (c.loop-left.to - len) c.shift.new.bytes c.as_slice-header.result.now h (omega (arith, order.0)) (omega (arith, h.room)) c.shift.ensures.bytes (c.as_slice-header.ensures ∙ c.list_header-written.ensures) in
+    let fits = closes_fits _ _ _ _ _ _ _ len (c.loop-left.to - len) c.shift.new.bytes c.as_slice-header.result.now h (omega (arith, order.0)) (omega (arith, h.room)) c.shift.ensures.bytes (c.as_slice-header.ensures ∙ c.header-written.ensures) in
     omega (arith, fits.0, fits.1)
 
 pub loop-left-preserved : goal.loop-left-preserved
@@ -29,7 +29,7 @@ loop-left-preserved c =
     let at = c.loop-left.to - len in
     let is : len + (c.in-Some.list.position + 1) ≡ c.loop-left.from = omega (arith, order.0) in
     let goes : at + len ≡ c.loop-left.to = omega (arith, h.room) in
-    let written = c.as_slice-header.ensures ∙ c.list_header-written.ensures in
+    let written = c.as_slice-header.ensures ∙ c.header-written.ensures in
     let fits = closes_fits _ _ _ _ _ _ _ len at c.shift.new.bytes c.as_slice-header.result.now h is goes c.shift.ensures.bytes written in
     let low = at - length c.as_slice-header.result.now in
     let closes = closes_more _ _ _ _ _ _ _ len at low c.shift.new.bytes c.as_slice-header.result.now c.write_at.new.bytes h is goes c.shift.ensures.bytes written (omega (arith, fits.0)) c.write_at.ensures in

@@ -1,11 +1,44 @@
--- The digits of a number are the last of its bytes, highest first.
-use Rattle.std.proofs.Common.{◌≡◌, ℕ, zero, suc, ◌+◌, ◌*◌, ◌/◌, ◌%◌, ◌^◌, ◌<◌, ◌≤◌, [], ◌∷◌, ◌++◌, length, drop, refl, sym, ap, ◌∙◌, arith}
+-- Digits of numbers as they are read and written: the number of two parts, and the last bytes of a number, highest first.
+use Rattle.std.proofs.Common.{◌≡◌, ℕ, zero, suc, ◌+◌, ◌*◌, ◌/◌, ◌%◌, ◌^◌, ◌<◌, ◌≤◌, List, [], ◌∷◌, ◌++◌, length, take, drop, length-take, length-drop, take-append-drop, refl, sym, ap, ◌∙◌, arith}
 use Rattle.std.proofs.Math.Nat.{pow-suc, pow-succ', one-le-pow, div-div-eq-div-mul, pow-le-pow_right}
-use Rattle.std.proofs.lemmas.Nat.{pow-add, div_below, le-div, leading_top}
+use Rattle.std.proofs.lemmas.Nat.{div_below, le-div, leading_top}
+use Rattle.std.proofs.lemmas.List.Elements.{All-take}
+use Rattle.std.specs.Int.Digits.{number_from_digits, number_from_digits_after}
+use Rattle.std.proofs.lemmas.Int.Digits.{number_after_append}
 use Rattle.std.specs.Int.{byte_at, bytes_high_first}
 use Rattle.std.specs.Int.Count.{count_leading_zeros, leading_of_zero}
-use Rattle.rlp.specs.Format.WrittenHeader.{big_endian}
-use Rattle.rlp.specs.Lemmas.Digits.{big_endian_zero, big_endian_digit, big_endian_step}
+use Rattle.rlp.specs.Format.WrittenHeader.{big_endian, AreBytes}
+use Rattle.rlp.specs.Lemmas.Digits.{big_endian_zero, big_endian_digit, big_endian_step, digits_fit, pow-bytes}
+
+-- ---- the number that digits write
+
+-- what fewer than eight bytes write
+pub number_below : (s : List ℕ) (i : ℕ) → AreBytes s → i < 8 → number_from_digits 256 (take i s) < 2 ^ 56
+number_below s i bytes few = digits_fit 7 (take i s) (All-take (λ byte. byte < 2 ^ 8) i s bytes) (omega (arith, length-take i s))
+
+moved : (n d p q a b : ℕ) → a ≡ (n * 256 + d) * p + q → b ≡ (0 * 256 + d) * p + q → a ≡ n * (p * 256) + b
+moved n d p q a b e f = grind arith
+
+number_after : (n : ℕ) (ds : List ℕ) → number_from_digits_after 256 n ds ≡ n * 256 ^ length ds + number_from_digits 256 ds
+number_after n [] = omega arith
+number_after n (d ∷ ds) =
+    let more : number_from_digits_after 256 (n * 256 + d) ds ≡ (n * 256 + d) * 256 ^ length ds + number_from_digits 256 ds = number_after (n * 256 + d) ds in
+    let first : number_from_digits_after 256 (0 * 256 + d) ds ≡ (0 * 256 + d) * 256 ^ length ds + number_from_digits 256 ds = number_after (0 * 256 + d) ds in
+    let power : 256 ^ suc (length ds) ≡ 256 ^ length ds * 256 = pow-suc 256 (length ds) in
+    let powers : n * 256 ^ suc (length ds) ≡ n * (256 ^ length ds * 256) = ap (λ p. n * p) power in
+    moved n d (256 ^ length ds) (number_from_digits 256 ds) (number_from_digits_after 256 (n * 256 + d) ds) (number_from_digits_after 256 (0 * 256 + d) ds) more first
+    ∙ ap (λ p. p + number_from_digits 256 (d ∷ ds)) (sym powers)
+
+-- the number of more than eight digits, by that of the last eight and that of the others
+pub number-halves : (ds : List ℕ) (k : ℕ) → k + 8 ≡ length ds → number_from_digits 256 ds ≡ number_from_digits 256 (take k ds) * 18446744073709551616 + number_from_digits 256 (drop k ds)
+number-halves ds k e =
+    let low : length (drop k ds) ≡ 8 = omega (arith, length-drop k ds) in
+    ap (number_from_digits 256) (sym (take-append-drop k ds)) ∙ number_after_append 256 0 (take k ds) (drop k ds) ∙ number_after (number_from_digits 256 (take k ds)) (drop k ds)
+    ∙ ap (λ n. number_from_digits 256 (take k ds) * 256 ^ n + number_from_digits 256 (drop k ds)) low
+
+pub ruleset halves = (number-halves)
+
+-- ---- a number's bytes, and the zeros in front of its digits
 
 -- a byte of n is the one below it of n / 256
 byte_above : (k n : ℕ) → byte_at (suc k) n ≡ byte_at k (n / 256)
@@ -37,13 +70,6 @@ drop-bytes_high_first zero k m n e = let same : m ≡ k = omega arith in ap (λ 
 drop-bytes_high_first (suc z) k zero n e = absurd (omega arith)
 drop-bytes_high_first (suc z) k (suc m) n e = drop-bytes_high_first z k m n (omega arith)
 
-pow_bytes : (k : ℕ) → 256 ^ k ≡ 2 ^ (8 * k)
-pow_bytes zero = refl
-pow_bytes (suc k) =
-    let split : 2 ^ (8 * k + 8) ≡ 2 ^ (8 * k) * 256 = pow-add 2 (8 * k) 8 in
-    let places : 8 * suc k ≡ 8 * k + 8 = omega arith in
-    pow-suc 256 k ∙ ap (λ p. p * 256) (pow_bytes k) ∙ sym split ∙ ap (λ e. 2 ^ e) (sym places)
-
 -- what the count of leading zero bits says of a number's bytes, so many of them
 record LeadingBytes (m n : ℕ) : Type 0 where
   pub digits : drop (count_leading_zeros (8 * m) n / 8) (bytes_high_first m n) ≡ big_endian n
@@ -57,8 +83,8 @@ some_bytes m n some small =
     let zeros = count_leading_zeros (8 * m) n / 8 in
     let k = j / 8 in
     let all : zeros + suc k ≡ m = omega arith in
-    let least : 256 ^ k ≤ n = let le : 2 ^ (8 * k) ≤ 2 ^ j = pow-le-pow_right (omega arith) (omega arith) in omega (arith, le, pow_bytes k, top.2) in
-    let below : n < 256 ^ suc k = let le : 2 ^ suc j ≤ 2 ^ (8 * suc k) = pow-le-pow_right (omega arith) (omega arith) in omega (arith, le, pow_bytes (suc k), top.3) in
+    let least : 256 ^ k ≤ n = let le : 2 ^ (8 * k) ≤ 2 ^ j = pow-le-pow_right (omega arith) (omega arith) in omega (arith, le, pow-bytes k, top.2) in
+    let below : n < 256 ^ suc k = let le : 2 ^ suc j ≤ 2 ^ (8 * suc k) = pow-le-pow_right (omega arith) (omega arith) in omega (arith, le, pow-bytes (suc k), top.3) in
     let digits : bytes_high_first (suc k) n ≡ big_endian n = digits_high_first k n least below in
     let number : length (big_endian n) ≡ suc k = ap length (sym digits) ∙ length-bytes_high_first (suc k) n in
     record { digits = drop-bytes_high_first zeros (suc k) m n all ∙ digits; len = omega (arith, number, all) }
@@ -76,15 +102,19 @@ leading_bytes m zero small =
     record { digits = ap (λ z. drop z (bytes_high_first m 0)) bytes ∙ drop_bytes m 0 ∙ sym big_endian_zero; len = omega (arith, bytes, ap length big_endian_zero) }
 leading_bytes m (suc n) small = some_bytes m (suc n) (omega arith) small
 
+-- behind the zeros in front, the eight bytes of a number are its digits
 pub leading_digits : (n : ℕ) → n < 2 ^ 64 → drop (count_leading_zeros 64 n / 8) (bytes_high_first 8 n) ≡ big_endian n
 leading_digits n small = (leading_bytes 8 n small).digits
 
+-- so many zeros and digits are eight bytes
 pub leading_len : (n : ℕ) → n < 2 ^ 64 → count_leading_zeros 64 n / 8 + length (big_endian n) ≡ 8
 leading_len n small = (leading_bytes 8 n small).len
 
+-- the same of a number of sixteen bytes
 pub wide_leading_digits : (n : ℕ) → n < 2 ^ 128 → drop (count_leading_zeros 128 n / 8) (bytes_high_first 16 n) ≡ big_endian n
 wide_leading_digits n small = (leading_bytes 16 n small).digits
 
+-- so many zeros and digits are sixteen bytes
 pub wide_leading_len : (n : ℕ) → n < 2 ^ 128 → count_leading_zeros 128 n / 8 + length (big_endian n) ≡ 16
 wide_leading_len n small = (leading_bytes 16 n small).len
 

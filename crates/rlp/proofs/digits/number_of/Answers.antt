@@ -1,6 +1,7 @@
 use Rattle.std.proofs.Common.{arith}
-use Rattle.rlp.specs.Lemmas.Reading.{number_below, bytes_held}
-use Rattle.rlp.proofs.rlpin.header.number_of.Goals as goal
+use Rattle.rlp.specs.Lemmas.Reading.{bytes_held}
+use Rattle.rlp.proofs.DigitBytes.{number_below}
+use Rattle.rlp.proofs.digits.number_of.Goals as goal
 
 pub overflow_mul-number : goal.overflow_mul-number
 overflow_mul-number c =

@@ -21,17 +21,17 @@ use denote.Triple.Entry.{on_entry}
 use denote.Triple.Spec.{Meets, triple_of}
 use denote.Triple.Table.{entered}
 use denote.Triple.Walked.{says, ends_at, walked, walk_Meets}
-use Rattle.rlp.specs.declared.stream.moved.Moved.{Moved}
-use Rattle.rlp.specs.contracts.stream.moved.Moved as T
-use Rattle.rlp.specs.contracts.stream.moved.Moved.new.Key.{name as #it}
-use Rattle.rlp.specs.contracts.stream.moved.Moved.new as it
-use Rattle.rlp.proofs.stream.moved.Moved.new.Statement as stated
-use Rattle.rlp.proofs.stream.moved.Moved.new.Code as code
+use Rattle.rlp.specs.declared.count.Count.{Count}
+use Rattle.rlp.specs.contracts.count.Count as T
+use Rattle.rlp.specs.contracts.count.Count.new.Key.{name as #it}
+use Rattle.rlp.specs.contracts.count.Count.new as it
+use Rattle.rlp.proofs.count.Count.new.Statement as stated
+use Rattle.rlp.proofs.count.Count.new.Code as code
 
 abbrev v : Val
 v = vstruct (vcons (vstruct vnil) vnil)
 
-abbrev r : Moved
+abbrev r : Count
 r = record { marker = record {}; total = 0 }
 
 meets : {M : Type 1} {𝓤 : Ura M} (𝓛 : Logic 𝓤) → (at_mem : Memory → SProp 𝓤) (run : Routine → Fun 𝓤) (𝓣 : Tables 𝓤 𝓛.H)

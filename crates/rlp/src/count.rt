@@ -5,29 +5,29 @@ ghost use Rattle.std.specs.Borrow.{ftrue};
 
 use std::marker::{Model, PhantomData};
 
-/// How many bytes were moved. It takes no memory, and its calls do nothing at run time; without
-/// [`Moved::add`] the number stays.
+/// How often or how much something was done: bytes moved, headers read. It takes no memory, and its
+/// calls do nothing at run time; without [`Count::add`] the number stays.
 #[derive(Drop)]
-pub(crate) struct Moved {
+pub(crate) struct Count {
     marker: PhantomData<u8>,
     pub(crate) ghost total: { ℕ },
 }
 
-impl Model for Moved {
+impl Model for Count {
     ghost also_owns = { λ _. ftrue };
 }
 
-impl Moved {
-    /// No byte was moved.
-    pub(crate) fn new() -> Moved
+impl Count {
+    /// Nothing was done.
+    pub(crate) fn new() -> Count
         ensures { result.total ≡ 0 }
     {
-        Moved {
+        Count {
             marker: PhantomData,
         }
     }
 
-    /// So many more bytes were moved.
+    /// So much more was done.
     pub(crate) fn add(&mut self, _amount: usize)
         ensures { self.new.total ≡ self.old.total + _amount }
     {}

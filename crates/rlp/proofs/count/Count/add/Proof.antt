@@ -15,11 +15,11 @@ use denote.Ref.{MutRef, mut_vals, mut_Tells}
 use denote.Signature.{plain}
 use denote.Steps.{nothing, opens, closes}
 use denote.Triple.Walked.{Stays, says, stay_dropped, Goes-dropped, stay_ref, Goes-ref, ends_at}
-use Rattle.rlp.specs.declared.stream.moved.Moved.{Moved}
-use Rattle.rlp.specs.contracts.stream.moved.Moved as T
-use Rattle.rlp.specs.contracts.stream.moved.Moved.add as f
-use Rattle.rlp.proofs.stream.moved.Moved.add.Statement.{statement}
-use Rattle.rlp.proofs.stream.moved.Moved.add.Code as code
+use Rattle.rlp.specs.declared.count.Count.{Count}
+use Rattle.rlp.specs.contracts.count.Count as T
+use Rattle.rlp.specs.contracts.count.Count.add as f
+use Rattle.rlp.proofs.count.Count.add.Statement.{statement}
+use Rattle.rlp.proofs.count.Count.add.Code as code
 
 abbrev stayed : Stays f.ended.signature.params f.ended.kept
 stayed = (stay_ref (0 ∷ []) tt (plain (λ _. T.the_row)), (stay_dropped _ yes, tt))
@@ -31,7 +31,7 @@ add_spec 𝓤 𝓛 𝓜 𝓡 wired =
     f.Key.name code.function (code.unfolded 𝓤 𝓛.H 𝓜 𝓡 wired)
     (λ κs. (mut_vals, (uint_vals w64, tt))) (λ κs. (mut_Tells (named 0) κs.0 T.the_row, (uint_Tells w64, tt))) (λ κs qs bounds a _ are.
     let κ = κs.0 in let q = qs.0 in let r = a.0 in let n = a.1.0 in let b = r.ref_ptr.0 in let o = r.ref_ptr.1 in let vs = mut_vals r in
-    let h' : Moved = record { marker = r.now.marker; total = r.now.total + n } in
+    let h' : Count = record { marker = r.now.marker; total = r.now.total + n } in
     qed 𝓛 (((‵ (flft κ q) ⊛ ‵ ftrue) ⊛ ‵ ((MutRef (named 0) κ T.the_row).own_val r vs) ⊛ ‵ (usize.own_val n (uint_vals w64 n)) ⊛ ‵ ftrue) ∷ ‵ ftrue ∷ []) ∵
     split ! $ split ! $ move ! (2 ∷ []) $ split ! $ keep ! (0 ∷ 2 ∷ []) $
     enter ! _ _ _ _ _ $ alloc_all ! (λ l. pass_all ! refl ((tt, tt), ((tt, record { fits = are.1.0.1 }), tt)) $
