@@ -1,5 +1,6 @@
 -- What a stream writes is the join of the items that its calls describe.
-use Rattle.std.proofs.Common.{◌≡◌, ℕ, suc, ◌+◌, Bool, true, false, cond, List, [], ◌∷◌, ◌++◌, length, map, Some, None, refl, sym, ap, ◌∙◌, append-nil, Result, Ok, Err, IsTrue, not, All}
+use Rattle.std.proofs.Common.{◌≡◌, ◌<◌, ◌^◌, ℕ, suc, ◌+◌, arith, length-append, Bool, true, false, cond, List, [], ◌∷◌, ◌++◌, length, map, Some, None, refl, sym, ap, ◌∙◌, append-nil, Result, Ok, Err, IsTrue, not, All}
+use Rattle.std.proofs.lemmas.List.{append_cancel_left}
 use Rattle.std.proofs.lemmas.List.Concat.{flat_map-append}
 use Rattle.rlp.specs.Format.WrittenHeader.{big_endian, written_header}
 use Rattle.rlp.specs.Format.Item.{Item, string, list_of}
@@ -7,8 +8,9 @@ use Rattle.rlp.specs.Format.Encoding.{encoding, join, IsSized}
 use Rattle.rlp.specs.Streams.Stack.{OpenList, Stack, empty_stack, stack_put, stack_shut, shut_around, stack_count, count_around, is_last}
 use Rattle.rlp.specs.Streams.Stream.{State, initial_state, list_encoding, put, count}
 use Rattle.rlp.specs.Streams.Calls.{Call, effect, is_within_size, is_admitted, after, after_from}
-use Rattle.rlp.specs.Streams.Described.{Step, one_list, items_after, items_after_all, Describes, by_append, by_empty_data, by_raw, by_checked_raw, by_refused_raw, by_empty_list, by_list, by_unbounded_list, by_finalize, by_internal_list, by_clear, AreDescribed, IsDescribed, DescribesWhere, AreDescribedWhere, IsDescribedWhere, joined_stack, joined_list}
+use Rattle.rlp.specs.Streams.Described.{Step, one_list, items_after, items_after_all, Describes, by_append, by_empty_data, by_raw, by_checked_raw, by_refused_raw, by_empty_list, by_list, by_unbounded_list, by_finalize, by_internal_list, by_clear, AreDescribed, IsDescribed, DescribesWhere, AreDescribedWhere, IsDescribedWhere, joined_stack, joined_list, FinishAs}
 use Rattle.rlp.specs.Lemmas.Encodings.{encoding_list, join_same}
+use Rattle.rlp.specs.Lemmas.Views.{sized_items}
 
 one_list_joined : (xs : List Item) → list_encoding (join xs) ≡ join (one_list xs)
 one_list_joined xs = sym (encoding_list xs) ∙ sym (append-nil (encoding (list_of xs)))
@@ -163,3 +165,33 @@ steps_anyhow P front calls steps d = are_described_anyhow P (initial_state front
 -- they describe the same items then
 pub items_anyhow : (P : Item → Type 0) (front : List ℕ) (calls : List Call) (xs : List Item) → IsDescribedWhere P front calls xs → IsDescribed front calls xs
 items_anyhow P front calls xs d = record { steps = d.steps; described = steps_anyhow P front calls d.steps d.described; finished = d.finished }
+
+-- ---- finished buffers
+
+-- described calls finish as the front and the join
+pub described_buffer : (front : List ℕ) (calls : List Call) (xs : List Item) → IsDescribed front calls xs → FinishAs front calls (front ++ join xs)
+described_buffer front calls xs d =
+    let r = described_finishes front calls xs d in
+    record { last = r.0; admitted = r.1; closed = ap (λ (s : Stack ℕ). s.lists) r.3; buffer = sym (ap (λ (s : Stack ℕ). front ++ s.inner) r.3) }
+
+-- and as nothing else
+pub described_buffer_only : (front : List ℕ) (calls : List Call) (xs : List Item) (bytes : List ℕ) → IsDescribed front calls xs → FinishAs front calls bytes → bytes ≡ front ++ join xs
+described_buffer_only front calls xs bytes d f =
+    let r = described_finishes front calls xs d in
+    let last : f.last ≡ r.0 = let both : Ok f.last ≡ Ok r.0 = sym f.admitted ∙ r.1 in cc in
+    f.buffer ∙ ap (λ (s : State). front ++ s.stack.inner) last ∙ ap (λ (s : Stack ℕ). front ++ s.inner) r.3
+
+-- equal buffers over one front are of equal items
+pub same_buffer : (front : List ℕ) (calls more : List Call) (xs ys : List Item) (one other : List ℕ) → length one < 2 ^ 64 → length other < 2 ^ 64 → IsDescribed front calls xs → FinishAs front calls one
+    → IsDescribed front more ys → FinishAs front more other → one ≡ other → xs ≡ ys
+same_buffer front calls more xs ys one other small little d f e g same =
+    let first : one ≡ front ++ join xs = described_buffer_only front calls xs one d f in
+    let second : other ≡ front ++ join ys = described_buffer_only front more ys other e g in
+    let a : length (join xs) < 2 ^ 64 = omega (arith, ap length first, length-append front (join xs)) in
+    let b : length (join ys) < 2 ^ 64 = omega (arith, ap length second, length-append front (join ys)) in
+    join_same xs ys (sized_items xs (2 ^ 64) a) (sized_items ys (2 ^ 64) b) (append_cancel_left front (join xs) (join ys) (sym first ∙ same ∙ second))
+
+-- calls that describe the same items finish alike
+pub same_items : (front : List ℕ) (calls more : List Call) (xs ys : List Item) (one other : List ℕ) → IsDescribed front calls xs → FinishAs front calls one → IsDescribed front more ys → FinishAs front more other → xs ≡ ys → one ≡ other
+same_items front calls more xs ys one other d f e g same =
+    described_buffer_only front calls xs one d f ∙ ap (λ (zs : List Item). front ++ join zs) same ∙ sym (described_buffer_only front more ys other e g)

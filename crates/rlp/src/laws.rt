@@ -20,7 +20,7 @@ mod round_trip;
 mod streams;
 mod views;
 
-pub use described::stream_joins_what_is_described;
+pub use described::{finished_buffers_tell_items, stream_joins_what_is_described};
 pub use reading::{
     bool_is_read, bytes_are_read, number_is_read, option_is_read, option_of_bytes_is_read,
     option_of_option_is_read, options_are_read, string_is_read, text_is_read,

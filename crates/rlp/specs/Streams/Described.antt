@@ -1,10 +1,10 @@
 -- The items that calls of a stream describe, with no bytes.
-use Rattle.std.specs.Prelude.{ℕ, suc, ◌≡◌, List, [], ◌∷◌, length, map, All, Option, None, Some, IsTrue, not}
+use Rattle.std.specs.Prelude.{ℕ, suc, ◌≡◌, List, [], ◌∷◌, ◌++◌, Ok, length, map, All, Option, None, Some, IsTrue, not}
 use Rattle.rlp.specs.Format.Item.{Item, string, list_of}
 use Rattle.rlp.specs.Format.Encoding.{join, IsSized}
 use Rattle.rlp.specs.Streams.Stack.{OpenList, Stack, empty_stack, stack_put, stack_with_list, stack_shut, stack_count}
-use Rattle.rlp.specs.Streams.Stream.{State, initial_state}
-use Rattle.rlp.specs.Streams.Calls.{Call, append, append_empty_data, append_raw, append_raw_checked, begin_list, begin_unbounded_list, finalize_unbounded_list, append_internal, clear, effect, is_admitted, is_within_size}
+use Rattle.rlp.specs.Streams.Stream.{State, initial_state, IsFinished}
+use Rattle.rlp.specs.Streams.Calls.{Call, append, append_empty_data, append_raw, append_raw_checked, begin_list, begin_unbounded_list, finalize_unbounded_list, append_internal, clear, effect, is_admitted, is_within_size, after}
 
 -- What a call brings to the items: some items, a new list, the end of a list, the loss of all, or nothing.
 pub data Step : Type 0 where
@@ -73,6 +73,13 @@ AreDescribed s calls steps = AreDescribedWhere IsAny s calls steps
 -- the calls over the front describe these items, and leave no list open, where raw bytes may bring any items
 abbrev pub IsDescribed : List ℕ → List Call → List Item → Type 0
 IsDescribed front calls items = IsDescribedWhere IsAny front calls items
+
+-- the calls over the front are all admitted and leave no list open, and the finished buffer is these bytes: the front, and what stands at the top
+pub record FinishAs (front : List ℕ) (calls : List Call) (bytes : List ℕ) : Type 0 where
+  pub last : State
+  pub admitted : after front calls ≡ Ok last
+  pub closed : IsFinished last
+  pub buffer : bytes ≡ front ++ last.stack.inner
 
 -- an open list, each payload by the joined encodings of its items
 abbrev pub joined_list : OpenList Item → OpenList ℕ

@@ -1,12 +1,12 @@
 //! Laws over the items that a stream's calls describe.
 
-ghost use Rattle.std.specs.Prelude.{◌≡◌, ℕ, Bool, List, [], All, IsTrue, Ok};
+ghost use Rattle.std.specs.Prelude.{◌≡◌, ℕ, Bool, List, [], All, IsTrue, Ok, ◌++◌, ◌↔◌};
 ghost use Rattle.rlp.specs.Format.Item.{Item};
 ghost use Rattle.rlp.specs.Format.Encoding.{join, IsSized};
 ghost use Rattle.rlp.specs.Streams.Stack.{empty_stack};
 ghost use Rattle.rlp.specs.Streams.Stream.{State, initial_state};
 ghost use Rattle.rlp.specs.Streams.Calls.{Call, after};
-ghost use Rattle.rlp.specs.Streams.Described.{Step, AreDescribed, AreDescribedWhere, IsDescribed, IsDescribedWhere, items_after_all, joined_stack};
+ghost use Rattle.rlp.specs.Streams.Described.{Step, AreDescribed, AreDescribedWhere, IsDescribed, IsDescribedWhere, items_after_all, joined_stack, FinishAs};
 
 /// Calls that describe items are admitted, and each payload that they leave is the join of the
 /// items that stand there. With no list left open that is the front, and the join of the items
@@ -31,4 +31,17 @@ pub fn stream_joins_what_is_described()
     ensures restricted_items { (test : Item → Bool) (front : List ℕ) (calls : List Call)
         (items : List Item) → IsDescribedWhere (λ x. IsTrue (test x)) front calls items
         → IsDescribed front calls items }
+{}
+
+/// Where calls describe items, the finished buffer is the front and the join of the items. Over one
+/// front, two finished buffers are equal exactly if the items described are.
+pub fn finished_buffers_tell_items(one: &[u8], other: &[u8])
+    ensures joined { (front : List ℕ) (calls : List Call) (xs : List Item)
+        → IsDescribed front calls xs → FinishAs front calls (front ++ join xs) }
+    ensures only { (front : List ℕ) (calls : List Call) (xs : List Item) (bytes : List ℕ)
+        → IsDescribed front calls xs → FinishAs front calls bytes → bytes ≡ front ++ join xs }
+    ensures equal { (front : List ℕ) (one_calls other_calls : List Call) (xs ys : List Item)
+        → IsDescribed front one_calls xs → FinishAs front one_calls one.now
+        → IsDescribed front other_calls ys → FinishAs front other_calls other.now
+        → (one.now ≡ other.now) ↔ (xs ≡ ys) }
 {}
