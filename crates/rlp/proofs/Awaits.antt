@@ -15,6 +15,7 @@ Awaits l = AwaitsSome l.awaits
 abbrev Await : {A : Type 0} → List (OpenList A) → Type 0
 Await lists = AllByRecursion Awaits lists
 
+-- a count that closes no list leaves one that awaits some
 pub await-after : (k : ℕ) (awaits : Option ℕ) → AwaitsSome awaits → is_last k awaits ≡ false → AwaitsSome (awaits_after k awaits)
 await-after k None some open_still = tt
 await-after k (Some n) some open_still = let more : k < n = leb-false n k open_still in omega arith

@@ -26,6 +26,7 @@ closed_len_is start b x (p ∷ ps) h =
     let encoded : length (list_encoding payload) ≡ header_len (length payload) + length payload = length-append (written_header 0xc0 (length payload)) payload in
     around ∙ ap (λ n. closed_len start n (length (list_encoding payload)) ps) below ∙ ap (λ n. closed_len start p.position n ps) encoded ∙ ap (λ n. closed_len start p.position (header_len n + n) ps) len
 
+-- the closed size of a state, found from the places of its open lists
 pub closed_size_is : (start : ℕ) (b : List ℕ) (ps : List Placeholder) (m : Bool) (more : ℕ) → IsLaid start b ps → closed_size_with more (state_of start b ps m) ≡ closed_len start (length b) more ps
 closed_size_is start b ps m more h = closed_len_is start b (replicate more 0) ps h ∙ ap (λ n. closed_len start (length b) n ps) (length-replicate more 0)
 
@@ -51,6 +52,7 @@ pub record Measured (start end more : ℕ) (whole : List Placeholder) (left tail
   pub order : Descends left ps
   pub lowest : start ≤ left_of (length ps) left ps
 
+-- one more list is measured, with its header
 pub measured_more : (start end more : ℕ) (whole : List Placeholder) (left tail : ℕ) (p : Placeholder) (ps : List Placeholder) (len header : ℕ)
     → Measured start end more whole left tail (p ∷ ps) → len ≡ (left - (p.position + 1)) + tail → header ≡ header_len len → Measured start end more whole p.position (header + len) ps
 measured_more start end more whole left tail p ps len header h is written =
@@ -68,6 +70,7 @@ measured_long start end more whole left tail p ps h =
     let around = closed_len_more start p.position (header_len len + len) ps in
     omega (arith, h.size, around)
 
+-- the same, where the header's length is computed
 pub measured_encoded : (start end more : ℕ) (whole : List Placeholder) (left tail : ℕ) (p : Placeholder) (ps : List Placeholder) (len header : ℕ) → Measured start end more whole left tail (p ∷ ps)
     → len ≡ (left - (p.position + 1)) + tail → header ≡ header_len len → header + len ≤ closed_len start end more whole
 measured_encoded start end more whole left tail p ps len header h is written =
@@ -90,10 +93,12 @@ closed_len_few start end more (p ∷ ps) order small =
     let around : closed_len start p.position (header_len len + len) ps ≤ p.position + (header_len len + len) + 8 * length ps = closed_len_few start p.position (header_len len + len) ps order.1 (omega (arith, order.0)) in
     omega (arith, around, few, order.0)
 
+-- the same, by the innermost list taken from the others
 pub measured_popped : (start end more : ℕ) (whole : List Placeholder) (left tail : ℕ) (lists rest : List Placeholder) (p : Placeholder) → Measured start end more whole left tail (reverse lists) → lists ≡ rest ++ p ∷ [] → Measured start end more whole left tail (p ∷ reverse rest)
 measured_popped start end more whole left tail lists rest p h is =
     subst (λ ps. Measured start end more whole left tail ps) (ap reverse is ∙ reverse_push rest p) h
 
+-- the closed size is the one with no bytes more
 pub closed_size_none : (s : State) → closed_size_with 0 s ≡ closed_size s
 closed_size_none s = ap (λ b. length (closed_payload_around list_encoding b s.stack.lists)) (append-nil s.stack.inner)
 
@@ -125,10 +130,12 @@ front_len start b (p ∷ ps) h e =
     let below = start_le start (take p.position b) ps h.1 in
     absurd (omega (arith, below, length-take-le p.position b (omega arith)))
 
+-- nothing stands behind the front where the closed size is 0
 pub empty_size : (start : ℕ) (b : List ℕ) (ps : List Placeholder) (m : Bool) → IsLaid start b ps → closed_size (state_of start b ps m) ≡ 0 → length b ≡ start
 empty_size start b ps m h e =
     empty_len start b ps h (sym (closed_size_is start b ps m 0 h) ∙ closed_size_none (state_of start b ps m) ∙ e)
 
+-- the closed size is 0 where nothing stands behind the front
 pub front_size : (start : ℕ) (b : List ℕ) (ps : List Placeholder) (m : Bool) → IsLaid start b ps → length b ≡ start → closed_size (state_of start b ps m) ≡ 0
 front_size start b ps m h e =
     sym (closed_size_none (state_of start b ps m)) ∙ closed_size_is start b ps m 0 h ∙ front_len start b ps h e

@@ -10,6 +10,7 @@ use Rattle.rlp.specs.Streams.Placeholders.{Descends, with_innermost}
 use Rattle.rlp.specs.Streams.Closing.{filled, counted, closed_bytes, header_len, growth, left_of}
 use Rattle.rlp.specs.Lemmas.Headers.{written_header_short, written_header_long}
 
+-- the last of a list is the first of its reverse
 pub reverse_push : (ps : List Placeholder) (p : Placeholder) → reverse (ps ++ p ∷ []) ≡ p ∷ reverse ps
 reverse_push ps p = reverse-append ps (p ∷ [])
 
@@ -40,6 +41,7 @@ closes_all whole bytes from to ps h =
     let same : to ≡ from = omega (arith, h.room) in
     sym (take-append-drop from bytes) ∙ ap (λ n. take from bytes ++ drop n bytes) (sym same) ∙ h.known
 
+-- a header has a byte
 pub header_some : (len : ℕ) → 0 < header_len len
 header_some len =
     ⊎_elim (λ long. let e : header_len len ≡ suc (length (big_endian len)) = ap length (written_header_long 0xc0 len long) in omega arith)
@@ -118,6 +120,7 @@ closes_popped whole left n bytes from to lists rest p h is more =
     subst (λ m. Closes whole m bytes from to (p ∷ reverse rest)) more
     (subst (λ ps. Closes whole left bytes from to ps) (ap reverse is ∙ reverse_push rest p) h)
 
+-- past the innermost list, by the list that was taken from the others
 pub dropped_popped : (left n : ℕ) (lists rest : List Placeholder) (p : Placeholder) → lists ≡ rest ++ p ∷ [] → left ≡ suc n → drop left (reverse lists) ≡ drop n (reverse rest)
 dropped_popped left n lists rest p is more =
     ap (λ m. drop m (reverse lists)) more ∙ ap (λ ps. drop (suc n) ps) (ap reverse is ∙ reverse_push rest p)
@@ -142,6 +145,7 @@ closes_fits whole n bytes from to p ps len at moved header h is goes moves heads
     let header_is : length header ≡ header_len (len + (length bytes - to)) = ap length heads ∙ ap header_len payload in
     (omega (arith, room, header_is), omega (arith, len_moved, h.within))
 
+-- what stands left of the closed lists, by the list that was taken from the others
 pub left_popped : (left n end : ℕ) (lists rest : List Placeholder) (p : Placeholder) → lists ≡ rest ++ p ∷ [] → left ≡ suc n → left_of left end (reverse lists) ≡ left_of n p.position (reverse rest)
 left_popped left n end lists rest p is more =
     ap (λ m. left_of m end (reverse lists)) more ∙ ap (λ ps. left_of (suc n) end ps) (ap reverse is ∙ reverse_push rest p)
@@ -153,6 +157,7 @@ counted_by : (full : Bool) (k : ℕ) (p : Placeholder) (ps : List Placeholder) �
 counted_by true k p ps e around = rw e around
 counted_by false k p ps e around = rw e refl
 
+-- after the count of one item, the innermost list that stays open awaits one fewer
 pub counted_one : (ps : List Placeholder) → counted 1 ps ≡ with_innermost (awaits_after 1) (drop (filled 1 ps) ps)
 counted_one [] = refl
 counted_one (p ∷ ps) = counted_by (is_last 1 p.awaits) 1 p ps refl (counted_one ps) ∙ cond_same (is_last 1 p.awaits)
@@ -161,6 +166,7 @@ counted_one (p ∷ ps) = counted_by (is_last 1 p.awaits) 1 p ps refl (counted_on
     cond_same true = refl
     cond_same false = refl
 
+-- after a count, the innermost list that stays open awaits fewer by what was counted in it
 pub counted_is : (k more : ℕ) (ps : List Placeholder) → (filled k ps ≡ 0 → more ≡ k) → (0 < filled k ps → more ≡ 1) → counted k ps ≡ with_innermost (awaits_after more) (drop (filled k ps) ps)
 counted_is k more [] none some = refl
 counted_is k more (p ∷ ps) none some = with_more (is_last k p.awaits) refl
@@ -178,6 +184,7 @@ pub moved_within : (begin at len old new : ℕ) → begin ≤ at → (begin < at
 moved_within begin at len old new forward counts stays =
     ⊎_elim (λ before. omega (arith, counts before)) (λ after. omega (arith, stays (omega arith))) (cases_lt begin at)
 
+-- places that descend from a lower place do so from a higher one
 pub descends_le : (low high : ℕ) (ps : List Placeholder) → low ≤ high → Descends low ps → Descends high ps
 descends_le low high [] le d = tt
 descends_le low high (p ∷ ps) le d = (omega (arith, d.0), d.1)
@@ -195,6 +202,7 @@ set_last_reversed change n (u ∷ ps) p q some last is new =
     let with : Placeholder → Placeholder = λ r. record r { awaits = change r.awaits } in
     back ∙ ap (λ z. z ∷ ps) (new ∙ ap with same)
 
+-- the last place, set with what it awaits changed, is the innermost list changed
 pub set_last : (change : Option ℕ → Option ℕ) (n : ℕ) (lists : List Placeholder) (p q : Placeholder) → 0 < length lists → n ≡ length lists - 1 → p ≡ get_or lists n p → q ≡ record p { awaits = change p.awaits }
     → reverse (set lists n q) ≡ with_innermost change (reverse lists)
 set_last change n lists p q some last is new =

@@ -47,6 +47,7 @@ list_depth xs b h begins same =
     ∙ ap suc (let none : max 0 (items_depth (items_from xs)) ≡ items_depth (items_from xs) = omega arith in none)
 
 mutual
+  -- the depth of an item's encoding is the depth of the item
   pub depth_of_item : (x : Item) (b : List ℕ) → IsSized x → BeginsWith b (encoding x) → depth b ≡ item_depth x
   depth_of_item (string s) b h begins = depth_is b ∙ ap (λ l. framed_depth depth b l (value b)) (not_list s b h begins) ∙ plain b (value b)
   depth_of_item (list ys) b h begins =

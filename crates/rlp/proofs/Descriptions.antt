@@ -118,6 +118,7 @@ after_described (c ∷ calls) (m ∷ steps) n s t d e =
     after_described calls steps (n + 1) (effect c s) (items_after m t) d.2 (effect_joined s d.1 t e) in
     (r.0, cond_true (is_admitted c s) (after_from (n + 1) (effect c s) calls) (Err n) d.0 ∙ r.1, r.2 ∙ effect_front s d.1, r.3)
 
+-- described calls leave the joins of the items that stand in each payload
 pub described_joins : (front : List ℕ) (calls : List Call) (steps : List Step) → AreDescribed (initial_state front) calls steps
     → Leaves (after front calls) front (joined_stack (items_after_all steps empty_stack))
 described_joins front calls steps d = after_described calls steps 1 (initial_state front) empty_stack d refl

@@ -10,6 +10,7 @@ use Rattle.rlp.specs.Streams.Growth.{GrowsTo}
 use Rattle.rlp.proofs.Listed.{list_filled, add_more, or_true}
 use Rattle.rlp.proofs.Growth.{grows_same, grows_put, grows_with_list, grows_in_list, grows_trans}
 
+-- all items are added, and then one more
 pub add_all-push : (xs : List Item) (x : Item) (s : State) → add_all (xs ++ x ∷ []) s ≡ add x (add_all xs s)
 add_all-push [] x s = refl
 add_all-push (y ∷ xs) x s = add_all-push xs x (add y s)
@@ -46,14 +47,17 @@ filled_list (x ∷ xs) n s t e is = is ∙ ap (λ k. add_all (x ∷ xs) (with_li
 
 -- ---- what the items of a list come to, appended one by one
 
+-- the encoding of a list is the header of its joined items, and these
 pub encoding_of_list : (xs : Items) → encoding (list xs) ≡ written_header 0xc0 (length (join_items xs)) ++ join_items xs
 unfolding encoding
 encoding_of_list xs = refl
 
+-- no items are joined to no bytes
 pub join_none : join_items no_items ≡ []
 unfolding join_items
 join_none = refl
 
+-- an item and others are joined to its encoding and theirs
 pub join_and : (x : Item) (xs : Items) → join_items (item_and x xs) ≡ encoding x ++ join_items xs
 unfolding join_items
 join_and x xs = refl

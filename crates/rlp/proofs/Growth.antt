@@ -70,6 +70,7 @@ unmarked_put : (x : Item) (s t : State) → t ≡ put_item x s → t.mark ≡ fa
 unmarked_put (string b) s t is unmarked = is
 unmarked_put (list xs) s t is unmarked = absurd (let marked : true ≡ false = sym (ap (λ (u : State). u.mark) is) ∙ unmarked in let no : ⊥ = cc in no)
 
+-- a stream without the mark has grown by an item that was put
 pub grows_unmarked : (x : Item) (s t u : State) → t ≡ put_item x s → t.mark ≡ false → u ≡ t → GrowsTo s u
 grows_unmarked x s t u is unmarked e = grows_put s u (encoding x) (e ∙ unmarked_put x s t is unmarked)
 

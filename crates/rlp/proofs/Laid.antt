@@ -16,6 +16,7 @@ use Rattle.rlp.proofs.Closing.{header_some}
 
 -- ---- places
 
+-- the front ends within the bytes
 pub start_le : (start : ℕ) (b : List ℕ) (ps : List Placeholder) → IsLaid start b ps → start ≤ length b
 start_le start b [] h = h
 start_le start b (p ∷ ps) h =
@@ -27,6 +28,7 @@ begin_le : (start : ℕ) (b : List ℕ) (ps : List Placeholder) → IsLaid start
 begin_le start b [] h = h
 begin_le start b (p ∷ ps) h = omega (arith, h.0.within)
 
+-- the places of the open lists descend from the end of the bytes
 pub laid_descends : (start : ℕ) (b : List ℕ) (ps : List Placeholder) → IsLaid start b ps → Descends (length b) ps
 laid_descends start b [] h = tt
 laid_descends start b (p ∷ ps) h =
@@ -48,6 +50,7 @@ lists_append start b x (p ∷ ps) h =
     let within = h.0.within in
     rw (take-append-le p.position b x (omega arith)) refl
 
+-- bytes at the end of the buffer are put in the state
 pub state_put : (start : ℕ) (b x : List ℕ) (ps : List Placeholder) (m : Bool) → IsLaid start b ps → state_of start (b ++ x) ps m ≡ put x (state_of start b ps m)
 state_put start b x ps m h =
     rw (take-append-le start b x (start_le start b ps h), drop-append-le (begin_of start ps) b x (begin_le start b ps h), lists_append start b x ps h) refl
@@ -60,6 +63,7 @@ placed_append b x p h =
     (ap (λ c. c ++ x) h.placeholder ∙ append_assoc (take p.position b) (0 ∷ drop (p.position + 1) b) x) in
     record { within = omega (arith, length-append b x); placeholder = placeholder; awaits_some = h.awaits_some }
 
+-- with bytes more at the end the open lists are laid as before
 pub laid_append : (start : ℕ) (b x : List ℕ) (ps : List Placeholder) → IsLaid start b ps → IsLaid start (b ++ x) ps
 laid_append start b x [] h = omega (arith, length-append b x, h)
 laid_append start b x (p ∷ ps) h =
@@ -68,6 +72,7 @@ laid_append start b x (p ∷ ps) h =
 
 -- ---- a list opens at the end of the bytes
 
+-- a byte 0 at the end of the buffer is a new list of the state
 pub state_opened : (start : ℕ) (b : List ℕ) (ps : List Placeholder) (m : Bool) (p : Placeholder) → IsLaid start b ps → p.position ≡ length b
     → state_of start (b ++ 0 ∷ []) (p ∷ ps) false ≡ with_list p.awaits (state_of start b ps m)
 state_opened start b ps m p h e =
@@ -77,6 +82,7 @@ state_opened start b ps m p h e =
 
 -- ---- the bytes are those of the state
 
+-- the bytes are the state's raw text
 pub raw_state : (start : ℕ) (b : List ℕ) (ps : List Placeholder) (m : Bool) → IsLaid start b ps → b ≡ raw_text (state_of start b ps m)
 raw_state start b [] m h = sym (ap (λ t. take start b ++ t) (append-nil (drop start b)) ∙ take-append-drop start b)
 raw_state start b (p ∷ ps) m h =
@@ -128,6 +134,7 @@ laid_counted_with k start b tail [] h = laid_append start b tail [] h
 laid_counted_with k start b tail (p ∷ ps) h =
     laid_counted_by (is_last k p.awaits) k start b tail p ps refl h (laid_counted_with 1 start (take p.position b) (list_encoding (drop (p.position + 1) b ++ tail)) ps h.1)
 
+-- the lists that a count leaves open are laid in what it leaves of the bytes
 pub laid_counted : (k start : ℕ) (b : List ℕ) (ps : List Placeholder) → IsLaid start b ps → IsLaid start (closed_bytes (filled k ps) b [] ps) (counted k ps)
 laid_counted k start b ps h = laid_counted_with k start b [] ps h
 
@@ -141,6 +148,7 @@ state_counted k start b ps m n h e =
 
 -- ---- the mark, and how many lists are left
 
+-- a list was closed where the mark is true after a count
 pub mark_laid : (k start : ℕ) (b : List ℕ) (p : Placeholder) (ps : List Placeholder) (m : Bool) → mark_after k (lists_of start b (p ∷ ps)) m ≡ nat_lt 0 (filled k (p ∷ ps))
 mark_laid k start b p ps m = by_full (is_last k p.awaits) (filled 1 ps)
   where
@@ -148,6 +156,7 @@ mark_laid k start b p ps m = by_full (is_last k p.awaits) (filled 1 ps)
     by_full true n = grind (arith, nat_tests)
     by_full false n = refl
 
+-- a count opens no list
 pub length_counted : (k : ℕ) (ps : List Placeholder) → length (counted k ps) ≤ length ps
 length_counted k [] = omega arith
 length_counted k (p ∷ ps) =
@@ -204,6 +213,7 @@ moved_counted k start b ps n old new h moved =
 
 -- ---- as a stream's methods cite it
 
+-- the mark after a count, where some list is open
 pub mark_open : (k start : ℕ) (b : List ℕ) (ps : List Placeholder) (m n : Bool) → 0 < length ps → n ≡ nat_lt 0 (filled k ps) → n ≡ mark_after k (lists_of start b ps) m
 mark_open k start b [] m n some e = absurd (let no : 0 < 0 = some in omega arith)
 mark_open k start b (p ∷ ps) m n some e = e ∙ sym (mark_laid k start b p ps m)
@@ -214,6 +224,7 @@ pub state_put_counted : (k start : ℕ) (b x : List ℕ) (ps : List Placeholder)
 state_put_counted k start b x ps m n h e =
     state_counted k start (b ++ x) ps m n (laid_append start b x ps h) (e ∙ ap (λ ls. mark_after k ls m) (sym (lists_append start b x ps h))) ∙ ap (count k) (state_put start b x ps m h)
 
+-- a number that isn't 0 is greater
 pub not_empty : (n : ℕ) → false ≡ nat_eq n 0 → 0 < n
 not_empty n e = grind (arith, nat_tests)
 
@@ -223,10 +234,12 @@ not_empty n e = grind (arith, nat_tests)
 abbrev pub with_last : List Placeholder → List Placeholder
 with_last ps = with_innermost (λ _. Some 1) ps
 
+-- a list that awaits one item is laid as it was
 pub laid_last : (start : ℕ) (b : List ℕ) (ps : List Placeholder) → IsLaid start b ps → IsLaid start b (with_last ps)
 laid_last start b [] h = h
 laid_last start b (p ∷ ps) h = (record { within = h.0.within; placeholder = h.0.placeholder; awaits_some = omega arith }, h.1)
 
+-- to finalize the innermost list is to count the one item that it awaits
 pub state_finalized : (start : ℕ) (b : List ℕ) (ps : List Placeholder) (m : Bool) → IsLaid start b ps → IsTrue (is_unbounded (lists_of start b ps))
     → state_of start (closed_bytes (filled 1 (with_last ps)) b [] (with_last ps)) (counted 1 (with_last ps)) true ≡ with_mark true (count 1 (shut (state_of start b ps m)))
 state_finalized start b [] m h unbounded = absurd (let no : ⊥ = cc in no)

@@ -128,6 +128,7 @@ kept_lists (p ∷ ps) qs extra (k ∷ ks) e s =
     let head : record k { awaits = p.awaits } ≡ p = same_placeholder (record k { awaits = p.awaits }) p (sym s.0) refl in
     ap (with_innermost (λ _. p.awaits)) old ∙ cc (head, s.1)
 
+-- the bytes and open lists from which a call began stand in front of those that it left
 pub record GoesBack (start : ℕ) (b : List ℕ) (ps : List Placeholder) (start' : ℕ) (c : List ℕ) (qs : List Placeholder) : Type 0 where
   pub front : start' ≡ start
   pub bytes : take (length b) c ≡ b

@@ -11,19 +11,24 @@ use Rattle.rlp.specs.Values.ListReading.{GivesEach, ComesTo, FaultsAsList, fault
 abbrev pub split_views : View → List ℕ → List View
 split_views v p = map (λ b. record v { bytes = b }) (split p)
 
+-- the views of a view's items are those of its payload
 pub item_views-payload : (v : View) (p : List ℕ) → p ≡ payload v.bytes → split_views v p ≡ item_views v
 unfolding items
 item_views-payload v p e = ap (split_views v) e
 
+-- the first item's view, and then those of what follows it
 pub views-next : (v item : View) (done all : List View) (rest others : List ℕ) → done ++ split_views v rest ≡ all → split rest ≡ item.bytes ∷ split others → done ++ item ∷ split_views v others ≡ all
 views-next v item done all rest others e s = ap (λ bs. done ++ map (λ b. record v { bytes = b }) bs) (sym s) ∙ e
 
+-- the same, with the first item's view put behind those that were read
 pub views-more : (v item : View) (done all : List View) (rest others : List ℕ) → done ++ split_views v rest ≡ all → split rest ≡ item.bytes ∷ split others → (done ++ item ∷ []) ++ split_views v others ≡ all
 views-more v item done all rest others e s = append_assoc done (item ∷ []) (split_views v others) ∙ views-next v item done all rest others e s
 
+-- where no item follows, all views were read
 pub views-all : (v : View) (done all : List View) (rest : List ℕ) → done ++ split_views v rest ≡ all → split rest ≡ [] → done ≡ all
 views-all v done all rest e s = sym (append-nil done) ∙ ap (λ bs. done ++ map (λ b. record v { bytes = b }) bs) (sym s) ∙ e
 
+-- one value more, of one view more
 pub gives-more : {A : Type 0} (gives : View → A → Type 0) (vs : List View) (xs : List A) (v : View) (x : A) → GivesEach gives vs xs → gives v x → GivesEach gives (vs ++ v ∷ []) (xs ++ x ∷ [])
 gives-more gives [] [] v x each one = (one, tt)
 gives-more gives [] (y ∷ xs) v x each one = absurd each

@@ -7,6 +7,7 @@ use Rattle.rlp.specs.Streams.Stack.{OpenList, count_around}
 use Rattle.rlp.specs.Streams.Stream.{State, list_encoding, add, put_item, with_list, is_list, add_all}
 use Rattle.rlp.specs.Lemmas.Encodings.{encoding_list}
 
+-- a truth value or true is true
 pub or_true : (b : Bool) → (b || true) ≡ true
 or_true true = refl
 or_true false = refl

@@ -15,6 +15,7 @@ pub opened_none : (n : ℕ) (s : State) → n ≡ 0 → with_mark true (count 1 
 opened_none n s e =
     ap (λ (b : List ℕ). with_mark true (count 1 (put b s))) (sym empty_list) ∙ ap (λ m. with_list_of m s) (sym e)
 
+-- a list that awaits some items is opened
 pub opened_some : (n : ℕ) (s : State) → 0 < n → with_list (Some n) s ≡ with_list_of n s
 opened_some zero s some = absurd (omega arith)
 opened_some (suc n) s some = refl

@@ -27,22 +27,27 @@ one_counted v item e kind there none =
     let one : length (items v.bytes) ≡ 1 = omega arith in
     counted v kind ∙ ap Ok one
 
+-- a list of no items gives no value
 pub gives_none : {A : Type 0} (gives : View → A → Type 0) (v : View) (e : DecoderError) → true ≡ begins_as_list v.bytes → Err e ≡ item_at v 0 → GivesOption gives v None
 gives_none gives v e kind none =
     let few : length (items v.bytes) ≤ 0 = past_by v 0 e (numbered v 0) none in
     let zero_items : length (items v.bytes) ≡ 0 = omega arith in
     no_value (counted v kind ∙ ap Ok zero_items)
 
+-- a list of one item gives its value
 pub gives_one : {A : Type 0} (gives : View → A → Type 0) (v item : View) (e : DecoderError) (x : A) → true ≡ begins_as_list v.bytes → Ok item ≡ item_at v 0 → Err e ≡ item_at v 1 → gives item x → GivesOption gives v (Some x)
 gives_one gives v item e x kind there none given = one_value x (one_counted v item e kind there none) (subst (λ r. IsOkAnd r (λ w. gives w x)) there given)
 
+-- a list with a second item is at fault
 pub faulty_many : (faults : View → DecoderError → Type 0) (v item : View) → true ≡ begins_as_list v.bytes → Ok item ≡ item_at v 1 → FaultsAsOption faults v RlpIncorrectListLen
 faulty_many faults v item kind there = many_items (length (items v.bytes)) (counted v kind) (inside_by v item 1 (numbered v 1) there)
 
+-- a string is at fault
 pub faulty_other : (faults : View → DecoderError → Type 0) (v : View) → false ≡ begins_as_list v.bytes → FaultsAsOption faults v RlpExpectedToBeList
 unfolding item_count
 faulty_other faults v kind = no_list RlpExpectedToBeList (cond-false (begins_as_list v.bytes) _ _ (sym kind))
 
+-- where a list has one item, the fault is the item's
 pub faulty_one : (faults : View → DecoderError → Type 0) (may_lack : View → Type 0) (v item : View) (f e : DecoderError) → true ≡ begins_as_list v.bytes → Ok item ≡ item_at v 0 → Err f ≡ item_at v 1
     → faults item e ⊎ ((e ≡ OutOfMemory) × may_lack item) → FaultsAsOption faults v e ⊎ ((e ≡ OutOfMemory) × MayLackAsOption may_lack v)
 faulty_one faults may_lack v item f e kind there none (inl faulty) = inl (faulty_item e (one_counted v item f kind there none) (subst (λ r. MatchResult r (λ w. faults w e) (λ g. e ≡ g)) there faulty))

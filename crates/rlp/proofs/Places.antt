@@ -48,10 +48,12 @@ pub record IsWalked (b : List ℕ) (k : ℕ) (left : List ℕ) : Type 0 where
   pub others : split left ≡ drop k (items b)
   pub whole : payload b ≡ concat (take k (items b)) ++ left
 
+-- the walk begins with no item taken, before the whole payload
 pub walked-none : (b p : List ℕ) → p ≡ payload b → IsWalked b 0 p
 unfolding items
 walked-none b p e = record { others = ap split e; whole = sym e }
 
+-- the walk goes on past one item
 pub walked-one : (b item others left : List ℕ) (k : ℕ) → IsWalked b k left → split left ≡ item ∷ split others → left ≡ item ++ others → IsWalked b (k + 1) others
 walked-one b item others left k is parts whole =
     let here : drop k (items b) ≡ item ∷ split others = sym is.others ∙ parts in
@@ -97,10 +99,12 @@ walked-past v i k p left e kind is walked none same below =
     ∙ sym (cond-false (ltb i (length (items v.bytes))) _ _ past)
     ∙ sym (item_by-list v i p kind is)
 
+-- a view that isn't framed has its fault for each number
 pub not_framed_item : (v : View) (i : ℕ) (e : DecoderError) → begins_as_list v.bytes ≡ true → framing v.bytes ≡ Err e → Err e ≡ item_with_place v i
 unfolding item_with_place
 not_framed_item v i e kind is = sym (cond-true (begins_as_list v.bytes) _ _ kind ∙ ap (item_by v i) is)
 
+-- a view of a string has one fault for each number
 pub not_list_item : (v : View) (i : ℕ) → begins_as_list v.bytes ≡ false → Err RlpExpectedToBeList ≡ item_with_place v i
 unfolding item_with_place
 not_list_item v i kind = sym (cond-false (begins_as_list v.bytes) _ _ kind)
@@ -110,5 +114,6 @@ pub walked-length : (b item others left : List ℕ) (k n : ℕ) → IsWalked b k
 walked-length b item others left k n is whole long =
     omega (arith, ap length is.whole, length-append (concat (take k (items b))) left, ap length whole, length-append item others)
 
+-- how long the payload of a framed list is
 pub length-payload : (b : List ℕ) (p : PayloadInfo) → begins_as_list b ≡ true → framing b ≡ Ok p → total_len p ≤ length b → length (payload b) ≡ p.value_len
 length-payload b p kind is within = ap length (sym (payload-list b p kind is)) ∙ length-take-le p.value_len (drop p.header_len b) (omega (arith, length-drop p.header_len b))

@@ -21,6 +21,7 @@ separated-more (u ∷ v ∷ ts) t =
     append_assoc (u ++ codes ", ") (separated (v ∷ ts)) (codes ", " ++ t)
     ∙ ap (λ s. (u ++ codes ", ") ++ s) (separated-more (v ∷ ts) t)
 
+-- behind some text a comma and a space stand before the next
 pub separator_after-more : (ts : List (List ℕ)) (t : List ℕ) → codes ", " ≡ separator_after (ts ++ t ∷ [])
 separator_after-more [] t = refl
 separator_after-more (u ∷ ts) t = refl
@@ -44,6 +45,7 @@ pub length-some : (b : List ℕ) → (b ≡ [] → IsTrue false) → 0 < length 
 length-some [] other = absurd (false≢true (other refl))
 length-some (first ∷ more) other = omega arith
 
+-- the text of no bytes
 pub text-null : (b : List ℕ) → b ≡ [] → codes "null" ≡ text b
 text-null b e = sym (ap text e ∙ text_is [])
 
@@ -51,12 +53,15 @@ text-some : (b : List ℕ) → 0 < length b → text b ≡ framed_text text b (b
 text-some [] l = absurd (omega arith)
 text-some (first ∷ more) l = text_is (first ∷ more)
 
+-- the text of bytes that have a fault is its name
 pub text-fault : (b : List ℕ) (e : DecoderError) → 0 < length b → value b ≡ Err e → error_name e ≡ text b
 text-fault b e l is = sym (text-some b l ∙ ap (framed_text text b (begins_as_list b)) is)
 
+-- the text of a string is its digits in quotes
 pub text-string : (b v : List ℕ) → 0 < length b → begins_as_list b ≡ false → value b ≡ Ok v → codes "\"0x" ++ hex v ++ codes "\"" ≡ text b
 text-string b v l kind is = sym (text-some b l ∙ ap (λ k. framed_text text b k (value b)) kind ∙ ap (framed_text text b false) is)
 
+-- the text of a list is that of its items in brackets
 pub text-list : (b v : List ℕ) (done : List (List ℕ)) → 0 < length b → begins_as_list b ≡ true → value b ≡ Ok v → done ≡ items b
     → codes "[" ++ separated (map text done) ++ codes "]" ≡ text b
 text-list b v done l kind is all =
@@ -73,6 +78,7 @@ no_middle : (done more : List (List ℕ)) (b : List ℕ) → done ++ b ∷ more 
 no_middle [] more b e = cc
 no_middle (c ∷ done) more b e = cc
 
+-- an item is shorter than the bytes that hold it
 pub item-shorter : (b item : List ℕ) (done more : List (List ℕ)) → done ++ item ∷ more ≡ items b → length item < length b
 item-shorter [] item done more e = absurd (no_middle done more item (e ∙ items_nil))
 item-shorter (first ∷ rest) item done more e =
@@ -81,6 +87,7 @@ item-shorter (first ∷ rest) item done more e =
 
 -- ---- the depth of each kind of bytes
 
+-- a string has depth 0
 pub depth-string : (b : List ℕ) → begins_as_list b ≡ false → depth b ≡ 0
 depth-string b kind = depth_is b ∙ ap (λ k. framed_depth depth b k (value b)) kind ∙ plain (value b)
   where
@@ -88,9 +95,11 @@ depth-string b kind = depth_is b ∙ ap (λ k. framed_depth depth b k (value b))
     plain (Ok v) = refl
     plain (Err e) = refl
 
+-- what has a fault has depth 0
 pub depth-fault : (b : List ℕ) (e : DecoderError) → value b ≡ Err e → depth b ≡ 0
 depth-fault b e is = depth_is b ∙ ap (framed_depth depth b (begins_as_list b)) is
 
+-- the depth of a list is 1 more than the greatest of its items
 pub depth-list : (b v : List ℕ) → begins_as_list b ≡ true → value b ≡ Ok v → depth b ≡ suc (greatest (map depth (items b)))
 depth-list b v kind is = depth_is b ∙ ap (λ k. framed_depth depth b k (value b)) kind ∙ ap (framed_depth depth b true) is
 
@@ -116,12 +125,15 @@ greatest-more done b limit l k = subst (λ ns. greatest ns ≤ limit) (sym (map-
 
 -- ---- whether b is nested within the limit, from what is known of it
 
+-- what has depth 0 is nested within every limit
 pub shallow-other : (b : List ℕ) (limit : ℕ) → depth b ≡ 0 → IsTrue true ↔ (depth b ≤ limit)
 shallow-other b limit none = (λ _. omega arith, λ _. refl)
 
+-- a list isn't nested within the limit 0
 pub deep-list : (b v : List ℕ) (limit : ℕ) → begins_as_list b ≡ true → value b ≡ Ok v → limit ≡ 0 → IsTrue false ↔ (depth b ≤ limit)
 deep-list b v limit kind is none = let one = depth-list b v kind is in (λ h. absurd (false≢true h), λ h. absurd (omega arith))
 
+-- a list isn't nested within a limit where an item of it isn't within 1 less
 pub deep-item : (b v item : List ℕ) (limit : ℕ) (done more : List (List ℕ)) → begins_as_list b ≡ true → value b ≡ Ok v → done ++ item ∷ more ≡ items b → limit - 1 < depth item
     → IsTrue false ↔ (depth b ≤ limit)
 deep-item b v item limit done more kind is all deep =
@@ -129,6 +141,7 @@ deep-item b v item limit done more kind is all deep =
     let has : depth item ≤ greatest (map depth (items b)) = subst (λ bs. depth item ≤ greatest (map depth bs)) all (greatest-has done more item) in
     (λ h. absurd (false≢true h), λ h. absurd (omega arith))
 
+-- a list is nested within a limit where its items are within 1 less
 pub shallow-list : (b v : List ℕ) (limit : ℕ) (done : List (List ℕ)) → begins_as_list b ≡ true → value b ≡ Ok v → 0 < limit → done ≡ items b → greatest (map depth done) ≤ limit - 1
     → IsTrue true ↔ (depth b ≤ limit)
 shallow-list b v limit done kind is some all shallow =
@@ -145,6 +158,7 @@ items-list b v kind is = ap split (ap (λ k. payload_in k (value b)) kind ∙ ap
 pub done-next : (done : List (List ℕ)) (all : List (List ℕ)) (rest item others : List ℕ) → done ++ split rest ≡ all → split rest ≡ item ∷ split others → done ++ item ∷ split others ≡ all
 done-next done all rest item others e s = ap (λ bs. done ++ bs) (sym s) ∙ e
 
+-- the items that were walked, and one more
 pub done-more : (done : List (List ℕ)) (all : List (List ℕ)) (rest item others : List ℕ) → done ++ split rest ≡ all → split rest ≡ item ∷ split others → (done ++ item ∷ []) ++ split others ≡ all
 done-more done all rest item others e s = append_assoc done (item ∷ []) (split others) ∙ done-next done all rest item others e s
 

@@ -16,6 +16,7 @@ closed_shut_around : (f : List ℕ) (p : List ℕ) (ls : List (OpenList ℕ)) (m
 closed_shut_around f p [] m = refl
 closed_shut_around f p (l ∷ ls) m = refl
 
+-- closing a list leaves the closed text as it was
 pub closed_text-shut : (s : State) → closed_text (shut s) ≡ closed_text s
 closed_text-shut s = closed_shut_around s.front s.stack.inner s.stack.lists s.mark
 
@@ -29,6 +30,7 @@ closed_count_around k p [] = refl
 closed_count_around k p (l ∷ ls) =
     cond_closed (is_last k l.awaits) _ _ _ (closed_count_around 1 (l.outer ++ list_encoding p) ls) refl
 
+-- so does a count
 pub closed_text-count : (k : ℕ) (s : State) → closed_text (count k s) ≡ closed_text s
 closed_text-count k s = closed_count_around k s.stack.inner s.stack.lists
 
@@ -44,6 +46,7 @@ length-closed_payload_around p q (l ∷ ls) e =
     length-closed_payload_around (l.outer ++ list_encoding p) (l.outer ++ list_encoding q) ls
     (length-append l.outer (list_encoding p) ∙ ap (λ n. length l.outer + n) (length-list_encoding p q e) ∙ sym (length-append l.outer (list_encoding q)))
 
+-- the closed size with bytes put, by their number
 pub closed_size-put : (x : List ℕ) (s : State) → closed_size (put x s) ≡ closed_size_with (length x) s
 closed_size-put x s =
     length-closed_payload_around (s.stack.inner ++ x) (s.stack.inner ++ replicate (length x) 0) s.stack.lists
@@ -57,6 +60,7 @@ size_kept s t e = ap closed_size e ∙ ap length (closed_text-count 1 (shut s) �
 pub within_size-found : (bytes : List ℕ) (limit size : ℕ) (s : State) → size ≡ closed_size_with (length bytes) s → nat_le size limit ≡ is_within_size bytes limit s
 within_size-found bytes limit size s e = ap (λ n. nat_le n limit) (e ∙ sym (closed_size-put bytes s))
 
+-- a size of 2^64 or more is within no limit
 pub within_size-too_large : (bytes : List ℕ) (limit : ℕ) (s : State) → limit < 2 ^ 64 → ¬ (closed_size_with (length bytes) s < 2 ^ 64) → is_within_size bytes limit s ≡ false
 within_size-too_large bytes limit s small large =
     let same = closed_size-put bytes s in
@@ -99,9 +103,11 @@ raw_put_around f p x (l ∷ ls) =
     levels_last t around new ∙ (sym (append_assoc (t ++ levels_bytes around) (0 ∷ p) x) ∙ ap (λ (b : List ℕ). b ++ x) (sym (levels_last t around old))) in
     ap (λ (b : List ℕ). f ++ b) longer ∙ sym (append_assoc f (t ++ levels_bytes (around ++ old ∷ [])) x)
 
+-- bytes that are put are the last of the raw text
 pub raw_text-put : (x : List ℕ) (s : State) → raw_text (put x s) ≡ raw_text s ++ x
 raw_text-put x s = raw_put_around s.front s.stack.inner x s.stack.lists
 
+-- a new list is a byte 0 at the end of the raw text
 pub raw_text-with_list : (awaits : Option ℕ) (s : State) → raw_text (with_list awaits s) ≡ raw_text s ++ 0 ∷ []
 raw_text-with_list awaits s =
     let t = top_around s.stack.inner s.stack.lists in
@@ -117,6 +123,7 @@ add_with (string t) f p [] m e = refl
 add_with (list xs) f p [] m e = refl
 add_with x f p (l ∷ ls) m e = absurd (let no : ⊥ = cc in no)
 
+-- an item that is added to a finished stream
 pub add-finished : (x : Item) (s : State) → IsFinished s → add x s ≡ record { front = s.front; stack = record { inner = s.stack.inner ++ encoding x; lists = [] }; mark = is_list x }
 add-finished x s e = add_with x s.front s.stack.inner s.stack.lists s.mark e
 
@@ -126,5 +133,6 @@ put_item_with (string t) f p [] m e = refl
 put_item_with (list xs) f p [] m e = refl
 put_item_with x f p (l ∷ ls) m e = absurd (let no : ⊥ = cc in no)
 
+-- an item that is put in a finished stream
 pub put_item-finished : (x : Item) (s : State) → IsFinished s → (put_item x s).stack ≡ record { inner = s.stack.inner ++ encoding x; lists = [] }
 put_item-finished x s e = put_item_with x s.front s.stack.inner s.stack.lists s.mark e

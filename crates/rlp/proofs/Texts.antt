@@ -21,6 +21,7 @@ weaker : (m n : ℕ) (fs : List (List ℕ)) → m ≤ n → AllWithinLength m fs
 weaker m n [] l a = tt
 weaker m n (f ∷ fs) l a = (omega (arith, a.0), weaker m n fs l a.1)
 
+-- a first item is at most as long as the bytes
 abbrev pub ShortFront : List ℕ → Result (List ℕ) DecoderError → Type 0
 ShortFront p r = MatchResult r (λ f. length f ≤ length p) (λ _. ⊤)
 
@@ -104,6 +105,7 @@ items_short n (first ∷ rest) l =
     let p : List ℕ = payload (first ∷ rest) in
     weaker (length p) n (split_within (length p) p) (omega (arith, short)) (split_short (length p) p)
 
+-- no bytes have no items
 pub items_nil : items [] ≡ []
 unfolding items split
 items_nil = ap (λ p. split_within (length p) p) payload_nil

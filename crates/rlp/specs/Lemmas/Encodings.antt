@@ -16,22 +16,27 @@ pub record IsLone (b : List ℕ) : Type 0 where
   pub low : byte < 0x80
   pub is : b ≡ byte ∷ []
 
+-- the header of a payload, and the payload
 pub record IsWritten (base : ℕ) (payload b : List ℕ) : Type 0 where
   pub is_base : IsBase base
   pub small : length payload < 2 ^ 64
   pub is : b ≡ written_header base (length payload) ++ payload
 
+-- an encoding is a low byte, or a header and a payload
 abbrev pub IsForm : List ℕ → Type 0
 IsForm b = IsLone b ⊎ ((base : ℕ) × (payload : List ℕ) × IsWritten base payload b)
 
+-- a string that is its own encoding is one low byte
 pub low_byte : (s : List ℕ) → is_low_byte s ≡ true → IsLone s
 low_byte [] e = cc
 low_byte (c ∷ []) e = record { byte = c; low = ltb-true c 0x80 e; is = refl }
 low_byte (c ∷ d ∷ s) e = cc
 
+-- a payload is shorter than 2^64 where the whole is
 pub small_payload : (base : ℕ) (payload b : List ℕ) → b ≡ written_header base (length payload) ++ payload → length b < 2 ^ 64 → length payload < 2 ^ 64
 small_payload base payload b e h = omega (arith, ap length e, length-append (written_header base (length payload)) payload)
 
+-- the encoding of a string is a low byte, or a header and the string
 pub string_cases : (s : List ℕ) → length (string_encoding s) < 2 ^ 64 → (IsLone s × (string_encoding s ≡ s)) ⊎ IsWritten 0x80 s (string_encoding s)
 string_cases s h =
     ⊎_elim
@@ -40,16 +45,19 @@ string_cases s h =
     inr (record { is_base = inl refl; small = small_payload 0x80 s (string_encoding s) e h; is = e }))
     (cases_Bool (is_low_byte s))
 
+-- the encoding of a list is a header and the joined items
 pub list_written : (xs : Items) → IsSized (list xs) → IsWritten 0xc0 (join_items xs) (encoding (list xs))
 unfolding encoding
 list_written xs h = record { is_base = inr refl; small = small_payload 0xc0 (join_items xs) (encoding (list xs)) refl h; is = refl }
 
+-- what the encoding of an item can be
 pub form : (x : Item) → IsSized x → IsForm (encoding x)
 unfolding encoding
 form (string s) h =
     ⊎_elim (λ (low, e). inl (record { byte = low.byte; low = low.low; is = e ∙ low.is })) (λ w. inr (0x80, s, w)) (string_cases s h)
 form (list xs) h = inr (0xc0, join_items xs, list_written xs h)
 
+-- a header begins with a byte of 0x80 or above
 pub first_of_header : (base n : ℕ) → IsBase base → n < 2 ^ 64 → (first : ℕ) × (more : List ℕ) × (written_header base n ≡ first ∷ more) × (0x80 ≤ first)
 first_of_header base n b small = let s = shape base n small in let parts = s.parts in (s.first, s.more, s.is, grind arith)
 
@@ -84,6 +92,7 @@ form_same a b p q (inr (base1, s, v)) (inr (base2, t, w)) e =
     let headers : written_header base1 (length s) ≡ written_header base2 (length t) = cc in
     (cc, rests)
 
+-- an encoding has a byte
 pub form_some : (b : List ℕ) → IsForm b → 0 < length b
 form_some b (inl l) = rw l.is (omega arith)
 form_some b (inr (base, s, w)) =
@@ -95,6 +104,7 @@ abbrev pub AllSized : Items → Type 0
 AllSized no_items = Unit {0}
 AllSized (item_and x xs) = IsSized x × AllSized xs
 
+-- where the whole is shorter than 2^64, so is each part
 pub parts_sized : (xs : Items) → length (join_items xs) < 2 ^ 64 → AllSized xs
 unfolding encoding
 parts_sized no_items h = tt
@@ -132,6 +142,7 @@ payloads_same xs ys hx hy e = (written_same (encoding (list xs)) (encoding (list
 mutual
   unfolding encoding
 
+  -- items with the same encoding are equal
   pub encoding_same : (x y : Item) → IsSized x → IsSized y → encoding x ≡ encoding y → x ≡ y
   encoding_same (string s) (string t) hx hy e = ap string (strings_same s t hx hy e)
   encoding_same (string s) (list ys) hx hy e = absurd (apart_kinds s ys hx hy e)
@@ -139,6 +150,7 @@ mutual
   encoding_same (list xs) (list ys) hx hy e =
       ap list (join_items_same xs ys (parts_sized xs (list_written xs hx).small) (parts_sized ys (list_written ys hy).small) (payloads_same xs ys hx hy e))
 
+  -- items that are joined to the same bytes are equal
   pub join_items_same : (xs ys : Items) → AllSized xs → AllSized ys → join_items xs ≡ join_items ys → xs ≡ ys
   join_items_same no_items no_items hx hy e = refl
   join_items_same no_items (item_and y ys) hx hy e = absurd (omega (arith, ap length e, length-append (encoding y) (join_items ys), form_some (encoding y) (form y hy.0)))
@@ -155,6 +167,7 @@ prefix_free x y p q hx hy e = encoding_same x y hx hy (form_same (encoding x) (e
 
 -- ---- lists of items
 
+-- joined items, as a list
 pub join_items_is : (xs : List Item) → join_items (items_from xs) ≡ join xs
 unfolding encoding
 join_items_is [] = refl
@@ -165,10 +178,12 @@ pub encoding_list : (xs : List Item) → encoding (list_of xs) ≡ written_heade
 unfolding encoding
 encoding_list xs = ap (λ s. written_header 0xc0 (length s) ++ s) (join_items_is xs)
 
+-- items made from a list, as a list again
 pub listed_from : (xs : List Item) → listed (items_from xs) ≡ xs
 listed_from [] = refl
 listed_from (x ∷ xs) = ap (λ ys. x ∷ ys) (listed_from xs)
 
+-- a list of items, made to items again
 pub items_from-listed : (xs : Items) → items_from (listed xs) ≡ xs
 items_from-listed no_items = refl
 items_from-listed (item_and x xs) = ap (item_and x) (items_from-listed xs)
@@ -177,6 +192,7 @@ all_sized : (xs : List Item) → AllByRecursion IsSized xs → AllSized (items_f
 all_sized [] a = tt
 all_sized (x ∷ xs) a = (a.0, all_sized xs a.1)
 
+-- lists of items that are joined to the same bytes are equal
 pub join_same : (xs ys : List Item) → All IsSized xs → All IsSized ys → join xs ≡ join ys → xs ≡ ys
 join_same xs ys a b e =
     let same : items_from xs ≡ items_from ys =

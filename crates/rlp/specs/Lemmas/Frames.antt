@@ -30,14 +30,17 @@ header_some (written base n rest b small) = let (first, more, is, high) = first_
 
 -- ---- framing
 
+-- the header of framed bytes
 pub framing_is : (b : List ℕ) (h n : ℕ) → HasHeader b h n → h + n ≤ length b → framing b ≡ Ok (payload_info h n)
 unfolding framing
 framing_is b h n has within = ap (framing_in b) (read has) ∙ cond-true _ _ _ (le-leb (h + n) (length b) within)
 
+-- framed bytes begin with their header and value
 pub frame_is : (b : List ℕ) (h n : ℕ) → HasHeader b h n → h + n ≤ length b → frame b ≡ Ok (take (h + n) b)
 unfolding frame
 frame_is b h n has within = ap (map_ok (λ p. take (total_len p) b)) (framing_is b h n has within)
 
+-- the value of framed bytes follows their header
 pub value_is : (b : List ℕ) (h n : ℕ) → HasHeader b h n → h + n ≤ length b → value b ≡ Ok (take n (drop h b))
 unfolding value
 value_is b h n has within = ap (map_ok (λ p. take p.value_len (drop p.header_len b))) (framing_is b h n has within)
@@ -60,15 +63,18 @@ encoding_item x h = item_from (encoding x) (form x h)
 
 -- ---- two cuts of one list
 
+-- framed items that begin the same bytes are equal
 pub framed_same : (f g x y : List ℕ) → IsFramedItem f → IsFramedItem g → f ++ x ≡ g ++ y → (f ≡ g) × (x ≡ y)
 framed_same f g x y a b e =
     let there : HasHeader (g ++ y) a.header_len a.value_len = subst (λ s. HasHeader s a.header_len a.value_len) e (longer x a.has_header) in
     let same = header_unique (g ++ y) a.header_len a.value_len b.header_len b.value_len there (longer y b.has_header) in
     same_front f g x y (omega (arith, a.whole, b.whole, same.0, same.1)) e
 
+-- each is a framed item
 abbrev pub AllFramed : List (List ℕ) → Type 0
 AllFramed fs = AllByRecursion IsFramedItem fs
 
+-- a framed item has a byte
 pub item_some : (f : List ℕ) → IsFramedItem f → 0 < length f
 item_some f is = omega (arith, header_some is.has_header, is.whole)
 
@@ -84,10 +90,12 @@ cuts_agree (f ∷ fs) (g ∷ gs) x y a b e =
     (λ (more, is). inr (more, cc))
     (cuts_agree fs gs x y a.1 b.1 tails)
 
+-- of two cuts of the same bytes one begins the other
 pub cuts_begin : (p : List ℕ) (fs gs : List (List ℕ)) → IsCut p fs → IsCut p gs → BeginsWith gs fs ⊎ BeginsWith fs gs
 cuts_begin p fs gs a b =
     cuts_agree fs gs a.begins.0 b.begins.0 (recursion_from_All IsFramedItem fs a.each) (recursion_from_All IsFramedItem gs b.each) (sym a.begins.1 ∙ b.begins.1)
 
+-- what isn't longer than its beginning is that
 pub longer_same : (fs gs more : List (List ℕ)) → gs ≡ fs ++ more → length gs ≤ length fs → fs ≡ gs
 longer_same fs gs [] e l = sym (append-nil fs) ∙ sym e
 longer_same fs gs (m ∷ more) e l = absurd (omega (arith, ap length e, length-append fs (m ∷ more)))
@@ -102,6 +110,7 @@ split_unique p fs gs a b =
 
 -- ---- what `split` gives
 
+-- the first item is split off
 pub split_step : (turns : ℕ) (f more : List ℕ) → IsFramedItem f → split_within (suc turns) (f ++ more) ≡ f ∷ split_within turns more
 split_step turns f more is = ap (frame_and_more (split_within turns) (f ++ more)) (frame_front f more is) ∙ ap (λ s. f ∷ split_within turns s) (drop_at f more (length f) refl)
 
@@ -116,20 +125,24 @@ split_of (suc turns) (f ∷ fs) x e a none l =
     ∙ split_step turns f (concat fs ++ x) a.0
     ∙ ap (λ gs. f ∷ gs) (split_of turns fs x e a.1 none (omega (arith, item_some f a.0, ap length assoc, length-append f (concat fs ++ x))))
 
+-- no bytes are too short
 pub frame_nil : frame [] ≡ Err RlpIsTooShort
 unfolding frame framing header
 frame_nil = refl
 
+-- framed items that are joined are split to themselves
 pub split_items : (fs : List (List ℕ)) → AllFramed fs → split (concat fs) ≡ fs
 unfolding split
 split_items fs a =
     let whole : concat fs ++ [] ≡ concat fs = append-nil (concat fs) in
     ap (split_within (length (concat fs))) (sym whole) ∙ split_of (length (concat fs)) fs [] RlpIsTooShort a frame_nil (omega (arith, ap length whole))
 
+-- joined items are their encodings, one after another
 pub join_is : (xs : List Item) → join xs ≡ concat (map encoding xs)
 join_is [] = refl
 join_is (x ∷ xs) = ap (λ s. encoding x ++ s) (join_is xs)
 
+-- encodings are framed items
 pub encodings_framed : (xs : List Item) → AllByRecursion IsSized xs → AllFramed (map encoding xs)
 encodings_framed [] a = tt
 encodings_framed (x ∷ xs) a = (encoding_item x a.0, encodings_framed xs a.1)
@@ -138,6 +151,7 @@ encodings_framed (x ∷ xs) a = (encoding_item x a.0, encodings_framed xs a.1)
 pub split_join : (xs : List Item) → All IsSized xs → split (join xs) ≡ map encoding xs
 split_join xs a = ap split (join_is xs) ∙ split_items (map encoding xs) (encodings_framed xs (recursion_from_All IsSized xs a))
 
+-- bytes that begin with a framed item are framed
 pub front_framed : (f more : List ℕ) → IsFramedItem f → IsFramed (f ++ more)
 front_framed f more is = record { header_len = is.header_len; value_len = is.value_len; has_header = longer more is.has_header; within = omega (arith, is.whole, length-append f more) }
 
@@ -165,6 +179,7 @@ stopped_split fs x a stop = record {
       (cuts_agree fs gs x b.begins.0 a each b.begins.1);
 }
 
+-- no bytes are not framed
 pub nil_unframed : ¬ IsFramed []
 nil_unframed is = omega (arith, header_some is.has_header, is.within)
 
@@ -175,6 +190,7 @@ shorter (lone byte rest low) within = lone byte [] low
 shorter (written base n rest b small) within =
     subst (λ s. HasHeader s (length (written_header base n)) n) (sym (take-append-add (written_header base n) rest n)) (written base n (take n rest) b small)
 
+-- the header and value in front are a framed item
 pub frame_item : (b : List ℕ) (h n : ℕ) → HasHeader b h n → h + n ≤ length b → IsFramedItem (take (h + n) b)
 frame_item b h n has within = record { header_len = h; value_len = n; has_header = shorter has within; whole = sym (length-take-le (h + n) b within) }
 
@@ -194,10 +210,12 @@ framing_by b (Ok p) is reads =
     (λ e. (reads, leb-true _ _ e))
     (λ e. framing_unframed b RlpIsTooShort (ap (framing_in b) is ∙ cond-false _ _ _ e))
 
+-- `framing` gives the header of framed bytes, and a fault of others
 pub framing_reads : (b : List ℕ) → AreBytes b → Frames b (framing b)
 unfolding framing
 framing_reads b bytes = framing_by b (header b) refl (header_reads b bytes)
 
+-- the answer of `frame`: the framed item in front, or none
 abbrev pub Fronts : List ℕ → Result (List ℕ) DecoderError → Type 0
 Fronts b answer = MatchResult answer (λ f. IsFramedItem f × (b ≡ f ++ drop (length f) b)) (λ e. ¬ IsFramed b)
 
@@ -207,12 +225,14 @@ frame_by b (Ok p) (has, within) =
     let long : length (take (total_len p) b) ≡ p.header_len + p.value_len = length-take-le (total_len p) b within in
     (frame_item b p.header_len p.value_len has within, sym (take-append-drop (total_len p) b) ∙ ap (λ k. take (total_len p) b ++ drop k b) (sym long))
 
+-- `frame` gives the framed item in front, where one is
 pub frame_reads : (b : List ℕ) → AreBytes b → Fronts b (frame b)
 unfolding frame
 frame_reads b bytes = frame_by b (framing b) (framing_reads b bytes)
 
 -- ---- `split` is the longest
 
+-- what a walk over the items of bytes finds
 pub record Walk (p : List ℕ) (fs : List (List ℕ)) : Type 0 where
   pub left : List ℕ
   pub is : p ≡ concat fs ++ left
@@ -232,6 +252,7 @@ walk_by turns p (Ok f) l (item, whole) again =
       stopped = below.stopped;
     }
 
+-- a split of as many turns as bytes finds all
 pub walk : (turns : ℕ) (p : List ℕ) → AreBytes p → length p ≤ turns → Walk p (split_within turns p)
 walk zero p bytes l = record { left = p; is = refl; each = tt; stopped = subst (λ s. ¬ IsFramed s) (sym (nil_from_length p (omega arith))) nil_unframed }
 walk (suc turns) p bytes l =
@@ -245,6 +266,7 @@ split_longest p bytes =
     let w = walk (length p) p bytes (omega arith) in
     subst (λ s. IsSplit s (split_within (length p) p)) (sym w.is) (stopped_split (split_within (length p) p) w.left w.each w.stopped)
 
+-- `split` gives the only split
 pub split_only : (p : List ℕ) (fs : List (List ℕ)) → AreBytes p → IsSplit p fs → fs ≡ split p
 split_only p fs bytes is = split_unique p fs (split p) is (split_longest p bytes)
 
@@ -260,6 +282,7 @@ fronts_framed : (b : List ℕ) (r : Result (List ℕ) DecoderError) → frame b 
 fronts_framed b (Err e) is stop = (λ t. absurd (false≢true t), λ framed. absurd (stop framed))
 fronts_framed b (Ok f) is (item, whole) = (λ _. subst IsFramed (sym whole) (front_framed f (drop (length f) b) item), λ _. refl)
 
+-- `frame` gives an item exactly of framed bytes
 pub frame_framed : (b : List ℕ) → AreBytes b → IsTrue (is_ok (frame b)) ↔ IsFramed b
 frame_framed b bytes = fronts_framed b (frame b) refl (frame_reads b bytes)
 
@@ -267,6 +290,7 @@ fronts_whole : (b : List ℕ) (r : Result (List ℕ) DecoderError) → Fronts b 
 fronts_whole b (Err e) stop is = absurd (let different : ⊥ = cc in different)
 fronts_whole b (Ok f) (item, whole) is = let same : f ≡ b = cc in subst IsFramedItem same item
 
+-- `frame` gives the whole exactly of a framed item
 pub frame_whole : (b : List ℕ) → AreBytes b → (frame b ≡ Ok b) ↔ IsFramedItem b
 frame_whole b bytes =
     (fronts_whole b (frame b) (frame_reads b bytes), λ item. ap frame (sym (append-nil b)) ∙ frame_front b [] item)
@@ -278,6 +302,7 @@ within_is_split turns p bytes l =
     let w = walk turns p bytes l in
     split_only p (split_within turns p) bytes (subst (λ s. IsSplit s (split_within turns p)) (sym w.is) (stopped_split (split_within turns p) w.left w.each w.stopped))
 
+-- the split goes by a framed item and what follows it
 pub split_more : (p f q : List ℕ) → AreBytes p → p ≡ f ++ q → IsFramedItem f → split p ≡ f ∷ split q
 split_more p f q bytes is item =
     let shorter : length q ≤ length p = omega (arith, ap length is, length-append f q) in
@@ -288,14 +313,17 @@ split_more p f q bytes is item =
     ∙ split_step (length p) f q item
     ∙ ap (λ fs. f ∷ fs) (within_is_split (length p) q bytes_left shorter)
 
+-- what isn't framed has no items
 pub split_none : (p : List ℕ) → AreBytes p → ¬ IsFramed p → split p ≡ []
 split_none p bytes stop = sym (split_only p [] bytes (stopped_split [] p tt stop))
 
+-- the same, by the lengths that `framing` answers
 pub split_framed : (p : List ℕ) (h n : ℕ) → AreBytes p → framing p ≡ Ok (payload_info h n) → split p ≡ take (h + n) p ∷ split (drop (h + n) p)
 split_framed p h n bytes is =
     let parts : HasHeader p h n × (h + n ≤ length p) = subst (Frames p) is (framing_reads p bytes) in
     split_more p (take (h + n) p) (drop (h + n) p) bytes (sym (take-append-drop (h + n) p)) (frame_item p h n parts.0 parts.1)
 
+-- where `framing` answers a fault there are no items
 pub split_unframed : (p : List ℕ) (e : DecoderError) → AreBytes p → framing p ≡ Err e → split p ≡ []
 split_unframed p e bytes is = split_none p bytes (framing_unframed p e is)
 
@@ -315,6 +343,7 @@ fault_framing : (b : List ℕ) → AreBytes b → ¬ IsFramed b → Faulty b (fr
 unfolding framing
 fault_framing b bytes un = fault_by b (header b) (header_reads b bytes) un
 
+-- `fault` is the fault of bytes that aren't framed
 pub fault_reads : (b : List ℕ) → AreBytes b → ¬ IsFramed b → IsFault b (fault b) × (frame b ≡ Err (fault b)) × (value b ≡ Err (fault b))
 unfolding fault frame value
 fault_reads b bytes un =

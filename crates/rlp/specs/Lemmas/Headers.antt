@@ -5,10 +5,12 @@ use Rattle.rlp.specs.Format.WrittenHeader.{big_endian, written_header, IsBase}
 use Rattle.rlp.specs.Lemmas.Digits.{big_endian_same, big_endian_some, big_endian_length}
 use Rattle.rlp.specs.Lemmas.Lists.{same_front, head_same, tail_same}
 
+-- the header of at most 55 bytes
 pub written_header_short : (base n : ℕ) → n ≤ 55 → written_header base n ≡ (base + n) ∷ []
 unfolding written_header
 written_header_short base n h = cond-true (leb n 55) _ _ (le-leb n 55 h)
 
+-- the header of more bytes
 pub written_header_long : (base n : ℕ) → 55 < n → written_header base n ≡ (base + 55 + length (big_endian n)) ∷ big_endian n
 unfolding written_header
 written_header_long base n h = cond-false (leb n 55) _ _ (lt-leb n 55 h)
@@ -19,12 +21,14 @@ Parts base n first more =
     ((n ≤ 55) × (first ≡ base + n) × (more ≡ []))
     ⊎ ((55 < n) × (first ≡ base + 55 + length more) × (more ≡ big_endian n) × (0 < length more) × (length more ≤ 8))
 
+-- a header by its first byte and the others
 pub record Shape (base n : ℕ) : Type 0 where
   pub first : ℕ
   pub more : List ℕ
   pub is : written_header base n ≡ first ∷ more
   pub parts : Parts base n first more
 
+-- each header has such parts
 pub shape : (base n : ℕ) → n < 2 ^ 64 → Shape base n
 shape base n small =
     ⊎_elim (λ long. record { first = base + 55 + length (big_endian n); more = big_endian n; is = written_header_long base n long; parts = inr (long, refl, refl, big_endian_some n (omega arith), big_endian_length n small) })
@@ -42,6 +46,7 @@ parts_apart base1 base2 m n first1 first2 more1 more2 x y b1 b2 (inr (l1, f1, r1
     let digits : more1 ≡ more2 = (same_front more1 more2 x y lengths tails).0 in
     (base, big_endian_same m n (sym r1 ∙ digits ∙ r2))
 
+-- headers that begin the same bytes are equal
 pub written_header_prefix_free : (base1 base2 m n : ℕ) (x y : List ℕ) → IsBase base1 → IsBase base2 → m < 2 ^ 64 → n < 2 ^ 64
     → written_header base1 m ++ x ≡ written_header base2 n ++ y → (base1 ≡ base2) × (m ≡ n)
 written_header_prefix_free base1 base2 m n x y b1 b2 sm sn e =

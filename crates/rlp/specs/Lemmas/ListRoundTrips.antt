@@ -1,6 +1,7 @@
 -- Values whose items are lists, and whose encodings are read back.
 use Rattle.std.proofs.Common.{◌≡◌, ◌↔◌, ℕ, ◌^◌, ◌<◌, List, [], ◌∷◌, ◌++◌, length, sym, ap, refl, subst, arith, append-nil, Option, Some, None, Result, Ok, IsOkAnd, MatchResult, IfSome, map, length-append}
 use Rattle.std.proofs.lemmas.List.{length-map}
+use Rattle.std.proofs.lemmas.List.{map-append}
 use Rattle.rlp.specs.declared.error.DecoderError.{DecoderError}
 use Rattle.rlp.specs.Format.Item.{Item, list_of}
 use Rattle.rlp.specs.Format.Encoding.{BeginsWith, encoding, join, IsSized}
@@ -35,13 +36,10 @@ item_reads_back Fits item gives faults view i x law fit sized is =
       no_fault = λ e h. back.no_fault e (fault_at_by faults (item_at view i) (view_of (encoding (item x))) e is h);
     }
 
+-- each item of a list that is shorter than 2^64 is
 pub middle_sized : (before after : List Item) (x : Item) → length (join (before ++ x ∷ after)) < 2 ^ 64 → IsSized x
 middle_sized [] after x small = omega (arith, length-append (encoding x) (join after))
 middle_sized (y ∷ before) after x small = middle_sized before after x (omega (arith, length-append (encoding y) (join (before ++ x ∷ after))))
-
-pub map-append : {A B : Type 0} (f : A → B) (xs ys : List A) → map f (xs ++ ys) ≡ map f xs ++ map f ys
-map-append f [] ys = refl
-map-append f (x ∷ xs) ys = ap (λ zs. f x ∷ zs) (map-append f xs ys)
 
 -- ---- options
 
@@ -80,6 +78,7 @@ module _ {A : Type 0} (Fits : A → Type 0) (item : A → Item) (gives : View �
   some_faulty x count back e (many_items n is many) = let same : n ≡ 1 = cc in omega arith
   some_faulty x count back e (faulty_item g is at) = back.no_fault g at
 
+-- an option is read back where its value is
 pub option_reads_back : {A : Type 0} (Fits : A → Type 0) (item : A → Item) (gives : View → A → Type 0) (faults : View → DecoderError → Type 0) → AlwaysReadsBack Fits item gives faults
     → AlwaysReadsBack (λ o. IfSome o Fits) (option_item item) (λ v o. GivesOption gives v o) (λ v e. FaultsAsOption faults v e)
 option_reads_back Fits item gives faults law view None fits fit (more, is) =
@@ -97,9 +96,9 @@ option_reads_back Fits item gives faults law view (Some x) fits fit (more, is) =
       no_fault = some_faulty Fits item gives faults view x count back;
     }
 
-
 -- ---- lists of values
 
+-- an item of a list is read back where its value is
 pub list_item_reads_back : {A : Type 0} (Fits : A → Type 0) (item : A → Item) (gives : View → A → Type 0) (faults : View → DecoderError → Type 0) (law : AlwaysReadsBack Fits item gives faults)
     (before after : List A) (x : A) (view : View) → length view.bytes < 2 ^ 64 → Fits x → BeginsWith view.bytes (encoding (list_of (map item (before ++ x ∷ after))))
     → ReadsBack Fits item (λ v w. GivesAt gives v (length before) w) (λ v e. FaultsAt faults v (length before) e) view x

@@ -4,6 +4,7 @@ use Rattle.std.specs.List.{slice_get}
 use Rattle.std.proofs.lemmas.Bool.{cases_Bool, cases_lt, cond-true, cond-false}
 use Rattle.std.proofs.lemmas.List.{length-map}
 use Rattle.std.proofs.lemmas.Option.{slice_get-map, slice_get_past, slice_get-get_or}
+use Rattle.std.proofs.lemmas.Simd.{map-map}
 use Rattle.rlp.specs.declared.error.DecoderError.{DecoderError}
 use Rattle.rlp.specs.declared.error.DecoderError.TheVariants.{RlpExpectedToBeList}
 use Rattle.rlp.specs.declared.rlpin.header.PayloadInfo.{PayloadInfo}
@@ -64,6 +65,7 @@ pub data Numbered (v : View) (i : ℕ) : Type 0 where
 none_left : (v : View) (i : ℕ) → items v.bytes ≡ [] → length (items v.bytes) ≤ i
 none_left v i e = omega (arith, ap length e)
 
+-- each number is that of an item, or of none
 pub numbered : (v : View) (i : ℕ) → Numbered v i
 numbered v i =
     ⊎_elim
@@ -112,13 +114,11 @@ item_at-past_same v i j l k = past_by v i j (omega (arith, length-views v)) (ome
 
 -- ---- views over the encoding of a list
 
-pub map-map : {A B C : Type 0} (f : B → C) (g : A → B) (xs : List A) → map f (map g xs) ≡ map (λ x. f (g x)) xs
-map-map f g [] = refl
-map-map f g (x ∷ xs) = ap (λ ys. f (g x) ∷ ys) (map-map f g xs)
-
+-- the views of an encoded list's items are of their encodings
 pub item_views-list : (xs : List Item) (b : List ℕ) → IsSized (list_of xs) → BeginsWith b (encoding (list_of xs)) → item_views (view_of b) ≡ map (λ x. view_of (encoding x)) xs
 item_views-list xs b sized begins = ap (map view_of) (items_of_list xs b sized begins).0 ∙ map-map view_of encoding xs
 
+-- an encoded list has as many items
 pub item_count-list : (xs : List Item) (b : List ℕ) → IsSized (list_of xs) → BeginsWith b (encoding (list_of xs)) → item_count (view_of b) ≡ Ok (length xs)
 unfolding item_count
 item_count-list xs b sized begins =
@@ -130,6 +130,7 @@ slice_get-middle : {A B : Type 0} (f : A → B) (before after : List A) (x : A) 
 slice_get-middle f [] after x = refl
 slice_get-middle f (y ∷ before) after x = slice_get-middle f before after x
 
+-- an item of an encoded list, by its number
 pub item_at-list_item : (before after : List Item) (x : Item) (b : List ℕ) → IsSized (list_of (before ++ x ∷ after)) → BeginsWith b (encoding (list_of (before ++ x ∷ after)))
     → item_at (view_of b) (length before) ≡ Ok (view_of (encoding x))
 item_at-list_item before after x b sized begins =

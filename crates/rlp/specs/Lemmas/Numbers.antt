@@ -11,6 +11,7 @@ use Rattle.rlp.specs.Views.View.{View}
 use Rattle.rlp.specs.Lemmas.Reading.{bytes_held}
 use Rattle.rlp.specs.Lemmas.Digits.{digits_fit, digits_again}
 
+-- few bytes that begin with no zero are the digits of a number that fits
 pub leading_is_value : (width : ℕ) (digits : List ℕ) → ((i : ℕ) → Fits w8 (get_or digits i 0)) → length digits ≤ width → get_or digits 0 0 ≢ 0
     → FitsBytes width (number_from_digits 256 digits) × (big_endian (number_from_digits 256 digits) ≡ digits)
 leading_is_value width [] bytes few leading = absurd (leading refl)
@@ -18,6 +19,7 @@ leading_is_value width (d ∷ ds) bytes few leading =
     let held = bytes_held (d ∷ ds) bytes in
     (digits_fit width (d ∷ ds) held few, digits_again d ds held (pos_of_ne-zero leading))
 
+-- digits that begin with a zero are at fault
 pub zero_is_fault : (width : ℕ) (digits : List ℕ) → length digits ≤ width → 1 ≤ length digits → get_or digits 0 0 ≡ 0 → IsDigitsFault width digits RlpInvalidIndirection
 zero_is_fault width [] few some leads = absurd (omega arith)
 zero_is_fault width (d ∷ ds) few some leads = leading_zero ds few (ap (λ c. c ∷ ds) leads)
@@ -26,9 +28,11 @@ pub ruleset digit_faults = (too_long, zero_is_fault)
 
 -- ---- a view that begins with the digits of a number gives the number
 
+-- digits that stand as a string give their number
 pub gives_number : (width : ℕ) (v : View) (d : List ℕ) → IsString v.bytes d → FitsBytes width (number_from_digits 256 d) × (big_endian (number_from_digits 256 d) ≡ d) → GivesNumber width v (number_from_digits 256 d)
 gives_number width v d stands (fits, again) = record { fits = fits; begins = subst (IsString v.bytes) (sym again) stands }
 
+-- digits at fault that stand as a string are the view's fault
 pub number_fault : (width : ℕ) (v : View) (d : List ℕ) (e : DecoderError) → IsString v.bytes d → IsDigitsFault width d e → FaultsAsNumber width v e
 number_fault width v d e stands faulty = no_value d e stands faulty
 

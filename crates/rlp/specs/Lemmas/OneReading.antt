@@ -22,10 +22,12 @@ use Rattle.rlp.specs.Lemmas.Strings.{string_reads, string_only}
 
 -- ---- what a string holds are bytes
 
+-- the front of bytes is bytes
 pub front_bytes : (s t : List ℕ) → Bytes (s ++ t) → Bytes s
 front_bytes [] t h = tt
 front_bytes (c ∷ s) t (low, h) = (low, front_bytes s t h)
 
+-- so is what follows it
 pub back_bytes : (s t : List ℕ) → Bytes (s ++ t) → Bytes t
 back_bytes [] t h = h
 back_bytes (c ∷ s) t (low, h) = back_bytes s t h
@@ -54,6 +56,7 @@ record IsTold {A : Type 0} (Fits : A → Type 0) (text : A → List ℕ) (IsFaul
 pub stands_read : (b d : List ℕ) (e : DecoderError) → length b < 2 ^ 64 → IsString b d → read_string b ≡ Err e → ⊥
 stands_read b d e fits stands is = let same : Ok d ≡ Err e = sym (string_only b d fits stands) ∙ is in cc
 
+-- bytes begin with one string
 pub same_string : (b d s : List ℕ) → length b < 2 ^ 64 → IsString b d → IsString b s → d ≡ s
 same_string b d s fits one two = let same = sym (string_only b d fits one) ∙ string_only b s fits two in cc
 
@@ -117,6 +120,7 @@ no_leading_zero zero more same = let none : [] ≡ 0 ∷ more = sym big_endian_z
 no_leading_zero (suc n) more same = let first : 0 < get_or (big_endian (suc n)) 0 0 = big_endian_first (suc n) (omega arith) in
     let above : 0 < get_or (0 ∷ more) 0 0 = rw same at first in omega arith
 
+-- the digits of a number that fits have no fault
 pub sound_digits : (width n : ℕ) (e : DecoderError) → FitsBytes width n → ¬ IsDigitsFault width (big_endian n) e
 sound_digits width n e fit (too_long long) = omega (arith, few_digits width n fit)
 sound_digits width n e fit (leading_zero more few same) = no_leading_zero n more same
@@ -127,6 +131,7 @@ one_digits width d e f (too_long long) (leading_zero more few same) = absurd (om
 one_digits width d e f (leading_zero more few same) (too_long long) = absurd (omega arith)
 one_digits width d e f (leading_zero more few same) (leading_zero more' few' same') = refl
 
+-- a number has one reading
 pub number_reading : (b : List ℕ) → AreBytes b → length b < 2 ^ 64 → (width : ℕ) → HasOneReading number_item (GivesNumber width (view_of b)) (FaultsAsNumber width (view_of b))
 number_reading b bytes fits width =
     reading (FitsBytes width) big_endian (IsDigitsFault width)
@@ -138,6 +143,7 @@ bytes_some : (b : List ℕ) (r : Result (List ℕ) DecoderError) → read_string
 bytes_some b (Ok d) same stands = inl (d, record { fits = tt; begins = stands })
 bytes_some b (Err e) same none = inr (e, same)
 
+-- a byte string has one reading
 pub bytes_reading : (b : List ℕ) → AreBytes b → length b < 2 ^ 64 → HasOneReading string (GivesBytes (view_of b)) (FaultsAsBytes (view_of b))
 bytes_reading b bytes fits = record {
   some = bytes_some b (read_string b) refl (string_reads b bytes fits);
@@ -155,6 +161,7 @@ told_text d bytes =
     (λ bad. inr (RlpExpectedToBeData, ((λ good. let same : true ≡ false = sym (is_utf8-from_IsUtf8 d good) ∙ bad in cc), refl)))
     (cases_Bool (is_utf8 d))
 
+-- a text has one reading
 pub text_reading : (b : List ℕ) → AreBytes b → length b < 2 ^ 64 → HasOneReading string (GivesText (view_of b)) (FaultsAsText (view_of b))
 text_reading b bytes fits =
     reading IsUtf8 (λ t. t) IsTextFault

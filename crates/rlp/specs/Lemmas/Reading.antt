@@ -15,31 +15,38 @@ use Rattle.rlp.specs.Format.Header.{HasHeader, lone, written, header, long_heade
 use Rattle.rlp.specs.Lemmas.Digits.{big_endian_value, big_endian_first, big_endian_again}
 use Rattle.rlp.specs.Lemmas.Headers.{shape, Parts, written_header_short, written_header_long}
 
+-- the header of a low byte
 pub header_low : (first : ℕ) (rest : List ℕ) → first < 0x80 → header (first ∷ rest) ≡ Ok (payload_info 0 1)
 unfolding header
 header_low first rest h = grind (arith, nat_tests)
 
+-- the header of a short string
 pub header_string : (first : ℕ) (rest : List ℕ) → 0x80 ≤ first → first < 0xb8 → header (first ∷ rest) ≡ Ok (payload_info 1 (first - 0x80))
 unfolding header
 header_string first rest l h = grind (arith, nat_tests)
 
+-- the header of a long string
 pub header_long_string : (first : ℕ) (rest : List ℕ) → 0xb8 ≤ first → first < 0xc0 → header (first ∷ rest) ≡ long_header RlpDataLenWithZeroPrefix (first - 0xb7) rest
 unfolding header
 header_long_string first rest l h = grind (arith, nat_tests)
 
+-- the header of a short list
 pub header_list : (first : ℕ) (rest : List ℕ) → 0xc0 ≤ first → first < 0xf8 → header (first ∷ rest) ≡ Ok (payload_info 1 (first - 0xc0))
 unfolding header
 header_list first rest l h = grind (arith, nat_tests)
 
+-- the header of a long list
 pub header_long_list : (first : ℕ) (rest : List ℕ) → 0xf8 ≤ first → header (first ∷ rest) ≡ long_header RlpListLenWithZeroPrefix (first - 0xf7) rest
 unfolding header
 header_long_list first rest l = grind (arith, nat_tests)
 
 -- ---- where a header stands, it is read
 
+-- a low byte is read as its own value
 pub read_lone : (byte : ℕ) (rest : List ℕ) → byte < 0x80 → header (byte ∷ rest) ≡ Ok (payload_info 0 1)
 read_lone byte rest low = header_low byte rest low
 
+-- a long header that stands in front is read
 pub long_header_is : (zero_fault : DecoderError) (k : ℕ) (digits rest : List ℕ) → length digits ≡ k → 0 < get_or digits 0 0 → 55 < number_from_digits 256 digits
     → long_header zero_fault k (digits ++ rest) ≡ Ok (payload_info (1 + k) (number_from_digits 256 digits))
 long_header_is zero_fault k [] rest l first large = absurd (omega arith)
@@ -74,6 +81,7 @@ read_parts base n first more rest (inr b) (inr (long, is, digits, some, few)) =
     ∙ long_header_is RlpListLenWithZeroPrefix (first - 0xf7) more rest (sym k) leading (omega arith)
     ∙ cc
 
+-- a header that was written is read
 pub read_written : (base n : ℕ) (rest : List ℕ) → IsBase base → n < 2 ^ 64 → header (written_header base n ++ rest) ≡ Ok (payload_info (length (written_header base n)) n)
 read_written base n rest b small =
     let s = shape base n small in
@@ -95,11 +103,13 @@ header_unique b h1 n1 h2 n2 one two =
     let infos : payload_info h1 n1 ≡ payload_info h2 n2 = cc in
     (ap (λ (p : PayloadInfo). p.header_len) infos, ap (λ (p : PayloadInfo). p.value_len) infos)
 
+-- where `header` answers a fault no header stands in front
 pub no_header : (b : List ℕ) (e : DecoderError) → header b ≡ Err e → HasNoHeader b
 no_header b e is h n has = let same = sym (read has) ∙ is in cc
 
 -- ---- what is read stands there
 
+-- the answer of `header`: a header that stands in front, or the fault of none
 abbrev pub Row : List ℕ → Result PayloadInfo DecoderError → Type 0
 Row b r = MatchResult r (λ p. HasHeader b p.header_len p.value_len) (λ e. e ≡ header_fault b)
 

@@ -13,15 +13,18 @@ use Rattle.rlp.specs.Values.RoundTrip.{ReadsBack}
 use Rattle.rlp.specs.Lemmas.Digits.{big_endian_same}
 use Rattle.rlp.specs.Lemmas.OneReading.{stands_read, same_string, sound_digits}
 
+-- each fact holds exactly where it does
 pub itself : {P : Type 0} → P ↔ P
 itself = (λ p. p, λ p. p)
 
 -- ---- a type of which contracts see another one's value
 
+-- a type that holds a value is read back where the value is
 pub reads_back_through : {A B : Type 0} (value : B → A) {Fits : A → Type 0} {item : A → Item} {gives : View → A → Type 0} {faults : View → DecoderError → Type 0} {view : View} {v : B}
     → ReadsBack Fits item gives faults view (value v) → ReadsBack (λ w. Fits (value w)) (λ w. item (value w)) (λ view w. gives view (value w)) faults view v
 reads_back_through value back = record { alike = λ w. back.alike (value w); no_fault = back.no_fault }
 
+-- a type that holds a value is given by the same bytes
 pub given_through : {A B : Type 0} (Fits : A → Type 0) (item : A → Item) (value : B → A) (view : View) (v : B) → GivesValue Fits item view (value v) ↔ GivesValue (λ w. Fits (value w)) (λ w. item (value w)) view v
 given_through Fits item value view v = (λ g. record { fits = g.fits; begins = g.begins }, λ g. record { fits = g.fits; begins = g.begins })
 
@@ -42,20 +45,25 @@ module _ {A : Type 0} (Fits : A → Type 0) (text : A → List ℕ) (view : View
   none_faulty IsFaulty sound e (no_string g none) = stands_read view.bytes (text v) g fits begins none
   none_faulty IsFaulty sound e (no_value d g stands faulty) = sound g (subst (λ d. IsFaulty d g) (same_string view.bytes d (text v) fits stands begins) faulty)
 
+  -- a value that is told by a string is read back
   pub reads_back : (IsFaulty : List ℕ → DecoderError → Type 0) → ((e : DecoderError) → ¬ IsFaulty (text v) e)
       → ReadsBack Fits (λ x. string (text x)) (λ view w. GivesValue Fits (λ x. string (text x)) view w) (FaultsAs IsFaulty) view v
   reads_back IsFaulty sound = record { alike = alike_given; no_fault = none_faulty IsFaulty sound }
 
+-- a number is read back
 pub number_reads_back : (width : ℕ) (view : View) (n : ℕ) → length view.bytes < 2 ^ 64 → FitsBytes width n → BeginsWith view.bytes (encoding (number_item n))
     → ReadsBack (FitsBytes width) number_item (GivesNumber width) (FaultsAsNumber width) view n
 number_reads_back width view n fits fit begins = reads_back (FitsBytes width) big_endian view n fits begins (IsDigitsFault width) (λ e. sound_digits width n e fit)
 
+-- a byte string is read back
 pub bytes_reads_back : (view : View) (d : List ℕ) → length view.bytes < 2 ^ 64 → BeginsWith view.bytes (encoding (string d)) → ReadsBack (λ d. ⊤) string GivesBytes FaultsAsBytes view d
 bytes_reads_back view d fits begins = record { alike = alike_given (λ d. ⊤) (λ d. d) view d fits begins; no_fault = λ e none. stands_read view.bytes d e fits begins none }
 
+-- a text is read back
 pub text_reads_back : (view : View) (t : List ℕ) → length view.bytes < 2 ^ 64 → IsUtf8 t → BeginsWith view.bytes (encoding (string t)) → ReadsBack IsUtf8 string GivesText FaultsAsText view t
 text_reads_back view t fits good begins = reads_back IsUtf8 (λ t. t) view t fits begins IsTextFault (λ e bad. bad.0 good)
 
+-- a string of the right length has no fault of its length
 pub sound_length : (n : ℕ) (d : List ℕ) (e : DecoderError) → length d ≡ n → ¬ IsLengthFault n d e
 sound_length n d e fit (shorter few) = omega arith
 sound_length n d e fit (longer many) = omega arith
@@ -73,10 +81,12 @@ bit_below : (b : Bool) → FitsBytes 1 (bit b)
 bit_below true = omega arith
 bit_below false = omega arith
 
+-- a truth value is at most 1 as a number
 pub bit_least : (b : Bool) → ¬ (1 < bit b)
 bit_least true h = omega arith
 bit_least false h = omega arith
 
+-- a truth value is given by its own encoding alone
 pub bool_exact : (view : View) (b : Bool) → GivesBool view b ↔ GivesValue (λ b. ⊤) (λ b. number_item (bit b)) view b
 bool_exact view b = (λ g. record { fits = tt; begins = g.begins }, λ g. record { fits = bit_below b; begins = g.begins })
 
@@ -87,12 +97,14 @@ no_other view b back e (other_number n g gives large custom) =
     let same : n ≡ bit b = big_endian_same n (bit b) (string_same (big_endian n) (big_endian (bit b)) alike) in
     bit_least b (subst (λ m. 1 < m) same large)
 
+-- a truth value is read back
 pub bool_reads_back : (view : View) (b : Bool) → length view.bytes < 2 ^ 64 → BeginsWith view.bytes (encoding (number_item (bit b)))
     → ReadsBack (λ b. ⊤) (λ b. number_item (bit b)) GivesBool FaultsAsBool view b
 bool_reads_back view b fits begins =
     let back : ReadsBack (FitsBytes 1) number_item (GivesNumber 1) (FaultsAsNumber 1) view (bit b) = number_reads_back 1 view (bit b) fits (bit_below b) begins in
     record { alike = λ w. (λ g. (tt, ((back.alike (bit w)).0 g).1), λ (any, same). (back.alike (bit w)).1 (bit_below w, same)); no_fault = no_other view b back }
 
+-- a number that is neither 0 nor 1 is no truth value
 pub other_bool : (v : View) (n : ℕ) (e : DecoderError) → GivesNumber 1 v n → n ≢ 0 → n ≢ 1 → IsCustom (codes "invalid boolean value") e → FaultsAsBool v e
 other_bool v n e gives none one is = other_number n e gives (omega arith) is
 
@@ -100,10 +112,12 @@ pub ruleset bool_faults = (no_number, other_bool)
 
 -- ---- the law of `RoundTrip`, for types of which contracts see bytes or text
 
+-- a type that holds a byte string is read back
 pub bytes_in : {B : Type 0} (value : B → List ℕ) (view : View) (b : B) → length view.bytes < 2 ^ 64 → ⊤ → BeginsWith view.bytes (encoding (string (value b)))
     → ReadsBack (λ b. ⊤) (λ b. string (value b)) (λ view b. GivesBytes view (value b)) FaultsAsBytes view b
 bytes_in value view b fits fit begins = reads_back_through value (bytes_reads_back view (value b) fits begins)
 
+-- a type that holds a text is read back
 pub text_in : {B : Type 0} (value : B → List ℕ) (view : View) (b : B) → length view.bytes < 2 ^ 64 → IsUtf8 (value b) → BeginsWith view.bytes (encoding (string (value b)))
     → ReadsBack (λ b. IsUtf8 (value b)) (λ b. string (value b)) (λ view b. GivesText view (value b)) FaultsAsText view b
 text_in value view b fits fit begins = reads_back_through value (text_reads_back view (value b) fits fit begins)

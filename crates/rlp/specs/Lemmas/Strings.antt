@@ -16,20 +16,24 @@ use Rattle.rlp.specs.Lemmas.Headers.{Parts, shape, written_header_short}
 use Rattle.rlp.specs.Lemmas.Encodings.{low_byte, small_payload, front_sized}
 use Rattle.rlp.specs.Lemmas.Reading.{Bytes, long_whole}
 
+-- the string of a low byte
 pub string_low : (first : ℕ) (rest : List ℕ) → first < 0x80 → read_string (first ∷ rest) ≡ Ok (first ∷ [])
 unfolding read_string
 string_low first rest h = grind (arith, nat_tests)
 
+-- a short string, by its row
 pub string_short : (first : ℕ) (rest : List ℕ) → 0x80 ≤ first → first < 0xb8 → read_string (first ∷ rest) ≡ short_string (first - 0x80) rest
 unfolding read_string
 string_short first rest l h = cond-false (ltb first 0x80) _ _ (le-ltb _ _ l) ∙ cond-true (ltb first 0xb8) _ _ (lt-ltb _ _ h)
 
+-- a long string, by its row
 pub string_long : (first : ℕ) (rest : List ℕ) → 0xb8 ≤ first → first < 0xc0 → read_string (first ∷ rest) ≡ long_string (first - 0xb7) rest
 unfolding read_string
 string_long first rest l h =
     let from80 : 0x80 ≤ first = omega arith in
     cond-false (ltb first 0x80) _ _ (le-ltb _ _ from80) ∙ cond-false (ltb first 0xb8) _ _ (le-ltb _ _ l) ∙ cond-true (ltb first 0xc0) _ _ (lt-ltb _ _ h)
 
+-- a list is no string
 pub string_list : (first : ℕ) (rest : List ℕ) → 0xc0 ≤ first → read_string (first ∷ rest) ≡ Err RlpExpectedToBeData
 unfolding read_string
 string_list first rest l =
@@ -83,6 +87,7 @@ parts_read n first digits d more (inr (long, is, same, some, few)) l high small 
     ∙ long_is (length digits) n digits (d ++ more) refl leading value
     ∙ value_is (length digits) n d more l long small
 
+-- a string that stands in front is read
 pub string_only : (b d : List ℕ) → length b < 2 ^ 64 → IsString b d → read_string b ≡ Ok d
 unfolding encoding
 string_only b d fits (more, is) =
@@ -229,6 +234,7 @@ unfolding Stands
 answer_from b (Ok d) fits is there = there
 answer_from b (Err e) fits is there = ((λ d has. let same = sym (string_only b d fits has) ∙ is in cc), fault_read b e is)
 
+-- `read_string` gives the string in front, or the fault where none is
 pub string_reads : (b : List ℕ) → AreBytes b → length b < 2 ^ 64 → ReadsString b (read_string b)
 string_reads b bytes fits = answer_from b (read_string b) fits refl (stands b (recursion_from_All (λ byte. byte < 2 ^ 8) b bytes))
 

@@ -7,7 +7,7 @@ use Rattle.rlp.specs.Format.Encoding.{BeginsWith, encoding, join, IsSized}
 use Rattle.rlp.specs.Views.View.{View, view_of, item_at, item_count}
 use Rattle.rlp.specs.Values.ListReading.{FaultsAsFields, no_fields, other_count, faulty_field, FaultsAt, FaultsInField, in_field, GivesAt, GivesBefore, MayLackAsStruct, MayLackAt}
 use Rattle.rlp.specs.Values.RoundTrip.{ReadsBack}
-use Rattle.rlp.specs.Lemmas.Encodings.{encoding_list, small_payload, front_sized}
+use Rattle.rlp.specs.Lemmas.Encodings.{encoding_list, small_payload, front_sized, listed_from}
 use Rattle.rlp.specs.Lemmas.Numbered.{item_count-list, item_at-list_item}
 use Rattle.rlp.specs.Lemmas.ListRoundTrips.{AlwaysReadsBack, item_reads_back, middle_sized}
 
@@ -18,10 +18,6 @@ cons_same x y xs ys e = (let h : x ≡ y = cc in h, let t : xs ≡ ys = cc in t)
 -- the items of a list are those of no other
 pub list_same : (xs ys : List Item) → list_of xs ≡ list_of ys → xs ≡ ys
 list_same xs ys e = let inner : items_from xs ≡ items_from ys = cc in sym (listed_from xs) ∙ ap listed inner ∙ listed_from ys
-  where
-    listed_from : (xs : List Item) → listed (items_from xs) ≡ xs
-    listed_from [] = refl
-    listed_from (x ∷ xs) = ap (λ ys. x ∷ ys) (listed_from xs)
 
 -- what stands in the first place, and what in the others
 abbrev pub by_place : {A : Type 1} → A → (ℕ → A) → ℕ → A
@@ -49,6 +45,7 @@ module _ {A P : Type 0} (field : P → A) (Fits : A → Type 0) (item : A → It
       → ReadsBack Fits item (λ v w. GivesAt gives v i w) (λ v e. FaultsAt faults v i e) view (field p)
   first_back i view p fit is sized = item_reads_back Fits item gives faults view i (field p) law fit sized is
 
+  -- the first field is read back
   pub first_alike : (i : ℕ) (view : View) (p : P) → Fits (field p) → HoldsFrom view i (item (field p) ∷ []) → (q : P)
       → GivesAt gives view i (field q) ↔ (Fits (field q) × (item (field q) ∷ [] ≡ item (field p) ∷ []))
   first_alike i view p fit (is, (sized, none)) q =
@@ -58,11 +55,13 @@ module _ {A P : Type 0} (field : P → A) (Fits : A → Type 0) (item : A → It
   sound_by : (i : ℕ) (view : View) (p : P) (j : ℕ) (e : DecoderError) → Fits (field p) → item_at view i ≡ Ok (view_of (encoding (item (field p)))) → IsSized (item (field p)) → j ≡ i → ¬ FaultsAt faults view j e
   sound_by i view p j e fit is sized same at = (first_back i view p fit is sized).no_fault e (subst (λ j. FaultsAt faults view j e) same at)
 
+  -- the first field has no fault
   pub first_sound : (i : ℕ) (view : View) (p : P) → Fits (field p) → HoldsFrom view i (item (field p) ∷ []) → (k : ℕ) (e : DecoderError) → k < 1 → ¬ FaultsAt (by_place faults (λ k v e. ⊥) k) view (i + k) e
   first_sound i view p fit (is, (sized, none)) zero e few at = sound_by i view p (i + 0) e fit is sized (omega arith) at
   first_sound i view p fit (is, (sized, none)) (suc k) e few at = omega arith
 
   module _ (FitMore : P → Type 0) (more : P → List Item) where
+    -- a field is read back, and so are those after it
     pub more_alike : (giveMore : ℕ → View → P → Type 0)
         → ((i : ℕ) (view : View) (p : P) → FitMore p → HoldsFrom view i (more p) → (q : P) → giveMore i view q ↔ (FitMore q × (more q ≡ more p)))
         → (i : ℕ) (view : View) (p : P) → Fits (field p) × FitMore p → HoldsFrom view i (item (field p) ∷ more p) → (q : P)
@@ -74,6 +73,7 @@ module _ {A P : Type 0} (field : P → A) (Fits : A → Type 0) (item : A → It
           λ ((fit', fits'), same). let parts = cons_same (item (field q)) (item (field p)) (more q) (more p) same in (one.1 (fit', parts.0), rest.1 (fits', parts.1)),
         )
 
+    -- a field has no fault, and neither have those after it
     pub more_sound : (count : ℕ) (faultMore : ℕ → View → DecoderError → Type 0)
         → ((i : ℕ) (view : View) (p : P) → FitMore p → HoldsFrom view i (more p) → (k : ℕ) (e : DecoderError) → k < count → ¬ FaultsAt (faultMore k) view (i + k) e)
         → (i : ℕ) (view : View) (p : P) → Fits (field p) × FitMore p → HoldsFrom view i (item (field p) ∷ more p) → (k : ℕ) (e : DecoderError) → k < suc count → ¬ FaultsAt (by_place faults faultMore k) view (i + k) e
@@ -93,6 +93,7 @@ module _ {P : Type 0} (count : ℕ) (Fits : P → Type 0) (items : P → List It
   no_struct_fault view p fit holds is e (other_count m same other) = let equal : m ≡ count = cc in other equal
   no_struct_fault view p fit holds is e (faulty_field g same (in_field k few before at)) = sound 0 view p fit holds k g few (subst (λ j. FaultsAt (faults k) view j g) (let zero_add : k ≡ 0 + k = omega arith in zero_add) at)
 
+  -- a struct is read back where its fields are
   pub struct_reads_back : AlwaysReadsBack Fits (λ p. list_of (items p)) (λ v p. (item_count v ≡ Ok count) × gives 0 v p) (λ v e. FaultsAsFields count (λ v e. FaultsInField count some faults v e) v e)
   struct_reads_back view p fits fit (more, is) =
       let sized : IsSized (list_of (items p)) = front_sized (list_of (items p)) view.bytes more fits is in
@@ -109,9 +110,11 @@ module _ {P : Type 0} (count : ℕ) (Fits : P → Type 0) (items : P → List It
 -- ---- rules for bodies that read a struct
 
 module _ (count : ℕ) (some : ℕ → ℕ → View → Type 0) (faults : ℕ → View → DecoderError → Type 0) (may_lack : ℕ → View → Type 0) (v : View) (e : DecoderError) where
+  -- the fault is one of the struct, or memory may lack
   abbrev pub StructFails : Type 0
   StructFails = FaultsAsFields count (λ v e. FaultsInField count some faults v e) v e ⊎ ((e ≡ OutOfMemory) × MayLackAsStruct count some may_lack v)
 
+  -- a fault of a field is one of the struct
   pub field_fails : (k : ℕ) → FaultsAt (faults k) v k e ⊎ ((e ≡ OutOfMemory) × MayLackAt (may_lack k) v k) → item_count v ≡ Ok count → k < count → GivesBefore some v k → StructFails
   field_fails k (inl fault) many few before = inl (faulty_field e many (in_field k few before fault))
   field_fails k (inr (lacks, may)) many few before = inr (lacks, record { many = many; place = k; few = few; before = before; may = may })
@@ -125,12 +128,14 @@ module _ (count : ℕ) (some : ℕ → ℕ → View → Type 0) (faults : ℕ �
   where_given zero Fact from = from tt
   where_given (suc k) Fact from = where_given k (some k k v → Fact) (λ before given. from (before, given))
 
+  -- the same of the field with this number, where those before it gave values
   abbrev pub FieldFails : ℕ → Type 0
   FieldFails k = FaultsAt (faults k) v k e ⊎ ((e ≡ OutOfMemory) × MayLackAt (may_lack k) v k) → item_count v ≡ Ok count → k < count → WhereGiven k StructFails
 
   field_by : (k : ℕ) → FieldFails k
   field_by k fails many few = where_given k StructFails (λ before. field_fails k fails many few before)
 
+  -- each of the first seventeen fields, as a rule of its own
   pub field_0 : FieldFails 0
   field_0 = field_by 0
 

@@ -9,7 +9,8 @@ use Rattle.rlp.specs.Views.View.{View, view_of, item_views}
 use Rattle.rlp.specs.Values.ListReading.{GivesEach, GivesList, FaultsAsList, not_list, faulty_in_list}
 use Rattle.rlp.specs.Values.RoundTrip.{ReadsBack}
 use Rattle.rlp.specs.Lemmas.Encodings.{encoding_list, front_sized, small_payload}
-use Rattle.rlp.specs.Lemmas.Numbered.{item_views-list, map-map}
+use Rattle.std.proofs.lemmas.Simd.{map-map}
+use Rattle.rlp.specs.Lemmas.Numbered.{item_views-list}
 use Rattle.rlp.specs.Lemmas.ListRoundTrips.{AlwaysReadsBack}
 use Rattle.rlp.specs.Lemmas.Structs.{cons_same, list_same}
 

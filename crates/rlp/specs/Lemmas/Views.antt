@@ -40,6 +40,7 @@ payload_of_list xs b h (more, is) =
     ∙ ap (λ is_list. payload_in is_list (value (written_header 0xc0 (length (join xs)) ++ (join xs ++ more)))) (list_first (length (join xs)) (join xs ++ more) small)
     ∙ ap (payload_in true) (list_value (length (join xs)) (join xs) more refl small)
 
+-- each item is shorter than a bound of all joined
 pub sized_items : (xs : List Item) (n : ℕ) → length (join xs) < n → (k : ℕ) (d : Item) → k < length xs → length (encoding (get_or xs k d)) < n
 sized_items [] n l k d h = absurd (omega arith)
 sized_items (x ∷ xs) n l zero d h = omega (arith, length-append (encoding x) (join xs))
@@ -63,6 +64,7 @@ payload_bytes_by b false (Err e) bytes = All-nil (λ byte. byte < 2 ^ 8)
 payload_bytes_by b false (Ok p) bytes = All-nil (λ byte. byte < 2 ^ 8)
 payload_bytes_by b true (Ok p) bytes = All-take (λ byte. byte < 2 ^ 8) p.value_len (drop p.header_len b) (All-drop (λ byte. byte < 2 ^ 8) p.header_len b bytes)
 
+-- the payload of bytes is bytes
 pub payload_bytes : (b : List ℕ) → AreBytes b → AreBytes (payload b)
 unfolding payload value
 payload_bytes b bytes = payload_bytes_by b (begins_as_list b) (framing b) bytes
@@ -75,6 +77,7 @@ split_left p bytes =
     (sym (ap (drop (length (concat (split_within (length p) p)))) w.is ∙ drop_at (concat (split_within (length p) p)) w.left (length (concat (split_within (length p) p))) refl))
     w.stopped
 
+-- what follows the last item isn't framed
 pub rest_unframed : (b : List ℕ) → AreBytes b → ¬ IsFramed (rest b)
 unfolding rest items
 rest_unframed b bytes = split_left (payload b) (payload_bytes b bytes)

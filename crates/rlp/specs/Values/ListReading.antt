@@ -83,10 +83,6 @@ pub data FaultsAsFields (n : ℕ) (IsFaulty : View → DecoderError → Type 0) 
   other_count : (m : ℕ) → item_count v ≡ Ok m → m ≢ n → FaultsAsFields n IsFaulty v RlpIncorrectListLen
   faulty_field : (e : DecoderError) → item_count v ≡ Ok n → IsFaulty v e → FaultsAsFields n IsFaulty v e
 
--- the first of two fields is at fault, or it gives a value and the second is at fault
-abbrev pub FaultsInOrder : {A : Type 0} → (View → A → Type 0) → (View → DecoderError → Type 0) → ℕ → (View → DecoderError → Type 0) → View → DecoderError → Type 0
-FaultsInOrder {A} gives faults i Later v e = FaultsAt faults v i e ⊎ (((x : A) × GivesAt gives v i x) × Later v e)
-
 -- each of the first k fields is given by the item in its place
 abbrev pub GivesBefore : (ℕ → ℕ → View → Type 0) → View → ℕ → Type 0
 GivesBefore some v zero = Unit {0}
