@@ -1,12 +1,15 @@
 -- Bytes that follow a framed item make no difference to what is read of it.
-use Rattle.std.proofs.Common.{◌≡◌, ℕ, ◌<◌, Bool, true, false, List, [], ◌∷◌, ◌++◌, length, take, drop, Result, Ok, Err, refl, sym, ap, ◌∙◌, arith, length-append, length-drop}
+use Rattle.std.proofs.Common.{◌≡◌, ℕ, ◌<◌, Bool, true, false, List, [], ◌∷◌, ◌++◌, length, take, drop, Result, Ok, Err, refl, sym, ap, ◌∙◌, arith, length-append, length-drop, subst, take-append-drop, ◌≤◌}
 use Rattle.std.proofs.lemmas.List.{take-append-le, drop-append-le}
 use Rattle.rlp.specs.declared.error.DecoderError.{DecoderError}
-use Rattle.rlp.specs.Format.Framing.{IsFramedItem, framing, value}
+use Rattle.rlp.specs.declared.rlpin.header.PayloadInfo.{PayloadInfo}
+use Rattle.rlp.specs.Format.Header.{HasHeader}
+use Rattle.rlp.specs.Format.WrittenHeader.{AreBytes}
+use Rattle.rlp.specs.Format.Framing.{IsFramedItem, framing, total_len, value}
 use Rattle.rlp.specs.Format.Split.{begins_as_list, payload, payload_in, items, split}
 use Rattle.rlp.specs.Views.Text.{text, text_by, framed_text}
 use Rattle.rlp.specs.Views.Depth.{depth, depth_by, framed_depth}
-use Rattle.rlp.specs.Lemmas.Frames.{longer, framing_is, value_is, item_some}
+use Rattle.rlp.specs.Lemmas.Frames.{Frames, frame_item, framing_reads, longer, framing_is, value_is, item_some}
 use Rattle.rlp.proofs.Texts.{text_is, depth_is}
 
 -- what follows a framed item makes no difference to its header
@@ -26,6 +29,13 @@ value-followed f more is =
     let same : take n (drop h (f ++ more)) ≡ take n (drop h f) = ap (λ b. take n b) behind ∙ take-append-le n (drop h f) more (omega (arith, length-drop h f)) in
     value_is (f ++ more) h n (longer more is.has_header) (omega (arith, length-append f more))
     ∙ ap Ok same ∙ sym (value_is f h n is.has_header (omega arith))
+
+-- the first item of a payload has the value that is read from all of the payload
+pub value-front : (p : List ℕ) (info : PayloadInfo) → AreBytes p → framing p ≡ Ok info → value (take (total_len info) p) ≡ value p
+value-front p info bytes is =
+    let parts : HasHeader p info.header_len info.value_len × (total_len info ≤ length p) = subst (Frames p) is (framing_reads p bytes) in
+    sym (value-followed (take (total_len info) p) (drop (total_len info) p) (frame_item p info.header_len info.value_len parts.0 parts.1))
+    ∙ ap value (take-append-drop (total_len info) p)
 
 begins-followed : (f more : List ℕ) → 0 < length f → begins_as_list (f ++ more) ≡ begins_as_list f
 begins-followed [] more some = absurd (omega arith)

@@ -3,7 +3,8 @@ use Rattle.std.proofs.Common.{◌≡◌, ℕ, suc, ◌-◌, ◌<◌, ◌≤◌, 
 use Rattle.std.proofs.lemmas.Bool.{false≢true}
 use Rattle.std.proofs.lemmas.List.{map-append}
 use Rattle.rlp.specs.declared.error.DecoderError.{DecoderError}
-use Rattle.rlp.specs.Format.Framing.{value}
+use Rattle.rlp.specs.Format.Framing.{framing, value}
+use Rattle.rlp.specs.Format.Header.{header}
 use Rattle.rlp.specs.Format.Split.{begins_as_list, items, payload, payload_in, split}
 use Rattle.rlp.specs.Views.Text.{error_name, hex, separated, framed_text, text}
 use Rattle.rlp.specs.Views.Depth.{greatest, framed_depth, depth}
@@ -44,6 +45,15 @@ texts-more done b separator e =
 pub length-some : (b : List ℕ) → (b ≡ [] → IsTrue false) → 0 < length b
 length-some [] other = absurd (false≢true (other refl))
 length-some (first ∷ more) other = omega arith
+
+no_value : (v : List ℕ) → value [] ≡ Ok v → ⊥
+unfolding value framing header
+no_value v is = cc
+
+-- bytes that have a value are some
+pub length-framed : (b v : List ℕ) → value b ≡ Ok v → 0 < length b
+length-framed [] v is = absurd (no_value v is)
+length-framed (first ∷ more) v is = omega arith
 
 -- the text of no bytes
 pub text-null : (b : List ℕ) → b ≡ [] → codes "null" ≡ text b

@@ -79,3 +79,14 @@ value_of_string r Fits bytes Calls decoder v same found missing called =
 
 -- for bodies that make a value of one string and take no memory
 pub ruleset one_string = (faults_of_string, value_of_string)
+
+-- a fault of the string found, or that none stands there
+pub fault_of_string : (IsFaulty : List ℕ → DecoderError → Type 0) (v : View) (e : DecoderError) → IfOk (view_string v) (λ d. HoldsString v d × IsFaulty d e) → IfErr (view_string v) (λ f. f ≡ e) → FaultsAs IsFaulty v e
+fault_of_string IsFaulty v e found missing = fault_by IsFaulty v e (view_string v) refl found missing
+  where
+    fault_by : (IsFaulty : List ℕ → DecoderError → Type 0) (v : View) (e : DecoderError) (s : Result (List ℕ) DecoderError) → view_string v ≡ s → IfOk s (λ d. HoldsString v d × IsFaulty d e) → IfErr s (λ f. f ≡ e) → FaultsAs IsFaulty v e
+    fault_by IsFaulty v e (Ok d) is (holds, faulty) none = no_value d e holds faulty
+    fault_by IsFaulty v e (Err f) is found same = subst (λ e. FaultsAs IsFaulty v e) same (no_string f is)
+
+-- the same, for bodies that match on the answer
+pub ruleset string_faults = (fault_of_string, value_of_string)

@@ -1,5 +1,5 @@
 -- Types of which a struct is made, and structs that are lists of their fields.
-use Rattle.std.specs.Prelude.{ℕ, suc, ◌≡◌, ◌^◌, ◌<◌, ◌↔◌, ⊤, ◌⊎◌, All, IsUtf8, IfSome, Bool, List, [], ◌∷◌, length, map, Ok, Option, refl, ◌+◌}
+use Rattle.std.specs.Prelude.{ℕ, zero, suc, ◌≡◌, ◌^◌, ◌<◌, ◌↔◌, ⊤, ◌⊎◌, All, IsUtf8, IfSome, Bool, List, [], ◌∷◌, length, map, Ok, Option, refl, ◌+◌}
 use Rattle.std.proofs.Common.{ap}
 use Rattle.rlp.specs.declared.error.DecoderError.{DecoderError}
 use Rattle.rlp.specs.Format.Item.{Item, string, list_of}
@@ -164,6 +164,11 @@ and_field field c more = record {
   alike = more_alike field c.Fits c.item c.gives c.faults c.reads_back more.Fits more.items more.gives more.alike;
   sound = more_sound field c.Fits c.item c.gives c.faults c.reads_back more.Fits more.items more.count more.faults more.sound;
 }
+
+-- n fields of one type before others: the first of them is field k of its kind
+abbrev pub and_each : {A P : Type 0} → (ℕ → P → A) → Codec A → Fields P → ℕ → ℕ → Fields P
+and_each field c more k zero = more
+and_each field c more k (suc n) = and_field (field k) c (and_each field c more (suc k) n)
 
 -- Why a view gives no struct of its fields: it is no list, it has another number of items, or an item is at fault and each before it gives a value.
 abbrev pub FaultsAsStruct : ℕ → (ℕ → ℕ → View → Type 0) → (ℕ → View → DecoderError → Type 0) → View → DecoderError → Type 0

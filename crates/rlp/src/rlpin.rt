@@ -2,6 +2,7 @@
 
 mod decoder;
 mod display;
+mod framed;
 mod header;
 mod items;
 mod iter;

@@ -1,7 +1,7 @@
 //! The bytes of strings, and of streams that hold nothing else.
 
 use crate::guarded::finishes_as;
-use crate::{Nonce, Pair, Refusing, append_one, append_three, bytes_of_three, plain};
+use crate::{HalfWritten, Nonce, Pair, append_one, append_three, bytes_of_three, plain};
 use rlp::{EMPTY_LIST_RLP, Encodable, NULL_RLP, RlpStream};
 use std::alloc::{AllocError, Global};
 use std::io;
@@ -185,14 +185,14 @@ fn streams_hold_what_was_appended(rt: HostRuntime) -> Result<(), Fail> {
 fn refused_leave_the_stream(alloc: Global) -> Result<bool, AllocError> {
     let mut s = RlpStream::new(alloc)?;
     s.append(&"cat")?;
-    let one = s.append(&Refusing).is_err();
+    let one = s.append(&HalfWritten).is_err();
     let same = s.as_raw() == [0x83, 0x63, 0x61, 0x74].as_slice();
-    let three = append_three(&mut s, &1u64, &Refusing, &2u64).is_err();
+    let three = append_three(&mut s, &1u64, &HalfWritten, &2u64).is_err();
     Ok(
         one && same
             && three
             && finishes_as(s, &[0x83, 0x63, 0x61, 0x74, 0x01])
-            && rlp::encode(alloc, &Refusing).is_err(),
+            && rlp::encode(alloc, &HalfWritten).is_err(),
     )
 }
 

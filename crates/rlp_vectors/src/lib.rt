@@ -10,8 +10,15 @@ use bytes::BytesMut;
 use rlp::{DecoderError, Encodable, Rlp, RlpStream};
 use std::alloc::{AllocError, Global};
 
+mod access;
+mod address;
+mod branch;
+mod careless;
+#[cfg(test)]
+mod careless_rows;
 #[cfg(test)]
 mod chains;
+mod child;
 #[cfg(test)]
 mod closing;
 #[cfg(test)]
@@ -24,23 +31,34 @@ mod encoding;
 mod entry;
 #[cfg(test)]
 mod faults;
+mod fields;
 #[cfg(test)]
 mod guarded;
+mod half_written;
 #[cfg(test)]
 mod handed_in;
 mod hash;
 #[cfg(test)]
 mod headers;
+mod leaf;
 #[cfg(test)]
 mod lists;
+mod nest;
 #[cfg(test)]
 mod nested_streams;
+#[cfg(test)]
+mod nodes;
 mod nonce;
 mod pair;
 #[cfg(test)]
 mod plain;
 mod recipient;
-mod refusing;
+#[cfg(test)]
+mod refused_never;
+#[cfg(test)]
+mod refused_streams;
+#[cfg(test)]
+mod refused_values;
 #[cfg(test)]
 mod sizes;
 #[cfg(test)]
@@ -50,12 +68,18 @@ mod streams;
 #[cfg(test)]
 mod tool_answers;
 #[cfg(test)]
+mod tool_deep;
+#[cfg(test)]
 mod tool_devices;
 #[cfg(test)]
 mod tool_faults;
+#[cfg(test)]
+mod tool_sweeps;
 mod transaction;
 #[cfg(test)]
 mod trees;
+#[cfg(test)]
+mod two_bytes;
 mod uses;
 #[cfg(test)]
 mod values;
@@ -68,13 +92,21 @@ mod views_text;
 #[cfg(test)]
 mod views_values;
 
+pub use access::{Access, AccessList};
+pub use address::Address;
+pub use branch::Branch;
+pub use careless::{Odd, Refusing, Trio, Wrapper};
+pub use child::Child;
 pub use couple::{Alone, Couple, append_list_in_list, write_list_in_list};
 pub use entry::{Entry, entry_back};
+pub use fields::{AppendAll, Both, Each, One, append_as_list};
+pub use half_written::HalfWritten;
 pub use hash::Hash;
+pub use leaf::Leaf;
+pub use nest::{Inner, Nest};
 pub use nonce::Nonce;
 pub use pair::Pair;
 pub use recipient::Recipient;
-pub use refusing::Refusing;
 pub use transaction::Transaction;
 pub use uses::{append_by_stream, append_each, chain_and_encoder, nested};
 

@@ -26,6 +26,8 @@ pub(crate) enum Step {
     InternalPair(u64, u64),
     /// `append_list` of numbers.
     Numbers(&'static [u64]),
+    /// `append_list` of pairs.
+    Pairs(&'static [Pair]),
     /// `encode_value` of the stream's encoder.
     Encoded(&'static [u8]),
     /// `append_raw`.
@@ -77,6 +79,9 @@ fn append(s: &mut RlpStream, step: Step) -> Result<bool, AllocError> {
         }
         Step::Numbers(numbers) => {
             s.append_list(numbers)?;
+        }
+        Step::Pairs(pairs) => {
+            s.append_list(pairs)?;
         }
         _ => return Ok(false),
     }

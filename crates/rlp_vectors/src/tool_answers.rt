@@ -58,33 +58,6 @@ fn run_always_lacks_memory(rt: HostRuntime) -> Result<(), AllocError> {
     Ok(())
 }
 
-/// How many digits 0, what follows them, and what is answered.
-const LONG_LINES: [(usize, &[u8], &[u8]); 5] = [
-    (131_072, b"", b"\"0x00\"\n"),
-    (131_072, b"\r", b"error long line\n"),
-    (131_073, b"", b"error long line\n"),
-    (131_071, b"\r", b"error hex\n"),
-    (131_073, b"\nc0", b"error long line\n[]\n"),
-];
-
-/// Whether each row of `LONG_LINES` is answered so.
-fn long_lines_are_answered(alloc: Global) -> Result<bool, AllocError> {
-    for (digits, end, expected) in LONG_LINES {
-        let mut input = vec![in alloc; b'0'; digits]?;
-        input.extend_from_slice(end)?;
-        if !answers(alloc, input.as_slice(), expected)? {
-            return Ok(false);
-        }
-    }
-    Ok(true)
-}
-
-#[test]
-fn run_answers_long_lines(rt: HostRuntime) -> Result<(), AllocError> {
-    assert!(rt; long_lines_are_answered(rt.alloc())?);
-    Ok(())
-}
-
 /// Makes a payload of at most 65,535 bytes a list.
 fn list_of(payload: &mut Vec<u8>) -> Result<(), AllocError> {
     let length = payload.len().to_be_bytes();

@@ -34,28 +34,30 @@ pub(crate) enum Failure {
     TakesNone,
 }
 
-/// A writer that takes at most `most` bytes a call, and fails once `calls` were made. It keeps how
-/// many bytes the largest write took.
+/// A writer that takes at most `most` bytes a call and `room` bytes in all, and fails once `calls`
+/// were made or there is no room. It keeps how many bytes the largest write took.
 #[derive(Drop)]
 pub(crate) struct Sink {
     pub(crate) taken: Vec<u8>,
     pub(crate) largest: usize,
     pub(crate) most: usize,
     pub(crate) calls: usize,
+    pub(crate) room: usize,
     pub(crate) failure: Failure,
     pub(crate) flushes: bool,
 }
 
 impl Write for Sink {
     fn write(&mut self, buf: &[u8]) -> io::Result<usize> {
-        if self.calls == 0 {
+        if self.calls == 0 || self.room == 0 {
             return match self.failure {
                 Failure::Error => Err(io::Error::from(ErrorKind::BrokenPipe)),
                 Failure::TakesNone => Ok(0),
             };
         }
         self.calls -= 1;
-        let count = self.most.min(buf.len());
+        let count = self.most.min(self.room).min(buf.len());
+        self.room -= count;
         let (front, _) = buf.split_at(count);
         self.taken.extend_from_slice(front)?;
         self.largest = self.largest.max(count);
@@ -77,6 +79,7 @@ pub(crate) struct Plan {
     pub(crate) most: usize,
     pub(crate) reads: usize,
     pub(crate) writes: usize,
+    pub(crate) room: usize,
     pub(crate) failure: Failure,
     pub(crate) flushes: bool,
 }
@@ -87,6 +90,7 @@ pub(crate) fn sound(most: usize) -> Plan {
         most,
         reads: usize::MAX,
         writes: usize::MAX,
+        room: usize::MAX,
         failure: Failure::Error,
         flushes: true,
     }
@@ -100,6 +104,8 @@ pub(crate) struct Left {
     pub(crate) largest: usize,
     pub(crate) reads: u64,
     pub(crate) flushed: bool,
+    pub(crate) reader_failed: bool,
+    pub(crate) writer_failed: bool,
 }
 
 /// Runs over these bytes. The writer has room for the first 1,024 bytes.
@@ -114,6 +120,7 @@ pub(crate) fn ran(alloc: Global, input: &[u8], plan: Plan) -> Result<Left, Alloc
         largest: 0,
         most: plan.most,
         calls: plan.writes,
+        room: plan.room,
         failure: plan.failure,
         flushes: plan.flushes,
     });
@@ -124,6 +131,8 @@ pub(crate) fn ran(alloc: Global, input: &[u8], plan: Plan) -> Result<Left, Alloc
         largest: sink.inner().largest,
         reads: source.reads(),
         flushed: sink.flushed(),
+        reader_failed: source.failed(),
+        writer_failed: sink.failed(),
     })
 }
 

@@ -1,58 +1,10 @@
 //! Faults in the midst of a run of the tool, and what its devices keep.
 
-use crate::tool_devices::{Failure, Plan, Sink, Source, ran, sound};
+use crate::tool_devices::{Failure, Sink, Source, ran, sound};
 use rlp_tool::{Noted, RunFault, exit_status};
 use std::alloc::{AllocError, Global};
 use std::io;
 use std::io::ErrorKind;
-
-/// Whether a run over these bytes ends with this fault, and writes these.
-fn stops(
-    alloc: Global,
-    input: &[u8],
-    plan: Plan,
-    fault: RunFault,
-    expected: &[u8],
-) -> Result<bool, AllocError> {
-    let left = ran(alloc, input, plan)?;
-    Ok(left.outcome == Err(fault) && left.written.as_slice() == expected)
-}
-
-#[test]
-fn run_answers_the_read_that_failed(rt: HostRuntime) -> Result<(), AllocError> {
-    let plan = Plan {
-        reads: 4,
-        ..sound(2)
-    };
-    let expected = b"[]\n\"0x\"\n";
-    assert!(rt; stops(rt.alloc(), b"c0\n80\nc2", plan, RunFault::Read, expected)?);
-    Ok(())
-}
-
-/// Whether runs end at the third write, and at the flush.
-fn writes_stop(alloc: Global) -> Result<bool, AllocError> {
-    for failure in [Failure::Error, Failure::TakesNone] {
-        let plan = Plan {
-            writes: 2,
-            failure,
-            ..sound(2)
-        };
-        if !stops(alloc, b"c0\n80\n", plan, RunFault::Write, b"[]\n")? {
-            return Ok(false);
-        }
-    }
-    let plan = Plan {
-        flushes: false,
-        ..sound(2)
-    };
-    stops(alloc, b"c0\n", plan, RunFault::Write, b"[]\n")
-}
-
-#[test]
-fn run_answers_the_write_that_failed(rt: HostRuntime) -> Result<(), AllocError> {
-    assert!(rt; writes_stop(rt.alloc())?);
-    Ok(())
-}
 
 /// What may stand written once the memory of a line was refused, or of none.
 const WHOLE_ANSWERS: [&[u8]; 4] = [b"", b"[]\n", b"[]\nnull\n", b"[]\nnull\n\"0x80\"\n"];
@@ -94,6 +46,7 @@ fn writer_faults_late(alloc: Global) -> io::Result<bool> {
         largest: 0,
         most: 4,
         calls: 1,
+        room: 4,
         failure: Failure::TakesNone,
         flushes: true,
     });
@@ -122,6 +75,7 @@ fn errors_are_handed_on(alloc: Global) -> bool {
         largest: 0,
         most: 1,
         calls: 0,
+        room: 1,
         failure: Failure::Error,
         flushes: false,
     });
@@ -146,10 +100,18 @@ const STATUSES: [(Result<(), RunFault>, u8); 4] = [
     (Err(RunFault::Write), 3),
 ];
 
+/// The status of the fault of a run, or 0.
+fn fault_status(outcome: &Result<(), RunFault>) -> u8 {
+    match outcome {
+        Ok(()) => 0,
+        Err(fault) => fault.status(),
+    }
+}
+
 #[test]
 fn outcomes_have_their_statuses(rt: HostRuntime) {
-    let right = STATUSES
-        .iter()
-        .all(|(outcome, status)| exit_status(outcome) == *status);
+    let right = STATUSES.iter().all(|(outcome, status)| {
+        exit_status(outcome) == *status && fault_status(outcome) == *status
+    });
     assert!(rt; right);
 }

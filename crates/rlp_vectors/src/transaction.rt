@@ -1,6 +1,7 @@
 //! A legacy transaction: the list of its nine fields.
 
 use crate::Recipient;
+use crate::fields::{Both, One, append_as_list};
 use rlp::{Decodable, DecoderError, Encodable, Rlp, RlpStream, RoundTrip};
 use std::alloc::{AllocError, Global};
 
@@ -35,18 +36,12 @@ impl Encodable for Transaction {
 
     ghost fits = { transaction.Fits };
 
-    #[tactic(auto, using(rlp::proofs::Growth::growth))]
     fn rlp_append(&self, s: &mut RlpStream) -> Result<(), AllocError> {
-        s.begin_list(9)?
-            .append(&self.nonce)?
-            .append(&self.gas_price)?
-            .append(&self.gas_limit)?
-            .append(&self.recipient)?
-            .append(&self.value)?
-            .append(&self.data)?
-            .append(&self.v)?
-            .append(&self.r)?
-            .append(&self.s)?;
+        let signature = Both(One(&self.v), Both(One(&self.r), One(&self.s)));
+        let call = Both(One(&self.value), Both(One(&self.data), signature));
+        let gas = Both(One(&self.gas_limit), Both(One(&self.recipient), call));
+        let fields = Both(One(&self.nonce), Both(One(&self.gas_price), gas));
+        append_as_list(s, 9, &fields)?;
         Ok(())
     }
 }

@@ -213,12 +213,22 @@ fn numbers_have_their_faults(rt: HostRuntime) {
 
 #[test]
 fn length_overflow(rt: HostRuntime) {
-    let rows = [(
-        &[
-            0xbfu8, 0xff, 0xff, 0xff, 0xff, 0xff, 0xff, 0xff, 0xff, 0xff, 0xff, 0xff, 0xe5,
-        ][..],
-        DecoderError::RlpInvalidLength,
-    )];
+    let rows = [
+        (
+            &[
+                0xbfu8, 0xff, 0xff, 0xff, 0xff, 0xff, 0xff, 0xff, 0xff, 0xff, 0xff, 0xff, 0xe5,
+            ][..],
+            DecoderError::RlpInvalidLength,
+        ),
+        (
+            &[0xbf, 0xff, 0xff, 0xff, 0xff, 0xff, 0xff, 0xff, 0xf7],
+            DecoderError::RlpInvalidLength,
+        ),
+        (
+            &[0xbf, 0xff, 0xff, 0xff, 0xff, 0xff, 0xff, 0xff, 0xf6],
+            DecoderError::RlpInconsistentLengthAndData,
+        ),
+    ];
     assert!(rt; are_faulty::<u8>(rt.alloc(), &rows));
 }
 

@@ -62,6 +62,34 @@ fn test_rlp_display(rt: HostRuntime) -> Result<(), Fail> {
     Ok(())
 }
 
+/// Whether so many first bytes of the list are printed as too short, none as `null`, all as the text.
+fn cut_is_printed(alloc: Global, len: usize) -> Result<bool, AllocError> {
+    let text = match len {
+        0 => "null",
+        79 => HASHES_TEXT,
+        _ => "RlpIsTooShort",
+    };
+    match HASHES.get(..len) {
+        Some(bytes) => is_printed(alloc, bytes, text),
+        None => Ok(false),
+    }
+}
+
+fn all_cut_are_printed(alloc: Global) -> Result<bool, AllocError> {
+    for len in 0..=79 {
+        if !cut_is_printed(alloc, len)? {
+            return Ok(false);
+        }
+    }
+    Ok(true)
+}
+
+#[test]
+fn prints_cut_bytes(rt: HostRuntime) -> Result<(), Fail> {
+    assert!(rt; all_cut_are_printed(rt.alloc())?);
+    Ok(())
+}
+
 fn flags_change_nothing(alloc: Global) -> Result<bool, AllocError> {
     let view = Rlp::new(&[0xc2, 0x05, 0x06]);
     let wide = format!(in alloc; "{view:>40}")?;

@@ -1,10 +1,10 @@
 //! The printed text of a view.
 
-ghost use Rattle.std.specs.Prelude.{◌≡◌, ◌<◌, ◌≤◌, ◌*◌, ◌++◌, length, codes};
+ghost use Rattle.std.specs.Prelude.{◌≡◌, ◌<◌, ◌≤◌, ◌*◌, ◌∷◌, ◌++◌, [], length, codes};
 ghost use Rattle.std.specs.Fmt.{WritesStyledOnOk};
 ghost use Rattle.rlp.specs.Views.Text.{hex, hex_digit, text};
 
-use crate::rlpin::items::split_first;
+use crate::rlpin::framed::{Framed, first_framed, read_framed};
 use crate::rlpin::rlp::Rlp;
 use std::fmt;
 use std::fmt::Display;
@@ -36,19 +36,25 @@ fn write_text<W: fmt::Write>(f: &mut fmt::Formatter<W>, view: &Rlp<'_>) -> fmt::
     if view.is_null() {
         return f.write_str("null");
     }
-    let value = match view.data() {
-        Ok(value) => value,
-        Err(fault) => return fault.fmt(f),
-    };
-    if !view.is_list() {
-        return write_string(f, value);
+    match read_framed(view.as_raw()) {
+        Ok(framed) => write_framed(f, &framed),
+        Err(fault) => fault.fmt(f),
+    }
+}
+
+/// Writes the text of framed bytes.
+fn write_framed<W: fmt::Write>(f: &mut fmt::Formatter<W>, framed: &Framed<'_>) -> fmt::Result
+    ensures { WritesStyledOnOk W.write_str_gives f.old result (text framed.now.item.now) f.new }
+{
+    if !framed.is_list() {
+        return write_string(f, framed.content);
     }
     f.write_str("[")?;
     let mut separator = "";
-    let mut rest = value;
-    while let Some((item, others)) = split_first(rest) {
+    let mut rest = framed.content;
+    while let Some((item, others)) = first_framed(rest) {
         f.write_str(separator)?;
-        write_text(f, &Rlp::new(item))?;
+        write_framed(f, &item)?;
         separator = ", ";
         rest = others;
     }
@@ -60,9 +66,31 @@ fn write_string<W: fmt::Write>(f: &mut fmt::Formatter<W>, value: &[u8]) -> fmt::
     ensures { WritesStyledOnOk W.write_str_gives f.old result
         (codes "\"0x" ++ hex value.now ++ codes "\"") f.new }
 {
+    if let [byte] = value {
+        return write_byte(f, *byte);
+    }
     f.write_str("\"0x")?;
     write_hex(f, value)?;
     f.write_str("\"")
+}
+
+/// Writes the text of a string of one byte, in one piece.
+fn write_byte<W: fmt::Write>(f: &mut fmt::Formatter<W>, byte: u8) -> fmt::Result
+    ensures { WritesStyledOnOk W.write_str_gives f.old result
+        (codes "\"0x" ++ hex (byte ∷ []) ++ codes "\"") f.new }
+{
+    let text = [
+        b'"',
+        b'0',
+        b'x',
+        digit_char(byte / 16),
+        digit_char(byte % 16),
+        b'"',
+    ];
+    match from_utf8(&text) {
+        Ok(text) => f.write_str(text),
+        Err(_) => Err(fmt::Error),
+    }
 }
 
 /// Writes each byte as two digits.

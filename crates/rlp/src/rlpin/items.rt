@@ -9,12 +9,13 @@ use crate::rlpin::header::{PayloadInfo, framing_of};
 
 /// The first item of a payload and the bytes after it, by its header.
 #[inline(always)]
-pub(crate) fn cut_item<'a>(payload: &'a [u8], info: PayloadInfo) -> (&'a [u8], &'a [u8])
-    requires framed { framing payload.now ≡ Ok info }
-    requires within { (0 < total_len info) × (total_len info ≤ length payload.now) }
+pub(crate) fn cut_item<'a>(payload: &'a [u8], info: &PayloadInfo) -> (&'a [u8], &'a [u8])
+    requires framed { framing payload.now ≡ Ok info.now }
+    requires within { (0 < total_len info.now) × (total_len info.now ≤ length payload.now) }
     ensures parts { split payload.now ≡ result.0.now ∷ split result.1.now }
     ensures whole { payload.now ≡ result.0.now ++ result.1.now }
     ensures shorter { length result.1.now < length payload.now }
+    ensures same_value { value result.0.now ≡ value payload.now }
 {
     payload.split_at(info.header_len + info.value_len)
 }
@@ -22,9 +23,9 @@ pub(crate) fn cut_item<'a>(payload: &'a [u8], info: PayloadInfo) -> (&'a [u8], &
 /// The value of the first item, by its header.
 #[inline(always)]
 #[tactic(auto, unfolding(crate::specs::Format::Framing::value))]
-pub(crate) fn cut_value<'a>(bytes: &'a [u8], info: PayloadInfo) -> &'a [u8]
-    requires framed { framing bytes.now ≡ Ok info }
-    requires within { total_len info ≤ length bytes.now }
+pub(crate) fn cut_value<'a>(bytes: &'a [u8], info: &PayloadInfo) -> &'a [u8]
+    requires framed { framing bytes.now ≡ Ok info.now }
+    requires within { total_len info.now ≤ length bytes.now }
     ensures { value bytes.now ≡ Ok result.now }
 {
     let after_header = &bytes[info.header_len..];
@@ -42,7 +43,7 @@ pub(crate) fn take_item<'a>(payload: &'a [u8]) -> Result<(&'a [u8], &'a [u8]), D
         (λ _. Unit {0}) }
 {
     match framing_of(payload) {
-        Ok(info) => Ok(cut_item(payload, info)),
+        Ok(info) => Ok(cut_item(payload, &info)),
         Err(fault) => Err(fault),
     }
 }

@@ -171,7 +171,7 @@ fn split_counted<'a>(headers: &mut Count, payload: &'a [u8]) -> Option<(&'a [u8]
     ensures counted { headers.new.total ≡ headers.old.total + 1 }
 {
     match read_header(headers, payload) {
-        Ok(info) => Some(cut_item(payload, info)),
+        Ok(info) => Some(cut_item(payload, &info)),
         Err(_) => None,
     }
 }
@@ -187,7 +187,7 @@ fn read_payload<'a>(headers: &mut Count, view: &Rlp<'a>) -> Option<&'a [u8]>
         return None;
     }
     match read_header(headers, view.as_raw()) {
-        Ok(info) => Some(cut_value(view.as_raw(), info)),
+        Ok(info) => Some(cut_value(view.as_raw(), &info)),
         Err(_) => None,
     }
 }

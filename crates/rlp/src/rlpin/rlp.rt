@@ -9,6 +9,7 @@ ghost use Rattle.rlp.specs.Values.ListReading.{FaultsAsList, FaultsAt, GivesAt, 
 
 use crate::error::DecoderError;
 use crate::rlpin::decoder::BasicDecoder;
+use crate::rlpin::framed::read_framed;
 use crate::rlpin::header::{PayloadInfo, framing_of};
 use crate::rlpin::items::{count_items, split_first, take_item};
 use crate::rlpin::iter::RlpIterator;
@@ -347,23 +348,10 @@ impl<'a> Rlp<'a> {
     pub fn is_nested_within(&self, limit: usize) -> bool
         ensures { IsTrue result ↔ (depth self.now.bytes ≤ limit) }
     {
-        if !self.is_list() {
-            return true;
+        match read_framed(self.as_raw()) {
+            Ok(framed) => framed.is_nested_within(limit),
+            Err(_) => true,
         }
-        let Ok(value) = self.data() else {
-            return true;
-        };
-        if limit == 0 {
-            return false;
-        }
-        let mut rest = value;
-        while let Some((item, others)) = split_first(rest) {
-            if !Rlp::new(item).is_nested_within(limit - 1) {
-                return false;
-            }
-            rest = others;
-        }
-        true
     }
 
     /// The value of a framed list, and no bytes for anything else.

@@ -5,9 +5,9 @@ use std::alloc::AllocError;
 
 /// It writes a string, and is refused then.
 #[derive(Debug, Drop)]
-pub struct Refusing;
+pub struct HalfWritten;
 
-impl Encodable for Refusing {
+impl Encodable for HalfWritten {
     ghost use Rattle.std.specs.Prelude.{⊤, []};
     ghost use Rattle.rlp.specs.Format.Item.{string};
 

@@ -3,16 +3,16 @@ use Rattle.std.specs.Fmt.{HasWrittenStyled, IsFlush}
 use Rattle.rlp.specs.Format.Split.{items, split}
 use Rattle.rlp.specs.Views.Text.{text, separated}
 use Rattle.rlp.proofs.Printing.{separator_after}
-use Rattle.rlp.proofs.rlpin.display.+write_text.Given as goal
+use Rattle.rlp.proofs.rlpin.display.+write_framed.Given as goal
 
-abbrev pub decreases-write_text : goal.decreases-write_text
-decreases-write_text g l = length l.view.now.bytes
+abbrev pub decreases-write_framed : goal.decreases-write_framed
+decreases-write_framed g l = length l.framed.now.item.now
 
 -- the first items are written, and the others are those of the rest
 abbrev pub invariant-loop-item : goal.invariant-loop-item
 invariant-loop-item g l = record {
   done : List (List ℕ);
-  all : done ++ split l.rest ≡ items l.view.bytes;
+  all : done ++ split l.rest ≡ items l.fn.framed.item.now;
   next_separator : l.separator ≡ separator_after done;
   wrote : IsFlush l.initial.f → HasWrittenStyled g.W.Write.write_str_gives l.initial.f (separated (map text done)) l.f;
 }

@@ -1,7 +1,7 @@
 use Rattle.std.proofs.Common.{◌≡◌, ◌≤◌, ◌-◌, ◌++◌, length, map, List, ℕ}
 use Rattle.rlp.specs.Format.Split.{items, split}
 use Rattle.rlp.specs.Views.Depth.{depth, greatest}
-use Rattle.rlp.proofs.rlpin.rlp.Rlp.+is_nested_within.Given as goal
+use Rattle.rlp.proofs.rlpin.framed.Framed.+is_nested_within.Given as goal
 
 abbrev pub decreases-is_nested_within : goal.decreases-is_nested_within
 decreases-is_nested_within l = l.limit
@@ -10,7 +10,7 @@ decreases-is_nested_within l = l.limit
 abbrev pub invariant-loop-item : goal.invariant-loop-item
 invariant-loop-item l = record {
   done : List (List ℕ);
-  all : done ++ split l.rest ≡ items l.self.bytes;
+  all : done ++ split l.rest ≡ items l.self.item.now;
   shallow : greatest (map depth done) ≤ l.limit - 1;
 }
 

@@ -1,0 +1,121 @@
+//! Lines of calls that open and close very many lists.
+
+use crate::plain;
+use crate::tool_devices::answers;
+use std::alloc::{AllocError, Global};
+use std::test::Fail;
+
+/// Whether a line that begins with `+` is read as calls. Until then it is answered `error hex`.
+const CALLS_ARE_ANSWERED: bool = false;
+
+/// A line of calls: so many of the first, and then so many of the second.
+fn line_of(
+    alloc: Global,
+    first: (&[u8], usize),
+    second: (&[u8], usize),
+) -> Result<Vec<u8>, AllocError> {
+    let mut line = Vec::from_slice(alloc, b"+")?;
+    for _ in 0..first.1 {
+        line.extend_from_slice(first.0)?;
+        line.push(b' ')?;
+    }
+    for _ in 0..second.1 {
+        line.extend_from_slice(second.0)?;
+        line.push(b' ')?;
+    }
+    line.pop();
+    Ok(line)
+}
+
+/// So many lists around these bytes, one in another.
+fn nested(alloc: Global, inner: &[u8], lists: usize) -> Result<Vec<u8>, AllocError> {
+    let mut item = Vec::from_slice(alloc, inner)?;
+    for _ in 0..lists {
+        let mut outer = Vec::new(alloc);
+        plain::put_list(&mut outer, item.as_slice())?;
+        item = outer;
+    }
+    Ok(item)
+}
+
+/// The answer of these words, and the digits of bytes.
+fn answer_of(alloc: Global, words: &[u8], bytes: &[u8]) -> Result<Vec<u8>, AllocError> {
+    let mut answer = Vec::from_slice(alloc, words)?;
+    answer.extend_from_slice(hex::encode(alloc, bytes)?.as_bytes())?;
+    answer.push(b'\n')?;
+    Ok(answer)
+}
+
+/// Whether a line of calls is answered so.
+fn calls_answer(alloc: Global, line: &[u8], answer: &[u8]) -> Result<bool, AllocError> {
+    let wanted: &[u8] = if CALLS_ARE_ANSWERED {
+        answer
+    } else {
+        b"error hex\n"
+    };
+    answers(alloc, line, wanted)
+}
+
+/// How many lists are opened and finished; how long their bytes are, and what they begin with; and
+/// what these are answered as a line.
+type Opened = (usize, usize, &'static [u8]);
+
+const OPENED: [Opened; 2] = [
+    (256, 556, &[0xf9, 0x02, 0x29]),
+    (257, 559, &[0xf9, 0x02, 0x2c]),
+];
+
+/// Whether so many lists, opened and finished, are answered by their bytes.
+fn lists_are_finished(alloc: Global, row: Opened) -> Result<bool, AllocError> {
+    let (lists, size, begin) = row;
+    let bytes = nested(alloc, &[], lists)?;
+    let line = line_of(alloc, (b"u", lists), (b"e", lists))?;
+    let answer = answer_of(alloc, b"out ", bytes.as_slice())?;
+    Ok(
+        bytes.len() == size
+            && bytes.starts_with(begin)
+            && calls_answer(alloc, line.as_slice(), answer.as_slice())?,
+    )
+}
+
+fn all_lists_are_finished(alloc: Global) -> Result<bool, AllocError> {
+    for row in OPENED {
+        if !lists_are_finished(alloc, row)? {
+            return Ok(false);
+        }
+    }
+    Ok(true)
+}
+
+#[test]
+fn run_answers_lists_opened_and_finished(rt: HostRuntime) -> Result<(), Fail> {
+    assert!(rt; all_lists_are_finished(rt.alloc())?);
+    Ok(())
+}
+
+/// Whether 5,000 lists are answered that stay open.
+fn open_lists_are_answered(alloc: Global) -> Result<bool, AllocError> {
+    let zeros = vec![in alloc; 0u8; 5_000]?;
+    let line = line_of(alloc, (b"u", 5_000), (b"", 0))?;
+    let answer = answer_of(alloc, b"open 14788 ", zeros.as_slice())?;
+    calls_answer(alloc, line.as_slice(), answer.as_slice())
+}
+
+/// Whether 5,000 lists are answered that one call closes.
+fn closed_lists_are_answered(alloc: Global) -> Result<bool, AllocError> {
+    let bytes = nested(alloc, &[0x80], 5_000)?;
+    let line = line_of(alloc, (b"l:1", 5_000), (b"d:", 1))?;
+    let answer = answer_of(alloc, b"out ", bytes.as_slice())?;
+    Ok(
+        bytes.len() == 14_791
+            && bytes.starts_with(&[0xf9, 0x39, 0xc4])
+            && calls_answer(alloc, line.as_slice(), answer.as_slice())?,
+    )
+}
+
+#[test]
+fn run_answers_five_thousand_lists(rt: HostRuntime) -> Result<(), Fail> {
+    let alloc = rt.alloc();
+    assert!(rt; open_lists_are_answered(alloc)? && closed_lists_are_answered(alloc)?);
+    Ok(())
+}
