@@ -16,21 +16,21 @@ use Rattle.rlp.specs.Lemmas.ValueLists.{list_reads_back}
 use Rattle.rlp.specs.Lemmas.Views.{items_of_list}
 use Rattle.rlp.specs.Values.RoundTrip.{ReadsBack}
 
-module _ {A : Type 0} (Fits : A → Type 0) (item : A → Item) (gives : View → A → Type 0) (faults : View → DecoderError → Type 0) (view : View) where
+module _ {A : Type 0} (Fits : A → Type 0) (item : A → Item) (gives : View → A → Type 0) (faults : View → DecoderError → Type 0) (b : List ℕ) where
   -- a value that is read is one with the item that was written
-  pub decoded_alike : (r : Result A DecoderError) (v : A) → ReadsBack Fits item gives faults view v → IfOk r (λ w. gives view w) → IfOk r (λ w. Fits w × (item w ≡ item v))
+  pub decoded_alike : (r : Result A DecoderError) (v : A) → ReadsBack Fits item gives faults (view_of b) v → IfOk r (λ w. gives (view_of b) w) → IfOk r (λ w. Fits w × (item w ≡ item v))
   decoded_alike (Ok w) v back given = (back.alike w).0 given
   decoded_alike (Err e) v back given = tt
 
   -- where a value was written, reading it has no fault but want of memory
-  pub decoded_memory : (r : Result A DecoderError) (M : DecoderError → Type 0) (v : A) → ReadsBack Fits item gives faults view v → IfErr r (λ e. faults view e ⊎ M e) → IfErr r (λ e. M e)
+  pub decoded_memory : (r : Result A DecoderError) (M : DecoderError → Type 0) (v : A) → ReadsBack Fits item gives faults (view_of b) v → IfErr r (λ e. faults (view_of b) e ⊎ M e) → IfErr r (λ e. M e)
   decoded_memory (Ok w) M v back faulty = tt
   decoded_memory (Err e) M v back (inl fault) = absurd (back.no_fault e fault)
   decoded_memory (Err e) M v back (inr memory) = memory
 
   -- where a value with this item is read, of a type whose values are given by their encodings alone, the encoding stands in front
-  pub decoded_only : (r : Result A DecoderError) (v : A) → ((w : A) → gives view w ↔ GivesValue Fits item view w) → IfOk r (λ w. gives view w) → IsOkAnd r (λ w. item w ≡ item v) → BeginsWith view.bytes (encoding (item v))
-  decoded_only (Ok w) v exact given same = subst (λ x. BeginsWith view.bytes (encoding x)) same ((exact w).0 given).begins
+  pub decoded_only : (r : Result A DecoderError) (v : A) → ((w : A) → gives (view_of b) w ↔ GivesValue Fits item (view_of b) w) → IfOk r (λ w. gives (view_of b) w) → IsOkAnd r (λ w. item w ≡ item v) → BeginsWith b (encoding (item v))
+  decoded_only (Ok w) v exact given same = subst (λ x. BeginsWith b (encoding x)) same ((exact w).0 given).begins
   decoded_only (Err e) v exact given same = absurd same
 
 -- the items of an encoded list are the encodings of its values
@@ -42,7 +42,7 @@ list_items item vs b fits (more, is) = (items_of_list (map item vs) b (front_siz
 module _ {A : Type 0} (Fits : A → Type 0) (item : A → Item) (gives : View → A → Type 0) (faults : View → DecoderError → Type 0)
     (law : AlwaysReadsBack Fits item gives faults) (vs : List A) (b : List ℕ) (fits : length b < 2 ^ 64) (all : All Fits vs) (begins : BeginsWith b (encoding (list_of (map item vs)))) where
   list_back : ReadsBack (λ ws. All Fits ws) (λ ws. list_of (map item ws)) (λ v ws. GivesList gives v ws) (λ v e. FaultsAsList gives faults v e) (view_of b) vs
-  list_back = list_reads_back Fits item gives faults law (λ ws. ws) (view_of b) vs fits all begins
+  list_back = list_reads_back Fits item gives faults law (λ ws. ws) b vs fits all begins
 
   -- the values themselves are given
   pub list_given : GivesList gives (view_of b) vs

@@ -23,7 +23,7 @@ plain : (b : List ℕ) (r : Result (List ℕ) DecoderError) → framed_depth dep
 plain b (Err e) = refl
 plain b (Ok v) = refl
 
-not_list : (s b : List ℕ) → IsSized (string s) → BeginsWith b (encoding (string s)) → begins_as_list b ≡ false
+pub not_list : (s b : List ℕ) → IsSized (string s) → BeginsWith b (encoding (string s)) → begins_as_list b ≡ false
 unfolding encoding
 not_list s b h (more, is) =
     ⊎_elim

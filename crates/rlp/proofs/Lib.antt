@@ -20,7 +20,9 @@ pub mod ClosedSize
 pub mod Listed
 pub mod Filling
 pub mod Decoding
-pub mod Slices
 pub mod ListReadings
 pub mod Options
 pub mod Following
+pub mod StrictLists
+pub mod StrictDecoding
+pub mod Canonical

@@ -11,7 +11,7 @@ use Rattle.rlp.specs.Views.View.{View, item_at, item_count}
 use Rattle.rlp.specs.Values.ListReading.{GivesAt, FaultsAt, GivesOption, no_value, one_value, FaultsAsOption, no_list, many_items, faulty_item}
 use Rattle.rlp.specs.Lemmas.Digits.{big_endian_same}
 use Rattle.rlp.specs.Lemmas.RoundTrips.{bit_least}
-use Rattle.rlp.proofs.Slices.{part_of_items}
+use Rattle.rlp.specs.Lemmas.Slices.{part_of_items}
 
 -- ---- one item of a list
 

@@ -1,9 +1,9 @@
 -- The values of the items of a list, as they come one after another.
-use Rattle.std.proofs.Common.{ℕ, ◌≡◌, List, [], ◌∷◌, ◌++◌, ◌⊎◌, inl, inr, map, refl, sym, ◌∙◌, ap, append_assoc, append-nil}
+use Rattle.std.proofs.Common.{ℕ, ◌≡◌, List, [], ◌∷◌, ◌++◌, ◌⊎◌, inl, inr, None, map, sym, ◌∙◌, ap, append_assoc, append-nil}
 use Rattle.rlp.specs.declared.error.DecoderError.{DecoderError}
 use Rattle.rlp.specs.declared.error.DecoderError.TheVariants.{OutOfMemory}
 use Rattle.rlp.specs.Format.Split.{items, payload, split}
-use Rattle.rlp.specs.Views.View.{View, item_views}
+use Rattle.rlp.specs.Views.View.{View, item_views, list_fault}
 use Rattle.rlp.specs.Values.ValueReading.{GivesSome}
 use Rattle.rlp.specs.Values.ListReading.{GivesEach, ComesTo, FaultsAsList, faulty_in_list, MayLackAsList}
 
@@ -17,12 +17,12 @@ unfolding items
 item_views-payload v p e = ap (split_views v) e
 
 -- the first item's view, and then those of what follows it
-pub views-next : (v item : View) (done all : List View) (rest others : List ℕ) → done ++ split_views v rest ≡ all → split rest ≡ item.bytes ∷ split others → done ++ item ∷ split_views v others ≡ all
+pub views-next : (v : View) (item : List ℕ) (done all : List View) (rest others : List ℕ) → done ++ split_views v rest ≡ all → split rest ≡ item ∷ split others → done ++ (record v { bytes = item }) ∷ split_views v others ≡ all
 views-next v item done all rest others e s = ap (λ bs. done ++ map (λ b. record v { bytes = b }) bs) (sym s) ∙ e
 
 -- the same, with the first item's view put behind those that were read
-pub views-more : (v item : View) (done all : List View) (rest others : List ℕ) → done ++ split_views v rest ≡ all → split rest ≡ item.bytes ∷ split others → (done ++ item ∷ []) ++ split_views v others ≡ all
-views-more v item done all rest others e s = append_assoc done (item ∷ []) (split_views v others) ∙ views-next v item done all rest others e s
+pub views-more : (v : View) (item : List ℕ) (done all : List View) (rest others : List ℕ) → done ++ split_views v rest ≡ all → split rest ≡ item ∷ split others → (done ++ (record v { bytes = item }) ∷ []) ++ split_views v others ≡ all
+views-more v item done all rest others e s = append_assoc done ((record v { bytes = item }) ∷ []) (split_views v others) ∙ views-next v item done all rest others e s
 
 -- where no item follows, all views were read
 pub views-all : (v : View) (done all : List View) (rest : List ℕ) → done ++ split_views v rest ≡ all → split rest ≡ [] → done ≡ all
@@ -35,16 +35,16 @@ gives-more gives [] (y ∷ xs) v x each one = absurd each
 gives-more gives (w ∷ vs) [] v x each one = absurd each
 gives-more gives (w ∷ vs) (y ∷ xs) v x each one = (each.0, gives-more gives vs xs v x each.1 one)
 
-module _ {A : Type 0} (gives : View → A → Type 0) (faults : View → DecoderError → Type 0) (may_lack : View → Type 0) (v : View) (done more : List View) (item : View) (xs : List A)
+module _ {A : Type 0} (gives : View → A → Type 0) (faults : View → DecoderError → Type 0) (may_lack : View → Type 0) (v : View) (is_list : list_fault v ≡ None) (done more : List View) (item : View) (xs : List A)
     (all : item_views v ≡ done ++ item ∷ more) (good : GivesEach gives done xs) where
   reached : (IsSuch : View → Type 0) → IsSuch item → ComesTo gives IsSuch (item_views v)
   reached IsSuch is = record { before = done; values = xs; reached = item; after = more; all = all; good = good; is = is }
 
   -- a fault of an item before which each item gives a value, or want of memory there
   pub faults-first : (e : DecoderError) → (faults item e) ⊎ ((e ≡ OutOfMemory) × may_lack item) → FaultsAsList gives faults v e ⊎ ((e ≡ OutOfMemory) × MayLackAsList gives may_lack v)
-  faults-first e (inl bad) = inl (faulty_in_list refl (reached (λ v. faults v e) bad))
-  faults-first e (inr (lacks, may)) = inr (lacks, record { is_list = refl; comes = reached (λ v. GivesSome gives v ⊎ may_lack v) (inr may) })
+  faults-first e (inl bad) = inl (faulty_in_list is_list (reached (λ v. faults v e) bad))
+  faults-first e (inr (lacks, may)) = inr (lacks, record { is_list = is_list; comes = reached (λ v. GivesSome gives v ⊎ may_lack v) (inr may) })
 
   -- an item gives a value, for which there is no room
   pub no-room : (x : A) → gives item x → MayLackAsList gives may_lack v
-  no-room x given = record { is_list = refl; comes = reached (λ v. GivesSome gives v ⊎ may_lack v) (inl (x, given)) }
+  no-room x given = record { is_list = is_list; comes = reached (λ v. GivesSome gives v ⊎ may_lack v) (inl (x, given)) }

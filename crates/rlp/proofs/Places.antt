@@ -1,13 +1,13 @@
 -- Where the items of a list stand, as a walk over them goes.
-use Rattle.std.proofs.Common.{ℕ, zero, suc, ◌+◌, ◌-◌, ◌<◌, ◌≤◌, ◌≡◌, true, false, List, [], ◌∷◌, ◌++◌, length, take, drop, get_or, Ok, Err, refl, sym, ◌∙◌, ap, arith, append_assoc, append-nil, length-append, length-drop, length-take-le, add-one, ltb, lt-ltb, le-ltb, drop_at}
+use Rattle.std.proofs.Common.{ℕ, zero, suc, ◌+◌, ◌-◌, ◌<◌, ◌≤◌, ◌≡◌, true, false, List, [], ◌∷◌, ◌++◌, length, take, drop, get_or, Some, None, Ok, Err, refl, sym, ◌∙◌, ap, arith, append_assoc, append-nil, length-append, length-drop, length-take-le, add-one, ltb, lt-ltb, le-ltb, drop_at}
 use Rattle.std.proofs.lemmas.Bool.{cond-true, cond-false}
 use Rattle.std.specs.List.{concat}
 use Rattle.rlp.specs.declared.error.DecoderError.{DecoderError}
-use Rattle.rlp.specs.declared.error.DecoderError.TheVariants.{RlpExpectedToBeList}
 use Rattle.rlp.specs.declared.rlpin.header.PayloadInfo.{PayloadInfo}
 use Rattle.rlp.specs.Format.Framing.{fault, fault_in, framing, map_ok, total_len, value}
 use Rattle.rlp.specs.Format.Split.{begins_as_list, items, payload, payload_in, rest, split}
-use Rattle.rlp.specs.Views.View.{View, item_with_place, item_after, item_by}
+use Rattle.rlp.specs.Views.View.{View, item_with_place, items_fault}
+use Rattle.rlp.specs.Lemmas.Numbered.{item_with_place-fault, item_with_place-told}
 use Rattle.rlp.proofs.Splits.{drop-next, drop-inside}
 
 -- the fault of bytes that have none of the headers
@@ -65,27 +65,23 @@ walked-one b item others left k is parts whole =
           ∙ ap (λ s. s ++ others) (sym (concat-more (take k (items b)) item) ∙ ap concat (sym (take-next k (items b) (split others) item here)) ∙ ap (λ n. concat (take n (items b))) (sym (add-one k)));
     }
 
-item_by-list : (v : View) (i : ℕ) (p : PayloadInfo) → begins_as_list v.bytes ≡ true → framing v.bytes ≡ Ok p → item_with_place v i ≡ item_after v i p.header_len
-unfolding item_with_place
-item_by-list v i p kind is = cond-true (begins_as_list v.bytes) _ _ kind ∙ ap (item_by v i) is
-
 -- the item that a walk of i items comes to, and its place
-pub walked-item : (v item : View) (i : ℕ) (p : PayloadInfo) (others left : List ℕ) → begins_as_list v.bytes ≡ true → framing v.bytes ≡ Ok p → length (payload v.bytes) ≡ p.value_len
-    → IsWalked v.bytes i left → split left ≡ item.bytes ∷ split others → left ≡ item.bytes ++ others
-    → Ok (item, p.header_len + (p.value_len - length others - length item.bytes)) ≡ item_with_place v i
+pub walked-item : (v : View) (item : List ℕ) (i : ℕ) (p : PayloadInfo) (others left : List ℕ) → items_fault v ≡ None → framing v.bytes ≡ Ok p → length (payload v.bytes) ≡ p.value_len
+    → IsWalked v.bytes i left → split left ≡ item ∷ split others → left ≡ item ++ others
+    → Ok (record v { bytes = item }, p.header_len + (p.value_len - length others - length item)) ≡ item_with_place v i
 walked-item v item i p others left kind is long walked parts whole =
-    let here : drop i (items v.bytes) ≡ item.bytes ∷ split others = sym walked.others ∙ parts in
-    let inside : i < length (items v.bytes) = drop-inside i (items v.bytes) (split others) item.bytes here in
+    let here : drop i (items v.bytes) ≡ item ∷ split others = sym walked.others ∙ parts in
+    let inside : i < length (items v.bytes) = drop-inside i (items v.bytes) (split others) item here in
     let lengths : length (payload v.bytes) ≡ length (concat (take i (items v.bytes))) + length left = ap length walked.whole ∙ length-append (concat (take i (items v.bytes))) left in
-    let place : p.header_len + (p.value_len - length others - length item.bytes) ≡ p.header_len + length (concat (take i (items v.bytes))) = omega (arith, ap length whole, length-append item.bytes others) in
-    let found : item.bytes ≡ get_or (items v.bytes) i [] = sym (get_or-drop i (items v.bytes) (split others) item.bytes [] here) in
-    ap (λ n. Ok (item, n)) place
+    let place : p.header_len + (p.value_len - length others - length item) ≡ p.header_len + length (concat (take i (items v.bytes))) = omega (arith, ap length whole, length-append item others) in
+    let found : item ≡ get_or (items v.bytes) i [] = sym (get_or-drop i (items v.bytes) (split others) item [] here) in
+    ap (λ (n : ℕ). Ok (record v { bytes = item }, n)) place
     ∙ ap (λ (b : List ℕ). Ok (record v { bytes = b }, p.header_len + length (concat (take i (items v.bytes))))) found
     ∙ sym (cond-true (ltb i (length (items v.bytes))) _ _ (lt-ltb i (length (items v.bytes)) inside))
-    ∙ sym (item_by-list v i p kind is)
+    ∙ sym (item_with_place-told v i (Ok p) kind is)
 
 -- past the last item stands the fault of what follows the items
-pub walked-past : (v : View) (i k : ℕ) (p : PayloadInfo) (left : List ℕ) (e : DecoderError) → begins_as_list v.bytes ≡ true → framing v.bytes ≡ Ok p
+pub walked-past : (v : View) (i k : ℕ) (p : PayloadInfo) (left : List ℕ) (e : DecoderError) → items_fault v ≡ None → framing v.bytes ≡ Ok p
     → IsWalked v.bytes k left → split left ≡ [] → e ≡ fault left → k ≤ i
     → Err e ≡ item_with_place v i
 unfolding rest
@@ -97,17 +93,14 @@ walked-past v i k p left e kind is walked none same below =
     let after : rest v.bytes ≡ left = ap (drop (length (concat (items v.bytes)))) whole ∙ drop_at (concat (items v.bytes)) left (length (concat (items v.bytes))) refl in
     ap Err (same ∙ ap fault (sym after))
     ∙ sym (cond-false (ltb i (length (items v.bytes))) _ _ past)
-    ∙ sym (item_by-list v i p kind is)
+    ∙ sym (item_with_place-told v i (Ok p) kind is)
 
 -- a view that isn't framed has its fault for each number
-pub not_framed_item : (v : View) (i : ℕ) (e : DecoderError) → begins_as_list v.bytes ≡ true → framing v.bytes ≡ Err e → Err e ≡ item_with_place v i
-unfolding item_with_place
-not_framed_item v i e kind is = sym (cond-true (begins_as_list v.bytes) _ _ kind ∙ ap (item_by v i) is)
+pub not_framed_item : (v : View) (i : ℕ) (e : DecoderError) → items_fault v ≡ None → framing v.bytes ≡ Err e → Err e ≡ item_with_place v i
+not_framed_item v i e told is = sym (item_with_place-told v i (Err e) told is)
 
--- a view of a string has one fault for each number
-pub not_list_item : (v : View) (i : ℕ) → begins_as_list v.bytes ≡ false → Err RlpExpectedToBeList ≡ item_with_place v i
-unfolding item_with_place
-not_list_item v i kind = sym (cond-false (begins_as_list v.bytes) _ _ kind)
+pub not_told_item : (v : View) (i : ℕ) (e : DecoderError) → items_fault v ≡ Some e → Err e ≡ item_with_place v i
+not_told_item v i e is = sym (item_with_place-fault v i e is)
 
 -- what a walk has before it, in bytes
 pub walked-length : (b item others left : List ℕ) (k n : ℕ) → IsWalked b k left → left ≡ item ++ others → length (payload b) ≡ n → length item + length others ≤ n

@@ -48,11 +48,11 @@ view_of : View → List ℕ → View
 view_of v b = record v { bytes = b }
 
 -- the views of the items from place i on, by the items
-pub drop-item_views : (v x : View) (i : ℕ) (ys : List (List ℕ)) → drop i (items v.bytes) ≡ x.bytes ∷ ys → drop i (item_views v) ≡ x ∷ drop (i + 1) (item_views v)
+pub drop-item_views : (v : View) (x : List ℕ) (i : ℕ) (ys : List (List ℕ)) → drop i (items v.bytes) ≡ x ∷ ys → drop i (item_views v) ≡ (record v { bytes = x }) ∷ drop (i + 1) (item_views v)
 unfolding view_of
 drop-item_views v x i ys e =
-    let here : drop i (item_views v) ≡ x ∷ map (view_of v) ys = drop-map (view_of v) i (items v.bytes) ∙ ap (map (view_of v)) e in
-    here ∙ ap (λ vs. x ∷ vs) (sym (drop-next i (item_views v) (map (view_of v) ys) x here))
+    let here : drop i (item_views v) ≡ (view_of v x) ∷ map (view_of v) ys = drop-map (view_of v) i (items v.bytes) ∙ ap (map (view_of v)) e in
+    here ∙ ap (λ vs. (view_of v x) ∷ vs) (sym (drop-next i (item_views v) (map (view_of v) ys) (view_of v x) here))
 
 -- past the last item there is no view
 pub drop-item_views-past : (v : View) (i j : ℕ) → drop i (items v.bytes) ≡ [] → i ≤ j → drop j (item_views v) ≡ []
@@ -64,4 +64,4 @@ pub length-item_views : (v : View) → length (item_views v) ≡ length (split (
 unfolding view_of items
 length-item_views v = length-map (items v.bytes) (view_of v)
 
-pub ruleset splits = (split-nil, drop-next, drop-past, drop-inside, length-split, drop-item_views, drop-item_views-past, length-item_views, length-drop)
+pub ruleset splits = (split-nil, drop-next, drop-past, drop-inside, length-split, drop-item_views, drop-item_views-past, length-item_views, length-map, length-drop)

@@ -3,7 +3,7 @@ use Rattle.std.specs.Prelude.{ℕ, zero, suc, ◌≡◌, ◌^◌, ◌<◌, ◌�
 use Rattle.std.proofs.Common.{ap}
 use Rattle.rlp.specs.declared.error.DecoderError.{DecoderError}
 use Rattle.rlp.specs.Format.Item.{Item, string, list_of}
-use Rattle.rlp.specs.Views.View.{View, HoldsItem, item_count}
+use Rattle.rlp.specs.Views.View.{View, HoldsItem, item_count, view_of}
 use Rattle.rlp.specs.Values.Value.{FitsBytes, bit, number_item, option_item}
 use Rattle.rlp.specs.Values.ValueReading.{FaultsAs, FaultsAsBool, FaultsAsBytes, FaultsAsNumber, FaultsAsText, GivesBool, GivesBytes, GivesNumber, GivesSome, GivesText, GivesValue, IsLengthFault}
 use Rattle.rlp.specs.Values.ListReading.{FaultsAsFields, FaultsAsList, FaultsAsOption, FaultsAt, FaultsInField, GivesAt, GivesList, GivesOption, MayLackAsList, MayLackAsOption, MayLackAsStruct}
@@ -20,7 +20,7 @@ pub record Codec (A : Type 0) : Type 1 where
   pub gives : View → A → Type 0
   pub faults : View → DecoderError → Type 0
   pub may_lack : View → Type 0
-  pub reads_back : (view : View) (v : A) → length view.bytes < 2 ^ 64 → Fits v → HoldsItem view (item v) → ReadsBack Fits item gives faults view v
+  pub reads_back : (b : List ℕ) (v : A) → length b < 2 ^ 64 → Fits v → HoldsItem (view_of b) (item v) → ReadsBack Fits item gives faults (view_of b) v
 
 -- ---- the provided types
 
@@ -43,7 +43,7 @@ truth_value = record {
   gives = GivesBool;
   faults = FaultsAsBool;
   may_lack = λ v. ⊥;
-  reads_back = λ view b fits fit begins. bool_reads_back view b fits begins;
+  reads_back = λ bytes b fits fit begins. bool_reads_back bytes b fits begins;
 }
 
 -- a type of which contracts see a byte string
@@ -76,7 +76,7 @@ string_type Fits bytes IsFaulty sound = record {
   gives = λ v b. GivesValue Fits (λ b. string (bytes b)) v b;
   faults = λ v e. FaultsAs IsFaulty v e;
   may_lack = λ v. ⊥;
-  reads_back = λ view b fits fit begins. reads_back Fits bytes view b fits begins IsFaulty (λ e. sound b e fit);
+  reads_back = λ v b fits fit begins. reads_back Fits bytes v b fits begins IsFaulty (λ e. sound b e fit);
 }
 
 -- a type of n bytes, no more and no fewer
@@ -102,7 +102,7 @@ holding value c = record {
   gives = λ v b. c.gives v (value b);
   faults = c.faults;
   may_lack = λ v. GivesSome c.gives v ⊎ c.may_lack v;
-  reads_back = λ view b fits fit begins. reads_back_through value (c.reads_back view (value b) fits fit begins);
+  reads_back = λ b x fits fit begins. reads_back_through value (c.reads_back b (value x) fits fit begins);
 }
 
 -- a type of which contracts see the values of a list

@@ -6,10 +6,14 @@ pub mod Encodings
 pub mod Frames
 pub mod Views
 pub mod Strings
+pub mod Held
 pub mod Numbers
 pub mod OneReading
 pub mod RoundTrips
 pub mod Numbered
+pub mod Slices
+pub mod WholeLists
 pub mod ListRoundTrips
 pub mod ValueLists
 pub mod Structs
+pub mod StrictReads

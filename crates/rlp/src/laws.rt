@@ -18,6 +18,7 @@ mod described;
 mod reading;
 mod round_trip;
 mod streams;
+mod strict;
 mod views;
 
 pub use described::{finished_buffers_tell_items, stream_joins_what_is_described};
@@ -31,6 +32,7 @@ pub use streams::{
     constants_are_encodings, finished_streams_gain_encodings, growth_is_an_order, growth_of_moves,
     open_lists_await_items,
 };
+pub use strict::{list_strictly_decoded, strictly_decoded};
 pub use views::{items_by_number_are_in_order, iteration_reads_few_headers, view_of_list_has_its_items};
 
 /// The digits of a number are below 256, begin with no zero, and are that number's and no other's.

@@ -17,7 +17,7 @@ ghost use Rattle.rlp.specs.Format.Item.{list_of};
 ghost use Rattle.rlp.specs.Format.Encoding.{encoding};
 ghost use Rattle.rlp.specs.declared.error.DecoderError.TheVariants.{OutOfMemory};
 ghost use Rattle.rlp.specs.Values.ListReading.{FaultsAsList, GivesList, MayLackAsList};
-ghost use Rattle.rlp.specs.Views.View.{view_of};
+ghost use Rattle.rlp.specs.Views.View.{strict_view_of, view_of};
 
 mod count;
 mod digits;
@@ -33,7 +33,7 @@ pub use error::DecoderError;
 pub use rlpin::{BasicDecoder, PayloadInfo, Prototype, Rlp, RlpIterator};
 use std::alloc::{AllocError, Global};
 pub use stream::{BasicEncoder, Chain, RlpStream};
-pub use traits::{Decodable, Encodable, RoundTrip, Scalar};
+pub use traits::{Decodable, Encodable, RoundTrip, Scalar, StrictRead};
 
 /// The encoding of the empty string.
 pub const NULL_RLP: [u8; 1] = [0x80];
@@ -97,4 +97,36 @@ pub fn decode_list<T: Decodable>(alloc: Global, bytes: &[u8]) -> Result<Vec<T>, 
         ⊎ ((e ≡ OutOfMemory) × MayLackAsList T.gives T.may_lack_memory (view_of bytes.now))) }
 {
     Rlp::new(bytes).as_list(alloc)
+}
+
+/// The value whose whole encoding the bytes are: [`decode`] over a strict view. A type of this crate
+/// that is read from one string answers `RlpIsTooBig` where bytes follow the string.
+///
+/// ```rust
+/// assert_eq!(rt; rlp::decode_strict::<u64>(alloc, &[0x82, 0x01, 0x00])?, 256);
+/// assert!(rt; rlp::decode_strict::<u64>(alloc, &[0x05, 0x06]) == Err(rlp::DecoderError::RlpIsTooBig));
+/// ```
+pub fn decode_strict<T: Decodable>(alloc: Global, bytes: &[u8]) -> Result<T, DecoderError>
+    ensures value { IfOk result (λ v. T.gives (strict_view_of bytes.now) v) }
+    ensures fault { IfErr result (λ e. (T.faults (strict_view_of bytes.now) e) ⊎ ((e ≡ OutOfMemory)
+        × T.may_lack_memory (strict_view_of bytes.now))) }
+{
+    Rlp::new_strict(bytes).as_val(alloc)
+}
+
+/// The values of the list whose whole encoding the bytes are, in order: [`decode_list`] over a
+/// strict view. Besides the faults of the items, it answers `RlpExpectedToBeList` where the bytes
+/// begin as no list, then the fault of a list that isn't framed, then `RlpIsTooBig` where bytes
+/// follow it, then the fault of what follows the items in it.
+///
+/// ```rust
+/// assert_eq!(rt; rlp::decode_list_strict::<u64>(alloc, &[0xc2, 0x05, 0x06])?.as_slice(), [5, 6].as_slice());
+/// ```
+pub fn decode_list_strict<T: Decodable>(alloc: Global, bytes: &[u8]) -> Result<Vec<T>, DecoderError>
+    ensures value { IfOk result
+        (λ values. GivesList T.gives (strict_view_of bytes.now) values.items) }
+    ensures fault { IfErr result (λ e. (FaultsAsList T.gives T.faults (strict_view_of bytes.now) e)
+        ⊎ ((e ≡ OutOfMemory) × MayLackAsList T.gives T.may_lack_memory (strict_view_of bytes.now))) }
+{
+    Rlp::new_strict(bytes).as_list(alloc)
 }

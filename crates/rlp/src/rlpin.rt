@@ -9,7 +9,6 @@ mod iter;
 mod rlp;
 
 pub use decoder::BasicDecoder;
-pub(crate) use decoder::string_in;
 pub use header::PayloadInfo;
 pub use iter::RlpIterator;
 pub use rlp::{Prototype, Rlp};

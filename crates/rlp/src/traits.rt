@@ -6,4 +6,4 @@ mod round_trip;
 
 pub use decodable::Decodable;
 pub use encodable::Encodable;
-pub use round_trip::{RoundTrip, Scalar};
+pub use round_trip::{RoundTrip, Scalar, StrictRead};

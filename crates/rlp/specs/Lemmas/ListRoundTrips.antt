@@ -15,7 +15,7 @@ use Rattle.rlp.specs.Lemmas.Numbered.{item_count-list, item_at-list_item}
 
 -- what the law of `RoundTrip` says of a type
 abbrev pub AlwaysReadsBack : {A : Type 0} → (A → Type 0) → (A → Item) → (View → A → Type 0) → (View → DecoderError → Type 0) → Type 0
-AlwaysReadsBack {A} Fits item gives faults = (view : View) (v : A) → length view.bytes < 2 ^ 64 → Fits v → BeginsWith view.bytes (encoding (item v)) → ReadsBack Fits item gives faults view v
+AlwaysReadsBack {A} Fits item gives faults = (b : List ℕ) (v : A) → length b < 2 ^ 64 → Fits v → BeginsWith b (encoding (item v)) → ReadsBack Fits item gives faults (view_of b) v
 
 -- ---- one item of a list
 
@@ -30,7 +30,7 @@ pub item_reads_back : {A : Type 0} (Fits : A → Type 0) (item : A → Item) (gi
     → AlwaysReadsBack Fits item gives faults → Fits x → IsSized (item x) → item_at view i ≡ Ok (view_of (encoding (item x)))
     → ReadsBack Fits item (λ v w. GivesAt gives v i w) (λ v e. FaultsAt faults v i e) view x
 item_reads_back Fits item gives faults view i x law fit sized is =
-    let back : ReadsBack Fits item gives faults (view_of (encoding (item x))) x = law (view_of (encoding (item x))) x sized fit ([], sym (append-nil (encoding (item x)))) in
+    let back : ReadsBack Fits item gives faults (view_of (encoding (item x))) x = law (encoding (item x)) x sized fit ([], sym (append-nil (encoding (item x)))) in
     record {
       alike = λ w. let at = at_by gives (item_at view i) (view_of (encoding (item x))) w is in (λ g. (back.alike w).0 (at.0 g), λ h. at.1 ((back.alike w).1 h));
       no_fault = λ e h. back.no_fault e (fault_at_by faults (item_at view i) (view_of (encoding (item x))) e is h);
@@ -43,7 +43,7 @@ middle_sized (y ∷ before) after x small = middle_sized before after x (omega (
 
 -- ---- options
 
-sized_one : (x : Item) → IsSized (list_of (x ∷ [])) → IsSized x
+pub sized_one : (x : Item) → IsSized (list_of (x ∷ [])) → IsSized x
 sized_one x sized = sized_items (x ∷ []) (2 ^ 64) (small_payload 0xc0 (join (x ∷ [])) (encoding (list_of (x ∷ []))) (encoding_list (x ∷ [])) sized) 0 x (omega arith)
 
 one_same : (x y : Item) → list_of (x ∷ []) ≡ list_of (y ∷ []) → x ≡ y
@@ -81,16 +81,18 @@ module _ {A : Type 0} (Fits : A → Type 0) (item : A → Item) (gives : View �
 -- an option is read back where its value is
 pub option_reads_back : {A : Type 0} (Fits : A → Type 0) (item : A → Item) (gives : View → A → Type 0) (faults : View → DecoderError → Type 0) → AlwaysReadsBack Fits item gives faults
     → AlwaysReadsBack (λ o. IfSome o Fits) (option_item item) (λ v o. GivesOption gives v o) (λ v e. FaultsAsOption faults v e)
-option_reads_back Fits item gives faults law view None fits fit (more, is) =
-    let count : item_count view ≡ Ok 0 = item_count-list [] view.bytes (front_sized (list_of []) view.bytes more fits is) (more, is) in
+option_reads_back Fits item gives faults law b None fits fit (more, is) =
+    let view = view_of b in
+    let count : item_count (view_of b) ≡ Ok 0 = item_count-list [] b (front_sized (list_of []) b more fits is) (more, is) in
     record {
       alike = λ o. (none_given Fits item gives faults view count o, none_back Fits item gives faults view count o);
       no_fault = none_faulty Fits item gives faults view count;
     }
-option_reads_back Fits item gives faults law view (Some x) fits fit (more, is) =
-    let sized : IsSized (list_of (item x ∷ [])) = front_sized (list_of (item x ∷ [])) view.bytes more fits is in
-    let count : item_count view ≡ Ok 1 = item_count-list (item x ∷ []) view.bytes sized (more, is) in
-    let back = item_reads_back Fits item gives faults view 0 x law fit (sized_one (item x) sized) (item_at-list_item [] [] (item x) view.bytes sized (more, is)) in
+option_reads_back Fits item gives faults law b (Some x) fits fit (more, is) =
+    let view = view_of b in
+    let sized : IsSized (list_of (item x ∷ [])) = front_sized (list_of (item x ∷ [])) b more fits is in
+    let count : item_count (view_of b) ≡ Ok 1 = item_count-list (item x ∷ []) b sized (more, is) in
+    let back = item_reads_back Fits item gives faults view 0 x law fit (sized_one (item x) sized) (item_at-list_item [] [] (item x) b sized (more, is)) in
     record {
       alike = λ o. (some_given Fits item gives faults view x count back o, some_back Fits item gives faults view x count back o);
       no_fault = some_faulty Fits item gives faults view x count back;
@@ -100,15 +102,15 @@ option_reads_back Fits item gives faults law view (Some x) fits fit (more, is) =
 
 -- an item of a list is read back where its value is
 pub list_item_reads_back : {A : Type 0} (Fits : A → Type 0) (item : A → Item) (gives : View → A → Type 0) (faults : View → DecoderError → Type 0) (law : AlwaysReadsBack Fits item gives faults)
-    (before after : List A) (x : A) (view : View) → length view.bytes < 2 ^ 64 → Fits x → BeginsWith view.bytes (encoding (list_of (map item (before ++ x ∷ after))))
-    → ReadsBack Fits item (λ v w. GivesAt gives v (length before) w) (λ v e. FaultsAt faults v (length before) e) view x
-list_item_reads_back Fits item gives faults law before after x view fits fit (more, is) =
+    (before after : List A) (x : A) (b : List ℕ) → length b < 2 ^ 64 → Fits x → BeginsWith b (encoding (list_of (map item (before ++ x ∷ after))))
+    → ReadsBack Fits item (λ v w. GivesAt gives v (length before) w) (λ v e. FaultsAt faults v (length before) e) (view_of b) x
+list_item_reads_back Fits item gives faults law before after x b fits fit (more, is) =
     let whole : map item (before ++ x ∷ after) ≡ map item before ++ item x ∷ map item after = map-append item before (x ∷ after) in
-    let is' : view.bytes ≡ encoding (list_of (map item before ++ item x ∷ map item after)) ++ more = subst (λ xs. view.bytes ≡ encoding (list_of xs) ++ more) whole is in
-    let sized : IsSized (list_of (map item before ++ item x ∷ map item after)) = front_sized (list_of (map item before ++ item x ∷ map item after)) view.bytes more fits is' in
+    let is' : b ≡ encoding (list_of (map item before ++ item x ∷ map item after)) ++ more = subst (λ xs. b ≡ encoding (list_of xs) ++ more) whole is in
+    let sized : IsSized (list_of (map item before ++ item x ∷ map item after)) = front_sized (list_of (map item before ++ item x ∷ map item after)) b more fits is' in
     let small : length (join (map item before ++ item x ∷ map item after)) < 2 ^ 64 =
     small_payload 0xc0 (join (map item before ++ item x ∷ map item after)) (encoding (list_of (map item before ++ item x ∷ map item after))) (encoding_list (map item before ++ item x ∷ map item after)) sized in
     let one : IsSized (item x) = middle_sized (map item before) (map item after) (item x) small in
-    let there : item_at view (length before) ≡ Ok (view_of (encoding (item x))) =
-    subst (λ n. item_at view n ≡ Ok (view_of (encoding (item x)))) (length-map before item) (item_at-list_item (map item before) (map item after) (item x) view.bytes sized (more, is')) in
-    item_reads_back Fits item gives faults view (length before) x law fit one there
+    let there : item_at (view_of b) (length before) ≡ Ok (view_of (encoding (item x))) =
+    subst (λ n. item_at (view_of b) n ≡ Ok (view_of (encoding (item x)))) (length-map before item) (item_at-list_item (map item before) (map item after) (item x) b sized (more, is')) in
+    item_reads_back Fits item gives faults (view_of b) (length before) x law fit one there

@@ -6,8 +6,7 @@ use Rattle.rlp.specs.Values.Value.{FitsBytes}
 use Rattle.rlp.specs.declared.error.DecoderError.TheVariants.{RlpInvalidIndirection}
 use Rattle.rlp.specs.Values.ValueReading.{IsDigitsFault, too_long, leading_zero, GivesNumber, FaultsAsNumber, no_string, no_value}
 use Rattle.rlp.specs.declared.error.DecoderError.{DecoderError}
-use Rattle.rlp.specs.Format.StringReading.{IsString}
-use Rattle.rlp.specs.Views.View.{View}
+use Rattle.rlp.specs.Views.View.{View, HoldsString}
 use Rattle.rlp.specs.Lemmas.Reading.{bytes_held}
 use Rattle.rlp.specs.Lemmas.Digits.{digits_fit, digits_again}
 
@@ -29,11 +28,11 @@ pub ruleset digit_faults = (too_long, zero_is_fault)
 -- ---- a view that begins with the digits of a number gives the number
 
 -- digits that stand as a string give their number
-pub gives_number : (width : ℕ) (v : View) (d : List ℕ) → IsString v.bytes d → FitsBytes width (number_from_digits 256 d) × (big_endian (number_from_digits 256 d) ≡ d) → GivesNumber width v (number_from_digits 256 d)
-gives_number width v d stands (fits, again) = record { fits = fits; begins = subst (IsString v.bytes) (sym again) stands }
+pub gives_number : (width : ℕ) (v : View) (d : List ℕ) → HoldsString v d → FitsBytes width (number_from_digits 256 d) × (big_endian (number_from_digits 256 d) ≡ d) → GivesNumber width v (number_from_digits 256 d)
+gives_number width v d stands (fits, again) = record { fits = fits; begins = subst (HoldsString v) (sym again) stands }
 
 -- digits at fault that stand as a string are the view's fault
-pub number_fault : (width : ℕ) (v : View) (d : List ℕ) (e : DecoderError) → IsString v.bytes d → IsDigitsFault width d e → FaultsAsNumber width v e
+pub number_fault : (width : ℕ) (v : View) (d : List ℕ) (e : DecoderError) → HoldsString v d → IsDigitsFault width d e → FaultsAsNumber width v e
 number_fault width v d e stands faulty = no_value d e stands faulty
 
 pub ruleset number_answers = (gives_number, no_string, number_fault)

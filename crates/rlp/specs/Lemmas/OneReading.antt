@@ -11,14 +11,14 @@ use Rattle.rlp.specs.declared.error.DecoderError.TheVariants.{RlpIsTooBig, RlpIn
 use Rattle.rlp.specs.Format.Item.{string}
 use Rattle.rlp.specs.Format.WrittenHeader.{big_endian, written_header, AreBytes}
 use Rattle.rlp.specs.Format.Encoding.{encoding, string_encoding, is_low_byte}
-use Rattle.rlp.specs.Format.StringReading.{IsString, ReadsString, read_string}
+use Rattle.rlp.specs.Format.StringReading.{IsString}
 use Rattle.rlp.specs.Values.Value.{FitsBytes, number_item}
 use Rattle.rlp.specs.Values.ValueReading.{GivesValue, FaultsAs, no_string, no_value, GivesNumber, IsDigitsFault, too_long, leading_zero, FaultsAsNumber, GivesBytes, FaultsAsBytes, GivesText, IsTextFault, FaultsAsText, HasOneReading}
 use Rattle.rlp.specs.Views.Text.{error_name}
-use Rattle.rlp.specs.Views.View.{view_of}
+use Rattle.rlp.specs.Views.View.{View, HoldsString, view_string}
 use Rattle.rlp.specs.Lemmas.Digits.{big_endian_is, big_endian_first, big_endian_zero, pow-bytes, digits_fit, digits_again, none_is_zero}
 use Rattle.rlp.specs.Lemmas.Reading.{Bytes}
-use Rattle.rlp.specs.Lemmas.Strings.{string_reads, string_only}
+use Rattle.rlp.specs.Lemmas.Held.{ReadsHeld, held_begins, held_read, held_reads, same_held}
 
 -- ---- what a string holds are bytes
 
@@ -52,45 +52,37 @@ record IsTold {A : Type 0} (Fits : A → Type 0) (text : A → List ℕ) (IsFaul
   pub sound : (x : A) (e : DecoderError) → Fits x → ¬ IsFaulty (text x) e
   pub one : (d : List ℕ) (e f : DecoderError) → IsFaulty d e → IsFaulty d f → e ≡ f
 
--- what stands at the front is what is read
-pub stands_read : (b d : List ℕ) (e : DecoderError) → length b < 2 ^ 64 → IsString b d → read_string b ≡ Err e → ⊥
-stands_read b d e fits stands is = let same : Ok d ≡ Err e = sym (string_only b d fits stands) ∙ is in cc
-
--- bytes begin with one string
-pub same_string : (b d s : List ℕ) → length b < 2 ^ 64 → IsString b d → IsString b s → d ≡ s
-same_string b d s fits one two = let same = sym (string_only b d fits one) ∙ string_only b s fits two in cc
-
-module _ {A : Type 0} (Fits : A → Type 0) (text : A → List ℕ) (IsFaulty : List ℕ → DecoderError → Type 0) (is : IsTold Fits text IsFaulty) (b : List ℕ) (fits : length b < 2 ^ 64) where
+module _ {A : Type 0} (Fits : A → Type 0) (text : A → List ℕ) (IsFaulty : List ℕ → DecoderError → Type 0) (is : IsTold Fits text IsFaulty) (v : View) (fits : length v.bytes < 2 ^ 64) where
   abbrev Given : A → Type 0
-  Given x = GivesValue Fits (λ x. string (text x)) (view_of b) x
+  Given x = GivesValue Fits (λ x. string (text x)) v x
 
   abbrev Fault : DecoderError → Type 0
-  Fault e = FaultsAs IsFaulty (view_of b) e
+  Fault e = FaultsAs IsFaulty v e
 
-  some_found : (d : List ℕ) → IsString b d → ((x : A) × (Fits x) × (text x ≡ d)) ⊎ ((e : DecoderError) × IsFaulty d e) → ((x : A) × Given x) ⊎ ((e : DecoderError) × Fault e)
-  some_found d stands (inl (x, fit, same)) = inl (x, record { fits = fit; begins = subst (IsString b) (sym same) stands })
+  some_found : (d : List ℕ) → HoldsString v d → ((x : A) × (Fits x) × (text x ≡ d)) ⊎ ((e : DecoderError) × IsFaulty d e) → ((x : A) × Given x) ⊎ ((e : DecoderError) × Fault e)
+  some_found d stands (inl (x, fit, same)) = inl (x, record { fits = fit; begins = subst (HoldsString v) (sym same) stands })
   some_found d stands (inr (e, faulty)) = inr (e, no_value d e stands faulty)
 
-  some_read : AreBytes b → (r : Result (List ℕ) DecoderError) → read_string b ≡ r → ReadsString b r → ((x : A) × Given x) ⊎ ((e : DecoderError) × Fault e)
-  some_read bytes (Ok d) same stands = some_found d stands (is.told d (string_bytes b d bytes stands))
+  some_read : AreBytes v.bytes → (r : Result (List ℕ) DecoderError) → view_string v ≡ r → ReadsHeld v.is_strict v.bytes r → ((x : A) × Given x) ⊎ ((e : DecoderError) × Fault e)
+  some_read bytes (Ok d) same stands = some_found d stands (is.told d (string_bytes v.bytes d bytes (held_begins v (string d) stands)))
   some_read bytes (Err e) same none = inr (e, no_string e same)
 
   not_both_by : (x : A) (e : DecoderError) → Given x → ¬ Fault e
-  not_both_by x e gives (no_string g same) = stands_read b (text x) g fits gives.begins same
+  not_both_by x e gives (no_string g same) = held_read v (text x) g fits gives.begins same
   not_both_by x e gives (no_value d g stands faulty) =
-      is.sound x g gives.fits (subst (λ d. IsFaulty d g) (same_string b d (text x) fits stands gives.begins) faulty)
+      is.sound x g gives.fits (subst (λ d. IsFaulty d g) (same_held v d (text x) fits stands gives.begins) faulty)
 
   one_fault_by : (e f : DecoderError) → Fault e → Fault f → e ≡ f
   one_fault_by e f (no_string g one) (no_string h two) = let same = sym one ∙ two in cc
-  one_fault_by e f (no_string g one) (no_value d h stands faulty) = absurd (stands_read b d g fits stands one)
-  one_fault_by e f (no_value d g stands faulty) (no_string h two) = absurd (stands_read b d h fits stands two)
+  one_fault_by e f (no_string g one) (no_value d h stands faulty) = absurd (held_read v d g fits stands one)
+  one_fault_by e f (no_value d g stands faulty) (no_string h two) = absurd (held_read v d h fits stands two)
   one_fault_by e f (no_value d g stands faulty) (no_value s h stands' faulty') =
-      is.one s g h (subst (λ d. IsFaulty d g) (same_string b d s fits stands stands') faulty) faulty'
+      is.one s g h (subst (λ d. IsFaulty d g) (same_held v d s fits stands stands') faulty) faulty'
 
-  reading : AreBytes b → HasOneReading (λ x. string (text x)) Given Fault
+  reading : AreBytes v.bytes → HasOneReading (λ x. string (text x)) Given Fault
   reading bytes = record {
-    some = some_read bytes (read_string b) refl (string_reads b bytes fits);
-    one_value = λ x y one two. ap string (same_string b (text x) (text y) fits one.begins two.begins);
+    some = some_read bytes (view_string v) refl (held_reads v bytes fits);
+    one_value = λ x y one two. ap string (same_held v (text x) (text y) fits one.begins two.begins);
     one_fault = λ e f one two. ap error_name (one_fault_by e f one two);
     not_both = not_both_by;
   }
@@ -132,24 +124,24 @@ one_digits width d e f (leading_zero more few same) (too_long long) = absurd (om
 one_digits width d e f (leading_zero more few same) (leading_zero more' few' same') = refl
 
 -- a number has one reading
-pub number_reading : (b : List ℕ) → AreBytes b → length b < 2 ^ 64 → (width : ℕ) → HasOneReading number_item (GivesNumber width (view_of b)) (FaultsAsNumber width (view_of b))
-number_reading b bytes fits width =
+pub number_reading : (v : View) → AreBytes v.bytes → length v.bytes < 2 ^ 64 → (width : ℕ) → HasOneReading number_item (GivesNumber width v) (FaultsAsNumber width v)
+number_reading v bytes fits width =
     reading (FitsBytes width) big_endian (IsDigitsFault width)
-    (record { told = told_digits width; sound = sound_digits width; one = one_digits width }) b fits bytes
+    (record { told = told_digits width; sound = sound_digits width; one = one_digits width }) v fits bytes
 
 -- ---- byte strings
 
-bytes_some : (b : List ℕ) (r : Result (List ℕ) DecoderError) → read_string b ≡ r → ReadsString b r → ((d : List ℕ) × GivesBytes (view_of b) d) ⊎ ((e : DecoderError) × FaultsAsBytes (view_of b) e)
-bytes_some b (Ok d) same stands = inl (d, record { fits = tt; begins = stands })
-bytes_some b (Err e) same none = inr (e, same)
+bytes_some : (v : View) (r : Result (List ℕ) DecoderError) → view_string v ≡ r → ReadsHeld v.is_strict v.bytes r → ((d : List ℕ) × GivesBytes v d) ⊎ ((e : DecoderError) × FaultsAsBytes v e)
+bytes_some v (Ok d) same stands = inl (d, record { fits = tt; begins = stands })
+bytes_some v (Err e) same none = inr (e, same)
 
 -- a byte string has one reading
-pub bytes_reading : (b : List ℕ) → AreBytes b → length b < 2 ^ 64 → HasOneReading string (GivesBytes (view_of b)) (FaultsAsBytes (view_of b))
-bytes_reading b bytes fits = record {
-  some = bytes_some b (read_string b) refl (string_reads b bytes fits);
-  one_value = λ d s one two. ap string (same_string b d s fits one.begins two.begins);
+pub bytes_reading : (v : View) → AreBytes v.bytes → length v.bytes < 2 ^ 64 → HasOneReading string (GivesBytes v) (FaultsAsBytes v)
+bytes_reading v bytes fits = record {
+  some = bytes_some v (view_string v) refl (held_reads v bytes fits);
+  one_value = λ d s one two. ap string (same_held v d s fits one.begins two.begins);
   one_fault = λ e f one two. let same = sym one ∙ two in let faults : e ≡ f = cc in ap error_name faults;
-  not_both = λ d e one two. stands_read b d e fits one.begins two;
+  not_both = λ d e one two. held_read v d e fits one.begins two;
 }
 
 -- ---- text
@@ -162,7 +154,7 @@ told_text d bytes =
     (cases_Bool (is_utf8 d))
 
 -- a text has one reading
-pub text_reading : (b : List ℕ) → AreBytes b → length b < 2 ^ 64 → HasOneReading string (GivesText (view_of b)) (FaultsAsText (view_of b))
-text_reading b bytes fits =
+pub text_reading : (v : View) → AreBytes v.bytes → length v.bytes < 2 ^ 64 → HasOneReading string (GivesText v) (FaultsAsText v)
+text_reading v bytes fits =
     reading IsUtf8 (λ t. t) IsTextFault
-    (record { told = told_text; sound = λ t e good bad. bad.0 good; one = λ d e f one two. one.1 ∙ sym two.1 }) b fits bytes
+    (record { told = told_text; sound = λ t e good bad. bad.0 good; one = λ d e f one two. one.1 ∙ sym two.1 }) v fits bytes

@@ -1,5 +1,5 @@
 -- `read_string` gives the one string that stands at the front of bytes.
-use Rattle.std.proofs.Common.{◌≡◌, ℕ, suc, ◌+◌, ◌-◌, ◌^◌, ◌<◌, ◌≤◌, inl, inr, ⊎_elim, Bool, true, false, if◌then◌else◌, slice_index, ◌==◌, ltb, leb, List, [], ◌∷◌, ◌++◌, length, take, drop, get_or, refl, sym, ap, ◌∙◌, subst, arith, Ok, Err, Result, MatchResult, IfErr, ne_eqb, le-ltb, lt-ltb, ltb-false, leb-false, take_at, drop_at, length-append, length-take-le, append_assoc, take-append-drop, pos_of_ne-zero}
+use Rattle.std.proofs.Common.{◌≡◌, ℕ, suc, ◌+◌, ◌-◌, ◌^◌, ◌<◌, ◌≤◌, inl, inr, ⊎_elim, Bool, true, false, if◌then◌else◌, slice_index, ◌==◌, ltb, leb, List, [], ◌∷◌, ◌++◌, length, take, drop, get_or, refl, sym, ap, ◌∙◌, subst, arith, Ok, Err, Result, MatchResult, ne_eqb, le-ltb, lt-ltb, ltb-false, leb-false, take_at, drop_at, length-append, length-take-le, append_assoc, take-append-drop, pos_of_ne-zero}
 use Rattle.std.specs.Bool.{⊤}
 use Rattle.std.specs.Int.Digits.{number_from_digits}
 use Rattle.std.proofs.lemmas.Bool.{cases_Bool, cases_lt, cond_both, cond-true, cond-false, lt-leb, eqb-false}
@@ -10,7 +10,7 @@ use Rattle.rlp.specs.declared.error.DecoderError.TheVariants.{RlpIsTooShort, Rlp
 use Rattle.rlp.specs.Format.Item.{string}
 use Rattle.rlp.specs.Format.WrittenHeader.{written_header, AreBytes}
 use Rattle.rlp.specs.Format.Encoding.{encoding, string_encoding, is_low_byte}
-use Rattle.rlp.specs.Format.StringReading.{IsString, HasNoString, ReadsString, short_string, long_value, long_string, read_string, short_string_fault, long_value_fault, long_string_fault, string_fault}
+use Rattle.rlp.specs.Format.StringReading.{IsString, ReadsString, short_string, long_value, long_string, read_string, short_string_fault, long_value_fault, long_string_fault, string_fault}
 use Rattle.rlp.specs.Lemmas.Digits.{big_endian_first, big_endian_value}
 use Rattle.rlp.specs.Lemmas.Headers.{Parts, shape, written_header_short}
 use Rattle.rlp.specs.Lemmas.Encodings.{low_byte, small_payload, front_sized}
@@ -239,7 +239,3 @@ pub string_reads : (b : List ℕ) → AreBytes b → length b < 2 ^ 64 → Reads
 string_reads b bytes fits = answer_from b (read_string b) fits refl (stands b (recursion_from_All (λ byte. byte < 2 ^ 8) b bytes))
 
 pub ruleset first_bytes = (string_low, string_short, string_long, string_list)
-
--- where a string is missing, there is none, and what holds of the fault holds
-pub missing_from : (b : List ℕ) (e : DecoderError) (F : DecoderError → Type 0) → ReadsString b (read_string b) → read_string b ≡ Err e → F e → IfErr (read_string b) (λ e. HasNoString b × F e)
-missing_from b e F read is holds = let answer : ReadsString b (Err e) = subst (ReadsString b) is read in subst (λ r. IfErr r (λ e. HasNoString b × F e)) (sym is) (answer.0, holds)

@@ -29,14 +29,14 @@ abbrev pub HoldsFrom : View → ℕ → List Item → Type 0
 HoldsFrom view i [] = Unit {0}
 HoldsFrom view i (x ∷ xs) = (item_at view i ≡ Ok (view_of (encoding x))) × (IsSized x × HoldsFrom view (suc i) xs)
 
-holds_from : (before xs : List Item) (view : View) → IsSized (list_of (before ++ xs)) → BeginsWith view.bytes (encoding (list_of (before ++ xs))) → HoldsFrom view (length before) xs
-holds_from before [] view sized begins = tt
-holds_from before (x ∷ xs) view sized begins =
+holds_from : (before xs : List Item) (b : List ℕ) → IsSized (list_of (before ++ xs)) → BeginsWith b (encoding (list_of (before ++ xs))) → HoldsFrom (view_of b) (length before) xs
+holds_from before [] b sized begins = tt
+holds_from before (x ∷ xs) b sized begins =
     let small : length (join (before ++ x ∷ xs)) < 2 ^ 64 = small_payload 0xc0 (join (before ++ x ∷ xs)) (encoding (list_of (before ++ x ∷ xs))) (encoding_list (before ++ x ∷ xs)) sized in
     let whole : before ++ x ∷ xs ≡ (before ++ x ∷ []) ++ xs = sym (append_assoc before (x ∷ []) xs) in
     let next : length (before ++ x ∷ []) ≡ suc (length before) = omega (arith, length-append before (x ∷ [])) in
-    let others : HoldsFrom view (length (before ++ x ∷ [])) xs = holds_from (before ++ x ∷ []) xs view (subst (λ ys. IsSized (list_of ys)) whole sized) (subst (λ ys. BeginsWith view.bytes (encoding (list_of ys))) whole begins) in
-    (item_at-list_item before xs x view.bytes sized begins, (middle_sized before xs x small, subst (λ i. HoldsFrom view i xs) next others))
+    let others : HoldsFrom (view_of b) (length (before ++ x ∷ [])) xs = holds_from (before ++ x ∷ []) xs b (subst (λ ys. IsSized (list_of ys)) whole sized) (subst (λ ys. BeginsWith b (encoding (list_of ys))) whole begins) in
+    (item_at-list_item before xs x b sized begins, (middle_sized before xs x small, subst (λ i. HoldsFrom (view_of b) i xs) next others))
 
 -- ---- the first field, of a type whose values are read back
 
@@ -95,16 +95,16 @@ module _ {P : Type 0} (count : ℕ) (Fits : P → Type 0) (items : P → List It
 
   -- a struct is read back where its fields are
   pub struct_reads_back : AlwaysReadsBack Fits (λ p. list_of (items p)) (λ v p. (item_count v ≡ Ok count) × gives 0 v p) (λ v e. FaultsAsFields count (λ v e. FaultsInField count some faults v e) v e)
-  struct_reads_back view p fits fit (more, is) =
-      let sized : IsSized (list_of (items p)) = front_sized (list_of (items p)) view.bytes more fits is in
-      let holds : HoldsFrom view 0 (items p) = holds_from [] (items p) view sized (more, is) in
-      let many : item_count view ≡ Ok count = item_count-list (items p) view.bytes sized (more, is) ∙ ap Ok (counted p) in
+  struct_reads_back b p fits fit (more, is) =
+      let sized : IsSized (list_of (items p)) = front_sized (list_of (items p)) b more fits is in
+      let holds : HoldsFrom (view_of b) 0 (items p) = holds_from [] (items p) b sized (more, is) in
+      let many : item_count (view_of b) ≡ Ok count = item_count-list (items p) b sized (more, is) ∙ ap Ok (counted p) in
       record {
-        alike = λ q. let whole = alike 0 view p fit holds q in (
+        alike = λ q. let whole = alike 0 (view_of b) p fit holds q in (
           λ (n, g). let h = whole.0 g in (h.0, ap list_of h.1),
           λ (fit', same). (many, whole.1 (fit', list_same (items q) (items p) same)),
         );
-        no_fault = no_struct_fault view p fit holds many;
+        no_fault = no_struct_fault (view_of b) p fit holds many;
       }
 
 -- ---- rules for bodies that read a struct

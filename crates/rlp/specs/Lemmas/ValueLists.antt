@@ -1,5 +1,5 @@
 -- Lists of values of a type whose encodings are read back: their encodings are read back too.
-use Rattle.std.proofs.Common.{◌≡◌, ◌^◌, ◌<◌, List, [], ◌∷◌, ◌++◌, length, map, subst, sym, ◌∙◌, ap, refl, arith, append-nil, length-append}
+use Rattle.std.proofs.Common.{◌≡◌, ℕ, ◌^◌, ◌<◌, List, [], ◌∷◌, ◌++◌, length, map, subst, sym, ◌∙◌, ap, refl, arith, append-nil, length-append}
 use Rattle.std.specs.List.{All, AllByRecursion}
 use Rattle.std.proofs.lemmas.List.Elements.{All-from_recursion, recursion_from_All}
 use Rattle.rlp.specs.declared.error.DecoderError.{DecoderError}
@@ -27,7 +27,7 @@ module _ {A : Type 0} (Fits : A → Type 0) (item : A → Item) (gives : View �
   all_back law (v ∷ vs) (fit, all) small =
       let sized : length (encoding (item v)) < 2 ^ 64 = omega (arith, length-append (encoding (item v)) (join (map item vs))) in
       let more : length (join (map item vs)) < 2 ^ 64 = omega (arith, length-append (encoding (item v)) (join (map item vs))) in
-      (law (view_of (encoding (item v))) v sized fit ([], sym (append-nil (encoding (item v)))), all_back law vs all more)
+      (law (encoding (item v)) v sized fit ([], sym (append-nil (encoding (item v)))), all_back law vs all more)
 
   each_alike : (vs ws : List A) → AllByRecursion Back vs → GivesEach gives (views_of vs) ws → AllByRecursion Fits ws × (map item ws ≡ map item vs)
   each_alike [] [] back each = (tt, refl)
@@ -52,23 +52,24 @@ module _ {A : Type 0} (Fits : A → Type 0) (item : A → Item) (gives : View �
   none_first (v ∷ vs) [] after faulty e (one, back) is bad = let same : faulty ≡ view_of (encoding (item v)) = cc in one.no_fault e (subst (λ w. faults w e) same bad)
   none_first (v ∷ vs) (b ∷ before) after faulty e (one, back) is bad = let more : map (λ v. view_of (encoding (item v))) vs ≡ before ++ faulty ∷ after = cc in none_first vs before after faulty e back more bad
 
-  no_list_fault : (view : View) (vs : List A) → item_views view ≡ views_of vs → AllByRecursion Back vs → (e : DecoderError) → ¬ FaultsAsList gives faults view e
-  no_list_fault view vs are back e (not_list is) = cc
-  no_list_fault view vs are back e (faulty_in_list is first) = none_first vs first.before first.after first.reached e back (sym are ∙ first.all) first.is
+  no_list_fault : (b : List ℕ) (vs : List A) → item_views (view_of b) ≡ views_of vs → AllByRecursion Back vs → (e : DecoderError) → ¬ FaultsAsList gives faults (view_of b) e
+  no_list_fault b vs are back e (not_list is) = cc
+  no_list_fault b vs are back e (faulty_in_list is first) = none_first vs first.before first.after first.reached e back (sym are ∙ first.all) first.is
 
   -- a list of such values, of a type of which contracts see the values, is read back
   pub list_reads_back : AlwaysReadsBack Fits item gives faults → {B : Type 0} (values : B → List A)
       → AlwaysReadsBack (λ b. All Fits (values b)) (λ b. list_of (map item (values b))) (λ v b. GivesList gives v (values b)) (λ v e. FaultsAsList gives faults v e)
-  list_reads_back law values view b fits all begins =
-      let vs : List A = values b in
-      let sized : IsSized (list_of (map item vs)) = front_sized (list_of (map item vs)) view.bytes begins.0 fits begins.1 in
+  list_reads_back law values b x fits all begins =
+      let vs : List A = values x in
+      let view : View = view_of b in
+      let sized : IsSized (list_of (map item vs)) = front_sized (list_of (map item vs)) b begins.0 fits begins.1 in
       let small : length (join (map item vs)) < 2 ^ 64 = small_payload 0xc0 (join (map item vs)) (encoding (list_of (map item vs))) (encoding_list (map item vs)) sized in
-      let are : item_views view ≡ views_of vs = item_views-list (map item vs) view.bytes sized begins ∙ map-map (λ x. view_of (encoding x)) item vs in
+      let are : item_views view ≡ views_of vs = item_views-list (map item vs) b sized begins ∙ map-map (λ x. view_of (encoding x)) item vs in
       let back : AllByRecursion Back vs = all_back law vs (recursion_from_All Fits vs all) small in
       record {
         alike = λ c. (
           λ g. let h = each_alike vs (values c) back (subst (λ ws. GivesEach gives ws (values c)) are g.each) in (All-from_recursion Fits (values c) h.0, ap list_of h.1),
           λ (fit, same). record { is_list = refl; each = subst (λ ws. GivesEach gives ws (values c)) (sym are) (each_given vs (values c) back (recursion_from_All Fits (values c) fit) (list_same (map item (values c)) (map item vs) same)) },
         );
-        no_fault = no_list_fault view vs are back;
+        no_fault = no_list_fault b vs are back;
       }

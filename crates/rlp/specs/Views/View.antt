@@ -1,5 +1,5 @@
 -- What contracts see of a view, and what a view of bytes answers.
-use Rattle.std.specs.Prelude.{ℕ, ◌≡◌, ◌≤◌, ◌↔◌, ◌+◌, ◌-◌, Bool, IsTrue, IsNone, true, false, Option, None, ◌||◌, ◌==◌, if◌then◌else◌, nat_lt, nat_le, List, [], ◌∷◌, length, take, map, slice_index_or, Result, Ok, Err}
+use Rattle.std.specs.Prelude.{ℕ, ◌≡◌, ◌≤◌, ◌↔◌, ◌+◌, ◌-◌, Bool, IsTrue, IsNone, true, false, Option, Some, None, ◌||◌, ◌==◌, if◌then◌else◌, nat_lt, nat_le, List, [], ◌∷◌, length, take, map, slice_index_or, Result, Ok, Err}
 use Rattle.std.specs.List.{concat}
 use Rattle.std.specs.Iterator.{YieldsFirst}
 use Rattle.rlp.specs.declared.error.DecoderError.{DecoderError}
@@ -12,42 +12,57 @@ use Rattle.rlp.specs.Format.Encoding.{BeginsWith, encoding}
 use Rattle.rlp.specs.Format.Framing.{fault, framing, map_ok, value}
 use Rattle.rlp.specs.Format.Split.{begins_as_list, items, rest}
 use Rattle.rlp.specs.Format.StringReading.{read_string}
+use Rattle.rlp.specs.Format.Strict.{strict_fault, strict_list_fault, unless, whole_string}
 
--- A view is of these bytes.
+-- A view is of these bytes, and is lenient or strict.
 pub record View : Type 0 where
   pub bytes : List ℕ
+  pub is_strict : Bool
 
--- the view of these bytes
+-- the lenient view of these bytes
 abbrev pub view_of : List ℕ → View
-view_of b = record { bytes = b }
+view_of b = record { bytes = b; is_strict = false }
 
--- the lengths of the header and the value at the front of a view, or why they don't lie within it
+-- the strict view of these bytes
+abbrev pub strict_view_of : List ℕ → View
+strict_view_of b = record { bytes = b; is_strict = true }
+
+-- the strict fault of a strict view; a lenient one has none
+abbrev pub frame_fault : View → Option DecoderError
+frame_fault v = if v.is_strict then strict_fault v.bytes else None
+
+-- the lengths of the header and the value at the front of a view, or why they don't lie within it; of a strict view, why they aren't all of it
 abbrev pub view_header : View → Result PayloadInfo DecoderError
-view_header v = framing v.bytes
+view_header v = unless (frame_fault v) (framing v.bytes)
 
 -- the value alone
 abbrev pub view_value : View → Result (List ℕ) DecoderError
-view_value v = value v.bytes
+view_value v = unless (frame_fault v) (value v.bytes)
 
--- the string at the front of a view, or why none stands there
+-- the string at the front of a view, or why none stands there; of a strict view, nothing follows it
 abbrev pub view_string : View → Result (List ℕ) DecoderError
-view_string v = read_string v.bytes
+view_string v = if v.is_strict then whole_string v.bytes (read_string v.bytes) else read_string v.bytes
 
--- the view begins with the encoding of the item
+-- the bytes s stand at the front of b, or, read strictly, are all of b
+abbrev pub Holds : Bool → List ℕ → List ℕ → Type 0
+Holds false b s = BeginsWith b s
+Holds true b s = b ≡ s
+
+-- a lenient view begins with the encoding of the item, and a strict one is that encoding
 abbrev pub HoldsItem : View → Item → Type 0
-HoldsItem v x = BeginsWith v.bytes (encoding x)
+HoldsItem v x = Holds v.is_strict v.bytes (encoding x)
 
--- the view begins with the encoding of the string
+-- the same of a string
 abbrev pub HoldsString : View → List ℕ → Type 0
 HoldsString v d = HoldsItem v (string d)
 
--- no string's encoding stands at the front of the view
+-- the view holds no string
 abbrev pub HoldsNoString : View → Type 0
 HoldsNoString v = (d : List ℕ) → ¬ HoldsString v d
 
--- Why a view isn't read as a list, for a reason apart from its items. No view has such a fault: bytes that are no framed list are read as one of no items, and what follows the items in a list is never looked at.
+-- Why a view isn't read as a list, for a reason apart from its items. No lenient view has such a fault: bytes that are no framed list are read as one of no items, and what follows the items in a list is never looked at.
 abbrev pub list_fault : View → Option DecoderError
-list_fault v = None
+list_fault v = if v.is_strict then strict_list_fault v.bytes else None
 
 -- the views of the items of a view
 abbrev pub item_views : View → List View
@@ -91,9 +106,13 @@ begins_as_int (first ∷ rest) =
 
 -- ---- the items of a view, by number and by place
 
--- how many items: only bytes that begin as a list have a number of them
+-- why items aren't told by number: only bytes that begin as a list have a number of them
+abbrev pub items_fault : View → Option DecoderError
+items_fault v = if begins_as_list v.bytes then list_fault v else Some RlpExpectedToBeList
+
+-- how many items
 unfoldable pub item_count : View → Result ℕ DecoderError
-item_count v = if begins_as_list v.bytes then Ok (length (items v.bytes)) else Err RlpExpectedToBeList
+item_count v = unless (items_fault v) (Ok (length (items v.bytes)))
 
 -- Item i and its place, counted from the view's first byte, where the list's header has h bytes. Past the last item it is the fault of what follows the items.
 abbrev pub item_after : View → ℕ → ℕ → Result (View × ℕ) DecoderError
@@ -106,9 +125,9 @@ abbrev pub item_by : View → ℕ → Result PayloadInfo DecoderError → Result
 item_by v i (Err e) = Err e
 item_by v i (Ok p) = item_after v i p.header_len
 
--- Item i and its place: first the bytes must begin as a list, then they must be framed.
+-- Item i and its place: first the bytes must begin as a list, then they must be framed. A strict view must be a list and nothing else.
 unfoldable pub item_with_place : View → ℕ → Result (View × ℕ) DecoderError
-item_with_place v i = if begins_as_list v.bytes then item_by v i (framing v.bytes) else Err RlpExpectedToBeList
+item_with_place v i = unless (items_fault v) (item_by v i (framing v.bytes))
 
 -- the same without the place
 abbrev pub item_at : View → ℕ → Result View DecoderError

@@ -3,7 +3,7 @@
 use crate::error::DecoderError;
 use crate::rlpin::Rlp;
 use crate::stream::RlpStream;
-use crate::traits::{Decodable, Encodable, RoundTrip, Scalar};
+use crate::traits::{Decodable, Encodable, RoundTrip, Scalar, StrictRead};
 use std::alloc::{AllocError, Global};
 
 impl Encodable for bool {
@@ -45,11 +45,17 @@ impl Decodable for bool {
 impl RoundTrip for bool {
     ghost use Rattle.rlp.specs.Lemmas.RoundTrips.{bool_reads_back};
 
-    ghost round_trip = { λ view b fits fit begins. bool_reads_back view b fits begins };
+    ghost round_trip = { λ bytes b fits fit begins. bool_reads_back bytes b fits begins };
 }
 
 impl Scalar for bool {
     ghost use Rattle.rlp.specs.Lemmas.RoundTrips.{bool_exact};
 
     ghost exact = { bool_exact };
+}
+
+impl StrictRead for bool {
+    ghost use Rattle.rlp.specs.Lemmas.StrictReads.{bool_strict};
+
+    ghost strict = { bool_strict };
 }

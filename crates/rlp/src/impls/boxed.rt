@@ -3,7 +3,7 @@
 use crate::error::DecoderError;
 use crate::rlpin::Rlp;
 use crate::stream::RlpStream;
-use crate::traits::{Decodable, Encodable, RoundTrip, Scalar};
+use crate::traits::{Decodable, Encodable, RoundTrip, Scalar, StrictRead};
 use std::alloc::{AllocError, Global};
 
 impl<T: Encodable> Encodable for Box<T> {
@@ -39,14 +39,22 @@ impl<T: RoundTrip> RoundTrip for Box<T> {
     ghost use Rattle.std.specs.Box.{box_value};
     ghost use Rattle.rlp.specs.Lemmas.RoundTrips.{reads_back_through};
 
-    ghost round_trip = { λ view b fits fit begins. reads_back_through box_value
-        (T.round_trip view (box_value b) fits fit begins) };
+    ghost round_trip = { λ bytes b fits fit begins. reads_back_through box_value
+        (T.round_trip bytes (box_value b) fits fit begins) };
 }
 
 impl<T: Scalar> Scalar for Box<T> {
     ghost use Rattle.std.specs.Box.{box_value};
     ghost use Rattle.rlp.specs.Lemmas.RoundTrips.{exact_through};
 
-    ghost exact = { λ view b. exact_through T.fits T.item box_value view b
-        (T.exact view (box_value b)) };
+    ghost exact = { λ bytes b. exact_through T.fits T.item box_value bytes b
+        (T.exact bytes (box_value b)) };
+}
+
+impl<T: StrictRead> StrictRead for Box<T> {
+    ghost use Rattle.std.specs.Box.{box_value};
+    ghost use Rattle.rlp.specs.Lemmas.StrictReads.{strict_through};
+
+    ghost strict = { λ bytes b held fits. strict_through box_value
+        (T.strict bytes (box_value b) held fits) };
 }

@@ -3,7 +3,7 @@
 use crate::error::DecoderError;
 use crate::rlpin::Rlp;
 use crate::stream::RlpStream;
-use crate::traits::{Decodable, Encodable, RoundTrip, Scalar};
+use crate::traits::{Decodable, Encodable, RoundTrip, Scalar, StrictRead};
 use std::alloc::{AllocError, Global};
 
 impl Encodable for Vec<u8> {
@@ -67,4 +67,11 @@ impl Scalar for Vec<u8> {
     ghost use Rattle.rlp.specs.Lemmas.RoundTrips.{given_through};
 
     ghost exact = { given_through (λ d. ⊤) string vec_items };
+}
+
+impl StrictRead for Vec<u8> {
+    ghost use Rattle.std.specs.Vec.{vec_items};
+    ghost use Rattle.rlp.specs.Lemmas.StrictReads.{bytes_strict};
+
+    ghost strict = { bytes_strict vec_items };
 }

@@ -3,7 +3,7 @@
 use crate::error::DecoderError;
 use crate::rlpin::Rlp;
 use crate::stream::RlpStream;
-use crate::traits::{Decodable, Encodable, RoundTrip, Scalar};
+use crate::traits::{Decodable, Encodable, RoundTrip, Scalar, StrictRead};
 use bytes::BytesMut;
 use std::alloc::{AllocError, Global};
 
@@ -52,4 +52,10 @@ impl Scalar for BytesMut {
     ghost use Rattle.rlp.specs.Lemmas.RoundTrips.{given_through};
 
     ghost exact = { given_through (λ d. ⊤) string (λ (b : Self). b.items) };
+}
+
+impl StrictRead for BytesMut {
+    ghost use Rattle.rlp.specs.Lemmas.StrictReads.{bytes_strict};
+
+    ghost strict = { bytes_strict (λ (b : Self). b.items) };
 }

@@ -8,9 +8,9 @@ ghost use Rattle.rlp.specs.Values.ValueReading.{IsDigitsFault, GivesNumber, Faul
 
 use crate::digits::{Digits, number_of, wide_number_of};
 use crate::error::DecoderError;
-use crate::rlpin::{Rlp, string_in};
+use crate::rlpin::Rlp;
 use crate::stream::RlpStream;
-use crate::traits::{Decodable, Encodable, RoundTrip, Scalar};
+use crate::traits::{Decodable, Encodable, RoundTrip, Scalar, StrictRead};
 use std::alloc::{AllocError, Global};
 
 impl Encodable for u8 {
@@ -52,7 +52,13 @@ impl RoundTrip for u8 {
 impl Scalar for u8 {
     ghost use Rattle.rlp.specs.Lemmas.RoundTrips.{itself};
 
-    ghost exact = { λ view v. itself };
+    ghost exact = { λ b v. itself };
+}
+
+impl StrictRead for u8 {
+    ghost use Rattle.rlp.specs.Lemmas.StrictReads.{number_strict};
+
+    ghost strict = { number_strict 1 };
 }
 
 impl Encodable for u16 {
@@ -94,7 +100,13 @@ impl RoundTrip for u16 {
 impl Scalar for u16 {
     ghost use Rattle.rlp.specs.Lemmas.RoundTrips.{itself};
 
-    ghost exact = { λ view v. itself };
+    ghost exact = { λ b v. itself };
+}
+
+impl StrictRead for u16 {
+    ghost use Rattle.rlp.specs.Lemmas.StrictReads.{number_strict};
+
+    ghost strict = { number_strict 2 };
 }
 
 impl Encodable for u32 {
@@ -136,7 +148,13 @@ impl RoundTrip for u32 {
 impl Scalar for u32 {
     ghost use Rattle.rlp.specs.Lemmas.RoundTrips.{itself};
 
-    ghost exact = { λ view v. itself };
+    ghost exact = { λ b v. itself };
+}
+
+impl StrictRead for u32 {
+    ghost use Rattle.rlp.specs.Lemmas.StrictReads.{number_strict};
+
+    ghost strict = { number_strict 4 };
 }
 
 impl Encodable for u64 {
@@ -182,7 +200,13 @@ impl RoundTrip for u64 {
 impl Scalar for u64 {
     ghost use Rattle.rlp.specs.Lemmas.RoundTrips.{itself};
 
-    ghost exact = { λ view v. itself };
+    ghost exact = { λ b v. itself };
+}
+
+impl StrictRead for u64 {
+    ghost use Rattle.rlp.specs.Lemmas.StrictReads.{number_strict};
+
+    ghost strict = { number_strict 8 };
 }
 
 impl Encodable for usize {
@@ -224,7 +248,13 @@ impl RoundTrip for usize {
 impl Scalar for usize {
     ghost use Rattle.rlp.specs.Lemmas.RoundTrips.{itself};
 
-    ghost exact = { λ view v. itself };
+    ghost exact = { λ b v. itself };
+}
+
+impl StrictRead for usize {
+    ghost use Rattle.rlp.specs.Lemmas.StrictReads.{number_strict};
+
+    ghost strict = { number_strict 8 };
 }
 
 impl Encodable for u128 {
@@ -267,7 +297,13 @@ impl RoundTrip for u128 {
 impl Scalar for u128 {
     ghost use Rattle.rlp.specs.Lemmas.RoundTrips.{itself};
 
-    ghost exact = { λ view v. itself };
+    ghost exact = { λ b v. itself };
+}
+
+impl StrictRead for u128 {
+    ghost use Rattle.rlp.specs.Lemmas.StrictReads.{number_strict};
+
+    ghost strict = { number_strict 16 };
 }
 
 /// The digits of the number of at most `width` bytes that the view begins with.
@@ -277,7 +313,7 @@ fn number_digits<'a>(rlp: &Rlp<'a>, width: usize) -> Result<&'a [u8], DecoderErr
     ensures value { IfOk result (λ d. GivesNumber width rlp.now (number_from_digits 256 d.now)) }
     ensures fault { IfErr result (λ e. FaultsAsNumber width rlp.now e) }
 {
-    let digits = match string_in(rlp.as_raw()) {
+    let digits = match rlp.decoder().string() {
         Ok(digits) => digits,
         Err(fault) => return Err(fault),
     };

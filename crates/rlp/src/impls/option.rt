@@ -7,7 +7,7 @@ ghost use Rattle.rlp.specs.Values.ListReading.{GivesOption, FaultsAsOption, MayL
 use crate::error::DecoderError;
 use crate::rlpin::Rlp;
 use crate::stream::RlpStream;
-use crate::traits::{Decodable, Encodable, RoundTrip};
+use crate::traits::{Decodable, Encodable, RoundTrip, StrictRead};
 use std::alloc::{AllocError, Global};
 
 impl<T: Encodable> Encodable for Option<T> {
@@ -42,9 +42,7 @@ impl<T: Decodable> Decodable for Option<T> {
 
     #[tactic(auto, using(crate::proofs::Options::option_answers))]
     fn decode(alloc: Global, rlp: &Rlp<'_>) -> Result<Option<T>, DecoderError> {
-        if !rlp.is_list() {
-            return Err(DecoderError::RlpExpectedToBeList);
-        }
+        rlp.check_items()?;
         let Ok(item) = rlp.at(0) else {
             return Ok(None);
         };
@@ -62,4 +60,10 @@ impl<T: RoundTrip> RoundTrip for Option<T> {
     ghost use Rattle.rlp.specs.Lemmas.ListRoundTrips.{option_reads_back};
 
     ghost round_trip = { option_reads_back T.fits T.item T.gives T.faults T.round_trip };
+}
+
+impl<T: StrictRead> StrictRead for Option<T> {
+    ghost use Rattle.rlp.specs.Lemmas.StrictReads.{option_strict};
+
+    ghost strict = { option_strict T.fits T.item T.gives T.faults T.strict };
 }

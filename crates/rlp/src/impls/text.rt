@@ -3,7 +3,7 @@
 use crate::error::DecoderError;
 use crate::rlpin::Rlp;
 use crate::stream::RlpStream;
-use crate::traits::{Decodable, Encodable, RoundTrip, Scalar};
+use crate::traits::{Decodable, Encodable, RoundTrip, Scalar, StrictRead};
 use std::alloc::{AllocError, Global};
 
 impl Encodable for String {
@@ -73,4 +73,11 @@ impl Scalar for String {
     ghost use Rattle.rlp.specs.Lemmas.RoundTrips.{given_through};
 
     ghost exact = { given_through IsUtf8 string string_bytes };
+}
+
+impl StrictRead for String {
+    ghost use Rattle.std.specs.String.{string_bytes};
+    ghost use Rattle.rlp.specs.Lemmas.StrictReads.{text_strict};
+
+    ghost strict = { text_strict string_bytes };
 }

@@ -1,12 +1,16 @@
 //! A decoder of one string.
 
-ghost use Rattle.std.specs.Prelude.{◌≡◌, ◌≤◌, length, Ok, Err, IfOk, IfErr, IsErrAnd, MatchResult};
+ghost use Rattle.std.specs.Prelude.{◌≡◌, ◌≤◌, ◌↔◌, ℕ, List, length, Ok, Err, IsTrue, IfOk, IfErr, IsErrAnd, MatchResult};
 ghost use Rattle.std.specs.Fn.{FnReturnsAt};
+ghost use Rattle.rlp.specs.Format.Item.{string};
+ghost use Rattle.rlp.specs.Format.Encoding.{encoding};
 ghost use Rattle.rlp.specs.Format.StringReading.{ReadsString, read_string, short_string, long_string, long_value};
 ghost use Rattle.rlp.specs.Views.View.{HoldsNoString, HoldsString, view_of, view_string};
+ghost use Rattle.rlp.specs.Lemmas.Held.{ReadsHeld};
 
 use crate::digits::number_of;
 use crate::error::DecoderError;
+use crate::rlpin::header::is_followed;
 use std::marker::Model;
 
 /// A decoder of the string at the front of bytes. Contracts see it as the record `View` of its
@@ -14,6 +18,7 @@ use std::marker::Model;
 #[derive(Drop)]
 pub struct BasicDecoder<'a> {
     rlp: &'a [u8],
+    strict: bool,
 }
 
 impl<'a> Model for BasicDecoder<'a> {
@@ -21,7 +26,7 @@ impl<'a> Model for BasicDecoder<'a> {
 
     ghost Value = { View };
 
-    ghost view = { λ d. record { bytes = d.rlp.now } };
+    ghost view = { λ d. record { bytes = d.rlp.now; is_strict = d.strict } };
 }
 
 impl<'a> BasicDecoder<'a> {
@@ -29,7 +34,14 @@ impl<'a> BasicDecoder<'a> {
     pub fn new(rlp: &'a [u8]) -> BasicDecoder<'a>
         ensures { result ≡ view_of rlp.now }
     {
-        BasicDecoder { rlp }
+        BasicDecoder::of_kind(rlp, false)
+    }
+
+    /// A decoder of these bytes, lenient or strict.
+    pub(crate) fn of_kind(rlp: &'a [u8], strict: bool) -> BasicDecoder<'a>
+        ensures { result ≡ record { bytes = rlp.now; is_strict = strict } }
+    {
+        BasicDecoder { rlp, strict }
     }
 
     /// What `f` answers on the string at the front of the bytes, without its header. What follows
@@ -56,10 +68,38 @@ impl<'a> BasicDecoder<'a> {
         ensures missing { IfErr (view_string self.now) (λ e. HoldsNoString self.now
             × IsErrAnd result (λ x. E.from_gives e x)) }
     {
-        match string_in(self.rlp) {
+        match self.string() {
             Ok(string) => f(string),
             Err(fault) => Err(E::from(fault)),
         }
+    }
+
+    #[tactic(auto, using(crate::specs::Lemmas::Held::held_strings))]
+    /// The string itself: where the decoder is strict, the fault of the string is its own first, and
+    /// then `RlpIsTooBig` where bytes follow it.
+    pub(crate) fn string(&self) -> Result<&'a [u8], DecoderError>
+        ensures exact { MatchResult result (λ d. view_string self.now ≡ Ok d.now)
+            (λ e. view_string self.now ≡ Err e) }
+        ensures held { ReadsHeld self.now.is_strict self.now.bytes (view_string self.now) }
+    {
+        let string = match string_in(self.rlp) {
+            Ok(string) => string,
+            Err(fault) => return Err(fault),
+        };
+        if self.strict && is_followed(self.rlp) {
+            return Err(DecoderError::RlpIsTooBig);
+        }
+        Ok(string)
+    }
+}
+
+/// Whether the bytes are the encoding of a string.
+pub(crate) fn is_string(bytes: &[u8]) -> bool
+    ensures { IsTrue result ↔ ((d : List ℕ) × (bytes.now ≡ encoding (string d))) }
+{
+    match BasicDecoder::of_kind(bytes, true).string() {
+        Ok(_) => true,
+        Err(_) => false,
     }
 }
 

@@ -2,8 +2,9 @@
 
 ghost use Rattle.std.specs.Prelude.{◌≡◌, ◌+◌, ◌<◌, ◌≤◌, ◌^◌, length, IfOk};
 ghost use Rattle.std.specs.Option.{SomeIff};
-ghost use Rattle.rlp.specs.Format.Header.{ReadsHeader, header, long_header};
+ghost use Rattle.rlp.specs.Format.Header.{HasHeader, ReadsHeader, header, long_header};
 ghost use Rattle.rlp.specs.Format.Framing.{framing, total_len};
+ghost use Rattle.rlp.specs.Format.Strict.{is_followed, strict_fault, unless};
 
 use crate::digits::number_of;
 use crate::error::DecoderError;
@@ -113,12 +114,38 @@ fn long_form(rest: &[u8], len: usize, zero_fault: DecoderError) -> Result<Payloa
     })
 }
 
+/// The header of bytes that are one framed item and nothing else, or their strict fault.
+#[tactic(auto, unfolding(crate::specs::Format::Strict::strict_fault))]
+pub(crate) fn strict_framing_of(bytes: &[u8]) -> Result<PayloadInfo, DecoderError>
+    ensures exact { result ≡ unless (strict_fault bytes.now) (framing bytes.now) }
+    ensures whole { IfOk result (λ p. HasHeader bytes.now p.header_len p.value_len
+        × (total_len p ≡ length bytes.now)) }
+{
+    let info = framing_of(bytes)?;
+    if info.header_len + info.value_len < bytes.len() {
+        return Err(DecoderError::RlpIsTooBig);
+    }
+    Ok(info)
+}
+
+/// Whether bytes follow the framed item at the front of these.
+#[tactic(auto, unfolding(crate::specs::Format::Strict::is_followed))]
+pub(crate) fn is_followed(bytes: &[u8]) -> bool
+    ensures { result ≡ is_followed bytes.now }
+{
+    match framing_of(bytes) {
+        Ok(info) => info.header_len + info.value_len < bytes.len(),
+        Err(_) => false,
+    }
+}
+
 /// The header of framed bytes, or why they aren't framed.
 #[inline(always)]
 #[tactic(auto, unfolding(crate::specs::Format::Framing::framing))]
 pub(crate) fn framing_of(bytes: &[u8]) -> Result<PayloadInfo, DecoderError>
     ensures exact { result ≡ framing bytes.now }
     ensures within { IfOk result (λ p. (0 < total_len p) × (total_len p ≤ length bytes.now)) }
+    ensures has { IfOk result (λ p. HasHeader bytes.now p.header_len p.value_len) }
 {
     let info = PayloadInfo::from(bytes)?;
     match info.checked_total() {

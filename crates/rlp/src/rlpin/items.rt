@@ -1,8 +1,9 @@
 //! The step from item to item, by which every walk over a list goes.
 
-ghost use Rattle.std.specs.Prelude.{◌≡◌, ◌∷◌, ◌++◌, [], ◌+◌, ◌<◌, ◌≤◌, length, Ok, IfSome, MatchOption, MatchResult};
+ghost use Rattle.std.specs.Prelude.{◌≡◌, ◌∷◌, ◌++◌, [], ◌+◌, ◌<◌, ◌≤◌, length, Ok, None, Some, IfSome, MatchOption, MatchResult};
 ghost use Rattle.rlp.specs.Format.Framing.{fault, framing, total_len, value};
 ghost use Rattle.rlp.specs.Format.Split.{split};
+ghost use Rattle.rlp.specs.Format.Strict.{after_items, fault_of_some};
 
 use crate::error::DecoderError;
 use crate::rlpin::header::{PayloadInfo, framing_of};
@@ -59,6 +60,22 @@ pub(crate) fn split_first<'a>(payload: &'a [u8]) -> Option<(&'a [u8], &'a [u8])>
         Ok(parts) => Some(parts),
         Err(_) => None,
     }
+}
+
+/// Tests whether a payload is items and nothing else: the fault is that of what follows them.
+pub(crate) fn check_items(payload: &[u8]) -> Result<(), DecoderError>
+    ensures { MatchResult result (λ _. fault_of_some (after_items payload.now) ≡ None)
+        (λ e. fault_of_some (after_items payload.now) ≡ Some e) }
+{
+    let mut rest = payload;
+    while !rest.is_empty() {
+        let (_, others) = match take_item(rest) {
+            Ok(parts) => parts,
+            Err(fault) => return Err(fault),
+        };
+        rest = others;
+    }
+    Ok(())
 }
 
 /// How many items a payload begins with.

@@ -69,7 +69,7 @@ impl<'a, 'view> Iterator for RlpIterator<'a, 'view> {
         match split_counted(&mut self.headers, self.rest) {
             Some((item, others)) => {
                 self.rest = others;
-                Some(Rlp::new(item))
+                Some(self.rlp.with_bytes(item))
             }
             None => {
                 self.has_ended = true;

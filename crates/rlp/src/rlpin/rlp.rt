@@ -1,17 +1,19 @@
 //! A view of bytes, and what it answers of their first item.
 
-ghost use Rattle.std.specs.Prelude.{◌≡◌, ◌≤◌, ◌<◌, ◌^◌, ◌↔◌, ◌⊎◌, List, [], length, true, IsTrue, Ok, Err, IfOk, IfErr, MatchResult};
+ghost use Rattle.std.specs.Prelude.{◌≡◌, ◌≤◌, ◌<◌, ◌^◌, ◌↔◌, ◌⊎◌, List, [], length, true, IsTrue, None, Some, Ok, Err, IfOk, IfErr, MatchResult};
 ghost use Rattle.rlp.specs.declared.error.DecoderError.TheVariants.{OutOfMemory};
 ghost use Rattle.rlp.specs.Format.Split.{begins_as_list, payload};
+ghost use Rattle.rlp.specs.Format.Framing.{value};
+ghost use Rattle.rlp.specs.Format.Strict.{IsCanonicalWithin};
 ghost use Rattle.rlp.specs.Views.Depth.{depth};
-ghost use Rattle.rlp.specs.Views.View.{begins_as_data, begins_as_empty, begins_as_int, data_size, has_nonzero_at, item_at, item_count, item_views, item_with_place, prototype_of, view_header, view_of, view_value};
+ghost use Rattle.rlp.specs.Views.View.{begins_as_data, begins_as_empty, begins_as_int, data_size, has_nonzero_at, item_at, item_count, item_views, item_with_place, items_fault, list_fault, prototype_of, strict_view_of, view_header, view_of, view_value};
 ghost use Rattle.rlp.specs.Values.ListReading.{FaultsAsList, FaultsAt, GivesAt, GivesList, MayLackAsList, MayLackAt, ReadsValue};
 
 use crate::error::DecoderError;
-use crate::rlpin::decoder::BasicDecoder;
+use crate::rlpin::decoder::{BasicDecoder, is_string};
 use crate::rlpin::framed::read_framed;
-use crate::rlpin::header::{PayloadInfo, framing_of};
-use crate::rlpin::items::{count_items, split_first, take_item};
+use crate::rlpin::header::{PayloadInfo, framing_of, strict_framing_of};
+use crate::rlpin::items::{check_items, count_items, split_first, take_item};
 use crate::rlpin::iter::RlpIterator;
 use crate::traits::Decodable;
 use std::alloc::Global;
@@ -25,6 +27,7 @@ use std::marker::Model;
 #[derive(Debug, Drop)]
 pub struct Rlp<'a> {
     bytes: &'a [u8],
+    strict: bool,
 }
 
 impl<'a> Model for Rlp<'a> {
@@ -32,7 +35,7 @@ impl<'a> Model for Rlp<'a> {
 
     ghost Value = { View };
 
-    ghost view = { λ r. record { bytes = r.bytes.now } };
+    ghost view = { λ r. record { bytes = r.bytes.now; is_strict = r.strict } };
 }
 
 /// What stands at the front of a view.
@@ -51,14 +54,40 @@ impl<'a> Rlp<'a> {
     pub fn new(bytes: &'a [u8]) -> Rlp<'a>
         ensures { result ≡ view_of bytes.now }
     {
-        Rlp { bytes }
+        Rlp {
+            bytes,
+            strict: false,
+        }
+    }
+
+    /// A strict view of these bytes: what it answers, it answers of bytes that are one item and
+    /// nothing else. Its items are strict too. It looks at no byte yet.
+    ///
+    /// ```rust
+    /// let view = rlp::Rlp::new_strict(&[0xc1, 0x05, 0x06]);
+    /// assert!(rt; view.item_count() == Err(rlp::DecoderError::RlpIsTooBig));
+    /// ```
+    pub fn new_strict(bytes: &'a [u8]) -> Rlp<'a>
+        ensures { result ≡ strict_view_of bytes.now }
+    {
+        Rlp {
+            bytes,
+            strict: true,
+        }
+    }
+
+    /// Whether the view is strict.
+    pub fn is_strict(&self) -> bool
+        ensures { result ≡ self.now.is_strict }
+    {
+        self.strict
     }
 
     /// Another view of the same bytes. It takes no memory.
     pub fn clone(&self) -> Rlp<'a>
         ensures { result ≡ self.now }
     {
-        Rlp { bytes: self.bytes }
+        self.with_bytes(self.bytes)
     }
 
     /// All the bytes, those after the first item too.
@@ -90,20 +119,24 @@ impl<'a> Rlp<'a> {
     pub fn payload_info(&self) -> Result<PayloadInfo, DecoderError>
         ensures { result ≡ view_header self.now }
     {
+        if self.strict {
+            return strict_framing_of(self.bytes);
+        }
         framing_of(self.bytes)
     }
 
     /// The bytes of the first item after its header: a string's own, or a list's joined items.
     ///
     /// The faults are those of [`Rlp::payload_info`].
-    #[tactic(auto, unfolding(crate::specs::Format::Framing::value))]
+    #[tactic(auto, unfolding(crate::specs::Format::Strict::strict_fault))]
     pub fn data(&self) -> Result<&'a [u8], DecoderError>
         ensures { MatchResult result (λ d. view_value self.now ≡ Ok d.now)
             (λ e. view_value self.now ≡ Err e) }
     {
-        let info = framing_of(self.bytes)?;
-        let after_header = &self.bytes[info.header_len..];
-        Ok(&after_header[..info.value_len])
+        if self.strict {
+            strict_framing_of(self.bytes)?;
+        }
+        self.value()
     }
 
     /// How many items the list has that the view begins with.
@@ -114,9 +147,7 @@ impl<'a> Rlp<'a> {
     pub fn item_count(&self) -> Result<usize, DecoderError>
         ensures { result ≡ item_count self.now }
     {
-        if !self.is_list() {
-            return Err(DecoderError::RlpExpectedToBeList);
-        }
+        self.check_items()?;
         Ok(count_items(self.payload()))
     }
 
@@ -128,7 +159,7 @@ impl<'a> Rlp<'a> {
         if !self.is_data() {
             return 0;
         }
-        match self.data() {
+        match self.value() {
             Ok(value) => value.len(),
             Err(_) => 0,
         }
@@ -159,9 +190,7 @@ impl<'a> Rlp<'a> {
     pub fn at_with_offset(&self, index: usize) -> Result<(Rlp<'a>, usize), DecoderError>
         ensures { result ≡ item_with_place self.now index }
     {
-        if !self.is_list() {
-            return Err(DecoderError::RlpExpectedToBeList);
-        }
+        self.check_items()?;
         let info = framing_of(self.as_raw())?;
         let after_header = &self.as_raw()[info.header_len..];
         let mut rest = &after_header[..info.value_len];
@@ -171,7 +200,7 @@ impl<'a> Rlp<'a> {
         }
         let (item, others) = take_item(rest)?;
         let before = info.value_len - others.len() - item.len();
-        Ok((Rlp::new(item), info.header_len + before))
+        Ok((self.with_bytes(item), info.header_len + before))
     }
 
     /// Whether there are no bytes.
@@ -273,10 +302,11 @@ impl<'a> Rlp<'a> {
         ensures fault { IfErr result (λ e. (FaultsAsList T.gives T.faults self.now e)
             ⊎ ((e ≡ OutOfMemory) × MayLackAsList T.gives T.may_lack_memory self.now)) }
     {
+        self.check_list()?;
         let mut values = Vec::new(alloc);
         let mut rest = self.payload();
         while let Some((item, others)) = split_first(rest) {
-            let value = match T::decode(alloc, &Rlp::new(item)) {
+            let value = match T::decode(alloc, &self.with_bytes(item)) {
                 Ok(value) => value,
                 Err(fault) => return Err(fault),
             };
@@ -332,7 +362,7 @@ impl<'a> Rlp<'a> {
     pub fn decoder(&self) -> BasicDecoder<'a>
         ensures { result ≡ self.now }
     {
-        BasicDecoder::new(self.as_raw())
+        BasicDecoder::of_kind(self.bytes, self.strict)
     }
 
     /// Whether the depth is at most `limit`. Anything but a framed list has depth 0, and a framed
@@ -354,6 +384,93 @@ impl<'a> Rlp<'a> {
         }
     }
 
+    /// Whether the bytes are the whole canonical encoding of an item whose depth is at most
+    /// `max_depth`: a string has depth 0, and a list 1 more than the deepest of its items, or 1
+    /// without items. It is the same on lenient and strict views.
+    ///
+    /// It reads each header once or a few times, takes no memory, and goes no deeper than
+    /// `max_depth` lists.
+    ///
+    /// ```rust
+    /// assert!(rt; rlp::Rlp::new(&[0xc2, 0xc1, 0x05]).is_canonical(2));
+    /// assert!(rt; !rlp::Rlp::new(&[0xc2, 0x81, 0x05]).is_canonical(2));
+    /// ```
+    pub fn is_canonical(&self, max_depth: usize) -> bool
+        ensures { IsTrue result ↔ IsCanonicalWithin max_depth self.now.bytes }
+    {
+        if !self.is_list() {
+            return is_string(self.bytes);
+        }
+        if max_depth == 0 {
+            return false;
+        }
+        let Ok(_) = strict_framing_of(self.bytes) else {
+            return false;
+        };
+        let mut rest = self.payload();
+        while !rest.is_empty() {
+            let Ok((item, others)) = take_item(rest) else {
+                return false;
+            };
+            if !Rlp::new(item).is_canonical(max_depth - 1) {
+                return false;
+            }
+            rest = others;
+        }
+        true
+    }
+
+    /// A view of other bytes, of the same kind.
+    pub(crate) fn with_bytes(&self, bytes: &'a [u8]) -> Rlp<'a>
+        ensures { result ≡ record self.now { bytes = bytes.now } }
+    {
+        Rlp {
+            bytes,
+            strict: self.strict,
+        }
+    }
+
+    /// The value of the first item, whatever follows it, or why the bytes aren't framed.
+    #[tactic(auto, unfolding(crate::specs::Format::Framing::value))]
+    pub(crate) fn value(&self) -> Result<&'a [u8], DecoderError>
+        ensures { MatchResult result (λ d. value self.now.bytes ≡ Ok d.now)
+            (λ e. value self.now.bytes ≡ Err e) }
+    {
+        let info = framing_of(self.bytes)?;
+        let after_header = &self.bytes[info.header_len..];
+        Ok(&after_header[..info.value_len])
+    }
+
+    /// Tests whether the view is read as a list.
+    #[tactic(auto, using(crate::proofs::StrictLists::list_checks))]
+    pub(crate) fn check_list(&self) -> Result<(), DecoderError>
+        ensures { MatchResult result (λ _. list_fault self.now ≡ None)
+            (λ e. list_fault self.now ≡ Some e) }
+    {
+        if !self.is_strict() {
+            return Ok(());
+        }
+        if !self.is_list() {
+            return Err(DecoderError::RlpExpectedToBeList);
+        }
+        match strict_framing_of(self.bytes) {
+            Ok(_) => check_items(self.payload()),
+            Err(fault) => Err(fault),
+        }
+    }
+
+    /// Tests whether items are told by number.
+    #[tactic(auto, using(crate::proofs::StrictLists::items_checks))]
+    pub(crate) fn check_items(&self) -> Result<(), DecoderError>
+        ensures { MatchResult result (λ _. items_fault self.now ≡ None)
+            (λ e. items_fault self.now ≡ Some e) }
+    {
+        if !self.is_list() {
+            return Err(DecoderError::RlpExpectedToBeList);
+        }
+        self.check_list()
+    }
+
     /// The value of a framed list, and no bytes for anything else.
     #[tactic(auto, unfolding(crate::specs::Format::Split::payload))]
     pub(crate) fn payload(&self) -> &'a [u8]
@@ -362,7 +479,7 @@ impl<'a> Rlp<'a> {
         if !self.is_list() {
             return &[];
         }
-        match self.data() {
+        match self.value() {
             Ok(value) => value,
             Err(_) => &[],
         }

@@ -1,9 +1,10 @@
 //! Values whose encodings are read back.
 
-ghost use Rattle.std.specs.Prelude.{◌↔◌, ◌<◌, ◌^◌, length};
-ghost use Rattle.rlp.specs.Values.RoundTrip.{ReadsBack};
+ghost use Rattle.std.specs.Prelude.{◌↔◌, ◌<◌, ◌^◌, ℕ, List, length};
+ghost use Rattle.rlp.specs.Format.WrittenHeader.{AreBytes};
+ghost use Rattle.rlp.specs.Values.RoundTrip.{ReadsBack, ReadsStrictly};
 ghost use Rattle.rlp.specs.Values.ValueReading.{GivesValue};
-ghost use Rattle.rlp.specs.Views.View.{HoldsItem, View};
+ghost use Rattle.rlp.specs.Views.View.{HoldsItem, view_of};
 
 use crate::traits::{Decodable, Encodable};
 
@@ -11,15 +12,23 @@ use crate::traits::{Decodable, Encodable};
 pub trait RoundTrip: Encodable + Decodable {
     // A slice that begins with the encoding of a value gives the values that fit and are alike to
     // it, and no others, and has no fault.
-    ghost round_trip: { (view : View) (v : Self) → length view.bytes < 2 ^ 64 → Self.fits v
-        → HoldsItem view (Self.item v)
-        → ReadsBack Self.fits Self.item Self.gives Self.faults view v };
+    ghost round_trip: { (b : List ℕ) (v : Self) → length b < 2 ^ 64 → Self.fits v
+        → HoldsItem (view_of b) (Self.item v)
+        → ReadsBack Self.fits Self.item Self.gives Self.faults (view_of b) v };
 }
 
 /// A value that is read exactly where its encoding stands.
 pub trait Scalar: RoundTrip {
     // Bytes give a value exactly where it fits and they begin with its encoding. They have no fault
     // then, by the law of `RoundTrip`.
-    ghost exact: { (view : View) (v : Self) → Self.gives view v
-        ↔ GivesValue Self.fits Self.item view v };
+    ghost exact: { (b : List ℕ) (v : Self) → Self.gives (view_of b) v
+        ↔ GivesValue Self.fits Self.item (view_of b) v };
+}
+
+/// A value that a strict view gives exactly where the view's bytes are the value's whole encoding.
+pub trait StrictRead: RoundTrip {
+    // On a strict view, bytes give a value exactly where it fits and they are the encoding of its
+    // item, and have no fault then.
+    ghost strict: { (b : List ℕ) (v : Self) → AreBytes b → length b < 2 ^ 64
+        → ReadsStrictly Self.fits Self.item Self.gives Self.faults b v };
 }

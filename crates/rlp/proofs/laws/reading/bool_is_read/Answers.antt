@@ -8,4 +8,4 @@ use Rattle.rlp.proofs.laws.reading.bool_is_read.Goals as goal
 pub returns : goal.returns
 returns c =
     let fits : length c.args.bytes.now < 2 ^ 64 = omega arith in
-    bool_reading (view_of c.args.bytes.now) (number_reading c.args.bytes.now (bytes_held c.args.bytes.now c.type_inv.bytes) fits 1)
+    bool_reading (view_of c.args.bytes.now) (number_reading (view_of c.args.bytes.now) (bytes_held c.args.bytes.now c.type_inv.bytes) fits 1)

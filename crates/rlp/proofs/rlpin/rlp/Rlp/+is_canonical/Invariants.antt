@@ -1,0 +1,13 @@
+use Rattle.std.proofs.Common.{◌-◌, length}
+use Rattle.rlp.proofs.Canonical.{IsDone}
+use Rattle.rlp.proofs.rlpin.rlp.Rlp.+is_canonical.Given as goal
+
+abbrev pub decreases-is_canonical : goal.decreases-is_canonical
+decreases-is_canonical l = l.max_depth
+
+-- the first items are encodings within the limit, and the others are those of the rest
+abbrev pub invariant-loop-rest : goal.invariant-loop-rest
+invariant-loop-rest l = IsDone l.self.bytes l.rest (l.max_depth - 1)
+
+abbrev pub decreases-loop-rest : goal.decreases-loop-rest
+decreases-loop-rest l = length l.rest

@@ -1,0 +1,160 @@
+-- Bytes that are a list and nothing else.
+use Rattle.std.proofs.Common.{◌≡◌, ℕ, ◌+◌, ◌<◌, ◌≤◌, inl, inr, ⊎_elim, true, false, List, [], ◌∷◌, ◌++◌, length, map, take, drop, refl, sym, ap, ◌∙◌, subst, arith, ltb, leb-true, le-ltb, lt-ltb, le_refl, append-nil, length-append, take_at, drop_at, Option, Some, None, Result, Ok, Err}
+use Rattle.std.specs.List.{concat, slice_get}
+use Rattle.std.proofs.lemmas.Bool.{cases_Bool, cases_lt, cond-true, cond-false, lt-leb}
+use Rattle.std.proofs.lemmas.List.{length-map}
+use Rattle.rlp.specs.declared.error.DecoderError.{DecoderError}
+use Rattle.rlp.specs.declared.error.DecoderError.TheVariants.{RlpExpectedToBeList, RlpIsTooBig}
+use Rattle.rlp.specs.declared.rlpin.header.PayloadInfo.{PayloadInfo}
+use Rattle.rlp.specs.Format.Item.{Item, list_of}
+use Rattle.rlp.specs.Format.WrittenHeader.{AreBytes, written_header}
+use Rattle.rlp.specs.Format.Encoding.{encoding, join, IsSized}
+use Rattle.rlp.specs.Format.Header.{HasHeader, lone, written}
+use Rattle.rlp.specs.Format.Framing.{framing, total_len, value}
+use Rattle.rlp.specs.Format.Split.{begins_as_list, items, payload, payload_in, rest, split, split_within}
+use Rattle.rlp.specs.Format.Strict.{fault_of_some, first_fault, strict_fault, strict_fault_in, strict_list_fault}
+use Rattle.rlp.specs.Views.View.{item_at, item_count, items_fault, strict_view_of}
+use Rattle.rlp.specs.Lemmas.Headers.{shape}
+use Rattle.rlp.specs.Lemmas.Encodings.{encoding_list}
+use Rattle.rlp.specs.Lemmas.Frames.{Frames, encoding_item, framing_is, framing_reads, join_is, value_is, walk}
+use Rattle.rlp.specs.Lemmas.Views.{items_of_list, list_shape, payload_bytes}
+use Rattle.rlp.specs.Lemmas.Numbered.{item_count-told, slice_get-item_at}
+
+-- ---- a list whose strict fault is none is read whole
+
+-- b is a list's header and so many bytes
+record IsWhole (b : List ℕ) (h n : ℕ) : Type 0 where
+  inside : List ℕ
+  is : b ≡ written_header 0xc0 n ++ inside
+  many : length inside ≡ n
+  head : h ≡ length (written_header 0xc0 n)
+
+head_whole : {b : List ℕ} {h n : ℕ} → HasHeader b h n → begins_as_list b ≡ true → h + n ≡ length b → IsWhole b h n
+head_whole (lone byte more low) kind whole = absurd (let high : 0xc0 ≤ byte = leb-true 0xc0 byte kind in omega arith)
+head_whole (written base n more (inl is80) small) kind whole =
+    let t = shape 0x80 n small in
+    let parts = t.parts in
+    let high : t.first < 0xc0 = grind arith in
+    let other : begins_as_list (written_header base n ++ more) ≡ false = ap (λ base. begins_as_list (written_header base n ++ more)) is80 ∙ ap (λ c. begins_as_list (c ++ more)) t.is ∙ lt-leb 0xc0 t.first high in
+    absurd (let no : ⊥ = cc in no)
+head_whole (written base n more (inr isc0) small) kind whole = record {
+  inside = more;
+  is = ap (λ base. written_header base n ++ more) isc0;
+  many = omega (arith, length-append (written_header base n) more);
+  head = ap (λ base. length (written_header base n)) isc0;
+}
+
+record IsFramedWhole (b : List ℕ) : Type 0 where
+  info : PayloadInfo
+  framed : framing b ≡ Ok info
+  all : length b ≤ total_len info
+
+framed_whole : (b : List ℕ) (r : Result PayloadInfo DecoderError) → framing b ≡ r → strict_fault_in b r ≡ None → IsFramedWhole b
+framed_whole b (Err e) is none = absurd (let no : ⊥ = cc in no)
+framed_whole b (Ok p) is none = record {
+  info = p;
+  framed = is;
+  all = ⊎_elim
+      (λ long. let some : strict_fault_in b (Ok p) ≡ Some RlpIsTooBig = cond-true (ltb (total_len p) (length b)) _ _ (lt-ltb _ _ long) in absurd (let no : ⊥ = cc in no))
+      (λ few. few)
+      (cases_lt (total_len p) (length b));
+}
+
+-- what makes a list whole
+pub record IsWholeList (b : List ℕ) : Type 0 where
+  pub kind : begins_as_list b ≡ true
+  pub framed : strict_fault b ≡ None
+  pub none_left : rest b ≡ []
+
+first_none : (o p : Option DecoderError) → first_fault o p ≡ None → (o ≡ None) × (p ≡ None)
+first_none None p is = (refl, is)
+first_none (Some e) p is = absurd (let no : ⊥ = cc in no)
+
+no_bytes_by : (p : List ℕ) → fault_of_some p ≡ None → p ≡ []
+no_bytes_by [] is = refl
+no_bytes_by (byte ∷ more) is = absurd (let no : ⊥ = cc in no)
+
+pub whole_parts : (b : List ℕ) → strict_list_fault b ≡ None → IsWholeList b
+unfolding strict_list_fault
+whole_parts b is =
+    ⊎_elim
+    (λ kind. let both = first_none (strict_fault b) (fault_of_some (rest b)) (sym (cond-true (begins_as_list b) (first_fault (strict_fault b) (fault_of_some (rest b))) (Some RlpExpectedToBeList) kind) ∙ is) in
+    record { kind = kind; framed = both.0; none_left = no_bytes_by (rest b) both.1 })
+    (λ kind. let no : Some RlpExpectedToBeList ≡ None = sym (cond-false (begins_as_list b) (first_fault (strict_fault b) (fault_of_some (rest b))) (Some RlpExpectedToBeList) kind) ∙ is in absurd (let none : ⊥ = cc in none))
+    (cases_Bool (begins_as_list b))
+
+-- the payload is the items and what follows them
+pub payload_parts : (b : List ℕ) → AreBytes b → payload b ≡ concat (items b) ++ rest b
+unfolding items split rest
+payload_parts b bytes =
+    let w = walk (length (payload b)) (payload b) (payload_bytes b bytes) (le_refl (length (payload b))) in
+    let fs = split_within (length (payload b)) (payload b) in
+    w.is ∙ ap (λ s. concat (split_within (length (payload b)) (payload b)) ++ s)
+    (sym (ap (drop (length (concat (split_within (length (payload b)) (payload b))))) w.is ∙ drop_at (concat (split_within (length (payload b)) (payload b))) w.left (length (concat (split_within (length (payload b)) (payload b)))) refl))
+
+payload_inside : (b : List ℕ) (h n : ℕ) → begins_as_list b ≡ true → HasHeader b h n → h + n ≤ length b → (w : IsWhole b h n) → payload b ≡ w.inside
+unfolding payload
+payload_inside b h n kind has within w =
+    ap (λ k. payload_in k (value b)) kind ∙ ap (payload_in true) (value_is b h n has within)
+    ∙ ap (λ s. take n (drop h s)) w.is
+    ∙ ap (take n) (drop_at (written_header 0xc0 n) w.inside h (sym w.head))
+    ∙ ap (take n) (sym (append-nil w.inside)) ∙ take_at w.inside [] n w.many
+
+pub whole_by : (b : List ℕ) (h n : ℕ) (xs : List Item) → begins_as_list b ≡ true → payload b ≡ join xs → HasHeader b h n → h + n ≡ length b → b ≡ encoding (list_of xs)
+whole_by b h n xs kind joined has equal =
+    let w = head_whole has kind equal in
+    let inner : w.inside ≡ join xs = sym (payload_inside b h n kind has (omega arith) w) ∙ joined in
+    let many : n ≡ length (join xs) = sym w.many ∙ ap length inner in
+    w.is ∙ ap (λ s. written_header 0xc0 n ++ s) inner ∙ ap (λ n. written_header 0xc0 n ++ join xs) many ∙ sym (encoding_list xs)
+
+items_joined : (b : List ℕ) (xs : List Item) → AreBytes b → rest b ≡ [] → items b ≡ map encoding xs → payload b ≡ join xs
+items_joined b xs bytes none same = payload_parts b bytes ∙ ap (λ r. concat (items b) ++ r) none ∙ append-nil (concat (items b)) ∙ ap concat same ∙ sym (join_is xs)
+
+-- a whole list whose items are encodings is the encoding of their list
+pub whole_list : (b : List ℕ) (xs : List Item) → AreBytes b → strict_list_fault b ≡ None → items b ≡ map encoding xs → b ≡ encoding (list_of xs)
+unfolding strict_fault
+whole_list b xs bytes is same =
+    let parts = whole_parts b is in
+    let w = framed_whole b (framing b) refl parts.framed in
+    let (has, within) = subst (Frames b) w.framed (framing_reads b bytes) in
+    whole_by b w.info.header_len w.info.value_len xs parts.kind (items_joined b xs bytes parts.none_left same) has (let all = w.all in omega arith)
+
+-- ---- the encoding of a list is a whole list
+
+pub strict_fault-encoding : (x : Item) (b : List ℕ) → IsSized x → b ≡ encoding x → strict_fault b ≡ None
+unfolding strict_fault
+strict_fault-encoding x b sized is =
+    let item = encoding_item x sized in
+    let header : HasHeader b item.header_len item.value_len = subst (λ b. HasHeader b item.header_len item.value_len) (sym is) item.has_header in
+    ap (strict_fault_in b) (framing_is b item.header_len item.value_len header (omega (arith, item.whole, ap length is)))
+    ∙ cond-false (ltb (item.header_len + item.value_len) (length b)) _ _ (le-ltb _ _ (omega (arith, item.whole, ap length is)))
+
+pub strict_list_fault-encoding : (xs : List Item) (b : List ℕ) → IsSized (list_of xs) → b ≡ encoding (list_of xs) → strict_list_fault b ≡ None
+unfolding strict_list_fault
+strict_list_fault-encoding xs b sized is =
+    let begins = is ∙ sym (append-nil (encoding (list_of xs))) in
+    cond-true (begins_as_list b) _ _ (list_shape xs b sized ([], begins)).0
+    ∙ ap (λ o. first_fault o (fault_of_some (rest b))) (strict_fault-encoding (list_of xs) b sized is)
+    ∙ ap fault_of_some (items_of_list xs b sized ([], begins)).1
+
+pub strict_told : (b : List ℕ) → begins_as_list b ≡ true → strict_list_fault b ≡ None → items_fault (strict_view_of b) ≡ None
+strict_told b kind is = cond-true (begins_as_list b) _ _ kind ∙ is
+
+pub strict_list_told : (xs : List Item) (b : List ℕ) → IsSized (list_of xs) → b ≡ encoding (list_of xs) → items_fault (strict_view_of b) ≡ None
+strict_list_told xs b sized is = strict_told b (list_shape xs b sized ([], is ∙ sym (append-nil (encoding (list_of xs))))).0 (strict_list_fault-encoding xs b sized is)
+
+pub strict_items : (xs : List Item) (b : List ℕ) → IsSized (list_of xs) → b ≡ encoding (list_of xs) → items b ≡ map encoding xs
+strict_items xs b sized is = (items_of_list xs b sized ([], is ∙ sym (append-nil (encoding (list_of xs))))).0
+
+pub strict_item_count : (xs : List Item) (b : List ℕ) → IsSized (list_of xs) → b ≡ encoding (list_of xs) → item_count (strict_view_of b) ≡ Ok (length xs)
+strict_item_count xs b sized is =
+    item_count-told (strict_view_of b) (strict_list_told xs b sized is)
+    ∙ ap (λ fs. Ok (length fs)) (strict_items xs b sized is)
+    ∙ ap Ok (length-map xs encoding)
+
+first_view : (f : List ℕ) (fs gs : List (List ℕ)) → gs ≡ f ∷ fs → slice_get (map strict_view_of gs) 0 ≡ Some (strict_view_of f)
+first_view f fs gs is = ap (λ gs. slice_get (map strict_view_of gs) 0) is
+
+-- the first item of a strict view
+pub strict_first : (b f : List ℕ) (fs : List (List ℕ)) → items_fault (strict_view_of b) ≡ None → items b ≡ f ∷ fs → item_at (strict_view_of b) 0 ≡ Ok (strict_view_of f)
+strict_first b f fs told is = slice_get-item_at (strict_view_of b) (strict_view_of f) 0 told (first_view f fs (items b) is)
