@@ -1,11 +1,12 @@
 -- The values of the items of a list, as they come one after another.
-use Rattle.std.proofs.Common.{ℕ, ◌≡◌, List, [], ◌∷◌, ◌++◌, ◌⊎◌, inl, inr, None, map, sym, ◌∙◌, ap, append_assoc, append-nil}
+use Rattle.std.proofs.Common.{ℕ, ◌≡◌, List, [], ◌∷◌, ◌++◌, ◌⊎◌, inl, inr, None, map, sym, ◌∙◌, ap, append_assoc, append-nil, refl, Result, Ok, Err, IfOk}
+use Rattle.std.specs.Prelude.{OnOk}
 use Rattle.rlp.specs.declared.error.DecoderError.{DecoderError}
 use Rattle.rlp.specs.declared.error.DecoderError.TheVariants.{OutOfMemory}
 use Rattle.rlp.specs.Format.Split.{items, payload, split}
 use Rattle.rlp.specs.Views.View.{View, item_views, list_fault}
 use Rattle.rlp.specs.Values.ValueReading.{GivesSome}
-use Rattle.rlp.specs.Values.ListReading.{GivesEach, ComesTo, FaultsAsList, faulty_in_list, MayLackAsList}
+use Rattle.rlp.specs.Values.ListReading.{GivesEach, GivesAt, GivesSomeAt, ComesTo, FaultsAsList, faulty_in_list, MayLackAsList}
 
 -- the views of the items that bytes begin with, as v is one
 abbrev pub split_views : View → List ℕ → List View
@@ -48,3 +49,8 @@ module _ {A : Type 0} (gives : View → A → Type 0) (faults : View → Decoder
   -- an item gives a value, for which there is no room
   pub no-room : (x : A) → gives item x → MayLackAsList gives may_lack v
   no-room x given = record { is_list = is_list; comes = reached (λ v. GivesSome gives v ⊎ may_lack v) (inl (x, given)) }
+
+-- where an answer is what the item by number gives, it gives some value
+pub some_given : {A : Type 0} (r : Result A DecoderError) (gives : View → A → Type 0) (v : View) (i : ℕ) → IfOk r (λ x. GivesAt gives v i x) → OnOk r (GivesSomeAt gives v i)
+some_given (Ok x) gives v i given = record { given = x; at = given }
+some_given (Err e) gives v i given = tt

@@ -46,15 +46,6 @@ bytes_faults_from r {decoder = decoder} same answers called =
     (by_string r (λ e. FaultsAsBytes decoder e ⊎ ((e ≡ OutOfMemory) × GivesSome GivesBytes decoder)) decoder (view_string decoder) refl answers.found answers.missing
     (λ e is. inl is) (λ d holds call. if_err r (λ e lacks. inr (lacks, (d, record { fits = tt; begins = holds }))) (called d call)))
 
--- the same of a type that takes no memory, whatever L is
-pub faults_of_string : {A : Type 0} (r : Result A DecoderError) (IsFaulty : List ℕ → DecoderError → Type 0) (L : Type 0) (Calls : List ℕ → Type 0) (decoder v : View) → decoder ≡ v
-    → IfOk (view_string decoder) (λ d. HoldsString decoder d × Calls d) → IfErr (view_string decoder) (λ e. HoldsNoString decoder × IsErrAnd r (λ x. x ≡ e))
-    → ((d : List ℕ) → Calls d → IfErr r (λ e. IsFaulty d e)) → IfErr r (λ e. FaultsAs IsFaulty v e ⊎ ((e ≡ OutOfMemory) × L))
-faults_of_string r IsFaulty L Calls decoder v same found missing called =
-    subst (λ v. IfErr r (λ e. FaultsAs IsFaulty v e ⊎ ((e ≡ OutOfMemory) × L))) same
-    (by_string r (λ e. FaultsAs IsFaulty decoder e ⊎ ((e ≡ OutOfMemory) × L)) decoder (view_string decoder) refl found missing
-    (λ e is. inl (no_string e is)) (λ d holds call. if_err r (λ e faulty. inl (no_value d e holds faulty)) (called d call)))
-
 if_ok : {A : Type 0} (r : Result A DecoderError) {F G : A → Type 0} → ((x : A) → F x → G x) → IfOk r F → IfOk r G
 if_ok (Ok x) f h = f x h
 if_ok (Err e) f h = tt
@@ -77,9 +68,6 @@ pub value_of_string : {A : Type 0} (r : Result A DecoderError) (Fits : A → Typ
 value_of_string r Fits bytes Calls decoder v same found missing called =
     subst (λ v. IfOk r (λ x. GivesValue Fits (λ x. string (bytes x)) v x)) same (value_by r Fits bytes Calls decoder (view_string decoder) found missing called)
 
--- for bodies that make a value of one string and take no memory
-pub ruleset one_string = (faults_of_string, value_of_string)
-
 -- a fault of the string found, or that none stands there
 pub fault_of_string : (IsFaulty : List ℕ → DecoderError → Type 0) (v : View) (e : DecoderError) → IfOk (view_string v) (λ d. HoldsString v d × IsFaulty d e) → IfErr (view_string v) (λ f. f ≡ e) → FaultsAs IsFaulty v e
 fault_of_string IsFaulty v e found missing = fault_by IsFaulty v e (view_string v) refl found missing
@@ -88,5 +76,5 @@ fault_of_string IsFaulty v e found missing = fault_by IsFaulty v e (view_string 
     fault_by IsFaulty v e (Ok d) is (holds, faulty) none = no_value d e holds faulty
     fault_by IsFaulty v e (Err f) is found same = subst (λ e. FaultsAs IsFaulty v e) same (no_string f is)
 
--- the same, for bodies that match on the answer
-pub ruleset string_faults = (fault_of_string, value_of_string)
+-- for bodies that make a value of one string, take no memory, and match on the answer
+pub ruleset one_string = (fault_of_string, value_of_string)

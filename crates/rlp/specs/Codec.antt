@@ -6,7 +6,7 @@ use Rattle.rlp.specs.Format.Item.{Item, string, list_of}
 use Rattle.rlp.specs.Views.View.{View, HoldsItem, item_count, view_of}
 use Rattle.rlp.specs.Values.Value.{FitsBytes, bit, number_item, option_item}
 use Rattle.rlp.specs.Values.ValueReading.{FaultsAs, FaultsAsBool, FaultsAsBytes, FaultsAsNumber, FaultsAsText, GivesBool, GivesBytes, GivesNumber, GivesSome, GivesText, GivesValue, IsLengthFault}
-use Rattle.rlp.specs.Values.ListReading.{FaultsAsFields, FaultsAsList, FaultsAsOption, FaultsAt, FaultsInField, GivesAt, GivesList, GivesOption, MayLackAsList, MayLackAsOption, MayLackAsStruct}
+use Rattle.rlp.specs.Values.ListReading.{FaultsAsFields, FaultsAsList, FaultsAsOption, FaultsAt, FaultsInField, GivesAt, GivesList, GivesOption, GivesSomeAt, MayLackAsList, MayLackAsOption, MayLackAsStruct}
 use Rattle.rlp.specs.Values.RoundTrip.{ReadsBack}
 use Rattle.rlp.specs.Lemmas.RoundTrips.{bool_reads_back, bytes_in, number_reads_back, reads_back, reads_back_through, sound_length, text_in}
 use Rattle.rlp.specs.Lemmas.ListRoundTrips.{option_reads_back}
@@ -131,10 +131,6 @@ pub record Fields (P : Type 0) : Type 1 where
   pub alike : (i : ℕ) (view : View) (p : P) → Fits p → HoldsFrom view i (items p) → (q : P) → gives i view q ↔ (Fits q × (items q ≡ items p))
   pub sound : (i : ℕ) (view : View) (p : P) → Fits p → HoldsFrom view i (items p) → (k : ℕ) (e : DecoderError) → k < count → ¬ FaultsAt (faults k) view (i + k) e
 
--- some value of a type stands at place i
-abbrev pub GivesSomeAt : {A : Type 0} → (View → A → Type 0) → ℕ → View → Type 0
-GivesSomeAt {A} gives i v = (x : A) × GivesAt gives v i x
-
 -- the last field
 abbrev pub last_field : {A P : Type 0} → (P → A) → Codec A → Fields P
 last_field field c = record {
@@ -142,7 +138,7 @@ last_field field c = record {
   Fits = λ p. c.Fits (field p);
   items = λ p. c.item (field p) ∷ [];
   gives = λ i v p. GivesAt c.gives v i (field p);
-  some = by_place (GivesSomeAt c.gives) (λ k i v. ⊥);
+  some = by_place (λ i v. GivesSomeAt c.gives v i) (λ k i v. ⊥);
   faults = by_place c.faults (λ k v e. ⊥);
   may_lack = by_place c.may_lack (λ k v. ⊥);
   counted = λ p. refl;
@@ -157,7 +153,7 @@ and_field field c more = record {
   Fits = λ p. c.Fits (field p) × more.Fits p;
   items = λ p. c.item (field p) ∷ more.items p;
   gives = λ i v p. GivesAt c.gives v i (field p) × more.gives (suc i) v p;
-  some = by_place (GivesSomeAt c.gives) more.some;
+  some = by_place (λ i v. GivesSomeAt c.gives v i) more.some;
   faults = by_place c.faults more.faults;
   may_lack = by_place c.may_lack more.may_lack;
   counted = λ p. ap suc (more.counted p);

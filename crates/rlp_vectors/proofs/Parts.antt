@@ -1,5 +1,5 @@
 -- Values that are appended one after another.
-use Rattle.std.proofs.Common.{◌≡◌, ◌<◌, ℕ, zero, suc, List, [], ◌∷◌, ◌++◌, length, take, map, refl, sym, ap, ◌∙◌, subst, arith, append_assoc, length-append}
+use Rattle.std.proofs.Common.{◌≡◌, ◌<◌, ℕ, zero, suc, List, [], ◌∷◌, ◌++◌, length, take, map, refl, sym, ap, ◌∙◌, arith, append_assoc, length-append}
 use Rattle.rlp.specs.Format.Item.{Item, list_of}
 use Rattle.rlp.specs.Streams.Stream.{State, add, add_all, put_item}
 use Rattle.rlp.specs.Streams.Calls.{with_list_of}

@@ -44,7 +44,10 @@ impl Decodable for Child {
 
     #[tactic(auto, using(rlp::proofs::Values::one_string))]
     fn decode(_alloc: Global, rlp: &Rlp<'_>) -> Result<Child, DecoderError> {
-        rlp.decoder().decode_value(|string: &[u8]| child_of(string))
+        match rlp.decoder().decode_value(child_of) {
+            Ok(child) => Ok(child),
+            Err(fault) => Err(fault),
+        }
     }
 }
 

@@ -39,7 +39,10 @@ impl Decodable for Hash {
 
     #[tactic(auto, using(rlp::proofs::Values::one_string))]
     fn decode(_alloc: Global, rlp: &Rlp<'_>) -> Result<Hash, DecoderError> {
-        rlp.decoder().decode_value(|string: &[u8]| hash_of(string))
+        match rlp.decoder().decode_value(hash_of) {
+            Ok(hash) => Ok(hash),
+            Err(fault) => Err(fault),
+        }
     }
 }
 

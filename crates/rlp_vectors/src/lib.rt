@@ -91,6 +91,8 @@ mod views_kinds;
 mod views_text;
 #[cfg(test)]
 mod views_values;
+#[cfg(test)]
+mod views_wide;
 
 pub use access::{Access, AccessList};
 pub use address::Address;
@@ -108,7 +110,7 @@ pub use nonce::Nonce;
 pub use pair::Pair;
 pub use recipient::Recipient;
 pub use transaction::Transaction;
-pub use uses::{append_by_stream, append_each, chain_and_encoder, nested};
+pub use uses::{append_by_stream, append_each, chain_and_encoder, drained, nested};
 
 /// Appends one value, and is refused as a whole.
 pub fn append_one<A: Encodable>(s: &mut RlpStream, a: &A) -> Result<(), AllocError>

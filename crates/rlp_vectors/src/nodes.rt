@@ -169,7 +169,7 @@ fn branch_goes_both_ways(alloc: Global) -> Result<bool, Fail> {
     Ok(
         rlp::encode(alloc, &branch)?.as_slice() == bytes.as_slice()
             && back.children == branch.children
-            && back.value.as_slice() == b"verb",
+            && back.value.as_slice() == b"verb".as_slice(),
     )
 }
 

@@ -44,8 +44,10 @@ impl Decodable for Recipient {
 
     #[tactic(auto, using(rlp::proofs::Values::one_string))]
     fn decode(_alloc: Global, rlp: &Rlp<'_>) -> Result<Recipient, DecoderError> {
-        rlp.decoder()
-            .decode_value(|string: &[u8]| recipient_of(string))
+        match rlp.decoder().decode_value(recipient_of) {
+            Ok(recipient) => Ok(recipient),
+            Err(fault) => Err(fault),
+        }
     }
 }
 

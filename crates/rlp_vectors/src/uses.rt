@@ -1,8 +1,21 @@
 //! Uses as the documents show them.
 
+ghost use Rattle.std.specs.Prelude.{◌+◌, ◌≤◌, length};
+ghost use Rattle.rlp.specs.Views.View.{item_views};
+
 use bytes::BytesMut;
-use rlp::RlpStream;
+use rlp::{Rlp, RlpIterator, RlpStream};
 use std::alloc::{AllocError, Global};
+
+/// The iterator over the items of a view, after its first `None`: over n items it has read at most
+/// n + 2 headers.
+pub fn drained<'a, 'view>(view: &'view Rlp<'a>) -> RlpIterator<'a, 'view>
+    ensures { result.headers ≤ length (item_views view.now) + 2 }
+{
+    let mut items = view.iter();
+    while let Some(_) = items.next() {}
+    items
+}
 
 /// A chain, then a string that isn't counted, by the stream that the chain lends, and a chain again.
 pub fn chain_and_encoder(alloc: Global) -> Result<RlpStream, AllocError> {

@@ -177,6 +177,36 @@ fn rlp_iter(rt: HostRuntime) {
     assert!(rt; items_come_in_order());
 }
 
+fn others_give_no_item() -> bool {
+    for bytes in [[0xc5], [0x05]] {
+        let view = Rlp::new(&bytes);
+        let mut items = view.iter();
+        if !is_ended(&mut items) || !is_ended(&mut items) {
+            return false;
+        }
+    }
+    true
+}
+
+/// The first item of the bytes, taken from a view that is gone by then.
+fn first_of<'a>(bytes: &'a [u8]) -> Option<Rlp<'a>> {
+    let view = Rlp::new(bytes);
+    let mut items = view.iter();
+    items.next()
+}
+
+fn item_outlives_its_view() -> bool {
+    match first_of(CAT_DOG) {
+        Some(item) => item.as_raw() == [0x83, 0x63, 0x61, 0x74].as_slice(),
+        None => false,
+    }
+}
+
+#[test]
+fn items_of_others_and_of_views_that_are_gone(rt: HostRuntime) {
+    assert!(rt; others_give_no_item() && item_outlives_its_view());
+}
+
 /// Whether the value of the list that some bytes hold is this.
 fn is_value(view: &Rlp<'_>, header_len: usize, value: &[u8]) -> Result<bool, DecoderError> {
     let info = view.payload_info()?;

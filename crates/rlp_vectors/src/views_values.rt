@@ -1,7 +1,7 @@
 //! Values of the items of a list.
 
 use crate::faults::is_fault;
-use rlp::{DecoderError, Rlp};
+use rlp::{DecoderError, Rlp, RlpIterator};
 use std::alloc::{AllocError, Global};
 use std::test::Fail;
 
@@ -161,15 +161,23 @@ fn last_is_found(view: &Rlp<'_>) -> Result<bool, DecoderError> {
     )
 }
 
-/// Whether an iterator gives 10,000 items, and then stays ended.
+/// Whether an iterator gives 10,000 items 01, and then stays ended.
 fn all_are_given(view: &Rlp<'_>) -> bool {
     let mut items = view.iter();
     for _ in 0..9_999 {
-        if items.next().is_none() {
+        if !gives_one(&mut items) {
             return false;
         }
     }
-    items.len() == 1 && items.next().is_some() && items.next().is_none() && items.next().is_none()
+    items.len() == 1 && gives_one(&mut items) && items.next().is_none() && items.next().is_none()
+}
+
+/// Whether the next item is 01.
+fn gives_one(items: &mut RlpIterator<'_, '_>) -> bool {
+    match items.next() {
+        Some(item) => item.as_raw() == [0x01].as_slice(),
+        None => false,
+    }
 }
 
 fn all_are_read(alloc: Global, bytes: &[u8]) -> Result<bool, DecoderError> {

@@ -53,6 +53,11 @@ ReadsValue gives faults may_lack v answer = MatchResult answer (λ x. gives v x)
 abbrev pub GivesAt : {A : Type 0} → (View → A → Type 0) → View → ℕ → A → Type 0
 GivesAt gives v i x = IsOkAnd (item_at v i) (λ item. gives item x)
 
+-- item i of the view gives some value
+pub record GivesSomeAt {A : Type 0} (gives : View → A → Type 0) (v : View) (i : ℕ) : Type 0 where
+  pub given : A
+  pub at : GivesAt gives v i given
+
 -- item i of the view has the fault, or that number has it
 abbrev pub FaultsAt : (View → DecoderError → Type 0) → View → ℕ → DecoderError → Type 0
 FaultsAt faults v i e = MatchResult (item_at v i) (λ item. faults item e) (λ f. e ≡ f)

@@ -1,11 +1,11 @@
 //! The items of a view, one by one.
 
-ghost use Rattle.std.specs.Prelude.{◌≡◌, ◌+◌, ◌≤◌, ◌∷◌, ◌^◌, ◌<◌, ◌↔◌, ⊤, [], length, true, IsTrue, IsNone, IfOk, IfSome, MatchOption, Some};
-ghost use Rattle.std.specs.Iterator.{YieldsFirst, MakesProgress, item_count, UpTo, at_most};
+ghost use Rattle.std.specs.Prelude.{◌≡◌, ◌+◌, ◌≤◌, ◌∷◌, ◌^◌, ◌<◌, [], length, true, IfOk, IfSome, MatchOption, Some};
+ghost use Rattle.std.specs.Iterator.{item_count, UpTo, at_most};
 ghost use Rattle.std.specs.Iterator.SizeHint.{IsWithinCount};
 ghost use Rattle.rlp.specs.Format.Framing.{framing, total_len};
 ghost use Rattle.rlp.specs.Format.Split.{payload, split};
-ghost use Rattle.rlp.specs.Views.View.{item_views};
+ghost use Rattle.rlp.specs.Views.View.{IsStep, item_views};
 
 use crate::count::Count;
 use crate::error::DecoderError;
@@ -49,20 +49,11 @@ impl<'a, 'view> Model for RlpIterator<'a, 'view> {
 impl<'a, 'view> Iterator for RlpIterator<'a, 'view> {
     type Item = Rlp<'a>;
 
-    ghost next_gives = { YieldsFirst (λ i. i.left) };
+    ghost next_gives = { IsStep };
 
     ghost remaining = { item_count (λ i. i.left) };
 
-    fn next(&mut self) -> Option<Rlp<'a>>
-        ensures steps { YieldsFirst (λ i. i.left) self.old result self.new }
-        ensures goes { MakesProgress (λ _. ⊤) (item_count (λ i. i.left)) self.old result self.new }
-
-        // The headers that are read, up to the first `None` and after it.
-        ensures headers { self.new.headers ≤ self.old.headers + 1 }
-        ensures headers_once_ended { IsTrue self.old.has_ended
-            → self.new.headers ≡ self.old.headers }
-        ensures ends { IsNone result ↔ IsTrue self.new.has_ended }
-    {
+    fn next(&mut self) -> Option<Rlp<'a>> {
         if self.has_ended {
             return None;
         }

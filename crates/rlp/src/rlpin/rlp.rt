@@ -1,13 +1,13 @@
 //! A view of bytes, and what it answers of their first item.
 
-ghost use Rattle.std.specs.Prelude.{◌≡◌, ◌≤◌, ◌<◌, ◌^◌, ◌↔◌, ◌⊎◌, List, [], length, true, IsTrue, None, Some, Ok, Err, IfOk, IfErr, MatchResult};
+ghost use Rattle.std.specs.Prelude.{◌≡◌, ◌≤◌, ◌<◌, ◌^◌, ◌↔◌, ◌⊎◌, List, [], length, true, IsTrue, None, Some, Ok, Err, IfOk, IfErr, MatchResult, OnOk};
 ghost use Rattle.rlp.specs.declared.error.DecoderError.TheVariants.{OutOfMemory};
 ghost use Rattle.rlp.specs.Format.Split.{begins_as_list, payload};
 ghost use Rattle.rlp.specs.Format.Framing.{value};
 ghost use Rattle.rlp.specs.Format.Strict.{IsCanonicalWithin};
 ghost use Rattle.rlp.specs.Views.Depth.{depth};
 ghost use Rattle.rlp.specs.Views.View.{begins_as_data, begins_as_empty, begins_as_int, data_size, has_nonzero_at, item_at, item_count, item_views, item_with_place, items_fault, list_fault, prototype_of, strict_view_of, view_header, view_of, view_value};
-ghost use Rattle.rlp.specs.Values.ListReading.{FaultsAsList, FaultsAt, GivesAt, GivesList, MayLackAsList, MayLackAt, ReadsValue};
+ghost use Rattle.rlp.specs.Values.ListReading.{FaultsAsList, FaultsAt, GivesAt, GivesList, MayLackAsList, MayLackAt, ReadsValue, GivesSomeAt};
 
 use crate::error::DecoderError;
 use crate::rlpin::decoder::{BasicDecoder, is_string};
@@ -54,10 +54,7 @@ impl<'a> Rlp<'a> {
     pub fn new(bytes: &'a [u8]) -> Rlp<'a>
         ensures { result ≡ view_of bytes.now }
     {
-        Rlp {
-            bytes,
-            strict: false,
-        }
+        Rlp::of_kind(bytes, false)
     }
 
     /// A strict view of these bytes: what it answers, it answers of bytes that are one item and
@@ -70,10 +67,7 @@ impl<'a> Rlp<'a> {
     pub fn new_strict(bytes: &'a [u8]) -> Rlp<'a>
         ensures { result ≡ strict_view_of bytes.now }
     {
-        Rlp {
-            bytes,
-            strict: true,
-        }
+        Rlp::of_kind(bytes, true)
     }
 
     /// Whether the view is strict.
@@ -147,8 +141,10 @@ impl<'a> Rlp<'a> {
     pub fn item_count(&self) -> Result<usize, DecoderError>
         ensures { result ≡ item_count self.now }
     {
-        self.check_items()?;
-        Ok(count_items(self.payload()))
+        match self.check_items() {
+            Ok(()) => Ok(count_items(self.payload())),
+            Err(fault) => Err(fault),
+        }
     }
 
     /// The length of the string that the view begins with, and 0 where no framed string stands
@@ -321,11 +317,13 @@ impl<'a> Rlp<'a> {
     /// The value of the item at `index`, counted from 0: [`Rlp::at`], and then [`Rlp::as_val`].
     ///
     /// The faults are those of the two.
+    #[tactic(auto, using(crate::proofs::ListValues::some_given))]
     pub fn val_at<T: Decodable>(&self, alloc: Global, index: usize) -> Result<T, DecoderError>
         ensures exact { MatchResult (item_at self.now index)
             (λ item. ReadsValue T.gives T.faults T.may_lack_memory item result)
             (λ e. result ≡ Err e) }
         ensures value { IfOk result (λ x. GivesAt T.gives self.now index x) }
+        ensures some { OnOk result (GivesSomeAt T.gives self.now index) }
         ensures fault { IfErr result (λ e. (FaultsAt T.faults self.now index e)
             ⊎ ((e ≡ OutOfMemory) × MayLackAt T.may_lack_memory self.now index)) }
     {
@@ -424,10 +422,14 @@ impl<'a> Rlp<'a> {
     pub(crate) fn with_bytes(&self, bytes: &'a [u8]) -> Rlp<'a>
         ensures { result ≡ record self.now { bytes = bytes.now } }
     {
-        Rlp {
-            bytes,
-            strict: self.strict,
-        }
+        Rlp::of_kind(bytes, self.strict)
+    }
+
+    /// A view of these bytes, lenient or strict.
+    fn of_kind(bytes: &'a [u8], strict: bool) -> Rlp<'a>
+        ensures { result ≡ record { bytes = bytes.now; is_strict = strict } }
+    {
+        Rlp { bytes, strict }
     }
 
     /// The value of the first item, whatever follows it, or why the bytes aren't framed.

@@ -1,8 +1,0 @@
-use Rattle.std.proofs.Common.{rules}
-use Rattle.rlp_vectors.specs.Recipient.{IsRecipientFault}
-use Rattle.rlp.proofs.Values.{faults_of_string}
-use Rattle.rlp_vectors.proofs.recipient.RecipientDecodable.decode.Goals as goal
-
-pub returns-clause-fault : goal.returns-clause-fault
-returns-clause-fault c =
-    faults_of_string c.decode_value.result IsRecipientFault ⊥ _ c.decoder.result c.args.rlp.now c.decoder.ensures c.decode_value.ensures.found c.decode_value.ensures.missing (λ d call. search rules)
