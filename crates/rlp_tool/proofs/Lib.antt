@@ -1,2 +1,6 @@
+pub mod AnswerLemmas
+pub mod CallsLemmas
+pub mod CutLemmas
+pub mod DigitLemmas
 pub mod LinesLemmas
 pub mod ProgressLemmas

@@ -1,11 +1,20 @@
 -- What is answered to a line.
-use Rattle.std.specs.Prelude.{ℕ, nat_lt, nat_eq, if◌then◌else◌, List, length, drop, codes, Result, Ok, Err}
-use Rattle.std.specs.List.{starts_with}
+use Rattle.std.specs.Prelude.{ℕ, ◌≡◌, ◌==◌, nat_lt, ◌-◌, if◌then◌else◌, List, [], ◌∷◌, ◌++◌, length, codes, decimal, Option, Some, None, slice_get, Result, Ok, Err}
+use Rattle.std.specs.Str.{byte}
 use Rattle.std.specs.Str.Lines.{strip_carriage_return}
-use Rattle.hex.specs.Hex.{decode_of}
-use Rattle.hex.specs.declared.error.FromHexError.{FromHexError}
+use Rattle.hex.specs.Hex.{encode_lower}
 use Rattle.rlp.specs.Views.Depth.{depth}
 use Rattle.rlp.specs.Views.Text.{text}
+use Rattle.rlp.specs.Streams.Stack.{OpenList}
+use Rattle.rlp.specs.Streams.Stream.{State, closed_size, raw_text}
+use Rattle.rlp.specs.Streams.Calls.{Call, after}
+use Rattle.rlp_tool.specs.declared.building.Built.{Built}
+use Rattle.rlp_tool.specs.declared.building.Built.TheVariants.{Finished, Open}
+use Rattle.rlp_tool.specs.declared.building.BuildFault.{BuildFault}
+use Rattle.rlp_tool.specs.declared.building.BuildFault.TheVariants.{TooManyItems, NothingToFinish, OutOfMemory}
+use Rattle.rlp_tool.specs.Building.{is_raw}
+use Rattle.rlp_tool.specs.Digits.{bytes_in}
+use Rattle.rlp_tool.specs.Script.{script}
 
 -- the most bytes that a line may have, its newline not counted
 abbrev pub longest_line : ℕ
@@ -15,23 +24,69 @@ longest_line = 131072
 abbrev pub deepest_nesting : ℕ
 deepest_nesting = 256
 
--- the digits of a line: what follows `0x`, if it begins so
-abbrev pub digits_of : List ℕ → List ℕ
-digits_of line = if starts_with nat_eq line (codes "0x") then drop 2 line else line
+-- ---- lines of digits
 
 -- the text of the view of these bytes, if its lists don't nest too deep
 abbrev pub view_answer : List ℕ → List ℕ
 view_answer bytes = if nat_lt deepest_nesting (depth bytes) then codes "error deep" else text bytes
 
 -- the same of the bytes of the digits, if they are digits, two a byte
-abbrev pub digits_answer : Result (List ℕ) FromHexError → List ℕ
-digits_answer (Ok bytes) = view_answer bytes
-digits_answer (Err e) = codes "error hex"
+abbrev pub digits_answer : Option (List ℕ) → List ℕ
+digits_answer (Some bytes) = view_answer bytes
+digits_answer None = codes "error hex"
 
--- What is answered to a line that isn't too long: one carriage return at its end is dropped, and the rest is an optional `0x` and digits. A line that begins with `+` isn't digits.
+-- ---- lines of calls
+
+-- `out`, and where there are bytes a space and their digits
+abbrev pub finished_answer : List ℕ → List ℕ
+finished_answer [] = codes "out"
+finished_answer (b ∷ bytes) = codes "out " ++ encode_lower (b ∷ bytes)
+
+-- `open`, the closed size, and the digits of the bytes as they stand
+abbrev pub open_answer : ℕ → List ℕ → List ℕ
+open_answer size raw = codes "open " ++ decimal size ++ codes " " ++ encode_lower raw
+
+-- the finished buffer of a stream over an empty front, which is what stands at the top, where no list is open; else the closed size and the raw text
+abbrev pub state_answer : List (OpenList ℕ) → State → List ℕ
+state_answer [] s = finished_answer s.stack.inner
+state_answer (l ∷ ls) s = open_answer (closed_size s) (raw_text s)
+
+-- why the call in this place is refused: raw bytes bring too many items, and there was nothing to finish otherwise
+abbrev pub refusal_answer : ℕ → Option Call → List ℕ
+refusal_answer place (Some call) = (if is_raw call then codes "error too many items at " else codes "error nothing to finish at ") ++ decimal place
+refusal_answer place None = []
+
+-- what the calls come to, by the state after them or the place of the first that isn't admitted
+abbrev pub outcome_answer : List Call → Result State ℕ → List ℕ
+outcome_answer calls (Ok s) = state_answer s.stack.lists s
+outcome_answer calls (Err place) = refusal_answer place (slice_get calls (place - 1))
+
+-- what calls that were read come to over an empty front, or the place of the first piece that says no call
+abbrev pub calls_answer : Result (List Call) ℕ → List ℕ
+calls_answer (Ok calls) = outcome_answer calls (after [] calls)
+calls_answer (Err place) = codes "error syntax at " ++ decimal place
+
+-- ---- all lines
+
+-- the answer to a line whose carriage return is dropped: what follows a `+` is a script, and any other line an optional `0x` and digits
+abbrev pub text_answer : List ℕ → List ℕ
+text_answer [] = digits_answer (bytes_in [])
+text_answer (b ∷ rest) = if b == byte "+" then calls_answer (script rest) else digits_answer (bytes_in (b ∷ rest))
+
+-- what is answered to a line that isn't too long: one carriage return at its end is dropped first
 abbrev pub answer_within : List ℕ → List ℕ
-answer_within line = digits_answer (decode_of (digits_of (strip_carriage_return line)))
+answer_within line = text_answer (strip_carriage_return line)
 
 -- what is answered to a line
 unfoldable pub answer : List ℕ → List ℕ
 answer line = if nat_lt longest_line (length line) then codes "error long line" else answer_within line
+
+-- ---- parts, which only clauses of private functions cite
+
+-- what calls come to was appended, or why they come to nothing
+abbrev pub AppendsOutcome : List ℕ → List ℕ → Result Built BuildFault → Type 0
+AppendsOutcome old new (Ok (Finished bytes)) = new ≡ old ++ finished_answer bytes.items
+AppendsOutcome old new (Ok (Open size raw)) = new ≡ old ++ open_answer size raw.items
+AppendsOutcome old new (Err (TooManyItems place)) = new ≡ old ++ (codes "error too many items at " ++ decimal place)
+AppendsOutcome old new (Err (NothingToFinish place)) = new ≡ old ++ (codes "error nothing to finish at " ++ decimal place)
+AppendsOutcome old new (Err OutOfMemory) = ⊥

@@ -1,7 +1,11 @@
 pub mod Answer
+pub mod Building
+pub mod Digits
 pub mod Lines
 pub mod Progress
 pub mod Replies
 pub mod Run
+pub mod Script
 pub mod Status
+pub mod StreamCalls
 pub mod Watched

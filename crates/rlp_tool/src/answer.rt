@@ -1,10 +1,15 @@
 //! The answer to one line.
 
-ghost use Rattle.std.specs.Prelude.{◌≡◌, ◌++◌, string_bytes, OnOk};
+ghost use Rattle.std.specs.Prelude.{◌≡◌, ◌++◌, decimal, string_bytes, OnOk};
 ghost use Rattle.std.specs.Str.Lines.{strip_carriage_return};
-ghost use Rattle.rlp_tool.specs.Answer.{answer_within, digits_of, view_answer};
+ghost use Rattle.rlp_tool.specs.Answer.{answer_within, calls_answer, digits_answer, finished_answer, open_answer, view_answer, AppendsOutcome};
+ghost use Rattle.rlp_tool.specs.Digits.{bytes_in};
+ghost use Rattle.rlp_tool.specs.Script.{script, AppendsScriptFault};
 
-use hex::FromHexError;
+use crate::building::{BuildFault, Built, build};
+use crate::digits::{push_bytes, read_bytes};
+use crate::script::{ScriptFault, read_calls};
+use bytes::BytesMut;
 use rlp::Rlp;
 use std::alloc::{AllocError, Global};
 use std::fmt::Write;
@@ -16,11 +21,9 @@ const DEEPEST_NESTING: usize = 256;
 pub(crate) fn answer_within(alloc: Global, line: &[u8], out: &mut String) -> Result<(), AllocError>
     ensures { OnOk result (string_bytes out.new ≡ string_bytes out.old ++ answer_within line.now) }
 {
-    let digits = without_prefix(without_carriage_return(line));
-    match hex::decode(alloc, digits) {
-        Ok(bytes) => view_answer(bytes.as_slice(), out),
-        Err(FromHexError::OutOfMemory) => Err(AllocError),
-        Err(_) => out.push_str("error hex"),
+    match without_carriage_return(line) {
+        [b'+', text @ ..] => script_answer(alloc, text, out),
+        digits => digits_answer(alloc, digits, out),
     }
 }
 
@@ -34,13 +37,14 @@ fn without_carriage_return(line: &[u8]) -> &[u8]
     }
 }
 
-/// What follows `0x` in the line, if it begins so.
-fn without_prefix(line: &[u8]) -> &[u8]
-    ensures { result.now ≡ digits_of line.now }
+/// Appends the answer to a line of digits.
+fn digits_answer(alloc: Global, text: &[u8], out: &mut String) -> Result<(), AllocError>
+    ensures { OnOk result
+        (string_bytes out.new ≡ string_bytes out.old ++ digits_answer (bytes_in text.now)) }
 {
-    match line {
-        [b'0', b'x', digits @ ..] => digits,
-        _ => line,
+    match read_bytes(alloc, text)? {
+        Some(bytes) => view_answer(bytes.as_slice(), out),
+        None => out.push_str("error hex"),
     }
 }
 
@@ -55,5 +59,85 @@ fn view_answer(bytes: &[u8], out: &mut String) -> Result<(), AllocError>
     match write!(out, "{view}") {
         Ok(()) => Ok(()),
         Err(_) => Err(AllocError),
+    }
+}
+
+/// Appends a number in decimal.
+fn push_number(number: usize, out: &mut String) -> Result<(), AllocError>
+    ensures { OnOk result (string_bytes out.new ≡ string_bytes out.old ++ decimal number) }
+{
+    match write!(out, "{number}") {
+        Ok(()) => Ok(()),
+        Err(_) => Err(AllocError),
+    }
+}
+
+/// Appends a finished buffer.
+fn put_finished(bytes: &[u8], out: &mut String) -> Result<(), AllocError>
+    ensures { OnOk result
+        (string_bytes out.new ≡ string_bytes out.old ++ finished_answer bytes.now) }
+{
+    if bytes.is_empty() {
+        return out.push_str("out");
+    }
+    out.push_str("out ")?;
+    push_bytes(bytes, out)
+}
+
+/// Appends the size and the bytes of what is still open.
+fn put_open(size: usize, raw: &[u8], out: &mut String) -> Result<(), AllocError>
+    ensures { OnOk result
+        (string_bytes out.new ≡ string_bytes out.old ++ open_answer size raw.now) }
+{
+    out.push_str("open ")?;
+    push_number(size, out)?;
+    out.push_str(" ")?;
+    push_bytes(raw, out)
+}
+
+/// Appends a fault and its place.
+fn put_fault(name: &str, place: usize, out: &mut String) -> Result<(), AllocError>
+    ensures { OnOk result
+        (string_bytes out.new ≡ string_bytes out.old ++ (name.now ++ decimal place)) }
+{
+    out.push_str(name)?;
+    push_number(place, out)
+}
+
+/// Appends what calls come to, or why they come to nothing.
+fn put_outcome(outcome: &Result<Built, BuildFault>, out: &mut String) -> Result<(), AllocError>
+    ensures { OnOk result
+        (AppendsOutcome (string_bytes out.old) (string_bytes out.new) outcome.now) }
+{
+    match outcome {
+        Ok(Built::Finished(bytes)) => put_finished(bytes.as_slice(), out),
+        Ok(Built::Open { size, raw }) => put_open(*size, raw.as_slice(), out),
+        Err(BuildFault::TooManyItems(place)) => put_fault("error too many items at ", *place, out),
+        Err(BuildFault::NothingToFinish(place)) => {
+            put_fault("error nothing to finish at ", *place, out)
+        }
+        Err(BuildFault::OutOfMemory) => Err(AllocError),
+    }
+}
+
+/// Appends why a script isn't read.
+fn put_script_fault(fault: &ScriptFault, out: &mut String) -> Result<(), AllocError>
+    ensures { OnOk result
+        (AppendsScriptFault (string_bytes out.old) (string_bytes out.new) fault.now) }
+{
+    match fault {
+        ScriptFault::Syntax(place) => put_fault("error syntax at ", *place, out),
+        ScriptFault::OutOfMemory => Err(AllocError),
+    }
+}
+
+/// Appends the answer to a script.
+fn script_answer(alloc: Global, text: &[u8], out: &mut String) -> Result<(), AllocError>
+    ensures { OnOk result
+        (string_bytes out.new ≡ string_bytes out.old ++ calls_answer (script text.now)) }
+{
+    match read_calls(alloc, text) {
+        Ok(calls) => put_outcome(&build(alloc, BytesMut::new(alloc), calls.as_slice()), out),
+        Err(fault) => put_script_fault(&fault, out),
     }
 }

@@ -1,12 +1,19 @@
-//! A tool that answers lines.
+//! A tool that answers lines, and what calls of a stream come to.
 #![tactic(auto)]
 
 mod answer;
+mod building;
+mod calls;
+mod digits;
 mod line;
 mod noted;
+mod script;
 mod serving;
 mod status;
 
+pub use building::{BuildFault, Built, build};
+pub use calls::StreamCall;
 pub use noted::Noted;
+pub use script::{ScriptFault, read_calls};
 pub use serving::{RunFault, run};
 pub use status::exit_status;

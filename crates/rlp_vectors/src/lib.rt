@@ -13,6 +13,7 @@ use std::alloc::{AllocError, Global};
 mod access;
 mod address;
 mod branch;
+mod builds;
 mod careless;
 #[cfg(test)]
 mod careless_rows;
@@ -74,6 +75,8 @@ mod tool_devices;
 #[cfg(test)]
 mod tool_faults;
 #[cfg(test)]
+mod tool_scripts;
+#[cfg(test)]
 mod tool_sweeps;
 mod transaction;
 #[cfg(test)]
@@ -97,6 +100,7 @@ mod views_wide;
 pub use access::{Access, AccessList};
 pub use address::Address;
 pub use branch::Branch;
+pub use builds::{finish_alike, finished_buffer};
 pub use careless::{Odd, Refusing, Trio, Wrapper};
 pub use child::Child;
 pub use couple::{Alone, Couple, append_list_in_list, write_list_in_list};

@@ -18,7 +18,7 @@ const LINES: [(&[u8], &[u8]); 14] = [
     (b"0Xc0", b"error hex\n"),
     (b"0g", b"error hex\n"),
     (b"0", b"error hex\n"),
-    (b"+", b"error hex\n"),
+    (b"+", b"out\n"),
     (b"c8836361748364\n6f", b"RlpIsTooShort\n\"0x6f\"\n"),
     (b"\n\r\n", b"null\nnull\n"),
     (b"", b""),

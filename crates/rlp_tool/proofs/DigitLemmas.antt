@@ -1,0 +1,86 @@
+-- Numbers and bytes as digits.
+use Rattle.std.proofs.Common.{◌≡◌, ℕ, ◌+◌, ◌*◌, ◌/◌, ◌%◌, slice_index, ◌^◌, ◌<◌, ◌≤◌, ◌&&◌, Bool, true, false, cond, nat_lt, List, [], ◌∷◌, ◌++◌, length, take, drop, Option, Some, None, refl, sym, ap, ◌∙◌, append_assoc, arith, take-append-drop}
+use Rattle.std.specs.List.{list_all}
+use Rattle.std.specs.Char.{digit_value, is_ascii_digit}
+use Rattle.std.specs.Str.Parse.{digits_value, digits_value_after}
+use Rattle.std.proofs.lemmas.Bool.Decides.{nat_tests}
+use Rattle.hex.specs.Hex.{encode_with, encode_lower, lower_digits}
+use Rattle.rlp_tool.specs.Digits.{number_in, with_digit}
+
+-- the number that digits write when they follow those of n
+abbrev pub number_after : ℕ → List ℕ → Option ℕ
+number_after n text = cond (list_all is_ascii_digit text && nat_lt (digits_value_after 10 n text) (2 ^ 64)) (Some (digits_value_after 10 n text)) None
+
+pub number_in-begin : (text : List ℕ) → 0 < length text → number_in text ≡ number_after 0 text
+number_in-begin text h =
+    let some : nat_lt 0 (length text) ≡ true = grind (arith, nat_tests) in
+    ap (λ (b : Bool). cond (b && (list_all is_ascii_digit text && nat_lt (digits_value 10 text) (2 ^ 64))) (Some (digits_value 10 text)) None) some
+
+both_true : (a b : Bool) (n m : ℕ) → cond (a && b) (Some n) None ≡ Some m → (a ≡ true) × (b ≡ true) × (n ≡ m)
+both_true true true n m e = (refl, refl, cc)
+both_true true false n m e = absurd (let never : ⊥ = cc in never)
+both_true false b n m e = absurd (let never : ⊥ = cc in never)
+
+not_both : (a b rest more : Bool) (n m : ℕ) → cond (a && b) (Some n) None ≡ None → (b ≡ false → more ≡ false) → cond ((a && rest) && more) (Some m) None ≡ None
+not_both true true rest more n m e f = absurd (let never : ⊥ = cc in never)
+not_both true false true more n m e f = ap (λ (b : Bool). cond b (Some m) None) (f refl)
+not_both true false false more n m e f = refl
+not_both false b rest more n m e f = refl
+
+digits_value_after-ge : (n : ℕ) (text : List ℕ) → n ≤ digits_value_after 10 n text
+digits_value_after-ge n [] = omega arith
+digits_value_after-ge n (c ∷ text) = omega (arith, digits_value_after-ge (n * 10 + digit_value c) text)
+
+pub number_after-more : (n m c : ℕ) (rest text : List ℕ) → rest ≡ c ∷ text → with_digit n c ≡ Some m → number_after n rest ≡ number_after m text
+number_after-more n m c rest text is e =
+    let both = both_true (is_ascii_digit c) (nat_lt (n * 10 + digit_value c) (2 ^ 64)) (n * 10 + digit_value c) m e in
+    ap (number_after n) is ∙ ap (λ (b : Bool). cond ((b && list_all is_ascii_digit text) && nat_lt (digits_value_after 10 (n * 10 + digit_value c) text) (2 ^ 64)) (Some (digits_value_after 10 (n * 10 + digit_value c) text)) None) both.0 ∙ ap (λ (k : ℕ). number_after k text) both.2
+
+too_large : (n m : ℕ) → n ≤ m → nat_lt n (2 ^ 64) ≡ false → nat_lt m (2 ^ 64) ≡ false
+too_large n m h e = grind (arith, nat_tests)
+
+pub number_after-none : (n c : ℕ) (rest text : List ℕ) → rest ≡ c ∷ text → with_digit n c ≡ None → number_after n rest ≡ None
+number_after-none n c rest text is e =
+    let k = n * 10 + digit_value c in
+    ap (number_after n) is ∙ not_both (is_ascii_digit c) (nat_lt k (2 ^ 64)) (list_all is_ascii_digit text) (nat_lt (digits_value_after 10 k text) (2 ^ 64)) k (digits_value_after 10 k text) e (too_large k (digits_value_after 10 k text) (digits_value_after-ge k text))
+
+number_after-nil : (n : ℕ) → n < 2 ^ 64 → number_after n [] ≡ Some n
+number_after-nil n h =
+    let small : nat_lt n (2 ^ 64) ≡ true = grind (arith, nat_tests) in
+    ap (λ (b : Bool). cond (true && b) (Some n) None) small
+
+no_digits : (text : List ℕ) → length text ≡ 0 → text ≡ []
+no_digits [] h = refl
+no_digits (c ∷ text) h = absurd (omega arith)
+
+pub number_after-end : (n : ℕ) (text : List ℕ) → n < 2 ^ 64 → length text ≡ 0 → number_after n text ≡ Some n
+number_after-end n text small h = ap (number_after n) (no_digits text h) ∙ number_after-nil n small
+
+pub number_in-nil : (text : List ℕ) → length text ≡ 0 → number_in text ≡ None
+number_in-nil text h = ap number_in (no_digits text h)
+
+small : (a b : Bool) (k m : ℕ) → (b ≡ true → k < 2 ^ 64) → cond (a && b) (Some k) None ≡ Some m → m < 2 ^ 64
+small a b k m h e =
+    let both = both_true a b k m e in
+    let is : k ≡ m = both.2 in
+    let fits : k < 2 ^ 64 = h both.1 in
+    omega arith
+
+-- a number with a digit more is below 2^64
+pub small_digit : (n c m : ℕ) → with_digit n c ≡ Some m → m < 2 ^ 64
+small_digit n c m e = small (is_ascii_digit c) (nat_lt (n * 10 + digit_value c) (2 ^ 64)) (n * 10 + digit_value c) m (λ less. grind (arith, nat_tests)) e
+
+encode_with-append : (t xs ys : List ℕ) → encode_with t (xs ++ ys) ≡ encode_with t xs ++ encode_with t ys
+unfolding encode_with
+encode_with-append t [] ys = refl
+encode_with-append t (b ∷ xs) ys = ap (λ (r : List ℕ). slice_index t (b / 16) ∷ slice_index t (b % 16) ∷ r) (encode_with-append t xs ys)
+
+-- the digits of bytes that are cut in two
+pub encode_lower-cut : (rest front back : List ℕ) (n : ℕ) → front ≡ take n rest → back ≡ drop n rest → encode_lower front ++ encode_lower back ≡ encode_lower rest
+encode_lower-cut rest front back n f b =
+    sym (encode_with-append lower_digits front back) ∙ ap encode_lower (ap (λ (x : List ℕ). x ++ back) f ∙ ap (λ (x : List ℕ). take n rest ++ x) b ∙ take-append-drop n rest)
+
+-- the digits of a front are printed, and those of what follows it are left
+pub printed-more : (before after old front back rest : List ℕ) (n : ℕ) → front ≡ take n rest → back ≡ drop n rest → after ≡ before ++ encode_lower front → before ++ encode_lower rest ≡ old → after ++ encode_lower back ≡ old
+printed-more before after old front back rest n f b grown all =
+    ap (λ (x : List ℕ). x ++ encode_lower back) grown ∙ append_assoc before (encode_lower front) (encode_lower back) ∙ ap (λ (x : List ℕ). before ++ x) (encode_lower-cut rest front back n f b) ∙ all

@@ -1,0 +1,77 @@
+-- What a script says: calls of a stream as text.
+use Rattle.std.specs.Prelude.{ℕ, ◌≡◌, ◌+◌, ◌==◌, ◌++◌, codes, decimal, length, Bool, if◌then◌else◌, List, [], ◌∷◌, take, drop, is_some, Option, Some, None, option_map, position, filter_map, Result, Ok, Err}
+use Rattle.std.specs.List.{slice_split, list_all, prefix_len}
+use Rattle.std.specs.Str.{byte}
+use Rattle.rlp.specs.Format.Item.{string}
+use Rattle.rlp.specs.Streams.Calls.{Call, append, append_raw, begin_list, begin_unbounded_list, finalize_unbounded_list, clear}
+use Rattle.rlp_tool.specs.Digits.{bytes_in, number_in}
+use Rattle.rlp_tool.specs.declared.script.ScriptFault.{ScriptFault}
+use Rattle.rlp_tool.specs.declared.script.ScriptFault.TheVariants.{Syntax, OutOfMemory}
+
+-- the call that a letter alone says: `u` begins a list of open length, `e` ends it, `c` clears
+abbrev pub letter_call : ℕ → Option Call
+letter_call letter =
+    if letter == byte "u" then Some begin_unbounded_list
+    else if letter == byte "e" then Some finalize_unbounded_list
+    else if letter == byte "c" then Some clear
+    else None
+
+-- raw bytes and how many items they count as, if both are there
+abbrev pub raw_call : Option ℕ → Option (List ℕ) → Option Call
+raw_call (Some count) (Some bytes) = Some (append_raw bytes count)
+raw_call (Some count) None = None
+raw_call None bytes = None
+
+-- the same, by the place of the colon between the number and the digits
+abbrev pub raw_parts : List ℕ → Option ℕ → Option Call
+raw_parts text (Some at) = raw_call (number_in (take at text)) (bytes_in (drop (at + 1) text))
+raw_parts text None = None
+
+-- the call that a letter and a colon say, by what follows: `d` appends the string of the bytes, `r` puts raw bytes that count as so many items, `l` begins a list of so many
+abbrev pub labelled_call : ℕ → List ℕ → Option Call
+labelled_call letter text =
+    if letter == byte "d" then option_map (λ bytes. append (string bytes)) (bytes_in text)
+    else if letter == byte "r" then raw_parts text (position (λ b. b == byte ":") text)
+    else if letter == byte "l" then option_map begin_list (number_in text)
+    else None
+
+-- the call that a piece says, if it says one: a letter alone, or a letter and a colon and what it brings
+abbrev pub call_in : List ℕ → Option Call
+call_in [] = None
+call_in (letter ∷ []) = letter_call letter
+call_in (letter ∷ colon ∷ text) = if colon == byte ":" then labelled_call letter text else None
+
+-- whether a piece says a call
+abbrev pub is_call : List ℕ → Bool
+is_call piece = is_some (call_in piece)
+
+-- the calls of all pieces, or the place, from 1, of the first that says none
+abbrev pub calls_in : List (List ℕ) → Result (List Call) ℕ
+calls_in pieces = if list_all is_call pieces then Ok (filter_map call_in pieces) else Err (1 + prefix_len is_call pieces)
+
+-- What a whole script says. An empty text is no calls; any other is cut at every space.
+abbrev pub script : List ℕ → Result (List Call) ℕ
+script [] = Ok []
+script (b ∷ text) = calls_in (slice_split (λ c. c == byte " ") (b ∷ text))
+
+-- why a script is read no further. Of memory it says no more.
+abbrev pub IsScriptFault : List ℕ → ScriptFault → Type 0
+IsScriptFault text (Syntax place) = script text ≡ Err place
+IsScriptFault text OutOfMemory = Unit
+
+-- ---- parts, which only clauses of private functions cite
+
+-- the call was added to those before it
+abbrev pub AddsCall : List Call → List Call → Option Call → Type 0
+AddsCall old new (Some call) = new ≡ old ++ call ∷ []
+AddsCall old new None = ⊥
+
+-- why a piece is not read, after these calls
+abbrev pub IsUnread : List Call → Option Call → ScriptFault → Type 0
+IsUnread old call (Syntax place) = (call ≡ None) × (place ≡ length old + 1)
+IsUnread old call OutOfMemory = Unit
+
+-- the place of the piece that says no call was printed
+abbrev pub AppendsScriptFault : List ℕ → List ℕ → ScriptFault → Type 0
+AppendsScriptFault old new (Syntax place) = new ≡ old ++ (codes "error syntax at " ++ decimal place)
+AppendsScriptFault old new OutOfMemory = ⊥

@@ -1,0 +1,20 @@
+//! Calls of a stream as values.
+
+/// A call of a stream of encodings, with what it brings.
+#[derive(Debug, Drop)]
+pub enum StreamCall<E> {
+    /// Appends a value, as `RlpStream::append`.
+    Value(E),
+    /// Appends the list of the values, as `RlpStream::append_list`.
+    Values(Vec<E>),
+    /// Puts bytes as they are and counts so many items, as `RlpStream::append_raw`.
+    Raw(Vec<u8>, usize),
+    /// Begins a list of so many items, as `RlpStream::begin_list`.
+    Begin(usize),
+    /// Begins a list of open length, as `RlpStream::begin_unbounded_list`.
+    BeginUnbounded,
+    /// Closes the innermost list, one of open length, as `RlpStream::finalize_unbounded_list`.
+    Finish,
+    /// Drops all that was written, as `RlpStream::clear`.
+    Clear,
+}

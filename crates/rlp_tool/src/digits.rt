@@ -1,0 +1,96 @@
+//! Bytes and numbers as digits, read and printed.
+ghost use Rattle.std.specs.Prelude.{◌≡◌, ◌++◌, ◌<◌, ◌≤◌, length, string_bytes, option_map, IfOk, OnOk};
+ghost use Rattle.hex.specs.Hex.{encode_lower};
+ghost use Rattle.rlp_tool.specs.Digits.{digits_of, bytes_in, number_in, with_digit};
+
+use hex::FromHexError;
+use std::alloc::{AllocError, Global};
+use std::str::from_utf8;
+
+/// How many bytes are printed at once as digits.
+const AT_ONCE: usize = 64;
+
+/// What follows `0x` in the text, if it begins so.
+pub(crate) fn without_prefix(text: &[u8]) -> &[u8]
+    ensures { result.now ≡ digits_of text.now }
+{
+    match text {
+        [b'0', b'x', digits @ ..] => digits,
+        _ => text,
+    }
+}
+
+/// The bytes that a text writes, if it is digits.
+pub(crate) fn read_bytes(alloc: Global, text: &[u8]) -> Result<Option<Vec<u8>>, AllocError>
+    ensures { IfOk result (λ read. option_map (λ v. v.items) read ≡ bytes_in text.now) }
+{
+    match hex::decode(alloc, without_prefix(text)) {
+        Ok(bytes) => Ok(Some(bytes)),
+        Err(FromHexError::OutOfMemory) => Err(AllocError),
+        Err(_) => Ok(None),
+    }
+}
+
+/// The number with one more digit at its end.
+fn put_digit(value: usize, byte: u8) -> Option<usize>
+    ensures { result ≡ with_digit value byte }
+{
+    if !byte.is_ascii_digit() {
+        return None;
+    }
+    let Some(tens) = value.checked_mul(10) else {
+        return None;
+    };
+    tens.checked_add(usize::from(byte - b'0'))
+}
+
+/// The number that a text writes, if it is one.
+#[tactic(auto, using(crate::proofs::DigitLemmas::small_digit))]
+pub(crate) fn read_number(text: &[u8]) -> Option<usize>
+    ensures { result ≡ number_in text.now }
+{
+    if text.is_empty() {
+        return None;
+    }
+    let mut value = 0;
+    let mut rest = text;
+    while let Some((byte, others)) = rest.split_first() {
+        let Some(more) = put_digit(value, *byte) else {
+            return None;
+        };
+        value = more;
+        rest = others;
+    }
+    Some(value)
+}
+
+/// Appends each of a few bytes as two digits, in one piece.
+fn push_few(bytes: &[u8], out: &mut String) -> Result<(), AllocError>
+    requires { length bytes.now ≤ 64 }
+    ensures { OnOk result
+        (string_bytes out.new ≡ string_bytes out.old ++ encode_lower bytes.now) }
+{
+    let mut room = [0u8; 2 * AT_ONCE];
+    let digits = &mut room[..2 * bytes.len()];
+    if hex::encode_to_slice(bytes, digits).is_err() {
+        return Err(AllocError);
+    }
+    match from_utf8(digits) {
+        Ok(digits) => out.push_str(digits),
+        Err(_) => Err(AllocError),
+    }
+}
+
+/// Appends each byte as two digits in lower case.
+pub(crate) fn push_bytes(bytes: &[u8], out: &mut String) -> Result<(), AllocError>
+    ensures { OnOk result
+        (string_bytes out.new ≡ string_bytes out.old ++ encode_lower bytes.now) }
+{
+    let mut rest = bytes;
+    while rest.len() > AT_ONCE {
+        let (front, after) = rest.split_at(AT_ONCE);
+        push_few(front, out)?;
+        rest = after;
+    }
+    push_few(rest, out)
+}

@@ -1,0 +1,163 @@
+//! Scripts: calls of a stream as text.
+ghost use Rattle.std.specs.Prelude.{◌≡◌, ◌==◌, ◌+◌, position, option_map, Some, None, IfOk, IfErr, OnOk, Ok, Err};
+ghost use Rattle.rlp.specs.Format.Item.{string};
+ghost use Rattle.rlp.specs.Streams.Calls.{append, begin_list};
+ghost use Rattle.rlp_tool.specs.Script.{call_in, labelled_call, letter_call, raw_parts, script, AddsCall, IsUnread, IsScriptFault};
+ghost use Rattle.rlp_tool.specs.Digits.{bytes_in, number_in};
+ghost use Rattle.rlp_tool.specs.StreamCalls.{call_of_bytes, calls_of_bytes};
+
+use crate::calls::StreamCall;
+use crate::digits::{read_bytes, read_number};
+use memchr::memchr;
+use std::alloc::{AllocError, Global};
+
+/// Why a script is read no further.
+#[derive(Debug, PartialEq, Eq, Drop)]
+pub enum ScriptFault {
+    /// The piece in this place, from 1, is the first that says no call.
+    Syntax(usize),
+    /// Memory was refused.
+    OutOfMemory,
+}
+
+/// Where the first such byte is.
+#[tactic(auto, using(crate::proofs::CutLemmas::first_byte))]
+fn place_of(byte: u8, text: &[u8]) -> Option<usize>
+    ensures { result ≡ position (λ b. b == byte) text.now }
+{
+    memchr(byte, text)
+}
+
+/// The call that a letter alone says.
+fn letter_call(letter: u8) -> Option<StreamCall<Vec<u8>>>
+    ensures { option_map call_of_bytes result ≡ letter_call letter }
+{
+    match letter {
+        b'u' => Some(StreamCall::BeginUnbounded),
+        b'e' => Some(StreamCall::Finish),
+        b'c' => Some(StreamCall::Clear),
+        _ => None,
+    }
+}
+
+/// The string that digits write, to be appended.
+fn read_value(alloc: Global, text: &[u8]) -> Result<Option<StreamCall<Vec<u8>>>, AllocError>
+    ensures { IfOk result (λ read. option_map call_of_bytes read
+        ≡ option_map (λ bytes. append (string bytes)) (bytes_in text.now)) }
+{
+    match read_bytes(alloc, text)? {
+        Some(bytes) => Ok(Some(StreamCall::Value(bytes))),
+        None => Ok(None),
+    }
+}
+
+/// Raw bytes and the number of items that they count as, with a colon between.
+fn read_raw(alloc: Global, text: &[u8]) -> Result<Option<StreamCall<Vec<u8>>>, AllocError>
+    ensures { IfOk result (λ read. option_map call_of_bytes read
+        ≡ raw_parts text.now (position (λ b. b == 58) text.now)) }
+{
+    let Some(colon) = place_of(b':', text) else {
+        return Ok(None);
+    };
+    let (number, rest) = text.split_at(colon);
+    let Some(count) = read_number(number) else {
+        return Ok(None);
+    };
+    match read_bytes(alloc, &rest[1..])? {
+        Some(bytes) => Ok(Some(StreamCall::Raw(bytes, count))),
+        None => Ok(None),
+    }
+}
+
+/// The list that a number says how many items it awaits.
+fn read_list(text: &[u8]) -> Option<StreamCall<Vec<u8>>>
+    ensures { option_map call_of_bytes result ≡ option_map begin_list (number_in text.now) }
+{
+    match read_number(text) {
+        Some(count) => Some(StreamCall::Begin(count)),
+        None => None,
+    }
+}
+
+/// The call that a letter, a colon and what follows say.
+fn read_labelled(
+    alloc: Global,
+    letter: u8,
+    text: &[u8],
+) -> Result<Option<StreamCall<Vec<u8>>>, AllocError>
+    ensures { IfOk result
+        (λ read. option_map call_of_bytes read ≡ labelled_call letter text.now) }
+{
+    match letter {
+        b'd' => read_value(alloc, text),
+        b'r' => read_raw(alloc, text),
+        b'l' => Ok(read_list(text)),
+        _ => Ok(None),
+    }
+}
+
+/// The call that a piece says, if it says one.
+fn read_call(alloc: Global, piece: &[u8]) -> Result<Option<StreamCall<Vec<u8>>>, AllocError>
+    ensures { IfOk result (λ read. option_map call_of_bytes read ≡ call_in piece.now) }
+{
+    match piece {
+        [letter] => Ok(letter_call(*letter)),
+        [letter, b':', text @ ..] => read_labelled(alloc, *letter, text),
+        _ => Ok(None),
+    }
+}
+
+/// Reads a piece, and adds its call to those before it.
+fn take_piece(
+    alloc: Global,
+    piece: &[u8],
+    calls: &mut Vec<StreamCall<Vec<u8>>>,
+) -> Result<(), ScriptFault>
+    ensures ok { OnOk result (AddsCall (calls_of_bytes calls.old.items)
+        (calls_of_bytes calls.new.items) (call_in piece.now)) }
+    ensures refused { IfErr result (IsUnread (calls_of_bytes calls.old.items)
+        (call_in piece.now)) }
+{
+    match read_call(alloc, piece) {
+        Ok(Some(call)) => match calls.push(call) {
+            Ok(()) => Ok(()),
+            Err(_) => Err(ScriptFault::OutOfMemory),
+        },
+        Ok(None) => Err(ScriptFault::Syntax(calls.len() + 1)),
+        Err(_) => Err(ScriptFault::OutOfMemory),
+    }
+}
+
+/// The calls that a script says: what follows the `+` of a line.
+///
+/// Empty text is no calls. Any other is cut at every space, and each piece is a call: `d:HEX` is a
+/// `Value` of the bytes, `r:N:HEX` is `Raw`, `l:N` is `Begin`, and `u`, `e`, `c` are
+/// `BeginUnbounded`, `Finish`, `Clear`. The first piece that is none of these decides the fault,
+/// `Syntax` with its place from 1. The other fault is that memory was refused.
+///
+/// ```rust
+/// let calls = rlp_tool::read_calls(alloc, b"l:1 d:2a")?;
+/// assert_eq!(rt; calls.len(), 2);
+/// assert!(rt; rlp_tool::read_calls(alloc, b"l:1 x") == Err(ScriptFault::Syntax(2)));
+/// ```
+pub fn read_calls(alloc: Global, text: &[u8]) -> Result<Vec<StreamCall<Vec<u8>>>, ScriptFault>
+    ensures ok { IfOk result (λ calls. script text.now ≡ Ok (calls_of_bytes calls.items)) }
+    ensures refused { IfErr result (IsScriptFault text.now) }
+{
+    let mut calls = Vec::new(alloc);
+    if text.is_empty() {
+        return Ok(calls);
+    }
+    let mut rest = text;
+    while let Some(space) = place_of(b' ', rest) {
+        let (piece, others) = rest.split_at(space);
+        if let Err(fault) = take_piece(alloc, piece, &mut calls) {
+            return Err(fault);
+        }
+        rest = &others[1..];
+    }
+    match take_piece(alloc, rest, &mut calls) {
+        Ok(()) => Ok(calls),
+        Err(fault) => Err(fault),
+    }
+}

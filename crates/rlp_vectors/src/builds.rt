@@ -1,0 +1,88 @@
+//! What a caller of two `build`s learns.
+
+ghost use Rattle.std.specs.Prelude.{◌≡◌, ◌↔◌, List, IfOk, IfSome, IsSome, IsTrue};
+ghost use Rattle.rlp.specs.Format.Item.{Item};
+ghost use Rattle.rlp.specs.Streams.Described.{IsDescribed, FinishAs};
+ghost use Rattle.rlp_tool.specs.StreamCalls.{calls_of};
+
+use bytes::BytesMut;
+use rlp::Encodable;
+use rlp::laws::finished_buffers_tell_items;
+use rlp_tool::{BuildFault, Built, StreamCall, build};
+use std::alloc::{AllocError, Global};
+
+/// A buffer of these bytes.
+fn buffer_of(alloc: Global, bytes: &[u8]) -> Result<BytesMut, AllocError>
+    ensures { IfOk result (λ buffer. buffer.items ≡ bytes.now) }
+{
+    let mut buffer = BytesMut::new(alloc);
+    buffer.extend_from_slice(bytes)?;
+    Ok(buffer)
+}
+
+/// The finished buffer of calls over a front; `None` where they leave a list open.
+fn finished_over<E: Encodable>(
+    alloc: Global,
+    front: BytesMut,
+    calls: &[StreamCall<E>],
+) -> Result<Option<BytesMut>, BuildFault>
+    ensures finished { IfOk result (λ buffer. IfSome buffer
+        (λ bytes. FinishAs front.items (calls_of E.item calls.now) bytes.items)) }
+    ensures described { (items : List Item)
+        → IsDescribed front.items (calls_of E.item calls.now) items
+        → IfOk result (λ buffer. IsSome buffer) }
+{
+    match build(alloc, front, calls) {
+        Ok(Built::Finished(bytes)) => Ok(Some(bytes)),
+        Ok(Built::Open { .. }) => Ok(None),
+        Err(fault) => Err(fault),
+    }
+}
+
+/// The finished buffer of calls over a front; `None` where they leave a list open.
+pub fn finished_buffer<E: Encodable>(
+    alloc: Global,
+    front: &[u8],
+    calls: &[StreamCall<E>],
+) -> Result<Option<BytesMut>, BuildFault>
+    ensures finished { IfOk result (λ buffer. IfSome buffer
+        (λ bytes. FinishAs front.now (calls_of E.item calls.now) bytes.items)) }
+    ensures described { (items : List Item)
+        → IsDescribed front.now (calls_of E.item calls.now) items
+        → IfOk result (λ buffer. IsSome buffer) }
+{
+    match buffer_of(alloc, front) {
+        Ok(buffer) => finished_over(alloc, buffer, calls),
+        Err(_) => Err(BuildFault::OutOfMemory),
+    }
+}
+
+/// Whether two strings are equal.
+fn same_bytes(one: &[u8], other: &[u8]) -> bool
+    ensures { IsTrue result ↔ (one.now ≡ other.now) }
+{
+    one == other
+}
+
+/// Whether calls over one front finish as the same bytes. Where they describe items, those are the
+/// same items or others.
+pub fn finish_alike<A: Encodable, B: Encodable>(
+    alloc: Global,
+    front: &[u8],
+    one: &[StreamCall<A>],
+    other: &[StreamCall<B>],
+) -> Result<bool, BuildFault>
+    ensures { (xs ys : List Item) → IsDescribed front.now (calls_of A.item one.now) xs
+        → IsDescribed front.now (calls_of B.item other.now) ys
+        → IfOk result (λ alike. IsTrue alike ↔ (xs ≡ ys)) }
+{
+    let Some(first) = finished_buffer(alloc, front, one)? else {
+        return Ok(false);
+    };
+    let Some(second) = finished_buffer(alloc, front, other)? else {
+        return Ok(false);
+    };
+    let (first, second) = (first.as_slice(), second.as_slice());
+    finished_buffers_tell_items(first, second);
+    Ok(same_bytes(first, second))
+}
