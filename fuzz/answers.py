@@ -6,9 +6,6 @@ is a stack of payloads. It looks at no speed but what a million lines need.
 
 import re
 
-# Whether a line that begins with `+` is a line of calls; else it is answered like any other line.
-CALLS_ARE_ANSWERED = False
-
 LONGEST_LINE = 131_072
 DEEPEST_LIST = 256
 LENGTHS = 1 << 64
@@ -222,7 +219,7 @@ def answer(line):
         return "error long line"
     if line.endswith("\r"):
         line = line[:-1]
-    if CALLS_ARE_ANSWERED and line.startswith("+"):
+    if line.startswith("+"):
         return answer_to_calls(line[1:])
     data = bytes_of(line)
     return "error hex" if data is None else text_of_view(data)

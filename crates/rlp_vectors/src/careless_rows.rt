@@ -3,7 +3,9 @@
 use crate::faults::is_fault;
 use crate::guarded::finishes_as;
 use crate::{Odd, Refusing, Trio, Wrapper};
+use bytes::BytesMut;
 use rlp::{DecoderError, Encodable, RlpStream};
+use rlp_tool::{BuildFault, StreamCall, build};
 use std::alloc::{AllocError, Global};
 use std::test::Fail;
 
@@ -42,12 +44,22 @@ fn own_function_stays(alloc: Global) -> Result<bool, AllocError> {
     Ok(refused && stands_as(&s, &[0x00, 0x05, 0x00, 0x01], 2, 4))
 }
 
+/// Whether a refused value among calls is answered as a want of memory.
+fn calls_lack_memory(alloc: Global) -> bool {
+    let calls = [StreamCall::Begin(1), StreamCall::Value(refused())];
+    matches!(
+        build(alloc, BytesMut::new(alloc), calls.as_slice()),
+        Err(BuildFault::OutOfMemory)
+    )
+}
+
 #[test]
 fn refused_values_leave_nothing(rt: HostRuntime) -> Result<(), Fail> {
     let alloc = rt.alloc();
     assert!(rt;
         appends_go_back(alloc)?
             && own_function_stays(alloc)?
+            && calls_lack_memory(alloc)
             && rlp::encode(alloc, &refused()).is_err()
     );
     Ok(())

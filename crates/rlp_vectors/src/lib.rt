@@ -55,6 +55,8 @@ mod pair;
 mod plain;
 mod recipient;
 #[cfg(test)]
+mod refused_build;
+#[cfg(test)]
 mod refused_never;
 #[cfg(test)]
 mod refused_streams;

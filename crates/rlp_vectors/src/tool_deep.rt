@@ -5,9 +5,6 @@ use crate::tool_devices::answers;
 use std::alloc::{AllocError, Global};
 use std::test::Fail;
 
-/// Whether a line that begins with `+` is read as calls. Until then it is answered `error hex`.
-const CALLS_ARE_ANSWERED: bool = false;
-
 /// A line of calls: so many of the first, and then so many of the second.
 fn line_of(
     alloc: Global,
@@ -46,16 +43,6 @@ fn answer_of(alloc: Global, words: &[u8], bytes: &[u8]) -> Result<Vec<u8>, Alloc
     Ok(answer)
 }
 
-/// Whether a line of calls is answered so.
-fn calls_answer(alloc: Global, line: &[u8], answer: &[u8]) -> Result<bool, AllocError> {
-    let wanted: &[u8] = if CALLS_ARE_ANSWERED {
-        answer
-    } else {
-        b"error hex\n"
-    };
-    answers(alloc, line, wanted)
-}
-
 /// How many lists are opened and finished; how long their bytes are, and what they begin with; and
 /// what these are answered as a line.
 type Opened = (usize, usize, &'static [u8]);
@@ -74,7 +61,7 @@ fn lists_are_finished(alloc: Global, row: Opened) -> Result<bool, AllocError> {
     Ok(
         bytes.len() == size
             && bytes.starts_with(begin)
-            && calls_answer(alloc, line.as_slice(), answer.as_slice())?,
+            && answers(alloc, line.as_slice(), answer.as_slice())?,
     )
 }
 
@@ -98,7 +85,7 @@ fn open_lists_are_answered(alloc: Global) -> Result<bool, AllocError> {
     let zeros = vec![in alloc; 0u8; 5_000]?;
     let line = line_of(alloc, (b"u", 5_000), (b"", 0))?;
     let answer = answer_of(alloc, b"open 14788 ", zeros.as_slice())?;
-    calls_answer(alloc, line.as_slice(), answer.as_slice())
+    answers(alloc, line.as_slice(), answer.as_slice())
 }
 
 /// Whether 5,000 lists are answered that one call closes.
@@ -109,7 +96,7 @@ fn closed_lists_are_answered(alloc: Global) -> Result<bool, AllocError> {
     Ok(
         bytes.len() == 14_791
             && bytes.starts_with(&[0xf9, 0x39, 0xc4])
-            && calls_answer(alloc, line.as_slice(), answer.as_slice())?,
+            && answers(alloc, line.as_slice(), answer.as_slice())?,
     )
 }
 

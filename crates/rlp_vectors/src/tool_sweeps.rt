@@ -5,14 +5,14 @@ use rlp_tool::RunFault;
 use std::alloc::{AllocError, Global};
 use std::test::Fail;
 
-/// Three lines, and the replies to them.
-const INPUT: &[u8] = b"c20506\nc0\n\n";
+/// Four lines, and the replies to them.
+const INPUT: &[u8] = b"c20506\nc0\n\n+l:2 l:2 d:636174 d:646f67 d:\n";
 
-const REPLIES: &[u8] = b"[\"0x05\", \"0x06\"]\n[]\nnull\n";
+const REPLIES: &[u8] = b"[\"0x05\", \"0x06\"]\n[]\nnull\nout cac88363617483646f6780\n";
 
 /// How many bytes of the input end with a line, and how many of the replies are to the lines up to
 /// there.
-const ENDS: [(usize, usize); 3] = [(7, 17), (10, 20), (11, 25)];
+const ENDS: [(usize, usize); 4] = [(7, 17), (10, 20), (11, 25), (41, 52)];
 
 /// How many calls a sweep makes at most.
 const MOST_CALLS: usize = 100;
@@ -105,7 +105,7 @@ fn writes_needed(
 
 /// How many bytes a call moves; how many reads and writes there are then. The last read finds the
 /// end.
-const NEEDED: [(usize, usize, usize); 3] = [(1, 12, 25), (2, 7, 14), (4096, 2, 1)];
+const NEEDED: [(usize, usize, usize); 3] = [(1, 42, 52), (2, 22, 28), (4096, 2, 1)];
 
 /// Whether each failing call of a reader and a writer is answered by its fault, and none but those.
 fn all_failures_are_answered(alloc: Global) -> Result<bool, AllocError> {
