@@ -26,3 +26,4 @@ pub mod Following
 pub mod StrictLists
 pub mod StrictDecoding
 pub mod Canonical
+pub mod ViewKinds

@@ -1,5 +1,5 @@
 -- The values of the items of a list, as they come one after another.
-use Rattle.std.proofs.Common.{ℕ, ◌≡◌, List, [], ◌∷◌, ◌++◌, ◌⊎◌, inl, inr, None, map, sym, ◌∙◌, ap, append_assoc, append-nil, refl, Result, Ok, Err, IfOk}
+use Rattle.std.proofs.Common.{ℕ, ◌≡◌, List, [], ◌∷◌, ◌++◌, ◌⊎◌, inl, inr, None, map, sym, ◌∙◌, ap, append_assoc, append-nil, Result, Ok, Err, IfOk}
 use Rattle.std.specs.Prelude.{OnOk}
 use Rattle.rlp.specs.declared.error.DecoderError.{DecoderError}
 use Rattle.rlp.specs.declared.error.DecoderError.TheVariants.{OutOfMemory}

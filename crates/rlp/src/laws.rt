@@ -32,8 +32,13 @@ pub use streams::{
     constants_are_encodings, finished_streams_gain_encodings, growth_is_an_order, growth_of_moves,
     open_lists_await_items,
 };
-pub use strict::{list_strictly_decoded, strictly_decoded};
-pub use views::{items_by_number_are_in_order, iteration_reads_few_headers, view_of_list_has_its_items};
+pub use strict::{
+    lenient_views_ignore_what_follows, list_strictly_decoded, strict_fault_is_read,
+    strict_option_is_read, strict_values_are_read, strictly_decoded,
+};
+pub use views::{
+    items_by_number_are_in_order, iteration_reads_few_headers, view_of_list_has_its_items,
+};
 
 /// The digits of a number are below 256, begin with no zero, and are that number's and no other's.
 pub fn digits_are_canonical()

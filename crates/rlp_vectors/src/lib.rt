@@ -69,6 +69,8 @@ mod steps;
 #[cfg(test)]
 mod streams;
 #[cfg(test)]
+mod strict;
+#[cfg(test)]
 mod tool_answers;
 #[cfg(test)]
 mod tool_deep;

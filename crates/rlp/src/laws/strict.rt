@@ -1,15 +1,23 @@
-//! What is read strictly is the whole encoding of its value, and nothing else is.
+//! Views of both kinds: what is read strictly is the whole encoding of its value, and nothing else
+//! is.
 
-ghost use Rattle.std.specs.Prelude.{◌≡◌, List, All, IfErr, IfOk, IsOkAnd, map};
-ghost use Rattle.rlp.specs.declared.error.DecoderError.TheVariants.{OutOfMemory};
-ghost use Rattle.rlp.specs.Format.Encoding.{encoding};
-ghost use Rattle.rlp.specs.Format.Item.{list_of};
-ghost use Rattle.rlp.specs.Values.ListReading.{MayLackAsList};
-ghost use Rattle.rlp.specs.Values.Value.{AreAlike};
-ghost use Rattle.rlp.specs.Views.View.{strict_view_of};
+ghost use Rattle.std.specs.Prelude.{◌≡◌, ◌+◌, ◌<◌, ◌^◌, ◌↔◌, ℕ, List, All, if◌then◌else◌, length, Ok, Err, Some, None, IfErr, IfOk, IsOkAnd, map};
+ghost use Rattle.rlp.specs.declared.error.DecoderError.TheVariants.{OutOfMemory, RlpExpectedToBeList, RlpIsTooBig};
+ghost use Rattle.rlp.specs.Format.Encoding.{BeginsWith, encoding};
+ghost use Rattle.rlp.specs.Format.WrittenHeader.{AreBytes};
+ghost use Rattle.rlp.specs.Format.Header.{HasHeader};
+ghost use Rattle.rlp.specs.Format.Framing.{IsFramed, fault, framing, value};
+ghost use Rattle.rlp.specs.Format.Split.{begins_as_list, items};
+ghost use Rattle.rlp.specs.Format.StringReading.{read_string};
+ghost use Rattle.rlp.specs.Format.Strict.{IsCanonical, strict_fault};
+ghost use Rattle.rlp.specs.Format.Item.{Item, list_of, string};
+ghost use Rattle.rlp.specs.Values.ListReading.{FaultsAsOption, GivesOption, MayLackAsList};
+ghost use Rattle.rlp.specs.Values.ValueReading.{FaultsAsBool, FaultsAsBytes, FaultsAsNumber, FaultsAsText, GivesBool, GivesBytes, GivesNumber, GivesText, HasOneReading};
+ghost use Rattle.rlp.specs.Values.Value.{AreAlike, bit, number_item, option_item};
+ghost use Rattle.rlp.specs.Views.View.{HoldsItem, View, item_by, item_count, item_with_place, list_fault, strict_view_of, view_header, view_of, view_string, view_value};
 
 use crate::error::DecoderError;
-use crate::traits::StrictRead;
+use crate::traits::{Decodable, Encodable, StrictRead};
 use std::alloc::Global;
 
 /// The value that is read strictly: it is alike to a value that fits exactly where the bytes are the
@@ -44,3 +52,55 @@ pub fn list_strictly_decoded<T: StrictRead>(
 {
     crate::decode_list_strict(alloc, bytes)
 }
+
+/// Why bytes aren't one framed item and nothing else: they aren't framed, or bytes follow the framed
+/// item. Canonical bytes have no such fault.
+pub fn strict_fault_is_read(bytes: &[u8])
+    ensures whole { (h n : ℕ) → HasHeader bytes.now h n → h + n ≡ length bytes.now
+        → strict_fault bytes.now ≡ None }
+    ensures followed { (h n : ℕ) → HasHeader bytes.now h n → h + n < length bytes.now
+        → strict_fault bytes.now ≡ Some RlpIsTooBig }
+    ensures unframed { ¬ IsFramed bytes.now → strict_fault bytes.now ≡ Some (fault bytes.now) }
+    ensures canonical { IsCanonical bytes.now → strict_fault bytes.now ≡ None }
+{}
+
+/// On a lenient view each word means what it does of the bytes alone, whatever follows the first
+/// item.
+pub fn lenient_views_ignore_what_follows(bytes: &[u8])
+    ensures header { view_header (view_of bytes.now) ≡ framing bytes.now }
+    ensures value { view_value (view_of bytes.now) ≡ value bytes.now }
+    ensures string { view_string (view_of bytes.now) ≡ read_string bytes.now }
+    ensures holds { (x : Item) → HoldsItem (view_of bytes.now) x
+        ↔ BeginsWith bytes.now (encoding x) }
+    ensures list { list_fault (view_of bytes.now) ≡ None }
+    ensures count { item_count (view_of bytes.now)
+        ≡ (if begins_as_list bytes.now then Ok (length (items bytes.now))
+        else Err RlpExpectedToBeList) }
+    ensures at { (i : ℕ) → item_with_place (view_of bytes.now) i
+        ≡ (if begins_as_list bytes.now then item_by (view_of bytes.now) i (framing bytes.now)
+        else Err RlpExpectedToBeList) }
+{}
+
+/// Of each provided type, a strict view gives one value and has no fault, or gives none and has one
+/// fault.
+pub fn strict_values_are_read(bytes: &[u8])
+    ensures numbers { (width : ℕ)
+        → HasOneReading number_item (GivesNumber width (strict_view_of bytes.now))
+        (FaultsAsNumber width (strict_view_of bytes.now)) }
+    ensures truth_values { HasOneReading (λ b. number_item (bit b))
+        (λ b. GivesBool (strict_view_of bytes.now) b)
+        (λ e. FaultsAsBool (strict_view_of bytes.now) e) }
+    ensures strings { HasOneReading string (GivesBytes (strict_view_of bytes.now))
+        (FaultsAsBytes (strict_view_of bytes.now)) }
+    ensures texts { HasOneReading string (GivesText (strict_view_of bytes.now))
+        (FaultsAsText (strict_view_of bytes.now)) }
+{}
+
+/// Where each item gives one value of a type or has one fault, a strict view gives one option of it
+/// or has one fault.
+pub fn strict_option_is_read<T: Encodable + Decodable>(bytes: &[u8])
+    ensures { ((item : View) → AreBytes item.bytes → length item.bytes < 2 ^ 64
+        → HasOneReading T.item (T.gives item) (T.faults item))
+        → HasOneReading (option_item T.item) (λ o. GivesOption T.gives (strict_view_of bytes.now) o)
+        (λ e. FaultsAsOption T.faults (strict_view_of bytes.now) e) }
+{}

@@ -28,7 +28,6 @@ pub fn view_of_list_has_its_items(bytes: &[u8])
         → item_at (view_of bytes.now) (length before) ≡ Ok (view_of (encoding x)) }
 {}
 
-
 /// The calls of `next` up to the first `None` give the items that were left. If one header was read
 /// before, as by `iter`, then n items and `None` have read n + 2 headers at most.
 pub fn iteration_reads_few_headers()

@@ -14,7 +14,7 @@ use crate::rlpin::header::is_followed;
 use std::marker::Model;
 
 /// A decoder of the string at the front of bytes. Contracts see it as the record `View` of its
-/// bytes.
+/// bytes and its kind.
 #[derive(Drop)]
 pub struct BasicDecoder<'a> {
     rlp: &'a [u8],
@@ -30,7 +30,7 @@ impl<'a> Model for BasicDecoder<'a> {
 }
 
 impl<'a> BasicDecoder<'a> {
-    /// A decoder of these bytes. It looks at none of them yet.
+    /// A lenient decoder of these bytes. It looks at none of them yet.
     pub fn new(rlp: &'a [u8]) -> BasicDecoder<'a>
         ensures { result ≡ view_of rlp.now }
     {
@@ -45,7 +45,8 @@ impl<'a> BasicDecoder<'a> {
     }
 
     /// What `f` answers on the string at the front of the bytes, without its header. What follows
-    /// the string is never looked at.
+    /// the string is never looked at, but by the decoder of a strict view, which then answers
+    /// `RlpIsTooBig`.
     ///
     /// Where no string stands there, `f` isn't called, and the fault is `RlpIsTooShort` for no
     /// bytes, `RlpExpectedToBeData` for a list, `RlpInconsistentLengthAndData` where the bytes end
@@ -74,9 +75,9 @@ impl<'a> BasicDecoder<'a> {
         }
     }
 
-    #[tactic(auto, using(crate::specs::Lemmas::Held::held_strings))]
     /// The string itself: where the decoder is strict, the fault of the string is its own first, and
     /// then `RlpIsTooBig` where bytes follow it.
+    #[tactic(auto, using(crate::specs::Lemmas::Held::held_strings))]
     pub(crate) fn string(&self) -> Result<&'a [u8], DecoderError>
         ensures exact { MatchResult result (λ d. view_string self.now ≡ Ok d.now)
             (λ e. view_string self.now ≡ Err e) }

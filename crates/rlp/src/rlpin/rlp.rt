@@ -22,8 +22,8 @@ use std::marker::Model;
 /// A view of bytes that may begin with an item.
 ///
 /// It holds the bytes and nothing else, so every answer is a function of them: asked again, it is
-/// the same. Contracts see a view as the record `View` of its bytes. What stands after the first
-/// item is never looked at.
+/// the same. Contracts see a view as the record `View` of its bytes and its kind. A lenient view
+/// never looks at what stands after the first item; a strict one has a fault where bytes do.
 #[derive(Debug, Drop)]
 pub struct Rlp<'a> {
     bytes: &'a [u8],
@@ -109,7 +109,8 @@ impl<'a> Rlp<'a> {
 
     /// The header of the first item, where header and value lie within the bytes.
     ///
-    /// Otherwise the fault of [`PayloadInfo::from`], or `RlpIsTooShort` where the value ends early.
+    /// Otherwise the fault of [`PayloadInfo::from`], or `RlpIsTooShort` where the value ends early. A
+    /// strict view answers `RlpIsTooBig` where bytes follow the item.
     pub fn payload_info(&self) -> Result<PayloadInfo, DecoderError>
         ensures { result ≡ view_header self.now }
     {
@@ -136,7 +137,8 @@ impl<'a> Rlp<'a> {
     /// How many items the list has that the view begins with.
     ///
     /// `RlpExpectedToBeList` where there is no byte or the first is one of a string. A list that
-    /// isn't framed has no items.
+    /// isn't framed has no items. A strict view must be a list and nothing else: then come the fault
+    /// of [`Rlp::payload_info`], and that of bytes that follow the items in the list.
     #[tactic(auto, unfolding(crate::specs::Views::View::item_count, crate::specs::Format::Split::items))]
     pub fn item_count(&self) -> Result<usize, DecoderError>
         ensures { result ≡ item_count self.now }
@@ -182,7 +184,8 @@ impl<'a> Rlp<'a> {
     /// `RlpExpectedToBeList` where there is no byte or the first is one of a string; then the fault
     /// of [`Rlp::payload_info`] where the list isn't framed; then, past the last item, the fault of
     /// the bytes that follow the items in the list, which is `RlpIsTooShort` where none do. It
-    /// reads the list's header and at most `index + 1` more.
+    /// reads the list's header and at most `index + 1` more. A strict view has the faults of
+    /// [`Rlp::item_count`] first, for which it reads the header of each item.
     pub fn at_with_offset(&self, index: usize) -> Result<(Rlp<'a>, usize), DecoderError>
         ensures { result ≡ item_with_place self.now index }
     {
@@ -287,7 +290,8 @@ impl<'a> Rlp<'a> {
     ///
     /// The fault is that of an item before which every item gives a value, or `OutOfMemory` where
     /// memory is refused for the value of an item, or for room for it.
-    /// Anything but a framed list has no items, and gives an empty list.
+    /// Anything but a framed list has no items, and gives an empty list; on a strict view it has the
+    /// fault of [`Rlp::item_count`].
     ///
     /// ```rust
     /// let list = rlp::Rlp::new(&[0xc2, 0x05, 0x06]);
@@ -356,7 +360,8 @@ impl<'a> Rlp<'a> {
         }
     }
 
-    /// A decoder of the view's bytes.
+    /// A decoder of the view's bytes, of the same kind. A strict one answers `RlpIsTooBig` where
+    /// bytes follow the string.
     pub fn decoder(&self) -> BasicDecoder<'a>
         ensures { result ≡ self.now }
     {
