@@ -92,6 +92,33 @@ def encoded_string(data):
     return written_header(0x80, len(data)) + data
 
 
+def canonical_end(data, place, end, lists_left):
+    """Where the canonical item at the front of data[place:end] ends, or an `Answered` where none within so many lists
+    stands there."""
+    begin, stop = framing(data, place, end)
+    if data[place] < 0xC0:
+        if encoded_string(data[begin:stop]) != data[place:stop]:
+            raise Answered("another spelling")
+        return stop
+    if lists_left == 0:
+        raise Answered("error deep")
+    while begin < stop:
+        begin = canonical_end(data, begin, stop, lists_left - 1)
+    return stop
+
+
+def are_raw_items(data, items):
+    """Whether the bytes are the joined canonical encodings of so many items, each within the deepest list."""
+    place = count = 0
+    try:
+        while place < len(data):
+            place = canonical_end(data, place, len(data), DEEPEST_LIST)
+            count += 1
+    except Answered:
+        return False
+    return count == items
+
+
 class Stack:
     """The payload at the top and those of the open lists, from the outside in, with what each list awaits: a number
     of items, or None without a bound."""
@@ -167,7 +194,7 @@ def call_of(piece):
 
 
 def make(stack, call, place):
-    """Makes a call on a stack, or raises what is answered where it isn't admitted."""
+    """Makes a call on a stack, or raises what is answered where it is refused."""
     kind, data, items = call
     if kind == "d":
         stack.put(encoded_string(data))
@@ -175,6 +202,8 @@ def make(stack, call, place):
     elif kind == "r":
         if stack.awaited and stack.awaited[-1] is not None and stack.awaited[-1] < items:
             raise Answered(f"error too many items at {place}")
+        if not are_raw_items(data, items):
+            raise Answered(f"error raw not items at {place}")
         stack.put(data)
         stack.count(items)
     elif kind == "l" and items == 0:

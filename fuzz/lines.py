@@ -99,7 +99,9 @@ def call(dice, awaited):
         count = dice.randint(0, 3 if inner is None else min(inner, 3))
         if dice.random() < 0.03:
             count = dice.choice(NUMBERS)
-        data = item(dice, 2) if count == 1 else some_bytes(dice, 60)
+        data = b"".join([item(dice, 2) for _ in range(count)]) if count <= 3 else some_bytes(dice, 60)
+        if dice.random() < 0.1:
+            data = spoiled(dice, data)
         return f"r:{count}:" + digits(dice, data), filled(awaited, count)
     if kind < 0.75:
         count = dice.choice(NUMBERS) if dice.random() < 0.1 else dice.randint(0, 3)

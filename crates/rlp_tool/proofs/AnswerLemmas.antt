@@ -1,32 +1,89 @@
 -- The answers to lines of calls.
-use Rattle.std.proofs.Common.{◌≡◌, ℕ, ◌-◌, Bool, true, false, cond, List, [], ◌∷◌, ◌++◌, codes, decimal, slice_get, Option, Some, None, Result, Ok, Err, IfOk, IfErr, OnOk, IsTrue, IsSomeAnd, refl, sym, ap, ◌∙◌}
+use Rattle.std.proofs.Common.{◌≡◌, ℕ, suc, ◌+◌, Bool, true, false, cond, List, [], ◌∷◌, ◌++◌, length, append-nil, codes, decimal, Result, Ok, Err, IfOk, IfErr, OnOk, IsTrue, refl, sym, ap, ◌∙◌, arith}
 use Rattle.rlp.specs.Streams.Stack.{OpenList}
-use Rattle.rlp.specs.Streams.Stream.{State, closed_size, raw_text}
-use Rattle.rlp.specs.Streams.Calls.{Call, append, append_empty_data, append_raw, append_raw_checked, begin_list, begin_unbounded_list, finalize_unbounded_list, append_internal, encode_value, clear, after}
-use Rattle.rlp.specs.Streams.Described.{FinishAs}
+use Rattle.rlp.specs.Streams.Stream.{State, initial_state, closed_size, raw_text}
+use Rattle.rlp.specs.Streams.Calls.{Call, append, append_empty_data, append_raw, append_raw_checked, begin_list, begin_unbounded_list, finalize_unbounded_list, append_internal, encode_value, clear, effect, is_admitted, after, after_from}
+use Rattle.rlp.specs.Streams.Described.{Step, DescribesWhere, by_append, by_empty_data, by_raw, by_checked_raw, by_refused_raw, by_empty_list, by_list, by_unbounded_list, by_finalize, by_internal_list, by_clear, AreDescribedWhere, FinishAs}
 use Rattle.rlp_tool.specs.declared.building.Built.{Built}
 use Rattle.rlp_tool.specs.declared.building.Built.TheVariants.{Finished, Open}
 use Rattle.rlp_tool.specs.declared.building.BuildFault.{BuildFault}
-use Rattle.rlp_tool.specs.declared.building.BuildFault.TheVariants.{TooManyItems, NothingToFinish, OutOfMemory}
-use Rattle.rlp_tool.specs.Building.{StayOpen, is_raw, is_finish, IsBuilt, IsRefusal}
+use Rattle.rlp_tool.specs.declared.building.BuildFault.TheVariants.{TooManyItems, NothingToFinish, RawNotItems, OutOfMemory}
+use Rattle.rlp_tool.specs.Building.{AreRefused, AreTaken, BringsItems, BringsNoItems, BringsTooMany, HasNothingToFinish, StayOpen, is_raw, is_finish, IsBuilt, IsRefusal}
+use Rattle.rlp_tool.specs.RawItems.{IsShallow, are_raw_items}
 use Rattle.rlp_tool.specs.Script.{script}
-use Rattle.rlp_tool.specs.Answer.{finished_answer, open_answer, state_answer, refusal_answer, outcome_answer, calls_answer, AppendsOutcome}
+use Rattle.rlp_tool.specs.Answer.{brings_items, finished_answer, open_answer, state_answer, refusal_name, outcome_answer, calls_answer, AppendsOutcome}
+use Rattle.rlp_tool.proofs.RawLemmas.{are_raw_items-join, are_raw_items-told}
+
+cond-true : {A : Type 0} (b : Bool) (x y : A) → IsTrue b → cond b x y ≡ x
+cond-true true x y h = refl
+cond-true false x y h = absurd (let never : ⊥ = cc in never)
+
+cond-false : {A : Type 0} (b : Bool) (x y : A) → b ≡ false → cond b x y ≡ y
+cond-false true x y h = absurd (let never : ⊥ = cc in never)
+cond-false false x y h = refl
+
+-- ---- calls that aren't refused
+
+cond_ok : (b : Bool) (r : Result State ℕ) (n : ℕ) (s : State) → cond b r (Err n) ≡ Ok s → r ≡ Ok s
+cond_ok true r n s e = e
+cond_ok false r n s e = absurd (let never : ⊥ = cc in never)
+
+-- a call that is a step passes the test of its raw bytes
+step_passes : (c : Call) (m : Step) (s : State) → DescribesWhere IsShallow s c m → IsTrue (brings_items c)
+step_passes _ _ s (by_append x) = refl
+step_passes _ _ s by_empty_data = refl
+step_passes _ _ s (by_raw xs sized shallow) = are_raw_items-join xs sized shallow
+step_passes _ _ s (by_checked_raw xs limit sized shallow within) = refl
+step_passes _ _ s (by_refused_raw bytes k limit beyond) = refl
+step_passes _ _ s by_empty_list = refl
+step_passes _ _ s (by_list n) = refl
+step_passes _ _ s by_unbounded_list = refl
+step_passes _ _ s by_finalize = refl
+step_passes _ _ s (by_internal_list xs) = refl
+step_passes _ _ s by_clear = refl
+
+-- a call that passes is made
+outcome-next : (n : ℕ) (s : State) (c : Call) (calls : List Call) → IsTrue (is_admitted c s) → IsTrue (brings_items c) → outcome_answer n s (c ∷ calls) ≡ outcome_answer (n + 1) (effect c s) calls
+outcome-next n s c calls admitted passes =
+    cond-true (is_admitted c s) (cond (brings_items c) (outcome_answer (n + 1) (effect c s) calls) (codes "error raw not items at " ++ decimal n)) (refusal_name c ++ decimal n) admitted
+    ∙ cond-true (brings_items c) (outcome_answer (n + 1) (effect c s) calls) (codes "error raw not items at " ++ decimal n) passes
+
+-- the calls behind those that pass decide
+outcome-taken : (before later : List Call) (steps : List Step) (n : ℕ) (s t : State) → AreDescribedWhere IsShallow s before steps → after_from n s before ≡ Ok t → outcome_answer n s (before ++ later) ≡ outcome_answer (n + length before) t later
+outcome-taken [] later [] n s t d e =
+    let same : s ≡ t = cc in
+    let none : n ≡ n + 0 = omega arith in
+    ap (λ (u : State). outcome_answer n u later) same ∙ ap (λ (k : ℕ). outcome_answer k t later) none
+outcome-taken [] later (m ∷ steps) n s t d e = absurd d
+outcome-taken (c ∷ before) later [] n s t d e = absurd d
+outcome-taken (c ∷ before) later (m ∷ steps) n s t d e =
+    let more : n + 1 + length before ≡ n + suc (length before) = omega arith in
+    outcome-next n s c (before ++ later) d.0 (step_passes c m s d.1)
+    ∙ outcome-taken before later steps (n + 1) (effect c s) t d.2 (cond_ok (is_admitted c s) (after_from (n + 1) (effect c s) before) n t e)
+    ∙ ap (λ (k : ℕ). outcome_answer k t later) more
+
+-- calls of which none is refused come to what the state after them tells
+outcome-all : (calls : List Call) (t : State) → AreTaken [] calls → after [] calls ≡ Ok t → outcome_answer 1 (initial_state []) calls ≡ state_answer t.stack.lists t
+outcome-all calls t taken e =
+    ap (outcome_answer 1 (initial_state [])) (sym (append-nil calls)) ∙ outcome-taken calls [] taken.steps 1 (initial_state []) t taken.described e
 
 -- a finished buffer
-answer-finished : (calls : List Call) (bytes : List ℕ) → FinishAs [] calls bytes → finished_answer bytes ≡ outcome_answer calls (after [] calls)
-answer-finished calls bytes f =
+answer-finished : (calls : List Call) (bytes : List ℕ) → AreTaken [] calls → FinishAs [] calls bytes → finished_answer bytes ≡ outcome_answer 1 (initial_state []) calls
+answer-finished calls bytes taken f =
     let s = f.last in
-    ap finished_answer f.buffer ∙ ap (λ (ls : List (OpenList ℕ)). state_answer ls s) (sym f.closed) ∙ ap (outcome_answer calls) (sym f.admitted)
+    ap finished_answer f.buffer ∙ ap (λ (ls : List (OpenList ℕ)). state_answer ls s) (sym f.closed) ∙ sym (outcome-all calls s taken f.admitted)
 
 state_answer-open : (ls : List (OpenList ℕ)) (s : State) → (ls ≡ [] → ⊥) → state_answer ls s ≡ open_answer (closed_size s) (raw_text s)
 state_answer-open [] s some = absurd (some refl)
 state_answer-open (l ∷ ls) s some = refl
 
 -- what is still open
-answer-open : (calls : List Call) (size : ℕ) (raw : List ℕ) → StayOpen [] calls size raw → open_answer size raw ≡ outcome_answer calls (after [] calls)
-answer-open calls size raw o =
+answer-open : (calls : List Call) (size : ℕ) (raw : List ℕ) → AreTaken [] calls → StayOpen [] calls size raw → open_answer size raw ≡ outcome_answer 1 (initial_state []) calls
+answer-open calls size raw taken o =
     let s = o.last in
-    ap (λ (n : ℕ). open_answer n raw) o.closed ∙ ap (open_answer (closed_size s)) o.text ∙ sym (state_answer-open s.stack.lists s o.unfinished) ∙ ap (outcome_answer calls) (sym o.admitted)
+    ap (λ (n : ℕ). open_answer n raw) o.closed ∙ ap (open_answer (closed_size s)) o.text ∙ sym (state_answer-open s.stack.lists s o.unfinished) ∙ sym (outcome-all calls s taken o.admitted)
+
+-- ---- calls that are refused
 
 is_raw-finish : (c : Call) → IsTrue (is_finish c) → is_raw c ≡ false
 is_raw-finish (append x) h = refl
@@ -40,32 +97,57 @@ is_raw-finish (append_internal x) h = refl
 is_raw-finish (encode_value t) h = refl
 is_raw-finish clear h = refl
 
-cond-true : {A : Type 0} (b : Bool) (x y : A) → IsTrue b → cond b x y ≡ x
-cond-true true x y h = refl
-cond-true false x y h = absurd (let never : ⊥ = cc in never)
+refused-first : {reason : Call → State → Type 0} (calls : List Call) (place : ℕ) (r : AreRefused reason [] calls place) → outcome_answer 1 (initial_state []) calls ≡ outcome_answer place r.met (r.call ∷ r.later)
+refused-first calls place r =
+    let there : 1 + length r.before ≡ place = omega (arith, r.counted) in
+    ap (outcome_answer 1 (initial_state [])) r.in_order ∙ outcome-taken r.before (r.call ∷ r.later) r.taken.steps 1 (initial_state []) r.met r.taken.described r.admitted ∙ ap (λ (k : ℕ). outcome_answer k r.met (r.call ∷ r.later)) there
 
-cond-false : {A : Type 0} (b : Bool) (x y : A) → b ≡ false → cond b x y ≡ y
-cond-false true x y h = absurd (let never : ⊥ = cc in never)
-cond-false false x y h = refl
+outcome-barred : (n : ℕ) (s : State) (c : Call) (calls : List Call) → is_admitted c s ≡ false → outcome_answer n s (c ∷ calls) ≡ refusal_name c ++ decimal n
+outcome-barred n s c calls barred = cond-false (is_admitted c s) (cond (brings_items c) (outcome_answer (n + 1) (effect c s) calls) (codes "error raw not items at " ++ decimal n)) (refusal_name c ++ decimal n) barred
 
-refusal_answer-raw : (place : ℕ) (o : Option Call) → IsSomeAnd o (λ c. IsTrue (is_raw c)) → codes "error too many items at " ++ decimal place ≡ refusal_answer place o
-refusal_answer-raw place (Some c) h = ap (λ (name : List ℕ). name ++ decimal place) (sym (cond-true (is_raw c) (codes "error too many items at ") (codes "error nothing to finish at ") h))
-refusal_answer-raw place None h = absurd h
+answer-too_many : (calls : List Call) (place : ℕ) → AreRefused BringsTooMany [] calls place → codes "error too many items at " ++ decimal place ≡ outcome_answer 1 (initial_state []) calls
+answer-too_many calls place r =
+    ap (λ (name : List ℕ). name ++ decimal place) (sym (cond-true (is_raw r.call) (codes "error too many items at ") (codes "error nothing to finish at ") r.refused.1)) ∙ sym (refused-first calls place r ∙ outcome-barred place r.met r.call r.later r.refused.0)
 
-refusal_answer-finish : (place : ℕ) (o : Option Call) → IsSomeAnd o (λ c. IsTrue (is_finish c)) → codes "error nothing to finish at " ++ decimal place ≡ refusal_answer place o
-refusal_answer-finish place (Some c) h = ap (λ (name : List ℕ). name ++ decimal place) (sym (cond-false (is_raw c) (codes "error too many items at ") (codes "error nothing to finish at ") (is_raw-finish c h)))
-refusal_answer-finish place None h = absurd h
+answer-nothing : (calls : List Call) (place : ℕ) → AreRefused HasNothingToFinish [] calls place → codes "error nothing to finish at " ++ decimal place ≡ outcome_answer 1 (initial_state []) calls
+answer-nothing calls place r =
+    ap (λ (name : List ℕ). name ++ decimal place) (sym (cond-false (is_raw r.call) (codes "error too many items at ") (codes "error nothing to finish at ") (is_raw-finish r.call r.refused.1)))
+    ∙ sym (refused-first calls place r ∙ outcome-barred place r.met r.call r.later r.refused.0)
+
+told : (b : Bool) → (IsTrue b → ⊥) → b ≡ false
+told true h = absurd (h refl)
+told false h = refl
+
+-- raw bytes that are no items fail the test
+fails : (c : Call) → (BringsItems c → ⊥) → brings_items c ≡ false
+fails (append x) h = absurd (h tt)
+fails append_empty_data h = absurd (h tt)
+fails (append_raw bytes k) h = told (are_raw_items bytes k) (λ passed. h (are_raw_items-told bytes k passed))
+fails (append_raw_checked bytes k limit) h = absurd (h tt)
+fails (begin_list n) h = absurd (h tt)
+fails begin_unbounded_list h = absurd (h tt)
+fails finalize_unbounded_list h = absurd (h tt)
+fails (append_internal x) h = absurd (h tt)
+fails (encode_value t) h = absurd (h tt)
+fails clear h = absurd (h tt)
+
+answer-no_items : (calls : List Call) (place : ℕ) → AreRefused BringsNoItems [] calls place → codes "error raw not items at " ++ decimal place ≡ outcome_answer 1 (initial_state []) calls
+answer-no_items calls place r =
+    let name : List ℕ = codes "error raw not items at " ++ decimal place in
+    let next : List ℕ = outcome_answer (place + 1) (effect r.call r.met) r.later in
+    sym (refused-first calls place r ∙ cond-true (is_admitted r.call r.met) (cond (brings_items r.call) next name) (refusal_name r.call ++ decimal place) r.refused.0 ∙ cond-false (brings_items r.call) next name (fails r.call r.refused.1))
 
 -- what is printed of what calls come to is the answer to them
-answer-outcome : (r : Result Built BuildFault) (calls : List Call) (old new : List ℕ) → IfOk r (IsBuilt [] calls) → IfErr r (IsRefusal [] calls) → AppendsOutcome old new r → new ≡ old ++ outcome_answer calls (after [] calls)
-answer-outcome (Ok (Finished bytes)) calls old new b f e = e ∙ ap (λ (t : List ℕ). old ++ t) (answer-finished calls bytes.items b)
-answer-outcome (Ok (Open size raw)) calls old new b f e = e ∙ ap (λ (t : List ℕ). old ++ t) (answer-open calls size raw.items b)
-answer-outcome (Err (TooManyItems place)) calls old new b f e = e ∙ ap (λ (t : List ℕ). old ++ t) (refusal_answer-raw place (slice_get calls (place - 1)) f.kind_there ∙ ap (outcome_answer calls) (sym f.first))
-answer-outcome (Err (NothingToFinish place)) calls old new b f e = e ∙ ap (λ (t : List ℕ). old ++ t) (refusal_answer-finish place (slice_get calls (place - 1)) f.kind_there ∙ ap (outcome_answer calls) (sym f.first))
-answer-outcome (Err OutOfMemory) calls old new b f e = absurd e
+answer-outcome : (r : Result Built BuildFault) (calls : List Call) (old new : List ℕ) → OnOk r (AreTaken [] calls) → IfOk r (IsBuilt [] calls) → IfErr r (IsRefusal [] calls) → AppendsOutcome old new r → new ≡ old ++ outcome_answer 1 (initial_state []) calls
+answer-outcome (Ok (Finished bytes)) calls old new t b f e = e ∙ ap (λ (a : List ℕ). old ++ a) (answer-finished calls bytes.items t b)
+answer-outcome (Ok (Open size raw)) calls old new t b f e = e ∙ ap (λ (a : List ℕ). old ++ a) (answer-open calls size raw.items t b)
+answer-outcome (Err (TooManyItems place)) calls old new t b f e = e ∙ ap (λ (a : List ℕ). old ++ a) (answer-too_many calls place f)
+answer-outcome (Err (NothingToFinish place)) calls old new t b f e = e ∙ ap (λ (a : List ℕ). old ++ a) (answer-nothing calls place f)
+answer-outcome (Err (RawNotItems place)) calls old new t b f e = e ∙ ap (λ (a : List ℕ). old ++ a) (answer-no_items calls place f)
+answer-outcome (Err OutOfMemory) calls old new t b f e = absurd e
 
 -- the same, if it was printed
-pub answer-script : {T E : Type 0} (printed : Result T E) (built : Result Built BuildFault) (text : List ℕ) (calls : List Call) (old new : List ℕ) → script text ≡ Ok calls → IfOk built (IsBuilt [] calls) → IfErr built (IsRefusal [] calls)
+pub answer-script : {T E : Type 0} (printed : Result T E) (built : Result Built BuildFault) (text : List ℕ) (calls : List Call) (old new : List ℕ) → script text ≡ Ok calls → OnOk built (AreTaken [] calls) → IfOk built (IsBuilt [] calls) → IfErr built (IsRefusal [] calls)
     → OnOk printed (AppendsOutcome old new built) → OnOk printed (new ≡ old ++ calls_answer (script text))
-answer-script (Ok x) built text calls old new is b f e = answer-outcome built calls old new b f e ∙ ap (λ (r : Result (List Call) ℕ). old ++ calls_answer r) (sym is)
-answer-script (Err x) built text calls old new is b f e = tt
+answer-script (Ok x) built text calls old new is t b f e = answer-outcome built calls old new t b f e ∙ ap (λ (r : Result (List Call) ℕ). old ++ calls_answer r) (sym is)
+answer-script (Err x) built text calls old new is t b f e = tt

@@ -1,15 +1,24 @@
 -- Calls of a stream, one after another.
-use Rattle.std.proofs.Common.{◌≡◌, ℕ, zero, suc, ◌+◌, ◌-◌, ◌<◌, ◌≤◌, Bool, true, false, cond, List, [], ◌∷◌, ◌++◌, length, map, drop, get_or, slice_get, Option, Some, None, Result, Ok, Err, IfOk, IfErr, IsTrue, IsSomeAnd, refl, sym, ap, ◌∙◌, nat_le, arith, subst}
-use Rattle.rlp.specs.Format.Item.{Item, string, list}
+use Rattle.std.proofs.Common.{◌≡◌, ℕ, zero, suc, ◌+◌, ◌^◌, ◌<◌, ◌≤◌, Bool, true, false, cond, List, [], ◌∷◌, ◌++◌, length, map, take, drop, take-append-drop, get_or, Option, Some, None, Result, Ok, Err, IfOk, IfErr, OnOk, IsTrue, All, Vec, refl, sym, ap, ◌∙◌, nat_le, arith, subst}
+use Rattle.std.specs.declared.alloc.Global.{Global}
+use Rattle.std.specs.List.{AllByRecursion}
+use Rattle.std.proofs.lemmas.List.Elements.{All-from_recursion}
+use Rattle.rlp.specs.Format.Item.{Item, string, list, list_of}
 use Rattle.rlp.specs.Format.Encoding.{join}
-use Rattle.rlp.specs.Streams.Stack.{OpenList, Stack, has_room, awaited}
-use Rattle.rlp.specs.Streams.Stream.{State, put, count, put_item}
+use Rattle.rlp.specs.Streams.Stack.{OpenList, Stack, empty_stack, has_room, awaited}
+use Rattle.rlp.specs.Streams.Stream.{State, initial_state, put, count, put_item}
 use Rattle.rlp.specs.Streams.Calls.{Call, append, append_empty_data, append_raw, append_raw_checked, begin_list, begin_unbounded_list, finalize_unbounded_list, append_internal, encode_value, clear, effect, is_admitted, is_within_size, after, after_from}
+use Rattle.rlp.specs.Streams.Described.{Step, brings, opens, finishes, clears, DescribesWhere, Describes, by_append, by_empty_data, by_raw, by_checked_raw, by_refused_raw, by_empty_list, by_list, by_unbounded_list, by_finalize, by_internal_list, by_clear, AreDescribedWhere, AreDescribed, IsDescribedWhere, IsAny, items_after_all, joined_list, joined_stack}
 use Rattle.rlp_tool.specs.declared.building.Built.{Built}
 use Rattle.rlp_tool.specs.declared.building.Built.TheVariants.{Finished, Open}
 use Rattle.rlp_tool.specs.declared.building.BuildFault.{BuildFault}
-use Rattle.rlp_tool.specs.declared.building.BuildFault.TheVariants.{TooManyItems, NothingToFinish, OutOfMemory}
-use Rattle.rlp_tool.specs.Building.{AreRefused, IsBuilt, IsRefusal, IsFinishedAs, IsUnfit, IsHeld}
+use Rattle.rlp_tool.specs.declared.building.BuildFault.TheVariants.{TooManyItems, NothingToFinish, RawNotItems, OutOfMemory}
+use Rattle.rlp_tool.specs.declared.calls.StreamCall.{StreamCall}
+use Rattle.rlp_tool.specs.declared.calls.StreamCall.TheVariants.{Value, Values, Raw, Begin, BeginUnbounded, Finish, Clear}
+use Rattle.rlp_tool.specs.RawItems.{AreRawItems, IsShallow}
+use Rattle.rlp_tool.specs.StreamCalls.{call_of}
+use Rattle.rlp_tool.specs.Building.{AreRefused, AreTaken, BringsItems, BringsNoItems, BringsTooMany, HasNothingToFinish, IsBuilt, IsJoined, IsRefusal, IsFinishedAs, IsStep, IsUnfit, IsHeld}
+use Rattle.rlp_tool.proofs.RawLemmas.{joined_sized}
 
 -- room for k items, by what is awaited
 abbrev pub room_for : ℕ → Option ℕ → Bool
@@ -34,24 +43,9 @@ left-next f (y ∷ ys) (suc i) x h e =
     let one_more : suc i + 1 ≡ suc (i + 1) = omega arith in
     left-next f ys i x (omega arith) e ∙ ap (λ (k : ℕ). f x ∷ drop k (map f (y ∷ ys))) (sym one_more)
 
-there : {E : Type 0} (f : E → Call) (xs : List E) (i : ℕ) (x : E) → i < length xs → x ≡ get_or xs i x → slice_get (map f xs) i ≡ Some (f x)
-there f [] i x h e = absurd (omega arith)
-there f (y ∷ ys) zero x h e = ap (λ z. Some (f z)) (sym e)
-there f (y ∷ ys) (suc i) x h e = there f ys i x (omega arith) e
-
-left-none : {E : Type 0} (f : E → Call) (xs : List E) (i : ℕ) → length xs ≤ i → drop i (map f xs) ≡ []
-left-none f [] zero h = refl
-left-none f [] (suc i) h = refl
-left-none f (y ∷ ys) zero h = absurd (omega arith)
-left-none f (y ∷ ys) (suc i) h = left-none f ys i (omega arith)
-
 cond-yes : {A : Type 0} (b : Bool) (x y : A) → IsTrue b → cond b x y ≡ x
 cond-yes true x y h = refl
 cond-yes false x y h = absurd (let no : ⊥ = cc in no)
-
-cond-no : {A : Type 0} (b : Bool) (x y : A) → b ≡ false → cond b x y ≡ y
-cond-no true x y h = absurd (let no : ⊥ = cc in no)
-cond-no false x y h = refl
 
 cond-front : (b : Bool) (x y : State) (f : List ℕ) → x.front ≡ f → y.front ≡ f → (cond b x y).front ≡ f
 cond-front true x y f e g = e
@@ -75,41 +69,192 @@ effect-front (append_internal x) s = put_item-front x s
 effect-front (encode_value t) s = refl
 effect-front clear s = refl
 
--- ---- the calls that are left decide
+-- ---- the calls so far
 
-pub decide-next : {E : Type 0} (f : E → Call) (xs : List E) (front : List ℕ) (i : ℕ) (x : E) (s : State) (t : State) → i < length xs → x ≡ get_or xs i x → IsTrue (is_admitted (f x) s) → t ≡ effect (f x) s
-    → after front (map f xs) ≡ after_from (i + 1) s (drop i (map f xs)) → after front (map f xs) ≡ after_from (i + 1 + 1) t (drop (i + 1) (map f xs))
-decide-next f xs front i x s t h e admitted moved all =
-    let rest = drop (i + 1) (map f xs) in
-    all ∙ ap (after_from (i + 1) s) (left-next f xs i x h e) ∙ cond-yes (is_admitted (f x) s) (after_from (i + 1 + 1) (effect (f x) s) rest) (Err (i + 1)) admitted ∙ ap (λ (u : State). after_from (i + 1 + 1) u rest) (sym moved)
+cond_ok : (b : Bool) (r : Result State ℕ) (n : ℕ) (s : State) → cond b r (Err n) ≡ Ok s → IsTrue b × (r ≡ Ok s)
+cond_ok true r n s e = (refl, e)
+cond_ok false r n s e = absurd (let no : ⊥ = cc in no)
 
-pub front-next : (c : Call) (s t : State) (front : List ℕ) → t ≡ effect c s → s.front ≡ front → t.front ≡ front
-front-next c s t front moved same = ap (λ (u : State). u.front) moved ∙ effect-front c s ∙ same
+-- one more call after some that were admitted
+after-more : (calls : List Call) (c : Call) (n : ℕ) (s t : State) → after_from n s calls ≡ Ok t → IsTrue (is_admitted c t) → after_from n s (calls ++ c ∷ []) ≡ Ok (effect c t)
+after-more [] c n s t e admitted =
+    let same : s ≡ t = cc in
+    cond-yes (is_admitted c s) (Ok (effect c s)) (Err n) (subst (λ (u : State). IsTrue (is_admitted c u)) (sym same) admitted) ∙ ap (λ (u : State). Ok (effect c u)) same
+after-more (d ∷ calls) c n s t e admitted =
+    let (here, rest) = cond_ok (is_admitted d s) (after_from (n + 1) (effect d s) calls) n t e in
+    cond-yes (is_admitted d s) (after_from (n + 1) (effect d s) (calls ++ c ∷ [])) (Err n) here ∙ after-more calls c (n + 1) (effect d s) t rest admitted
 
-pub decide-end : {E : Type 0} (f : E → Call) (xs : List E) (front : List ℕ) (i : ℕ) (s : State) → length xs ≤ i → after front (map f xs) ≡ after_from (i + 1) s (drop i (map f xs)) → after front (map f xs) ≡ Ok s
-decide-end f xs front i s h all = all ∙ ap (after_from (i + 1) s) (left-none f xs i h)
+described-more : (calls : List Call) (steps : List Step) (c : Call) (m : Step) (n : ℕ) (s t : State) → AreDescribedWhere IsShallow s calls steps → after_from n s calls ≡ Ok t → IsTrue (is_admitted c t) → DescribesWhere IsShallow t c m
+    → AreDescribedWhere IsShallow s (calls ++ c ∷ []) (steps ++ m ∷ [])
+described-more [] [] c m n s t d e admitted step =
+    let same : t ≡ s = cc in (subst (λ (u : State). IsTrue (is_admitted c u)) same admitted, subst (λ (u : State). DescribesWhere IsShallow u c m) same step, tt)
+described-more [] (k ∷ steps) c m n s t d e admitted step = absurd d
+described-more (b ∷ calls) [] c m n s t d e admitted step = absurd d
+described-more (b ∷ calls) (k ∷ steps) c m n s t d e admitted step =
+    (d.0, d.1, described-more calls steps c m (n + 1) (effect b s) t d.2 (cond_ok (is_admitted b s) (after_from (n + 1) (effect b s) calls) n t e).1 admitted step)
 
-decide-refused : {E : Type 0} (f : E → Call) (xs : List E) (front : List ℕ) (i : ℕ) (x : E) (s : State) → i < length xs → x ≡ get_or xs i x → is_admitted (f x) s ≡ false
-    → after front (map f xs) ≡ after_from (i + 1) s (drop i (map f xs)) → after front (map f xs) ≡ Err (i + 1)
-decide-refused f xs front i x s h e refused all =
-    let rest = drop (i + 1) (map f xs) in
-    all ∙ ap (after_from (i + 1) s) (left-next f xs i x h e) ∙ cond-no (is_admitted (f x) s) (after_from (i + 1 + 1) (effect (f x) s) rest) (Err (i + 1)) refused
+-- none of the calls was refused, and they have led to this state
+pub record AreMade (front : List ℕ) (calls : List Call) (s : State) : Type 0 where
+  pub taken : AreTaken front calls
+  pub admitted : after front calls ≡ Ok s
+  pub same_front : s.front ≡ front
+
+pub made_none : (front : List ℕ) (calls : List Call) (s : State) → s ≡ initial_state front → AreMade front (take 0 calls) s
+made_none front calls s is = record { taken = record { steps = []; described = tt }; admitted = ap (λ (u : State). Ok u) (sym is); same_front = ap (λ (u : State). u.front) is }
+
+made_more : (front : List ℕ) (calls : List Call) (c : Call) (s t : State) → AreMade front calls s → IsTrue (is_admitted c s) → IsStep c s → t ≡ effect c s → AreMade front (calls ++ c ∷ []) t
+made_more front calls c s t made admitted (m, step) moved = record {
+  taken = record { steps = made.taken.steps ++ m ∷ []; described = described-more calls made.taken.steps c m 1 (initial_state front) s made.taken.described made.admitted admitted step };
+  admitted = after-more calls c 1 (initial_state front) s made.admitted admitted ∙ ap (λ (u : State). Ok u) (sym moved);
+  same_front = ap (λ (u : State). u.front) moved ∙ effect-front c s ∙ made.same_front;
+}
+
+take-next : {E : Type 0} (f : E → Call) (xs : List E) (i : ℕ) (x : E) → i < length xs → x ≡ get_or xs i x → take (i + 1) (map f xs) ≡ take i (map f xs) ++ f x ∷ []
+take-next f [] i x h e = absurd (omega arith)
+take-next f (y ∷ ys) zero x h e = ap (λ z. f z ∷ []) (sym e)
+take-next f (y ∷ ys) (suc i) x h e =
+    let one_more : suc i + 1 ≡ suc (i + 1) = omega arith in
+    ap (λ (k : ℕ). take k (map f (y ∷ ys))) one_more ∙ ap (λ cs. f y ∷ cs) (take-next f ys i x (omega arith) e)
+
+take-all : {E : Type 0} (f : E → Call) (xs : List E) (i : ℕ) → length xs ≤ i → take i (map f xs) ≡ map f xs
+take-all f [] zero h = refl
+take-all f [] (suc i) h = refl
+take-all f (y ∷ ys) zero h = absurd (omega arith)
+take-all f (y ∷ ys) (suc i) h = ap (λ cs. f y ∷ cs) (take-all f ys i (omega arith))
+
+length-taken : {E : Type 0} (f : E → Call) (xs : List E) (i : ℕ) → i < length xs → length (take i (map f xs)) ≡ i
+length-taken f [] i h = absurd (omega arith)
+length-taken f (y ∷ ys) zero h = refl
+length-taken f (y ∷ ys) (suc i) h = ap suc (length-taken f ys i (omega arith))
+
+around : {E : Type 0} (f : E → Call) (xs : List E) (i : ℕ) (x : E) → i < length xs → x ≡ get_or xs i x → map f xs ≡ take i (map f xs) ++ f x ∷ drop (i + 1) (map f xs)
+around f xs i x h e = sym (take-append-drop i (map f xs)) ∙ ap (λ cs. take i (map f xs) ++ cs) (left-next f xs i x h e)
+
+-- the call in this place is made
+pub made_next : {E : Type 0} (f : E → Call) (xs : List E) (front : List ℕ) (i : ℕ) (x : E) (s t : State) → i < length xs → x ≡ get_or xs i x → IsTrue (is_admitted (f x) s) → IsStep (f x) s → t ≡ effect (f x) s
+    → AreMade front (take i (map f xs)) s → AreMade front (take (i + 1) (map f xs)) t
+made_next f xs front i x s t h e admitted step moved made =
+    subst (λ cs. AreMade front cs t) (sym (take-next f xs i x h e)) (made_more front (take i (map f xs)) (f x) s t made admitted step moved)
+
+pub made_all : {E : Type 0} (f : E → Call) (xs : List E) (front : List ℕ) (i : ℕ) (s : State) → length xs ≤ i → AreMade front (take i (map f xs)) s → AreMade front (map f xs) s
+made_all f xs front i s h made = subst (λ cs. AreMade front cs s) (take-all f xs i h) made
 
 -- the call in this place is refused
-refused_there : {E : Type 0} (kind : Call → Bool) (f : E → Call) (xs : List E) (front : List ℕ) (i : ℕ) (x : E) (s : State) (place : ℕ) → i < length xs → x ≡ get_or xs i x
-    → after front (map f xs) ≡ after_from (i + 1) s (drop i (map f xs)) → place ≡ i + 1 → is_admitted (f x) s ≡ false → IsTrue (kind (f x)) → AreRefused kind front (map f xs) place
-refused_there kind f xs front i x s place h e all is refused is_kind =
-    let at : place - 1 ≡ i = omega arith in
-    record {
-      first = decide-refused f xs front i x s h e refused all ∙ ap (λ (n : ℕ). Err n) (sym is);
-      kind_there = subst (λ (o : Option Call). IsSomeAnd o (λ call. IsTrue (kind call))) (sym (ap (slice_get (map f xs)) at ∙ there f xs i x h e)) is_kind;
-    }
+refused_there : {E : Type 0} (reason : Call → State → Type 0) (f : E → Call) (xs : List E) (front : List ℕ) (i : ℕ) (x : E) (s : State) (place : ℕ) → i < length xs → x ≡ get_or xs i x
+    → AreMade front (take i (map f xs)) s → place ≡ i + 1 → reason (f x) s → AreRefused reason front (map f xs) place
+refused_there reason f xs front i x s place h e made is why = record {
+  before = take i (map f xs);
+  call = f x;
+  later = drop (i + 1) (map f xs);
+  in_order = around f xs i x h e;
+  counted = omega (arith, is, length-taken f xs i h);
+  taken = made.taken;
+  met = s;
+  admitted = made.admitted;
+  refused = why;
+}
 
-pub refused : {E : Type 0} (f : E → Call) (xs : List E) (front : List ℕ) (i : ℕ) (x : E) (s : State) (fault : BuildFault) → i < length xs → x ≡ get_or xs i x → after front (map f xs) ≡ after_from (i + 1) s (drop i (map f xs))
+pub refused : {E : Type 0} (f : E → Call) (xs : List E) (front : List ℕ) (i : ℕ) (x : E) (s : State) (fault : BuildFault) → i < length xs → x ≡ get_or xs i x → AreMade front (take i (map f xs)) s
     → IsUnfit (f x) s (i + 1) fault → IsRefusal front (map f xs) fault
-refused f xs front i x s (TooManyItems place) h e all (is, barred, kind) = refused_there _ f xs front i x s place h e all is barred kind
-refused f xs front i x s (NothingToFinish place) h e all (is, barred, kind) = refused_there _ f xs front i x s place h e all is barred kind
-refused f xs front i x s OutOfMemory h e all unfit = tt
+refused f xs front i x s (TooManyItems place) h e made unfit = refused_there BringsTooMany f xs front i x s place h e made unfit.0 unfit.1
+refused f xs front i x s (NothingToFinish place) h e made unfit = refused_there HasNothingToFinish f xs front i x s place h e made unfit.0 unfit.1
+refused f xs front i x s (RawNotItems place) h e made unfit = refused_there BringsNoItems f xs front i x s place h e made unfit.0 unfit.1
+refused f xs front i x s OutOfMemory h e made unfit = tt
+
+-- ---- the step that a call is
+
+pub step_raw : (bytes : List ℕ) (n : ℕ) (s : State) → length bytes < 2 ^ 64 → AreRawItems bytes n → IsStep (append_raw bytes n) s
+step_raw bytes n s fits a =
+    let step : DescribesWhere IsShallow s (append_raw (join a.brought) (length a.brought)) (brings a.brought) = by_raw a.brought (joined_sized a.brought bytes fits a.joined) a.shallow in
+    (brings a.brought, subst (λ (k : ℕ). DescribesWhere IsShallow s (append_raw bytes k) (brings a.brought)) a.counted (subst (λ (b : List ℕ). DescribesWhere IsShallow s (append_raw b (length a.brought)) (brings a.brought)) (sym a.joined) step))
+
+step_begin : (n : ℕ) (s : State) → IsStep (begin_list n) s
+step_begin zero s = (brings (list_of [] ∷ []), by_empty_list)
+step_begin (suc n) s = (opens (Some (suc n)), by_list n)
+
+-- each other call is a step, whatever it brings
+pub step_other : {E : Type 0} (item : E → Item) (call : StreamCall E) (s : State) → ((bytes : Vec ℕ Global) (n : ℕ) → call ≡ Raw bytes n → ⊥) → IsStep (call_of item call) s
+step_other item (Value v) s other = (brings (item v ∷ []), by_append (item v))
+step_other item (Values vs) s other = (brings (list_of (map item vs.items) ∷ []), by_append (list_of (map item vs.items)))
+step_other item (Raw bytes n) s other = absurd (other bytes n refl)
+step_other item (Begin n) s other = step_begin n s
+step_other item BeginUnbounded s other = (opens None, by_unbounded_list)
+step_other item Finish s other = (finishes, by_finalize)
+step_other item Clear s other = (clears, by_clear)
+
+-- closing a list is a step
+pub step_finish : {E : Type 0} (item : E → Item) (call : StreamCall E) (s : State) → call ≡ Finish → IsStep (call_of item call) s
+step_finish item call s is = subst (λ c. IsStep (call_of item c) s) (sym is) (finishes, by_finalize)
+
+-- raw bytes that were tested are a step
+pub step_tested : {T F E : Type 0} (r : Result T F) (item : E → Item) (call : StreamCall E) (bytes : Vec ℕ Global) (n : ℕ) (view : List ℕ) (s : State) → call ≡ Raw bytes n → view ≡ bytes.items → length view < 2 ^ 64 → OnOk r (AreRawItems view n)
+    → OnOk r (IsStep (call_of item call) s)
+step_tested (Ok x) item call bytes n view s is same fits a =
+    let raw : IsStep (append_raw bytes.items n) s = subst (λ (b : List ℕ). IsStep (append_raw b n) s) same (step_raw view n s fits a) in subst (λ c. IsStep (call_of item c) s) (sym is) raw
+step_tested (Err e) item call bytes n view s is same fits a = tt
+
+-- all calls but two are always admitted
+pub admitted_other : {E : Type 0} (item : E → Item) (call : StreamCall E) (s : State) → ((bytes : Vec ℕ Global) (n : ℕ) → call ≡ Raw bytes n → ⊥) → (call ≡ Finish → ⊥) → IsTrue (is_admitted (call_of item call) s)
+admitted_other item (Value v) s raw finish = refl
+admitted_other item (Values vs) s raw finish = refl
+admitted_other item (Raw bytes n) s raw finish = absurd (raw bytes n refl)
+admitted_other item (Begin n) s raw finish = refl
+admitted_other item BeginUnbounded s raw finish = refl
+admitted_other item Finish s raw finish = absurd (finish refl)
+admitted_other item Clear s raw finish = refl
+
+-- raw bytes that are a step bring items
+pub step_brings : (c : Call) (m : Step) (s : State) → DescribesWhere IsShallow s c m → BringsItems c
+step_brings _ _ s (by_append x) = tt
+step_brings _ _ s by_empty_data = tt
+step_brings _ _ s (by_raw xs sized shallow) = record { brought = xs; joined = refl; counted = refl; shallow = shallow }
+step_brings _ _ s (by_checked_raw xs limit sized shallow within) = tt
+step_brings _ _ s (by_refused_raw bytes k limit beyond) = tt
+step_brings _ _ s by_empty_list = tt
+step_brings _ _ s (by_list n) = tt
+step_brings _ _ s by_unbounded_list = tt
+step_brings _ _ s by_finalize = tt
+step_brings _ _ s (by_internal_list xs) = tt
+step_brings _ _ s by_clear = tt
+
+any_items : (xs : List Item) → All IsAny xs
+any_items xs = All-from_recursion IsAny xs (any_by xs)
+  where
+    any_by : (ys : List Item) → AllByRecursion IsAny ys
+    any_by [] = tt
+    any_by (y ∷ ys) = (tt, any_by ys)
+
+described_anyhow : (c : Call) (m : Step) (s : State) → DescribesWhere IsShallow s c m → Describes s c m
+described_anyhow _ _ s (by_append x) = by_append x
+described_anyhow _ _ s by_empty_data = by_empty_data
+described_anyhow _ _ s (by_raw xs sized shallow) = by_raw xs sized (any_items xs)
+described_anyhow _ _ s (by_checked_raw xs limit sized shallow within) = by_checked_raw xs limit sized (any_items xs) within
+described_anyhow _ _ s (by_refused_raw bytes k limit beyond) = by_refused_raw bytes k limit beyond
+described_anyhow _ _ s by_empty_list = by_empty_list
+described_anyhow _ _ s (by_list n) = by_list n
+described_anyhow _ _ s by_unbounded_list = by_unbounded_list
+described_anyhow _ _ s by_finalize = by_finalize
+described_anyhow _ _ s (by_internal_list xs) = by_internal_list xs
+described_anyhow _ _ s by_clear = by_clear
+
+all_described_anyhow : (s : State) (calls : List Call) (steps : List Step) → AreDescribedWhere IsShallow s calls steps → AreDescribed s calls steps
+all_described_anyhow s [] [] d = tt
+all_described_anyhow s [] (m ∷ steps) d = absurd d
+all_described_anyhow s (c ∷ calls) [] d = absurd d
+all_described_anyhow s (c ∷ calls) (m ∷ steps) d = (d.0, described_anyhow c m s d.1, all_described_anyhow (effect c s) calls steps d.2)
+
+-- a described call, in the state that it meets
+described-at : (before : List Call) (c : Call) (later : List Call) (steps : List Step) (n : ℕ) (s t : State) → AreDescribedWhere IsShallow s (before ++ c ∷ later) steps → after_from n s before ≡ Ok t → IsTrue (is_admitted c t) × IsStep c t
+described-at [] c later [] n s t d e = absurd d
+described-at (b ∷ before) c later [] n s t d e = absurd d
+described-at [] c later (m ∷ steps) n s t d e =
+    let same : s ≡ t = cc in (subst (λ (u : State). IsTrue (is_admitted c u)) same d.0, (m, subst (λ (u : State). DescribesWhere IsShallow u c m) same d.1))
+described-at (b ∷ before) c later (m ∷ steps) n s t d e =
+    described-at before c later steps (n + 1) (effect b s) t d.2 (cond_ok (is_admitted b s) (after_from (n + 1) (effect b s) before) n t e).1
+
+described_there : {reason : Call → State → Type 0} (front : List ℕ) (calls : List Call) (items : List Item) (place : ℕ) (r : AreRefused reason front calls place) → IsDescribedWhere IsShallow front calls items → IsTrue (is_admitted r.call r.met) × IsStep r.call r.met
+described_there front calls items place r d =
+    described-at r.before r.call r.later d.steps 1 (initial_state front) r.met (subst (λ cs. AreDescribedWhere IsShallow (initial_state front) cs d.steps) r.in_order d.described) r.admitted
 
 -- ---- what the calls come to
 
@@ -124,8 +269,8 @@ Leaves front calls items = (last : State) × (after front calls ≡ Ok last) × 
 same_last : (r : Result State ℕ) (s t : State) → r ≡ Ok s → r ≡ Ok t → s ≡ t
 same_last r s t e f = cc
 
-not_both : (r : Result State ℕ) (s : State) (n : ℕ) → r ≡ Ok s → r ≡ Err n → ⊥
-not_both r s n e f = cc
+barred : (b : Bool) → IsTrue b → b ≡ false → ⊥
+barred b h e = cc
 
 pub described_built : (front : List ℕ) (calls : List Call) (items : List Item) (b : Built) → Leaves front calls items → IsBuilt front calls b → IsFinishedAs (front ++ join items) b
 described_built front calls items (Finished bytes) left b =
@@ -135,10 +280,37 @@ described_built front calls items (Open size raw) left b =
     let last : b.last ≡ left.0 = same_last (after front calls) b.last left.0 b.admitted left.1 in
     absurd (b.unfinished (ap (λ (s : State). s.stack.lists) last ∙ ap (λ (k : Stack ℕ). k.lists) left.3))
 
-pub described_refused : (front : List ℕ) (calls : List Call) (items : List Item) (fault : BuildFault) → Leaves front calls items → IsRefusal front calls fault → fault ≡ OutOfMemory
-described_refused front calls items (TooManyItems place) left b = absurd (not_both (after front calls) left.0 place left.1 b.first)
-described_refused front calls items (NothingToFinish place) left b = absurd (not_both (after front calls) left.0 place left.1 b.first)
-described_refused front calls items OutOfMemory left b = refl
+pub described_refused : (front : List ℕ) (calls : List Call) (items : List Item) (fault : BuildFault) → IsDescribedWhere IsShallow front calls items → IsRefusal front calls fault → fault ≡ OutOfMemory
+described_refused front calls items (TooManyItems place) d r = let at = described_there front calls items place r d in absurd (barred (is_admitted r.call r.met) at.0 r.refused.0)
+described_refused front calls items (NothingToFinish place) d r = let at = described_there front calls items place r d in absurd (barred (is_admitted r.call r.met) at.0 r.refused.0)
+described_refused front calls items (RawNotItems place) d r = let (admitted, (m, step)) = described_there front calls items place r d in absurd (r.refused.1 (step_brings r.call m r.met step))
+described_refused front calls items OutOfMemory d r = refl
+
+-- what calls leave, by the steps that they are, as the law says it
+abbrev pub LeavesSteps : List ℕ → List Call → List Step → Type 0
+LeavesSteps front calls steps = (last : State) × (after front calls ≡ Ok last) × (last.front ≡ front) × (last.stack ≡ joined_stack (items_after_all steps empty_stack))
+
+no_lists : (ls : List (OpenList Item)) → map joined_list ls ≡ [] → ls ≡ []
+no_lists [] e = refl
+no_lists (l ∷ ls) e = absurd (let no : ⊥ = cc in no)
+
+-- what is finished is the joined encodings of the items described
+pub joined_built : (front : List ℕ) (calls : List Call) (s : State) (b : Built) (made : AreMade front calls s) → (AreDescribed (initial_state front) calls made.taken.steps → LeavesSteps front calls made.taken.steps) → IsHeld s b → IsJoined front calls b
+joined_built front calls s (Finished bytes) made law (closed, is) =
+    let k : Stack Item = items_after_all made.taken.steps empty_stack in
+    let each : AreDescribed (initial_state front) calls made.taken.steps = all_described_anyhow (initial_state front) calls made.taken.steps made.taken.described in
+    let (last, admitted, same_front, stack) = law each in
+    let same : s ≡ last = same_last (after front calls) s last made.admitted admitted in
+    let stacks : s.stack ≡ joined_stack k = ap (λ (u : State). u.stack) same ∙ stack in
+    let none : k.lists ≡ [] = no_lists k.lists (sym (ap (λ (t : Stack ℕ). t.lists) stacks) ∙ closed) in
+    let finished : k ≡ record { inner = k.inner; lists = [] } = ap (λ ls. record k { lists = ls }) none in
+    record {
+      items = k.inner;
+      shallow = record { steps = made.taken.steps; described = made.taken.described; finished = finished };
+      described = record { steps = made.taken.steps; described = each; finished = finished };
+      joined = is ∙ ap (λ (f : List ℕ). f ++ s.stack.inner) made.same_front ∙ ap (λ (t : Stack ℕ). front ++ t.inner) stacks;
+    }
+joined_built front calls s (Open size raw) made law is = tt
 
 -- ---- through a result
 
@@ -149,3 +321,7 @@ IfOk-map (Err e) f p = tt
 pub IfErr-map : {T E : Type 0} (r : Result T E) {P Q : E → Type 0} → ((x : E) → P x → Q x) → IfErr r P → IfErr r Q
 IfErr-map (Ok x) f p = tt
 IfErr-map (Err e) f p = f e p
+
+pub OnOk-all : {T E P : Type 0} (r : Result T E) → P → OnOk r P
+OnOk-all (Ok x) p = p
+OnOk-all (Err e) p = tt

@@ -4,3 +4,4 @@ pub mod CutLemmas
 pub mod DigitLemmas
 pub mod LinesLemmas
 pub mod ProgressLemmas
+pub mod RawLemmas

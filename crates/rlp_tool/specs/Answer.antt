@@ -1,19 +1,20 @@
 -- What is answered to a line.
-use Rattle.std.specs.Prelude.{ℕ, ◌≡◌, ◌==◌, nat_lt, ◌-◌, if◌then◌else◌, List, [], ◌∷◌, ◌++◌, length, codes, decimal, Option, Some, None, slice_get, Result, Ok, Err}
+use Rattle.std.specs.Prelude.{ℕ, ◌≡◌, ◌==◌, ◌+◌, nat_lt, Bool, true, if◌then◌else◌, List, [], ◌∷◌, ◌++◌, length, codes, decimal, Option, Some, None, Result, Ok, Err}
 use Rattle.std.specs.Str.{byte}
 use Rattle.std.specs.Str.Lines.{strip_carriage_return}
 use Rattle.hex.specs.Hex.{encode_lower}
 use Rattle.rlp.specs.Views.Depth.{depth}
 use Rattle.rlp.specs.Views.Text.{text}
 use Rattle.rlp.specs.Streams.Stack.{OpenList}
-use Rattle.rlp.specs.Streams.Stream.{State, closed_size, raw_text}
-use Rattle.rlp.specs.Streams.Calls.{Call, after}
+use Rattle.rlp.specs.Streams.Stream.{State, initial_state, closed_size, raw_text}
+use Rattle.rlp.specs.Streams.Calls.{Call, append_raw, effect, is_admitted}
 use Rattle.rlp_tool.specs.declared.building.Built.{Built}
 use Rattle.rlp_tool.specs.declared.building.Built.TheVariants.{Finished, Open}
 use Rattle.rlp_tool.specs.declared.building.BuildFault.{BuildFault}
-use Rattle.rlp_tool.specs.declared.building.BuildFault.TheVariants.{TooManyItems, NothingToFinish, OutOfMemory}
+use Rattle.rlp_tool.specs.declared.building.BuildFault.TheVariants.{TooManyItems, NothingToFinish, RawNotItems, OutOfMemory}
 use Rattle.rlp_tool.specs.Building.{is_raw}
 use Rattle.rlp_tool.specs.Digits.{bytes_in}
+use Rattle.rlp_tool.specs.RawItems.{are_raw_items}
 use Rattle.rlp_tool.specs.Script.{script}
 
 -- the most bytes that a line may have, its newline not counted
@@ -51,19 +52,26 @@ abbrev pub state_answer : List (OpenList ℕ) → State → List ℕ
 state_answer [] s = finished_answer s.stack.inner
 state_answer (l ∷ ls) s = open_answer (closed_size s) (raw_text s)
 
--- why the call in this place is refused: raw bytes bring too many items, and there was nothing to finish otherwise
-abbrev pub refusal_answer : ℕ → Option Call → List ℕ
-refusal_answer place (Some call) = (if is_raw call then codes "error too many items at " else codes "error nothing to finish at ") ++ decimal place
-refusal_answer place None = []
+-- whether a call's raw bytes are as many items as it counts, none of them too deep
+abbrev pub brings_items : Call → Bool
+brings_items (append_raw bytes count) = are_raw_items bytes count
+brings_items _ = true
 
--- what the calls come to, by the state after them or the place of the first that isn't admitted
-abbrev pub outcome_answer : List Call → Result State ℕ → List ℕ
-outcome_answer calls (Ok s) = state_answer s.stack.lists s
-outcome_answer calls (Err place) = refusal_answer place (slice_get calls (place - 1))
+-- why a call is refused that isn't admitted: raw bytes bring too many items, and there was nothing to finish otherwise
+abbrev pub refusal_name : Call → List ℕ
+refusal_name call = if is_raw call then codes "error too many items at " else codes "error nothing to finish at "
+
+-- what the calls come to, from a state on, where this is the place of the next: the first that is refused decides
+abbrev pub outcome_answer : ℕ → State → List Call → List ℕ
+outcome_answer place s [] = state_answer s.stack.lists s
+outcome_answer place s (call ∷ calls) =
+    if is_admitted call s
+    then (if brings_items call then outcome_answer (place + 1) (effect call s) calls else codes "error raw not items at " ++ decimal place)
+    else refusal_name call ++ decimal place
 
 -- what calls that were read come to over an empty front, or the place of the first piece that says no call
 abbrev pub calls_answer : Result (List Call) ℕ → List ℕ
-calls_answer (Ok calls) = outcome_answer calls (after [] calls)
+calls_answer (Ok calls) = outcome_answer 1 (initial_state []) calls
 calls_answer (Err place) = codes "error syntax at " ++ decimal place
 
 -- ---- all lines
@@ -89,4 +97,5 @@ AppendsOutcome old new (Ok (Finished bytes)) = new ≡ old ++ finished_answer by
 AppendsOutcome old new (Ok (Open size raw)) = new ≡ old ++ open_answer size raw.items
 AppendsOutcome old new (Err (TooManyItems place)) = new ≡ old ++ (codes "error too many items at " ++ decimal place)
 AppendsOutcome old new (Err (NothingToFinish place)) = new ≡ old ++ (codes "error nothing to finish at " ++ decimal place)
+AppendsOutcome old new (Err (RawNotItems place)) = new ≡ old ++ (codes "error raw not items at " ++ decimal place)
 AppendsOutcome old new (Err OutOfMemory) = ⊥

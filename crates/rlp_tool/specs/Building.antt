@@ -1,12 +1,15 @@
 -- What calls over a front come to.
-use Rattle.std.specs.Prelude.{ℕ, ◌≡◌, ◌-◌, Bool, true, false, IsTrue, List, ◌++◌, slice_get, IsSomeAnd, Ok, Err}
+use Rattle.std.specs.Prelude.{ℕ, suc, ◌≡◌, Bool, true, false, IsTrue, List, ◌∷◌, ◌++◌, length, Ok}
+use Rattle.rlp.specs.Format.Item.{Item}
+use Rattle.rlp.specs.Format.Encoding.{join}
 use Rattle.rlp.specs.Streams.Calls.{Call, append_raw, append_raw_checked, finalize_unbounded_list, is_admitted, after}
-use Rattle.rlp.specs.Streams.Stream.{State, IsFinished, closed_size, raw_text}
-use Rattle.rlp.specs.Streams.Described.{FinishAs}
+use Rattle.rlp.specs.Streams.Stream.{State, initial_state, IsFinished, closed_size, raw_text}
+use Rattle.rlp.specs.Streams.Described.{Step, DescribesWhere, AreDescribedWhere, IsDescribed, IsDescribedWhere, FinishAs}
 use Rattle.rlp_tool.specs.declared.building.Built.{Built}
 use Rattle.rlp_tool.specs.declared.building.Built.TheVariants.{Finished, Open}
 use Rattle.rlp_tool.specs.declared.building.BuildFault.{BuildFault}
-use Rattle.rlp_tool.specs.declared.building.BuildFault.TheVariants.{TooManyItems, NothingToFinish, OutOfMemory}
+use Rattle.rlp_tool.specs.declared.building.BuildFault.TheVariants.{TooManyItems, NothingToFinish, RawNotItems, OutOfMemory}
+use Rattle.rlp_tool.specs.RawItems.{AreRawItems, IsShallow}
 
 -- the calls over the front are all admitted and leave a list open; the closed size and the raw text are these
 pub record StayOpen (front : List ℕ) (calls : List Call) (size : ℕ) (raw : List ℕ) : Type 0 where
@@ -27,10 +30,39 @@ abbrev pub is_finish : Call → Bool
 is_finish finalize_unbounded_list = true
 is_finish _ = false
 
--- the call in this place is the first that isn't admitted, and is of this kind
-pub record AreRefused (kind : Call → Bool) (front : List ℕ) (calls : List Call) (place : ℕ) : Type 0 where
-  pub first : after front calls ≡ Err place
-  pub kind_there : IsSomeAnd (slice_get calls (place - 1)) (λ call. IsTrue (kind call))
+-- a call's raw bytes are as many items as it counts, none of them too deep; a call that puts no raw bytes has none to show
+abbrev pub BringsItems : Call → Type 0
+BringsItems (append_raw bytes count) = AreRawItems bytes count
+BringsItems _ = Unit
+
+-- no call over the front is refused: each is admitted, and raw bytes bring as many items as they count, none of them too deep
+pub record AreTaken (front : List ℕ) (calls : List Call) : Type 0 where
+  pub steps : List Step
+  pub described : AreDescribedWhere IsShallow (initial_state front) calls steps
+
+-- the call in this place, from 1, is refused for a reason that it has in the state that it meets, and no call before it is refused
+pub record AreRefused (reason : Call → State → Type 0) (front : List ℕ) (calls : List Call) (place : ℕ) : Type 0 where
+  pub before : List Call
+  pub call : Call
+  pub later : List Call
+  pub in_order : calls ≡ before ++ call ∷ later
+  pub counted : place ≡ suc (length before)
+  pub taken : AreTaken front before
+  pub met : State
+  pub admitted : after front before ≡ Ok met
+  pub refused : reason call met
+
+-- raw bytes bring more items than the innermost list awaits
+abbrev pub BringsTooMany : Call → State → Type 0
+BringsTooMany call s = (is_admitted call s ≡ false) × IsTrue (is_raw call)
+
+-- a list is to be closed, but none is open, or the innermost one is closed by its items
+abbrev pub HasNothingToFinish : Call → State → Type 0
+HasNothingToFinish call s = (is_admitted call s ≡ false) × IsTrue (is_finish call)
+
+-- raw bytes may bring so many items, but they are none or others
+abbrev pub BringsNoItems : Call → State → Type 0
+BringsNoItems call s = IsTrue (is_admitted call s) × (¬ BringsItems call)
 
 -- what the calls over the front come to, where none is refused
 abbrev pub IsBuilt : List ℕ → List Call → Built → Type 0
@@ -39,9 +71,22 @@ IsBuilt front calls (Open size raw) = StayOpen front calls size raw.items
 
 -- why they come to nothing. Of memory it says no more.
 abbrev pub IsRefusal : List ℕ → List Call → BuildFault → Type 0
-IsRefusal front calls (TooManyItems place) = AreRefused is_raw front calls place
-IsRefusal front calls (NothingToFinish place) = AreRefused is_finish front calls place
+IsRefusal front calls (TooManyItems place) = AreRefused BringsTooMany front calls place
+IsRefusal front calls (NothingToFinish place) = AreRefused HasNothingToFinish front calls place
+IsRefusal front calls (RawNotItems place) = AreRefused BringsNoItems front calls place
 IsRefusal front calls OutOfMemory = Unit
+
+-- the calls describe items, of which raw bytes bring none too deep, and the finished buffer is the front and the joined encodings of these
+pub record AreJoined (front : List ℕ) (calls : List Call) (bytes : List ℕ) : Type 0 where
+  pub items : List Item
+  pub shallow : IsDescribedWhere IsShallow front calls items
+  pub described : IsDescribed front calls items
+  pub joined : bytes ≡ front ++ join items
+
+-- the same of what calls come to; of a list that is open it says nothing
+abbrev pub IsJoined : List ℕ → List Call → Built → Type 0
+IsJoined front calls (Finished bytes) = AreJoined front calls bytes.items
+IsJoined front calls (Open size raw) = Unit
 
 -- a finished buffer of these bytes
 abbrev pub IsFinishedAs : List ℕ → Built → Type 0
@@ -50,10 +95,15 @@ IsFinishedAs expected (Open size raw) = ⊥
 
 -- ---- parts, which only clauses of private functions cite
 
+-- the step that a call is, in the state that it meets
+abbrev pub IsStep : Call → State → Type 0
+IsStep call s = (m : Step) × DescribesWhere IsShallow s call m
+
 -- why a call isn't made, in this state and this place
 abbrev pub IsUnfit : Call → State → ℕ → BuildFault → Type 0
-IsUnfit call s place (TooManyItems there) = (there ≡ place) × (is_admitted call s ≡ false) × IsTrue (is_raw call)
-IsUnfit call s place (NothingToFinish there) = (there ≡ place) × (is_admitted call s ≡ false) × IsTrue (is_finish call)
+IsUnfit call s place (TooManyItems there) = (there ≡ place) × BringsTooMany call s
+IsUnfit call s place (NothingToFinish there) = (there ≡ place) × HasNothingToFinish call s
+IsUnfit call s place (RawNotItems there) = (there ≡ place) × BringsNoItems call s
 IsUnfit call s place OutOfMemory = Unit
 
 -- what a stream in this state holds in the end

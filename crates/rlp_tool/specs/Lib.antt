@@ -3,6 +3,7 @@ pub mod Building
 pub mod Digits
 pub mod Lines
 pub mod Progress
+pub mod RawItems
 pub mod Replies
 pub mod Run
 pub mod Script

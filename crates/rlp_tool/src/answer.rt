@@ -116,6 +116,7 @@ fn put_outcome(outcome: &Result<Built, BuildFault>, out: &mut String) -> Result<
         Err(BuildFault::NothingToFinish(place)) => {
             put_fault("error nothing to finish at ", *place, out)
         }
+        Err(BuildFault::RawNotItems(place)) => put_fault("error raw not items at ", *place, out),
         Err(BuildFault::OutOfMemory) => Err(AllocError),
     }
 }

@@ -1,19 +1,24 @@
 //! What calls of a stream over a front come to.
-ghost use Rattle.std.specs.Prelude.{◌≡◌, ◌++◌, List, OnOk, IfOk, IfErr, IsTrue};
+ghost use Rattle.std.specs.Prelude.{◌≡◌, ◌++◌, ◌↔◌, List, MatchOption, OnOk, IfOk, IfErr, IsTrue};
 ghost use Rattle.rlp.specs.Format.Item.{Item};
 ghost use Rattle.rlp.specs.Format.Encoding.{join};
+ghost use Rattle.rlp.specs.Format.Framing.{IsFramed, IsFramedItem};
 ghost use Rattle.rlp.specs.Streams.Stack.{has_room};
-ghost use Rattle.rlp.specs.Streams.Calls.{effect, is_admitted};
-ghost use Rattle.rlp.specs.Streams.Described.{IsDescribed};
-ghost use Rattle.rlp_tool.specs.Building.{IsBuilt, IsRefusal, IsFinishedAs, IsUnfit, IsHeld};
+ghost use Rattle.rlp.specs.Streams.Calls.{append_raw, effect, is_admitted};
+ghost use Rattle.rlp.specs.Streams.Described.{IsDescribed, IsDescribedWhere};
+ghost use Rattle.rlp_tool.specs.Building.{AreTaken, IsBuilt, IsRefusal, IsJoined, IsFinishedAs, IsStep, IsUnfit, IsHeld};
+ghost use Rattle.rlp_tool.specs.RawItems.{AreRawItems, IsShallow};
 ghost use Rattle.rlp_tool.specs.declared.building.BuildFault.{BuildFault};
 ghost use Rattle.rlp_tool.specs.StreamCalls.{call_of, calls_of};
 
 use crate::calls::StreamCall;
 use bytes::BytesMut;
 use rlp::laws::stream_joins_what_is_described;
-use rlp::{Encodable, RlpStream};
+use rlp::{Encodable, PayloadInfo, Rlp, RlpStream};
 use std::alloc::{AllocError, Global};
+
+/// The greatest depth of an item that raw bytes may bring.
+const DEEPEST_RAW_ITEM: usize = 256;
 
 /// What calls come to.
 #[derive(Drop)]
@@ -36,6 +41,9 @@ pub enum BuildFault {
     TooManyItems(usize),
     /// No list is open, or the innermost one is to be closed by its items.
     NothingToFinish(usize),
+    /// Raw bytes aren't the joined canonical encodings of as many items as they count, each of depth
+    /// at most 256.
+    RawNotItems(usize),
     /// Memory was refused.
     OutOfMemory,
 }
@@ -51,6 +59,55 @@ fn has_room(stream: &RlpStream, count: usize) -> bool
     }
 }
 
+/// The item that bytes begin with, and what follows it; `None` where they begin with none.
+fn first_item<'a>(bytes: &'a [u8]) -> Option<(&'a [u8], &'a [u8])>
+    ensures { MatchOption result (¬ IsFramed bytes.now)
+        (λ r. IsFramedItem r.0.now × (bytes.now ≡ r.0.now ++ r.1.now)) }
+{
+    let info = match PayloadInfo::from(bytes) {
+        Ok(info) => info,
+        Err(_) => return None,
+    };
+    match info.checked_total() {
+        Some(total) if total <= bytes.len() => Some(bytes.split_at(total)),
+        _ => None,
+    }
+}
+
+/// Whether raw bytes are the joined canonical encodings of so many items, none of them too deep.
+fn raw_items_are_canonical(bytes: &[u8], item_count: usize) -> bool
+    ensures { IsTrue result ↔ AreRawItems bytes.now item_count }
+{
+    let mut rest = bytes;
+    let mut awaited = item_count;
+    while !rest.is_empty() {
+        let Some((item, others)) = first_item(rest) else {
+            return false;
+        };
+        if awaited == 0 || !Rlp::new(item).is_canonical(DEEPEST_RAW_ITEM) {
+            return false;
+        }
+        awaited -= 1;
+        rest = others;
+    }
+    awaited == 0
+}
+
+/// Tests whether raw bytes may be put; `place` is the place of the call.
+fn admit_raw(stream: &RlpStream, bytes: &[u8], count: usize, place: usize) -> Result<(), BuildFault>
+    ensures ok { OnOk result (IsTrue (has_room count stream.now.state.stack.lists)) }
+    ensures brings { OnOk result (AreRawItems bytes.now count) }
+    ensures refused { IfErr result (IsUnfit (append_raw bytes.now count) stream.now.state place) }
+{
+    if !has_room(stream, count) {
+        return Err(BuildFault::TooManyItems(place));
+    }
+    if !raw_items_are_canonical(bytes, count) {
+        return Err(BuildFault::RawNotItems(place));
+    }
+    Ok(())
+}
+
 /// Tests whether a call may be made; `place` is its place.
 fn admit<E: Encodable>(
     stream: &RlpStream,
@@ -58,13 +115,18 @@ fn admit<E: Encodable>(
     place: usize,
 ) -> Result<(), BuildFault>
     ensures ok { OnOk result (IsTrue (is_admitted (call_of E.item call.now) stream.now.state)) }
+    ensures brings { OnOk result (IsStep (call_of E.item call.now) stream.now.state) }
     ensures refused { IfErr result (IsUnfit (call_of E.item call.now) stream.now.state place) }
 {
     match call {
-        StreamCall::Raw(_, count) if !has_room(stream, *count) => {
-            Err(BuildFault::TooManyItems(place))
+        StreamCall::Raw(bytes, count) => admit_raw(stream, bytes.as_slice(), *count, place),
+        StreamCall::Finish => {
+            if stream.can_finalize() {
+                Ok(())
+            } else {
+                Err(BuildFault::NothingToFinish(place))
+            }
         }
-        StreamCall::Finish if !stream.can_finalize() => Err(BuildFault::NothingToFinish(place)),
         _ => Ok(()),
     }
 }
@@ -107,6 +169,7 @@ fn take_call<E: Encodable>(
         (IsTrue (is_admitted (call_of E.item call.now) stream.old.state)) }
     ensures ok { OnOk result
         (stream.new.state ≡ effect (call_of E.item call.now) stream.old.state) }
+    ensures brings { OnOk result (IsStep (call_of E.item call.now) stream.old.state) }
     ensures refused { IfErr result (IsUnfit (call_of E.item call.now) stream.old.state place) }
 {
     admit(stream, call, place)?;
@@ -135,8 +198,13 @@ fn held(alloc: Global, stream: RlpStream) -> Result<Built, BuildFault>
 ///
 /// It answers what the stream holds then: the finished bytes, or where a list is open the closed
 /// size and the bytes as they stand. The first call that may not be made decides the fault:
-/// `TooManyItems` of `Raw`, `NothingToFinish` of `Finish`, each with its place from 1. Where memory
-/// is refused, or a value's own `rlp_append` answers that it was, the answer is `OutOfMemory`.
+/// `TooManyItems` or else `RawNotItems` of `Raw`, `NothingToFinish` of `Finish`, each with its place
+/// from 1. Where memory is refused, or a value's own `rlp_append` answers that it was, the answer is
+/// `OutOfMemory`.
+///
+/// Raw bytes are checked: where there is an answer, they were the joined canonical encodings of as
+/// many items as they count, each of depth at most 256. So the finished bytes are the front and the
+/// canonical encodings of the items that the calls describe.
 ///
 /// ```rust
 /// let calls = [StreamCall::Begin(2), StreamCall::Value(1u64), StreamCall::Value(2u64)];
@@ -152,13 +220,18 @@ pub fn build<E: Encodable>(
     ensures ok { IfOk result (IsBuilt front.items (calls_of E.item calls.now)) }
     ensures refused { IfErr result (IsRefusal front.items (calls_of E.item calls.now)) }
 
-    // Where the calls describe items, the answer is the front and their joined encodings, or memory
-    // was refused.
+    // Where there is an answer, no call was refused, and what is finished is the front and the joined
+    // encodings of the items that the calls describe.
+    ensures taken { OnOk result (AreTaken front.items (calls_of E.item calls.now)) }
+    ensures joined { IfOk result (IsJoined front.items (calls_of E.item calls.now)) }
+
+    // Where the calls describe items, the answer is the front and their joined encodings; where those
+    // that raw bytes bring aren't too deep, it is that, or memory was refused.
     ensures described { (items : List Item)
         → IsDescribed front.items (calls_of E.item calls.now) items
         → IfOk result (IsFinishedAs (front.items ++ join items)) }
     ensures described_refused { (items : List Item)
-        → IsDescribed front.items (calls_of E.item calls.now) items
+        → IsDescribedWhere IsShallow front.items (calls_of E.item calls.now) items
         → IfErr result (λ fault. fault ≡ BuildFault.OutOfMemory) }
 {
     stream_joins_what_is_described();

@@ -1,8 +1,9 @@
 //! What a caller of two `build`s learns.
 
-ghost use Rattle.std.specs.Prelude.{◌≡◌, ◌↔◌, List, IfOk, IfSome, IsSome, IsTrue};
+ghost use Rattle.std.specs.Prelude.{◌≡◌, ◌↔◌, List, IfOk, IfSome, IsSome, IsSomeAnd, IsTrue};
 ghost use Rattle.rlp.specs.Format.Item.{Item};
 ghost use Rattle.rlp.specs.Streams.Described.{IsDescribed, FinishAs};
+ghost use Rattle.rlp_tool.specs.Building.{AreJoined};
 ghost use Rattle.rlp_tool.specs.StreamCalls.{calls_of};
 
 use bytes::BytesMut;
@@ -28,6 +29,8 @@ fn finished_over<E: Encodable>(
 ) -> Result<Option<BytesMut>, BuildFault>
     ensures finished { IfOk result (λ buffer. IfSome buffer
         (λ bytes. FinishAs front.items (calls_of E.item calls.now) bytes.items)) }
+    ensures joined { IfOk result (λ buffer. IfSome buffer
+        (λ bytes. AreJoined front.items (calls_of E.item calls.now) bytes.items)) }
     ensures described { (items : List Item)
         → IsDescribed front.items (calls_of E.item calls.now) items
         → IfOk result (λ buffer. IsSome buffer) }
@@ -39,7 +42,8 @@ fn finished_over<E: Encodable>(
     }
 }
 
-/// The finished buffer of calls over a front; `None` where they leave a list open.
+/// The finished buffer of calls over a front, which is the front and the encodings of the items that
+/// they describe, whatever raw bytes they put; `None` where they leave a list open.
 pub fn finished_buffer<E: Encodable>(
     alloc: Global,
     front: &[u8],
@@ -47,6 +51,8 @@ pub fn finished_buffer<E: Encodable>(
 ) -> Result<Option<BytesMut>, BuildFault>
     ensures finished { IfOk result (λ buffer. IfSome buffer
         (λ bytes. FinishAs front.now (calls_of E.item calls.now) bytes.items)) }
+    ensures joined { IfOk result (λ buffer. IfSome buffer
+        (λ bytes. AreJoined front.now (calls_of E.item calls.now) bytes.items)) }
     ensures described { (items : List Item)
         → IsDescribed front.now (calls_of E.item calls.now) items
         → IfOk result (λ buffer. IsSome buffer) }
@@ -64,25 +70,29 @@ fn same_bytes(one: &[u8], other: &[u8]) -> bool
     one == other
 }
 
-/// Whether calls over one front finish as the same bytes. Where they describe items, those are the
-/// same items or others.
+/// Whether calls over one front finish as the same bytes: `Some(true)` exactly where both describe
+/// the same items, whatever raw bytes they put, and `None` where either leave a list open.
 pub fn finish_alike<A: Encodable, B: Encodable>(
     alloc: Global,
     front: &[u8],
     one: &[StreamCall<A>],
     other: &[StreamCall<B>],
-) -> Result<bool, BuildFault>
-    ensures { (xs ys : List Item) → IsDescribed front.now (calls_of A.item one.now) xs
+) -> Result<Option<bool>, BuildFault>
+    ensures told { IfOk result (λ answer. IfSome answer (λ alike. (xs : List Item) × (ys : List Item)
+        × IsDescribed front.now (calls_of A.item one.now) xs
+        × IsDescribed front.now (calls_of B.item other.now) ys
+        × (IsTrue alike ↔ (xs ≡ ys)))) }
+    ensures described { (xs ys : List Item) → IsDescribed front.now (calls_of A.item one.now) xs
         → IsDescribed front.now (calls_of B.item other.now) ys
-        → IfOk result (λ alike. IsTrue alike ↔ (xs ≡ ys)) }
+        → IfOk result (λ answer. IsSomeAnd answer (λ alike. IsTrue alike ↔ (xs ≡ ys))) }
 {
     let Some(first) = finished_buffer(alloc, front, one)? else {
-        return Ok(false);
+        return Ok(None);
     };
     let Some(second) = finished_buffer(alloc, front, other)? else {
-        return Ok(false);
+        return Ok(None);
     };
     let (first, second) = (first.as_slice(), second.as_slice());
     finished_buffers_tell_items(first, second);
-    Ok(same_bytes(first, second))
+    Ok(Some(same_bytes(first, second)))
 }

@@ -25,7 +25,7 @@ fn line_of(
 }
 
 /// So many lists around these bytes, one in another.
-fn nested(alloc: Global, inner: &[u8], lists: usize) -> Result<Vec<u8>, AllocError> {
+pub(crate) fn nested(alloc: Global, inner: &[u8], lists: usize) -> Result<Vec<u8>, AllocError> {
     let mut item = Vec::from_slice(alloc, inner)?;
     for _ in 0..lists {
         let mut outer = Vec::new(alloc);

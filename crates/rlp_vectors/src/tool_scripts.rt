@@ -1,13 +1,14 @@
 //! What lines of calls are answered, and what calls come to.
 
 use crate::pair::Pair;
+use crate::tool_deep::nested;
 use crate::tool_devices::answers;
 use bytes::BytesMut;
 use rlp_tool::{BuildFault, Built, ScriptFault, StreamCall, build, read_calls};
 use std::alloc::{AllocError, Global};
 
 /// Lines, and what is answered to them.
-const LINES: [(&[u8], &[u8]); 16] = [
+const LINES: [(&[u8], &[u8]); 17] = [
     (
         b"+l:2 l:2 d:636174 d:646f67 d:",
         b"out cac88363617483646f6780\n",
@@ -17,12 +18,13 @@ const LINES: [(&[u8], &[u8]); 16] = [
     (b"+\r", b"out\n"),
     (b"+u d:01", b"open 2 0001\n"),
     (b"+u u e e", b"out c1c0\n"),
-    (b"+l:1 r:0:05 d:06", b"out c20506\n"),
     (b"+l:18446744073709551615", b"open 1 00\n"),
     (b"+d:0x61", b"out 61\n"),
     (b"+l:02 d: d:", b"out c28080\n"),
     (b"+d:AB", b"out 81ab\n"),
-    (b"+l:1 r:1:", b"out c0\n"),
+    (b"+r:2:0102", b"out 0102\n"),
+    (b"+r:0:", b"out\n"),
+    (b"+l:1 r:0: d:06", b"out c106\n"),
     (b"+u d:61 e d:62", b"out c16162\n"),
     (b"+u c", b"out\n"),
     (b"0g\n0\n0xC0", b"error hex\nerror hex\n[]\n"),
@@ -30,12 +32,19 @@ const LINES: [(&[u8], &[u8]); 16] = [
 ];
 
 /// Lines that are refused, and why.
-const REFUSED: [(&[u8], &[u8]); 24] = [
+const REFUSED: [(&[u8], &[u8]); 31] = [
     (b"+l:1 d:01 e", b"error nothing to finish at 3\n"),
     (b"+u l:1 e", b"error nothing to finish at 3\n"),
     (b"+l:1 r:2:0102", b"error too many items at 2\n"),
     (b"+l:1 c e", b"error nothing to finish at 3\n"),
     (b"+e l:1 r:2:0102", b"error nothing to finish at 1\n"),
+    (b"+l:1 r:0:05 d:06", b"error raw not items at 2\n"),
+    (b"+l:1 r:1:", b"error raw not items at 2\n"),
+    (b"+l:1 r:1:8105", b"error raw not items at 2\n"),
+    (b"+r:1:0102", b"error raw not items at 1\n"),
+    (b"+r:18446744073709551615:", b"error raw not items at 1\n"),
+    (b"+r:1:b8026162 e", b"error raw not items at 1\n"),
+    (b"+r:1:c20582", b"error raw not items at 1\n"),
     (b"+d:0", b"error syntax at 1\n"),
     (b"+l:2 e x", b"error syntax at 3\n"),
     (b"+u  e", b"error syntax at 2\n"),
@@ -208,5 +217,51 @@ fn long_scripts_are_answered(alloc: Global) -> Result<bool, AllocError> {
 #[test]
 fn run_answers_long_scripts(rt: HostRuntime) -> Result<(), AllocError> {
     assert!(rt; long_scripts_are_answered(rt.alloc())?);
+    Ok(())
+}
+
+/// Whether one raw item of so many lists, one in another, is answered by itself and else refused.
+fn raw_lists_are_answered(alloc: Global, lists: usize, taken: bool) -> Result<bool, AllocError> {
+    let item = nested(alloc, &[], lists)?;
+    let mut line = Vec::from_slice(alloc, b"+r:1:")?;
+    line.extend_from_slice(hex::encode(alloc, item.as_slice())?.as_bytes())?;
+    let finished = out_of(alloc, item.as_slice())?;
+    let answer: &[u8] = if taken {
+        finished.as_slice()
+    } else {
+        b"error raw not items at 1\n"
+    };
+    answers(alloc, line.as_slice(), answer)
+}
+
+/// Whether raw items nest 256 deep, and no deeper.
+fn deep_raw_items_are_answered(alloc: Global) -> Result<bool, AllocError> {
+    Ok(raw_lists_are_answered(alloc, 256, true)? && raw_lists_are_answered(alloc, 257, false)?)
+}
+
+#[test]
+fn run_answers_deep_raw_items(rt: HostRuntime) -> Result<(), AllocError> {
+    assert!(rt; deep_raw_items_are_answered(rt.alloc())?);
+    Ok(())
+}
+
+/// Whether raw bytes are refused in their place, behind raw bytes that are items.
+fn raw_bytes_are_checked(alloc: Global) -> Result<bool, AllocError> {
+    let calls: [StreamCall<u64>; 3] = [
+        StreamCall::Raw(Vec::from_slice(alloc, &[0x01, 0xc0])?, 2),
+        StreamCall::Raw(Vec::from_slice(alloc, &[0xc1, 0x00])?, 1),
+        StreamCall::Raw(Vec::from_slice(alloc, &[0x81, 0x05])?, 1),
+    ];
+    let built = build(alloc, BytesMut::new(alloc), &calls[..2]);
+    let refused = build(alloc, BytesMut::new(alloc), calls.as_slice());
+    Ok(
+        finishes(&built, &[0x01, 0xc0, 0xc1, 0x00])
+            && matches!(refused, Err(BuildFault::RawNotItems(3))),
+    )
+}
+
+#[test]
+fn build_checks_raw_bytes(rt: HostRuntime) -> Result<(), AllocError> {
+    assert!(rt; raw_bytes_are_checked(rt.alloc())?);
     Ok(())
 }
