@@ -84,14 +84,24 @@ header_few len small =
     (λ short. let e : header_len len ≡ 1 = ap length (written_header_short 0xc0 len short) in omega arith)
     (cases_lt 55 len)
 
--- each header takes the place of one byte
-pub closed_len_few : (start end more : ℕ) (ps : List Placeholder) → Descends end ps → end + more + 8 * length ps < 2 ^ 64 → closed_len start end more ps ≤ end + more + 8 * length ps
-closed_len_few start end more [] order small = omega arith
-closed_len_few start end more (p ∷ ps) order small =
-    let len : ℕ = (end - (p.position + 1)) + more in
-    let few : header_len len ≤ 9 = header_few len (omega (arith, order.0)) in
-    let around : closed_len start p.position (header_len len + len) ps ≤ p.position + (header_len len + len) + 8 * length ps = closed_len_few start p.position (header_len len + len) ps order.1 (omega (arith, order.0)) in
-    omega (arith, around, few, order.0)
+-- each header takes at most nine bytes, and the place of one
+pub closed_len_few : (start more : ℕ) (b : List ℕ) (ps : List Placeholder) → IsLaid start b ps → (length b - start) + 8 * length ps + more < 2 ^ 64 → closed_len start (length b) more ps ≤ (length b - start) + 8 * length ps + more
+closed_len_few start more b [] h small = omega arith
+closed_len_few start more b (p ∷ ps) h small =
+    let within = h.0.within in
+    let low = start_le start (take p.position b) ps h.1 in
+    let below : length (take p.position b) ≡ p.position = length-take-le p.position b (omega arith) in
+    let len : ℕ = (length b - (p.position + 1)) + more in
+    let few : header_len len ≤ 9 = header_few len (omega (arith, low, below)) in
+    let around = closed_len_few start (header_len len + len) (take p.position b) ps h.1 (omega (arith, low, below)) in
+    let size : closed_len start p.position (header_len len + len) ps ≤ (p.position - start) + 8 * length ps + (header_len len + len) = subst (λ n. closed_len start n (header_len len + len) ps ≤ (n - start) + 8 * length ps + (header_len len + len)) below around in
+    omega (arith, size, few, low, below)
+
+-- so the size of a state is within a limit where that many bytes are
+pub within_few : (start : ℕ) (b : List ℕ) (ps : List Placeholder) (m : Bool) (more limit : ℕ) → IsLaid start b ps → limit < 2 ^ 64 → (length b - start) + 8 * length ps + more ≤ limit → closed_size_with more (state_of start b ps m) ≤ limit
+within_few start b ps m more limit h small few =
+    let size = closed_len_few start more b ps h (omega arith) in
+    omega (arith, size, closed_size_is start b ps m more h)
 
 -- the same, by the innermost list taken from the others
 pub measured_popped : (start end more : ℕ) (whole : List Placeholder) (left tail : ℕ) (lists rest : List Placeholder) (p : Placeholder) → Measured start end more whole left tail (reverse lists) → lists ≡ rest ++ p ∷ [] → Measured start end more whole left tail (p ∷ reverse rest)
@@ -108,11 +118,11 @@ found None P v h p = absurd (h p)
 found (Some w) P v h p = ap Some h.1
 
 -- the size of what a buffer holds is found: a buffer has fewer than 2^63 bytes, and as few have the places
-pub found_len : (start end : ℕ) (lists : List Placeholder) (r : Option ℕ) → SomeIff r (closed_len start end 0 (reverse lists) < 2 ^ 64) (closed_len start end 0 (reverse lists)) → Descends end (reverse lists) → end < 2 ^ 63 → length lists * 24 < 2 ^ 63 → r ≡ Some (closed_len start end 0 (reverse lists))
-found_len start end lists r is order below few =
+pub found_len : (start end : ℕ) (b : List ℕ) (lists : List Placeholder) (r : Option ℕ) → end ≡ length b → SomeIff r (closed_len start end 0 (reverse lists) < 2 ^ 64) (closed_len start end 0 (reverse lists)) → IsLaid start b (reverse lists) → end < 2 ^ 63 → length lists * 24 < 2 ^ 63 → r ≡ Some (closed_len start end 0 (reverse lists))
+found_len start end b lists r ends is laid below few =
     let number : length (reverse lists) ≡ length lists = length-reverse lists in
-    let bound : closed_len start end 0 (reverse lists) ≤ end + 0 + 8 * length (reverse lists) = closed_len_few start end 0 (reverse lists) order (omega arith) in
-    found r (closed_len start end 0 (reverse lists) < 2 ^ 64) (closed_len start end 0 (reverse lists)) is (omega arith)
+    let bound : closed_len start end 0 (reverse lists) ≤ (length b - start) + 8 * length (reverse lists) + 0 = rw ends (closed_len_few start 0 b (reverse lists) laid (omega (arith, number, ends))) in
+    found r (closed_len start end 0 (reverse lists) < 2 ^ 64) (closed_len start end 0 (reverse lists)) is (omega (arith, number, bound, ends))
 
 -- nothing is closed exactly where the buffer holds the front alone
 empty_len : (start : ℕ) (b : List ℕ) (ps : List Placeholder) → IsLaid start b ps → closed_len start (length b) 0 ps ≡ 0 → length b ≡ start

@@ -1,5 +1,5 @@
 -- What moves do to the texts of a stream's state.
-use Rattle.std.proofs.Common.{◌≡◌, ℕ, ◌+◌, ◌<◌, ◌^◌, nat_le, arith, Bool, true, false, cond, List, [], ◌∷◌, ◌++◌, length, replicate, flat_map, Option, refl, sym, ap, ◌∙◌, append-nil, append_assoc, length-append}
+use Rattle.std.proofs.Common.{◌≡◌, ℕ, ◌+◌, ◌<◌, ◌≤◌, ◌^◌, nat_le, arith, Bool, true, false, cond, List, [], ◌∷◌, ◌++◌, length, replicate, flat_map, Option, refl, sym, ap, ◌∙◌, append-nil, append_assoc, length-append}
 use Rattle.std.proofs.lemmas.Bool.Decides.{nat_tests}
 use Rattle.std.proofs.lemmas.List.{length-replicate}
 use Rattle.std.proofs.lemmas.List.Concat.{flat_map-append}
@@ -67,7 +67,14 @@ within_size-too_large bytes limit s small large =
     let above : ¬ (closed_size (put bytes s) < 2 ^ 64) = rw same large in
     grind (arith, nat_tests)
 
-pub ruleset within_size = (within_size-found, within_size-too_large)
+-- a size that is within the limit
+pub within_size-within : (bytes : List ℕ) (limit : ℕ) (s : State) → closed_size_with (length bytes) s ≤ limit → is_within_size bytes limit s ≡ true
+within_size-within bytes limit s within =
+    let same = closed_size-put bytes s in
+    let below : closed_size (put bytes s) ≤ limit = rw same within in
+    grind (arith, nat_tests)
+
+pub ruleset within_size = (within_size-found, within_size-too_large, within_size-within)
 
 -- with no list open, all that was written is closed
 pub closed_text-finished : (s : State) → IsFinished s → closed_text s ≡ s.stack.inner

@@ -199,11 +199,15 @@ pub(crate) fn put_counted(
         _ => return Err(AllocError),
     };
     let plan = plan_count(lists.as_slice(), end, items);
+    if plan.closing == 0 {
+        buffer.extend_from_slice(bytes)?;
+        count_innermost(lists, items);
+        return Ok(false);
+    }
     buffer.reserve(bytes.len() + plan.growth)?;
     buffer.extend_reserved(bytes);
     buffer.advance_mut(plan.growth);
     close_lists(buffer.as_mut_slice(), lists, plan.closing, end, moved);
-    let more = if plan.closing == 0 { items } else { 1 };
-    count_innermost(lists, more);
-    Ok(plan.closing > 0)
+    count_innermost(lists, 1);
+    Ok(true)
 }

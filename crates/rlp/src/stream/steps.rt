@@ -6,7 +6,7 @@ ghost use Rattle.rlp.specs.Format.Item.{string};
 ghost use Rattle.rlp.specs.Format.Encoding.{encoding};
 ghost use Rattle.rlp.specs.Streams.Stack.{AwaitsSome, is_unbounded};
 ghost use Rattle.rlp.specs.Streams.Calls.{append, effect, finalize_unbounded_list, is_within_size, with_list_of};
-ghost use Rattle.rlp.specs.Streams.Stream.{IsAsBefore, IsFinished, put, with_list, count, add, put_item, closed_size};
+ghost use Rattle.rlp.specs.Streams.Stream.{IsAsBefore, IsFinished, put, with_list, count, add, put_item, closed_size, closed_size_with};
 ghost use Rattle.rlp.specs.Streams.Growth.{GrowsTo};
 ghost use Rattle.rlp.specs.Streams.Iterated.{GivesAll};
 
@@ -20,11 +20,28 @@ use crate::traits::Encodable;
 use std::alloc::AllocError;
 
 impl RlpStream {
-    /// Whether the closed size with these bytes put is at most the limit.
+    /// Whether the closed size with so many bytes put is at most the limit already where the header of
+    /// each open list is as long as one can be. The lists aren't walked for it.
+    fn is_surely_within_size(&self, add: usize, limit: usize) -> bool
+        ensures { IsTrue result → closed_size_with add self.now.state ≤ limit }
+    {
+        let lists = self.lists.as_slice();
+        let most = self.buffer.len() - self.start + 8 * lists.len();
+        match most.checked_add(add) {
+            Some(most) => most <= limit,
+            None => false,
+        }
+    }
+
+    /// Whether the closed size with these bytes put is at most the limit. It is summed up, list by
+    /// list, only where a bound on it is too much.
     #[tactic(auto, using(crate::proofs::States::within_size))]
     pub(super) fn is_within_size(&self, bytes: &[u8], limit: usize) -> bool
         ensures { result ≡ is_within_size bytes.now limit self.now.state }
     {
+        if self.is_surely_within_size(bytes.len(), limit) {
+            return true;
+        }
         match self.checked_estimate_size(bytes.len()) {
             Some(size) => size <= limit,
             None => false,

@@ -1,6 +1,5 @@
 use Rattle.std.proofs.Common.{◌≡◌, reverse, sym, ap, ◌∙◌, refl, Some}
 use Rattle.rlp.specs.Streams.Stream.{Seen, closed_size, closed_size_with}
-use Rattle.rlp.specs.Streams.Placeholders.{Descends}
 use Rattle.rlp.specs.Streams.Closing.{closed_len}
 use Rattle.rlp.specs.Streams.Layout.{state_of}
 use Rattle.rlp.proofs.Laid.{laid_descends}
@@ -20,15 +19,13 @@ closed_len-requires-clause-lowest c =
 pub unwrap-requires : goal.unwrap-requires
 unwrap-requires c =
     let i = c.self.inside in
-    let order : Descends c.len.result (reverse c.as_slice-lists.result.now) = rw (c.as_slice-lists.ensures.value, c.len.ensures.value) (laid_descends i.start i.buffer.items (reverse i.lists.items) c.self.invariant) in
-    let is = found_len i.start c.len.result c.as_slice-lists.result.now c.closed_len.result c.closed_len.ensures order c.len.ensures.bound c.as_slice-lists.type_inv.1 in
+    let is = found_len i.start c.len.result i.buffer.items c.as_slice-lists.result.now c.closed_len.result c.len.ensures.value c.closed_len.ensures (rw c.as_slice-lists.ensures.value c.self.invariant) c.len.ensures.bound c.as_slice-lists.type_inv.1 in
     rw is refl
 
 pub returns : goal.returns
 returns c =
     let i = c.self.inside in
-    let order : Descends c.len.result (reverse c.as_slice-lists.result.now) = rw (c.as_slice-lists.ensures.value, c.len.ensures.value) (laid_descends i.start i.buffer.items (reverse i.lists.items) c.self.invariant) in
-    let is = found_len i.start c.len.result c.as_slice-lists.result.now c.closed_len.result c.closed_len.ensures order c.len.ensures.bound c.as_slice-lists.type_inv.1 in
+    let is = found_len i.start c.len.result i.buffer.items c.as_slice-lists.result.now c.closed_len.result c.len.ensures.value c.closed_len.ensures (rw c.as_slice-lists.ensures.value c.self.invariant) c.len.ensures.bound c.as_slice-lists.type_inv.1 in
     let size : Some c.unwrap.result ≡ Some (closed_len i.start c.len.result 0 (reverse c.as_slice-lists.result.now)) = sym c.unwrap.ensures ∙ is in
     let value : c.unwrap.result ≡ closed_len i.start c.len.result 0 (reverse c.as_slice-lists.result.now) = cc in
     let state = state_of i.start i.buffer.items (reverse i.lists.items) i.finished_list in
