@@ -160,9 +160,20 @@ fn close_lists(
     }
 }
 
+/// Whether the count of so many items closes a list: the innermost one, and perhaps others around it.
+fn closes_some(lists: &[Placeholder], items: usize) -> bool
+    ensures { result ≡ nat_lt 0 (filled items (reverse lists.now)) }
+{
+    match lists.last() {
+        Some(list) => is_last(items, list.awaits),
+        None => false,
+    }
+}
+
 /// Puts bytes behind those of a buffer, and counts so many items in the innermost open list: a list
 /// that is full then is closed, and one item is counted in the list around it, and so on outwards.
 /// Answers whether a list was closed. All room is made before anything changes.
+#[inline(always)]
 pub(crate) fn put_counted(
     buffer: &mut BytesMut,
     lists: &mut Vec<Placeholder>,
@@ -190,24 +201,52 @@ pub(crate) fn put_counted(
         × (lists.new.items ≡ lists.old.items) × (moved.new.total ≡ moved.old.total)) }
     ensures room { lists.old.items ≡ [] → OnErr result (buffer.old.spare < length bytes.now) }
 {
-    if lists.is_empty() {
-        buffer.extend_from_slice(bytes)?;
-        return Ok(false);
+    if closes_some(lists, items) {
+        put_closing(buffer, lists, bytes, items, moved)?;
+        return Ok(true);
     }
+    buffer.extend_from_slice(bytes)?;
+    count_innermost(lists, items);
+    Ok(false)
+}
+
+/// The same, where a list is closed. It is out of line, since most calls close none.
+#[inline(never)]
+fn put_closing(
+    buffer: &mut BytesMut,
+    lists: &mut Vec<Placeholder>,
+    bytes: &[u8],
+    items: usize,
+    moved: &mut Count,
+) -> Result<(), AllocError>
+    requires order { Descends (length buffer.old.items) (reverse lists.old.items) }
+    requires closes { 0 < filled items (reverse lists.old.items) }
+    ensures bytes { OnOk result (buffer.new.items
+        ≡ closed_bytes (filled items (reverse lists.old.items)) (buffer.old.items ++ bytes.now) []
+        (reverse lists.old.items)) }
+    ensures lists { OnOk result (reverse lists.new.items
+        ≡ counted items (reverse lists.old.items)) }
+    ensures moved { OnOk result
+        (moved.new.total
+        + left_of (filled items (reverse lists.old.items))
+        (length (buffer.old.items ++ bytes.now)) (reverse lists.old.items)
+        ≤ moved.old.total + length (buffer.old.items ++ bytes.now)) }
+    ensures in_place { OnOk result
+        (growth (filled items (reverse lists.old.items))
+        (length (buffer.old.items ++ bytes.now)) 0 (reverse lists.old.items) ≡ 0
+        → moved.new.total ≡ moved.old.total) }
+    ensures refused { OnErr result ((buffer.new.items ≡ buffer.old.items)
+        × (lists.new.items ≡ lists.old.items) × (moved.new.total ≡ moved.old.total)) }
+{
     let end = match buffer.len().checked_add(bytes.len()) {
         Some(end) if end < LARGEST => end,
         _ => return Err(AllocError),
     };
     let plan = plan_count(lists.as_slice(), end, items);
-    if plan.closing == 0 {
-        buffer.extend_from_slice(bytes)?;
-        count_innermost(lists, items);
-        return Ok(false);
-    }
     buffer.reserve(bytes.len() + plan.growth)?;
     buffer.extend_reserved(bytes);
     buffer.advance_mut(plan.growth);
     close_lists(buffer.as_mut_slice(), lists, plan.closing, end, moved);
     count_innermost(lists, 1);
-    Ok(true)
+    Ok(())
 }

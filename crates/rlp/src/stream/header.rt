@@ -12,8 +12,8 @@ pub(crate) const STRING: u8 = 0x80;
 /// The same for the payload of a list.
 pub(crate) const LIST: u8 = 0xc0;
 
-// The greatest length up to which a header is one byte.
-const SHORT: usize = 55;
+/// The greatest length up to which a header is one byte.
+pub(crate) const SHORT: usize = 55;
 
 /// A header, computed before anything is written: the last bytes of the array.
 #[derive(Drop)]

@@ -111,6 +111,7 @@ impl RlpStream {
     }
 
     /// Puts bytes, and counts so many items.
+    #[inline(always)]
     pub(super) fn try_put_counted(&mut self, bytes: &[u8], items: usize) -> Result<(), AllocError>
         ensures ok { OnOk result
             (self.new.state ≡ count items (put bytes.now self.old.state)) }

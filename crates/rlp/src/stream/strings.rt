@@ -1,13 +1,13 @@
 //! Encodings of strings at the end of a buffer.
 
-ghost use Rattle.std.specs.Prelude.{◌≡◌, ◌≤◌, ◌<◌, ◌+◌, ◌-◌, ◌++◌, ℕ, List, OnOk, OnErr, length, take, drop};
+ghost use Rattle.std.specs.Prelude.{◌≡◌, ◌≤◌, ◌<◌, ◌+◌, ◌-◌, ◌++◌, ℕ, List, OnOk, OnErr, length, take, drop, false};
 ghost use Rattle.std.specs.Iterator.{IsFiniteIterable};
 ghost use Rattle.rlp.specs.Format.Item.{string};
 ghost use Rattle.rlp.specs.Format.Encoding.{encoding, is_low_byte, BeginsWith};
 ghost use Rattle.rlp.specs.Streams.Iterated.{GivesAll};
 
 use crate::stream::closing::write_at;
-use crate::stream::header::{STRING, header};
+use crate::stream::header::{SHORT, STRING, header};
 use bytes::BytesMut;
 use std::alloc::AllocError;
 
@@ -31,12 +31,30 @@ pub(crate) fn write_string(buffer: &mut BytesMut, value: &[u8]) -> Result<(), Al
     ensures room { OnErr result (buffer.old.spare < length (encoding (string value.now))) }
 {
     if is_low_byte(value) {
-        buffer.extend_from_slice(value)?;
-        return Ok(());
+        return buffer.extend_from_slice(&[value[0]]);
+    }
+    if value.len() <= SHORT {
+        return write_short(buffer, value);
     }
     let header = header(STRING, value.len());
     buffer.reserve(header.as_slice().len() + value.len())?;
     buffer.extend_reserved(header.as_slice());
+    buffer.extend_reserved(value);
+    Ok(())
+}
+
+/// The same for a string that has a header of one byte.
+#[tactic(auto, using(crate::proofs::Written::written))]
+fn write_short(buffer: &mut BytesMut, value: &[u8]) -> Result<(), AllocError>
+    requires short { length value.now ≤ 55 }
+    requires headed { is_low_byte value.now ≡ false }
+    ensures ok { OnOk result
+        (buffer.new.items ≡ buffer.old.items ++ encoding (string value.now)) }
+    ensures refused { OnErr result (buffer.new.items ≡ buffer.old.items) }
+    ensures room { OnErr result (buffer.old.spare < length (encoding (string value.now))) }
+{
+    buffer.reserve(1 + value.len())?;
+    buffer.extend_reserved(&[STRING + value.len() as u8]);
     buffer.extend_reserved(value);
     Ok(())
 }
