@@ -13,6 +13,7 @@ pub mod Places
 pub mod ListValues
 pub mod Awaits
 pub mod Hexes
+pub mod Brought
 pub mod Closing
 pub mod Laid
 pub mod Opened

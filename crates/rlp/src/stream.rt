@@ -16,6 +16,7 @@ mod closing;
 mod encoder;
 mod header;
 mod listed;
+mod moving;
 mod open_lists;
 mod rewinding;
 mod steps;

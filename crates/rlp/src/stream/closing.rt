@@ -8,6 +8,7 @@ ghost use Rattle.rlp.specs.Streams.Closing.{filled, counted, closed_bytes, close
 
 use crate::count::Count;
 use crate::stream::header::{LIST, header, list_header_len};
+use crate::stream::moving::{bring, write_at};
 use crate::stream::open_lists::{Placeholder, count_innermost};
 use bytes::BytesMut;
 use std::alloc::AllocError;
@@ -106,18 +107,9 @@ fn shift(bytes: &mut [u8], from: usize, len: usize, to: usize, moved: &mut Count
     ensures in_place { from ≡ to → moved.new.total ≡ moved.old.total }
 {
     if from != to {
-        bytes.copy_within(from..from + len, to);
+        bring(bytes, from, len, to);
         moved.add(len);
     }
-}
-
-/// Writes over the bytes from a place on.
-pub(super) fn write_at(bytes: &mut [u8], at: usize, part: &[u8])
-    requires { at + length part.now ≤ length bytes.old }
-    ensures { bytes.new
-        ≡ take at bytes.old ++ (part.now ++ drop (at + length part.now) bytes.old) }
-{
-    bytes[at..at + part.len()].copy_from_slice(part);
 }
 
 /// Closes the innermost lists, as many as are said. `end` bytes stand in front, and the room for

@@ -6,8 +6,8 @@ ghost use Rattle.rlp.specs.Format.Item.{string};
 ghost use Rattle.rlp.specs.Format.Encoding.{encoding, is_low_byte, BeginsWith};
 ghost use Rattle.rlp.specs.Streams.Iterated.{GivesAll};
 
-use crate::stream::closing::write_at;
 use crate::stream::header::{SHORT, STRING, header};
+use crate::stream::moving::{bring, write_at};
 use bytes::BytesMut;
 use std::alloc::AllocError;
 
@@ -74,16 +74,6 @@ fn write_bytes_of<I: IntoIterator<Item = u8>>(
         buffer.extend_from_slice(&[byte])?;
     }
     Ok(())
-}
-
-/// Brings bytes to a later place.
-fn bring(bytes: &mut [u8], from: usize, len: usize, to: usize)
-    requires forward { from ≤ to }
-    requires within { to + len ≤ length bytes.old }
-    ensures { bytes.new
-        ≡ take to bytes.old ++ (take len (drop from bytes.old) ++ drop (to + len) bytes.old) }
-{
-    bytes.copy_within(from..from + len, to);
 }
 
 /// Inserts a part at a place. As many bytes are lost at the end.
