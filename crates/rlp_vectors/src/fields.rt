@@ -11,7 +11,7 @@ use rlp::{Encodable, RlpStream};
 use std::alloc::AllocError;
 
 /// Values that are appended one after another.
-pub trait AppendAll {
+pub(crate) trait AppendAll {
     // Their items, in order.
     ghost items: { Self → List Item };
 
@@ -27,15 +27,15 @@ pub trait AppendAll {
 
 /// One value.
 #[derive(Clone, Copy)]
-pub struct One<'a, T>(pub &'a T);
+pub(crate) struct One<'a, T>(pub &'a T);
 
 /// Values of one type.
 #[derive(Clone, Copy)]
-pub struct Each<'a, T>(pub &'a [T]);
+pub(crate) struct Each<'a, T>(pub &'a [T]);
 
 /// Some values, and then others.
 #[derive(Clone, Copy)]
-pub struct Both<P, Q>(pub P, pub Q);
+pub(crate) struct Both<P, Q>(pub P, pub Q);
 
 impl<T: Encodable> AppendAll for One<'_, T> {
     ghost items = { λ v. T.item v.0.now ∷ [] };
@@ -78,7 +78,7 @@ impl<P: AppendAll, Q: AppendAll> AppendAll for Both<P, Q> {
 
 /// Writes the list of so many values.
 #[tactic(auto, using(crate::proofs::Parts::parts))]
-pub fn append_as_list<F: AppendAll>(
+pub(crate) fn append_as_list<F: AppendAll>(
     s: &mut RlpStream,
     count: usize,
     fields: &F,

@@ -109,7 +109,6 @@ pub use careless::{Odd, Refusing, Trio, Wrapper};
 pub use child::Child;
 pub use couple::{Alone, Couple, append_list_in_list, write_list_in_list};
 pub use entry::{Entry, entry_back};
-pub use fields::{AppendAll, Both, Each, One, append_as_list};
 pub use half_written::HalfWritten;
 pub use hash::Hash;
 pub use leaf::Leaf;
