@@ -67,6 +67,8 @@ mod sizes;
 #[cfg(test)]
 mod steps;
 #[cfg(test)]
+mod stream_limits;
+#[cfg(test)]
 mod streams;
 #[cfg(test)]
 mod strict;
