@@ -80,11 +80,11 @@ fn run_answers_lists_opened_and_finished(rt: HostRuntime) -> Result<(), Fail> {
     Ok(())
 }
 
-/// Whether 5,000 lists are answered that stay open.
-fn open_lists_are_answered(alloc: Global) -> Result<bool, AllocError> {
-    let zeros = vec![in alloc; 0u8; 5_000]?;
-    let line = line_of(alloc, (b"u", 5_000), (b"", 0))?;
-    let answer = answer_of(alloc, b"open 14788 ", zeros.as_slice())?;
+/// Whether so many lists that stay open are answered by these words, and a byte 00 for each.
+fn open_lists_are_answered(alloc: Global, lists: usize, words: &[u8]) -> Result<bool, AllocError> {
+    let zeros = vec![in alloc; 0u8; lists]?;
+    let line = line_of(alloc, (b"u", lists), (b"", 0))?;
+    let answer = answer_of(alloc, words, zeros.as_slice())?;
     answers(alloc, line.as_slice(), answer.as_slice())
 }
 
@@ -103,6 +103,28 @@ fn closed_lists_are_answered(alloc: Global) -> Result<bool, AllocError> {
 #[test]
 fn run_answers_five_thousand_lists(rt: HostRuntime) -> Result<(), Fail> {
     let alloc = rt.alloc();
-    assert!(rt; open_lists_are_answered(alloc)? && closed_lists_are_answered(alloc)?);
+    assert!(rt;
+        open_lists_are_answered(alloc, 5_000, b"open 14788 ")? && closed_lists_are_answered(alloc)?
+    );
+    Ok(())
+}
+
+#[test]
+fn run_answers_sixty_thousand_open_lists(rt: HostRuntime) -> Result<(), Fail> {
+    assert!(rt; open_lists_are_answered(rt.alloc(), 60_000, b"open 217872 ")?);
+    Ok(())
+}
+
+/// Whether a list of 30,000 empty strings is answered.
+fn wide_list_is_answered(alloc: Global) -> Result<bool, AllocError> {
+    let strings = vec![in alloc; 0x80u8; 30_000]?;
+    let line = line_of(alloc, (b"l:30000", 1), (b"d:", 30_000))?;
+    let answer = answer_of(alloc, b"out f97530", strings.as_slice())?;
+    answers(alloc, line.as_slice(), answer.as_slice())
+}
+
+#[test]
+fn run_answers_a_list_of_thirty_thousand(rt: HostRuntime) -> Result<(), Fail> {
+    assert!(rt; wide_list_is_answered(rt.alloc())?);
     Ok(())
 }
