@@ -57,12 +57,13 @@ impl RoundTrip for Entry {
     ghost round_trip = { entry.reads_back };
 }
 
-/// The entry that an encoding is of, by the law of [`RoundTrip`].
+/// The entry that an encoding is of, by the law of [`RoundTrip`]: where bytes begin with the encoding of
+/// an entry that fits, that entry, or want of memory.
 pub fn entry_back(alloc: Global, bytes: &[u8], wanted: &Entry) -> Result<Entry, DecoderError>
-    requires fits { entry.Fits wanted.now }
-    requires begins { BeginsWith bytes.now (encoding (entry.item wanted.now)) }
-    ensures alike { IfOk result (λ p. entry.item p ≡ entry.item wanted.now) }
-    ensures memory { IfErr result (λ e. e ≡ OutOfMemory) }
+    ensures alike { entry.Fits wanted.now → BeginsWith bytes.now (encoding (entry.item wanted.now))
+        → IfOk result (λ p. entry.item p ≡ entry.item wanted.now) }
+    ensures memory { entry.Fits wanted.now → BeginsWith bytes.now (encoding (entry.item wanted.now))
+        → IfErr result (λ e. e ≡ OutOfMemory) }
 {
     laws::encoding_is_decoded(alloc, bytes)
 }
