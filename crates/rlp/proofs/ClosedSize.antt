@@ -1,5 +1,5 @@
 -- The closed size goes by the places of the open lists.
-use Rattle.std.proofs.Common.{◌≡◌, ℕ, ◌+◌, ◌-◌, ◌*◌, ◌^◌, ◌<◌, ◌≤◌, Bool, List, [], ◌∷◌, ◌++◌, length, take, drop, replicate, reverse, sym, ◌∙◌, ap, subst, arith, append-nil, length-append, length-drop, ⊎_elim, suc, Option, Some, None}
+use Rattle.std.proofs.Common.{◌≡◌, ℕ, ◌+◌, ◌-◌, ◌*◌, ◌^◌, ◌<◌, ◌≤◌, Bool, List, [], ◌∷◌, ◌++◌, length, take, drop, replicate, reverse, refl, sym, ◌∙◌, ap, subst, arith, append-nil, length-append, length-drop, ⊎_elim, suc, Option, Some, None}
 use Rattle.std.specs.Option.{SomeIff}
 use Rattle.std.proofs.lemmas.Bool.{cases_lt}
 use Rattle.std.proofs.lemmas.List.{length-take-le, length-replicate, length-reverse}
@@ -97,11 +97,34 @@ closed_len_few start more b (p ∷ ps) h small =
     let size : closed_len start p.position (header_len len + len) ps ≤ (p.position - start) + 8 * length ps + (header_len len + len) = subst (λ n. closed_len start n (header_len len + len) ps ≤ (n - start) + 8 * length ps + (header_len len + len)) below around in
     omega (arith, size, few, low, below)
 
+-- and one at least
+closed_len_some : (start more : ℕ) (b : List ℕ) (ps : List Placeholder) → IsLaid start b ps → (length b - start) + more ≤ closed_len start (length b) more ps
+closed_len_some start more b [] h = omega arith
+closed_len_some start more b (p ∷ ps) h =
+    let within = h.0.within in
+    let low = start_le start (take p.position b) ps h.1 in
+    let below : length (take p.position b) ≡ p.position = length-take-le p.position b (omega arith) in
+    let len : ℕ = (length b - (p.position + 1)) + more in
+    let around = closed_len_some start (header_len len + len) (take p.position b) ps h.1 in
+    let size : (p.position - start) + (header_len len + len) ≤ closed_len start p.position (header_len len + len) ps = subst (λ n. (n - start) + (header_len len + len) ≤ closed_len start n (header_len len + len) ps) below around in
+    omega (arith, size, header_some len, low, below)
+
 -- so the size of a state is within a limit where that many bytes are
 pub within_few : (start : ℕ) (b : List ℕ) (ps : List Placeholder) (m : Bool) (more limit : ℕ) → IsLaid start b ps → limit < 2 ^ 64 → (length b - start) + 8 * length ps + more ≤ limit → closed_size_with more (state_of start b ps m) ≤ limit
 within_few start b ps m more limit h small few =
     let size = closed_len_few start more b ps h (omega arith) in
     omega (arith, size, closed_size_is start b ps m more h)
+
+-- as many lists are open as have places
+length-lists_of : (start : ℕ) (b : List ℕ) (ps : List Placeholder) → length (lists_of start b ps) ≡ length ps
+length-lists_of start b [] = refl
+length-lists_of start b (p ∷ ps) = ap suc (length-lists_of start (take p.position b) ps)
+
+-- and that many bytes are within a limit where the size and eight for each open list are
+pub few_within : (start : ℕ) (b : List ℕ) (ps : List Placeholder) (m : Bool) (more limit : ℕ) → IsLaid start b ps → closed_size_with more (state_of start b ps m) + 8 * length (lists_of start b ps) ≤ limit → (length b - start) + 8 * length ps + more ≤ limit
+few_within start b ps m more limit h within =
+    let size = closed_len_some start more b ps h in
+    omega (arith, size, within, closed_size_is start b ps m more h, length-lists_of start b ps)
 
 -- the same, by the innermost list taken from the others
 pub measured_popped : (start end more : ℕ) (whole : List Placeholder) (left tail : ℕ) (lists rest : List Placeholder) (p : Placeholder) → Measured start end more whole left tail (reverse lists) → lists ≡ rest ++ p ∷ [] → Measured start end more whole left tail (p ∷ reverse rest)

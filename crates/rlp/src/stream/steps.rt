@@ -1,6 +1,6 @@
 //! What the public calls of a stream are made of.
 
-ghost use Rattle.std.specs.Prelude.{◌≡◌, ◌≤◌, ◌<◌, ◌+◌, ◌++◌, ℕ, List, [], IsTrue, OnOk, OnErr, length, false};
+ghost use Rattle.std.specs.Prelude.{◌≡◌, ◌≤◌, ◌<◌, ◌+◌, ◌*◌, ◌++◌, ℕ, List, [], IsTrue, OnOk, OnErr, length, false};
 ghost use Rattle.std.specs.Iterator.{IsFiniteIterable};
 ghost use Rattle.rlp.specs.Format.Item.{string};
 ghost use Rattle.rlp.specs.Format.Encoding.{encoding};
@@ -23,7 +23,9 @@ impl RlpStream {
     /// Whether the closed size with so many bytes put is at most the limit already where the header of
     /// each open list is as long as one can be. The lists aren't walked for it.
     fn is_surely_within_size(&self, add: usize, limit: usize) -> bool
-        ensures { IsTrue result → closed_size_with add self.now.state ≤ limit }
+        ensures within { IsTrue result → closed_size_with add self.now.state ≤ limit }
+        ensures sure { closed_size_with add self.now.state
+            + 8 * length self.now.state.stack.lists ≤ limit → IsTrue result }
     {
         let lists = self.lists.as_slice();
         let most = self.buffer.len() - self.start + 8 * lists.len();
