@@ -9,4 +9,5 @@ pub mod Run
 pub mod Script
 pub mod Status
 pub mod StreamCalls
+pub mod StringValue
 pub mod Watched

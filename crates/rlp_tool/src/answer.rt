@@ -8,7 +8,8 @@ ghost use Rattle.rlp_tool.specs.Script.{script, AppendsScriptFault};
 
 use crate::building::{BuildFault, Built, build};
 use crate::digits::{push_bytes, read_bytes};
-use crate::script::{ScriptFault, read_calls};
+use crate::script::{ScriptFault, read_script};
+use crate::strings::StringValue;
 use bytes::BytesMut;
 use rlp::Rlp;
 use std::alloc::{AllocError, Global};
@@ -137,7 +138,7 @@ fn script_answer(alloc: Global, text: &[u8], out: &mut String) -> Result<(), All
     ensures { OnOk result
         (string_bytes out.new ≡ string_bytes out.old ++ calls_answer (script text.now)) }
 {
-    match read_calls(alloc, text) {
+    match read_script::<StringValue>(alloc, text) {
         Ok(calls) => put_outcome(&build(alloc, BytesMut::new(alloc), calls.as_slice()), out),
         Err(fault) => put_script_fault(&fault, out),
     }

@@ -10,6 +10,7 @@ mod noted;
 mod script;
 mod serving;
 mod status;
+mod strings;
 
 pub use building::{BuildFault, Built, build};
 pub use calls::StreamCall;

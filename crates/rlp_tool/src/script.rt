@@ -4,10 +4,11 @@ ghost use Rattle.rlp.specs.Format.Item.{string};
 ghost use Rattle.rlp.specs.Streams.Calls.{append, begin_list};
 ghost use Rattle.rlp_tool.specs.Script.{call_in, labelled_call, letter_call, raw_parts, script, AddsCall, IsUnread, IsScriptFault};
 ghost use Rattle.rlp_tool.specs.Digits.{bytes_in, number_in};
-ghost use Rattle.rlp_tool.specs.StreamCalls.{call_of_bytes, calls_of_bytes};
+ghost use Rattle.rlp_tool.specs.StreamCalls.{call_of, calls_of, calls_of_bytes};
 
 use crate::calls::StreamCall;
 use crate::digits::{read_bytes, read_number};
+use crate::strings::FromDigits;
 use memchr::memchr;
 use std::alloc::{AllocError, Global};
 
@@ -29,8 +30,8 @@ fn place_of(byte: u8, text: &[u8]) -> Option<usize>
 }
 
 /// The call that a letter alone says.
-fn letter_call(letter: u8) -> Option<StreamCall<Vec<u8>>>
-    ensures { option_map call_of_bytes result ≡ letter_call letter }
+fn letter_call<E: FromDigits>(letter: u8) -> Option<StreamCall<E>>
+    ensures { option_map (call_of E.item) result ≡ letter_call letter }
 {
     match letter {
         b'u' => Some(StreamCall::BeginUnbounded),
@@ -41,19 +42,22 @@ fn letter_call(letter: u8) -> Option<StreamCall<Vec<u8>>>
 }
 
 /// The string that digits write, to be appended.
-fn read_value(alloc: Global, text: &[u8]) -> Result<Option<StreamCall<Vec<u8>>>, AllocError>
-    ensures { IfOk result (λ read. option_map call_of_bytes read
+fn read_value<E: FromDigits>(
+    alloc: Global,
+    text: &[u8],
+) -> Result<Option<StreamCall<E>>, AllocError>
+    ensures { IfOk result (λ read. option_map (call_of E.item) read
         ≡ option_map (λ bytes. append (string bytes)) (bytes_in text.now)) }
 {
-    match read_bytes(alloc, text)? {
-        Some(bytes) => Ok(Some(StreamCall::Value(bytes))),
+    match E::from_digits(alloc, text)? {
+        Some(value) => Ok(Some(StreamCall::Value(value))),
         None => Ok(None),
     }
 }
 
 /// Raw bytes and the number of items that they count as, with a colon between.
-fn read_raw(alloc: Global, text: &[u8]) -> Result<Option<StreamCall<Vec<u8>>>, AllocError>
-    ensures { IfOk result (λ read. option_map call_of_bytes read
+fn read_raw<E: FromDigits>(alloc: Global, text: &[u8]) -> Result<Option<StreamCall<E>>, AllocError>
+    ensures { IfOk result (λ read. option_map (call_of E.item) read
         ≡ raw_parts text.now (position (λ b. b == 58) text.now)) }
 {
     let Some(colon) = place_of(b':', text) else {
@@ -70,8 +74,8 @@ fn read_raw(alloc: Global, text: &[u8]) -> Result<Option<StreamCall<Vec<u8>>>, A
 }
 
 /// The list that a number says how many items it awaits.
-fn read_list(text: &[u8]) -> Option<StreamCall<Vec<u8>>>
-    ensures { option_map call_of_bytes result ≡ option_map begin_list (number_in text.now) }
+fn read_list<E: FromDigits>(text: &[u8]) -> Option<StreamCall<E>>
+    ensures { option_map (call_of E.item) result ≡ option_map begin_list (number_in text.now) }
 {
     match read_number(text) {
         Some(count) => Some(StreamCall::Begin(count)),
@@ -80,13 +84,13 @@ fn read_list(text: &[u8]) -> Option<StreamCall<Vec<u8>>>
 }
 
 /// The call that a letter, a colon and what follows say.
-fn read_labelled(
+fn read_labelled<E: FromDigits>(
     alloc: Global,
     letter: u8,
     text: &[u8],
-) -> Result<Option<StreamCall<Vec<u8>>>, AllocError>
+) -> Result<Option<StreamCall<E>>, AllocError>
     ensures { IfOk result
-        (λ read. option_map call_of_bytes read ≡ labelled_call letter text.now) }
+        (λ read. option_map (call_of E.item) read ≡ labelled_call letter text.now) }
 {
     match letter {
         b'd' => read_value(alloc, text),
@@ -97,8 +101,11 @@ fn read_labelled(
 }
 
 /// The call that a piece says, if it says one.
-fn read_call(alloc: Global, piece: &[u8]) -> Result<Option<StreamCall<Vec<u8>>>, AllocError>
-    ensures { IfOk result (λ read. option_map call_of_bytes read ≡ call_in piece.now) }
+fn read_call<E: FromDigits>(
+    alloc: Global,
+    piece: &[u8],
+) -> Result<Option<StreamCall<E>>, AllocError>
+    ensures { IfOk result (λ read. option_map (call_of E.item) read ≡ call_in piece.now) }
 {
     match piece {
         [letter] => Ok(letter_call(*letter)),
@@ -108,14 +115,14 @@ fn read_call(alloc: Global, piece: &[u8]) -> Result<Option<StreamCall<Vec<u8>>>,
 }
 
 /// Reads a piece, and adds its call to those before it.
-fn take_piece(
+fn take_piece<E: FromDigits>(
     alloc: Global,
     piece: &[u8],
-    calls: &mut Vec<StreamCall<Vec<u8>>>,
+    calls: &mut Vec<StreamCall<E>>,
 ) -> Result<(), ScriptFault>
-    ensures ok { OnOk result (AddsCall (calls_of_bytes calls.old.items)
-        (calls_of_bytes calls.new.items) (call_in piece.now)) }
-    ensures refused { IfErr result (IsUnread (calls_of_bytes calls.old.items)
+    ensures ok { OnOk result (AddsCall (calls_of E.item calls.old.items)
+        (calls_of E.item calls.new.items) (call_in piece.now)) }
+    ensures refused { IfErr result (IsUnread (calls_of E.item calls.old.items)
         (call_in piece.now)) }
 {
     match read_call(alloc, piece) {
@@ -125,6 +132,32 @@ fn take_piece(
         },
         Ok(None) => Err(ScriptFault::Syntax(calls.len() + 1)),
         Err(_) => Err(ScriptFault::OutOfMemory),
+    }
+}
+
+/// Reads the calls that a script says, at any type of strings.
+pub(crate) fn read_script<E: FromDigits>(
+    alloc: Global,
+    text: &[u8],
+) -> Result<Vec<StreamCall<E>>, ScriptFault>
+    ensures ok { IfOk result (λ calls. script text.now ≡ Ok (calls_of E.item calls.items)) }
+    ensures refused { IfErr result (IsScriptFault text.now) }
+{
+    let mut calls = Vec::new(alloc);
+    if text.is_empty() {
+        return Ok(calls);
+    }
+    let mut rest = text;
+    while let Some(space) = place_of(b' ', rest) {
+        let (piece, others) = rest.split_at(space);
+        if let Err(fault) = take_piece(alloc, piece, &mut calls) {
+            return Err(fault);
+        }
+        rest = &others[1..];
+    }
+    match take_piece(alloc, rest, &mut calls) {
+        Ok(()) => Ok(calls),
+        Err(fault) => Err(fault),
     }
 }
 
@@ -144,20 +177,5 @@ pub fn read_calls(alloc: Global, text: &[u8]) -> Result<Vec<StreamCall<Vec<u8>>>
     ensures ok { IfOk result (λ calls. script text.now ≡ Ok (calls_of_bytes calls.items)) }
     ensures refused { IfErr result (IsScriptFault text.now) }
 {
-    let mut calls = Vec::new(alloc);
-    if text.is_empty() {
-        return Ok(calls);
-    }
-    let mut rest = text;
-    while let Some(space) = place_of(b' ', rest) {
-        let (piece, others) = rest.split_at(space);
-        if let Err(fault) = take_piece(alloc, piece, &mut calls) {
-            return Err(fault);
-        }
-        rest = &others[1..];
-    }
-    match take_piece(alloc, rest, &mut calls) {
-        Ok(()) => Ok(calls),
-        Err(fault) => Err(fault),
-    }
+    read_script(alloc, text)
 }
