@@ -35,7 +35,7 @@ pub(crate) struct FewBytes {
     /// Begins with the bytes.
     room: [u8; MOST_IN_PLACE],
     /// How many they are.
-    len: usize,
+    len: u8,
 }
 
 impl Model for FewBytes {
@@ -57,7 +57,10 @@ impl FewBytes {
         let mut room = [0u8; MOST_IN_PLACE];
         let len = digits.len() / 2;
         match hex::decode_to_slice(digits, &mut room[..len]) {
-            Ok(()) => Some(FewBytes { room, len }),
+            Ok(()) => Some(FewBytes {
+                room,
+                len: len as u8,
+            }),
             Err(_) => None,
         }
     }
@@ -66,7 +69,7 @@ impl FewBytes {
     fn as_slice(&self) -> &[u8]
         ensures { result.now ≡ self.now }
     {
-        &self.room[..self.len]
+        &self.room[..usize::from(self.len)]
     }
 }
 
