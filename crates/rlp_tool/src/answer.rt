@@ -139,7 +139,11 @@ fn script_answer(alloc: Global, text: &[u8], out: &mut String) -> Result<(), All
         (string_bytes out.new ≡ string_bytes out.old ++ calls_answer (script text.now)) }
 {
     match read_script::<StringValue>(alloc, text) {
-        Ok(calls) => put_outcome(&build(alloc, BytesMut::new(alloc), calls.as_slice()), out),
+        Ok(calls) => {
+            // About as many bytes as the digits write.
+            let buffer = BytesMut::with_capacity(alloc, text.len() / 2)?;
+            put_outcome(&build(alloc, buffer, calls.as_slice()), out)
+        }
         Err(fault) => put_script_fault(&fault, out),
     }
 }

@@ -5,9 +5,9 @@ use Rattle.rlp_tool.proofs.AnswerLemmas.{answer-script}
 use Rattle.rlp_tool.proofs.CutLemmas.{answer-unread}
 use Rattle.rlp_tool.proofs.answer.script_answer.Goals as goal
 
-pub returns-in-Ok : goal.returns-in-Ok
-returns-in-Ok c =
-    answer-script c.put_outcome.result c.build.result c.args.text.now (calls_of string_of c.in-Ok.calls.items) (string_bytes c.args.out.now) (string_bytes c.put_outcome.new.out) c.in-Ok.ensures.ok (rw (c.new.ensures.items, c.as_slice.ensures.value) at c.build.ensures.taken) (rw (c.new.ensures.items, c.as_slice.ensures.value) at c.build.ensures.ok) (rw (c.new.ensures.items, c.as_slice.ensures.value) at c.build.ensures.refused) c.put_outcome.ensures
+pub returns-in_ok-buffer-in-Ok : goal.returns-in_ok-buffer-in-Ok
+returns-in_ok-buffer-in-Ok c =
+    answer-script c.put_outcome.result c.build.result c.args.text.now (calls_of string_of c.in-Ok.calls.items) (string_bytes c.args.out.now) (string_bytes c.put_outcome.new.out) c.in-Ok.ensures.ok (rw (c.in_ok-buffer-in-Ok.ensures.items, c.as_slice.ensures.value) at c.build.ensures.taken) (rw (c.in_ok-buffer-in-Ok.ensures.items, c.as_slice.ensures.value) at c.build.ensures.ok) (rw (c.in_ok-buffer-in-Ok.ensures.items, c.as_slice.ensures.value) at c.build.ensures.refused) c.put_outcome.ensures
 
 pub returns-in-Err : goal.returns-in-Err
 returns-in-Err c =
