@@ -29,7 +29,7 @@ brought_next old bytes gap some left done more at one_less one_more same within 
     subst (λ n. Brought old (set bytes (at + gap) (get_or bytes at 0)) gap left n) (sym one_more) (record {
       front = take-set-le (gap + left) bytes (at + gap) (get_or bytes at 0) (omega (arith, is)) ∙ shorter (gap + left) (gap + suc left) bytes old (omega arith) h.front;
       back = drop-set_at bytes (at + gap) (gap + left) (get_or bytes at 0) (omega (arith, is)) (omega (arith, is, same, within, one_less))
-      ∙ ap (λ b. b ∷ drop (at + gap + 1) bytes) byte ∙ ap (λ bs. get_or old left 0 ∷ bs) others ∙ brought;
+          ∙ ap (λ b. b ∷ drop (at + gap + 1) bytes) byte ∙ ap (λ bs. get_or old left 0 ∷ bs) others ∙ brought;
     })
 
 -- a stretch and what it is brought over, as a part of the bytes
