@@ -97,7 +97,7 @@ pub(crate) fn closed_len(
 }
 
 /// Brings bytes to a later place in the buffer, and adds to `moved` how many. Where they stand
-/// there already, none is moved. No other function moves payload bytes.
+/// there already, none is moved. Closings move bytes by no other function.
 fn shift(bytes: &mut [u8], from: usize, len: usize, to: usize, moved: &mut Count)
     requires forward { from ≤ to }
     requires within { to + len ≤ length bytes.old }
