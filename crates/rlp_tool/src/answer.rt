@@ -15,6 +15,9 @@ use rlp::Rlp;
 use std::alloc::{AllocError, Global};
 use std::fmt::Write;
 
+/// How many bytes a script writes with no further request for memory.
+const STARTING_CAPACITY: usize = 1024;
+
 /// The greatest depth of what is printed.
 const DEEPEST_NESTING: usize = 256;
 
@@ -140,8 +143,7 @@ fn script_answer(alloc: Global, text: &[u8], out: &mut String) -> Result<(), All
 {
     match read_script::<StringValue>(alloc, text) {
         Ok(calls) => {
-            // About as many bytes as the digits write.
-            let buffer = BytesMut::with_capacity(alloc, text.len() / 2)?;
+            let buffer = BytesMut::with_capacity(alloc, STARTING_CAPACITY)?;
             put_outcome(&build(alloc, buffer, calls.as_slice()), out)
         }
         Err(fault) => put_script_fault(&fault, out),
