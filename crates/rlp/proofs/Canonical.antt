@@ -1,19 +1,17 @@
 -- Whether bytes are the whole encoding of an item, as a walk over its items tells.
-use Rattle.std.proofs.Common.{◌≡◌, ℕ, suc, max, ◌+◌, ◌-◌, ◌^◌, ◌<◌, ◌≤◌, ◌↔◌, Bool, true, false, List, [], ◌∷◌, ◌++◌, length, map, refl, sym, ap, ◌∙◌, subst, arith, append-nil, append_assoc, length-append, IsTrue, Some, None, Err, pos_of_ne-zero}
+use Rattle.std.proofs.Common.{◌≡◌, ℕ, suc, max, ◌-◌, ◌^◌, ◌<◌, ◌≤◌, ◌↔◌, Bool, true, false, List, [], ◌∷◌, ◌++◌, length, map, refl, sym, ap, ◌∙◌, subst, arith, append-nil, append_assoc, length-append, IsTrue, Some, None, pos_of_ne-zero}
 use Rattle.std.specs.List.{concat}
-use Rattle.rlp.specs.declared.error.DecoderError.{DecoderError}
-use Rattle.rlp.specs.Format.Item.{Item, Items, string, list, items_from, listed, list_of, item_depth, items_depth}
-use Rattle.rlp.specs.Format.Encoding.{encoding, join, IsSized}
-use Rattle.rlp.specs.Format.Header.{HasHeader}
-use Rattle.rlp.specs.Format.Framing.{framing}
-use Rattle.rlp.specs.Format.Split.{begins_as_list, items, payload, split}
-use Rattle.rlp.specs.Format.Strict.{IsCanonicalWithin, strict_fault, unless}
-use Rattle.rlp.specs.Lemmas.Encodings.{front_sized, items_from-listed}
-use Rattle.rlp.specs.Lemmas.Frames.{join_is}
-use Rattle.rlp.specs.Lemmas.Views.{list_shape, payload_of_list}
+use Rattle.rlp_format.specs.declared.error.DecoderError.{DecoderError}
+use Rattle.rlp_format.specs.Format.Item.{Item, Items, string, list, items_from, listed, list_of, item_depth, items_depth}
+use Rattle.rlp_format.specs.Format.Encoding.{encoding, join, IsSized}
+use Rattle.rlp_format.specs.Format.Framing.{IsFramedItem}
+use Rattle.rlp_format.specs.Format.Split.{begins_as_list, items, payload, split}
+use Rattle.rlp_format.specs.Format.Strict.{IsCanonicalWithin, strict_fault}
+use Rattle.rlp_format.specs.Lemmas.Encodings.{front_sized, items_from-listed}
+use Rattle.rlp_format.specs.Lemmas.Frames.{join_is}
+use Rattle.rlp_format.specs.Lemmas.Views.{list_shape, payload_of_list}
 use Rattle.rlp.specs.Lemmas.WholeLists.{strict_fault-encoding, strict_items, whole_by}
-use Rattle.rlp.proofs.Depths.{not_list}
-use Rattle.rlp.proofs.StrictLists.{strict_fault-some}
+use Rattle.rlp_format.proofs.Depths.{not_list}
 
 sized_whole : (x : Item) (b : List ℕ) → length b < 2 ^ 64 → b ≡ encoding x → IsSized x
 sized_whole x b fits is = front_sized x b [] fits (is ∙ sym (append-nil (encoding x)))
@@ -53,10 +51,9 @@ list_alone b most (list ys) fits kind is deep = record {
 pub too_deep : (b : List ℕ) (most : ℕ) → length b < 2 ^ 64 → true ≡ begins_as_list b → most ≡ 0 → ¬ IsCanonicalWithin most b
 too_deep b most fits kind none (x, is, deep) = let l = list_alone b most x fits kind is deep in omega (arith, l.deep)
 
-pub not_whole : (b q : List ℕ) (most : ℕ) (e : DecoderError) → length b < 2 ^ 64 → q ≡ b → Err e ≡ unless (strict_fault q) (framing q) → ¬ IsCanonicalWithin most b
-not_whole b q most e fits same is (x, whole, deep) =
-    let none : strict_fault b ≡ None = strict_fault-encoding x b (sized_whole x b fits whole) whole in
-    let some : strict_fault b ≡ Some e = ap strict_fault (sym same) ∙ strict_fault-some q e is in cc
+pub not_whole : (b : List ℕ) (most : ℕ) (e : DecoderError) → length b < 2 ^ 64 → strict_fault b ≡ Some e → ¬ IsCanonicalWithin most b
+not_whole b most e fits some (x, whole, deep) =
+    let none : strict_fault b ≡ None = strict_fault-encoding x b (sized_whole x b fits whole) whole in cc
 
 -- ---- the walk
 
@@ -131,13 +128,11 @@ done_one b rest item others most is parts whole (x, same, low) = record {
 }
 
 -- a walk that comes to the end of a list's payload
-pub done_all : (b rest q : List ℕ) (h n most : ℕ) → q ≡ b → HasHeader q h n → h + n ≡ length q → true ≡ begins_as_list b → (most ≡ 0 → ⊥) → rest ≡ [] → IsDone b rest (most - 1) → IsCanonicalWithin most b
-done_all b rest q h n most same has whole kind some none is =
+pub done_all : (b rest : List ℕ) (most : ℕ) → IsFramedItem b → true ≡ begins_as_list b → (most ≡ 0 → ⊥) → rest ≡ [] → IsDone b rest (most - 1) → IsCanonicalWithin most b
+done_all b rest most framed kind some none is =
     let joined : payload b ≡ join is.done = is.whole ∙ ap (λ r. join is.done ++ r) none ∙ append-nil (join is.done) in
-    let head : HasHeader b h n = subst (λ q. HasHeader q h n) same has in
-    let all : h + n ≡ length b = whole ∙ ap length same in
     let positive : 0 < most = pos_of_ne-zero some in
-    (list_of is.done, whole_by b h n is.done (sym kind) joined head all, let deep : suc (items_depth (items_from is.done)) ≤ most = omega (arith, is.shallow) in deep)
+    (list_of is.done, whole_by b framed.header_len framed.value_len is.done (sym kind) joined framed.has_header framed.whole, let deep : suc (items_depth (items_from is.done)) ≤ most = omega (arith, is.shallow) in deep)
 
 never : false ≡ true → ⊥
 never e = cc

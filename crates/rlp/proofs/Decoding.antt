@@ -2,18 +2,18 @@
 use Rattle.std.proofs.Common.{◌≡◌, ◌↔◌, ℕ, ◌^◌, ◌<◌, ◌⊎◌, inl, inr, List, length, map, subst, Result, Ok, Err, IfOk, IfErr, IsOkAnd, ◌∙◌, refl}
 use Rattle.std.specs.List.{All}
 use Rattle.std.proofs.lemmas.Simd.{map-map}
-use Rattle.rlp.specs.declared.error.DecoderError.{DecoderError}
-use Rattle.rlp.specs.Format.Item.{Item, list_of}
-use Rattle.rlp.specs.Format.Encoding.{BeginsWith, encoding}
-use Rattle.rlp.specs.Format.Split.{items}
+use Rattle.rlp_format.specs.declared.error.DecoderError.{DecoderError}
+use Rattle.rlp_format.specs.Format.Item.{Item, list_of}
+use Rattle.rlp_format.specs.Format.Encoding.{BeginsWith, encoding}
+use Rattle.rlp_format.specs.Format.Split.{items}
 use Rattle.rlp.specs.Values.ValueReading.{GivesValue}
-use Rattle.rlp.specs.Views.View.{View, view_of}
+use Rattle.rlp_format.specs.Views.View.{View, view_of}
 use Rattle.rlp.specs.Values.ListReading.{GivesList, FaultsAsList}
-use Rattle.rlp.specs.Lemmas.Encodings.{front_sized}
+use Rattle.rlp_format.specs.Lemmas.Encodings.{front_sized}
 use Rattle.rlp.specs.Lemmas.Structs.{list_same}
 use Rattle.rlp.specs.Lemmas.ListRoundTrips.{AlwaysReadsBack}
 use Rattle.rlp.specs.Lemmas.ValueLists.{list_reads_back}
-use Rattle.rlp.specs.Lemmas.Views.{items_of_list}
+use Rattle.rlp_format.specs.Lemmas.Views.{items_of_list}
 use Rattle.rlp.specs.Values.RoundTrip.{ReadsBack}
 
 module _ {A : Type 0} (Fits : A → Type 0) (item : A → Item) (gives : View → A → Type 0) (faults : View → DecoderError → Type 0) (b : List ℕ) where

@@ -2,15 +2,15 @@
 use Rattle.std.proofs.Common.{◌≡◌, ◌<◌, ◌^◌, ℕ, suc, ◌+◌, arith, length-append, Bool, true, false, cond, List, [], ◌∷◌, ◌++◌, length, map, Some, None, refl, sym, ap, ◌∙◌, append-nil, Result, Ok, Err, IsTrue, not, All}
 use Rattle.std.proofs.lemmas.List.{append_cancel_left}
 use Rattle.std.proofs.lemmas.List.Concat.{flat_map-append}
-use Rattle.rlp.specs.Format.WrittenHeader.{big_endian, written_header}
-use Rattle.rlp.specs.Format.Item.{Item, string, list_of}
-use Rattle.rlp.specs.Format.Encoding.{encoding, join, IsSized}
-use Rattle.rlp.specs.Streams.Stack.{OpenList, Stack, empty_stack, stack_put, stack_shut, shut_around, stack_count, count_around, is_last}
-use Rattle.rlp.specs.Streams.Stream.{State, initial_state, list_encoding, put, count}
-use Rattle.rlp.specs.Streams.Calls.{Call, effect, is_within_size, is_admitted, after, after_from}
+use Rattle.rlp_format.specs.Format.WrittenHeader.{big_endian, written_header}
+use Rattle.rlp_format.specs.Format.Item.{Item, string, list_of}
+use Rattle.rlp_format.specs.Format.Encoding.{encoding, join, IsSized}
+use Rattle.rlp_buffer.specs.Streams.Stack.{OpenList, Stack, empty_stack, stack_put, stack_shut, shut_around, stack_count, count_around, is_last}
+use Rattle.rlp_buffer.specs.Streams.Stream.{State, initial_state, list_encoding, put, count}
+use Rattle.rlp_buffer.specs.Streams.Calls.{Call, effect, is_within_size, is_admitted, after, after_from}
 use Rattle.rlp.specs.Streams.Described.{Step, one_list, items_after, items_after_all, Describes, by_append, by_empty_data, by_raw, by_checked_raw, by_refused_raw, by_empty_list, by_list, by_unbounded_list, by_finalize, by_internal_list, by_clear, AreDescribed, IsDescribed, DescribesWhere, AreDescribedWhere, IsDescribedWhere, joined_stack, joined_list, FinishAs}
-use Rattle.rlp.specs.Lemmas.Encodings.{encoding_list, join_same}
-use Rattle.rlp.specs.Lemmas.Views.{sized_items}
+use Rattle.rlp_format.specs.Lemmas.Encodings.{encoding_list, join_same}
+use Rattle.rlp_format.specs.Lemmas.Views.{sized_items}
 
 one_list_joined : (xs : List Item) → list_encoding (join xs) ≡ join (one_list xs)
 one_list_joined xs = sym (encoding_list xs) ∙ sym (append-nil (encoding (list_of xs)))

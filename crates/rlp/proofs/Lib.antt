@@ -1,30 +1,19 @@
-pub mod Texts
-pub mod Depths
-pub mod Splits
-pub mod Printing
-pub mod Values
-pub mod DigitBytes
-pub mod Written
-pub mod Growth
-pub mod Layouts
-pub mod States
-pub mod Descriptions
-pub mod Places
-pub mod ListValues
-pub mod Awaits
-pub mod Hexes
-pub mod Brought
-pub mod Closing
-pub mod Laid
-pub mod Opened
-pub mod ClosedSize
-pub mod Listed
-pub mod Filling
-pub mod Decoding
-pub mod ListReadings
-pub mod Options
-pub mod Following
-pub mod StrictLists
-pub mod StrictDecoding
+-- canonical bytes
 pub mod Canonical
+-- reading values, options and lists
+pub mod Values
+pub mod Options
+pub mod ListValues
+pub mod ListReadings
+pub mod Decoding
+-- items split off, and fields in order
+pub mod SplitOff
+pub mod InOrder
+-- strict reading
 pub mod ViewKinds
+pub mod StrictDecoding
+-- the items that calls describe
+pub mod Descriptions
+-- for authors of types, passed on from `rlp_streams`
+pub mod Growth
+pub mod Filling

@@ -1,33 +1,23 @@
 -- The values of the items of a list, as they come one after another.
-use Rattle.std.proofs.Common.{ℕ, ◌≡◌, List, [], ◌∷◌, ◌++◌, ◌⊎◌, inl, inr, None, map, sym, ◌∙◌, ap, append_assoc, append-nil, Result, Ok, Err, IfOk}
+use Rattle.std.proofs.Common.{ℕ, ◌≡◌, List, [], ◌∷◌, ◌++◌, ◌⊎◌, inl, inr, None, sym, ◌∙◌, ap, append_assoc, append-nil, Result, Ok, Err, IfOk}
 use Rattle.std.specs.Prelude.{OnOk}
-use Rattle.rlp.specs.declared.error.DecoderError.{DecoderError}
-use Rattle.rlp.specs.declared.error.DecoderError.TheVariants.{OutOfMemory}
-use Rattle.rlp.specs.Format.Split.{items, payload, split}
-use Rattle.rlp.specs.Views.View.{View, item_views, list_fault}
+use Rattle.rlp_format.specs.declared.error.DecoderError.{DecoderError}
+use Rattle.rlp_format.specs.declared.error.DecoderError.TheVariants.{OutOfMemory}
+use Rattle.rlp_format.specs.Views.View.{View, item_views, list_fault}
 use Rattle.rlp.specs.Values.ValueReading.{GivesSome}
 use Rattle.rlp.specs.Values.ListReading.{GivesEach, GivesAt, GivesSomeAt, ComesTo, FaultsAsList, faulty_in_list, MayLackAsList}
 
--- the views of the items that bytes begin with, as v is one
-abbrev pub split_views : View → List ℕ → List View
-split_views v p = map (λ b. record v { bytes = b }) (split p)
+-- the first view that is left, and then the others
+pub views-next : (v : View) (done left others all : List View) → done ++ left ≡ all → left ≡ v ∷ others → done ++ v ∷ others ≡ all
+views-next v done left others all e s = ap (λ vs. done ++ vs) (sym s) ∙ e
 
--- the views of a view's items are those of its payload
-pub item_views-payload : (v : View) (p : List ℕ) → p ≡ payload v.bytes → split_views v p ≡ item_views v
-unfolding items
-item_views-payload v p e = ap (split_views v) e
+-- the same, with the first view put behind those that were read
+pub views-more : (v : View) (done left others all : List View) → done ++ left ≡ all → left ≡ v ∷ others → (done ++ v ∷ []) ++ others ≡ all
+views-more v done left others all e s = append_assoc done (v ∷ []) others ∙ views-next v done left others all e s
 
--- the first item's view, and then those of what follows it
-pub views-next : (v : View) (item : List ℕ) (done all : List View) (rest others : List ℕ) → done ++ split_views v rest ≡ all → split rest ≡ item ∷ split others → done ++ (record v { bytes = item }) ∷ split_views v others ≡ all
-views-next v item done all rest others e s = ap (λ bs. done ++ map (λ b. record v { bytes = b }) bs) (sym s) ∙ e
-
--- the same, with the first item's view put behind those that were read
-pub views-more : (v : View) (item : List ℕ) (done all : List View) (rest others : List ℕ) → done ++ split_views v rest ≡ all → split rest ≡ item ∷ split others → (done ++ (record v { bytes = item }) ∷ []) ++ split_views v others ≡ all
-views-more v item done all rest others e s = append_assoc done ((record v { bytes = item }) ∷ []) (split_views v others) ∙ views-next v item done all rest others e s
-
--- where no item follows, all views were read
-pub views-all : (v : View) (done all : List View) (rest : List ℕ) → done ++ split_views v rest ≡ all → split rest ≡ [] → done ≡ all
-views-all v done all rest e s = sym (append-nil done) ∙ ap (λ bs. done ++ map (λ b. record v { bytes = b }) bs) (sym s) ∙ e
+-- where no view is left, all were read
+pub views-all : (done left all : List View) → done ++ left ≡ all → left ≡ [] → done ≡ all
+views-all done left all e s = sym (append-nil done) ∙ ap (λ vs. done ++ vs) (sym s) ∙ e
 
 -- one value more, of one view more
 pub gives-more : {A : Type 0} (gives : View → A → Type 0) (vs : List View) (xs : List A) (v : View) (x : A) → GivesEach gives vs xs → gives v x → GivesEach gives (vs ++ v ∷ []) (xs ++ x ∷ [])

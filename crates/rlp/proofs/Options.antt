@@ -1,52 +1,46 @@
 -- What options answer, by the first two items of a list.
-use Rattle.std.proofs.Common.{◌≡◌, ℕ, ◌<◌, ◌≤◌, ◌⊎◌, inl, inr, length, ◌∙◌, ap, subst, arith, Some, None, Ok, Err, IsOkAnd, MatchResult}
-use Rattle.rlp.specs.declared.error.DecoderError.{DecoderError}
-use Rattle.rlp.specs.declared.error.DecoderError.TheVariants.{OutOfMemory, RlpIncorrectListLen}
-use Rattle.rlp.specs.Format.Split.{items}
-use Rattle.rlp.specs.Views.View.{View, item_at, item_count, items_fault}
+use Rattle.std.proofs.Common.{◌≡◌, ◌⊎◌, inl, inr, List, [], ◌∷◌, length, sym, ◌∙◌, ap, subst, arith, Some, None, Ok, IsOkAnd, MatchResult}
+use Rattle.std.specs.List.{slice_get}
+use Rattle.rlp_format.specs.declared.error.DecoderError.{DecoderError}
+use Rattle.rlp_format.specs.declared.error.DecoderError.TheVariants.{OutOfMemory, RlpIncorrectListLen}
+use Rattle.rlp_format.specs.Views.View.{View, item_at, item_count, item_views, items_fault}
 use Rattle.rlp.specs.Values.ListReading.{GivesOption, no_value, one_value, FaultsAsOption, no_list, many_items, faulty_item, MayLackAsOption}
-use Rattle.rlp.specs.Lemmas.Numbered.{Numbered, item_there, no_item, not_told, numbered, item_count-fault, item_count-told}
+use Rattle.rlp_format.specs.Lemmas.Numbered.{item_count-fault, item_count-told, length-views, slice_get-item_at}
 
-inside_by : (v item : View) (i : ℕ) → Numbered v i → Ok item ≡ item_at v i → i < length (items v.bytes)
-inside_by v item i (item_there told inside is) there = inside
-inside_by v item i (no_item e told past is others) there = absurd (let no : ⊥ = cc in no)
-inside_by v item i (not_told e none all) there = let is : item_at v i ≡ Err e = all i in absurd (let no : ⊥ = cc in no)
+-- as many items as views
+counted : (v : View) (vs : List View) → items_fault v ≡ None → vs ≡ item_views v → item_count v ≡ Ok (length vs)
+counted v vs kind all = item_count-told v kind ∙ ap Ok (sym (ap length all ∙ length-views v))
 
-past_by : (v : View) (i : ℕ) (e : DecoderError) → items_fault v ≡ None → Numbered v i → Err e ≡ item_at v i → length (items v.bytes) ≤ i
-past_by v i e told (item_there told' inside is) none = absurd (let no : ⊥ = cc in no)
-past_by v i e told (no_item f told' past is others) none = past
-past_by v i e told (not_told f is all) none = absurd (let no : ⊥ = cc in no)
+one_counted : (v item : View) (left others : List View) → items_fault v ≡ None → left ≡ item_views v → left ≡ item ∷ others → others ≡ [] → item_count v ≡ Ok 1
+one_counted v item left others kind all first none = counted v left kind all ∙ ap (λ vs. Ok (length vs)) (first ∙ ap (λ vs. item ∷ vs) none)
 
-one_counted : (v item : View) (e : DecoderError) → items_fault v ≡ None → Ok item ≡ item_at v 0 → Err e ≡ item_at v 1 → item_count v ≡ Ok 1
-one_counted v item e kind there none =
-    let some : 0 < length (items v.bytes) = inside_by v item 0 (numbered v 0) there in
-    let few : length (items v.bytes) ≤ 1 = past_by v 1 e kind (numbered v 1) none in
-    let one : length (items v.bytes) ≡ 1 = omega arith in
-    item_count-told v kind ∙ ap Ok one
+first_there : (v item : View) (left others : List View) → items_fault v ≡ None → left ≡ item_views v → left ≡ item ∷ others → Ok item ≡ item_at v 0
+first_there v item left others kind all first = sym (slice_get-item_at v item 0 kind (ap (λ vs. slice_get vs 0) (sym all ∙ first)))
 
 -- a list of no items gives no value
-pub gives_none : {A : Type 0} (gives : View → A → Type 0) (v : View) (e : DecoderError) → items_fault v ≡ None → Err e ≡ item_at v 0 → GivesOption gives v None
-gives_none gives v e kind none =
-    let few : length (items v.bytes) ≤ 0 = past_by v 0 e kind (numbered v 0) none in
-    let zero_items : length (items v.bytes) ≡ 0 = omega arith in
-    no_value (item_count-told v kind ∙ ap Ok zero_items)
+pub gives_none : {A : Type 0} (gives : View → A → Type 0) (v : View) (left : List View) → items_fault v ≡ None → left ≡ item_views v → left ≡ [] → GivesOption gives v None
+gives_none gives v left kind all none = no_value (counted v left kind all ∙ ap (λ vs. Ok (length vs)) none)
 
 -- a list of one item gives its value
-pub gives_one : {A : Type 0} (gives : View → A → Type 0) (v item : View) (e : DecoderError) (x : A) → items_fault v ≡ None → Ok item ≡ item_at v 0 → Err e ≡ item_at v 1 → gives item x → GivesOption gives v (Some x)
-gives_one gives v item e x kind there none given = one_value x (one_counted v item e kind there none) (subst (λ r. IsOkAnd r (λ w. gives w x)) there given)
+pub gives_one : {A : Type 0} (gives : View → A → Type 0) (v item : View) (left others : List View) (x : A) → items_fault v ≡ None → left ≡ item_views v → left ≡ item ∷ others → others ≡ [] → gives item x → GivesOption gives v (Some x)
+gives_one gives v item left others x kind all first none given =
+    one_value x (one_counted v item left others kind all first none) (subst (λ r. IsOkAnd r (λ w. gives w x)) (first_there v item left others kind all first) given)
 
 -- a list with a second item is at fault
-pub faulty_many : (faults : View → DecoderError → Type 0) (v item : View) → items_fault v ≡ None → Ok item ≡ item_at v 1 → FaultsAsOption faults v RlpIncorrectListLen
-faulty_many faults v item kind there = many_items (length (items v.bytes)) (item_count-told v kind) (inside_by v item 1 (numbered v 1) there)
+pub faulty_many : (faults : View → DecoderError → Type 0) (v item second : View) (left others more : List View) → items_fault v ≡ None → left ≡ item_views v → left ≡ item ∷ others → others ≡ second ∷ more → FaultsAsOption faults v RlpIncorrectListLen
+faulty_many faults v item second left others more kind all first next =
+    many_items (length left) (counted v left kind all) (omega (arith, ap length first, ap length next))
 
 -- a string is at fault
 pub faulty_other : (faults : View → DecoderError → Type 0) (v : View) (e : DecoderError) → items_fault v ≡ Some e → FaultsAsOption faults v e
 faulty_other faults v e is = no_list e (item_count-fault v e is)
 
 -- where a list has one item, the fault is the item's
-pub faulty_one : (faults : View → DecoderError → Type 0) (may_lack : View → Type 0) (v item : View) (f e : DecoderError) → items_fault v ≡ None → Ok item ≡ item_at v 0 → Err f ≡ item_at v 1
+pub faulty_one : (faults : View → DecoderError → Type 0) (may_lack : View → Type 0) (v item : View) (left others : List View) (e : DecoderError) → items_fault v ≡ None → left ≡ item_views v → left ≡ item ∷ others → others ≡ []
     → faults item e ⊎ ((e ≡ OutOfMemory) × may_lack item) → FaultsAsOption faults v e ⊎ ((e ≡ OutOfMemory) × MayLackAsOption may_lack v)
-faulty_one faults may_lack v item f e kind there none (inl faulty) = inl (faulty_item e (one_counted v item f kind there none) (subst (λ r. MatchResult r (λ w. faults w e) (λ g. e ≡ g)) there faulty))
-faulty_one faults may_lack v item f e kind there none (inr (lacks, may)) = inr (lacks, record { one = one_counted v item f kind there none; lacks = subst (λ r. IsOkAnd r (λ w. may_lack w)) there may })
+faulty_one faults may_lack v item left others e kind all first none (inl faulty) =
+    inl (faulty_item e (one_counted v item left others kind all first none) (subst (λ r. MatchResult r (λ w. faults w e) (λ g. e ≡ g)) (first_there v item left others kind all first) faulty))
+faulty_one faults may_lack v item left others e kind all first none (inr (lacks, may)) =
+    inr (lacks, record { one = one_counted v item left others kind all first none; lacks = subst (λ r. IsOkAnd r (λ w. may_lack w)) (first_there v item left others kind all first) may })
 
 pub ruleset option_answers = (gives_none, gives_one, faulty_many, faulty_other, faulty_one)

@@ -2,21 +2,21 @@
 use Rattle.std.proofs.Common.{◌≡◌, ℕ, ◌^◌, ◌<◌, ◌⊎◌, inl, inr, List, [], ◌∷◌, ◌++◌, length, map, subst, sym, ap, refl, ◌∙◌, arith, append-nil, append_assoc, length-append, None, Result, Ok, Err, IfOk, IfErr, IsOkAnd}
 use Rattle.std.specs.List.{All, AllByRecursion, concat}
 use Rattle.std.proofs.lemmas.List.Elements.{All-from_recursion, recursion_from_All}
-use Rattle.rlp.specs.declared.error.DecoderError.{DecoderError}
-use Rattle.rlp.specs.Format.Item.{Item, list_of}
-use Rattle.rlp.specs.Format.WrittenHeader.{AreBytes}
-use Rattle.rlp.specs.Format.Encoding.{encoding, IsSized}
-use Rattle.rlp.specs.Format.Split.{items, payload, rest}
-use Rattle.rlp.specs.Format.Strict.{strict_list_fault}
-use Rattle.rlp.specs.Views.View.{View, strict_view_of}
+use Rattle.rlp_format.specs.declared.error.DecoderError.{DecoderError}
+use Rattle.rlp_format.specs.Format.Item.{Item, list_of}
+use Rattle.rlp_format.specs.Format.WrittenHeader.{AreBytes}
+use Rattle.rlp_format.specs.Format.Encoding.{encoding, IsSized}
+use Rattle.rlp_format.specs.Format.Split.{items, payload, rest}
+use Rattle.rlp_format.specs.Format.Strict.{strict_list_fault}
+use Rattle.rlp_format.specs.Views.View.{View, strict_view_of}
 use Rattle.rlp.specs.Values.ListReading.{GivesEach, GivesList, FaultsAsList, not_list, faulty_in_list}
-use Rattle.rlp.specs.Lemmas.Encodings.{front_sized, prefix_free}
+use Rattle.rlp_format.specs.Lemmas.Encodings.{front_sized, prefix_free}
 use Rattle.rlp.specs.Lemmas.Structs.{list_same}
 use Rattle.rlp.specs.Lemmas.OneReading.{front_bytes, back_bytes}
-use Rattle.rlp.specs.Lemmas.Reading.{Bytes}
+use Rattle.rlp_format.specs.Lemmas.Reading.{Bytes}
 use Rattle.rlp.specs.Lemmas.Slices.{payload_short}
 use Rattle.rlp.specs.Lemmas.StrictReads.{AlwaysReadsStrictly}
-use Rattle.rlp.specs.Lemmas.Views.{payload_bytes}
+use Rattle.rlp_format.specs.Lemmas.Views.{payload_bytes}
 use Rattle.rlp.specs.Lemmas.WholeLists.{payload_parts, strict_items, strict_list_fault-encoding, whole_list}
 
 whole_sized : (x : Item) (b : List ℕ) → length b < 2 ^ 64 → b ≡ encoding x → IsSized x

@@ -1,10 +1,10 @@
 -- What a type that is read from one string answers, by what it makes of the string.
 use Rattle.std.proofs.Common.{◌≡◌, ℕ, List, ◌⊎◌, inl, inr, refl, sym, subst, Result, Ok, Err, IfOk, IfErr, IsErrAnd}
-use Rattle.rlp.specs.declared.error.DecoderError.{DecoderError}
-use Rattle.rlp.specs.declared.error.DecoderError.TheVariants.{OutOfMemory}
-use Rattle.rlp.specs.Format.Item.{string}
+use Rattle.rlp_format.specs.declared.error.DecoderError.{DecoderError}
+use Rattle.rlp_format.specs.declared.error.DecoderError.TheVariants.{OutOfMemory}
+use Rattle.rlp_format.specs.Format.Item.{string}
 use Rattle.rlp.specs.Values.ValueReading.{FaultsAs, no_string, no_value, FaultsAsBytes, GivesBytes, GivesSome, GivesValue}
-use Rattle.rlp.specs.Views.View.{View, HoldsString, HoldsNoString, view_string}
+use Rattle.rlp_format.specs.Views.View.{View, HoldsString, HoldsNoString, view_string}
 
 -- the decoder of a view calls on the string that it finds, and else answers why it finds none
 pub record Answers {A : Type 0} (r : Result A DecoderError) (Calls : List ℕ → Type 0) (v : View) : Type 0 where

@@ -1,10 +1,10 @@
 -- Types of which a struct is made, and structs that are lists of their fields.
 use Rattle.std.specs.Prelude.{ℕ, zero, suc, ◌≡◌, ◌^◌, ◌<◌, ◌↔◌, ⊤, ◌⊎◌, All, IsUtf8, IfSome, Bool, List, [], ◌∷◌, length, map, Ok, Option, refl, ◌+◌}
 use Rattle.std.proofs.Common.{ap}
-use Rattle.rlp.specs.declared.error.DecoderError.{DecoderError}
-use Rattle.rlp.specs.Format.Item.{Item, string, list_of}
-use Rattle.rlp.specs.Views.View.{View, HoldsItem, item_count, view_of}
-use Rattle.rlp.specs.Values.Value.{FitsBytes, bit, number_item, option_item}
+use Rattle.rlp_format.specs.declared.error.DecoderError.{DecoderError}
+use Rattle.rlp_format.specs.Format.Item.{Item, string, list_of}
+use Rattle.rlp_format.specs.Views.View.{View, HoldsItem, item_count, view_of}
+use Rattle.rlp_format.specs.Values.Value.{FitsBytes, bit, number_item, option_item}
 use Rattle.rlp.specs.Values.ValueReading.{FaultsAs, FaultsAsBool, FaultsAsBytes, FaultsAsNumber, FaultsAsText, GivesBool, GivesBytes, GivesNumber, GivesSome, GivesText, GivesValue, IsLengthFault}
 use Rattle.rlp.specs.Values.ListReading.{FaultsAsFields, FaultsAsList, FaultsAsOption, FaultsAt, FaultsInField, GivesAt, GivesList, GivesOption, GivesSomeAt, MayLackAsList, MayLackAsOption, MayLackAsStruct}
 use Rattle.rlp.specs.Values.RoundTrip.{ReadsBack}
@@ -21,6 +21,10 @@ pub record Codec (A : Type 0) : Type 1 where
   pub faults : View → DecoderError → Type 0
   pub may_lack : View → Type 0
   pub reads_back : (b : List ℕ) (v : A) → length b < 2 ^ 64 → Fits v → HoldsItem (view_of b) (item v) → ReadsBack Fits item gives faults (view_of b) v
+
+-- the codec of a type that has the three traits, from their members: for a type with a parameter
+abbrev pub codec_of : {A : Type 0} (Fits : A → Type 0) (item : A → Item) (gives : View → A → Type 0) (faults : View → DecoderError → Type 0) (may_lack : View → Type 0) → ((b : List ℕ) (v : A) → length b < 2 ^ 64 → Fits v → HoldsItem (view_of b) (item v) → ReadsBack Fits item gives faults (view_of b) v) → Codec A
+codec_of Fits item gives faults may_lack reads_back = record { Fits = Fits; item = item; gives = gives; faults = faults; may_lack = may_lack; reads_back = reads_back }
 
 -- ---- the provided types
 

@@ -1,20 +1,22 @@
 -- open lists, and the moves on them
-pub mod Stack
+pub use Rattle.rlp_buffer.specs.Streams.Stack
 -- the state of a stream, and its texts
-pub mod Stream
+pub use Rattle.rlp_buffer.specs.Streams.Stream
 -- how a state grows
-pub mod Growth
+pub use Rattle.rlp_streams.specs.Streams.Growth
 -- the calls, which are admitted, and the effect of each
-pub mod Calls
+pub use Rattle.rlp_buffer.specs.Streams.Calls
 -- what a refusal leaves of a stream that is lent on
-pub mod Chain
+pub use Rattle.rlp_streams.specs.Streams.Chain
 -- the bytes that an iterator gives
-pub mod Iterated
+pub use Rattle.rlp_buffer.specs.Streams.Iterated
 -- the items that calls describe
 pub mod Described
--- of the code alone, cited by no public contract: where open lists stand in the bytes of a stream
-pub mod Placeholders
+-- of the code alone, cited by no public contract: the buffer of a stream
+pub use Rattle.rlp_buffer.specs.Streams.Held
+-- where open lists stand in its bytes
+pub use Rattle.rlp_buffer.specs.Streams.Placeholders
 -- the state that bytes and places stand for
-pub mod Layout
+pub use Rattle.rlp_buffer.specs.Streams.Layout
 -- what closing does to bytes and places
-pub mod Closing
+pub use Rattle.rlp_buffer.specs.Streams.Closing

@@ -1,8 +1,10 @@
 -- the item of a value, and which values fit
-pub mod Value
+pub use Rattle.rlp_format.specs.Values.Value
 -- which bytes give which value, and which fault
 pub mod ValueReading
 -- the same of lists of values
 pub mod ListReading
 -- what it is that decoding undoes encoding
 pub mod RoundTrip
+-- where a reader of fields is
+pub mod FieldPlace

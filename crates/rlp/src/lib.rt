@@ -13,33 +13,23 @@
 #![tactic(auto)]
 
 ghost use Rattle.std.specs.Prelude.{◌≡◌, IfOk, IfErr, OnOk, ◌⊎◌, map, All};
-ghost use Rattle.rlp.specs.Format.Item.{list_of};
-ghost use Rattle.rlp.specs.Format.Encoding.{encoding};
-ghost use Rattle.rlp.specs.declared.error.DecoderError.TheVariants.{OutOfMemory};
+ghost use Rattle.rlp_format.specs.Format.Item.{list_of};
+ghost use Rattle.rlp_format.specs.Format.Encoding.{encoding};
+ghost use Rattle.rlp_format.specs.declared.error.DecoderError.TheVariants.{OutOfMemory};
 ghost use Rattle.rlp.specs.Values.ListReading.{FaultsAsList, GivesList, MayLackAsList};
-ghost use Rattle.rlp.specs.Views.View.{strict_view_of, view_of};
+ghost use Rattle.rlp_format.specs.Views.View.{strict_view_of, view_of};
 
-mod count;
-mod digits;
-mod error;
 mod impls;
 pub mod laws;
 mod rlpin;
-mod stream;
 mod traits;
 
 use bytes::BytesMut;
-pub use error::DecoderError;
-pub use rlpin::{BasicDecoder, PayloadInfo, Prototype, Rlp, RlpIterator};
+pub use rlp_format::{DecoderError, PayloadInfo, Prototype};
+pub use rlp_streams::{BasicEncoder, Chain, EMPTY_LIST_RLP, Encodable, NULL_RLP, RlpStream};
+pub use rlpin::{BasicDecoder, Fields, Rlp, RlpIterator};
 use std::alloc::{AllocError, Global};
-pub use stream::{BasicEncoder, Chain, RlpStream};
-pub use traits::{Decodable, Encodable, RoundTrip, Scalar, StrictRead};
-
-/// The encoding of the empty string.
-pub const NULL_RLP: [u8; 1] = [0x80];
-
-/// The encoding of the empty list.
-pub const EMPTY_LIST_RLP: [u8; 1] = [0xc0];
+pub use traits::{Decodable, RoundTrip, Scalar, StrictRead};
 
 /// The encoding of a value. `AllocError` where memory is refused, or where the value's own
 /// [`Encodable::rlp_append`] answers it.

@@ -1,14 +1,13 @@
-//! Reading: headers, views of bytes, and the items of a view.
+//! Reading: views of bytes.
 
 mod decoder;
 mod display;
-mod framed;
-mod header;
-mod items;
+mod fields;
 mod iter;
 mod rlp;
+mod splitting;
 
 pub use decoder::BasicDecoder;
-pub use header::PayloadInfo;
+pub use fields::Fields;
 pub use iter::RlpIterator;
-pub use rlp::{Prototype, Rlp};
+pub use rlp::Rlp;

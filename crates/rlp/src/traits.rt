@@ -1,9 +1,7 @@
-//! What a type says of itself to be written and to be read.
+//! What a type does to be read, and to be read back.
 
 mod decodable;
-mod encodable;
 mod round_trip;
 
 pub use decodable::Decodable;
-pub use encodable::Encodable;
 pub use round_trip::{RoundTrip, Scalar, StrictRead};

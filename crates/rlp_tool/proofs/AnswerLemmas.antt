@@ -1,9 +1,12 @@
 -- The answers to lines of calls.
-use Rattle.std.proofs.Common.{◌≡◌, ℕ, suc, ◌+◌, Bool, true, false, cond, List, [], ◌∷◌, ◌++◌, length, append-nil, codes, decimal, Result, Ok, Err, IfOk, IfErr, OnOk, IsTrue, refl, sym, ap, ◌∙◌, arith}
-use Rattle.rlp.specs.Streams.Stack.{OpenList}
+use Rattle.std.proofs.Common.{◌≡◌, ℕ, suc, ◌+◌, ◌^◌, ◌<◌, All, subst, Bool, true, false, cond, List, [], ◌∷◌, ◌++◌, length, append-nil, codes, decimal, Result, Ok, Err, IfOk, IfErr, OnOk, IsTrue, nat_lt, refl, sym, ap, ◌∙◌, arith}
+use Rattle.std.proofs.lemmas.Bool.Decides.{nat_tests}
+use Rattle.rlp.specs.Format.Item.{Item}
+use Rattle.rlp.specs.Format.Encoding.{join, BeginsWith, IsSized}
+use Rattle.rlp.specs.Streams.Stack.{OpenList, Stack}
 use Rattle.rlp.specs.Streams.Stream.{State, initial_state, closed_size, raw_text}
 use Rattle.rlp.specs.Streams.Calls.{Call, append, append_empty_data, append_raw, append_raw_checked, begin_list, begin_unbounded_list, finalize_unbounded_list, append_internal, encode_value, clear, effect, is_admitted, after, after_from}
-use Rattle.rlp.specs.Streams.Described.{Step, DescribesWhere, by_append, by_empty_data, by_raw, by_checked_raw, by_refused_raw, by_empty_list, by_list, by_unbounded_list, by_finalize, by_internal_list, by_clear, AreDescribedWhere, FinishAs}
+use Rattle.rlp.specs.Streams.Described.{Step, DescribesWhere, by_append, by_empty_data, by_raw, by_checked_raw, by_refused_raw, by_empty_list, by_list, by_unbounded_list, by_finalize, by_internal_list, by_clear, AreDescribedWhere, IsDescribedWhere, FinishAs}
 use Rattle.rlp_tool.specs.declared.building.Built.{Built}
 use Rattle.rlp_tool.specs.declared.building.Built.TheVariants.{Finished, Open}
 use Rattle.rlp_tool.specs.declared.building.BuildFault.{BuildFault}
@@ -11,7 +14,9 @@ use Rattle.rlp_tool.specs.declared.building.BuildFault.TheVariants.{TooManyItems
 use Rattle.rlp_tool.specs.Building.{AreRefused, AreTaken, BringsItems, BringsNoItems, BringsTooMany, HasNothingToFinish, StayOpen, is_raw, is_finish, IsBuilt, IsRefusal}
 use Rattle.rlp_tool.specs.RawItems.{IsShallow, are_raw_items}
 use Rattle.rlp_tool.specs.Script.{script}
-use Rattle.rlp_tool.specs.Answer.{brings_items, finished_answer, open_answer, state_answer, refusal_name, outcome_answer, calls_answer, AppendsOutcome}
+use Rattle.rlp_tool.specs.Answer.{SaysCalls, answer, answer_within, brings_items, longest_line, text_answer, finished_answer, open_answer, state_answer, refusal_name, outcome_answer, calls_answer, AppendsOutcome}
+use Rattle.rlp_tool.proofs.CallsLemmas.{Leaves}
+use Rattle.rlp_tool.proofs.SaidLemmas.{EndFinished, end_finished, length-stripped, script_said}
 use Rattle.rlp_tool.proofs.RawLemmas.{are_raw_items-join, are_raw_items-told}
 
 cond-true : {A : Type 0} (b : Bool) (x y : A) → IsTrue b → cond b x y ≡ x
@@ -43,13 +48,16 @@ step_passes _ _ s (by_internal_list xs) = refl
 step_passes _ _ s by_clear = refl
 
 -- a call that passes is made
-outcome-next : (n : ℕ) (s : State) (c : Call) (calls : List Call) → IsTrue (is_admitted c s) → IsTrue (brings_items c) → outcome_answer n s (c ∷ calls) ≡ outcome_answer (n + 1) (effect c s) calls
+outcome-next : (n : ℕ) (s : State) (c : Call) (calls : List Call) → IsTrue (is_admitted c s) → IsTrue (brings_items c)
+    → outcome_answer n s (c ∷ calls) ≡ outcome_answer (n + 1) (effect c s) calls
 outcome-next n s c calls admitted passes =
-    cond-true (is_admitted c s) (cond (brings_items c) (outcome_answer (n + 1) (effect c s) calls) (codes "error raw not items at " ++ decimal n)) (refusal_name c ++ decimal n) admitted
+    cond-true (is_admitted c s) (cond (brings_items c) (outcome_answer (n + 1) (effect c s) calls) (codes "error raw not items at " ++ decimal n))
+    (refusal_name c ++ decimal n) admitted
     ∙ cond-true (brings_items c) (outcome_answer (n + 1) (effect c s) calls) (codes "error raw not items at " ++ decimal n) passes
 
 -- the calls behind those that pass decide
-outcome-taken : (before later : List Call) (steps : List Step) (n : ℕ) (s t : State) → AreDescribedWhere IsShallow s before steps → after_from n s before ≡ Ok t → outcome_answer n s (before ++ later) ≡ outcome_answer (n + length before) t later
+outcome-taken : (before later : List Call) (steps : List Step) (n : ℕ) (s t : State) → AreDescribedWhere IsShallow s before steps
+    → after_from n s before ≡ Ok t → outcome_answer n s (before ++ later) ≡ outcome_answer (n + length before) t later
 outcome-taken [] later [] n s t d e =
     let same : s ≡ t = cc in
     let none : n ≡ n + 0 = omega arith in
@@ -63,12 +71,14 @@ outcome-taken (c ∷ before) later (m ∷ steps) n s t d e =
     ∙ ap (λ (k : ℕ). outcome_answer k t later) more
 
 -- calls of which none is refused come to what the state after them tells
-outcome-all : (calls : List Call) (t : State) → AreTaken [] calls → after [] calls ≡ Ok t → outcome_answer 1 (initial_state []) calls ≡ state_answer t.stack.lists t
+outcome-all : (calls : List Call) (t : State) → AreTaken [] calls → after [] calls ≡ Ok t
+    → outcome_answer 1 (initial_state []) calls ≡ state_answer t.stack.lists t
 outcome-all calls t taken e =
     ap (outcome_answer 1 (initial_state [])) (sym (append-nil calls)) ∙ outcome-taken calls [] taken.steps 1 (initial_state []) t taken.described e
 
 -- a finished buffer
-answer-finished : (calls : List Call) (bytes : List ℕ) → AreTaken [] calls → FinishAs [] calls bytes → finished_answer bytes ≡ outcome_answer 1 (initial_state []) calls
+answer-finished : (calls : List Call) (bytes : List ℕ) → AreTaken [] calls → FinishAs [] calls bytes
+    → finished_answer bytes ≡ outcome_answer 1 (initial_state []) calls
 answer-finished calls bytes taken f =
     let s = f.last in
     ap finished_answer f.buffer ∙ ap (λ (ls : List (OpenList ℕ)). state_answer ls s) (sym f.closed) ∙ sym (outcome-all calls s taken f.admitted)
@@ -78,10 +88,12 @@ state_answer-open [] s some = absurd (some refl)
 state_answer-open (l ∷ ls) s some = refl
 
 -- what is still open
-answer-open : (calls : List Call) (size : ℕ) (raw : List ℕ) → AreTaken [] calls → StayOpen [] calls size raw → open_answer size raw ≡ outcome_answer 1 (initial_state []) calls
+answer-open : (calls : List Call) (size : ℕ) (raw : List ℕ) → AreTaken [] calls → StayOpen [] calls size raw
+    → open_answer size raw ≡ outcome_answer 1 (initial_state []) calls
 answer-open calls size raw taken o =
     let s = o.last in
-    ap (λ (n : ℕ). open_answer n raw) o.closed ∙ ap (open_answer (closed_size s)) o.text ∙ sym (state_answer-open s.stack.lists s o.unfinished) ∙ sym (outcome-all calls s taken o.admitted)
+    ap (λ (n : ℕ). open_answer n raw) o.closed ∙ ap (open_answer (closed_size s)) o.text ∙ sym (state_answer-open s.stack.lists s o.unfinished)
+    ∙ sym (outcome-all calls s taken o.admitted)
 
 -- ---- calls that are refused
 
@@ -97,21 +109,31 @@ is_raw-finish (append_internal x) h = refl
 is_raw-finish (encode_value t) h = refl
 is_raw-finish clear h = refl
 
-refused-first : {reason : Call → State → Type 0} (calls : List Call) (place : ℕ) (r : AreRefused reason [] calls place) → outcome_answer 1 (initial_state []) calls ≡ outcome_answer place r.met (r.call ∷ r.later)
+refused-first : {reason : Call → State → Type 0} (calls : List Call) (place : ℕ) (r : AreRefused reason [] calls place)
+    → outcome_answer 1 (initial_state []) calls ≡ outcome_answer place r.met (r.call ∷ r.later)
 refused-first calls place r =
     let there : 1 + length r.before ≡ place = omega (arith, r.counted) in
-    ap (outcome_answer 1 (initial_state [])) r.in_order ∙ outcome-taken r.before (r.call ∷ r.later) r.taken.steps 1 (initial_state []) r.met r.taken.described r.admitted ∙ ap (λ (k : ℕ). outcome_answer k r.met (r.call ∷ r.later)) there
+    ap (outcome_answer 1 (initial_state [])) r.in_order
+    ∙ outcome-taken r.before (r.call ∷ r.later) r.taken.steps 1 (initial_state []) r.met r.taken.described r.admitted
+    ∙ ap (λ (k : ℕ). outcome_answer k r.met (r.call ∷ r.later)) there
 
 outcome-barred : (n : ℕ) (s : State) (c : Call) (calls : List Call) → is_admitted c s ≡ false → outcome_answer n s (c ∷ calls) ≡ refusal_name c ++ decimal n
-outcome-barred n s c calls barred = cond-false (is_admitted c s) (cond (brings_items c) (outcome_answer (n + 1) (effect c s) calls) (codes "error raw not items at " ++ decimal n)) (refusal_name c ++ decimal n) barred
+outcome-barred n s c calls barred =
+    cond-false (is_admitted c s) (cond (brings_items c) (outcome_answer (n + 1) (effect c s) calls) (codes "error raw not items at " ++ decimal n))
+    (refusal_name c ++ decimal n) barred
 
-answer-too_many : (calls : List Call) (place : ℕ) → AreRefused BringsTooMany [] calls place → codes "error too many items at " ++ decimal place ≡ outcome_answer 1 (initial_state []) calls
+answer-too_many : (calls : List Call) (place : ℕ) → AreRefused BringsTooMany [] calls place
+    → codes "error too many items at " ++ decimal place ≡ outcome_answer 1 (initial_state []) calls
 answer-too_many calls place r =
-    ap (λ (name : List ℕ). name ++ decimal place) (sym (cond-true (is_raw r.call) (codes "error too many items at ") (codes "error nothing to finish at ") r.refused.1)) ∙ sym (refused-first calls place r ∙ outcome-barred place r.met r.call r.later r.refused.0)
+    ap (λ (name : List ℕ). name ++ decimal place)
+    (sym (cond-true (is_raw r.call) (codes "error too many items at ") (codes "error nothing to finish at ") r.refused.1))
+    ∙ sym (refused-first calls place r ∙ outcome-barred place r.met r.call r.later r.refused.0)
 
-answer-nothing : (calls : List Call) (place : ℕ) → AreRefused HasNothingToFinish [] calls place → codes "error nothing to finish at " ++ decimal place ≡ outcome_answer 1 (initial_state []) calls
+answer-nothing : (calls : List Call) (place : ℕ) → AreRefused HasNothingToFinish [] calls place
+    → codes "error nothing to finish at " ++ decimal place ≡ outcome_answer 1 (initial_state []) calls
 answer-nothing calls place r =
-    ap (λ (name : List ℕ). name ++ decimal place) (sym (cond-false (is_raw r.call) (codes "error too many items at ") (codes "error nothing to finish at ") (is_raw-finish r.call r.refused.1)))
+    ap (λ (name : List ℕ). name ++ decimal place)
+    (sym (cond-false (is_raw r.call) (codes "error too many items at ") (codes "error nothing to finish at ") (is_raw-finish r.call r.refused.1)))
     ∙ sym (refused-first calls place r ∙ outcome-barred place r.met r.call r.later r.refused.0)
 
 told : (b : Bool) → (IsTrue b → ⊥) → b ≡ false
@@ -131,14 +153,17 @@ fails (append_internal x) h = absurd (h tt)
 fails (encode_value t) h = absurd (h tt)
 fails clear h = absurd (h tt)
 
-answer-no_items : (calls : List Call) (place : ℕ) → AreRefused BringsNoItems [] calls place → codes "error raw not items at " ++ decimal place ≡ outcome_answer 1 (initial_state []) calls
+answer-no_items : (calls : List Call) (place : ℕ) → AreRefused BringsNoItems [] calls place
+    → codes "error raw not items at " ++ decimal place ≡ outcome_answer 1 (initial_state []) calls
 answer-no_items calls place r =
     let name : List ℕ = codes "error raw not items at " ++ decimal place in
     let next : List ℕ = outcome_answer (place + 1) (effect r.call r.met) r.later in
-    sym (refused-first calls place r ∙ cond-true (is_admitted r.call r.met) (cond (brings_items r.call) next name) (refusal_name r.call ++ decimal place) r.refused.0 ∙ cond-false (brings_items r.call) next name (fails r.call r.refused.1))
+    sym (refused-first calls place r ∙ cond-true (is_admitted r.call r.met) (cond (brings_items r.call) next name)
+    (refusal_name r.call ++ decimal place) r.refused.0 ∙ cond-false (brings_items r.call) next name (fails r.call r.refused.1))
 
 -- what is printed of what calls come to is the answer to them
-answer-outcome : (r : Result Built BuildFault) (calls : List Call) (old new : List ℕ) → OnOk r (AreTaken [] calls) → IfOk r (IsBuilt [] calls) → IfErr r (IsRefusal [] calls) → AppendsOutcome old new r → new ≡ old ++ outcome_answer 1 (initial_state []) calls
+answer-outcome : (r : Result Built BuildFault) (calls : List Call) (old new : List ℕ) → OnOk r (AreTaken [] calls) → IfOk r (IsBuilt [] calls)
+    → IfErr r (IsRefusal [] calls) → AppendsOutcome old new r → new ≡ old ++ outcome_answer 1 (initial_state []) calls
 answer-outcome (Ok (Finished bytes)) calls old new t b f e = e ∙ ap (λ (a : List ℕ). old ++ a) (answer-finished calls bytes.items t b)
 answer-outcome (Ok (Open size raw)) calls old new t b f e = e ∙ ap (λ (a : List ℕ). old ++ a) (answer-open calls size raw.items t b)
 answer-outcome (Err (TooManyItems place)) calls old new t b f e = e ∙ ap (λ (a : List ℕ). old ++ a) (answer-too_many calls place f)
@@ -147,7 +172,54 @@ answer-outcome (Err (RawNotItems place)) calls old new t b f e = e ∙ ap (λ (a
 answer-outcome (Err OutOfMemory) calls old new t b f e = absurd e
 
 -- the same, if it was printed
-pub answer-script : {T E : Type 0} (printed : Result T E) (built : Result Built BuildFault) (text : List ℕ) (calls : List Call) (old new : List ℕ) → script text ≡ Ok calls → OnOk built (AreTaken [] calls) → IfOk built (IsBuilt [] calls) → IfErr built (IsRefusal [] calls)
+pub answer-script : {T E : Type 0} (printed : Result T E) (built : Result Built BuildFault) (text : List ℕ) (calls : List Call) (old new : List ℕ)
+    → script text ≡ Ok calls → OnOk built (AreTaken [] calls) → IfOk built (IsBuilt [] calls) → IfErr built (IsRefusal [] calls)
     → OnOk printed (AppendsOutcome old new built) → OnOk printed (new ≡ old ++ calls_answer (script text))
-answer-script (Ok x) built text calls old new is t b f e = answer-outcome built calls old new t b f e ∙ ap (λ (r : Result (List Call) ℕ). old ++ calls_answer r) (sym is)
+answer-script (Ok x) built text calls old new is t b f e =
+    answer-outcome built calls old new t b f e ∙ ap (λ (r : Result (List Call) ℕ). old ++ calls_answer r) (sym is)
 answer-script (Err x) built text calls old new is t b f e = tt
+
+-- ---- lines of calls
+
+-- the answer to a line of calls is what the calls come to
+pub answer-calls : (line : List ℕ) (calls : List Call) → SaysCalls line calls → answer line ≡ outcome_answer 1 (initial_state []) calls
+unfolding answer
+answer-calls line calls says =
+    let short : nat_lt longest_line (length line) ≡ false = let within = says.within in grind (arith, nat_tests) in
+    cond-false (nat_lt longest_line (length line)) (codes "error long line") (answer_within line) short ∙ ap text_answer says.stripped
+    ∙ ap calls_answer says.says
+
+-- calls that describe items are answered by their joined encodings
+pub answer-described : (line : List ℕ) (calls : List Call) (items : List Item) → Leaves [] calls items → SaysCalls line calls
+    → IsDescribedWhere IsShallow [] calls items → answer line ≡ finished_answer (join items)
+answer-described line calls items (last, admitted, same_front, stack) says d =
+    answer-calls line calls says ∙ outcome-all calls last (record { steps = d.steps; described = d.described }) admitted
+    ∙ ap (λ (k : Stack ℕ). state_answer k.lists (record last { stack = k })) stack
+
+pub answer-finishes : (line : List ℕ) (calls : List Call) (bytes : List ℕ) → SaysCalls line calls → AreTaken [] calls → FinishAs [] calls bytes
+    → answer line ≡ finished_answer bytes
+answer-finishes line calls bytes says taken f = answer-calls line calls says ∙ sym (answer-finished calls bytes taken f)
+
+pub answer-opens : (line : List ℕ) (calls : List Call) (size : ℕ) (raw : List ℕ) → SaysCalls line calls → AreTaken [] calls
+    → StayOpen [] calls size raw → answer line ≡ open_answer size raw
+answer-opens line calls size raw says taken o = answer-calls line calls says ∙ sym (answer-open calls size raw taken o)
+
+pub answer-refuses_many : (line : List ℕ) (calls : List Call) (place : ℕ) → SaysCalls line calls → AreRefused BringsTooMany [] calls place
+    → answer line ≡ codes "error too many items at " ++ decimal place
+answer-refuses_many line calls place says r = answer-calls line calls says ∙ sym (answer-too_many calls place r)
+
+pub answer-refuses_finish : (line : List ℕ) (calls : List Call) (place : ℕ) → SaysCalls line calls → AreRefused HasNothingToFinish [] calls place
+    → answer line ≡ codes "error nothing to finish at " ++ decimal place
+answer-refuses_finish line calls place says r = answer-calls line calls says ∙ sym (answer-nothing calls place r)
+
+pub answer-refuses_raw : (line : List ℕ) (calls : List Call) (place : ℕ) → SaysCalls line calls → AreRefused BringsNoItems [] calls place
+    → answer line ≡ codes "error raw not items at " ++ decimal place
+answer-refuses_raw line calls place says r = answer-calls line calls says ∙ sym (answer-no_items calls place r)
+
+-- calls that are answered by `out` are steps, and leave no list open
+pub answer-ends : (line : List ℕ) (calls : List Call) → ((xs : List Item) → length (join xs) < 2 ^ 64 → All IsSized xs) → SaysCalls line calls
+    → BeginsWith (answer line) (codes "out") → EndFinished 1 (initial_state []) calls
+answer-ends line calls sized says begins =
+    let within : length says.text < 2 ^ 64 = omega (arith, says.within, ap length says.stripped, length-stripped line) in
+    end_finished (length says.text) 1 (initial_state []) calls sized within (script_said says.text calls says.says)
+    (subst (λ (a : List ℕ). BeginsWith a (codes "out")) (answer-calls line calls says) begins)

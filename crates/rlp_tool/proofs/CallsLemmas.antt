@@ -1,14 +1,14 @@
 -- Calls of a stream, one after another.
-use Rattle.std.proofs.Common.{◌≡◌, ℕ, zero, suc, ◌+◌, ◌^◌, ◌<◌, ◌≤◌, Bool, true, false, cond, List, [], ◌∷◌, ◌++◌, length, map, take, drop, take-append-drop, get_or, Option, Some, None, Result, Ok, Err, IfOk, IfErr, OnOk, IsTrue, All, Vec, refl, sym, ap, ◌∙◌, nat_le, arith, subst}
+use Rattle.std.proofs.Common.{◌≡◌, ℕ, zero, suc, ◌+◌, ◌^◌, ◌<◌, ◌≤◌, Bool, true, false, cond, List, [], ◌∷◌, ◌++◌, length, map, take, drop, take-append-drop, get_or, Option, Some, None, Result, Ok, Err, IfOk, IfErr, OnErr, OnOk, IsTrue, All, Vec, refl, sym, ap, ◌∙◌, nat_le, arith, subst}
 use Rattle.std.specs.declared.alloc.Global.{Global}
 use Rattle.std.specs.List.{AllByRecursion}
 use Rattle.std.proofs.lemmas.List.Elements.{All-from_recursion}
 use Rattle.rlp.specs.Format.Item.{Item, string, list, list_of}
-use Rattle.rlp.specs.Format.Encoding.{join}
+use Rattle.rlp.specs.Format.Encoding.{join, IsSized}
 use Rattle.rlp.specs.Streams.Stack.{OpenList, Stack, empty_stack, has_room, awaited}
-use Rattle.rlp.specs.Streams.Stream.{State, initial_state, put, count, put_item}
+use Rattle.rlp.specs.Streams.Stream.{State, initial_state, IsFinished, put, count, put_item}
 use Rattle.rlp.specs.Streams.Calls.{Call, append, append_empty_data, append_raw, append_raw_checked, begin_list, begin_unbounded_list, finalize_unbounded_list, append_internal, encode_value, clear, effect, is_admitted, is_within_size, after, after_from}
-use Rattle.rlp.specs.Streams.Described.{Step, brings, opens, finishes, clears, DescribesWhere, Describes, by_append, by_empty_data, by_raw, by_checked_raw, by_refused_raw, by_empty_list, by_list, by_unbounded_list, by_finalize, by_internal_list, by_clear, AreDescribedWhere, AreDescribed, IsDescribedWhere, IsAny, items_after_all, joined_list, joined_stack}
+use Rattle.rlp.specs.Streams.Described.{Step, brings, opens, finishes, clears, DescribesWhere, Describes, by_append, by_empty_data, by_raw, by_checked_raw, by_refused_raw, by_empty_list, by_list, by_unbounded_list, by_finalize, by_internal_list, by_clear, AreDescribedWhere, AreDescribed, IsDescribed, IsDescribedWhere, IsAny, items_after_all, joined_list, joined_stack}
 use Rattle.rlp_tool.specs.declared.building.Built.{Built}
 use Rattle.rlp_tool.specs.declared.building.Built.TheVariants.{Finished, Open}
 use Rattle.rlp_tool.specs.declared.building.BuildFault.{BuildFault}
@@ -17,8 +17,7 @@ use Rattle.rlp_tool.specs.declared.calls.StreamCall.{StreamCall}
 use Rattle.rlp_tool.specs.declared.calls.StreamCall.TheVariants.{Value, Values, Raw, Begin, BeginUnbounded, Finish, Clear}
 use Rattle.rlp_tool.specs.RawItems.{AreRawItems, IsShallow}
 use Rattle.rlp_tool.specs.StreamCalls.{call_of}
-use Rattle.rlp_tool.specs.Building.{AreRefused, AreTaken, BringsItems, BringsNoItems, BringsTooMany, HasNothingToFinish, IsBuilt, IsJoined, IsRefusal, IsFinishedAs, IsStep, IsUnfit, IsHeld}
-use Rattle.rlp_tool.proofs.RawLemmas.{joined_sized}
+use Rattle.rlp_tool.specs.Building.{AreRefused, AreTaken, BringsItems, BringsNoItems, BringsTooMany, HasNothingToFinish, IsBuilt, IsJoined, IsRefusal, AreJoined, IsFinishedAs, IsStep, IsUnfit, IsHeld, takes_memory}
 
 -- room for k items, by what is awaited
 abbrev pub room_for : ℕ → Option ℕ → Bool
@@ -76,22 +75,30 @@ cond_ok true r n s e = (refl, e)
 cond_ok false r n s e = absurd (let no : ⊥ = cc in no)
 
 -- one more call after some that were admitted
-after-more : (calls : List Call) (c : Call) (n : ℕ) (s t : State) → after_from n s calls ≡ Ok t → IsTrue (is_admitted c t) → after_from n s (calls ++ c ∷ []) ≡ Ok (effect c t)
+after-more : (calls : List Call) (c : Call) (n : ℕ) (s t : State) → after_from n s calls ≡ Ok t → IsTrue (is_admitted c t)
+    → after_from n s (calls ++ c ∷ []) ≡ Ok (effect c t)
 after-more [] c n s t e admitted =
     let same : s ≡ t = cc in
-    cond-yes (is_admitted c s) (Ok (effect c s)) (Err n) (subst (λ (u : State). IsTrue (is_admitted c u)) (sym same) admitted) ∙ ap (λ (u : State). Ok (effect c u)) same
+    cond-yes (is_admitted c s) (Ok (effect c s)) (Err n) (subst (λ (u : State). IsTrue (is_admitted c u)) (sym same) admitted)
+    ∙ ap (λ (u : State). Ok (effect c u)) same
 after-more (d ∷ calls) c n s t e admitted =
     let (here, rest) = cond_ok (is_admitted d s) (after_from (n + 1) (effect d s) calls) n t e in
     cond-yes (is_admitted d s) (after_from (n + 1) (effect d s) (calls ++ c ∷ [])) (Err n) here ∙ after-more calls c (n + 1) (effect d s) t rest admitted
 
-described-more : (calls : List Call) (steps : List Step) (c : Call) (m : Step) (n : ℕ) (s t : State) → AreDescribedWhere IsShallow s calls steps → after_from n s calls ≡ Ok t → IsTrue (is_admitted c t) → DescribesWhere IsShallow t c m
+described-more : (calls : List Call) (steps : List Step) (c : Call) (m : Step) (n : ℕ) (s t : State) → AreDescribedWhere IsShallow s calls steps
+    → after_from n s calls ≡ Ok t → IsTrue (is_admitted c t) → DescribesWhere IsShallow t c m
     → AreDescribedWhere IsShallow s (calls ++ c ∷ []) (steps ++ m ∷ [])
 described-more [] [] c m n s t d e admitted step =
-    let same : t ≡ s = cc in (subst (λ (u : State). IsTrue (is_admitted c u)) same admitted, subst (λ (u : State). DescribesWhere IsShallow u c m) same step, tt)
+    let same : t ≡ s = cc in
+    (subst (λ (u : State). IsTrue (is_admitted c u)) same admitted, subst (λ (u : State). DescribesWhere IsShallow u c m) same step, tt)
 described-more [] (k ∷ steps) c m n s t d e admitted step = absurd d
 described-more (b ∷ calls) [] c m n s t d e admitted step = absurd d
-described-more (b ∷ calls) (k ∷ steps) c m n s t d e admitted step =
-    (d.0, d.1, described-more calls steps c m (n + 1) (effect b s) t d.2 (cond_ok (is_admitted b s) (after_from (n + 1) (effect b s) calls) n t e).1 admitted step)
+described-more (b ∷ calls) (k ∷ steps) c m n s t d e admitted step = (
+  d.0,
+  d.1,
+  described-more calls steps c m (n + 1) (effect b s) t d.2 (cond_ok (is_admitted b s) (after_from (n + 1) (effect b s) calls) n t e).1
+      admitted step,
+)
 
 -- none of the calls was refused, and they have led to this state
 pub record AreMade (front : List ℕ) (calls : List Call) (s : State) : Type 0 where
@@ -100,16 +107,23 @@ pub record AreMade (front : List ℕ) (calls : List Call) (s : State) : Type 0 w
   pub same_front : s.front ≡ front
 
 pub made_none : (front : List ℕ) (calls : List Call) (s : State) → s ≡ initial_state front → AreMade front (take 0 calls) s
-made_none front calls s is = record { taken = record { steps = []; described = tt }; admitted = ap (λ (u : State). Ok u) (sym is); same_front = ap (λ (u : State). u.front) is }
+made_none front calls s is =
+    record { taken = record { steps = []; described = tt }; admitted = ap (λ (u : State). Ok u) (sym is); same_front = ap (λ (u : State). u.front) is }
 
-made_more : (front : List ℕ) (calls : List Call) (c : Call) (s t : State) → AreMade front calls s → IsTrue (is_admitted c s) → IsStep c s → t ≡ effect c s → AreMade front (calls ++ c ∷ []) t
+made_more : (front : List ℕ) (calls : List Call) (c : Call) (s t : State) → AreMade front calls s → IsTrue (is_admitted c s) → IsStep c s
+    → t ≡ effect c s → AreMade front (calls ++ c ∷ []) t
 made_more front calls c s t made admitted (m, step) moved = record {
-  taken = record { steps = made.taken.steps ++ m ∷ []; described = described-more calls made.taken.steps c m 1 (initial_state front) s made.taken.described made.admitted admitted step };
+  taken = record {
+    steps = made.taken.steps ++ m ∷ [];
+    described = described-more calls made.taken.steps c m 1 (initial_state front) s
+        made.taken.described made.admitted admitted step;
+  };
   admitted = after-more calls c 1 (initial_state front) s made.admitted admitted ∙ ap (λ (u : State). Ok u) (sym moved);
   same_front = ap (λ (u : State). u.front) moved ∙ effect-front c s ∙ made.same_front;
 }
 
-take-next : {E : Type 0} (f : E → Call) (xs : List E) (i : ℕ) (x : E) → i < length xs → x ≡ get_or xs i x → take (i + 1) (map f xs) ≡ take i (map f xs) ++ f x ∷ []
+take-next : {E : Type 0} (f : E → Call) (xs : List E) (i : ℕ) (x : E) → i < length xs → x ≡ get_or xs i x
+    → take (i + 1) (map f xs) ≡ take i (map f xs) ++ f x ∷ []
 take-next f [] i x h e = absurd (omega arith)
 take-next f (y ∷ ys) zero x h e = ap (λ z. f z ∷ []) (sym e)
 take-next f (y ∷ ys) (suc i) x h e =
@@ -127,20 +141,24 @@ length-taken f [] i h = absurd (omega arith)
 length-taken f (y ∷ ys) zero h = refl
 length-taken f (y ∷ ys) (suc i) h = ap suc (length-taken f ys i (omega arith))
 
-around : {E : Type 0} (f : E → Call) (xs : List E) (i : ℕ) (x : E) → i < length xs → x ≡ get_or xs i x → map f xs ≡ take i (map f xs) ++ f x ∷ drop (i + 1) (map f xs)
+around : {E : Type 0} (f : E → Call) (xs : List E) (i : ℕ) (x : E) → i < length xs → x ≡ get_or xs i x
+    → map f xs ≡ take i (map f xs) ++ f x ∷ drop (i + 1) (map f xs)
 around f xs i x h e = sym (take-append-drop i (map f xs)) ∙ ap (λ cs. take i (map f xs) ++ cs) (left-next f xs i x h e)
 
 -- the call in this place is made
-pub made_next : {E : Type 0} (f : E → Call) (xs : List E) (front : List ℕ) (i : ℕ) (x : E) (s t : State) → i < length xs → x ≡ get_or xs i x → IsTrue (is_admitted (f x) s) → IsStep (f x) s → t ≡ effect (f x) s
+pub made_next : {E : Type 0} (f : E → Call) (xs : List E) (front : List ℕ) (i : ℕ) (x : E) (s t : State) → i < length xs → x ≡ get_or xs i x
+    → IsTrue (is_admitted (f x) s) → IsStep (f x) s → t ≡ effect (f x) s
     → AreMade front (take i (map f xs)) s → AreMade front (take (i + 1) (map f xs)) t
 made_next f xs front i x s t h e admitted step moved made =
     subst (λ cs. AreMade front cs t) (sym (take-next f xs i x h e)) (made_more front (take i (map f xs)) (f x) s t made admitted step moved)
 
-pub made_all : {E : Type 0} (f : E → Call) (xs : List E) (front : List ℕ) (i : ℕ) (s : State) → length xs ≤ i → AreMade front (take i (map f xs)) s → AreMade front (map f xs) s
+pub made_all : {E : Type 0} (f : E → Call) (xs : List E) (front : List ℕ) (i : ℕ) (s : State) → length xs ≤ i → AreMade front (take i (map f xs)) s
+    → AreMade front (map f xs) s
 made_all f xs front i s h made = subst (λ cs. AreMade front cs s) (take-all f xs i h) made
 
 -- the call in this place is refused
-refused_there : {E : Type 0} (reason : Call → State → Type 0) (f : E → Call) (xs : List E) (front : List ℕ) (i : ℕ) (x : E) (s : State) (place : ℕ) → i < length xs → x ≡ get_or xs i x
+refused_there : {E : Type 0} (reason : Call → State → Type 0) (f : E → Call) (xs : List E) (front : List ℕ) (i : ℕ) (x : E) (s : State) (place : ℕ)
+    → i < length xs → x ≡ get_or xs i x
     → AreMade front (take i (map f xs)) s → place ≡ i + 1 → reason (f x) s → AreRefused reason front (map f xs) place
 refused_there reason f xs front i x s place h e made is why = record {
   before = take i (map f xs);
@@ -154,26 +172,103 @@ refused_there reason f xs front i x s place h e made is why = record {
   refused = why;
 }
 
-pub refused : {E : Type 0} (f : E → Call) (xs : List E) (front : List ℕ) (i : ℕ) (x : E) (s : State) (fault : BuildFault) → i < length xs → x ≡ get_or xs i x → AreMade front (take i (map f xs)) s
+pub refused : {E : Type 0} (f : E → Call) (xs : List E) (front : List ℕ) (i : ℕ) (x : E) (s : State) (fault : BuildFault) → i < length xs
+    → x ≡ get_or xs i x → AreMade front (take i (map f xs)) s
     → IsUnfit (f x) s (i + 1) fault → IsRefusal front (map f xs) fault
 refused f xs front i x s (TooManyItems place) h e made unfit = refused_there BringsTooMany f xs front i x s place h e made unfit.0 unfit.1
 refused f xs front i x s (NothingToFinish place) h e made unfit = refused_there HasNothingToFinish f xs front i x s place h e made unfit.0 unfit.1
 refused f xs front i x s (RawNotItems place) h e made unfit = refused_there BringsNoItems f xs front i x s place h e made unfit.0 unfit.1
-refused f xs front i x s OutOfMemory h e made unfit = tt
+refused f xs front i x s OutOfMemory h e made (admitted, step, takes) = record {
+  before = take i (map f xs);
+  call = f x;
+  later = drop (i + 1) (map f xs);
+  in_order = around f xs i x h e;
+  taken = (made_more front (take i (map f xs)) (f x) s (effect (f x) s) made admitted step refl).taken;
+  takes = takes;
+}
+
+-- ---- memory for what is open in the end
+
+-- the first call that takes memory, of calls that are steps from the state s on
+record IsFirstTaking (s : State) (calls : List Call) : Type 0 where
+  before : List Call
+  call : Call
+  later : List Call
+  in_order : calls ≡ before ++ call ∷ later
+  steps : List Step
+  described : AreDescribedWhere IsShallow s (before ++ call ∷ []) steps
+  takes : IsTrue (takes_memory call)
+
+-- a call that takes none leaves no list open
+clears_all : (c : Call) (s : State) → takes_memory c ≡ false → (effect c s).stack.lists ≡ []
+clears_all (append x) s none = absurd (let no : ⊥ = cc in no)
+clears_all append_empty_data s none = absurd (let no : ⊥ = cc in no)
+clears_all (append_raw bytes k) s none = absurd (let no : ⊥ = cc in no)
+clears_all (append_raw_checked bytes k limit) s none = absurd (let no : ⊥ = cc in no)
+clears_all (begin_list n) s none = absurd (let no : ⊥ = cc in no)
+clears_all begin_unbounded_list s none = absurd (let no : ⊥ = cc in no)
+clears_all finalize_unbounded_list s none = absurd (let no : ⊥ = cc in no)
+clears_all (append_internal x) s none = absurd (let no : ⊥ = cc in no)
+clears_all (encode_value t) s none = absurd (let no : ⊥ = cc in no)
+clears_all clear s none = refl
+
+-- where a list is open in the end, and none was in the beginning, a call took memory
+first_taking : (calls : List Call) (steps : List Step) (n : ℕ) (s t : State) → AreDescribedWhere IsShallow s calls steps → after_from n s calls ≡ Ok t
+    → s.stack.lists ≡ [] → ¬ IsFinished t → IsFirstTaking s calls
+first_taking [] steps n s t d e none unended =
+    let same : s ≡ t = cc in absurd (unended (ap (λ (u : State). u.stack.lists) (sym same) ∙ none))
+first_taking (c ∷ calls) [] n s t d e none unended = absurd d
+first_taking (c ∷ calls) (m ∷ steps) n s t d e none unended =
+    elim (takes_memory c) as (λ test. takes_memory c ≡ test → IsFirstTaking s (c ∷ calls)) [
+      | true ↦ λ takes. record { before = []; call = c; later = calls; in_order = refl; steps = m ∷ []; described = (d.0, d.1, tt); takes = takes }
+      | false ↦ λ free.
+          let f = first_taking calls steps (n + 1) (effect c s) t d.2 (cond_ok (is_admitted c s) (after_from (n + 1) (effect c s) calls) n t e).1
+          (clears_all c s free) unended in
+          record {
+            before = c ∷ f.before;
+            call = f.call;
+            later = f.later;
+            in_order = ap (λ (cs : List Call). c ∷ cs) f.in_order;
+            steps = m ∷ f.steps;
+            described = (d.0, d.1, f.described);
+            takes = f.takes;
+          }
+    ] refl
+
+-- memory was refused for what is still open
+pub refused_at_end : (front : List ℕ) (calls : List Call) (s : State) (fault : BuildFault) → AreMade front calls s → fault ≡ OutOfMemory
+    → ¬ IsFinished s → IsRefusal front calls fault
+refused_at_end front calls s fault made is unended =
+    let f = first_taking calls made.taken.steps 1 (initial_state front) s made.taken.described made.admitted refl unended in
+    subst (IsRefusal front calls) (sym is) (record {
+      before = f.before;
+      call = f.call;
+      later = f.later;
+      in_order = f.in_order;
+      taken = record { steps = f.steps; described = f.described };
+      takes
+          = f.takes;
+    })
 
 -- ---- the step that a call is
 
-pub step_raw : (bytes : List ℕ) (n : ℕ) (s : State) → length bytes < 2 ^ 64 → AreRawItems bytes n → IsStep (append_raw bytes n) s
-step_raw bytes n s fits a =
-    let step : DescribesWhere IsShallow s (append_raw (join a.brought) (length a.brought)) (brings a.brought) = by_raw a.brought (joined_sized a.brought bytes fits a.joined) a.shallow in
-    (brings a.brought, subst (λ (k : ℕ). DescribesWhere IsShallow s (append_raw bytes k) (brings a.brought)) a.counted (subst (λ (b : List ℕ). DescribesWhere IsShallow s (append_raw b (length a.brought)) (brings a.brought)) (sym a.joined) step))
+pub step_raw : (bytes : List ℕ) (n : ℕ) (s : State) → ((xs : List Item) → length (join xs) < 2 ^ 64 → All IsSized xs) → length bytes < 2 ^ 64
+    → AreRawItems bytes n → IsStep (append_raw bytes n) s
+step_raw bytes n s sized fits a =
+    let step : DescribesWhere IsShallow s (append_raw (join a.brought) (length a.brought)) (brings a.brought) = by_raw a.brought
+    (sized a.brought (omega (arith, ap length a.joined))) a.shallow in (
+      brings a.brought,
+      subst (λ (k : ℕ). DescribesWhere IsShallow s (append_raw bytes k) (brings a.brought)) a.counted
+          (subst (λ (b : List ℕ). DescribesWhere IsShallow s (append_raw b (length a.brought)) (brings a.brought)) (sym a.joined) step),
+    )
 
-step_begin : (n : ℕ) (s : State) → IsStep (begin_list n) s
+pub step_begin : (n : ℕ) (s : State) → IsStep (begin_list n) s
 step_begin zero s = (brings (list_of [] ∷ []), by_empty_list)
 step_begin (suc n) s = (opens (Some (suc n)), by_list n)
 
 -- each other call is a step, whatever it brings
-pub step_other : {E : Type 0} (item : E → Item) (call : StreamCall E) (s : State) → ((bytes : Vec ℕ Global) (n : ℕ) → call ≡ Raw bytes n → ⊥) → IsStep (call_of item call) s
+pub step_other : {E : Type 0} (item : E → Item) (call : StreamCall E) (s : State) → ((bytes : Vec ℕ Global) (n : ℕ) → call ≡ Raw bytes n → ⊥)
+    → IsStep (call_of item call) s
 step_other item (Value v) s other = (brings (item v ∷ []), by_append (item v))
 step_other item (Values vs) s other = (brings (list_of (map item vs.items) ∷ []), by_append (list_of (map item vs.items)))
 step_other item (Raw bytes n) s other = absurd (other bytes n refl)
@@ -187,14 +282,18 @@ pub step_finish : {E : Type 0} (item : E → Item) (call : StreamCall E) (s : St
 step_finish item call s is = subst (λ c. IsStep (call_of item c) s) (sym is) (finishes, by_finalize)
 
 -- raw bytes that were tested are a step
-pub step_tested : {T F E : Type 0} (r : Result T F) (item : E → Item) (call : StreamCall E) (bytes : Vec ℕ Global) (n : ℕ) (view : List ℕ) (s : State) → call ≡ Raw bytes n → view ≡ bytes.items → length view < 2 ^ 64 → OnOk r (AreRawItems view n)
+pub step_tested : {T F E : Type 0} (r : Result T F) (item : E → Item) (call : StreamCall E) (bytes : Vec ℕ Global) (n : ℕ) (view : List ℕ) (s : State)
+    → call ≡ Raw bytes n → view ≡ bytes.items → ((xs : List Item) → length (join xs) < 2 ^ 64 → All IsSized xs) → length view < 2 ^ 64
+    → OnOk r (AreRawItems view n)
     → OnOk r (IsStep (call_of item call) s)
-step_tested (Ok x) item call bytes n view s is same fits a =
-    let raw : IsStep (append_raw bytes.items n) s = subst (λ (b : List ℕ). IsStep (append_raw b n) s) same (step_raw view n s fits a) in subst (λ c. IsStep (call_of item c) s) (sym is) raw
-step_tested (Err e) item call bytes n view s is same fits a = tt
+step_tested (Ok x) item call bytes n view s is same sized fits a =
+    let raw : IsStep (append_raw bytes.items n) s = subst (λ (b : List ℕ). IsStep (append_raw b n) s) same (step_raw view n s sized fits a) in
+    subst (λ c. IsStep (call_of item c) s) (sym is) raw
+step_tested (Err e) item call bytes n view s is same sized fits a = tt
 
 -- all calls but two are always admitted
-pub admitted_other : {E : Type 0} (item : E → Item) (call : StreamCall E) (s : State) → ((bytes : Vec ℕ Global) (n : ℕ) → call ≡ Raw bytes n → ⊥) → (call ≡ Finish → ⊥) → IsTrue (is_admitted (call_of item call) s)
+pub admitted_other : {E : Type 0} (item : E → Item) (call : StreamCall E) (s : State) → ((bytes : Vec ℕ Global) (n : ℕ) → call ≡ Raw bytes n → ⊥)
+    → (call ≡ Finish → ⊥) → IsTrue (is_admitted (call_of item call) s)
 admitted_other item (Value v) s raw finish = refl
 admitted_other item (Values vs) s raw finish = refl
 admitted_other item (Raw bytes n) s raw finish = absurd (raw bytes n refl)
@@ -244,7 +343,8 @@ all_described_anyhow s (c ∷ calls) [] d = absurd d
 all_described_anyhow s (c ∷ calls) (m ∷ steps) d = (d.0, described_anyhow c m s d.1, all_described_anyhow (effect c s) calls steps d.2)
 
 -- a described call, in the state that it meets
-described-at : (before : List Call) (c : Call) (later : List Call) (steps : List Step) (n : ℕ) (s t : State) → AreDescribedWhere IsShallow s (before ++ c ∷ later) steps → after_from n s before ≡ Ok t → IsTrue (is_admitted c t) × IsStep c t
+described-at : (before : List Call) (c : Call) (later : List Call) (steps : List Step) (n : ℕ) (s t : State)
+    → AreDescribedWhere IsShallow s (before ++ c ∷ later) steps → after_from n s before ≡ Ok t → IsTrue (is_admitted c t) × IsStep c t
 described-at [] c later [] n s t d e = absurd d
 described-at (b ∷ before) c later [] n s t d e = absurd d
 described-at [] c later (m ∷ steps) n s t d e =
@@ -252,14 +352,18 @@ described-at [] c later (m ∷ steps) n s t d e =
 described-at (b ∷ before) c later (m ∷ steps) n s t d e =
     described-at before c later steps (n + 1) (effect b s) t d.2 (cond_ok (is_admitted b s) (after_from (n + 1) (effect b s) before) n t e).1
 
-described_there : {reason : Call → State → Type 0} (front : List ℕ) (calls : List Call) (items : List Item) (place : ℕ) (r : AreRefused reason front calls place) → IsDescribedWhere IsShallow front calls items → IsTrue (is_admitted r.call r.met) × IsStep r.call r.met
+described_there : {reason : Call → State
+    → Type 0} (front : List ℕ) (calls : List Call) (items : List Item) (place : ℕ) (r : AreRefused reason front calls place)
+    → IsDescribedWhere IsShallow front calls items → IsTrue (is_admitted r.call r.met) × IsStep r.call r.met
 described_there front calls items place r d =
-    described-at r.before r.call r.later d.steps 1 (initial_state front) r.met (subst (λ cs. AreDescribedWhere IsShallow (initial_state front) cs d.steps) r.in_order d.described) r.admitted
+    described-at r.before r.call r.later d.steps 1 (initial_state front) r.met
+    (subst (λ cs. AreDescribedWhere IsShallow (initial_state front) cs d.steps) r.in_order d.described) r.admitted
 
 -- ---- what the calls come to
 
 pub built : (front : List ℕ) (calls : List Call) (s : State) (b : Built) → after front calls ≡ Ok s → s.front ≡ front → IsHeld s b → IsBuilt front calls b
-built front calls s (Finished bytes) e same (closed, is) = record { last = s; admitted = e; closed = closed; buffer = is ∙ ap (λ (f : List ℕ). f ++ s.stack.inner) same }
+built front calls s (Finished bytes) e same (closed, is) =
+    record { last = s; admitted = e; closed = closed; buffer = is ∙ ap (λ (f : List ℕ). f ++ s.stack.inner) same }
 built front calls s (Open size raw) e same (unfinished, closed, text) = record { last = s; admitted = e; unfinished = unfinished; closed = closed; text = text }
 
 -- what described calls leave, as the law says it
@@ -272,7 +376,8 @@ same_last r s t e f = cc
 barred : (b : Bool) → IsTrue b → b ≡ false → ⊥
 barred b h e = cc
 
-pub described_built : (front : List ℕ) (calls : List Call) (items : List Item) (b : Built) → Leaves front calls items → IsBuilt front calls b → IsFinishedAs (front ++ join items) b
+pub described_built : (front : List ℕ) (calls : List Call) (items : List Item) (b : Built) → Leaves front calls items → IsBuilt front calls b
+    → IsFinishedAs (front ++ join items) b
 described_built front calls items (Finished bytes) left b =
     let last : b.last ≡ left.0 = same_last (after front calls) b.last left.0 b.admitted left.1 in
     b.buffer ∙ ap (λ (s : State). front ++ s.stack.inner) last ∙ ap (λ (k : Stack ℕ). front ++ k.inner) left.3
@@ -280,37 +385,55 @@ described_built front calls items (Open size raw) left b =
     let last : b.last ≡ left.0 = same_last (after front calls) b.last left.0 b.admitted left.1 in
     absurd (b.unfinished (ap (λ (s : State). s.stack.lists) last ∙ ap (λ (k : Stack ℕ). k.lists) left.3))
 
-pub described_refused : (front : List ℕ) (calls : List Call) (items : List Item) (fault : BuildFault) → IsDescribedWhere IsShallow front calls items → IsRefusal front calls fault → fault ≡ OutOfMemory
-described_refused front calls items (TooManyItems place) d r = let at = described_there front calls items place r d in absurd (barred (is_admitted r.call r.met) at.0 r.refused.0)
-described_refused front calls items (NothingToFinish place) d r = let at = described_there front calls items place r d in absurd (barred (is_admitted r.call r.met) at.0 r.refused.0)
-described_refused front calls items (RawNotItems place) d r = let (admitted, (m, step)) = described_there front calls items place r d in absurd (r.refused.1 (step_brings r.call m r.met step))
+pub described_refused : (front : List ℕ) (calls : List Call) (items : List Item) (fault : BuildFault) → IsDescribedWhere IsShallow front calls items
+    → IsRefusal front calls fault → fault ≡ OutOfMemory
+described_refused front calls items (TooManyItems place) d r =
+    let at = described_there front calls items place r d in absurd (barred (is_admitted r.call r.met) at.0 r.refused.0)
+described_refused front calls items (NothingToFinish place) d r =
+    let at = described_there front calls items place r d in absurd (barred (is_admitted r.call r.met) at.0 r.refused.0)
+described_refused front calls items (RawNotItems place) d r =
+    let (admitted, (m, step)) = described_there front calls items place r d in absurd (r.refused.1 (step_brings r.call m r.met step))
 described_refused front calls items OutOfMemory d r = refl
 
 -- what calls leave, by the steps that they are, as the law says it
 abbrev pub LeavesSteps : List ℕ → List Call → List Step → Type 0
-LeavesSteps front calls steps = (last : State) × (after front calls ≡ Ok last) × (last.front ≡ front) × (last.stack ≡ joined_stack (items_after_all steps empty_stack))
+LeavesSteps front calls steps =
+    (last : State) × (after front calls ≡ Ok last) × (last.front ≡ front) × (last.stack ≡ joined_stack (items_after_all steps empty_stack))
 
 no_lists : (ls : List (OpenList Item)) → map joined_list ls ≡ [] → ls ≡ []
 no_lists [] e = refl
 no_lists (l ∷ ls) e = absurd (let no : ⊥ = cc in no)
 
 -- what is finished is the joined encodings of the items described
-pub joined_built : (front : List ℕ) (calls : List Call) (s : State) (b : Built) (made : AreMade front calls s) → (AreDescribed (initial_state front) calls made.taken.steps → LeavesSteps front calls made.taken.steps) → IsHeld s b → IsJoined front calls b
-joined_built front calls s (Finished bytes) made law (closed, is) =
-    let k : Stack Item = items_after_all made.taken.steps empty_stack in
-    let each : AreDescribed (initial_state front) calls made.taken.steps = all_described_anyhow (initial_state front) calls made.taken.steps made.taken.described in
+pub are_joined : (front : List ℕ) (calls : List Call) (s : State) (bytes : List ℕ) (taken : AreTaken front calls)
+    → (AreDescribed (initial_state front) calls taken.steps → LeavesSteps front calls taken.steps) → after front calls ≡ Ok s → IsFinished s
+    → bytes ≡ front ++ s.stack.inner
+    → AreJoined front calls bytes
+are_joined front calls s bytes taken law made closed is =
+    let k : Stack Item = items_after_all taken.steps empty_stack in
+    let each : AreDescribed (initial_state front) calls taken.steps = all_described_anyhow (initial_state front) calls taken.steps taken.described in
     let (last, admitted, same_front, stack) = law each in
-    let same : s ≡ last = same_last (after front calls) s last made.admitted admitted in
+    let same : s ≡ last = same_last (after front calls) s last made admitted in
     let stacks : s.stack ≡ joined_stack k = ap (λ (u : State). u.stack) same ∙ stack in
     let none : k.lists ≡ [] = no_lists k.lists (sym (ap (λ (t : Stack ℕ). t.lists) stacks) ∙ closed) in
     let finished : k ≡ record { inner = k.inner; lists = [] } = ap (λ ls. record k { lists = ls }) none in
     record {
       items = k.inner;
-      shallow = record { steps = made.taken.steps; described = made.taken.described; finished = finished };
-      described = record { steps = made.taken.steps; described = each; finished = finished };
-      joined = is ∙ ap (λ (f : List ℕ). f ++ s.stack.inner) made.same_front ∙ ap (λ (t : Stack ℕ). front ++ t.inner) stacks;
+      shallow = record { steps = taken.steps; described = taken.described; finished = finished };
+      described = record { steps = taken.steps; described = each; finished = finished };
+      joined = is ∙ ap (λ (t : Stack ℕ). front ++ t.inner) stacks;
     }
+
+pub joined_built : (front : List ℕ) (calls : List Call) (s : State) (b : Built) (made : AreMade front calls s)
+    → (AreDescribed (initial_state front) calls made.taken.steps → LeavesSteps front calls made.taken.steps) → IsHeld s b → IsJoined front calls b
+joined_built front calls s (Finished bytes) made law (closed, is) =
+    are_joined front calls s bytes.items made.taken law made.admitted closed (is ∙ ap (λ (f : List ℕ). f ++ s.stack.inner) made.same_front)
 joined_built front calls s (Open size raw) made law is = tt
+
+-- items that are shallow are described as any others
+pub described_items : (front : List ℕ) (calls : List Call) (items : List Item) → IsDescribedWhere IsShallow front calls items → IsDescribed front calls items
+described_items front calls items d =
+    record { steps = d.steps; described = all_described_anyhow (initial_state front) calls d.steps d.described; finished = d.finished }
 
 -- ---- through a result
 
@@ -318,9 +441,9 @@ pub IfOk-map : {T E : Type 0} (r : Result T E) {P Q : T → Type 0} → ((x : T)
 IfOk-map (Ok x) f p = f x p
 IfOk-map (Err e) f p = tt
 
-pub IfErr-map : {T E : Type 0} (r : Result T E) {P Q : E → Type 0} → ((x : E) → P x → Q x) → IfErr r P → IfErr r Q
-IfErr-map (Ok x) f p = tt
-IfErr-map (Err e) f p = f e p
+pub IfErr-both : {T E : Type 0} (r : Result T E) {P Q : E → Type 0} {R : Type 0} → ((x : E) → P x → R → Q x) → IfErr r P → OnErr r R → IfErr r Q
+IfErr-both (Ok x) f p q = tt
+IfErr-both (Err e) f p q = f e p q
 
 pub OnOk-all : {T E P : Type 0} (r : Result T E) → P → OnOk r P
 OnOk-all (Ok x) p = p

@@ -1,15 +1,17 @@
 -- Pieces of a text, cut at a byte.
-use Rattle.std.proofs.Common.{◌≡◌, ℕ, ◌+◌, ◌-◌, ◌<◌, ◌==◌, ◌&&◌, Bool, true, false, cond, nat_lt, List, [], ◌∷◌, ◌++◌, length, take, drop, get_or, is_some, Option, Some, None, Result, Ok, Err, OnOk, refl, sym, ap, ◌∙◌, append_assoc, append-nil, length-append, arith, position, filter_map}
+use Rattle.std.proofs.Common.{◌≡◌, ◌≢◌, IsSome, option_map, subst, ℕ, ◌+◌, ◌-◌, ◌<◌, ◌==◌, ◌&&◌, Bool, true, false, cond, nat_eq, nat_lt, List, [], ◌∷◌, ◌++◌, length, take, drop, get_or, is_some, Option, Some, None, Result, Ok, Err, OnOk, refl, sym, ap, ◌∙◌, append_assoc, append-nil, length-append, arith, position, filter_map}
 use Rattle.std.specs.List.{slice_split, list_all, prefix_len, position_or_len, cons_option}
 use Rattle.std.proofs.lemmas.List.{drop-drop, take_all, length-drop}
 use Rattle.std.proofs.lemmas.List.Splits.{slice_split_first, slice_split_none}
 use Rattle.std.proofs.lemmas.List.Elements.{All-from_get_or}
 use Rattle.std.proofs.lemmas.List.Sums.{fails_before_first, position_or_len_is}
 use Rattle.std.proofs.lemmas.Bool.Decides.{nat_tests}
+use Rattle.std.specs.Option.{IsSomeAnd}
 use Rattle.memchr.specs.Find.{IsFirstByte, is_byte}
-use Rattle.rlp.specs.Streams.Calls.{Call}
+use Rattle.rlp.specs.Format.Item.{string}
+use Rattle.rlp.specs.Streams.Calls.{Call, append}
 use Rattle.rlp_tool.specs.Digits.{number_in, bytes_in}
-use Rattle.rlp_tool.specs.Script.{raw_call, raw_parts, call_in, is_call, script, AddsCall, IsUnread, IsScriptFault, AppendsScriptFault}
+use Rattle.rlp_tool.specs.Script.{BringsBytes, raw_call, raw_parts, call_in, is_call, script, AddsCall, IsUnread, IsScriptFault, AppendsScriptFault}
 use Rattle.rlp_tool.specs.Answer.{calls_answer}
 use Rattle.rlp_tool.specs.declared.script.ScriptFault.{ScriptFault}
 use Rattle.rlp_tool.specs.declared.script.ScriptFault.TheVariants.{Syntax, OutOfMemory}
@@ -21,11 +23,13 @@ is-false false other = refl
 -- the first such byte that a search finds
 pub first_byte : (a : ℕ) (bytes : List ℕ) (r : Option ℕ) → IsFirstByte (is_byte a) bytes r → r ≡ position (λ b. b == a) bytes
 first_byte a bytes None h =
-    let all : position_or_len (λ b. b == a) bytes ≡ length bytes = position_or_len_is (λ b. b == a) bytes (length bytes) 0 (omega arith) (λ k lt. is-false (get_or bytes k 0 == a) (h k (omega arith) lt)) (λ lt. absurd (omega arith)) in
+    let all : position_or_len (λ b. b == a) bytes ≡ length bytes = position_or_len_is (λ b. b == a) bytes (length bytes) 0 (omega arith)
+    (λ k lt. is-false (get_or bytes k 0 == a) (h k (omega arith) lt)) (λ lt. absurd (omega arith)) in
     grind (arith, all)
 first_byte a bytes (Some at) h =
     let first = h.0 in
-    let found : position_or_len (λ b. b == a) bytes ≡ at = position_or_len_is (λ b. b == a) bytes at 0 (omega (arith, first.high)) (λ k lt. is-false (get_or bytes k 0 == a) (first.before k (omega arith) lt)) (λ lt. h.1) in
+    let found : position_or_len (λ b. b == a) bytes ≡ at = position_or_len_is (λ b. b == a) bytes at 0 (omega (arith, first.high))
+    (λ k lt. is-false (get_or bytes k 0 == a) (first.before k (omega arith) lt)) (λ lt. h.1) in
     let inside : at < length bytes = first.high in
     grind (arith, found, inside)
 
@@ -38,7 +42,8 @@ none_is true end e = absurd (let no : ⊥ = cc in no)
 none_is false end e = refl
 
 -- the first piece ends at the first such byte
-pub cut-there : (a : ℕ) (xs : List ℕ) (at : ℕ) → position (λ b. b == a) xs ≡ Some at → slice_split (λ b. b == a) xs ≡ take at xs ∷ slice_split (λ b. b == a) (drop (at + 1) xs)
+pub cut-there : (a : ℕ) (xs : List ℕ) (at : ℕ) → position (λ b. b == a) xs ≡ Some at
+    → slice_split (λ b. b == a) xs ≡ take at xs ∷ slice_split (λ b. b == a) (drop (at + 1) xs)
 cut-there a xs at e =
     let end = position_or_len (λ b. b == a) xs in
     let found = found_is (nat_lt end (length xs)) end at e in
@@ -51,14 +56,16 @@ pub cut-nowhere : (a : ℕ) (xs : List ℕ) → position (λ b. b == a) xs ≡ N
 cut-nowhere a xs e =
     let end = position_or_len (λ b. b == a) xs in
     let past : nat_lt end (length xs) ≡ false = none_is (nat_lt end (length xs)) end e in
-    slice_split_none (λ b. b == a) xs (All-from_get_or (λ b. (b == a) ≡ false) xs 0 (λ k l. let before : k < end = grind (arith, nat_tests) in fails_before_first (λ b. b == a) xs k 0 before))
+    slice_split_none (λ b. b == a) xs (All-from_get_or (λ b. (b == a) ≡ false) xs 0
+    (λ k l. let before : k < end = grind (arith, nat_tests) in fails_before_first (λ b. b == a) xs k 0 before))
 
 -- ---- reading piece by piece
 
 -- what a piece, by the call that it says, and the pieces after it come to, after some calls
 abbrev left_by : Option Call → List Call → List (List ℕ) → Result (List Call) ℕ
 left_by o calls pieces =
-    cond (is_some o && list_all is_call pieces) (Ok (calls ++ cons_option o (filter_map call_in pieces))) (Err (length calls + 1 + cond (is_some o) (1 + prefix_len is_call pieces) 0))
+    cond (is_some o && list_all is_call pieces) (Ok (calls ++ cons_option o (filter_map call_in pieces)))
+    (Err (length calls + 1 + cond (is_some o) (1 + prefix_len is_call pieces) 0))
 
 -- what the pieces that are left come to, after some calls
 abbrev pub left : List Call → List (List ℕ) → Result (List Call) ℕ
@@ -70,7 +77,8 @@ cond_same false e f = f
 
 left_by-added : (o : Option Call) (old new : List Call) (pieces : List (List ℕ)) → AddsCall old new o → left_by o old pieces ≡ left new pieces
 left_by-added (Some call) old new pieces e =
-    let calls : old ++ call ∷ filter_map call_in pieces ≡ new ++ filter_map call_in pieces = sym (ap (λ (cs : List Call). cs ++ filter_map call_in pieces) e ∙ append_assoc old (call ∷ []) (filter_map call_in pieces)) in
+    let calls : old ++ call ∷ filter_map call_in pieces ≡ new ++ filter_map call_in pieces = sym
+    (ap (λ (cs : List Call). cs ++ filter_map call_in pieces) e ∙ append_assoc old (call ∷ []) (filter_map call_in pieces)) in
     let one_more : length new ≡ length old + 1 = ap length e ∙ length-append old (call ∷ []) in
     let k = prefix_len is_call pieces in
     let place : length old + 1 + (1 + k) ≡ length new + 1 + k = omega arith in
@@ -81,12 +89,27 @@ left_by-unread : (o : Option Call) (old : List Call) (pieces : List (List ℕ)) 
 left_by-unread (Some call) old pieces e = absurd (let never : ⊥ = cc in never)
 left_by-unread None old pieces e = let same : length old + 1 + 0 ≡ length old + 1 = omega arith in ap (λ (n : ℕ). Err n) same
 
-unread : (text : List ℕ) (o : Option Call) (old : List Call) (pieces : List (List ℕ)) (fault : ScriptFault) → script text ≡ left_by o old pieces → IsUnread old o fault → IsScriptFault text fault
-unread text o old pieces (Syntax place) all (is, at) = all ∙ left_by-unread o old pieces is ∙ ap (λ (n : ℕ). Err n) (sym at)
-unread text o old pieces OutOfMemory all h = tt
+-- at least one call was read, or can be
+begins : (o : Option Call) (old : List Call) (pieces : List (List ℕ)) → IsSome o → left_by o old pieces ≢ Err 1
+begins (Some call) old pieces some =
+    let k = prefix_len is_call pieces in
+    elim (list_all is_call pieces) as (λ test. cond test (Ok (old ++ call ∷ filter_map call_in pieces)) (Err (length old + 1 + (1 + k))) ≢ Err 1) [
+      | true ↦ λ e. cc
+      | false ↦ λ e. let same : length old + 1 + (1 + k) ≡ 1 = cc in absurd (omega arith)
+    ]
+begins None old pieces some = absurd (let no : ⊥ = cc in no)
+
+unread : (text : List ℕ) (o : Option Call) (old : List Call) (pieces : List (List ℕ)) (fault : ScriptFault) → text ≢ []
+    → script text ≡ left_by o old pieces → IsUnread old o fault → IsScriptFault text fault
+unread text o old pieces (Syntax place) some all (is, at) = all ∙ left_by-unread o old pieces is ∙ ap (λ (n : ℕ). Err n) (sym at)
+unread text o old pieces OutOfMemory some all h = (some, λ e. begins o old pieces h (sym all ∙ e))
 
 abbrev pub spaces : List ℕ → List (List ℕ)
 spaces text = slice_split (λ c. c == 32) text
+
+pub some_text : (text : List ℕ) → false ≡ nat_eq (length text) 0 → text ≢ []
+some_text [] test = absurd (let no : ⊥ = cc in no)
+some_text (b ∷ text) test = λ none. cc
 
 -- a text that isn't empty is left as a whole
 pub script-begin : (text : List ℕ) → 0 < length text → script text ≡ left [] (spaces text)
@@ -94,7 +117,8 @@ script-begin [] h = absurd (omega arith)
 script-begin (b ∷ text) h = cond_same (list_all is_call (spaces (b ∷ text))) refl refl
 
 -- the pieces of a text that a space cuts
-cut-front : (rest front back : List ℕ) (at : ℕ) → position (λ b. b == 32) rest ≡ Some at → front ≡ take at rest → back ≡ drop at rest → spaces rest ≡ front ∷ spaces (drop 1 back)
+cut-front : (rest front back : List ℕ) (at : ℕ) → position (λ b. b == 32) rest ≡ Some at → front ≡ take at rest → back ≡ drop at rest
+    → spaces rest ≡ front ∷ spaces (drop 1 back)
 cut-front rest front back at e f b =
     let after : drop 1 back ≡ drop (at + 1) rest = ap (drop 1) b ∙ drop-drop 1 at rest in
     cut-there 32 rest at e ∙ ap (λ (p : List ℕ). p ∷ spaces (drop (at + 1) rest)) (sym f) ∙ ap (λ (r : List ℕ). front ∷ spaces r) (sym after)
@@ -103,37 +127,67 @@ cut-front rest front back at e f b =
 whole_rest : (back : List ℕ) → take (length back - 1) (drop 1 back) ≡ drop 1 back
 whole_rest back = take_all (length back - 1) (drop 1 back) (omega (arith, length-drop 1 back))
 
-pub script-next : (text rest front back : List ℕ) (at : ℕ) (old new : List Call) → position (λ b. b == 32) rest ≡ Some at → front ≡ take at rest → back ≡ drop at rest → script text ≡ left old (spaces rest) → AddsCall old new (call_in front)
+pub script-next : (text rest front back : List ℕ) (at : ℕ) (old new : List Call) → position (λ b. b == 32) rest ≡ Some at → front ≡ take at rest
+    → back ≡ drop at rest → script text ≡ left old (spaces rest) → AddsCall old new (call_in front)
     → script text ≡ left new (spaces (take (length back - 1) (drop 1 back)))
 script-next text rest front back at old new e f b all added =
-    all ∙ ap (left old) (cut-front rest front back at e f b) ∙ left_by-added (call_in front) old new (spaces (drop 1 back)) added ∙ ap (λ (r : List ℕ). left new (spaces r)) (sym (whole_rest back))
+    all ∙ ap (left old) (cut-front rest front back at e f b) ∙ left_by-added (call_in front) old new (spaces (drop 1 back)) added
+    ∙ ap (λ (r : List ℕ). left new (spaces r)) (sym (whole_rest back))
 
-pub script-unread : (text rest front back : List ℕ) (at : ℕ) (old : List Call) (fault : ScriptFault) → position (λ b. b == 32) rest ≡ Some at → front ≡ take at rest → back ≡ drop at rest → script text ≡ left old (spaces rest) → IsUnread old (call_in front) fault
-    → IsScriptFault text fault
-script-unread text rest front back at old fault e f b all h =
-    unread text (call_in front) old (spaces (drop 1 back)) fault (all ∙ ap (left old) (cut-front rest front back at e f b)) h
+pub script-unread : (text rest front back : List ℕ) (at : ℕ) (old : List Call) (fault : ScriptFault) → position (λ b. b == 32) rest ≡ Some at
+    → front ≡ take at rest → back ≡ drop at rest → script text ≡ left old (spaces rest) → IsUnread old (call_in front) fault
+    → text ≢ [] → IsScriptFault text fault
+script-unread text rest front back at old fault e f b all h some =
+    unread text (call_in front) old (spaces (drop 1 back)) fault some (all ∙ ap (left old) (cut-front rest front back at e f b)) h
 
 -- the last piece
-pub script-last : (text rest : List ℕ) (old new : List Call) → position (λ b. b == 32) rest ≡ None → script text ≡ left old (spaces rest) → AddsCall old new (call_in rest) → script text ≡ Ok new
+pub script-last : (text rest : List ℕ) (old new : List Call) → position (λ b. b == 32) rest ≡ None → script text ≡ left old (spaces rest)
+    → AddsCall old new (call_in rest) → script text ≡ Ok new
 script-last text rest old new e all added =
     all ∙ ap (left old) (cut-nowhere 32 rest e) ∙ left_by-added (call_in rest) old new [] added ∙ ap (λ (cs : List Call). Ok cs) (append-nil new)
 
-pub script-last_unread : (text rest : List ℕ) (old : List Call) (fault : ScriptFault) → position (λ b. b == 32) rest ≡ None → script text ≡ left old (spaces rest) → IsUnread old (call_in rest) fault → IsScriptFault text fault
-script-last_unread text rest old fault e all h = unread text (call_in rest) old [] fault (all ∙ ap (left old) (cut-nowhere 32 rest e)) h
+pub script-last_unread : (text rest : List ℕ) (old : List Call) (fault : ScriptFault) → position (λ b. b == 32) rest ≡ None
+    → script text ≡ left old (spaces rest) → IsUnread old (call_in rest) fault → text ≢ [] → IsScriptFault text fault
+script-last_unread text rest old fault e all h some = unread text (call_in rest) old [] fault some (all ∙ ap (left old) (cut-nowhere 32 rest e)) h
 
--- ---- raw bytes
+-- ---- bytes that calls bring
+
+brings_raw : (count : ℕ) (o : Option (List ℕ)) → IsSomeAnd o (λ bytes. bytes ≢ []) → BringsBytes (raw_call (Some count) o)
+brings_raw count (Some bytes) some = some
+brings_raw count None some = absurd some
+
+-- memory was refused for a string
+pub string_refused : (o : Option (List ℕ)) → IsSomeAnd o (λ bytes. bytes ≢ []) → BringsBytes (option_map (λ bytes. append (string bytes)) o)
+string_refused (Some bytes) some = some
+string_refused None some = absurd some
+
+-- bytes are brought by a call
+pub brings_some : (o : Option Call) → BringsBytes o → IsSome o
+brings_some (Some call) some = refl
+brings_some None some = absurd some
 
 -- the number and the bytes on both sides of the colon
-pub raw_parts-cut : (text number rest : List ℕ) (at : ℕ) (count : Option ℕ) (bytes : Option (List ℕ)) → Some at ≡ position (λ b. b == 58) text → number ≡ take at text → rest ≡ drop at text → count ≡ number_in number → bytes ≡ bytes_in (take (length rest - 1) (drop 1 rest))
+pub raw_parts-cut : (text number rest : List ℕ) (at : ℕ) (count : Option ℕ) (bytes : Option (List ℕ)) → Some at ≡ position (λ b. b == 58) text
+    → number ≡ take at text → rest ≡ drop at text → count ≡ number_in number → bytes ≡ bytes_in (take (length rest - 1) (drop 1 rest))
     → raw_call count bytes ≡ raw_parts text (position (λ b. b == 58) text)
 raw_parts-cut text number rest at count bytes colon front back n b =
     let behind : take (length rest - 1) (drop 1 rest) ≡ drop (at + 1) text = whole_rest rest ∙ ap (drop 1) back ∙ drop-drop 1 at text in
-    ap (λ (o : Option ℕ). raw_call o bytes) (n ∙ ap number_in front) ∙ ap (raw_call (number_in (take at text))) (b ∙ ap bytes_in behind) ∙ ap (raw_parts text) colon
+    ap (λ (o : Option ℕ). raw_call o bytes) (n ∙ ap number_in front) ∙ ap (raw_call (number_in (take at text))) (b ∙ ap bytes_in behind)
+    ∙ ap (raw_parts text) colon
+
+-- memory was refused for raw bytes
+pub raw_refused : (text number rest : List ℕ) (at count : ℕ) → Some at ≡ position (λ b. b == 58) text → number ≡ take at text → rest ≡ drop at text
+    → Some count ≡ number_in number → IsSomeAnd (bytes_in (take (length rest - 1) (drop 1 rest))) (λ bytes. bytes ≢ [])
+    → BringsBytes (raw_parts text (position (λ b. b == 58) text))
+raw_refused text number rest at count colon front back n some =
+    let read = bytes_in (take (length rest - 1) (drop 1 rest)) in
+    subst BringsBytes (raw_parts-cut text number rest at (Some count) read colon front back n refl) (brings_raw count read some)
 
 -- ---- answers
 
 -- why a script isn't read, if it was printed, is the answer to it
-pub answer-unread : {T E : Type 0} (printed : Result T E) (fault : ScriptFault) (text old new : List ℕ) → IsScriptFault text fault → OnOk printed (AppendsScriptFault old new fault) → OnOk printed (new ≡ old ++ calls_answer (script text))
+pub answer-unread : {T E : Type 0} (printed : Result T E) (fault : ScriptFault) (text old new : List ℕ) → IsScriptFault text fault
+    → OnOk printed (AppendsScriptFault old new fault) → OnOk printed (new ≡ old ++ calls_answer (script text))
 answer-unread (Ok x) (Syntax place) text old new is e = e ∙ ap (λ (r : Result (List Call) ℕ). old ++ calls_answer r) (sym is)
 answer-unread (Ok x) OutOfMemory text old new is e = absurd e
 answer-unread (Err x) fault text old new is e = tt

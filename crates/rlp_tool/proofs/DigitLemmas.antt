@@ -1,10 +1,15 @@
 -- Numbers and bytes as digits.
-use Rattle.std.proofs.Common.{◌≡◌, ℕ, ◌+◌, ◌*◌, ◌/◌, ◌%◌, slice_index, ◌^◌, ◌<◌, ◌≤◌, ◌&&◌, Bool, true, false, cond, nat_lt, List, [], ◌∷◌, ◌++◌, length, take, drop, Option, Some, None, refl, sym, ap, ◌∙◌, append_assoc, arith, take-append-drop}
+use Rattle.std.proofs.Common.{◌≡◌, ◌≢◌, ℕ, ◌+◌, ◌*◌, ◌/◌, ◌%◌, slice_index, ◌^◌, ◌<◌, ◌≤◌, ◌&&◌, Bool, true, false, cond, nat_eq, nat_lt, IsTrue, List, [], ◌∷◌, ◌++◌, length, take, drop, Option, Some, None, Result, Ok, Err, refl, subst, sym, ap, ◌∙◌, append_assoc, arith, take-append-drop}
 use Rattle.std.specs.List.{list_all}
 use Rattle.std.specs.Char.{digit_value, is_ascii_digit}
 use Rattle.std.specs.Str.Parse.{digits_value, digits_value_after}
 use Rattle.std.proofs.lemmas.Bool.Decides.{nat_tests}
-use Rattle.hex.specs.Hex.{encode_with, encode_lower, lower_digits}
+use Rattle.std.specs.List.{AllPass}
+use Rattle.std.specs.Option.{IsSomeAnd}
+use Rattle.std.specs.Result.{result_ok}
+use Rattle.hex.specs.Hex.{encode_with, encode_lower, lower_digits, decode_of, decode_pairs, is_hex_digit}
+use Rattle.hex.specs.declared.error.FromHexError.{FromHexError}
+use Rattle.hex.proofs.HexLemmas.{decode_of-ok, decode_of-digits}
 use Rattle.rlp_tool.specs.Digits.{number_in, with_digit}
 
 -- the number that digits write when they follow those of n
@@ -34,7 +39,9 @@ digits_value_after-ge n (c ∷ text) = omega (arith, digits_value_after-ge (n * 
 pub number_after-more : (n m c : ℕ) (rest text : List ℕ) → rest ≡ c ∷ text → with_digit n c ≡ Some m → number_after n rest ≡ number_after m text
 number_after-more n m c rest text is e =
     let both = both_true (is_ascii_digit c) (nat_lt (n * 10 + digit_value c) (2 ^ 64)) (n * 10 + digit_value c) m e in
-    ap (number_after n) is ∙ ap (λ (b : Bool). cond ((b && list_all is_ascii_digit text) && nat_lt (digits_value_after 10 (n * 10 + digit_value c) text) (2 ^ 64)) (Some (digits_value_after 10 (n * 10 + digit_value c) text)) None) both.0 ∙ ap (λ (k : ℕ). number_after k text) both.2
+    ap (number_after n) is ∙ ap (λ (b : Bool). cond
+    ((b && list_all is_ascii_digit text) && nat_lt (digits_value_after 10 (n * 10 + digit_value c) text) (2 ^ 64))
+    (Some (digits_value_after 10 (n * 10 + digit_value c) text)) None) both.0 ∙ ap (λ (k : ℕ). number_after k text) both.2
 
 too_large : (n m : ℕ) → n ≤ m → nat_lt n (2 ^ 64) ≡ false → nat_lt m (2 ^ 64) ≡ false
 too_large n m h e = grind (arith, nat_tests)
@@ -42,7 +49,9 @@ too_large n m h e = grind (arith, nat_tests)
 pub number_after-none : (n c : ℕ) (rest text : List ℕ) → rest ≡ c ∷ text → with_digit n c ≡ None → number_after n rest ≡ None
 number_after-none n c rest text is e =
     let k = n * 10 + digit_value c in
-    ap (number_after n) is ∙ not_both (is_ascii_digit c) (nat_lt k (2 ^ 64)) (list_all is_ascii_digit text) (nat_lt (digits_value_after 10 k text) (2 ^ 64)) k (digits_value_after 10 k text) e (too_large k (digits_value_after 10 k text) (digits_value_after-ge k text))
+    ap (number_after n) is ∙ not_both (is_ascii_digit c) (nat_lt k (2 ^ 64)) (list_all is_ascii_digit text)
+    (nat_lt (digits_value_after 10 k text) (2 ^ 64)) k (digits_value_after 10 k text) e
+    (too_large k (digits_value_after 10 k text) (digits_value_after-ge k text))
 
 number_after-nil : (n : ℕ) → n < 2 ^ 64 → number_after n [] ≡ Some n
 number_after-nil n h =
@@ -70,17 +79,49 @@ small a b k m h e =
 pub small_digit : (n c m : ℕ) → with_digit n c ≡ Some m → m < 2 ^ 64
 small_digit n c m e = small (is_ascii_digit c) (nat_lt (n * 10 + digit_value c) (2 ^ 64)) (n * 10 + digit_value c) m (λ less. grind (arith, nat_tests)) e
 
+-- ---- bytes
+
+-- what is read of no digits
+pub read-nothing : (digits : List ℕ) → true ≡ nat_eq (length digits) 0 → result_ok (decode_of digits) ≡ Some []
+unfolding decode_pairs
+read-nothing [] none = refl
+read-nothing (c ∷ digits) none = absurd (let no : ⊥ = grind (arith, nat_tests) in no)
+
+-- digits of which two write a byte write some bytes
+pub read-some : (digits : List ℕ) → (length digits % 2 ≡ 1 → ⊥) → false ≡ nat_eq (length digits) 0 → AllPass is_hex_digit digits
+    → IsSomeAnd (result_ok (decode_of digits)) (λ bytes. bytes ≢ [])
+read-some digits even test all =
+    let some : 0 < length digits = grind (arith, nat_tests) in
+    let (bytes, is) = decode_of-digits digits (omega arith) all in
+    let long = (decode_of-ok digits bytes is).2 in
+    let P : Result (List ℕ) FromHexError → Type 0 = λ r. IsSomeAnd (result_ok r) (λ bytes. bytes ≢ []) in
+    subst P (sym is) (λ none. absurd (omega (arith, long, ap length none)))
+
+refused_by : (digits : List ℕ) (r : Result (List ℕ) FromHexError) → decode_of digits ≡ r → (AllPass is_hex_digit digits → IsTrue false) → result_ok r ≡ None
+refused_by digits (Ok bytes) is other = absurd (let no : false ≡ true = other (decode_of-ok digits bytes is).1 in let never : ⊥ = cc in never)
+refused_by digits (Err e) is other = refl
+
+-- what is read of a text that isn't all digits
+pub read-no_digits : (digits : List ℕ) → (AllPass is_hex_digit digits → IsTrue false) → result_ok (decode_of digits) ≡ None
+read-no_digits digits other = refused_by digits (decode_of digits) refl other
+
+-- ---- printing
+
 encode_with-append : (t xs ys : List ℕ) → encode_with t (xs ++ ys) ≡ encode_with t xs ++ encode_with t ys
 unfolding encode_with
 encode_with-append t [] ys = refl
 encode_with-append t (b ∷ xs) ys = ap (λ (r : List ℕ). slice_index t (b / 16) ∷ slice_index t (b % 16) ∷ r) (encode_with-append t xs ys)
 
 -- the digits of bytes that are cut in two
-pub encode_lower-cut : (rest front back : List ℕ) (n : ℕ) → front ≡ take n rest → back ≡ drop n rest → encode_lower front ++ encode_lower back ≡ encode_lower rest
+pub encode_lower-cut : (rest front back : List ℕ) (n : ℕ) → front ≡ take n rest → back ≡ drop n rest
+    → encode_lower front ++ encode_lower back ≡ encode_lower rest
 encode_lower-cut rest front back n f b =
-    sym (encode_with-append lower_digits front back) ∙ ap encode_lower (ap (λ (x : List ℕ). x ++ back) f ∙ ap (λ (x : List ℕ). take n rest ++ x) b ∙ take-append-drop n rest)
+    sym (encode_with-append lower_digits front back)
+    ∙ ap encode_lower (ap (λ (x : List ℕ). x ++ back) f ∙ ap (λ (x : List ℕ). take n rest ++ x) b ∙ take-append-drop n rest)
 
 -- the digits of a front are printed, and those of what follows it are left
-pub printed-more : (before after old front back rest : List ℕ) (n : ℕ) → front ≡ take n rest → back ≡ drop n rest → after ≡ before ++ encode_lower front → before ++ encode_lower rest ≡ old → after ++ encode_lower back ≡ old
+pub printed-more : (before after old front back rest : List ℕ) (n : ℕ) → front ≡ take n rest → back ≡ drop n rest
+    → after ≡ before ++ encode_lower front → before ++ encode_lower rest ≡ old → after ++ encode_lower back ≡ old
 printed-more before after old front back rest n f b grown all =
-    ap (λ (x : List ℕ). x ++ encode_lower back) grown ∙ append_assoc before (encode_lower front) (encode_lower back) ∙ ap (λ (x : List ℕ). before ++ x) (encode_lower-cut rest front back n f b) ∙ all
+    ap (λ (x : List ℕ). x ++ encode_lower back) grown ∙ append_assoc before (encode_lower front) (encode_lower back)
+    ∙ ap (λ (x : List ℕ). before ++ x) (encode_lower-cut rest front back n f b) ∙ all

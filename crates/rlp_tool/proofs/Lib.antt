@@ -5,3 +5,4 @@ pub mod DigitLemmas
 pub mod LinesLemmas
 pub mod ProgressLemmas
 pub mod RawLemmas
+pub mod SaidLemmas

@@ -63,8 +63,10 @@ pieces-append : (t x : List ℕ) → pieces (t ++ x) ≡ joined (pieces t) (piec
 pieces-append [] x = rw pieces-nil (sym (joined-nil (pieces x) (some_piece x)))
 pieces-append (b ∷ t) x =
     elim (b == 10) as (λ test. (b == 10) ≡ test → pieces (b ∷ (t ++ x)) ≡ joined (pieces (b ∷ t)) (pieces x)) [
-      | true ↦ λ e. pieces-cons_yes b (t ++ x) e ∙ ap (λ ps. [] ∷ ps) (pieces-append t x) ∙ sym (joined-cons (pieces t) (pieces x) (some_piece t)) ∙ ap (λ ps. joined ps (pieces x)) (sym (pieces-cons_yes b t e))
-      | false ↦ λ e. pieces-cons_no b (t ++ x) e ∙ ap (onto_first b) (pieces-append t x) ∙ sym (joined-onto_first b (pieces t) (pieces x) (some_piece t)) ∙ ap (λ ps. joined ps (pieces x)) (sym (pieces-cons_no b t e))
+      | true ↦ λ e. pieces-cons_yes b (t ++ x) e ∙ ap (λ ps. [] ∷ ps) (pieces-append t x) ∙ sym (joined-cons (pieces t) (pieces x) (some_piece t))
+          ∙ ap (λ ps. joined ps (pieces x)) (sym (pieces-cons_yes b t e))
+      | false ↦ λ e. pieces-cons_no b (t ++ x) e ∙ ap (onto_first b) (pieces-append t x)
+          ∙ sym (joined-onto_first b (pieces t) (pieces x) (some_piece t)) ∙ ap (λ ps. joined ps (pieces x)) (sym (pieces-cons_no b t e))
     ] refl
 
 all_but_last-append : (ps qs : List (List ℕ)) → 0 < length qs → all_but_last (ps ++ qs) ≡ ps ++ all_but_last qs
@@ -90,7 +92,8 @@ pieces-run t run h = pieces-append t run ∙ ap (joined (pieces t)) h
 
 pub ended_lines-run : (t run : List ℕ) → IsOnePiece run → ended_lines (t ++ run) ≡ ended_lines t
 unfolding ended_lines
-ended_lines-run t run h = ap all_but_last (pieces-run t run h) ∙ all_but_last-append (ended_lines t) ((last_piece t ++ run) ∷ []) (omega arith) ∙ append-nil (ended_lines t)
+ended_lines-run t run h =
+    ap all_but_last (pieces-run t run h) ∙ all_but_last-append (ended_lines t) ((last_piece t ++ run) ∷ []) (omega arith) ∙ append-nil (ended_lines t)
 
 pub last_piece-run : (t run : List ℕ) → IsOnePiece run → last_piece (t ++ run) ≡ last_piece t ++ run
 unfolding last_piece
@@ -111,7 +114,9 @@ last_piece-end t = ap last_of (pieces-end t) ∙ last_of-append (ended_lines t) 
 
 -- bytes without a newline, and then a newline
 pub ended_lines-line : (t run : List ℕ) → IsOnePiece run → ended_lines (t ++ run ++ 10 ∷ []) ≡ ended_lines t ++ (last_piece t ++ run) ∷ []
-ended_lines-line t run h = ended_lines-end (t ++ run) ∙ ap (λ ls. ls ++ last_piece (t ++ run) ∷ []) (ended_lines-run t run h) ∙ ap (λ l. ended_lines t ++ l ∷ []) (last_piece-run t run h)
+ended_lines-line t run h =
+    ended_lines-end (t ++ run) ∙ ap (λ ls. ls ++ last_piece (t ++ run) ∷ []) (ended_lines-run t run h)
+    ∙ ap (λ l. ended_lines t ++ l ∷ []) (last_piece-run t run h)
 
 pub last_piece-line : (t run : List ℕ) → last_piece (t ++ run ++ 10 ∷ []) ≡ []
 last_piece-line t run = last_piece-end (t ++ run)
@@ -126,7 +131,9 @@ ended_lines-append t x =
 pub take-lines : (t x : List ℕ) → take (length (ended_lines t)) (lines (t ++ x)) ≡ ended_lines t
 take-lines t x =
     let grown = ended_lines-append t x in
-    ap (λ ls. take (length (ended_lines t)) (ls ++ line_of_last (last_piece (t ++ x)))) grown.1 ∙ ap (take (length (ended_lines t))) (append_assoc (ended_lines t) grown.0 (line_of_last (last_piece (t ++ x)))) ∙ take-append_seam (ended_lines t) (grown.0 ++ line_of_last (last_piece (t ++ x)))
+    ap (λ ls. take (length (ended_lines t)) (ls ++ line_of_last (last_piece (t ++ x)))) grown.1
+    ∙ ap (take (length (ended_lines t))) (append_assoc (ended_lines t) grown.0 (line_of_last (last_piece (t ++ x))))
+    ∙ take-append_seam (ended_lines t) (grown.0 ++ line_of_last (last_piece (t ++ x)))
 
 pub length-ended_lines-append : (t x : List ℕ) → length (ended_lines t) ≤ length (ended_lines (t ++ x))
 length-ended_lines-append t x =
@@ -138,7 +145,9 @@ abbrev lines_of : List (List ℕ) → List (List ℕ)
 lines_of ps = all_but_last ps ++ line_of_last (last_of ps)
 
 lines_of-append : (ps qs : List (List ℕ)) → 0 < length qs → lines_of (ps ++ qs) ≡ ps ++ lines_of qs
-lines_of-append ps qs h = ap (λ l. l ++ line_of_last (last_of (ps ++ qs))) (all_but_last-append ps qs h) ∙ ap (λ l. (ps ++ all_but_last qs) ++ line_of_last l) (last_of-append ps qs h) ∙ append_assoc ps (all_but_last qs) (line_of_last (last_of qs))
+lines_of-append ps qs h =
+    ap (λ l. l ++ line_of_last (last_of (ps ++ qs))) (all_but_last-append ps qs h)
+    ∙ ap (λ l. (ps ++ all_but_last qs) ++ line_of_last l) (last_of-append ps qs h) ∙ append_assoc ps (all_but_last qs) (line_of_last (last_of qs))
 
 length-line_of_last : (piece : List ℕ) → piece ≢ [] → 0 < length (line_of_last piece)
 length-line_of_last [] some = absurd (some refl)
@@ -172,7 +181,8 @@ unfolding ended_lines last_piece
 length-lines-more t [] some = absurd (some refl)
 length-lines-more t (b ∷ x) some =
     let rest = onto (last_of (pieces t)) (pieces (b ∷ x)) in
-    let whole : lines (t ++ b ∷ x) ≡ all_but_last (pieces t) ++ lines_of rest = ap lines_of (pieces-append t (b ∷ x)) ∙ lines_of-append (all_but_last (pieces t)) rest (length-onto (last_of (pieces t)) (pieces (b ∷ x))) in
+    let whole : lines (t ++ b ∷ x) ≡ all_but_last (pieces t) ++ lines_of rest = ap lines_of (pieces-append t (b ∷ x))
+    ∙ lines_of-append (all_but_last (pieces t)) rest (length-onto (last_of (pieces t)) (pieces (b ∷ x))) in
     omega (arith, ap length whole, length-append (all_but_last (pieces t)) (lines_of rest), line_of_more (last_of (pieces t)) b x)
 
 -- a line that has begun is a line more than those that are ended
@@ -220,10 +230,12 @@ last_piece-nil = ap last_of pieces-nil
 -- the first newline that a search finds
 pub first_newline : (bytes : List ℕ) (r : Option ℕ) → IsFirstByte (is_byte 10) bytes r → r ≡ position (λ byte. byte == 10) bytes
 first_newline bytes None h =
-    let all : position_or_len (λ byte. byte == 10) bytes ≡ length bytes = position_or_len_is (λ byte. byte == 10) bytes (length bytes) 0 (omega arith) (λ k lt. is-false (get_or bytes k 0 == 10) (h k (omega arith) lt)) (λ lt. absurd (omega arith)) in
+    let all : position_or_len (λ byte. byte == 10) bytes ≡ length bytes = position_or_len_is (λ byte. byte == 10) bytes (length bytes) 0 (omega arith)
+    (λ k lt. is-false (get_or bytes k 0 == 10) (h k (omega arith) lt)) (λ lt. absurd (omega arith)) in
     grind (arith, all)
 first_newline bytes (Some at) h =
     let first = h.0 in
-    let found : position_or_len (λ byte. byte == 10) bytes ≡ at = position_or_len_is (λ byte. byte == 10) bytes at 0 (omega (arith, first.high)) (λ k lt. is-false (get_or bytes k 0 == 10) (first.before k (omega arith) lt)) (λ lt. h.1) in
+    let found : position_or_len (λ byte. byte == 10) bytes ≡ at = position_or_len_is (λ byte. byte == 10) bytes at 0 (omega (arith, first.high))
+    (λ k lt. is-false (get_or bytes k 0 == 10) (first.before k (omega arith) lt)) (λ lt. h.1) in
     let inside : at < length bytes = first.high in
     grind (arith, found, inside)

@@ -1,84 +1,79 @@
 -- Raw bytes that are items.
-use Rattle.std.proofs.Common.{◌≡◌, ℕ, zero, suc, ◌-◌, ◌^◌, ◌<◌, ◌≤◌, ◌↔◌, Bool, true, false, List, [], ◌∷◌, ◌++◌, length, map, take, drop, take-append-drop, All, refl, sym, ap, ◌∙◌, subst, arith, append-nil, length-append, IsTrue, Result, Ok, Err, leb-true, pos_of_ne-zero, nat_eq, ◌&&◌}
+use Rattle.std.proofs.Common.{◌≡◌, ℕ, zero, suc, ◌+◌, ◌-◌, ◌^◌, ◌<◌, ◌≤◌, ◌↔◌, Bool, true, false, List, [], ◌∷◌, ◌++◌, length, map, take, drop, take-append-drop, All, refl, sym, ap, ◌∙◌, subst, arith, append-nil, length-append, IsTrue, Result, Ok, Err, leb-true, pos_of_ne-zero, nat_eq, ◌&&◌}
 use Rattle.std.specs.Str.{bytes_eq}
 use Rattle.std.proofs.lemmas.Slice.Eq.{bytes_eq-Decides}
 use Rattle.std.proofs.lemmas.Bool.Decides.{nat_tests, Decides-eqb}
 use Rattle.std.proofs.lemmas.List.{append_cancel_left}
 use Rattle.std.specs.List.{AllByRecursion}
 use Rattle.std.proofs.lemmas.List.Elements.{recursion_from_All, All-from_recursion}
-use Rattle.rlp.specs.declared.error.DecoderError.{DecoderError}
-use Rattle.rlp.specs.declared.error.DecoderError.TheVariants.{RlpExpectedToBeData}
-use Rattle.rlp.specs.declared.rlpin.header.PayloadInfo.{PayloadInfo}
+use Rattle.rlp.specs.DecoderError.{DecoderError}
+use Rattle.rlp.specs.DecoderError.TheVariants.{RlpExpectedToBeData}
+use Rattle.rlp.specs.PayloadInfo.{PayloadInfo}
 use Rattle.rlp.specs.Format.Item.{Item, Items, string, list, no_items, item_and, items_from, listed, list_of, item_depth, items_depth}
-use Rattle.rlp.specs.Format.Encoding.{encoding, join, join_items, IsSized}
+use Rattle.rlp.specs.Format.Encoding.{encoding, join, BeginsWith, IsSized}
 use Rattle.rlp.specs.Format.Header.{HasHeader}
-use Rattle.rlp.specs.Format.Framing.{IsFramed, IsFramedItem, frame, total_len}
+use Rattle.rlp.specs.Format.Framing.{IsFramed, frame, total_len}
 use Rattle.rlp.specs.Format.Split.{split, items, begins_as_list}
 use Rattle.rlp.specs.Format.Strict.{IsCanonicalWithin}
 use Rattle.rlp.specs.Format.StringReading.{read_string}
-use Rattle.rlp.specs.Lemmas.Encodings.{AllSized, parts_sized, list_written, join_items_is, items_from-listed, front_sized}
-use Rattle.rlp.specs.Lemmas.Frames.{frame_item, frame_front, front_framed, encoding_item, item_some, split_join}
-use Rattle.rlp.specs.Lemmas.Reading.{header_unique}
+use Rattle.rlp.specs.Lemmas.Encodings.{AllSized, parts_sized, list_written, items_from-listed}
+use Rattle.rlp.specs.Lemmas.Frames.{split_join}
 use Rattle.rlp.specs.Lemmas.Strings.{string_only, string_list}
-use Rattle.rlp.specs.Lemmas.Views.{items_of_list, list_shape}
+use Rattle.rlp.specs.Lemmas.Views.{items_of_list, list_shape, sized_items}
 use Rattle.rlp_tool.specs.RawItems.{AreRawItems, IsShallow, are_raw_items, deepest_raw_item, item_by, item_within, raw_items, string_or_none}
 
 -- ---- the first item
 
 -- what was cut off is the first item, and what follows it
-pub front_parts : (b front back : List ℕ) (p : PayloadInfo) (total : ℕ) → HasHeader b p.header_len p.value_len → total ≡ total_len p → total ≤ length b → front ≡ take total b → back ≡ drop total b → IsFramedItem front × (b ≡ front ++ back)
-front_parts b front back p total has is within cut left =
-    let item : IsFramedItem (take (total_len p) b) = frame_item b p.header_len p.value_len has (omega (arith, is)) in (
-      subst IsFramedItem (sym (cut ∙ ap (λ (n : ℕ). take n b) is)) item,
-      sym (take-append-drop total b) ∙ ap (λ f. f ++ drop total b) (sym cut) ∙ ap (λ f. front ++ f) (sym left),
-    )
+pub front_parts : (b front back : List ℕ) (p : PayloadInfo) (total : ℕ)
+    → ((h n : ℕ) → HasHeader b h n → h + n ≤ length b → frame b ≡ Ok (take (h + n) b)) → HasHeader b p.header_len p.value_len → total ≡ total_len p
+    → total ≤ length b → front ≡ take total b → back ≡ drop total b
+    → (frame b ≡ Ok front) × (b ≡ front ++ back)
+front_parts b front back p total framed has is within cut left = (
+  framed p.header_len p.value_len has (omega (arith, is)) ∙ ap (λ (n : ℕ). Ok (take n b)) (sym is) ∙ ap (λ (f : List ℕ). Ok f) (sym cut),
+  sym (take-append-drop total b) ∙ ap (λ f. f ++ drop total b) (sym cut) ∙ ap (λ f. front ++ f) (sym left),
+)
+
+-- bytes have at most one header
+abbrev pub HasOneHeader : List ℕ → Type 0
+HasOneHeader b = (h n k m : ℕ) → HasHeader b h n → HasHeader b k m → (h ≡ k) × (n ≡ m)
 
 -- bytes that end before the value does begin with no item
-pub unframed_long : (b : List ℕ) (p : PayloadInfo) → HasHeader b p.header_len p.value_len → length b < total_len p → ¬ IsFramed b
-unframed_long b p has long is =
-    let same = header_unique b p.header_len p.value_len is.header_len is.value_len has is.has_header in
+pub unframed_long : (b : List ℕ) (p : PayloadInfo) → HasOneHeader b → HasHeader b p.header_len p.value_len → length b < total_len p → ¬ IsFramed b
+unframed_long b p one has long is =
+    let same = one p.header_len p.value_len is.header_len is.value_len has is.has_header in
     omega (arith, same.0, same.1, is.within)
 
-pub unframed_huge : (b : List ℕ) (p : PayloadInfo) → HasHeader b p.header_len p.value_len → length b < 2 ^ 64 → (total_len p < 2 ^ 64 → ⊥) → ¬ IsFramed b
-unframed_huge b p has fits huge is =
-    let same = header_unique b p.header_len p.value_len is.header_len is.value_len has is.has_header in
+pub unframed_huge : (b : List ℕ) (p : PayloadInfo) → HasOneHeader b → HasHeader b p.header_len p.value_len → length b < 2 ^ 64
+    → (total_len p < 2 ^ 64 → ⊥) → ¬ IsFramed b
+unframed_huge b p one has fits huge is =
+    let same = one p.header_len p.value_len is.header_len is.value_len has is.has_header in
     huge (omega (arith, same.0, same.1, is.within))
 
 -- ---- the rest of raw bytes
 
--- bytes that begin with a framed item and with an encoding begin with the same
-same_item : (b item others : List ℕ) (x : Item) (more : List ℕ) → IsFramedItem item → IsSized x → b ≡ item ++ others → b ≡ encoding x ++ more → item ≡ encoding x
-same_item b item others x more framed sized one other =
-    let first : frame b ≡ Ok item = ap frame one ∙ frame_front item others framed in
-    let second : frame b ≡ Ok (encoding x) = ap frame other ∙ frame_front (encoding x) more (encoding_item x sized) in
-    cc
+-- bytes that begin with an encoding are framed, and their frame is that encoding
+abbrev pub FramesEncodings : List ℕ → Type 0
+FramesEncodings b = (x : Item) → BeginsWith b (encoding x) → IsFramed b × (frame b ≡ Ok (encoding x))
 
 pub none_left : (count : ℕ) (b : List ℕ) → b ≡ [] → count ≡ 0 → AreRawItems b count
 none_left count b none zero_left = record { brought = []; joined = none; counted = sym zero_left; shallow = All-from_recursion IsShallow [] tt }
 
-some_sized : (x : Item) (xs : List Item) (b : List ℕ) → length b < 2 ^ 64 → b ≡ join (x ∷ xs) → IsSized x
-some_sized x xs b fits is = front_sized x b (join xs) fits is
-
--- an item has bytes
-some_bytes : (x : Item) (xs : List Item) (b : List ℕ) → length b < 2 ^ 64 → b ≡ join (x ∷ xs) → 0 < length b
-some_bytes x xs b fits is =
-    let some = item_some (encoding x) (encoding_item x (some_sized x xs b fits is)) in omega (arith, some, ap length is, length-append (encoding x) (join xs))
-
-none_brought_by : (b : List ℕ) (xs : List Item) → length b < 2 ^ 64 → b ≡ [] → b ≡ join xs → length xs ≡ 0
-none_brought_by b [] fits none joined = refl
-none_brought_by b (x ∷ xs) fits none joined = absurd (omega (arith, ap length none, some_bytes x xs b fits joined))
-
 -- no bytes are no items
-pub none_brought : (b : List ℕ) (count : ℕ) → length b < 2 ^ 64 → b ≡ [] → AreRawItems b count → count ≡ 0
-none_brought b count fits none is = sym is.counted ∙ none_brought_by b is.brought fits none is.joined
+pub none_brought : (b : List ℕ) (count : ℕ) → ((xs : List Item) → length (join xs) < 2 ^ 64 → All IsSized xs)
+    → ((xs ys : List Item) → All IsSized xs → All IsSized ys → (join xs ≡ join ys) ↔ (xs ≡ ys)) → length b < 2 ^ 64 → b ≡ [] → AreRawItems b count → count ≡ 0
+none_brought b count sized same fits none is =
+    let joined : join is.brought ≡ [] = sym is.joined ∙ none in
+    let empty : is.brought ≡ [] = (same is.brought [] (sized is.brought (omega (arith, ap length joined))) (All-from_recursion IsSized [] tt)).0 joined in
+    sym is.counted ∙ ap length empty
 
-stray_bytes_by : (b : List ℕ) (xs : List Item) → length b < 2 ^ 64 → 0 < length b → ¬ IsFramed b → b ≡ join xs → ⊥
-stray_bytes_by b [] fits some unframed joined = omega (arith, ap length joined)
-stray_bytes_by b (x ∷ xs) fits some unframed joined = unframed (subst IsFramed (sym joined) (front_framed (encoding x) (join xs) (encoding_item x (some_sized x xs b fits joined))))
+stray_bytes_by : (b : List ℕ) (xs : List Item) → FramesEncodings b → 0 < length b → ¬ IsFramed b → b ≡ join xs → ⊥
+stray_bytes_by b [] frames some unframed joined = omega (arith, ap length joined)
+stray_bytes_by b (x ∷ xs) frames some unframed joined = unframed (frames x (join xs, joined)).0
 
 -- bytes that begin with no item are no items
-pub stray_bytes : (b : List ℕ) (count : ℕ) → length b < 2 ^ 64 → 0 < length b → ¬ IsFramed b → AreRawItems b count → ⊥
-stray_bytes b count fits some unframed is = stray_bytes_by b is.brought fits some unframed is.joined
+pub stray_bytes : (b : List ℕ) (count : ℕ) → FramesEncodings b → 0 < length b → ¬ IsFramed b → AreRawItems b count → ⊥
+stray_bytes b count frames some unframed is = stray_bytes_by b is.brought frames some unframed is.joined
 
 stray_rest_by : (b : List ℕ) (xs : List Item) → 0 < length b → length xs ≡ 0 → b ≡ join xs → ⊥
 stray_rest_by b [] some none joined = omega (arith, ap length joined)
@@ -96,29 +91,48 @@ record IsFirst (b item others : List ℕ) (xs : List Item) : Type 0 where
   same : item ≡ encoding head
   left : others ≡ join tail
 
-first_of : (b item others : List ℕ) (xs : List Item) → length b < 2 ^ 64 → IsFramedItem item → b ≡ item ++ others → b ≡ join xs → IsFirst b item others xs
-first_of b item others [] fits framed is joined = absurd (omega (arith, item_some item framed, ap length is, ap length joined, length-append item others))
-first_of b item others (x ∷ xs) fits framed is joined =
-    let same : item ≡ encoding x = same_item b item others x (join xs) framed (some_sized x xs b fits joined) is joined in
-    record { head = x; tail = xs; whole = refl; same = same; left = append_cancel_left item others (join xs) (sym is ∙ joined ∙ ap (λ f. f ++ join xs) (sym same)) }
+first_of : (b item others : List ℕ) (xs : List Item) → FramesEncodings b → 0 < length b → frame b ≡ Ok item → b ≡ item ++ others → b ≡ join xs
+    → IsFirst b item others xs
+first_of b item others [] frames some framed is joined = absurd (omega (arith, ap length joined))
+first_of b item others (x ∷ xs) frames some framed is joined =
+    let other : frame b ≡ Ok (encoding x) = (frames x (join xs, joined)).1 in
+    let same : item ≡ encoding x = cc in
+    record {
+      head = x;
+      tail = xs;
+      whole = refl;
+      same = same;
+      left = append_cancel_left item others (join xs)
+          (sym is ∙ joined ∙ ap (λ f. f ++ join xs) (sym same));
+    }
 
 all_shallow : (xs tail : List Item) (x : Item) → xs ≡ x ∷ tail → All IsShallow xs → IsShallow x × All IsShallow tail
 all_shallow xs tail x whole shallow =
-    let deep : AllByRecursion IsShallow (x ∷ tail) = recursion_from_All IsShallow (x ∷ tail) (subst (λ ys. All IsShallow ys) whole shallow) in (deep.0, All-from_recursion IsShallow tail deep.1)
+    let deep : AllByRecursion IsShallow (x ∷ tail) = recursion_from_All IsShallow (x ∷ tail) (subst (λ ys. All IsShallow ys) whole shallow) in
+    (deep.0, All-from_recursion IsShallow tail deep.1)
 
 -- bytes that begin with an item that isn't canonical, or is too deep, are no such items
-pub stray_item : (b item others : List ℕ) (count : ℕ) → length b < 2 ^ 64 → IsFramedItem item → b ≡ item ++ others → ¬ IsCanonicalWithin deepest_raw_item item → AreRawItems b count → ⊥
-stray_item b item others count fits framed is other a =
-    let f = first_of b item others a.brought fits framed is a.joined in
+pub stray_item : (b item others : List ℕ) (count : ℕ) → FramesEncodings b → 0 < length b → frame b ≡ Ok item → b ≡ item ++ others
+    → ¬ IsCanonicalWithin deepest_raw_item item → AreRawItems b count → ⊥
+stray_item b item others count frames some framed is other a =
+    let f = first_of b item others a.brought frames some framed is a.joined in
     other (f.head, f.same, (all_shallow a.brought f.tail f.head f.whole a.shallow).0)
 
 -- without a canonical item at their front, the others are one item fewer
-fewer : (b item others : List ℕ) (count : ℕ) → length b < 2 ^ 64 → IsFramedItem item → b ≡ item ++ others → AreRawItems b count → AreRawItems others (count - 1)
-fewer b item others count fits framed is a =
-    let f = first_of b item others a.brought fits framed is a.joined in
-    record { brought = f.tail; joined = f.left; counted = omega (arith, a.counted, ap length f.whole); shallow = (all_shallow a.brought f.tail f.head f.whole a.shallow).1 }
+fewer : (b item others : List ℕ) (count : ℕ) → FramesEncodings b → 0 < length b → frame b ≡ Ok item → b ≡ item ++ others → AreRawItems b count
+    → AreRawItems others (count - 1)
+fewer b item others count frames some framed is a =
+    let f = first_of b item others a.brought frames some framed is a.joined in
+    record {
+      brought = f.tail;
+      joined = f.left;
+      counted = omega (arith, a.counted, ap length f.whole);
+      shallow =
+          (all_shallow a.brought f.tail f.head f.whole a.shallow).1;
+    }
 
-more : (b item others : List ℕ) (count : ℕ) → b ≡ item ++ others → IsCanonicalWithin deepest_raw_item item → 0 < count → AreRawItems others (count - 1) → AreRawItems b count
+more : (b item others : List ℕ) (count : ℕ) → b ≡ item ++ others → IsCanonicalWithin deepest_raw_item item → 0 < count
+    → AreRawItems others (count - 1) → AreRawItems b count
 more b item others count is (x, same, deep) some rest = record {
   brought = x ∷ rest.brought;
   joined = is ∙ ap (λ f. f ++ others) same ∙ ap (λ s. encoding x ++ s) rest.joined;
@@ -127,26 +141,30 @@ more b item others count is (x, same, deep) some rest = record {
 }
 
 -- the walk goes on behind a canonical item
-pub next_item : (all : List ℕ) (total : ℕ) (b item others : List ℕ) (count left : ℕ) → length b < 2 ^ 64 → (AreRawItems all total ↔ AreRawItems b count) → IsFramedItem item → b ≡ item ++ others → IsCanonicalWithin deepest_raw_item item → (count ≡ 0 → ⊥) → left ≡ count - 1
+pub next_item : (all : List ℕ) (total : ℕ) (b item others : List ℕ) (count left : ℕ) → FramesEncodings b → 0 < length b
+    → (AreRawItems all total ↔ AreRawItems b count) → frame b ≡ Ok item → b ≡ item ++ others → IsCanonicalWithin deepest_raw_item item
+    → (count ≡ 0 → ⊥) → left ≡ count - 1
     → AreRawItems all total ↔ AreRawItems others left
-next_item all total b item others count left fits walked framed is canonical some one =
-    let positive : 0 < count = pos_of_ne-zero some in (
-      λ a. subst (AreRawItems others) (sym one) (fewer b item others count fits framed is (walked.0 a)),
+next_item all total b item others count left frames some walked framed is canonical awaits one =
+    let positive : 0 < count = pos_of_ne-zero awaits in (
+      λ a. subst (AreRawItems others) (sym one) (fewer b item others count frames some framed is (walked.0 a)),
       λ a. walked.1 (more b item others count is canonical positive (subst (AreRawItems others) one a)),
     )
 
 -- at the end no item is awaited
-pub at_end : (all : List ℕ) (total : ℕ) (b : List ℕ) (count : ℕ) (r : Bool) → length b < 2 ^ 64 → (AreRawItems all total ↔ AreRawItems b count) → b ≡ [] → (IsTrue r ↔ (count ≡ 0)) → IsTrue r ↔ AreRawItems all total
-at_end all total b count r fits walked none found = (
+pub at_end : (all : List ℕ) (total : ℕ) (b : List ℕ) (count : ℕ) (r : Bool) → (AreRawItems b count → count ≡ 0)
+    → (AreRawItems all total ↔ AreRawItems b count) → b ≡ [] → (IsTrue r ↔ (count ≡ 0)) → IsTrue r ↔ AreRawItems all total
+at_end all total b count r brought walked none found = (
   λ t. walked.1 (none_left count b none (found.0 t)),
-  λ a. found.1 (none_brought b count fits none (walked.0 a)),
+  λ a. found.1 (brought (walked.0 a)),
 )
 
 never : false ≡ true → ⊥
 never e = cc
 
 -- what isn't so is answered by `false`
-pub refuted : (all : List ℕ) (total : ℕ) (b : List ℕ) (count : ℕ) → (AreRawItems all total ↔ AreRawItems b count) → (AreRawItems b count → ⊥) → IsTrue false ↔ AreRawItems all total
+pub refuted : (all : List ℕ) (total : ℕ) (b : List ℕ) (count : ℕ) → (AreRawItems all total ↔ AreRawItems b count) → (AreRawItems b count → ⊥)
+    → IsTrue false ↔ AreRawItems all total
 refuted all total b count walked none = (λ t. absurd (never t), λ a. absurd (none (walked.0 a)))
 
 -- ---- the same, computed
@@ -161,8 +179,10 @@ mutual
 
   -- an encoding is read as its item
   pub item_within-encoding : (most : ℕ) (x : Item) → IsSized x → item_depth x ≤ most → item_within most (encoding x) ≡ x
-  item_within-encoding zero (string s) fits deep = ap (λ r. string (string_or_none r)) (string_only (encoding (string s)) s fits ([], sym (append-nil (encoding (string s)))))
-  item_within-encoding (suc most) (string s) fits deep = ap (item_by (item_within most) (encoding (string s))) (string_only (encoding (string s)) s fits ([], sym (append-nil (encoding (string s)))))
+  item_within-encoding zero (string s) fits deep = ap (λ r. string (string_or_none r))
+      (string_only (encoding (string s)) s fits ([], sym (append-nil (encoding (string s)))))
+  item_within-encoding (suc most) (string s) fits deep = ap (item_by (item_within most) (encoding (string s)))
+      (string_only (encoding (string s)) s fits ([], sym (append-nil (encoding (string s)))))
   item_within-encoding zero (list ys) fits deep = absurd (omega (arith, deep))
   item_within-encoding (suc most) (list ys) fits deep =
       let same : list_of (listed ys) ≡ list ys = ap list (items_from-listed ys) in
@@ -191,8 +211,8 @@ pub not_empty : (b : List ℕ) → false ≡ nat_eq (length b) 0 → 0 < length 
 not_empty [] is = absurd (let no : ⊥ = cc in no)
 not_empty (c ∷ b) is = omega arith
 
-pub shorter_rest : (b item others : List ℕ) → IsFramedItem item → b ≡ item ++ others → length others < length b
-shorter_rest b item others framed is = omega (arith, item_some item framed, ap length is, length-append item others)
+pub shorter_rest : (b item others : List ℕ) → b ≡ item ++ others → length others ≤ length b
+shorter_rest b item others is = omega (arith, ap length is, length-append item others)
 
 pub not_true : {P : Type 0} → (P → IsTrue false) → P → ⊥
 not_true from p = never (from p)
@@ -202,21 +222,12 @@ zero_test n = Decides-eqb n 0
 
 -- ---- raw bytes as items that a call brings
 
-all_sized : (xs : List Item) → AllSized (items_from xs) → AllByRecursion IsSized xs
-all_sized [] a = tt
-all_sized (x ∷ xs) a = (a.0, all_sized xs a.1)
-
--- items whose joined bytes a slice can hold are sized
-pub joined_sized : (xs : List Item) (b : List ℕ) → length b < 2 ^ 64 → b ≡ join xs → All IsSized xs
-joined_sized xs b fits joined =
-    let small : length (join_items (items_from xs)) < 2 ^ 64 = omega (arith, fits, ap length joined, ap length (join_items_is xs)) in
-    All-from_recursion IsSized xs (all_sized xs (parts_sized (items_from xs) small))
-
 -- items that are written are read again
 raw_items-join : (xs : List Item) → AllByRecursion IsSized xs → AllByRecursion IsShallow xs → map (item_within deepest_raw_item) (map encoding xs) ≡ xs
 raw_items-join [] sized shallow = refl
 raw_items-join (x ∷ xs) sized shallow =
-    ap (λ y. y ∷ map (item_within deepest_raw_item) (map encoding xs)) (item_within-encoding deepest_raw_item x sized.0 shallow.0) ∙ ap (λ ys. x ∷ ys) (raw_items-join xs sized.1 shallow.1)
+    ap (λ y. y ∷ map (item_within deepest_raw_item) (map encoding xs)) (item_within-encoding deepest_raw_item x sized.0 shallow.0)
+    ∙ ap (λ ys. x ∷ ys) (raw_items-join xs sized.1 shallow.1)
 
 and_both : (a b : Bool) → IsTrue a → IsTrue b → IsTrue (a && b)
 and_both true true h k = refl
@@ -230,16 +241,23 @@ and_parts false b h = absurd (never h)
 -- the test is passed by the joined encodings of items
 pub are_raw_items-join : (xs : List Item) → All IsSized xs → All IsShallow xs → IsTrue (are_raw_items (join xs) (length xs))
 are_raw_items-join xs sized shallow =
-    let again : raw_items (join xs) ≡ xs = ap (map (item_within deepest_raw_item)) (split_join xs sized) ∙ raw_items-join xs (recursion_from_All IsSized xs sized) (recursion_from_All IsShallow xs shallow) in
-    and_both (bytes_eq (join (raw_items (join xs))) (join xs)) (nat_eq (length (raw_items (join xs))) (length xs)) ((bytes_eq-Decides (join (raw_items (join xs))) (join xs)).1 (ap join again)) ((Decides-eqb (length (raw_items (join xs))) (length xs)).1 (ap length again))
+    let again : raw_items (join xs) ≡ xs = ap (map (item_within deepest_raw_item)) (split_join xs sized)
+    ∙ raw_items-join xs (recursion_from_All IsSized xs sized) (recursion_from_All IsShallow xs shallow) in
+    and_both (bytes_eq (join (raw_items (join xs))) (join xs)) (nat_eq (length (raw_items (join xs))) (length xs))
+    ((bytes_eq-Decides (join (raw_items (join xs))) (join xs)).1 (ap join again))
+    ((Decides-eqb (length (raw_items (join xs))) (length xs)).1 (ap length again))
 
-shallow_all : (inside : List ℕ → Item) (most : ℕ) → ((f : List ℕ) → item_depth (inside f) ≤ most) → (fs : List (List ℕ)) → items_depth (items_from (map inside fs)) ≤ most
+shallow_all : (inside : List ℕ → Item) (most : ℕ) → ((f : List ℕ) → item_depth (inside f) ≤ most) → (fs : List (List ℕ))
+    → items_depth (items_from (map inside fs)) ≤ most
 shallow_all inside most low [] = omega arith
-shallow_all inside most low (f ∷ fs) = let others : items_depth (items_from (map inside fs)) ≤ most = shallow_all inside most low fs in omega (arith, low f, others)
+shallow_all inside most low (f ∷ fs) =
+    let others : items_depth (items_from (map inside fs)) ≤ most = shallow_all inside most low fs in omega (arith, low f, others)
 
-shallow_by : (inside : List ℕ → Item) (most : ℕ) → ((f : List ℕ) → item_depth (inside f) ≤ most) → (b : List ℕ) (r : Result (List ℕ) DecoderError) → item_depth (item_by inside b r) ≤ suc most
+shallow_by : (inside : List ℕ → Item) (most : ℕ) → ((f : List ℕ) → item_depth (inside f) ≤ most) → (b : List ℕ) (r : Result (List ℕ) DecoderError)
+    → item_depth (item_by inside b r) ≤ suc most
 shallow_by inside most low b (Ok d) = omega arith
-shallow_by inside most low b (Err e) = let deepest : items_depth (items_from (map inside (items b))) ≤ most = shallow_all inside most low (items b) in omega (arith, deepest)
+shallow_by inside most low b (Err e) =
+    let deepest : items_depth (items_from (map inside (items b))) ≤ most = shallow_all inside most low (items b) in omega (arith, deepest)
 
 -- what is read is no deeper than asked
 shallow_within : (most : ℕ) (b : List ℕ) → item_depth (item_within most b) ≤ most
@@ -261,3 +279,10 @@ are_raw_items-told b count passed =
       counted = (Decides-eqb (length (raw_items b)) count).0 counted;
       shallow = All-from_recursion IsShallow (raw_items b) (each_shallow (split b));
     }
+
+-- the joined encodings of items that a slice can hold pass the test
+pub are_raw_items-passed : (b : List ℕ) (count : ℕ) → length b < 2 ^ 64 → AreRawItems b count → IsTrue (are_raw_items b count)
+are_raw_items-passed b count fits a =
+    let sized : All IsSized a.brought = sized_items a.brought (2 ^ 64) (omega (arith, ap length a.joined)) in
+    let P : List ℕ → ℕ → Type 0 = λ bytes n. IsTrue (are_raw_items bytes n) in
+    subst (λ (n : ℕ). P b n) a.counted (subst (λ (bytes : List ℕ). P bytes (length a.brought)) (sym a.joined) (are_raw_items-join a.brought sized a.shallow))

@@ -1,5 +1,5 @@
 -- What is answered to a line.
-use Rattle.std.specs.Prelude.{ℕ, ◌≡◌, ◌==◌, ◌+◌, nat_lt, Bool, true, if◌then◌else◌, List, [], ◌∷◌, ◌++◌, length, codes, decimal, Option, Some, None, Result, Ok, Err}
+use Rattle.std.specs.Prelude.{ℕ, ◌≡◌, ◌≤◌, ◌==◌, ◌+◌, nat_lt, Bool, true, if◌then◌else◌, List, [], ◌∷◌, ◌++◌, length, codes, decimal, Option, Some, None, Result, Ok, Err}
 use Rattle.std.specs.Str.{byte}
 use Rattle.std.specs.Str.Lines.{strip_carriage_return}
 use Rattle.hex.specs.Hex.{encode_lower}
@@ -88,6 +88,13 @@ answer_within line = text_answer (strip_carriage_return line)
 -- what is answered to a line
 unfoldable pub answer : List ℕ → List ℕ
 answer line = if nat_lt longest_line (length line) then codes "error long line" else answer_within line
+
+-- a line that isn't too long says these calls: less one carriage return at its end, it is a `+` and a script of them
+pub record SaysCalls (line : List ℕ) (calls : List Call) : Type 0 where
+  pub within : length line ≤ longest_line
+  pub text : List ℕ
+  pub stripped : strip_carriage_return line ≡ byte "+" ∷ text
+  pub says : script text ≡ Ok calls
 
 -- ---- parts, which only clauses of private functions cite
 

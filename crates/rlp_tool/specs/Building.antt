@@ -1,8 +1,8 @@
 -- What calls over a front come to.
-use Rattle.std.specs.Prelude.{ℕ, suc, ◌≡◌, Bool, true, false, IsTrue, List, ◌∷◌, ◌++◌, length, Ok}
+use Rattle.std.specs.Prelude.{ℕ, suc, ◌≡◌, Bool, true, false, IsTrue, List, [], ◌∷◌, ◌++◌, length, Ok}
 use Rattle.rlp.specs.Format.Item.{Item}
 use Rattle.rlp.specs.Format.Encoding.{join}
-use Rattle.rlp.specs.Streams.Calls.{Call, append_raw, append_raw_checked, finalize_unbounded_list, is_admitted, after}
+use Rattle.rlp.specs.Streams.Calls.{Call, append_raw, append_raw_checked, clear, finalize_unbounded_list, is_admitted, after}
 use Rattle.rlp.specs.Streams.Stream.{State, initial_state, IsFinished, closed_size, raw_text}
 use Rattle.rlp.specs.Streams.Described.{Step, DescribesWhere, AreDescribedWhere, IsDescribed, IsDescribedWhere, FinishAs}
 use Rattle.rlp_tool.specs.declared.building.Built.{Built}
@@ -35,6 +35,10 @@ abbrev pub BringsItems : Call → Type 0
 BringsItems (append_raw bytes count) = AreRawItems bytes count
 BringsItems _ = Unit
 
+-- the step that a call is, in the state that it meets
+abbrev pub IsStep : Call → State → Type 0
+IsStep call s = (m : Step) × DescribesWhere IsShallow s call m
+
 -- no call over the front is refused: each is admitted, and raw bytes bring as many items as they count, none of them too deep
 pub record AreTaken (front : List ℕ) (calls : List Call) : Type 0 where
   pub steps : List Step
@@ -64,17 +68,31 @@ HasNothingToFinish call s = (is_admitted call s ≡ false) × IsTrue (is_finish 
 abbrev pub BringsNoItems : Call → State → Type 0
 BringsNoItems call s = IsTrue (is_admitted call s) × (¬ BringsItems call)
 
+-- whether memory may be refused for a call: for any but `clear`
+abbrev pub takes_memory : Call → Bool
+takes_memory clear = false
+takes_memory _ = true
+
+-- a call that takes memory is not refused, and no call before it is
+pub record TakesMemory (front : List ℕ) (calls : List Call) : Type 0 where
+  pub before : List Call
+  pub call : Call
+  pub later : List Call
+  pub in_order : calls ≡ before ++ call ∷ later
+  pub taken : AreTaken front (before ++ call ∷ [])
+  pub takes : IsTrue (takes_memory call)
+
 -- what the calls over the front come to, where none is refused
 abbrev pub IsBuilt : List ℕ → List Call → Built → Type 0
 IsBuilt front calls (Finished bytes) = FinishAs front calls bytes.items
 IsBuilt front calls (Open size raw) = StayOpen front calls size raw.items
 
--- why they come to nothing. Of memory it says no more.
+-- why they come to nothing
 abbrev pub IsRefusal : List ℕ → List Call → BuildFault → Type 0
 IsRefusal front calls (TooManyItems place) = AreRefused BringsTooMany front calls place
 IsRefusal front calls (NothingToFinish place) = AreRefused HasNothingToFinish front calls place
 IsRefusal front calls (RawNotItems place) = AreRefused BringsNoItems front calls place
-IsRefusal front calls OutOfMemory = Unit
+IsRefusal front calls OutOfMemory = TakesMemory front calls
 
 -- the calls describe items, of which raw bytes bring none too deep, and the finished buffer is the front and the joined encodings of these
 pub record AreJoined (front : List ℕ) (calls : List Call) (bytes : List ℕ) : Type 0 where
@@ -95,16 +113,12 @@ IsFinishedAs expected (Open size raw) = ⊥
 
 -- ---- parts, which only clauses of private functions cite
 
--- the step that a call is, in the state that it meets
-abbrev pub IsStep : Call → State → Type 0
-IsStep call s = (m : Step) × DescribesWhere IsShallow s call m
-
 -- why a call isn't made, in this state and this place
 abbrev pub IsUnfit : Call → State → ℕ → BuildFault → Type 0
 IsUnfit call s place (TooManyItems there) = (there ≡ place) × BringsTooMany call s
 IsUnfit call s place (NothingToFinish there) = (there ≡ place) × HasNothingToFinish call s
 IsUnfit call s place (RawNotItems there) = (there ≡ place) × BringsNoItems call s
-IsUnfit call s place OutOfMemory = Unit
+IsUnfit call s place OutOfMemory = IsTrue (is_admitted call s) × IsStep call s × IsTrue (takes_memory call)
 
 -- what a stream in this state holds in the end
 abbrev pub IsHeld : State → Built → Type 0

@@ -1,10 +1,10 @@
 -- The bookkeeping of the loop over the input, which only clauses of private functions cite.
-use Rattle.std.specs.Prelude.{ℕ, ◌≡◌, ◌<◌, ◌≤◌, Bool, true, false, List, [], ◌∷◌, ◌++◌, length, take, Option, ◌⊎◌}
+use Rattle.std.specs.Prelude.{◌≡◌, ◌<◌, Bool, true, false, ℕ, List, [], ◌∷◌, ◌++◌, length, Option, ◌⊎◌}
 use Rattle.std.specs.Io.KnownBytes.{Appends}
 use Rattle.rlp_tool.specs.Answer.{longest_line}
-use Rattle.rlp_tool.specs.Lines.{pieces, lines, ended_lines, last_piece}
+use Rattle.rlp_tool.specs.Lines.{pieces, ended_lines, last_piece}
 use Rattle.rlp_tool.specs.Replies.{replies_to, replies}
-use Rattle.rlp_tool.specs.Run.{AppendsPart}
+use Rattle.rlp_tool.specs.Run.{AppendsBefore, AppendsPart}
 use Rattle.rlp_tool.specs.declared.serving.RunFault.{RunFault}
 use Rattle.rlp_tool.specs.declared.serving.RunFault.TheVariants.{Memory, Write}
 
@@ -27,21 +27,8 @@ pub record IsServed (start now : Option (List ℕ)) (text kept : List ℕ) (over
   pub wrote : Appends start now (replies_to (ended_lines text))
   pub line : IsLine kept over (last_piece text)
 
--- the whole replies to the lines before one of a text, which hadn't ended in the earlier part of the text
-pub record AreRepliesBefore (earlier text bytes : List ℕ) : Type 0 where
-  pub refused : ℕ
-  pub unended : length (ended_lines earlier) ≤ refused
-  pub is_line : refused < length (lines text)
-  pub replies : bytes ≡ replies_to (take refused (lines text))
-
--- such replies were written
-pub record AppendsBefore (start now : Option (List ℕ)) (earlier text : List ℕ) : Type 0 where
-  pub refused : ℕ
-  pub unended : length (ended_lines earlier) ≤ refused
-  pub is_line : refused < length (lines text)
-  pub wrote : Appends start now (replies_to (take refused (lines text)))
-
--- how the answers to a text stop: without memory the whole replies to the lines before the refused one were written, and a writer that failed has a beginning of the replies
+-- how the answers to a text stop: without memory the whole replies to the lines before the refused one were written,
+-- and a writer that failed has a beginning of the replies
 abbrev pub IsStop : RunFault → Option (List ℕ) → Option (List ℕ) → List ℕ → List ℕ → Bool → Type 0
 IsStop fault start new earlier text failed =
     ((fault ≡ Memory) × AppendsBefore start new earlier text) ⊎ ((fault ≡ Write) × AppendsPart start new (replies text) × (failed ≡ true))

@@ -1,7 +1,7 @@
 -- Raw bytes that are items.
 use Rattle.std.specs.Prelude.{ℕ, zero, suc, ◌≡◌, ◌≤◌, ◌&&◌, nat_eq, Bool, List, [], map, length, All, Result, Ok, Err}
 use Rattle.std.specs.Str.{bytes_eq}
-use Rattle.rlp.specs.declared.error.DecoderError.{DecoderError}
+use Rattle.rlp.specs.DecoderError.{DecoderError}
 use Rattle.rlp.specs.Format.Item.{Item, string, list_of, item_depth}
 use Rattle.rlp.specs.Format.Encoding.{join}
 use Rattle.rlp.specs.Format.Split.{split, items}

@@ -1,5 +1,5 @@
 -- What a run leaves: in0 and in1 are the bytes that its reader had left before and after it, and out0 and out1 the bytes that its writer held.
-use Rattle.std.specs.Prelude.{ℕ, ◌<◌, ◌≤◌, List, ◌++◌, length, take, Option}
+use Rattle.std.specs.Prelude.{ℕ, ◌≡◌, ◌<◌, ◌≤◌, List, ◌++◌, length, take, Option}
 use Rattle.std.specs.Io.KnownBytes.{Consumes, Appends, IsAtEnd}
 use Rattle.rlp_tool.specs.Lines.{lines, ended_lines}
 use Rattle.rlp_tool.specs.Replies.{replies_to, replies}
@@ -20,16 +20,26 @@ pub record AnswersAll (in0 in1 out0 out1 : Option (List ℕ)) : Type 0 where
 abbrev pub longest_read : ℕ
 longest_read = 16384
 
+-- the whole replies to the lines before one of a text, a line that hadn't ended in the earlier part of the text
+pub record AreRepliesBefore (earlier text bytes : List ℕ) : Type 0 where
+  pub refused : ℕ
+  pub unended : length (ended_lines earlier) ≤ refused
+  pub is_line : refused < length (lines text)
+  pub replies : bytes ≡ replies_to (take refused (lines text))
+
+-- such replies were appended
+pub record AppendsBefore (out0 out1 : Option (List ℕ)) (earlier text : List ℕ) : Type 0 where
+  pub bytes : List ℕ
+  pub replies : AreRepliesBefore earlier text bytes
+  pub wrote : Appends out0 out1 bytes
+
 -- memory was refused at a line of what was read, one that hadn't ended before the last read, and the whole replies to exactly the lines before it were written
 pub record AnswersBefore (in0 in1 out0 out1 : Option (List ℕ)) : Type 0 where
   pub earlier : List ℕ
   pub last : List ℕ
   pub read : Consumes in0 in1 (earlier ++ last)
   pub one_read : length last ≤ longest_read
-  pub refused : ℕ
-  pub unended : length (ended_lines earlier) ≤ refused
-  pub is_line : refused < length (lines (earlier ++ last))
-  pub wrote : Appends out0 out1 (replies_to (take refused (lines (earlier ++ last))))
+  pub answered : AppendsBefore out0 out1 earlier (earlier ++ last)
 
 -- the replies to all lines that were read up to their newline were written
 pub record AnswersEnded (in0 in1 out0 out1 : Option (List ℕ)) : Type 0 where

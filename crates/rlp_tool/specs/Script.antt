@@ -1,5 +1,5 @@
 -- What a script says: calls of a stream as text.
-use Rattle.std.specs.Prelude.{ℕ, ◌≡◌, ◌+◌, ◌==◌, ◌++◌, codes, decimal, length, Bool, if◌then◌else◌, List, [], ◌∷◌, take, drop, is_some, Option, Some, None, option_map, position, filter_map, Result, Ok, Err}
+use Rattle.std.specs.Prelude.{ℕ, ◌≡◌, ◌≢◌, IsSome, ◌+◌, ◌==◌, ◌++◌, codes, decimal, length, Bool, if◌then◌else◌, List, [], ◌∷◌, take, drop, is_some, Option, Some, None, option_map, position, filter_map, Result, Ok, Err}
 use Rattle.std.specs.List.{slice_split, list_all, prefix_len}
 use Rattle.std.specs.Str.{byte}
 use Rattle.rlp.specs.Format.Item.{string}
@@ -27,7 +27,8 @@ abbrev pub raw_parts : List ℕ → Option ℕ → Option Call
 raw_parts text (Some at) = raw_call (number_in (take at text)) (bytes_in (drop (at + 1) text))
 raw_parts text None = None
 
--- the call that a letter and a colon say, by what follows: `d` appends the string of the bytes, `r` puts raw bytes that count as so many items, `l` begins a list of so many
+-- the call that a letter and a colon say, by what follows: `d` appends the string of the bytes, `r` puts raw bytes that count as so many items,
+-- `l` begins a list of so many
 abbrev pub labelled_call : ℕ → List ℕ → Option Call
 labelled_call letter text =
     if letter == byte "d" then option_map (λ bytes. append (string bytes)) (bytes_in text)
@@ -54,10 +55,14 @@ abbrev pub script : List ℕ → Result (List Call) ℕ
 script [] = Ok []
 script (b ∷ text) = calls_in (slice_split (λ c. c == byte " ") (b ∷ text))
 
--- why a script is read no further. Of memory it says no more.
+-- the first piece of a text says a call, and so takes memory
+abbrev pub BeginsWithCall : List ℕ → Type 0
+BeginsWithCall text = (text ≢ []) × (script text ≢ Err 1)
+
+-- why a script is read no further: a piece says no call, or memory was refused for a call
 abbrev pub IsScriptFault : List ℕ → ScriptFault → Type 0
 IsScriptFault text (Syntax place) = script text ≡ Err place
-IsScriptFault text OutOfMemory = Unit
+IsScriptFault text OutOfMemory = BeginsWithCall text
 
 -- ---- parts, which only clauses of private functions cite
 
@@ -66,10 +71,16 @@ abbrev pub AddsCall : List Call → List Call → Option Call → Type 0
 AddsCall old new (Some call) = new ≡ old ++ call ∷ []
 AddsCall old new None = ⊥
 
--- why a piece is not read, after these calls
+-- a call brings bytes, for which memory may be refused
+abbrev pub BringsBytes : Option Call → Type 0
+BringsBytes (Some (append (string bytes))) = bytes ≢ []
+BringsBytes (Some (append_raw bytes count)) = bytes ≢ []
+BringsBytes _ = ⊥
+
+-- why a piece is not read, after these calls: it says no call, or memory was refused for its call
 abbrev pub IsUnread : List Call → Option Call → ScriptFault → Type 0
 IsUnread old call (Syntax place) = (call ≡ None) × (place ≡ length old + 1)
-IsUnread old call OutOfMemory = Unit
+IsUnread old call OutOfMemory = IsSome call
 
 -- the place of the piece that says no call was printed
 abbrev pub AppendsScriptFault : List ℕ → List ℕ → ScriptFault → Type 0

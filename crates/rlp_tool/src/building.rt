@@ -1,19 +1,23 @@
 //! What calls of a stream over a front come to.
-ghost use Rattle.std.specs.Prelude.{◌≡◌, ◌++◌, ◌↔◌, List, MatchOption, OnOk, IfOk, IfErr, IsTrue};
+ghost use Rattle.std.specs.Prelude.{◌≡◌, ◌≢◌, ◌++◌, ◌↔◌, List, MatchOption, OnOk, OnErr, IfOk, IfErr, IsTrue, Ok};
 ghost use Rattle.rlp.specs.Format.Item.{Item};
 ghost use Rattle.rlp.specs.Format.Encoding.{join};
-ghost use Rattle.rlp.specs.Format.Framing.{IsFramed, IsFramedItem};
+ghost use Rattle.rlp.specs.Format.Framing.{IsFramed, frame};
 ghost use Rattle.rlp.specs.Streams.Stack.{has_room};
+ghost use Rattle.rlp.specs.Streams.Stream.{IsFinished};
 ghost use Rattle.rlp.specs.Streams.Calls.{append_raw, effect, is_admitted};
 ghost use Rattle.rlp.specs.Streams.Described.{IsDescribed, IsDescribedWhere};
-ghost use Rattle.rlp_tool.specs.Building.{AreTaken, IsBuilt, IsRefusal, IsJoined, IsFinishedAs, IsStep, IsUnfit, IsHeld};
+ghost use Rattle.rlp_tool.specs.Building.{AreTaken, IsBuilt, IsRefusal, IsJoined, IsFinishedAs, IsStep, IsUnfit, IsHeld, takes_memory};
 ghost use Rattle.rlp_tool.specs.RawItems.{AreRawItems, IsShallow};
 ghost use Rattle.rlp_tool.specs.declared.building.BuildFault.{BuildFault};
 ghost use Rattle.rlp_tool.specs.StreamCalls.{call_of, calls_of};
 
 use crate::calls::StreamCall;
 use bytes::BytesMut;
-use rlp::laws::stream_joins_what_is_described;
+use rlp::laws::{
+    encoding_is_framed, framing_is_read, header_is_read, join_is_injective,
+    parts_of_sized_are_sized, stream_joins_what_is_described,
+};
 use rlp::{Encodable, PayloadInfo, Rlp, RlpStream};
 use std::alloc::{AllocError, Global};
 
@@ -34,10 +38,10 @@ pub enum Built {
     },
 }
 
-/// Why calls come to nothing. A place is that of the first call refused, counted from 1.
+/// Why calls aren't all made. A place is that of the first call that isn't admitted, from 1.
 #[derive(Debug, PartialEq, Eq, Drop)]
 pub enum BuildFault {
-    /// Raw bytes bring more items than the innermost list awaits.
+    /// Raw bytes count more items than the innermost list awaits.
     TooManyItems(usize),
     /// No list is open, or the innermost one is to be closed by its items.
     NothingToFinish(usize),
@@ -48,7 +52,7 @@ pub enum BuildFault {
     OutOfMemory,
 }
 
-/// Whether so many items may be counted.
+/// Whether the innermost list awaits at least `count` items, or no list with a length is open.
 #[tactic(auto, using(crate::proofs::CallsLemmas::room))]
 fn has_room(stream: &RlpStream, count: usize) -> bool
     ensures { result ≡ has_room count stream.now.state.stack.lists }
@@ -62,8 +66,10 @@ fn has_room(stream: &RlpStream, count: usize) -> bool
 /// The item that bytes begin with, and what follows it; `None` where they begin with none.
 fn first_item<'a>(bytes: &'a [u8]) -> Option<(&'a [u8], &'a [u8])>
     ensures { MatchOption result (¬ IsFramed bytes.now)
-        (λ r. IsFramedItem r.0.now × (bytes.now ≡ r.0.now ++ r.1.now)) }
+        (λ r. (frame bytes.now ≡ Ok r.0.now) × (bytes.now ≡ r.0.now ++ r.1.now)) }
 {
+    header_is_read(bytes);
+    framing_is_read(bytes);
     let info = match PayloadInfo::from(bytes) {
         Ok(info) => info,
         Err(_) => return None,
@@ -74,13 +80,16 @@ fn first_item<'a>(bytes: &'a [u8]) -> Option<(&'a [u8], &'a [u8])>
     }
 }
 
-/// Whether raw bytes are the joined canonical encodings of so many items, none of them too deep.
+/// Whether raw bytes are the joined canonical encodings of `item_count` items, none of them too deep.
 fn raw_items_are_canonical(bytes: &[u8], item_count: usize) -> bool
     ensures { IsTrue result ↔ AreRawItems bytes.now item_count }
 {
+    parts_of_sized_are_sized();
+    join_is_injective();
     let mut rest = bytes;
     let mut awaited = item_count;
     while !rest.is_empty() {
+        encoding_is_framed(rest);
         let Some((item, others)) = first_item(rest) else {
             return false;
         };
@@ -93,11 +102,12 @@ fn raw_items_are_canonical(bytes: &[u8], item_count: usize) -> bool
     awaited == 0
 }
 
-/// Tests whether raw bytes may be put; `place` is the place of the call.
+/// Tests whether raw bytes are admitted; `place` is the place of the call.
 fn admit_raw(stream: &RlpStream, bytes: &[u8], count: usize, place: usize) -> Result<(), BuildFault>
     ensures ok { OnOk result (IsTrue (has_room count stream.now.state.stack.lists)) }
     ensures brings { OnOk result (AreRawItems bytes.now count) }
     ensures refused { IfErr result (IsUnfit (append_raw bytes.now count) stream.now.state place) }
+    ensures no_memory { IfErr result (λ fault. fault ≢ BuildFault.OutOfMemory) }
 {
     if !has_room(stream, count) {
         return Err(BuildFault::TooManyItems(place));
@@ -108,7 +118,7 @@ fn admit_raw(stream: &RlpStream, bytes: &[u8], count: usize, place: usize) -> Re
     Ok(())
 }
 
-/// Tests whether a call may be made; `place` is its place.
+/// Tests whether a call is admitted; `place` is its place.
 fn admit<E: Encodable>(
     stream: &RlpStream,
     call: &StreamCall<E>,
@@ -117,7 +127,9 @@ fn admit<E: Encodable>(
     ensures ok { OnOk result (IsTrue (is_admitted (call_of E.item call.now) stream.now.state)) }
     ensures brings { OnOk result (IsStep (call_of E.item call.now) stream.now.state) }
     ensures refused { IfErr result (IsUnfit (call_of E.item call.now) stream.now.state place) }
+    ensures no_memory { IfErr result (λ fault. fault ≢ BuildFault.OutOfMemory) }
 {
+    parts_of_sized_are_sized();
     match call {
         StreamCall::Raw(bytes, count) => admit_raw(stream, bytes.as_slice(), *count, place),
         StreamCall::Finish => {
@@ -131,11 +143,12 @@ fn admit<E: Encodable>(
     }
 }
 
-/// Makes a call that may be made.
+/// Makes a call that is admitted.
 fn make_call<E: Encodable>(stream: &mut RlpStream, call: &StreamCall<E>) -> Result<(), AllocError>
     requires { IsTrue (is_admitted (call_of E.item call.now) stream.old.state) }
-    ensures { OnOk result
+    ensures ok { OnOk result
         (stream.new.state ≡ effect (call_of E.item call.now) stream.old.state) }
+    ensures refused { OnErr result (IsTrue (takes_memory (call_of E.item call.now))) }
 {
     match call {
         StreamCall::Value(value) => {
@@ -159,7 +172,7 @@ fn make_call<E: Encodable>(stream: &mut RlpStream, call: &StreamCall<E>) -> Resu
     Ok(())
 }
 
-/// Makes a call, or refuses it.
+/// Makes a call if it is admitted; `place` is its place.
 fn take_call<E: Encodable>(
     stream: &mut RlpStream,
     call: &StreamCall<E>,
@@ -183,6 +196,7 @@ fn take_call<E: Encodable>(
 fn held(alloc: Global, stream: RlpStream) -> Result<Built, BuildFault>
     ensures ok { IfOk result (IsHeld stream.state) }
     ensures refused { IfErr result (λ fault. fault ≡ BuildFault.OutOfMemory) }
+    ensures unfinished { OnErr result (¬ IsFinished stream.state) }
 {
     if stream.is_finished() {
         return Ok(Built::Finished(stream.out()));
@@ -196,15 +210,19 @@ fn held(alloc: Global, stream: RlpStream) -> Result<Built, BuildFault>
 
 /// Makes the calls in order on a stream over the front.
 ///
-/// It answers what the stream holds then: the finished bytes, or where a list is open the closed
-/// size and the bytes as they stand. The first call that may not be made decides the fault:
-/// `TooManyItems` or else `RawNotItems` of `Raw`, `NothingToFinish` of `Finish`, each with its place
-/// from 1. Where memory is refused, or a value's own `rlp_append` answers that it was, the answer is
-/// `OutOfMemory`.
+/// Returns what the stream holds then: the finished bytes, or where a list is open the closed size
+/// and the bytes as they stand.
 ///
-/// Raw bytes are checked: where there is an answer, they were the joined canonical encodings of as
-/// many items as they count, each of depth at most 256. So the finished bytes are the front and the
-/// canonical encodings of the items that the calls describe.
+/// Raw bytes are checked: each `Raw` must bring the joined canonical encodings of as many items as
+/// it counts, each of depth at most 256. So the finished bytes are the front and the canonical
+/// encodings of the items that the calls describe.
+///
+/// # Errors
+///
+/// Fails at the first call that isn't admitted, with its place from 1: `TooManyItems` or else
+/// `RawNotItems` at a `Raw`, `NothingToFinish` at a `Finish`. Fails with `OutOfMemory` where memory
+/// is refused, or a value's own `rlp_append` says so; then some call was admitted that takes memory,
+/// as all but `Clear` do, and each call before it was admitted too.
 ///
 /// ```rust
 /// let calls = [StreamCall::Begin(2), StreamCall::Value(1u64), StreamCall::Value(2u64)];

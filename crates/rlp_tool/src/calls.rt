@@ -7,13 +7,13 @@ pub enum StreamCall<E> {
     Value(E),
     /// Appends the list of the values, as `RlpStream::append_list`.
     Values(Vec<E>),
-    /// Puts bytes as they are and counts so many items, as `RlpStream::append_raw`.
+    /// Appends bytes as they are and counts them as this number of items, as `RlpStream::append_raw`.
     Raw(Vec<u8>, usize),
-    /// Begins a list of so many items, as `RlpStream::begin_list`.
+    /// Begins a list of this number of items, as `RlpStream::begin_list`.
     Begin(usize),
-    /// Begins a list of open length, as `RlpStream::begin_unbounded_list`.
+    /// Begins an unbounded list, as `RlpStream::begin_unbounded_list`.
     BeginUnbounded,
-    /// Closes the innermost list, one of open length, as `RlpStream::finalize_unbounded_list`.
+    /// Closes the innermost list, which is unbounded, as `RlpStream::finalize_unbounded_list`.
     Finish,
     /// Drops all that was written, as `RlpStream::clear`.
     Clear,

@@ -1,6 +1,8 @@
 //! Bytes and numbers as digits, read and printed.
-ghost use Rattle.std.specs.Prelude.{◌≡◌, ◌++◌, ◌<◌, ◌≤◌, length, string_bytes, option_map, IfOk, OnOk};
-ghost use Rattle.hex.specs.Hex.{encode_lower};
+ghost use Rattle.std.specs.Prelude.{◌≡◌, ◌≢◌, ◌++◌, ◌<◌, ◌≤◌, ◌↔◌, [], length, string_bytes, option_map, IfOk, IsTrue, OnErr, OnOk};
+ghost use Rattle.std.specs.List.{AllPass};
+ghost use Rattle.std.specs.Option.{IsSomeAnd};
+ghost use Rattle.hex.specs.Hex.{encode_lower, is_hex_digit};
 ghost use Rattle.rlp_tool.specs.Digits.{digits_of, bytes_in, number_in, with_digit};
 
 use hex::FromHexError;
@@ -20,13 +22,31 @@ pub(crate) fn without_prefix(text: &[u8]) -> &[u8]
     }
 }
 
-/// The bytes that a text writes, if it is digits.
-pub(crate) fn read_bytes(alloc: Global, text: &[u8]) -> Result<Option<Vec<u8>>, AllocError>
-    ensures { IfOk result (λ read. option_map (λ v. v.items) read ≡ bytes_in text.now) }
+/// Whether all bytes are hexadecimal digits.
+fn are_digits(text: &[u8]) -> bool
+    ensures { IsTrue result ↔ AllPass is_hex_digit text.now }
 {
-    match hex::decode(alloc, without_prefix(text)) {
+    text.iter().all(|byte| byte.is_ascii_hexdigit())
+}
+
+/// The bytes that a text writes, if it is digits. `AllocError` where there is no memory for them.
+pub(crate) fn read_bytes(alloc: Global, text: &[u8]) -> Result<Option<Vec<u8>>, AllocError>
+    ensures gives { IfOk result (λ read. option_map (λ v. v.items) read ≡ bytes_in text.now) }
+    ensures refused { OnErr result (IsSomeAnd (bytes_in text.now) (λ bytes. bytes ≢ [])) }
+{
+    let digits = without_prefix(text);
+    if digits.is_empty() {
+        return Ok(Some(Vec::new(alloc)));
+    }
+    match hex::decode(alloc, digits) {
         Ok(bytes) => Ok(Some(bytes)),
-        Err(FromHexError::OutOfMemory) => Err(AllocError),
+        Err(FromHexError::OutOfMemory) => {
+            if are_digits(digits) {
+                Err(AllocError)
+            } else {
+                Ok(None)
+            }
+        }
         Err(_) => Ok(None),
     }
 }

@@ -5,6 +5,7 @@ mod answer;
 mod building;
 mod calls;
 mod digits;
+pub mod laws;
 mod line;
 mod noted;
 mod script;

@@ -3,7 +3,8 @@ ghost use Rattle.std.specs.Prelude.{◌≡◌, ◌++◌, ◌+◌, ◌≢◌, ◌
 ghost use Rattle.rlp_tool.specs.Answer.{answer};
 ghost use Rattle.rlp_tool.specs.Replies.{reply, replies_to};
 ghost use Rattle.rlp_tool.specs.Lines.{last_piece, unended_line};
-ghost use Rattle.rlp_tool.specs.Progress.{AreRepliesBefore, IsOnePiece, IsLine, IsAfter};
+ghost use Rattle.rlp_tool.specs.Progress.{IsOnePiece, IsLine, IsAfter};
+ghost use Rattle.rlp_tool.specs.Run.{AreRepliesBefore};
 
 use crate::answer::answer_within;
 use memchr::memchr;

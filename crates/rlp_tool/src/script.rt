@@ -1,8 +1,8 @@
 //! Scripts: calls of a stream as text.
-ghost use Rattle.std.specs.Prelude.{◌≡◌, ◌==◌, ◌+◌, position, option_map, Some, None, IfOk, IfErr, OnOk, Ok, Err};
+ghost use Rattle.std.specs.Prelude.{◌≡◌, ◌==◌, ◌+◌, position, option_map, Some, None, IfOk, IfErr, OnOk, OnErr, Ok, Err};
 ghost use Rattle.rlp.specs.Format.Item.{string};
 ghost use Rattle.rlp.specs.Streams.Calls.{append, begin_list};
-ghost use Rattle.rlp_tool.specs.Script.{call_in, labelled_call, letter_call, raw_parts, script, AddsCall, IsUnread, IsScriptFault};
+ghost use Rattle.rlp_tool.specs.Script.{BringsBytes, call_in, labelled_call, letter_call, raw_parts, script, AddsCall, IsUnread, IsScriptFault};
 ghost use Rattle.rlp_tool.specs.Digits.{bytes_in, number_in};
 ghost use Rattle.rlp_tool.specs.StreamCalls.{call_of, calls_of, calls_of_bytes};
 
@@ -46,8 +46,10 @@ fn read_value<E: FromDigits>(
     alloc: Global,
     text: &[u8],
 ) -> Result<Option<StreamCall<E>>, AllocError>
-    ensures { IfOk result (λ read. option_map (call_of E.item) read
+    ensures gives { IfOk result (λ read. option_map (call_of E.item) read
         ≡ option_map (λ bytes. append (string bytes)) (bytes_in text.now)) }
+    ensures refused { OnErr result
+        (BringsBytes (option_map (λ bytes. append (string bytes)) (bytes_in text.now))) }
 {
     match E::from_digits(alloc, text)? {
         Some(value) => Ok(Some(StreamCall::Value(value))),
@@ -57,8 +59,10 @@ fn read_value<E: FromDigits>(
 
 /// Raw bytes and the number of items that they count as, with a colon between.
 fn read_raw<E: FromDigits>(alloc: Global, text: &[u8]) -> Result<Option<StreamCall<E>>, AllocError>
-    ensures { IfOk result (λ read. option_map (call_of E.item) read
+    ensures gives { IfOk result (λ read. option_map (call_of E.item) read
         ≡ raw_parts text.now (position (λ b. b == 58) text.now)) }
+    ensures refused { OnErr result
+        (BringsBytes (raw_parts text.now (position (λ b. b == 58) text.now))) }
 {
     let Some(colon) = place_of(b':', text) else {
         return Ok(None);
@@ -89,8 +93,9 @@ fn read_labelled<E: FromDigits>(
     letter: u8,
     text: &[u8],
 ) -> Result<Option<StreamCall<E>>, AllocError>
-    ensures { IfOk result
+    ensures gives { IfOk result
         (λ read. option_map (call_of E.item) read ≡ labelled_call letter text.now) }
+    ensures refused { OnErr result (BringsBytes (labelled_call letter text.now)) }
 {
     match letter {
         b'd' => read_value(alloc, text),
@@ -105,7 +110,8 @@ fn read_call<E: FromDigits>(
     alloc: Global,
     piece: &[u8],
 ) -> Result<Option<StreamCall<E>>, AllocError>
-    ensures { IfOk result (λ read. option_map (call_of E.item) read ≡ call_in piece.now) }
+    ensures gives { IfOk result (λ read. option_map (call_of E.item) read ≡ call_in piece.now) }
+    ensures refused { OnErr result (BringsBytes (call_in piece.now)) }
 {
     match piece {
         [letter] => Ok(letter_call(*letter)),
@@ -161,12 +167,16 @@ pub(crate) fn read_script<E: FromDigits>(
     }
 }
 
-/// The calls that a script says: what follows the `+` of a line.
+/// Reads the calls of a script: what follows the `+` of a line.
 ///
 /// Empty text is no calls. Any other is cut at every space, and each piece is a call: `d:HEX` is a
 /// `Value` of the bytes, `r:N:HEX` is `Raw`, `l:N` is `Begin`, and `u`, `e`, `c` are
-/// `BeginUnbounded`, `Finish`, `Clear`. The first piece that is none of these decides the fault,
-/// `Syntax` with its place from 1. The other fault is that memory was refused.
+/// `BeginUnbounded`, `Finish`, `Clear`.
+///
+/// # Errors
+///
+/// Fails with `Syntax` at the first piece that is no call, with its place from 1. Fails with
+/// `OutOfMemory` where memory is refused for a call; then the first piece is a call.
 ///
 /// ```rust
 /// let calls = rlp_tool::read_calls(alloc, b"l:1 d:2a")?;

@@ -1,12 +1,15 @@
 //! Strings that digits write, as values; one type of them keeps short ones in place.
 
-ghost use Rattle.std.specs.Prelude.{◌≡◌, ◌≤◌, length, option_map, IfOk};
+ghost use Rattle.std.specs.Prelude.{◌≡◌, ◌≢◌, ◌≤◌, [], length, option_map, IfOk, IsOk, OnErr};
+ghost use Rattle.std.specs.Option.{IsSomeAnd};
 ghost use Rattle.std.specs.Result.{result_ok};
 ghost use Rattle.hex.specs.Hex.{decode_of};
 ghost use Rattle.rlp.specs.Format.Item.{string};
-ghost use Rattle.rlp_tool.specs.Digits.{bytes_in};
+ghost use Rattle.rlp_tool.specs.Digits.{bytes_in, digits_of};
+ghost use Rattle.rlp_tool.specs.StringValue.{string_of};
 
 use crate::digits::{read_bytes, without_prefix};
+use rlp::laws::growth_is_an_order;
 use rlp::{Encodable, RlpStream};
 use std::alloc::{AllocError, Global};
 use std::marker::Model;
@@ -17,9 +20,11 @@ const MOST_IN_PLACE: usize = 32;
 /// A type whose values are read from digits, and are written as the strings that these write.
 pub(crate) trait FromDigits: Encodable + Drop + Sized {
     /// The value that is written as the string of the bytes that a text writes, if it is digits.
+    /// `AllocError` where there is no memory for them.
     fn from_digits(alloc: Global, text: &[u8]) -> Result<Option<Self>, AllocError>
-        ensures { IfOk result
-            (λ read. option_map Self.item read ≡ option_map string (bytes_in text.now)) };
+        ensures gives { IfOk result
+            (λ read. option_map Self.item read ≡ option_map string (bytes_in text.now)) }
+        ensures refused { OnErr result (IsSomeAnd (bytes_in text.now) (λ bytes. bytes ≢ [])) };
 }
 
 /// The bytes, in memory of their own.
@@ -91,8 +96,8 @@ impl Encodable for StringValue {
 
     ghost fits = { λ v. ⊤ };
 
-    #[tactic(auto, using(rlp::proofs::Growth::growth))]
     fn rlp_append(&self, s: &mut RlpStream) -> Result<(), AllocError> {
+        growth_is_an_order();
         match self {
             StringValue::Short(few) => s.encoder().encode_value(few.as_slice()),
             StringValue::Long(bytes) => s.encoder().encode_value(bytes.as_slice()),
@@ -102,7 +107,12 @@ impl Encodable for StringValue {
 
 /// At most 64 digits, which write at most 32 bytes, are `Short` and take no memory.
 impl FromDigits for StringValue {
-    fn from_digits(alloc: Global, text: &[u8]) -> Result<Option<StringValue>, AllocError> {
+    fn from_digits(alloc: Global, text: &[u8]) -> Result<Option<StringValue>, AllocError>
+        ensures gives { IfOk result
+            (λ read. option_map string_of read ≡ option_map string (bytes_in text.now)) }
+        ensures refused { OnErr result (IsSomeAnd (bytes_in text.now) (λ bytes. bytes ≢ [])) }
+        ensures in_place { length (digits_of text.now) ≤ 64 → IsOk result }
+    {
         let digits = without_prefix(text);
         if digits.len() <= 2 * MOST_IN_PLACE {
             return match FewBytes::decode(digits) {

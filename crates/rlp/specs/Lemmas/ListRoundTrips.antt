@@ -2,16 +2,16 @@
 use Rattle.std.proofs.Common.{◌≡◌, ◌↔◌, ℕ, ◌^◌, ◌<◌, List, [], ◌∷◌, ◌++◌, length, sym, ap, refl, subst, arith, append-nil, Option, Some, None, Result, Ok, IsOkAnd, MatchResult, IfSome, map, length-append}
 use Rattle.std.proofs.lemmas.List.{length-map}
 use Rattle.std.proofs.lemmas.List.{map-append}
-use Rattle.rlp.specs.declared.error.DecoderError.{DecoderError}
-use Rattle.rlp.specs.Format.Item.{Item, list_of}
-use Rattle.rlp.specs.Format.Encoding.{BeginsWith, encoding, join, IsSized}
-use Rattle.rlp.specs.Values.Value.{option_item}
-use Rattle.rlp.specs.Views.View.{View, view_of, item_at, item_count}
+use Rattle.rlp_format.specs.declared.error.DecoderError.{DecoderError}
+use Rattle.rlp_format.specs.Format.Item.{Item, list_of}
+use Rattle.rlp_format.specs.Format.Encoding.{BeginsWith, encoding, join, IsSized}
+use Rattle.rlp_format.specs.Values.Value.{option_item}
+use Rattle.rlp_format.specs.Views.View.{View, view_of, item_at, item_count}
 use Rattle.rlp.specs.Values.ListReading.{GivesAt, FaultsAt, GivesOption, no_value, one_value, FaultsAsOption, no_list, many_items, faulty_item}
 use Rattle.rlp.specs.Values.RoundTrip.{ReadsBack}
-use Rattle.rlp.specs.Lemmas.Encodings.{encoding_list, small_payload, front_sized}
-use Rattle.rlp.specs.Lemmas.Views.{sized_items}
-use Rattle.rlp.specs.Lemmas.Numbered.{item_count-list, item_at-list_item}
+use Rattle.rlp_format.specs.Lemmas.Encodings.{encoding_list, small_payload, front_sized}
+use Rattle.rlp_format.specs.Lemmas.Views.{sized_items}
+use Rattle.rlp_format.specs.Lemmas.Numbered.{item_count-list, item_at-list_item}
 
 -- what the law of `RoundTrip` says of a type
 abbrev pub AlwaysReadsBack : {A : Type 0} → (A → Type 0) → (A → Item) → (View → A → Type 0) → (View → DecoderError → Type 0) → Type 0

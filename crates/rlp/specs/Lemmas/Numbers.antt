@@ -1,14 +1,14 @@
 -- A view that begins with the digits of a number gives the number.
 use Rattle.std.proofs.Common.{◌≡◌, ◌≢◌, pos_of_ne-zero, get_or, ℕ, ◌≤◌, List, [], ◌∷◌, length, Fits, w8, refl, sym, ap, subst, arith}
 use Rattle.std.specs.Int.Digits.{number_from_digits}
-use Rattle.rlp.specs.Format.WrittenHeader.{big_endian}
-use Rattle.rlp.specs.Values.Value.{FitsBytes}
-use Rattle.rlp.specs.declared.error.DecoderError.TheVariants.{RlpInvalidIndirection}
+use Rattle.rlp_format.specs.Format.WrittenHeader.{big_endian}
+use Rattle.rlp_format.specs.Values.Value.{FitsBytes}
+use Rattle.rlp_format.specs.declared.error.DecoderError.TheVariants.{RlpInvalidIndirection}
 use Rattle.rlp.specs.Values.ValueReading.{IsDigitsFault, too_long, leading_zero, GivesNumber, FaultsAsNumber, no_string, no_value}
-use Rattle.rlp.specs.declared.error.DecoderError.{DecoderError}
-use Rattle.rlp.specs.Views.View.{View, HoldsString}
-use Rattle.rlp.specs.Lemmas.Reading.{bytes_held}
-use Rattle.rlp.specs.Lemmas.Digits.{digits_fit, digits_again}
+use Rattle.rlp_format.specs.declared.error.DecoderError.{DecoderError}
+use Rattle.rlp_format.specs.Views.View.{View, HoldsString}
+use Rattle.rlp_format.specs.Lemmas.Reading.{bytes_held}
+use Rattle.rlp_format.specs.Lemmas.Digits.{digits_fit, digits_again}
 
 -- few bytes that begin with no zero are the digits of a number that fits
 pub leading_is_value : (width : ℕ) (digits : List ℕ) → ((i : ℕ) → Fits w8 (get_or digits i 0)) → length digits ≤ width → get_or digits 0 0 ≢ 0

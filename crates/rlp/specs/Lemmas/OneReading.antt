@@ -6,18 +6,18 @@ use Rattle.std.proofs.lemmas.Bool.{cases_Bool, cases_lt, cond-true, cond-false}
 use Rattle.std.proofs.lemmas.Int.Digits.{length-digits_of-le}
 use Rattle.std.proofs.lemmas.List.Elements.{All-from_recursion, recursion_from_All}
 use Rattle.std.proofs.lemmas.Str.{IsUtf8-from_is_utf8, is_utf8-from_IsUtf8}
-use Rattle.rlp.specs.declared.error.DecoderError.{DecoderError}
-use Rattle.rlp.specs.declared.error.DecoderError.TheVariants.{RlpIsTooBig, RlpInvalidIndirection, RlpExpectedToBeData}
-use Rattle.rlp.specs.Format.Item.{string}
-use Rattle.rlp.specs.Format.WrittenHeader.{big_endian, written_header, AreBytes}
-use Rattle.rlp.specs.Format.Encoding.{encoding, string_encoding, is_low_byte}
-use Rattle.rlp.specs.Format.StringReading.{IsString}
-use Rattle.rlp.specs.Values.Value.{FitsBytes, number_item}
+use Rattle.rlp_format.specs.declared.error.DecoderError.{DecoderError}
+use Rattle.rlp_format.specs.declared.error.DecoderError.TheVariants.{RlpIsTooBig, RlpInvalidIndirection, RlpExpectedToBeData}
+use Rattle.rlp_format.specs.Format.Item.{string}
+use Rattle.rlp_format.specs.Format.WrittenHeader.{big_endian, written_header, AreBytes}
+use Rattle.rlp_format.specs.Format.Encoding.{encoding, string_encoding, is_low_byte}
+use Rattle.rlp_format.specs.Format.StringReading.{IsString}
+use Rattle.rlp_format.specs.Values.Value.{FitsBytes, number_item}
 use Rattle.rlp.specs.Values.ValueReading.{GivesValue, FaultsAs, no_string, no_value, GivesNumber, IsDigitsFault, too_long, leading_zero, FaultsAsNumber, GivesBytes, FaultsAsBytes, GivesText, IsTextFault, FaultsAsText, HasOneReading}
-use Rattle.rlp.specs.Views.Text.{error_name}
-use Rattle.rlp.specs.Views.View.{View, HoldsString, view_string}
-use Rattle.rlp.specs.Lemmas.Digits.{big_endian_is, big_endian_first, big_endian_zero, pow-bytes, digits_fit, digits_again, none_is_zero}
-use Rattle.rlp.specs.Lemmas.Reading.{Bytes}
+use Rattle.rlp_format.specs.Views.Text.{error_name}
+use Rattle.rlp_format.specs.Views.View.{View, HoldsString, view_string}
+use Rattle.rlp_format.specs.Lemmas.Digits.{big_endian_is, big_endian_first, big_endian_zero, pow-bytes, digits_fit, digits_again, none_is_zero}
+use Rattle.rlp_format.specs.Lemmas.Reading.{Bytes}
 use Rattle.rlp.specs.Lemmas.Held.{ReadsHeld, held_begins, held_read, held_reads, same_held}
 
 -- ---- what a string holds are bytes

@@ -2,19 +2,19 @@
 use Rattle.std.proofs.Common.{◌≡◌, ℕ, zero, suc, ◌^◌, ◌<◌, ◌≤◌, List, [], ◌∷◌, ◌++◌, length, map, ap, subst, arith, length-append, append_assoc, Some, Ok, Err, Result, le_refl}
 use Rattle.std.specs.List.{concat, slice_get}
 use Rattle.std.proofs.lemmas.List.Elements.{All-from_recursion, recursion_from_All}
-use Rattle.rlp.specs.declared.error.DecoderError.{DecoderError}
-use Rattle.rlp.specs.declared.rlpin.header.PayloadInfo.{PayloadInfo}
-use Rattle.rlp.specs.Format.Split.{split, split_within, items, payload, begins_as_list, payload_in}
-use Rattle.rlp.specs.Format.Framing.{value, framing, map_ok}
-use Rattle.rlp.specs.Format.WrittenHeader.{AreBytes}
-use Rattle.rlp.specs.Views.View.{View, item_at, item_views}
+use Rattle.rlp_format.specs.declared.error.DecoderError.{DecoderError}
+use Rattle.rlp_format.specs.declared.header.PayloadInfo.{PayloadInfo}
+use Rattle.rlp_format.specs.Format.Split.{split, split_within, items, payload, begins_as_list, payload_in}
+use Rattle.rlp_format.specs.Format.Framing.{value, framing, map_ok}
+use Rattle.rlp_format.specs.Format.WrittenHeader.{AreBytes}
+use Rattle.rlp_format.specs.Views.View.{View, item_at, item_views}
 use Rattle.std.proofs.Common.{Bool, true, false, take, drop, length-drop}
 use Rattle.std.proofs.lemmas.List.{length-take}
 use Rattle.rlp.specs.Lemmas.OneReading.{front_bytes, back_bytes}
-use Rattle.rlp.specs.Lemmas.Reading.{Bytes}
-use Rattle.rlp.specs.Lemmas.Frames.{walk}
-use Rattle.rlp.specs.Lemmas.Views.{payload_bytes}
-use Rattle.rlp.specs.Lemmas.Numbered.{item_at-slice_get}
+use Rattle.rlp_format.specs.Lemmas.Reading.{Bytes}
+use Rattle.rlp_format.specs.Lemmas.Frames.{walk}
+use Rattle.rlp_format.specs.Lemmas.Views.{payload_bytes}
+use Rattle.rlp_format.specs.Lemmas.Numbered.{item_at-slice_get}
 
 part : (whole_view : View) (n : ℕ) (fs : List (List ℕ)) (left : List ℕ) (i : ℕ) (v : View) → Bytes (concat fs ++ left) → length (concat fs ++ left) ≤ n → slice_get (map (λ b. record whole_view { bytes = b }) fs) i ≡ Some v → Bytes v.bytes × (length v.bytes ≤ n)
 part whole_view n [] left i v bytes short got = absurd (let no : ⊥ = cc in no)

@@ -1,14 +1,15 @@
 -- Structs that are lists of their fields: their encodings are read back, and the rules for bodies that read them.
 use Rattle.std.proofs.Common.{◌≡◌, ◌↔◌, ℕ, zero, suc, ◌+◌, ◌^◌, ◌<◌, ◌⊎◌, inl, inr, List, [], ◌∷◌, ◌++◌, length, sym, ap, ◌∙◌, subst, arith, append_assoc, length-append, Ok, ◌≢◌}
-use Rattle.rlp.specs.declared.error.DecoderError.{DecoderError}
-use Rattle.rlp.specs.declared.error.DecoderError.TheVariants.{OutOfMemory, RlpIncorrectListLen}
-use Rattle.rlp.specs.Format.Item.{Item, list_of, items_from, listed}
-use Rattle.rlp.specs.Format.Encoding.{BeginsWith, encoding, join, IsSized}
-use Rattle.rlp.specs.Views.View.{View, view_of, item_at, item_count}
+use Rattle.rlp_format.specs.declared.error.DecoderError.{DecoderError}
+use Rattle.rlp_format.specs.declared.error.DecoderError.TheVariants.{OutOfMemory, RlpIncorrectListLen}
+use Rattle.rlp_format.specs.Format.Item.{Item, list_of, items_from, listed}
+use Rattle.rlp_format.specs.Format.Encoding.{BeginsWith, encoding, join, IsSized}
+use Rattle.rlp_format.specs.Views.View.{View, view_of, item_at, item_count}
 use Rattle.rlp.specs.Values.ListReading.{FaultsAsFields, no_fields, other_count, faulty_field, FaultsAt, FaultsInField, in_field, GivesAt, GivesBefore, MayLackAsStruct, MayLackAt}
+use Rattle.rlp.specs.Values.FieldPlace.{FieldPlace, field_place}
 use Rattle.rlp.specs.Values.RoundTrip.{ReadsBack}
-use Rattle.rlp.specs.Lemmas.Encodings.{encoding_list, small_payload, front_sized, listed_from}
-use Rattle.rlp.specs.Lemmas.Numbered.{item_count-list, item_at-list_item}
+use Rattle.rlp_format.specs.Lemmas.Encodings.{encoding_list, small_payload, front_sized, listed_from}
+use Rattle.rlp_format.specs.Lemmas.Numbered.{item_count-list, item_at-list_item}
 use Rattle.rlp.specs.Lemmas.ListRoundTrips.{AlwaysReadsBack, item_reads_back, middle_sized}
 
 -- equal lists have the same first item, and the same others
@@ -193,3 +194,89 @@ count_off n m IsFaulty v is other = other_count m (sym is) other
 
 -- for bodies that read the fields of a struct, up to seventeen
 pub ruleset struct_fields = (no_fields, count_off, field_0, field_1, field_2, field_3, field_4, field_5, field_6, field_7, field_8, field_9, field_10, field_11, field_12, field_13, field_14, field_15, field_16)
+
+-- a view that isn't a list of so many items is faulty
+pub fields_off : (n : ℕ) (IsFaulty : View → DecoderError → Type 0) (v : View) (e : DecoderError) → FaultsAsFields n (λ _ _. ⊥) v e → FaultsAsFields n IsFaulty v e
+fields_off n IsFaulty v e (no_fields f none) = no_fields f none
+fields_off n IsFaulty v e (other_count m is other) = other_count m is other
+fields_off n IsFaulty v e (faulty_field f is bad) = absurd bad
+
+-- a reader's places, one after another: each of the first k was read, and gave a value of its field
+module _ (count : ℕ) (some : ℕ → ℕ → View → Type 0) (faults : ℕ → View → DecoderError → Type 0) (may_lack : ℕ → View → Type 0) (v : View) (e : DecoderError) where
+  -- the fact, where each of the first k places was read by one that is now at (w, i)
+  abbrev pub WhereRead : ℕ → View → ℕ → Type 0 → Type 0
+  WhereRead zero w i Fact = record { view = w; place = i } ≡ field_place v 0 → Fact
+  WhereRead (suc k) w i Fact = (x : View) (j : ℕ) → record { view = w; place = i } ≡ field_place x (j + 1) → some k j x → WhereRead k x j Fact
+
+  where_read : (k : ℕ) (w : View) (i : ℕ) (Fact : Type 0) → (w ≡ v → i ≡ k → GivesBefore some v k → Fact) → WhereRead k w i Fact
+  where_read zero w i Fact from = λ at. from (ap (λ (f : FieldPlace). f.view) at) (ap (λ (f : FieldPlace). f.place) at) tt
+  where_read (suc k) w i Fact from = λ x j at given. where_read k x j Fact (λ same here before.
+      let view_is : w ≡ v = ap (λ (f : FieldPlace). f.view) at ∙ same in
+      let place_is : i ≡ suc k = ap (λ (f : FieldPlace). f.place) at ∙ (let next : j + 1 ≡ suc k = omega (arith, here) in next) in
+      from view_is place_is (before, subst (λ n. some k n v) here (subst (λ u. some k j u) same given)))
+
+  -- the fault of the next field is one of the struct
+  abbrev pub NextFails : ℕ → Type 0
+  NextFails k = (w : View) (i : ℕ) → FaultsAt (faults k) w i e ⊎ ((e ≡ OutOfMemory) × MayLackAt (may_lack k) w i) → item_count v ≡ Ok count → k < count
+      → WhereRead k w i (StructFails count some faults may_lack v e)
+
+  next_by : (k : ℕ) → NextFails k
+  next_by k w i fails many few = where_read k w i (StructFails count some faults may_lack v e) (λ same here before.
+      field_fails count some faults may_lack v e k
+      (subst (λ n. FaultsAt (faults k) v n e ⊎ ((e ≡ OutOfMemory) × MayLackAt (may_lack k) v n)) here (subst (λ u. FaultsAt (faults k) u i e ⊎ ((e ≡ OutOfMemory) × MayLackAt (may_lack k) u i)) same fails))
+      many few before)
+
+  -- each of the first seventeen fields, as a rule of its own
+  pub next_0 : NextFails 0
+  next_0 = next_by 0
+
+  pub next_1 : NextFails 1
+  next_1 = next_by 1
+
+  pub next_2 : NextFails 2
+  next_2 = next_by 2
+
+  pub next_3 : NextFails 3
+  next_3 = next_by 3
+
+  pub next_4 : NextFails 4
+  next_4 = next_by 4
+
+  pub next_5 : NextFails 5
+  next_5 = next_by 5
+
+  pub next_6 : NextFails 6
+  next_6 = next_by 6
+
+  pub next_7 : NextFails 7
+  next_7 = next_by 7
+
+  pub next_8 : NextFails 8
+  next_8 = next_by 8
+
+  pub next_9 : NextFails 9
+  next_9 = next_by 9
+
+  pub next_10 : NextFails 10
+  next_10 = next_by 10
+
+  pub next_11 : NextFails 11
+  next_11 = next_by 11
+
+  pub next_12 : NextFails 12
+  next_12 = next_by 12
+
+  pub next_13 : NextFails 13
+  next_13 = next_by 13
+
+  pub next_14 : NextFails 14
+  next_14 = next_by 14
+
+  pub next_15 : NextFails 15
+  next_15 = next_by 15
+
+  pub next_16 : NextFails 16
+  next_16 = next_by 16
+
+-- for bodies that read the fields of a struct in order, up to seventeen
+pub ruleset struct_in_order = (fields_off, next_0, next_1, next_2, next_3, next_4, next_5, next_6, next_7, next_8, next_9, next_10, next_11, next_12, next_13, next_14, next_15, next_16)

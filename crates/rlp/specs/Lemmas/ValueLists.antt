@@ -2,15 +2,15 @@
 use Rattle.std.proofs.Common.{◌≡◌, ℕ, ◌^◌, ◌<◌, List, [], ◌∷◌, ◌++◌, length, map, subst, sym, ◌∙◌, ap, refl, arith, append-nil, length-append}
 use Rattle.std.specs.List.{All, AllByRecursion}
 use Rattle.std.proofs.lemmas.List.Elements.{All-from_recursion, recursion_from_All}
-use Rattle.rlp.specs.declared.error.DecoderError.{DecoderError}
-use Rattle.rlp.specs.Format.Item.{Item, list_of}
-use Rattle.rlp.specs.Format.Encoding.{encoding, join, IsSized}
-use Rattle.rlp.specs.Views.View.{View, view_of, item_views}
+use Rattle.rlp_format.specs.declared.error.DecoderError.{DecoderError}
+use Rattle.rlp_format.specs.Format.Item.{Item, list_of}
+use Rattle.rlp_format.specs.Format.Encoding.{encoding, join, IsSized}
+use Rattle.rlp_format.specs.Views.View.{View, view_of, item_views}
 use Rattle.rlp.specs.Values.ListReading.{GivesEach, GivesList, FaultsAsList, not_list, faulty_in_list}
 use Rattle.rlp.specs.Values.RoundTrip.{ReadsBack}
-use Rattle.rlp.specs.Lemmas.Encodings.{encoding_list, front_sized, small_payload}
+use Rattle.rlp_format.specs.Lemmas.Encodings.{encoding_list, front_sized, small_payload}
 use Rattle.std.proofs.lemmas.Simd.{map-map}
-use Rattle.rlp.specs.Lemmas.Numbered.{item_views-list}
+use Rattle.rlp_format.specs.Lemmas.Numbered.{item_views-list}
 use Rattle.rlp.specs.Lemmas.ListRoundTrips.{AlwaysReadsBack}
 use Rattle.rlp.specs.Lemmas.Structs.{cons_same, list_same}
 

@@ -1,8 +1,8 @@
 -- Which values the items of a list give, and what is answered of an item by its number.
 use Rattle.std.specs.Prelude.{◌≡◌, ◌≢◌, ◌++◌, ◌∷◌, ◌⊎◌, ◌<◌, ℕ, zero, suc, List, [], Option, Some, None, Result, Ok, Err, MatchResult, IsOkAnd}
-use Rattle.rlp.specs.declared.error.DecoderError.{DecoderError}
-use Rattle.rlp.specs.declared.error.DecoderError.TheVariants.{OutOfMemory, RlpIncorrectListLen}
-use Rattle.rlp.specs.Views.View.{View, item_at, item_count, item_views, list_fault}
+use Rattle.rlp_format.specs.declared.error.DecoderError.{DecoderError}
+use Rattle.rlp_format.specs.declared.error.DecoderError.TheVariants.{OutOfMemory, RlpIncorrectListLen}
+use Rattle.rlp_format.specs.Views.View.{View, item_at, item_count, item_views, list_fault}
 use Rattle.rlp.specs.Values.ValueReading.{GivesSome}
 
 -- there are as many values as views, and each view gives the value in its place

@@ -1,10 +1,10 @@
 -- What types promise of reading the encodings of their values.
 use Rattle.std.specs.Prelude.{◌≡◌, ◌↔◌, ℕ, List}
-use Rattle.rlp.specs.declared.error.DecoderError.{DecoderError}
-use Rattle.rlp.specs.Format.Item.{Item}
-use Rattle.rlp.specs.Values.Value.{AreAlike}
-use Rattle.rlp.specs.Format.Encoding.{encoding}
-use Rattle.rlp.specs.Views.View.{View, strict_view_of}
+use Rattle.rlp_format.specs.declared.error.DecoderError.{DecoderError}
+use Rattle.rlp_format.specs.Format.Item.{Item}
+use Rattle.rlp_format.specs.Values.Value.{AreAlike}
+use Rattle.rlp_format.specs.Format.Encoding.{encoding}
+use Rattle.rlp_format.specs.Views.View.{View, strict_view_of}
 
 -- A view reads a value back: it gives the values that fit and are alike to it, and no others, and has no fault.
 pub record ReadsBack {A : Type 0} (Fits : A → Type 0) (item : A → Item) (gives : View → A → Type 0) (faults : View → DecoderError → Type 0) (view : View) (v : A) : Type 0 where

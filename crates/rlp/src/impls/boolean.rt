@@ -1,24 +1,9 @@
 //! Truth values: the numbers 0 and 1.
 
-use crate::error::DecoderError;
 use crate::rlpin::Rlp;
-use crate::stream::RlpStream;
-use crate::traits::{Decodable, Encodable, RoundTrip, Scalar, StrictRead};
-use std::alloc::{AllocError, Global};
-
-impl Encodable for bool {
-    ghost use Rattle.std.specs.Prelude.{⊤};
-    ghost use Rattle.rlp.specs.Values.Value.{bit, number_item};
-
-    ghost item = { λ b. number_item (bit b) };
-
-    ghost fits = { λ b. ⊤ };
-
-    fn rlp_append(&self, s: &mut RlpStream) -> Result<(), AllocError> {
-        let number: u64 = if *self { 1 } else { 0 };
-        number.rlp_append(s)
-    }
-}
+use crate::traits::{Decodable, RoundTrip, Scalar, StrictRead};
+use rlp_format::error::DecoderError;
+use std::alloc::Global;
 
 /// The number 0 or 1 of one byte; another one is `Custom("invalid boolean value")`. No memory is
 /// taken.

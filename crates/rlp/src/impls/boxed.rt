@@ -1,20 +1,9 @@
 //! Boxes: the item of what they hold.
 
-use crate::error::DecoderError;
 use crate::rlpin::Rlp;
-use crate::stream::RlpStream;
-use crate::traits::{Decodable, Encodable, RoundTrip, Scalar, StrictRead};
-use std::alloc::{AllocError, Global};
-
-impl<T: Encodable> Encodable for Box<T> {
-    ghost item = { λ b. T.item b.value };
-
-    ghost fits = { λ b. T.fits b.value };
-
-    fn rlp_append(&self, s: &mut RlpStream) -> Result<(), AllocError> {
-        T::rlp_append(self, s)
-    }
-}
+use crate::traits::{Decodable, RoundTrip, Scalar, StrictRead};
+use rlp_format::error::DecoderError;
+use std::alloc::Global;
 
 /// What its type reads, in a box.
 impl<T: Decodable> Decodable for Box<T> {

@@ -1,38 +1,9 @@
 //! Byte strings: the string of the bytes.
 
-use crate::error::DecoderError;
 use crate::rlpin::Rlp;
-use crate::stream::RlpStream;
-use crate::traits::{Decodable, Encodable, RoundTrip, Scalar, StrictRead};
-use std::alloc::{AllocError, Global};
-
-impl Encodable for Vec<u8> {
-    ghost use Rattle.std.specs.Prelude.{⊤};
-    ghost use Rattle.rlp.specs.Format.Item.{string};
-
-    ghost item = { λ v. string v.items };
-
-    ghost fits = { λ v. ⊤ };
-
-    #[tactic(auto, using(crate::proofs::Growth::growth))]
-    fn rlp_append(&self, s: &mut RlpStream) -> Result<(), AllocError> {
-        s.encoder().encode_value(self.as_slice())
-    }
-}
-
-impl Encodable for &[u8] {
-    ghost use Rattle.std.specs.Prelude.{⊤};
-    ghost use Rattle.rlp.specs.Format.Item.{string};
-
-    ghost item = { λ v. string v.now };
-
-    ghost fits = { λ v. ⊤ };
-
-    #[tactic(auto, using(crate::proofs::Growth::growth))]
-    fn rlp_append(&self, s: &mut RlpStream) -> Result<(), AllocError> {
-        s.encoder().encode_value(self)
-    }
-}
+use crate::traits::{Decodable, RoundTrip, Scalar, StrictRead};
+use rlp_format::error::DecoderError;
+use std::alloc::Global;
 
 /// The bytes of a string, by one copy.
 impl Decodable for Vec<u8> {
@@ -63,7 +34,7 @@ impl RoundTrip for Vec<u8> {
 impl Scalar for Vec<u8> {
     ghost use Rattle.std.specs.Prelude.{⊤};
     ghost use Rattle.std.specs.Vec.{vec_items};
-    ghost use Rattle.rlp.specs.Format.Item.{string};
+    ghost use Rattle.rlp_format.specs.Format.Item.{string};
     ghost use Rattle.rlp.specs.Lemmas.RoundTrips.{given_through};
 
     ghost exact = { given_through (λ d. ⊤) string vec_items };

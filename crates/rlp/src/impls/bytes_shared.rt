@@ -1,25 +1,10 @@
 //! Buffers that are shared with no copy: the string of the bytes.
 
-use crate::error::DecoderError;
 use crate::rlpin::Rlp;
-use crate::stream::RlpStream;
-use crate::traits::{Decodable, Encodable, RoundTrip, Scalar, StrictRead};
+use crate::traits::{Decodable, RoundTrip, Scalar, StrictRead};
 use bytes::Bytes;
-use std::alloc::{AllocError, Global};
-
-impl Encodable for Bytes {
-    ghost use Rattle.std.specs.Prelude.{⊤};
-    ghost use Rattle.rlp.specs.Format.Item.{string};
-
-    ghost item = { λ v. string v };
-
-    ghost fits = { λ v. ⊤ };
-
-    #[tactic(auto, using(crate::proofs::Growth::growth))]
-    fn rlp_append(&self, s: &mut RlpStream) -> Result<(), AllocError> {
-        s.encoder().encode_value(self.as_slice())
-    }
-}
+use rlp_format::error::DecoderError;
+use std::alloc::Global;
 
 /// The bytes of a string, by one copy, as a buffer that is shared with no copy.
 impl Decodable for Bytes {
@@ -48,7 +33,7 @@ impl RoundTrip for Bytes {
 
 impl Scalar for Bytes {
     ghost use Rattle.std.specs.Prelude.{⊤};
-    ghost use Rattle.rlp.specs.Format.Item.{string};
+    ghost use Rattle.rlp_format.specs.Format.Item.{string};
     ghost use Rattle.rlp.specs.Lemmas.RoundTrips.{given_through};
 
     ghost exact = { given_through (λ d. ⊤) string (λ (b : Self). b) };

@@ -2,28 +2,15 @@
 
 ghost use Rattle.std.specs.Prelude.{◌≡◌, ◌≤◌, ◌<◌, length, Ok, Err, IfOk, IfErr};
 ghost use Rattle.std.specs.Int.Digits.{number_from_digits};
-ghost use Rattle.rlp.specs.Format.WrittenHeader.{big_endian};
-ghost use Rattle.rlp.specs.Values.Value.{FitsBytes};
+ghost use Rattle.rlp_format.specs.Format.WrittenHeader.{big_endian};
+ghost use Rattle.rlp_format.specs.Values.Value.{FitsBytes};
 ghost use Rattle.rlp.specs.Values.ValueReading.{IsDigitsFault, GivesNumber, FaultsAsNumber};
 
-use crate::digits::{Digits, number_of, wide_number_of};
-use crate::error::DecoderError;
 use crate::rlpin::Rlp;
-use crate::stream::RlpStream;
-use crate::traits::{Decodable, Encodable, RoundTrip, Scalar, StrictRead};
-use std::alloc::{AllocError, Global};
-
-impl Encodable for u8 {
-    ghost use Rattle.rlp.specs.Values.Value.{number_item, FitsBytes};
-
-    ghost item = { λ v. number_item v };
-
-    ghost fits = { λ v. FitsBytes 1 v };
-
-    fn rlp_append(&self, s: &mut RlpStream) -> Result<(), AllocError> {
-        (*self as u64).rlp_append(s)
-    }
-}
+use crate::traits::{Decodable, RoundTrip, Scalar, StrictRead};
+use rlp_format::digits::{number_of, wide_number_of};
+use rlp_format::error::DecoderError;
+use std::alloc::Global;
 
 /// A number of one byte, read as `u64` is.
 impl Decodable for u8 {
@@ -40,36 +27,6 @@ impl Decodable for u8 {
             Ok(digits) => Ok(number_of(digits) as u8),
             Err(fault) => Err(fault),
         }
-    }
-}
-
-impl RoundTrip for u8 {
-    ghost use Rattle.rlp.specs.Lemmas.RoundTrips.{number_reads_back};
-
-    ghost round_trip = { number_reads_back 1 };
-}
-
-impl Scalar for u8 {
-    ghost use Rattle.rlp.specs.Lemmas.RoundTrips.{itself};
-
-    ghost exact = { λ b v. itself };
-}
-
-impl StrictRead for u8 {
-    ghost use Rattle.rlp.specs.Lemmas.StrictReads.{number_strict};
-
-    ghost strict = { number_strict 1 };
-}
-
-impl Encodable for u16 {
-    ghost use Rattle.rlp.specs.Values.Value.{number_item, FitsBytes};
-
-    ghost item = { λ v. number_item v };
-
-    ghost fits = { λ v. FitsBytes 2 v };
-
-    fn rlp_append(&self, s: &mut RlpStream) -> Result<(), AllocError> {
-        (*self as u64).rlp_append(s)
     }
 }
 
@@ -91,36 +48,6 @@ impl Decodable for u16 {
     }
 }
 
-impl RoundTrip for u16 {
-    ghost use Rattle.rlp.specs.Lemmas.RoundTrips.{number_reads_back};
-
-    ghost round_trip = { number_reads_back 2 };
-}
-
-impl Scalar for u16 {
-    ghost use Rattle.rlp.specs.Lemmas.RoundTrips.{itself};
-
-    ghost exact = { λ b v. itself };
-}
-
-impl StrictRead for u16 {
-    ghost use Rattle.rlp.specs.Lemmas.StrictReads.{number_strict};
-
-    ghost strict = { number_strict 2 };
-}
-
-impl Encodable for u32 {
-    ghost use Rattle.rlp.specs.Values.Value.{number_item, FitsBytes};
-
-    ghost item = { λ v. number_item v };
-
-    ghost fits = { λ v. FitsBytes 4 v };
-
-    fn rlp_append(&self, s: &mut RlpStream) -> Result<(), AllocError> {
-        (*self as u64).rlp_append(s)
-    }
-}
-
 /// A number of four bytes, read as `u64` is.
 impl Decodable for u32 {
     ghost use Rattle.rlp.specs.Values.ValueReading.{GivesNumber, FaultsAsNumber};
@@ -136,37 +63,6 @@ impl Decodable for u32 {
             Ok(digits) => Ok(number_of(digits) as u32),
             Err(fault) => Err(fault),
         }
-    }
-}
-
-impl RoundTrip for u32 {
-    ghost use Rattle.rlp.specs.Lemmas.RoundTrips.{number_reads_back};
-
-    ghost round_trip = { number_reads_back 4 };
-}
-
-impl Scalar for u32 {
-    ghost use Rattle.rlp.specs.Lemmas.RoundTrips.{itself};
-
-    ghost exact = { λ b v. itself };
-}
-
-impl StrictRead for u32 {
-    ghost use Rattle.rlp.specs.Lemmas.StrictReads.{number_strict};
-
-    ghost strict = { number_strict 4 };
-}
-
-impl Encodable for u64 {
-    ghost use Rattle.rlp.specs.Values.Value.{number_item, FitsBytes};
-
-    ghost item = { λ v. number_item v };
-
-    ghost fits = { λ v. FitsBytes 8 v };
-
-    #[tactic(auto, using(crate::proofs::Growth::growth))]
-    fn rlp_append(&self, s: &mut RlpStream) -> Result<(), AllocError> {
-        s.encoder().encode_value(Digits::of(*self).as_slice())
     }
 }
 
@@ -191,36 +87,6 @@ impl Decodable for u64 {
     }
 }
 
-impl RoundTrip for u64 {
-    ghost use Rattle.rlp.specs.Lemmas.RoundTrips.{number_reads_back};
-
-    ghost round_trip = { number_reads_back 8 };
-}
-
-impl Scalar for u64 {
-    ghost use Rattle.rlp.specs.Lemmas.RoundTrips.{itself};
-
-    ghost exact = { λ b v. itself };
-}
-
-impl StrictRead for u64 {
-    ghost use Rattle.rlp.specs.Lemmas.StrictReads.{number_strict};
-
-    ghost strict = { number_strict 8 };
-}
-
-impl Encodable for usize {
-    ghost use Rattle.rlp.specs.Values.Value.{number_item, FitsBytes};
-
-    ghost item = { λ v. number_item v };
-
-    ghost fits = { λ v. FitsBytes 8 v };
-
-    fn rlp_append(&self, s: &mut RlpStream) -> Result<(), AllocError> {
-        (*self as u64).rlp_append(s)
-    }
-}
-
 /// As `u64`.
 impl Decodable for usize {
     ghost use Rattle.rlp.specs.Values.ValueReading.{GivesNumber, FaultsAsNumber};
@@ -236,37 +102,6 @@ impl Decodable for usize {
             Ok(digits) => Ok(number_of(digits)),
             Err(fault) => Err(fault),
         }
-    }
-}
-
-impl RoundTrip for usize {
-    ghost use Rattle.rlp.specs.Lemmas.RoundTrips.{number_reads_back};
-
-    ghost round_trip = { number_reads_back 8 };
-}
-
-impl Scalar for usize {
-    ghost use Rattle.rlp.specs.Lemmas.RoundTrips.{itself};
-
-    ghost exact = { λ b v. itself };
-}
-
-impl StrictRead for usize {
-    ghost use Rattle.rlp.specs.Lemmas.StrictReads.{number_strict};
-
-    ghost strict = { number_strict 8 };
-}
-
-impl Encodable for u128 {
-    ghost use Rattle.rlp.specs.Values.Value.{number_item, FitsBytes};
-
-    ghost item = { λ v. number_item v };
-
-    ghost fits = { λ v. FitsBytes 16 v };
-
-    #[tactic(auto, using(crate::proofs::Growth::growth))]
-    fn rlp_append(&self, s: &mut RlpStream) -> Result<(), AllocError> {
-        s.encoder().encode_value(Digits::of_wide(*self).as_slice())
     }
 }
 
@@ -286,24 +121,6 @@ impl Decodable for u128 {
             Err(fault) => Err(fault),
         }
     }
-}
-
-impl RoundTrip for u128 {
-    ghost use Rattle.rlp.specs.Lemmas.RoundTrips.{number_reads_back};
-
-    ghost round_trip = { number_reads_back 16 };
-}
-
-impl Scalar for u128 {
-    ghost use Rattle.rlp.specs.Lemmas.RoundTrips.{itself};
-
-    ghost exact = { λ b v. itself };
-}
-
-impl StrictRead for u128 {
-    ghost use Rattle.rlp.specs.Lemmas.StrictReads.{number_strict};
-
-    ghost strict = { number_strict 16 };
 }
 
 /// The digits of the number of at most `width` bytes that the view begins with.
@@ -344,4 +161,112 @@ fn check_digits(digits: &[u8], width: usize) -> Result<(), DecoderError>
             Ok(())
         }
     }
+}
+
+impl RoundTrip for u8 {
+    ghost use Rattle.rlp.specs.Lemmas.RoundTrips.{number_reads_back};
+
+    ghost round_trip = { number_reads_back 1 };
+}
+
+impl Scalar for u8 {
+    ghost use Rattle.rlp.specs.Lemmas.RoundTrips.{itself};
+
+    ghost exact = { λ b v. itself };
+}
+
+impl StrictRead for u8 {
+    ghost use Rattle.rlp.specs.Lemmas.StrictReads.{number_strict};
+
+    ghost strict = { number_strict 1 };
+}
+
+impl RoundTrip for u16 {
+    ghost use Rattle.rlp.specs.Lemmas.RoundTrips.{number_reads_back};
+
+    ghost round_trip = { number_reads_back 2 };
+}
+
+impl Scalar for u16 {
+    ghost use Rattle.rlp.specs.Lemmas.RoundTrips.{itself};
+
+    ghost exact = { λ b v. itself };
+}
+
+impl StrictRead for u16 {
+    ghost use Rattle.rlp.specs.Lemmas.StrictReads.{number_strict};
+
+    ghost strict = { number_strict 2 };
+}
+
+impl RoundTrip for u32 {
+    ghost use Rattle.rlp.specs.Lemmas.RoundTrips.{number_reads_back};
+
+    ghost round_trip = { number_reads_back 4 };
+}
+
+impl Scalar for u32 {
+    ghost use Rattle.rlp.specs.Lemmas.RoundTrips.{itself};
+
+    ghost exact = { λ b v. itself };
+}
+
+impl StrictRead for u32 {
+    ghost use Rattle.rlp.specs.Lemmas.StrictReads.{number_strict};
+
+    ghost strict = { number_strict 4 };
+}
+
+impl RoundTrip for u64 {
+    ghost use Rattle.rlp.specs.Lemmas.RoundTrips.{number_reads_back};
+
+    ghost round_trip = { number_reads_back 8 };
+}
+
+impl Scalar for u64 {
+    ghost use Rattle.rlp.specs.Lemmas.RoundTrips.{itself};
+
+    ghost exact = { λ b v. itself };
+}
+
+impl StrictRead for u64 {
+    ghost use Rattle.rlp.specs.Lemmas.StrictReads.{number_strict};
+
+    ghost strict = { number_strict 8 };
+}
+
+impl RoundTrip for usize {
+    ghost use Rattle.rlp.specs.Lemmas.RoundTrips.{number_reads_back};
+
+    ghost round_trip = { number_reads_back 8 };
+}
+
+impl Scalar for usize {
+    ghost use Rattle.rlp.specs.Lemmas.RoundTrips.{itself};
+
+    ghost exact = { λ b v. itself };
+}
+
+impl StrictRead for usize {
+    ghost use Rattle.rlp.specs.Lemmas.StrictReads.{number_strict};
+
+    ghost strict = { number_strict 8 };
+}
+
+impl RoundTrip for u128 {
+    ghost use Rattle.rlp.specs.Lemmas.RoundTrips.{number_reads_back};
+
+    ghost round_trip = { number_reads_back 16 };
+}
+
+impl Scalar for u128 {
+    ghost use Rattle.rlp.specs.Lemmas.RoundTrips.{itself};
+
+    ghost exact = { λ b v. itself };
+}
+
+impl StrictRead for u128 {
+    ghost use Rattle.rlp.specs.Lemmas.StrictReads.{number_strict};
+
+    ghost strict = { number_strict 16 };
 }

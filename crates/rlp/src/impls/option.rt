@@ -1,33 +1,11 @@
 //! Options: the list of no items, or of one.
 
-ghost use Rattle.std.specs.Prelude.{IfSome};
-ghost use Rattle.rlp.specs.Values.Value.{option_item};
 ghost use Rattle.rlp.specs.Values.ListReading.{GivesOption, FaultsAsOption, MayLackAsOption};
 
-use crate::error::DecoderError;
 use crate::rlpin::Rlp;
-use crate::stream::RlpStream;
-use crate::traits::{Decodable, Encodable, RoundTrip, StrictRead};
-use std::alloc::{AllocError, Global};
-
-impl<T: Encodable> Encodable for Option<T> {
-    ghost item = { λ o. option_item T.item o };
-
-    ghost fits = { λ o. IfSome o T.fits };
-
-    #[tactic(auto, using(crate::proofs::Growth::growth))]
-    fn rlp_append(&self, s: &mut RlpStream) -> Result<(), AllocError> {
-        match self {
-            None => {
-                s.begin_list(0)?;
-            }
-            Some(value) => {
-                s.begin_list(1)?.append(value)?;
-            }
-        }
-        Ok(())
-    }
-}
+use crate::traits::{Decodable, RoundTrip, StrictRead};
+use rlp_format::error::DecoderError;
+use std::alloc::Global;
 
 /// `None` of a list of no items, and of a list of one item its value. It looks at two items at most.
 ///
@@ -43,10 +21,11 @@ impl<T: Decodable> Decodable for Option<T> {
     #[tactic(auto, using(crate::proofs::Options::option_answers))]
     fn decode(alloc: Global, rlp: &Rlp<'_>) -> Result<Option<T>, DecoderError> {
         rlp.check_items()?;
-        let Ok(item) = rlp.at(0) else {
+        let mut items = rlp.iter();
+        let Some(item) = items.next() else {
             return Ok(None);
         };
-        if let Ok(_) = rlp.at(1) {
+        if let Some(_) = items.next() {
             return Err(DecoderError::RlpIncorrectListLen);
         }
         match item.as_val(alloc) {

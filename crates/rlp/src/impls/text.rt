@@ -1,39 +1,9 @@
 //! Text: the string of its bytes in UTF-8.
 
-use crate::error::DecoderError;
 use crate::rlpin::Rlp;
-use crate::stream::RlpStream;
-use crate::traits::{Decodable, Encodable, RoundTrip, Scalar, StrictRead};
-use std::alloc::{AllocError, Global};
-
-impl Encodable for String {
-    ghost use Rattle.std.specs.Prelude.{IsUtf8};
-    ghost use Rattle.std.specs.String.{string_bytes};
-    ghost use Rattle.rlp.specs.Format.Item.{string};
-
-    ghost item = { λ v. string (string_bytes v) };
-
-    ghost fits = { λ v. IsUtf8 (string_bytes v) };
-
-    #[tactic(auto, using(crate::proofs::Growth::growth))]
-    fn rlp_append(&self, s: &mut RlpStream) -> Result<(), AllocError> {
-        s.encoder().encode_value(self.as_str().as_bytes())
-    }
-}
-
-impl Encodable for &str {
-    ghost use Rattle.std.specs.Prelude.{IsUtf8};
-    ghost use Rattle.rlp.specs.Format.Item.{string};
-
-    ghost item = { λ v. string v.now };
-
-    ghost fits = { λ v. IsUtf8 v.now };
-
-    #[tactic(auto, using(crate::proofs::Growth::growth))]
-    fn rlp_append(&self, s: &mut RlpStream) -> Result<(), AllocError> {
-        s.encoder().encode_value(self.as_bytes())
-    }
-}
+use crate::traits::{Decodable, RoundTrip, Scalar, StrictRead};
+use rlp_format::error::DecoderError;
+use std::alloc::Global;
 
 /// The text of a string, by one copy. Bytes that aren't UTF-8 are `RlpExpectedToBeData`.
 impl Decodable for String {
@@ -69,7 +39,7 @@ impl RoundTrip for String {
 impl Scalar for String {
     ghost use Rattle.std.specs.Prelude.{IsUtf8};
     ghost use Rattle.std.specs.String.{string_bytes};
-    ghost use Rattle.rlp.specs.Format.Item.{string};
+    ghost use Rattle.rlp_format.specs.Format.Item.{string};
     ghost use Rattle.rlp.specs.Lemmas.RoundTrips.{given_through};
 
     ghost exact = { given_through IsUtf8 string string_bytes };

@@ -1,11 +1,11 @@
 //! Laws over the items that a stream's calls describe.
 
 ghost use Rattle.std.specs.Prelude.{◌≡◌, ℕ, Bool, List, [], All, IsTrue, Ok, ◌++◌, ◌↔◌};
-ghost use Rattle.rlp.specs.Format.Item.{Item};
-ghost use Rattle.rlp.specs.Format.Encoding.{join, IsSized};
-ghost use Rattle.rlp.specs.Streams.Stack.{empty_stack};
-ghost use Rattle.rlp.specs.Streams.Stream.{State, initial_state};
-ghost use Rattle.rlp.specs.Streams.Calls.{Call, after};
+ghost use Rattle.rlp_format.specs.Format.Item.{Item};
+ghost use Rattle.rlp_format.specs.Format.Encoding.{join, IsSized};
+ghost use Rattle.rlp_buffer.specs.Streams.Stack.{empty_stack};
+ghost use Rattle.rlp_buffer.specs.Streams.Stream.{State, initial_state};
+ghost use Rattle.rlp_buffer.specs.Streams.Calls.{Call, after};
 ghost use Rattle.rlp.specs.Streams.Described.{Step, AreDescribed, AreDescribedWhere, IsDescribed, IsDescribedWhere, items_after_all, joined_stack, FinishAs};
 
 /// Calls that describe items are admitted, and each payload that they leave is the join of the

@@ -1,15 +1,16 @@
 //! What is read from the front of bytes: strings, numbers, byte strings and text.
 
 ghost use Rattle.std.specs.Prelude.{◌≡◌, ◌<◌, ◌^◌, ℕ, List, Ok, length};
-ghost use Rattle.rlp.specs.Format.Item.{string};
-ghost use Rattle.rlp.specs.Format.StringReading.{IsString, ReadsString, read_string};
+ghost use Rattle.rlp_format.specs.Format.Item.{string};
+ghost use Rattle.rlp_format.specs.Format.StringReading.{IsString, ReadsString, read_string};
 ghost use Rattle.rlp.specs.Values.ValueReading.{GivesNumber, FaultsAsNumber, GivesBytes, FaultsAsBytes, GivesText, FaultsAsText, GivesBool, FaultsAsBool, HasOneReading};
-ghost use Rattle.rlp.specs.Values.Value.{bit, number_item, option_item};
-ghost use Rattle.rlp.specs.Views.View.{View, view_of};
+ghost use Rattle.rlp_format.specs.Values.Value.{bit, number_item, option_item};
+ghost use Rattle.rlp_format.specs.Views.View.{View, view_of};
 ghost use Rattle.rlp.specs.Values.ListReading.{GivesOption, FaultsAsOption};
-ghost use Rattle.rlp.specs.Format.WrittenHeader.{AreBytes};
+ghost use Rattle.rlp_format.specs.Format.WrittenHeader.{AreBytes};
 
-use crate::traits::{Decodable, Encodable};
+use crate::traits::Decodable;
+use rlp_streams::Encodable;
 
 /// `read_string` gives the one string whose encoding stands at the front of the bytes, and where none
 /// stands there the fault of the first case that applies.

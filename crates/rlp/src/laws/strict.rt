@@ -2,22 +2,23 @@
 //! is.
 
 ghost use Rattle.std.specs.Prelude.{◌≡◌, ◌+◌, ◌<◌, ◌^◌, ◌↔◌, ℕ, List, All, if◌then◌else◌, length, Ok, Err, Some, None, IfErr, IfOk, IsOkAnd, map};
-ghost use Rattle.rlp.specs.declared.error.DecoderError.TheVariants.{OutOfMemory, RlpExpectedToBeList, RlpIsTooBig};
-ghost use Rattle.rlp.specs.Format.Encoding.{BeginsWith, encoding};
-ghost use Rattle.rlp.specs.Format.WrittenHeader.{AreBytes};
-ghost use Rattle.rlp.specs.Format.Header.{HasHeader};
-ghost use Rattle.rlp.specs.Format.Framing.{IsFramed, fault, framing, value};
-ghost use Rattle.rlp.specs.Format.Split.{begins_as_list, items};
-ghost use Rattle.rlp.specs.Format.StringReading.{read_string};
-ghost use Rattle.rlp.specs.Format.Strict.{IsCanonical, strict_fault};
-ghost use Rattle.rlp.specs.Format.Item.{Item, list_of, string};
+ghost use Rattle.rlp_format.specs.declared.error.DecoderError.TheVariants.{OutOfMemory, RlpExpectedToBeList, RlpIsTooBig};
+ghost use Rattle.rlp_format.specs.Format.Encoding.{BeginsWith, encoding};
+ghost use Rattle.rlp_format.specs.Format.WrittenHeader.{AreBytes};
+ghost use Rattle.rlp_format.specs.Format.Header.{HasHeader};
+ghost use Rattle.rlp_format.specs.Format.Framing.{IsFramed, fault, framing, value};
+ghost use Rattle.rlp_format.specs.Format.Split.{begins_as_list, items};
+ghost use Rattle.rlp_format.specs.Format.StringReading.{read_string};
+ghost use Rattle.rlp_format.specs.Format.Strict.{IsCanonical, strict_fault};
+ghost use Rattle.rlp_format.specs.Format.Item.{Item, list_of, string};
 ghost use Rattle.rlp.specs.Values.ListReading.{FaultsAsOption, GivesOption, MayLackAsList};
 ghost use Rattle.rlp.specs.Values.ValueReading.{FaultsAsBool, FaultsAsBytes, FaultsAsNumber, FaultsAsText, GivesBool, GivesBytes, GivesNumber, GivesText, HasOneReading};
-ghost use Rattle.rlp.specs.Values.Value.{AreAlike, bit, number_item, option_item};
-ghost use Rattle.rlp.specs.Views.View.{HoldsItem, View, item_by, item_count, item_with_place, list_fault, strict_view_of, view_header, view_of, view_string, view_value};
+ghost use Rattle.rlp_format.specs.Values.Value.{AreAlike, bit, number_item, option_item};
+ghost use Rattle.rlp_format.specs.Views.View.{HoldsItem, View, item_by, item_count, item_with_place, list_fault, strict_view_of, view_header, view_of, view_string, view_value};
 
-use crate::error::DecoderError;
-use crate::traits::{Decodable, Encodable, StrictRead};
+use crate::traits::{Decodable, StrictRead};
+use rlp_format::error::DecoderError;
+use rlp_streams::Encodable;
 use std::alloc::Global;
 
 /// The value that is read strictly: it is alike to a value that fits exactly where the bytes are the

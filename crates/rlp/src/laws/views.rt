@@ -1,10 +1,14 @@
 //! What a view answers of the items of a list, and of the encodings of values in a list.
 
-ghost use Rattle.std.specs.Prelude.{◌≡◌, ◌≤◌, ◌+◌, ◌↔◌, ◌++◌, ◌∷◌, ℕ, List, None, Ok, Some, length, map, slice_get};
+ghost use Rattle.std.specs.Prelude.{◌≡◌, ◌≤◌, ◌+◌, ◌↔◌, ◌++◌, ◌∷◌, [], ℕ, List, None, Ok, Err, Some, IfOk, IsOkAnd, length, map, slice_get};
 ghost use Rattle.std.specs.Iterator.{Yields};
-ghost use Rattle.rlp.specs.Format.Item.{Item, list_of};
-ghost use Rattle.rlp.specs.Format.Encoding.{BeginsWith, encoding};
-ghost use Rattle.rlp.specs.Views.View.{IsStep, Remaining, View, item_at, item_count, item_views, view_of};
+ghost use Rattle.rlp_format.specs.Format.Item.{Item, list_of};
+ghost use Rattle.rlp_format.specs.Format.Encoding.{BeginsWith, encoding, join};
+ghost use Rattle.rlp_format.specs.declared.error.DecoderError.TheVariants.{RlpIsTooShort};
+ghost use Rattle.rlp_format.specs.Views.View.{IsStep, Remaining, View, item_at, item_count, item_views, view_of};
+
+use crate::rlpin::Rlp;
+use rlp_format::error::DecoderError;
 
 /// The item by number is the one in that place among the items in order, and past the last item
 /// every number has the same fault.
@@ -37,3 +41,21 @@ pub fn iteration_reads_few_headers()
         → Yields IsStep start given last → IsStep last None end
         → end.headers ≤ length given + 2 }
 {}
+
+/// Over joined encodings, [`Rlp::split_first`] gives the first and leaves the others joined: called
+/// again on what it leaves, it gives them one by one, and after the last no bytes are left. So does
+/// [`Rlp::split_first_strict`].
+pub fn joined_items_are_split_off<'a>(
+    bytes: &'a [u8],
+    strict: bool,
+) -> Result<(Rlp<'a>, &'a [u8]), DecoderError>
+    ensures next { (x : Item) (xs : List Item) → bytes.now ≡ join (x ∷ xs)
+        → IsOkAnd result (λ r. (r.0.bytes ≡ encoding x) × (r.1.now ≡ join xs)) }
+    ensures end { bytes.now ≡ join [] → result ≡ Err RlpIsTooShort }
+    ensures kind { IfOk result (λ r. r.0.is_strict ≡ strict) }
+{
+    if strict {
+        return Rlp::split_first_strict(bytes);
+    }
+    Rlp::split_first(bytes)
+}

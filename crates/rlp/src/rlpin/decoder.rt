@@ -2,15 +2,14 @@
 
 ghost use Rattle.std.specs.Prelude.{◌≡◌, ◌≤◌, ◌↔◌, ℕ, List, length, Ok, Err, IsTrue, IfOk, IfErr, IsErrAnd, MatchResult};
 ghost use Rattle.std.specs.Fn.{FnReturnsAt};
-ghost use Rattle.rlp.specs.Format.Item.{string};
-ghost use Rattle.rlp.specs.Format.Encoding.{encoding};
-ghost use Rattle.rlp.specs.Format.StringReading.{ReadsString, read_string, short_string, long_string, long_value};
-ghost use Rattle.rlp.specs.Views.View.{HoldsNoString, HoldsString, view_of, view_string};
+ghost use Rattle.rlp_format.specs.Format.Item.{string};
+ghost use Rattle.rlp_format.specs.Format.Encoding.{encoding};
+ghost use Rattle.rlp_format.specs.Views.View.{HoldsNoString, HoldsString, view_of, view_string};
 ghost use Rattle.rlp.specs.Lemmas.Held.{ReadsHeld};
 
-use crate::digits::number_of;
-use crate::error::DecoderError;
-use crate::rlpin::header::is_followed;
+use rlp_format::error::DecoderError;
+use rlp_format::framed::is_followed;
+use rlp_format::string_reading::string_in;
 use std::marker::Model;
 
 /// A decoder of the string at the front of bytes. Contracts see it as the record `View` of its
@@ -22,7 +21,7 @@ pub struct BasicDecoder<'a> {
 }
 
 impl<'a> Model for BasicDecoder<'a> {
-    ghost use Rattle.rlp.specs.Views.View.{View};
+    ghost use Rattle.rlp_format.specs.Views.View.{View};
 
     ghost Value = { View };
 
@@ -102,79 +101,4 @@ pub(crate) fn is_string(bytes: &[u8]) -> bool
         Ok(_) => true,
         Err(_) => false,
     }
-}
-
-/// The string at the front of the bytes, without its header.
-pub(crate) fn string_in(bytes: &[u8]) -> Result<&[u8], DecoderError>
-    ensures exact { MatchResult result (λ d. read_string bytes.now ≡ Ok d.now)
-        (λ e. read_string bytes.now ≡ Err e) }
-    ensures read { ReadsString bytes.now (read_string bytes.now) }
-{
-    by_first_byte(bytes)
-}
-
-/// The string, by the table of first bytes.
-#[tactic(auto, using(crate::specs::Lemmas::Strings::first_bytes), unfolding(crate::specs::Format::StringReading::read_string))]
-fn by_first_byte(bytes: &[u8]) -> Result<&[u8], DecoderError>
-    ensures { MatchResult result (λ d. read_string bytes.now ≡ Ok d.now)
-        (λ e. read_string bytes.now ≡ Err e) }
-{
-    match bytes {
-        [] => Err(DecoderError::RlpIsTooShort),
-        [first, rest @ ..] => match *first {
-            0x00..=0x7f => Ok(&bytes[..1]),
-            first @ 0x80..=0xb7 => short_form(rest, (first - 0x80) as usize),
-            first @ 0xb8..=0xbf => long_form(rest, (first - 0xb7) as usize),
-            0xc0..=0xff => Err(DecoderError::RlpExpectedToBeData),
-        },
-    }
-}
-
-/// The string of `len` bytes that `rest` begins with, where its first byte announced the length.
-fn short_form(rest: &[u8], len: usize) -> Result<&[u8], DecoderError>
-    ensures { MatchResult result (λ d. short_string len rest.now ≡ Ok d.now)
-        (λ e. short_string len rest.now ≡ Err e) }
-{
-    if rest.len() < len {
-        return Err(DecoderError::RlpInconsistentLengthAndData);
-    }
-    match &rest[..len] {
-        [byte] if *byte < 0x80 => Err(DecoderError::RlpInvalidIndirection),
-        string => Ok(string),
-    }
-}
-
-/// The string after `len` bytes of length, which `rest` begins with.
-fn long_form(rest: &[u8], len: usize) -> Result<&[u8], DecoderError>
-    requires positive { 1 ≤ len }
-    requires few { len ≤ 8 }
-    ensures { MatchResult result (λ d. long_string len rest.now ≡ Ok d.now)
-        (λ e. long_string len rest.now ≡ Err e) }
-{
-    if rest.len() < len {
-        return Err(DecoderError::RlpInconsistentLengthAndData);
-    }
-    if rest[0] == 0 {
-        return Err(DecoderError::RlpInvalidIndirection);
-    }
-    let (digits, after) = rest.split_at(len);
-    string_of(after, len, number_of(digits))
-}
-
-/// The string of `value_len` bytes that `after` begins with, where `len` bytes of length say so.
-fn string_of(after: &[u8], len: usize, value_len: usize) -> Result<&[u8], DecoderError>
-    requires { len ≤ 8 }
-    ensures { MatchResult result (λ d. long_value len value_len after.now ≡ Ok d.now)
-        (λ e. long_value len value_len after.now ≡ Err e) }
-{
-    if value_len <= 55 {
-        return Err(DecoderError::RlpInvalidIndirection);
-    }
-    if (1 + len).checked_add(value_len).is_none() {
-        return Err(DecoderError::RlpInvalidLength);
-    }
-    if after.len() < value_len {
-        return Err(DecoderError::RlpInconsistentLengthAndData);
-    }
-    Ok(&after[..value_len])
 }

@@ -1,145 +1,21 @@
 //! The printed text of a view.
 
-ghost use Rattle.std.specs.Prelude.{◌≡◌, ◌<◌, ◌≤◌, ◌*◌, ◌∷◌, ◌++◌, [], length, codes};
-ghost use Rattle.std.specs.Fmt.{WritesStyledOnOk};
-ghost use Rattle.rlp.specs.Views.Text.{hex, hex_digit, text};
-
-use crate::rlpin::framed::{Framed, first_framed, read_framed};
 use crate::rlpin::rlp::Rlp;
+use rlp_format::text::write_text;
 use std::fmt;
-use std::fmt::Display;
-use std::str::from_utf8;
-
-/// How many bytes are written at once as digits.
-const AT_ONCE: usize = 64;
 
 /// `null` for no bytes, `"0x` and the digits of a string, `[`, the texts of a list's items with `,
 /// ` between and `]`. Bytes that aren't framed print the name of their fault, as
 /// [`Rlp::payload_info`] answers it. The formatter's flags change nothing.
 impl fmt::Display for Rlp<'_> {
     ghost use Rattle.std.specs.Prelude.{Some};
-    ghost use Rattle.rlp.specs.Views.Text.{text};
+    ghost use Rattle.rlp_format.specs.Views.Text.{text};
 
     ghost output = { λ v. Some (text v.bytes) };
 
     ghost styled_output = { λ v _. Some (text v.bytes) };
 
     fn fmt<W: fmt::Write>(&self, f: &mut fmt::Formatter<W>) -> fmt::Result {
-        write_text(f, self)
-    }
-}
-
-/// Writes the text of a view.
-fn write_text<W: fmt::Write>(f: &mut fmt::Formatter<W>, view: &Rlp<'_>) -> fmt::Result
-    ensures { WritesStyledOnOk W.write_str_gives f.old result (text view.now.bytes) f.new }
-{
-    if view.is_null() {
-        return f.write_str("null");
-    }
-    match read_framed(view.as_raw()) {
-        Ok(framed) => write_framed(f, &framed),
-        Err(fault) => fault.fmt(f),
-    }
-}
-
-/// Writes the text of framed bytes.
-fn write_framed<W: fmt::Write>(f: &mut fmt::Formatter<W>, framed: &Framed<'_>) -> fmt::Result
-    ensures { WritesStyledOnOk W.write_str_gives f.old result (text framed.now.item.now) f.new }
-{
-    if !framed.is_list() {
-        return write_string(f, framed.content);
-    }
-    f.write_str("[")?;
-    let mut separator = "";
-    let mut rest = framed.content;
-    while let Some((item, others)) = first_framed(rest) {
-        f.write_str(separator)?;
-        write_framed(f, &item)?;
-        separator = ", ";
-        rest = others;
-    }
-    f.write_str("]")
-}
-
-/// Writes the text of a string.
-fn write_string<W: fmt::Write>(f: &mut fmt::Formatter<W>, value: &[u8]) -> fmt::Result
-    ensures { WritesStyledOnOk W.write_str_gives f.old result
-        (codes "\"0x" ++ hex value.now ++ codes "\"") f.new }
-{
-    if let [byte] = value {
-        return write_byte(f, *byte);
-    }
-    f.write_str("\"0x")?;
-    write_hex(f, value)?;
-    f.write_str("\"")
-}
-
-/// Writes the text of a string of one byte, in one piece.
-fn write_byte<W: fmt::Write>(f: &mut fmt::Formatter<W>, byte: u8) -> fmt::Result
-    ensures { WritesStyledOnOk W.write_str_gives f.old result
-        (codes "\"0x" ++ hex (byte ∷ []) ++ codes "\"") f.new }
-{
-    let text = [
-        b'"',
-        b'0',
-        b'x',
-        digit_char(byte / 16),
-        digit_char(byte % 16),
-        b'"',
-    ];
-    match from_utf8(&text) {
-        Ok(text) => f.write_str(text),
-        Err(_) => Err(fmt::Error),
-    }
-}
-
-/// Writes each byte as two digits.
-fn write_hex<W: fmt::Write>(f: &mut fmt::Formatter<W>, bytes: &[u8]) -> fmt::Result
-    ensures { WritesStyledOnOk W.write_str_gives f.old result (hex bytes.now) f.new }
-{
-    let mut rest = bytes;
-    while rest.len() > AT_ONCE {
-        let (front, after) = rest.split_at(AT_ONCE);
-        write_few(f, front)?;
-        rest = after;
-    }
-    write_few(f, rest)
-}
-
-/// Writes each of a few bytes as two digits, in one piece.
-fn write_few<W: fmt::Write>(f: &mut fmt::Formatter<W>, bytes: &[u8]) -> fmt::Result
-    requires { length bytes.now ≤ 64 }
-    ensures { WritesStyledOnOk W.write_str_gives f.old result (hex bytes.now) f.new }
-{
-    let mut room = [0u8; 2 * AT_ONCE];
-    let digits = &mut room[..2 * bytes.len()];
-    put_digits(bytes, digits);
-    match from_utf8(digits) {
-        Ok(digits) => f.write_str(digits),
-        Err(_) => Err(fmt::Error),
-    }
-}
-
-/// Fills the room with each byte as two digits.
-fn put_digits(bytes: &[u8], digits: &mut [u8])
-    requires { length digits.old ≡ 2 * length bytes.now }
-    ensures { digits.new ≡ hex bytes.now }
-{
-    'bytes: for i in 0..bytes.len() {
-        let byte = bytes[i];
-        digits[2 * i] = digit_char(byte / 16);
-        digits[2 * i + 1] = digit_char(byte % 16);
-    }
-}
-
-/// The character of a digit, in lower case.
-fn digit_char(digit: u8) -> u8
-    requires { digit < 16 }
-    ensures { result ≡ hex_digit digit }
-{
-    if digit < 10 {
-        b'0' + digit
-    } else {
-        b'a' - 10 + digit
+        write_text(f, self.as_raw())
     }
 }

@@ -1,17 +1,14 @@
 //! The items of a view, one by one.
 
-ghost use Rattle.std.specs.Prelude.{◌≡◌, ◌+◌, ◌≤◌, ◌∷◌, ◌^◌, ◌<◌, [], length, true, IfOk, IfSome, MatchOption, Some};
+ghost use Rattle.std.specs.Prelude.{◌≡◌, ◌≤◌, ◌^◌, ◌<◌, length, true, false, IfSome, IsOk, Some};
 ghost use Rattle.std.specs.Iterator.{item_count, UpTo, at_most};
 ghost use Rattle.std.specs.Iterator.SizeHint.{IsWithinCount};
-ghost use Rattle.rlp.specs.Format.Framing.{framing, total_len};
-ghost use Rattle.rlp.specs.Format.Split.{payload, split};
-ghost use Rattle.rlp.specs.Views.View.{IsStep, item_views};
+ghost use Rattle.rlp_format.specs.Format.Framing.{framing};
+ghost use Rattle.rlp_format.specs.Format.Split.{begins_as_list};
+ghost use Rattle.rlp_format.specs.Views.View.{IsStep, item_views};
 
-use crate::count::Count;
-use crate::error::DecoderError;
-use crate::rlpin::header::{PayloadInfo, framing_of};
-use crate::rlpin::items::{count_items, cut_item, cut_value};
 use crate::rlpin::rlp::Rlp;
+use rlp_format::items::{ItemReader, count_items};
 use std::marker::Model;
 
 /// The items of a view, in order. Contracts see it as the record `Remaining`: the views that it has
@@ -23,27 +20,24 @@ use std::marker::Model;
 #[derive(Drop)]
 pub struct RlpIterator<'a, 'view> {
     rlp: &'view Rlp<'a>,
-    // What of the payload follows the items that were given.
-    rest: &'a [u8],
+    items: ItemReader<'a>,
     has_ended: bool,
-    // How many headers were read.
-    headers: Count,
 }
 
 impl<'a, 'view> Model for RlpIterator<'a, 'view> {
     ghost use Rattle.std.specs.Prelude.{◌≡◌, [], map, true};
-    ghost use Rattle.rlp.specs.Format.Split.{split};
-    ghost use Rattle.rlp.specs.Views.View.{Remaining};
+    ghost use Rattle.rlp_format.specs.Format.Split.{split};
+    ghost use Rattle.rlp_format.specs.Views.View.{Remaining};
 
     ghost Value = { Remaining };
 
     ghost view = { λ i. record {
-      left = map (λ b. record i.rlp.now { bytes = b }) (split i.rest.now);
-      headers = i.headers.total;
+      left = map (λ b. record i.rlp.now { bytes = b }) (split i.items.rest);
+      headers = i.items.headers;
       has_ended = i.has_ended;
     } };
 
-    ghost invariant = { λ i. i.has_ended ≡ true → split i.rest.now ≡ [] };
+    ghost invariant = { λ i. i.has_ended ≡ true → split i.items.rest ≡ [] };
 }
 
 impl<'a, 'view> Iterator for RlpIterator<'a, 'view> {
@@ -57,12 +51,9 @@ impl<'a, 'view> Iterator for RlpIterator<'a, 'view> {
         if self.has_ended {
             return None;
         }
-        match split_counted(&mut self.headers, self.rest) {
-            Some((item, others)) => {
-                self.rest = others;
-                Some(self.rlp.with_bytes(item))
-            }
-            None => {
+        match self.items.next_framed() {
+            Ok(framed) => Some(self.rlp.with_bytes(framed.item)),
+            Err(_) => {
                 self.has_ended = true;
                 None
             }
@@ -91,38 +82,29 @@ impl<'a, 'view> ExactSizeIterator for RlpIterator<'a, 'view> {
 
 impl<'a, 'view> RlpIterator<'a, 'view> {
     /// The iterator over the items of a view. Over anything but a framed list it has ended.
-    #[tactic(auto, unfolding(crate::specs::Format::Split::items), using(crate::proofs::Splits::splits))]
+    #[tactic(auto, unfolding(rlp_format::specs::Format::Split::items), using(rlp_format::proofs::Splits::splits))]
     pub(crate) fn over(view: &'view Rlp<'a>) -> RlpIterator<'a, 'view>
         ensures items { result.left ≡ item_views view.now }
         ensures few { length result.left < 2 ^ 64 }
         ensures header { result.headers ≤ 1 }
+        ensures ended { result.has_ended ≡ false → (begins_as_list view.now.bytes ≡ true)
+            × IsOk (framing view.now.bytes) }
     {
-        let mut headers = Count::new();
-        match read_payload(&mut headers, view) {
-            Some(rest) => {
-                let _most = rest.len();
-                RlpIterator {
-                    rlp: view,
-                    rest,
-                    has_ended: false,
-                    headers,
-                }
-            }
-            None => RlpIterator {
-                rlp: view,
-                rest: &[],
-                has_ended: true,
-                headers,
-            },
+        let mut items = ItemReader::new(view.as_raw());
+        let has_ended = !items.enter_list();
+        RlpIterator {
+            rlp: view,
+            items,
+            has_ended,
         }
     }
 
     /// How many items are still to come.
-    #[tactic(auto, using(crate::proofs::Splits::splits))]
+    #[tactic(auto, using(rlp_format::proofs::Splits::splits))]
     fn count_left(&self) -> usize
         ensures { result ≡ length self.now.left }
     {
-        count_items(self.rest)
+        count_items(self.items.rest())
     }
 }
 
@@ -136,49 +118,9 @@ impl<'a, 'view> IntoIterator for &'view Rlp<'a> {
     fn into_iter(self) -> RlpIterator<'a, 'view>
         ensures items { result.left ≡ item_views self.now }
         ensures header { result.headers ≤ 1 }
+        ensures ended { result.has_ended ≡ false → (begins_as_list self.now.bytes ≡ true)
+            × IsOk (framing self.now.bytes) }
     {
         RlpIterator::over(self)
-    }
-}
-
-/// The header of framed bytes, or why they aren't framed. It is one reading of a header, and counts
-/// it; an iterator reads the headers that it counts by this function alone.
-#[inline(always)]
-fn read_header(headers: &mut Count, bytes: &[u8]) -> Result<PayloadInfo, DecoderError>
-    ensures exact { result ≡ framing bytes.now }
-    ensures within { IfOk result (λ p. (0 < total_len p) × (total_len p ≤ length bytes.now)) }
-    ensures counted { headers.new.total ≡ headers.old.total + 1 }
-{
-    headers.add(1);
-    framing_of(bytes)
-}
-
-/// The first item of a payload and the bytes after it, or `None` where no item stands there, by one
-/// header.
-#[inline(always)]
-fn split_counted<'a>(headers: &mut Count, payload: &'a [u8]) -> Option<(&'a [u8], &'a [u8])>
-    ensures parts { MatchOption result (split payload.now ≡ [])
-        (λ r. split payload.now ≡ r.0.now ∷ split r.1.now) }
-    ensures counted { headers.new.total ≡ headers.old.total + 1 }
-{
-    match read_header(headers, payload) {
-        Ok(info) => Some(cut_item(payload, &info)),
-        Err(_) => None,
-    }
-}
-
-/// The value of a framed list, by one header, or `None` for anything else.
-#[tactic(auto, unfolding(crate::specs::Format::Split::payload, crate::specs::Format::Framing::value))]
-fn read_payload<'a>(headers: &mut Count, view: &Rlp<'a>) -> Option<&'a [u8]>
-    ensures value { MatchOption result (payload view.now.bytes ≡ [])
-        (λ value. value.now ≡ payload view.now.bytes) }
-    ensures counted { headers.new.total ≤ headers.old.total + 1 }
-{
-    if !view.is_list() {
-        return None;
-    }
-    match read_header(headers, view.as_raw()) {
-        Ok(info) => Some(cut_value(view.as_raw(), &info)),
-        Err(_) => None,
     }
 }

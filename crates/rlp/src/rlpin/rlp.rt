@@ -1,21 +1,23 @@
 //! A view of bytes, and what it answers of their first item.
 
-ghost use Rattle.std.specs.Prelude.{◌≡◌, ◌≤◌, ◌<◌, ◌^◌, ◌↔◌, ◌⊎◌, List, [], length, true, IsTrue, None, Some, Ok, Err, IfOk, IfErr, MatchResult, OnOk};
-ghost use Rattle.rlp.specs.declared.error.DecoderError.TheVariants.{OutOfMemory};
-ghost use Rattle.rlp.specs.Format.Split.{begins_as_list, payload};
-ghost use Rattle.rlp.specs.Format.Framing.{value};
-ghost use Rattle.rlp.specs.Format.Strict.{IsCanonicalWithin};
-ghost use Rattle.rlp.specs.Views.Depth.{depth};
-ghost use Rattle.rlp.specs.Views.View.{begins_as_data, begins_as_empty, begins_as_int, data_size, has_nonzero_at, item_at, item_count, item_views, item_with_place, items_fault, list_fault, prototype_of, strict_view_of, view_header, view_of, view_value};
+ghost use Rattle.std.specs.Prelude.{◌≡◌, ◌≤◌, ◌<◌, ◌^◌, ◌↔◌, ◌⊎◌, List, [], length, true, false, IsTrue, IsOk, None, Some, Ok, Err, IfOk, IfErr, MatchResult, OnOk};
+ghost use Rattle.rlp_format.specs.declared.error.DecoderError.TheVariants.{OutOfMemory};
+ghost use Rattle.rlp_format.specs.Format.Split.{begins_as_list, items};
+ghost use Rattle.rlp_format.specs.Format.Framing.{framing};
+ghost use Rattle.rlp_format.specs.Format.Strict.{IsCanonicalWithin, strict_list_fault};
+ghost use Rattle.rlp_format.specs.Views.Depth.{depth};
+ghost use Rattle.rlp_format.specs.Views.View.{begins_as_data, begins_as_empty, begins_as_int, data_size, has_nonzero_at, item_at, item_count, item_views, item_with_place, items_fault, list_fault, prototype_of, strict_view_of, view_header, view_of, view_value};
 ghost use Rattle.rlp.specs.Values.ListReading.{FaultsAsList, FaultsAt, GivesAt, GivesList, MayLackAsList, MayLackAt, ReadsValue, GivesSomeAt};
 
-use crate::error::DecoderError;
 use crate::rlpin::decoder::{BasicDecoder, is_string};
-use crate::rlpin::framed::read_framed;
-use crate::rlpin::header::{PayloadInfo, framing_of, strict_framing_of};
-use crate::rlpin::items::{check_items, count_items, split_first, take_item};
 use crate::rlpin::iter::RlpIterator;
 use crate::traits::Decodable;
+use rlp_format::Prototype;
+use rlp_format::depth::is_nested_within;
+use rlp_format::error::DecoderError;
+use rlp_format::framed::{Framed, first_framed, whole_framed};
+use rlp_format::header::PayloadInfo;
+use rlp_format::items::{ItemReader, check_items};
 use std::alloc::Global;
 use std::marker::Model;
 
@@ -31,22 +33,11 @@ pub struct Rlp<'a> {
 }
 
 impl<'a> Model for Rlp<'a> {
-    ghost use Rattle.rlp.specs.Views.View.{View};
+    ghost use Rattle.rlp_format.specs.Views.View.{View};
 
     ghost Value = { View };
 
     ghost view = { λ r. record { bytes = r.bytes.now; is_strict = r.strict } };
-}
-
-/// What stands at the front of a view.
-#[derive(Debug, Drop)]
-pub enum Prototype {
-    /// No bytes.
-    Null,
-    /// A string of so many bytes.
-    Data(usize),
-    /// A list of so many items.
-    List(usize),
 }
 
 impl<'a> Rlp<'a> {
@@ -94,7 +85,7 @@ impl<'a> Rlp<'a> {
     /// What the view begins with: no bytes, a string with its [`Rlp::size`], or a list with the
     /// number of its items. It is always `Ok`; bytes that aren't framed are a string of size 0 or a
     /// list of no items, by their first byte.
-    #[tactic(auto, unfolding(crate::specs::Format::Split::items))]
+    #[tactic(auto, unfolding(rlp_format::specs::Format::Split::items))]
     pub fn prototype(&self) -> Result<Prototype, DecoderError>
         ensures { result ≡ Ok (prototype_of self.now.bytes) }
     {
@@ -102,7 +93,7 @@ impl<'a> Rlp<'a> {
             return Ok(Prototype::Null);
         }
         if self.is_list() {
-            return Ok(Prototype::List(count_items(self.payload())));
+            return Ok(Prototype::List(self.iter().len()));
         }
         Ok(Prototype::Data(self.size()))
     }
@@ -114,24 +105,23 @@ impl<'a> Rlp<'a> {
     pub fn payload_info(&self) -> Result<PayloadInfo, DecoderError>
         ensures { result ≡ view_header self.now }
     {
-        if self.strict {
-            return strict_framing_of(self.bytes);
+        match self.framed() {
+            Ok(framed) => Ok(framed.header),
+            Err(fault) => Err(fault),
         }
-        framing_of(self.bytes)
     }
 
     /// The bytes of the first item after its header: a string's own, or a list's joined items.
     ///
     /// The faults are those of [`Rlp::payload_info`].
-    #[tactic(auto, unfolding(crate::specs::Format::Strict::strict_fault))]
     pub fn data(&self) -> Result<&'a [u8], DecoderError>
         ensures { MatchResult result (λ d. view_value self.now ≡ Ok d.now)
             (λ e. view_value self.now ≡ Err e) }
     {
-        if self.strict {
-            strict_framing_of(self.bytes)?;
+        match self.framed() {
+            Ok(framed) => Ok(framed.content),
+            Err(fault) => Err(fault),
         }
-        self.value()
     }
 
     /// How many items the list has that the view begins with.
@@ -139,14 +129,17 @@ impl<'a> Rlp<'a> {
     /// `RlpExpectedToBeList` where there is no byte or the first is one of a string. A list that
     /// isn't framed has no items. A strict view must be a list and nothing else: then come the fault
     /// of [`Rlp::payload_info`], and that of bytes that follow the items in the list.
-    #[tactic(auto, unfolding(crate::specs::Views::View::item_count, crate::specs::Format::Split::items))]
+    #[tactic(auto, unfolding(rlp_format::specs::Views::View::item_count, rlp_format::specs::Format::Split::items))]
     pub fn item_count(&self) -> Result<usize, DecoderError>
         ensures { result ≡ item_count self.now }
     {
-        match self.check_items() {
-            Ok(()) => Ok(count_items(self.payload())),
-            Err(fault) => Err(fault),
+        if self.strict {
+            return self.strict_count();
         }
+        if !self.is_list() {
+            return Err(DecoderError::RlpExpectedToBeList);
+        }
+        Ok(self.iter().len())
     }
 
     /// The length of the string that the view begins with, and 0 where no framed string stands
@@ -157,8 +150,8 @@ impl<'a> Rlp<'a> {
         if !self.is_data() {
             return 0;
         }
-        match self.value() {
-            Ok(value) => value.len(),
+        match first_framed(self.bytes) {
+            Ok((framed, _)) => framed.content.len(),
             Err(_) => 0,
         }
     }
@@ -190,16 +183,14 @@ impl<'a> Rlp<'a> {
         ensures { result ≡ item_with_place self.now index }
     {
         self.check_items()?;
-        let info = framing_of(self.as_raw())?;
-        let after_header = &self.as_raw()[info.header_len..];
-        let mut rest = &after_header[..info.value_len];
+        let (list, _) = first_framed(self.bytes)?;
+        let mut items = ItemReader::new(list.content);
         for _walked in 0..index {
-            let (_, others) = take_item(rest)?;
-            rest = others;
+            items.next_framed()?;
         }
-        let (item, others) = take_item(rest)?;
-        let before = info.value_len - others.len() - item.len();
-        Ok((self.with_bytes(item), info.header_len + before))
+        let item = items.next_framed()?.item;
+        let before = list.content.len() - items.rest().len() - item.len();
+        Ok((self.with_bytes(item), list.header.header_len + before))
     }
 
     /// Whether there are no bytes.
@@ -273,6 +264,8 @@ impl<'a> Rlp<'a> {
         ensures items { result.left ≡ item_views self.now }
         ensures few { length result.left < 2 ^ 64 }
         ensures header { result.headers ≤ 1 }
+        ensures ended { result.has_ended ≡ false → (begins_as_list self.now.bytes ≡ true)
+            × IsOk (framing self.now.bytes) }
     {
         RlpIterator::over(self)
     }
@@ -304,14 +297,13 @@ impl<'a> Rlp<'a> {
     {
         self.check_list()?;
         let mut values = Vec::new(alloc);
-        let mut rest = self.payload();
-        while let Some((item, others)) = split_first(rest) {
-            let value = match T::decode(alloc, &self.with_bytes(item)) {
+        for item in self.iter() {
+            let value = match T::decode(alloc, &item) {
                 Ok(value) => value,
                 Err(fault) => return Err(fault),
             };
             match values.push(value) {
-                Ok(()) => rest = others,
+                Ok(()) => {}
                 Err(_) => return Err(DecoderError::OutOfMemory),
             }
         }
@@ -381,8 +373,8 @@ impl<'a> Rlp<'a> {
     pub fn is_nested_within(&self, limit: usize) -> bool
         ensures { IsTrue result ↔ (depth self.now.bytes ≤ limit) }
     {
-        match read_framed(self.as_raw()) {
-            Ok(framed) => framed.is_nested_within(limit),
+        match first_framed(self.bytes) {
+            Ok((framed, _)) => is_nested_within(&framed, limit),
             Err(_) => true,
         }
     }
@@ -407,18 +399,17 @@ impl<'a> Rlp<'a> {
         if max_depth == 0 {
             return false;
         }
-        let Ok(_) = strict_framing_of(self.bytes) else {
+        let Ok(whole) = whole_framed(self.bytes) else {
             return false;
         };
-        let mut rest = self.payload();
-        while !rest.is_empty() {
-            let Ok((item, others)) = take_item(rest) else {
+        let mut items = ItemReader::new(whole.content);
+        while !items.rest().is_empty() {
+            let Ok(framed) = items.next_framed() else {
                 return false;
             };
-            if !Rlp::new(item).is_canonical(max_depth - 1) {
+            if !Rlp::new(framed.item).is_canonical(max_depth - 1) {
                 return false;
             }
-            rest = others;
         }
         true
     }
@@ -437,37 +428,55 @@ impl<'a> Rlp<'a> {
         Rlp { bytes, strict }
     }
 
-    /// The value of the first item, whatever follows it, or why the bytes aren't framed.
-    #[tactic(auto, unfolding(crate::specs::Format::Framing::value))]
-    pub(crate) fn value(&self) -> Result<&'a [u8], DecoderError>
-        ensures { MatchResult result (λ d. value self.now.bytes ≡ Ok d.now)
-            (λ e. value self.now.bytes ≡ Err e) }
+    /// The item that the view begins with, or the fault of [`Rlp::payload_info`].
+    fn framed(&self) -> Result<Framed<'a>, DecoderError>
+        ensures header { MatchResult result (λ f. view_header self.now ≡ Ok f.header)
+            (λ e. view_header self.now ≡ Err e) }
+        ensures value { MatchResult result (λ f. view_value self.now ≡ Ok f.content.now)
+            (λ e. view_value self.now ≡ Err e) }
     {
-        let info = framing_of(self.bytes)?;
-        let after_header = &self.bytes[info.header_len..];
-        Ok(&after_header[..info.value_len])
+        if self.strict {
+            return whole_framed(self.bytes);
+        }
+        match first_framed(self.bytes) {
+            Ok((framed, _)) => Ok(framed),
+            Err(fault) => Err(fault),
+        }
+    }
+
+    /// The number of items of a list that is all of the bytes, by one walk over it.
+    #[tactic(auto, using(rlp_format::proofs::StrictLists::list_checks), unfolding(rlp_format::specs::Format::Split::items))]
+    fn strict_count(&self) -> Result<usize, DecoderError>
+        ensures fault { MatchResult result (λ _. strict_list_fault self.now.bytes ≡ None)
+            (λ e. strict_list_fault self.now.bytes ≡ Some e) }
+        ensures count { IfOk result (λ n. n ≡ length (items self.now.bytes)) }
+    {
+        if !self.is_list() {
+            return Err(DecoderError::RlpExpectedToBeList);
+        }
+        match whole_framed(self.bytes) {
+            Ok(list) => check_items(list.content),
+            Err(fault) => Err(fault),
+        }
     }
 
     /// Tests whether the view is read as a list.
-    #[tactic(auto, using(crate::proofs::StrictLists::list_checks))]
+    #[tactic(auto, using(rlp_format::proofs::StrictLists::list_checks))]
     pub(crate) fn check_list(&self) -> Result<(), DecoderError>
         ensures { MatchResult result (λ _. list_fault self.now ≡ None)
             (λ e. list_fault self.now ≡ Some e) }
     {
-        if !self.is_strict() {
+        if !self.strict {
             return Ok(());
         }
-        if !self.is_list() {
-            return Err(DecoderError::RlpExpectedToBeList);
-        }
-        match strict_framing_of(self.bytes) {
-            Ok(_) => check_items(self.payload()),
+        match self.strict_count() {
+            Ok(_) => Ok(()),
             Err(fault) => Err(fault),
         }
     }
 
     /// Tests whether items are told by number.
-    #[tactic(auto, using(crate::proofs::StrictLists::items_checks))]
+    #[tactic(auto, using(rlp_format::proofs::StrictLists::items_checks))]
     pub(crate) fn check_items(&self) -> Result<(), DecoderError>
         ensures { MatchResult result (λ _. items_fault self.now ≡ None)
             (λ e. items_fault self.now ≡ Some e) }
@@ -476,20 +485,6 @@ impl<'a> Rlp<'a> {
             return Err(DecoderError::RlpExpectedToBeList);
         }
         self.check_list()
-    }
-
-    /// The value of a framed list, and no bytes for anything else.
-    #[tactic(auto, unfolding(crate::specs::Format::Split::payload))]
-    pub(crate) fn payload(&self) -> &'a [u8]
-        ensures { result.now ≡ payload self.now.bytes }
-    {
-        if !self.is_list() {
-            return &[];
-        }
-        match self.value() {
-            Ok(value) => value,
-            Err(_) => &[],
-        }
     }
 }
 

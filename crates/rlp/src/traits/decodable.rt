@@ -1,12 +1,12 @@
 //! Values that are read.
 
 ghost use Rattle.std.specs.Prelude.{◌≡◌, IfOk, IfErr, ◌⊎◌};
-ghost use Rattle.rlp.specs.declared.error.DecoderError.{DecoderError};
-ghost use Rattle.rlp.specs.declared.error.DecoderError.TheVariants.{OutOfMemory};
-ghost use Rattle.rlp.specs.Views.View.{View};
+ghost use Rattle.rlp_format.specs.declared.error.DecoderError.{DecoderError};
+ghost use Rattle.rlp_format.specs.declared.error.DecoderError.TheVariants.{OutOfMemory};
+ghost use Rattle.rlp_format.specs.Views.View.{View};
 
-use crate::error::DecoderError;
 use crate::rlpin::Rlp;
+use rlp_format::error::DecoderError;
 use std::alloc::Global;
 
 /// A value that is read from the front of a view.

@@ -1,12 +1,13 @@
 //! Values whose encodings are read back.
 
 ghost use Rattle.std.specs.Prelude.{◌↔◌, ◌<◌, ◌^◌, ℕ, List, length};
-ghost use Rattle.rlp.specs.Format.WrittenHeader.{AreBytes};
+ghost use Rattle.rlp_format.specs.Format.WrittenHeader.{AreBytes};
 ghost use Rattle.rlp.specs.Values.RoundTrip.{ReadsBack, ReadsStrictly};
 ghost use Rattle.rlp.specs.Values.ValueReading.{GivesValue};
-ghost use Rattle.rlp.specs.Views.View.{HoldsItem, view_of};
+ghost use Rattle.rlp_format.specs.Views.View.{HoldsItem, view_of};
 
-use crate::traits::{Decodable, Encodable};
+use crate::traits::decodable::Decodable;
+use rlp_streams::Encodable;
 
 /// A value whose encoding is read back, whatever bytes follow it.
 pub trait RoundTrip: Encodable + Decodable {

@@ -4,7 +4,8 @@ use Rattle.rlp_tool.proofs.building.admit.Goals as goal
 
 pub returns-in-Raw-clause-brings : goal.returns-in-Raw-clause-brings
 returns-in-Raw-clause-brings g c =
-    step_tested c.admit_raw.result g.E.Encodable.item c.args.call.now c.in-Raw.bytes c.in-Raw.count c.as_slice.result.now c.args.stream.now.state c.in-Raw.is c.as_slice.ensures.value (omega arith) c.admit_raw.ensures.brings
+    step_tested c.admit_raw.result g.E.Encodable.item c.args.call.now c.in-Raw.bytes c.in-Raw.count c.as_slice.result.now c.args.stream.now.state
+    c.in-Raw.is c.as_slice.ensures.value c.parts_of_sized_are_sized.ensures.join (omega arith) c.admit_raw.ensures.brings
 
 pub returns-then-can_finalize-clause-brings : goal.returns-then-can_finalize-clause-brings
 returns-then-can_finalize-clause-brings g c = step_finish g.E.Encodable.item c.args.call.now c.args.stream.now.state c.in-Finish.is
@@ -14,4 +15,5 @@ returns-in_default g c = record {
   ok = admitted_other g.E.Encodable.item c.args.call.now c.args.stream.now.state c.in_default.not-Raw c.in_default.not-Finish;
   brings = step_other g.E.Encodable.item c.args.call.now c.args.stream.now.state c.in_default.not-Raw;
   refused = tt;
+  no_memory = tt;
 }

@@ -1,20 +1,21 @@
-use Rattle.std.proofs.Common.{sym, subst}
-use Rattle.rlp_tool.specs.Building.{IsRefusal}
 use Rattle.rlp_tool.specs.StreamCalls.{call_of, calls_of}
-use Rattle.rlp_tool.proofs.CallsLemmas.{AreMade, made_none, made_next, made_all, refused, built, joined_built, described_built, described_refused, IfOk-map, IfErr-map, OnOk-all}
+use Rattle.rlp_tool.proofs.CallsLemmas.{AreMade, made_none, made_next, made_all, refused, built, joined_built, described_built, described_refused, refused_at_end, IfErr-both, IfOk-map, OnOk-all}
 use Rattle.rlp_tool.proofs.building.build.Goals as goal
 
 pub loop-i-init : goal.loop-i-init
-loop-i-init g c = made_none c.args.front.items (calls_of g.E.Encodable.item c.args.calls.now) c.new_with_buffer-stream.result.state c.new_with_buffer-stream.ensures.state
+loop-i-init g c =
+    made_none c.args.front.items (calls_of g.E.Encodable.item c.args.calls.now) c.new_with_buffer-stream.result.state c.new_with_buffer-stream.ensures.state
 
 pub loop-i-preserved : goal.loop-i-preserved
 loop-i-preserved g c =
     let f = call_of g.E.Encodable.item in
-    made_next f c.args.calls.now c.args.front.items c.loop-i.i c.index-calls-i.result c.loop-i.stream.state c.take_call.new.stream.state c.loop-i-test.true c.index-calls-i.is c.in_default.ensures.admitted c.in_default.ensures.brings c.in_default.ensures.ok c.loop-i.invariant
+    made_next f c.args.calls.now c.args.front.items c.loop-i.i c.index-calls-i.result c.loop-i.stream.state c.take_call.new.stream.state
+    c.loop-i-test.true c.index-calls-i.is c.in_default.ensures.admitted c.in_default.ensures.brings c.in_default.ensures.ok c.loop-i.invariant
 
 pub returns-in-Err-clause-refused : goal.returns-in-Err-clause-refused
 returns-in-Err-clause-refused g c =
-    refused (call_of g.E.Encodable.item) c.args.calls.now c.args.front.items c.loop-i.i c.index-calls-i.result c.loop-i.stream.state c.in-Err.fault c.loop-i-test.true c.index-calls-i.is c.loop-i.invariant c.in-Err.ensures.refused
+    refused (call_of g.E.Encodable.item) c.args.calls.now c.args.front.items c.loop-i.i c.index-calls-i.result c.loop-i.stream.state c.in-Err.fault
+    c.loop-i-test.true c.index-calls-i.is c.loop-i.invariant c.in-Err.ensures.refused
 
 pub returns-in-Err-clause-described_refused : goal.returns-in-Err-clause-described_refused
 returns-in-Err-clause-described_refused g c = λ items d.
@@ -23,27 +24,35 @@ returns-in-Err-clause-described_refused g c = λ items d.
 pub returns-clause-ok : goal.returns-clause-ok
 returns-clause-ok g c =
     let all = calls_of g.E.Encodable.item c.args.calls.now in
-    let made : AreMade c.args.front.items all c.loop-i.stream.state = made_all (call_of g.E.Encodable.item) c.args.calls.now c.args.front.items c.loop-i.i c.loop-i.stream.state c.loop-i-test.false c.loop-i.invariant in
+    let made : AreMade c.args.front.items all c.loop-i.stream.state = made_all (call_of g.E.Encodable.item) c.args.calls.now c.args.front.items
+    c.loop-i.i c.loop-i.stream.state c.loop-i-test.false c.loop-i.invariant in
     IfOk-map c.held.result (λ b. built c.args.front.items all c.loop-i.stream.state b made.admitted made.same_front) c.held.ensures.ok
 
 pub returns-clause-refused : goal.returns-clause-refused
 returns-clause-refused g c =
     let all = calls_of g.E.Encodable.item c.args.calls.now in
-    IfErr-map c.held.result (λ fault e. subst (IsRefusal c.args.front.items all) (sym e) tt) c.held.ensures.refused
+    let made : AreMade c.args.front.items all c.loop-i.stream.state = made_all (call_of g.E.Encodable.item) c.args.calls.now c.args.front.items
+    c.loop-i.i c.loop-i.stream.state c.loop-i-test.false c.loop-i.invariant in
+    IfErr-both c.held.result (λ fault e unended. refused_at_end c.args.front.items all c.loop-i.stream.state fault made e unended)
+    c.held.ensures.refused c.held.ensures.unfinished
 
 pub returns-clause-taken : goal.returns-clause-taken
 returns-clause-taken g c =
     let all = calls_of g.E.Encodable.item c.args.calls.now in
-    let made : AreMade c.args.front.items all c.loop-i.stream.state = made_all (call_of g.E.Encodable.item) c.args.calls.now c.args.front.items c.loop-i.i c.loop-i.stream.state c.loop-i-test.false c.loop-i.invariant in
+    let made : AreMade c.args.front.items all c.loop-i.stream.state = made_all (call_of g.E.Encodable.item) c.args.calls.now c.args.front.items
+    c.loop-i.i c.loop-i.stream.state c.loop-i-test.false c.loop-i.invariant in
     OnOk-all c.held.result made.taken
 
 pub returns-clause-joined : goal.returns-clause-joined
 returns-clause-joined g c =
     let all = calls_of g.E.Encodable.item c.args.calls.now in
-    let made : AreMade c.args.front.items all c.loop-i.stream.state = made_all (call_of g.E.Encodable.item) c.args.calls.now c.args.front.items c.loop-i.i c.loop-i.stream.state c.loop-i-test.false c.loop-i.invariant in
-    IfOk-map c.held.result (λ b. joined_built c.args.front.items all c.loop-i.stream.state b made (c.stream_joins_what_is_described.ensures.payloads c.args.front.items all made.taken.steps)) c.held.ensures.ok
+    let made : AreMade c.args.front.items all c.loop-i.stream.state = made_all (call_of g.E.Encodable.item) c.args.calls.now c.args.front.items
+    c.loop-i.i c.loop-i.stream.state c.loop-i-test.false c.loop-i.invariant in
+    IfOk-map c.held.result (λ b. joined_built c.args.front.items all c.loop-i.stream.state b made
+    (c.stream_joins_what_is_described.ensures.payloads c.args.front.items all made.taken.steps)) c.held.ensures.ok
 
 pub returns-clause-described : goal.returns-clause-described
 returns-clause-described g c = λ items d.
     let all = calls_of g.E.Encodable.item c.args.calls.now in
-    IfOk-map c.held.result (λ b. described_built c.args.front.items all items b (c.stream_joins_what_is_described.ensures.finished c.args.front.items all items d)) (returns-clause-ok g c)
+    IfOk-map c.held.result (λ b. described_built c.args.front.items all items b
+    (c.stream_joins_what_is_described.ensures.finished c.args.front.items all items d)) (returns-clause-ok g c)

@@ -1,7 +1,7 @@
 use Rattle.std.proofs.Common.{◌<◌, ◌-◌, length, arith, rules, refl, nat_eq}
 use Rattle.rlp.specs.Format.Strict.{IsCanonicalWithin}
 use Rattle.rlp_tool.specs.RawItems.{deepest_raw_item}
-use Rattle.rlp_tool.proofs.RawLemmas.{at_end, next_item, no_bytes, not_empty, not_true, refuted, shorter_rest, stray_bytes, stray_item, stray_rest, zero_test}
+use Rattle.rlp_tool.proofs.RawLemmas.{at_end, next_item, none_brought, no_bytes, not_empty, not_true, refuted, shorter_rest, stray_bytes, stray_item, stray_rest, zero_test}
 use Rattle.rlp_tool.proofs.building.raw_items_are_canonical.Goals.{then-awaited-eq0-via-then-awaited-eq0, then-awaited-eq0-via-else-awaited-eq0+then-not-is_canonical}
 use Rattle.rlp_tool.proofs.building.raw_items_are_canonical.Goals as goal
 
@@ -11,30 +11,38 @@ loop-rest-init c = record { walked = (λ a. a, λ a. a); fits = omega arith }
 pub returns-in_default : goal.returns-in_default
 returns-in_default c =
     let some : 0 < length c.loop-rest.rest.now = not_empty c.loop-rest.rest.now c.loop-rest-test.ensures in
-    refuted c.args.bytes.now c.args.item_count c.loop-rest.rest.now c.loop-rest.awaited c.loop-rest.invariant.walked (stray_bytes c.loop-rest.rest.now c.loop-rest.awaited c.loop-rest.invariant.fits some c.in_default.ensures)
+    refuted c.args.bytes.now c.args.item_count c.loop-rest.rest.now c.loop-rest.awaited c.loop-rest.invariant.walked
+    (stray_bytes c.loop-rest.rest.now c.loop-rest.awaited c.encoding_is_framed.ensures some c.in_default.ensures)
 
 pub returns-then-awaited-eq0 : goal.returns-then-awaited-eq0
 returns-then-awaited-eq0 c =
     elim c.then-awaited-eq0.branch [
       | then-awaited-eq0-via-then-awaited-eq0 w ↦
           let some : 0 < length c.loop-rest.rest.now = not_empty c.loop-rest.rest.now c.loop-rest-test.ensures in
-          refuted c.args.bytes.now c.args.item_count c.loop-rest.rest.now c.loop-rest.awaited c.loop-rest.invariant.walked (stray_rest c.loop-rest.rest.now c.loop-rest.awaited some w.if-awaited-eq0.true)
+          refuted c.args.bytes.now c.args.item_count c.loop-rest.rest.now c.loop-rest.awaited c.loop-rest.invariant.walked
+          (stray_rest c.loop-rest.rest.now c.loop-rest.awaited some w.if-awaited-eq0.true)
       | then-awaited-eq0-via-else-awaited-eq0+then-not-is_canonical w ↦
           let other : IsCanonicalWithin deepest_raw_item c.in-Some.item.now → ⊥ = not_true (rw w.new.ensures at w.if-not-is_canonical.ensures.1) in
-          refuted c.args.bytes.now c.args.item_count c.loop-rest.rest.now c.loop-rest.awaited c.loop-rest.invariant.walked (stray_item c.loop-rest.rest.now c.in-Some.item.now c.in-Some.others.now c.loop-rest.awaited c.loop-rest.invariant.fits c.in-Some.ensures.0 c.in-Some.ensures.1 other)
+          let some : 0 < length c.loop-rest.rest.now = not_empty c.loop-rest.rest.now c.loop-rest-test.ensures in
+          refuted c.args.bytes.now c.args.item_count c.loop-rest.rest.now c.loop-rest.awaited c.loop-rest.invariant.walked
+          (stray_item c.loop-rest.rest.now c.in-Some.item.now c.in-Some.others.now c.loop-rest.awaited c.encoding_is_framed.ensures some
+          c.in-Some.ensures.0 c.in-Some.ensures.1 other)
     ]
-
-pub loop-rest-smaller : goal.loop-rest-smaller
-loop-rest-smaller c = shorter_rest c.loop-rest.rest.now c.in-Some.item.now c.in-Some.others.now c.in-Some.ensures.0 c.in-Some.ensures.1
 
 pub loop-rest-preserved : goal.loop-rest-preserved
 loop-rest-preserved c =
     let canonical : IsCanonicalWithin deepest_raw_item c.in-Some.item.now = rw c.new.ensures at (c.if-not-is_canonical.ensures.0 (search rules)) in
+    let some : 0 < length c.loop-rest.rest.now = not_empty c.loop-rest.rest.now c.loop-rest-test.ensures in
     record {
-      walked = next_item c.args.bytes.now c.args.item_count c.loop-rest.rest.now c.in-Some.item.now c.in-Some.others.now c.loop-rest.awaited (c.loop-rest.awaited - 1) c.loop-rest.invariant.fits c.loop-rest.invariant.walked c.in-Some.ensures.0 c.in-Some.ensures.1 canonical c.if-awaited-eq0.false refl;
-      fits = omega (arith, c.loop-rest.invariant.fits, shorter_rest c.loop-rest.rest.now c.in-Some.item.now c.in-Some.others.now c.in-Some.ensures.0 c.in-Some.ensures.1);
+      walked = next_item c.args.bytes.now c.args.item_count c.loop-rest.rest.now c.in-Some.item.now c.in-Some.others.now c.loop-rest.awaited
+          (c.loop-rest.awaited - 1) c.encoding_is_framed.ensures some c.loop-rest.invariant.walked c.in-Some.ensures.0 c.in-Some.ensures.1 canonical
+          c.if-awaited-eq0.false refl;
+      fits = omega (arith, c.loop-rest.invariant.fits, shorter_rest c.loop-rest.rest.now c.in-Some.item.now c.in-Some.others.now c.in-Some.ensures.1);
     }
 
 pub returns : goal.returns
 returns c =
-    at_end c.args.bytes.now c.args.item_count c.loop-rest.rest.now c.loop-rest.awaited (nat_eq c.loop-rest.awaited 0) c.loop-rest.invariant.fits c.loop-rest.invariant.walked (no_bytes c.loop-rest.rest.now c.loop-rest-test.ensures) (zero_test c.loop-rest.awaited)
+    let none = no_bytes c.loop-rest.rest.now c.loop-rest-test.ensures in
+    at_end c.args.bytes.now c.args.item_count c.loop-rest.rest.now c.loop-rest.awaited (nat_eq c.loop-rest.awaited 0)
+    (none_brought c.loop-rest.rest.now c.loop-rest.awaited c.parts_of_sized_are_sized.ensures.join c.join_is_injective.ensures
+    c.loop-rest.invariant.fits none) c.loop-rest.invariant.walked none (zero_test c.loop-rest.awaited)

@@ -5,11 +5,15 @@ use Rattle.rlp_tool.proofs.serving.finish.Goals as goal
 
 pub returns-in-Ok-clause-ok : goal.returns-in-Ok-clause-ok
 returns-in-Ok-clause-ok g c start text served =
-    Appends-last c.write_last.result (g.W.Write.contents c.write_last.new.output.inner) c.as_bytes.result.now served (c.as_bytes.ensures.value ∙ after_empty c.clear.ensures.bytes (c.in-Ok.ensures.ok text served.line)) c.write_last.ensures.ok
+    Appends-last c.write_last.result (g.W.Write.contents c.write_last.new.output.inner) c.as_bytes.result.now served
+    (c.as_bytes.ensures.value ∙ after_empty c.clear.ensures.bytes (c.in-Ok.ensures.ok text served.line)) c.write_last.ensures.ok
 
 pub returns-in-Ok-clause-stop : goal.returns-in-Ok-clause-stop
 returns-in-Ok-clause-stop g c start text served =
-    IsStop-last c.write_last.result (g.W.Write.contents c.write_last.new.output.inner) c.write_last.new.output.failed c.as_bytes.result.now served (c.as_bytes.ensures.value ∙ after_empty c.clear.ensures.bytes (c.in-Ok.ensures.ok text served.line)) c.write_last.ensures.part c.write_last.ensures.failed c.write_last.ensures.fault
+    IsStop-last c.write_last.result (g.W.Write.contents c.write_last.new.output.inner) c.write_last.new.output.failed c.as_bytes.result.now served
+    (c.as_bytes.ensures.value ∙ after_empty c.clear.ensures.bytes (c.in-Ok.ensures.ok text served.line)) c.write_last.ensures.part
+    c.write_last.ensures.failed c.write_last.ensures.fault
 
 pub returns-in-Err-clause-stop : goal.returns-in-Err-clause-stop
-returns-in-Err-clause-stop g c start text served = inl (refl, AppendsBefore-served start (g.W.Write.contents c.args.output.now.inner) text served (c.in-Err.ensures.refused (last_piece text) served.line))
+returns-in-Err-clause-stop g c start text served =
+    inl (refl, AppendsBefore-served start (g.W.Write.contents c.args.output.now.inner) text served (c.in-Err.ensures.refused (last_piece text) served.line))

@@ -4,7 +4,8 @@ use Rattle.rlp_tool.proofs.serving.run.Given as goal
 
 abbrev pub invariant-reading : goal.invariant-reading
 invariant-reading g l = record {
-  running : IsRunning (g.R.Read.remaining l.fn.input.inner) (g.R.Read.remaining l.input.inner) (g.W.Write.contents l.fn.output.inner) (g.W.Write.contents l.output.inner) l.line.bytes.items l.line.over;
+  running : IsRunning (g.R.Read.remaining l.fn.input.inner) (g.R.Read.remaining l.input.inner) (g.W.Write.contents l.fn.output.inner)
+      (g.W.Write.contents l.output.inner) l.line.bytes.items l.line.over;
   input : l.input.failed ≡ false;
   output : l.output.failed ≡ false;
 }

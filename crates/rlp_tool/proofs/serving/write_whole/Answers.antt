@@ -10,7 +10,9 @@ loop-rest-preserved g c = record {
 
 pub returns-in-Ok-eq0-clause-part : goal.returns-in-Ok-eq0-clause-part
 returns-in-Ok-eq0-clause-part g c =
-    IsWriting-part (g.W.Write.contents c.write.new.self.inner) c.loop-rest.invariant.writing (Keeps-none (g.W.Write.contents c.loop-rest.output.inner) (g.W.Write.contents c.write.new.self.inner) c.loop-rest.rest.now c.in-Ok-eq0.field-0 c.in-Ok-eq0.field-0-test c.in-Ok-eq0.ensures.bytes)
+    IsWriting-part (g.W.Write.contents c.write.new.self.inner) c.loop-rest.invariant.writing
+    (Keeps-none (g.W.Write.contents c.loop-rest.output.inner) (g.W.Write.contents c.write.new.self.inner) c.loop-rest.rest.now c.in-Ok-eq0.field-0
+    c.in-Ok-eq0.field-0-test c.in-Ok-eq0.ensures.bytes)
 
 pub returns-in-Err-clause-part : goal.returns-in-Err-clause-part
 returns-in-Err-clause-part g c = IsWriting-part (g.W.Write.contents c.write.new.self.inner) c.loop-rest.invariant.writing c.in-Err.ensures.bytes

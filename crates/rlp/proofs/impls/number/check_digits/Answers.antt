@@ -1,4 +1,4 @@
-use Rattle.rlp.specs.Lemmas.Digits.{none_is_zero}
+use Rattle.rlp_format.specs.Lemmas.Digits.{none_is_zero}
 use Rattle.rlp.specs.Lemmas.Numbers.{leading_is_value}
 use Rattle.rlp.proofs.impls.number.check_digits.Goals as goal
 

@@ -1,9 +1,9 @@
 use Rattle.std.proofs.Common.{◌<◌, ◌^◌, length, arith}
-use Rattle.rlp.specs.Format.Item.{string}
+use Rattle.rlp_format.specs.Format.Item.{string}
 use Rattle.rlp.specs.Values.ValueReading.{GivesBytes, FaultsAsBytes}
-use Rattle.rlp.specs.Views.View.{view_of}
+use Rattle.rlp_format.specs.Views.View.{view_of}
 use Rattle.rlp.specs.Lemmas.OneReading.{bytes_reading}
-use Rattle.rlp.specs.Lemmas.Reading.{bytes_held}
+use Rattle.rlp_format.specs.Lemmas.Reading.{bytes_held}
 use Rattle.rlp.proofs.ListReadings.{option_reading}
 use Rattle.rlp.proofs.laws.reading.option_of_bytes_is_read.Goals as goal
 

@@ -1,8 +1,8 @@
 use Rattle.std.proofs.Common.{◌<◌, ◌^◌, length, arith}
-use Rattle.rlp.specs.Values.Value.{option_item}
+use Rattle.rlp_format.specs.Values.Value.{option_item}
 use Rattle.rlp.specs.Values.ListReading.{GivesOption, FaultsAsOption}
-use Rattle.rlp.specs.Views.View.{view_of}
-use Rattle.rlp.specs.Lemmas.Reading.{bytes_held}
+use Rattle.rlp_format.specs.Views.View.{view_of}
+use Rattle.rlp_format.specs.Lemmas.Reading.{bytes_held}
 use Rattle.rlp.proofs.ListReadings.{option_reading}
 use Rattle.rlp.proofs.laws.reading.option_of_option_is_read.Goals as goal
 

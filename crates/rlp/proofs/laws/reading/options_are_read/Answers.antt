@@ -1,10 +1,10 @@
 use Rattle.std.proofs.Common.{◌<◌, ◌^◌, length, arith}
-use Rattle.rlp.specs.Format.Item.{string}
-use Rattle.rlp.specs.Values.Value.{bit, number_item}
+use Rattle.rlp_format.specs.Format.Item.{string}
+use Rattle.rlp_format.specs.Values.Value.{bit, number_item}
 use Rattle.rlp.specs.Values.ValueReading.{GivesBool, FaultsAsBool, GivesNumber, FaultsAsNumber, GivesText, FaultsAsText}
-use Rattle.rlp.specs.Views.View.{view_of}
+use Rattle.rlp_format.specs.Views.View.{view_of}
 use Rattle.rlp.specs.Lemmas.OneReading.{number_reading, text_reading}
-use Rattle.rlp.specs.Lemmas.Reading.{bytes_held}
+use Rattle.rlp_format.specs.Lemmas.Reading.{bytes_held}
 use Rattle.rlp.proofs.ListReadings.{bool_reading, option_reading}
 use Rattle.rlp.proofs.laws.reading.options_are_read.Goals as goal
 

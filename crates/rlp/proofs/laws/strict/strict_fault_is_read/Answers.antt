@@ -1,5 +1,5 @@
 use Rattle.std.proofs.Common.{◌<◌, ◌^◌, length, arith}
-use Rattle.rlp.specs.Lemmas.Reading.{bytes_held}
+use Rattle.rlp_format.specs.Lemmas.Reading.{bytes_held}
 use Rattle.rlp.proofs.ViewKinds.{strict_canonical, strict_followed, strict_unframed, strict_whole}
 use Rattle.rlp.proofs.laws.strict.strict_fault_is_read.Goals as goal
 

@@ -1,5 +1,5 @@
 use Rattle.std.proofs.Common.{◌<◌, ◌^◌, length, arith}
-use Rattle.rlp.specs.Lemmas.Reading.{bytes_held}
+use Rattle.rlp_format.specs.Lemmas.Reading.{bytes_held}
 use Rattle.rlp.proofs.StrictDecoding.{strict_alike, strict_memory, strict_only}
 use Rattle.rlp.proofs.laws.strict.strictly_decoded.Goals as goal
 

@@ -1,7 +1,7 @@
 use Rattle.std.proofs.Common.{◌<◌, ◌^◌, ◌++◌, ◌∷◌, length, arith}
-use Rattle.rlp.specs.Format.Item.{list_of}
-use Rattle.rlp.specs.Lemmas.Encodings.{front_sized}
-use Rattle.rlp.specs.Lemmas.Numbered.{item_count-list, item_views-list, item_at-list_item}
+use Rattle.rlp_format.specs.Format.Item.{list_of}
+use Rattle.rlp_format.specs.Lemmas.Encodings.{front_sized}
+use Rattle.rlp_format.specs.Lemmas.Numbered.{item_count-list, item_views-list, item_at-list_item}
 use Rattle.rlp.proofs.laws.views.view_of_list_has_its_items.Goals as goal
 
 pub returns : goal.returns

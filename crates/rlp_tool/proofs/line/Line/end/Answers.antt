@@ -5,4 +5,5 @@ use Rattle.rlp_tool.proofs.line.Line.end.Goals as goal
 
 pub returns-clause-ok : goal.returns-clause-ok
 returns-clause-ok c text written before one =
-    IsAfter-line c.args.run.now before one (c.in_ok-reply.ensures.ok (last_piece text ++ c.args.run.now) (c.in_ok-extend.ensures.ok (last_piece text) before.line)) c.clear.ensures
+    IsAfter-line c.args.run.now before one (c.in_ok-reply.ensures.ok (last_piece text ++ c.args.run.now)
+    (c.in_ok-extend.ensures.ok (last_piece text) before.line)) c.clear.ensures

@@ -4,7 +4,8 @@ use Rattle.rlp_tool.proofs.line.Line.feed.Given as goal
 use Rattle.std.proofs.Common.{string_bytes}
 
 abbrev pub invariant-loop-at : goal.invariant-loop-at
-invariant-loop-at l = IsFeeding (string_bytes l.initial.out) l.initial.self.bytes.items l.initial.self.over (string_bytes l.out) l.self.bytes.items l.self.over l.bytes l.rest
+invariant-loop-at l =
+    IsFeeding (string_bytes l.initial.out) l.initial.self.bytes.items l.initial.self.over (string_bytes l.out) l.self.bytes.items l.self.over l.bytes l.rest
 
 abbrev pub decreases-loop-at : goal.decreases-loop-at
 decreases-loop-at l = length l.rest

@@ -6,8 +6,8 @@ abbrev pub decreases-is_canonical : goal.decreases-is_canonical
 decreases-is_canonical l = l.max_depth
 
 -- the first items are encodings within the limit, and the others are those of the rest
-abbrev pub invariant-loop-rest : goal.invariant-loop-rest
-invariant-loop-rest l = IsDone l.self.bytes l.rest (l.max_depth - 1)
+abbrev pub invariant-loop-items : goal.invariant-loop-items
+invariant-loop-items l = IsDone l.self.bytes l.items.rest (l.max_depth - 1)
 
-abbrev pub decreases-loop-rest : goal.decreases-loop-rest
-decreases-loop-rest l = length l.rest
+abbrev pub decreases-loop-items : goal.decreases-loop-items
+decreases-loop-items l = length l.items.rest

@@ -1,7 +1,18 @@
-use Rattle.std.proofs.Common.{ap, sym, ◌∙◌}
-use Rattle.rlp.specs.Format.Framing.{value}
-use Rattle.rlp.proofs.Printing.{depth-fault, shallow-other}
+use Rattle.std.proofs.Common.{◌≡◌, ◌≤◌, ◌↔◌, IsTrue, ℕ, ap, subst, sym, ◌∙◌}
+use Rattle.rlp_format.specs.Format.Framing.{value}
+use Rattle.rlp_format.specs.Views.Depth.{depth}
+use Rattle.rlp_format.specs.Views.View.{View}
+use Rattle.rlp_format.proofs.Following.{depth-followed}
+use Rattle.rlp_format.proofs.Printing.{depth-fault, shallow-other}
 use Rattle.rlp.proofs.rlpin.rlp.Rlp.is_nested_within.Goals as goal
 
+pub returns-in-Ok : goal.returns-in-Ok
+returns-in-Ok c =
+    let same : c.self.inside.bytes.now ≡ c.args.self.now.bytes = ap (λ (v : View). v.bytes) c.self.view_is in
+    let whole : depth c.args.self.now.bytes ≡ depth c.in-Ok.framed.item.now = ap depth (sym same ∙ c.in-Ok.ensures.whole) ∙ depth-followed c.in-Ok.framed.item.now c.in-Ok.field-0-1.now c.in-Ok.ensures.item in
+    subst (λ (n : ℕ). IsTrue c.is_nested_within.result ↔ (n ≤ c.args.limit)) (sym whole) c.is_nested_within.ensures
+
 pub returns-in-Err : goal.returns-in-Err
-returns-in-Err c = shallow-other c.args.self.now.bytes c.args.limit (depth-fault c.args.self.now.bytes c.in-Err.field-0 (sym (ap value c.as_raw.ensures) ∙ c.in-Err.ensures))
+returns-in-Err c =
+    let same : c.self.inside.bytes.now ≡ c.args.self.now.bytes = ap (λ (v : View). v.bytes) c.self.view_is in
+    shallow-other c.args.self.now.bytes c.args.limit (depth-fault c.args.self.now.bytes c.in-Err.field-0 (ap value (sym same) ∙ c.in-Err.ensures.value))

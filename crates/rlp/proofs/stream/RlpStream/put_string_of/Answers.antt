@@ -1,9 +1,0 @@
-use Rattle.std.proofs.Common.{reverse}
-use Rattle.rlp.proofs.Laid.{state_put}
-use Rattle.rlp.proofs.stream.RlpStream.put_string_of.Goals as goal
-
-pub returns-clause-ok : goal.returns-clause-ok
-returns-clause-ok g c =
-    let i = c.self.inside in
-    let written = c.in_ok-write_string_of.ensures.ok in
-    (written.0, written.1, rw (written.2, ← c.self.view_is) (state_put i.start i.buffer.items _ (reverse i.lists.items) i.finished_list c.self.invariant))

@@ -1,9 +1,0 @@
-use Rattle.std.proofs.Common.{refl, arith}
-use Rattle.rlp.proofs.Closing.{set_last}
-use Rattle.rlp.proofs.stream.open_lists.set_innermost.Goals as goal
-
-pub returns-in-Some : goal.returns-in-Some
-returns-in-Some c =
-    let h = c.in-Some.ensures in
-    let some = h.variant.0 refl in
-    set_last (λ _. c.args.awaits) _ c.args.lists.now.items c.in-Some.list.now _ (omega arith) (omega arith) h.value refl

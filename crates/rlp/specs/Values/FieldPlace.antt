@@ -1,0 +1,22 @@
+-- Where a reader of fields is.
+use Rattle.std.specs.Prelude.{ℕ, ◌≡◌, ◌≤◌, List, None, Err, length, drop}
+use Rattle.rlp_format.specs.Format.Framing.{fault}
+use Rattle.rlp_format.specs.Format.Split.{items, split}
+use Rattle.rlp_format.specs.Format.Strict.{after_items}
+use Rattle.rlp_format.specs.Views.View.{View, item_at, items_fault}
+
+-- What a reader of fields is at: the view whose items are the fields, and the number of items that it took.
+pub record FieldPlace : Type 0 where
+  pub view : View
+  pub place : ℕ
+
+-- a reader of these fields that took so many
+abbrev pub field_place : View → ℕ → FieldPlace
+field_place v n = record { view = v; place = n }
+
+-- After so many items of a view, these bytes are left. Items are told by number, and past the last one each number has the fault of what follows the items.
+pub record IsAtPlace (v : View) (place : ℕ) (left : List ℕ) : Type 0 where
+  pub told : items_fault v ≡ None
+  pub others : split left ≡ drop place (items v.bytes)
+  pub few : place ≤ length (items v.bytes)
+  pub past : (i : ℕ) → length (items v.bytes) ≤ i → item_at v i ≡ Err (fault (after_items left))

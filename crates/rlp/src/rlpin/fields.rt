@@ -1,0 +1,181 @@
+//! The items of a list, read in order as values.
+
+ghost use Rattle.std.specs.Prelude.{◌≡◌, ◌+◌, ◌⊎◌, None, Some, Ok, Err, IfOk, IfErr, MatchResult, OnOk, OnErr};
+ghost use Rattle.rlp_format.specs.declared.error.DecoderError.TheVariants.{OutOfMemory};
+ghost use Rattle.rlp_format.specs.Views.View.{item_at, item_count, items_fault};
+ghost use Rattle.rlp.specs.Values.FieldPlace.{IsAtPlace};
+ghost use Rattle.rlp.specs.Values.ListReading.{FaultsAsFields, FaultsAsList, FaultsAt, GivesAt, GivesList, GivesSomeAt, MayLackAsList, MayLackAt, ReadsValue};
+
+use crate::rlpin::rlp::Rlp;
+use crate::traits::Decodable;
+use rlp_format::count::Count;
+use rlp_format::error::DecoderError;
+use rlp_format::framed::first_framed;
+use rlp_format::items::ItemReader;
+use std::alloc::Global;
+use std::marker::Model;
+
+/// The items of a list, read one after another. Contracts see it as the record `FieldPlace` of the
+/// view and the number of items that were taken.
+///
+/// It keeps its place, so the header of each item is read once, where [`Rlp::val_at`] begins at the
+/// start of the list each time. What it answers is what [`Rlp::val_at`], [`Rlp::list_at`] and
+/// [`Rlp::at`] answer of that number.
+///
+/// ```rust
+/// let list = rlp::Rlp::new(&[0xc5, 0x05, 0x83, b'c', b'a', b't']);
+/// let mut fields = list.fields_of(2)?;
+/// assert_eq!(rt; fields.next_value::<u64>(alloc)?, 5);
+/// assert_eq!(rt; fields.next_value::<String>(alloc)?.as_str(), "cat");
+/// ```
+#[derive(Drop)]
+pub struct Fields<'a> {
+    rlp: Rlp<'a>,
+    items: ItemReader<'a>,
+    // How many items were taken.
+    taken: Count,
+}
+
+impl<'a> Model for Fields<'a> {
+    ghost use Rattle.rlp.specs.Values.FieldPlace.{FieldPlace, IsAtPlace};
+
+    ghost Value = { FieldPlace };
+
+    ghost view = { λ f. record { view = f.rlp; place = f.taken.total } };
+
+    ghost invariant = { λ f. IsAtPlace f.rlp f.taken.total f.items.rest };
+}
+
+impl<'a> Rlp<'a> {
+    /// The items of the list that the view begins with, to be read in order.
+    ///
+    /// The faults are those of [`Rlp::item_count`].
+    pub fn fields(&self) -> Result<Fields<'a>, DecoderError>
+        ensures read { IfOk result (λ f. f ≡ record { view = self.now; place = 0 }) }
+        ensures fault { MatchResult result (λ _. items_fault self.now ≡ None)
+            (λ e. items_fault self.now ≡ Some e) }
+    {
+        match self.check_items() {
+            Ok(()) => Ok(Fields::over(self)),
+            Err(fault) => Err(fault),
+        }
+    }
+
+    /// The same, of a list of `len` items. Another number of them is `RlpIncorrectListLen`.
+    #[tactic(auto, using(crate::proofs::InOrder::counted_fields))]
+    pub fn fields_of(&self, len: usize) -> Result<Fields<'a>, DecoderError>
+        ensures read { IfOk result (λ f. f ≡ record { view = self.now; place = 0 }) }
+        ensures count { OnOk result (item_count self.now ≡ Ok len) }
+        ensures fault { IfErr result (λ e. FaultsAsFields len (λ _ _. ⊥) self.now e) }
+    {
+        match self.item_count() {
+            Ok(count) => {
+                if count != len {
+                    return Err(DecoderError::RlpIncorrectListLen);
+                }
+                Ok(Fields::over(self))
+            }
+            Err(fault) => Err(fault),
+        }
+    }
+}
+
+impl<'a> Fields<'a> {
+    /// Before the first item of a view whose items are told by number.
+    fn over(rlp: &Rlp<'a>) -> Fields<'a>
+        requires { items_fault rlp.now ≡ None }
+        ensures { result ≡ record { view = rlp.now; place = 0 } }
+    {
+        match first_framed(rlp.as_raw()) {
+            Ok((list, _)) => Fields::before(rlp, list.content),
+            Err(_) => Fields::before(rlp, rlp.as_raw()),
+        }
+    }
+
+    /// Before the items that these bytes begin with, which are those of the view.
+    fn before(rlp: &Rlp<'a>, left: &'a [u8]) -> Fields<'a>
+        requires { IsAtPlace rlp.now 0 left.now }
+        ensures { result ≡ record { view = rlp.now; place = 0 } }
+    {
+        Fields {
+            rlp: rlp.clone(),
+            items: ItemReader::new(left),
+            taken: Count::new(),
+        }
+    }
+
+    /// The next item.
+    ///
+    /// The fault past the last one is that of [`Rlp::at`], and no item is taken then.
+    pub fn next_view(&mut self) -> Result<Rlp<'a>, DecoderError>
+        ensures exact { result ≡ item_at self.old.view self.old.place }
+        ensures next { OnOk result (self.new ≡ record self.old { place = self.old.place + 1 }) }
+        ensures stays { OnErr result (self.new ≡ self.old) }
+    {
+        match self.items.next_framed() {
+            Ok(framed) => {
+                self.taken.add(1);
+                Ok(self.rlp.with_bytes(framed.item))
+            }
+            Err(fault) => Err(fault),
+        }
+    }
+
+    /// The value of the next item, as [`Rlp::val_at`] reads it.
+    #[tactic(auto, using(crate::proofs::ListValues::some_given))]
+    pub fn next_value<T: Decodable>(&mut self, alloc: Global) -> Result<T, DecoderError>
+        ensures exact { MatchResult (item_at self.old.view self.old.place)
+            (λ item. ReadsValue T.gives T.faults T.may_lack_memory item result)
+            (λ e. result ≡ Err e) }
+        ensures value { IfOk result (λ x. GivesAt T.gives self.old.view self.old.place x) }
+        ensures some { OnOk result (GivesSomeAt T.gives self.old.view self.old.place) }
+        ensures fault { IfErr result (λ e. (FaultsAt T.faults self.old.view self.old.place e)
+            ⊎ ((e ≡ OutOfMemory) × MayLackAt T.may_lack_memory self.old.view self.old.place)) }
+        ensures next { OnOk result (self.new ≡ record self.old { place = self.old.place + 1 }) }
+        ensures taken { MatchResult (item_at self.old.view self.old.place)
+            (λ _. self.new ≡ record self.old { place = self.old.place + 1 })
+            (λ _. self.new ≡ self.old) }
+    {
+        match self.next_view() {
+            Ok(item) => item.as_val(alloc),
+            Err(fault) => Err(fault),
+        }
+    }
+
+    /// The values of the items of the next item, as [`Rlp::list_at`] reads them.
+    pub fn next_list<T: Decodable>(&mut self, alloc: Global) -> Result<Vec<T>, DecoderError>
+        ensures exact { MatchResult (item_at self.old.view self.old.place)
+            (λ item. MatchResult result (λ values. GivesList T.gives item values.items)
+            (λ e. (FaultsAsList T.gives T.faults item e)
+            ⊎ ((e ≡ OutOfMemory) × MayLackAsList T.gives T.may_lack_memory item)))
+            (λ e. result ≡ Err e) }
+        ensures value { IfOk result (λ values. GivesAt (λ item xs. GivesList T.gives item xs)
+            self.old.view self.old.place values.items) }
+        ensures fault { IfErr result (λ e.
+            (FaultsAt (λ item f. FaultsAsList T.gives T.faults item f)
+            self.old.view self.old.place e)
+            ⊎ ((e ≡ OutOfMemory) × MayLackAt (λ item. MayLackAsList T.gives T.may_lack_memory item)
+            self.old.view self.old.place)) }
+        ensures next { OnOk result (self.new ≡ record self.old { place = self.old.place + 1 }) }
+        ensures taken { MatchResult (item_at self.old.view self.old.place)
+            (λ _. self.new ≡ record self.old { place = self.old.place + 1 })
+            (λ _. self.new ≡ self.old) }
+    {
+        match self.next_view() {
+            Ok(item) => item.as_list(alloc),
+            Err(fault) => Err(fault),
+        }
+    }
+
+    /// Tests whether each item was taken. Where one is left it is `RlpIncorrectListLen`.
+    pub fn finish(self) -> Result<(), DecoderError>
+        ensures all { OnOk result (item_count self.entry.view ≡ Ok self.entry.place) }
+        ensures fault { IfErr result (λ e.
+            FaultsAsFields self.entry.place (λ _ _. ⊥) self.entry.view e) }
+    {
+        match first_framed(self.items.rest()) {
+            Ok(_) => Err(DecoderError::RlpIncorrectListLen),
+            Err(_) => Ok(()),
+        }
+    }
+}

@@ -1,0 +1,247 @@
+-- How the state that a stream's bytes stand for follows what is put, opened and counted.
+use Rattle.std.proofs.Common.{◌≡◌, ℕ, zero, suc, nat_eq, nat_lt, ◌+◌, ◌<◌, ◌≤◌, Bool, true, false, IsTrue, cond, List, [], ◌∷◌, ◌++◌, length, take, drop, Some, refl, sym, ◌∙◌, ap, arith, append_assoc, append-nil, length-append, length-drop, subst}
+use Rattle.std.proofs.lemmas.Bool.{cond_both}
+use Rattle.std.proofs.lemmas.Bool.Decides.{nat_tests}
+use Rattle.std.proofs.lemmas.List.{take-take, take-append-le, drop-append-le, take_at, drop_all, length-take-le, length_push, take-append-drop}
+use Rattle.rlp_buffer.specs.declared.open_lists.Placeholder.{Placeholder}
+use Rattle.rlp_buffer.specs.Streams.Stack.{OpenList, is_last, awaits_after, count_around, mark_after, is_unbounded, closed_payload_around}
+use Rattle.rlp_format.specs.Format.WrittenHeader.{written_header}
+use Rattle.rlp_buffer.specs.Streams.Stream.{list_encoding, put, shut, with_list, with_mark, count, raw_text, closed_size}
+use Rattle.rlp_buffer.specs.Streams.Placeholders.{begin_of, lists_of, Placed, IsLaid, Descends, with_innermost}
+use Rattle.rlp_buffer.specs.Streams.Closing.{filled, counted, closed_bytes, left_of}
+use Rattle.rlp_buffer.specs.Streams.Layout.{stack_of, state_of}
+use Rattle.rlp_buffer.proofs.States.{raw_text-put, raw_text-with_list}
+use Rattle.rlp_buffer.proofs.Awaits.{await-after}
+use Rattle.rlp_buffer.proofs.Closings.{header_some}
+
+-- ---- places
+
+-- the front ends within the bytes
+pub start_le : (start : ℕ) (b : List ℕ) (ps : List Placeholder) → IsLaid start b ps → start ≤ length b
+start_le start b [] h = h
+start_le start b (p ∷ ps) h =
+    let within = h.0.within in
+    let below : start ≤ length (take p.position b) = start_le start (take p.position b) ps h.1 in
+    omega (arith, below, length-take-le p.position b (omega arith))
+
+begin_le : (start : ℕ) (b : List ℕ) (ps : List Placeholder) → IsLaid start b ps → begin_of start ps ≤ length b
+begin_le start b [] h = h
+begin_le start b (p ∷ ps) h = omega (arith, h.0.within)
+
+-- the places of the open lists descend from the end of the bytes
+pub laid_descends : (start : ℕ) (b : List ℕ) (ps : List Placeholder) → IsLaid start b ps → Descends (length b) ps
+laid_descends start b [] h = tt
+laid_descends start b (p ∷ ps) h =
+    let within = h.0.within in
+    (h.0.within, rw (length-take-le p.position b (omega arith)) at (laid_descends start (take p.position b) ps h.1))
+
+-- what was left of the innermost placeholder
+pub below_front : (start : ℕ) (b : List ℕ) (p : Placeholder) (ps : List Placeholder) → IsLaid start b (p ∷ ps) → take start (take p.position b) ≡ take start b
+below_front start b p ps h =
+    let within = h.0.within in
+    let below = start_le start (take p.position b) ps h.1 in
+    take-take start p.position b (omega (arith, below, length-take-le p.position b (omega arith)))
+
+-- ---- bytes are put
+
+lists_append : (start : ℕ) (b x : List ℕ) (ps : List Placeholder) → IsLaid start b ps → lists_of start (b ++ x) ps ≡ lists_of start b ps
+lists_append start b x [] h = refl
+lists_append start b x (p ∷ ps) h =
+    let within = h.0.within in
+    rw (take-append-le p.position b x (omega arith)) refl
+
+-- bytes at the end of the buffer are put in the state
+pub state_put : (start : ℕ) (b x : List ℕ) (ps : List Placeholder) (m : Bool) → IsLaid start b ps → state_of start (b ++ x) ps m ≡ put x (state_of start b ps m)
+state_put start b x ps m h =
+    rw (take-append-le start b x (start_le start b ps h), drop-append-le (begin_of start ps) b x (begin_le start b ps h), lists_append start b x ps h) refl
+
+placed_append : (b x : List ℕ) (p : Placeholder) → Placed b p → Placed (b ++ x) p
+placed_append b x p h =
+    let within = h.within in
+    let placeholder : b ++ x ≡ take p.position (b ++ x) ++ (0 ∷ drop (p.position + 1) (b ++ x)) =
+    rw (take-append-le p.position b x (omega arith), drop-append-le (p.position + 1) b x (omega arith))
+    (ap (λ c. c ++ x) h.placeholder ∙ append_assoc (take p.position b) (0 ∷ drop (p.position + 1) b) x) in
+    record { within = omega (arith, length-append b x); placeholder = placeholder; awaits_some = h.awaits_some }
+
+-- with bytes more at the end the open lists are laid as before
+pub laid_append : (start : ℕ) (b x : List ℕ) (ps : List Placeholder) → IsLaid start b ps → IsLaid start (b ++ x) ps
+laid_append start b x [] h = omega (arith, length-append b x, h)
+laid_append start b x (p ∷ ps) h =
+    let within = h.0.within in
+    (placed_append b x p h.0, rw (take-append-le p.position b x (omega arith)) h.1)
+
+-- ---- a list opens at the end of the bytes
+
+-- a byte 0 at the end of the buffer is a new list of the state
+pub state_opened : (start : ℕ) (b : List ℕ) (ps : List Placeholder) (m : Bool) (p : Placeholder) → IsLaid start b ps → p.position ≡ length b
+    → state_of start (b ++ 0 ∷ []) (p ∷ ps) false ≡ with_list p.awaits (state_of start b ps m)
+state_opened start b ps m p h e =
+    let none : drop (p.position + 1) (b ++ 0 ∷ []) ≡ [] = drop_all (p.position + 1) (b ++ 0 ∷ []) (omega (arith, length_push b 0)) in
+    let rest : take p.position (b ++ 0 ∷ []) ≡ b = take_at b (0 ∷ []) p.position (sym e) in
+    rw (take-append-le start b (0 ∷ []) (start_le start b ps h), none, rest) refl
+
+-- ---- the bytes are those of the state
+
+-- the bytes are the state's raw text
+pub raw_state : (start : ℕ) (b : List ℕ) (ps : List Placeholder) (m : Bool) → IsLaid start b ps → b ≡ raw_text (state_of start b ps m)
+raw_state start b [] m h = sym (ap (λ t. take start b ++ t) (append-nil (drop start b)) ∙ take-append-drop start b)
+raw_state start b (p ∷ ps) m h =
+    let around = state_of start (take p.position b) ps m in
+    let inside = put (drop (p.position + 1) b) (with_list p.awaits around) in
+    let front : state_of start b (p ∷ ps) m ≡ record inside { front = take start b; mark = m } = refl in
+    let same : raw_text inside ≡ raw_text (state_of start b (p ∷ ps) m) = rw (below_front start b p ps h) refl in
+    h.0.placeholder
+    ∙ (ap (λ c. c ++ (0 ∷ drop (p.position + 1) b)) (raw_state start (take p.position b) ps m h.1)
+    ∙ (sym (append_assoc (raw_text around) (0 ∷ []) (drop (p.position + 1) b))
+    ∙ (ap (λ c. c ++ drop (p.position + 1) b) (sym (raw_text-with_list p.awaits around))
+    ∙ (sym (raw_text-put (drop (p.position + 1) b) (with_list p.awaits around)) ∙ same))))
+
+-- ---- items are counted
+
+count_laid_by : (full : Bool) (k start : ℕ) (b tail : List ℕ) (p : Placeholder) (ps : List Placeholder) → is_last k p.awaits ≡ full → IsLaid start b (p ∷ ps)
+    → stack_of start (closed_bytes (filled 1 ps) (take p.position b) (list_encoding (drop (p.position + 1) b ++ tail)) ps) (counted 1 ps)
+    ≡ count_around list_encoding 1 (drop (begin_of start ps) (take p.position b) ++ list_encoding (drop (p.position + 1) b ++ tail)) (lists_of start (take p.position b) ps)
+    → stack_of start (closed_bytes (filled k (p ∷ ps)) b tail (p ∷ ps)) (counted k (p ∷ ps)) ≡ count_around list_encoding k (drop (p.position + 1) b ++ tail) (lists_of start b (p ∷ ps))
+count_laid_by true k start b tail p ps e h around = rw e around
+count_laid_by false k start b tail p ps e h around =
+    let within = h.0.within in
+    rw (e, drop-append-le (p.position + 1) b tail (omega arith), take-append-le p.position b tail (omega arith)) refl
+
+-- closing all the lists that the count fills is counting, where `tail` was put behind the bytes
+pub count_laid : (k start : ℕ) (b tail : List ℕ) (ps : List Placeholder) → IsLaid start b ps
+    → stack_of start (closed_bytes (filled k ps) b tail ps) (counted k ps) ≡ count_around list_encoding k (drop (begin_of start ps) b ++ tail) (lists_of start b ps)
+count_laid k start b tail [] h = rw (drop-append-le start b tail h) refl
+count_laid k start b tail (p ∷ ps) h =
+    count_laid_by (is_last k p.awaits) k start b tail p ps refl h (count_laid 1 start (take p.position b) (list_encoding (drop (p.position + 1) b ++ tail)) ps h.1)
+
+front_closed : (n start : ℕ) (b tail : List ℕ) (ps : List Placeholder) → IsLaid start b ps → take start (closed_bytes n b tail ps) ≡ take start b
+front_closed zero start b tail ps h = take-append-le start b tail (start_le start b ps h)
+front_closed (suc n) start b tail [] h = take-append-le start b tail h
+front_closed (suc n) start b tail (p ∷ ps) h =
+    front_closed n start (take p.position b) (list_encoding (drop (p.position + 1) b ++ tail)) ps h.1 ∙ below_front start b p ps h
+
+laid_counted_by : (full : Bool) (k start : ℕ) (b tail : List ℕ) (p : Placeholder) (ps : List Placeholder) → is_last k p.awaits ≡ full → IsLaid start b (p ∷ ps)
+    → IsLaid start (closed_bytes (filled 1 ps) (take p.position b) (list_encoding (drop (p.position + 1) b ++ tail)) ps) (counted 1 ps)
+    → IsLaid start (closed_bytes (filled k (p ∷ ps)) b tail (p ∷ ps)) (counted k (p ∷ ps))
+laid_counted_by true k start b tail p ps e h around = rw e around
+laid_counted_by false k start b tail p ps e h around =
+    let q : Placeholder = record { position = p.position; awaits = awaits_after k p.awaits } in
+    let placed : Placed b q = record { within = h.0.within; placeholder = h.0.placeholder; awaits_some = await-after k p.awaits h.0.awaits_some e } in
+    rw e (laid_append start b tail (q ∷ ps) (placed, h.1))
+
+laid_counted_with : (k start : ℕ) (b tail : List ℕ) (ps : List Placeholder) → IsLaid start b ps → IsLaid start (closed_bytes (filled k ps) b tail ps) (counted k ps)
+laid_counted_with k start b tail [] h = laid_append start b tail [] h
+laid_counted_with k start b tail (p ∷ ps) h =
+    laid_counted_by (is_last k p.awaits) k start b tail p ps refl h (laid_counted_with 1 start (take p.position b) (list_encoding (drop (p.position + 1) b ++ tail)) ps h.1)
+
+-- the lists that a count leaves open are laid in what it leaves of the bytes
+pub laid_counted : (k start : ℕ) (b : List ℕ) (ps : List Placeholder) → IsLaid start b ps → IsLaid start (closed_bytes (filled k ps) b [] ps) (counted k ps)
+laid_counted k start b ps h = laid_counted_with k start b [] ps h
+
+-- the flat bytes after counting are those of the counted state
+pub state_counted : (k start : ℕ) (b : List ℕ) (ps : List Placeholder) (m n : Bool) → IsLaid start b ps → n ≡ mark_after k (lists_of start b ps) m
+    → state_of start (closed_bytes (filled k ps) b [] ps) (counted k ps) n ≡ count k (state_of start b ps m)
+state_counted k start b ps m n h e =
+    let stack : stack_of start (closed_bytes (filled k ps) b [] ps) (counted k ps) ≡ count_around list_encoding k (drop (begin_of start ps) b) (lists_of start b ps) =
+    count_laid k start b [] ps h ∙ ap (λ payload. count_around list_encoding k payload (lists_of start b ps)) (append-nil (drop (begin_of start ps) b)) in
+    rw (front_closed (filled k ps) start b [] ps h, stack, e) refl
+
+-- ---- the mark, and how many lists are left
+
+-- a list was closed where the mark is true after a count
+pub mark_laid : (k start : ℕ) (b : List ℕ) (p : Placeholder) (ps : List Placeholder) (m : Bool) → mark_after k (lists_of start b (p ∷ ps)) m ≡ nat_lt 0 (filled k (p ∷ ps))
+mark_laid k start b p ps m = by_full (is_last k p.awaits) (filled 1 ps)
+  where
+    by_full : (full : Bool) (n : ℕ) → full ≡ nat_lt 0 (cond full (suc n) 0)
+    by_full true n = grind (arith, nat_tests)
+    by_full false n = refl
+
+-- a count opens no list
+pub length_counted : (k : ℕ) (ps : List Placeholder) → length (counted k ps) ≤ length ps
+length_counted k [] = omega arith
+length_counted k (p ∷ ps) =
+    cond_both (is_last k p.awaits) (counted 1 ps) (record p { awaits = awaits_after k p.awaits } ∷ ps) (λ (qs : List Placeholder). length qs ≤ length (p ∷ ps))
+    (λ _. let less = length_counted 1 ps in omega arith)
+    (λ _. omega arith)
+
+-- ---- the bytes moved
+
+length_list_encoding : (payload : List ℕ) → length payload < length (list_encoding payload)
+length_list_encoding payload = omega (arith, length-append (written_header 0xc0 (length payload)) payload, header_some (length payload))
+
+-- closing takes no byte away
+length_closed : (n start : ℕ) (b tail : List ℕ) (ps : List Placeholder) → IsLaid start b ps → length b + length tail ≤ length (closed_bytes n b tail ps)
+length_closed zero start b tail ps h = omega (arith, length-append b tail)
+length_closed (suc n) start b tail [] h = omega (arith, length-append b tail)
+length_closed (suc n) start b tail (p ∷ ps) h =
+    let within = h.0.within in
+    let payload = drop (p.position + 1) b ++ tail in
+    let more : length (take p.position b) + length (list_encoding payload) ≤ length (closed_bytes n (take p.position b) (list_encoding payload) ps) =
+    length_closed n start (take p.position b) (list_encoding payload) ps h.1 in
+    omega (arith, more, length-take-le p.position b (omega arith), length_list_encoding payload, length-append (drop (p.position + 1) b) tail, length-drop (p.position + 1) b)
+
+begin_counted_by : (full : Bool) (k start : ℕ) (b : List ℕ) (p : Placeholder) (ps : List Placeholder) → is_last k p.awaits ≡ full → IsLaid start b (p ∷ ps) → begin_of start (counted 1 ps) ≤ left_of (filled 1 ps) p.position ps
+    → begin_of start (counted k (p ∷ ps)) ≤ left_of (filled k (p ∷ ps)) (length b) (p ∷ ps)
+begin_counted_by true k start b p ps e h around = rw e around
+begin_counted_by false k start b p ps e h around = let within = h.0.within in rw e (let low : p.position + 1 ≤ length b = omega arith in low)
+
+-- the innermost payload begins, after counting, below all that was closed
+begin_counted : (k start : ℕ) (b : List ℕ) (ps : List Placeholder) → IsLaid start b ps → begin_of start (counted k ps) ≤ left_of (filled k ps) (length b) ps
+begin_counted k start b [] h = h
+begin_counted k start b (p ∷ ps) h =
+    let within = h.0.within in
+    let around : begin_of start (counted 1 ps) ≤ left_of (filled 1 ps) (length (take p.position b)) ps = begin_counted 1 start (take p.position b) ps h.1 in
+    let len : length (take p.position b) ≡ p.position = length-take-le p.position b (omega arith) in
+    begin_counted_by (is_last k p.awaits) k start b p ps refl h (subst (λ end. begin_of start (counted 1 ps) ≤ left_of (filled 1 ps) end ps) len around)
+
+-- the innermost payload is part of what is closed
+inner_closed : (p : List ℕ) (ls : List (OpenList ℕ)) → length p ≤ length (closed_payload_around list_encoding p ls)
+inner_closed p [] = omega arith
+inner_closed p (l ∷ ls) =
+    omega (arith, inner_closed (l.outer ++ list_encoding p) ls, length-append l.outer (list_encoding p), length_list_encoding p)
+
+-- what closings moved is at most the closed size
+pub moved_counted : (k start : ℕ) (b : List ℕ) (ps : List Placeholder) (n : Bool) (old new : ℕ) → IsLaid start b ps → new + left_of (filled k ps) (length b) ps ≤ old + length b
+    → new ≤ old + closed_size (state_of start (closed_bytes (filled k ps) b [] ps) (counted k ps) n)
+moved_counted k start b ps n old new h moved =
+    let after = closed_bytes (filled k ps) b [] ps in
+    let begin = begin_of start (counted k ps) in
+    let longer : length b + 0 ≤ length after = length_closed (filled k ps) start b [] ps h in
+    let low : begin ≤ left_of (filled k ps) (length b) ps = begin_counted k start b ps h in
+    let inner : length (drop begin after) ≤ closed_size (state_of start after (counted k ps) n) = inner_closed (drop begin after) (lists_of start after (counted k ps)) in
+    omega (arith, moved, longer, low, inner, length-drop begin after)
+
+-- ---- as a stream's methods cite it
+
+-- the mark after a count, where some list is open
+pub mark_open : (k start : ℕ) (b : List ℕ) (ps : List Placeholder) (m n : Bool) → 0 < length ps → n ≡ nat_lt 0 (filled k ps) → n ≡ mark_after k (lists_of start b ps) m
+mark_open k start b [] m n some e = absurd (let no : 0 < 0 = some in omega arith)
+mark_open k start b (p ∷ ps) m n some e = e ∙ sym (mark_laid k start b p ps m)
+
+-- the state after bytes were put and items counted
+pub state_put_counted : (k start : ℕ) (b x : List ℕ) (ps : List Placeholder) (m n : Bool) → IsLaid start b ps → n ≡ mark_after k (lists_of start b ps) m
+    → state_of start (closed_bytes (filled k ps) (b ++ x) [] ps) (counted k ps) n ≡ count k (put x (state_of start b ps m))
+state_put_counted k start b x ps m n h e =
+    state_counted k start (b ++ x) ps m n (laid_append start b x ps h) (e ∙ ap (λ ls. mark_after k ls m) (sym (lists_append start b x ps h))) ∙ ap (count k) (state_put start b x ps m h)
+
+-- a number that isn't 0 is greater
+pub not_empty : (n : ℕ) → false ≡ nat_eq n 0 → 0 < n
+not_empty n e = grind (arith, nat_tests)
+
+-- ---- an unbounded list is finalized: it is closed as one that awaits its last item
+
+-- the lists, of which the innermost awaits one item
+abbrev pub with_last : List Placeholder → List Placeholder
+with_last ps = with_innermost (λ _. Some 1) ps
+
+-- a list that awaits one item is laid as it was
+pub laid_last : (start : ℕ) (b : List ℕ) (ps : List Placeholder) → IsLaid start b ps → IsLaid start b (with_last ps)
+laid_last start b [] h = h
+laid_last start b (p ∷ ps) h = (record { within = h.0.within; placeholder = h.0.placeholder; awaits_some = omega arith }, h.1)
+
+-- to finalize the innermost list is to count the one item that it awaits
+pub state_finalized : (start : ℕ) (b : List ℕ) (ps : List Placeholder) (m : Bool) → IsLaid start b ps → IsTrue (is_unbounded (lists_of start b ps))
+    → state_of start (closed_bytes (filled 1 (with_last ps)) b [] (with_last ps)) (counted 1 (with_last ps)) true ≡ with_mark true (count 1 (shut (state_of start b ps m)))
+state_finalized start b [] m h unbounded = absurd (let no : ⊥ = cc in no)
+state_finalized start b (p ∷ ps) m h unbounded =
+    state_counted 1 start b (with_last (p ∷ ps)) m true (laid_last start b (p ∷ ps) h) refl

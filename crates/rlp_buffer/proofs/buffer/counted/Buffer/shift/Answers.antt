@@ -1,0 +1,7 @@
+use Rattle.std.proofs.Common.{arith}
+use Rattle.rlp_buffer.proofs.Closings.{shifted_none}
+use Rattle.rlp_buffer.proofs.buffer.counted.Buffer.shift.Goals as goal
+
+pub returns-else-from-to-clause-items : goal.returns-else-from-to-clause-items
+returns-else-from-to-clause-items c =
+    shifted_none c.args.self.now.items c.args.from c.args.len c.args.to (omega arith)

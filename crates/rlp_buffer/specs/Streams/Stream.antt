@@ -1,0 +1,120 @@
+-- The state of a stream of encodings, and its moves.
+use Rattle.std.specs.Prelude.{ℕ, ◌≡◌, ◌+◌, ◌^◌, ◌<◌, ◌≤◌, Bool, true, false, ◌||◌, if◌then◌else◌, List, [], ◌∷◌, ◌++◌, Option, length, flat_map, replicate}
+use Rattle.rlp_format.specs.Format.WrittenHeader.{written_header}
+use Rattle.rlp_format.specs.Format.Item.{Item, string, list}
+use Rattle.rlp_format.specs.Format.Encoding.{encoding}
+use Rattle.rlp_buffer.specs.Streams.Stack.{Stack, empty_stack, top, levels, stack_put, stack_with_list, stack_shut, stack_count, closed_payload, mark_after}
+
+-- The bytes handed in at the start; the payloads and the open lists; and the counted mark, which tells a caller of `rlp_append` whether the value counted itself.
+pub record State : Type 0 where
+  pub front : List ℕ
+  pub stack : Stack ℕ
+  pub mark : Bool
+
+-- What clauses see of a stream: its state; how many more bytes its buffer takes with no allocation; how many more lists it opens with none; and how many payload bytes its closings have moved.
+pub record Seen : Type 0 where
+  pub state : State
+  pub spare : ℕ
+  pub spare_lists : ℕ
+  pub moved : ℕ
+
+-- The state is the old one, the mark included, and no payload byte was moved. The room may be another.
+abbrev pub IsAsBefore : Seen → Seen → Type 0
+IsAsBefore old new = (new.state ≡ old.state) × (new.moved ≡ old.moved)
+
+-- a new stream over these bytes
+abbrev pub initial_state : List ℕ → State
+initial_state front = record { front = front; stack = empty_stack; mark = false }
+
+-- no list is open
+abbrev pub IsFinished : State → Type 0
+IsFinished s = s.stack.lists ≡ []
+
+-- the encoding of a list, by the joined encodings of its items
+abbrev pub list_encoding : List ℕ → List ℕ
+list_encoding payload = written_header 0xc0 (length payload) ++ payload
+
+-- ---- moves
+
+-- x goes to the end of the innermost payload, or of the top's
+abbrev pub put : List ℕ → State → State
+put x s = record s { stack = stack_put x s.stack }
+
+-- the innermost list is taken off, and its header and payload are put
+abbrev pub shut : State → State
+shut s = record s { stack = stack_shut list_encoding s.stack }
+
+-- K items are counted. With no open list nothing changes. An unbounded innermost list has the mark become false. A bounded one awaits k fewer: at 0 it is shut, one item is counted in the list around it, and the mark becomes true; else the mark becomes false.
+abbrev pub count : ℕ → State → State
+count k s = record { front = s.front; stack = stack_count list_encoding k s.stack; mark = mark_after k s.stack.lists s.mark }
+
+-- the state but for the mark, which is this one
+abbrev pub with_mark : Bool → State → State
+with_mark mark s = record s { mark = mark }
+
+-- a new list with an empty payload, which awaits so many items, and the mark false
+abbrev pub with_list : Option ℕ → State → State
+with_list awaits s = record { front = s.front; stack = stack_with_list awaits s.stack; mark = false }
+
+-- ---- the effect of items
+
+-- whether an item is a list
+abbrev pub is_list : Item → Bool
+is_list (string s) = false
+is_list (list xs) = true
+
+-- an appended item: the mark is false, the encoding is put, one is counted, and the mark is true if the item is a list
+abbrev pub add : Item → State → State
+add x s = let counted : State = count 1 (put (encoding x) (with_mark false s)) in record counted { mark = is_list x || counted.mark }
+
+-- What a value's `rlp_append` does. The encoding of a string is put, and nothing else changes. That of a list is put, one is counted, and the mark is true.
+abbrev pub put_item : Item → State → State
+put_item x s = if is_list x then with_mark true (count 1 (put (encoding x) s)) else put (encoding x) s
+
+-- items appended, one after another
+abbrev pub add_all : List Item → State → State
+add_all [] s = s
+add_all (x ∷ xs) s = add_all xs (add x s)
+
+-- ---- texts
+
+-- the bytes as the buffer holds them: the front, the top, and for each open list from the outside in one byte 0 and its payload
+abbrev pub raw_text : State → List ℕ
+raw_text s = s.front ++ (top s.stack ++ flat_map (λ l. 0 ∷ l.payload) (levels s.stack))
+
+-- the top after every list was shut, whatever it awaits; the front isn't in it
+abbrev pub closed_text : State → List ℕ
+closed_text s = closed_payload list_encoding s.stack
+
+-- how many bytes there are once every list is closed
+abbrev pub closed_size : State → ℕ
+closed_size s = length (closed_text s)
+
+-- the closed size with so many more bytes put. Which bytes they are makes no difference to it.
+abbrev pub closed_size_with : ℕ → State → ℕ
+closed_size_with more s = closed_size (put (replicate more 0) s)
+
+-- ---- room
+
+-- how many bytes the buffer holds with no allocation, with those that stand in it
+abbrev pub room : Seen → ℕ
+room v = length (raw_text v.state) + v.spare
+
+-- how many lists are open at once with no allocation, with those that are open
+abbrev pub list_room : Seen → ℕ
+list_room v = length v.state.stack.lists + v.spare_lists
+
+-- what no call takes back: the count of moved bytes, and room
+pub record RetainsAll (old new : Seen) : Type 0 where
+  pub moved : old.moved ≤ new.moved
+  pub room : room old ≤ room new
+  pub list_room : list_room old ≤ list_room new
+
+-- No call takes back what was counted of moved bytes, nor gives room up. Proofs go by its lemmas, and see its fields where they unfold it.
+unfoldable pub Retains : Seen → Seen → Type 0
+Retains old new = RetainsAll old new
+
+-- The buffer has room for all bytes that it holds in the other state, which are fewer than 2^63.
+pub record HasRoomFor (v : Seen) (s : State) : Type 0 where
+  pub enough : length (raw_text s) ≤ room v
+  pub few : length (raw_text s) < 2 ^ 63

@@ -1,0 +1,77 @@
+//! Headers as they are written.
+
+ghost use Rattle.std.specs.Prelude.{◌≡◌, ◌<◌, ◌≤◌, length};
+ghost use Rattle.rlp_format.specs.Format.WrittenHeader.{big_endian, written_header};
+
+use rlp_format::digits::leading_zero_bytes;
+use std::marker::Model;
+
+/// What is added to the length of a string, where that is short.
+pub const STRING: u8 = 0x80;
+
+/// The same for the payload of a list.
+pub const LIST: u8 = 0xc0;
+
+/// The greatest length up to which a header is one byte.
+pub const SHORT: usize = 55;
+
+/// A header, computed before anything is written: the last bytes of the array.
+#[derive(Drop)]
+pub struct HeaderBytes {
+    bytes: [u8; 9],
+    start: usize,
+}
+
+impl Model for HeaderBytes {
+    ghost use Rattle.std.specs.Prelude.{ℕ, List, ◌≤◌, drop};
+
+    ghost Value = { List ℕ };
+
+    ghost view = { λ h. drop h.start h.bytes };
+
+    ghost invariant = { λ h. h.start ≤ 9 };
+}
+
+impl HeaderBytes {
+    /// Its bytes.
+    pub fn as_slice(&self) -> &[u8]
+        ensures { result.now ≡ self.now }
+    {
+        &self.bytes[self.start..]
+    }
+}
+
+/// The header of a string of so many bytes, where the base is [`STRING`], or of a list whose payload
+/// has so many, where it is [`LIST`].
+#[tactic(auto, using(crate::proofs::Written::written))]
+pub fn header(base: u8, len: usize) -> HeaderBytes
+    requires { base ≤ 0xc0 }
+    ensures { result ≡ written_header base len }
+{
+    let mut bytes = [0; 9];
+    if len <= SHORT {
+        bytes[8] = base + len as u8;
+        return HeaderBytes { bytes, start: 8 };
+    }
+    let number = len as u64;
+    let zeros = leading_zero_bytes(number);
+    bytes[1..].copy_from_slice(&number.to_be_bytes());
+    bytes[zeros] = base + 55 + (8 - zeros) as u8;
+    HeaderBytes {
+        bytes,
+        start: zeros,
+    }
+}
+
+/// How many bytes the header of a list has whose payload has so many.
+#[tactic(auto, using(crate::proofs::Written::written))]
+pub fn list_header_len(len: usize) -> usize
+    ensures value { result ≡ length (written_header 0xc0 len) }
+    ensures some { 0 < result }
+    ensures few { result ≤ 9 }
+{
+    if len > SHORT {
+        return 9 - leading_zero_bytes(len as u64);
+    }
+    1
+}

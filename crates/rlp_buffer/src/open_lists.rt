@@ -1,0 +1,55 @@
+//! The open lists of a stream, as it keeps them: in the order in which they were opened.
+
+ghost use Rattle.std.specs.Prelude.{◌≡◌, reverse, take, vec_capacity};
+ghost use Rattle.rlp_buffer.specs.Streams.Stack.{awaits_after};
+ghost use Rattle.rlp_buffer.specs.Streams.Placeholders.{with_innermost, innermost_awaits, is_innermost_unbounded};
+
+/// An open list, as a stream keeps it.
+#[derive(Clone, Copy)]
+pub struct Placeholder {
+    /// Where a byte 0 stands in the place of the list's header.
+    pub position: usize,
+    /// How many items the list still awaits, or `None` where it has no bound.
+    pub awaits: Option<usize>,
+}
+
+/// What the innermost list awaits. `None` where it has no bound, and where no list is open.
+pub fn innermost_awaits(lists: &[Placeholder]) -> Option<usize>
+    ensures { result ≡ innermost_awaits (reverse lists.now) }
+{
+    lists.last()?.awaits
+}
+
+/// Whether a list is open, and the innermost has no bound.
+pub fn is_unbounded(lists: &[Placeholder]) -> bool
+    ensures { result ≡ is_innermost_unbounded (reverse lists.now) }
+{
+    match lists.last() {
+        Some(list) => list.awaits.is_none(),
+        None => false,
+    }
+}
+
+/// Has the innermost list await so many items.
+pub fn set_innermost(lists: &mut Vec<Placeholder>, awaits: Option<usize>)
+    ensures lists { reverse lists.new.items
+        ≡ with_innermost (λ _. awaits) (reverse lists.old.items) }
+    ensures list_room { vec_capacity lists.new ≡ vec_capacity lists.old }
+{
+    if let Some(list) = lists.last_mut() {
+        list.awaits = awaits;
+    }
+}
+
+/// Counts items in the innermost list, which awaits more than these.
+pub fn count_innermost(lists: &mut Vec<Placeholder>, items: usize)
+    ensures lists { reverse lists.new.items
+        ≡ with_innermost (awaits_after items) (reverse lists.old.items) }
+    ensures list_room { vec_capacity lists.new ≡ vec_capacity lists.old }
+{
+    if let Some(list) = lists.last_mut()
+        && let Some(awaited) = list.awaits
+    {
+        list.awaits = Some(awaited.saturating_sub(items));
+    }
+}

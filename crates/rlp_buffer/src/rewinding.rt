@@ -1,0 +1,47 @@
+//! Going back to where a call began that was refused on its way.
+
+ghost use Rattle.std.specs.Prelude.{◌≡◌, ◌+◌, length, reverse, take, vec_capacity};
+ghost use Rattle.rlp_buffer.specs.Streams.Placeholders.{innermost_awaits, with_innermost};
+
+use crate::buffer::Buffer;
+use crate::open_lists::{Placeholder, innermost_awaits, set_innermost};
+
+/// Where a call begins: all that it may change of what stands already.
+#[derive(Clone, Copy)]
+pub struct Place {
+    /// How many bytes the buffer holds.
+    pub len: usize,
+    /// How many lists are open.
+    pub open_count: usize,
+    /// What the innermost of them awaits.
+    pub awaits: Option<usize>,
+}
+
+/// The place at which a stream stands.
+pub fn place_of(buffer: &Buffer, lists: &Vec<Placeholder>) -> Place
+    ensures len { result.len ≡ length buffer.now.items }
+    ensures open { result.open_count ≡ length lists.now.items }
+    ensures awaits { result.awaits ≡ innermost_awaits (reverse lists.now.items) }
+{
+    Place {
+        len: buffer.len(),
+        open_count: lists.len(),
+        awaits: innermost_awaits(lists),
+    }
+}
+
+/// Takes off what was written and opened behind a place, and has the innermost list await what it
+/// awaited there.
+pub fn rewind(buffer: &mut Buffer, lists: &mut Vec<Placeholder>, place: Place)
+    ensures bytes { buffer.new.items ≡ take place.len buffer.old.items }
+    ensures spare { length buffer.new.items + buffer.new.spare
+        ≡ length buffer.old.items + buffer.old.spare }
+    ensures moved { buffer.new.moved ≡ buffer.old.moved }
+    ensures list_room { vec_capacity lists.new ≡ vec_capacity lists.old }
+    ensures lists { reverse lists.new.items
+        ≡ with_innermost (λ _. place.awaits) (reverse (take place.open_count lists.old.items)) }
+{
+    buffer.truncate(place.len);
+    lists.truncate(place.open_count);
+    set_innermost(lists, place.awaits);
+}

@@ -1,0 +1,22 @@
+use Rattle.std.proofs.Common.{◌≡◌, List, ◌++◌, length, map, ap, ◌∙◌, arith, rules}
+use Rattle.std.proofs.lemmas.Grind.{common_steps}
+use Rattle.std.specs.Vec.{vec_items}
+use Rattle.rlp.specs.Codec.{byte_string, last_field}
+use Rattle.rlp.specs.Format.Item.{Item, list_of}
+use Rattle.rlp.specs.Streams.Stream.{put_item}
+use Rattle.rlp_examples.specs.declared.branch.Branch.{Branch}
+use Rattle.rlp_examples.specs.declared.child.Child.{Child}
+use Rattle.rlp_examples.specs.declared.child.Child.TheVariants.{Nothing}
+use Rattle.rlp_examples.specs.Child.{child}
+use Rattle.rlp_examples.proofs.Trie.{each_items}
+use Rattle.rlp_examples.proofs.branch.BranchEncodable.rlp_append.Goals as goal
+
+pub returns-clause-ok : goal.returns-clause-ok
+returns-clause-ok c =
+    let branch = c.args.self.now in
+    let last = last_field (λ (b : Branch). b.value) (byte_string vec_items) in
+    let same : c.as_slice.result.now ≡ c.args.self.now.children = search rules in
+    let many : length c.args.self.now.children ≡ 16 = first_of (omega arith, grind (arith, common_steps)) in
+    c.in_ok-append_as_list.ensures.ok
+    ∙ ap (λ (xs : List Child). put_item (list_of (map child.item xs ++ last.items branch)) c.args.s.now.state) same
+    ∙ ap (λ (xs : List Item). put_item (list_of xs) c.args.s.now.state) (each_items Nothing (λ (b : Branch). b.children) child last branch 16 many)

@@ -1,0 +1,19 @@
+-- How access lists are written and read.
+use Rattle.std.specs.Vec.{vec_items}
+use Rattle.rlp.specs.Codec.{Codec, and_field, fixed_bytes, last_field, list_type, struct_of}
+use Rattle.rlp_examples.specs.declared.address.Address.{Address}
+use Rattle.rlp_examples.specs.declared.access.Access.{Access}
+use Rattle.rlp_examples.specs.declared.access.AccessList.{AccessList}
+use Rattle.rlp_examples.specs.Hash.{hash}
+
+-- 20 bytes
+abbrev pub address : Codec Address
+address = fixed_bytes 20 (λ (a : Address). a.bytes)
+
+-- the list of an address and the list of its keys
+abbrev pub access : Codec Access
+access = struct_of (and_field (λ (a : Access). a.address) address (last_field (λ (a : Access). a.keys) (list_type vec_items hash)))
+
+-- the list of these
+abbrev pub access_list : Codec AccessList
+access_list = list_type (λ (a : AccessList). vec_items a.0) access

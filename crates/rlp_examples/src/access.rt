@@ -1,0 +1,95 @@
+//! Access lists: which accounts a transaction will look into, and where. Lists in lists in a list.
+
+use crate::{Address, Hash};
+use rlp::{Decodable, DecoderError, Encodable, Rlp, RlpStream, RoundTrip};
+use std::alloc::{AllocError, Global};
+
+/// An account, and the places of its storage that are looked into.
+#[derive(Debug, PartialEq, Eq, Drop)]
+pub struct Access {
+    /// Whose storage.
+    pub address: Address,
+    /// The places in it.
+    pub keys: Vec<Hash>,
+}
+
+/// All accounts that are looked into.
+#[derive(Debug, PartialEq, Eq, Drop)]
+pub struct AccessList(pub Vec<Access>);
+
+impl Encodable for Access {
+    ghost use Rattle.rlp_examples.specs.Access.{access};
+
+    ghost item = { access.item };
+
+    ghost fits = { access.Fits };
+
+    #[tactic(auto, using(rlp::proofs::Filling::filling))]
+    fn rlp_append(&self, s: &mut RlpStream) -> Result<(), AllocError> {
+        s.begin_list(2)?
+            .append(&self.address)?
+            .append_list(self.keys.as_slice())?;
+        Ok(())
+    }
+}
+
+impl Decodable for Access {
+    ghost use Rattle.rlp_examples.specs.Access.{access};
+
+    ghost gives = { access.gives };
+
+    ghost faults = { access.faults };
+
+    ghost may_lack_memory = { access.may_lack };
+
+    #[tactic(auto, using(rlp::specs::Lemmas::Structs::struct_fields))]
+    fn decode(alloc: Global, rlp: &Rlp<'_>) -> Result<Access, DecoderError> {
+        if rlp.item_count()? != 2 {
+            return Err(DecoderError::RlpIncorrectListLen);
+        }
+        let address = rlp.val_at(alloc, 0)?;
+        let keys = rlp.list_at(alloc, 1)?;
+        Ok(Access { address, keys })
+    }
+}
+
+impl RoundTrip for Access {
+    ghost use Rattle.rlp_examples.specs.Access.{access};
+
+    ghost round_trip = { access.reads_back };
+}
+
+impl Encodable for AccessList {
+    ghost use Rattle.rlp_examples.specs.Access.{access_list};
+
+    ghost item = { access_list.item };
+
+    ghost fits = { access_list.Fits };
+
+    #[tactic(auto, using(rlp::proofs::Growth::growth))]
+    fn rlp_append(&self, s: &mut RlpStream) -> Result<(), AllocError> {
+        s.append_list(self.0.as_slice())?;
+        Ok(())
+    }
+}
+
+impl Decodable for AccessList {
+    ghost use Rattle.rlp_examples.specs.Access.{access_list};
+
+    ghost gives = { access_list.gives };
+
+    ghost faults = { access_list.faults };
+
+    ghost may_lack_memory = { access_list.may_lack };
+
+    fn decode(alloc: Global, rlp: &Rlp<'_>) -> Result<AccessList, DecoderError> {
+        let accesses = rlp.as_list(alloc)?;
+        Ok(AccessList(accesses))
+    }
+}
+
+impl RoundTrip for AccessList {
+    ghost use Rattle.rlp_examples.specs.Access.{access_list};
+
+    ghost round_trip = { access_list.reads_back };
+}

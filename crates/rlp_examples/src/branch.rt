@@ -1,0 +1,77 @@
+//! A branch of the trie: the list of sixteen children and a value.
+
+use crate::Child;
+use crate::fields::{Both, Each, One, append_as_list};
+use rlp::{Decodable, DecoderError, Encodable, Rlp, RlpStream, RoundTrip};
+use std::alloc::{AllocError, Global};
+
+/// A branch of the trie.
+#[derive(Drop)]
+pub struct Branch {
+    /// The node for each next digit of the path.
+    pub children: [Child; 16],
+    /// The value where the path ends here, or no bytes.
+    pub value: Vec<u8>,
+}
+
+impl Encodable for Branch {
+    ghost use Rattle.rlp_examples.specs.Trie.{branch};
+
+    ghost item = { branch.item };
+
+    ghost fits = { branch.Fits };
+
+    #[tactic(auto, using(crate::proofs::Parts::parts))]
+    fn rlp_append(&self, s: &mut RlpStream) -> Result<(), AllocError> {
+        append_as_list(
+            s,
+            17,
+            &Both(Each(self.children.as_slice()), One(&self.value)),
+        )?;
+        Ok(())
+    }
+}
+
+impl Decodable for Branch {
+    ghost use Rattle.rlp_examples.specs.Trie.{branch};
+
+    ghost gives = { branch.gives };
+
+    ghost faults = { branch.faults };
+
+    ghost may_lack_memory = { branch.may_lack };
+
+    #[tactic(auto, using(rlp::specs::Lemmas::Structs::struct_fields))]
+    fn decode(alloc: Global, rlp: &Rlp<'_>) -> Result<Branch, DecoderError> {
+        if rlp.item_count()? != 17 {
+            return Err(DecoderError::RlpIncorrectListLen);
+        }
+        Ok(Branch {
+            children: [
+                rlp.val_at(alloc, 0)?,
+                rlp.val_at(alloc, 1)?,
+                rlp.val_at(alloc, 2)?,
+                rlp.val_at(alloc, 3)?,
+                rlp.val_at(alloc, 4)?,
+                rlp.val_at(alloc, 5)?,
+                rlp.val_at(alloc, 6)?,
+                rlp.val_at(alloc, 7)?,
+                rlp.val_at(alloc, 8)?,
+                rlp.val_at(alloc, 9)?,
+                rlp.val_at(alloc, 10)?,
+                rlp.val_at(alloc, 11)?,
+                rlp.val_at(alloc, 12)?,
+                rlp.val_at(alloc, 13)?,
+                rlp.val_at(alloc, 14)?,
+                rlp.val_at(alloc, 15)?,
+            ],
+            value: rlp.val_at(alloc, 16)?,
+        })
+    }
+}
+
+impl RoundTrip for Branch {
+    ghost use Rattle.rlp_examples.specs.Trie.{branch};
+
+    ghost round_trip = { branch.reads_back };
+}

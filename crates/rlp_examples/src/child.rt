@@ -1,0 +1,74 @@
+//! What a branch of the trie has in a place: the hash of a node, or nothing.
+
+ghost use Rattle.std.specs.Prelude.{◌≡◌, IfErr, IfOk};
+ghost use Rattle.rlp_examples.specs.Child.{IsChild, IsChildFault, child_bytes};
+
+use rlp::{Decodable, DecoderError, Encodable, Rlp, RlpStream, RoundTrip};
+use std::alloc::{AllocError, Global};
+
+/// A child of a branch.
+#[derive(Debug, Clone, Copy, PartialEq, Eq)]
+pub enum Child {
+    /// No node.
+    Nothing,
+    /// The node of this hash.
+    Node([u8; 32]),
+}
+
+impl Encodable for Child {
+    ghost use Rattle.rlp_examples.specs.Child.{child};
+
+    ghost item = { child.item };
+
+    ghost fits = { child.Fits };
+
+    #[tactic(auto, using(rlp::proofs::Growth::growth))]
+    fn rlp_append(&self, s: &mut RlpStream) -> Result<(), AllocError> {
+        match self {
+            Child::Nothing => s.encoder().encode_value(&[]),
+            Child::Node(hash) => s.encoder().encode_value(hash),
+        }
+    }
+}
+
+/// A string of fewer than 32 bytes, but not none, is `RlpIsTooShort`, and one of more
+/// `RlpIsTooBig`. No memory is taken.
+impl Decodable for Child {
+    ghost use Rattle.rlp_examples.specs.Child.{child};
+
+    ghost gives = { child.gives };
+
+    ghost faults = { child.faults };
+
+    ghost may_lack_memory = { child.may_lack };
+
+    #[tactic(auto, using(rlp::proofs::Values::one_string))]
+    fn decode(_alloc: Global, rlp: &Rlp<'_>) -> Result<Child, DecoderError> {
+        match rlp.decoder().decode_value(child_of) {
+            Ok(child) => Ok(child),
+            Err(fault) => Err(fault),
+        }
+    }
+}
+
+impl RoundTrip for Child {
+    ghost use Rattle.rlp_examples.specs.Child.{child};
+
+    ghost round_trip = { child.reads_back };
+}
+
+/// The child of these bytes, if they are 32 or none.
+#[tactic(auto, using(crate::specs::Child::child_faults))]
+fn child_of(string: &[u8]) -> Result<Child, DecoderError>
+    ensures value { IfOk result (λ c. IsChild c × (child_bytes c ≡ string.now)) }
+    ensures fault { IfErr result (λ e. IsChildFault string.now e) }
+{
+    if string.is_empty() {
+        return Ok(Child::Nothing);
+    }
+    match <[u8; 32]>::try_from(string) {
+        Ok(hash) => Ok(Child::Node(hash)),
+        Err(_) if string.len() < 32 => Err(DecoderError::RlpIsTooShort),
+        Err(_) => Err(DecoderError::RlpIsTooBig),
+    }
+}

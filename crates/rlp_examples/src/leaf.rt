@@ -1,0 +1,53 @@
+//! A leaf of the trie: the list of what is left of the path, and the value.
+
+use rlp::{Decodable, DecoderError, Encodable, Rlp, RlpStream, RoundTrip};
+use std::alloc::{AllocError, Global};
+
+/// A leaf of the trie.
+#[derive(Debug, PartialEq, Eq, Drop)]
+pub struct Leaf {
+    /// What is left of the path, two digits a byte after the mark of a leaf.
+    pub path: Vec<u8>,
+    /// The value.
+    pub value: Vec<u8>,
+}
+
+impl Encodable for Leaf {
+    ghost use Rattle.rlp_examples.specs.Trie.{leaf};
+
+    ghost item = { leaf.item };
+
+    ghost fits = { leaf.Fits };
+
+    #[tactic(auto, using(rlp::proofs::Filling::filling))]
+    fn rlp_append(&self, s: &mut RlpStream) -> Result<(), AllocError> {
+        s.begin_list(2)?.append(&self.path)?.append(&self.value)?;
+        Ok(())
+    }
+}
+
+impl Decodable for Leaf {
+    ghost use Rattle.rlp_examples.specs.Trie.{leaf};
+
+    ghost gives = { leaf.gives };
+
+    ghost faults = { leaf.faults };
+
+    ghost may_lack_memory = { leaf.may_lack };
+
+    #[tactic(auto, using(rlp::specs::Lemmas::Structs::struct_fields))]
+    fn decode(alloc: Global, rlp: &Rlp<'_>) -> Result<Leaf, DecoderError> {
+        if rlp.item_count()? != 2 {
+            return Err(DecoderError::RlpIncorrectListLen);
+        }
+        let path = rlp.val_at(alloc, 0)?;
+        let value = rlp.val_at(alloc, 1)?;
+        Ok(Leaf { path, value })
+    }
+}
+
+impl RoundTrip for Leaf {
+    ghost use Rattle.rlp_examples.specs.Trie.{leaf};
+
+    ghost round_trip = { leaf.reads_back };
+}

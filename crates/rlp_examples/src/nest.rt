@@ -1,0 +1,99 @@
+//! A generic list type, whose lists are written without a bound.
+
+use rlp::{Decodable, DecoderError, Encodable, Rlp, RlpStream, RoundTrip};
+use std::alloc::{AllocError, Global};
+
+/// Two numbers.
+#[derive(Debug, PartialEq, Eq, Drop)]
+pub struct Inner(pub u64, pub u64);
+
+/// A list whose one item is the list of the values.
+#[derive(Debug, PartialEq, Eq, Drop)]
+pub struct Nest<T>(pub Vec<T>);
+
+impl Encodable for Inner {
+    ghost use Rattle.rlp_examples.specs.Nest.{inner};
+
+    ghost item = { inner.item };
+
+    ghost fits = { inner.Fits };
+
+    #[tactic(auto, using(rlp::proofs::Filling::filling))]
+    fn rlp_append(&self, s: &mut RlpStream) -> Result<(), AllocError> {
+        s.begin_unbounded_list()?;
+        s.append(&self.0)?;
+        s.append(&self.1)?;
+        s.finalize_unbounded_list()?;
+        Ok(())
+    }
+}
+
+impl Decodable for Inner {
+    ghost use Rattle.rlp_examples.specs.Nest.{inner};
+
+    ghost gives = { inner.gives };
+
+    ghost faults = { inner.faults };
+
+    ghost may_lack_memory = { inner.may_lack };
+
+    #[tactic(auto, using(rlp::specs::Lemmas::Structs::struct_fields))]
+    fn decode(alloc: Global, rlp: &Rlp<'_>) -> Result<Inner, DecoderError> {
+        if rlp.item_count()? != 2 {
+            return Err(DecoderError::RlpIncorrectListLen);
+        }
+        let first = rlp.val_at(alloc, 0)?;
+        let second = rlp.val_at(alloc, 1)?;
+        Ok(Inner(first, second))
+    }
+}
+
+impl RoundTrip for Inner {
+    ghost use Rattle.rlp_examples.specs.Nest.{inner};
+
+    ghost round_trip = { inner.reads_back };
+}
+
+impl<T: Encodable> Encodable for Nest<T> {
+    ghost use Rattle.std.specs.Prelude.{All, map, [], ◌∷◌};
+    ghost use Rattle.std.specs.Vec.{vec_items};
+    ghost use Rattle.rlp.specs.Format.Item.{list_of};
+
+    ghost item = { λ n. list_of (list_of (map T.item (vec_items n.0)) ∷ []) };
+
+    ghost fits = { λ n. All T.fits (vec_items n.0) };
+
+    #[tactic(auto, using(rlp::proofs::Growth::growth, rlp::proofs::Filling::filling))]
+    fn rlp_append(&self, s: &mut RlpStream) -> Result<(), AllocError> {
+        s.begin_unbounded_list()?.append_list(self.0.as_slice())?;
+        s.finalize_unbounded_list()?;
+        Ok(())
+    }
+}
+
+impl<T: Decodable> Decodable for Nest<T> {
+    ghost use Rattle.rlp_examples.specs.Nest.{FaultsAsNest, GivesNest, MayLackAsNest};
+
+    ghost gives = { GivesNest T.gives };
+
+    ghost faults = { FaultsAsNest T.gives T.faults };
+
+    ghost may_lack_memory = { MayLackAsNest T.gives T.may_lack_memory };
+
+    #[tactic(auto, using(rlp::specs::Lemmas::Structs::struct_fields))]
+    fn decode(alloc: Global, rlp: &Rlp<'_>) -> Result<Nest<T>, DecoderError> {
+        if rlp.item_count()? != 1 {
+            return Err(DecoderError::RlpIncorrectListLen);
+        }
+        let values = rlp.list_at(alloc, 0)?;
+        Ok(Nest(values))
+    }
+}
+
+impl<T: RoundTrip> RoundTrip for Nest<T> {
+    ghost use Rattle.rlp.specs.Codec.{codec_of};
+    ghost use Rattle.rlp_examples.specs.Nest.{nest};
+
+    ghost round_trip = { (nest (codec_of T.fits T.item T.gives T.faults T.may_lack_memory
+        T.round_trip)).reads_back };
+}

@@ -1,0 +1,77 @@
+//! A list of nine fields, read in order.
+
+use crate::fields::{Both, One, append_as_list};
+use rlp::{Decodable, DecoderError, Encodable, Rlp, RlpStream, RoundTrip};
+use std::alloc::{AllocError, Global};
+
+/// The fields of a legacy transaction, the recipient as bytes.
+#[derive(Drop)]
+pub struct Ordered {
+    /// How many transactions the sender has sent.
+    pub nonce: u64,
+    /// What a unit of gas costs.
+    pub gas_price: u128,
+    /// How much gas may be used.
+    pub gas_limit: u64,
+    /// Who receives the value.
+    pub recipient: Vec<u8>,
+    /// What is sent.
+    pub value: u128,
+    /// What a contract is called with, or made of.
+    pub data: Vec<u8>,
+    /// The signature's parity, with the chain.
+    pub v: u64,
+    /// The digits of the first part of the signature.
+    pub r: Vec<u8>,
+    /// The digits of the second part of the signature.
+    pub s: Vec<u8>,
+}
+
+impl Encodable for Ordered {
+    ghost use Rattle.rlp_examples.specs.Ordered.{ordered};
+
+    ghost item = { ordered.item };
+
+    ghost fits = { ordered.Fits };
+
+    fn rlp_append(&self, s: &mut RlpStream) -> Result<(), AllocError> {
+        let signature = Both(One(&self.v), Both(One(&self.r), One(&self.s)));
+        let call = Both(One(&self.value), Both(One(&self.data), signature));
+        let gas = Both(One(&self.gas_limit), Both(One(&self.recipient), call));
+        let fields = Both(One(&self.nonce), Both(One(&self.gas_price), gas));
+        append_as_list(s, 9, &fields)?;
+        Ok(())
+    }
+}
+
+impl Decodable for Ordered {
+    ghost use Rattle.rlp_examples.specs.Ordered.{ordered};
+
+    ghost gives = { ordered.gives };
+
+    ghost faults = { ordered.faults };
+
+    ghost may_lack_memory = { ordered.may_lack };
+
+    #[tactic(auto, using(rlp::specs::Lemmas::Structs::struct_in_order))]
+    fn decode(alloc: Global, rlp: &Rlp<'_>) -> Result<Ordered, DecoderError> {
+        let mut fields = rlp.fields_of(9)?;
+        Ok(Ordered {
+            nonce: fields.next_value(alloc)?,
+            gas_price: fields.next_value(alloc)?,
+            gas_limit: fields.next_value(alloc)?,
+            recipient: fields.next_value(alloc)?,
+            value: fields.next_value(alloc)?,
+            data: fields.next_value(alloc)?,
+            v: fields.next_value(alloc)?,
+            r: fields.next_value(alloc)?,
+            s: fields.next_value(alloc)?,
+        })
+    }
+}
+
+impl RoundTrip for Ordered {
+    ghost use Rattle.rlp_examples.specs.Ordered.{ordered};
+
+    ghost round_trip = { ordered.reads_back };
+}

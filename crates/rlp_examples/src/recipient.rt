@@ -1,0 +1,74 @@
+//! Who receives a transaction: the string of 20 bytes, or the empty one.
+
+ghost use Rattle.std.specs.Prelude.{◌≡◌, IfErr, IfOk};
+ghost use Rattle.rlp_examples.specs.Recipient.{IsRecipient, IsRecipientFault, recipient_bytes};
+
+use rlp::{Decodable, DecoderError, Encodable, Rlp, RlpStream, RoundTrip};
+use std::alloc::{AllocError, Global};
+
+/// Who receives a transaction.
+#[derive(Debug, PartialEq, Eq, Drop)]
+pub enum Recipient {
+    /// Nobody: the transaction makes a contract.
+    Nobody,
+    /// The account of this address.
+    Account([u8; 20]),
+}
+
+impl Encodable for Recipient {
+    ghost use Rattle.rlp_examples.specs.Recipient.{recipient};
+
+    ghost item = { recipient.item };
+
+    ghost fits = { recipient.Fits };
+
+    #[tactic(auto, using(rlp::proofs::Growth::growth))]
+    fn rlp_append(&self, s: &mut RlpStream) -> Result<(), AllocError> {
+        match self {
+            Recipient::Nobody => s.encoder().encode_value(&[]),
+            Recipient::Account(address) => s.encoder().encode_value(address),
+        }
+    }
+}
+
+/// A string of fewer than 20 bytes, but not none, is `RlpIsTooShort`, and one of more
+/// `RlpIsTooBig`. No memory is taken.
+impl Decodable for Recipient {
+    ghost use Rattle.rlp_examples.specs.Recipient.{recipient};
+
+    ghost gives = { recipient.gives };
+
+    ghost faults = { recipient.faults };
+
+    ghost may_lack_memory = { recipient.may_lack };
+
+    #[tactic(auto, using(rlp::proofs::Values::one_string))]
+    fn decode(_alloc: Global, rlp: &Rlp<'_>) -> Result<Recipient, DecoderError> {
+        match rlp.decoder().decode_value(recipient_of) {
+            Ok(recipient) => Ok(recipient),
+            Err(fault) => Err(fault),
+        }
+    }
+}
+
+impl RoundTrip for Recipient {
+    ghost use Rattle.rlp_examples.specs.Recipient.{recipient};
+
+    ghost round_trip = { recipient.reads_back };
+}
+
+/// The recipient of these bytes, if they are 20 or none.
+#[tactic(auto, using(crate::specs::Recipient::recipient_faults))]
+fn recipient_of(string: &[u8]) -> Result<Recipient, DecoderError>
+    ensures value { IfOk result (λ r. IsRecipient r × (recipient_bytes r ≡ string.now)) }
+    ensures fault { IfErr result (λ e. IsRecipientFault string.now e) }
+{
+    if string.is_empty() {
+        return Ok(Recipient::Nobody);
+    }
+    match <[u8; 20]>::try_from(string) {
+        Ok(address) => Ok(Recipient::Account(address)),
+        Err(_) if string.len() < 20 => Err(DecoderError::RlpIsTooShort),
+        Err(_) => Err(DecoderError::RlpIsTooBig),
+    }
+}

@@ -1,0 +1,10 @@
+pub mod Texts
+pub mod Splits
+pub mod Printing
+pub mod DigitBytes
+pub mod Places
+pub mod Hexes
+pub mod Following
+pub mod StrictLists
+pub mod Depths
+pub mod Fronts

@@ -1,0 +1,9 @@
+pub mod Digits
+pub mod Lists
+pub mod Headers
+pub mod Reading
+pub mod Encodings
+pub mod Frames
+pub mod Views
+pub mod Strings
+pub mod Numbered

@@ -1,0 +1,2 @@
+-- the item of a value, and which values fit
+pub mod Value

@@ -1,0 +1,26 @@
+-- Which item a value is.
+use Rattle.std.specs.Prelude.{ℕ, ◌≡◌, ◌*◌, ◌^◌, ◌<◌, Bool, true, false, Option, Some, None, [], ◌∷◌}
+use Rattle.rlp_format.specs.Format.Item.{Item, string, list_of}
+use Rattle.rlp_format.specs.Format.WrittenHeader.{big_endian}
+
+-- a number is the string of its digits to the base 256, the greatest first
+abbrev pub number_item : ℕ → Item
+number_item n = string (big_endian n)
+
+-- a truth value as a number
+abbrev pub bit : Bool → ℕ
+bit false = 0
+bit true = 1
+
+-- no value is the list of no items, and a value the list of its item alone
+abbrev pub option_item : {A : Type 0} → (A → Item) → Option A → Item
+option_item item None = list_of []
+option_item item (Some x) = list_of (item x ∷ [])
+
+-- n is a number of that many bytes. In definitions and laws a number has no greatest value, so each type says which ones it has.
+abbrev pub FitsBytes : ℕ → ℕ → Type 0
+FitsBytes width n = n < 2 ^ (8 * width)
+
+-- two values of a type are alike if their items are equal, by what the type calls the item of a value
+abbrev pub AreAlike : {T : Type 0} → (T → Item) → T → T → Type 0
+AreAlike item v w = item v ≡ item w

@@ -1,0 +1,95 @@
+//! Digits of numbers to the base 256, the greatest first, read and written for numbers of up to
+//! sixteen bytes. Those of up to eight bytes are worked on in 64 bits. The headers that a stream
+//! writes hold the digits of their lengths, and write these themselves.
+
+ghost use Rattle.std.specs.Prelude.{◌≡◌, ◌+◌, ◌≤◌, length, drop};
+ghost use Rattle.std.specs.Int.{w64, w128, to_be_bytes};
+ghost use Rattle.std.specs.Int.Digits.{number_from_digits};
+ghost use Rattle.rlp_format.specs.Format.WrittenHeader.{big_endian};
+
+use std::marker::Model;
+
+/// The number that up to eight digits write.
+pub fn number_of(digits: &[u8]) -> usize
+    requires { length digits.now ≤ 8 }
+    ensures { result ≡ number_from_digits 256 digits.now }
+{
+    let mut number: usize = 0;
+    for digit in digits {
+        number = number * 256 + *digit as usize;
+    }
+    number
+}
+
+/// The number that up to sixteen digits write: that of the first ones, moved up by eight places, and
+/// that of the last eight.
+#[tactic(auto, using(crate::proofs::DigitBytes::halves))]
+pub fn wide_number_of(digits: &[u8]) -> u128
+    requires { length digits.now ≤ 16 }
+    ensures { result ≡ number_from_digits 256 digits.now }
+{
+    if digits.len() <= 8 {
+        return number_of(digits) as u128;
+    }
+    let (high, low) = digits.split_at(digits.len() - 8);
+    number_of(high) as u128 * 0x1_0000_0000_0000_0000 + number_of(low) as u128
+}
+
+/// The digits of a number, with no zero in front of them: the last bytes of the array.
+#[derive(Drop)]
+pub struct Digits {
+    bytes: [u8; 16],
+    start: usize,
+}
+
+impl Model for Digits {
+    ghost use Rattle.std.specs.Prelude.{ℕ, List, ◌≤◌, drop};
+
+    ghost Value = { List ℕ };
+
+    ghost view = { λ d. drop d.start d.bytes };
+
+    ghost invariant = { λ d. d.start ≤ 16 };
+}
+
+impl Digits {
+    /// The digits of a number of eight bytes.
+    #[tactic(auto, using(crate::proofs::DigitBytes::leading))]
+    pub fn of(number: u64) -> Digits
+        ensures { result ≡ big_endian number }
+    {
+        let mut bytes = [0; 16];
+        bytes[8..].copy_from_slice(&number.to_be_bytes());
+        Digits {
+            bytes,
+            start: 8 + leading_zero_bytes(number),
+        }
+    }
+
+    /// The digits of a number of sixteen bytes.
+    #[tactic(auto, using(crate::proofs::DigitBytes::leading))]
+    pub fn of_wide(number: u128) -> Digits
+        ensures { result ≡ big_endian number }
+    {
+        Digits {
+            bytes: number.to_be_bytes(),
+            start: number.leading_zeros() as usize / 8,
+        }
+    }
+
+    /// These digits.
+    pub fn as_slice(&self) -> &[u8]
+        ensures { result.now ≡ self.now }
+    {
+        &self.bytes[self.start..]
+    }
+}
+
+/// How many of a number's eight bytes are zeros in front of its digits.
+#[tactic(auto, using(crate::proofs::DigitBytes::leading))]
+pub fn leading_zero_bytes(number: u64) -> usize
+    ensures digits { drop result (to_be_bytes w64 number) ≡ big_endian number }
+    ensures len { result + length (big_endian number) ≡ 8 }
+{
+    number.leading_zeros() as usize / 8
+}

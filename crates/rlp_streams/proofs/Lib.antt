@@ -1,0 +1,6 @@
+pub mod Growth
+pub mod Layouts
+pub mod Opened
+pub mod Listed
+pub mod Filling
+pub mod Retained

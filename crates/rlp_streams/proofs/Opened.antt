@@ -1,0 +1,29 @@
+-- A list of so many items, opened or written at once.
+use Rattle.std.proofs.Common.{◌≡◌, ℕ, zero, suc, ◌<◌, true, List, [], ◌∷◌, length, Some, refl, sym, ◌∙◌, ap, arith}
+use Rattle.rlp_format.specs.Format.WrittenHeader.{big_endian, written_header}
+use Rattle.rlp_format.specs.Format.Item.{list_of}
+use Rattle.rlp_format.specs.Format.Encoding.{encoding, join_items}
+use Rattle.rlp_buffer.specs.Streams.Stream.{State, Seen, HasRoomFor, raw_text, put, count, with_list, with_mark}
+use Rattle.rlp_buffer.specs.Streams.Calls.{with_list_of}
+
+empty_list : encoding (list_of []) ≡ 0xc0 ∷ []
+unfolding encoding join_items written_header big_endian
+empty_list = refl
+
+-- a list of no items
+pub opened_none : (n : ℕ) (s : State) → n ≡ 0 → with_mark true (count 1 (put (0xc0 ∷ []) s)) ≡ with_list_of n s
+opened_none n s e =
+    ap (λ (b : List ℕ). with_mark true (count 1 (put b s))) (sym empty_list) ∙ ap (λ m. with_list_of m s) (sym e)
+
+-- a list that awaits some items is opened
+pub opened_some : (n : ℕ) (s : State) → 0 < n → with_list (Some n) s ≡ with_list_of n s
+opened_some zero s some = absurd (omega arith)
+opened_some (suc n) s some = refl
+
+-- a stream with room for the empty list as an item has room for its byte
+pub room_for_none : (v : Seen) → HasRoomFor v (with_list_of 0 v.state) → HasRoomFor v (count 1 (put (0xc0 ∷ []) v.state))
+room_for_none v has =
+    let same = ap (λ (b : List ℕ). length (raw_text (count 1 (put b v.state)))) empty_list in
+    record { enough = omega (arith, same, has.enough); few = omega (arith, same, has.few) }
+
+pub ruleset opened = (opened_none, opened_some)

@@ -1,0 +1,17 @@
+use Rattle.std.proofs.Common.{reverse, ap, sym}
+use Rattle.rlp_format.specs.Format.Item.{string}
+use Rattle.rlp_format.specs.Format.Encoding.{encoding}
+use Rattle.rlp_buffer.specs.Streams.Stream.{Seen}
+use Rattle.rlp_buffer.proofs.Rooms.{short_to_put}
+use Rattle.rlp_buffer.proofs.FlatBuffer.{state_put}
+use Rattle.rlp_streams.proofs.stream.RlpStream.put_string.Goals as goal
+
+pub returns-clause-ok : goal.returns-clause-ok
+returns-clause-ok c =
+    let i = c.self.inside in
+    rw (c.in_ok-write_string.ensures.ok, ← c.self.view_is) (state_put i.start i.buffer.items _ (reverse i.lists.items) i.finished_list c.self.invariant)
+
+pub returns-in_err-write_string-clause-has_room : goal.returns-in_err-write_string-clause-has_room
+returns-in_err-write_string-clause-has_room c =
+    λ has.
+    absurd (short_to_put (encoding (string c.args.value.now)) c.args.self.now (rw (ap (λ (v : Seen). v.spare) (sym c.self.view_is)) c.in_err-write_string.ensures.room) has)

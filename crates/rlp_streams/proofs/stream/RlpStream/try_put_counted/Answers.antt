@@ -1,0 +1,54 @@
+use Rattle.std.proofs.Common.{◌++◌, ◌<◌, length, reverse, ap, sym, ◌∙◌, arith}
+use Rattle.std.proofs.lemmas.List.{length-reverse}
+use Rattle.rlp_buffer.specs.Streams.Stream.{Seen, put, count}
+use Rattle.rlp_buffer.specs.Streams.Placeholders.{IsLaid}
+use Rattle.rlp_buffer.proofs.FlatBuffer.{laid_descends, laid_append, laid_counted, mark_open, not_empty, state_put_counted, moved_counted}
+use Rattle.rlp_buffer.proofs.Rooms.{short_to_count}
+use Rattle.rlp_streams.proofs.Retained.{retained}
+use Rattle.rlp_streams.proofs.stream.RlpStream.try_put_counted.Goals as goal
+
+pub put_counted-requires : goal.put_counted-requires
+put_counted-requires c =
+    let i = c.self.inside in
+    record { order = laid_descends i.start i.buffer.items (reverse i.lists.items) c.self.invariant }
+
+pub invariant_of-self-then-open : goal.invariant_of-self-then-open
+invariant_of-self-then-open c =
+    let i = c.self.inside in
+    let done = c.in_ok-closed.ensures in
+    rw (done.bytes, done.lists) (laid_counted c.args.items i.start (i.buffer.items ++ c.args.bytes.now) (reverse i.lists.items) (laid_append i.start i.buffer.items c.args.bytes.now (reverse i.lists.items) c.self.invariant))
+
+pub returns-then-open-clause-ok : goal.returns-then-open-clause-ok
+returns-then-open-clause-ok c =
+    let i = c.self.inside in
+    let done = c.in_ok-closed.ensures in
+    let any = not_empty i.lists.len c.if-open.ensures in
+    let some : 0 < length (reverse i.lists.items) = omega (arith, length-reverse i.lists.items, i.lists.ok.0) in
+    rw (done.bytes, done.lists)
+    (state_put_counted c.args.items i.start i.buffer.items c.args.bytes.now (reverse i.lists.items) i.finished_list c.in_ok-closed.closed c.self.invariant
+    (mark_open c.args.items i.start i.buffer.items (reverse i.lists.items) i.finished_list c.in_ok-closed.closed some done.closed)
+    ∙ ap (λ (v : Seen). count c.args.items (put c.args.bytes.now v.state)) c.self.view_is)
+
+pub returns-then-open-clause-moved : goal.returns-then-open-clause-moved
+returns-then-open-clause-moved c =
+    let i = c.self.inside in
+    let done = c.in_ok-closed.ensures in
+    rw (done.bytes, done.lists, ← c.self.view_is)
+    (moved_counted c.args.items i.start (i.buffer.items ++ c.args.bytes.now) (reverse i.lists.items) c.in_ok-closed.closed i.buffer.moved c.put_counted.new.buffer.moved
+    (laid_append i.start i.buffer.items c.args.bytes.now (reverse i.lists.items) c.self.invariant) done.moved)
+
+pub returns-in_err-closed-clause-has_room : goal.returns-in_err-closed-clause-has_room
+returns-in_err-closed-clause-has_room c =
+    λ has.
+    let i = c.self.inside in
+    absurd (short_to_count c.args.items i.start i.buffer.items c.args.bytes.now (reverse i.lists.items) i.finished_list c.args.self.now c.self.invariant
+    (ap (λ (v : Seen). v.state) (sym c.self.view_is))
+    (rw (ap (λ (v : Seen). v.spare) (sym c.self.view_is)) c.in_err-closed.ensures.room_closing) has)
+
+pub returns-then-open-clause-retains : goal.returns-then-open-clause-retains
+returns-then-open-clause-retains c =
+    let i = c.self.inside in
+    let done = c.in_ok-closed.ensures in
+    let laid : IsLaid i.start c.put_counted.new.buffer.items (reverse c.put_counted.new.lists.items) =
+    rw (done.bytes, done.lists) (laid_counted c.args.items i.start (i.buffer.items ++ c.args.bytes.now) (reverse i.lists.items) (laid_append i.start i.buffer.items c.args.bytes.now (reverse i.lists.items) c.self.invariant)) in
+    retained c.args.self.now i (record { buffer = c.put_counted.new.buffer; start = i.start; lists = c.put_counted.new.lists; finished_list = c.in_ok-closed.closed }) c.self.view_is c.self.invariant laid done.keeps (omega arith)

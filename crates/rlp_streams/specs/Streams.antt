@@ -1,0 +1,4 @@
+-- how a state grows
+pub mod Growth
+-- what a refusal leaves of a stream that is lent on
+pub mod Chain

@@ -1,0 +1,21 @@
+//! Truth values: the numbers 0 and 1.
+
+use crate::stream::RlpStream;
+use crate::traits::Encodable;
+use std::alloc::AllocError;
+
+impl Encodable for bool {
+    ghost use Rattle.std.specs.Prelude.{⊤};
+    ghost use Rattle.rlp_format.specs.Values.Value.{bit, number_item};
+
+    ghost item = { λ b. number_item (bit b) };
+
+    ghost fits = { λ b. ⊤ };
+
+    ghost at_once = { λ _. ⊤ };
+
+    fn rlp_append(&self, s: &mut RlpStream) -> Result<(), AllocError> {
+        let number: u64 = if *self { 1 } else { 0 };
+        number.rlp_append(s)
+    }
+}

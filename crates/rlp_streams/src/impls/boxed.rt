@@ -1,0 +1,17 @@
+//! Boxes: the item of what they hold.
+
+use crate::stream::RlpStream;
+use crate::traits::Encodable;
+use std::alloc::AllocError;
+
+impl<T: Encodable> Encodable for Box<T> {
+    ghost item = { λ b. T.item b.value };
+
+    ghost fits = { λ b. T.fits b.value };
+
+    ghost at_once = { λ b. T.at_once b.value };
+
+    fn rlp_append(&self, s: &mut RlpStream) -> Result<(), AllocError> {
+        T::rlp_append(self, s)
+    }
+}

@@ -1,0 +1,37 @@
+//! Byte strings: the string of the bytes.
+
+use crate::stream::RlpStream;
+use crate::traits::Encodable;
+use std::alloc::AllocError;
+
+impl Encodable for Vec<u8> {
+    ghost use Rattle.std.specs.Prelude.{⊤};
+    ghost use Rattle.rlp_format.specs.Format.Item.{string};
+
+    ghost item = { λ v. string v.items };
+
+    ghost fits = { λ v. ⊤ };
+
+    ghost at_once = { λ _. ⊤ };
+
+    #[tactic(auto, using(crate::proofs::Growth::growth))]
+    fn rlp_append(&self, s: &mut RlpStream) -> Result<(), AllocError> {
+        s.encoder().encode_value(self.as_slice())
+    }
+}
+
+impl Encodable for &[u8] {
+    ghost use Rattle.std.specs.Prelude.{⊤};
+    ghost use Rattle.rlp_format.specs.Format.Item.{string};
+
+    ghost item = { λ v. string v.now };
+
+    ghost fits = { λ v. ⊤ };
+
+    ghost at_once = { λ _. ⊤ };
+
+    #[tactic(auto, using(crate::proofs::Growth::growth))]
+    fn rlp_append(&self, s: &mut RlpStream) -> Result<(), AllocError> {
+        s.encoder().encode_value(self)
+    }
+}

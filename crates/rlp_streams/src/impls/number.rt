@@ -1,0 +1,101 @@
+//! Numbers: the string of the digits to the base 256, the greatest first.
+
+ghost use Rattle.std.specs.Prelude.{◌<◌};
+ghost use Rattle.rlp_format.specs.Values.Value.{FitsBytes};
+
+use crate::stream::RlpStream;
+use crate::traits::Encodable;
+use rlp_format::digits::Digits;
+use std::alloc::AllocError;
+
+impl Encodable for u8 {
+    ghost use Rattle.std.specs.Prelude.{⊤};
+    ghost use Rattle.rlp_format.specs.Values.Value.{number_item, FitsBytes};
+
+    ghost item = { λ v. number_item v };
+
+    ghost fits = { λ v. FitsBytes 1 v };
+
+    ghost at_once = { λ _. ⊤ };
+
+    fn rlp_append(&self, s: &mut RlpStream) -> Result<(), AllocError> {
+        (*self as u64).rlp_append(s)
+    }
+}
+
+impl Encodable for u16 {
+    ghost use Rattle.std.specs.Prelude.{⊤};
+    ghost use Rattle.rlp_format.specs.Values.Value.{number_item, FitsBytes};
+
+    ghost item = { λ v. number_item v };
+
+    ghost fits = { λ v. FitsBytes 2 v };
+
+    ghost at_once = { λ _. ⊤ };
+
+    fn rlp_append(&self, s: &mut RlpStream) -> Result<(), AllocError> {
+        (*self as u64).rlp_append(s)
+    }
+}
+
+impl Encodable for u32 {
+    ghost use Rattle.std.specs.Prelude.{⊤};
+    ghost use Rattle.rlp_format.specs.Values.Value.{number_item, FitsBytes};
+
+    ghost item = { λ v. number_item v };
+
+    ghost fits = { λ v. FitsBytes 4 v };
+
+    ghost at_once = { λ _. ⊤ };
+
+    fn rlp_append(&self, s: &mut RlpStream) -> Result<(), AllocError> {
+        (*self as u64).rlp_append(s)
+    }
+}
+
+impl Encodable for u64 {
+    ghost use Rattle.std.specs.Prelude.{⊤};
+    ghost use Rattle.rlp_format.specs.Values.Value.{number_item, FitsBytes};
+
+    ghost item = { λ v. number_item v };
+
+    ghost fits = { λ v. FitsBytes 8 v };
+
+    ghost at_once = { λ _. ⊤ };
+
+    #[tactic(auto, using(crate::proofs::Growth::growth))]
+    fn rlp_append(&self, s: &mut RlpStream) -> Result<(), AllocError> {
+        s.encoder().encode_value(Digits::of(*self).as_slice())
+    }
+}
+
+impl Encodable for usize {
+    ghost use Rattle.std.specs.Prelude.{⊤};
+    ghost use Rattle.rlp_format.specs.Values.Value.{number_item, FitsBytes};
+
+    ghost item = { λ v. number_item v };
+
+    ghost fits = { λ v. FitsBytes 8 v };
+
+    ghost at_once = { λ _. ⊤ };
+
+    fn rlp_append(&self, s: &mut RlpStream) -> Result<(), AllocError> {
+        (*self as u64).rlp_append(s)
+    }
+}
+
+impl Encodable for u128 {
+    ghost use Rattle.std.specs.Prelude.{⊤};
+    ghost use Rattle.rlp_format.specs.Values.Value.{number_item, FitsBytes};
+
+    ghost item = { λ v. number_item v };
+
+    ghost fits = { λ v. FitsBytes 16 v };
+
+    ghost at_once = { λ _. ⊤ };
+
+    #[tactic(auto, using(crate::proofs::Growth::growth))]
+    fn rlp_append(&self, s: &mut RlpStream) -> Result<(), AllocError> {
+        s.encoder().encode_value(Digits::of_wide(*self).as_slice())
+    }
+}

@@ -1,0 +1,29 @@
+//! Options: the list of no items, or of one.
+
+ghost use Rattle.std.specs.Prelude.{IfSome, IsNone};
+ghost use Rattle.rlp_format.specs.Values.Value.{option_item};
+
+use crate::stream::RlpStream;
+use crate::traits::Encodable;
+use std::alloc::AllocError;
+
+impl<T: Encodable> Encodable for Option<T> {
+    ghost item = { λ o. option_item T.item o };
+
+    ghost fits = { λ o. IfSome o T.fits };
+
+    ghost at_once = { λ o. IsNone o };
+
+    #[tactic(auto, using(crate::proofs::Growth::growth))]
+    fn rlp_append(&self, s: &mut RlpStream) -> Result<(), AllocError> {
+        match self {
+            None => {
+                s.begin_list(0)?;
+            }
+            Some(value) => {
+                s.begin_list(1)?.append(value)?;
+            }
+        }
+        Ok(())
+    }
+}

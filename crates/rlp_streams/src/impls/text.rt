@@ -1,0 +1,38 @@
+//! Text: the string of its bytes in UTF-8.
+
+use crate::stream::RlpStream;
+use crate::traits::Encodable;
+use std::alloc::AllocError;
+
+impl Encodable for String {
+    ghost use Rattle.std.specs.Prelude.{⊤, IsUtf8};
+    ghost use Rattle.std.specs.String.{string_bytes};
+    ghost use Rattle.rlp_format.specs.Format.Item.{string};
+
+    ghost item = { λ v. string (string_bytes v) };
+
+    ghost fits = { λ v. IsUtf8 (string_bytes v) };
+
+    ghost at_once = { λ _. ⊤ };
+
+    #[tactic(auto, using(crate::proofs::Growth::growth))]
+    fn rlp_append(&self, s: &mut RlpStream) -> Result<(), AllocError> {
+        s.encoder().encode_value(self.as_str().as_bytes())
+    }
+}
+
+impl Encodable for &str {
+    ghost use Rattle.std.specs.Prelude.{⊤, IsUtf8};
+    ghost use Rattle.rlp_format.specs.Format.Item.{string};
+
+    ghost item = { λ v. string v.now };
+
+    ghost fits = { λ v. IsUtf8 v.now };
+
+    ghost at_once = { λ _. ⊤ };
+
+    #[tactic(auto, using(crate::proofs::Growth::growth))]
+    fn rlp_append(&self, s: &mut RlpStream) -> Result<(), AllocError> {
+        s.encoder().encode_value(self.as_bytes())
+    }
+}

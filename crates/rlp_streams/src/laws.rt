@@ -1,0 +1,70 @@
+//! Laws over the state of a stream. `rlp::laws` passes them on.
+
+ghost use Rattle.std.specs.Prelude.{◌≡◌, ℕ, List, [], ◌∷◌, ◌++◌, ◌+◌, length, Option};
+ghost use Rattle.rlp_format.specs.Format.Item.{Item, string, list_of};
+ghost use Rattle.rlp_format.specs.Format.Encoding.{encoding};
+ghost use Rattle.rlp_buffer.specs.Streams.Stream.{State, IsFinished, put, shut, count, with_list, add, put_item, is_list, raw_text, closed_text, closed_size, closed_size_with};
+ghost use Rattle.rlp_buffer.specs.Streams.Stack.{AllAwait};
+ghost use Rattle.rlp_buffer.specs.Streams.Calls.{Call, effect};
+ghost use Rattle.rlp_streams.specs.Streams.Growth.{GrowsTo};
+
+use crate::{EMPTY_LIST_RLP, NULL_RLP};
+
+/// The constants are the encodings of the empty string and of the list of no items.
+pub fn constants_are_encodings()
+    ensures null { NULL_RLP ≡ encoding (string []) }
+    ensures empty_list { EMPTY_LIST_RLP ≡ encoding (list_of []) }
+{}
+
+/// Closing the innermost list leaves the bytes that there are once every list is closed, and so
+/// does counting.
+pub fn closing_keeps_what_is_closed()
+    ensures shut { (s : State) → closed_text (shut s) ≡ closed_text s }
+    ensures count { (k : ℕ) (s : State) → closed_text (count k s) ≡ closed_text s }
+    ensures size { (s : State) → closed_size (shut s) ≡ closed_size s }
+{}
+
+/// The closed size with more bytes put depends on their number alone.
+pub fn closed_size_goes_by_length()
+    ensures { (x : List ℕ) (s : State) → closed_size (put x s) ≡ closed_size_with (length x) s }
+{}
+
+/// Bytes that are put stand at the end of the buffer, and a new list opens there with a byte 0.
+pub fn bytes_go_to_the_end()
+    ensures put { (x : List ℕ) (s : State) → raw_text (put x s) ≡ raw_text s ++ x }
+    ensures opened { (awaits : Option ℕ) (s : State)
+        → raw_text (with_list awaits s) ≡ raw_text s ++ 0 ∷ [] }
+{}
+
+/// With no list open, an item that is appended or written by its value adds its encoding to the
+/// top, and none is open then.
+pub fn finished_streams_gain_encodings()
+    ensures add { (x : Item) (s : State) → IsFinished s
+        → add x s
+        ≡ record { front = s.front; stack = record { inner = s.stack.inner ++ encoding x; lists = [] }; mark = is_list x } }
+    ensures put_item { (x : Item) (s : State) → IsFinished s
+        → (put_item x s).stack ≡ record { inner = s.stack.inner ++ encoding x; lists = [] } }
+{}
+
+/// With no list open, the front and what is closed are all the bytes that there are.
+pub fn finished_streams_have_their_closed_size()
+    ensures { (s : State) → IsFinished s
+        → length (s.front ++ s.stack.inner) ≡ length s.front + closed_size s }
+{}
+
+/// A state grows to itself, and where it grows to a second that grows to a third, it grows to that.
+pub fn growth_is_an_order()
+    ensures same { (s : State) → GrowsTo s s }
+    ensures onward { (s t u : State) → GrowsTo s t → GrowsTo t u → GrowsTo s u }
+{}
+
+/// A state grows to what it is with more bytes put, and with a new list open.
+pub fn growth_of_moves()
+    ensures put { (x : List ℕ) (s : State) → GrowsTo s (put x s) }
+    ensures opened { (awaits : Option ℕ) (s : State) → GrowsTo s (with_list awaits s) }
+{}
+
+/// A bounded list is open only while it awaits an item: no call leaves one open that awaits none.
+pub fn open_lists_await_items()
+    ensures { (c : Call) (s : State) → AllAwait s.stack.lists → AllAwait (effect c s).stack.lists }
+{}

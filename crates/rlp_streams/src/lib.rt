@@ -1,0 +1,17 @@
+//! Writing: streams, and values that are appended to them. It stands on `rlp_buffer`, the bytes of a
+//! stream, and on `rlp_format`. Users list `rlp`, which passes on every public name.
+#![tactic(auto)]
+
+mod impls;
+pub mod laws;
+mod stream;
+mod traits;
+
+pub use stream::{BasicEncoder, Chain, RlpStream};
+pub use traits::Encodable;
+
+/// The encoding of the empty string.
+pub const NULL_RLP: [u8; 1] = [0x80];
+
+/// The encoding of the empty list.
+pub const EMPTY_LIST_RLP: [u8; 1] = [0xc0];

@@ -1,0 +1,426 @@
+//! Writing: a stream of encodings.
+
+ghost use Rattle.std.specs.Prelude.{◌≡◌, ◌≤◌, ◌<◌, ◌+◌, ◌^◌, ◌↔◌, ℕ, List, IsTrue, IsOk, IfOk, IfErr, OnOk, OnErr, ◌++◌, [], ◌∷◌, length, map, All, false};
+ghost use Rattle.std.specs.Borrow.{sem};
+ghost use Rattle.std.specs.Iterator.{IsFiniteIterable};
+ghost use Rattle.std.specs.Option.{SomeIff};
+ghost use Rattle.rlp_format.specs.Format.Item.{string, list_of};
+ghost use Rattle.rlp_buffer.specs.Streams.Stack.{awaited, is_unbounded};
+ghost use Rattle.rlp_buffer.specs.Streams.Calls.{append, append_empty_data, append_raw, append_raw_checked, begin_list, begin_unbounded_list, finalize_unbounded_list, append_internal, clear, effect, is_admitted, is_within_size};
+ghost use Rattle.rlp_buffer.specs.Streams.Stream.{initial_state, IsFinished, IsAsBefore, Retains, HasRoomFor, room, raw_text, closed_size, closed_size_with};
+ghost use Rattle.rlp_buffer.specs.Streams.Iterated.{GivesAll};
+ghost use Rattle.rlp_streams.specs.Streams.Chain.{stays_if_refused, rests_if_refused, HoldsStream, LeavesState, MovesWithin, RetainsInChain};
+
+mod chain;
+mod encoder;
+mod listed;
+mod steps;
+
+use crate::NULL_RLP;
+use crate::traits::Encodable;
+use bytes::BytesMut;
+pub use chain::Chain;
+pub use encoder::BasicEncoder;
+use listed::Listed;
+use rlp_buffer::buffer::Buffer;
+use rlp_buffer::closing::closed_len;
+use rlp_buffer::open_lists::{Placeholder, innermost_awaits, is_unbounded};
+use std::alloc::{AllocError, Global};
+use std::marker::Model;
+
+// How many bytes a new stream takes with no further allocation.
+const STARTING_CAPACITY: usize = 1024;
+
+/// A stream of encodings, which grows as values are appended.
+///
+/// A list is opened with the number of items that it awaits, and is closed by the last of them; or
+/// it is opened without a bound, and closed by [`RlpStream::finalize_unbounded_list`]. Lists nest at
+/// will. A list that is closed is one item of the list around it.
+///
+/// Contracts see its state, which is the bytes handed in, what was written after them, the lists
+/// that are open, and the counted mark; and apart from it how many more bytes the buffer takes with
+/// no allocation, and how many bytes of payload were moved to make place for headers. A call that is
+/// refused leaves the state as it was, the mark too.
+///
+/// ```rust
+/// let mut s = rlp::RlpStream::new_list(alloc, 2)?;
+/// s.append(&"cat")?.begin_list(2)?.append(&1u64)?.append(&"")?;
+/// assert_eq!(rt; s.out().as_slice(), [0xc7, 0x83, 0x63, 0x61, 0x74, 0xc2, 0x01, 0x80]);
+/// ```
+#[derive(Drop)]
+pub struct RlpStream {
+    // The front, and after it what was written. It counts the bytes that closings move.
+    buffer: Buffer,
+    // Where the front ends.
+    start: usize,
+    // The open lists, from the outside in.
+    lists: Vec<Placeholder>,
+    // The counted mark.
+    finished_list: bool,
+}
+
+impl Model for RlpStream {
+    ghost use Rattle.std.specs.Prelude.{◌-◌, length, reverse, vec_capacity};
+    ghost use Rattle.rlp_buffer.specs.Streams.Stream.{Seen};
+    ghost use Rattle.rlp_buffer.specs.Streams.Placeholders.{IsLaid};
+    ghost use Rattle.rlp_buffer.specs.Streams.Layout.{state_of};
+
+    ghost Value = { Seen };
+
+    ghost view = { λ s. record {
+      state = state_of s.start s.buffer.items (reverse s.lists.items) s.finished_list;
+      spare = s.buffer.spare;
+      spare_lists = vec_capacity s.lists - length (reverse s.lists.items);
+      moved = s.buffer.moved;
+    } };
+
+    ghost invariant = { λ s. IsLaid s.start s.buffer.items (reverse s.lists.items) };
+}
+
+impl RlpStream {
+    /// A stream with nothing in it. `AllocError` where its first room is refused.
+    pub fn new(alloc: Global) -> Result<RlpStream, AllocError>
+        ensures state { IfOk result (λ s. s.state ≡ initial_state []) }
+        ensures spare { IfOk result (λ s. 1024 ≤ s.spare) }
+        ensures moved { IfOk result (λ s. s.moved ≡ 0) }
+    {
+        let buffer = BytesMut::with_capacity(alloc, STARTING_CAPACITY)?;
+        Ok(RlpStream::new_with_buffer(alloc, buffer))
+    }
+
+    /// A stream in which one list is begun, as by [`RlpStream::begin_list`].
+    #[tactic(auto, unfolding(rlp_buffer::specs::Streams::Stream::Retains))]
+    pub fn new_list(alloc: Global, len: usize) -> Result<RlpStream, AllocError>
+        ensures state { IfOk result
+            (λ s. s.state ≡ effect (begin_list len) (initial_state [])) }
+        ensures room { IfOk result (λ s. 1024 ≤ room s) }
+    {
+        let mut s = RlpStream::new(alloc)?;
+        s.try_begin(len)?;
+        Ok(s)
+    }
+
+    /// A stream over bytes that are handed in, its front. It takes no memory.
+    pub fn new_with_buffer(alloc: Global, buffer: BytesMut) -> RlpStream
+        ensures state { result.state ≡ initial_state buffer.items }
+        ensures spare { result.spare ≡ buffer.spare }
+        ensures spare_lists { result.spare_lists ≡ 0 }
+        ensures moved { result.moved ≡ 0 }
+    {
+        let start = buffer.len();
+        RlpStream {
+            buffer: Buffer::new(buffer),
+            start,
+            lists: Vec::new(alloc),
+            finished_list: false,
+        }
+    }
+
+    /// A stream over bytes that are handed in, in which one list is begun. Where memory is refused
+    /// it hands the buffer back, with its bytes as they were.
+    #[tactic(auto, unfolding(rlp_buffer::specs::Streams::Stream::Retains))]
+    pub fn new_list_with_buffer(
+        alloc: Global,
+        buffer: BytesMut,
+        len: usize,
+    ) -> Result<RlpStream, BytesMut>
+        ensures ok { IfOk result
+            (λ s. s.state ≡ effect (begin_list len) (initial_state buffer.items)) }
+        ensures room { IfOk result (λ s. length buffer.items + buffer.spare ≤ room s) }
+        ensures room_at_once { len ≡ 0 → 1 ≤ buffer.spare → IsOk result }
+        ensures refused { IfErr result (λ b. b.items ≡ buffer.items) }
+        ensures spare { IfErr result (λ b. buffer.spare ≤ b.spare) }
+    {
+        let mut s = RlpStream::new_with_buffer(alloc, buffer);
+        match s.try_begin(len) {
+            Ok(()) => Ok(s),
+            Err(_) => Err(s.out()),
+        }
+    }
+
+    /// Appends a value: puts its encoding, and counts one item in the innermost open list.
+    ///
+    /// The result lends the stream on, so that calls chain by `?`. `AllocError` where memory is
+    /// refused, or where the value's own [`Encodable::rlp_append`] answers it; the stream is then
+    /// as it was before the call.
+    pub fn append<E: Encodable>(&mut self, value: &E) -> Result<Chain<'_>, AllocError>
+        ensures* refused { sem 𝓛 (stays_if_refused self.entry result) }
+        ensures fits { OnOk result (E.fits value.now) }
+        ensures ok { LeavesState result (effect (append (E.item value.now)) self.old.state) }
+        ensures room { E.at_once value.now
+            → HasRoomFor self.old (effect (append (E.item value.now)) self.old.state)
+            → IsOk result }
+        ensures retains { RetainsInChain self.old result }
+        ensures same_stream { HoldsStream self.entry result }
+    {
+        self.try_append(value)?;
+        Ok(Chain { stream: self })
+    }
+
+    /// Appends the string of the bytes that an iterator gives. They are written as they come, and
+    /// the header is made for as many as came. The iterator must end.
+    pub fn append_iter<I: IntoIterator<Item = u8>>(
+        &mut self,
+        value: I,
+    ) -> Result<Chain<'_>, AllocError>
+        requires { IsFiniteIterable I.into_iter_gives I.IntoIter.can_next I.IntoIter.remaining value }
+        ensures* refused { sem 𝓛 (stays_if_refused self.entry result) }
+        ensures ok { IfOk result (λ c. (s : List ℕ)
+            × GivesAll I.into_iter_gives I.IntoIter.next_gives value s
+            × (c.stream.now.state ≡ effect (append (string s)) self.old.state)) }
+        ensures retains { RetainsInChain self.old result }
+        ensures same_stream { HoldsStream self.entry result }
+    {
+        self.try_append_iter(value)?;
+        Ok(Chain { stream: self })
+    }
+
+    /// Appends the list of the values: begins a list of so many items, and appends each.
+    pub fn append_list<E: Encodable>(&mut self, values: &[E]) -> Result<Chain<'_>, AllocError>
+        ensures* refused { sem 𝓛 (stays_if_refused self.entry result) }
+        ensures fits { OnOk result (All E.fits values.now) }
+        ensures ok { LeavesState result
+            (effect (append (list_of (map E.item values.now))) self.old.state) }
+        ensures room { values.now ≡ [] → HasRoomFor self.old
+            (effect (append (list_of (map E.item values.now))) self.old.state) → IsOk result }
+        ensures retains { RetainsInChain self.old result }
+        ensures same_stream { HoldsStream self.entry result }
+    {
+        self.try_append(&Listed(values))?;
+        Ok(Chain { stream: self })
+    }
+
+    /// Writes a value by its own [`Encodable::rlp_append`] alone: a string isn't counted, and a list
+    /// counts itself. A value that is another value under a name of its own is written so.
+    pub fn append_internal<E: Encodable>(&mut self, value: &E) -> Result<Chain<'_>, AllocError>
+        ensures* refused { sem 𝓛 (stays_if_refused self.entry result) }
+        ensures fits { OnOk result (E.fits value.now) }
+        ensures ok { LeavesState result
+            (effect (append_internal (E.item value.now)) self.old.state) }
+        ensures room { E.at_once value.now
+            → HasRoomFor self.old (effect (append_internal (E.item value.now)) self.old.state)
+            → IsOk result }
+        ensures retains { RetainsInChain self.old result }
+        ensures same_stream { HoldsStream self.entry result }
+    {
+        self.try_append_internal(value)?;
+        Ok(Chain { stream: self })
+    }
+
+    /// Puts the encoding of the empty string, and counts one item.
+    pub fn append_empty_data(&mut self) -> Result<Chain<'_>, AllocError>
+        ensures* refused { sem 𝓛 (rests_if_refused self.entry result) }
+        ensures ok { LeavesState result (effect append_empty_data self.old.state) }
+        ensures room { IsFinished self.old.state → 1 ≤ self.old.spare → IsOk result }
+        ensures room_with_lists { HasRoomFor self.old (effect append_empty_data self.old.state)
+            → IsOk result }
+        ensures moved { MovesWithin self.old result }
+        ensures retains { RetainsInChain self.old result }
+        ensures same_stream { HoldsStream self.entry result }
+    {
+        self.try_put_counted(&NULL_RLP, 1)?;
+        Ok(Chain { stream: self })
+    }
+
+    /// Puts bytes as they are, and counts so many items. The innermost open list, if it has a bound,
+    /// must await at least as many, which [`RlpStream::items_awaited`] tells.
+    ///
+    /// Nothing tests whether the bytes are encodings of so many items.
+    pub fn append_raw(&mut self, bytes: &[u8], item_count: usize) -> Result<Chain<'_>, AllocError>
+        requires { IsTrue (is_admitted (append_raw bytes.now item_count) self.old.state) }
+        ensures* refused { sem 𝓛 (rests_if_refused self.entry result) }
+        ensures ok { LeavesState result (effect (append_raw bytes.now item_count) self.old.state) }
+        ensures room { IsFinished self.old.state
+            → length bytes.now ≤ self.old.spare → IsOk result }
+        ensures room_with_lists { HasRoomFor self.old
+            (effect (append_raw bytes.now item_count) self.old.state) → IsOk result }
+        ensures moved { MovesWithin self.old result }
+        ensures retains { RetainsInChain self.old result }
+        ensures same_stream { HoldsStream self.entry result }
+    {
+        self.try_put_counted(bytes, item_count)?;
+        Ok(Chain { stream: self })
+    }
+
+    /// The same, where the closed size with the bytes is at most `max_size`: then the answer is
+    /// `true`. Else it is `false`, and nothing changes.
+    ///
+    /// ```rust
+    /// let mut s = rlp::RlpStream::new_list(alloc, 3)?;
+    /// assert!(rt; !s.append_raw_checked(&[1], 1, 1)?);
+    /// assert!(rt; s.append_raw_checked(&[1], 1, 2)?);
+    /// ```
+    #[tactic(auto, unfolding(rlp_buffer::specs::Streams::Stream::Retains))]
+    pub fn append_raw_checked(
+        &mut self,
+        bytes: &[u8],
+        item_count: usize,
+        max_size: usize,
+    ) -> Result<bool, AllocError>
+        requires { IsTrue (is_admitted (append_raw_checked bytes.now item_count max_size)
+            self.old.state) }
+        ensures refused { OnErr result (IsAsBefore self.old self.new) }
+        ensures ok { OnOk result (self.new.state
+            ≡ effect (append_raw_checked bytes.now item_count max_size) self.old.state) }
+        ensures within { IfOk result
+            (λ put. put ≡ is_within_size bytes.now max_size self.old.state) }
+        ensures too_large { is_within_size bytes.now max_size self.old.state ≡ false
+            → IsOk result × IsAsBefore self.old self.new }
+        ensures room { IsFinished self.old.state
+            → length bytes.now ≤ self.old.spare → IsOk result }
+        ensures room_with_lists { HasRoomFor self.old
+            (effect (append_raw bytes.now item_count) self.old.state) → IsOk result }
+        ensures moved { self.new.moved ≤ self.old.moved + closed_size self.new.state }
+        ensures retains { Retains self.old self.new }
+    {
+        if !self.is_within_size(bytes, max_size) {
+            return Ok(false);
+        }
+        self.try_put_counted(bytes, item_count).map(|()| true)
+    }
+
+    /// Begins a list that awaits so many items, and is closed by the last of them. A list of no
+    /// items is written at once.
+    pub fn begin_list(&mut self, len: usize) -> Result<Chain<'_>, AllocError>
+        ensures* refused { sem 𝓛 (rests_if_refused self.entry result) }
+        ensures ok { LeavesState result (effect (begin_list len) self.old.state) }
+        ensures room { 0 < len → 1 ≤ self.old.spare → 1 ≤ self.old.spare_lists → IsOk result }
+        ensures room_at_once { len ≡ 0
+            → HasRoomFor self.old (effect (begin_list 0) self.old.state) → IsOk result }
+        ensures moved { MovesWithin self.old result }
+        ensures retains { RetainsInChain self.old result }
+        ensures same_stream { HoldsStream self.entry result }
+    {
+        self.try_begin(len)?;
+        Ok(Chain { stream: self })
+    }
+
+    /// Begins a list without a bound, which [`RlpStream::finalize_unbounded_list`] closes.
+    pub fn begin_unbounded_list(&mut self) -> Result<Chain<'_>, AllocError>
+        ensures* refused { sem 𝓛 (rests_if_refused self.entry result) }
+        ensures ok { LeavesState result (effect begin_unbounded_list self.old.state) }
+        ensures room { 1 ≤ self.old.spare → 1 ≤ self.old.spare_lists → IsOk result }
+        ensures moved { MovesWithin self.old result }
+        ensures not_moved { IfOk result (λ c. c.stream.now.moved ≡ self.old.moved) }
+        ensures retains { RetainsInChain self.old result }
+        ensures same_stream { HoldsStream self.entry result }
+    {
+        self.try_open(None)?;
+        Ok(Chain { stream: self })
+    }
+
+    /// Closes the innermost open list, which must have no bound, as [`RlpStream::can_finalize`]
+    /// tests, and counts it in the list around it. The closed size stays.
+    #[tactic(auto, using(rlp_buffer::proofs::States::size_kept))]
+    pub fn finalize_unbounded_list(&mut self) -> Result<(), AllocError>
+        requires { IsTrue (is_admitted finalize_unbounded_list self.old.state) }
+        ensures ok { OnOk result (self.new.state ≡ effect finalize_unbounded_list self.old.state) }
+        ensures refused { OnErr result (IsAsBefore self.old self.new) }
+        ensures room { HasRoomFor self.old (effect finalize_unbounded_list self.old.state)
+            → IsOk result }
+        ensures size { closed_size self.new.state ≡ closed_size self.old.state }
+        ensures retains { Retains self.old self.new }
+        ensures moved { self.new.moved ≤ self.old.moved + closed_size self.new.state }
+    {
+        self.try_finalize()?;
+        Ok(())
+    }
+
+    /// Drops all that was written and every open list. The front and the mark stay.
+    pub fn clear(&mut self)
+        ensures state { self.new.state ≡ effect clear self.old.state }
+        ensures moved { self.new.moved ≡ self.old.moved }
+        ensures retains { Retains self.old self.new }
+    {
+        self.buffer.truncate(self.start);
+        self.lists.clear();
+    }
+
+    /// How many bytes there are behind those handed in once every list is closed, whatever is still
+    /// awaited.
+    pub fn len(&self) -> usize
+        ensures { result ≡ closed_size self.now.state }
+    {
+        let lists = self.lists.as_slice();
+        closed_len(lists, self.start, self.buffer.len(), 0).unwrap()
+    }
+
+    /// Whether nothing was written and no list is open: whether [`RlpStream::len`] is 0.
+    pub fn is_empty(&self) -> bool
+        ensures { IsTrue result ↔ (closed_size self.now.state ≡ 0) }
+    {
+        self.buffer.len() == self.start
+    }
+
+    /// The size of [`RlpStream::len`] with so many more bytes put. It must be less than 2^64, which
+    /// [`RlpStream::checked_estimate_size`] tests.
+    pub fn estimate_size(&self, add: usize) -> usize
+        requires { closed_size_with add self.now.state < 2 ^ 64 }
+        ensures { result ≡ closed_size_with add self.now.state }
+    {
+        self.checked_estimate_size(add).unwrap()
+    }
+
+    /// The same, or `None` where it is 2^64 or more.
+    pub fn checked_estimate_size(&self, add: usize) -> Option<usize>
+        ensures { SomeIff result (closed_size_with add self.now.state < 2 ^ 64)
+            (closed_size_with add self.now.state) }
+    {
+        closed_len(self.lists.as_slice(), self.start, self.buffer.len(), add)
+    }
+
+    /// Whether no list is open, so that [`RlpStream::out`] may be called.
+    pub fn is_finished(&self) -> bool
+        ensures { IsTrue result ↔ IsFinished self.now.state }
+    {
+        self.lists.is_empty()
+    }
+
+    /// Whether the innermost open list exists and has no bound, so that
+    /// [`RlpStream::finalize_unbounded_list`] may be called.
+    pub fn can_finalize(&self) -> bool
+        ensures { result ≡ is_unbounded self.now.state.stack.lists }
+    {
+        is_unbounded(&self.lists)
+    }
+
+    /// What the innermost open list awaits. `None` where it has no bound, or none is open.
+    pub fn items_awaited(&self) -> Option<usize>
+        ensures { result ≡ awaited self.now.state.stack.lists }
+    {
+        innermost_awaits(&self.lists)
+    }
+
+    /// The bytes as they stand: those handed in, what stands at the top, and for each open list
+    /// from the outside in one byte `0x00`, in place of its header, and what stands in it.
+    pub fn as_raw(&self) -> &[u8]
+        ensures { result.now ≡ raw_text self.now.state }
+    {
+        self.buffer.as_slice()
+    }
+
+    /// The bytes handed in and the encodings after them. No list may be open, which
+    /// [`RlpStream::is_finished`] tests.
+    pub fn out(self) -> BytesMut
+        requires { IsFinished self.state }
+        ensures bytes { result.items ≡ self.state.front ++ self.state.stack.inner }
+        ensures size { length result.items ≡ length self.state.front + closed_size self.state }
+        ensures spare { result.spare ≡ self.spare }
+    {
+        let RlpStream {
+            buffer,
+            start: _,
+            lists: _,
+            finished_list: _,
+        } = self;
+        buffer.into_bytes()
+    }
+
+    /// A writer of strings into this stream, which counts none of them.
+    pub fn encoder(&mut self) -> BasicEncoder<'_>
+        ensures same_reference { result.stream.ghost_name ≡ self.entry.ghost_name }
+        ensures same { result.stream.now ≡ self.old }
+    {
+        BasicEncoder { stream: self }
+    }
+}

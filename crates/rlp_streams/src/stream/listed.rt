@@ -1,0 +1,30 @@
+//! The list of some values.
+
+ghost use Rattle.std.specs.Prelude.{◌≡◌, [], map, All};
+ghost use Rattle.rlp_format.specs.Format.Item.{list_of};
+
+use crate::stream::RlpStream;
+use crate::traits::Encodable;
+use std::alloc::AllocError;
+
+/// Values that are written as one list.
+#[derive(Clone, Copy)]
+pub(crate) struct Listed<'a, E>(pub(crate) &'a [E]);
+
+impl<E: Encodable> Encodable for Listed<'_, E> {
+    ghost item = { λ v. list_of (map E.item v.0.now) };
+
+    ghost fits = { λ v. All E.fits v.0.now };
+
+    ghost at_once = { λ v. v.0.now ≡ [] };
+
+    #[tactic(auto, using(crate::proofs::Growth::growth))]
+    fn rlp_append(&self, s: &mut RlpStream) -> Result<(), AllocError> {
+        let values = self.0;
+        s.begin_list(values.len())?;
+        for value in values {
+            s.append(value)?;
+        }
+        Ok(())
+    }
+}

@@ -1,0 +1,296 @@
+//! What the public calls of a stream are made of.
+
+ghost use Rattle.std.specs.Prelude.{◌≡◌, ◌≤◌, ◌<◌, ◌+◌, ◌*◌, ◌++◌, ℕ, List, [], IsTrue, IsOk, OnOk, OnErr, length, false};
+ghost use Rattle.std.specs.Iterator.{IsFiniteIterable};
+ghost use Rattle.rlp_format.specs.Format.Item.{string};
+ghost use Rattle.rlp_format.specs.Format.Encoding.{encoding};
+ghost use Rattle.rlp_buffer.specs.Streams.Stack.{AwaitsSome, is_unbounded};
+ghost use Rattle.rlp_buffer.specs.Streams.Calls.{append, effect, finalize_unbounded_list, is_within_size, with_list_of};
+ghost use Rattle.rlp_buffer.specs.Streams.Stream.{HasRoomFor, IsAsBefore, IsFinished, Retains, put, with_list, count, add, put_item, closed_size, closed_size_with};
+ghost use Rattle.rlp_streams.specs.Streams.Growth.{GrowsTo};
+ghost use Rattle.rlp_buffer.specs.Streams.Iterated.{GivesAll};
+
+use crate::EMPTY_LIST_RLP;
+use crate::stream::RlpStream;
+use crate::traits::Encodable;
+use rlp_buffer::buffer::strings::{write_string, write_string_of};
+use rlp_buffer::closing::put_counted;
+use rlp_buffer::open_lists::{Placeholder, set_innermost};
+use rlp_buffer::rewinding::{place_of, rewind};
+use std::alloc::AllocError;
+
+impl RlpStream {
+    /// Whether the closed size with so many bytes put is at most the limit already where the header of
+    /// each open list is as long as one can be. The lists aren't walked for it.
+    fn is_surely_within_size(&self, add: usize, limit: usize) -> bool
+        ensures within { IsTrue result → closed_size_with add self.now.state ≤ limit }
+        ensures sure { closed_size_with add self.now.state
+            + 8 * length self.now.state.stack.lists ≤ limit → IsTrue result }
+    {
+        let lists = self.lists.as_slice();
+        let most = self.buffer.len() - self.start + 8 * lists.len();
+        match most.checked_add(add) {
+            Some(most) => most <= limit,
+            None => false,
+        }
+    }
+
+    /// Whether the closed size with these bytes put is at most the limit. It is summed up, list by
+    /// list, only where a bound on it is too much.
+    #[tactic(auto, using(rlp_buffer::proofs::States::within_size))]
+    pub(super) fn is_within_size(&self, bytes: &[u8], limit: usize) -> bool
+        ensures { result ≡ is_within_size bytes.now limit self.now.state }
+    {
+        if self.is_surely_within_size(bytes.len(), limit) {
+            return true;
+        }
+        match self.checked_estimate_size(bytes.len()) {
+            Some(size) => size <= limit,
+            None => false,
+        }
+    }
+
+    /// Puts the encoding of a string. It is refused only where the room was less.
+    #[tactic(auto, unfolding(rlp_buffer::specs::Streams::Stream::Retains))]
+    pub(super) fn put_string(&mut self, value: &[u8]) -> Result<(), AllocError>
+        ensures ok { OnOk result
+            (self.new.state ≡ put (encoding (string value.now)) self.old.state) }
+        ensures refused { OnErr result (IsAsBefore self.old self.new) }
+        ensures room { OnErr result (self.old.spare < length (encoding (string value.now))) }
+        ensures has_room { HasRoomFor self.old (put (encoding (string value.now)) self.old.state)
+            → IsOk result }
+        ensures moved { self.new.moved ≡ self.old.moved }
+        ensures retains { Retains self.old self.new }
+    {
+        write_string(&mut self.buffer, value)?;
+        Ok(())
+    }
+
+    /// Puts the encoding of the string that an iterator gives.
+    #[tactic(auto, unfolding(rlp_buffer::specs::Streams::Stream::Retains))]
+    pub(super) fn put_string_of<I: IntoIterator<Item = u8>>(
+        &mut self,
+        value: I,
+    ) -> Result<(), AllocError>
+        requires { IsFiniteIterable I.into_iter_gives I.IntoIter.can_next I.IntoIter.remaining value }
+        ensures ok { OnOk result ((s : List ℕ)
+            × GivesAll I.into_iter_gives I.IntoIter.next_gives value s
+            × (self.new.state ≡ put (encoding (string s)) self.old.state)) }
+        ensures refused { OnErr result (IsAsBefore self.old self.new) }
+        ensures moved { self.new.moved ≡ self.old.moved }
+        ensures retains { Retains self.old self.new }
+    {
+        write_string_of(&mut self.buffer, value)?;
+        Ok(())
+    }
+
+    /// Opens a list, which awaits so many items, or has no bound.
+    #[tactic(auto, unfolding(rlp_buffer::specs::Streams::Stream::Retains))]
+    pub(super) fn try_open(&mut self, awaits: Option<usize>) -> Result<(), AllocError>
+        requires { AwaitsSome awaits }
+        ensures ok { OnOk result (self.new.state ≡ with_list awaits self.old.state) }
+        ensures refused { OnErr result (IsAsBefore self.old self.new) }
+        ensures room { 1 ≤ self.old.spare → 1 ≤ self.old.spare_lists → IsOk result }
+        ensures moved { self.new.moved ≡ self.old.moved }
+        ensures retains { Retains self.old self.new }
+    {
+        let position = self.buffer.len();
+        self.buffer.reserve(1)?;
+        match self.lists.push(Placeholder { position, awaits }) {
+            Ok(()) => {
+                self.buffer.extend_reserved(&[0]);
+                self.finished_list = false;
+                Ok(())
+            }
+            Err(_) => Err(AllocError),
+        }
+    }
+
+    /// Opens a list that awaits so many items, or writes that of no items.
+    #[tactic(auto, using(crate::proofs::Opened::opened), unfolding(rlp_buffer::specs::Streams::Stream::Retains))]
+    pub(super) fn try_begin(&mut self, len: usize) -> Result<(), AllocError>
+        ensures ok { OnOk result (self.new.state ≡ with_list_of len self.old.state) }
+        ensures refused { OnErr result (IsAsBefore self.old self.new) }
+        ensures room { 0 < len → 1 ≤ self.old.spare → 1 ≤ self.old.spare_lists → IsOk result }
+        ensures room_at_once { len ≡ 0 → HasRoomFor self.old (with_list_of 0 self.old.state)
+            → IsOk result }
+        ensures room_finished { IsFinished self.old.state → len ≡ 0 → 1 ≤ self.old.spare
+            → IsOk result }
+        ensures moved { self.new.moved ≤ self.old.moved + closed_size self.new.state }
+        ensures retains { Retains self.old self.new }
+    {
+        if len == 0 {
+            self.try_put_counted(&EMPTY_LIST_RLP, 1)?;
+            self.finished_list = true;
+            return Ok(());
+        }
+        self.try_open(Some(len))
+    }
+
+    /// Puts bytes, and counts so many items.
+    #[inline(always)]
+    #[tactic(auto, unfolding(rlp_buffer::specs::Streams::Stream::Retains))]
+    pub(super) fn try_put_counted(&mut self, bytes: &[u8], items: usize) -> Result<(), AllocError>
+        ensures ok { OnOk result
+            (self.new.state ≡ count items (put bytes.now self.old.state)) }
+        ensures refused { OnErr result (IsAsBefore self.old self.new) }
+        ensures room { IsFinished self.old.state
+            → OnErr result (self.old.spare < length bytes.now) }
+        ensures has_room { HasRoomFor self.old (count items (put bytes.now self.old.state))
+            → IsOk result }
+        ensures moved { self.new.moved ≤ self.old.moved + closed_size self.new.state }
+        ensures retains { Retains self.old self.new }
+    {
+        let open = !self.lists.is_empty();
+        let closed = put_counted(&mut self.buffer, &mut self.lists, bytes, items)?;
+        if open {
+            self.finished_list = closed;
+        }
+        Ok(())
+    }
+
+    /// Closes the innermost list, which has no bound, and counts it in the list around it. It is
+    /// the count of the last item that the list awaits, had it a bound.
+    #[tactic(auto, unfolding(rlp_buffer::specs::Streams::Stream::Retains))]
+    pub(super) fn try_finalize(&mut self) -> Result<(), AllocError>
+        requires { IsTrue (is_unbounded self.old.state.stack.lists) }
+        ensures ok { OnOk result
+            (self.new.state ≡ effect finalize_unbounded_list self.old.state) }
+        ensures refused { OnErr result (IsAsBefore self.old self.new) }
+        ensures room { HasRoomFor self.old (effect finalize_unbounded_list self.old.state)
+            → IsOk result }
+        ensures moved { self.new.moved ≤ self.old.moved + closed_size self.new.state }
+        ensures retains { Retains self.old self.new }
+    {
+        set_innermost(&mut self.lists, Some(1));
+        match put_counted(&mut self.buffer, &mut self.lists, &[], 1) {
+            Ok(_) => {
+                self.finished_list = true;
+                Ok(())
+            }
+            Err(e) => {
+                set_innermost(&mut self.lists, None);
+                Err(e)
+            }
+        }
+    }
+
+    /// Counts so many items.
+    #[tactic(auto, unfolding(rlp_buffer::specs::Streams::Stream::Retains))]
+    fn try_count(&mut self, items: usize) -> Result<(), AllocError>
+        ensures ok { OnOk result (self.new.state ≡ count items self.old.state) }
+        ensures refused { OnErr result (IsAsBefore self.old self.new) }
+        ensures room { HasRoomFor self.old (count items self.old.state) → IsOk result }
+        ensures retains { Retains self.old self.new }
+    {
+        self.try_put_counted(&[], items)
+    }
+
+    /// Puts a value and counts it, where the mark is false. What is refused may leave more.
+    #[tactic(auto, using(crate::proofs::Growth::grows_unmarked), unfolding(rlp_buffer::specs::Streams::Stream::Retains))]
+    fn put_value<E: Encodable>(&mut self, value: &E) -> Result<(), AllocError>
+        requires { self.old.state.mark ≡ false }
+        ensures fits { OnOk result (E.fits value.now) }
+        ensures ok { OnOk result (self.new.state ≡ add (E.item value.now) self.old.state) }
+        ensures room { E.at_once value.now
+            → HasRoomFor self.old (add (E.item value.now) self.old.state) → IsOk result }
+        ensures refused { OnErr result (GrowsTo self.old.state self.new.state) }
+        ensures retains { Retains self.old self.new }
+    {
+        value.rlp_append(self)?;
+        if !self.finished_list {
+            self.try_count(1)?;
+        }
+        Ok(())
+    }
+
+    /// Puts the string that an iterator gives and counts it, where the mark is false. What is
+    /// refused may leave more.
+    #[tactic(auto, using(crate::proofs::Growth::growth), unfolding(rlp_buffer::specs::Streams::Stream::Retains))]
+    fn put_iter<I: IntoIterator<Item = u8>>(&mut self, value: I) -> Result<(), AllocError>
+        requires unmarked { self.old.state.mark ≡ false }
+        requires ends { IsFiniteIterable I.into_iter_gives I.IntoIter.can_next I.IntoIter.remaining value }
+        ensures ok { OnOk result ((s : List ℕ)
+            × GivesAll I.into_iter_gives I.IntoIter.next_gives value s
+            × (self.new.state ≡ add (string s) self.old.state)) }
+        ensures refused { OnErr result (GrowsTo self.old.state self.new.state) }
+        ensures retains { Retains self.old self.new }
+    {
+        self.put_string_of(value)?;
+        self.try_count(1)?;
+        Ok(())
+    }
+
+    /// Appends a value, and goes back to where it began where that is refused.
+    #[tactic(auto, unfolding(rlp_buffer::specs::Streams::Stream::Retains))]
+    pub(super) fn try_append<E: Encodable>(&mut self, value: &E) -> Result<(), AllocError>
+        ensures fits { OnOk result (E.fits value.now) }
+        ensures ok { OnOk result (self.new.state ≡ add (E.item value.now) self.old.state) }
+        ensures room { E.at_once value.now
+            → HasRoomFor self.old (add (E.item value.now) self.old.state) → IsOk result }
+        ensures refused { OnErr result (self.new.state ≡ self.old.state) }
+        ensures retains { Retains self.old self.new }
+    {
+        let place = place_of(&self.buffer, &self.lists);
+        let mark = self.finished_list;
+        self.finished_list = false;
+        match self.put_value(value) {
+            Ok(()) => Ok(()),
+            Err(e) => {
+                rewind(&mut self.buffer, &mut self.lists, place);
+                self.finished_list = mark;
+                Err(e)
+            }
+        }
+    }
+
+    /// Writes a value by its own `rlp_append`, and goes back to where it began where that is
+    /// refused.
+    #[tactic(auto, unfolding(rlp_buffer::specs::Streams::Stream::Retains))]
+    pub(super) fn try_append_internal<E: Encodable>(&mut self, value: &E) -> Result<(), AllocError>
+        ensures fits { OnOk result (E.fits value.now) }
+        ensures ok { OnOk result (self.new.state ≡ put_item (E.item value.now) self.old.state) }
+        ensures room { E.at_once value.now
+            → HasRoomFor self.old (put_item (E.item value.now) self.old.state) → IsOk result }
+        ensures refused { OnErr result (self.new.state ≡ self.old.state) }
+        ensures retains { Retains self.old self.new }
+    {
+        let place = place_of(&self.buffer, &self.lists);
+        let mark = self.finished_list;
+        match value.rlp_append(self) {
+            Ok(()) => Ok(()),
+            Err(e) => {
+                rewind(&mut self.buffer, &mut self.lists, place);
+                self.finished_list = mark;
+                Err(e)
+            }
+        }
+    }
+
+    /// Appends the string that an iterator gives, and goes back to where it began where that is
+    /// refused.
+    #[tactic(auto, unfolding(rlp_buffer::specs::Streams::Stream::Retains))]
+    pub(super) fn try_append_iter<I: IntoIterator<Item = u8>>(
+        &mut self,
+        value: I,
+    ) -> Result<(), AllocError>
+        requires { IsFiniteIterable I.into_iter_gives I.IntoIter.can_next I.IntoIter.remaining value }
+        ensures ok { OnOk result ((s : List ℕ)
+            × GivesAll I.into_iter_gives I.IntoIter.next_gives value s
+            × (self.new.state ≡ effect (append (string s)) self.old.state)) }
+        ensures refused { OnErr result (self.new.state ≡ self.old.state) }
+        ensures retains { Retains self.old self.new }
+    {
+        let place = place_of(&self.buffer, &self.lists);
+        let mark = self.finished_list;
+        self.finished_list = false;
+        match self.put_iter(value) {
+            Ok(()) => Ok(()),
+            Err(e) => {
+                rewind(&mut self.buffer, &mut self.lists, place);
+                self.finished_list = mark;
+                Err(e)
+            }
+        }
+    }
+}

@@ -1,0 +1,5 @@
+//! What a type does to be written.
+
+mod encodable;
+
+pub use encodable::Encodable;

@@ -1,0 +1,22 @@
+use Rattle.std.proofs.Common.{[], refl}
+use Rattle.rlp_tool.specs.Building.{AreTaken}
+use Rattle.rlp_tool.proofs.AnswerLemmas.{answer-described, answer-ends, answer-finishes}
+use Rattle.rlp_tool.proofs.CallsLemmas.{are_joined, described_items}
+use Rattle.rlp_tool.proofs.laws.finished_lines_are_answered.Goals as goal
+
+pub returns : goal.returns
+returns c =
+    let law = c.stream_joins_what_is_described.ensures in
+    let line = c.args.line.now in
+    record {
+      described = λ calls items says d. answer-described line calls items (law.finished [] calls items (described_items [] calls items d)) says d;
+      finished = λ calls bytes says taken f. (
+        are_joined [] calls f.last bytes taken (law.payloads [] calls taken.steps) f.admitted f.closed f.buffer,
+        answer-finishes line calls bytes says taken f,
+      );
+      only = λ calls says begins.
+          let e = answer-ends line calls c.parts_of_sized_are_sized.ensures.join says begins in
+          let taken : AreTaken [] calls = record { steps = e.steps; described = e.described } in
+          let j = are_joined [] calls e.last e.last.stack.inner taken (law.payloads [] calls e.steps) e.admitted e.closed refl in
+          (j.items, j.shallow, answer-described line calls j.items (law.finished [] calls j.items j.described) says j.shallow);
+    }

@@ -1,0 +1,58 @@
+//! Laws over what is answered to lines. None of these functions does anything: each contract is the
+//! law.
+
+ghost use Rattle.std.specs.Prelude.{◌≡◌, ◌++◌, ◌↔◌, ℕ, List, [], IsTrue, codes, decimal};
+ghost use Rattle.rlp.specs.Format.Item.{Item};
+ghost use Rattle.rlp.specs.Format.Encoding.{join, BeginsWith};
+ghost use Rattle.rlp.specs.Streams.Calls.{Call};
+ghost use Rattle.rlp.specs.Streams.Described.{FinishAs, IsDescribedWhere};
+ghost use Rattle.rlp_tool.specs.Answer.{SaysCalls, answer, finished_answer, open_answer};
+ghost use Rattle.rlp_tool.specs.Building.{AreJoined, AreRefused, AreTaken, BringsNoItems, BringsTooMany, HasNothingToFinish, StayOpen};
+ghost use Rattle.rlp_tool.specs.RawItems.{AreRawItems, IsShallow, are_raw_items};
+
+use rlp::laws::{parts_of_sized_are_sized, stream_joins_what_is_described};
+
+/// The test of raw bytes that the answers cite passes exactly where the bytes are the joined
+/// encodings of as many items as are counted, none of them too deep.
+pub fn raw_items_are_tested(bytes: &[u8])
+    ensures { (count : ℕ) → IsTrue (are_raw_items bytes.now count) ↔ AreRawItems bytes.now count }
+{}
+
+/// Where the calls that a line says describe items, the answer is `out` and the digits of the joined
+/// encodings of these items. Calls of which none is refused and that leave no list open do describe
+/// items, and the digits are those of the finished buffer. No other line of calls has an answer that
+/// begins with `out`.
+pub fn finished_lines_are_answered(line: &[u8])
+    ensures described { (calls : List Call) (items : List Item) → SaysCalls line.now calls
+        → IsDescribedWhere IsShallow [] calls items → answer line.now ≡ finished_answer (join items) }
+    ensures finished { (calls : List Call) (bytes : List ℕ) → SaysCalls line.now calls
+        → AreTaken [] calls → FinishAs [] calls bytes
+        → AreJoined [] calls bytes × (answer line.now ≡ finished_answer bytes) }
+    ensures only { (calls : List Call) → SaysCalls line.now calls
+        → BeginsWith (answer line.now) (codes "out")
+        → (items : List Item) × IsDescribedWhere IsShallow [] calls items
+        × (answer line.now ≡ finished_answer (join items)) }
+{
+    parts_of_sized_are_sized();
+    stream_joins_what_is_described();
+}
+
+/// Where the calls that a line says leave a list open, the answer is the closed size and the bytes as
+/// they stand.
+pub fn open_lines_are_answered(line: &[u8])
+    ensures { (calls : List Call) (size : ℕ) (raw : List ℕ) → SaysCalls line.now calls
+        → AreTaken [] calls → StayOpen [] calls size raw → answer line.now ≡ open_answer size raw }
+{}
+
+/// The first call of a line that is refused, and its reason, decide the answer.
+pub fn refused_lines_are_answered(line: &[u8])
+    ensures too_many { (calls : List Call) (place : ℕ) → SaysCalls line.now calls
+        → AreRefused BringsTooMany [] calls place
+        → answer line.now ≡ codes "error too many items at " ++ decimal place }
+    ensures nothing_to_finish { (calls : List Call) (place : ℕ) → SaysCalls line.now calls
+        → AreRefused HasNothingToFinish [] calls place
+        → answer line.now ≡ codes "error nothing to finish at " ++ decimal place }
+    ensures raw_not_items { (calls : List Call) (place : ℕ) → SaysCalls line.now calls
+        → AreRefused BringsNoItems [] calls place
+        → answer line.now ≡ codes "error raw not items at " ++ decimal place }
+{}

@@ -1,0 +1,89 @@
+//! What calls come to.
+
+use bytes::BytesMut;
+use rlp_examples::{Pair, Refusing, Trio};
+use rlp_tool::{BuildFault, Built, StreamCall, build};
+use std::alloc::{AllocError, Global};
+
+/// Whether calls come to these bytes, with no list open.
+fn finishes(built: &Result<Built, BuildFault>, expected: &[u8]) -> bool {
+    match built {
+        Ok(Built::Finished(bytes)) => bytes.as_slice() == expected,
+        _ => false,
+    }
+}
+
+/// Whether values and lists of values are written, behind a front.
+fn pairs_are_built(alloc: Global) -> Result<bool, AllocError> {
+    let calls = [
+        StreamCall::Begin(2),
+        StreamCall::Value(Pair(1, 2)),
+        StreamCall::Values(Vec::new(alloc)),
+    ];
+    let expected = [0xc4, 0xc2, 0x01, 0x02, 0xc0];
+    let built = build(alloc, BytesMut::new(alloc), calls.as_slice());
+    Ok(finishes(&built, expected.as_slice()))
+}
+
+#[test]
+fn build_always_lacks_memory(rt: HostRuntime) -> Result<(), AllocError> {
+    assert!(rt; pairs_are_built(rt.alloc())?);
+    Ok(())
+}
+
+/// Whether a front stays, and what is open is told.
+fn front_stays(alloc: Global) -> Result<bool, BuildFault> {
+    let mut front = BytesMut::new(alloc);
+    if front.extend_from_slice(b"junk").is_err() {
+        return Err(BuildFault::OutOfMemory);
+    }
+    let calls = [StreamCall::BeginUnbounded, StreamCall::Value(1u64)];
+    match build(alloc, front, calls.as_slice())? {
+        Built::Finished(_) => Ok(false),
+        Built::Open { size, raw } => Ok(size == 2 && raw.as_slice() == b"junk\x00\x01".as_slice()),
+    }
+}
+
+#[test]
+fn build_keeps_its_front(rt: HostRuntime) -> Result<(), AllocError> {
+    assert!(rt; front_stays(rt.alloc()) == Ok(true));
+    Ok(())
+}
+
+/// Whether raw bytes are refused in their place, behind raw bytes that are items.
+fn raw_bytes_are_checked(alloc: Global) -> Result<bool, AllocError> {
+    let calls: [StreamCall<u64>; 3] = [
+        StreamCall::Raw(Vec::from_slice(alloc, &[0x01, 0xc0])?, 2),
+        StreamCall::Raw(Vec::from_slice(alloc, &[0xc1, 0x00])?, 1),
+        StreamCall::Raw(Vec::from_slice(alloc, &[0x81, 0x05])?, 1),
+    ];
+    let built = build(alloc, BytesMut::new(alloc), &calls[..2]);
+    let refused = build(alloc, BytesMut::new(alloc), calls.as_slice());
+    Ok(
+        finishes(&built, &[0x01, 0xc0, 0xc1, 0x00])
+            && matches!(refused, Err(BuildFault::RawNotItems(3))),
+    )
+}
+
+#[test]
+fn build_checks_raw_bytes(rt: HostRuntime) -> Result<(), AllocError> {
+    assert!(rt; raw_bytes_are_checked(rt.alloc())?);
+    Ok(())
+}
+
+/// Whether a value that is refused among calls is answered as a want of memory.
+fn refused_value_is_told(alloc: Global) -> bool {
+    let calls = [
+        StreamCall::Begin(1),
+        StreamCall::Value(Trio(1, Refusing, 3)),
+    ];
+    matches!(
+        build(alloc, BytesMut::new(alloc), calls.as_slice()),
+        Err(BuildFault::OutOfMemory)
+    )
+}
+
+#[test]
+fn build_tells_refused_values(rt: HostRuntime) {
+    assert!(rt; refused_value_is_told(rt.alloc()));
+}

@@ -1,0 +1,43 @@
+//! Lines of lists that nest as deep as is printed, and deeper.
+
+use crate::devices::answers;
+use crate::lists::nested;
+use crate::long_answers::bytes_of_lists;
+use std::alloc::{AllocError, Global};
+use std::test::Fail;
+
+/// Whether a line of these bytes, and then one of a list of no items, are answered so.
+fn line_is_answered(alloc: Global, bytes: &[u8], answer: &[u8]) -> Result<bool, AllocError> {
+    let mut input = Vec::from_slice(alloc, hex::encode(alloc, bytes)?.as_bytes())?;
+    input.extend_from_slice(b"\nc0\n")?;
+    let mut expected = Vec::from_slice(alloc, answer)?;
+    expected.extend_from_slice(b"\n[]\n")?;
+    answers(alloc, input.as_slice(), expected.as_slice())
+}
+
+/// So many opening brackets, and as many closing ones.
+fn brackets(alloc: Global, lists: usize) -> Result<Vec<u8>, AllocError> {
+    let mut text = vec![in alloc; b'['; lists]?;
+    let closed = vec![in alloc; b']'; lists]?;
+    text.extend_from_slice(closed.as_slice())?;
+    Ok(text)
+}
+
+/// Whether 256 levels are printed, and more are refused, as many as a line can write.
+fn depth_is_limited(alloc: Global) -> Result<bool, AllocError> {
+    let printed = nested(alloc, &[], 256)?;
+    let text = brackets(alloc, 256)?;
+    let deeper = nested(alloc, &[], 257)?;
+    let deepest = bytes_of_lists(alloc, 20_000)?;
+    Ok(
+        line_is_answered(alloc, printed.as_slice(), text.as_slice())?
+            && line_is_answered(alloc, deeper.as_slice(), b"error deep")?
+            && line_is_answered(alloc, deepest.as_slice(), b"error deep")?,
+    )
+}
+
+#[test]
+fn run_answers_error_deep(rt: HostRuntime) -> Result<(), Fail> {
+    assert!(rt; depth_is_limited(rt.alloc())?);
+    Ok(())
+}

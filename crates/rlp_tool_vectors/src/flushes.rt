@@ -1,0 +1,59 @@
+//! Flushes: one for each that is asked for, and none else.
+
+use crate::devices_once::sink;
+use rlp_tool::{Noted, RunFault, run};
+use std::alloc::Global;
+use std::io;
+
+/// Whether a write makes no flush, and each call of `flush` makes one, also of a writer that counts
+/// as flushed.
+fn flushes_are_counted(alloc: Global) -> io::Result<bool> {
+    let mut sink = sink(alloc, 0, 0);
+    let written = sink.write(b"[]")? == 2 && sink.write(b"\n")? == 1;
+    let none = written && sink.inner().flushes == 0 && !sink.flushed();
+    sink.flush()?;
+    let one = sink.inner().flushes == 1 && sink.flushed();
+    sink.flush()?;
+    let two = sink.inner().flushes == 2 && sink.flushed();
+    Ok(none && one && two && sink.inner().writes == 2 && !sink.failed())
+}
+
+#[test]
+fn noted_flushes_as_often_as_it_is_asked(rt: HostRuntime) -> Result<(), io::Error> {
+    assert!(rt; flushes_are_counted(rt.alloc())?);
+    Ok(())
+}
+
+/// Inputs, and what is written for them.
+const INPUTS: [(&[u8], &[u8]); 4] = [
+    (b"", b""),
+    (b"c0", b"[]\n"),
+    (b"c0\n80\n", b"[]\n\"0x\"\n"),
+    (b"+u d:01\n\n0g", b"open 2 0001\nnull\nerror hex\n"),
+];
+
+/// Whether a run over these bytes ends so, by one flush, after it has written these.
+fn flushes_once(
+    alloc: Global,
+    row: (&[u8], &[u8]),
+    flush_fails: usize,
+    expected: Result<(), RunFault>,
+) -> bool {
+    let (input, written) = row;
+    let mut source = Noted::new(input);
+    let mut sink = sink(alloc, 0, flush_fails);
+    let outcome = run(alloc, &mut source, &mut sink);
+    outcome == expected && sink.inner().flushes == 1 && sink.inner().taken.as_slice() == written
+}
+
+/// Whether each run flushes once, also where the flush fails, and would work the next time.
+fn runs_flush_once(alloc: Global) -> bool {
+    INPUTS.iter().all(|row| {
+        flushes_once(alloc, *row, 0, Ok(())) && flushes_once(alloc, *row, 1, Err(RunFault::Write))
+    })
+}
+
+#[test]
+fn run_flushes_once_at_its_end(rt: HostRuntime) {
+    assert!(rt; runs_flush_once(rt.alloc()));
+}

@@ -1,0 +1,29 @@
+//! Lists around bytes, with no stream.
+
+use std::alloc::{AllocError, Global};
+
+/// Makes a payload of at most 65,535 bytes a list.
+pub(crate) fn list_of(payload: &mut Vec<u8>) -> Result<(), AllocError> {
+    let length = payload.len().to_be_bytes();
+    let [.., high, low] = length;
+    let mut list = Vec::new(*payload.allocator());
+    if high > 0 {
+        list.extend_from_slice(&[0xf9, high, low])?;
+    } else if low > 55 {
+        list.extend_from_slice(&[0xf8, low])?;
+    } else {
+        list.push(0xc0 | low)?;
+    }
+    list.extend_from_slice(payload.as_slice())?;
+    *payload = list;
+    Ok(())
+}
+
+/// So many lists around these bytes, one in another.
+pub(crate) fn nested(alloc: Global, inner: &[u8], lists: usize) -> Result<Vec<u8>, AllocError> {
+    let mut item = Vec::from_slice(alloc, inner)?;
+    for _ in 0..lists {
+        list_of(&mut item)?;
+    }
+    Ok(item)
+}

@@ -1,0 +1,64 @@
+//! Calls on streams that take no memory.
+//!
+//! `refusals/run` refuses every request from a signal on, which is one for `SIGNAL` bytes.
+
+use crate::support::guarded::{estimates, finishes_as, put_raw, put_raw_within};
+use bytes::BytesMut;
+use rlp::RlpStream;
+use std::alloc::{AllocError, Global};
+use std::test::Fail;
+
+/// How many bytes are asked for at the signal.
+const SIGNAL: usize = 77_777;
+
+/// Gives the signal. Whether the request is met makes no difference.
+fn refuse_from_here(alloc: Global) -> bool {
+    Vec::<u8>::with_capacity(alloc, SIGNAL).is_ok()
+}
+
+/// Whether a list of three that holds "cat" answers for itself, and is cleared.
+fn list_answers(mut s: RlpStream) -> bool {
+    let open = s.as_raw() == b"\0\x83cat".as_slice()
+        && s.len() == 5
+        && !s.is_empty()
+        && !s.is_finished()
+        && !s.can_finalize()
+        && s.items_awaited() == Some(2)
+        && s.checked_estimate_size(usize::MAX).is_none()
+        && estimates(&s, 51, 56)
+        && estimates(&s, 52, 58);
+    s.encoder();
+    s.clear();
+    open && s.is_empty() && finishes_as(s, b"")
+}
+
+/// Whether bytes are put into the room of a new stream.
+fn room_is_used(mut s: RlpStream) -> Result<bool, AllocError> {
+    let put = put_raw(&mut s, &[0u8; 1000], 1)? && put_raw_within(&mut s, b"rlp", 1, 1003)?;
+    s.append_empty_data()?;
+    let refused = !put_raw_within(&mut s, b"rlp", 1, 1003)?;
+    Ok(put && refused && s.len() == 1004 && s.as_raw().ends_with(b"rlp\x80"))
+}
+
+/// Whether calls that take no memory answer once every request is refused.
+fn need_no_memory(alloc: Global) -> Result<bool, AllocError> {
+    let mut list = RlpStream::new_list(alloc, 3)?;
+    list.append(&"cat")?;
+    let roomy = RlpStream::new(alloc)?;
+    let mut buffer = BytesMut::new(alloc);
+    buffer.extend_from_slice(b"junk")?;
+    refuse_from_here(alloc);
+    let front = RlpStream::new_with_buffer(alloc, buffer);
+    Ok(
+        list_answers(list)
+            && room_is_used(roomy)?
+            && front.is_empty()
+            && finishes_as(front, b"junk"),
+    )
+}
+
+#[test]
+fn streams_that_need_no_memory(rt: HostRuntime) -> Result<(), Fail> {
+    assert!(rt; need_no_memory(rt.alloc())?);
+    Ok(())
+}

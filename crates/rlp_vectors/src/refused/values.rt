@@ -1,0 +1,50 @@
+//! Streams that are begun and values that are encoded, of which one is refused memory.
+//!
+//! `refusals/run` refuses each request of these tests in turn. A test then answers `AllocError`, once
+//! it has seen that nothing else was lost.
+
+use bytes::BytesMut;
+use rlp::{Encodable, RlpStream};
+use rlp_examples::Pair;
+use std::alloc::{AllocError, Global};
+use std::test::Fail;
+
+/// Whether a buffer that was handed in stands before a new list, or comes back where that is refused.
+fn buffer_comes_back(alloc: Global) -> Result<bool, AllocError> {
+    let mut buffer = BytesMut::new(alloc);
+    buffer.extend_from_slice(b"junk")?;
+    match RlpStream::new_list_with_buffer(alloc, buffer, 2) {
+        Ok(s) => Ok(s.as_raw() == b"junk\0".as_slice() && s.items_awaited() == Some(2)),
+        Err(buffer) if buffer.as_slice() == b"junk".as_slice() => Err(AllocError),
+        Err(_) => Ok(false),
+    }
+}
+
+#[test]
+fn a_buffer_handed_in(rt: HostRuntime) -> Result<(), Fail> {
+    assert!(rt; buffer_comes_back(rt.alloc())?);
+    Ok(())
+}
+
+/// Whether new streams are begun, and values encoded.
+fn are_made(alloc: Global) -> Result<bool, AllocError> {
+    let text = "Lorem ipsum";
+    let stream = RlpStream::new(alloc)?;
+    let list = RlpStream::new_list(alloc, 3)?;
+    let encoded = rlp::encode(alloc, &text)?;
+    let listed = rlp::encode_list(alloc, &[Pair(1, 2), Pair(3, 4)])?;
+    let bytes = text.rlp_bytes(alloc)?;
+    Ok(
+        stream.is_empty()
+            && list.as_raw() == [0x00].as_slice()
+            && encoded.as_slice() == b"\x8bLorem ipsum".as_slice()
+            && listed.as_slice() == [0xc6, 0xc2, 0x01, 0x02, 0xc2, 0x03, 0x04].as_slice()
+            && bytes.as_slice() == encoded.as_slice(),
+    )
+}
+
+#[test]
+fn what_is_made(rt: HostRuntime) -> Result<(), Fail> {
+    assert!(rt; are_made(rt.alloc())?);
+    Ok(())
+}

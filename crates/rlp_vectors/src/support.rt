@@ -1,0 +1,6 @@
+//! What tests share.
+
+pub(crate) mod guarded;
+pub(crate) mod iterators;
+pub(crate) mod plain;
+pub(crate) mod steps;

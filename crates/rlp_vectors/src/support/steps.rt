@@ -1,0 +1,118 @@
+//! Calls on streams as data.
+
+use crate::support::guarded::{finalize, finishes_as, put_raw};
+use rlp::RlpStream;
+use rlp_examples::Pair;
+use std::alloc::{AllocError, Global};
+
+/// A call on a stream.
+#[derive(Clone, Copy)]
+pub(crate) enum Step {
+    /// `begin_list`.
+    Begin(usize),
+    /// `begin_unbounded_list`.
+    BeginUnbounded,
+    /// `finalize_unbounded_list`.
+    Finalize,
+    /// `append` of a number.
+    Number(u64),
+    /// `append` of a text.
+    Text(&'static str),
+    /// `append` of a pair.
+    Pair(u64, u64),
+    /// `append_internal` of a number.
+    InternalNumber(u64),
+    /// `append_internal` of a pair.
+    InternalPair(u64, u64),
+    /// `append_list` of numbers.
+    Numbers(&'static [u64]),
+    /// `append_list` of pairs.
+    Pairs(&'static [Pair]),
+    /// `encode_value` of the stream's encoder.
+    Encoded(&'static [u8]),
+    /// `append_raw`.
+    Raw(&'static [u8], usize),
+    /// `append_empty_data`.
+    Empty,
+    /// `clear`.
+    Clear,
+}
+
+/// Makes a call. `false` where its condition doesn't hold.
+pub(crate) fn make(s: &mut RlpStream, step: Step) -> Result<bool, AllocError> {
+    match step {
+        Step::Begin(len) => {
+            s.begin_list(len)?;
+        }
+        Step::BeginUnbounded => {
+            s.begin_unbounded_list()?;
+        }
+        Step::Finalize => return finalize(s),
+        Step::Raw(bytes, items) => return put_raw(s, bytes, items),
+        Step::Encoded(value) => s.encoder().encode_value(value)?,
+        Step::Empty => {
+            s.append_empty_data()?;
+        }
+        Step::Clear => s.clear(),
+        value => return append(s, value),
+    }
+    Ok(true)
+}
+
+/// Makes a call that appends a value. `false` for any other.
+fn append(s: &mut RlpStream, step: Step) -> Result<bool, AllocError> {
+    match step {
+        Step::Number(number) => {
+            s.append(&number)?;
+        }
+        Step::Text(text) => {
+            s.append(&text)?;
+        }
+        Step::Pair(first, second) => {
+            s.append(&Pair(first, second))?;
+        }
+        Step::InternalNumber(number) => {
+            s.append_internal(&number)?;
+        }
+        Step::InternalPair(first, second) => {
+            s.append_internal(&Pair(first, second))?;
+        }
+        Step::Numbers(numbers) => {
+            s.append_list(numbers)?;
+        }
+        Step::Pairs(pairs) => {
+            s.append_list(pairs)?;
+        }
+        _ => return Ok(false),
+    }
+    Ok(true)
+}
+
+/// Makes calls, up to the first whose condition doesn't hold: then the answer is `false`.
+pub(crate) fn make_all(s: &mut RlpStream, steps: &[Step]) -> Result<bool, AllocError> {
+    for step in steps {
+        if !make(s, *step)? {
+            return Ok(false);
+        }
+    }
+    Ok(true)
+}
+
+/// A new stream, in which a list of so many items is begun, or none.
+pub(crate) fn started(alloc: Global, list: Option<usize>) -> Result<RlpStream, AllocError> {
+    match list {
+        Some(len) => RlpStream::new_list(alloc, len),
+        None => RlpStream::new(alloc),
+    }
+}
+
+/// Whether the calls on a new stream, with a list begun in it or none, finish as these bytes.
+pub(crate) fn finish_as(
+    alloc: Global,
+    list: Option<usize>,
+    steps: &[Step],
+    want: &[u8],
+) -> Result<bool, AllocError> {
+    let mut s = started(alloc, list)?;
+    Ok(make_all(&mut s, steps)? && finishes_as(s, want))
+}

@@ -1,0 +1,98 @@
+//! Each law of `rlp::laws` is called once, so that none is out of reach. What a law says is proved.
+
+use rlp::{DecoderError, laws};
+use std::alloc::Global;
+use std::test::Fail;
+
+/// The encoding of the list of 1 and 2.
+const LIST: [u8; 3] = [0xc2, 0x01, 0x02];
+
+#[test]
+fn laws_of_the_format() {
+    laws::digits_are_canonical();
+    laws::headers_are_prefix_free();
+    laws::list_is_header_and_items();
+    laws::header_is_read(&LIST);
+    laws::framing_is_read(&LIST);
+    laws::frame_is_of_framed(&LIST);
+    laws::encoding_is_prefix_free();
+    laws::encoding_in_front_is_unique(&LIST);
+    laws::join_is_injective();
+    laws::encoding_is_framed(&LIST);
+    laws::cuts_begin_one_another(&LIST);
+    laws::split_is_longest(&LIST);
+    laws::split_goes_by_frames(&LIST);
+    laws::parts_of_sized_are_sized();
+    laws::join_splits_into_encodings();
+    laws::list_gives_its_items(&LIST);
+    laws::rest_is_not_framed(&LIST);
+    laws::text_and_depth_go_by_items(&LIST);
+    laws::what_follows_makes_no_difference();
+    laws::encoding_has_its_depth(&LIST);
+}
+
+#[test]
+fn laws_of_views_and_values() {
+    laws::items_by_number_are_in_order(&LIST);
+    laws::iteration_reads_few_headers();
+    laws::view_of_list_has_its_items(&LIST);
+    laws::string_is_read(&LIST);
+    laws::number_is_read(&LIST);
+    laws::bytes_are_read(&LIST);
+    laws::text_is_read(&LIST);
+    laws::bool_is_read(&LIST);
+    laws::option_is_read::<u64>(&LIST);
+    laws::option_of_bytes_is_read(&LIST);
+    laws::options_are_read(&LIST);
+    laws::option_of_option_is_read::<u64>(&LIST);
+    laws::strict_fault_is_read(&LIST);
+    laws::lenient_views_ignore_what_follows(&LIST);
+    laws::strict_values_are_read(&LIST);
+    laws::strict_option_is_read::<u64>(&LIST);
+    laws::list_is_read_back::<u64>(&LIST);
+}
+
+#[test]
+fn laws_of_streams() {
+    laws::constants_are_encodings();
+    laws::closing_keeps_what_is_closed();
+    laws::closed_size_goes_by_length();
+    laws::bytes_go_to_the_end();
+    laws::finished_streams_gain_encodings();
+    laws::finished_streams_have_their_closed_size();
+    laws::growth_is_an_order();
+    laws::growth_of_moves();
+    laws::open_lists_await_items();
+    laws::stream_joins_what_is_described();
+    laws::finished_buffers_tell_items(&LIST, &LIST);
+}
+
+/// Whether the law that takes an item off returns it, and what follows.
+fn split_off() -> Result<bool, DecoderError> {
+    let (item, rest) = laws::joined_items_are_split_off(&LIST[1..], false)?;
+    Ok(item.as_raw() == [0x01].as_slice() && rest == [0x02].as_slice())
+}
+
+#[test]
+fn laws_that_split_items_off(rt: HostRuntime) -> Result<(), Fail> {
+    assert!(rt; split_off()?);
+    Ok(())
+}
+
+/// Whether the laws that decode return the values.
+fn decoded(alloc: Global) -> Result<bool, DecoderError> {
+    let items = [1, 2];
+    Ok(
+        laws::encoding_is_decoded::<u64>(alloc, &LIST[1..])? == 1
+            && laws::scalar_is_decoded::<u64>(alloc, &LIST[1..])? == 1
+            && laws::strictly_decoded::<u64>(alloc, &LIST[2..])? == 2
+            && laws::list_is_decoded::<u64>(alloc, &LIST)?.as_slice() == items.as_slice()
+            && laws::list_strictly_decoded::<u64>(alloc, &LIST)?.as_slice() == items.as_slice(),
+    )
+}
+
+#[test]
+fn laws_that_decode(rt: HostRuntime) -> Result<(), Fail> {
+    assert!(rt; decoded(rt.alloc())?);
+    Ok(())
+}
