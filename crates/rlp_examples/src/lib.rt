@@ -1,18 +1,15 @@
-//! Types that are written and read by `rlp`, and callers of `rlp` and `rlp_tool`, each proved from
-//! the public contracts and the lemmas that authors of types cite.
+//! Types that are written and read by `rlp`, and callers of `rlp`, each proved from the public
+//! contracts and the lemmas that authors of types cite.
 #![tactic(auto)]
 
 mod access;
 mod address;
 mod appends;
 mod branch;
-mod builds;
-mod careless;
 mod child;
 mod couple;
 mod entry;
 mod fields;
-mod half_written;
 mod hash;
 mod leaf;
 mod nest;
@@ -21,18 +18,16 @@ mod ordered;
 mod pair;
 mod recipient;
 mod transaction;
+mod trio;
 mod uses;
 
 pub use access::{Access, AccessList};
 pub use address::Address;
 pub use appends::{append_one, append_three, bytes_of_three};
 pub use branch::Branch;
-pub use builds::{finish_alike, finished_buffer};
-pub use careless::{Odd, Refusing, Trio, Wrapper};
 pub use child::Child;
 pub use couple::{Alone, Couple, append_list_in_list, write_list_in_list};
 pub use entry::{Entry, entry_back};
-pub use half_written::HalfWritten;
 pub use hash::Hash;
 pub use leaf::Leaf;
 pub use nest::{Inner, Nest};
@@ -41,4 +36,5 @@ pub use ordered::Ordered;
 pub use pair::Pair;
 pub use recipient::Recipient;
 pub use transaction::Transaction;
+pub use trio::{Refusing, Trio};
 pub use uses::{append_by_stream, append_each, chain_and_encoder, drained, first_and_text, nested};

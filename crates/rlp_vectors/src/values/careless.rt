@@ -2,7 +2,8 @@
 
 use crate::support::guarded::finishes_as;
 use rlp::{Encodable, RlpStream};
-use rlp_examples::{Refusing, Trio, Wrapper};
+use rlp_callers::Wrapper;
+use rlp_examples::{Refusing, Trio};
 use std::alloc::{AllocError, Global};
 use std::test::Fail;
 

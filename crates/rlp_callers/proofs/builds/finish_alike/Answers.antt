@@ -1,0 +1,34 @@
+use Rattle.std.proofs.Common.{◌≡◌, Option, Some, None, IsSome, subst, sym}
+use Rattle.rlp.specs.Streams.Described.{FinishAs}
+use Rattle.rlp_tool.specs.Building.{AreJoined}
+use Rattle.rlp_tool.specs.StreamCalls.{calls_of}
+use Rattle.rlp_callers.proofs.builds.finish_alike.Goals as goal
+
+none_some : {T : Type 0} (o : Option T) → o ≡ None → IsSome o → ⊥
+none_some (Some x) e h = let never : ⊥ = cc in never
+none_some None e h = let never : ⊥ = cc in never
+
+pub returns-in_default-clause-described : goal.returns-in_default-clause-described
+returns-in_default-clause-described g c = λ xs ys d e. absurd (none_some c.in_ok-first.field-0 c.in_default.is (c.in_ok-first.ensures.described xs d))
+
+pub returns-in_default-2-clause-described : goal.returns-in_default-2-clause-described
+returns-in_default-2-clause-described g c = λ xs ys d e. absurd (none_some c.in_ok-second.field-0 c.in_default-2.is (c.in_ok-second.ensures.described ys e))
+
+pub returns-clause-described : goal.returns-clause-described
+returns-clause-described g c = λ xs ys d e.
+    let ones = calls_of g.A.Encodable.item c.args.one.now in
+    let others = calls_of g.B.Encodable.item c.args.other.now in
+    let front = c.args.front.now in
+    let first : FinishAs front ones c.as_slice-first.result.now = subst (FinishAs front ones) (sym c.as_slice-first.ensures) (rw c.in-Some.is at c.in_ok-first.ensures.finished) in
+    let second : FinishAs front others c.as_slice-second.result.now = subst (FinishAs front others) (sym c.as_slice-second.ensures) (rw c.in-Some-2.is at c.in_ok-second.ensures.finished) in
+    let told = c.finished_buffers_tell_items.ensures.equal front ones others xs ys d first e second in
+    (λ alike. told.0 (c.same_bytes.ensures.0 alike), λ same. c.same_bytes.ensures.1 (told.1 same))
+
+pub returns-clause-told : goal.returns-clause-told
+returns-clause-told g c =
+    let ones = calls_of g.A.Encodable.item c.args.one.now in
+    let others = calls_of g.B.Encodable.item c.args.other.now in
+    let front = c.args.front.now in
+    let first : AreJoined front ones c.in-Some.first.items = rw c.in-Some.is at c.in_ok-first.ensures.joined in
+    let second : AreJoined front others c.in-Some-2.second.items = rw c.in-Some-2.is at c.in_ok-second.ensures.joined in
+    (first.items, second.items, first.described, second.described, returns-clause-described g c first.items second.items first.described second.described)

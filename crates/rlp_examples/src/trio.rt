@@ -1,0 +1,41 @@
+//! A list of two numbers and a value of any type, and a value that is always refused.
+
+use crate::fields::{Both, One, append_as_list};
+use rlp::{Encodable, RlpStream};
+use std::alloc::AllocError;
+
+/// It is always refused, before it writes.
+#[derive(Debug, Drop)]
+pub struct Refusing;
+
+impl Encodable for Refusing {
+    ghost use Rattle.std.specs.Prelude.{⊤, []};
+    ghost use Rattle.rlp.specs.Format.Item.{string};
+
+    ghost item = { λ v. string [] };
+
+    ghost fits = { λ v. ⊤ };
+
+    #[tactic(auto, using(rlp::proofs::Growth::growth))]
+    fn rlp_append(&self, _s: &mut RlpStream) -> Result<(), AllocError> {
+        Err(AllocError)
+    }
+}
+
+/// Two numbers with a value of any type between them, written as the list of the three.
+#[derive(Drop)]
+pub struct Trio<M>(pub u64, pub M, pub u64);
+
+impl<M: Encodable> Encodable for Trio<M> {
+    ghost use Rattle.std.specs.Prelude.{[], ◌∷◌};
+    ghost use Rattle.rlp.specs.Format.Item.{list_of};
+    ghost use Rattle.rlp.specs.Values.Value.{FitsBytes, number_item};
+
+    ghost item = { λ t. list_of (number_item t.0 ∷ M.item t.1 ∷ number_item t.2 ∷ []) };
+
+    ghost fits = { λ t. FitsBytes 8 t.0 × M.fits t.1 × FitsBytes 8 t.2 };
+
+    fn rlp_append(&self, s: &mut RlpStream) -> Result<(), AllocError> {
+        append_as_list(s, 3, &Both(One(&self.0), Both(One(&self.1), One(&self.2))))
+    }
+}
