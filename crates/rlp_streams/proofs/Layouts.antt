@@ -7,6 +7,7 @@ use Rattle.rlp_buffer.specs.Streams.Stream.{State}
 use Rattle.rlp_buffer.specs.Streams.Stack.{OpenList}
 use Rattle.rlp_streams.specs.Streams.Growth.{AreSameAround, Stands, GrowsTo}
 use Rattle.rlp_streams.specs.Streams.Growth.Stands.{here, within}
+use Rattle.rlp_streams.specs.Streams.Places.{IsPlaceOf}
 use Rattle.rlp_buffer.specs.Streams.Placeholders.{begin_of, lists_of, Placed, IsLaid, with_innermost, innermost_awaits}
 use Rattle.rlp_buffer.specs.Streams.Layout.{state_of}
 use Rattle.rlp_buffer.proofs.FlatBuffer.{start_le, below_front}
@@ -158,13 +159,13 @@ lists_back items grown cut last open_lists w back number cuts awaited is =
     is ∙ ap (λ z. with_innermost (λ _. w) (reverse z)) same ∙ ap (λ v. with_innermost (λ _. v) (reverse (take (length (reverse items)) (reverse (reverse grown))))) awaited ∙ back
 
 -- what rewinding to a place leaves
-pub record Rewound (start : ℕ) (b : List ℕ) (ps : List Placeholder) (start' : ℕ) (c : List ℕ) (ms : List Placeholder) : Type 0 where
-  pub front : start' ≡ start
-  pub bytes : c ≡ b
-  pub lists : reverse ms ≡ ps
+record Rewound (start : ℕ) (b : List ℕ) (ps : List Placeholder) (start' : ℕ) (c : List ℕ) (ms : List Placeholder) : Type 0 where
+  front : start' ≡ start
+  bytes : c ≡ b
+  lists : reverse ms ≡ ps
 
 -- rewinding a stream that grew from a place leaves what stood there
-pub rewound : (start start' : ℕ) (b c bytes : List ℕ) (old grown lists : List Placeholder) (m m' : Bool) (place : Place) (s t : State)
+rewound : (start start' : ℕ) (b c bytes : List ℕ) (old grown lists : List Placeholder) (m m' : Bool) (place : Place) (s t : State)
     → IsLaid start b (reverse old) → IsLaid start' c (reverse grown) → state_of start b (reverse old) m ≡ s → state_of start' c (reverse grown) m' ≡ t → GrowsTo s t
     → place.len ≡ length b → place.open_count ≡ length old → place.awaits ≡ innermost_awaits (reverse old)
     → bytes ≡ take place.len c → reverse lists ≡ with_innermost (λ _. place.awaits) (reverse (take place.open_count grown)) → Rewound start b (reverse old) start' bytes lists
@@ -177,3 +178,15 @@ rewound start start' b c bytes old grown lists m m' place s t h k was is grows l
       bytes = cut ∙ ap (λ n. take n c) len ∙ back.bytes;
       lists = lists_back old grown (take place.open_count grown) lists place.open_count place.awaits back.lists number refl awaits last;
     }
+
+-- the stream stands as it did at the place
+pub record IsBack (place : Place) (s : State) (start : ℕ) (bytes : List ℕ) (lists : List Placeholder) : Type 0 where
+  pub laid : IsLaid start bytes (reverse lists)
+  pub is : state_of start bytes (reverse lists) place.finished_list ≡ s
+
+pub is_back : (place : Place) (s t : State) (start : ℕ) (c bytes : List ℕ) (grown lists : List Placeholder) (m : Bool)
+    → IsPlaceOf place s → IsLaid start c (reverse grown) → state_of start c (reverse grown) m ≡ t → GrowsTo s t
+    → bytes ≡ take place.len c → reverse lists ≡ with_innermost (λ _. place.awaits) (reverse (take place.open_count grown)) → IsBack place s start bytes lists
+is_back place s t start c bytes grown lists m p k is grows cut last =
+    let r = rewound p.start start p.bytes c bytes p.lists grown lists place.finished_list m place s t p.laid k p.is is grows p.len p.open_count p.awaits cut last in
+    record { laid = rw (r.front, r.bytes, r.lists) p.laid; is = rw (r.front, r.bytes, r.lists) p.is }

@@ -2,3 +2,5 @@
 pub mod Growth
 -- what a refusal leaves of a stream that is lent on
 pub mod Chain
+-- the place that a call notes, to go back to it
+pub mod Places

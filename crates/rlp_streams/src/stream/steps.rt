@@ -6,8 +6,9 @@ ghost use Rattle.rlp_format.specs.Format.Item.{string};
 ghost use Rattle.rlp_format.specs.Format.Encoding.{encoding};
 ghost use Rattle.rlp_buffer.specs.Streams.Stack.{AwaitsSome, is_unbounded};
 ghost use Rattle.rlp_buffer.specs.Streams.Calls.{append, effect, finalize_unbounded_list, is_within_size, with_list_of};
-ghost use Rattle.rlp_buffer.specs.Streams.Stream.{HasRoomFor, IsAsBefore, IsFinished, Retains, put, with_list, count, add, put_item, closed_size, closed_size_with};
+ghost use Rattle.rlp_buffer.specs.Streams.Stream.{HasRoomFor, State, IsAsBefore, IsFinished, Retains, put, with_list, count, add, put_item, closed_size, closed_size_with};
 ghost use Rattle.rlp_streams.specs.Streams.Growth.{GrowsTo};
+ghost use Rattle.rlp_streams.specs.Streams.Places.{IsPlaceOf};
 ghost use Rattle.rlp_buffer.specs.Streams.Iterated.{GivesAll};
 
 use crate::EMPTY_LIST_RLP;
@@ -16,7 +17,7 @@ use crate::traits::Encodable;
 use rlp_buffer::buffer::strings::{write_string, write_string_of};
 use rlp_buffer::closing::put_counted;
 use rlp_buffer::open_lists::{Placeholder, set_innermost};
-use rlp_buffer::rewinding::{place_of, rewind};
+use rlp_buffer::rewinding::{Place, place_of, rewind};
 use std::alloc::AllocError;
 
 impl RlpStream {
@@ -221,6 +222,25 @@ impl RlpStream {
         Ok(())
     }
 
+    /// The place at which the stream stands.
+    fn place(&self) -> Place
+        ensures { IsPlaceOf result self.now.state }
+    {
+        place_of(&self.buffer, &self.lists, self.finished_list)
+    }
+
+    /// Goes back to a place from which the stream grew.
+    #[tactic(auto, unfolding(rlp_buffer::specs::Streams::Stream::Retains))]
+    fn go_back(&mut self, place: Place)
+        requires { (s : State) × IsPlaceOf place s × GrowsTo s self.old.state }
+        ensures back { (s : State) → IsPlaceOf place s → GrowsTo s self.old.state
+            → self.new.state ≡ s }
+        ensures retains { Retains self.old self.new }
+    {
+        rewind(&mut self.buffer, &mut self.lists, place);
+        self.finished_list = place.finished_list;
+    }
+
     /// Appends a value, and goes back to where it began where that is refused.
     #[tactic(auto, unfolding(rlp_buffer::specs::Streams::Stream::Retains))]
     pub(super) fn try_append<E: Encodable>(&mut self, value: &E) -> Result<(), AllocError>
@@ -231,14 +251,12 @@ impl RlpStream {
         ensures refused { OnErr result (self.new.state ≡ self.old.state) }
         ensures retains { Retains self.old self.new }
     {
-        let place = place_of(&self.buffer, &self.lists);
-        let mark = self.finished_list;
+        let place = self.place();
         self.finished_list = false;
         match self.put_value(value) {
             Ok(()) => Ok(()),
             Err(e) => {
-                rewind(&mut self.buffer, &mut self.lists, place);
-                self.finished_list = mark;
+                self.go_back(place);
                 Err(e)
             }
         }
@@ -255,13 +273,11 @@ impl RlpStream {
         ensures refused { OnErr result (self.new.state ≡ self.old.state) }
         ensures retains { Retains self.old self.new }
     {
-        let place = place_of(&self.buffer, &self.lists);
-        let mark = self.finished_list;
+        let place = self.place();
         match value.rlp_append(self) {
             Ok(()) => Ok(()),
             Err(e) => {
-                rewind(&mut self.buffer, &mut self.lists, place);
-                self.finished_list = mark;
+                self.go_back(place);
                 Err(e)
             }
         }
@@ -281,14 +297,12 @@ impl RlpStream {
         ensures refused { OnErr result (self.new.state ≡ self.old.state) }
         ensures retains { Retains self.old self.new }
     {
-        let place = place_of(&self.buffer, &self.lists);
-        let mark = self.finished_list;
+        let place = self.place();
         self.finished_list = false;
         match self.put_iter(value) {
             Ok(()) => Ok(()),
             Err(e) => {
-                rewind(&mut self.buffer, &mut self.lists, place);
-                self.finished_list = mark;
+                self.go_back(place);
                 Err(e)
             }
         }

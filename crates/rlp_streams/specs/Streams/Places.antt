@@ -1,0 +1,19 @@
+-- Where a stream stands: what a call that may be refused on its way notes before it begins.
+use Rattle.std.specs.Prelude.{ℕ, ◌≡◌, List, length, reverse}
+use Rattle.rlp_buffer.specs.declared.open_lists.Placeholder.{Placeholder}
+use Rattle.rlp_buffer.specs.declared.rewinding.Place.{Place}
+use Rattle.rlp_buffer.specs.Streams.Stream.{State}
+use Rattle.rlp_buffer.specs.Streams.Placeholders.{IsLaid, innermost_awaits}
+use Rattle.rlp_buffer.specs.Streams.Layout.{state_of}
+
+-- The place of a stream in this state: how long its bytes are, how many lists are open, what the innermost of them awaits, and its mark.
+pub record IsPlaceOf (place : Place) (s : State) : Type 0 where
+  pub start : ℕ
+  pub bytes : List ℕ
+  -- the placeholders of the open lists, from the outside in
+  pub lists : List Placeholder
+  pub laid : IsLaid start bytes (reverse lists)
+  pub is : state_of start bytes (reverse lists) place.finished_list ≡ s
+  pub len : place.len ≡ length bytes
+  pub open_count : place.open_count ≡ length lists
+  pub awaits : place.awaits ≡ innermost_awaits (reverse lists)
