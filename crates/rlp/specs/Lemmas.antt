@@ -6,7 +6,7 @@ pub use Rattle.rlp_format.specs.Lemmas.Encodings
 pub use Rattle.rlp_format.specs.Lemmas.Frames
 pub use Rattle.rlp_format.specs.Lemmas.Views
 pub use Rattle.rlp_format.specs.Lemmas.Strings
-pub mod Held
+pub mod StringsHeld
 pub mod Numbers
 pub mod OneReading
 pub mod RoundTrips

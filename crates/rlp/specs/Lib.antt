@@ -10,7 +10,7 @@ pub mod Values
 pub mod Streams
 -- what the laws of traits cite, for authors of laws and types; a reader of definitions can pass it by
 pub mod Lemmas
--- the item and the readings of a type of one's own, from those of its fields
+-- the item and the readings of a custom type, from those of its fields
 pub mod Codec
 -- the faults of decoding
 pub use Rattle.rlp_format.specs.declared.error.DecoderError

@@ -24,7 +24,7 @@ struct Plan {
     growth: usize,
 }
 
-/// Whether so many items are the last that a list awaits.
+/// Whether the items that are counted are the last that a list awaits.
 fn is_last(items: usize, awaits: Option<usize>) -> bool
     ensures { result ≡ is_last items awaits }
 {
@@ -34,7 +34,7 @@ fn is_last(items: usize, awaits: Option<usize>) -> bool
     }
 }
 
-/// Finds how many lists the count of so many items closes, and by how many bytes the buffer grows
+/// Finds how many lists the count of these items closes, and by how many bytes the buffer grows
 /// then. It goes over these lists from the inside out, and takes no memory.
 fn plan_count(lists: &[Placeholder], end: usize, items: usize) -> Plan
     requires order { Descends end (reverse lists.now) }
@@ -90,7 +90,7 @@ pub fn closed_len(lists: &[Placeholder], start: usize, end: usize, more: usize) 
     (left - start).checked_add(tail)
 }
 
-/// Closes the innermost lists, as many as are said. `end` bytes stand in front, and the room for
+/// Closes the given number of innermost lists. `end` bytes stand in front, and the room for
 /// the growth behind them. Each stretch of payload bytes between two placeholders goes once to its
 /// last place, from the inside out, and each header is written in front of what follows it.
 fn close_lists(buffer: &mut Buffer, lists: &mut Vec<Placeholder>, closing: usize, end: usize)
@@ -125,7 +125,7 @@ fn close_lists(buffer: &mut Buffer, lists: &mut Vec<Placeholder>, closing: usize
     }
 }
 
-/// Whether the count of so many items closes a list: the innermost one, and perhaps others around it.
+/// Whether the count of these items closes a list: the innermost one, and perhaps others around it.
 fn closes_some(lists: &[Placeholder], items: usize) -> bool
     ensures { result ≡ nat_lt 0 (filled items (reverse lists.now)) }
 {
@@ -135,7 +135,7 @@ fn closes_some(lists: &[Placeholder], items: usize) -> bool
     }
 }
 
-/// Puts bytes behind those of a buffer, and counts so many items in the innermost open list: a list
+/// Puts bytes behind those of a buffer, and counts the items in the innermost open list: a list
 /// that is full then is closed, and one item is counted in the list around it, and so on outwards.
 /// Answers whether a list was closed. All room is made before anything changes.
 #[inline(always)]

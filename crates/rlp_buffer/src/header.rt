@@ -41,8 +41,8 @@ impl HeaderBytes {
     }
 }
 
-/// The header of a string of so many bytes, where the base is [`STRING`], or of a list whose payload
-/// has so many, where it is [`LIST`].
+/// The header of a string of `len` bytes, where the base is [`STRING`], or of a list with a payload
+/// of `len` bytes, where it is [`LIST`].
 #[tactic(auto, using(crate::proofs::Written::written))]
 pub fn header(base: u8, len: usize) -> HeaderBytes
     requires { base ≤ 0xc0 }
@@ -63,7 +63,7 @@ pub fn header(base: u8, len: usize) -> HeaderBytes
     }
 }
 
-/// How many bytes the header of a list has whose payload has so many.
+/// Length in bytes of the header of a list, for the length of its payload.
 #[tactic(auto, using(crate::proofs::Written::written))]
 pub fn list_header_len(len: usize) -> usize
     ensures value { result ≡ length (written_header 0xc0 len) }

@@ -9,18 +9,18 @@ ghost use Rattle.rlp_buffer.specs.Streams.Placeholders.{with_innermost, innermos
 pub struct Placeholder {
     /// Where a byte 0 stands in the place of the list's header.
     pub position: usize,
-    /// How many items the list still awaits, or `None` where it has no bound.
+    /// How many items the list still awaits, or `None` where it is unbounded.
     pub awaits: Option<usize>,
 }
 
-/// What the innermost list awaits. `None` where it has no bound, and where no list is open.
+/// What the innermost list awaits. `None` where it is unbounded, and where no list is open.
 pub fn innermost_awaits(lists: &[Placeholder]) -> Option<usize>
     ensures { result ≡ innermost_awaits (reverse lists.now) }
 {
     lists.last()?.awaits
 }
 
-/// Whether a list is open, and the innermost has no bound.
+/// Whether a list is open, and the innermost is unbounded.
 pub fn is_unbounded(lists: &[Placeholder]) -> bool
     ensures { result ≡ is_innermost_unbounded (reverse lists.now) }
 {
@@ -30,7 +30,7 @@ pub fn is_unbounded(lists: &[Placeholder]) -> bool
     }
 }
 
-/// Has the innermost list await so many items.
+/// Sets how many items the innermost list awaits.
 pub fn set_innermost(lists: &mut Vec<Placeholder>, awaits: Option<usize>)
     ensures lists { reverse lists.new.items
         ≡ with_innermost (λ _. awaits) (reverse lists.old.items) }

@@ -16,21 +16,21 @@ pub struct Place {
     /// What the innermost of them awaits.
     pub awaits: Option<usize>,
     /// Whether a list that was finished is what stands last.
-    pub finished_list: bool,
+    pub mark: bool,
 }
 
 /// The place at which a stream stands.
-pub fn place_of(buffer: &Buffer, lists: &Vec<Placeholder>, finished_list: bool) -> Place
+pub fn place_of(buffer: &Buffer, lists: &Vec<Placeholder>, mark: bool) -> Place
     ensures len { result.len ≡ length buffer.now.items }
     ensures open { result.open_count ≡ length lists.now.items }
     ensures awaits { result.awaits ≡ innermost_awaits (reverse lists.now.items) }
-    ensures finished_list { result.finished_list ≡ finished_list }
+    ensures mark { result.mark ≡ mark }
 {
     Place {
         len: buffer.len(),
         open_count: lists.len(),
         awaits: innermost_awaits(lists),
-        finished_list,
+        mark,
     }
 }
 

@@ -1,4 +1,4 @@
-//! A struct of one's own: the list of its two fields.
+//! A custom struct: the list of its two fields.
 
 ghost use Rattle.std.specs.Prelude.{◌≡◌, IfErr, IfOk};
 ghost use Rattle.rlp.specs.DecoderError.TheVariants.{OutOfMemory};

@@ -1,5 +1,5 @@
-//! Values that are appended one after another, as the fields of a struct are: whoever has many
-//! fields names them in order, and proves nothing of each.
+//! Values that are appended one after another, as the fields of a struct are. An author of a long
+//! struct names its fields in order, and proves nothing of each.
 
 ghost use Rattle.std.specs.Prelude.{◌≡◌, ◌++◌, ◌∷◌, [], List, OnOk, OnErr, All, length, map};
 ghost use Rattle.rlp.specs.Format.Item.{Item, list_of};
@@ -78,7 +78,7 @@ impl<P: AppendAll, Q: AppendAll> AppendAll for Both<P, Q> {
     }
 }
 
-/// Writes the list of so many values.
+/// Writes the list of these values, of which there are `count`.
 #[tactic(auto, using(crate::proofs::Parts::parts))]
 pub(crate) fn append_as_list<F: AppendAll>(
     s: &mut RlpStream,

@@ -1,4 +1,4 @@
-//! A type of one's own of 32 bytes.
+//! A custom type of 32 bytes.
 
 ghost use Rattle.std.specs.Prelude.{◌≡◌, length, IfErr, IfOk};
 ghost use Rattle.rlp.specs.Values.ValueReading.{IsLengthFault};

@@ -1,4 +1,4 @@
-//! A generic list type, whose lists are written without a bound.
+//! A generic list type, written as unbounded lists.
 
 use rlp::{Decodable, DecoderError, Encodable, Rlp, RlpStream, RoundTrip};
 use std::alloc::{AllocError, Global};

@@ -1,4 +1,4 @@
-//! A type of one's own that is written and read as the number that it is.
+//! A custom type that is written and read as the number that it is.
 
 use rlp::{Decodable, DecoderError, Encodable, Rlp, RlpStream};
 use std::alloc::{AllocError, Global};

@@ -1,4 +1,4 @@
-//! A type of one's own that is written as a list.
+//! A custom type that is written as a list.
 
 use rlp::{Encodable, RlpStream};
 use std::alloc::AllocError;

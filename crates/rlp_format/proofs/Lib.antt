@@ -3,7 +3,7 @@ pub mod Splits
 pub mod Printing
 pub mod DigitBytes
 pub mod Places
-pub mod Hexes
+pub mod HexDigits
 pub mod Following
 pub mod StrictLists
 pub mod Depths

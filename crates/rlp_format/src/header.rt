@@ -33,7 +33,7 @@ impl PayloadInfo {
         ensures read { ReadsHeader header_bytes.now result }
         ensures exact { result ≡ header header_bytes.now }
     {
-        by_first_byte(header_bytes)
+        header_by_first_byte(header_bytes)
     }
 
     /// How many bytes header and value have together. [`PayloadInfo::checked_total`] tests whether
@@ -57,7 +57,7 @@ impl PayloadInfo {
 /// The header, by the table of first bytes.
 #[inline(always)]
 #[tactic(auto, using(crate::specs::Lemmas::Reading::rows), unfolding(crate::specs::Format::Header::header))]
-fn by_first_byte(bytes: &[u8]) -> Result<PayloadInfo, DecoderError>
+fn header_by_first_byte(bytes: &[u8]) -> Result<PayloadInfo, DecoderError>
     ensures { result ≡ header bytes.now }
 {
     match bytes {
@@ -71,7 +71,7 @@ fn by_first_byte(bytes: &[u8]) -> Result<PayloadInfo, DecoderError>
                 header_len: 1,
                 value_len: (first - 0x80) as usize,
             }),
-            first @ 0xb8..=0xbf => long_form(
+            first @ 0xb8..=0xbf => long_header(
                 rest,
                 (first - 0xb7) as usize,
                 DecoderError::RlpDataLenWithZeroPrefix,
@@ -80,7 +80,7 @@ fn by_first_byte(bytes: &[u8]) -> Result<PayloadInfo, DecoderError>
                 header_len: 1,
                 value_len: (first - 0xc0) as usize,
             }),
-            first @ 0xf8..=0xff => long_form(
+            first @ 0xf8..=0xff => long_header(
                 rest,
                 (first - 0xf7) as usize,
                 DecoderError::RlpListLenWithZeroPrefix,
@@ -90,7 +90,7 @@ fn by_first_byte(bytes: &[u8]) -> Result<PayloadInfo, DecoderError>
 }
 
 /// The header whose first byte announces `len` bytes of length, which `rest` begins with.
-fn long_form(rest: &[u8], len: usize, zero_fault: DecoderError) -> Result<PayloadInfo, DecoderError>
+fn long_header(rest: &[u8], len: usize, zero_fault: DecoderError) -> Result<PayloadInfo, DecoderError>
     requires { len ≤ 8 }
     ensures { result ≡ long_header zero_fault len rest.now }
 {

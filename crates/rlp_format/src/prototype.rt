@@ -5,8 +5,8 @@
 pub enum Prototype {
     /// No bytes.
     Null,
-    /// A string of so many bytes.
+    /// A string, with its length in bytes.
     Data(usize),
-    /// A list of so many items.
+    /// A list, with its number of items.
     List(usize),
 }

@@ -12,12 +12,12 @@ pub fn string_in(bytes: &[u8]) -> Result<&[u8], DecoderError>
         (λ e. read_string bytes.now ≡ Err e) }
     ensures read { ReadsString bytes.now (read_string bytes.now) }
 {
-    by_first_byte(bytes)
+    string_by_first_byte(bytes)
 }
 
 /// The string, by the table of first bytes.
 #[tactic(auto, using(crate::specs::Lemmas::Strings::first_bytes), unfolding(crate::specs::Format::StringReading::read_string))]
-fn by_first_byte(bytes: &[u8]) -> Result<&[u8], DecoderError>
+fn string_by_first_byte(bytes: &[u8]) -> Result<&[u8], DecoderError>
     ensures { MatchResult result (λ d. read_string bytes.now ≡ Ok d.now)
         (λ e. read_string bytes.now ≡ Err e) }
 {
@@ -25,15 +25,15 @@ fn by_first_byte(bytes: &[u8]) -> Result<&[u8], DecoderError>
         [] => Err(DecoderError::RlpIsTooShort),
         [first, rest @ ..] => match *first {
             0x00..=0x7f => Ok(&bytes[..1]),
-            first @ 0x80..=0xb7 => short_form(rest, (first - 0x80) as usize),
-            first @ 0xb8..=0xbf => long_form(rest, (first - 0xb7) as usize),
+            first @ 0x80..=0xb7 => short_string(rest, (first - 0x80) as usize),
+            first @ 0xb8..=0xbf => long_string(rest, (first - 0xb7) as usize),
             0xc0..=0xff => Err(DecoderError::RlpExpectedToBeData),
         },
     }
 }
 
 /// The string of `len` bytes that `rest` begins with, where its first byte announced the length.
-fn short_form(rest: &[u8], len: usize) -> Result<&[u8], DecoderError>
+fn short_string(rest: &[u8], len: usize) -> Result<&[u8], DecoderError>
     ensures { MatchResult result (λ d. short_string len rest.now ≡ Ok d.now)
         (λ e. short_string len rest.now ≡ Err e) }
 {
@@ -47,7 +47,7 @@ fn short_form(rest: &[u8], len: usize) -> Result<&[u8], DecoderError>
 }
 
 /// The string after `len` bytes of length, which `rest` begins with.
-fn long_form(rest: &[u8], len: usize) -> Result<&[u8], DecoderError>
+fn long_string(rest: &[u8], len: usize) -> Result<&[u8], DecoderError>
     requires positive { 1 ≤ len }
     requires few { len ≤ 8 }
     ensures { MatchResult result (λ d. long_string len rest.now ≡ Ok d.now)

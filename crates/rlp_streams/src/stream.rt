@@ -34,11 +34,11 @@ const STARTING_CAPACITY: usize = 1024;
 /// A stream of encodings, which grows as values are appended.
 ///
 /// A list is opened with the number of items that it awaits, and is closed by the last of them; or
-/// it is opened without a bound, and closed by [`RlpStream::finalize_unbounded_list`]. Lists nest at
+/// it is opened unbounded, and closed by [`RlpStream::finalize_unbounded_list`]. Lists nest at
 /// will. A list that is closed is one item of the list around it.
 ///
 /// Contracts see its state, which is the bytes handed in, what was written after them, the lists
-/// that are open, and the counted mark; and apart from it how many more bytes the buffer takes with
+/// that are open, and the mark; and apart from it how many more bytes the buffer takes with
 /// no allocation, and how many bytes of payload were moved to make place for headers. A call that is
 /// refused leaves the state as it was, the mark too.
 ///
@@ -55,8 +55,8 @@ pub struct RlpStream {
     start: usize,
     // The open lists, from the outside in.
     lists: Vec<Placeholder>,
-    // The counted mark.
-    finished_list: bool,
+    // The mark: whether the last call closed a list, which counted it already.
+    mark: bool,
 }
 
 impl Model for RlpStream {
@@ -68,7 +68,7 @@ impl Model for RlpStream {
     ghost Value = { Seen };
 
     ghost view = { λ s. record {
-      state = state_of s.start s.buffer.items (reverse s.lists.items) s.finished_list;
+      state = state_of s.start s.buffer.items (reverse s.lists.items) s.mark;
       spare = s.buffer.spare;
       spare_lists = vec_capacity s.lists - length (reverse s.lists.items);
       moved = s.buffer.moved;
@@ -112,7 +112,7 @@ impl RlpStream {
             buffer: Buffer::new(buffer),
             start,
             lists: Vec::new(alloc),
-            finished_list: false,
+            mark: false,
         }
     }
 
@@ -175,7 +175,7 @@ impl RlpStream {
         Ok(Chain { stream: self })
     }
 
-    /// Appends the list of the values: begins a list of so many items, and appends each.
+    /// Appends the list of the values: begins a list of as many items, and appends each.
     pub fn append_list<E: Encodable>(&mut self, values: &[E]) -> Result<Chain<'_>, AllocError>
         ensures* refused { sem 𝓛 (stays_if_refused self.entry result) }
         ensures fits { OnOk result (All E.fits values.now) }
@@ -222,10 +222,10 @@ impl RlpStream {
         Ok(Chain { stream: self })
     }
 
-    /// Puts bytes as they are, and counts so many items. The innermost open list, if it has a bound,
+    /// Puts bytes as they are, and counts `item_count` items. The innermost open list, if it has a bound,
     /// must await at least as many, which [`RlpStream::items_awaited`] tells.
     ///
-    /// Nothing tests whether the bytes are encodings of so many items.
+    /// Nothing tests whether the bytes are encodings of that many items.
     pub fn append_raw(&mut self, bytes: &[u8], item_count: usize) -> Result<Chain<'_>, AllocError>
         requires { IsTrue (is_admitted (append_raw bytes.now item_count) self.old.state) }
         ensures* refused { sem 𝓛 (rests_if_refused self.entry result) }
@@ -279,7 +279,7 @@ impl RlpStream {
         self.try_put_counted(bytes, item_count).map(|()| true)
     }
 
-    /// Begins a list that awaits so many items, and is closed by the last of them. A list of no
+    /// Begins a list that awaits `len` items, and is closed by the last of them. A list of no
     /// items is written at once.
     pub fn begin_list(&mut self, len: usize) -> Result<Chain<'_>, AllocError>
         ensures* refused { sem 𝓛 (rests_if_refused self.entry result) }
@@ -295,7 +295,7 @@ impl RlpStream {
         Ok(Chain { stream: self })
     }
 
-    /// Begins a list without a bound, which [`RlpStream::finalize_unbounded_list`] closes.
+    /// Begins an unbounded list, which [`RlpStream::finalize_unbounded_list`] closes.
     pub fn begin_unbounded_list(&mut self) -> Result<Chain<'_>, AllocError>
         ensures* refused { sem 𝓛 (rests_if_refused self.entry result) }
         ensures ok { LeavesState result (effect begin_unbounded_list self.old.state) }
@@ -309,7 +309,7 @@ impl RlpStream {
         Ok(Chain { stream: self })
     }
 
-    /// Closes the innermost open list, which must have no bound, as [`RlpStream::can_finalize`]
+    /// Closes the innermost open list, which must be unbounded, as [`RlpStream::can_finalize`]
     /// tests, and counts it in the list around it. The closed size stays.
     #[tactic(auto, using(rlp_buffer::proofs::States::size_kept))]
     pub fn finalize_unbounded_list(&mut self) -> Result<(), AllocError>
@@ -352,7 +352,7 @@ impl RlpStream {
         self.buffer.len() == self.start
     }
 
-    /// The size of [`RlpStream::len`] with so many more bytes put. It must be less than 2^64, which
+    /// The size of [`RlpStream::len`] with `add` more bytes put. It must be less than 2^64, which
     /// [`RlpStream::checked_estimate_size`] tests.
     pub fn estimate_size(&self, add: usize) -> usize
         requires { closed_size_with add self.now.state < 2 ^ 64 }
@@ -376,7 +376,7 @@ impl RlpStream {
         self.lists.is_empty()
     }
 
-    /// Whether the innermost open list exists and has no bound, so that
+    /// Whether a list is open and the innermost is unbounded, so that
     /// [`RlpStream::finalize_unbounded_list`] may be called.
     pub fn can_finalize(&self) -> bool
         ensures { result ≡ is_unbounded self.now.state.stack.lists }
@@ -384,7 +384,7 @@ impl RlpStream {
         is_unbounded(&self.lists)
     }
 
-    /// What the innermost open list awaits. `None` where it has no bound, or none is open.
+    /// What the innermost open list awaits. `None` where it is unbounded, or none is open.
     pub fn items_awaited(&self) -> Option<usize>
         ensures { result ≡ awaited self.now.state.stack.lists }
     {
@@ -411,7 +411,7 @@ impl RlpStream {
             buffer,
             start: _,
             lists: _,
-            finished_list: _,
+            mark: _,
         } = self;
         buffer.into_bytes()
     }

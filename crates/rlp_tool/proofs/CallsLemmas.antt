@@ -17,7 +17,7 @@ use Rattle.rlp_tool.specs.declared.calls.StreamCall.{StreamCall}
 use Rattle.rlp_tool.specs.declared.calls.StreamCall.TheVariants.{Value, Values, Raw, Begin, BeginUnbounded, Finish, Clear}
 use Rattle.rlp_tool.specs.RawItems.{AreRawItems, IsShallow}
 use Rattle.rlp_tool.specs.StreamCalls.{call_of}
-use Rattle.rlp_tool.specs.Building.{AreRefused, AreTaken, BringsItems, BringsNoItems, BringsTooMany, HasNothingToFinish, IsBuilt, IsJoined, IsRefusal, AreJoined, IsFinishedAs, IsStep, IsUnfit, IsHeld, takes_memory}
+use Rattle.rlp_tool.specs.Building.{AreRefused, AreTaken, BringsItems, BringsNoItems, BringsTooMany, HasNothingToFinish, IsBuilt, IsJoined, IsRefusal, AreJoined, IsFinishedAs, IsSomeStep, IsUnfit, IsHeld, takes_memory}
 
 -- room for k items, by what is awaited
 abbrev pub room_for : ℕ → Option ℕ → Bool
@@ -110,7 +110,7 @@ pub made_none : (front : List ℕ) (calls : List Call) (s : State) → s ≡ ini
 made_none front calls s is =
     record { taken = record { steps = []; described = tt }; admitted = ap (λ (u : State). Ok u) (sym is); same_front = ap (λ (u : State). u.front) is }
 
-made_more : (front : List ℕ) (calls : List Call) (c : Call) (s t : State) → AreMade front calls s → IsTrue (is_admitted c s) → IsStep c s
+made_more : (front : List ℕ) (calls : List Call) (c : Call) (s t : State) → AreMade front calls s → IsTrue (is_admitted c s) → IsSomeStep c s
     → t ≡ effect c s → AreMade front (calls ++ c ∷ []) t
 made_more front calls c s t made admitted (m, step) moved = record {
   taken = record {
@@ -147,7 +147,7 @@ around f xs i x h e = sym (take-append-drop i (map f xs)) ∙ ap (λ cs. take i 
 
 -- the call in this place is made
 pub made_next : {E : Type 0} (f : E → Call) (xs : List E) (front : List ℕ) (i : ℕ) (x : E) (s t : State) → i < length xs → x ≡ get_or xs i x
-    → IsTrue (is_admitted (f x) s) → IsStep (f x) s → t ≡ effect (f x) s
+    → IsTrue (is_admitted (f x) s) → IsSomeStep (f x) s → t ≡ effect (f x) s
     → AreMade front (take i (map f xs)) s → AreMade front (take (i + 1) (map f xs)) t
 made_next f xs front i x s t h e admitted step moved made =
     subst (λ cs. AreMade front cs t) (sym (take-next f xs i x h e)) (made_more front (take i (map f xs)) (f x) s t made admitted step moved)
@@ -253,7 +253,7 @@ refused_at_end front calls s fault made is unended =
 -- ---- the step that a call is
 
 pub step_raw : (bytes : List ℕ) (n : ℕ) (s : State) → ((xs : List Item) → length (join xs) < 2 ^ 64 → All IsSized xs) → length bytes < 2 ^ 64
-    → AreRawItems bytes n → IsStep (append_raw bytes n) s
+    → AreRawItems bytes n → IsSomeStep (append_raw bytes n) s
 step_raw bytes n s sized fits a =
     let step : DescribesWhere IsShallow s (append_raw (join a.brought) (length a.brought)) (brings a.brought) = by_raw a.brought
     (sized a.brought (omega (arith, ap length a.joined))) a.shallow in (
@@ -262,13 +262,13 @@ step_raw bytes n s sized fits a =
           (subst (λ (b : List ℕ). DescribesWhere IsShallow s (append_raw b (length a.brought)) (brings a.brought)) (sym a.joined) step),
     )
 
-pub step_begin : (n : ℕ) (s : State) → IsStep (begin_list n) s
+pub step_begin : (n : ℕ) (s : State) → IsSomeStep (begin_list n) s
 step_begin zero s = (brings (list_of [] ∷ []), by_empty_list)
 step_begin (suc n) s = (opens (Some (suc n)), by_list n)
 
 -- each other call is a step, whatever it brings
 pub step_other : {E : Type 0} (item : E → Item) (call : StreamCall E) (s : State) → ((bytes : Vec ℕ Global) (n : ℕ) → call ≡ Raw bytes n → ⊥)
-    → IsStep (call_of item call) s
+    → IsSomeStep (call_of item call) s
 step_other item (Value v) s other = (brings (item v ∷ []), by_append (item v))
 step_other item (Values vs) s other = (brings (list_of (map item vs.items) ∷ []), by_append (list_of (map item vs.items)))
 step_other item (Raw bytes n) s other = absurd (other bytes n refl)
@@ -278,17 +278,17 @@ step_other item Finish s other = (finishes, by_finalize)
 step_other item Clear s other = (clears, by_clear)
 
 -- closing a list is a step
-pub step_finish : {E : Type 0} (item : E → Item) (call : StreamCall E) (s : State) → call ≡ Finish → IsStep (call_of item call) s
-step_finish item call s is = subst (λ c. IsStep (call_of item c) s) (sym is) (finishes, by_finalize)
+pub step_finish : {E : Type 0} (item : E → Item) (call : StreamCall E) (s : State) → call ≡ Finish → IsSomeStep (call_of item call) s
+step_finish item call s is = subst (λ c. IsSomeStep (call_of item c) s) (sym is) (finishes, by_finalize)
 
 -- raw bytes that were tested are a step
 pub step_tested : {T F E : Type 0} (r : Result T F) (item : E → Item) (call : StreamCall E) (bytes : Vec ℕ Global) (n : ℕ) (view : List ℕ) (s : State)
     → call ≡ Raw bytes n → view ≡ bytes.items → ((xs : List Item) → length (join xs) < 2 ^ 64 → All IsSized xs) → length view < 2 ^ 64
     → OnOk r (AreRawItems view n)
-    → OnOk r (IsStep (call_of item call) s)
+    → OnOk r (IsSomeStep (call_of item call) s)
 step_tested (Ok x) item call bytes n view s is same sized fits a =
-    let raw : IsStep (append_raw bytes.items n) s = subst (λ (b : List ℕ). IsStep (append_raw b n) s) same (step_raw view n s sized fits a) in
-    subst (λ c. IsStep (call_of item c) s) (sym is) raw
+    let raw : IsSomeStep (append_raw bytes.items n) s = subst (λ (b : List ℕ). IsSomeStep (append_raw b n) s) same (step_raw view n s sized fits a) in
+    subst (λ c. IsSomeStep (call_of item c) s) (sym is) raw
 step_tested (Err e) item call bytes n view s is same sized fits a = tt
 
 -- all calls but two are always admitted
@@ -344,7 +344,7 @@ all_described_anyhow s (c ∷ calls) (m ∷ steps) d = (d.0, described_anyhow c 
 
 -- a described call, in the state that it meets
 described-at : (before : List Call) (c : Call) (later : List Call) (steps : List Step) (n : ℕ) (s t : State)
-    → AreDescribedWhere IsShallow s (before ++ c ∷ later) steps → after_from n s before ≡ Ok t → IsTrue (is_admitted c t) × IsStep c t
+    → AreDescribedWhere IsShallow s (before ++ c ∷ later) steps → after_from n s before ≡ Ok t → IsTrue (is_admitted c t) × IsSomeStep c t
 described-at [] c later [] n s t d e = absurd d
 described-at (b ∷ before) c later [] n s t d e = absurd d
 described-at [] c later (m ∷ steps) n s t d e =
@@ -354,7 +354,7 @@ described-at (b ∷ before) c later (m ∷ steps) n s t d e =
 
 described_there : {reason : Call → State
     → Type 0} (front : List ℕ) (calls : List Call) (items : List Item) (place : ℕ) (r : AreRefused reason front calls place)
-    → IsDescribedWhere IsShallow front calls items → IsTrue (is_admitted r.call r.met) × IsStep r.call r.met
+    → IsDescribedWhere IsShallow front calls items → IsTrue (is_admitted r.call r.met) × IsSomeStep r.call r.met
 described_there front calls items place r d =
     described-at r.before r.call r.later d.steps 1 (initial_state front) r.met
     (subst (λ cs. AreDescribedWhere IsShallow (initial_state front) cs d.steps) r.in_order d.described) r.admitted

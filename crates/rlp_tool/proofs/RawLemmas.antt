@@ -22,34 +22,6 @@ use Rattle.rlp.specs.Lemmas.Strings.{string_only, string_list}
 use Rattle.rlp.specs.Lemmas.Views.{items_of_list, list_shape, sized_items}
 use Rattle.rlp_tool.specs.RawItems.{AreRawItems, IsShallow, are_raw_items, deepest_raw_item, item_by, item_within, raw_items, string_or_none}
 
--- ---- the first item
-
--- what was cut off is the first item, and what follows it
-pub front_parts : (b front back : List ℕ) (p : PayloadInfo) (total : ℕ)
-    → ((h n : ℕ) → HasHeader b h n → h + n ≤ length b → frame b ≡ Ok (take (h + n) b)) → HasHeader b p.header_len p.value_len → total ≡ total_len p
-    → total ≤ length b → front ≡ take total b → back ≡ drop total b
-    → (frame b ≡ Ok front) × (b ≡ front ++ back)
-front_parts b front back p total framed has is within cut left = (
-  framed p.header_len p.value_len has (omega (arith, is)) ∙ ap (λ (n : ℕ). Ok (take n b)) (sym is) ∙ ap (λ (f : List ℕ). Ok f) (sym cut),
-  sym (take-append-drop total b) ∙ ap (λ f. f ++ drop total b) (sym cut) ∙ ap (λ f. front ++ f) (sym left),
-)
-
--- bytes have at most one header
-abbrev pub HasOneHeader : List ℕ → Type 0
-HasOneHeader b = (h n k m : ℕ) → HasHeader b h n → HasHeader b k m → (h ≡ k) × (n ≡ m)
-
--- bytes that end before the value does begin with no item
-pub unframed_long : (b : List ℕ) (p : PayloadInfo) → HasOneHeader b → HasHeader b p.header_len p.value_len → length b < total_len p → ¬ IsFramed b
-unframed_long b p one has long is =
-    let same = one p.header_len p.value_len is.header_len is.value_len has is.has_header in
-    omega (arith, same.0, same.1, is.within)
-
-pub unframed_huge : (b : List ℕ) (p : PayloadInfo) → HasOneHeader b → HasHeader b p.header_len p.value_len → length b < 2 ^ 64
-    → (total_len p < 2 ^ 64 → ⊥) → ¬ IsFramed b
-unframed_huge b p one has fits huge is =
-    let same = one p.header_len p.value_len is.header_len is.value_len has is.has_header in
-    huge (omega (arith, same.0, same.1, is.within))
-
 -- ---- the rest of raw bytes
 
 -- bytes that begin with an encoding are framed, and their frame is that encoding

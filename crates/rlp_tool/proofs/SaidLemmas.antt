@@ -16,7 +16,7 @@ use Rattle.rlp.specs.Streams.Stream.{State, IsFinished}
 use Rattle.rlp.specs.Streams.Calls.{Call, append, append_empty_data, append_raw, append_raw_checked, begin_list, begin_unbounded_list, finalize_unbounded_list, append_internal, encode_value, clear, effect, is_admitted, after_from}
 use Rattle.rlp.specs.Streams.Described.{Step, brings, opens, finishes, clears, by_append, by_unbounded_list, by_finalize, by_clear, AreDescribedWhere}
 use Rattle.rlp_tool.specs.Answer.{brings_items, outcome_answer, refusal_name, state_answer}
-use Rattle.rlp_tool.specs.Building.{IsStep, is_raw}
+use Rattle.rlp_tool.specs.Building.{IsSomeStep, is_raw}
 use Rattle.rlp_tool.specs.Digits.{bytes_in, digits_of, number_in}
 use Rattle.rlp_tool.specs.RawItems.{IsShallow}
 use Rattle.rlp_tool.specs.Script.{call_in, is_call, labelled_call, letter_call, raw_call, raw_parts, script}
@@ -156,7 +156,7 @@ pub record EndFinished (place : ℕ) (s : State) (calls : List Call) : Type 0 wh
   pub closed : IsFinished last
 
 said_step : (n : ℕ) (c : Call) (s : State) → ((xs : List Item) → length (join xs) < 2 ^ 64 → All IsSized xs) → n < 2 ^ 64 → IsSaid n c
-    → IsTrue (brings_items c) → IsStep c s
+    → IsTrue (brings_items c) → IsSomeStep c s
 said_step n (append x) s sized fits said passed = (brings (x ∷ []), by_append x)
 said_step n (append_raw bytes k) s sized fits said passed = step_raw bytes k s sized (omega (arith, fits, said)) (are_raw_items-told bytes k passed)
 said_step n (begin_list m) s sized fits said passed = step_begin m s

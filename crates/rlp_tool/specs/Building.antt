@@ -25,7 +25,7 @@ is_raw (append_raw bytes count) = true
 is_raw (append_raw_checked bytes count limit) = true
 is_raw _ = false
 
--- whether a call closes a list of open length
+-- whether a call closes an unbounded list
 abbrev pub is_finish : Call → Bool
 is_finish finalize_unbounded_list = true
 is_finish _ = false
@@ -36,8 +36,8 @@ BringsItems (append_raw bytes count) = AreRawItems bytes count
 BringsItems _ = Unit
 
 -- the step that a call is, in the state that it meets
-abbrev pub IsStep : Call → State → Type 0
-IsStep call s = (m : Step) × DescribesWhere IsShallow s call m
+abbrev pub IsSomeStep : Call → State → Type 0
+IsSomeStep call s = (m : Step) × DescribesWhere IsShallow s call m
 
 -- no call over the front is refused: each is admitted, and raw bytes bring as many items as they count, none of them too deep
 pub record AreTaken (front : List ℕ) (calls : List Call) : Type 0 where
@@ -64,7 +64,7 @@ BringsTooMany call s = (is_admitted call s ≡ false) × IsTrue (is_raw call)
 abbrev pub HasNothingToFinish : Call → State → Type 0
 HasNothingToFinish call s = (is_admitted call s ≡ false) × IsTrue (is_finish call)
 
--- raw bytes may bring so many items, but they are none or others
+-- raw bytes may bring that number of items, but they are none or others
 abbrev pub BringsNoItems : Call → State → Type 0
 BringsNoItems call s = IsTrue (is_admitted call s) × (¬ BringsItems call)
 
@@ -118,7 +118,7 @@ abbrev pub IsUnfit : Call → State → ℕ → BuildFault → Type 0
 IsUnfit call s place (TooManyItems there) = (there ≡ place) × BringsTooMany call s
 IsUnfit call s place (NothingToFinish there) = (there ≡ place) × HasNothingToFinish call s
 IsUnfit call s place (RawNotItems there) = (there ≡ place) × BringsNoItems call s
-IsUnfit call s place OutOfMemory = IsTrue (is_admitted call s) × IsStep call s × IsTrue (takes_memory call)
+IsUnfit call s place OutOfMemory = IsTrue (is_admitted call s) × IsSomeStep call s × IsTrue (takes_memory call)
 
 -- what a stream in this state holds in the end
 abbrev pub IsHeld : State → Built → Type 0

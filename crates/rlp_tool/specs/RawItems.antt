@@ -15,7 +15,7 @@ deepest_raw_item = 256
 abbrev pub IsShallow : Item → Type 0
 IsShallow x = item_depth x ≤ deepest_raw_item
 
--- the bytes are the joined canonical encodings of so many items, none of them too deep
+-- the bytes are the joined canonical encodings of `count` items, none of them too deep
 pub record AreRawItems (bytes : List ℕ) (count : ℕ) : Type 0 where
   pub brought : List Item
   pub joined : bytes ≡ join brought
@@ -43,6 +43,6 @@ item_within (suc most) bytes = item_by (item_within most) bytes (read_string byt
 abbrev pub raw_items : List ℕ → List Item
 raw_items bytes = map (item_within deepest_raw_item) (split bytes)
 
--- whether bytes are the joined encodings of so many items: those that they are read as
+-- whether bytes are the joined encodings of the given number of items: those that they are read as
 abbrev pub are_raw_items : List ℕ → ℕ → Bool
 are_raw_items bytes count = bytes_eq (join (raw_items bytes)) bytes && nat_eq (length (raw_items bytes)) count

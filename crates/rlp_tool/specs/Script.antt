@@ -8,7 +8,7 @@ use Rattle.rlp_tool.specs.Digits.{bytes_in, number_in}
 use Rattle.rlp_tool.specs.declared.script.ScriptFault.{ScriptFault}
 use Rattle.rlp_tool.specs.declared.script.ScriptFault.TheVariants.{Syntax, OutOfMemory}
 
--- the call that a letter alone says: `u` begins a list of open length, `e` ends it, `c` clears
+-- the call that a letter alone says: `u` begins an unbounded list, `e` ends it, `c` clears
 abbrev pub letter_call : ℕ → Option Call
 letter_call letter =
     if letter == byte "u" then Some begin_unbounded_list
@@ -27,8 +27,8 @@ abbrev pub raw_parts : List ℕ → Option ℕ → Option Call
 raw_parts text (Some at) = raw_call (number_in (take at text)) (bytes_in (drop (at + 1) text))
 raw_parts text None = None
 
--- the call that a letter and a colon say, by what follows: `d` appends the string of the bytes, `r` puts raw bytes that count as so many items,
--- `l` begins a list of so many
+-- the call that a letter and a colon say, by what follows: `d` appends the string of the bytes, `r` puts raw bytes, with the number of items that they count as,
+-- `l` begins a list, with the number of its items
 abbrev pub labelled_call : ℕ → List ℕ → Option Call
 labelled_call letter text =
     if letter == byte "d" then option_map (λ bytes. append (string bytes)) (bytes_in text)

@@ -7,7 +7,7 @@ ghost use Rattle.rlp.specs.Streams.Stack.{has_room};
 ghost use Rattle.rlp.specs.Streams.Stream.{IsFinished};
 ghost use Rattle.rlp.specs.Streams.Calls.{append_raw, effect, is_admitted};
 ghost use Rattle.rlp.specs.Streams.Described.{IsDescribed, IsDescribedWhere};
-ghost use Rattle.rlp_tool.specs.Building.{AreTaken, IsBuilt, IsRefusal, IsJoined, IsFinishedAs, IsStep, IsUnfit, IsHeld, takes_memory};
+ghost use Rattle.rlp_tool.specs.Building.{AreTaken, IsBuilt, IsRefusal, IsJoined, IsFinishedAs, IsSomeStep, IsUnfit, IsHeld, takes_memory};
 ghost use Rattle.rlp_tool.specs.RawItems.{AreRawItems, IsShallow};
 ghost use Rattle.rlp_tool.specs.declared.building.BuildFault.{BuildFault};
 ghost use Rattle.rlp_tool.specs.StreamCalls.{call_of, calls_of};
@@ -15,10 +15,10 @@ ghost use Rattle.rlp_tool.specs.StreamCalls.{call_of, calls_of};
 use crate::calls::StreamCall;
 use bytes::BytesMut;
 use rlp::laws::{
-    encoding_is_framed, framing_is_read, header_is_read, join_is_injective,
-    parts_of_sized_are_sized, stream_joins_what_is_described,
+    encoding_is_framed, frame_is_of_framed, join_is_injective, parts_of_sized_are_sized,
+    stream_joins_what_is_described,
 };
-use rlp::{Encodable, PayloadInfo, Rlp, RlpStream};
+use rlp::{Encodable, Rlp, RlpStream};
 use std::alloc::{AllocError, Global};
 
 /// The greatest depth of an item that raw bytes may bring.
@@ -68,15 +68,10 @@ fn first_item<'a>(bytes: &'a [u8]) -> Option<(&'a [u8], &'a [u8])>
     ensures { MatchOption result (¬ IsFramed bytes.now)
         (λ r. (frame bytes.now ≡ Ok r.0.now) × (bytes.now ≡ r.0.now ++ r.1.now)) }
 {
-    header_is_read(bytes);
-    framing_is_read(bytes);
-    let info = match PayloadInfo::from(bytes) {
-        Ok(info) => info,
-        Err(_) => return None,
-    };
-    match info.checked_total() {
-        Some(total) if total <= bytes.len() => Some(bytes.split_at(total)),
-        _ => None,
+    frame_is_of_framed(bytes);
+    match Rlp::split_first(bytes) {
+        Ok((item, others)) => Some((item.as_raw(), others)),
+        Err(_) => None,
     }
 }
 
@@ -125,7 +120,7 @@ fn admit<E: Encodable>(
     place: usize,
 ) -> Result<(), BuildFault>
     ensures ok { OnOk result (IsTrue (is_admitted (call_of E.item call.now) stream.now.state)) }
-    ensures brings { OnOk result (IsStep (call_of E.item call.now) stream.now.state) }
+    ensures brings { OnOk result (IsSomeStep (call_of E.item call.now) stream.now.state) }
     ensures refused { IfErr result (IsUnfit (call_of E.item call.now) stream.now.state place) }
     ensures no_memory { IfErr result (λ fault. fault ≢ BuildFault.OutOfMemory) }
 {
@@ -182,7 +177,7 @@ fn take_call<E: Encodable>(
         (IsTrue (is_admitted (call_of E.item call.now) stream.old.state)) }
     ensures ok { OnOk result
         (stream.new.state ≡ effect (call_of E.item call.now) stream.old.state) }
-    ensures brings { OnOk result (IsStep (call_of E.item call.now) stream.old.state) }
+    ensures brings { OnOk result (IsSomeStep (call_of E.item call.now) stream.old.state) }
     ensures refused { IfErr result (IsUnfit (call_of E.item call.now) stream.old.state place) }
 {
     admit(stream, call, place)?;

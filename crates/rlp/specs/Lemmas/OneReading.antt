@@ -18,7 +18,7 @@ use Rattle.rlp_format.specs.Views.Text.{error_name}
 use Rattle.rlp_format.specs.Views.View.{View, HoldsString, view_string}
 use Rattle.rlp_format.specs.Lemmas.Digits.{big_endian_is, big_endian_first, big_endian_zero, pow-bytes, digits_fit, digits_again, none_is_zero}
 use Rattle.rlp_format.specs.Lemmas.Reading.{Bytes}
-use Rattle.rlp.specs.Lemmas.Held.{ReadsHeld, held_begins, held_read, held_reads, same_held}
+use Rattle.rlp.specs.Lemmas.StringsHeld.{ReadsHeld, held_begins, held_read, held_reads, same_held}
 
 -- ---- what a string holds are bytes
 

@@ -11,7 +11,7 @@ use Rattle.rlp.specs.Values.ValueReading.{GivesValue, FaultsAs, no_string, no_va
 use Rattle.rlp_format.specs.Views.View.{View, HoldsItem, HoldsString, view_of}
 use Rattle.rlp.specs.Values.RoundTrip.{ReadsBack}
 use Rattle.rlp_format.specs.Lemmas.Digits.{big_endian_same}
-use Rattle.rlp.specs.Lemmas.Held.{held_read, same_held}
+use Rattle.rlp.specs.Lemmas.StringsHeld.{held_read, same_held}
 use Rattle.rlp.specs.Lemmas.OneReading.{sound_digits}
 
 -- each fact holds exactly where it does

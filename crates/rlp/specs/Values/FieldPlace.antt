@@ -10,11 +10,11 @@ pub record FieldPlace : Type 0 where
   pub view : View
   pub place : ℕ
 
--- a reader of these fields that took so many
+-- a reader of these fields, with the number of those that it took
 abbrev pub field_place : View → ℕ → FieldPlace
 field_place v n = record { view = v; place = n }
 
--- After so many items of a view, these bytes are left. Items are told by number, and past the last one each number has the fault of what follows the items.
+-- After the first `place` items of a view, these bytes are left. Items are told by number, and past the last one each number has the fault of what follows the items.
 pub record IsAtPlace (v : View) (place : ℕ) (left : List ℕ) : Type 0 where
   pub told : items_fault v ≡ None
   pub others : split left ≡ drop place (items v.bytes)

@@ -93,11 +93,11 @@ abbrev pub GivesBefore : (ℕ → ℕ → View → Type 0) → View → ℕ → 
 GivesBefore some v zero = Unit {0}
 GivesBefore some v (suc k) = GivesBefore some v k × some k k v
 
--- One of so many items is at fault, by the type of its field, and each before it gives a value of its field.
+-- One of the first items is at fault, by the type of its field, and each before it gives a value of its field.
 pub data FaultsInField (count : ℕ) (some : ℕ → ℕ → View → Type 0) (faults : ℕ → View → DecoderError → Type 0) (v : View) (e : DecoderError) : Type 0 where
   in_field : (k : ℕ) → k < count → GivesBefore some v k → FaultsAt (faults k) v k e → FaultsInField count some faults v e
 
--- memory may lack for a struct of so many fields: the view has as many items, and memory may lack for the value of one before which each gives a value
+-- memory may lack for a struct, by its number of fields: the view has as many items, and memory may lack for the value of one before which each gives a value
 pub record MayLackAsStruct (count : ℕ) (some : ℕ → ℕ → View → Type 0) (may_lack : ℕ → View → Type 0) (v : View) : Type 0 where
   pub many : item_count v ≡ Ok count
   pub place : ℕ

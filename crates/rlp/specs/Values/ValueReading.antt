@@ -25,7 +25,7 @@ GivesSome {A} gives v = (x : A) × gives v x
 abbrev pub GivesNumber : ℕ → View → ℕ → Type 0
 GivesNumber width v n = GivesValue (FitsBytes width) number_item v n
 
--- Why a string is that of no number of so many bytes, in the order of the tests: it is longer, or it begins with a zero.
+-- Why a string is that of no number of at most that many bytes, in the order of the tests: it is longer, or it begins with a zero.
 pub data IsDigitsFault (width : ℕ) (digits : List ℕ) : DecoderError → Type 0 where
   too_long : width < length digits → IsDigitsFault width digits RlpIsTooBig
   leading_zero : (more : List ℕ) → length digits ≤ width → digits ≡ 0 ∷ more → IsDigitsFault width digits RlpInvalidIndirection

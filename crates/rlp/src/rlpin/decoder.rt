@@ -5,7 +5,7 @@ ghost use Rattle.std.specs.Fn.{FnReturnsAt};
 ghost use Rattle.rlp_format.specs.Format.Item.{string};
 ghost use Rattle.rlp_format.specs.Format.Encoding.{encoding};
 ghost use Rattle.rlp_format.specs.Views.View.{HoldsNoString, HoldsString, view_of, view_string};
-ghost use Rattle.rlp.specs.Lemmas.Held.{ReadsHeld};
+ghost use Rattle.rlp.specs.Lemmas.StringsHeld.{ReadsHeld};
 
 use rlp_format::error::DecoderError;
 use rlp_format::framed::is_followed;
@@ -76,7 +76,7 @@ impl<'a> BasicDecoder<'a> {
 
     /// The string itself: where the decoder is strict, the fault of the string is its own first, and
     /// then `RlpIsTooBig` where bytes follow it.
-    #[tactic(auto, using(crate::specs::Lemmas::Held::held_strings))]
+    #[tactic(auto, using(crate::specs::Lemmas::StringsHeld::held_strings))]
     pub(crate) fn string(&self) -> Result<&'a [u8], DecoderError>
         ensures exact { MatchResult result (λ d. view_string self.now ≡ Ok d.now)
             (λ e. view_string self.now ≡ Err e) }

@@ -39,7 +39,7 @@ abbrev pub innermost_awaits : List Placeholder → Option ℕ
 innermost_awaits [] = None
 innermost_awaits (p ∷ ps) = p.awaits
 
--- whether a list is open and the innermost has no bound
+-- whether a list is open and the innermost is unbounded
 abbrev pub is_innermost_unbounded : List Placeholder → Bool
 is_innermost_unbounded [] = false
 is_innermost_unbounded (p ∷ ps) = is_none p.awaits

@@ -1,7 +1,7 @@
 -- Open lists, one inside the other, and what stands in each. In a stream those are bytes; over items the same moves say what the bytes mean.
 use Rattle.std.specs.Prelude.{ℕ, ◌-◌, ◌<◌, Bool, true, false, if◌then◌else◌, nat_le, List, [], ◌∷◌, ◌++◌, Option, Some, None, All}
 
--- A list that is open, seen from inside: how many items it still awaits, which is 1 or more, or `None` where it has no bound; and what stands before it in the payload around it.
+-- A list that is open, seen from inside: how many items it still awaits, which is 1 or more, or `None` where it is unbounded; and what stands before it in the payload around it.
 pub record OpenList (A : Type 0) : Type 0 where
   pub awaits : Option ℕ
   pub outer : List A
@@ -55,7 +55,7 @@ levels s = levels_around s.inner s.lists
 abbrev pub stack_put : {A : Type 0} → List A → Stack A → Stack A
 stack_put x s = record s { inner = s.inner ++ x }
 
--- a new list is open, and awaits so many items
+-- a new list is open, and awaits the given number of items
 abbrev pub stack_with_list : {A : Type 0} → Option ℕ → Stack A → Stack A
 stack_with_list awaits s = record { inner = []; lists = record { awaits = awaits; outer = s.inner } ∷ s.lists }
 
@@ -68,7 +68,7 @@ shut_around wrap payload (l ∷ ls) = record { inner = l.outer ++ wrap payload; 
 abbrev pub stack_shut : {A : Type 0} → (List A → List A) → Stack A → Stack A
 stack_shut wrap s = shut_around wrap s.inner s.lists
 
--- whether the count of k items closes a list that awaits so many
+-- whether the count of k items closes a list by what it awaits
 abbrev pub is_last : ℕ → Option ℕ → Bool
 is_last k None = false
 is_last k (Some n) = nat_le n k
@@ -89,7 +89,7 @@ count_around wrap k payload (l ∷ ls) =
 abbrev pub stack_count : {A : Type 0} → (List A → List A) → ℕ → Stack A → Stack A
 stack_count wrap k s = count_around wrap k s.inner s.lists
 
--- the counted mark after k items were counted: whether that closed a list; with no open list it stays
+-- the mark after k items were counted: whether that closed a list; with no open list it stays
 abbrev pub mark_after : {A : Type 0} → ℕ → List (OpenList A) → Bool → Bool
 mark_after k [] mark = mark
 mark_after k (l ∷ ls) mark = is_last k l.awaits
@@ -112,7 +112,7 @@ has_room k (l ∷ ls) = room_in l.awaits
     room_in None = true
     room_in (Some n) = nat_le k n
 
--- whether the innermost open list exists and has no bound
+-- whether a list is open and the innermost is unbounded
 abbrev pub is_unbounded : {A : Type 0} → List (OpenList A) → Bool
 is_unbounded [] = false
 is_unbounded (l ∷ ls) = none_in l.awaits

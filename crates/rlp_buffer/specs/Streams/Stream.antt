@@ -5,7 +5,7 @@ use Rattle.rlp_format.specs.Format.Item.{Item, string, list}
 use Rattle.rlp_format.specs.Format.Encoding.{encoding}
 use Rattle.rlp_buffer.specs.Streams.Stack.{Stack, empty_stack, top, levels, stack_put, stack_with_list, stack_shut, stack_count, closed_payload, mark_after}
 
--- The bytes handed in at the start; the payloads and the open lists; and the counted mark, which tells a caller of `rlp_append` whether the value counted itself.
+-- The bytes handed in at the start; the payloads and the open lists; and the mark, which tells a caller of `rlp_append` whether the value counted itself.
 pub record State : Type 0 where
   pub front : List ℕ
   pub stack : Stack ℕ
@@ -52,7 +52,7 @@ count k s = record { front = s.front; stack = stack_count list_encoding k s.stac
 abbrev pub with_mark : Bool → State → State
 with_mark mark s = record s { mark = mark }
 
--- a new list with an empty payload, which awaits so many items, and the mark false
+-- a new list with an empty payload, which awaits the given number of items, and the mark false
 abbrev pub with_list : Option ℕ → State → State
 with_list awaits s = record { front = s.front; stack = stack_with_list awaits s.stack; mark = false }
 
@@ -90,7 +90,7 @@ closed_text s = closed_payload list_encoding s.stack
 abbrev pub closed_size : State → ℕ
 closed_size s = length (closed_text s)
 
--- the closed size with so many more bytes put. Which bytes they are makes no difference to it.
+-- the closed size with more bytes put, by their number. Which bytes they are makes no difference to it.
 abbrev pub closed_size_with : ℕ → State → ℕ
 closed_size_with more s = closed_size (put (replicate more 0) s)
 

@@ -72,7 +72,7 @@ impl Buffer {
         self.bytes.as_slice()
     }
 
-    /// Makes room for so many bytes more.
+    /// Makes room for `additional` bytes more.
     #[inline]
     pub fn reserve(&mut self, additional: usize) -> Result<(), AllocError>
         ensures items { self.new.items ≡ self.old.items }
@@ -107,7 +107,7 @@ impl Buffer {
         Ok(())
     }
 
-    /// Appends so many bytes for which there is room, whatever they are.
+    /// Appends `more` bytes for which there is room, whatever they are.
     #[inline]
     pub fn advance_mut(&mut self, more: usize)
         requires { more ≤ self.old.spare }
@@ -119,7 +119,7 @@ impl Buffer {
         self.bytes.advance_mut(more);
     }
 
-    /// Keeps the first bytes, up to so many. What the others took becomes room.
+    /// Keeps the first `len` bytes. What the others took becomes room.
     #[inline]
     pub fn truncate(&mut self, len: usize)
         ensures items { self.new.items ≡ take len self.old.items }

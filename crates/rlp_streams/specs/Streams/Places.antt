@@ -13,7 +13,7 @@ pub record IsPlaceOf (place : Place) (s : State) : Type 0 where
   -- the placeholders of the open lists, from the outside in
   pub lists : List Placeholder
   pub laid : IsLaid start bytes (reverse lists)
-  pub is : state_of start bytes (reverse lists) place.finished_list ≡ s
+  pub is : state_of start bytes (reverse lists) place.mark ≡ s
   pub len : place.len ≡ length bytes
   pub open_count : place.open_count ≡ length lists
   pub awaits : place.awaits ≡ innermost_awaits (reverse lists)

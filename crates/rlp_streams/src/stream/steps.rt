@@ -21,7 +21,7 @@ use rlp_buffer::rewinding::{Place, place_of, rewind};
 use std::alloc::AllocError;
 
 impl RlpStream {
-    /// Whether the closed size with so many bytes put is at most the limit already where the header of
+    /// Whether the closed size with `add` bytes put is at most the limit already where the header of
     /// each open list is as long as one can be. The lists aren't walked for it.
     fn is_surely_within_size(&self, add: usize, limit: usize) -> bool
         ensures within { IsTrue result → closed_size_with add self.now.state ≤ limit }
@@ -85,7 +85,7 @@ impl RlpStream {
         Ok(())
     }
 
-    /// Opens a list, which awaits so many items, or has no bound.
+    /// Opens a list. It awaits the given number of items, or is unbounded.
     #[tactic(auto, unfolding(rlp_buffer::specs::Streams::Stream::Retains))]
     pub(super) fn try_open(&mut self, awaits: Option<usize>) -> Result<(), AllocError>
         requires { AwaitsSome awaits }
@@ -100,14 +100,14 @@ impl RlpStream {
         match self.lists.push(Placeholder { position, awaits }) {
             Ok(()) => {
                 self.buffer.extend_reserved(&[0]);
-                self.finished_list = false;
+                self.mark = false;
                 Ok(())
             }
             Err(_) => Err(AllocError),
         }
     }
 
-    /// Opens a list that awaits so many items, or writes that of no items.
+    /// Opens a list that awaits `len` items, or writes that of no items.
     #[tactic(auto, using(crate::proofs::Opened::opened), unfolding(rlp_buffer::specs::Streams::Stream::Retains))]
     pub(super) fn try_begin(&mut self, len: usize) -> Result<(), AllocError>
         ensures ok { OnOk result (self.new.state ≡ with_list_of len self.old.state) }
@@ -122,13 +122,13 @@ impl RlpStream {
     {
         if len == 0 {
             self.try_put_counted(&EMPTY_LIST_RLP, 1)?;
-            self.finished_list = true;
+            self.mark = true;
             return Ok(());
         }
         self.try_open(Some(len))
     }
 
-    /// Puts bytes, and counts so many items.
+    /// Puts bytes, and counts items.
     #[inline(always)]
     #[tactic(auto, unfolding(rlp_buffer::specs::Streams::Stream::Retains))]
     pub(super) fn try_put_counted(&mut self, bytes: &[u8], items: usize) -> Result<(), AllocError>
@@ -145,12 +145,12 @@ impl RlpStream {
         let open = !self.lists.is_empty();
         let closed = put_counted(&mut self.buffer, &mut self.lists, bytes, items)?;
         if open {
-            self.finished_list = closed;
+            self.mark = closed;
         }
         Ok(())
     }
 
-    /// Closes the innermost list, which has no bound, and counts it in the list around it. It is
+    /// Closes the innermost list, which is unbounded, and counts it in the list around it. It is
     /// the count of the last item that the list awaits, had it a bound.
     #[tactic(auto, unfolding(rlp_buffer::specs::Streams::Stream::Retains))]
     pub(super) fn try_finalize(&mut self) -> Result<(), AllocError>
@@ -166,7 +166,7 @@ impl RlpStream {
         set_innermost(&mut self.lists, Some(1));
         match put_counted(&mut self.buffer, &mut self.lists, &[], 1) {
             Ok(_) => {
-                self.finished_list = true;
+                self.mark = true;
                 Ok(())
             }
             Err(e) => {
@@ -176,7 +176,7 @@ impl RlpStream {
         }
     }
 
-    /// Counts so many items.
+    /// Counts items in the innermost open list.
     #[tactic(auto, unfolding(rlp_buffer::specs::Streams::Stream::Retains))]
     fn try_count(&mut self, items: usize) -> Result<(), AllocError>
         ensures ok { OnOk result (self.new.state ≡ count items self.old.state) }
@@ -199,7 +199,7 @@ impl RlpStream {
         ensures retains { Retains self.old self.new }
     {
         value.rlp_append(self)?;
-        if !self.finished_list {
+        if !self.mark {
             self.try_count(1)?;
         }
         Ok(())
@@ -226,7 +226,7 @@ impl RlpStream {
     fn place(&self) -> Place
         ensures { IsPlaceOf result self.now.state }
     {
-        place_of(&self.buffer, &self.lists, self.finished_list)
+        place_of(&self.buffer, &self.lists, self.mark)
     }
 
     /// Goes back to a place from which the stream grew.
@@ -238,7 +238,7 @@ impl RlpStream {
         ensures retains { Retains self.old self.new }
     {
         rewind(&mut self.buffer, &mut self.lists, place);
-        self.finished_list = place.finished_list;
+        self.mark = place.mark;
     }
 
     /// Appends a value, and goes back to where it began where that is refused.
@@ -252,7 +252,7 @@ impl RlpStream {
         ensures retains { Retains self.old self.new }
     {
         let place = self.place();
-        self.finished_list = false;
+        self.mark = false;
         match self.put_value(value) {
             Ok(()) => Ok(()),
             Err(e) => {
@@ -298,7 +298,7 @@ impl RlpStream {
         ensures retains { Retains self.old self.new }
     {
         let place = self.place();
-        self.finished_list = false;
+        self.mark = false;
         match self.put_iter(value) {
             Ok(()) => Ok(()),
             Err(e) => {

@@ -28,7 +28,7 @@ returns c =
     let is = found_len i.start c.len.result i.buffer.items c.as_slice-lists.result.now c.closed_len.result c.len.ensures.value c.closed_len.ensures (rw c.as_slice-lists.ensures.value c.self.invariant) c.len.ensures.bound c.as_slice-lists.type_inv.1 in
     let size : Some c.unwrap.result ≡ Some (closed_len i.start c.len.result 0 (reverse c.as_slice-lists.result.now)) = sym c.unwrap.ensures ∙ is in
     let value : c.unwrap.result ≡ closed_len i.start c.len.result 0 (reverse c.as_slice-lists.result.now) = cc in
-    let state = state_of i.start i.buffer.items (reverse i.lists.items) i.finished_list in
+    let state = state_of i.start i.buffer.items (reverse i.lists.items) i.mark in
     let whole : closed_len i.start c.len.result 0 (reverse c.as_slice-lists.result.now) ≡ closed_size_with 0 state =
-    rw (c.as_slice-lists.ensures.value, c.len.ensures.value) (sym (closed_size_is i.start i.buffer.items (reverse i.lists.items) i.finished_list 0 c.self.invariant)) in
+    rw (c.as_slice-lists.ensures.value, c.len.ensures.value) (sym (closed_size_is i.start i.buffer.items (reverse i.lists.items) i.mark 0 c.self.invariant)) in
     value ∙ whole ∙ closed_size_none state ∙ ap (λ (v : Seen). closed_size v.state) c.self.view_is

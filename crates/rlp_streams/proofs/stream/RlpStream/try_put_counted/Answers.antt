@@ -25,8 +25,8 @@ returns-then-open-clause-ok c =
     let any = not_empty i.lists.len c.if-open.ensures in
     let some : 0 < length (reverse i.lists.items) = omega (arith, length-reverse i.lists.items, i.lists.ok.0) in
     rw (done.bytes, done.lists)
-    (state_put_counted c.args.items i.start i.buffer.items c.args.bytes.now (reverse i.lists.items) i.finished_list c.in_ok-closed.closed c.self.invariant
-    (mark_open c.args.items i.start i.buffer.items (reverse i.lists.items) i.finished_list c.in_ok-closed.closed some done.closed)
+    (state_put_counted c.args.items i.start i.buffer.items c.args.bytes.now (reverse i.lists.items) i.mark c.in_ok-closed.closed c.self.invariant
+    (mark_open c.args.items i.start i.buffer.items (reverse i.lists.items) i.mark c.in_ok-closed.closed some done.closed)
     ∙ ap (λ (v : Seen). count c.args.items (put c.args.bytes.now v.state)) c.self.view_is)
 
 pub returns-then-open-clause-moved : goal.returns-then-open-clause-moved
@@ -41,7 +41,7 @@ pub returns-in_err-closed-clause-has_room : goal.returns-in_err-closed-clause-ha
 returns-in_err-closed-clause-has_room c =
     λ has.
     let i = c.self.inside in
-    absurd (short_to_count c.args.items i.start i.buffer.items c.args.bytes.now (reverse i.lists.items) i.finished_list c.args.self.now c.self.invariant
+    absurd (short_to_count c.args.items i.start i.buffer.items c.args.bytes.now (reverse i.lists.items) i.mark c.args.self.now c.self.invariant
     (ap (λ (v : Seen). v.state) (sym c.self.view_is))
     (rw (ap (λ (v : Seen). v.spare) (sym c.self.view_is)) c.in_err-closed.ensures.room_closing) has)
 
@@ -51,4 +51,4 @@ returns-then-open-clause-retains c =
     let done = c.in_ok-closed.ensures in
     let laid : IsLaid i.start c.put_counted.new.buffer.items (reverse c.put_counted.new.lists.items) =
     rw (done.bytes, done.lists) (laid_counted c.args.items i.start (i.buffer.items ++ c.args.bytes.now) (reverse i.lists.items) (laid_append i.start i.buffer.items c.args.bytes.now (reverse i.lists.items) c.self.invariant)) in
-    retained c.args.self.now i (record { buffer = c.put_counted.new.buffer; start = i.start; lists = c.put_counted.new.lists; finished_list = c.in_ok-closed.closed }) c.self.view_is c.self.invariant laid done.keeps (omega arith)
+    retained c.args.self.now i (record { buffer = c.put_counted.new.buffer; start = i.start; lists = c.put_counted.new.lists; mark = c.in_ok-closed.closed }) c.self.view_is c.self.invariant laid done.keeps (omega arith)

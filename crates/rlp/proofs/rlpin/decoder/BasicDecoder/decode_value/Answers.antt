@@ -1,4 +1,4 @@
-use Rattle.rlp.specs.Lemmas.Held.{missing_held}
+use Rattle.rlp.specs.Lemmas.StringsHeld.{missing_held}
 use Rattle.rlp.proofs.rlpin.decoder.BasicDecoder.decode_value.Goals as goal
 
 pub returns-clause-missing : goal.returns-clause-missing
