@@ -1,7 +1,7 @@
 -- Headers and strings as they are written.
 use Rattle.std.proofs.Common.{◌≡◌, ℕ, ◌+◌, ◌-◌, ◌<◌, ◌≤◌, List, ◌∷◌, [], ◌++◌, length, take, drop, length-append, length-drop, append-nil, true, false, refl, sym, ap, ◌∙◌, arith, add-one, append_assoc}
 use Rattle.std.proofs.lemmas.Bool.{cond-true, cond-false}
-use Rattle.std.proofs.lemmas.List.{drop-set, take-append-le, drop-append-le, take-take, take_at, drop_at, drop_all, length-take-le, take-append-drop, take_all}
+use Rattle.std.proofs.lemmas.List.{drop-set, take-append-le, take-take, drop_at, drop_all, length-take-le, take-append-drop, take_all}
 use Rattle.std.specs.Prelude.{slice_set}
 use Rattle.rlp_format.specs.Format.Item.{string}
 use Rattle.rlp_format.specs.Format.WrittenHeader.{big_endian, written_header}

@@ -1,4 +1,4 @@
-//! Going back to where a call began that was refused on its way.
+//! Rolling a stream back after a refused call.
 
 ghost use Rattle.std.specs.Prelude.{◌≡◌, ◌+◌, length, reverse, take, vec_capacity};
 ghost use Rattle.rlp_buffer.specs.Streams.Placeholders.{innermost_awaits, with_innermost};
@@ -19,7 +19,7 @@ pub struct Place {
     pub mark: bool,
 }
 
-/// The place at which a stream stands.
+/// Notes where a stream stands.
 pub fn place_of(buffer: &Buffer, lists: &Vec<Placeholder>, mark: bool) -> Place
     ensures len { result.len ≡ length buffer.now.items }
     ensures open { result.open_count ≡ length lists.now.items }
@@ -34,8 +34,8 @@ pub fn place_of(buffer: &Buffer, lists: &Vec<Placeholder>, mark: bool) -> Place
     }
 }
 
-/// Takes off what was written and opened behind a place, and has the innermost list await what it
-/// awaited there.
+/// Removes what was written and opened after a place. The innermost list awaits again what it awaited
+/// there.
 pub fn rewind(buffer: &mut Buffer, lists: &mut Vec<Placeholder>, place: Place)
     ensures bytes { buffer.new.items ≡ take place.len buffer.old.items }
     ensures spare { length buffer.new.items + buffer.new.spare

@@ -90,7 +90,11 @@ fn header_by_first_byte(bytes: &[u8]) -> Result<PayloadInfo, DecoderError>
 }
 
 /// The header whose first byte announces `len` bytes of length, which `rest` begins with.
-fn long_header(rest: &[u8], len: usize, zero_fault: DecoderError) -> Result<PayloadInfo, DecoderError>
+fn long_header(
+    rest: &[u8],
+    len: usize,
+    zero_fault: DecoderError,
+) -> Result<PayloadInfo, DecoderError>
     requires { len ≤ 8 }
     ensures { result ≡ long_header zero_fault len rest.now }
 {

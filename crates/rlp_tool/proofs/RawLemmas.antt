@@ -1,5 +1,5 @@
 -- Raw bytes that are items.
-use Rattle.std.proofs.Common.{◌≡◌, ℕ, zero, suc, ◌+◌, ◌-◌, ◌^◌, ◌<◌, ◌≤◌, ◌↔◌, Bool, true, false, List, [], ◌∷◌, ◌++◌, length, map, take, drop, take-append-drop, All, refl, sym, ap, ◌∙◌, subst, arith, append-nil, length-append, IsTrue, Result, Ok, Err, leb-true, pos_of_ne-zero, nat_eq, ◌&&◌}
+use Rattle.std.proofs.Common.{◌≡◌, ℕ, zero, suc, ◌-◌, ◌^◌, ◌<◌, ◌≤◌, ◌↔◌, Bool, true, false, List, [], ◌∷◌, ◌++◌, length, map, All, refl, sym, ap, ◌∙◌, subst, arith, append-nil, length-append, IsTrue, Result, Ok, Err, leb-true, pos_of_ne-zero, nat_eq, ◌&&◌}
 use Rattle.std.specs.Str.{bytes_eq}
 use Rattle.std.proofs.lemmas.Slice.Eq.{bytes_eq-Decides}
 use Rattle.std.proofs.lemmas.Bool.Decides.{nat_tests, Decides-eqb}
@@ -8,11 +8,9 @@ use Rattle.std.specs.List.{AllByRecursion}
 use Rattle.std.proofs.lemmas.List.Elements.{recursion_from_All, All-from_recursion}
 use Rattle.rlp.specs.DecoderError.{DecoderError}
 use Rattle.rlp.specs.DecoderError.TheVariants.{RlpExpectedToBeData}
-use Rattle.rlp.specs.PayloadInfo.{PayloadInfo}
 use Rattle.rlp.specs.Format.Item.{Item, Items, string, list, no_items, item_and, items_from, listed, list_of, item_depth, items_depth}
 use Rattle.rlp.specs.Format.Encoding.{encoding, join, BeginsWith, IsSized}
-use Rattle.rlp.specs.Format.Header.{HasHeader}
-use Rattle.rlp.specs.Format.Framing.{IsFramed, frame, total_len}
+use Rattle.rlp.specs.Format.Framing.{IsFramed, frame}
 use Rattle.rlp.specs.Format.Split.{split, items, begins_as_list}
 use Rattle.rlp.specs.Format.Strict.{IsCanonicalWithin}
 use Rattle.rlp.specs.Format.StringReading.{read_string}

@@ -77,7 +77,7 @@ fn read_raw<E: FromDigits>(alloc: Global, text: &[u8]) -> Result<Option<StreamCa
     }
 }
 
-/// The list that a number says how many items it awaits.
+/// Reads `l:N`, a call that begins a list of N items, from behind the colon.
 fn read_list<E: FromDigits>(text: &[u8]) -> Option<StreamCall<E>>
     ensures { option_map (call_of E.item) result ≡ option_map begin_list (number_in text.now) }
 {

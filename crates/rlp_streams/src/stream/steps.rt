@@ -150,8 +150,8 @@ impl RlpStream {
         Ok(())
     }
 
-    /// Closes the innermost list, which is unbounded, and counts it in the list around it. It is
-    /// the count of the last item that the list awaits, had it a bound.
+    /// Closes the innermost list, which is unbounded, and counts it in the list around it: the
+    /// list is closed as by the last item of a list that awaits one.
     #[tactic(auto, unfolding(rlp_buffer::specs::Streams::Stream::Retains))]
     pub(super) fn try_finalize(&mut self) -> Result<(), AllocError>
         requires { IsTrue (is_unbounded self.old.state.stack.lists) }

@@ -1,4 +1,4 @@
-use Rattle.std.proofs.Common.{◌≡◌, ◌+◌, ◌++◌, ◌≤◌, length}
+use Rattle.std.proofs.Common.{◌≡◌, ◌++◌}
 use Rattle.rlp_buffer.specs.Streams.Held.{Keeps}
 use Rattle.rlp_buffer.proofs.buffer.strings.write_bytes_of.Given as goal
 

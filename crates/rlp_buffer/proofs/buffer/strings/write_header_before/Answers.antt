@@ -1,4 +1,4 @@
-use Rattle.std.proofs.Common.{◌≡◌, ◌++◌, false, length, drop, ap, sym, ◌∙◌}
+use Rattle.std.proofs.Common.{◌≡◌, false, length, drop, ap, sym, ◌∙◌}
 use Rattle.rlp_format.specs.Format.WrittenHeader.{written_header}
 use Rattle.rlp_format.specs.Format.Encoding.{is_low_byte}
 use Rattle.rlp_buffer.proofs.Written.{header_inserted, header_none, rest_from}

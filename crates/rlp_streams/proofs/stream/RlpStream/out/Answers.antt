@@ -1,4 +1,4 @@
-use Rattle.std.proofs.Common.{reverse, ap, sym, ◌∙◌, length}
+use Rattle.std.proofs.Common.{reverse, ap, ◌∙◌, length}
 use Rattle.rlp_buffer.specs.Streams.Stream.{Seen}
 use Rattle.rlp_buffer.proofs.Rooms.{finished_bytes}
 use Rattle.rlp_buffer.proofs.States.{out_size}
