@@ -3,4 +3,5 @@
 mod careless;
 mod codecs;
 mod nodes;
+mod once_refused;
 mod uses;

@@ -25,34 +25,38 @@ fn is_text_at(alloc: Global, index: usize, text: &str) -> Result<bool, DecoderEr
     Ok(found.as_str() == text && value.as_str() == text)
 }
 
-fn items_are_found(alloc: Global) -> Result<bool, DecoderError> {
-    for (index, item, _, text) in ITEMS {
-        if Rlp::new(CAT_DOG).at(index)?.as_raw() != item || !is_text_at(alloc, index, text)? {
-            return Ok(false);
+/// The place of the first row whose item isn't found.
+fn first_not_found(alloc: Global) -> Result<Option<usize>, DecoderError> {
+    let view = Rlp::new(CAT_DOG);
+    for (row, (index, item, _, text)) in ITEMS.iter().enumerate() {
+        if view.at(*index)?.as_raw() != *item || !is_text_at(alloc, *index, text)? {
+            return Ok(Some(row));
         }
     }
-    Ok(Rlp::new(CAT_DOG).is_list())
+    Ok(None)
 }
 
 #[test]
 fn rlp_at(rt: HostRuntime) -> Result<(), Fail> {
-    assert!(rt; items_are_found(rt.alloc())?);
+    assert_eq!(rt; first_not_found(rt.alloc())?, None);
+    assert!(rt; Rlp::new(CAT_DOG).is_list());
     Ok(())
 }
 
-fn offsets_are_found() -> Result<bool, DecoderError> {
-    for (index, item, offset, _) in ITEMS {
-        let (found, place) = Rlp::new(CAT_DOG).at_with_offset(index)?;
-        if found.as_raw() != item || place != offset {
-            return Ok(false);
+/// The place of the first row whose item is found elsewhere.
+fn first_wrong_offset() -> Result<Option<usize>, DecoderError> {
+    for (row, (index, item, offset, _)) in ITEMS.iter().enumerate() {
+        let (found, place) = Rlp::new(CAT_DOG).at_with_offset(*index)?;
+        if found.as_raw() != *item || place != *offset {
+            return Ok(Some(row));
         }
     }
-    Ok(true)
+    Ok(None)
 }
 
 #[test]
 fn rlp_at_with_offset(rt: HostRuntime) -> Result<(), Fail> {
-    assert!(rt; offsets_are_found()?);
+    assert_eq!(rt; first_wrong_offset()?, None);
     Ok(())
 }
 
@@ -86,18 +90,19 @@ const FAULTS: [(&[u8], usize, DecoderError); 10] = [
     ),
 ];
 
-fn faults_are_found() -> bool {
-    for (bytes, index, want) in &FAULTS {
+/// The place of the first row with another fault, or with none.
+fn first_wrong_fault() -> Option<usize> {
+    for (row, (bytes, index, want)) in FAULTS.iter().enumerate() {
         if !is_fault_at(bytes, *index, want) {
-            return false;
+            return Some(row);
         }
     }
-    true
+    None
 }
 
 #[test]
 fn what_views_answer_by_number(rt: HostRuntime) {
-    assert!(rt; faults_are_found());
+    assert_eq!(rt; first_wrong_fault(), None);
 }
 
 fn is_cut_off() -> bool {
@@ -121,14 +126,15 @@ const COUNTS: [(&[u8], usize); 7] = [
     (&[0xc5], 0),
 ];
 
-fn items_are_counted() -> Result<bool, DecoderError> {
-    for (bytes, count) in COUNTS {
+/// The place of the first row that is counted otherwise.
+fn first_wrong_count() -> Result<Option<usize>, DecoderError> {
+    for (row, (bytes, count)) in COUNTS.iter().enumerate() {
         let view = Rlp::new(bytes);
-        if view.item_count()? != count || view.iter().count() != count {
-            return Ok(false);
+        if view.item_count()? != *count || view.iter().count() != *count {
+            return Ok(Some(row));
         }
     }
-    Ok(true)
+    Ok(None)
 }
 
 fn strings_have_no_count() -> bool {
@@ -143,7 +149,8 @@ fn strings_have_no_count() -> bool {
 
 #[test]
 fn counts_of_items(rt: HostRuntime) -> Result<(), Fail> {
-    assert!(rt; items_are_counted()? && strings_have_no_count());
+    assert_eq!(rt; first_wrong_count()?, None);
+    assert!(rt; strings_have_no_count());
     Ok(())
 }
 

@@ -6,6 +6,8 @@ mod decoding;
 #[cfg(test)]
 mod faults;
 #[cfg(test)]
+mod fields;
+#[cfg(test)]
 mod headers;
 #[cfg(test)]
 mod items;
@@ -27,6 +29,8 @@ mod odd;
 mod refused;
 #[cfg(test)]
 mod siblings;
+#[cfg(test)]
+mod splitting;
 #[cfg(test)]
 mod strict;
 #[cfg(test)]

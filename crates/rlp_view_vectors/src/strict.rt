@@ -67,15 +67,16 @@ const NO_LISTS: [(&[u8], DecoderError); 6] = [
     ),
 ];
 
-fn no_lists_are_refused(alloc: Global) -> bool {
-    for (bytes, want) in &NO_LISTS {
+/// The place of the first row with another fault, or with none.
+fn first_wrong_list(alloc: Global) -> Option<usize> {
+    for (row, (bytes, want)) in NO_LISTS.iter().enumerate() {
         if !is_fault(rlp::decode_list_strict::<u8>(alloc, bytes).err(), want)
             || !is_fault(Rlp::new_strict(bytes).as_list::<u8>(alloc).err(), want)
         {
-            return false;
+            return Some(row);
         }
     }
-    true
+    None
 }
 
 fn list_is_whole(alloc: Global) -> Result<bool, DecoderError> {
@@ -86,7 +87,8 @@ fn list_is_whole(alloc: Global) -> Result<bool, DecoderError> {
 #[test]
 fn strict_lists(rt: HostRuntime) -> Result<(), Fail> {
     let alloc = rt.alloc();
-    assert!(rt; list_is_whole(alloc)? && no_lists_are_refused(alloc));
+    assert_eq!(rt; first_wrong_list(alloc), None);
+    assert!(rt; list_is_whole(alloc)?);
     Ok(())
 }
 
@@ -103,16 +105,17 @@ const NO_ITEMS: [(&[u8], usize, DecoderError); 5] = [
     (&[0xc1, 0x01], 1, DecoderError::RlpIsTooShort),
 ];
 
-fn no_items_are_told() -> bool {
-    for (bytes, index, want) in &NO_ITEMS {
+/// The place of the first row by whose number an item is told, or another fault.
+fn first_told() -> Option<usize> {
+    for (row, (bytes, index, want)) in NO_ITEMS.iter().enumerate() {
         let view = Rlp::new_strict(bytes);
         if !is_fault(view.at(*index).err(), want)
             || !is_fault(view.at_with_offset(*index).err(), want)
         {
-            return false;
+            return Some(row);
         }
     }
-    true
+    None
 }
 
 fn counts_are_told() -> bool {
@@ -142,7 +145,8 @@ fn kinds_are_kept(alloc: Global) -> Result<bool, DecoderError> {
 
 #[test]
 fn strict_items(rt: HostRuntime) -> Result<(), Fail> {
-    assert!(rt; no_items_are_told() && counts_are_told() && kinds_are_kept(rt.alloc())?);
+    assert_eq!(rt; first_told(), None);
+    assert!(rt; counts_are_told() && kinds_are_kept(rt.alloc())?);
     Ok(())
 }
 
@@ -184,13 +188,14 @@ fn is_told(bytes: &[u8], most: usize, want: bool) -> bool {
     Rlp::new(bytes).is_canonical(most) == want && Rlp::new_strict(bytes).is_canonical(most) == want
 }
 
-fn canonical_bytes_are_told() -> bool {
-    for (bytes, most, want) in CANONICAL {
-        if !is_told(bytes, most, want) {
-            return false;
+/// The place of the first row that is told otherwise.
+fn first_untold() -> Option<usize> {
+    for (row, (bytes, most, want)) in CANONICAL.iter().enumerate() {
+        if !is_told(bytes, *most, *want) {
+            return Some(row);
         }
     }
-    true
+    None
 }
 
 /// A list of 56 numbers 1, whose header has two bytes.
@@ -203,7 +208,8 @@ fn long_list_is_canonical() -> bool {
 
 #[test]
 fn canonical_bytes(rt: HostRuntime) {
-    assert!(rt; canonical_bytes_are_told() && long_list_is_canonical());
+    assert_eq!(rt; first_untold(), None);
+    assert!(rt; long_list_is_canonical());
 }
 
 /// Encodings that the public standard calls invalid, and why they are none.
@@ -278,16 +284,17 @@ fn invalid_fault(alloc: Global, bytes: &[u8]) -> Option<DecoderError> {
     }
 }
 
-fn invalid_encodings_are_refused(alloc: Global) -> bool {
-    for (bytes, want) in &INVALID {
+/// The place of the first row that isn't refused so.
+fn first_not_refused(alloc: Global) -> Option<usize> {
+    for (row, (bytes, want)) in INVALID.iter().enumerate() {
         if !is_fault(invalid_fault(alloc, bytes), want) || Rlp::new(bytes).is_canonical(9) {
-            return false;
+            return Some(row);
         }
     }
-    true
+    None
 }
 
 #[test]
 fn invalid_encodings(rt: HostRuntime) {
-    assert!(rt; invalid_encodings_are_refused(rt.alloc()));
+    assert_eq!(rt; first_not_refused(rt.alloc()), None);
 }

@@ -3,6 +3,7 @@
 //! `refusals/run` refuses every request from a signal on, which is one for `SIGNAL` bytes.
 
 use crate::support::guarded::{estimates, finishes_as, put_raw, put_raw_within};
+use crate::support::iterators::{append_undotted, encode_undotted};
 use bytes::BytesMut;
 use rlp::RlpStream;
 use std::alloc::{AllocError, Global};
@@ -60,5 +61,25 @@ fn need_no_memory(alloc: Global) -> Result<bool, AllocError> {
 #[test]
 fn streams_that_need_no_memory(rt: HostRuntime) -> Result<(), Fail> {
     assert!(rt; need_no_memory(rt.alloc())?);
+    Ok(())
+}
+
+/// The bytes of two strings of three.
+const TWO_STRINGS: &[u8] = b"\x83cat\x83dog";
+
+/// Whether the bytes of iterators are put into room that is just enough, once every request is
+/// refused.
+fn iterators_need_no_memory(alloc: Global) -> Result<bool, AllocError> {
+    let buffer = BytesMut::with_capacity(alloc, TWO_STRINGS.len())?;
+    refuse_from_here(alloc);
+    let mut s = RlpStream::new_with_buffer(alloc, buffer);
+    append_undotted(&mut s, b"c.a.t")?;
+    encode_undotted(&mut s.encoder(), b"d.o.g")?;
+    Ok(finishes_as(s, TWO_STRINGS))
+}
+
+#[test]
+fn iterators_that_need_no_memory(rt: HostRuntime) -> Result<(), Fail> {
+    assert!(rt; iterators_need_no_memory(rt.alloc())?);
     Ok(())
 }

@@ -250,6 +250,53 @@ fn sixty_lists(rt: HostRuntime) -> Result<(), Fail> {
     Ok(())
 }
 
+/// Twenty unbounded lists, one in another, finalized one by one.
+struct Twenty;
+
+/// Their bytes.
+const TWENTY: &[u8] = &[
+    0xd3, 0xd2, 0xd1, 0xd0, 0xcf, 0xce, 0xcd, 0xcc, 0xcb, 0xca, 0xc9, 0xc8, 0xc7, 0xc6, 0xc5, 0xc4,
+    0xc3, 0xc2, 0xc1, 0xc0,
+];
+
+/// Whether these are the bytes with so many of the lists open, each a byte 00.
+fn are_twenty(raw: &[u8], open: usize) -> bool {
+    let closed = TWENTY.get(open..).unwrap_or(&[]);
+    raw.len() == TWENTY.len()
+        && raw.ends_with(closed)
+        && raw.iter().take(open).all(|byte| *byte == 0)
+}
+
+impl Calls for Twenty {
+    fn count(&self) -> usize {
+        40
+    }
+
+    fn make(&self, s: &mut RlpStream, place: usize) -> Result<bool, AllocError> {
+        if place < 20 {
+            return make(s, Step::BeginUnbounded);
+        }
+        make(s, Step::Finalize)
+    }
+
+    fn stands(&self, s: &RlpStream, done: usize) -> bool {
+        if done <= 20 {
+            return stands_as(s, (&[], done, done, None, done > 0));
+        }
+        are_twenty(s.as_raw(), 40usize.saturating_sub(done))
+            && s.len() == 20
+            && s.items_awaited().is_none()
+            && s.can_finalize() == (done < 40)
+            && s.is_finished() == (done == 40)
+    }
+}
+
+#[test]
+fn twenty_lists_finalized_one_by_one(rt: HostRuntime) -> Result<(), Fail> {
+    assert!(rt; go_again_twice(rt.alloc(), &Twenty)?);
+    Ok(())
+}
+
 /// How 300 bytes come into a stream.
 #[derive(Clone, Copy)]
 enum Way {

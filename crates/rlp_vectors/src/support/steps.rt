@@ -16,6 +16,8 @@ pub(crate) enum Step {
     Finalize,
     /// `append` of a number.
     Number(u64),
+    /// `append` of a number of one byte.
+    Small(u8),
     /// `append` of a text.
     Text(&'static str),
     /// `append` of a pair.
@@ -26,6 +28,8 @@ pub(crate) enum Step {
     InternalPair(u64, u64),
     /// `append_list` of numbers.
     Numbers(&'static [u64]),
+    /// `append_list` of numbers of one byte.
+    Smalls(&'static [u8]),
     /// `append_list` of pairs.
     Pairs(&'static [Pair]),
     /// `encode_value` of the stream's encoder.
@@ -65,6 +69,9 @@ fn append(s: &mut RlpStream, step: Step) -> Result<bool, AllocError> {
         Step::Number(number) => {
             s.append(&number)?;
         }
+        Step::Small(number) => {
+            s.append(&number)?;
+        }
         Step::Text(text) => {
             s.append(&text)?;
         }
@@ -78,6 +85,9 @@ fn append(s: &mut RlpStream, step: Step) -> Result<bool, AllocError> {
             s.append_internal(&Pair(first, second))?;
         }
         Step::Numbers(numbers) => {
+            s.append_list(numbers)?;
+        }
+        Step::Smalls(numbers) => {
             s.append_list(numbers)?;
         }
         Step::Pairs(pairs) => {

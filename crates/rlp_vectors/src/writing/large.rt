@@ -47,7 +47,7 @@ fn first_wrong_string(alloc: Global) -> Result<Option<usize>, AllocError> {
 
 #[test]
 fn long_strings(rt: HostRuntime) -> Result<(), Fail> {
-    assert!(rt; first_wrong_string(rt.alloc())?.is_none());
+    assert_eq!(rt; first_wrong_string(rt.alloc())?, None);
     Ok(())
 }
 
@@ -75,7 +75,7 @@ fn first_wrong_list(alloc: Global) -> Result<Option<usize>, AllocError> {
 
 #[test]
 fn long_lists(rt: HostRuntime) -> Result<(), Fail> {
-    assert!(rt; first_wrong_list(rt.alloc())?.is_none());
+    assert_eq!(rt; first_wrong_list(rt.alloc())?, None);
     Ok(())
 }
 
@@ -128,7 +128,30 @@ fn first_not_begun(alloc: Global) -> Result<Option<usize>, AllocError> {
 
 #[test]
 fn lists_of_many_items(rt: HostRuntime) -> Result<(), Fail> {
-    assert!(rt; first_not_begun(rt.alloc())?.is_none());
+    assert_eq!(rt; first_not_begun(rt.alloc())?, None);
+    Ok(())
+}
+
+/// How many numbers 7 a list has, and its header.
+const NUMBERS: (usize, &[u8]) = (65_537, &[0xfa, 0x01, 0x00, 0x01]);
+
+/// Whether the list of so many numbers of one byte is written with its header, by a stream and
+/// alone.
+fn numbers_are_listed(alloc: Global) -> Result<bool, AllocError> {
+    let (len, header) = NUMBERS;
+    let numbers = vec![in alloc; 7u8; len]?;
+    let alone = rlp::encode_list(alloc, numbers.as_slice())?;
+    let mut s = RlpStream::new(alloc)?;
+    s.append_list(numbers.as_slice())?;
+    Ok(
+        are(alone.as_slice(), header, len)
+            && finished(s).is_some_and(|bytes: BytesMut| are(bytes.as_slice(), header, len)),
+    )
+}
+
+#[test]
+fn a_list_of_many_numbers(rt: HostRuntime) -> Result<(), Fail> {
+    assert!(rt; numbers_are_listed(rt.alloc())?);
     Ok(())
 }
 

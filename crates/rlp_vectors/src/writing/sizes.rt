@@ -26,37 +26,42 @@ fn is_appended(alloc: Global, len: usize) -> Result<bool, AllocError> {
     Ok(finishes_as(s, want.as_slice()))
 }
 
-fn all_are_appended(alloc: Global, from: usize, to: usize) -> Result<bool, AllocError> {
+/// The first length of a stretch at which a string isn't.
+fn first_wrong_between(alloc: Global, from: usize, to: usize) -> Result<Option<usize>, AllocError> {
     for len in from..to {
         if !is_appended(alloc, len)? {
-            return Ok(false);
+            return Ok(Some(len));
         }
     }
-    Ok(true)
+    Ok(None)
 }
 
-fn stretches_are_appended(alloc: Global) -> Result<bool, AllocError> {
+/// The first such length of all stretches.
+fn first_wrong_length(alloc: Global) -> Result<Option<usize>, AllocError> {
     for (from, to) in STRETCHES {
-        if !all_are_appended(alloc, from, to)? {
-            return Ok(false);
+        let wrong = first_wrong_between(alloc, from, to)?;
+        if wrong.is_some() {
+            return Ok(wrong);
         }
     }
-    Ok(true)
+    Ok(None)
 }
 
-fn thousands_are_appended(alloc: Global) -> Result<bool, AllocError> {
+/// The first such length among the multiples of a thousand.
+fn first_wrong_thousand(alloc: Global) -> Result<Option<usize>, AllocError> {
     for thousands in 0u32..70 {
         let len = thousands as usize * 1_000;
         if !is_appended(alloc, len)? {
-            return Ok(false);
+            return Ok(Some(len));
         }
     }
-    Ok(true)
+    Ok(None)
 }
 
 #[test]
 fn strings_of_many_sizes_are_appended(rt: HostRuntime) -> Result<(), Fail> {
     let alloc = rt.alloc();
-    assert!(rt; stretches_are_appended(alloc)? && thousands_are_appended(alloc)?);
+    assert_eq!(rt; first_wrong_length(alloc)?, None);
+    assert_eq!(rt; first_wrong_thousand(alloc)?, None);
     Ok(())
 }

@@ -6,7 +6,7 @@ use std::alloc::{AllocError, Global};
 use std::test::Fail;
 
 /// The list that a new stream begins with, if any; the calls; and the finished bytes.
-const ROWS: [(Option<usize>, &[Step], &[u8]); 14] = [
+const ROWS: [(Option<usize>, &[Step], &[u8]); 16] = [
     (Some(0), &[], &[0xc0]),
     (Some(1), &[Step::Begin(0)], &[0xc1, 0xc0]),
     (
@@ -79,20 +79,23 @@ const ROWS: [(Option<usize>, &[Step], &[u8]); 14] = [
         ],
         &[0xc1, 0x61, 0x62],
     ),
+    (None, &[Step::Small(2)], &[0x02]),
+    (None, &[Step::Smalls(&[1, 2, 3])], &[0xc3, 0x01, 0x02, 0x03]),
 ];
 
-fn rows_agree(alloc: Global) -> Result<bool, AllocError> {
-    for (list, steps, want) in ROWS {
-        if !finish_as(alloc, list, steps, want)? {
-            return Ok(false);
+/// The place of the first row that finishes otherwise.
+fn first_wrong_row(alloc: Global) -> Result<Option<usize>, AllocError> {
+    for (row, (list, steps, want)) in ROWS.iter().enumerate() {
+        if !finish_as(alloc, *list, steps, want)? {
+            return Ok(Some(row));
         }
     }
-    Ok(true)
+    Ok(None)
 }
 
 #[test]
 fn lists_finish_as_worked_out(rt: HostRuntime) -> Result<(), Fail> {
-    assert!(rt; rows_agree(rt.alloc())?);
+    assert_eq!(rt; first_wrong_row(rt.alloc())?, None);
     Ok(())
 }
 
@@ -106,6 +109,7 @@ const NOT_ADMITTED: [&[Step]; 6] = [
     &[Step::Begin(2), Step::Number(1), Step::Raw(&[], 2)],
 ];
 
+/// Whether the last of these calls is the first that is refused.
 fn refuses_last(alloc: Global, steps: &[Step]) -> Result<bool, AllocError> {
     let mut s = RlpStream::new(alloc)?;
     let mut admitted = 0usize;
@@ -118,18 +122,19 @@ fn refuses_last(alloc: Global, steps: &[Step]) -> Result<bool, AllocError> {
     Ok(admitted.saturating_add(1) == steps.len())
 }
 
-fn conditions_are_told(alloc: Global) -> Result<bool, AllocError> {
-    for steps in NOT_ADMITTED {
+/// The place of the first row whose last call isn't the first that is refused.
+fn first_untold(alloc: Global) -> Result<Option<usize>, AllocError> {
+    for (row, steps) in NOT_ADMITTED.iter().enumerate() {
         if !refuses_last(alloc, steps)? {
-            return Ok(false);
+            return Ok(Some(row));
         }
     }
-    Ok(true)
+    Ok(None)
 }
 
 #[test]
 fn conditions_are_told_before_the_call(rt: HostRuntime) -> Result<(), Fail> {
-    assert!(rt; conditions_are_told(rt.alloc())?);
+    assert_eq!(rt; first_untold(rt.alloc())?, None);
     Ok(())
 }
 
@@ -167,21 +172,21 @@ fn stands_as(s: &RlpStream, raw: &[u8], size: usize, awaited: Option<usize>) -> 
         && s.items_awaited() == awaited
 }
 
-fn stands_call_by_call(alloc: Global) -> Result<bool, AllocError> {
-    let mut s = RlpStream::new(alloc)?;
-    if !stands_as(&s, &[], 0, None) {
-        return Ok(false);
-    }
-    for (step, raw, size, awaited) in CALL_BY_CALL {
-        if !make(&mut s, step)? || !stands_as(&s, raw, size, awaited) {
-            return Ok(false);
+/// The place of the first call after which a new stream stands otherwise.
+fn first_wrong_call(s: &mut RlpStream) -> Result<Option<usize>, AllocError> {
+    for (call, (step, raw, size, awaited)) in CALL_BY_CALL.iter().enumerate() {
+        if !make(s, *step)? || !stands_as(s, raw, *size, *awaited) {
+            return Ok(Some(call));
         }
     }
-    Ok(s.is_finished())
+    Ok(None)
 }
 
 #[test]
 fn a_stream_call_by_call(rt: HostRuntime) -> Result<(), Fail> {
-    assert!(rt; stands_call_by_call(rt.alloc())?);
+    let mut s = RlpStream::new(rt.alloc())?;
+    assert!(rt; stands_as(&s, &[], 0, None));
+    assert_eq!(rt; first_wrong_call(&mut s)?, None);
+    assert!(rt; s.is_finished());
     Ok(())
 }
