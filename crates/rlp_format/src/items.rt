@@ -81,6 +81,8 @@ impl<'a> ItemReader<'a> {
             × IsOk (framing self.old.rest) }
         ensures other { result ≡ false → self.new.rest ≡ [] }
         ensures counted { self.new.headers ≤ self.old.headers + 1 }
+        ensures header { begins_as_list self.old.rest ≡ true
+            → self.new.headers ≡ self.old.headers + 1 }
         ensures few { length self.new.rest < 2 ^ 64 }
     {
         if !begins_as_list(self.rest) {
