@@ -1,9 +1,10 @@
-//! Calls as values, made in order, of which one is refused memory.
+//! Calls as values, made in order, of which one is refused memory; and lines, of which one is.
 //!
-//! `refusals/run` refuses each request of this test in turn. It then answers `AllocError`.
+//! `refusals/run` refuses each request of these tests in turn. They then answer `AllocError`.
 
+use crate::devices_once::sink;
 use bytes::BytesMut;
-use rlp_tool::{BuildFault, Built, StreamCall, build};
+use rlp_tool::{BuildFault, Built, Noted, RunFault, StreamCall, build, run};
 use std::alloc::{AllocError, Global};
 use std::test::Fail;
 
@@ -28,5 +29,24 @@ fn texts_are_built(alloc: Global) -> Result<bool, AllocError> {
 #[test]
 fn texts_in_lists(rt: HostRuntime) -> Result<(), Fail> {
     assert!(rt; texts_are_built(rt.alloc())?);
+    Ok(())
+}
+
+/// Whether a run over three lines flushes once, at its end. Where memory lacks it doesn't flush.
+fn flushes_at_its_end_alone(alloc: Global) -> Result<bool, AllocError> {
+    let mut source = Noted::new(b"c20506\n+l:1 d:2a\n80".as_slice());
+    let mut sink = sink(alloc, 0, 0);
+    let outcome = run(alloc, &mut source, &mut sink);
+    let flushes = sink.inner().flushes;
+    match outcome {
+        Ok(()) => Ok(flushes == 1),
+        Err(RunFault::Memory | RunFault::Write) if flushes == 0 => Err(AllocError),
+        Err(_) => Ok(false),
+    }
+}
+
+#[test]
+fn lines_that_lack_memory(rt: HostRuntime) -> Result<(), Fail> {
+    assert!(rt; flushes_at_its_end_alone(rt.alloc())?);
     Ok(())
 }
