@@ -16,7 +16,7 @@ reverse_push ps p = reverse-append ps (p ∷ [])
 
 -- ---- finding the growth
 
--- how far the search for full lists has come: so many were found, which make so much growth; the next are `ps`, of which the innermost ends at `left`, with `tail` bytes behind that
+-- how far the search for full lists has come: how many were found, and by how much they make the buffer grow; the next are `ps`, of which the innermost ends at `left`, with `tail` bytes behind that
 pub record Planned (k end : ℕ) (whole : List Placeholder) (closing grown left tail counts : ℕ) (ps : List Placeholder) : Type 0 where
   pub closes : filled k whole ≡ closing + filled counts ps
   pub grows : growth (filled k whole) end 0 whole ≡ grown + growth (filled counts ps) left tail ps
@@ -48,7 +48,7 @@ header_some len =
     (λ short. let e : header_len len ≡ 1 = ap length (written_header_short 0xc0 len short) in omega arith)
     (cases_lt 55 len)
 
--- so many bytes there are once lists are closed
+-- how many bytes there are once lists are closed
 pub length-closed_bytes : (n : ℕ) (b tail : List ℕ) (ps : List Placeholder) → Descends (length b) ps → length (closed_bytes n b tail ps) ≡ length b + length tail + growth n (length b) (length tail) ps
 length-closed_bytes zero b tail ps order = omega (arith, length-append b tail)
 length-closed_bytes (suc n) b tail [] order = omega (arith, length-append b tail)

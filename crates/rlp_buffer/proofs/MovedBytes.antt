@@ -7,7 +7,7 @@ use Rattle.std.proofs.lemmas.List.{take-set-le, take-take, get_or-take, drop_mor
 use Rattle.std.proofs.lemmas.Slice.{take-put_mid, drop-put_mid}
 use Rattle.std.proofs.lemmas.Grind.{drop-set_at}
 
--- how far that has come: so many are left, and so many stand `gap` places later
+-- how far that has come: how many bytes are left, and how many stand `gap` places later
 pub record Brought (old bytes : List ℕ) (gap left done : ℕ) : Type 0 where
   pub front : take (gap + left) bytes ≡ take (gap + left) old
   pub back : drop (gap + left) bytes ≡ take done (drop left old)

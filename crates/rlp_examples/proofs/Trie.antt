@@ -9,7 +9,7 @@ get_or-middle [] after x d = refl
 get_or-middle (y ∷ before) after x d = get_or-middle before after x d
 
 module _ {A P : Type 0} (d : A) (values : P → List A) (c : Codec A) (more : Fields P) (p : P) where
-  -- the fields from place k on, so many
+  -- a number of fields, from place k on
   abbrev fields_from : ℕ → ℕ → Fields P
   fields_from k n = and_each (λ j p. get_or (values p) j d) c more k n
 

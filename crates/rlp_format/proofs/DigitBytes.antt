@@ -70,7 +70,7 @@ drop-bytes_high_first zero k m n e = let same : m ≡ k = omega arith in ap (λ 
 drop-bytes_high_first (suc z) k zero n e = absurd (omega arith)
 drop-bytes_high_first (suc z) k (suc m) n e = drop-bytes_high_first z k m n (omega arith)
 
--- what the count of leading zero bits says of a number's bytes, so many of them
+-- what the count of leading zero bits says of the number of a number's bytes
 record LeadingBytes (m n : ℕ) : Type 0 where
   pub digits : drop (count_leading_zeros (8 * m) n / 8) (bytes_high_first m n) ≡ big_endian n
   pub len : count_leading_zeros (8 * m) n / 8 + length (big_endian n) ≡ m
@@ -106,7 +106,7 @@ leading_bytes m (suc n) small = some_bytes m (suc n) (omega arith) small
 pub leading_digits : (n : ℕ) → n < 2 ^ 64 → drop (count_leading_zeros 64 n / 8) (bytes_high_first 8 n) ≡ big_endian n
 leading_digits n small = (leading_bytes 8 n small).digits
 
--- so many zeros and digits are eight bytes
+-- the leading zeros and the digits are eight bytes
 pub leading_len : (n : ℕ) → n < 2 ^ 64 → count_leading_zeros 64 n / 8 + length (big_endian n) ≡ 8
 leading_len n small = (leading_bytes 8 n small).len
 
@@ -114,7 +114,7 @@ leading_len n small = (leading_bytes 8 n small).len
 pub wide_leading_digits : (n : ℕ) → n < 2 ^ 128 → drop (count_leading_zeros 128 n / 8) (bytes_high_first 16 n) ≡ big_endian n
 wide_leading_digits n small = (leading_bytes 16 n small).digits
 
--- so many zeros and digits are sixteen bytes
+-- the leading zeros and the digits are sixteen bytes
 pub wide_leading_len : (n : ℕ) → n < 2 ^ 128 → count_leading_zeros 128 n / 8 + length (big_endian n) ≡ 16
 wide_leading_len n small = (leading_bytes 16 n small).len
 

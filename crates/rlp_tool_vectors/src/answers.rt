@@ -59,7 +59,7 @@ fn run_always_lacks_memory(rt: HostRuntime) -> Result<(), AllocError> {
     Ok(())
 }
 
-/// Whether a line of so many lists, one in another, is printed.
+/// Whether a line of `count` lists, one in another, is printed.
 fn prints_nested(alloc: Global, count: usize) -> Result<bool, AllocError> {
     let lists = nested(alloc, &[], count)?;
     let digits = hex::encode(alloc, lists.as_slice())?;
@@ -86,7 +86,7 @@ fn repeated(alloc: Global, bytes: &[u8], count: usize) -> Result<Vec<u8>, AllocE
     Ok(all)
 }
 
-/// The digits of a list of so many bytes 01, and one before them.
+/// The digits of a list of bytes 01, and a byte before them.
 fn digits_of_ones(alloc: Global, more: usize) -> Result<String, AllocError> {
     let mut list = repeated(alloc, &[1], more)?;
     list.push(1)?;

@@ -5,7 +5,7 @@ use crate::lists::nested;
 use std::alloc::{AllocError, Global};
 use std::test::Fail;
 
-/// A line of calls: so many of the first, and then so many of the second.
+/// A line of calls: the first one several times, and then the second one several times.
 fn line_of(
     alloc: Global,
     first: (&[u8], usize),
@@ -40,7 +40,7 @@ const OPENED: [Opened; 2] = [
     (257, 559, &[0xf9, 0x02, 0x2c]),
 ];
 
-/// Whether so many lists, opened and finished, are answered by their bytes.
+/// Whether lists that are opened and finished are answered by their bytes.
 fn lists_are_finished(alloc: Global, row: Opened) -> Result<bool, AllocError> {
     let (lists, size, begin) = row;
     let bytes = nested(alloc, &[], lists)?;
@@ -68,7 +68,7 @@ fn run_answers_lists_opened_and_finished(rt: HostRuntime) -> Result<(), Fail> {
     Ok(())
 }
 
-/// Whether so many lists that stay open are answered by these words, and a byte 00 for each.
+/// Whether lists that stay open are answered by these words, and a byte 00 for each.
 fn open_lists_are_answered(alloc: Global, lists: usize, words: &[u8]) -> Result<bool, AllocError> {
     let zeros = vec![in alloc; 0u8; lists]?;
     let line = line_of(alloc, (b"u", lists), (b"", 0))?;

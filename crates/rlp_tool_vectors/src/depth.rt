@@ -15,7 +15,7 @@ fn line_is_answered(alloc: Global, bytes: &[u8], answer: &[u8]) -> Result<bool, 
     answers(alloc, input.as_slice(), expected.as_slice())
 }
 
-/// So many opening brackets, and as many closing ones.
+/// Opening brackets, and as many closing ones.
 fn brackets(alloc: Global, lists: usize) -> Result<Vec<u8>, AllocError> {
     let mut text = vec![in alloc; b'['; lists]?;
     let closed = vec![in alloc; b']'; lists]?;

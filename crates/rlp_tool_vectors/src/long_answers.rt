@@ -7,7 +7,7 @@ use std::test::Fail;
 /// How many lists, one in another, are closed by the empty string in the innermost one.
 const LISTS: usize = 25_000;
 
-/// The bytes of so many lists around the empty string, put together from their end.
+/// The encoding of the empty string inside a number of lists, written from its end.
 pub(crate) fn bytes_of_lists(alloc: Global, lists: usize) -> Result<Vec<u8>, AllocError> {
     let mut backwards = Vec::from_slice(alloc, &[0x80])?;
     for _ in 0..lists {

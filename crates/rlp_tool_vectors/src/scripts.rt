@@ -173,7 +173,7 @@ fn run_answers_long_scripts(rt: HostRuntime) -> Result<(), AllocError> {
     Ok(())
 }
 
-/// Whether one raw item of so many lists, one in another, is answered by itself and else refused.
+/// Whether a raw item of nested lists is answered by itself where it isn't too deep, and else refused.
 fn raw_lists_are_answered(alloc: Global, lists: usize, taken: bool) -> Result<bool, AllocError> {
     let item = nested(alloc, &[], lists)?;
     let mut line = Vec::from_slice(alloc, b"+r:1:")?;

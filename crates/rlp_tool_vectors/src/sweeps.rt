@@ -30,7 +30,7 @@ fn is_whole(left: &Left) -> bool {
         && has_written(left, REPLIES)
 }
 
-/// How many bytes of the replies are to lines that end in so many bytes of the input.
+/// How many bytes of the replies are to lines that end in the first bytes of the input.
 fn replied(read: usize) -> usize {
     let mut replied = 0;
     for (end, replies) in ENDS {
@@ -41,7 +41,7 @@ fn replied(read: usize) -> usize {
     replied
 }
 
-/// Whether a run whose reader failed after so many bytes answered that, and all lines before.
+/// Whether a run whose reader failed after some bytes answered that, and all lines before.
 fn is_cut_short(left: &Left, read: usize) -> bool {
     let expected = REPLIES.get(..replied(read)).unwrap_or(b"");
     left.outcome == Err(RunFault::Read)
@@ -70,7 +70,7 @@ fn reads_needed(alloc: Global, most: usize) -> Result<Option<usize>, AllocError>
 }
 
 /// Whether a run whose writer failed answered that, and wrote a beginning of the replies that has at
-/// least so many bytes.
+/// least `least` bytes.
 fn is_cut_off(left: &Left, least: usize) -> bool {
     left.outcome == Err(RunFault::Write)
         && left.writer_failed
@@ -126,7 +126,7 @@ fn every_call_of_a_device_fails_in_turn(rt: HostRuntime) -> Result<(), Fail> {
     Ok(())
 }
 
-/// Bytes before and after so many times one byte. What the run answers, and what is written.
+/// Bytes before and after a byte that is repeated. What the run answers, and what is written.
 struct Row {
     front: &'static [u8],
     byte: u8,
@@ -240,7 +240,7 @@ fn input_of(alloc: Global, row: &Row) -> Result<Vec<u8>, AllocError> {
     Ok(input)
 }
 
-/// Whether a row is answered by devices that move at most so many bytes a call.
+/// Whether a row is answered by devices that move at most `most` bytes a call.
 fn row_is_answered(
     alloc: Global,
     row: &Row,

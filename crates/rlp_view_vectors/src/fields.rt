@@ -159,7 +159,7 @@ fn fields_of_another_number(rt: HostRuntime) {
 /// Three numbers.
 const NUMBERS: &[u8] = &[0xc3, 0x05, 0x06, 0x07];
 
-/// Whether the fields are finished after so many of three numbers exactly where all were taken.
+/// Whether the fields are finished after some of three numbers exactly where all were taken.
 fn is_finished_at_three(strict: bool, taken: u64) -> Result<bool, DecoderError> {
     let mut fields = view_of(NUMBERS, strict).fields()?;
     for _ in 0..taken {

@@ -154,7 +154,7 @@ fn counts_of_items(rt: HostRuntime) -> Result<(), Fail> {
     Ok(())
 }
 
-/// Whether the next item of an iterator with so many left is this.
+/// Whether the next item of an iterator, by how many are left, is this.
 fn gives_item(items: &mut RlpIterator<'_, '_>, left: usize, item: &[u8]) -> bool {
     if items.len() != left || items.size_hint() != (left, Some(left)) {
         return false;

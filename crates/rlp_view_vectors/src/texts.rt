@@ -62,7 +62,7 @@ fn test_rlp_display(rt: HostRuntime) -> Result<(), Fail> {
     Ok(())
 }
 
-/// Whether so many first bytes of the list are printed as too short, none as `null`, all as the text.
+/// Whether the first bytes of the list, by their number, are printed as too short, none as `null`, all as the text.
 fn cut_is_printed(alloc: Global, len: usize) -> Result<bool, AllocError> {
     let text = match len {
         0 => "null",

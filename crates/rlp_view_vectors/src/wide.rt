@@ -7,7 +7,7 @@ use std::test::Fail;
 /// How many items the list has.
 const WIDE: usize = 1_000_000;
 
-/// The header of so many bytes of list, and each byte 01.
+/// A list with a payload of bytes 01: its header and these bytes.
 fn wide_list(alloc: Global) -> Result<Vec<u8>, AllocError> {
     let mut bytes = Vec::from_slice(alloc, &[0xfa, 0x0f, 0x42, 0x40])?;
     let ones = vec![in alloc; 1u8; WIDE]?;

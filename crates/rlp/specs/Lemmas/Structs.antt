@@ -195,7 +195,7 @@ count_off n m IsFaulty v is other = other_count m (sym is) other
 -- for bodies that read the fields of a struct, up to seventeen
 pub ruleset struct_fields = (no_fields, count_off, field_0, field_1, field_2, field_3, field_4, field_5, field_6, field_7, field_8, field_9, field_10, field_11, field_12, field_13, field_14, field_15, field_16)
 
--- a view that isn't a list of so many items is faulty
+-- a view that isn't a list of that number of items is faulty
 pub fields_off : (n : ℕ) (IsFaulty : View → DecoderError → Type 0) (v : View) (e : DecoderError) → FaultsAsFields n (λ _ _. ⊥) v e → FaultsAsFields n IsFaulty v e
 fields_off n IsFaulty v e (no_fields f none) = no_fields f none
 fields_off n IsFaulty v e (other_count m is other) = other_count m is other

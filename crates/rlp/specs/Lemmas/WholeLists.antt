@@ -22,7 +22,7 @@ use Rattle.rlp_format.specs.Lemmas.Numbered.{item_count-told, slice_get-item_at}
 
 -- ---- a list whose strict fault is none is read whole
 
--- b is a list's header and so many bytes
+-- b is a list's header and a payload of the length that it announces
 record IsWhole (b : List ℕ) (h n : ℕ) : Type 0 where
   inside : List ℕ
   is : b ≡ written_header 0xc0 n ++ inside

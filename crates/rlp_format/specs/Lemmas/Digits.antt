@@ -9,7 +9,7 @@ use Rattle.std.proofs.lemmas.Bool.{cond-false}
 use Rattle.rlp_format.specs.Format.WrittenHeader.{big_endian, big_endian_within, AreBytes}
 use Rattle.rlp_format.specs.Values.Value.{FitsBytes}
 
--- digits of so many turns, in the words of the standard library
+-- digits by a number of turns, in the words of the standard library
 pub big_endian_within_is : (turns n : ℕ) → big_endian_within turns n ≡ digits_with_fuel 256 turns n
 big_endian_within_is zero n = refl
 big_endian_within_is (suc turns) zero = refl
@@ -90,7 +90,7 @@ pow-bytes (suc width) =
     let more : 8 * suc width ≡ 8 * width + 8 = omega arith in
     pow-suc 256 width ∙ ap (λ p. p * 256) (pow-bytes width) ∙ sym (pow-add 2 (8 * width) 8) ∙ ap (λ k. 2 ^ k) (sym more)
 
--- so many bytes write a number of that width
+-- digits that are at most `width` bytes write a number of that width
 pub digits_fit : (width : ℕ) (digits : List ℕ) → AreBytes digits → length digits ≤ width → FitsBytes width (number_from_digits 256 digits)
 digits_fit width digits bytes few =
     let below : number_from_digits 256 digits < 256 ^ length digits = number_lt 256 digits (recursion_from_All (λ byte. byte < 2 ^ 8) digits bytes) in

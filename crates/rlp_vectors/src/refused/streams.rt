@@ -38,7 +38,7 @@ trait Calls {
     /// Makes the call at this place. `false` where its condition doesn't hold.
     fn make(&self, s: &mut RlpStream, place: usize) -> Result<bool, AllocError>;
 
-    /// Whether the stream stands as it does after so many calls.
+    /// Whether the stream stands as it does after the first calls.
     fn stands(&self, s: &RlpStream, done: usize) -> bool;
 }
 
@@ -259,7 +259,7 @@ const TWENTY: &[u8] = &[
     0xc3, 0xc2, 0xc1, 0xc0,
 ];
 
-/// Whether these are the bytes with so many of the lists open, each a byte 00.
+/// Whether these are the bytes of open lists, a byte 00 for each.
 fn are_twenty(raw: &[u8], open: usize) -> bool {
     let closed = TWENTY.get(open..).unwrap_or(&[]);
     raw.len() == TWENTY.len()

@@ -7,7 +7,7 @@ use bytes::BytesMut;
 use rlp::{Chain, RlpStream};
 use std::alloc::AllocError;
 
-/// Whether the innermost open list awaits at least so many items, or no number of them.
+/// Whether the innermost open list awaits at least `items` items, or is unbounded.
 pub(crate) fn takes_items(s: &RlpStream, items: usize) -> bool
     ensures { IsTrue result → IsTrue (has_room items s.now.state.stack.lists) }
 {
@@ -75,7 +75,7 @@ pub(crate) fn finishes_as(s: RlpStream, want: &[u8]) -> bool {
     }
 }
 
-/// Whether this is the size with so many more bytes.
+/// Whether this is the size with more bytes put.
 pub(crate) fn estimates(s: &RlpStream, add: usize, want: usize) -> bool {
     match s.checked_estimate_size(add) {
         Some(size) => size == want && s.estimate_size(add) == want,

@@ -8,7 +8,7 @@ const STRING: u8 = 0x80;
 /// The header of a list of no bytes.
 const LIST: u8 = 0xc0;
 
-/// Writes the header of a string or a list of so many bytes, fewer than 2^24.
+/// Writes the header of a string or a list, for a length of fewer than 2^24 bytes.
 fn put_header(bytes: &mut Vec<u8>, empty: u8, len: usize) -> Result<(), AllocError> {
     let [_, _, _, _, _, high, middle, low] = len.to_be_bytes();
     let longest = empty.wrapping_add(55);

@@ -108,7 +108,7 @@ pub(crate) fn make_all(s: &mut RlpStream, steps: &[Step]) -> Result<bool, AllocE
     Ok(true)
 }
 
-/// A new stream, in which a list of so many items is begun, or none.
+/// A new stream, in which a list is begun by its number of items, or none is.
 pub(crate) fn started(alloc: Global, list: Option<usize>) -> Result<RlpStream, AllocError> {
     match list {
         Some(len) => RlpStream::new_list(alloc, len),

@@ -19,7 +19,7 @@ fn begun(alloc: Global) -> Result<RlpStream, AllocError> {
     Ok(s)
 }
 
-/// Whether the stream holds these bytes, awaits so many items, and has this size.
+/// Whether the stream holds these bytes, awaits this number of items, and has this size.
 fn stands_as(s: &RlpStream, raw: &[u8], awaited: usize, size: usize) -> bool {
     s.as_raw() == raw && s.items_awaited() == Some(awaited) && s.len() == size
 }

@@ -33,7 +33,7 @@ fn bytes_of_iterators_are_appended(rt: HostRuntime) -> Result<(), Fail> {
     Ok(())
 }
 
-/// Appends the string of so many bytes 00, one by one.
+/// Appends a string of bytes 00, one by one.
 fn append_zeros(s: &mut RlpStream, len: usize) -> Result<(), AllocError> {
     s.append_iter((0..len).map(|_| 0x00))?;
     Ok(())

@@ -13,7 +13,7 @@ const LONG_TEXT: &str = "Lorem ipsum dolor sit amet, consectetur adipisicing eli
 /// long.
 const LONG_HEADERS: &[u8] = &[0xf8, 0x40, 0xf8, 0x3e, 0xf8, 0x3c, 0xf8, 0x3a, 0xf8, 0x38];
 
-/// Begins so many lists of one item, one inside the other.
+/// Begins lists of one item, one inside the other.
 fn begin_singles(s: &mut RlpStream, lists: usize) -> Result<(), AllocError> {
     for _ in 0..lists {
         s.begin_list(1)?;
@@ -126,7 +126,7 @@ fn finalizes_unbounded_lists(rt: HostRuntime) -> Result<(), Fail> {
     Ok(())
 }
 
-/// Whether so many bytes are finished, and they begin with these.
+/// Whether the finished bytes have this length and begin with these.
 fn is_long(s: RlpStream, len: usize, header: [u8; 3]) -> bool {
     match finished(s) {
         Some(bytes) => bytes.len() == len && begins_with(bytes.as_slice(), header),

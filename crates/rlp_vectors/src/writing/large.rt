@@ -135,7 +135,7 @@ fn lists_of_many_items(rt: HostRuntime) -> Result<(), Fail> {
 /// How many numbers 7 a list has, and its header.
 const NUMBERS: (usize, &[u8]) = (65_537, &[0xfa, 0x01, 0x00, 0x01]);
 
-/// Whether the list of so many numbers of one byte is written with its header, by a stream and
+/// Whether a long list of numbers of one byte is written with its header, by a stream and
 /// alone.
 fn numbers_are_listed(alloc: Global) -> Result<bool, AllocError> {
     let (len, header) = NUMBERS;

@@ -63,7 +63,7 @@ fn stream_over(alloc: Global, front: &[u8]) -> Result<RlpStream, AllocError> {
     Ok(RlpStream::new_with_buffer(alloc, buffer))
 }
 
-/// Opens so many lists. Two items are put into the innermost.
+/// Opens a number of lists. Two items are put into the innermost.
 fn open_lists(s: &mut RlpStream, lists: usize, awaited: Awaited) -> Result<(), AllocError> {
     for list in 0..lists {
         let outer = list + 1 < lists;

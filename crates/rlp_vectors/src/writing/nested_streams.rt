@@ -58,7 +58,7 @@ const NESTED: [Nested; 13] = [
     ),
 ];
 
-/// Some bytes, and so many bytes 00 after them.
+/// Some bytes, and then bytes 00.
 fn with_zeros(alloc: Global, front: &[u8], zeros: usize) -> Result<Vec<u8>, AllocError> {
     let mut bytes = Vec::from_slice(alloc, front)?;
     let zeros = vec![in alloc; 0u8; zeros]?;

@@ -16,7 +16,7 @@ const STRETCHES: [(usize, usize); 6] = [
     (69_998, 70_001),
 ];
 
-/// Whether a string of so many bytes 00 is appended, with its header before it.
+/// Whether a string of bytes 00 is appended, with its header before it.
 fn is_appended(alloc: Global, len: usize) -> Result<bool, AllocError> {
     let zeros = vec![in alloc; 0u8; len]?;
     let mut want = Vec::new(alloc);
