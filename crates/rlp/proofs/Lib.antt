@@ -1,19 +1,12 @@
--- canonical bytes
-pub mod Canonical
--- reading values, options and lists
+-- Lemmas, in folders as the definitions that they are about. A function's invariants and answers stand in a folder of its own name.
+
+-- what a view of bytes answers
+pub mod Views
+-- values, and which bytes give them
 pub mod Values
-pub mod Options
-pub mod ListValues
-pub mod ListReadings
-pub mod Decoding
--- items split off, and fields in order
-pub mod SplitOff
-pub mod InOrder
--- strict reading
-pub mod ViewKinds
-pub mod StrictDecoding
 -- the items that calls describe
-pub mod Descriptions
--- for authors of types, passed on from `rlp_streams`
+pub mod Streams
+-- for authors of types: a type that is read from one string, and what is passed on from `rlp_streams`
+pub mod OneString
 pub mod Growth
 pub mod Filling

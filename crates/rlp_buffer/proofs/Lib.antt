@@ -1,8 +1,4 @@
-pub mod Written
-pub mod States
-pub mod Awaits
-pub mod MovedBytes
-pub mod Closings
-pub mod FlatBuffer
-pub mod ClosedSize
-pub mod Rooms
+-- Lemmas, in folders as the definitions that they are about. A function's invariants and answers stand in a folder of its own name.
+
+-- streams: their states, and what each call makes of one
+pub mod Streams

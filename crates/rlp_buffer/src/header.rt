@@ -43,7 +43,7 @@ impl HeaderBytes {
 
 /// The header of a string of `len` bytes, where the base is [`STRING`], or of a list with a payload
 /// of `len` bytes, where it is [`LIST`].
-#[tactic(auto, using(crate::proofs::Written::written))]
+#[tactic(auto, using(crate::proofs::Streams::Written::written))]
 pub fn header(base: u8, len: usize) -> HeaderBytes
     requires { base ≤ 0xc0 }
     ensures { result ≡ written_header base len }
@@ -64,7 +64,7 @@ pub fn header(base: u8, len: usize) -> HeaderBytes
 }
 
 /// Length in bytes of the header of a list, for the length of its payload.
-#[tactic(auto, using(crate::proofs::Written::written))]
+#[tactic(auto, using(crate::proofs::Streams::Written::written))]
 pub fn list_header_len(len: usize) -> usize
     ensures value { result ≡ length (written_header 0xc0 len) }
     ensures some { 0 < result }

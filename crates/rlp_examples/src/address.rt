@@ -37,7 +37,7 @@ impl Decodable for Address {
 
     ghost may_lack_memory = { address.may_lack };
 
-    #[tactic(auto, using(rlp::proofs::Values::one_string))]
+    #[tactic(auto, using(rlp::proofs::OneString::one_string))]
     fn decode(_alloc: Global, rlp: &Rlp<'_>) -> Result<Address, DecoderError> {
         match rlp.decoder().decode_value(address_of) {
             Ok(address) => Ok(address),

@@ -42,7 +42,7 @@ impl Decodable for Child {
 
     ghost may_lack_memory = { child.may_lack };
 
-    #[tactic(auto, using(rlp::proofs::Values::one_string))]
+    #[tactic(auto, using(rlp::proofs::OneString::one_string))]
     fn decode(_alloc: Global, rlp: &Rlp<'_>) -> Result<Child, DecoderError> {
         match rlp.decoder().decode_value(child_of) {
             Ok(child) => Ok(child),

@@ -37,7 +37,7 @@ impl Decodable for Hash {
 
     ghost may_lack_memory = { hash.may_lack };
 
-    #[tactic(auto, using(rlp::proofs::Values::one_string))]
+    #[tactic(auto, using(rlp::proofs::OneString::one_string))]
     fn decode(_alloc: Global, rlp: &Rlp<'_>) -> Result<Hash, DecoderError> {
         match rlp.decoder().decode_value(hash_of) {
             Ok(hash) => Ok(hash),

@@ -42,7 +42,7 @@ impl Decodable for Recipient {
 
     ghost may_lack_memory = { recipient.may_lack };
 
-    #[tactic(auto, using(rlp::proofs::Values::one_string))]
+    #[tactic(auto, using(rlp::proofs::OneString::one_string))]
     fn decode(_alloc: Global, rlp: &Rlp<'_>) -> Result<Recipient, DecoderError> {
         match rlp.decoder().decode_value(recipient_of) {
             Ok(recipient) => Ok(recipient),

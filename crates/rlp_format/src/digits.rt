@@ -23,7 +23,7 @@ pub fn number_of(digits: &[u8]) -> usize
 
 /// The number that up to sixteen digits write: that of the first ones, moved up by eight places, and
 /// that of the last eight.
-#[tactic(auto, using(crate::proofs::DigitBytes::halves))]
+#[tactic(auto, using(crate::proofs::Format::DigitBytes::halves))]
 pub fn wide_number_of(digits: &[u8]) -> u128
     requires { length digits.now ≤ 16 }
     ensures { result ≡ number_from_digits 256 digits.now }
@@ -54,7 +54,7 @@ impl Model for Digits {
 
 impl Digits {
     /// The digits of a number of eight bytes.
-    #[tactic(auto, using(crate::proofs::DigitBytes::leading))]
+    #[tactic(auto, using(crate::proofs::Format::DigitBytes::leading))]
     pub fn of(number: u64) -> Digits
         ensures { result ≡ big_endian number }
     {
@@ -67,7 +67,7 @@ impl Digits {
     }
 
     /// The digits of a number of sixteen bytes.
-    #[tactic(auto, using(crate::proofs::DigitBytes::leading))]
+    #[tactic(auto, using(crate::proofs::Format::DigitBytes::leading))]
     pub fn of_wide(number: u128) -> Digits
         ensures { result ≡ big_endian number }
     {
@@ -86,7 +86,7 @@ impl Digits {
 }
 
 /// How many of a number's eight bytes are zeros in front of its digits.
-#[tactic(auto, using(crate::proofs::DigitBytes::leading))]
+#[tactic(auto, using(crate::proofs::Format::DigitBytes::leading))]
 pub fn leading_zero_bytes(number: u64) -> usize
     ensures digits { drop result (to_be_bytes w64 number) ≡ big_endian number }
     ensures len { result + length (big_endian number) ≡ 8 }

@@ -94,7 +94,7 @@ fn framing_of(bytes: &[u8]) -> Result<PayloadInfo, DecoderError>
 }
 
 /// The item that the bytes are and nothing else, or their strict fault.
-#[tactic(auto, using(crate::proofs::Fronts::strict_fronts))]
+#[tactic(auto, using(crate::proofs::Views::Fronts::strict_fronts))]
 pub fn whole_framed<'a>(bytes: &'a [u8]) -> Result<Framed<'a>, DecoderError>
     ensures fault { MatchResult result (λ _. strict_fault bytes.now ≡ None)
         (λ e. strict_fault bytes.now ≡ Some e) }
@@ -114,7 +114,7 @@ pub fn whole_framed<'a>(bytes: &'a [u8]) -> Result<Framed<'a>, DecoderError>
 }
 
 /// Whether bytes follow the framed item at the front of these.
-#[tactic(auto, using(crate::proofs::Fronts::strict_fronts))]
+#[tactic(auto, using(crate::proofs::Views::Fronts::strict_fronts))]
 pub fn is_followed(bytes: &[u8]) -> bool
     ensures { result ≡ is_followed bytes.now }
 {

@@ -116,7 +116,7 @@ pub fn count_items(payload: &[u8]) -> usize
 
 /// The number of items of a payload that is items and nothing else, or the fault of what follows
 /// them.
-pub fn check_items(payload: &[u8]) -> Result<usize, DecoderError>
+pub fn try_count_items(payload: &[u8]) -> Result<usize, DecoderError>
     ensures fault { MatchResult result (λ _. fault_of_some (after_items payload.now) ≡ None)
         (λ e. fault_of_some (after_items payload.now) ≡ Some e) }
     ensures count { IfOk result (λ n. n ≡ length (split payload.now)) }

@@ -1,6 +1,4 @@
-pub mod Growth
-pub mod Layouts
-pub mod Opened
-pub mod Listed
-pub mod Filling
-pub mod Retained
+-- Lemmas, in folders as the definitions that they are about. A function's invariants and answers stand in a folder of its own name.
+
+-- streams: their states, and what each call makes of one
+pub mod Streams

@@ -311,7 +311,7 @@ impl RlpStream {
 
     /// Closes the innermost open list, which must be unbounded, as [`RlpStream::can_finalize`]
     /// tests, and counts it in the list around it. The closed size stays.
-    #[tactic(auto, using(rlp_buffer::proofs::States::size_kept))]
+    #[tactic(auto, using(rlp_buffer::proofs::Streams::States::size_kept))]
     pub fn finalize_unbounded_list(&mut self) -> Result<(), AllocError>
         requires { IsTrue (is_admitted finalize_unbounded_list self.old.state) }
         ensures ok { OnOk result (self.new.state ≡ effect finalize_unbounded_list self.old.state) }

@@ -212,8 +212,6 @@ fn held(alloc: Global, stream: RlpStream) -> Result<Built, BuildFault>
 /// it counts, each of depth at most 256. So the finished bytes are the front and the canonical
 /// encodings of the items that the calls describe.
 ///
-/// # Errors
-///
 /// Fails at the first call that isn't admitted, with its place from 1: `TooManyItems` or else
 /// `RawNotItems` at a `Raw`, `NothingToFinish` at a `Finish`. Fails with `OutOfMemory` where memory
 /// is refused, or a value's own `rlp_append` says so; then some call was admitted that takes memory,

@@ -84,11 +84,7 @@ impl<T> Noted<T> {
 }
 
 impl<R: Read> Noted<R> {
-    /// Reads once.
-    ///
-    /// # Errors
-    ///
-    /// The reader's own, after which it counts as failed.
+    /// Reads once. Returns the reader's own error, and then counts the reader as failed.
     pub fn read(&mut self, buf: &mut [u8]) -> io::Result<usize>
         ensures bound { ReadsAtMost result buf.new }
         ensures bytes { ReadConsumes (R.remaining self.old.inner)
@@ -109,10 +105,8 @@ impl<W: Write> Noted<W> {
     /// Writes once, and answers how many bytes were taken. Where it takes any, it counts as not
     /// flushed.
     ///
-    /// # Errors
-    ///
-    /// The writer's own, after which it counts as failed, as it does where it takes none of one or
-    /// more bytes.
+    /// Returns the writer's own error, and then counts the writer as failed. A writer that takes none
+    /// of one or more bytes counts as failed too.
     pub fn write(&mut self, buf: &[u8]) -> io::Result<usize>
         ensures bound { WritesAtMost result buf.now }
         ensures bytes { WriteAppends (W.contents self.old.inner)
@@ -141,9 +135,7 @@ impl<W: Write> Noted<W> {
 
     /// Flushes, after which it counts as flushed.
     ///
-    /// # Errors
-    ///
-    /// The writer's own, after which it counts as failed.
+    /// Returns the writer's own error, and then counts the writer as failed.
     pub fn flush(&mut self) -> io::Result<()>
         ensures bytes { Keeps (W.contents self.old.inner) (W.contents self.new.inner) }
         ensures ok { OnOk result (self.new.failed ≡ self.old.failed) }

@@ -173,8 +173,6 @@ pub(crate) fn read_script<E: FromDigits>(
 /// `Value` of the bytes, `r:N:HEX` is `Raw`, `l:N` is `Begin`, and `u`, `e`, `c` are
 /// `BeginUnbounded`, `Finish`, `Clear`.
 ///
-/// # Errors
-///
 /// Fails with `Syntax` at the first piece that is no call, with its place from 1. Fails with
 /// `OutOfMemory` where memory is refused for a call; then the first piece is a call.
 ///

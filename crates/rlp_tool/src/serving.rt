@@ -136,10 +136,9 @@ fn finish<W: Write>(
 
 /// Answers each line of the input, up to its end.
 ///
-/// # Errors
-///
-/// The fault that stopped it. What was written by then is whole answers, but for `Write`; after
-/// `Memory` they are those of exactly the lines before one that hadn't ended before the last read.
+/// Fails with the fault that stopped it. Only whole answers were written by then, except after
+/// `Write`. After `Memory` they are the answers to exactly the lines before one that hadn't ended
+/// before the last read.
 pub fn run<R: Read, W: Write>(
     alloc: Global,
     input: &mut Noted<R>,

@@ -18,7 +18,7 @@ impl<T: Decodable> Decodable for Option<T> {
 
     ghost may_lack_memory = { λ v. MayLackAsOption T.may_lack_memory v };
 
-    #[tactic(auto, using(crate::proofs::Options::option_answers))]
+    #[tactic(auto, using(crate::proofs::Values::Options::option_answers))]
     fn decode(alloc: Global, rlp: &Rlp<'_>) -> Result<Option<T>, DecoderError> {
         rlp.check_items()?;
         let mut items = rlp.iter();

@@ -62,7 +62,7 @@ impl<'a> Rlp<'a> {
     }
 
     /// The same, of a list of `len` items. Another number of them is `RlpIncorrectListLen`.
-    #[tactic(auto, using(crate::proofs::InOrder::counted_fields))]
+    #[tactic(auto, using(crate::proofs::Views::InOrder::counted_fields))]
     pub fn fields_of(&self, len: usize) -> Result<Fields<'a>, DecoderError>
         ensures read { IfOk result (λ f. f ≡ record { view = self.now; place = 0 }) }
         ensures count { OnOk result (item_count self.now ≡ Ok len) }
@@ -122,7 +122,7 @@ impl<'a> Fields<'a> {
     }
 
     /// The value of the next item, as [`Rlp::val_at`] reads it.
-    #[tactic(auto, using(crate::proofs::ListValues::some_given))]
+    #[tactic(auto, using(crate::proofs::Values::ListValues::some_given))]
     pub fn next_value<T: Decodable>(&mut self, alloc: Global) -> Result<T, DecoderError>
         ensures exact { MatchResult (item_at self.old.view self.old.place)
             (λ item. ReadsValue T.gives T.faults T.may_lack_memory item result)

@@ -82,7 +82,7 @@ impl<'a, 'view> ExactSizeIterator for RlpIterator<'a, 'view> {
 
 impl<'a, 'view> RlpIterator<'a, 'view> {
     /// The iterator over the items of a view. Over anything but a framed list it has ended.
-    #[tactic(auto, unfolding(rlp_format::specs::Format::Split::items), using(rlp_format::proofs::Splits::splits))]
+    #[tactic(auto, unfolding(rlp_format::specs::Format::Split::items), using(rlp_format::proofs::Format::Splits::splits))]
     pub(crate) fn over(view: &'view Rlp<'a>) -> RlpIterator<'a, 'view>
         ensures items { result.left ≡ item_views view.now }
         ensures few { length result.left < 2 ^ 64 }
@@ -100,7 +100,7 @@ impl<'a, 'view> RlpIterator<'a, 'view> {
     }
 
     /// How many items are still to come.
-    #[tactic(auto, using(rlp_format::proofs::Splits::splits))]
+    #[tactic(auto, using(rlp_format::proofs::Format::Splits::splits))]
     fn count_left(&self) -> usize
         ensures { result ≡ length self.now.left }
     {

@@ -17,7 +17,7 @@ use rlp_format::depth::is_nested_within;
 use rlp_format::error::DecoderError;
 use rlp_format::framed::{Framed, first_framed, whole_framed};
 use rlp_format::header::PayloadInfo;
-use rlp_format::items::{ItemReader, check_items};
+use rlp_format::items::{ItemReader, try_count_items};
 use std::alloc::Global;
 use std::marker::Model;
 
@@ -313,7 +313,7 @@ impl<'a> Rlp<'a> {
     /// The value of the item at `index`, counted from 0: [`Rlp::at`], and then [`Rlp::as_val`].
     ///
     /// The faults are those of the two.
-    #[tactic(auto, using(crate::proofs::ListValues::some_given))]
+    #[tactic(auto, using(crate::proofs::Values::ListValues::some_given))]
     pub fn val_at<T: Decodable>(&self, alloc: Global, index: usize) -> Result<T, DecoderError>
         ensures exact { MatchResult (item_at self.now index)
             (λ item. ReadsValue T.gives T.faults T.may_lack_memory item result)
@@ -445,7 +445,7 @@ impl<'a> Rlp<'a> {
     }
 
     /// The number of items of a list that is all of the bytes, by one walk over it.
-    #[tactic(auto, using(rlp_format::proofs::StrictLists::list_checks), unfolding(rlp_format::specs::Format::Split::items))]
+    #[tactic(auto, using(rlp_format::proofs::Format::StrictLists::list_checks), unfolding(rlp_format::specs::Format::Split::items))]
     fn strict_count(&self) -> Result<usize, DecoderError>
         ensures fault { MatchResult result (λ _. strict_list_fault self.now.bytes ≡ None)
             (λ e. strict_list_fault self.now.bytes ≡ Some e) }
@@ -455,13 +455,13 @@ impl<'a> Rlp<'a> {
             return Err(DecoderError::RlpExpectedToBeList);
         }
         match whole_framed(self.bytes) {
-            Ok(list) => check_items(list.content),
+            Ok(list) => try_count_items(list.content),
             Err(fault) => Err(fault),
         }
     }
 
     /// Tests whether the view is read as a list.
-    #[tactic(auto, using(rlp_format::proofs::StrictLists::list_checks))]
+    #[tactic(auto, using(rlp_format::proofs::Format::StrictLists::list_checks))]
     pub(crate) fn check_list(&self) -> Result<(), DecoderError>
         ensures { MatchResult result (λ _. list_fault self.now ≡ None)
             (λ e. list_fault self.now ≡ Some e) }
@@ -476,7 +476,7 @@ impl<'a> Rlp<'a> {
     }
 
     /// Tests whether items are told by number.
-    #[tactic(auto, using(rlp_format::proofs::StrictLists::items_checks))]
+    #[tactic(auto, using(rlp_format::proofs::Format::StrictLists::items_checks))]
     pub(crate) fn check_items(&self) -> Result<(), DecoderError>
         ensures { MatchResult result (λ _. items_fault self.now ≡ None)
             (λ e. items_fault self.now ≡ Some e) }

@@ -23,7 +23,7 @@ fn is_low_byte(value: &[u8]) -> bool
 
 /// Writes the encoding of a string at the end of a buffer, after room was made for all of it: the
 /// header, which is computed before, and then the string by one copy.
-#[tactic(auto, using(crate::proofs::Written::written))]
+#[tactic(auto, using(crate::proofs::Streams::Written::written))]
 pub fn write_string(buffer: &mut Buffer, value: &[u8]) -> Result<(), AllocError>
     ensures ok { OnOk result
         (buffer.new.items ≡ buffer.old.items ++ encoding (string value.now)) }
@@ -46,7 +46,7 @@ pub fn write_string(buffer: &mut Buffer, value: &[u8]) -> Result<(), AllocError>
 }
 
 /// The same for a string that has a header of one byte.
-#[tactic(auto, using(crate::proofs::Written::written))]
+#[tactic(auto, using(crate::proofs::Streams::Written::written))]
 fn write_short(buffer: &mut Buffer, value: &[u8]) -> Result<(), AllocError>
     requires short { length value.now ≤ 55 }
     requires headed { is_low_byte value.now ≡ false }
@@ -140,6 +140,5 @@ fn write_parts_of<I: IntoIterator<Item = u8>>(
 {
     let start = buffer.len();
     write_bytes_of(buffer, value)?;
-    write_header_before(buffer, start)?;
-    Ok(())
+    write_header_before(buffer, start)
 }

@@ -15,7 +15,7 @@ impl Encodable for BytesMut {
 
     ghost at_once = { λ _. ⊤ };
 
-    #[tactic(auto, using(crate::proofs::Growth::growth))]
+    #[tactic(auto, using(crate::proofs::Streams::Growth::growth))]
     fn rlp_append(&self, s: &mut RlpStream) -> Result<(), AllocError> {
         s.encoder().encode_value(self.as_slice())
     }

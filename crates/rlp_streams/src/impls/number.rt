@@ -63,7 +63,7 @@ impl Encodable for u64 {
 
     ghost at_once = { λ _. ⊤ };
 
-    #[tactic(auto, using(crate::proofs::Growth::growth))]
+    #[tactic(auto, using(crate::proofs::Streams::Growth::growth))]
     fn rlp_append(&self, s: &mut RlpStream) -> Result<(), AllocError> {
         s.encoder().encode_value(Digits::of(*self).as_slice())
     }
@@ -94,7 +94,7 @@ impl Encodable for u128 {
 
     ghost at_once = { λ _. ⊤ };
 
-    #[tactic(auto, using(crate::proofs::Growth::growth))]
+    #[tactic(auto, using(crate::proofs::Streams::Growth::growth))]
     fn rlp_append(&self, s: &mut RlpStream) -> Result<(), AllocError> {
         s.encoder().encode_value(Digits::of_wide(*self).as_slice())
     }

@@ -14,7 +14,7 @@ impl<T: Encodable> Encodable for Option<T> {
 
     ghost at_once = { λ o. IsNone o };
 
-    #[tactic(auto, using(crate::proofs::Growth::growth))]
+    #[tactic(auto, using(crate::proofs::Streams::Growth::growth))]
     fn rlp_append(&self, s: &mut RlpStream) -> Result<(), AllocError> {
         match self {
             None => {

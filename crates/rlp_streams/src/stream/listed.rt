@@ -18,7 +18,7 @@ impl<E: Encodable> Encodable for Listed<'_, E> {
 
     ghost at_once = { λ v. v.0.now ≡ [] };
 
-    #[tactic(auto, using(crate::proofs::Growth::growth))]
+    #[tactic(auto, using(crate::proofs::Streams::Growth::growth))]
     fn rlp_append(&self, s: &mut RlpStream) -> Result<(), AllocError> {
         let values = self.0;
         s.begin_list(values.len())?;

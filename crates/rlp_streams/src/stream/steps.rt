@@ -38,7 +38,7 @@ impl RlpStream {
 
     /// Whether the closed size with these bytes put is at most the limit. It is summed up, list by
     /// list, only where a bound on it is too much.
-    #[tactic(auto, using(rlp_buffer::proofs::States::within_size))]
+    #[tactic(auto, using(rlp_buffer::proofs::Streams::States::within_size))]
     pub(super) fn is_within_size(&self, bytes: &[u8], limit: usize) -> bool
         ensures { result ≡ is_within_size bytes.now limit self.now.state }
     {
@@ -63,8 +63,7 @@ impl RlpStream {
         ensures moved { self.new.moved ≡ self.old.moved }
         ensures retains { Retains self.old self.new }
     {
-        write_string(&mut self.buffer, value)?;
-        Ok(())
+        write_string(&mut self.buffer, value)
     }
 
     /// Puts the encoding of the string that an iterator gives.
@@ -81,8 +80,7 @@ impl RlpStream {
         ensures moved { self.new.moved ≡ self.old.moved }
         ensures retains { Retains self.old self.new }
     {
-        write_string_of(&mut self.buffer, value)?;
-        Ok(())
+        write_string_of(&mut self.buffer, value)
     }
 
     /// Opens a list. It awaits the given number of items, or is unbounded.
@@ -108,7 +106,7 @@ impl RlpStream {
     }
 
     /// Opens a list that awaits `len` items, or writes that of no items.
-    #[tactic(auto, using(crate::proofs::Opened::opened), unfolding(rlp_buffer::specs::Streams::Stream::Retains))]
+    #[tactic(auto, using(crate::proofs::Streams::Opened::opened), unfolding(rlp_buffer::specs::Streams::Stream::Retains))]
     pub(super) fn try_begin(&mut self, len: usize) -> Result<(), AllocError>
         ensures ok { OnOk result (self.new.state ≡ with_list_of len self.old.state) }
         ensures refused { OnErr result (IsAsBefore self.old self.new) }
@@ -188,7 +186,7 @@ impl RlpStream {
     }
 
     /// Puts a value and counts it, where the mark is false. What is refused may leave more.
-    #[tactic(auto, using(crate::proofs::Growth::grows_unmarked), unfolding(rlp_buffer::specs::Streams::Stream::Retains))]
+    #[tactic(auto, using(crate::proofs::Streams::Growth::grows_unmarked), unfolding(rlp_buffer::specs::Streams::Stream::Retains))]
     fn put_value<E: Encodable>(&mut self, value: &E) -> Result<(), AllocError>
         requires { self.old.state.mark ≡ false }
         ensures fits { OnOk result (E.fits value.now) }
@@ -207,7 +205,7 @@ impl RlpStream {
 
     /// Puts the string that an iterator gives and counts it, where the mark is false. What is
     /// refused may leave more.
-    #[tactic(auto, using(crate::proofs::Growth::growth), unfolding(rlp_buffer::specs::Streams::Stream::Retains))]
+    #[tactic(auto, using(crate::proofs::Streams::Growth::growth), unfolding(rlp_buffer::specs::Streams::Stream::Retains))]
     fn put_iter<I: IntoIterator<Item = u8>>(&mut self, value: I) -> Result<(), AllocError>
         requires unmarked { self.old.state.mark ≡ false }
         requires ends { IsFiniteIterable I.into_iter_gives I.IntoIter.can_next I.IntoIter.remaining value }
@@ -218,8 +216,7 @@ impl RlpStream {
         ensures retains { Retains self.old self.new }
     {
         self.put_string_of(value)?;
-        self.try_count(1)?;
-        Ok(())
+        self.try_count(1)
     }
 
     /// The place at which the stream stands.

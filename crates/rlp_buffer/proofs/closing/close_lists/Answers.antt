@@ -1,5 +1,5 @@
 use Rattle.std.proofs.Common.{◌≡◌, ◌+◌, ◌-◌, length, reverse, suc, sym, ◌∙◌, arith}
-use Rattle.rlp_buffer.proofs.Closings.{closes_all, closes_more, closes_fits, closes_popped, dropped_popped, left_popped, moved_within, moved_more, header_some}
+use Rattle.rlp_buffer.proofs.Streams.Closings.{closes_all, closes_more, closes_fits, closes_popped, dropped_popped, left_popped, moved_within, moved_more, header_some}
 use Rattle.rlp_buffer.proofs.closing.close_lists.Goals as goal
 
 pub write_list_header-to-requires-clause-room : goal.write_list_header-to-requires-clause-room

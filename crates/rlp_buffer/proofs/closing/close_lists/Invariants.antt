@@ -1,6 +1,6 @@
 use Rattle.std.proofs.Common.{◌≡◌, ◌+◌, ◌-◌, ◌≤◌, [], length, take, drop, reverse, vec_capacity}
 use Rattle.rlp_buffer.specs.Streams.Closing.{closed_bytes, growth, left_of}
-use Rattle.rlp_buffer.proofs.Closings.{Closes}
+use Rattle.rlp_buffer.proofs.Streams.Closings.{Closes}
 use Rattle.rlp_buffer.proofs.closing.close_lists.Given as goal
 
 abbrev pub invariant-loop-left : goal.invariant-loop-left

@@ -1,5 +1,5 @@
 use Rattle.std.proofs.Common.{arith}
-use Rattle.rlp_buffer.proofs.ClosedSize.{measured_popped, measured_long, measured_encoded}
+use Rattle.rlp_buffer.proofs.Streams.ClosedSize.{measured_popped, measured_long, measured_encoded}
 use Rattle.rlp_buffer.proofs.closing.closed_len.Goals as goal
 
 pub returns-in_default-checked_add : goal.returns-in_default-checked_add

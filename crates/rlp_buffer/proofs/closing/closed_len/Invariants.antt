@@ -1,5 +1,5 @@
 use Rattle.std.proofs.Common.{length, reverse}
-use Rattle.rlp_buffer.proofs.ClosedSize.{Measured}
+use Rattle.rlp_buffer.proofs.Streams.ClosedSize.{Measured}
 use Rattle.rlp_buffer.proofs.closing.closed_len.Given as goal
 
 abbrev pub invariant-loop-list : goal.invariant-loop-list

@@ -1,5 +1,5 @@
 use Rattle.std.proofs.Common.{length, reverse}
-use Rattle.rlp_buffer.proofs.Closings.{Planned}
+use Rattle.rlp_buffer.proofs.Streams.Closings.{Planned}
 use Rattle.rlp_buffer.proofs.closing.plan_count.Given as goal
 
 abbrev pub invariant-loop-list : goal.invariant-loop-list

@@ -3,7 +3,7 @@ use Rattle.std.proofs.lemmas.List.{length-take-le}
 use Rattle.rlp_buffer.specs.Streams.Stack.{awaits_after}
 use Rattle.rlp_buffer.specs.Streams.Closing.{filled, growth, closed_bytes}
 use Rattle.rlp_buffer.specs.Streams.Placeholders.{with_innermost}
-use Rattle.rlp_buffer.proofs.Closings.{descends_le, counted_is, length-closed_bytes}
+use Rattle.rlp_buffer.proofs.Streams.Closings.{descends_le, counted_is, length-closed_bytes}
 use Rattle.rlp_buffer.proofs.closing.put_closing.Goals as goal
 
 pub plan_count-plan-requires-clause-order : goal.plan_count-plan-requires-clause-order

@@ -1,7 +1,7 @@
 use Rattle.std.proofs.Common.{ℕ, Option, Some, refl, arith, ap, sym, ◌∙◌}
 use Rattle.rlp_buffer.specs.declared.open_lists.Placeholder.{Placeholder}
 use Rattle.rlp_buffer.specs.Streams.Stack.{awaits_after}
-use Rattle.rlp_buffer.proofs.Closings.{set_last}
+use Rattle.rlp_buffer.proofs.Streams.Closings.{set_last}
 use Rattle.rlp_buffer.proofs.open_lists.count_innermost.Goals as goal
 
 pub returns-in-Some-awaits-clause-lists : goal.returns-in-Some-awaits-clause-lists

@@ -1,5 +1,5 @@
 use Rattle.std.proofs.Common.{refl, arith}
-use Rattle.rlp_buffer.proofs.Closings.{set_last}
+use Rattle.rlp_buffer.proofs.Streams.Closings.{set_last}
 use Rattle.rlp_buffer.proofs.open_lists.set_innermost.Goals as goal
 
 pub returns-in-Some-clause-lists : goal.returns-in-Some-clause-lists

@@ -1,7 +1,7 @@
 use Rattle.std.proofs.Common.{◌<◌, ◌++◌, ◌∙◌, ap, ◌∷◌, [], ◌-◌, sym, arith, rules}
 use Rattle.rlp_format.specs.Format.Split.{items, split}
 use Rattle.rlp_format.specs.Views.Depth.{depth}
-use Rattle.rlp_format.proofs.Printing.{depth-string, shallow-other, deep-list, deep-item, shallow-list, greatest-more, items-list, done-next, done-more, done-all}
+use Rattle.rlp_format.proofs.Views.Printing.{depth-string, shallow-other, deep-list, deep-item, shallow-list, greatest-more, items-list, done-next, done-more, done-all}
 use Rattle.rlp_format.proofs.depth.+is_nested_within.Goals as goal
 
 pub returns-then-not-is_list : goal.returns-then-not-is_list

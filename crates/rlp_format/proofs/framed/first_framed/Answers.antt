@@ -1,8 +1,8 @@
 use Rattle.std.proofs.Common.{sym}
 use Rattle.rlp_format.specs.Lemmas.Reading.{bytes_held}
 use Rattle.rlp_format.specs.Lemmas.Frames.{split_framed, split_unframed}
-use Rattle.rlp_format.proofs.Fronts.{front_frame, front_frame_fault, front_item, front_ends, front_item_value, front_value, front_value_fault}
-use Rattle.rlp_format.proofs.Places.{fault-err}
+use Rattle.rlp_format.proofs.Views.Fronts.{front_frame, front_frame_fault, front_item, front_ends, front_item_value, front_value, front_value_fault}
+use Rattle.rlp_format.proofs.Views.ItemPlaces.{fault-err}
 use Rattle.rlp_format.proofs.framed.first_framed.Goals as goal
 
 pub returns-in-Err-clause-frame : goal.returns-in-Err-clause-frame

@@ -1,6 +1,6 @@
 use Rattle.std.proofs.Common.{◌<◌, ◌^◌, length, arith}
 use Rattle.rlp_format.specs.Lemmas.Encodings.{front_sized}
-use Rattle.rlp_format.proofs.Depths.{depth_of_item}
+use Rattle.rlp_format.proofs.Views.Depths.{depth_of_item}
 use Rattle.rlp_format.proofs.laws.encoding_has_its_depth.Goals as goal
 
 pub returns : goal.returns

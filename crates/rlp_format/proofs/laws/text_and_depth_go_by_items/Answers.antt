@@ -1,4 +1,4 @@
-use Rattle.rlp_format.proofs.Texts.{text_is, depth_is}
+use Rattle.rlp_format.proofs.Views.Texts.{text_is, depth_is}
 use Rattle.rlp_format.proofs.laws.text_and_depth_go_by_items.Goals as goal
 
 pub returns : goal.returns

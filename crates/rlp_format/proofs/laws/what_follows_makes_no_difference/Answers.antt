@@ -1,4 +1,4 @@
-use Rattle.rlp_format.proofs.Following.{framing-followed, value-followed, items-followed, text-followed, depth-followed}
+use Rattle.rlp_format.proofs.Format.Following.{framing-followed, value-followed, items-followed, text-followed, depth-followed}
 use Rattle.rlp_format.proofs.laws.what_follows_makes_no_difference.Goals as goal
 
 pub returns : goal.returns

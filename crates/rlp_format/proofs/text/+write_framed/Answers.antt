@@ -1,7 +1,7 @@
 use Rattle.std.proofs.Common.{◌<◌, ◌++◌, ◌∙◌, ap, ◌∷◌, [], length, sym, rules, refl}
 use Rattle.std.proofs.Output.{has_written_styled_append, has_written_styled_of_eq}
 use Rattle.rlp_format.specs.Format.Split.{items, split}
-use Rattle.rlp_format.proofs.Printing.{length-framed, text-string, text-list, texts-more, separator_after-more, item-shorter, items-list, done-next, done-more, done-all}
+use Rattle.rlp_format.proofs.Views.Printing.{length-framed, text-string, text-list, texts-more, separator_after-more, item-shorter, items-list, done-next, done-more, done-all}
 use Rattle.rlp_format.proofs.text.+write_framed.Goals as goal
 
 pub returns-then-not-is_list : goal.returns-then-not-is_list

@@ -2,7 +2,7 @@ use Rattle.std.proofs.Common.{◌≡◌, ◌++◌, length, map, List, ℕ}
 use Rattle.std.specs.Fmt.{HasWrittenStyled, IsFlush}
 use Rattle.rlp_format.specs.Format.Split.{items, split}
 use Rattle.rlp_format.specs.Views.Text.{text, separated}
-use Rattle.rlp_format.proofs.Printing.{separator_after}
+use Rattle.rlp_format.proofs.Views.Printing.{separator_after}
 use Rattle.rlp_format.proofs.text.+write_framed.Given as goal
 
 abbrev pub decreases-write_framed : goal.decreases-write_framed

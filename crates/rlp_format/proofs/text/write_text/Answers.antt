@@ -1,8 +1,8 @@
 use Rattle.std.proofs.Common.{ap, refl, sym, ◌∙◌}
 use Rattle.std.proofs.Output.{has_written_styled_of_eq}
 use Rattle.rlp_format.specs.Views.Text.{text}
-use Rattle.rlp_format.proofs.Following.{text-followed}
-use Rattle.rlp_format.proofs.Printing.{length-some, text-null, text-fault}
+use Rattle.rlp_format.proofs.Format.Following.{text-followed}
+use Rattle.rlp_format.proofs.Views.Printing.{length-some, text-null, text-fault}
 use Rattle.rlp_format.proofs.text.write_text.Goals as goal
 
 pub returns-then-is_null : goal.returns-then-is_null

@@ -1,4 +1,4 @@
-use Rattle.rlp_buffer.proofs.States.{raw_text-put, raw_text-with_list}
+use Rattle.rlp_buffer.proofs.Streams.States.{raw_text-put, raw_text-with_list}
 use Rattle.rlp_streams.proofs.laws.bytes_go_to_the_end.Goals as goal
 
 pub returns : goal.returns

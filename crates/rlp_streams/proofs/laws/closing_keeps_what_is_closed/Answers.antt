@@ -1,5 +1,5 @@
 use Rattle.std.proofs.Common.{ap, length}
-use Rattle.rlp_buffer.proofs.States.{closed_text-shut, closed_text-count}
+use Rattle.rlp_buffer.proofs.Streams.States.{closed_text-shut, closed_text-count}
 use Rattle.rlp_streams.proofs.laws.closing_keeps_what_is_closed.Goals as goal
 
 pub returns : goal.returns

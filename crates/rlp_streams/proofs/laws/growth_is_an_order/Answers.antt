@@ -1,5 +1,5 @@
 use Rattle.std.proofs.Common.{refl}
-use Rattle.rlp_streams.proofs.Growth.{grows_same, grows_trans}
+use Rattle.rlp_streams.proofs.Streams.Growth.{grows_same, grows_trans}
 use Rattle.rlp_streams.proofs.laws.growth_is_an_order.Goals as goal
 
 pub returns : goal.returns

@@ -1,6 +1,6 @@
 use Rattle.std.proofs.Common.{refl}
 use Rattle.rlp_buffer.specs.Streams.Stream.{put, with_list}
-use Rattle.rlp_streams.proofs.Growth.{grows_put, grows_with_list}
+use Rattle.rlp_streams.proofs.Streams.Growth.{grows_put, grows_with_list}
 use Rattle.rlp_streams.proofs.laws.growth_of_moves.Goals as goal
 
 pub returns : goal.returns

@@ -1,5 +1,5 @@
 use Rattle.std.proofs.Common.{arith}
-use Rattle.rlp.proofs.Descriptions.{described_buffer, described_buffer_only, same_buffer, same_items}
+use Rattle.rlp.proofs.Streams.Descriptions.{described_buffer, described_buffer_only, same_buffer, same_items}
 use Rattle.rlp.proofs.laws.described.finished_buffers_tell_items.Goals as goal
 
 pub returns : goal.returns

@@ -1,5 +1,5 @@
 use Rattle.std.proofs.Common.{IsTrue}
-use Rattle.rlp.proofs.Descriptions.{described_joins, described_finishes, described_once, steps_anyhow, items_anyhow}
+use Rattle.rlp.proofs.Streams.Descriptions.{described_joins, described_finishes, described_once, steps_anyhow, items_anyhow}
 use Rattle.rlp.proofs.laws.described.stream_joins_what_is_described.Goals as goal
 
 pub returns : goal.returns

@@ -2,7 +2,7 @@ use Rattle.std.proofs.Common.{◌<◌, ◌^◌, length, arith}
 use Rattle.rlp_format.specs.Views.View.{view_of}
 use Rattle.rlp.specs.Lemmas.OneReading.{number_reading}
 use Rattle.rlp_format.specs.Lemmas.Reading.{bytes_held}
-use Rattle.rlp.proofs.ListReadings.{bool_reading}
+use Rattle.rlp.proofs.Values.ListReadings.{bool_reading}
 use Rattle.rlp.proofs.laws.reading.bool_is_read.Goals as goal
 
 pub returns : goal.returns

@@ -1,7 +1,7 @@
 use Rattle.std.proofs.Common.{◌<◌, ◌^◌, length, arith}
 use Rattle.rlp_format.specs.Views.View.{view_of}
 use Rattle.rlp_format.specs.Lemmas.Reading.{bytes_held}
-use Rattle.rlp.proofs.ListReadings.{option_reading}
+use Rattle.rlp.proofs.Values.ListReadings.{option_reading}
 use Rattle.rlp.proofs.laws.reading.option_is_read.Goals as goal
 
 pub returns : goal.returns

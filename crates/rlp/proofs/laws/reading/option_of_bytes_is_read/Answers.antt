@@ -4,7 +4,7 @@ use Rattle.rlp.specs.Values.ValueReading.{GivesBytes, FaultsAsBytes}
 use Rattle.rlp_format.specs.Views.View.{view_of}
 use Rattle.rlp.specs.Lemmas.OneReading.{bytes_reading}
 use Rattle.rlp_format.specs.Lemmas.Reading.{bytes_held}
-use Rattle.rlp.proofs.ListReadings.{option_reading}
+use Rattle.rlp.proofs.Values.ListReadings.{option_reading}
 use Rattle.rlp.proofs.laws.reading.option_of_bytes_is_read.Goals as goal
 
 pub returns : goal.returns

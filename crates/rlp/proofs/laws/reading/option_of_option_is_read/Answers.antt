@@ -3,7 +3,7 @@ use Rattle.rlp_format.specs.Values.Value.{option_item}
 use Rattle.rlp.specs.Values.ListReading.{GivesOption, FaultsAsOption}
 use Rattle.rlp_format.specs.Views.View.{view_of}
 use Rattle.rlp_format.specs.Lemmas.Reading.{bytes_held}
-use Rattle.rlp.proofs.ListReadings.{option_reading}
+use Rattle.rlp.proofs.Values.ListReadings.{option_reading}
 use Rattle.rlp.proofs.laws.reading.option_of_option_is_read.Goals as goal
 
 pub returns : goal.returns

@@ -5,7 +5,7 @@ use Rattle.rlp.specs.Values.ValueReading.{GivesBool, FaultsAsBool, GivesNumber, 
 use Rattle.rlp_format.specs.Views.View.{view_of}
 use Rattle.rlp.specs.Lemmas.OneReading.{number_reading, text_reading}
 use Rattle.rlp_format.specs.Lemmas.Reading.{bytes_held}
-use Rattle.rlp.proofs.ListReadings.{bool_reading, option_reading}
+use Rattle.rlp.proofs.Values.ListReadings.{bool_reading, option_reading}
 use Rattle.rlp.proofs.laws.reading.options_are_read.Goals as goal
 
 pub returns : goal.returns

@@ -1,5 +1,5 @@
 use Rattle.std.proofs.Common.{refl}
-use Rattle.rlp.proofs.ViewKinds.{lenient_count, lenient_place}
+use Rattle.rlp.proofs.Views.ViewKinds.{lenient_count, lenient_place}
 use Rattle.rlp.proofs.laws.strict.lenient_views_ignore_what_follows.Goals as goal
 
 pub returns : goal.returns

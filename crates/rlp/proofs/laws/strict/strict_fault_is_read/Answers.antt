@@ -1,6 +1,6 @@
 use Rattle.std.proofs.Common.{◌<◌, ◌^◌, length, arith}
 use Rattle.rlp_format.specs.Lemmas.Reading.{bytes_held}
-use Rattle.rlp.proofs.ViewKinds.{strict_canonical, strict_followed, strict_unframed, strict_whole}
+use Rattle.rlp.proofs.Views.ViewKinds.{strict_canonical, strict_followed, strict_unframed, strict_whole}
 use Rattle.rlp.proofs.laws.strict.strict_fault_is_read.Goals as goal
 
 pub returns : goal.returns

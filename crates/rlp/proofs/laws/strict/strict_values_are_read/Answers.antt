@@ -2,7 +2,7 @@ use Rattle.std.proofs.Common.{◌<◌, ◌^◌, length, arith}
 use Rattle.rlp_format.specs.Views.View.{strict_view_of}
 use Rattle.rlp_format.specs.Lemmas.Reading.{bytes_held}
 use Rattle.rlp.specs.Lemmas.OneReading.{bytes_reading, number_reading, text_reading}
-use Rattle.rlp.proofs.ListReadings.{bool_reading}
+use Rattle.rlp.proofs.Values.ListReadings.{bool_reading}
 use Rattle.rlp.proofs.laws.strict.strict_values_are_read.Goals as goal
 
 pub returns : goal.returns

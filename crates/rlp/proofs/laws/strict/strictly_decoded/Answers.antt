@@ -1,6 +1,6 @@
 use Rattle.std.proofs.Common.{◌<◌, ◌^◌, length, arith}
 use Rattle.rlp_format.specs.Lemmas.Reading.{bytes_held}
-use Rattle.rlp.proofs.StrictDecoding.{strict_alike, strict_memory, strict_only}
+use Rattle.rlp.proofs.Values.StrictDecoding.{strict_alike, strict_memory, strict_only}
 use Rattle.rlp.proofs.laws.strict.strictly_decoded.Goals as goal
 
 pub returns-clause-only : goal.returns-clause-only

@@ -1,5 +1,5 @@
 use Rattle.std.proofs.Common.{◌≡◌, ◌<◌, ◌^◌, length, arith, true, false}
-use Rattle.rlp.proofs.SplitOff.{split_end, split_off}
+use Rattle.rlp.proofs.Views.SplitOff.{split_end, split_off}
 use Rattle.rlp.proofs.laws.views.joined_items_are_split_off.Goals as goal
 
 pub returns-then-strict-clause-next : goal.returns-then-strict-clause-next

@@ -1,5 +1,5 @@
 use Rattle.std.proofs.Common.{◌∙◌, arith}
-use Rattle.rlp_buffer.proofs.Written.{inserted}
+use Rattle.rlp_buffer.proofs.Streams.Written.{inserted}
 use Rattle.rlp_buffer.proofs.buffer.moving.insert.Goals as goal
 
 pub returns : goal.returns

@@ -1,5 +1,5 @@
 use Rattle.std.proofs.Common.{◌-◌}
-use Rattle.rlp_buffer.proofs.MovedBytes.{Brought}
+use Rattle.rlp_buffer.proofs.Streams.MovedBytes.{Brought}
 use Rattle.rlp_buffer.proofs.buffer.moving.move_up.Given as goal
 
 abbrev pub invariant-bytes : goal.invariant-bytes

@@ -1,7 +1,7 @@
 use Rattle.std.proofs.Common.{◌≡◌, false, length, drop, ap, sym, ◌∙◌}
 use Rattle.rlp_format.specs.Format.WrittenHeader.{written_header}
 use Rattle.rlp_format.specs.Format.Encoding.{is_low_byte}
-use Rattle.rlp_buffer.proofs.Written.{header_inserted, header_none, rest_from}
+use Rattle.rlp_buffer.proofs.Streams.Written.{header_inserted, header_none, rest_from}
 use Rattle.rlp_buffer.proofs.buffer.strings.write_header_before.Goals as goal
 
 pub returns-then-is_low_byte-clause-ok : goal.returns-then-is_low_byte-clause-ok

@@ -1,6 +1,6 @@
 use Rattle.std.proofs.Common.{rules, ◌+◌, ◌++◌, ◌∷◌, [], length, sym, ap, ◌∙◌}
 use Rattle.rlp_format.specs.Lemmas.Headers.{written_header_short}
-use Rattle.rlp_buffer.proofs.Written.{encoding_length, header_and_string}
+use Rattle.rlp_buffer.proofs.Streams.Written.{encoding_length, header_and_string}
 use Rattle.rlp_buffer.proofs.buffer.strings.write_short.Goals as goal
 
 pub returns-in_err-reserve-clause-room : goal.returns-in_err-reserve-clause-room

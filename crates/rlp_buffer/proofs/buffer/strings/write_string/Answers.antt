@@ -1,5 +1,5 @@
 use Rattle.std.proofs.Common.{rules, sym, ◌∙◌}
-use Rattle.rlp_buffer.proofs.Written.{encoding_length}
+use Rattle.rlp_buffer.proofs.Streams.Written.{encoding_length}
 use Rattle.rlp_buffer.proofs.buffer.strings.write_string.Goals as goal
 
 pub returns-in_err-reserve-clause-room : goal.returns-in_err-reserve-clause-room

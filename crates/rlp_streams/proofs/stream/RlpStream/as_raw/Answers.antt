@@ -1,5 +1,5 @@
 use Rattle.std.proofs.Common.{◌∙◌, reverse}
-use Rattle.rlp_buffer.proofs.FlatBuffer.{raw_state}
+use Rattle.rlp_buffer.proofs.Streams.FlatBuffer.{raw_state}
 use Rattle.rlp_streams.proofs.stream.RlpStream.as_raw.Goals as goal
 
 pub returns : goal.returns

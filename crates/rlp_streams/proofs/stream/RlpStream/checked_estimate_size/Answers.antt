@@ -1,7 +1,7 @@
 use Rattle.std.proofs.Common.{reverse, sym, ap, ◌∙◌, refl}
 use Rattle.rlp_buffer.specs.Streams.Stream.{Seen, closed_size_with}
-use Rattle.rlp_buffer.proofs.FlatBuffer.{laid_descends}
-use Rattle.rlp_buffer.proofs.ClosedSize.{lowest_start, closed_size_is}
+use Rattle.rlp_buffer.proofs.Streams.FlatBuffer.{laid_descends}
+use Rattle.rlp_buffer.proofs.Streams.ClosedSize.{lowest_start, closed_size_is}
 use Rattle.rlp_streams.proofs.stream.RlpStream.checked_estimate_size.Goals as goal
 
 pub closed_len-requires-clause-order : goal.closed_len-requires-clause-order

@@ -1,8 +1,8 @@
 use Rattle.std.proofs.Common.{◌≤◌, length, take, reverse, arith}
 use Rattle.std.proofs.lemmas.List.{length-take-le}
-use Rattle.rlp_buffer.proofs.FlatBuffer.{start_le}
+use Rattle.rlp_buffer.proofs.Streams.FlatBuffer.{start_le}
 use Rattle.rlp_buffer.specs.Streams.Placeholders.{IsLaid}
-use Rattle.rlp_streams.proofs.Retained.{retained}
+use Rattle.rlp_streams.proofs.Streams.Retained.{retained}
 use Rattle.rlp_streams.proofs.stream.RlpStream.clear.Goals as goal
 
 pub invariant_of-self : goal.invariant_of-self

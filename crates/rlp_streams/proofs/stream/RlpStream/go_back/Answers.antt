@@ -1,8 +1,8 @@
 use Rattle.std.proofs.Common.{ap, arith}
 use Rattle.rlp_buffer.specs.Streams.Stream.{Seen}
 use Rattle.rlp_streams.specs.declared.stream.RlpStream.TheInside.{Inside}
-use Rattle.rlp_streams.proofs.Layouts.{is_back}
-use Rattle.rlp_streams.proofs.Retained.{retained}
+use Rattle.rlp_streams.proofs.Streams.Layouts.{is_back}
+use Rattle.rlp_streams.proofs.Streams.Retained.{retained}
 use Rattle.rlp_streams.proofs.stream.RlpStream.go_back.Goals as goal
 
 pub invariant_of-self : goal.invariant_of-self

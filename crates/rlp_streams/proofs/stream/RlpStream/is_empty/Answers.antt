@@ -1,7 +1,7 @@
 use Rattle.std.proofs.Common.{reverse, ap, sym, ◌∙◌, arith}
 use Rattle.std.proofs.lemmas.Bool.Decides.{nat_tests}
 use Rattle.rlp_buffer.specs.Streams.Stream.{Seen, closed_size}
-use Rattle.rlp_buffer.proofs.ClosedSize.{empty_size, front_size}
+use Rattle.rlp_buffer.proofs.Streams.ClosedSize.{empty_size, front_size}
 use Rattle.rlp_streams.proofs.stream.RlpStream.is_empty.Goals as goal
 
 pub returns : goal.returns

@@ -2,8 +2,8 @@ use Rattle.std.proofs.Common.{◌≡◌, ◌+◌, ◌-◌, ◌*◌, ◌≤◌, l
 use Rattle.std.proofs.lemmas.List.{length-reverse}
 use Rattle.std.proofs.lemmas.Bool.Decides.{nat_tests}
 use Rattle.rlp_buffer.specs.Streams.Stream.{Seen, closed_size_with}
-use Rattle.rlp_buffer.proofs.FlatBuffer.{start_le}
-use Rattle.rlp_buffer.proofs.ClosedSize.{within_few, few_within}
+use Rattle.rlp_buffer.proofs.Streams.FlatBuffer.{start_le}
+use Rattle.rlp_buffer.proofs.Streams.ClosedSize.{within_few, few_within}
 use Rattle.rlp_streams.proofs.stream.RlpStream.is_surely_within_size.Goals as goal
 
 pub overflow_sub-most : goal.overflow_sub-most

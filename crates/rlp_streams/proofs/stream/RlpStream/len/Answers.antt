@@ -2,8 +2,8 @@ use Rattle.std.proofs.Common.{◌≡◌, reverse, sym, ap, ◌∙◌, refl, Some
 use Rattle.rlp_buffer.specs.Streams.Stream.{Seen, closed_size, closed_size_with}
 use Rattle.rlp_buffer.specs.Streams.Closing.{closed_len}
 use Rattle.rlp_buffer.specs.Streams.Layout.{state_of}
-use Rattle.rlp_buffer.proofs.FlatBuffer.{laid_descends}
-use Rattle.rlp_buffer.proofs.ClosedSize.{lowest_start, closed_size_is, closed_size_none, found_len}
+use Rattle.rlp_buffer.proofs.Streams.FlatBuffer.{laid_descends}
+use Rattle.rlp_buffer.proofs.Streams.ClosedSize.{lowest_start, closed_size_is, closed_size_none, found_len}
 use Rattle.rlp_streams.proofs.stream.RlpStream.len.Goals as goal
 
 pub closed_len-requires-clause-order : goal.closed_len-requires-clause-order

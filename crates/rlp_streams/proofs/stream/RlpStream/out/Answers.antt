@@ -1,7 +1,7 @@
 use Rattle.std.proofs.Common.{reverse, ap, ◌∙◌, length}
 use Rattle.rlp_buffer.specs.Streams.Stream.{Seen}
-use Rattle.rlp_buffer.proofs.Rooms.{finished_bytes}
-use Rattle.rlp_buffer.proofs.States.{out_size}
+use Rattle.rlp_buffer.proofs.Streams.Rooms.{finished_bytes}
+use Rattle.rlp_buffer.proofs.Streams.States.{out_size}
 use Rattle.rlp_streams.proofs.stream.RlpStream.out.Goals as goal
 
 pub returns-clause-bytes : goal.returns-clause-bytes

@@ -2,8 +2,8 @@ use Rattle.std.proofs.Common.{reverse, ap, sym}
 use Rattle.rlp_format.specs.Format.Item.{string}
 use Rattle.rlp_format.specs.Format.Encoding.{encoding}
 use Rattle.rlp_buffer.specs.Streams.Stream.{Seen}
-use Rattle.rlp_buffer.proofs.Rooms.{short_to_put}
-use Rattle.rlp_buffer.proofs.FlatBuffer.{state_put}
+use Rattle.rlp_buffer.proofs.Streams.Rooms.{short_to_put}
+use Rattle.rlp_buffer.proofs.Streams.FlatBuffer.{state_put}
 use Rattle.rlp_streams.proofs.stream.RlpStream.put_string.Goals as goal
 
 pub returns-clause-ok : goal.returns-clause-ok

@@ -1,5 +1,5 @@
 use Rattle.std.proofs.Common.{reverse}
-use Rattle.rlp_buffer.proofs.FlatBuffer.{state_put}
+use Rattle.rlp_buffer.proofs.Streams.FlatBuffer.{state_put}
 use Rattle.rlp_streams.proofs.stream.RlpStream.put_string_of.Goals as goal
 
 pub returns-clause-ok : goal.returns-clause-ok

@@ -1,4 +1,4 @@
-use Rattle.rlp_buffer.proofs.Rooms.{room_to_put}
+use Rattle.rlp_buffer.proofs.Streams.Rooms.{room_to_put}
 use Rattle.rlp_streams.proofs.stream.RlpStream.put_value.Goals as goal
 
 pub returns-in_err-rlp_append-clause-room : goal.returns-in_err-rlp_append-clause-room

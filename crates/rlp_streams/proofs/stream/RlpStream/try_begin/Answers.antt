@@ -1,4 +1,4 @@
-use Rattle.rlp_streams.proofs.Opened.{room_for_none}
+use Rattle.rlp_streams.proofs.Streams.Opened.{room_for_none}
 use Rattle.rlp_streams.proofs.stream.RlpStream.try_begin.Goals as goal
 
 pub returns-in_err-try_put_counted-clause-room_at_once : goal.returns-in_err-try_put_counted-clause-room_at_once

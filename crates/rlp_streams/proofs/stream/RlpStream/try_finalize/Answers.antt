@@ -1,10 +1,10 @@
 use Rattle.std.proofs.Common.{true, IsTrue, reverse, ap, sym, ◌∙◌, append-nil, subst, arith, rules}
 use Rattle.rlp_buffer.specs.Streams.Stack.{is_unbounded}
 use Rattle.rlp_buffer.specs.Streams.Stream.{Seen, shut, count, with_mark}
-use Rattle.rlp_buffer.proofs.FlatBuffer.{laid_descends, laid_counted, laid_last, with_last, state_finalized, moved_counted}
+use Rattle.rlp_buffer.proofs.Streams.FlatBuffer.{laid_descends, laid_counted, laid_last, with_last, state_finalized, moved_counted}
 use Rattle.rlp_buffer.specs.Streams.Placeholders.{IsLaid}
-use Rattle.rlp_buffer.proofs.Rooms.{short_to_finalize}
-use Rattle.rlp_streams.proofs.Retained.{retained}
+use Rattle.rlp_buffer.proofs.Streams.Rooms.{short_to_finalize}
+use Rattle.rlp_streams.proofs.Streams.Retained.{retained}
 use Rattle.rlp_streams.proofs.stream.RlpStream.try_finalize.Goals as goal
 
 pub put_counted-requires : goal.put_counted-requires

@@ -1,7 +1,7 @@
 use Rattle.std.proofs.Common.{◌∙◌, ap, reverse}
 use Rattle.rlp_buffer.specs.Streams.Stream.{Seen, with_list}
-use Rattle.rlp_buffer.proofs.Closings.{reverse_push}
-use Rattle.rlp_buffer.proofs.FlatBuffer.{state_opened}
+use Rattle.rlp_buffer.proofs.Streams.Closings.{reverse_push}
+use Rattle.rlp_buffer.proofs.Streams.FlatBuffer.{state_opened}
 use Rattle.rlp_streams.proofs.stream.RlpStream.try_open.Goals as goal
 
 pub returns-in-Ok-clause-ok : goal.returns-in-Ok-clause-ok

@@ -2,9 +2,9 @@ use Rattle.std.proofs.Common.{◌++◌, ◌<◌, length, reverse, ap, sym, ◌�
 use Rattle.std.proofs.lemmas.List.{length-reverse}
 use Rattle.rlp_buffer.specs.Streams.Stream.{Seen, put, count}
 use Rattle.rlp_buffer.specs.Streams.Placeholders.{IsLaid}
-use Rattle.rlp_buffer.proofs.FlatBuffer.{laid_descends, laid_append, laid_counted, mark_open, not_empty, state_put_counted, moved_counted}
-use Rattle.rlp_buffer.proofs.Rooms.{short_to_count}
-use Rattle.rlp_streams.proofs.Retained.{retained}
+use Rattle.rlp_buffer.proofs.Streams.FlatBuffer.{laid_descends, laid_append, laid_counted, mark_open, not_empty, state_put_counted, moved_counted}
+use Rattle.rlp_buffer.proofs.Streams.Rooms.{short_to_count}
+use Rattle.rlp_streams.proofs.Streams.Retained.{retained}
 use Rattle.rlp_streams.proofs.stream.RlpStream.try_put_counted.Goals as goal
 
 pub put_counted-requires : goal.put_counted-requires

@@ -1,5 +1,5 @@
 use Rattle.std.proofs.Common.{rules}
-use Rattle.rlp.proofs.Values.{bytes_faults_from}
+use Rattle.rlp.proofs.OneString.{bytes_faults_from}
 use Rattle.rlp.proofs.impls.byte_string.VecU8Decodable.decode.Goals as goal
 
 pub returns-clause-fault : goal.returns-clause-fault

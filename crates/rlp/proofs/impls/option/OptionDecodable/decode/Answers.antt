@@ -1,5 +1,5 @@
 use Rattle.std.proofs.Common.{inl}
-use Rattle.rlp.proofs.Options.{faulty_many, faulty_one, gives_one}
+use Rattle.rlp.proofs.Values.Options.{faulty_many, faulty_one, gives_one}
 use Rattle.rlp.proofs.impls.option.OptionDecodable.decode.Goals as goal
 
 pub returns-in-Some-next-clause-fault : goal.returns-in-Some-next-clause-fault

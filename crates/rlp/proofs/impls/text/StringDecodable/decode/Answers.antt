@@ -1,6 +1,6 @@
 use Rattle.std.proofs.Common.{rules, IsUtf8}
 use Rattle.rlp.specs.Values.ValueReading.{IsTextFault}
-use Rattle.rlp.proofs.Values.{faults_from}
+use Rattle.rlp.proofs.OneString.{faults_from}
 use Rattle.rlp.proofs.impls.text.StringDecodable.decode.Goals as goal
 
 pub returns-clause-fault : goal.returns-clause-fault

@@ -1,6 +1,6 @@
 use Rattle.std.proofs.Common.{ap, sym, ◌∙◌}
 use Rattle.rlp_format.specs.Format.Split.{split}
-use Rattle.rlp.proofs.InOrder.{all_counted, more_counted}
+use Rattle.rlp.proofs.Views.InOrder.{all_counted, more_counted}
 use Rattle.rlp.proofs.rlpin.fields.Fields.finish.Goals as goal
 
 pub returns-in-Ok-clause-fault : goal.returns-in-Ok-clause-fault

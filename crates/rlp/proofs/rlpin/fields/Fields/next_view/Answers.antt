@@ -1,4 +1,4 @@
-use Rattle.rlp.proofs.InOrder.{next_missing, next_place, next_there}
+use Rattle.rlp.proofs.Views.InOrder.{next_missing, next_place, next_there}
 use Rattle.rlp.proofs.rlpin.fields.Fields.next_view.Goals as goal
 
 pub invariant_of-self : goal.invariant_of-self

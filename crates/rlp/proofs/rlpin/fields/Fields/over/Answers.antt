@@ -1,7 +1,7 @@
 use Rattle.std.proofs.Common.{ap, refl, sym, ◌∙◌}
 use Rattle.rlp_format.specs.Format.Framing.{framing, value}
 use Rattle.rlp_format.specs.Format.Split.{split}
-use Rattle.rlp.proofs.InOrder.{framed_place, unframed_place}
+use Rattle.rlp.proofs.Views.InOrder.{framed_place, unframed_place}
 use Rattle.rlp.proofs.rlpin.fields.Fields.over.Goals as goal
 
 pub before-requires : goal.before-requires

@@ -4,8 +4,8 @@ use Rattle.rlp_format.specs.Format.Encoding.{encoding}
 use Rattle.rlp_format.specs.Format.Framing.{IsFramedItem, value}
 use Rattle.rlp_format.specs.Format.Strict.{IsCanonicalWithin, strict_fault}
 use Rattle.rlp_format.specs.Views.View.{View}
-use Rattle.rlp_format.proofs.StrictLists.{no_bytes, some_bytes, value-payload}
-use Rattle.rlp.proofs.Canonical.{confirmed, done_all, done_none, done_one, not_true, not_whole, refuted, stray_bytes, stray_item, string_canonical, too_deep}
+use Rattle.rlp_format.proofs.Format.StrictLists.{no_bytes, some_bytes, value-payload}
+use Rattle.rlp.proofs.Views.Canonical.{confirmed, done_all, done_none, done_one, not_true, not_whole, refuted, stray_bytes, stray_item, string_canonical, too_deep}
 use Rattle.rlp.proofs.rlpin.rlp.Rlp.+is_canonical.Goals as goal
 
 pub returns-then-not-is_list : goal.returns-then-not-is_list

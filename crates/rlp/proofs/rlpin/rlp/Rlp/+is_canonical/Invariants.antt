@@ -1,5 +1,5 @@
 use Rattle.std.proofs.Common.{◌-◌, length}
-use Rattle.rlp.proofs.Canonical.{IsDone}
+use Rattle.rlp.proofs.Views.Canonical.{IsDone}
 use Rattle.rlp.proofs.rlpin.rlp.Rlp.+is_canonical.Given as goal
 
 abbrev pub decreases-is_canonical : goal.decreases-is_canonical

@@ -2,7 +2,7 @@ use Rattle.std.proofs.Common.{sym, subst, refl, inl, inr}
 use Rattle.std.proofs.lemmas.Result.{err_from_is_err_and}
 use Rattle.rlp.specs.Values.ListReading.{GivesEach, not_list}
 use Rattle.rlp_format.specs.Views.View.{item_views}
-use Rattle.rlp.proofs.ListValues.{views-next, views-more, views-all, gives-more, faults-first, no-room}
+use Rattle.rlp.proofs.Values.ListValues.{views-next, views-more, views-all, gives-more, faults-first, no-room}
 use Rattle.rlp.proofs.rlpin.rlp.Rlp.as_list.Goals as goal
 
 pub loop-item-init : goal.loop-item-init

@@ -4,8 +4,8 @@ use Rattle.rlp_format.specs.Format.Framing.{framing, value}
 use Rattle.rlp_format.specs.Format.Split.{payload}
 use Rattle.rlp_format.specs.Views.View.{View}
 use Rattle.rlp_format.specs.Lemmas.Numbered.{told_begins}
-use Rattle.rlp_format.proofs.Places.{IsWalked, walked-none, walked-one, walked-item, walked-past, walked-length, not_framed_item, not_told_item}
-use Rattle.rlp_format.proofs.StrictLists.{value-payload}
+use Rattle.rlp_format.proofs.Views.ItemPlaces.{IsWalked, walked-none, walked-one, walked-item, walked-past, walked-length, not_framed_item, not_told_item}
+use Rattle.rlp_format.proofs.Format.StrictLists.{value-payload}
 use Rattle.rlp.proofs.rlpin.rlp.Rlp.at_with_offset.Goals as goal
 
 pub returns-in_err-check_items : goal.returns-in_err-check_items

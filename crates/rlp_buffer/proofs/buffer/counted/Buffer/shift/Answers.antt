@@ -1,5 +1,5 @@
 use Rattle.std.proofs.Common.{arith}
-use Rattle.rlp_buffer.proofs.Closings.{shifted_none}
+use Rattle.rlp_buffer.proofs.Streams.Closings.{shifted_none}
 use Rattle.rlp_buffer.proofs.buffer.counted.Buffer.shift.Goals as goal
 
 pub returns-else-from-to-clause-items : goal.returns-else-from-to-clause-items

@@ -2,7 +2,7 @@ use Rattle.std.proofs.Common.{◌≡◌, [], ◌∷◌, ap, sym, ◌∙◌, rule
 use Rattle.rlp_format.specs.Format.Item.{list_of}
 use Rattle.rlp_buffer.specs.Streams.Stream.{add, put_item}
 use Rattle.rlp_format.specs.Values.Value.{option_item}
-use Rattle.rlp_streams.proofs.Listed.{list_filled}
+use Rattle.rlp_streams.proofs.Streams.Listed.{list_filled}
 use Rattle.rlp_streams.proofs.impls.option.OptionEncodable.rlp_append.Goals as goal
 
 pub returns-in_ok-s-in-Some-clause-ok : goal.returns-in_ok-s-in-Some-clause-ok

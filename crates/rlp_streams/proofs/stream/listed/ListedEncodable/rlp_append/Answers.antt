@@ -5,8 +5,8 @@ use Rattle.std.proofs.lemmas.List.{map_more, take_all, length-map, length-take-l
 use Rattle.rlp_format.specs.Format.Item.{Item}
 use Rattle.rlp_buffer.specs.Streams.Stream.{State, add, add_all}
 use Rattle.rlp_buffer.specs.Streams.Calls.{with_list_of}
-use Rattle.rlp_buffer.proofs.Rooms.{retains_trans}
-use Rattle.rlp_streams.proofs.Filling.{add_all-push, grows_filling, filled_list}
+use Rattle.rlp_buffer.proofs.Streams.Rooms.{retains_trans}
+use Rattle.rlp_streams.proofs.Streams.Filling.{add_all-push, grows_filling, filled_list}
 use Rattle.rlp_streams.proofs.stream.listed.ListedEncodable.rlp_append.Goals as goal
 
 on_err : {T E : Type 0} (r : Result T E) (P : Type 0) → P → OnErr r P

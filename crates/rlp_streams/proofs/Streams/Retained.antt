@@ -4,7 +4,7 @@ use Rattle.std.proofs.lemmas.List.{length-reverse}
 use Rattle.rlp_buffer.specs.Streams.Held.{Keeps}
 use Rattle.rlp_buffer.specs.Streams.Stream.{Seen, Retains}
 use Rattle.rlp_buffer.specs.Streams.Placeholders.{IsLaid}
-use Rattle.rlp_buffer.proofs.Rooms.{retains_laid}
+use Rattle.rlp_buffer.proofs.Streams.Rooms.{retains_laid}
 use Rattle.rlp_streams.specs.declared.stream.RlpStream.TheInside.{Inside}
 use Rattle.rlp_streams.specs.contracts.stream.RlpStream.{the_view}
 

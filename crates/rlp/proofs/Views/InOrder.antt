@@ -10,9 +10,9 @@ use Rattle.rlp_format.specs.declared.error.DecoderError.TheVariants.{RlpIncorrec
 use Rattle.rlp.specs.Values.FieldPlace.{IsAtPlace}
 use Rattle.rlp.specs.Values.ListReading.{FaultsAsFields, no_fields, other_count}
 use Rattle.rlp_format.specs.Lemmas.Numbered.{Numbered, item_at-past, item_at-unframed, item_count-fault, item_count-told, item_there, no_item, not_told, numbered, payload-fault, told_begins}
-use Rattle.rlp_format.proofs.Places.{fault-err, get_or-drop}
-use Rattle.rlp_format.proofs.Splits.{drop-inside, drop-next, split-nil}
-use Rattle.rlp_format.proofs.StrictLists.{after_items-next, after_items-none, rest-after, value-items, value-payload}
+use Rattle.rlp_format.proofs.Views.ItemPlaces.{fault-err, get_or-drop}
+use Rattle.rlp_format.proofs.Format.Splits.{drop-inside, drop-next, split-nil}
+use Rattle.rlp_format.proofs.Format.StrictLists.{after_items-next, after_items-none, rest-after, value-items, value-payload}
 
 -- before the first item of a framed list
 pub framed_place : (v : View) (p : PayloadInfo) (q left : List ℕ) → items_fault v ≡ None → framing v.bytes ≡ Ok p → value v.bytes ≡ Ok q → left ≡ q → IsAtPlace v 0 left

@@ -10,9 +10,9 @@ use Rattle.rlp_buffer.specs.Streams.Stream.{list_encoding, put, shut, with_list,
 use Rattle.rlp_buffer.specs.Streams.Placeholders.{begin_of, lists_of, Placed, IsLaid, Descends, with_innermost}
 use Rattle.rlp_buffer.specs.Streams.Closing.{filled, counted, closed_bytes, left_of}
 use Rattle.rlp_buffer.specs.Streams.Layout.{stack_of, state_of}
-use Rattle.rlp_buffer.proofs.States.{raw_text-put, raw_text-with_list}
-use Rattle.rlp_buffer.proofs.Awaits.{await-after}
-use Rattle.rlp_buffer.proofs.Closings.{header_some}
+use Rattle.rlp_buffer.proofs.Streams.States.{raw_text-put, raw_text-with_list}
+use Rattle.rlp_buffer.proofs.Streams.Awaits.{await-after}
+use Rattle.rlp_buffer.proofs.Streams.Closings.{header_some}
 
 -- ---- places
 

@@ -10,7 +10,7 @@ use Rattle.rlp_streams.specs.Streams.Growth.Stands.{here, within}
 use Rattle.rlp_streams.specs.Streams.Places.{IsPlaceOf}
 use Rattle.rlp_buffer.specs.Streams.Placeholders.{begin_of, lists_of, Placed, IsLaid, with_innermost, innermost_awaits}
 use Rattle.rlp_buffer.specs.Streams.Layout.{state_of}
-use Rattle.rlp_buffer.proofs.FlatBuffer.{start_le, below_front}
+use Rattle.rlp_buffer.proofs.Streams.FlatBuffer.{start_le, below_front}
 
 -- what stands left of a placeholder
 abbrev below : List ℕ → Placeholder → List ℕ

@@ -11,10 +11,10 @@ use Rattle.rlp_buffer.specs.Streams.Stream.{State, Seen, Retains, HasRoomFor, Is
 use Rattle.rlp_buffer.specs.Streams.Placeholders.{lists_of, IsLaid}
 use Rattle.rlp_buffer.specs.Streams.Closing.{filled, counted, closed_bytes, growth}
 use Rattle.rlp_buffer.specs.Streams.Layout.{state_of}
-use Rattle.rlp_buffer.proofs.Closings.{length-closed_bytes, header_some}
-use Rattle.rlp_buffer.proofs.States.{raw_text-put, raw_text-with_list}
-use Rattle.rlp_buffer.proofs.FlatBuffer.{raw_state, laid_append, laid_counted, laid_descends, laid_last, with_last, state_put_counted, state_finalized}
-use Rattle.rlp_buffer.proofs.ClosedSize.{length-lists_of}
+use Rattle.rlp_buffer.proofs.Streams.Closings.{length-closed_bytes, header_some}
+use Rattle.rlp_buffer.proofs.Streams.States.{raw_text-put, raw_text-with_list}
+use Rattle.rlp_buffer.proofs.Streams.FlatBuffer.{raw_state, laid_append, laid_counted, laid_descends, laid_last, with_last, state_put_counted, state_finalized}
+use Rattle.rlp_buffer.proofs.Streams.ClosedSize.{length-lists_of}
 
 -- a stream that stays gives nothing up
 pub retains_same : (a : Seen) → Retains a a

@@ -1,8 +1,8 @@
 use Rattle.std.proofs.Common.{◌≡◌, [], length, ap, sym, ◌∙◌, arith}
 use Rattle.rlp_format.specs.Format.Split.{split}
-use Rattle.rlp_format.proofs.Splits.{split-nil}
-use Rattle.rlp_format.proofs.StrictLists.{no_bytes}
-use Rattle.rlp_format.proofs.items.check_items.Goals as goal
+use Rattle.rlp_format.proofs.Format.Splits.{split-nil}
+use Rattle.rlp_format.proofs.Format.StrictLists.{no_bytes}
+use Rattle.rlp_format.proofs.items.try_count_items.Goals as goal
 
 pub returns-clause-count : goal.returns-clause-count
 returns-clause-count c =

@@ -11,7 +11,7 @@ use Rattle.rlp_format.specs.Lemmas.Encodings.{front_sized, items_from-listed}
 use Rattle.rlp_format.specs.Lemmas.Frames.{join_is}
 use Rattle.rlp_format.specs.Lemmas.Views.{list_shape, payload_of_list}
 use Rattle.rlp.specs.Lemmas.WholeLists.{strict_fault-encoding, strict_items, whole_by}
-use Rattle.rlp_format.proofs.Depths.{not_list}
+use Rattle.rlp_format.proofs.Views.Depths.{not_list}
 
 sized_whole : (x : Item) (b : List ℕ) → length b < 2 ^ 64 → b ≡ encoding x → IsSized x
 sized_whole x b fits is = front_sized x b [] fits (is ∙ sym (append-nil (encoding x)))

@@ -8,7 +8,7 @@ use Rattle.rlp_format.specs.Format.Header.{header}
 use Rattle.rlp_format.specs.Format.Split.{begins_as_list, items, payload, payload_in, split}
 use Rattle.rlp_format.specs.Views.Text.{error_name, hex, separated, framed_text, text}
 use Rattle.rlp_format.specs.Views.Depth.{greatest, framed_depth, depth}
-use Rattle.rlp_format.proofs.Texts.{AllWithinLength, items_short, items_nil, text_is, depth_is}
+use Rattle.rlp_format.proofs.Views.Texts.{AllWithinLength, items_short, items_nil, text_is, depth_is}
 
 -- what is written before an item, after these
 abbrev pub separator_after : List (List ℕ) → List ℕ

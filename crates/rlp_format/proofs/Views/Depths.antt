@@ -9,7 +9,7 @@ use Rattle.rlp_format.specs.Format.Split.{begins_as_list}
 use Rattle.rlp_format.specs.Views.Depth.{depth, framed_depth, greatest}
 use Rattle.rlp_format.specs.Lemmas.Headers.{shape}
 use Rattle.rlp_format.specs.Lemmas.Encodings.{AllSized, parts_sized, list_written, items_from-listed, string_cases}
-use Rattle.rlp_format.proofs.Texts.{depth_is}
+use Rattle.rlp_format.proofs.Views.Texts.{depth_is}
 use Rattle.rlp_format.specs.Lemmas.Views.{list_shape, items_of_list}
 
 greatest_from : (a : ℕ) (xs : List Item) → fold max a (map item_depth xs) ≡ max a (items_depth (items_from xs))

@@ -11,8 +11,8 @@ use Rattle.rlp_format.specs.Format.Framing.{IsFramedItem, frame, framing, map_ok
 use Rattle.rlp_format.specs.declared.error.DecoderError.TheVariants.{RlpIsTooBig}
 use Rattle.rlp_format.specs.Format.Strict.{is_followed, is_longer, strict_fault, strict_fault_in}
 use Rattle.rlp_format.specs.Lemmas.Frames.{frame_item}
-use Rattle.rlp_format.proofs.Following.{value-front}
-use Rattle.rlp_format.proofs.StrictLists.{no_bytes, some_bytes}
+use Rattle.rlp_format.proofs.Format.Following.{value-front}
+use Rattle.rlp_format.proofs.Format.StrictLists.{no_bytes, some_bytes}
 
 -- the bytes of the item
 pub front_frame : (b item : List ℕ) (p : PayloadInfo) → framing b ≡ Ok p → item ≡ take (total_len p) b → frame b ≡ Ok item

@@ -6,10 +6,10 @@ use Rattle.rlp_format.specs.Format.Encoding.{encoding, join_items}
 use Rattle.rlp_buffer.specs.Streams.Stack.{OpenList}
 use Rattle.rlp_buffer.specs.Streams.Stream.{State, add, put_item, with_list, is_list, add_all}
 use Rattle.rlp_buffer.specs.Streams.Calls.{with_list_of}
-use Rattle.rlp_buffer.proofs.Rooms.{retains_same, retains_trans}
+use Rattle.rlp_buffer.proofs.Streams.Rooms.{retains_same, retains_trans}
 use Rattle.rlp_streams.specs.Streams.Growth.{GrowsTo}
-use Rattle.rlp_streams.proofs.Listed.{list_filled, add_more, or_true}
-use Rattle.rlp_streams.proofs.Growth.{grows_same, grows_put, grows_with_list, grows_in_list, grows_trans}
+use Rattle.rlp_streams.proofs.Streams.Listed.{list_filled, add_more, or_true}
+use Rattle.rlp_streams.proofs.Streams.Growth.{grows_same, grows_put, grows_with_list, grows_in_list, grows_trans}
 
 -- all items are added, and then one more
 pub add_all-push : (xs : List Item) (x : Item) (s : State) → add_all (xs ++ x ∷ []) s ≡ add x (add_all xs s)

@@ -8,7 +8,7 @@ use Rattle.rlp_format.specs.Format.Framing.{fault, fault_in, framing, map_ok, to
 use Rattle.rlp_format.specs.Format.Split.{begins_as_list, items, payload, payload_in, rest, split}
 use Rattle.rlp_format.specs.Views.View.{View, item_with_place, items_fault}
 use Rattle.rlp_format.specs.Lemmas.Numbered.{item_with_place-fault, item_with_place-told}
-use Rattle.rlp_format.proofs.Splits.{drop-next, drop-inside}
+use Rattle.rlp_format.proofs.Format.Splits.{drop-next, drop-inside}
 
 -- the fault of bytes that have none of the headers
 pub fault-err : (b : List ℕ) (e : DecoderError) → framing b ≡ Err e → e ≡ fault b

@@ -4,7 +4,7 @@ use Rattle.rlp_format.specs.Format.Item.{Item, string, list}
 use Rattle.rlp_format.specs.Format.Encoding.{encoding}
 use Rattle.rlp_buffer.specs.Streams.Stack.{OpenList}
 use Rattle.rlp_buffer.specs.Streams.Stream.{State, put, with_list, put_item}
-pub use Rattle.rlp_buffer.proofs.Rooms.{retains_same, retains_trans}
+pub use Rattle.rlp_buffer.proofs.Streams.Rooms.{retains_same, retains_trans}
 use Rattle.rlp_streams.specs.Streams.Growth.{AreSameAround, Stands, GrowsTo}
 use Rattle.rlp_streams.specs.Streams.Growth.Stands.{here, within}
 

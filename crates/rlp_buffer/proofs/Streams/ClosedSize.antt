@@ -12,8 +12,8 @@ use Rattle.rlp_buffer.specs.Streams.Closing.{header_len, closed_len, left_of}
 use Rattle.rlp_buffer.specs.Streams.Layout.{state_of}
 use Rattle.rlp_format.specs.Lemmas.Digits.{big_endian_length}
 use Rattle.rlp_format.specs.Lemmas.Headers.{written_header_short, written_header_long}
-use Rattle.rlp_buffer.proofs.Closings.{reverse_push, header_some}
-use Rattle.rlp_buffer.proofs.FlatBuffer.{start_le}
+use Rattle.rlp_buffer.proofs.Streams.Closings.{reverse_push, header_some}
+use Rattle.rlp_buffer.proofs.Streams.FlatBuffer.{start_le}
 
 closed_len_is : (start : ℕ) (b x : List ℕ) (ps : List Placeholder) → IsLaid start b ps → length (closed_payload_around list_encoding (drop (begin_of start ps) b ++ x) (lists_of start b ps)) ≡ closed_len start (length b) (length x) ps
 closed_len_is start b x [] h = omega (arith, length-append (drop start b) x, length-drop start b)

@@ -10,7 +10,7 @@ use Rattle.rlp_format.specs.Format.Split.{begins_as_list, payload, payload_in, i
 use Rattle.rlp_format.specs.Views.Text.{text, text_by, framed_text}
 use Rattle.rlp_format.specs.Views.Depth.{depth, depth_by, framed_depth}
 use Rattle.rlp_format.specs.Lemmas.Frames.{Frames, frame_item, framing_reads, longer, framing_is, value_is, item_some}
-use Rattle.rlp_format.proofs.Texts.{text_is, depth_is}
+use Rattle.rlp_format.proofs.Views.Texts.{text_is, depth_is}
 
 -- what follows a framed item makes no difference to its header
 pub framing-followed : (f more : List ℕ) → IsFramedItem f → framing (f ++ more) ≡ framing f

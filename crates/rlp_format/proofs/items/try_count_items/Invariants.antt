@@ -1,7 +1,7 @@
 use Rattle.std.proofs.Common.{◌≡◌, ◌≤◌, ◌+◌, length}
 use Rattle.rlp_format.specs.Format.Split.{split}
 use Rattle.rlp_format.specs.Format.Strict.{after_items}
-use Rattle.rlp_format.proofs.items.check_items.Given as goal
+use Rattle.rlp_format.proofs.items.try_count_items.Given as goal
 
 -- the same follows the items of the rest, which are those that weren't counted
 abbrev pub invariant-loop-items : goal.invariant-loop-items

@@ -1,0 +1,2 @@
+-- the items that calls describe
+pub mod Descriptions

@@ -1,0 +1,8 @@
+-- canonical bytes
+pub mod Canonical
+-- lenient and strict views
+pub mod ViewKinds
+-- items taken off bytes
+pub mod SplitOff
+-- fields in order
+pub mod InOrder

@@ -1,0 +1,12 @@
+-- the first item of bytes, by its header
+pub mod Fronts
+-- where the items of a list stand
+pub mod ItemPlaces
+-- text and depth, by those of the items
+pub mod Texts
+-- text and depth of each kind of bytes
+pub mod Printing
+-- the depth of an item's bytes
+pub mod Depths
+-- hexadecimal digits
+pub mod HexDigits

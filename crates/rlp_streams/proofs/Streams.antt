@@ -1,0 +1,12 @@
+-- which states a state grows to
+pub mod Growth
+-- the way back to where a call began
+pub mod Layouts
+-- a list that is opened
+pub mod Opened
+-- values appended to a list
+pub mod Listed
+-- a list that is filled item by item
+pub mod Filling
+-- what a stream retains
+pub mod Retained
