@@ -2,6 +2,7 @@
 
 mod boolean;
 mod boxed;
+mod byte_array;
 mod byte_string;
 mod bytes_mut;
 mod bytes_shared;
