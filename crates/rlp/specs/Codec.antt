@@ -1,6 +1,8 @@
 -- Types of which a struct is made, and structs that are lists of their fields.
 use Rattle.std.specs.Prelude.{ℕ, zero, suc, ◌≡◌, ◌^◌, ◌<◌, ◌↔◌, ⊤, ◌⊎◌, All, IsUtf8, IfSome, Bool, List, [], ◌∷◌, length, map, Ok, Option, refl, ◌+◌}
+use Rattle.std.specs.Int.Digits.{number_from_digits}
 use Rattle.std.proofs.Common.{ap}
+use Rattle.rlp_streams.specs.declared.impls.uint.Uint.{Uint}
 use Rattle.rlp_format.specs.declared.error.DecoderError.{DecoderError}
 use Rattle.rlp_format.specs.Format.Item.{Item, string, list_of}
 use Rattle.rlp_format.specs.Format.Encoding.{encoding}
@@ -138,6 +140,10 @@ newtype value c = record {
   reads_back = λ b x fits fit begins. reads_back_through value (c.reads_back b (value x) fits fit begins);
   reads_strictly = λ b x bytes fits. strict_through value (c.reads_strictly b (value x) bytes fits);
 }
+
+-- numbers of n bytes, kept as these
+abbrev pub uint : (n : ℕ) → Codec (Uint n)
+uint n = newtype (λ (u : Uint n). number_from_digits 256 u.bytes) (number n)
 
 -- a type of which contracts see the values of a list
 abbrev pub list_type : {A B : Type 0} → (B → List A) → Codec A → Codec B

@@ -9,3 +9,4 @@ mod bytes_shared;
 mod number;
 mod option;
 mod text;
+mod uint;

@@ -1,4 +1,5 @@
 pub mod Growth
+pub mod Uints
 pub mod Layouts
 pub mod Opened
 pub mod Listed

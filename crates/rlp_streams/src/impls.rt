@@ -9,3 +9,6 @@ mod bytes_shared;
 mod number;
 mod option;
 mod text;
+mod uint;
+
+pub use uint::Uint;

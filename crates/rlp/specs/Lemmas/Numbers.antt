@@ -1,5 +1,5 @@
 -- A view that begins with the digits of a number gives the number.
-use Rattle.std.proofs.Common.{◌≡◌, ◌≢◌, pos_of_ne-zero, get_or, ℕ, ◌≤◌, List, [], ◌∷◌, length, Fits, w8, refl, sym, ap, subst, arith}
+use Rattle.std.proofs.Common.{◌≡◌, ◌≢◌, pos_of_ne-zero, get_or, ℕ, zero, suc, ◌≤◌, List, [], ◌∷◌, ◌++◌, length, take, replicate, Fits, w8, refl, sym, ap, subst, arith}
 use Rattle.std.specs.Int.Digits.{number_from_digits}
 use Rattle.rlp_format.specs.Format.WrittenHeader.{big_endian}
 use Rattle.rlp_format.specs.Values.Value.{FitsBytes}
@@ -37,6 +37,14 @@ pub number_fault : (width : ℕ) (v : View) (d : List ℕ) (e : DecoderError) �
 number_fault width v d e stands faulty = no_value d e stands faulty
 
 pub ruleset number_answers = (gives_number, no_string, number_fault)
+
+-- ---- digits with zeros in front of them
+
+-- zeros in front make no difference
+pub zeros_in_front : (k n : ℕ) (digits : List ℕ) → number_from_digits 256 (take k (replicate n 0) ++ digits) ≡ number_from_digits 256 digits
+zeros_in_front zero n digits = refl
+zeros_in_front (suc k) zero digits = refl
+zeros_in_front (suc k) (suc n) digits = zeros_in_front k n digits
 
 -- ---- a view that begins with a string of n bytes gives the array of them
 
