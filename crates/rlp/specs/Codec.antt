@@ -1,5 +1,5 @@
 -- Types of which a struct is made, and structs that are lists of their fields.
-use Rattle.std.specs.Prelude.{ℕ, zero, suc, ◌≡◌, ◌^◌, ◌<◌, ◌↔◌, ⊤, ◌⊎◌, All, IsUtf8, IfSome, Bool, List, [], ◌∷◌, length, map, Ok, Option, refl, ◌+◌}
+use Rattle.std.specs.Prelude.{ℕ, zero, suc, ◌≡◌, ◌^◌, ◌<◌, ◌≤◌, ◌↔◌, ⊤, ◌⊎◌, All, IsUtf8, IfSome, Bool, List, [], ◌∷◌, length, map, Ok, Option, Some, refl, ◌+◌}
 use Rattle.std.specs.Int.Digits.{number_from_digits}
 use Rattle.std.proofs.Common.{ap}
 use Rattle.rlp_streams.specs.declared.impls.uint.Uint.{Uint}
@@ -11,6 +11,9 @@ use Rattle.rlp_format.specs.Views.View.{View, HoldsItem, item_count, view_of}
 use Rattle.rlp_format.specs.Values.Value.{FitsBytes, bit, number_item, option_item}
 use Rattle.rlp.specs.Values.ValueReading.{FaultsAs, FaultsAsBool, FaultsAsBytes, FaultsAsNumber, FaultsAsText, GivesBool, GivesBytes, GivesNumber, GivesSome, GivesText, GivesValue, IsLengthFault}
 use Rattle.rlp.specs.Values.ListReading.{FaultsAsFields, FaultsAsList, FaultsAsOption, FaultsAt, FaultsInField, GivesAt, GivesList, GivesOption, GivesSomeAt, MayLackAsList, MayLackAsOption, MayLackAsStruct}
+use Rattle.std.proofs.lemmas.List.{nil_from_length}
+use Rattle.rlp.specs.Values.Tails.{FaultsAsTailed, FitsFirst, GivesFirst, MayLackAsTailed, items_first}
+use Rattle.rlp.specs.Lemmas.Tails.{any_enough, first_few, first_tail_alike, first_tail_exact, first_tail_exactly_sound, first_tail_sound, no_tail_enough, no_tail_few, one_more_enough, tailed_reads_back, tailed_strict}
 use Rattle.rlp.specs.Values.RoundTrip.{ReadsBack, ReadsStrictly}
 use Rattle.rlp.specs.Lemmas.RoundTrips.{bool_reads_back, bytes_in, number_reads_back, reads_back, reads_back_through, sound_length, text_in}
 use Rattle.rlp.specs.Lemmas.ListRoundTrips.{option_reads_back}
@@ -227,4 +230,80 @@ struct_of f = record {
   may_lack = λ v. MayLackAsStruct f.count f.some f.may_lack v;
   reads_back = struct_reads_back f.count f.Fits f.items f.gives f.some f.faults f.counted f.alike f.sound;
   reads_strictly = struct_strict f.count f.Fits f.items f.gives f.some f.faults f.counted f.exact f.exactly_sound;
+}
+
+-- ---- structs whose last fields may be missing
+
+-- The fields of a struct from some field on, of which the last ones may be missing: there are at least `least` items and at most `most`. The others are as in `Fields`.
+pub record Tailed (P : Type 0) : Type 1 where
+  pub least : ℕ
+  pub most : ℕ
+  pub Fits : P → Type 0
+  pub items : P → List Item
+  pub gives : ℕ → View → P → Type 0
+  pub some : ℕ → ℕ → View → Type 0
+  pub faults : ℕ → View → DecoderError → Type 0
+  pub may_lack : ℕ → View → Type 0
+  pub enough : (p : P) → least ≤ length (items p)
+  pub few : (p : P) → length (items p) ≤ most
+  pub alike : (i : ℕ) (view : View) (p : P) → Fits p → HoldsFrom view i (items p) → (q : P) → length (items q) ≡ length (items p) → gives i view q ↔ (Fits q × (items q ≡ items p))
+  pub sound : (i : ℕ) (view : View) (p : P) → Fits p → HoldsFrom view i (items p) → (k : ℕ) (e : DecoderError) → k < length (items p) → ¬ FaultsAt (faults k) view (i + k) e
+  pub exact : (i : ℕ) (view : View) (parts : List (List ℕ)) (p : P) → PartsFrom view i parts → length parts ≡ length (items p) → gives i view p ↔ (Fits p × (parts ≡ map encoding (items p)))
+  pub exactly_sound : (i : ℕ) (view : View) (parts : List (List ℕ)) (p : P) → PartsFrom view i parts → Fits p → parts ≡ map encoding (items p) → (k : ℕ) (e : DecoderError) → k < length (items p) → ¬ FaultsAt (faults k) view (i + k) e
+
+-- no more fields
+abbrev pub no_tail : {P : Type 0} → Tailed P
+no_tail = record {
+  least = 0;
+  most = 0;
+  Fits = λ p. ⊤;
+  items = λ p. [];
+  gives = λ i v p. ⊤;
+  some = λ k i v. ⊥;
+  faults = λ k v e. ⊥;
+  may_lack = λ k v. ⊥;
+  enough = λ p. no_tail_enough;
+  few = λ p. no_tail_enough;
+  alike = λ i view p fit holds q many. (λ g. (tt, refl), λ h. tt);
+  sound = λ i view p fit holds k e few at. no_tail_few k few;
+  exact = λ i view parts p held many. (λ g. (tt, nil_from_length parts many), λ h. tt);
+  exactly_sound = λ i view parts p held fit same k e few at. no_tail_few k few;
+}
+
+-- a field that may be missing, and then those after it are
+abbrev pub and_optional : {A P : Type 0} → (P → Option A) → Codec A → Tailed P → Tailed P
+and_optional field c more = record {
+  least = 0;
+  most = suc more.most;
+  Fits = λ p. FitsFirst c.Fits (field p) (more.Fits p) (more.items p);
+  items = λ p. items_first c.item (field p) (more.items p);
+  gives = λ i v p. GivesFirst c.gives v i (field p) (more.gives (suc i) v p) (more.items p);
+  some = by_place (λ i v. GivesSomeAt c.gives v i) more.some;
+  faults = by_place c.faults more.faults;
+  may_lack = by_place c.may_lack more.may_lack;
+  enough = λ p. any_enough (length (items_first c.item (field p) (more.items p)));
+  few = λ p. first_few c.item (field p) (more.items p) more.most (more.few p);
+  alike = λ i view p fit holds q many. first_tail_alike c.Fits c.item c.gives c.faults c.reads_back i view (field p) (field q) (more.items p) (more.items q) (more.Fits p) (more.Fits q) (more.gives (suc i) view q)
+      (λ fits others same. more.alike (suc i) view p fits others q same) fit holds many;
+  sound = λ i view p fit holds. first_tail_sound c.Fits c.item c.gives c.faults c.reads_back more.faults i view (field p) (more.items p) (more.Fits p) (λ fits others. more.sound (suc i) view p fits others) fit holds;
+  exact = λ i view parts p held many. first_tail_exact c.Fits c.item c.gives c.faults c.reads_strictly i view parts (field p) (more.items p) (more.Fits p) (more.gives (suc i) view p)
+      (λ others held same. more.exact (suc i) view others p held same) held many;
+  exactly_sound = λ i view parts p held fit same. first_tail_exactly_sound c.Fits c.item c.gives c.faults c.reads_strictly more.faults i view parts (field p) (more.items p) (more.Fits p)
+      (λ others held fits same. more.exactly_sound (suc i) view others p held fits same) held fit same;
+}
+
+-- a field that is always there, before those of which the last may be missing
+abbrev pub and_always : {A P : Type 0} → (P → A) → Codec A → Tailed P → Tailed P
+and_always field c more = record (and_optional (λ p. Some (field p)) c more) { least = suc more.least; enough = λ p. one_more_enough (more.enough p) }
+
+-- a struct that is the list of its fields, of which the last may be missing
+abbrev pub tailed : {P : Type 0} → Tailed P → Codec P
+tailed t = record {
+  Fits = t.Fits;
+  item = λ p. list_of (t.items p);
+  gives = λ v p. (item_count v ≡ Ok (length (t.items p))) × t.gives 0 v p;
+  faults = λ v e. FaultsAsTailed t.least t.most t.some t.faults v e;
+  may_lack = λ v. MayLackAsTailed t.some t.may_lack v;
+  reads_back = tailed_reads_back t.least t.most t.Fits t.items t.gives t.some t.faults t.enough t.few t.alike t.sound;
+  reads_strictly = tailed_strict t.least t.most t.Fits t.items t.gives t.some t.faults t.enough t.few t.exact t.exactly_sound;
 }

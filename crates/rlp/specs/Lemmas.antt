@@ -19,3 +19,4 @@ pub mod Structs
 pub mod StrictReads
 pub mod StrictLists
 pub mod StrictStructs
+pub mod Tails

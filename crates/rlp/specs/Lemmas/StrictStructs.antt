@@ -22,13 +22,13 @@ PartsFrom view i (part ∷ parts) = (item_at view i ≡ Ok (strict_view_of part)
 -- ---- the first field, of a type whose values are read strictly
 
 module _ {A P : Type 0} (field : P → A) (Fits : A → Type 0) (item : A → Item) (gives : View → A → Type 0) (faults : View → DecoderError → Type 0) (law : AlwaysReadsStrictly Fits item gives faults) where
-  exact_at : (i : ℕ) (view : View) (part : List ℕ) (p : P) → item_at view i ≡ Ok (strict_view_of part) → AreBytes part → length part < 2 ^ 64
+  pub exact_at : (i : ℕ) (view : View) (part : List ℕ) (p : P) → item_at view i ≡ Ok (strict_view_of part) → AreBytes part → length part < 2 ^ 64
       → GivesAt gives view i (field p) ↔ (Fits (field p) × (part ≡ encoding (item (field p))))
   exact_at i view part p is bytes short =
       let one = law part (field p) bytes short in
       (λ at. one.exact.0 (subst (λ r. IsOkAnd r (λ v. gives v (field p))) is at), λ h. subst (λ r. IsOkAnd r (λ v. gives v (field p))) (sym is) (one.exact.1 h))
 
-  sound_at : (i : ℕ) (view : View) (part : List ℕ) (p : P) (j : ℕ) (e : DecoderError) → item_at view i ≡ Ok (strict_view_of part) → AreBytes part → length part < 2 ^ 64
+  pub sound_at : (i : ℕ) (view : View) (part : List ℕ) (p : P) (j : ℕ) (e : DecoderError) → item_at view i ≡ Ok (strict_view_of part) → AreBytes part → length part < 2 ^ 64
       → Fits (field p) → part ≡ encoding (item (field p)) → j ≡ i → ¬ FaultsAt faults view j e
   sound_at i view part p j e is bytes short fit whole same at =
       let there : FaultsAt faults view i e = subst (λ j. FaultsAt faults view j e) same at in
