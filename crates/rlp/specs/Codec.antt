@@ -1,19 +1,29 @@
 -- Types of which a struct is made, and structs that are lists of their fields.
-use Rattle.std.specs.Prelude.{ℕ, zero, suc, ◌≡◌, ◌^◌, ◌<◌, ◌↔◌, ⊤, ◌⊎◌, All, IsUtf8, IfSome, Bool, List, [], ◌∷◌, length, map, Ok, Option, refl, ◌+◌}
+use Rattle.std.specs.Prelude.{ℕ, zero, suc, ◌≡◌, ◌^◌, ◌<◌, ◌≤◌, ◌↔◌, ⊤, ◌⊎◌, All, IsUtf8, IfSome, Bool, List, [], ◌∷◌, length, map, Ok, Option, Some, refl, ◌+◌}
+use Rattle.std.specs.Int.Digits.{number_from_digits}
 use Rattle.std.proofs.Common.{ap}
+use Rattle.rlp_streams.specs.declared.impls.uint.Uint.{Uint}
 use Rattle.rlp_format.specs.declared.error.DecoderError.{DecoderError}
 use Rattle.rlp_format.specs.Format.Item.{Item, string, list_of}
+use Rattle.rlp_format.specs.Format.Encoding.{encoding}
+use Rattle.rlp_format.specs.Format.WrittenHeader.{AreBytes}
 use Rattle.rlp_format.specs.Views.View.{View, HoldsItem, item_count, view_of}
 use Rattle.rlp_format.specs.Values.Value.{FitsBytes, bit, number_item, option_item}
 use Rattle.rlp.specs.Values.ValueReading.{FaultsAs, FaultsAsBool, FaultsAsBytes, FaultsAsNumber, FaultsAsText, GivesBool, GivesBytes, GivesNumber, GivesSome, GivesText, GivesValue, IsLengthFault}
 use Rattle.rlp.specs.Values.ListReading.{FaultsAsFields, FaultsAsList, FaultsAsOption, FaultsAt, FaultsInField, GivesAt, GivesList, GivesOption, GivesSomeAt, MayLackAsList, MayLackAsOption, MayLackAsStruct}
-use Rattle.rlp.specs.Values.RoundTrip.{ReadsBack}
+use Rattle.std.proofs.lemmas.List.{nil_from_length}
+use Rattle.rlp.specs.Values.Tails.{FaultsAsTailed, FitsFirst, GivesFirst, MayLackAsTailed, items_first}
+use Rattle.rlp.specs.Lemmas.Tails.{any_enough, first_few, first_tail_alike, first_tail_exact, first_tail_exactly_sound, first_tail_sound, no_tail_enough, no_tail_few, one_more_enough, tailed_reads_back, tailed_strict}
+use Rattle.rlp.specs.Values.RoundTrip.{ReadsBack, ReadsStrictly}
 use Rattle.rlp.specs.Lemmas.RoundTrips.{bool_reads_back, bytes_in, number_reads_back, reads_back, reads_back_through, sound_length, text_in}
 use Rattle.rlp.specs.Lemmas.ListRoundTrips.{option_reads_back}
 use Rattle.rlp.specs.Lemmas.ValueLists.{list_reads_back}
 use Rattle.rlp.specs.Lemmas.Structs.{HoldsFrom, by_place, first_alike, first_sound, more_alike, more_sound, struct_reads_back}
+use Rattle.rlp.specs.Lemmas.StrictReads.{bool_strict, bytes_strict, number_strict, option_strict, strict_through, strings_strict, text_strict}
+use Rattle.rlp.specs.Lemmas.StrictLists.{list_strict}
+use Rattle.rlp.specs.Lemmas.StrictStructs.{PartsFrom, first_exact, first_exactly_sound, more_exact, more_exactly_sound, struct_strict}
 
--- How the values of a type are written and read: what its `Encodable`, `Decodable` and `RoundTrip` say, in one record.
+-- How the values of a type are written and read: what its `Encodable`, `Decodable`, `RoundTrip` and `StrictRead` say, in one record.
 pub record Codec (A : Type 0) : Type 1 where
   pub Fits : A → Type 0
   pub item : A → Item
@@ -21,10 +31,12 @@ pub record Codec (A : Type 0) : Type 1 where
   pub faults : View → DecoderError → Type 0
   pub may_lack : View → Type 0
   pub reads_back : (b : List ℕ) (v : A) → length b < 2 ^ 64 → Fits v → HoldsItem (view_of b) (item v) → ReadsBack Fits item gives faults (view_of b) v
+  pub reads_strictly : (b : List ℕ) (v : A) → AreBytes b → length b < 2 ^ 64 → ReadsStrictly Fits item gives faults b v
 
--- the codec of a type that has the three traits, from their members: for a type with a parameter
-abbrev pub codec_of : {A : Type 0} (Fits : A → Type 0) (item : A → Item) (gives : View → A → Type 0) (faults : View → DecoderError → Type 0) (may_lack : View → Type 0) → ((b : List ℕ) (v : A) → length b < 2 ^ 64 → Fits v → HoldsItem (view_of b) (item v) → ReadsBack Fits item gives faults (view_of b) v) → Codec A
-codec_of Fits item gives faults may_lack reads_back = record { Fits = Fits; item = item; gives = gives; faults = faults; may_lack = may_lack; reads_back = reads_back }
+-- the codec of a type that has these traits, from their members: for a type with a parameter
+abbrev pub codec_of : {A : Type 0} (Fits : A → Type 0) (item : A → Item) (gives : View → A → Type 0) (faults : View → DecoderError → Type 0) (may_lack : View → Type 0) → ((b : List ℕ) (v : A) → length b < 2 ^ 64 → Fits v → HoldsItem (view_of b) (item v) → ReadsBack Fits item gives faults (view_of b) v)
+    → ((b : List ℕ) (v : A) → AreBytes b → length b < 2 ^ 64 → ReadsStrictly Fits item gives faults b v) → Codec A
+codec_of Fits item gives faults may_lack reads_back reads_strictly = record { Fits = Fits; item = item; gives = gives; faults = faults; may_lack = may_lack; reads_back = reads_back; reads_strictly = reads_strictly }
 
 -- ---- the provided types
 
@@ -37,6 +49,7 @@ number width = record {
   faults = FaultsAsNumber width;
   may_lack = λ v. ⊥;
   reads_back = number_reads_back width;
+  reads_strictly = number_strict width;
 }
 
 -- truth values
@@ -48,6 +61,7 @@ truth_value = record {
   faults = FaultsAsBool;
   may_lack = λ v. ⊥;
   reads_back = λ bytes b fits fit begins. bool_reads_back bytes b fits begins;
+  reads_strictly = bool_strict;
 }
 
 -- a type of which contracts see a byte string
@@ -59,6 +73,7 @@ byte_string bytes = record {
   faults = FaultsAsBytes;
   may_lack = λ v. GivesSome GivesBytes v;
   reads_back = bytes_in bytes;
+  reads_strictly = bytes_strict bytes;
 }
 
 -- a type of which contracts see a text
@@ -70,6 +85,7 @@ text bytes = record {
   faults = FaultsAsText;
   may_lack = λ v. GivesSome GivesText v;
   reads_back = text_in bytes;
+  reads_strictly = text_strict bytes;
 }
 
 -- A type that is read from one string: the strings of the values that fit are read, and others have the faults of IsFaulty. No memory is taken.
@@ -81,11 +97,16 @@ string_type Fits bytes IsFaulty sound = record {
   faults = λ v e. FaultsAs IsFaulty v e;
   may_lack = λ v. ⊥;
   reads_back = λ v b fits fit begins. reads_back Fits bytes v b fits begins IsFaulty (λ e. sound b e fit);
+  reads_strictly = strings_strict Fits bytes IsFaulty sound;
 }
 
 -- a type of n bytes, no more and no fewer
 abbrev pub fixed_bytes : {B : Type 0} → ℕ → (B → List ℕ) → Codec B
 fixed_bytes n bytes = string_type (λ b. length (bytes b) ≡ n) bytes (IsLengthFault n) (λ b e fit. sound_length n (bytes b) e fit)
+
+-- arrays of n bytes
+abbrev pub byte_array : ℕ → Codec (List ℕ)
+byte_array n = fixed_bytes n (λ a. a)
 
 -- options of a type
 abbrev pub option : {A : Type 0} → Codec A → Codec (Option A)
@@ -96,6 +117,7 @@ option c = record {
   faults = λ v e. FaultsAsOption c.faults v e;
   may_lack = λ v. MayLackAsOption c.may_lack v;
   reads_back = option_reads_back c.Fits c.item c.gives c.faults c.reads_back;
+  reads_strictly = option_strict c.Fits c.item c.gives c.faults c.reads_strictly;
 }
 
 -- a type of which contracts see another one's value, as a box is
@@ -107,7 +129,24 @@ holding value c = record {
   faults = c.faults;
   may_lack = λ v. GivesSome c.gives v ⊎ c.may_lack v;
   reads_back = λ b x fits fit begins. reads_back_through value (c.reads_back b (value x) fits fit begins);
+  reads_strictly = λ b x bytes fits. strict_through value (c.reads_strictly b (value x) bytes fits);
 }
+
+-- a type that is another one's value under a name of its own, and takes no memory for it
+abbrev pub newtype : {A B : Type 0} → (B → A) → Codec A → Codec B
+newtype value c = record {
+  Fits = λ b. c.Fits (value b);
+  item = λ b. c.item (value b);
+  gives = λ v b. c.gives v (value b);
+  faults = c.faults;
+  may_lack = c.may_lack;
+  reads_back = λ b x fits fit begins. reads_back_through value (c.reads_back b (value x) fits fit begins);
+  reads_strictly = λ b x bytes fits. strict_through value (c.reads_strictly b (value x) bytes fits);
+}
+
+-- numbers of n bytes, kept as these
+abbrev pub uint : (n : ℕ) → Codec (Uint n)
+uint n = newtype (λ (u : Uint n). number_from_digits 256 u.bytes) (number n)
 
 -- a type of which contracts see the values of a list
 abbrev pub list_type : {A B : Type 0} → (B → List A) → Codec A → Codec B
@@ -118,6 +157,7 @@ list_type values c = record {
   faults = λ v e. FaultsAsList c.gives c.faults v e;
   may_lack = λ v. MayLackAsList c.gives c.may_lack v;
   reads_back = list_reads_back c.Fits c.item c.gives c.faults c.reads_back values;
+  reads_strictly = list_strict c.Fits c.item c.gives c.faults c.reads_strictly values;
 }
 
 -- ---- structs
@@ -134,6 +174,8 @@ pub record Fields (P : Type 0) : Type 1 where
   pub counted : (p : P) → length (items p) ≡ count
   pub alike : (i : ℕ) (view : View) (p : P) → Fits p → HoldsFrom view i (items p) → (q : P) → gives i view q ↔ (Fits q × (items q ≡ items p))
   pub sound : (i : ℕ) (view : View) (p : P) → Fits p → HoldsFrom view i (items p) → (k : ℕ) (e : DecoderError) → k < count → ¬ FaultsAt (faults k) view (i + k) e
+  pub exact : (i : ℕ) (view : View) (parts : List (List ℕ)) (p : P) → PartsFrom view i parts → length parts ≡ count → gives i view p ↔ (Fits p × (parts ≡ map encoding (items p)))
+  pub exactly_sound : (i : ℕ) (view : View) (parts : List (List ℕ)) (p : P) → PartsFrom view i parts → Fits p → parts ≡ map encoding (items p) → (k : ℕ) (e : DecoderError) → k < count → ¬ FaultsAt (faults k) view (i + k) e
 
 -- the last field
 abbrev pub last_field : {A P : Type 0} → (P → A) → Codec A → Fields P
@@ -148,6 +190,8 @@ last_field field c = record {
   counted = λ p. refl;
   alike = first_alike field c.Fits c.item c.gives c.faults c.reads_back;
   sound = first_sound field c.Fits c.item c.gives c.faults c.reads_back;
+  exact = first_exact field c.Fits c.item c.gives c.faults c.reads_strictly;
+  exactly_sound = first_exactly_sound field c.Fits c.item c.gives c.faults c.reads_strictly;
 }
 
 -- a field before others
@@ -163,6 +207,8 @@ and_field field c more = record {
   counted = λ p. ap suc (more.counted p);
   alike = more_alike field c.Fits c.item c.gives c.faults c.reads_back more.Fits more.items more.gives more.alike;
   sound = more_sound field c.Fits c.item c.gives c.faults c.reads_back more.Fits more.items more.count more.faults more.sound;
+  exact = more_exact field c.Fits c.item c.gives c.faults c.reads_strictly more.Fits more.items more.count more.gives more.exact;
+  exactly_sound = more_exactly_sound field c.Fits c.item c.gives c.faults c.reads_strictly more.Fits more.items more.count more.faults more.exactly_sound;
 }
 
 -- n fields of one type before others: the first of them is field k of its kind
@@ -183,4 +229,81 @@ struct_of f = record {
   faults = FaultsAsStruct f.count f.some f.faults;
   may_lack = λ v. MayLackAsStruct f.count f.some f.may_lack v;
   reads_back = struct_reads_back f.count f.Fits f.items f.gives f.some f.faults f.counted f.alike f.sound;
+  reads_strictly = struct_strict f.count f.Fits f.items f.gives f.some f.faults f.counted f.exact f.exactly_sound;
+}
+
+-- ---- structs whose last fields may be missing
+
+-- The fields of a struct from some field on, of which the last ones may be missing: there are at least `least` items and at most `most`. The others are as in `Fields`.
+pub record Tailed (P : Type 0) : Type 1 where
+  pub least : ℕ
+  pub most : ℕ
+  pub Fits : P → Type 0
+  pub items : P → List Item
+  pub gives : ℕ → View → P → Type 0
+  pub some : ℕ → ℕ → View → Type 0
+  pub faults : ℕ → View → DecoderError → Type 0
+  pub may_lack : ℕ → View → Type 0
+  pub enough : (p : P) → least ≤ length (items p)
+  pub few : (p : P) → length (items p) ≤ most
+  pub alike : (i : ℕ) (view : View) (p : P) → Fits p → HoldsFrom view i (items p) → (q : P) → length (items q) ≡ length (items p) → gives i view q ↔ (Fits q × (items q ≡ items p))
+  pub sound : (i : ℕ) (view : View) (p : P) → Fits p → HoldsFrom view i (items p) → (k : ℕ) (e : DecoderError) → k < length (items p) → ¬ FaultsAt (faults k) view (i + k) e
+  pub exact : (i : ℕ) (view : View) (parts : List (List ℕ)) (p : P) → PartsFrom view i parts → length parts ≡ length (items p) → gives i view p ↔ (Fits p × (parts ≡ map encoding (items p)))
+  pub exactly_sound : (i : ℕ) (view : View) (parts : List (List ℕ)) (p : P) → PartsFrom view i parts → Fits p → parts ≡ map encoding (items p) → (k : ℕ) (e : DecoderError) → k < length (items p) → ¬ FaultsAt (faults k) view (i + k) e
+
+-- no more fields
+abbrev pub no_tail : {P : Type 0} → Tailed P
+no_tail = record {
+  least = 0;
+  most = 0;
+  Fits = λ p. ⊤;
+  items = λ p. [];
+  gives = λ i v p. ⊤;
+  some = λ k i v. ⊥;
+  faults = λ k v e. ⊥;
+  may_lack = λ k v. ⊥;
+  enough = λ p. no_tail_enough;
+  few = λ p. no_tail_enough;
+  alike = λ i view p fit holds q many. (λ g. (tt, refl), λ h. tt);
+  sound = λ i view p fit holds k e few at. no_tail_few k few;
+  exact = λ i view parts p held many. (λ g. (tt, nil_from_length parts many), λ h. tt);
+  exactly_sound = λ i view parts p held fit same k e few at. no_tail_few k few;
+}
+
+-- a field that may be missing, and then those after it are
+abbrev pub and_optional : {A P : Type 0} → (P → Option A) → Codec A → Tailed P → Tailed P
+and_optional field c more = record {
+  least = 0;
+  most = suc more.most;
+  Fits = λ p. FitsFirst c.Fits (field p) (more.Fits p) (more.items p);
+  items = λ p. items_first c.item (field p) (more.items p);
+  gives = λ i v p. GivesFirst c.gives v i (field p) (more.gives (suc i) v p) (more.items p);
+  some = by_place (λ i v. GivesSomeAt c.gives v i) more.some;
+  faults = by_place c.faults more.faults;
+  may_lack = by_place c.may_lack more.may_lack;
+  enough = λ p. any_enough (length (items_first c.item (field p) (more.items p)));
+  few = λ p. first_few c.item (field p) (more.items p) more.most (more.few p);
+  alike = λ i view p fit holds q many. first_tail_alike c.Fits c.item c.gives c.faults c.reads_back i view (field p) (field q) (more.items p) (more.items q) (more.Fits p) (more.Fits q) (more.gives (suc i) view q)
+      (λ fits others same. more.alike (suc i) view p fits others q same) fit holds many;
+  sound = λ i view p fit holds. first_tail_sound c.Fits c.item c.gives c.faults c.reads_back more.faults i view (field p) (more.items p) (more.Fits p) (λ fits others. more.sound (suc i) view p fits others) fit holds;
+  exact = λ i view parts p held many. first_tail_exact c.Fits c.item c.gives c.faults c.reads_strictly i view parts (field p) (more.items p) (more.Fits p) (more.gives (suc i) view p)
+      (λ others held same. more.exact (suc i) view others p held same) held many;
+  exactly_sound = λ i view parts p held fit same. first_tail_exactly_sound c.Fits c.item c.gives c.faults c.reads_strictly more.faults i view parts (field p) (more.items p) (more.Fits p)
+      (λ others held fits same. more.exactly_sound (suc i) view others p held fits same) held fit same;
+}
+
+-- a field that is always there, before those of which the last may be missing
+abbrev pub and_always : {A P : Type 0} → (P → A) → Codec A → Tailed P → Tailed P
+and_always field c more = record (and_optional (λ p. Some (field p)) c more) { least = suc more.least; enough = λ p. one_more_enough (more.enough p) }
+
+-- a struct that is the list of its fields, of which the last may be missing
+abbrev pub tailed : {P : Type 0} → Tailed P → Codec P
+tailed t = record {
+  Fits = t.Fits;
+  item = λ p. list_of (t.items p);
+  gives = λ v p. (item_count v ≡ Ok (length (t.items p))) × t.gives 0 v p;
+  faults = λ v e. FaultsAsTailed t.least t.most t.some t.faults v e;
+  may_lack = λ v. MayLackAsTailed t.some t.may_lack v;
+  reads_back = tailed_reads_back t.least t.most t.Fits t.items t.gives t.some t.faults t.enough t.few t.alike t.sound;
+  reads_strictly = tailed_strict t.least t.most t.Fits t.items t.gives t.some t.faults t.enough t.few t.exact t.exactly_sound;
 }

@@ -17,3 +17,6 @@ pub mod ListRoundTrips
 pub mod ValueLists
 pub mod Structs
 pub mod StrictReads
+pub mod StrictLists
+pub mod StrictStructs
+pub mod Tails

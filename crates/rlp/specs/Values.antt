@@ -4,6 +4,8 @@ pub use Rattle.rlp_format.specs.Values.Value
 pub mod ValueReading
 -- the same of lists of values
 pub mod ListReading
+-- the same of structs whose last fields may be missing
+pub mod Tails
 -- what it is that decoding undoes encoding
 pub mod RoundTrip
 -- where a reader of fields is

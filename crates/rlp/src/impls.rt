@@ -2,9 +2,11 @@
 
 mod boolean;
 mod boxed;
+mod byte_array;
 mod byte_string;
 mod bytes_mut;
 mod bytes_shared;
 mod number;
 mod option;
 mod text;
+mod uint;

@@ -26,7 +26,7 @@ mod traits;
 
 use bytes::BytesMut;
 pub use rlp_format::{DecoderError, PayloadInfo, Prototype};
-pub use rlp_streams::{BasicEncoder, Chain, EMPTY_LIST_RLP, Encodable, NULL_RLP, RlpStream};
+pub use rlp_streams::{BasicEncoder, Chain, EMPTY_LIST_RLP, Encodable, NULL_RLP, RlpStream, Uint};
 pub use rlpin::{BasicDecoder, Fields, Rlp, RlpIterator};
 use std::alloc::{AllocError, Global};
 pub use traits::{Decodable, RoundTrip, Scalar, StrictRead};

@@ -2,6 +2,7 @@ pub mod Access
 pub mod Child
 pub mod Entry
 pub mod Hash
+pub mod Header
 pub mod Nest
 pub mod Ordered
 pub mod Parts

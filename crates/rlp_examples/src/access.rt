@@ -1,7 +1,7 @@
 //! Access lists: which accounts a transaction will look into, and where. Lists in lists in a list.
 
 use crate::{Address, Hash};
-use rlp::{Decodable, DecoderError, Encodable, Rlp, RlpStream, RoundTrip};
+use rlp::{Decodable, DecoderError, Encodable, Rlp, RlpStream, RoundTrip, StrictRead};
 use std::alloc::{AllocError, Global};
 
 /// An account, and the places of its storage that are looked into.
@@ -59,6 +59,12 @@ impl RoundTrip for Access {
     ghost round_trip = { access.reads_back };
 }
 
+impl StrictRead for Access {
+    ghost use Rattle.rlp_examples.specs.Access.{access};
+
+    ghost strict = { access.reads_strictly };
+}
+
 impl Encodable for AccessList {
     ghost use Rattle.rlp_examples.specs.Access.{access_list};
 
@@ -92,4 +98,10 @@ impl RoundTrip for AccessList {
     ghost use Rattle.rlp_examples.specs.Access.{access_list};
 
     ghost round_trip = { access_list.reads_back };
+}
+
+impl StrictRead for AccessList {
+    ghost use Rattle.rlp_examples.specs.Access.{access_list};
+
+    ghost strict = { access_list.reads_strictly };
 }

@@ -3,7 +3,7 @@
 ghost use Rattle.std.specs.Prelude.{◌≡◌, length, IfErr, IfOk};
 ghost use Rattle.rlp.specs.Values.ValueReading.{IsLengthFault};
 
-use rlp::{Decodable, DecoderError, Encodable, Rlp, RlpStream, RoundTrip};
+use rlp::{Decodable, DecoderError, Encodable, Rlp, RlpStream, RoundTrip, StrictRead};
 use std::alloc::{AllocError, Global};
 
 /// An address of 20 bytes.
@@ -50,6 +50,12 @@ impl RoundTrip for Address {
     ghost use Rattle.rlp_examples.specs.Access.{address};
 
     ghost round_trip = { address.reads_back };
+}
+
+impl StrictRead for Address {
+    ghost use Rattle.rlp_examples.specs.Access.{address};
+
+    ghost strict = { address.reads_strictly };
 }
 
 /// The address of these bytes, if they are 20.

@@ -2,7 +2,7 @@
 
 use crate::Child;
 use crate::fields::{Both, Each, One, append_as_list};
-use rlp::{Decodable, DecoderError, Encodable, Rlp, RlpStream, RoundTrip};
+use rlp::{Decodable, DecoderError, Encodable, Rlp, RlpStream, RoundTrip, StrictRead};
 use std::alloc::{AllocError, Global};
 
 /// A branch of the trie.
@@ -74,4 +74,10 @@ impl RoundTrip for Branch {
     ghost use Rattle.rlp_examples.specs.Trie.{branch};
 
     ghost round_trip = { branch.reads_back };
+}
+
+impl StrictRead for Branch {
+    ghost use Rattle.rlp_examples.specs.Trie.{branch};
+
+    ghost strict = { branch.reads_strictly };
 }

@@ -3,7 +3,7 @@
 ghost use Rattle.std.specs.Prelude.{◌≡◌, IfErr, IfOk};
 ghost use Rattle.rlp_examples.specs.Child.{IsChild, IsChildFault, child_bytes};
 
-use rlp::{Decodable, DecoderError, Encodable, Rlp, RlpStream, RoundTrip};
+use rlp::{Decodable, DecoderError, Encodable, Rlp, RlpStream, RoundTrip, StrictRead};
 use std::alloc::{AllocError, Global};
 
 /// A child of a branch.
@@ -55,6 +55,12 @@ impl RoundTrip for Child {
     ghost use Rattle.rlp_examples.specs.Child.{child};
 
     ghost round_trip = { child.reads_back };
+}
+
+impl StrictRead for Child {
+    ghost use Rattle.rlp_examples.specs.Child.{child};
+
+    ghost strict = { child.reads_strictly };
 }
 
 /// The child of these bytes, if they are 32 or none.

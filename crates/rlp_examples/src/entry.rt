@@ -5,7 +5,7 @@ ghost use Rattle.rlp.specs.DecoderError.TheVariants.{OutOfMemory};
 ghost use Rattle.rlp.specs.Format.Encoding.{BeginsWith, encoding};
 ghost use Rattle.rlp_examples.specs.Entry.{entry};
 
-use rlp::{Decodable, DecoderError, Encodable, Rlp, RlpStream, RoundTrip, laws};
+use rlp::{Decodable, DecoderError, Encodable, Rlp, RlpStream, RoundTrip, StrictRead, laws};
 use std::alloc::{AllocError, Global};
 
 /// A number and a byte string.
@@ -55,6 +55,12 @@ impl RoundTrip for Entry {
     ghost use Rattle.rlp_examples.specs.Entry.{entry};
 
     ghost round_trip = { entry.reads_back };
+}
+
+impl StrictRead for Entry {
+    ghost use Rattle.rlp_examples.specs.Entry.{entry};
+
+    ghost strict = { entry.reads_strictly };
 }
 
 /// The entry that an encoding is of, by the law of [`RoundTrip`]: where bytes begin with the encoding of

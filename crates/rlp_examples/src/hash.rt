@@ -3,7 +3,7 @@
 ghost use Rattle.std.specs.Prelude.{◌≡◌, length, IfErr, IfOk};
 ghost use Rattle.rlp.specs.Values.ValueReading.{IsLengthFault};
 
-use rlp::{Decodable, DecoderError, Encodable, Rlp, RlpStream, RoundTrip};
+use rlp::{Decodable, DecoderError, Encodable, Rlp, RlpStream, RoundTrip, StrictRead};
 use std::alloc::{AllocError, Global};
 
 /// A hash of 32 bytes.
@@ -50,6 +50,12 @@ impl RoundTrip for Hash {
     ghost use Rattle.rlp_examples.specs.Hash.{hash};
 
     ghost round_trip = { hash.reads_back };
+}
+
+impl StrictRead for Hash {
+    ghost use Rattle.rlp_examples.specs.Hash.{hash};
+
+    ghost strict = { hash.reads_strictly };
 }
 
 /// The hash of these bytes, if they are 32.

@@ -1,6 +1,6 @@
 //! A leaf of the trie: the list of what is left of the path, and the value.
 
-use rlp::{Decodable, DecoderError, Encodable, Rlp, RlpStream, RoundTrip};
+use rlp::{Decodable, DecoderError, Encodable, Rlp, RlpStream, RoundTrip, StrictRead};
 use std::alloc::{AllocError, Global};
 
 /// A leaf of the trie.
@@ -50,4 +50,10 @@ impl RoundTrip for Leaf {
     ghost use Rattle.rlp_examples.specs.Trie.{leaf};
 
     ghost round_trip = { leaf.reads_back };
+}
+
+impl StrictRead for Leaf {
+    ghost use Rattle.rlp_examples.specs.Trie.{leaf};
+
+    ghost strict = { leaf.reads_strictly };
 }

@@ -1,6 +1,6 @@
 //! A generic list type, written as unbounded lists.
 
-use rlp::{Decodable, DecoderError, Encodable, Rlp, RlpStream, RoundTrip};
+use rlp::{Decodable, DecoderError, Encodable, Rlp, RlpStream, RoundTrip, StrictRead};
 use std::alloc::{AllocError, Global};
 
 /// Two numbers.
@@ -54,6 +54,12 @@ impl RoundTrip for Inner {
     ghost round_trip = { inner.reads_back };
 }
 
+impl StrictRead for Inner {
+    ghost use Rattle.rlp_examples.specs.Nest.{inner};
+
+    ghost strict = { inner.reads_strictly };
+}
+
 impl<T: Encodable> Encodable for Nest<T> {
     ghost use Rattle.std.specs.Prelude.{All, map, [], ◌∷◌};
     ghost use Rattle.std.specs.Vec.{vec_items};
@@ -91,9 +97,15 @@ impl<T: Decodable> Decodable for Nest<T> {
 }
 
 impl<T: RoundTrip> RoundTrip for Nest<T> {
+    ghost use Rattle.rlp_examples.specs.Nest.{nest_reads_back};
+
+    ghost round_trip = { nest_reads_back T.fits T.item T.gives T.faults T.round_trip };
+}
+
+impl<T: StrictRead> StrictRead for Nest<T> {
     ghost use Rattle.rlp.specs.Codec.{codec_of};
     ghost use Rattle.rlp_examples.specs.Nest.{nest};
 
-    ghost round_trip = { (nest (codec_of T.fits T.item T.gives T.faults T.may_lack_memory
-        T.round_trip)).reads_back };
+    ghost strict = { (nest (codec_of T.fits T.item T.gives T.faults T.may_lack_memory
+        T.round_trip T.strict)).reads_strictly };
 }

@@ -1,6 +1,6 @@
 //! A custom type that is written and read as the number that it is.
 
-use rlp::{Decodable, DecoderError, Encodable, Rlp, RlpStream};
+use rlp::{Decodable, DecoderError, Encodable, Rlp, RlpStream, RoundTrip, StrictRead};
 use std::alloc::{AllocError, Global};
 
 /// How many transactions an account has sent.
@@ -34,4 +34,16 @@ impl Decodable for Nonce {
         let sent = rlp.as_val(alloc)?;
         Ok(Nonce(sent))
     }
+}
+
+impl RoundTrip for Nonce {
+    ghost use Rattle.rlp.specs.Codec.{newtype, number};
+
+    ghost round_trip = { (newtype (λ (n : Self). n.0) (number 8)).reads_back };
+}
+
+impl StrictRead for Nonce {
+    ghost use Rattle.rlp.specs.Codec.{newtype, number};
+
+    ghost strict = { (newtype (λ (n : Self). n.0) (number 8)).reads_strictly };
 }

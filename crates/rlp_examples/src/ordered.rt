@@ -1,7 +1,7 @@
 //! A list of nine fields, read in order.
 
 use crate::fields::{Both, One, append_as_list};
-use rlp::{Decodable, DecoderError, Encodable, Rlp, RlpStream, RoundTrip};
+use rlp::{Decodable, DecoderError, Encodable, Rlp, RlpStream, RoundTrip, StrictRead};
 use std::alloc::{AllocError, Global};
 
 /// The fields of a legacy transaction, the recipient as bytes.
@@ -74,4 +74,10 @@ impl RoundTrip for Ordered {
     ghost use Rattle.rlp_examples.specs.Ordered.{ordered};
 
     ghost round_trip = { ordered.reads_back };
+}
+
+impl StrictRead for Ordered {
+    ghost use Rattle.rlp_examples.specs.Ordered.{ordered};
+
+    ghost strict = { ordered.reads_strictly };
 }

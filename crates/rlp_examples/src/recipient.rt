@@ -3,7 +3,7 @@
 ghost use Rattle.std.specs.Prelude.{◌≡◌, IfErr, IfOk};
 ghost use Rattle.rlp_examples.specs.Recipient.{IsRecipient, IsRecipientFault, recipient_bytes};
 
-use rlp::{Decodable, DecoderError, Encodable, Rlp, RlpStream, RoundTrip};
+use rlp::{Decodable, DecoderError, Encodable, Rlp, RlpStream, RoundTrip, StrictRead};
 use std::alloc::{AllocError, Global};
 
 /// Who receives a transaction.
@@ -55,6 +55,12 @@ impl RoundTrip for Recipient {
     ghost use Rattle.rlp_examples.specs.Recipient.{recipient};
 
     ghost round_trip = { recipient.reads_back };
+}
+
+impl StrictRead for Recipient {
+    ghost use Rattle.rlp_examples.specs.Recipient.{recipient};
+
+    ghost strict = { recipient.reads_strictly };
 }
 
 /// The recipient of these bytes, if they are 20 or none.

@@ -2,7 +2,7 @@
 
 use crate::Recipient;
 use crate::fields::{Both, One, append_as_list};
-use rlp::{Decodable, DecoderError, Encodable, Rlp, RlpStream, RoundTrip};
+use rlp::{Decodable, DecoderError, Encodable, Rlp, RlpStream, RoundTrip, StrictRead};
 use std::alloc::{AllocError, Global};
 
 /// A signed legacy transaction, or one for signing, with the chain in place of `v` and no `r` and
@@ -78,4 +78,10 @@ impl RoundTrip for Transaction {
     ghost use Rattle.rlp_examples.specs.Transaction.{transaction};
 
     ghost round_trip = { transaction.reads_back };
+}
+
+impl StrictRead for Transaction {
+    ghost use Rattle.rlp_examples.specs.Transaction.{transaction};
+
+    ghost strict = { transaction.reads_strictly };
 }

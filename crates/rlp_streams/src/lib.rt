@@ -7,6 +7,7 @@ pub mod laws;
 mod stream;
 mod traits;
 
+pub use impls::Uint;
 pub use stream::{BasicEncoder, Chain, RlpStream};
 pub use traits::Encodable;
 

@@ -1,5 +1,6 @@
 //! Types of callers, written and read, and uses of both ways.
 
+mod arrays;
 mod careless;
 mod codecs;
 mod nodes;

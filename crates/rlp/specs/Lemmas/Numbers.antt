@@ -1,10 +1,11 @@
 -- A view that begins with the digits of a number gives the number.
-use Rattle.std.proofs.Common.{◌≡◌, ◌≢◌, pos_of_ne-zero, get_or, ℕ, ◌≤◌, List, [], ◌∷◌, length, Fits, w8, refl, sym, ap, subst, arith}
+use Rattle.std.proofs.Common.{◌≡◌, ◌≢◌, pos_of_ne-zero, get_or, ℕ, zero, suc, ◌≤◌, List, [], ◌∷◌, ◌++◌, length, take, replicate, Fits, w8, refl, sym, ap, subst, arith}
 use Rattle.std.specs.Int.Digits.{number_from_digits}
 use Rattle.rlp_format.specs.Format.WrittenHeader.{big_endian}
 use Rattle.rlp_format.specs.Values.Value.{FitsBytes}
 use Rattle.rlp_format.specs.declared.error.DecoderError.TheVariants.{RlpInvalidIndirection}
-use Rattle.rlp.specs.Values.ValueReading.{IsDigitsFault, too_long, leading_zero, GivesNumber, FaultsAsNumber, no_string, no_value}
+use Rattle.rlp.specs.Values.ValueReading.{IsDigitsFault, too_long, leading_zero, GivesNumber, FaultsAsNumber, GivesValue, FaultsAs, IsLengthFault, shorter, longer, no_string, no_value}
+use Rattle.rlp_format.specs.Format.Item.{string}
 use Rattle.rlp_format.specs.declared.error.DecoderError.{DecoderError}
 use Rattle.rlp_format.specs.Views.View.{View, HoldsString}
 use Rattle.rlp_format.specs.Lemmas.Reading.{bytes_held}
@@ -36,3 +37,23 @@ pub number_fault : (width : ℕ) (v : View) (d : List ℕ) (e : DecoderError) �
 number_fault width v d e stands faulty = no_value d e stands faulty
 
 pub ruleset number_answers = (gives_number, no_string, number_fault)
+
+-- ---- digits with zeros in front of them
+
+-- zeros in front make no difference
+pub zeros_in_front : (k n : ℕ) (digits : List ℕ) → number_from_digits 256 (take k (replicate n 0) ++ digits) ≡ number_from_digits 256 digits
+zeros_in_front zero n digits = refl
+zeros_in_front (suc k) zero digits = refl
+zeros_in_front (suc k) (suc n) digits = zeros_in_front k n digits
+
+-- ---- a view that begins with a string of n bytes gives the array of them
+
+-- a string of n bytes that stands gives the array
+pub gives_array : (n : ℕ) (v : View) (d : List ℕ) → HoldsString v d → length d ≡ n → GivesValue (λ a. length a ≡ n) string v d
+gives_array n v d stands many = record { fits = many; begins = stands }
+
+-- a string of another length that stands is the view's fault
+pub array_fault : (n : ℕ) (v : View) (d : List ℕ) (e : DecoderError) → HoldsString v d → IsLengthFault n d e → FaultsAs (IsLengthFault n) v e
+array_fault n v d e stands faulty = no_value d e stands faulty
+
+pub ruleset array_answers = (gives_array, no_string, array_fault, shorter, longer)

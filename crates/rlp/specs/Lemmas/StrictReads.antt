@@ -1,5 +1,5 @@
 -- Values that are read strictly.
-use Rattle.std.proofs.Common.{◌≡◌, ◌↔◌, ℕ, ◌^◌, ◌<◌, ⊎_elim, true, List, [], ◌∷◌, length, map, sym, ap, refl, ◌∙◌, subst, arith, append-nil, IsUtf8, IfSome, IsOkAnd, MatchResult, Option, Some, None, Ok, Err}
+use Rattle.std.proofs.Common.{◌≡◌, ◌↔◌, ℕ, ◌^◌, ◌<◌, ⊎_elim, true, List, [], ◌∷◌, length, map, sym, ap, refl, ◌∙◌, subst, arith, IsUtf8, IfSome, IsOkAnd, MatchResult, Option, Some, None, Ok, Err}
 use Rattle.std.specs.Bool.{⊤}
 use Rattle.std.proofs.lemmas.Bool.{cond-true}
 use Rattle.rlp_format.specs.declared.error.DecoderError.{DecoderError}
@@ -13,11 +13,10 @@ use Rattle.rlp.specs.Values.ValueReading.{GivesValue, FaultsAs, GivesNumber, Fau
 use Rattle.rlp.specs.Values.ListReading.{GivesAt, GivesOption, no_value, one_value, FaultsAsOption, no_list, many_items, faulty_item}
 use Rattle.rlp.specs.Values.RoundTrip.{ReadsStrictly}
 use Rattle.rlp_format.specs.Views.View.{View, item_at, item_count, items_fault, strict_view_of}
-use Rattle.rlp_format.specs.Lemmas.Encodings.{front_sized}
 use Rattle.rlp_format.specs.Lemmas.Numbered.{item_count-fault, item_count-told, fault_cases, told_begins}
 use Rattle.rlp.specs.Lemmas.RoundTrips.{bit_below, bool_held_back, bytes_held_back, held_back, number_held_back, text_held_back}
 use Rattle.rlp.specs.Lemmas.Slices.{part_of_items}
-use Rattle.rlp.specs.Lemmas.WholeLists.{strict_first, strict_item_count, strict_items, strict_list_told, whole_list}
+use Rattle.rlp.specs.Lemmas.WholeLists.{strict_first, strict_item_count, strict_items, strict_list_told, whole_list, whole_sized}
 
 -- what the law of `StrictRead` says of a type
 abbrev pub AlwaysReadsStrictly : {A : Type 0} → (A → Type 0) → (A → Item) → (View → A → Type 0) → (View → DecoderError → Type 0) → Type 0
@@ -70,7 +69,8 @@ strict_through value strict = record { exact = strict.exact; sound = strict.soun
 pub counted_told : (v : View) (n : ℕ) → item_count v ≡ Ok n → items_fault v ≡ None
 counted_told v n is = ⊎_elim (λ told. told) (λ (e, none). let count : item_count v ≡ Err e = item_count-fault v e none in absurd (let no : ⊥ = cc in no)) (fault_cases (items_fault v) (items_fault v) refl)
 
-counted_items : (v : View) (n : ℕ) → item_count v ≡ Ok n → length (items v.bytes) ≡ n
+-- a list that is counted has as many items
+pub counted_items : (v : View) (n : ℕ) → item_count v ≡ Ok n → length (items v.bytes) ≡ n
 counted_items v n is = let count : item_count v ≡ Ok (length (items v.bytes)) = item_count-told v (counted_told v n is) in cc
 
 pub told_whole : (b : List ℕ) → items_fault (strict_view_of b) ≡ None → strict_list_fault b ≡ None
@@ -104,33 +104,30 @@ module _ {A : Type 0} (Fits : A → Type 0) (item : A → Item) (gives : View �
   first_of : (x : A) → b ≡ encoding (list_of (item x ∷ [])) → IsSized (list_of (item x ∷ [])) → item_at (strict_view_of b) 0 ≡ Ok (strict_view_of (encoding (item x)))
   first_of x is sized = strict_first b (encoding (item x)) [] (strict_list_told (item x ∷ []) b sized is) (strict_items (item x ∷ []) b sized is)
 
-  sized_by : (x : Item) → b ≡ encoding x → IsSized x
-  sized_by x is = front_sized x b [] fits (is ∙ sym (append-nil (encoding x)))
-
   -- the item itself is bytes of the slice
   first_law : (x : A) → b ≡ encoding (list_of (item x ∷ [])) → ReadsStrictly Fits item gives faults (encoding (item x)) x
   first_law x is =
-      let there = first_of x is (sized_by (list_of (item x ∷ [])) is) in
+      let there = first_of x is (whole_sized (list_of (item x ∷ [])) b fits is) in
       let (held, short) = part_of_items (strict_view_of b) (strict_view_of (encoding (item x))) 0 bytes fits there in
       law (encoding (item x)) x held short
 
   option_given : (o : Option A) → IfSome o Fits → b ≡ encoding (option_item item o) → GivesOption gives (strict_view_of b) o
-  option_given None fit is = no_value (strict_item_count [] b (sized_by (list_of []) is) is)
+  option_given None fit is = no_value (strict_item_count [] b (whole_sized (list_of []) b fits is) is)
   option_given (Some x) fit is =
-      let sized = sized_by (list_of (item x ∷ [])) is in
+      let sized = whole_sized (list_of (item x ∷ [])) b fits is in
       let given : gives (strict_view_of (encoding (item x))) x = (first_law x is).exact.1 (fit, refl) in
       one_value x (strict_item_count (item x ∷ []) b sized is) (subst (λ r. IsOkAnd r (λ v. gives v x)) (sym (first_of x is sized)) given)
 
   none_sound : b ≡ encoding (list_of []) → (e : DecoderError) → ¬ FaultsAsOption faults (strict_view_of b) e
-  none_sound whole e (no_list g is) = let count = strict_item_count [] b (sized_by (list_of []) whole) whole in cc
-  none_sound whole e (many_items n is many) = let count = strict_item_count [] b (sized_by (list_of []) whole) whole in let same : n ≡ 0 = cc in omega arith
-  none_sound whole e (faulty_item g is at) = let count = strict_item_count [] b (sized_by (list_of []) whole) whole in cc
+  none_sound whole e (no_list g is) = let count = strict_item_count [] b (whole_sized (list_of []) b fits whole) whole in cc
+  none_sound whole e (many_items n is many) = let count = strict_item_count [] b (whole_sized (list_of []) b fits whole) whole in let same : n ≡ 0 = cc in omega arith
+  none_sound whole e (faulty_item g is at) = let count = strict_item_count [] b (whole_sized (list_of []) b fits whole) whole in cc
 
   some_sound : (x : A) → Fits x → b ≡ encoding (list_of (item x ∷ [])) → (e : DecoderError) → ¬ FaultsAsOption faults (strict_view_of b) e
-  some_sound x fit whole e (no_list g is) = let count = strict_item_count (item x ∷ []) b (sized_by (list_of (item x ∷ [])) whole) whole in cc
-  some_sound x fit whole e (many_items n is many) = let count = strict_item_count (item x ∷ []) b (sized_by (list_of (item x ∷ [])) whole) whole in let same : n ≡ 1 = cc in omega arith
+  some_sound x fit whole e (no_list g is) = let count = strict_item_count (item x ∷ []) b (whole_sized (list_of (item x ∷ [])) b fits whole) whole in cc
+  some_sound x fit whole e (many_items n is many) = let count = strict_item_count (item x ∷ []) b (whole_sized (list_of (item x ∷ [])) b fits whole) whole in let same : n ≡ 1 = cc in omega arith
   some_sound x fit whole e (faulty_item g is at) =
-      let there = first_of x whole (sized_by (list_of (item x ∷ [])) whole) in
+      let there = first_of x whole (whole_sized (list_of (item x ∷ [])) b fits whole) in
       (first_law x whole).sound fit refl g (subst (λ r. MatchResult r (λ v. faults v g) (λ f. g ≡ f)) there at)
 
   option_sound : (o : Option A) → IfSome o Fits → b ≡ encoding (option_item item o) → (e : DecoderError) → ¬ FaultsAsOption faults (strict_view_of b) e

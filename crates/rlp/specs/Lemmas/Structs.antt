@@ -39,10 +39,14 @@ holds_from before (x ∷ xs) b sized begins =
     let others : HoldsFrom (view_of b) (length (before ++ x ∷ [])) xs = holds_from (before ++ x ∷ []) xs b (subst (λ ys. IsSized (list_of ys)) whole sized) (subst (λ ys. BeginsWith b (encoding (list_of ys))) whole begins) in
     (item_at-list_item before xs x b sized begins, (middle_sized before xs x small, subst (λ i. HoldsFrom (view_of b) i xs) next others))
 
+-- the items of a view that begins with the encoding of a list
+pub holds_items : (xs : List Item) (b : List ℕ) → IsSized (list_of xs) → BeginsWith b (encoding (list_of xs)) → HoldsFrom (view_of b) 0 xs
+holds_items xs b sized begins = holds_from [] xs b sized begins
+
 -- ---- the first field, of a type whose values are read back
 
 module _ {A P : Type 0} (field : P → A) (Fits : A → Type 0) (item : A → Item) (gives : View → A → Type 0) (faults : View → DecoderError → Type 0) (law : AlwaysReadsBack Fits item gives faults) where
-  first_back : (i : ℕ) (view : View) (p : P) → Fits (field p) → item_at view i ≡ Ok (view_of (encoding (item (field p)))) → IsSized (item (field p))
+  pub first_back : (i : ℕ) (view : View) (p : P) → Fits (field p) → item_at view i ≡ Ok (view_of (encoding (item (field p)))) → IsSized (item (field p))
       → ReadsBack Fits item (λ v w. GivesAt gives v i w) (λ v e. FaultsAt faults v i e) view (field p)
   first_back i view p fit is sized = item_reads_back Fits item gives faults view i (field p) law fit sized is
 
@@ -53,7 +57,7 @@ module _ {A P : Type 0} (field : P → A) (Fits : A → Type 0) (item : A → It
       let one = (first_back i view p fit is sized).alike (field q) in
       (λ g. let h = one.0 g in (h.0, ap (λ x. x ∷ []) h.1), λ (fit', same). one.1 (fit', (cons_same (item (field q)) (item (field p)) [] [] same).0))
 
-  sound_by : (i : ℕ) (view : View) (p : P) (j : ℕ) (e : DecoderError) → Fits (field p) → item_at view i ≡ Ok (view_of (encoding (item (field p)))) → IsSized (item (field p)) → j ≡ i → ¬ FaultsAt faults view j e
+  pub sound_by : (i : ℕ) (view : View) (p : P) (j : ℕ) (e : DecoderError) → Fits (field p) → item_at view i ≡ Ok (view_of (encoding (item (field p)))) → IsSized (item (field p)) → j ≡ i → ¬ FaultsAt faults view j e
   sound_by i view p j e fit is sized same at = (first_back i view p fit is sized).no_fault e (subst (λ j. FaultsAt faults view j e) same at)
 
   -- the first field has no fault
@@ -125,7 +129,7 @@ module _ (count : ℕ) (some : ℕ → ℕ → View → Type 0) (faults : ℕ �
   WhereGiven zero Fact = Fact
   WhereGiven (suc k) Fact = WhereGiven k (some k k v → Fact)
 
-  where_given : (k : ℕ) (Fact : Type 0) → (GivesBefore some v k → Fact) → WhereGiven k Fact
+  pub where_given : (k : ℕ) (Fact : Type 0) → (GivesBefore some v k → Fact) → WhereGiven k Fact
   where_given zero Fact from = from tt
   where_given (suc k) Fact from = where_given k (some k k v → Fact) (λ before given. from (before, given))
 

@@ -1,5 +1,5 @@
 -- Bytes that are a list and nothing else.
-use Rattle.std.proofs.Common.{◌≡◌, ℕ, ◌+◌, ◌<◌, ◌≤◌, inl, inr, ⊎_elim, true, false, List, [], ◌∷◌, ◌++◌, length, map, take, drop, refl, sym, ap, ◌∙◌, subst, arith, ltb, leb-true, le-ltb, lt-ltb, le_refl, append-nil, length-append, take_at, drop_at, Option, Some, None, Result, Ok, Err}
+use Rattle.std.proofs.Common.{◌≡◌, ℕ, ◌+◌, ◌^◌, ◌<◌, ◌≤◌, inl, inr, ⊎_elim, true, false, List, [], ◌∷◌, ◌++◌, length, map, take, drop, refl, sym, ap, ◌∙◌, subst, arith, ltb, leb-true, le-ltb, lt-ltb, le_refl, append-nil, length-append, take_at, drop_at, Option, Some, None, Result, Ok, Err}
 use Rattle.std.specs.List.{concat, slice_get}
 use Rattle.std.proofs.lemmas.Bool.{cases_Bool, cases_lt, cond-true, cond-false, lt-leb}
 use Rattle.std.proofs.lemmas.List.{length-map}
@@ -15,7 +15,7 @@ use Rattle.rlp_format.specs.Format.Split.{begins_as_list, items, payload, payloa
 use Rattle.rlp_format.specs.Format.Strict.{fault_of_some, first_fault, strict_fault, strict_fault_in, strict_list_fault}
 use Rattle.rlp_format.specs.Views.View.{item_at, item_count, items_fault, strict_view_of}
 use Rattle.rlp_format.specs.Lemmas.Headers.{shape}
-use Rattle.rlp_format.specs.Lemmas.Encodings.{encoding_list}
+use Rattle.rlp_format.specs.Lemmas.Encodings.{encoding_list, front_sized}
 use Rattle.rlp_format.specs.Lemmas.Frames.{Frames, encoding_item, framing_is, framing_reads, join_is, value_is, walk}
 use Rattle.rlp_format.specs.Lemmas.Views.{items_of_list, list_shape, payload_bytes}
 use Rattle.rlp_format.specs.Lemmas.Numbered.{item_count-told, slice_get-item_at}
@@ -120,6 +120,14 @@ whole_list b xs bytes is same =
     whole_by b w.info.header_len w.info.value_len xs parts.kind (items_joined b xs bytes parts.none_left same) has (let all = w.all in omega arith)
 
 -- ---- the encoding of a list is a whole list
+
+-- an item whose encoding is the whole of a slice is sized
+pub whole_sized : (x : Item) (b : List ℕ) → length b < 2 ^ 64 → b ≡ encoding x → IsSized x
+whole_sized x b fits is = front_sized x b [] fits (is ∙ sym (append-nil (encoding x)))
+
+-- equal lists of bytes have the same first ones, and the same others
+pub parts_same : (f g : List ℕ) (fs gs : List (List ℕ)) → f ∷ fs ≡ g ∷ gs → (f ≡ g) × (fs ≡ gs)
+parts_same f g fs gs e = (let h : f ≡ g = cc in h, let t : fs ≡ gs = cc in t)
 
 pub strict_fault-encoding : (x : Item) (b : List ℕ) → IsSized x → b ≡ encoding x → strict_fault b ≡ None
 unfolding strict_fault

@@ -125,7 +125,7 @@ impl Decodable for u128 {
 
 /// The digits of the number of at most `width` bytes that the view begins with.
 #[tactic(auto, using(crate::specs::Lemmas::Numbers::number_answers))]
-fn number_digits<'a>(rlp: &Rlp<'a>, width: usize) -> Result<&'a [u8], DecoderError>
+pub(crate) fn number_digits<'a>(rlp: &Rlp<'a>, width: usize) -> Result<&'a [u8], DecoderError>
     ensures few { IfOk result (λ d. length d.now ≤ width) }
     ensures value { IfOk result (λ d. GivesNumber width rlp.now (number_from_digits 256 d.now)) }
     ensures fault { IfErr result (λ e. FaultsAsNumber width rlp.now e) }

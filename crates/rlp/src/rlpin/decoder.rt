@@ -5,7 +5,6 @@ ghost use Rattle.std.specs.Fn.{FnReturnsAt};
 ghost use Rattle.rlp_format.specs.Format.Item.{string};
 ghost use Rattle.rlp_format.specs.Format.Encoding.{encoding};
 ghost use Rattle.rlp_format.specs.Views.View.{HoldsNoString, HoldsString, view_of, view_string};
-ghost use Rattle.rlp.specs.Lemmas.StringsHeld.{ReadsHeld};
 
 use rlp_format::error::DecoderError;
 use rlp_format::framed::is_followed;
@@ -74,13 +73,23 @@ impl<'a> BasicDecoder<'a> {
         }
     }
 
-    /// The string itself: where the decoder is strict, the fault of the string is its own first, and
-    /// then `RlpIsTooBig` where bytes follow it.
+    /// The string at the front of the bytes, without its header. It is part of these bytes, and
+    /// no memory is taken.
+    ///
+    /// Where no string stands there, the fault is the one that [`BasicDecoder::decode_value`]
+    /// names. A strict decoder answers the fault of the string first, and then `RlpIsTooBig` where
+    /// bytes follow it.
+    ///
+    /// ```rust
+    /// let decoder = rlp::BasicDecoder::new(&[0x83, b'c', b'a', b't']);
+    /// assert_eq!(rt; decoder.string()?, b"cat".as_slice());
+    /// ```
     #[tactic(auto, using(crate::specs::Lemmas::StringsHeld::held_strings))]
-    pub(crate) fn string(&self) -> Result<&'a [u8], DecoderError>
+    pub fn string(&self) -> Result<&'a [u8], DecoderError>
         ensures exact { MatchResult result (λ d. view_string self.now ≡ Ok d.now)
             (λ e. view_string self.now ≡ Err e) }
-        ensures held { ReadsHeld self.now.is_strict self.now.bytes (view_string self.now) }
+        ensures held { MatchResult (view_string self.now) (λ d. HoldsString self.now d)
+            (λ _. HoldsNoString self.now) }
     {
         let string = match string_in(self.rlp) {
             Ok(string) => string,

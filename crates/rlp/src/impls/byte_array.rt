@@ -1,0 +1,52 @@
+//! Byte arrays: the string of the bytes.
+
+use crate::rlpin::Rlp;
+use crate::traits::{Decodable, RoundTrip, Scalar, StrictRead};
+use rlp_format::error::DecoderError;
+use std::alloc::Global;
+
+/// The bytes of a string of exactly `N`. No memory is taken.
+///
+/// A string of fewer bytes is `RlpIsTooShort`, and one of more `RlpIsTooBig`.
+impl<const N: usize> Decodable for [u8; N] {
+    ghost use Rattle.std.specs.Prelude.{◌≡◌, length};
+    ghost use Rattle.rlp_format.specs.Format.Item.{string};
+    ghost use Rattle.rlp.specs.Values.ValueReading.{FaultsAs, GivesValue, IsLengthFault};
+
+    ghost gives = { λ v a. GivesValue (λ a. length a ≡ N) string v a };
+
+    ghost faults = { λ v e. FaultsAs (IsLengthFault N) v e };
+
+    ghost may_lack_memory = { λ v. ⊥ };
+
+    #[tactic(auto, using(crate::specs::Lemmas::Numbers::array_answers))]
+    fn decode(_alloc: Global, rlp: &Rlp<'_>) -> Result<[u8; N], DecoderError> {
+        let string = match rlp.decoder().string() {
+            Ok(string) => string,
+            Err(fault) => return Err(fault),
+        };
+        match <[u8; N]>::try_from(string) {
+            Ok(bytes) => Ok(bytes),
+            Err(_) if string.len() < N => Err(DecoderError::RlpIsTooShort),
+            Err(_) => Err(DecoderError::RlpIsTooBig),
+        }
+    }
+}
+
+impl<const N: usize> RoundTrip for [u8; N] {
+    ghost use Rattle.rlp.specs.Codec.{byte_array};
+
+    ghost round_trip = { (byte_array N).reads_back };
+}
+
+impl<const N: usize> Scalar for [u8; N] {
+    ghost use Rattle.rlp.specs.Lemmas.RoundTrips.{itself};
+
+    ghost exact = { λ b v. itself };
+}
+
+impl<const N: usize> StrictRead for [u8; N] {
+    ghost use Rattle.rlp.specs.Codec.{byte_array};
+
+    ghost strict = { (byte_array N).reads_strictly };
+}

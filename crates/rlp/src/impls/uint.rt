@@ -1,0 +1,64 @@
+//! Numbers of any width, kept as their bytes.
+
+ghost use Rattle.std.specs.Prelude.{◌≡◌, ◌≤◌, length};
+ghost use Rattle.std.specs.Int.Digits.{number_from_digits};
+
+use crate::impls::number::number_digits;
+use crate::rlpin::Rlp;
+use crate::traits::{Decodable, RoundTrip, Scalar, StrictRead};
+use rlp_format::error::DecoderError;
+use rlp_streams::Uint;
+use std::alloc::Global;
+
+/// A number of at most `N` bytes, read as `u64` is.
+impl<const N: usize> Decodable for Uint<N> {
+    ghost use Rattle.std.specs.Int.Digits.{number_from_digits};
+    ghost use Rattle.rlp.specs.Values.ValueReading.{FaultsAsNumber, GivesNumber};
+
+    ghost gives = { λ v n. GivesNumber N v (number_from_digits 256 n.bytes) };
+
+    ghost faults = { λ v e. FaultsAsNumber N v e };
+
+    ghost may_lack_memory = { λ v. ⊥ };
+
+    fn decode(_alloc: Global, rlp: &Rlp<'_>) -> Result<Uint<N>, DecoderError> {
+        match number_digits(rlp, N) {
+            Ok(digits) => Ok(Uint {
+                bytes: padded(digits),
+            }),
+            Err(fault) => Err(fault),
+        }
+    }
+}
+
+/// These digits, with zeros in front of them.
+fn padded<const N: usize>(digits: &[u8]) -> [u8; N]
+    requires { length digits.now ≤ N }
+    ensures { number_from_digits 256 result ≡ number_from_digits 256 digits.now }
+{
+    let mut bytes = [0; N];
+    let all = &mut bytes[..];
+    all[N - digits.len()..].copy_from_slice(digits);
+    bytes
+}
+
+impl<const N: usize> RoundTrip for Uint<N> {
+    ghost use Rattle.rlp.specs.Codec.{uint};
+
+    ghost round_trip = { (uint N).reads_back };
+}
+
+impl<const N: usize> Scalar for Uint<N> {
+    ghost use Rattle.std.specs.Int.Digits.{number_from_digits};
+    ghost use Rattle.rlp_format.specs.Values.Value.{FitsBytes, number_item};
+    ghost use Rattle.rlp.specs.Lemmas.RoundTrips.{given_through};
+
+    ghost exact = { given_through (FitsBytes N) number_item
+        (λ (n : Self). number_from_digits 256 n.bytes) };
+}
+
+impl<const N: usize> StrictRead for Uint<N> {
+    ghost use Rattle.rlp.specs.Codec.{uint};
+
+    ghost strict = { (uint N).reads_strictly };
+}

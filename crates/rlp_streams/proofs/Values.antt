@@ -1,0 +1,2 @@
+-- numbers of any width, without leading zeros
+pub mod Uints

@@ -1,0 +1,22 @@
+//! Byte arrays: the string of the bytes.
+
+use crate::stream::RlpStream;
+use crate::traits::Encodable;
+use std::alloc::AllocError;
+
+/// The string of the bytes.
+impl<const N: usize> Encodable for [u8; N] {
+    ghost use Rattle.std.specs.Prelude.{◌≡◌, ⊤, length};
+    ghost use Rattle.rlp_format.specs.Format.Item.{string};
+
+    ghost item = { λ a. string a };
+
+    ghost fits = { λ a. length a ≡ N };
+
+    ghost at_once = { λ _. ⊤ };
+
+    #[tactic(auto, using(crate::proofs::Streams::Growth::growth))]
+    fn rlp_append(&self, s: &mut RlpStream) -> Result<(), AllocError> {
+        s.encoder().encode_value(self)
+    }
+}
