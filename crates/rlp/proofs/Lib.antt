@@ -9,6 +9,7 @@ pub mod Decoding
 -- items split off, and fields in order
 pub mod SplitOff
 pub mod InOrder
+pub mod FieldReading
 -- strict reading
 pub mod ViewKinds
 pub mod StrictDecoding

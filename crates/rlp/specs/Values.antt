@@ -8,3 +8,5 @@ pub mod ListReading
 pub mod RoundTrip
 -- where a reader of fields is
 pub mod FieldPlace
+-- what items from some place on give as fields
+pub mod FieldReading

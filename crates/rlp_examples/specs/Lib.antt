@@ -2,9 +2,10 @@ pub mod Access
 pub mod Child
 pub mod Entry
 pub mod Hash
+pub mod Header
+pub mod Log
 pub mod Nest
 pub mod Ordered
-pub mod Parts
 pub mod Recipient
 pub mod Transaction
 pub mod Trie
