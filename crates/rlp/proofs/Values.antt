@@ -8,3 +8,5 @@ pub mod ListReadings
 pub mod Decoding
 -- strict decoding
 pub mod StrictDecoding
+-- fields that are read one after another
+pub mod FieldReading

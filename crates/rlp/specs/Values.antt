@@ -10,3 +10,5 @@ pub mod Tails
 pub mod RoundTrip
 -- where a reader of fields is
 pub mod FieldPlace
+-- what items from some place on give as fields
+pub mod FieldReading

@@ -22,13 +22,18 @@ ghost use Rattle.rlp_format.specs.Views.View.{strict_view_of, view_of};
 mod impls;
 pub mod laws;
 mod rlpin;
+mod structs;
 mod traits;
 
 use bytes::BytesMut;
 pub use rlp_format::{DecoderError, PayloadInfo, Prototype};
-pub use rlp_streams::{BasicEncoder, Chain, EMPTY_LIST_RLP, Encodable, NULL_RLP, RlpStream, Uint};
+pub use rlp_streams::{
+    AppendFields, BasicEncoder, Chain, EMPTY_LIST_RLP, Each, Encodable, Flattened, ListOf,
+    NULL_RLP, RlpStream, Uint, append_struct,
+};
 pub use rlpin::{BasicDecoder, Fields, Rlp, RlpIterator};
 use std::alloc::{AllocError, Global};
+pub use structs::{DecodeField, DecodeFields, Field, ListField, decode_struct};
 pub use traits::{Decodable, RoundTrip, Scalar, StrictRead};
 
 /// The encoding of a value. `AllocError` where memory is refused, or where the value's own

@@ -3,9 +3,10 @@ pub mod Child
 pub mod Entry
 pub mod Hash
 pub mod Header
+pub mod Log
 pub mod Nest
 pub mod Ordered
-pub mod Parts
 pub mod Recipient
+pub mod ShortHeader
 pub mod Transaction
 pub mod Trie

@@ -1,7 +1,7 @@
 //! Access lists: which accounts a transaction will look into, and where. Lists in lists in a list.
 
 use crate::{Address, Hash};
-use rlp::{Decodable, DecoderError, Encodable, Rlp, RlpStream, RoundTrip, StrictRead};
+use rlp::{Decodable, DecoderError, Encodable, ListOf, Rlp, RlpStream, RoundTrip, StrictRead};
 use std::alloc::{AllocError, Global};
 
 /// An account, and the places of its storage that are looked into.
@@ -24,12 +24,8 @@ impl Encodable for Access {
 
     ghost fits = { access.Fits };
 
-    #[tactic(auto, using(rlp::proofs::Filling::filling))]
     fn rlp_append(&self, s: &mut RlpStream) -> Result<(), AllocError> {
-        s.begin_list(2)?
-            .append(&self.address)?
-            .append_list(self.keys.as_slice())?;
-        Ok(())
+        rlp::append_fields!(s, &self.address, ListOf(&self.keys))
     }
 }
 
@@ -42,14 +38,15 @@ impl Decodable for Access {
 
     ghost may_lack_memory = { access.may_lack };
 
-    #[tactic(auto, using(rlp::specs::Lemmas::Structs::struct_fields))]
     fn decode(alloc: Global, rlp: &Rlp<'_>) -> Result<Access, DecoderError> {
-        if rlp.item_count()? != 2 {
-            return Err(DecoderError::RlpIncorrectListLen);
-        }
-        let address = rlp.val_at(alloc, 0)?;
-        let keys = rlp.list_at(alloc, 1)?;
-        Ok(Access { address, keys })
+        rlp::decode_fields!(
+            alloc,
+            rlp,
+            Access {
+                address,
+                keys: [..]
+            }
+        )
     }
 }
 

@@ -1,8 +1,7 @@
 //! A branch of the trie: the list of sixteen children and a value.
 
 use crate::Child;
-use crate::fields::{Both, Each, One, append_as_list};
-use rlp::{Decodable, DecoderError, Encodable, Rlp, RlpStream, RoundTrip, StrictRead};
+use rlp::{Decodable, DecoderError, Each, Encodable, Rlp, RlpStream, RoundTrip, StrictRead};
 use std::alloc::{AllocError, Global};
 
 /// A branch of the trie.
@@ -21,14 +20,8 @@ impl Encodable for Branch {
 
     ghost fits = { branch.Fits };
 
-    #[tactic(auto, using(crate::proofs::Parts::parts))]
     fn rlp_append(&self, s: &mut RlpStream) -> Result<(), AllocError> {
-        append_as_list(
-            s,
-            17,
-            &Both(Each(self.children.as_slice()), One(&self.value)),
-        )?;
-        Ok(())
+        rlp::append_fields!(s, Each(self.children.as_slice()), &self.value)
     }
 }
 

@@ -4,7 +4,6 @@ ghost use Rattle.std.specs.Prelude.{◌≡◌, [], ◌∷◌, OnOk, OnErr};
 ghost use Rattle.rlp.specs.Format.Item.{list_of};
 ghost use Rattle.rlp.specs.Streams.Stream.{add};
 
-use crate::fields::{Both, One, append_as_list};
 use rlp::{Encodable, RlpStream};
 use std::alloc::AllocError;
 
@@ -18,8 +17,7 @@ impl<A: Encodable, B: Encodable> Encodable for Couple<A, B> {
     ghost fits = { λ v. A.fits v.0 × B.fits v.1 };
 
     fn rlp_append(&self, s: &mut RlpStream) -> Result<(), AllocError> {
-        append_as_list(s, 2, &Both(One(&self.0), One(&self.1)))?;
-        Ok(())
+        rlp::append_fields!(s, &self.0, &self.1)
     }
 }
 
@@ -33,8 +31,7 @@ impl<T: Encodable> Encodable for Alone<T> {
     ghost fits = { λ v. T.fits v.0 };
 
     fn rlp_append(&self, s: &mut RlpStream) -> Result<(), AllocError> {
-        append_as_list(s, 1, &One(&self.0))?;
-        Ok(())
+        rlp::append_fields!(s, &self.0)
     }
 }
 

@@ -1,27 +1,54 @@
-//! A header that grew: the list of two fields, and of three of which the last may be missing.
+//! Values of `Header`: the list of its fields.
 
-use crate::Hash;
-use crate::fields::{Both, One, append_as_list};
+use crate::{Address, Hash};
 use rlp::{Decodable, DecoderError, Encodable, Rlp, RlpStream, RoundTrip, StrictRead};
 use std::alloc::{AllocError, Global};
 
-/// Some fields of a block's header. Those that later forks added are missing in older blocks, and
-/// none is there without those before it.
+/// The list of its 20 fields.
 #[derive(Drop)]
 pub struct Header {
-    /// The block's place in the chain.
+    /// The parent hash.
+    pub parent_hash: Hash,
+    /// The ommers hash.
+    pub ommers_hash: Hash,
+    /// The beneficiary.
+    pub beneficiary: Address,
+    /// The state root.
+    pub state_root: Hash,
+    /// The transactions root.
+    pub transactions_root: Hash,
+    /// The receipts root.
+    pub receipts_root: Hash,
+    /// The logs bloom.
+    pub logs_bloom: Vec<u8>,
+    /// The difficulty.
+    pub difficulty: u128,
+    /// The number.
     pub number: u64,
-    /// How much gas its transactions may use.
+    /// The gas limit.
     pub gas_limit: u64,
-    /// What a unit of gas costs at least.
-    pub base_fee: Option<u64>,
-    /// The root of the trie of withdrawals.
-    pub withdrawals_root: Option<Hash>,
-    /// How much gas its blobs used.
-    pub blob_gas_used: Option<u64>,
+    /// The gas used.
+    pub gas_used: u64,
+    /// The timestamp.
+    pub timestamp: u64,
+    /// The extra data.
+    pub extra_data: Vec<u8>,
+    /// The prev randao.
+    pub prev_randao: Hash,
+    /// The nonce.
+    pub nonce: Vec<u8>,
+    /// The base fee per gas.
+    pub base_fee_per_gas: u128,
+    /// The withdrawals root.
+    pub withdrawals_root: Hash,
+    /// The blob gas used.
+    pub blob_gas_used: u64,
+    /// The excess blob gas.
+    pub excess_blob_gas: u64,
+    /// The parent beacon block root.
+    pub parent_beacon_block_root: Hash,
 }
 
-/// `AllocError` also where a field is there without one before it.
 impl Encodable for Header {
     ghost use Rattle.rlp_examples.specs.Header.{header};
 
@@ -29,29 +56,30 @@ impl Encodable for Header {
 
     ghost fits = { header.Fits };
 
-    #[tactic(auto, using(rlp::proofs::Growth::growth, rlp::specs::Lemmas::Tails::tailed_writing))]
     fn rlp_append(&self, s: &mut RlpStream) -> Result<(), AllocError> {
-        let first = Both(One(&self.number), One(&self.gas_limit));
-        match (&self.base_fee, &self.withdrawals_root, &self.blob_gas_used) {
-            (None, None, None) => {
-                append_as_list(s, 2, &first)?;
-                Ok(())
-            }
-            (Some(fee), None, None) => {
-                append_as_list(s, 3, &Both(first, One(fee)))?;
-                Ok(())
-            }
-            (Some(fee), Some(root), None) => {
-                append_as_list(s, 4, &Both(first, Both(One(fee), One(root))))?;
-                Ok(())
-            }
-            (Some(fee), Some(root), Some(gas)) => {
-                let tail = Both(One(fee), Both(One(root), One(gas)));
-                append_as_list(s, 5, &Both(first, tail))?;
-                Ok(())
-            }
-            _ => Err(AllocError),
-        }
+        rlp::append_fields!(
+            s,
+            &self.parent_hash,
+            &self.ommers_hash,
+            &self.beneficiary,
+            &self.state_root,
+            &self.transactions_root,
+            &self.receipts_root,
+            &self.logs_bloom,
+            &self.difficulty,
+            &self.number,
+            &self.gas_limit,
+            &self.gas_used,
+            &self.timestamp,
+            &self.extra_data,
+            &self.prev_randao,
+            &self.nonce,
+            &self.base_fee_per_gas,
+            &self.withdrawals_root,
+            &self.blob_gas_used,
+            &self.excess_blob_gas,
+            &self.parent_beacon_block_root
+        )
     }
 }
 
@@ -64,32 +92,33 @@ impl Decodable for Header {
 
     ghost may_lack_memory = { header.may_lack };
 
-    #[tactic(auto, using(rlp::specs::Lemmas::Tails::tailed_fields))]
     fn decode(alloc: Global, rlp: &Rlp<'_>) -> Result<Header, DecoderError> {
-        let count = rlp.item_count()?;
-        if count < 2 || count > 5 {
-            return Err(DecoderError::RlpIncorrectListLen);
-        }
-        let mut header = Header {
-            number: rlp.val_at(alloc, 0)?,
-            gas_limit: rlp.val_at(alloc, 1)?,
-            base_fee: None,
-            withdrawals_root: None,
-            blob_gas_used: None,
-        };
-        if count == 2 {
-            return Ok(header);
-        }
-        header.base_fee = Some(rlp.val_at(alloc, 2)?);
-        if count == 3 {
-            return Ok(header);
-        }
-        header.withdrawals_root = Some(rlp.val_at(alloc, 3)?);
-        if count == 4 {
-            return Ok(header);
-        }
-        header.blob_gas_used = Some(rlp.val_at(alloc, 4)?);
-        Ok(header)
+        rlp::decode_fields!(
+            alloc,
+            rlp,
+            Header {
+                parent_hash,
+                ommers_hash,
+                beneficiary,
+                state_root,
+                transactions_root,
+                receipts_root,
+                logs_bloom,
+                difficulty,
+                number,
+                gas_limit,
+                gas_used,
+                timestamp,
+                extra_data,
+                prev_randao,
+                nonce,
+                base_fee_per_gas,
+                withdrawals_root,
+                blob_gas_used,
+                excess_blob_gas,
+                parent_beacon_block_root
+            }
+        )
     }
 }
 

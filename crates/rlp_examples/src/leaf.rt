@@ -19,10 +19,8 @@ impl Encodable for Leaf {
 
     ghost fits = { leaf.Fits };
 
-    #[tactic(auto, using(rlp::proofs::Filling::filling))]
     fn rlp_append(&self, s: &mut RlpStream) -> Result<(), AllocError> {
-        s.begin_list(2)?.append(&self.path)?.append(&self.value)?;
-        Ok(())
+        rlp::append_fields!(s, &self.path, &self.value)
     }
 }
 
@@ -35,14 +33,8 @@ impl Decodable for Leaf {
 
     ghost may_lack_memory = { leaf.may_lack };
 
-    #[tactic(auto, using(rlp::specs::Lemmas::Structs::struct_fields))]
     fn decode(alloc: Global, rlp: &Rlp<'_>) -> Result<Leaf, DecoderError> {
-        if rlp.item_count()? != 2 {
-            return Err(DecoderError::RlpIncorrectListLen);
-        }
-        let path = rlp.val_at(alloc, 0)?;
-        let value = rlp.val_at(alloc, 1)?;
-        Ok(Leaf { path, value })
+        rlp::decode_fields!(alloc, rlp, Leaf { path, value })
     }
 }
 

@@ -86,13 +86,8 @@ impl<T: Decodable> Decodable for Nest<T> {
 
     ghost may_lack_memory = { MayLackAsNest T.gives T.may_lack_memory };
 
-    #[tactic(auto, using(rlp::specs::Lemmas::Structs::struct_fields))]
     fn decode(alloc: Global, rlp: &Rlp<'_>) -> Result<Nest<T>, DecoderError> {
-        if rlp.item_count()? != 1 {
-            return Err(DecoderError::RlpIncorrectListLen);
-        }
-        let values = rlp.list_at(alloc, 0)?;
-        Ok(Nest(values))
+        rlp::decode_fields!(alloc, rlp, Nest(values: [..]))
     }
 }
 

@@ -1,6 +1,5 @@
 //! A list of nine fields, read in order.
 
-use crate::fields::{Both, One, append_as_list};
 use rlp::{Decodable, DecoderError, Encodable, Rlp, RlpStream, RoundTrip, StrictRead};
 use std::alloc::{AllocError, Global};
 
@@ -35,12 +34,18 @@ impl Encodable for Ordered {
     ghost fits = { ordered.Fits };
 
     fn rlp_append(&self, s: &mut RlpStream) -> Result<(), AllocError> {
-        let signature = Both(One(&self.v), Both(One(&self.r), One(&self.s)));
-        let call = Both(One(&self.value), Both(One(&self.data), signature));
-        let gas = Both(One(&self.gas_limit), Both(One(&self.recipient), call));
-        let fields = Both(One(&self.nonce), Both(One(&self.gas_price), gas));
-        append_as_list(s, 9, &fields)?;
-        Ok(())
+        rlp::append_fields!(
+            s,
+            &self.nonce,
+            &self.gas_price,
+            &self.gas_limit,
+            &self.recipient,
+            &self.value,
+            &self.data,
+            &self.v,
+            &self.r,
+            &self.s
+        )
     }
 }
 

@@ -1,7 +1,6 @@
 //! A legacy transaction: the list of its nine fields.
 
 use crate::Recipient;
-use crate::fields::{Both, One, append_as_list};
 use rlp::{Decodable, DecoderError, Encodable, Rlp, RlpStream, RoundTrip, StrictRead};
 use std::alloc::{AllocError, Global};
 
@@ -37,12 +36,18 @@ impl Encodable for Transaction {
     ghost fits = { transaction.Fits };
 
     fn rlp_append(&self, s: &mut RlpStream) -> Result<(), AllocError> {
-        let signature = Both(One(&self.v), Both(One(&self.r), One(&self.s)));
-        let call = Both(One(&self.value), Both(One(&self.data), signature));
-        let gas = Both(One(&self.gas_limit), Both(One(&self.recipient), call));
-        let fields = Both(One(&self.nonce), Both(One(&self.gas_price), gas));
-        append_as_list(s, 9, &fields)?;
-        Ok(())
+        rlp::append_fields!(
+            s,
+            &self.nonce,
+            &self.gas_price,
+            &self.gas_limit,
+            &self.recipient,
+            &self.value,
+            &self.data,
+            &self.v,
+            &self.r,
+            &self.s
+        )
     }
 }
 
@@ -55,22 +60,22 @@ impl Decodable for Transaction {
 
     ghost may_lack_memory = { transaction.may_lack };
 
-    #[tactic(auto, using(rlp::specs::Lemmas::Structs::struct_fields))]
     fn decode(alloc: Global, rlp: &Rlp<'_>) -> Result<Transaction, DecoderError> {
-        if rlp.item_count()? != 9 {
-            return Err(DecoderError::RlpIncorrectListLen);
-        }
-        Ok(Transaction {
-            nonce: rlp.val_at(alloc, 0)?,
-            gas_price: rlp.val_at(alloc, 1)?,
-            gas_limit: rlp.val_at(alloc, 2)?,
-            recipient: rlp.val_at(alloc, 3)?,
-            value: rlp.val_at(alloc, 4)?,
-            data: rlp.val_at(alloc, 5)?,
-            v: rlp.val_at(alloc, 6)?,
-            r: rlp.val_at(alloc, 7)?,
-            s: rlp.val_at(alloc, 8)?,
-        })
+        rlp::decode_fields!(
+            alloc,
+            rlp,
+            Transaction {
+                nonce,
+                gas_price,
+                gas_limit,
+                recipient,
+                value,
+                data,
+                v,
+                r,
+                s
+            }
+        )
     }
 }
 

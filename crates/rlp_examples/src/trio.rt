@@ -1,6 +1,5 @@
 //! A list of two numbers and a value of any type, and a value that is always refused.
 
-use crate::fields::{Both, One, append_as_list};
 use rlp::{Encodable, RlpStream};
 use std::alloc::AllocError;
 
@@ -36,6 +35,6 @@ impl<M: Encodable> Encodable for Trio<M> {
     ghost fits = { λ t. FitsBytes 8 t.0 × M.fits t.1 × FitsBytes 8 t.2 };
 
     fn rlp_append(&self, s: &mut RlpStream) -> Result<(), AllocError> {
-        append_as_list(s, 3, &Both(One(&self.0), Both(One(&self.1), One(&self.2))))
+        rlp::append_fields!(s, &self.0, &self.1, &self.2)
     }
 }

@@ -10,3 +10,5 @@ pub mod Listed
 pub mod Filling
 -- what a stream retains
 pub mod Retained
+-- fields that are appended one after another
+pub mod Fields

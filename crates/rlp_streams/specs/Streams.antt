@@ -4,3 +4,5 @@ pub mod Growth
 pub mod Chain
 -- the place that a call notes, to go back to it
 pub mod Places
+-- values that are appended one after another
+pub mod Fields

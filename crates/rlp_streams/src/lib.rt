@@ -5,10 +5,12 @@
 mod impls;
 pub mod laws;
 mod stream;
+mod structs;
 mod traits;
 
 pub use impls::Uint;
 pub use stream::{BasicEncoder, Chain, RlpStream};
+pub use structs::{AppendFields, Each, Flattened, ListOf, append_struct};
 pub use traits::Encodable;
 
 /// The encoding of the empty string.

@@ -30,7 +30,8 @@ abbrev pub HoldsFrom : View → ℕ → List Item → Type 0
 HoldsFrom view i [] = Unit {0}
 HoldsFrom view i (x ∷ xs) = (item_at view i ≡ Ok (view_of (encoding x))) × (IsSized x × HoldsFrom view (suc i) xs)
 
-holds_from : (before xs : List Item) (b : List ℕ) → IsSized (list_of (before ++ xs)) → BeginsWith b (encoding (list_of (before ++ xs))) → HoldsFrom (view_of b) (length before) xs
+-- from the encoding of a list, the items after some first ones are in their places
+pub holds_from : (before xs : List Item) (b : List ℕ) → IsSized (list_of (before ++ xs)) → BeginsWith b (encoding (list_of (before ++ xs))) → HoldsFrom (view_of b) (length before) xs
 holds_from before [] b sized begins = tt
 holds_from before (x ∷ xs) b sized begins =
     let small : length (join (before ++ x ∷ xs)) < 2 ^ 64 = small_payload 0xc0 (join (before ++ x ∷ xs)) (encoding (list_of (before ++ x ∷ xs))) (encoding_list (before ++ x ∷ xs)) sized in
@@ -129,6 +130,7 @@ module _ (count : ℕ) (some : ℕ → ℕ → View → Type 0) (faults : ℕ �
   WhereGiven zero Fact = Fact
   WhereGiven (suc k) Fact = WhereGiven k (some k k v → Fact)
 
+  -- a fact that follows from all first fields together follows from each of them
   pub where_given : (k : ℕ) (Fact : Type 0) → (GivesBefore some v k → Fact) → WhereGiven k Fact
   where_given zero Fact from = from tt
   where_given (suc k) Fact from = where_given k (some k k v → Fact) (λ before given. from (before, given))
@@ -137,7 +139,8 @@ module _ (count : ℕ) (some : ℕ → ℕ → View → Type 0) (faults : ℕ �
   abbrev pub FieldFails : ℕ → Type 0
   FieldFails k = FaultsAt (faults k) v k e ⊎ ((e ≡ OutOfMemory) × MayLackAt (may_lack k) v k) → item_count v ≡ Ok count → k < count → WhereGiven k StructFails
 
-  field_by : (k : ℕ) → FieldFails k
+  -- the same as a fact of the field with any number
+  pub field_by : (k : ℕ) → FieldFails k
   field_by k fails many few = where_given k StructFails (λ before. field_fails k fails many few before)
 
   -- each of the first seventeen fields, as a rule of its own
@@ -212,7 +215,8 @@ module _ (count : ℕ) (some : ℕ → ℕ → View → Type 0) (faults : ℕ �
   WhereRead zero w i Fact = record { view = w; place = i } ≡ field_place v 0 → Fact
   WhereRead (suc k) w i Fact = (x : View) (j : ℕ) → record { view = w; place = i } ≡ field_place x (j + 1) → some k j x → WhereRead k x j Fact
 
-  where_read : (k : ℕ) (w : View) (i : ℕ) (Fact : Type 0) → (w ≡ v → i ≡ k → GivesBefore some v k → Fact) → WhereRead k w i Fact
+  -- a fact that follows from all first places together follows from each of them
+  pub where_read : (k : ℕ) (w : View) (i : ℕ) (Fact : Type 0) → (w ≡ v → i ≡ k → GivesBefore some v k → Fact) → WhereRead k w i Fact
   where_read zero w i Fact from = λ at. from (ap (λ (f : FieldPlace). f.view) at) (ap (λ (f : FieldPlace). f.place) at) tt
   where_read (suc k) w i Fact from = λ x j at given. where_read k x j Fact (λ same here before.
       let view_is : w ≡ v = ap (λ (f : FieldPlace). f.view) at ∙ same in
@@ -224,7 +228,8 @@ module _ (count : ℕ) (some : ℕ → ℕ → View → Type 0) (faults : ℕ �
   NextFails k = (w : View) (i : ℕ) → FaultsAt (faults k) w i e ⊎ ((e ≡ OutOfMemory) × MayLackAt (may_lack k) w i) → item_count v ≡ Ok count → k < count
       → WhereRead k w i (StructFails count some faults may_lack v e)
 
-  next_by : (k : ℕ) → NextFails k
+  -- the same as a fact of the place with any number
+  pub next_by : (k : ℕ) → NextFails k
   next_by k w i fails many few = where_read k w i (StructFails count some faults may_lack v e) (λ same here before.
       field_fails count some faults may_lack v e k
       (subst (λ n. FaultsAt (faults k) v n e ⊎ ((e ≡ OutOfMemory) × MayLackAt (may_lack k) v n)) here (subst (λ u. FaultsAt (faults k) u i e ⊎ ((e ≡ OutOfMemory) × MayLackAt (may_lack k) u i)) same fails))

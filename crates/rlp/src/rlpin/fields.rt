@@ -1,5 +1,7 @@
 //! The items of a list, read in order as values.
 
+ghost use Rattle.std.specs.Vec.{vec_items};
+ghost use Rattle.std.specs.declared.alloc.Global.{Global};
 ghost use Rattle.std.specs.Prelude.{◌≡◌, ◌+◌, ◌⊎◌, None, Some, Ok, Err, IfOk, IfErr, MatchResult, OnOk, OnErr};
 ghost use Rattle.rlp_format.specs.declared.error.DecoderError.TheVariants.{OutOfMemory};
 ghost use Rattle.rlp_format.specs.Views.View.{item_at, item_count, items_fault};
@@ -143,6 +145,7 @@ impl<'a> Fields<'a> {
     }
 
     /// The values of the items of the next item, as [`Rlp::list_at`] reads them.
+    #[tactic(auto, using(crate::proofs::Values::ListValues::some_given))]
     pub fn next_list<T: Decodable>(&mut self, alloc: Global) -> Result<Vec<T>, DecoderError>
         ensures exact { MatchResult (item_at self.old.view self.old.place)
             (λ item. MatchResult result (λ values. GivesList T.gives item values.items)
@@ -151,6 +154,8 @@ impl<'a> Fields<'a> {
             (λ e. result ≡ Err e) }
         ensures value { IfOk result (λ values. GivesAt (λ item xs. GivesList T.gives item xs)
             self.old.view self.old.place values.items) }
+        ensures some { OnOk result (GivesSomeAt (λ item values. GivesList T.gives item
+            (vec_items {X = T} {Z = Global} values)) self.old.view self.old.place) }
         ensures fault { IfErr result (λ e.
             (FaultsAt (λ item f. FaultsAsList T.gives T.faults item f)
             self.old.view self.old.place e)

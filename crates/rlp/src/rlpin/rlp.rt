@@ -1,5 +1,7 @@
 //! A view of bytes, and what it answers of their first item.
 
+ghost use Rattle.std.specs.Vec.{vec_items};
+ghost use Rattle.std.specs.declared.alloc.Global.{Global};
 ghost use Rattle.std.specs.Prelude.{◌≡◌, ◌≤◌, ◌<◌, ◌^◌, ◌↔◌, ◌⊎◌, List, [], length, true, false, IsTrue, IsOk, None, Some, Ok, Err, IfOk, IfErr, MatchResult, OnOk};
 ghost use Rattle.rlp_format.specs.declared.error.DecoderError.TheVariants.{OutOfMemory};
 ghost use Rattle.rlp_format.specs.Format.Split.{begins_as_list, items};
@@ -333,6 +335,7 @@ impl<'a> Rlp<'a> {
     /// [`Rlp::as_list`].
     ///
     /// The faults are those of the two.
+    #[tactic(auto, using(crate::proofs::Values::ListValues::some_given))]
     pub fn list_at<T: Decodable>(&self, alloc: Global, index: usize) -> Result<Vec<T>, DecoderError>
         ensures exact { MatchResult (item_at self.now index)
             (λ item. MatchResult result (λ values. GivesList T.gives item values.items)
@@ -341,6 +344,8 @@ impl<'a> Rlp<'a> {
             (λ e. result ≡ Err e) }
         ensures value { IfOk result (λ values.
             GivesAt (λ item xs. GivesList T.gives item xs) self.now index values.items) }
+        ensures some { OnOk result (GivesSomeAt (λ item values.
+            GivesList T.gives item (vec_items {X = T} {Z = Global} values)) self.now index) }
         ensures fault { IfErr result (λ e.
             (FaultsAt (λ item f. FaultsAsList T.gives T.faults item f) self.now index e)
             ⊎ ((e ≡ OutOfMemory)

@@ -2,10 +2,10 @@ use Rattle.std.proofs.Common.{◌≡◌, ◌+◌, [], ◌∷◌, ◌++◌, Resul
 use Rattle.std.specs.Prelude.{OnErr}
 use Rattle.std.proofs.lemmas.Grind.{elements}
 use Rattle.std.proofs.lemmas.List.{map_more, take_all}
-use Rattle.rlp.specs.Streams.Stream.{add_all}
-use Rattle.rlp.proofs.Growth.{retains_trans}
-use Rattle.rlp_examples.proofs.Parts.{items_pushed, part_at}
-use Rattle.rlp_examples.proofs.fields.EachAppendAll.append_all.Goals as goal
+use Rattle.rlp_buffer.specs.Streams.Stream.{add_all}
+use Rattle.rlp_streams.proofs.Streams.Growth.{retains_trans}
+use Rattle.rlp_streams.proofs.Streams.Fields.{items_pushed, some_at}
+use Rattle.rlp_streams.proofs.structs.EachAppendFields.append_fields.Goals as goal
 
 on_err : {T E : Type 0} (r : Result T E) (P : Type 0) → P → OnErr r P
 on_err (Ok x) P p = tt
@@ -15,7 +15,7 @@ pub returns-in_err-s-clause-refused : goal.returns-in_err-s-clause-refused
 returns-in_err-s-clause-refused g c =
     let values = c.args.self.now.0.now in
     let same : c.append.follows.lender-at-none.state ≡ c.loop-value.s.state = (rw c.in_err-s.was at c.append.follows.holds-at-none).0 in
-    on_err _ _ (part_at g.T.Encodable.item values c.loop-value.value-index c.args.s.now.state c.append.follows.lender-at-none.state c.loop-value-test.true (same ∙ c.loop-value.invariant.state))
+    on_err _ _ (some_at g.T.Encodable.item values c.loop-value.value-index c.args.s.now.state c.append.follows.lender-at-none.state c.loop-value-test.true (same ∙ c.loop-value.invariant.state))
 
 pub returns-in_err-s-clause-retains : goal.returns-in_err-s-clause-retains
 returns-in_err-s-clause-retains g c =

@@ -1,7 +1,7 @@
 use Rattle.std.proofs.Common.{sym, arith}
 use Rattle.std.proofs.lemmas.Result.{err_from_is_err_and}
 use Rattle.rlp.specs.Lemmas.Tails.{item_0, item_1, item_2, item_3}
-use Rattle.rlp_examples.proofs.header.HeaderDecodable.decode.Goals as goal
+use Rattle.rlp_examples.proofs.short_header.ShortHeaderDecodable.decode.Goals as goal
 
 pub returns-in_err-val_at-clause-fault : goal.returns-in_err-val_at-clause-fault
 returns-in_err-val_at-clause-fault c =

@@ -1,0 +1,276 @@
+//! Structs that are read as the list of their fields.
+
+ghost use Rattle.std.specs.Prelude.{◌≡◌, ◌+◌, ◌⊎◌, ◌↔◌, ℕ, suc, Ok, IfOk, IfErr, IsTrue, OnOk};
+ghost use Rattle.std.specs.Vec.{vec_items};
+ghost use Rattle.std.specs.declared.alloc.Global.{Global};
+ghost use Rattle.rlp_format.specs.declared.error.DecoderError.{DecoderError};
+ghost use Rattle.rlp_format.specs.declared.error.DecoderError.TheVariants.{OutOfMemory};
+ghost use Rattle.rlp_format.specs.Views.View.{View, item_count};
+ghost use Rattle.rlp.specs.Codec.{FaultsAsStruct};
+ghost use Rattle.rlp.specs.Lemmas.Structs.{by_place};
+ghost use Rattle.rlp.specs.Values.FieldReading.{FaultsInFields, GivesFields, MayLackInFields};
+ghost use Rattle.rlp.specs.Values.ListReading.{FaultsAsList, FaultsAt, GivesAt, GivesList, GivesSomeAt, MayLackAsList, MayLackAsStruct, MayLackAt};
+
+use crate::rlpin::{Fields, Rlp};
+use crate::traits::Decodable;
+use rlp_format::error::DecoderError;
+use std::alloc::Global;
+
+/// One field of a struct, as it is read from one item.
+pub trait DecodeField: Sized + Drop {
+    // The item gives the field.
+    ghost gives: { View → Self → Type 0 };
+
+    // The item in this place of a view gives some field.
+    ghost gives_some: { ℕ → View → Type 0 };
+
+    // The item gives no field, for this reason.
+    ghost faults: { View → DecoderError → Type 0 };
+
+    // Reading the item may answer `OutOfMemory` where memory is refused.
+    ghost may_lack_memory: { View → Type 0 };
+
+    /// The field that the next item gives.
+    ///
+    /// The faults are those of [`Fields::next_value`] or [`Fields::next_list`].
+    fn decode_field(alloc: Global, fields: &mut Fields<'_>) -> Result<Self, DecoderError>
+        ensures value { IfOk result (λ x. GivesAt gives fields.old.view fields.old.place x) }
+        ensures some { OnOk result (gives_some fields.old.place fields.old.view) }
+        ensures fault { IfErr result (λ e. (FaultsAt faults fields.old.view fields.old.place e)
+            ⊎ ((e ≡ OutOfMemory) × MayLackAt may_lack_memory fields.old.view fields.old.place)) }
+        ensures next { OnOk result
+            (fields.new ≡ record fields.old { place = fields.old.place + 1 }) };
+}
+
+/// A field that is a value.
+#[derive(Drop)]
+pub struct Field<T>(pub T);
+
+/// A field that is a list of values.
+#[derive(Drop)]
+pub struct ListField<T>(pub Vec<T>);
+
+impl<T: Decodable> DecodeField for Field<T> {
+    ghost gives = { λ v x. T.gives v x.0 };
+
+    ghost gives_some = { λ i v. GivesSomeAt T.gives v i };
+
+    ghost faults = { T.faults };
+
+    ghost may_lack_memory = { T.may_lack_memory };
+
+    fn decode_field(alloc: Global, fields: &mut Fields<'_>) -> Result<Field<T>, DecoderError> {
+        match fields.next_value(alloc) {
+            Ok(value) => Ok(Field(value)),
+            Err(fault) => Err(fault),
+        }
+    }
+}
+
+impl<T: Decodable> DecodeField for ListField<T> {
+    ghost gives = { λ v x. GivesList T.gives v (vec_items x.0) };
+
+    ghost gives_some = { λ i v. GivesSomeAt
+        (λ v values. GivesList T.gives v (vec_items {X = T} {Z = Global} values)) v i };
+
+    ghost faults = { λ v e. FaultsAsList T.gives T.faults v e };
+
+    ghost may_lack_memory = { λ v. MayLackAsList T.gives T.may_lack_memory v };
+
+    fn decode_field(alloc: Global, fields: &mut Fields<'_>) -> Result<ListField<T>, DecoderError> {
+        match fields.next_list(alloc) {
+            Ok(values) => Ok(ListField(values)),
+            Err(fault) => Err(fault),
+        }
+    }
+}
+
+/// The fields of a struct, as they are read from items one after another: the last one alone, in
+/// brackets with a comma, and a field before others as a pair.
+pub trait DecodeFields: Sized + Drop {
+    // How many there are.
+    ghost count: { ℕ };
+
+    // The items from this place on give the fields.
+    ghost give: { ℕ → View → Self → Type 0 };
+
+    // The item in the second place gives some value of the field with the first number.
+    ghost gives_some: { ℕ → ℕ → View → Type 0 };
+
+    // An item gives no value of the field with this number, for this reason.
+    ghost faults: { ℕ → View → DecoderError → Type 0 };
+
+    // Reading the field with this number may answer `OutOfMemory` where memory is refused.
+    ghost may_lack_memory: { ℕ → View → Type 0 };
+
+    /// Whether there are `len` fields.
+    fn has_len(len: usize) -> bool
+        ensures { IsTrue result ↔ (len ≡ count) };
+
+    /// The fields that the next items give.
+    ///
+    /// The faults are those of [`DecodeField::decode_field`] of the first field that has one.
+    fn decode_fields(alloc: Global, fields: &mut Fields<'_>) -> Result<Self, DecoderError>
+        ensures value { IfOk result (λ x. give fields.old.place fields.old.view x) }
+        ensures fault { IfErr result (λ e.
+            (FaultsInFields count gives_some faults fields.old.view fields.old.place e)
+            ⊎ ((e ≡ OutOfMemory)
+            × MayLackInFields count gives_some may_lack_memory fields.old.view fields.old.place)) };
+}
+
+impl<F: DecodeField> DecodeFields for (F,) {
+    ghost count = { 1 };
+
+    ghost give = { λ i v x. GivesAt F.gives v i x.0 };
+
+    ghost gives_some = { by_place F.gives_some (λ k i v. ⊥) };
+
+    ghost faults = { by_place F.faults (λ k v e. ⊥) };
+
+    ghost may_lack_memory = { by_place F.may_lack_memory (λ k v. ⊥) };
+
+    fn has_len(len: usize) -> bool {
+        len == 1
+    }
+
+    #[tactic(auto, using(crate::proofs::Values::FieldReading::fields_in_order))]
+    fn decode_fields(alloc: Global, fields: &mut Fields<'_>) -> Result<(F,), DecoderError> {
+        match F::decode_field(alloc, fields) {
+            Ok(field) => Ok((field,)),
+            Err(fault) => Err(fault),
+        }
+    }
+}
+
+impl<F: DecodeField, Q: DecodeFields> DecodeFields for (F, Q) {
+    ghost count = { suc Q.count };
+
+    ghost give = { λ i v x. GivesAt F.gives v i x.0 × Q.give (suc i) v x.1 };
+
+    ghost gives_some = { by_place F.gives_some Q.gives_some };
+
+    ghost faults = { by_place F.faults Q.faults };
+
+    ghost may_lack_memory = { by_place F.may_lack_memory Q.may_lack_memory };
+
+    fn has_len(len: usize) -> bool {
+        len > 0 && Q::has_len(len - 1)
+    }
+
+    #[tactic(auto, using(crate::proofs::Values::FieldReading::fields_in_order))]
+    fn decode_fields(alloc: Global, fields: &mut Fields<'_>) -> Result<(F, Q), DecoderError> {
+        match F::decode_field(alloc, fields) {
+            Ok(field) => match Q::decode_fields(alloc, fields) {
+                Ok(others) => Ok((field, others)),
+                Err(fault) => Err(fault),
+            },
+            Err(fault) => Err(fault),
+        }
+    }
+}
+
+/// The fields of the list that the view begins with: what `rlp::decode_fields!` calls.
+///
+/// `RlpIncorrectListLen` where the list has another number of items than there are fields. The other
+/// faults are those of [`Rlp::item_count`], and of the first field that has one.
+#[tactic(auto, using(crate::proofs::Values::FieldReading::whole_struct))]
+pub fn decode_struct<F: DecodeFields>(alloc: Global, rlp: &Rlp<'_>) -> Result<F, DecoderError>
+    ensures count { OnOk result (item_count rlp.now ≡ Ok F.count) }
+    ensures value { IfOk result (λ x. F.give 0 rlp.now x) }
+    ensures fault { IfErr result (λ e.
+        (FaultsAsStruct F.count F.gives_some F.faults rlp.now e)
+        ⊎ ((e ≡ OutOfMemory) × MayLackAsStruct F.count F.gives_some F.may_lack_memory rlp.now)) }
+{
+    let count = match rlp.item_count() {
+        Ok(count) => count,
+        Err(fault) => return Err(fault),
+    };
+    if !F::has_len(count) {
+        return Err(DecoderError::RlpIncorrectListLen);
+    }
+    let mut fields = match rlp.fields_of(count) {
+        Ok(fields) => fields,
+        Err(fault) => return Err(fault),
+    };
+    match F::decode_fields(alloc, &mut fields) {
+        Ok(values) => Ok(values),
+        Err(fault) => Err(fault),
+    }
+}
+
+/// Writes a struct as the list of its fields: the stream, and then each field in order. It is the
+/// whole body of an `rlp_append`, and counts the fields itself.
+///
+/// A reference to a value is one item, and `ListOf(&self.keys)` is one item that is a list.
+/// `Each(&self.children)` is an item for each value, and `Flattened(&self.pairs)` the fields of
+/// each value. `AllocError` as for [`append_struct`].
+///
+/// ```rust
+/// fn rlp_append(&self, s: &mut RlpStream) -> Result<(), AllocError> {
+///     rlp::append_fields!(s, &self.address, ListOf(&self.keys))
+/// }
+/// ```
+#[macro_export]
+macro_rules! append_fields {
+    // Pairs of groups of four, and these of sixteen, so that no value lies deep in pairs.
+    (@nested $a:expr, $b:expr, $c:expr, $d:expr, $e:expr, $f:expr, $g:expr, $h:expr,
+        $i:expr, $j:expr, $k:expr, $l:expr, $m:expr, $n:expr, $o:expr, $p:expr,
+        $($others:expr),+) => {
+        (
+            $crate::append_fields!(@nested $a, $b, $c, $d, $e, $f, $g, $h, $i, $j, $k, $l, $m, $n, $o, $p),
+            $crate::append_fields!(@nested $($others),+),
+        )
+    };
+    (@nested $a:expr, $b:expr, $c:expr, $d:expr, $($others:expr),+) => {
+        (
+            ($a, ($b, ($c, $d))),
+            $crate::append_fields!(@nested $($others),+),
+        )
+    };
+    (@nested $last:expr) => {
+        $last
+    };
+    (@nested $first:expr, $($others:expr),+) => {
+        ($first, $crate::append_fields!(@nested $($others),+))
+    };
+    ($s:expr, $($field:expr),+ $(,)?) => {
+        match $crate::append_struct($s, &$crate::append_fields!(@nested $($field),+)) {
+            Ok(()) => Ok(()),
+            Err(refused) => Err(refused),
+        }
+    };
+}
+
+/// Reads a struct from the list of its fields: the allocator, the view, and the struct with its
+/// fields in order, where `keys: [..]` is a field that is a list. It is the whole body of a `decode`.
+///
+/// The faults are those of [`decode_struct`].
+///
+/// ```rust
+/// fn decode(alloc: Global, rlp: &Rlp<'_>) -> Result<Access, DecoderError> {
+///     rlp::decode_fields!(alloc, rlp, Access { address, keys: [..] })
+/// }
+/// ```
+#[macro_export]
+macro_rules! decode_fields {
+    (@nested $last:ident) => { ($crate::Field($last),) };
+    (@nested $last:ident : [..]) => { ($crate::ListField($last),) };
+    (@nested $first:ident, $($others:tt)+) => {
+        ($crate::Field($first), $crate::decode_fields!(@nested $($others)+))
+    };
+    (@nested $first:ident : [..], $($others:tt)+) => {
+        ($crate::ListField($first), $crate::decode_fields!(@nested $($others)+))
+    };
+    ($alloc:expr, $rlp:expr, $name:ident { $($field:ident $(: $list:tt)?),+ $(,)? }) => {
+        match $crate::decode_struct($alloc, $rlp) {
+            Ok($crate::decode_fields!(@nested $($field $(: $list)?),+)) => Ok($name { $($field),+ }),
+            Err(fault) => Err(fault),
+        }
+    };
+    ($alloc:expr, $rlp:expr, $name:ident ( $($field:ident $(: $list:tt)?),+ $(,)? )) => {
+        match $crate::decode_struct($alloc, $rlp) {
+            Ok($crate::decode_fields!(@nested $($field $(: $list)?),+)) => Ok($name($($field),+)),
+            Err(fault) => Err(fault),
+        }
+    };
+}

@@ -1,0 +1,62 @@
+//! Values of `Log`: the list of its fields.
+
+use crate::{Address, Hash};
+use rlp::{Decodable, DecoderError, Encodable, ListOf, Rlp, RlpStream, RoundTrip, StrictRead};
+use std::alloc::{AllocError, Global};
+
+/// The list of its 3 fields.
+#[derive(Drop)]
+pub struct Log {
+    /// The address.
+    pub address: Address,
+    /// The topics.
+    pub topics: Vec<Hash>,
+    /// The data.
+    pub data: Vec<u8>,
+}
+
+impl Encodable for Log {
+    ghost use Rattle.rlp_examples.specs.Log.{log};
+
+    ghost item = { log.item };
+
+    ghost fits = { log.Fits };
+
+    fn rlp_append(&self, s: &mut RlpStream) -> Result<(), AllocError> {
+        rlp::append_fields!(s, &self.address, ListOf(&self.topics), &self.data)
+    }
+}
+
+impl Decodable for Log {
+    ghost use Rattle.rlp_examples.specs.Log.{log};
+
+    ghost gives = { log.gives };
+
+    ghost faults = { log.faults };
+
+    ghost may_lack_memory = { log.may_lack };
+
+    fn decode(alloc: Global, rlp: &Rlp<'_>) -> Result<Log, DecoderError> {
+        rlp::decode_fields!(
+            alloc,
+            rlp,
+            Log {
+                address,
+                topics: [..],
+                data
+            }
+        )
+    }
+}
+
+impl RoundTrip for Log {
+    ghost use Rattle.rlp_examples.specs.Log.{log};
+
+    ghost round_trip = { log.reads_back };
+}
+
+impl StrictRead for Log {
+    ghost use Rattle.rlp_examples.specs.Log.{log};
+
+    ghost strict = { log.reads_strictly };
+}

@@ -1,0 +1,173 @@
+//! Structs that are written as the list of their fields.
+
+ghost use Rattle.std.specs.Prelude.{◌≡◌, ◌++◌, ◌∷◌, [], ◌^◌, ◌≤◌, List, OnOk, OnErr, All, length, map, MatchOption};
+ghost use Rattle.rlp_format.specs.Format.Item.{Item, list_of};
+ghost use Rattle.rlp_buffer.specs.Streams.Stream.{Retains, add_all, put_item};
+ghost use Rattle.rlp_streams.specs.Streams.Growth.{GrowsTo};
+ghost use Rattle.rlp_streams.specs.Streams.Fields.{AppendsSome, all_items};
+
+use crate::stream::RlpStream;
+use crate::traits::Encodable;
+use std::alloc::AllocError;
+
+/// Values that are appended one after another, as the fields of a struct are.
+///
+/// A reference to a value is one item. [`ListOf`] is one item too, the list of the values of a
+/// slice. [`Each`] is an item for each value of a slice, and [`Flattened`] as many items for each
+/// value as it is appended as. A pair is its first part and then its second.
+pub trait AppendFields {
+    // The items, in order.
+    ghost items: { Self → List Item };
+
+    // Each value is one of its type.
+    ghost fit: { Self → Type 0 };
+
+    /// How many items there are, or `None` where there are 2^64 or more.
+    fn field_count(&self) -> Option<usize>
+        ensures { MatchOption result (2 ^ 64 ≤ length (items self.now))
+            (λ n. n ≡ length (items self.now)) };
+
+    /// Appends each value. `AllocError` as for [`RlpStream::append`] of the first one that is
+    /// refused; those before it are left in the stream.
+    fn append_fields(&self, s: &mut RlpStream) -> Result<(), AllocError>
+        ensures fits { OnOk result (fit self.now) }
+        ensures ok { OnOk result (s.new.state ≡ add_all (items self.now) s.old.state) }
+        ensures refused { OnErr result (AppendsSome (items self.now) s.old.state s.new.state) }
+        ensures retains { Retains s.old s.new };
+}
+
+/// A field that is the list of the values of a slice: one item.
+#[derive(Clone, Copy)]
+pub struct ListOf<'a, T>(pub &'a [T]);
+
+/// A field for each value of a slice.
+#[derive(Clone, Copy)]
+pub struct Each<'a, T>(pub &'a [T]);
+
+/// The fields of each value of a slice, as the keys and values of pairs.
+#[derive(Clone, Copy)]
+pub struct Flattened<'a, T>(pub &'a [T]);
+
+impl<T: Encodable> AppendFields for &T {
+    ghost items = { λ v. T.item v.now ∷ [] };
+
+    ghost fit = { λ v. T.fits v.now };
+
+    fn field_count(&self) -> Option<usize> {
+        Some(1)
+    }
+
+    #[tactic(auto, using(crate::proofs::Streams::Fields::fields))]
+    fn append_fields(&self, s: &mut RlpStream) -> Result<(), AllocError> {
+        let value = *self;
+        s.append(value)?;
+        Ok(())
+    }
+}
+
+impl<T: Encodable> AppendFields for ListOf<'_, T> {
+    ghost items = { λ v. list_of (map T.item v.0.now) ∷ [] };
+
+    ghost fit = { λ v. All T.fits v.0.now };
+
+    fn field_count(&self) -> Option<usize> {
+        Some(1)
+    }
+
+    #[tactic(auto, using(crate::proofs::Streams::Fields::fields))]
+    fn append_fields(&self, s: &mut RlpStream) -> Result<(), AllocError> {
+        s.append_list(self.0)?;
+        Ok(())
+    }
+}
+
+impl<T: Encodable> AppendFields for Each<'_, T> {
+    ghost items = { λ v. map T.item v.0.now };
+
+    ghost fit = { λ v. All T.fits v.0.now };
+
+    #[tactic(auto, using(crate::proofs::Streams::Fields::counts))]
+    fn field_count(&self) -> Option<usize> {
+        Some(self.0.len())
+    }
+
+    #[tactic(auto, using(crate::proofs::Streams::Fields::fields))]
+    fn append_fields(&self, s: &mut RlpStream) -> Result<(), AllocError> {
+        let values = self.0;
+        for value in values {
+            s.append(value)?;
+        }
+        Ok(())
+    }
+}
+
+impl<T: AppendFields> AppendFields for Flattened<'_, T> {
+    ghost items = { λ v. all_items T.items v.0.now };
+
+    ghost fit = { λ v. All T.fit v.0.now };
+
+    fn field_count(&self) -> Option<usize> {
+        let values = self.0;
+        let mut count: usize = 0;
+        for value in values {
+            let more = match value.field_count() {
+                Some(more) => more,
+                None => return None,
+            };
+            count = match count.checked_add(more) {
+                Some(sum) => sum,
+                None => return None,
+            };
+        }
+        Some(count)
+    }
+
+    #[tactic(auto, using(crate::proofs::Streams::Fields::fields))]
+    fn append_fields(&self, s: &mut RlpStream) -> Result<(), AllocError> {
+        let values = self.0;
+        for value in values {
+            value.append_fields(s)?;
+        }
+        Ok(())
+    }
+}
+
+impl<P: AppendFields, Q: AppendFields> AppendFields for (P, Q) {
+    ghost items = { λ v. P.items v.0 ++ Q.items v.1 };
+
+    ghost fit = { λ v. P.fit v.0 × Q.fit v.1 };
+
+    #[tactic(auto, using(crate::proofs::Streams::Fields::counts))]
+    fn field_count(&self) -> Option<usize> {
+        let first = self.0.field_count()?;
+        let others = self.1.field_count()?;
+        first.checked_add(others)
+    }
+
+    #[tactic(auto, using(crate::proofs::Streams::Fields::fields))]
+    fn append_fields(&self, s: &mut RlpStream) -> Result<(), AllocError> {
+        self.0.append_fields(s)?;
+        self.1.append_fields(s)?;
+        Ok(())
+    }
+}
+
+/// Writes a struct as the list of its fields: what `rlp::append_fields!` calls.
+///
+/// `AllocError` where memory is refused, where a value's own [`Encodable::rlp_append`] answers it,
+/// or where there are 2^64 items or more.
+#[tactic(auto, using(crate::proofs::Streams::Fields::fields))]
+pub fn append_struct<F: AppendFields>(s: &mut RlpStream, fields: &F) -> Result<(), AllocError>
+    ensures fits { OnOk result (F.fit fields.now) }
+    ensures ok { OnOk result (s.new.state ≡ put_item (list_of (F.items fields.now)) s.old.state) }
+    ensures refused { OnErr result (GrowsTo s.old.state s.new.state) }
+    ensures retains { Retains s.old s.new }
+{
+    let count = match fields.field_count() {
+        Some(count) => count,
+        None => return Err(AllocError),
+    };
+    s.begin_list(count)?;
+    fields.append_fields(s)?;
+    Ok(())
+}
