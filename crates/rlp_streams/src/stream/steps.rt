@@ -63,7 +63,8 @@ impl RlpStream {
         ensures moved { self.new.moved ≡ self.old.moved }
         ensures retains { Retains self.old self.new }
     {
-        write_string(&mut self.buffer, value)
+        write_string(&mut self.buffer, value)?;
+        Ok(())
     }
 
     /// Puts the encoding of the string that an iterator gives.
@@ -80,7 +81,8 @@ impl RlpStream {
         ensures moved { self.new.moved ≡ self.old.moved }
         ensures retains { Retains self.old self.new }
     {
-        write_string_of(&mut self.buffer, value)
+        write_string_of(&mut self.buffer, value)?;
+        Ok(())
     }
 
     /// Opens a list. It awaits the given number of items, or is unbounded.
