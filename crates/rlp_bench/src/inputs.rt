@@ -5,6 +5,7 @@ use rlp_examples::{Recipient, Transaction};
 use std::alloc::Global;
 
 /// Values, and their encodings, each twice in a row.
+#[derive(Drop)]
 pub(crate) struct Inputs {
     /// Numbers of one to eight bytes.
     pub numbers: Vec<u64>,
@@ -63,7 +64,9 @@ fn numbers(alloc: Global, count: usize) -> Option<Vec<u64>> {
     let mut numbers = Vec::new(alloc);
     let mut state: u64 = 1;
     for turn in 0..count {
-        state = state.wrapping_mul(6_364_136_223_846_793_005).wrapping_add(1_442_695_040_888_963_407);
+        state = state
+            .wrapping_mul(6_364_136_223_846_793_005)
+            .wrapping_add(1_442_695_040_888_963_407);
         numbers.push(state >> (8 * (turn % 8) as u32)).ok()?;
     }
     Some(numbers)

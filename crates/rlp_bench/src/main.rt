@@ -7,8 +7,7 @@ mod reading;
 mod writing;
 
 use inputs::Inputs;
-use std::env;
-use std::io;
+use std::{env, io};
 
 fn main(rt: HostRuntime) -> io::Result<()> {
     let mut args = env::args(&rt)?;

@@ -121,7 +121,12 @@ fn by_at(bytes: &[u8], count: usize, times: usize) -> Option<usize> {
     Some(sum)
 }
 
-fn by_val_at<T: Decodable>(alloc: Global, bytes: &[u8], count: usize, times: usize) -> Option<usize> {
+fn by_val_at<T: Decodable>(
+    alloc: Global,
+    bytes: &[u8],
+    count: usize,
+    times: usize,
+) -> Option<usize> {
     let mut sum: usize = 0;
     for turn in 0..times {
         let list = Rlp::new(turned(bytes, turn)?);
@@ -167,7 +172,13 @@ fn kinds(inputs: &Inputs, times: usize) -> Option<usize> {
     let mut sum: usize = 0;
     for turn in 0..times {
         let view = Rlp::new(turned(inputs.large_number.as_slice(), turn)?);
-        let kinds = [view.is_list(), view.is_data(), view.is_int(), view.is_empty(), view.is_null()];
+        let kinds = [
+            view.is_list(),
+            view.is_data(),
+            view.is_int(),
+            view.is_empty(),
+            view.is_null(),
+        ];
         for kind in kinds.as_slice() {
             sum = sum.wrapping_add(*kind as usize);
         }
@@ -179,7 +190,9 @@ fn data_and_size(inputs: &Inputs, times: usize) -> Option<usize> {
     let mut sum: usize = 0;
     for turn in 0..times {
         let view = Rlp::new(turned(inputs.long_string.as_slice(), turn)?);
-        sum = sum.wrapping_add(view.data().ok()?.len()).wrapping_add(view.size());
+        sum = sum
+            .wrapping_add(view.data().ok()?.len())
+            .wrapping_add(view.size());
     }
     Some(sum)
 }

@@ -69,6 +69,9 @@ fn encode_unbounded(alloc: Global, inputs: &Inputs, times: usize) -> Option<usiz
         for number in inputs.numbers.as_slice() {
             stream.append(number).ok()?;
         }
+        if !stream.can_finalize() {
+            return None;
+        }
         stream.finalize_unbounded_list().ok()?;
         sum = sum.wrapping_add(stream.as_raw().len());
     }
@@ -91,6 +94,10 @@ fn append_raw(alloc: Global, inputs: &Inputs, times: usize) -> Option<usize> {
     for _ in 0..times {
         let mut stream = RlpStream::new_list(alloc, 100).ok()?;
         for _ in 0..100 {
+            match stream.items_awaited() {
+                Some(awaited) if awaited < 1 => return None,
+                _ => {}
+            }
             stream.append_raw(transaction, 1).ok()?;
         }
         sum = sum.wrapping_add(stream.as_raw().len());
