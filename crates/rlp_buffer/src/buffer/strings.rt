@@ -1,6 +1,6 @@
 //! Encodings of strings at the end of a buffer.
 
-ghost use Rattle.std.specs.Prelude.{◌≡◌, ◌≤◌, ◌<◌, ◌+◌, ◌-◌, ◌++◌, ℕ, List, OnOk, OnErr, length, take, drop, false};
+ghost use Rattle.std.specs.Prelude.{◌≡◌, ◌≤◌, ◌<◌, ◌+◌, ◌-◌, ◌++◌, ℕ, List, OnOk, OnErr, IfOk, length, take, drop, false};
 ghost use Rattle.std.specs.Iterator.{IsFiniteIterable};
 ghost use Rattle.rlp_format.specs.Format.Item.{string};
 ghost use Rattle.rlp_format.specs.Format.Encoding.{encoding, is_low_byte, BeginsWith};
@@ -9,7 +9,8 @@ ghost use Rattle.rlp_buffer.specs.Streams.Iterated.{GivesAll};
 
 use super::counted::Buffer;
 use crate::header::{SHORT, STRING, header};
-use std::alloc::AllocError;
+use bytes::BytesMut;
+use std::alloc::{AllocError, Global};
 
 /// Whether a string is its own encoding.
 fn is_low_byte(value: &[u8]) -> bool
@@ -61,6 +62,15 @@ fn write_short(buffer: &mut Buffer, value: &[u8]) -> Result<(), AllocError>
     buffer.extend_reserved(&[STRING + value.len() as u8]);
     buffer.extend_reserved(value);
     Ok(())
+}
+
+/// The encoding of a string, alone. It takes one request for memory, of the length of the encoding.
+pub fn encoded_string(alloc: Global, value: &[u8]) -> Result<BytesMut, AllocError>
+    ensures bytes { IfOk result (λ b. b.items ≡ encoding (string value.now)) }
+{
+    let mut buffer = Buffer::new(BytesMut::new(alloc));
+    write_string(&mut buffer, value)?;
+    Ok(buffer.into_bytes())
 }
 
 /// Writes the bytes that an iterator gives at the end of a buffer. What is refused may leave some.

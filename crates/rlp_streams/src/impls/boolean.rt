@@ -2,7 +2,8 @@
 
 use crate::stream::RlpStream;
 use crate::traits::Encodable;
-use std::alloc::AllocError;
+use bytes::BytesMut;
+use std::alloc::{AllocError, Global};
 
 impl Encodable for bool {
     ghost use Rattle.std.specs.Prelude.{⊤};
@@ -17,5 +18,10 @@ impl Encodable for bool {
     fn rlp_append(&self, s: &mut RlpStream) -> Result<(), AllocError> {
         let number: u64 = if *self { 1 } else { 0 };
         number.rlp_append(s)
+    }
+
+    fn rlp_bytes(&self, alloc: Global) -> Result<BytesMut, AllocError> {
+        let number: u64 = if *self { 1 } else { 0 };
+        number.rlp_bytes(alloc)
     }
 }
