@@ -65,12 +65,18 @@ fn write_short(buffer: &mut Buffer, value: &[u8]) -> Result<(), AllocError>
 }
 
 /// The encoding of a string, alone. It takes one request for memory, of the length of the encoding.
+#[tactic(auto, using(crate::proofs::Streams::Written::written))]
 pub fn encoded_string(alloc: Global, value: &[u8]) -> Result<BytesMut, AllocError>
-    ensures bytes { IfOk result (λ b. b.items ≡ encoding (string value.now)) }
+    ensures { IfOk result (λ b. b.items ≡ encoding (string value.now)) }
 {
-    let mut buffer = Buffer::new(BytesMut::new(alloc));
-    write_string(&mut buffer, value)?;
-    Ok(buffer.into_bytes())
+    if is_low_byte(value) {
+        return Ok(BytesMut::from_vec(Vec::from_slice(alloc, value)?));
+    }
+    let header = header(STRING, value.len());
+    let mut bytes = Vec::with_capacity(alloc, header.as_slice().len() + value.len())?;
+    bytes.extend_from_slice(header.as_slice())?;
+    bytes.extend_from_slice(value)?;
+    Ok(BytesMut::from_vec(bytes))
 }
 
 /// Writes the bytes that an iterator gives at the end of a buffer. What is refused may leave some.
