@@ -1,6 +1,6 @@
 //! Encodings of strings at the end of a buffer.
 
-ghost use Rattle.std.specs.Prelude.{◌≡◌, ◌≤◌, ◌<◌, ◌+◌, ◌-◌, ◌++◌, ℕ, List, OnOk, OnErr, length, take, drop, false};
+ghost use Rattle.std.specs.Prelude.{◌≡◌, ◌≤◌, ◌<◌, ◌+◌, ◌-◌, ◌++◌, ℕ, List, OnOk, OnErr, IfOk, length, take, drop, false};
 ghost use Rattle.std.specs.Iterator.{IsFiniteIterable};
 ghost use Rattle.rlp_format.specs.Format.Item.{string};
 ghost use Rattle.rlp_format.specs.Format.Encoding.{encoding, is_low_byte, BeginsWith};
@@ -9,7 +9,8 @@ ghost use Rattle.rlp_buffer.specs.Streams.Iterated.{GivesAll};
 
 use super::counted::Buffer;
 use crate::header::{SHORT, STRING, header};
-use std::alloc::AllocError;
+use bytes::BytesMut;
+use std::alloc::{AllocError, Global};
 
 /// Whether a string is its own encoding.
 fn is_low_byte(value: &[u8]) -> bool
@@ -61,6 +62,21 @@ fn write_short(buffer: &mut Buffer, value: &[u8]) -> Result<(), AllocError>
     buffer.extend_reserved(&[STRING + value.len() as u8]);
     buffer.extend_reserved(value);
     Ok(())
+}
+
+/// The encoding of a string, alone. It takes one request for memory, of the length of the encoding.
+#[tactic(auto, using(crate::proofs::Streams::Written::written))]
+pub fn encoded_string(alloc: Global, value: &[u8]) -> Result<BytesMut, AllocError>
+    ensures { IfOk result (λ b. b.items ≡ encoding (string value.now)) }
+{
+    if is_low_byte(value) {
+        return Ok(BytesMut::from_vec(Vec::from_slice(alloc, value)?));
+    }
+    let header = header(STRING, value.len());
+    let mut bytes = Vec::with_capacity(alloc, header.as_slice().len() + value.len())?;
+    bytes.extend_from_slice(header.as_slice())?;
+    bytes.extend_from_slice(value)?;
+    Ok(BytesMut::from_vec(bytes))
 }
 
 /// Writes the bytes that an iterator gives at the end of a buffer. What is refused may leave some.

@@ -2,7 +2,8 @@
 
 use crate::stream::RlpStream;
 use crate::traits::Encodable;
-use std::alloc::AllocError;
+use bytes::BytesMut;
+use std::alloc::{AllocError, Global};
 
 impl Encodable for bool {
     ghost use Rattle.std.specs.Prelude.{⊤};
@@ -15,7 +16,10 @@ impl Encodable for bool {
     ghost at_once = { λ _. ⊤ };
 
     fn rlp_append(&self, s: &mut RlpStream) -> Result<(), AllocError> {
-        let number: u64 = if *self { 1 } else { 0 };
-        number.rlp_append(s)
+        (*self as u64).rlp_append(s)
+    }
+
+    fn rlp_bytes(&self, alloc: Global) -> Result<BytesMut, AllocError> {
+        (*self as u64).rlp_bytes(alloc)
     }
 }

@@ -2,7 +2,8 @@
 
 use crate::stream::RlpStream;
 use crate::traits::Encodable;
-use std::alloc::AllocError;
+use bytes::BytesMut;
+use std::alloc::{AllocError, Global};
 
 impl<T: Encodable> Encodable for Box<T> {
     ghost item = { λ b. T.item b.value };
@@ -13,5 +14,9 @@ impl<T: Encodable> Encodable for Box<T> {
 
     fn rlp_append(&self, s: &mut RlpStream) -> Result<(), AllocError> {
         T::rlp_append(self, s)
+    }
+
+    fn rlp_bytes(&self, alloc: Global) -> Result<BytesMut, AllocError> {
+        T::rlp_bytes(self, alloc)
     }
 }

@@ -2,7 +2,9 @@
 
 use crate::stream::RlpStream;
 use crate::traits::Encodable;
-use std::alloc::AllocError;
+use bytes::BytesMut;
+use rlp_buffer::buffer::strings::encoded_string;
+use std::alloc::{AllocError, Global};
 
 impl Encodable for Vec<u8> {
     ghost use Rattle.std.specs.Prelude.{⊤};
@@ -17,6 +19,10 @@ impl Encodable for Vec<u8> {
     #[tactic(auto, using(crate::proofs::Streams::Growth::growth))]
     fn rlp_append(&self, s: &mut RlpStream) -> Result<(), AllocError> {
         s.encoder().encode_value(self.as_slice())
+    }
+
+    fn rlp_bytes(&self, alloc: Global) -> Result<BytesMut, AllocError> {
+        encoded_string(alloc, self.as_slice())
     }
 }
 
@@ -33,5 +39,9 @@ impl Encodable for &[u8] {
     #[tactic(auto, using(crate::proofs::Streams::Growth::growth))]
     fn rlp_append(&self, s: &mut RlpStream) -> Result<(), AllocError> {
         s.encoder().encode_value(self)
+    }
+
+    fn rlp_bytes(&self, alloc: Global) -> Result<BytesMut, AllocError> {
+        encoded_string(alloc, self)
     }
 }

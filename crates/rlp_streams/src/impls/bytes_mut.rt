@@ -3,7 +3,8 @@
 use crate::stream::RlpStream;
 use crate::traits::Encodable;
 use bytes::BytesMut;
-use std::alloc::AllocError;
+use rlp_buffer::buffer::strings::encoded_string;
+use std::alloc::{AllocError, Global};
 
 impl Encodable for BytesMut {
     ghost use Rattle.std.specs.Prelude.{⊤};
@@ -18,5 +19,9 @@ impl Encodable for BytesMut {
     #[tactic(auto, using(crate::proofs::Streams::Growth::growth))]
     fn rlp_append(&self, s: &mut RlpStream) -> Result<(), AllocError> {
         s.encoder().encode_value(self.as_slice())
+    }
+
+    fn rlp_bytes(&self, alloc: Global) -> Result<BytesMut, AllocError> {
+        encoded_string(alloc, self.as_slice())
     }
 }

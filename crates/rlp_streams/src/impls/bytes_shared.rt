@@ -2,8 +2,9 @@
 
 use crate::stream::RlpStream;
 use crate::traits::Encodable;
-use bytes::Bytes;
-use std::alloc::AllocError;
+use bytes::{Bytes, BytesMut};
+use rlp_buffer::buffer::strings::encoded_string;
+use std::alloc::{AllocError, Global};
 
 impl Encodable for Bytes {
     ghost use Rattle.std.specs.Prelude.{⊤};
@@ -18,5 +19,9 @@ impl Encodable for Bytes {
     #[tactic(auto, using(crate::proofs::Streams::Growth::growth))]
     fn rlp_append(&self, s: &mut RlpStream) -> Result<(), AllocError> {
         s.encoder().encode_value(self.as_slice())
+    }
+
+    fn rlp_bytes(&self, alloc: Global) -> Result<BytesMut, AllocError> {
+        encoded_string(alloc, self.as_slice())
     }
 }

@@ -5,8 +5,10 @@ ghost use Rattle.rlp_format.specs.Values.Value.{FitsBytes};
 
 use crate::stream::RlpStream;
 use crate::traits::Encodable;
+use bytes::BytesMut;
+use rlp_buffer::buffer::strings::encoded_string;
 use rlp_format::digits::Digits;
-use std::alloc::AllocError;
+use std::alloc::{AllocError, Global};
 
 impl Encodable for u8 {
     ghost use Rattle.std.specs.Prelude.{⊤};
@@ -20,6 +22,10 @@ impl Encodable for u8 {
 
     fn rlp_append(&self, s: &mut RlpStream) -> Result<(), AllocError> {
         (*self as u64).rlp_append(s)
+    }
+
+    fn rlp_bytes(&self, alloc: Global) -> Result<BytesMut, AllocError> {
+        (*self as u64).rlp_bytes(alloc)
     }
 }
 
@@ -36,6 +42,10 @@ impl Encodable for u16 {
     fn rlp_append(&self, s: &mut RlpStream) -> Result<(), AllocError> {
         (*self as u64).rlp_append(s)
     }
+
+    fn rlp_bytes(&self, alloc: Global) -> Result<BytesMut, AllocError> {
+        (*self as u64).rlp_bytes(alloc)
+    }
 }
 
 impl Encodable for u32 {
@@ -50,6 +60,10 @@ impl Encodable for u32 {
 
     fn rlp_append(&self, s: &mut RlpStream) -> Result<(), AllocError> {
         (*self as u64).rlp_append(s)
+    }
+
+    fn rlp_bytes(&self, alloc: Global) -> Result<BytesMut, AllocError> {
+        (*self as u64).rlp_bytes(alloc)
     }
 }
 
@@ -67,6 +81,10 @@ impl Encodable for u64 {
     fn rlp_append(&self, s: &mut RlpStream) -> Result<(), AllocError> {
         s.encoder().encode_value(Digits::of(*self).as_slice())
     }
+
+    fn rlp_bytes(&self, alloc: Global) -> Result<BytesMut, AllocError> {
+        encoded_string(alloc, Digits::of(*self).as_slice())
+    }
 }
 
 impl Encodable for usize {
@@ -81,6 +99,10 @@ impl Encodable for usize {
 
     fn rlp_append(&self, s: &mut RlpStream) -> Result<(), AllocError> {
         (*self as u64).rlp_append(s)
+    }
+
+    fn rlp_bytes(&self, alloc: Global) -> Result<BytesMut, AllocError> {
+        (*self as u64).rlp_bytes(alloc)
     }
 }
 
@@ -97,5 +119,9 @@ impl Encodable for u128 {
     #[tactic(auto, using(crate::proofs::Streams::Growth::growth))]
     fn rlp_append(&self, s: &mut RlpStream) -> Result<(), AllocError> {
         s.encoder().encode_value(Digits::of_wide(*self).as_slice())
+    }
+
+    fn rlp_bytes(&self, alloc: Global) -> Result<BytesMut, AllocError> {
+        encoded_string(alloc, Digits::of_wide(*self).as_slice())
     }
 }

@@ -2,7 +2,9 @@
 
 use crate::stream::RlpStream;
 use crate::traits::Encodable;
-use std::alloc::AllocError;
+use bytes::BytesMut;
+use rlp_buffer::buffer::strings::encoded_string;
+use std::alloc::{AllocError, Global};
 
 impl Encodable for String {
     ghost use Rattle.std.specs.Prelude.{⊤, IsUtf8};
@@ -19,6 +21,10 @@ impl Encodable for String {
     fn rlp_append(&self, s: &mut RlpStream) -> Result<(), AllocError> {
         s.encoder().encode_value(self.as_str().as_bytes())
     }
+
+    fn rlp_bytes(&self, alloc: Global) -> Result<BytesMut, AllocError> {
+        encoded_string(alloc, self.as_str().as_bytes())
+    }
 }
 
 impl Encodable for &str {
@@ -34,5 +40,9 @@ impl Encodable for &str {
     #[tactic(auto, using(crate::proofs::Streams::Growth::growth))]
     fn rlp_append(&self, s: &mut RlpStream) -> Result<(), AllocError> {
         s.encoder().encode_value(self.as_bytes())
+    }
+
+    fn rlp_bytes(&self, alloc: Global) -> Result<BytesMut, AllocError> {
+        encoded_string(alloc, self.as_bytes())
     }
 }

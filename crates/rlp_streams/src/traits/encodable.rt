@@ -61,8 +61,11 @@ pub trait Encodable {
         ensures refused { OnErr result (GrowsTo s.old.state s.new.state) }
         ensures retains { Retains s.old s.new };
 
-    /// The encoding of the value, alone. `AllocError` where memory is refused, or where
-    /// [`Encodable::rlp_append`] answers it.
+    /// The encoding of the value, alone. Fails with `AllocError` if memory is refused, or if
+    /// [`Encodable::rlp_append`] fails with it.
+    ///
+    /// A type that doesn't say otherwise is written into a stream with room for 1,024 bytes. The
+    /// provided types that are strings make one request for memory, of the encoding's length.
     fn rlp_bytes(&self, alloc: Global) -> Result<BytesMut, AllocError>
         ensures fits { OnOk result (fits self.now) }
         ensures bytes { IfOk result (λ b. b.items ≡ encoding (item self.now)) }
