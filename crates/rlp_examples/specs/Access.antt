@@ -1,14 +1,14 @@
 -- How access lists are written and read.
 use Rattle.std.specs.Vec.{vec_items}
-use Rattle.rlp.specs.Codec.{Codec, and_field, fixed_bytes, last_field, list_type, struct_of}
+use Rattle.rlp.specs.Codec.{Codec, and_field, byte_array, last_field, list_type, newtype, struct_of}
 use Rattle.rlp_examples.specs.declared.address.Address.{Address}
 use Rattle.rlp_examples.specs.declared.access.Access.{Access}
 use Rattle.rlp_examples.specs.declared.access.AccessList.{AccessList}
 use Rattle.rlp_examples.specs.Hash.{hash}
 
--- 20 bytes
+-- an array of 20 bytes
 abbrev pub address : Codec Address
-address = fixed_bytes 20 (λ (a : Address). a.bytes)
+address = newtype (λ (a : Address). a.bytes) (byte_array 20)
 
 -- the list of an address and the list of its keys
 abbrev pub access : Codec Access

@@ -1,8 +1,5 @@
 //! The address of an account: 20 bytes.
 
-ghost use Rattle.std.specs.Prelude.{◌≡◌, length, IfErr, IfOk};
-ghost use Rattle.rlp.specs.Values.ValueReading.{IsLengthFault};
-
 use rlp::{Decodable, DecoderError, Encodable, Rlp, RlpStream, RoundTrip, StrictRead};
 use std::alloc::{AllocError, Global};
 
@@ -13,7 +10,7 @@ pub struct Address {
     pub bytes: [u8; 20],
 }
 
-/// The string of the bytes.
+/// As the array of the bytes.
 impl Encodable for Address {
     ghost use Rattle.rlp_examples.specs.Access.{address};
 
@@ -21,13 +18,12 @@ impl Encodable for Address {
 
     ghost fits = { address.Fits };
 
-    #[tactic(auto, using(rlp::proofs::Growth::growth))]
     fn rlp_append(&self, s: &mut RlpStream) -> Result<(), AllocError> {
-        s.encoder().encode_value(&self.bytes)
+        self.bytes.rlp_append(s)
     }
 }
 
-/// A shorter string is `RlpIsTooShort`, and a longer one `RlpIsTooBig`. No memory is taken.
+/// As the array of the bytes.
 impl Decodable for Address {
     ghost use Rattle.rlp_examples.specs.Access.{address};
 
@@ -37,12 +33,9 @@ impl Decodable for Address {
 
     ghost may_lack_memory = { address.may_lack };
 
-    #[tactic(auto, using(rlp::proofs::OneString::one_string))]
-    fn decode(_alloc: Global, rlp: &Rlp<'_>) -> Result<Address, DecoderError> {
-        match rlp.decoder().decode_value(address_of) {
-            Ok(address) => Ok(address),
-            Err(fault) => Err(fault),
-        }
+    fn decode(alloc: Global, rlp: &Rlp<'_>) -> Result<Address, DecoderError> {
+        let bytes = rlp.as_val(alloc)?;
+        Ok(Address { bytes })
     }
 }
 
@@ -56,17 +49,4 @@ impl StrictRead for Address {
     ghost use Rattle.rlp_examples.specs.Access.{address};
 
     ghost strict = { address.reads_strictly };
-}
-
-/// The address of these bytes, if they are 20.
-#[tactic(auto, using(rlp::specs::Lemmas::RoundTrips::length_faults))]
-fn address_of(string: &[u8]) -> Result<Address, DecoderError>
-    ensures value { IfOk result (λ a. (length a.bytes ≡ 20) × (a.bytes ≡ string.now)) }
-    ensures fault { IfErr result (λ e. IsLengthFault 20 string.now e) }
-{
-    match <[u8; 20]>::try_from(string) {
-        Ok(bytes) => Ok(Address { bytes }),
-        Err(_) if string.len() < 20 => Err(DecoderError::RlpIsTooShort),
-        Err(_) => Err(DecoderError::RlpIsTooBig),
-    }
 }

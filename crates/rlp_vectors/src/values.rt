@@ -5,4 +5,5 @@ mod careless;
 mod codecs;
 mod nodes;
 mod once_refused;
+mod tails;
 mod uses;

@@ -33,19 +33,27 @@ const NO_NUMBERS: [(&[u8], DecoderError); 4] = [
     (&[0x83, 0x01, 0x00, 0x00], DecoderError::RlpIsTooBig),
 ];
 
+/// Whether this fault was found.
+pub fn is_fault(found: Option<DecoderError>, want: &DecoderError) -> bool {
+    match found {
+        Some(fault) => fault == *want,
+        None => false,
+    }
+}
+
 fn arrays_go_both_ways(alloc: Global) -> Result<bool, Fail> {
     let none: [u8; 0] = [];
     let cat = rlp::decode::<[u8; 3]>(alloc, &[0x83, 0x63, 0x61, 0x74, 0xff])?;
     Ok(
-        rlp::encode(alloc, &none)?.as_slice() == [0x80]
-            && rlp::encode(alloc, &[0x05u8])?.as_slice() == [0x05]
-            && rlp::encode(alloc, &cat)?.as_slice() == [0x83, 0x63, 0x61, 0x74]
+        rlp::encode(alloc, &none)?.as_slice() == [0x80].as_slice()
+            && rlp::encode(alloc, &[0x05u8])?.as_slice() == [0x05].as_slice()
+            && rlp::encode(alloc, &cat)?.as_slice() == [0x83, 0x63, 0x61, 0x74].as_slice()
             && cat == [0x63, 0x61, 0x74],
     )
 }
 
 fn no_triples(alloc: Global) -> bool {
-    NO_TRIPLES.iter().all(|row| rlp::decode::<[u8; 3]>(alloc, row.0).err() == Some(row.1))
+    NO_TRIPLES.iter().all(|row| is_fault(rlp::decode::<[u8; 3]>(alloc, row.0).err(), &row.1))
 }
 
 fn numbers_go_both_ways(alloc: Global) -> Result<bool, Fail> {
@@ -64,7 +72,7 @@ fn numbers_go_both_ways(alloc: Global) -> Result<bool, Fail> {
 }
 
 fn no_numbers(alloc: Global) -> bool {
-    NO_NUMBERS.iter().all(|row| rlp::decode::<Uint<2>>(alloc, row.0).err() == Some(row.1))
+    NO_NUMBERS.iter().all(|row| is_fault(rlp::decode::<Uint<2>>(alloc, row.0).err(), &row.1))
 }
 
 #[test]
