@@ -15,6 +15,9 @@ pub mod ViewKinds
 pub mod StrictDecoding
 -- the items that calls describe
 pub mod Descriptions
--- for authors of types, passed on from `rlp_streams`
+-- for authors of types: what bodies cite that write, and that read
+pub mod Writing
+pub mod Reading
+-- the same by smaller sets, passed on from `rlp_streams`
 pub mod Growth
 pub mod Filling

@@ -21,7 +21,7 @@ impl Encodable for Address {
 
     ghost fits = { address.Fits };
 
-    #[tactic(auto, using(rlp::proofs::Growth::growth))]
+    #[tactic(auto, using(rlp::proofs::Writing::writing))]
     fn rlp_append(&self, s: &mut RlpStream) -> Result<(), AllocError> {
         s.encoder().encode_value(&self.bytes)
     }
@@ -37,7 +37,7 @@ impl Decodable for Address {
 
     ghost may_lack_memory = { address.may_lack };
 
-    #[tactic(auto, using(rlp::proofs::Values::one_string))]
+    #[tactic(auto, using(rlp::proofs::Reading::reading))]
     fn decode(_alloc: Global, rlp: &Rlp<'_>) -> Result<Address, DecoderError> {
         match rlp.decoder().decode_value(address_of) {
             Ok(address) => Ok(address),
