@@ -4,4 +4,5 @@ mod careless;
 mod codecs;
 mod nodes;
 mod once_refused;
+mod structs;
 mod uses;
