@@ -6,7 +6,10 @@ pub mod Views
 pub mod Values
 -- the items that calls describe
 pub mod Streams
--- for authors of types: a type that is read from one string, and what is passed on from `rlp_streams`
+-- for authors of types: what bodies cite that write, and that read
+pub mod Writing
+pub mod Reading
+-- the same by smaller sets: a type that is read from one string, and what is passed on from `rlp_streams`
 pub mod OneString
 pub mod Growth
 pub mod Filling

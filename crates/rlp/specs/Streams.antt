@@ -8,6 +8,8 @@ pub use Rattle.rlp_streams.specs.Streams.Growth
 pub use Rattle.rlp_buffer.specs.Streams.Calls
 -- what a refusal leaves of a stream that is lent on
 pub use Rattle.rlp_streams.specs.Streams.Chain
+-- values that are appended one after another
+pub use Rattle.rlp_streams.specs.Streams.Fields
 -- the bytes that an iterator gives
 pub use Rattle.rlp_buffer.specs.Streams.Iterated
 -- the items that calls describe

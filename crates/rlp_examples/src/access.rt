@@ -69,7 +69,7 @@ impl Encodable for AccessList {
 
     ghost fits = { access_list.Fits };
 
-    #[tactic(auto, using(rlp::proofs::Growth::growth))]
+    #[tactic(auto, using(rlp::proofs::Writing::writing))]
     fn rlp_append(&self, s: &mut RlpStream) -> Result<(), AllocError> {
         s.append_list(self.0.as_slice())?;
         Ok(())

@@ -22,7 +22,7 @@ impl Encodable for Child {
 
     ghost fits = { child.Fits };
 
-    #[tactic(auto, using(rlp::proofs::Growth::growth))]
+    #[tactic(auto, using(rlp::proofs::Writing::writing))]
     fn rlp_append(&self, s: &mut RlpStream) -> Result<(), AllocError> {
         match self {
             Child::Nothing => s.encoder().encode_value(&[]),
@@ -42,7 +42,7 @@ impl Decodable for Child {
 
     ghost may_lack_memory = { child.may_lack };
 
-    #[tactic(auto, using(rlp::proofs::OneString::one_string))]
+    #[tactic(auto, using(rlp::proofs::Reading::reading))]
     fn decode(_alloc: Global, rlp: &Rlp<'_>) -> Result<Child, DecoderError> {
         match rlp.decoder().decode_value(child_of) {
             Ok(child) => Ok(child),

@@ -50,7 +50,7 @@ pub fn append_list_in_list<A: Encodable + Drop, B: Encodable + Drop>(
 }
 
 /// Writes the same call by call. The second value closes both lists.
-#[tactic(auto, using(rlp::proofs::Filling::filling))]
+#[tactic(auto, using(rlp::proofs::Writing::writing))]
 pub fn write_list_in_list<A: Encodable, B: Encodable>(
     s: &mut RlpStream,
     a: &A,

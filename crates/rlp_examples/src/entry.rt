@@ -24,7 +24,7 @@ impl Encodable for Entry {
 
     ghost fits = { entry.Fits };
 
-    #[tactic(auto, using(rlp::proofs::Filling::filling))]
+    #[tactic(auto, using(rlp::proofs::Writing::writing))]
     fn rlp_append(&self, s: &mut RlpStream) -> Result<(), AllocError> {
         s.begin_list(2)?.append(&self.number)?.append(&self.bytes)?;
         Ok(())
@@ -40,7 +40,7 @@ impl Decodable for Entry {
 
     ghost may_lack_memory = { entry.may_lack };
 
-    #[tactic(auto, using(rlp::specs::Lemmas::Structs::struct_fields))]
+    #[tactic(auto, using(rlp::proofs::Reading::reading))]
     fn decode(alloc: Global, rlp: &Rlp<'_>) -> Result<Entry, DecoderError> {
         if rlp.item_count()? != 2 {
             return Err(DecoderError::RlpIncorrectListLen);

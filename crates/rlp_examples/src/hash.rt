@@ -21,7 +21,7 @@ impl Encodable for Hash {
 
     ghost fits = { hash.Fits };
 
-    #[tactic(auto, using(rlp::proofs::Growth::growth))]
+    #[tactic(auto, using(rlp::proofs::Writing::writing))]
     fn rlp_append(&self, s: &mut RlpStream) -> Result<(), AllocError> {
         s.encoder().encode_value(&self.bytes)
     }
@@ -37,7 +37,7 @@ impl Decodable for Hash {
 
     ghost may_lack_memory = { hash.may_lack };
 
-    #[tactic(auto, using(rlp::proofs::OneString::one_string))]
+    #[tactic(auto, using(rlp::proofs::Reading::reading))]
     fn decode(_alloc: Global, rlp: &Rlp<'_>) -> Result<Hash, DecoderError> {
         match rlp.decoder().decode_value(hash_of) {
             Ok(hash) => Ok(hash),

@@ -18,7 +18,7 @@ impl Encodable for Inner {
 
     ghost fits = { inner.Fits };
 
-    #[tactic(auto, using(rlp::proofs::Filling::filling))]
+    #[tactic(auto, using(rlp::proofs::Writing::writing))]
     fn rlp_append(&self, s: &mut RlpStream) -> Result<(), AllocError> {
         s.begin_unbounded_list()?;
         s.append(&self.0)?;
@@ -37,7 +37,7 @@ impl Decodable for Inner {
 
     ghost may_lack_memory = { inner.may_lack };
 
-    #[tactic(auto, using(rlp::specs::Lemmas::Structs::struct_fields))]
+    #[tactic(auto, using(rlp::proofs::Reading::reading))]
     fn decode(alloc: Global, rlp: &Rlp<'_>) -> Result<Inner, DecoderError> {
         if rlp.item_count()? != 2 {
             return Err(DecoderError::RlpIncorrectListLen);
@@ -69,7 +69,7 @@ impl<T: Encodable> Encodable for Nest<T> {
 
     ghost fits = { λ n. All T.fits (vec_items n.0) };
 
-    #[tactic(auto, using(rlp::proofs::Growth::growth, rlp::proofs::Filling::filling))]
+    #[tactic(auto, using(rlp::proofs::Writing::writing))]
     fn rlp_append(&self, s: &mut RlpStream) -> Result<(), AllocError> {
         s.begin_unbounded_list()?.append_list(self.0.as_slice())?;
         s.finalize_unbounded_list()?;

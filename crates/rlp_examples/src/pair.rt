@@ -16,9 +16,7 @@ impl Encodable for Pair {
 
     ghost fits = { λ p. FitsBytes 8 p.0 × FitsBytes 8 p.1 };
 
-    #[tactic(auto, using(rlp::proofs::Filling::filling))]
     fn rlp_append(&self, s: &mut RlpStream) -> Result<(), AllocError> {
-        s.begin_list(2)?.append(&self.0)?.append(&self.1)?;
-        Ok(())
+        rlp::append_fields!(s, &self.0, &self.1)
     }
 }

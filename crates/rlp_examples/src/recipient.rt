@@ -22,7 +22,7 @@ impl Encodable for Recipient {
 
     ghost fits = { recipient.Fits };
 
-    #[tactic(auto, using(rlp::proofs::Growth::growth))]
+    #[tactic(auto, using(rlp::proofs::Writing::writing))]
     fn rlp_append(&self, s: &mut RlpStream) -> Result<(), AllocError> {
         match self {
             Recipient::Nobody => s.encoder().encode_value(&[]),
@@ -42,7 +42,7 @@ impl Decodable for Recipient {
 
     ghost may_lack_memory = { recipient.may_lack };
 
-    #[tactic(auto, using(rlp::proofs::OneString::one_string))]
+    #[tactic(auto, using(rlp::proofs::Reading::reading))]
     fn decode(_alloc: Global, rlp: &Rlp<'_>) -> Result<Recipient, DecoderError> {
         match rlp.decoder().decode_value(recipient_of) {
             Ok(recipient) => Ok(recipient),

@@ -15,7 +15,7 @@ impl Encodable for Refusing {
 
     ghost fits = { λ v. ⊤ };
 
-    #[tactic(auto, using(rlp::proofs::Growth::growth))]
+    #[tactic(auto, using(rlp::proofs::Writing::writing))]
     fn rlp_append(&self, _s: &mut RlpStream) -> Result<(), AllocError> {
         Err(AllocError)
     }

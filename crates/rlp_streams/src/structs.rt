@@ -1,13 +1,16 @@
 //! Structs that are written as the list of their fields.
 
-ghost use Rattle.std.specs.Prelude.{◌≡◌, ◌++◌, ◌∷◌, [], ◌^◌, ◌≤◌, List, OnOk, OnErr, All, length, map, MatchOption};
+ghost use Rattle.std.specs.Prelude.{◌≡◌, ◌++◌, ◌∷◌, [], ◌^◌, ◌≤◌, List, OnOk, OnErr, length, MatchOption};
 ghost use Rattle.rlp_format.specs.Format.Item.{Item, list_of};
 ghost use Rattle.rlp_buffer.specs.Streams.Stream.{Retains, add_all, put_item};
 ghost use Rattle.rlp_streams.specs.Streams.Growth.{GrowsTo};
-ghost use Rattle.rlp_streams.specs.Streams.Fields.{AppendsSome, all_items};
+ghost use Rattle.rlp_streams.specs.Streams.Fields.{AppendsSome};
+
+mod slices;
 
 use crate::stream::RlpStream;
 use crate::traits::Encodable;
+pub use slices::{Each, Flattened, ListOf};
 use std::alloc::AllocError;
 
 /// Values that are appended one after another, as the fields of a struct are.
@@ -36,18 +39,6 @@ pub trait AppendFields {
         ensures retains { Retains s.old s.new };
 }
 
-/// A field that is the list of the values of a slice: one item.
-#[derive(Clone, Copy)]
-pub struct ListOf<'a, T>(pub &'a [T]);
-
-/// A field for each value of a slice.
-#[derive(Clone, Copy)]
-pub struct Each<'a, T>(pub &'a [T]);
-
-/// The fields of each value of a slice, as the keys and values of pairs.
-#[derive(Clone, Copy)]
-pub struct Flattened<'a, T>(pub &'a [T]);
-
 impl<T: Encodable> AppendFields for &T {
     ghost items = { λ v. T.item v.now ∷ [] };
 
@@ -61,73 +52,6 @@ impl<T: Encodable> AppendFields for &T {
     fn append_fields(&self, s: &mut RlpStream) -> Result<(), AllocError> {
         let value = *self;
         s.append(value)?;
-        Ok(())
-    }
-}
-
-impl<T: Encodable> AppendFields for ListOf<'_, T> {
-    ghost items = { λ v. list_of (map T.item v.0.now) ∷ [] };
-
-    ghost fit = { λ v. All T.fits v.0.now };
-
-    fn field_count(&self) -> Option<usize> {
-        Some(1)
-    }
-
-    #[tactic(auto, using(crate::proofs::Streams::Fields::fields))]
-    fn append_fields(&self, s: &mut RlpStream) -> Result<(), AllocError> {
-        s.append_list(self.0)?;
-        Ok(())
-    }
-}
-
-impl<T: Encodable> AppendFields for Each<'_, T> {
-    ghost items = { λ v. map T.item v.0.now };
-
-    ghost fit = { λ v. All T.fits v.0.now };
-
-    #[tactic(auto, using(crate::proofs::Streams::Fields::counts))]
-    fn field_count(&self) -> Option<usize> {
-        Some(self.0.len())
-    }
-
-    #[tactic(auto, using(crate::proofs::Streams::Fields::fields))]
-    fn append_fields(&self, s: &mut RlpStream) -> Result<(), AllocError> {
-        let values = self.0;
-        for value in values {
-            s.append(value)?;
-        }
-        Ok(())
-    }
-}
-
-impl<T: AppendFields> AppendFields for Flattened<'_, T> {
-    ghost items = { λ v. all_items T.items v.0.now };
-
-    ghost fit = { λ v. All T.fit v.0.now };
-
-    fn field_count(&self) -> Option<usize> {
-        let values = self.0;
-        let mut count: usize = 0;
-        for value in values {
-            let more = match value.field_count() {
-                Some(more) => more,
-                None => return None,
-            };
-            count = match count.checked_add(more) {
-                Some(sum) => sum,
-                None => return None,
-            };
-        }
-        Some(count)
-    }
-
-    #[tactic(auto, using(crate::proofs::Streams::Fields::fields))]
-    fn append_fields(&self, s: &mut RlpStream) -> Result<(), AllocError> {
-        let values = self.0;
-        for value in values {
-            value.append_fields(s)?;
-        }
         Ok(())
     }
 }

@@ -6,4 +6,5 @@ mod codecs;
 mod nodes;
 mod once_refused;
 mod tails;
+mod structs;
 mod uses;

@@ -1,7 +1,7 @@
 use Rattle.std.proofs.Common.{◌≡◌, take, map}
 use Rattle.std.specs.List.{All}
 use Rattle.rlp_buffer.specs.Streams.Stream.{Retains, add_all}
-use Rattle.rlp_streams.proofs.structs.EachAppendFields.append_fields.Given as goal
+use Rattle.rlp_streams.proofs.structs.slices.EachAppendFields.append_fields.Given as goal
 
 abbrev pub invariant-loop-value : goal.invariant-loop-value
 invariant-loop-value g l =

@@ -5,7 +5,7 @@ use Rattle.std.proofs.lemmas.List.{map_more, take_all}
 use Rattle.rlp_buffer.specs.Streams.Stream.{add_all}
 use Rattle.rlp_streams.proofs.Streams.Growth.{retains_trans}
 use Rattle.rlp_streams.proofs.Streams.Fields.{items_pushed, some_at}
-use Rattle.rlp_streams.proofs.structs.EachAppendFields.append_fields.Goals as goal
+use Rattle.rlp_streams.proofs.structs.slices.EachAppendFields.append_fields.Goals as goal
 
 on_err : {T E : Type 0} (r : Result T E) (P : Type 0) → P → OnErr r P
 on_err (Ok x) P p = tt

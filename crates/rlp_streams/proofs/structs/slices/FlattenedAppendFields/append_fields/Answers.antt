@@ -3,7 +3,7 @@ use Rattle.std.specs.Prelude.{OnErr}
 use Rattle.std.proofs.lemmas.Grind.{elements}
 use Rattle.rlp_streams.proofs.Streams.Fields.{flattened_at, flattened_pushed}
 use Rattle.rlp_streams.proofs.Streams.Growth.{retains_trans}
-use Rattle.rlp_streams.proofs.structs.FlattenedAppendFields.append_fields.Goals as goal
+use Rattle.rlp_streams.proofs.structs.slices.FlattenedAppendFields.append_fields.Goals as goal
 
 on_err : {T E : Type 0} (r : Result T E) (P : Type 0) → P → OnErr r P
 on_err (Ok x) P p = tt

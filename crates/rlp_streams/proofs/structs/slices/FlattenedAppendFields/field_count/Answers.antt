@@ -2,7 +2,7 @@ use Rattle.std.proofs.Common.{◌∙◌, ap, arith, length}
 use Rattle.std.proofs.lemmas.List.{take_all}
 use Rattle.rlp_streams.specs.Streams.Fields.{all_items}
 use Rattle.rlp_streams.proofs.Streams.Fields.{counted_more, counted_so_far}
-use Rattle.rlp_streams.proofs.structs.FlattenedAppendFields.field_count.Goals as goal
+use Rattle.rlp_streams.proofs.structs.slices.FlattenedAppendFields.field_count.Goals as goal
 
 pub returns-in-None : goal.returns-in-None
 returns-in-None g c =

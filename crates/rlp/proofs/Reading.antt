@@ -1,0 +1,5 @@
+-- For authors of types: what a body of `decode` cites that reads a string, or the fields of a list by number.
+use Rattle.rlp.specs.Lemmas.Structs.{struct_fields}
+use Rattle.rlp.proofs.OneString.{one_string}
+
+pub ruleset reading = (one_string, struct_fields)

@@ -1,0 +1,89 @@
+//! Fields that are the values of a slice.
+
+ghost use Rattle.std.specs.Prelude.{◌∷◌, [], All, map};
+ghost use Rattle.rlp_format.specs.Format.Item.{list_of};
+ghost use Rattle.rlp_streams.specs.Streams.Fields.{all_items};
+
+use crate::stream::RlpStream;
+use crate::structs::AppendFields;
+use crate::traits::Encodable;
+use std::alloc::AllocError;
+
+/// A field that is the list of the values of a slice: one item.
+#[derive(Clone, Copy)]
+pub struct ListOf<'a, T>(pub &'a [T]);
+
+/// A field for each value of a slice.
+#[derive(Clone, Copy)]
+pub struct Each<'a, T>(pub &'a [T]);
+
+/// The fields of each value of a slice, as the keys and values of pairs.
+#[derive(Clone, Copy)]
+pub struct Flattened<'a, T>(pub &'a [T]);
+
+impl<T: Encodable> AppendFields for ListOf<'_, T> {
+    ghost items = { λ v. list_of (map T.item v.0.now) ∷ [] };
+
+    ghost fit = { λ v. All T.fits v.0.now };
+
+    fn field_count(&self) -> Option<usize> {
+        Some(1)
+    }
+
+    #[tactic(auto, using(crate::proofs::Streams::Fields::fields))]
+    fn append_fields(&self, s: &mut RlpStream) -> Result<(), AllocError> {
+        s.append_list(self.0)?;
+        Ok(())
+    }
+}
+
+impl<T: Encodable> AppendFields for Each<'_, T> {
+    ghost items = { λ v. map T.item v.0.now };
+
+    ghost fit = { λ v. All T.fits v.0.now };
+
+    #[tactic(auto, using(crate::proofs::Streams::Fields::counts))]
+    fn field_count(&self) -> Option<usize> {
+        Some(self.0.len())
+    }
+
+    #[tactic(auto, using(crate::proofs::Streams::Fields::fields))]
+    fn append_fields(&self, s: &mut RlpStream) -> Result<(), AllocError> {
+        let values = self.0;
+        for value in values {
+            s.append(value)?;
+        }
+        Ok(())
+    }
+}
+
+impl<T: AppendFields> AppendFields for Flattened<'_, T> {
+    ghost items = { λ v. all_items T.items v.0.now };
+
+    ghost fit = { λ v. All T.fit v.0.now };
+
+    fn field_count(&self) -> Option<usize> {
+        let values = self.0;
+        let mut count: usize = 0;
+        for value in values {
+            let more = match value.field_count() {
+                Some(more) => more,
+                None => return None,
+            };
+            count = match count.checked_add(more) {
+                Some(sum) => sum,
+                None => return None,
+            };
+        }
+        Some(count)
+    }
+
+    #[tactic(auto, using(crate::proofs::Streams::Fields::fields))]
+    fn append_fields(&self, s: &mut RlpStream) -> Result<(), AllocError> {
+        let values = self.0;
+        for value in values {
+            value.append_fields(s)?;
+        }
+        Ok(())
+    }
+}
