@@ -2,9 +2,9 @@
 pub use Rattle.rlp_format.specs.Values.Value
 -- which bytes give which value, and which fault
 pub mod ValueReading
--- the same of lists of values
+-- the same for lists of values
 pub mod ListReading
--- what it is that decoding undoes encoding
+-- what it means that decoding undoes encoding
 pub mod RoundTrip
--- where a reader of fields is
+-- the place of a reader of fields
 pub mod FieldPlace
