@@ -1,6 +1,6 @@
 -- how a state grows
 pub mod Growth
--- what a refusal leaves of a stream that is lent on
+-- what a refusal leaves of a stream in a chain
 pub mod Chain
--- the place that a call notes, to go back to it
+-- the place that a call notes, to go back to it later
 pub mod Places
