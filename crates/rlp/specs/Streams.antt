@@ -4,9 +4,9 @@ pub use Rattle.rlp_buffer.specs.Streams.Stack
 pub use Rattle.rlp_buffer.specs.Streams.Stream
 -- how a state grows
 pub use Rattle.rlp_streams.specs.Streams.Growth
--- the calls, which are admitted, and the effect of each
+-- the calls, which of them are admitted, and the effect of each
 pub use Rattle.rlp_buffer.specs.Streams.Calls
--- what a refusal leaves of a stream that is lent on
+-- what a refusal leaves of a stream in a chain
 pub use Rattle.rlp_streams.specs.Streams.Chain
 -- values that are appended one after another
 pub use Rattle.rlp_streams.specs.Streams.Fields
@@ -14,9 +14,9 @@ pub use Rattle.rlp_streams.specs.Streams.Fields
 pub use Rattle.rlp_buffer.specs.Streams.Iterated
 -- the items that calls describe
 pub mod Described
--- of the code alone, cited by no public contract: the buffer of a stream
+-- for the code only, cited by no public contract: the buffer of a stream
 pub use Rattle.rlp_buffer.specs.Streams.Held
--- where open lists stand in its bytes
+-- the places of open lists in its bytes
 pub use Rattle.rlp_buffer.specs.Streams.Placeholders
 -- the state that bytes and places stand for
 pub use Rattle.rlp_buffer.specs.Streams.Layout

@@ -2,13 +2,13 @@
 pub use Rattle.rlp_format.specs.Values.Value
 -- which bytes give which value, and which fault
 pub mod ValueReading
--- the same of lists of values
+-- the same for lists of values
 pub mod ListReading
 -- the same of structs whose last fields may be missing
 pub mod Tails
--- what it is that decoding undoes encoding
+-- what it means that decoding undoes encoding
 pub mod RoundTrip
--- where a reader of fields is
+-- the place of a reader of fields
 pub mod FieldPlace
 -- what items from some place on give as fields
 pub mod FieldReading

@@ -1,6 +1,6 @@
-//! Laws over the definitions, as public functions. Each contract is the law: a body that calls the
-//! function may use it. Most of these functions do nothing. Those that return a `Result` make a call,
-//! and what they return is what the law speaks of.
+//! Laws over the definitions, as public functions. Each contract is the law, and a body that calls
+//! the function may use it. Most of these functions do nothing. Those that return a `Result` make a
+//! call and return its result, which the law is about.
 
 mod described;
 mod reading;

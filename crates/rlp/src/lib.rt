@@ -1,8 +1,8 @@
 //! The Recursive Length Prefix format: the canonical bytes of an item, which is a byte string or a
 //! list of items.
 //!
-//! A [`Rlp`] is a view of bytes that may hold an item. It reads no more than is asked, and every
-//! answer is a function of its bytes.
+//! A [`Rlp`] is a view of bytes that may hold an item. It reads no more than a call needs, and
+//! every result is a function of its bytes.
 //!
 //! ```rust
 //! let view = rlp::Rlp::new(&[0xc2, 0x05, 0x06]);
@@ -36,8 +36,8 @@ use std::alloc::{AllocError, Global};
 pub use structs::{DecodeField, DecodeFields, Field, ListField, decode_struct};
 pub use traits::{Decodable, RoundTrip, Scalar, StrictRead};
 
-/// The encoding of a value. `AllocError` where memory is refused, or where the value's own
-/// [`Encodable::rlp_append`] answers it.
+/// The encoding of a value. Fails with `AllocError` if memory is refused, or if the value's own
+/// [`Encodable::rlp_append`] fails.
 ///
 /// ```rust
 /// assert_eq!(rt; rlp::encode(alloc, &256u64)?.as_slice(), [0x82, 0x01, 0x00]);
@@ -50,7 +50,7 @@ pub fn encode<E: Encodable>(alloc: Global, object: &E) -> Result<BytesMut, Alloc
     object.rlp_bytes(alloc)
 }
 
-/// The encoding of the list of the values. `AllocError` as for [`encode`].
+/// The encoding of the list of the values. Fails as [`encode`] does.
 ///
 /// ```rust
 /// assert_eq!(rt; rlp::encode_list(alloc, &["cat", "dog"])?.len(), 9);
@@ -65,8 +65,8 @@ pub fn encode_list<E: Encodable>(alloc: Global, object: &[E]) -> Result<BytesMut
     Ok(s.out())
 }
 
-/// The value that the bytes begin with, as its type reads it: [`Decodable::decode`] of a view of
-/// them. The types of this crate ignore what follows the value's item.
+/// The value that the bytes begin with, read by [`Decodable::decode`] of its type from a lenient
+/// view. The types of this crate ignore what follows the value's item.
 ///
 /// ```rust
 /// assert_eq!(rt; rlp::decode::<u64>(alloc, &[0x82, 0x01, 0x00])?, 256);
@@ -79,8 +79,8 @@ pub fn decode<T: Decodable>(alloc: Global, bytes: &[u8]) -> Result<T, DecoderErr
     Rlp::new(bytes).as_val(alloc)
 }
 
-/// The values of the items of the list that the bytes begin with, in order: [`Rlp::as_list`] of a
-/// view of them. What follows the list is ignored.
+/// The values of the list that the bytes begin with, read by [`Rlp::as_list`] from a lenient view.
+/// It ignores what follows the list.
 ///
 /// ```rust
 /// assert_eq!(rt; rlp::decode_list::<u64>(alloc, &[0xc2, 0x05, 0x06])?.as_slice(), [5, 6].as_slice());
@@ -94,8 +94,8 @@ pub fn decode_list<T: Decodable>(alloc: Global, bytes: &[u8]) -> Result<Vec<T>, 
     Rlp::new(bytes).as_list(alloc)
 }
 
-/// The value whose whole encoding the bytes are: [`decode`] over a strict view. A type of this crate
-/// that is read from one string answers `RlpIsTooBig` where bytes follow the string.
+/// The value whose whole encoding the bytes are: [`decode`] with a strict view. A type of this
+/// crate that is read from one string fails with `RlpIsTooBig` if bytes follow the string.
 ///
 /// ```rust
 /// assert_eq!(rt; rlp::decode_strict::<u64>(alloc, &[0x82, 0x01, 0x00])?, 256);
@@ -109,10 +109,11 @@ pub fn decode_strict<T: Decodable>(alloc: Global, bytes: &[u8]) -> Result<T, Dec
     Rlp::new_strict(bytes).as_val(alloc)
 }
 
-/// The values of the list whose whole encoding the bytes are, in order: [`decode_list`] over a
-/// strict view. Besides the faults of the items, it answers `RlpExpectedToBeList` where the bytes
-/// begin as no list, then the fault of a list that isn't framed, then `RlpIsTooBig` where bytes
-/// follow it, then the fault of what follows the items in it.
+/// The values of the list whose whole encoding the bytes are: [`decode_list`] with a strict view.
+///
+/// Fails with the fault of an item, or with the first fault of the list: `RlpExpectedToBeList` if
+/// the bytes don't begin a list, then the fault of a list that isn't framed, then `RlpIsTooBig` if
+/// bytes follow the list, then the fault of what follows the items in it.
 ///
 /// ```rust
 /// assert_eq!(rt; rlp::decode_list_strict::<u64>(alloc, &[0xc2, 0x05, 0x06])?.as_slice(), [5, 6].as_slice());

@@ -2,13 +2,13 @@
 pub mod Stack
 -- the state of a stream, and its texts
 pub mod Stream
--- the calls, which are admitted, and the effect of each
+-- the calls, which of them are admitted, and the effect of each
 pub mod Calls
 -- the bytes that an iterator gives
 pub mod Iterated
--- of the code alone, cited by no public contract: the buffer of a stream
+-- for the code only, cited by no public contract: the buffer of a stream
 pub mod Held
--- where open lists stand in its bytes
+-- the places of open lists in its bytes
 pub mod Placeholders
 -- the state that bytes and places stand for
 pub mod Layout

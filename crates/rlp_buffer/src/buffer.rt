@@ -1,4 +1,4 @@
-//! The bytes of a stream in a buffer that counts those that closings move, and strings at its end.
+//! The buffer of a stream, which counts the bytes that closings move, and the strings at its end.
 
 mod counted;
 mod moving;

@@ -1,4 +1,4 @@
-//! Closing open lists, all that a call closes in one pass over their bytes.
+//! Closing of open lists. One pass over the bytes closes all lists that a call fills.
 
 ghost use Rattle.std.specs.Prelude.{◌≡◌, ◌+◌, ◌*◌, ◌^◌, ◌<◌, ◌≤◌, ◌⊎◌, nat_lt, [], ◌++◌, length, take, drop, reverse, vec_capacity, OnOk, OnErr, IfOk};
 ghost use Rattle.std.specs.Option.{SomeIff};
@@ -12,19 +12,19 @@ use crate::header::list_header_len;
 use crate::open_lists::{Placeholder, count_innermost};
 use std::alloc::AllocError;
 
-// A buffer takes fewer bytes than this.
+// A buffer holds fewer bytes than this.
 const LARGEST: usize = 1 << 63;
 
-/// What counting will do.
+/// What the count of some items will do.
 #[derive(Clone, Copy)]
 struct Plan {
-    /// How many lists it closes.
+    /// The number of lists that it closes.
     closing: usize,
-    /// By how many bytes their headers make the buffer longer.
+    /// The number of bytes that their headers add to the buffer.
     growth: usize,
 }
 
-/// Whether the items that are counted are the last that a list awaits.
+/// Whether these items are the last that a list awaits.
 fn is_last(items: usize, awaits: Option<usize>) -> bool
     ensures { result ≡ is_last items awaits }
 {
@@ -34,8 +34,8 @@ fn is_last(items: usize, awaits: Option<usize>) -> bool
     }
 }
 
-/// Finds how many lists the count of these items closes, and by how many bytes the buffer grows
-/// then. It goes over these lists from the inside out, and takes no memory.
+/// Finds how many lists the count of these items closes, and by how many bytes the buffer then
+/// grows. It walks these lists from the inside out, and takes no memory.
 fn plan_count(lists: &[Placeholder], end: usize, items: usize) -> Plan
     requires order { Descends end (reverse lists.now) }
     requires size { end + 8 * length lists.now < 2 ^ 64 }
@@ -65,8 +65,8 @@ fn plan_count(lists: &[Placeholder], end: usize, items: usize) -> Plan
     Plan { closing, growth }
 }
 
-/// How many bytes stand behind `start` once every list is closed, where `more` bytes are put behind
-/// the first `end`. `None` where these are 2^64 or more.
+/// The number of bytes behind `start` once every list is closed, if `more` bytes are put behind the
+/// first `end`. `None` if this number is 2^64 or more.
 pub fn closed_len(lists: &[Placeholder], start: usize, end: usize, more: usize) -> Option<usize>
     requires order { Descends end (reverse lists.now) }
     requires lowest { start ≤ left_of (length (reverse lists.now)) end (reverse lists.now) }
@@ -90,9 +90,9 @@ pub fn closed_len(lists: &[Placeholder], start: usize, end: usize, more: usize) 
     (left - start).checked_add(tail)
 }
 
-/// Closes the given number of innermost lists. `end` bytes stand in front, and the room for
-/// the growth behind them. Each stretch of payload bytes between two placeholders goes once to its
-/// last place, from the inside out, and each header is written in front of what follows it.
+/// Closes the given number of innermost lists. The buffer has `end` bytes, and behind them the room
+/// for the growth. It works from the inside out. It moves each stretch of payload between two
+/// placeholders once, to its last place, and writes each header in front of its payload.
 fn close_lists(buffer: &mut Buffer, lists: &mut Vec<Placeholder>, closing: usize, end: usize)
     requires order { Descends end (reverse lists.old.items) }
     requires enough { closing ≤ length lists.old.items }
@@ -125,7 +125,7 @@ fn close_lists(buffer: &mut Buffer, lists: &mut Vec<Placeholder>, closing: usize
     }
 }
 
-/// Whether the count of these items closes a list: the innermost one, and perhaps others around it.
+/// Whether the count of these items closes the innermost list, and perhaps others around it.
 fn closes_some(lists: &[Placeholder], items: usize) -> bool
     ensures { result ≡ nat_lt 0 (filled items (reverse lists.now)) }
 {
@@ -135,9 +135,9 @@ fn closes_some(lists: &[Placeholder], items: usize) -> bool
     }
 }
 
-/// Puts bytes behind those of a buffer, and counts the items in the innermost open list: a list
-/// that is full then is closed, and one item is counted in the list around it, and so on outwards.
-/// Answers whether a list was closed. All room is made before anything changes.
+/// Puts bytes at the end of a buffer, and counts the items in the innermost open list. If that list
+/// is then full, it is closed, and one item is counted in the list around it, and so on outwards.
+/// Returns whether a list was closed. It makes all room before anything changes.
 #[inline(always)]
 pub fn put_counted(
     buffer: &mut Buffer,
@@ -180,7 +180,7 @@ pub fn put_counted(
     Ok(false)
 }
 
-/// The same, where a list is closed. It is out of line, since most calls close none.
+/// The same as [`put_counted`] if a list is closed. It is out of line, since most calls close none.
 #[inline(never)]
 fn put_closing(
     buffer: &mut Buffer,

@@ -1,4 +1,4 @@
-//! Headers as they are written.
+//! Writing of headers.
 
 ghost use Rattle.std.specs.Prelude.{◌≡◌, ◌<◌, ◌≤◌, length};
 ghost use Rattle.rlp_format.specs.Format.WrittenHeader.{big_endian, written_header};
@@ -6,16 +6,16 @@ ghost use Rattle.rlp_format.specs.Format.WrittenHeader.{big_endian, written_head
 use rlp_format::digits::leading_zero_bytes;
 use std::marker::Model;
 
-/// What is added to the length of a string, where that is short.
+/// The header of a short string is this and its length.
 pub const STRING: u8 = 0x80;
 
-/// The same for the payload of a list.
+/// The header of a list with a short payload is this and the payload's length.
 pub const LIST: u8 = 0xc0;
 
-/// The greatest length up to which a header is one byte.
+/// The greatest length with a header of one byte.
 pub const SHORT: usize = 55;
 
-/// A header, computed before anything is written: the last bytes of the array.
+/// A header that isn't written yet. It is the last bytes of the array.
 #[derive(Drop)]
 pub struct HeaderBytes {
     bytes: [u8; 9],
@@ -33,7 +33,7 @@ impl Model for HeaderBytes {
 }
 
 impl HeaderBytes {
-    /// Its bytes.
+    /// The bytes of the header.
     pub fn as_slice(&self) -> &[u8]
         ensures { result.now ≡ self.now }
     {
@@ -41,8 +41,8 @@ impl HeaderBytes {
     }
 }
 
-/// The header of a string of `len` bytes, where the base is [`STRING`], or of a list with a payload
-/// of `len` bytes, where it is [`LIST`].
+/// The header of a string of `len` bytes if the base is [`STRING`], or of a list with a payload of
+/// `len` bytes if it is [`LIST`].
 #[tactic(auto, using(crate::proofs::Streams::Written::written))]
 pub fn header(base: u8, len: usize) -> HeaderBytes
     requires { base ≤ 0xc0 }
@@ -63,7 +63,7 @@ pub fn header(base: u8, len: usize) -> HeaderBytes
     }
 }
 
-/// Length in bytes of the header of a list, for the length of its payload.
+/// The length in bytes of a list's header, for the length of its payload.
 #[tactic(auto, using(crate::proofs::Streams::Written::written))]
 pub fn list_header_len(len: usize) -> usize
     ensures value { result ≡ length (written_header 0xc0 len) }

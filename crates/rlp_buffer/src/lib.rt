@@ -1,6 +1,6 @@
-//! The flat buffer in which a stream keeps its front, its payloads and its open lists: strings and
-//! headers at its end, closing in one pass, and the way back. It stands on `rlp_format` and on the
-//! buffers of `bytes`, and only `rlp`'s own crates list it. Users list `rlp`.
+//! The flat buffer of a stream, with its front, its payloads and its open lists. It writes strings
+//! and headers at the end, closes lists in one pass, and goes back after a refusal. It depends on
+//! `rlp_format` and on `bytes`, and only `rlp`'s own crates list it. Users list `rlp`.
 #![tactic(auto)]
 
 pub mod buffer;

@@ -1,19 +1,20 @@
-//! The open lists of a stream, as it keeps them: in the order in which they were opened.
+//! The open lists of a stream, in the order in which they were opened.
 
 ghost use Rattle.std.specs.Prelude.{◌≡◌, reverse, take, vec_capacity};
 ghost use Rattle.rlp_buffer.specs.Streams.Stack.{awaits_after};
 ghost use Rattle.rlp_buffer.specs.Streams.Placeholders.{with_innermost, innermost_awaits, is_innermost_unbounded};
 
-/// An open list, as a stream keeps it.
+/// What a stream keeps for an open list.
 #[derive(Clone, Copy)]
 pub struct Placeholder {
-    /// Where a byte 0 stands in the place of the list's header.
+    /// The position of the byte 0 in the place of the list's header.
     pub position: usize,
-    /// How many items the list still awaits, or `None` where it is unbounded.
+    /// The number of items that the list still awaits, or `None` if it is unbounded.
     pub awaits: Option<usize>,
 }
 
-/// What the innermost list awaits. `None` where it is unbounded, and where no list is open.
+/// The number of items that the innermost list awaits. `None` if it is unbounded, or if no list is
+/// open.
 pub fn innermost_awaits(lists: &[Placeholder]) -> Option<usize>
     ensures { result ≡ innermost_awaits (reverse lists.now) }
 {
@@ -30,7 +31,7 @@ pub fn is_unbounded(lists: &[Placeholder]) -> bool
     }
 }
 
-/// Sets how many items the innermost list awaits.
+/// Sets the number of items that the innermost list awaits.
 pub fn set_innermost(lists: &mut Vec<Placeholder>, awaits: Option<usize>)
     ensures lists { reverse lists.new.items
         ≡ with_innermost (λ _. awaits) (reverse lists.old.items) }
@@ -41,7 +42,7 @@ pub fn set_innermost(lists: &mut Vec<Placeholder>, awaits: Option<usize>)
     }
 }
 
-/// Counts items in the innermost list, which awaits more than these.
+/// Counts items in the innermost list. It must await more than these.
 pub fn count_innermost(lists: &mut Vec<Placeholder>, items: usize)
     ensures lists { reverse lists.new.items
         ≡ with_innermost (awaits_after items) (reverse lists.old.items) }

@@ -1,4 +1,4 @@
-//! Rolling a stream back after a refused call.
+//! Going back to an earlier state of a stream after a refused call.
 
 ghost use Rattle.std.specs.Prelude.{◌≡◌, ◌+◌, length, reverse, take, vec_capacity};
 ghost use Rattle.rlp_buffer.specs.Streams.Placeholders.{innermost_awaits, with_innermost};
@@ -6,20 +6,20 @@ ghost use Rattle.rlp_buffer.specs.Streams.Placeholders.{innermost_awaits, with_i
 use crate::buffer::Buffer;
 use crate::open_lists::{Placeholder, innermost_awaits, set_innermost};
 
-/// Where a call begins: all that it may change of what stands already.
+/// The state at the beginning of a call: everything that the call may change.
 #[derive(Clone, Copy)]
 pub struct Place {
-    /// How many bytes the buffer holds.
+    /// The number of bytes in the buffer.
     pub len: usize,
-    /// How many lists are open.
+    /// The number of open lists.
     pub open_count: usize,
-    /// What the innermost of them awaits.
+    /// The number of items that the innermost list awaits.
     pub awaits: Option<usize>,
-    /// Whether a list that was finished is what stands last.
+    /// The mark: whether the last call closed a list.
     pub mark: bool,
 }
 
-/// Notes where a stream stands.
+/// Notes the current place of a stream.
 pub fn place_of(buffer: &Buffer, lists: &Vec<Placeholder>, mark: bool) -> Place
     ensures len { result.len ≡ length buffer.now.items }
     ensures open { result.open_count ≡ length lists.now.items }
@@ -34,8 +34,8 @@ pub fn place_of(buffer: &Buffer, lists: &Vec<Placeholder>, mark: bool) -> Place
     }
 }
 
-/// Removes what was written and opened after a place. The innermost list awaits again what it awaited
-/// there.
+/// Removes what was written and opened after a place. The innermost list awaits the same number of
+/// items as it did there.
 pub fn rewind(buffer: &mut Buffer, lists: &mut Vec<Placeholder>, place: Place)
     ensures bytes { buffer.new.items ≡ take place.len buffer.old.items }
     ensures spare { length buffer.new.items + buffer.new.spare

@@ -1,4 +1,4 @@
-//! What a caller of two `build`s learns.
+//! What the caller of two `build`s can prove.
 
 ghost use Rattle.std.specs.Prelude.{◌≡◌, ◌↔◌, List, IfOk, IfSome, IsSome, IsSomeAnd, IsTrue};
 ghost use Rattle.rlp.specs.Format.Item.{Item};
@@ -21,7 +21,7 @@ fn buffer_of(alloc: Global, bytes: &[u8]) -> Result<BytesMut, AllocError>
     Ok(buffer)
 }
 
-/// The finished buffer of calls over a front; `None` where they leave a list open.
+/// The finished buffer of calls over a front, or `None` if they leave a list open.
 fn finished_over<E: Encodable>(
     alloc: Global,
     front: BytesMut,
@@ -42,8 +42,8 @@ fn finished_over<E: Encodable>(
     }
 }
 
-/// The finished buffer of calls over a front, which is the front and the encodings of the items that
-/// they describe, whatever raw bytes they put; `None` where they leave a list open.
+/// The finished buffer of calls over a front, or `None` if they leave a list open. Whatever raw
+/// bytes the calls put, the buffer is the front and the encodings of the items that they describe.
 pub fn finished_buffer<E: Encodable>(
     alloc: Global,
     front: &[u8],
@@ -70,8 +70,8 @@ fn same_bytes(one: &[u8], other: &[u8]) -> bool
     one == other
 }
 
-/// Whether calls over one front finish as the same bytes: `Some(true)` exactly where both describe
-/// the same items, whatever raw bytes they put, and `None` where either leave a list open.
+/// Whether two lists of calls over one front finish as the same bytes. `Some(true)` exactly if both
+/// describe the same items, whatever raw bytes they put. `None` if either leaves a list open.
 pub fn finish_alike<A: Encodable, B: Encodable>(
     alloc: Global,
     front: &[u8],

@@ -1,5 +1,5 @@
-//! Types that do little for what calls them: one reads half of the numbers, one appends uncounted,
-//! one stands in a list that it must fill.
+//! Types that promise little to their callers: one reads half of the numbers, one appends
+//! uncounted, and one is in a list that it must fill.
 
 use rlp::{Decodable, DecoderError, Encodable, Rlp, RlpStream};
 use std::alloc::{AllocError, Global};
@@ -8,7 +8,7 @@ use std::alloc::{AllocError, Global};
 #[derive(Debug, PartialEq, Eq, Drop)]
 pub struct Odd(pub u64);
 
-/// A number of eight bytes at most; an even one is `Custom("even")`.
+/// A number of at most eight bytes. An even one fails with `Custom("even")`.
 impl Decodable for Odd {
     ghost use Rattle.std.specs.Prelude.{ℕ, ◌⊎◌, ◌≡◌, ◌%◌, codes};
     ghost use Rattle.rlp.specs.Values.ValueReading.{FaultsAsNumber, GivesNumber, IsCustom};
@@ -29,7 +29,7 @@ impl Decodable for Odd {
     }
 }
 
-/// A number that is appended by the call that counts no string.
+/// A number that is appended by the call that doesn't count strings.
 #[derive(Debug, PartialEq, Eq, Drop)]
 pub struct Wrapper(pub u64);
 
@@ -47,7 +47,7 @@ impl Encodable for Wrapper {
     }
 }
 
-/// A number, written as a list that holds it alone.
+/// A number, written as a list with only this number.
 #[derive(Debug, PartialEq, Eq, Drop)]
 pub struct InList(pub u64);
 

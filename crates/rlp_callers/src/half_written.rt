@@ -1,9 +1,9 @@
-//! A value that is always refused, in the midst of its bytes.
+//! A value that is always refused, after some of its bytes.
 
 use rlp::{Encodable, RlpStream};
 use std::alloc::AllocError;
 
-/// It writes a string, and is refused then.
+/// It writes a string, and is then refused.
 #[derive(Debug, Drop)]
 pub struct HalfWritten;
 

@@ -1,5 +1,5 @@
-//! Callers of the program's `build`, and types that do little for what calls them: what their
-//! authors could get wrong is tried by edits.
+//! Callers of the program's `build`, and types that promise little to their callers. Edits try the
+//! mistakes that their authors could make.
 #![tactic(auto)]
 
 mod builds;

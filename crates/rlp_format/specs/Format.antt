@@ -12,5 +12,5 @@ pub mod Framing
 pub mod Split
 -- the string that bytes begin with
 pub mod StringReading
--- bytes that are one item and nothing else
+-- bytes that are exactly one item
 pub mod Strict

@@ -1,8 +1,8 @@
 -- items, and the bytes that they are written as
 pub mod Format
--- what a view of bytes answers
+-- the results of a view's methods
 pub mod Views
 -- values, their items, and which bytes give them
 pub mod Values
--- what the laws of traits cite, for authors of laws and types; a reader of definitions can pass it by
+-- lemmas for the laws of traits and for authors of types; readers of definitions don't need them
 pub mod Lemmas

@@ -1,6 +1,6 @@
--- the answers of a view
+-- the results of a view's methods
 pub mod View
--- what is said of bytes by their items
+-- results for bytes, from those for their items
 pub mod ByItems
 -- the text that a view prints as
 pub mod Text

@@ -1,12 +1,12 @@
-//! A whole number that clauses alone read.
+//! A whole number that only clauses read.
 
 ghost use Rattle.std.specs.Prelude.{◌≡◌, ℕ, ◌+◌};
 ghost use Rattle.std.specs.Borrow.{ftrue};
 
 use std::marker::{Model, PhantomData};
 
-/// How often or how much something was done: bytes moved, headers read. It takes no memory, and its
-/// calls do nothing at run time; without [`Count::add`] the number stays.
+/// A number of things done, such as bytes moved or headers read. It takes no memory, and its calls
+/// do nothing at run time. Only [`Count::add`] changes the number.
 #[derive(Drop)]
 pub struct Count {
     marker: PhantomData<u8>,
@@ -18,7 +18,7 @@ impl Model for Count {
 }
 
 impl Count {
-    /// Nothing was done.
+    /// A count of 0.
     pub fn new() -> Count
         ensures { result.total ≡ 0 }
     {
@@ -27,7 +27,7 @@ impl Count {
         }
     }
 
-    /// So much more was done.
+    /// Adds to the count.
     pub fn add(&mut self, _amount: usize)
         ensures { self.new.total ≡ self.old.total + _amount }
     {}

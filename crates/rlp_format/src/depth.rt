@@ -1,4 +1,4 @@
-//! How deep lists nest.
+//! The depth of nested lists.
 
 ghost use Rattle.std.specs.Prelude.{◌≤◌, ◌↔◌, IsTrue};
 ghost use Rattle.rlp_format.specs.Views.Depth.{depth};
@@ -6,7 +6,7 @@ ghost use Rattle.rlp_format.specs.Views.Depth.{depth};
 use crate::framed::Framed;
 use crate::items::ItemReader;
 
-/// Whether the depth of an item is at most `limit`. It goes no deeper than that many lists.
+/// Whether the depth of an item is at most `limit`. It goes no deeper than `limit` lists.
 pub fn is_nested_within(framed: &Framed<'_>, limit: usize) -> bool
     ensures { IsTrue result ↔ (depth framed.now.item.now ≤ limit) }
 {

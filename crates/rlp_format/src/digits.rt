@@ -1,6 +1,6 @@
-//! Digits of numbers to the base 256, the greatest first, read and written for numbers of up to
-//! sixteen bytes. Those of up to eight bytes are worked on in 64 bits. The headers that a stream
-//! writes hold the digits of their lengths, and write these themselves.
+//! Digits of numbers to the base 256, the greatest first. They are read and written for numbers of
+//! up to sixteen bytes, those of up to eight bytes in 64 bits. The headers of a stream write the
+//! digits of their lengths themselves.
 
 ghost use Rattle.std.specs.Prelude.{◌≡◌, ◌+◌, ◌≤◌, length, drop};
 ghost use Rattle.std.specs.Int.{w64, w128, to_be_bytes};
@@ -9,7 +9,7 @@ ghost use Rattle.rlp_format.specs.Format.WrittenHeader.{big_endian};
 
 use std::marker::Model;
 
-/// The number that up to eight digits write.
+/// The number of up to eight digits.
 pub fn number_of(digits: &[u8]) -> usize
     requires { length digits.now ≤ 8 }
     ensures { result ≡ number_from_digits 256 digits.now }
@@ -21,8 +21,8 @@ pub fn number_of(digits: &[u8]) -> usize
     number
 }
 
-/// The number that up to sixteen digits write: that of the first ones, moved up by eight places, and
-/// that of the last eight.
+/// The number of up to sixteen digits: the number of the first digits, shifted by eight places, and
+/// the number of the last eight.
 #[tactic(auto, using(crate::proofs::Format::DigitBytes::halves))]
 pub fn wide_number_of(digits: &[u8]) -> u128
     requires { length digits.now ≤ 16 }
@@ -35,7 +35,7 @@ pub fn wide_number_of(digits: &[u8]) -> u128
     number_of(high) as u128 * 0x1_0000_0000_0000_0000 + number_of(low) as u128
 }
 
-/// The digits of a number, with no zero in front of them: the last bytes of the array.
+/// The digits of a number, without leading zeros. They are the last bytes of the array.
 #[derive(Drop)]
 pub struct Digits {
     bytes: [u8; 16],
@@ -85,7 +85,7 @@ impl Digits {
     }
 }
 
-/// How many of a number's eight bytes are zeros in front of its digits.
+/// The number of leading zeros in the eight bytes of a number.
 #[tactic(auto, using(crate::proofs::Format::DigitBytes::leading))]
 pub fn leading_zero_bytes(number: u64) -> usize
     ensures digits { drop result (to_be_bytes w64 number) ≡ big_endian number }

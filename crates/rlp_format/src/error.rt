@@ -1,34 +1,34 @@
-//! What a decoder can find wrong.
+//! The faults of decoding.
 
 ghost use Rattle.std.specs.Prelude.{◌≡◌};
 
 use std::error::Error;
 use std::fmt;
 
-/// The faults of decoding.
+/// A fault of decoding.
 #[derive(Debug, PartialEq, Eq, Drop)]
 pub enum DecoderError {
-    /// More bytes stand there than the value takes.
+    /// There are more bytes than the value takes.
     RlpIsTooBig,
     /// The bytes end early.
     RlpIsTooShort,
-    /// A list was expected, and a string stands there or nothing.
+    /// A list was expected, but there is a string or nothing.
     RlpExpectedToBeList,
-    /// A string was expected, and a list stands there or other bytes than the type's.
+    /// A string was expected, but there is a list, or a string that the type doesn't accept.
     RlpExpectedToBeData,
-    /// A list has another number of items than was expected.
+    /// A list doesn't have the expected number of items.
     RlpIncorrectListLen,
     /// The length of a string begins with a zero byte.
     RlpDataLenWithZeroPrefix,
     /// The length of a list begins with a zero byte.
     RlpListLenWithZeroPrefix,
-    /// A shorter spelling of the same value is the canonical one.
+    /// The canonical encoding of the same value is shorter.
     RlpInvalidIndirection,
-    /// A string is announced longer than the bytes that follow.
+    /// The announced length of a string is more than the bytes that follow.
     RlpInconsistentLengthAndData,
-    /// A length is announced that no memory can hold.
+    /// The announced length is more than memory can hold.
     RlpInvalidLength,
-    /// A fault of a type's own, in its own words.
+    /// A fault of a custom type, with its own text.
     Custom(&'static str),
     /// Memory was refused.
     OutOfMemory,
@@ -58,8 +58,8 @@ impl DecoderError {
     }
 }
 
-/// The variant's name, and for `Custom` the text too, as in `Custom("text")`. The formatter's flags
-/// change nothing.
+/// Prints the variant's name, and for `Custom` also the text, as in `Custom("text")`. The
+/// formatter's flags change nothing.
 impl fmt::Display for DecoderError {
     ghost use Rattle.std.specs.Prelude.{Some};
     ghost use Rattle.rlp_format.specs.Views.Text.{error_name};

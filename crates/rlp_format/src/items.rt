@@ -10,9 +10,9 @@ use crate::error::DecoderError;
 use crate::framed::{Framed, begins_as_list, first_framed};
 use std::marker::Model;
 
-/// Bytes that are read item by item, and how many headers were read. Contracts see it as the record
-/// `Reading` of the bytes that are left and that number. Every walk over items goes by
-/// [`ItemReader::next_framed`], which alone reads a header, and counts it.
+/// A reader of bytes, item by item, which counts the headers that it reads. Contracts see it as the
+/// record `Reading` of the bytes that are left and that number. Every walk over items uses
+/// [`ItemReader::next_framed`]. Only this method reads a header, and it counts it.
 #[derive(Drop)]
 pub struct ItemReader<'a> {
     rest: &'a [u8],
@@ -28,7 +28,7 @@ impl<'a> Model for ItemReader<'a> {
 }
 
 impl<'a> ItemReader<'a> {
-    /// Over these bytes. No header was read yet.
+    /// A reader over these bytes. It has read no header yet.
     pub fn new(bytes: &'a [u8]) -> ItemReader<'a>
         ensures rest { result.rest ≡ bytes.now }
         ensures counted { result.headers ≡ 0 }
@@ -46,7 +46,7 @@ impl<'a> ItemReader<'a> {
         self.rest
     }
 
-    /// The next item, by its header, or why none stands there.
+    /// The next item, by its header, or why the bytes aren't framed.
     #[inline(always)]
     pub fn next_framed(&mut self) -> Result<Framed<'a>, DecoderError>
         ensures header { MatchResult result (λ r. framing self.old.rest ≡ Ok r.header)
@@ -72,8 +72,8 @@ impl<'a> ItemReader<'a> {
         }
     }
 
-    /// Goes on to the items of the list that stands next, by its header. Where no framed list stands
-    /// there, the answer is `false` and nothing is left.
+    /// Goes on to the items of the next list, by its header. If there is no framed list, it returns
+    /// `false` and nothing is left.
     #[tactic(auto, unfolding(crate::specs::Format::Split::payload))]
     pub fn enter_list(&mut self) -> bool
         ensures rest { self.new.rest ≡ payload self.old.rest }
@@ -102,7 +102,7 @@ impl<'a> ItemReader<'a> {
     }
 }
 
-/// The number of items that a payload begins with.
+/// The number of items at the beginning of a payload.
 pub fn count_items(payload: &[u8]) -> usize
     ensures { result ≡ length (split payload.now) }
 {
@@ -114,8 +114,7 @@ pub fn count_items(payload: &[u8]) -> usize
     count
 }
 
-/// The number of items of a payload that is items and nothing else, or the fault of what follows
-/// them.
+/// The number of items in a payload that has nothing but items, or the fault of what follows them.
 pub fn try_count_items(payload: &[u8]) -> Result<usize, DecoderError>
     ensures fault { MatchResult result (λ _. fault_of_some (after_items payload.now) ≡ None)
         (λ e. fault_of_some (after_items payload.now) ≡ Some e) }

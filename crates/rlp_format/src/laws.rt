@@ -1,5 +1,5 @@
-//! Laws over the definitions of the format. None of these functions does anything: each contract is
-//! the law. `rlp::laws` passes them on.
+//! Laws over the definitions of the format. These functions have no effect: each contract is the
+//! law. `rlp::laws` re-exports them.
 
 ghost use Rattle.std.specs.Prelude.{◌≡◌, ℕ, ◌^◌, ◌<◌, ◌≤◌, ◌+◌, ◌↔◌, ◌⊎◌, List, [], ◌++◌, length, map, All, get_or, take, drop, ◌∷◌, Ok, Err, IsTrue, is_ok};
 ghost use Rattle.std.specs.List.{concat};
@@ -14,7 +14,7 @@ ghost use Rattle.rlp_format.specs.Format.Split.{IsCut, IsSplit, split, items, re
 ghost use Rattle.rlp_format.specs.Views.Text.{text, text_by};
 ghost use Rattle.rlp_format.specs.Views.Depth.{depth, depth_by};
 
-/// The digits of a number are below 256, begin with no zero, and are that number's and no other's.
+/// The digits of a number are below 256, have no leading zero, and belong to no other number.
 pub fn digits_are_canonical()
     ensures bytes { (n : ℕ) → AreBytes (big_endian n) }
     ensures no_leading_zero { (n : ℕ) → 0 < n → 0 < get_or (big_endian n) 0 0 }
@@ -36,14 +36,14 @@ pub fn list_is_header_and_items()
         → encoding (list_of xs) ≡ written_header 0xc0 (length (join xs)) ++ join xs }
 {}
 
-/// At most one header stands at the front of bytes, and `header` reads it, or says why none does.
+/// Bytes begin with at most one header. `header` reads it, or says why there is none.
 pub fn header_is_read(bytes: &[u8])
     ensures read { ReadsHeader bytes.now (header bytes.now) }
     ensures unique { (h n k m : ℕ) → HasHeader bytes.now h n → HasHeader bytes.now k m → (h ≡ k)
         × (n ≡ m) }
 {}
 
-/// Where header and value lie within the bytes, `frame` gives both and `value` the value; otherwise
+/// If header and value lie within the bytes, `frame` gives both and `value` the value. Otherwise
 /// `fault` says why not.
 pub fn framing_is_read(bytes: &[u8])
     ensures frame { (h n : ℕ) → HasHeader bytes.now h n → h + n ≤ length bytes.now
@@ -54,14 +54,14 @@ pub fn framing_is_read(bytes: &[u8])
         × (frame bytes.now ≡ Err (fault bytes.now)) × (value bytes.now ≡ Err (fault bytes.now)) }
 {}
 
-/// `frame` answers for framed bytes alone, and framed items are those that are their own frame.
+/// `frame` gives a result only for framed bytes. Framed items are those that are their own frame.
 pub fn frame_is_of_framed(bytes: &[u8])
     ensures framed { IsTrue (is_ok (frame bytes.now)) ↔ IsFramed bytes.now }
     ensures item { (frame bytes.now ≡ Ok bytes.now) ↔ IsFramedItem bytes.now }
 {}
 
-/// Of items whose encodings are shorter than 2^64 bytes, no encoding begins another, whatever
-/// follows them.
+/// For items with encodings shorter than 2^64 bytes, no encoding begins another, whatever follows
+/// them.
 pub fn encoding_is_prefix_free()
     ensures { (x y : Item) (p q : List ℕ) → IsSized x → IsSized y
         → encoding x ++ p ≡ encoding y ++ q → x ≡ y }
@@ -85,29 +85,28 @@ pub fn encoding_is_framed(bytes: &[u8])
         × (frame bytes.now ≡ Ok (encoding x)) }
 {}
 
-/// Of two lists of framed items whose joins begin the bytes, one is a beginning of the other.
+/// If the joins of two lists of framed items begin the same bytes, one list begins the other.
 pub fn cuts_begin_one_another(bytes: &[u8])
     ensures { (fs gs : List (List ℕ)) → IsCut bytes.now fs → IsCut bytes.now gs → BeginsWith gs fs
         ⊎ BeginsWith fs gs }
 {}
 
-/// `split` gives the longest list of framed items whose join begins the bytes, and there is only
-/// one.
+/// `split` gives the longest list of framed items whose join begins the bytes. There is only one.
 pub fn split_is_longest(bytes: &[u8])
     ensures longest { IsSplit bytes.now (split bytes.now) }
     ensures only { (fs : List (List ℕ)) → IsSplit bytes.now fs → fs ≡ split bytes.now }
 {}
 
-/// The split goes one framed item at a time: where the bytes are framed it is their frame and the
-/// split of what follows, and otherwise it has no item.
+/// The split goes one framed item at a time. If the bytes are framed, it is their frame and the
+/// split of what follows. Otherwise it has no item.
 pub fn split_goes_by_frames(bytes: &[u8])
     ensures framed { (h n : ℕ) → framing bytes.now ≡ Ok (payload_info h n)
         → split bytes.now ≡ take (h + n) bytes.now ∷ split (drop (h + n) bytes.now) }
     ensures unframed { (e : DecoderError) → framing bytes.now ≡ Err e → split bytes.now ≡ [] }
 {}
 
-/// The items of a list whose encoding is shorter than 2^64 bytes have such encodings too, and so
-/// have items whose joined encodings are shorter than that.
+/// If the encoding of a list is shorter than 2^64 bytes, so are those of its items. The same holds
+/// for items whose joined encodings are shorter than that.
 pub fn parts_of_sized_are_sized()
     ensures list { (xs : List Item) → IsSized (list_of xs) → All IsSized xs }
     ensures join { (xs : List Item) → length (join xs) < 2 ^ 64 → All IsSized xs }
@@ -119,7 +118,7 @@ pub fn join_splits_into_encodings()
         × (concat (split (join xs)) ≡ join xs) }
 {}
 
-/// Of bytes that begin with the encoding of a list, the items are the encodings of its items, in
+/// If bytes begin with the encoding of a list, their items are the encodings of its items, in
 /// order, and nothing is left.
 pub fn list_gives_its_items(bytes: &[u8])
     ensures items { (xs : List Item) → BeginsWith bytes.now (encoding (list_of xs))
@@ -133,14 +132,14 @@ pub fn rest_is_not_framed(bytes: &[u8])
     ensures { ¬ IsFramed (rest bytes.now) }
 {}
 
-/// The text and the depth of bytes, by those of their items.
+/// The text and the depth of bytes follow from those of their items.
 pub fn text_and_depth_go_by_items(bytes: &[u8])
     ensures text { text bytes.now ≡ text_by text bytes.now }
     ensures depth { depth bytes.now ≡ depth_by depth bytes.now }
 {}
 
-/// What follows a framed item makes no difference to its framing, value, items, text and depth:
-/// `c0ff` reads as `c0`, and `8005` as `80`.
+/// What follows a framed item doesn't change its framing, value, items, text and depth. `c0ff`
+/// reads as `c0`, and `8005` as `80`.
 pub fn what_follows_makes_no_difference()
     ensures framing { (f more : List ℕ) → IsFramedItem f → framing (f ++ more) ≡ framing f }
     ensures value { (f more : List ℕ) → IsFramedItem f → value (f ++ more) ≡ value f }

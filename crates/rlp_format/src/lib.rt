@@ -1,6 +1,6 @@
-//! The format and what bytes say in it: definitions, and the functions that read headers, items,
-//! strings, text and depth off a slice. It stands on nothing but the standard library, and only
-//! `rlp`'s own crates list it. Users list `rlp`, which passes on what they need.
+//! The format: definitions, and the functions that read headers, items, strings, text and depth
+//! from a slice. It depends only on the standard library, and only `rlp`'s own crates list it.
+//! Users list `rlp`, which re-exports what they need.
 #![tactic(auto)]
 
 pub mod count;

@@ -1,6 +1,6 @@
-//! What stands at the front of bytes.
+//! What bytes begin with.
 
-/// What stands at the front of a view.
+/// What a view begins with.
 #[derive(Debug, Drop)]
 pub enum Prototype {
     /// No bytes.

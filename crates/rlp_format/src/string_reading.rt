@@ -1,4 +1,4 @@
-//! The string at the front of bytes.
+//! The string that bytes begin with.
 
 ghost use Rattle.std.specs.Prelude.{◌≡◌, ◌≤◌, Ok, Err, MatchResult};
 ghost use Rattle.rlp_format.specs.Format.StringReading.{ReadsString, read_string, short_string, long_string, long_value};
@@ -6,7 +6,7 @@ ghost use Rattle.rlp_format.specs.Format.StringReading.{ReadsString, read_string
 use crate::digits::number_of;
 use crate::error::DecoderError;
 
-/// The string at the front of the bytes, without its header.
+/// The string that the bytes begin with, without its header.
 pub fn string_in(bytes: &[u8]) -> Result<&[u8], DecoderError>
     ensures exact { MatchResult result (λ d. read_string bytes.now ≡ Ok d.now)
         (λ e. read_string bytes.now ≡ Err e) }
@@ -32,7 +32,7 @@ fn string_by_first_byte(bytes: &[u8]) -> Result<&[u8], DecoderError>
     }
 }
 
-/// The string of `len` bytes that `rest` begins with, where its first byte announced the length.
+/// The string of `len` bytes that `rest` begins with, for a header of one byte.
 fn short_string(rest: &[u8], len: usize) -> Result<&[u8], DecoderError>
     ensures { MatchResult result (λ d. short_string len rest.now ≡ Ok d.now)
         (λ e. short_string len rest.now ≡ Err e) }
@@ -63,7 +63,8 @@ fn long_string(rest: &[u8], len: usize) -> Result<&[u8], DecoderError>
     string_of(after, len, number_of(digits))
 }
 
-/// The string of `value_len` bytes that `after` begins with, where `len` bytes of length say so.
+/// The string of `value_len` bytes that `after` begins with, for a header with `len` bytes of
+/// length.
 fn string_of(after: &[u8], len: usize, value_len: usize) -> Result<&[u8], DecoderError>
     requires { len ≤ 8 }
     ensures { MatchResult result (λ d. long_value len value_len after.now ≡ Ok d.now)

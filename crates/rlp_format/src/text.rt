@@ -10,7 +10,7 @@ use std::fmt;
 use std::fmt::Display;
 use std::str::from_utf8;
 
-/// How many bytes are written at once as digits.
+/// The number of bytes that are written at once as digits.
 const AT_ONCE: usize = 64;
 
 /// Writes the text of bytes.
@@ -89,7 +89,7 @@ fn write_hex<W: fmt::Write>(f: &mut fmt::Formatter<W>, bytes: &[u8]) -> fmt::Res
     write_few(f, rest)
 }
 
-/// Writes each of a few bytes as two digits, in one piece.
+/// Writes a few bytes in one piece, each as two digits.
 fn write_few<W: fmt::Write>(f: &mut fmt::Formatter<W>, bytes: &[u8]) -> fmt::Result
     requires { length bytes.now ≤ 64 }
     ensures { WritesStyledOnOk W.write_str_gives f.old result (hex bytes.now) f.new }

@@ -1,2 +1,2 @@
--- streams: their states, and what each call makes of one
+-- streams: their states, and the effect of each call
 pub mod Streams

@@ -1,4 +1,4 @@
-//! Laws over the state of a stream. `rlp::laws` passes them on.
+//! Laws over the state of a stream. `rlp::laws` re-exports them.
 
 ghost use Rattle.std.specs.Prelude.{◌≡◌, ℕ, List, [], ◌∷◌, ◌++◌, ◌+◌, length, Option};
 ghost use Rattle.rlp_format.specs.Format.Item.{Item, string, list_of};
@@ -16,20 +16,20 @@ pub fn constants_are_encodings()
     ensures empty_list { EMPTY_LIST_RLP ≡ encoding (list_of []) }
 {}
 
-/// Closing the innermost list leaves the bytes that there are once every list is closed, and so
-/// does counting.
+/// Closing the innermost list doesn't change the bytes that there are once every list is closed.
+/// Neither does counting.
 pub fn closing_keeps_what_is_closed()
     ensures shut { (s : State) → closed_text (shut s) ≡ closed_text s }
     ensures count { (k : ℕ) (s : State) → closed_text (count k s) ≡ closed_text s }
     ensures size { (s : State) → closed_size (shut s) ≡ closed_size s }
 {}
 
-/// The closed size with more bytes put depends on their number alone.
+/// The closed size with more bytes put depends only on the number of these bytes.
 pub fn closed_size_goes_by_length()
     ensures { (x : List ℕ) (s : State) → closed_size (put x s) ≡ closed_size_with (length x) s }
 {}
 
-/// Bytes that are put stand at the end of the buffer, and a new list opens there with a byte 0.
+/// Bytes are put at the end of the buffer, and a new list opens there with a byte 0.
 pub fn bytes_go_to_the_end()
     ensures put { (x : List ℕ) (s : State) → raw_text (put x s) ≡ raw_text s ++ x }
     ensures opened { (awaits : Option ℕ) (s : State)
@@ -37,7 +37,7 @@ pub fn bytes_go_to_the_end()
 {}
 
 /// With no list open, an item that is appended or written by its value adds its encoding to the
-/// top, and none is open then.
+/// top, and no list is open after it.
 pub fn finished_streams_gain_encodings()
     ensures add { (x : Item) (s : State) → IsFinished s
         → add x s
@@ -46,25 +46,26 @@ pub fn finished_streams_gain_encodings()
         → (put_item x s).stack ≡ record { inner = s.stack.inner ++ encoding x; lists = [] } }
 {}
 
-/// With no list open, the front and what is closed are all the bytes that there are.
+/// With no list open, the bytes are the front and the closed text.
 pub fn finished_streams_have_their_closed_size()
     ensures { (s : State) → IsFinished s
         → length (s.front ++ s.stack.inner) ≡ length s.front + closed_size s }
 {}
 
-/// A state grows to itself, and where it grows to a second that grows to a third, it grows to that.
+/// A state grows to itself. If it grows to a second state, and that to a third, it grows to the
+/// third.
 pub fn growth_is_an_order()
     ensures same { (s : State) → GrowsTo s s }
     ensures onward { (s t u : State) → GrowsTo s t → GrowsTo t u → GrowsTo s u }
 {}
 
-/// A state grows to what it is with more bytes put, and with a new list open.
+/// A state grows to the state with more bytes put, and to the state with a new list open.
 pub fn growth_of_moves()
     ensures put { (x : List ℕ) (s : State) → GrowsTo s (put x s) }
     ensures opened { (awaits : Option ℕ) (s : State) → GrowsTo s (with_list awaits s) }
 {}
 
-/// A bounded list is open only while it awaits an item: no call leaves one open that awaits none.
+/// A bounded list is open only while it awaits an item. No call leaves one open that awaits none.
 pub fn open_lists_await_items()
     ensures { (c : Call) (s : State) → AllAwait s.stack.lists → AllAwait (effect c s).stack.lists }
 {}

@@ -1,5 +1,5 @@
-//! Writing: streams, and values that are appended to them. It stands on `rlp_buffer`, the bytes of a
-//! stream, and on `rlp_format`. Users list `rlp`, which passes on every public name.
+//! Writing: streams, and values that are appended to them. It depends on `rlp_buffer`, the bytes of
+//! a stream, and on `rlp_format`. Users list `rlp`, which re-exports every public name.
 #![tactic(auto)]
 
 mod impls;

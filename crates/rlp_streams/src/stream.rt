@@ -28,19 +28,19 @@ use rlp_buffer::open_lists::{Placeholder, innermost_awaits, is_unbounded};
 use std::alloc::{AllocError, Global};
 use std::marker::Model;
 
-// How many bytes a new stream takes with no further allocation.
+// The number of bytes that a new stream takes without another allocation.
 const STARTING_CAPACITY: usize = 1024;
 
 /// A stream of encodings, which grows as values are appended.
 ///
-/// A list is opened with the number of items that it awaits, and is closed by the last of them; or
-/// it is opened unbounded, and closed by [`RlpStream::finalize_unbounded_list`]. Lists nest at
-/// will. A list that is closed is one item of the list around it.
+/// A list is opened with the number of items that it awaits, and its last item closes it. An
+/// unbounded list has no such number, and [`RlpStream::finalize_unbounded_list`] closes it. Lists
+/// may nest. A closed list is one item of the list around it.
 ///
-/// Contracts see its state, which is the bytes handed in, what was written after them, the lists
-/// that are open, and the mark; and apart from it how many more bytes the buffer takes with
-/// no allocation, and how many bytes of payload were moved to make place for headers. A call that is
-/// refused leaves the state as it was, the mark too.
+/// Contracts see its state: the front, which is the bytes handed in, what was written after it, the
+/// open lists, and the mark. They also see how many more bytes the buffer takes without an
+/// allocation, and how many bytes of payload were moved to make place for headers. A refused call
+/// leaves the state as it was, including the mark.
 ///
 /// ```rust
 /// let mut s = rlp::RlpStream::new_list(alloc, 2)?;
@@ -49,7 +49,7 @@ const STARTING_CAPACITY: usize = 1024;
 /// ```
 #[derive(Drop)]
 pub struct RlpStream {
-    // The front, and after it what was written. It counts the bytes that closings move.
+    // The front, and what was written after it. It counts the bytes that closings move.
     buffer: Buffer,
     // Where the front ends.
     start: usize,
@@ -78,7 +78,7 @@ impl Model for RlpStream {
 }
 
 impl RlpStream {
-    /// A stream with nothing in it. `AllocError` where its first room is refused.
+    /// An empty stream. Fails with `AllocError` if its first room is refused.
     pub fn new(alloc: Global) -> Result<RlpStream, AllocError>
         ensures state { IfOk result (λ s. s.state ≡ initial_state []) }
         ensures spare { IfOk result (λ s. 1024 ≤ s.spare) }
@@ -88,7 +88,7 @@ impl RlpStream {
         Ok(RlpStream::new_with_buffer(alloc, buffer))
     }
 
-    /// A stream in which one list is begun, as by [`RlpStream::begin_list`].
+    /// A stream in which a list is begun, as by [`RlpStream::begin_list`].
     #[tactic(auto, unfolding(rlp_buffer::specs::Streams::Stream::Retains))]
     pub fn new_list(alloc: Global, len: usize) -> Result<RlpStream, AllocError>
         ensures state { IfOk result
@@ -100,7 +100,7 @@ impl RlpStream {
         Ok(s)
     }
 
-    /// A stream over bytes that are handed in, its front. It takes no memory.
+    /// A stream whose front is the given bytes. It takes no memory.
     pub fn new_with_buffer(alloc: Global, buffer: BytesMut) -> RlpStream
         ensures state { result.state ≡ initial_state buffer.items }
         ensures spare { result.spare ≡ buffer.spare }
@@ -116,8 +116,8 @@ impl RlpStream {
         }
     }
 
-    /// A stream over bytes that are handed in, in which one list is begun. Where memory is refused
-    /// it hands the buffer back, with its bytes as they were.
+    /// A stream whose front is the given bytes, in which a list is begun. If memory is refused, it
+    /// returns the buffer with its bytes unchanged.
     #[tactic(auto, unfolding(rlp_buffer::specs::Streams::Stream::Retains))]
     pub fn new_list_with_buffer(
         alloc: Global,
@@ -140,9 +140,9 @@ impl RlpStream {
 
     /// Appends a value: puts its encoding, and counts one item in the innermost open list.
     ///
-    /// The result lends the stream on, so that calls chain by `?`. `AllocError` where memory is
-    /// refused, or where the value's own [`Encodable::rlp_append`] answers it; the stream is then
-    /// as it was before the call.
+    /// The result passes the stream on, so calls chain by `?`. Fails with `AllocError` if memory is
+    /// refused, or if the value's own [`Encodable::rlp_append`] fails. The stream is then as it was
+    /// before the call.
     pub fn append<E: Encodable>(&mut self, value: &E) -> Result<Chain<'_>, AllocError>
         ensures* refused { sem 𝓛 (stays_if_refused self.entry result) }
         ensures fits { OnOk result (E.fits value.now) }
@@ -157,8 +157,8 @@ impl RlpStream {
         Ok(Chain { stream: self })
     }
 
-    /// Appends the string of the bytes that an iterator gives. They are written as they come, and
-    /// the header is made for as many as came. The iterator must end.
+    /// Appends the string of the bytes that an iterator gives. It writes them as they come, and
+    /// then the header for their number. The iterator must end.
     pub fn append_iter<I: IntoIterator<Item = u8>>(
         &mut self,
         value: I,
@@ -175,7 +175,7 @@ impl RlpStream {
         Ok(Chain { stream: self })
     }
 
-    /// Appends the list of the values: begins a list of as many items, and appends each.
+    /// Appends the list of the values: begins a list that awaits all of them, and appends each.
     pub fn append_list<E: Encodable>(&mut self, values: &[E]) -> Result<Chain<'_>, AllocError>
         ensures* refused { sem 𝓛 (stays_if_refused self.entry result) }
         ensures fits { OnOk result (All E.fits values.now) }
@@ -190,8 +190,8 @@ impl RlpStream {
         Ok(Chain { stream: self })
     }
 
-    /// Writes a value by its own [`Encodable::rlp_append`] alone: a string isn't counted, and a list
-    /// counts itself. A value that is another value under a name of its own is written so.
+    /// Only calls the value's own [`Encodable::rlp_append`]. A string isn't counted, and a list
+    /// counts itself. Use it in the `rlp_append` of a custom type that wraps another value.
     pub fn append_internal<E: Encodable>(&mut self, value: &E) -> Result<Chain<'_>, AllocError>
         ensures* refused { sem 𝓛 (stays_if_refused self.entry result) }
         ensures fits { OnOk result (E.fits value.now) }
@@ -222,10 +222,10 @@ impl RlpStream {
         Ok(Chain { stream: self })
     }
 
-    /// Puts bytes as they are, and counts `item_count` items. The innermost open list, if it has a bound,
-    /// must await at least as many, which [`RlpStream::items_awaited`] tells.
+    /// Puts bytes as they are, and counts `item_count` items. The innermost open list, if it has a
+    /// bound, must await at least that number. Test it by [`RlpStream::items_awaited`].
     ///
-    /// Nothing tests whether the bytes are encodings of that many items.
+    /// It doesn't test whether the bytes are encodings of that number of items.
     pub fn append_raw(&mut self, bytes: &[u8], item_count: usize) -> Result<Chain<'_>, AllocError>
         requires { IsTrue (is_admitted (append_raw bytes.now item_count) self.old.state) }
         ensures* refused { sem 𝓛 (rests_if_refused self.entry result) }
@@ -242,8 +242,8 @@ impl RlpStream {
         Ok(Chain { stream: self })
     }
 
-    /// The same, where the closed size with the bytes is at most `max_size`: then the answer is
-    /// `true`. Else it is `false`, and nothing changes.
+    /// The same as [`RlpStream::append_raw`] if the closed size with the bytes is at most
+    /// `max_size`. It then returns `true`. Otherwise it returns `false` and changes nothing.
     ///
     /// ```rust
     /// let mut s = rlp::RlpStream::new_list(alloc, 3)?;
@@ -279,8 +279,8 @@ impl RlpStream {
         self.try_put_counted(bytes, item_count).map(|()| true)
     }
 
-    /// Begins a list that awaits `len` items, and is closed by the last of them. A list of no
-    /// items is written at once.
+    /// Begins a list that awaits `len` items. The last of them closes it. A list of no items is
+    /// written at once.
     pub fn begin_list(&mut self, len: usize) -> Result<Chain<'_>, AllocError>
         ensures* refused { sem 𝓛 (rests_if_refused self.entry result) }
         ensures ok { LeavesState result (effect (begin_list len) self.old.state) }
@@ -309,8 +309,8 @@ impl RlpStream {
         Ok(Chain { stream: self })
     }
 
-    /// Closes the innermost open list, which must be unbounded, as [`RlpStream::can_finalize`]
-    /// tests, and counts it in the list around it. The closed size stays.
+    /// Closes the innermost open list, and counts it in the list around it. The list must be
+    /// unbounded. Test it by [`RlpStream::can_finalize`]. The closed size stays.
     #[tactic(auto, using(rlp_buffer::proofs::Streams::States::size_kept))]
     pub fn finalize_unbounded_list(&mut self) -> Result<(), AllocError>
         requires { IsTrue (is_admitted finalize_unbounded_list self.old.state) }
@@ -326,7 +326,7 @@ impl RlpStream {
         Ok(())
     }
 
-    /// Drops all that was written and every open list. The front and the mark stay.
+    /// Drops everything that was written and every open list. The front and the mark stay.
     pub fn clear(&mut self)
         ensures state { self.new.state ≡ effect clear self.old.state }
         ensures moved { self.new.moved ≡ self.old.moved }
@@ -336,8 +336,8 @@ impl RlpStream {
         self.lists.clear();
     }
 
-    /// How many bytes there are behind those handed in once every list is closed, whatever is still
-    /// awaited.
+    /// The closed size: the number of bytes behind the front once every list is closed. Lists count
+    /// as closed even if they still await items.
     pub fn len(&self) -> usize
         ensures { result ≡ closed_size self.now.state }
     {
@@ -345,15 +345,15 @@ impl RlpStream {
         closed_len(lists, self.start, self.buffer.len(), 0).unwrap()
     }
 
-    /// Whether nothing was written and no list is open: whether [`RlpStream::len`] is 0.
+    /// Whether nothing was written and no list is open, so [`RlpStream::len`] is 0.
     pub fn is_empty(&self) -> bool
         ensures { IsTrue result ↔ (closed_size self.now.state ≡ 0) }
     {
         self.buffer.len() == self.start
     }
 
-    /// The size of [`RlpStream::len`] with `add` more bytes put. It must be less than 2^64, which
-    /// [`RlpStream::checked_estimate_size`] tests.
+    /// The size of [`RlpStream::len`] with `add` more bytes put. It must be less than 2^64. Test it
+    /// by [`RlpStream::checked_estimate_size`].
     pub fn estimate_size(&self, add: usize) -> usize
         requires { closed_size_with add self.now.state < 2 ^ 64 }
         ensures { result ≡ closed_size_with add self.now.state }
@@ -361,7 +361,7 @@ impl RlpStream {
         self.checked_estimate_size(add).unwrap()
     }
 
-    /// The same, or `None` where it is 2^64 or more.
+    /// The same as [`RlpStream::estimate_size`], or `None` if it is 2^64 or more.
     pub fn checked_estimate_size(&self, add: usize) -> Option<usize>
         ensures { SomeIff result (closed_size_with add self.now.state < 2 ^ 64)
             (closed_size_with add self.now.state) }
@@ -369,14 +369,14 @@ impl RlpStream {
         closed_len(self.lists.as_slice(), self.start, self.buffer.len(), add)
     }
 
-    /// Whether no list is open, so that [`RlpStream::out`] may be called.
+    /// Whether no list is open. Then [`RlpStream::out`] may be called.
     pub fn is_finished(&self) -> bool
         ensures { IsTrue result ↔ IsFinished self.now.state }
     {
         self.lists.is_empty()
     }
 
-    /// Whether a list is open and the innermost is unbounded, so that
+    /// Whether a list is open and the innermost is unbounded. Then
     /// [`RlpStream::finalize_unbounded_list`] may be called.
     pub fn can_finalize(&self) -> bool
         ensures { result ≡ is_unbounded self.now.state.stack.lists }
@@ -384,23 +384,24 @@ impl RlpStream {
         is_unbounded(&self.lists)
     }
 
-    /// What the innermost open list awaits. `None` where it is unbounded, or none is open.
+    /// The number of items that the innermost open list awaits. `None` if it is unbounded, or if no
+    /// list is open.
     pub fn items_awaited(&self) -> Option<usize>
         ensures { result ≡ awaited self.now.state.stack.lists }
     {
         innermost_awaits(&self.lists)
     }
 
-    /// The bytes as they stand: those handed in, what stands at the top, and for each open list
-    /// from the outside in one byte `0x00`, in place of its header, and what stands in it.
+    /// The bytes now: the front, the payload of the top, and then each open list, from the outside
+    /// in. An open list has one byte `0x00` in the place of its header, and then its payload.
     pub fn as_raw(&self) -> &[u8]
         ensures { result.now ≡ raw_text self.now.state }
     {
         self.buffer.as_slice()
     }
 
-    /// The bytes handed in and the encodings after them. No list may be open, which
-    /// [`RlpStream::is_finished`] tests.
+    /// The front and the encodings after it. No list may be open. Test it by
+    /// [`RlpStream::is_finished`].
     pub fn out(self) -> BytesMut
         requires { IsFinished self.state }
         ensures bytes { result.items ≡ self.state.front ++ self.state.stack.inner }
@@ -416,7 +417,7 @@ impl RlpStream {
         buffer.into_bytes()
     }
 
-    /// A writer of strings into this stream, which counts none of them.
+    /// A writer of strings into this stream. It doesn't count them.
     pub fn encoder(&mut self) -> BasicEncoder<'_>
         ensures same_reference { result.stream.ghost_name ≡ self.entry.ghost_name }
         ensures same { result.stream.now ≡ self.old }

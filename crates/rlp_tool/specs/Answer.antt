@@ -1,4 +1,4 @@
--- What is answered to a line.
+-- The answer to a line.
 use Rattle.std.specs.Prelude.{ℕ, ◌≡◌, ◌≤◌, ◌==◌, ◌+◌, nat_lt, Bool, true, if◌then◌else◌, List, [], ◌∷◌, ◌++◌, length, codes, decimal, Option, Some, None, Result, Ok, Err}
 use Rattle.std.specs.Str.{byte}
 use Rattle.std.specs.Str.Lines.{strip_carriage_return}
@@ -17,51 +17,51 @@ use Rattle.rlp_tool.specs.Digits.{bytes_in}
 use Rattle.rlp_tool.specs.RawItems.{are_raw_items}
 use Rattle.rlp_tool.specs.Script.{script}
 
--- the most bytes that a line may have, its newline not counted
+-- the most bytes that a line may have, without its newline
 abbrev pub longest_line : ℕ
 longest_line = 131072
 
--- the greatest depth of what is printed
+-- the greatest depth that is printed
 abbrev pub deepest_nesting : ℕ
 deepest_nesting = 256
 
 -- ---- lines of digits
 
--- the text of the view of these bytes, if its lists don't nest too deep
+-- the text of the view of these bytes, or `error deep` if its lists nest too deep
 abbrev pub view_answer : List ℕ → List ℕ
 view_answer bytes = if nat_lt deepest_nesting (depth bytes) then codes "error deep" else text bytes
 
--- the same of the bytes of the digits, if they are digits, two a byte
+-- the same for the bytes of these digits, or `error hex` if they aren't digits, two for each byte
 abbrev pub digits_answer : Option (List ℕ) → List ℕ
 digits_answer (Some bytes) = view_answer bytes
 digits_answer None = codes "error hex"
 
 -- ---- lines of calls
 
--- `out`, and where there are bytes a space and their digits
+-- `out`, and if there are bytes a space and their digits
 abbrev pub finished_answer : List ℕ → List ℕ
 finished_answer [] = codes "out"
 finished_answer (b ∷ bytes) = codes "out " ++ encode_lower (b ∷ bytes)
 
--- `open`, the closed size, and the digits of the bytes as they stand
+-- `open`, the closed size, and the digits of the bytes now
 abbrev pub open_answer : ℕ → List ℕ → List ℕ
 open_answer size raw = codes "open " ++ decimal size ++ codes " " ++ encode_lower raw
 
--- the finished buffer of a stream over an empty front, which is what stands at the top, where no list is open; else the closed size and the raw text
+-- the finished buffer of a stream over an empty front, which is the top's payload, if no list is open; else the closed size and the raw text
 abbrev pub state_answer : List (OpenList ℕ) → State → List ℕ
 state_answer [] s = finished_answer s.stack.inner
 state_answer (l ∷ ls) s = open_answer (closed_size s) (raw_text s)
 
--- whether a call's raw bytes are as many items as it counts, none of them too deep
+-- whether a call's raw bytes are the announced number of items, none too deep
 abbrev pub brings_items : Call → Bool
 brings_items (append_raw bytes count) = are_raw_items bytes count
 brings_items _ = true
 
--- why a call is refused that isn't admitted: raw bytes bring too many items, and there was nothing to finish otherwise
+-- why a call isn't admitted: raw bytes have too many items; for any other call there is nothing to finish
 abbrev pub refusal_name : Call → List ℕ
 refusal_name call = if is_raw call then codes "error too many items at " else codes "error nothing to finish at "
 
--- what the calls come to, from a state on, where this is the place of the next: the first that is refused decides
+-- the answer to the calls from a state on, with the place of the next call: the first that fails decides
 abbrev pub outcome_answer : ℕ → State → List Call → List ℕ
 outcome_answer place s [] = state_answer s.stack.lists s
 outcome_answer place s (call ∷ calls) =
@@ -69,36 +69,36 @@ outcome_answer place s (call ∷ calls) =
     then (if brings_items call then outcome_answer (place + 1) (effect call s) calls else codes "error raw not items at " ++ decimal place)
     else refusal_name call ++ decimal place
 
--- what calls that were read come to over an empty front, or the place of the first piece that says no call
+-- the answer to the calls of a script over an empty front, or the place of the first piece that isn't a call
 abbrev pub calls_answer : Result (List Call) ℕ → List ℕ
 calls_answer (Ok calls) = outcome_answer 1 (initial_state []) calls
 calls_answer (Err place) = codes "error syntax at " ++ decimal place
 
 -- ---- all lines
 
--- the answer to a line whose carriage return is dropped: what follows a `+` is a script, and any other line an optional `0x` and digits
+-- the answer to a line without its carriage return: a `+` and a script, or an optional `0x` and digits
 abbrev pub text_answer : List ℕ → List ℕ
 text_answer [] = digits_answer (bytes_in [])
 text_answer (b ∷ rest) = if b == byte "+" then calls_answer (script rest) else digits_answer (bytes_in (b ∷ rest))
 
--- what is answered to a line that isn't too long: one carriage return at its end is dropped first
+-- the answer to a line that isn't too long: one carriage return at its end is dropped first
 abbrev pub answer_within : List ℕ → List ℕ
 answer_within line = text_answer (strip_carriage_return line)
 
--- what is answered to a line
+-- the answer to a line
 unfoldable pub answer : List ℕ → List ℕ
 answer line = if nat_lt longest_line (length line) then codes "error long line" else answer_within line
 
--- a line that isn't too long says these calls: less one carriage return at its end, it is a `+` and a script of them
+-- a line that isn't too long has these calls: without one carriage return at its end, it is a `+` and a script of them
 pub record SaysCalls (line : List ℕ) (calls : List Call) : Type 0 where
   pub within : length line ≤ longest_line
   pub text : List ℕ
   pub stripped : strip_carriage_return line ≡ byte "+" ∷ text
   pub says : script text ≡ Ok calls
 
--- ---- parts, which only clauses of private functions cite
+-- ---- parts that only clauses of private functions cite
 
--- what calls come to was appended, or why they come to nothing
+-- the result of calls was appended, or the fault of the first that fails
 abbrev pub AppendsOutcome : List ℕ → List ℕ → Result Built BuildFault → Type 0
 AppendsOutcome old new (Ok (Finished bytes)) = new ≡ old ++ finished_answer bytes.items
 AppendsOutcome old new (Ok (Open size raw)) = new ≡ old ++ open_answer size raw.items

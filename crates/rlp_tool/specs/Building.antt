@@ -1,4 +1,4 @@
--- What calls over a front come to.
+-- The result of calls over a front.
 use Rattle.std.specs.Prelude.{ℕ, suc, ◌≡◌, Bool, true, false, IsTrue, List, [], ◌∷◌, ◌++◌, length, Ok}
 use Rattle.rlp.specs.Format.Item.{Item}
 use Rattle.rlp.specs.Format.Encoding.{join}
@@ -11,7 +11,7 @@ use Rattle.rlp_tool.specs.declared.building.BuildFault.{BuildFault}
 use Rattle.rlp_tool.specs.declared.building.BuildFault.TheVariants.{TooManyItems, NothingToFinish, RawNotItems, OutOfMemory}
 use Rattle.rlp_tool.specs.RawItems.{AreRawItems, IsShallow}
 
--- the calls over the front are all admitted and leave a list open; the closed size and the raw text are these
+-- all calls over the front are admitted and leave a list open; the closed size and the raw text are these
 pub record StayOpen (front : List ℕ) (calls : List Call) (size : ℕ) (raw : List ℕ) : Type 0 where
   pub last : State
   pub admitted : after front calls ≡ Ok last
@@ -30,21 +30,21 @@ abbrev pub is_finish : Call → Bool
 is_finish finalize_unbounded_list = true
 is_finish _ = false
 
--- a call's raw bytes are as many items as it counts, none of them too deep; a call that puts no raw bytes has none to show
+-- a call's raw bytes are the announced number of items, none too deep; this always holds for a call without raw bytes
 abbrev pub BringsItems : Call → Type 0
 BringsItems (append_raw bytes count) = AreRawItems bytes count
 BringsItems _ = Unit
 
--- the step that a call is, in the state that it meets
+-- the step that a call is, in the state before it
 abbrev pub IsSomeStep : Call → State → Type 0
 IsSomeStep call s = (m : Step) × DescribesWhere IsShallow s call m
 
--- no call over the front is refused: each is admitted, and raw bytes bring as many items as they count, none of them too deep
+-- no call over the front fails: each is admitted, and raw bytes are the announced number of items, none too deep
 pub record AreTaken (front : List ℕ) (calls : List Call) : Type 0 where
   pub steps : List Step
   pub described : AreDescribedWhere IsShallow (initial_state front) calls steps
 
--- the call in this place, from 1, is refused for a reason that it has in the state that it meets, and no call before it is refused
+-- the call in this place, counted from 1, fails for a reason that it has in the state before it, and no call before it fails
 pub record AreRefused (reason : Call → State → Type 0) (front : List ℕ) (calls : List Call) (place : ℕ) : Type 0 where
   pub before : List Call
   pub call : Call
@@ -56,24 +56,24 @@ pub record AreRefused (reason : Call → State → Type 0) (front : List ℕ) (c
   pub admitted : after front before ≡ Ok met
   pub refused : reason call met
 
--- raw bytes bring more items than the innermost list awaits
+-- raw bytes count more items than the innermost list awaits
 abbrev pub BringsTooMany : Call → State → Type 0
 BringsTooMany call s = (is_admitted call s ≡ false) × IsTrue (is_raw call)
 
--- a list is to be closed, but none is open, or the innermost one is closed by its items
+-- a list is to be closed, but no list is open, or the innermost one awaits a number of items
 abbrev pub HasNothingToFinish : Call → State → Type 0
 HasNothingToFinish call s = (is_admitted call s ≡ false) × IsTrue (is_finish call)
 
--- raw bytes may bring that number of items, but they are none or others
+-- raw bytes may count that number of items, but they aren't that number of items
 abbrev pub BringsNoItems : Call → State → Type 0
 BringsNoItems call s = IsTrue (is_admitted call s) × (¬ BringsItems call)
 
--- whether memory may be refused for a call: for any but `clear`
+-- whether memory may be refused for a call: for any call but `clear`
 abbrev pub takes_memory : Call → Bool
 takes_memory clear = false
 takes_memory _ = true
 
--- a call that takes memory is not refused, and no call before it is
+-- a call that takes memory doesn't fail its test, and no call before it does
 pub record TakesMemory (front : List ℕ) (calls : List Call) : Type 0 where
   pub before : List Call
   pub call : Call
@@ -82,26 +82,26 @@ pub record TakesMemory (front : List ℕ) (calls : List Call) : Type 0 where
   pub taken : AreTaken front (before ++ call ∷ [])
   pub takes : IsTrue (takes_memory call)
 
--- what the calls over the front come to, where none is refused
+-- the result of the calls over the front, if none fails
 abbrev pub IsBuilt : List ℕ → List Call → Built → Type 0
 IsBuilt front calls (Finished bytes) = FinishAs front calls bytes.items
 IsBuilt front calls (Open size raw) = StayOpen front calls size raw.items
 
--- why they come to nothing
+-- why they fail
 abbrev pub IsRefusal : List ℕ → List Call → BuildFault → Type 0
 IsRefusal front calls (TooManyItems place) = AreRefused BringsTooMany front calls place
 IsRefusal front calls (NothingToFinish place) = AreRefused HasNothingToFinish front calls place
 IsRefusal front calls (RawNotItems place) = AreRefused BringsNoItems front calls place
 IsRefusal front calls OutOfMemory = TakesMemory front calls
 
--- the calls describe items, of which raw bytes bring none too deep, and the finished buffer is the front and the joined encodings of these
+-- the calls describe items, of which none of raw bytes is too deep, and the finished buffer is the front and the joined encodings of the items
 pub record AreJoined (front : List ℕ) (calls : List Call) (bytes : List ℕ) : Type 0 where
   pub items : List Item
   pub shallow : IsDescribedWhere IsShallow front calls items
   pub described : IsDescribed front calls items
   pub joined : bytes ≡ front ++ join items
 
--- the same of what calls come to; of a list that is open it says nothing
+-- the same for the result of calls; nothing is said if a list is open
 abbrev pub IsJoined : List ℕ → List Call → Built → Type 0
 IsJoined front calls (Finished bytes) = AreJoined front calls bytes.items
 IsJoined front calls (Open size raw) = Unit
@@ -111,16 +111,16 @@ abbrev pub IsFinishedAs : List ℕ → Built → Type 0
 IsFinishedAs expected (Finished bytes) = bytes.items ≡ expected
 IsFinishedAs expected (Open size raw) = ⊥
 
--- ---- parts, which only clauses of private functions cite
+-- ---- parts that only clauses of private functions cite
 
--- why a call isn't made, in this state and this place
+-- why a call fails, in this state and this place
 abbrev pub IsUnfit : Call → State → ℕ → BuildFault → Type 0
 IsUnfit call s place (TooManyItems there) = (there ≡ place) × BringsTooMany call s
 IsUnfit call s place (NothingToFinish there) = (there ≡ place) × HasNothingToFinish call s
 IsUnfit call s place (RawNotItems there) = (there ≡ place) × BringsNoItems call s
 IsUnfit call s place OutOfMemory = IsTrue (is_admitted call s) × IsSomeStep call s × IsTrue (takes_memory call)
 
--- what a stream in this state holds in the end
+-- the result of a stream in this state
 abbrev pub IsHeld : State → Built → Type 0
 IsHeld s (Finished bytes) = IsFinished s × (bytes.items ≡ s.front ++ s.stack.inner)
 IsHeld s (Open size raw) = ¬ IsFinished s × (size ≡ closed_size s) × (raw.items ≡ raw_text s)

@@ -2,17 +2,17 @@
 use Rattle.std.specs.Prelude.{ℕ, ◌==◌, List, [], ◌∷◌, ◌++◌}
 use Rattle.std.specs.List.{slice_split}
 
--- the pieces of a text, which is cut at each newline
+-- the pieces of a text that is cut at each newline
 unfoldable pub pieces : List ℕ → List (List ℕ)
 pieces t = slice_split (λ byte. byte == 10) t
 
--- all but the last of some pieces
+-- all pieces but the last
 abbrev pub all_but_last : List (List ℕ) → List (List ℕ)
 all_but_last [] = []
 all_but_last (piece ∷ []) = []
 all_but_last (piece ∷ next ∷ rest) = piece ∷ all_but_last (next ∷ rest)
 
--- the last of some pieces
+-- the last piece
 abbrev pub last_of : List (List ℕ) → List ℕ
 last_of [] = []
 last_of (piece ∷ []) = piece
@@ -22,7 +22,7 @@ last_of (piece ∷ next ∷ rest) = last_of (next ∷ rest)
 unfoldable pub ended_lines : List ℕ → List (List ℕ)
 ended_lines t = all_but_last (pieces t)
 
--- what stands after the last newline of a text
+-- the text after the last newline
 unfoldable pub last_piece : List ℕ → List ℕ
 last_piece t = last_of (pieces t)
 
@@ -35,6 +35,6 @@ line_of_last (byte ∷ rest) = (byte ∷ rest) ∷ []
 abbrev pub unended_line : List ℕ → List (List ℕ)
 unended_line t = line_of_last (last_piece t)
 
--- the lines of a text: those that a newline ends, and then what stands after the last newline, if that isn't empty
+-- the lines of a text: those that a newline ends, and then the text after the last newline, if it isn't empty
 abbrev pub lines : List ℕ → List (List ℕ)
 lines t = ended_lines t ++ unended_line t

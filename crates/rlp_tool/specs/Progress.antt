@@ -12,23 +12,23 @@ use Rattle.rlp_tool.specs.declared.serving.RunFault.TheVariants.{Memory, Write}
 abbrev pub IsOnePiece : List ℕ → Type 0
 IsOnePiece run = pieces run ≡ run ∷ []
 
--- the bytes kept of a line that has begun, or that it is too long
+-- the bytes kept of the current line, or the fact that it is too long
 abbrev pub IsLine : List ℕ → Bool → List ℕ → Type 0
 IsLine kept false begun = kept ≡ begun
 IsLine kept true begun = longest_line < length begun
 
--- after a text, of whose replies some were written and the others wait, and whose last piece is kept
+-- the state after a text: some replies were written, the others wait, and the last piece is kept
 pub record IsAfter (text written waiting kept : List ℕ) (over : Bool) : Type 0 where
   pub answered : written ++ waiting ≡ replies_to (ended_lines text)
   pub line : IsLine kept over (last_piece text)
 
--- after a text, of whose lines all that are ended were answered, and whose last piece is kept
+-- the state after a text: all its ended lines were answered, and the last piece is kept
 pub record IsServed (start now : Option (List ℕ)) (text kept : List ℕ) (over : Bool) : Type 0 where
   pub wrote : Appends start now (replies_to (ended_lines text))
   pub line : IsLine kept over (last_piece text)
 
--- how the answers to a text stop: without memory the whole replies to the lines before the refused one were written,
--- and a writer that failed has a beginning of the replies
+-- how the answers to a text stop: out of memory, the whole replies to the lines before the refused one were written;
+-- a writer that failed has a beginning of the replies
 abbrev pub IsStop : RunFault → Option (List ℕ) → Option (List ℕ) → List ℕ → List ℕ → Bool → Type 0
 IsStop fault start new earlier text failed =
     ((fault ≡ Memory) × AppendsBefore start new earlier text) ⊎ ((fault ≡ Write) × AppendsPart start new (replies text) × (failed ≡ true))

@@ -7,42 +7,42 @@ use Rattle.rlp.specs.Format.Encoding.{join}
 use Rattle.rlp.specs.Format.Split.{split, items}
 use Rattle.rlp.specs.Format.StringReading.{read_string}
 
--- the greatest depth of an item that raw bytes may bring
+-- the greatest depth of an item in raw bytes
 abbrev pub deepest_raw_item : ℕ
 deepest_raw_item = 256
 
--- an item that is no deeper
+-- an item of at most this depth
 abbrev pub IsShallow : Item → Type 0
 IsShallow x = item_depth x ≤ deepest_raw_item
 
--- the bytes are the joined canonical encodings of `count` items, none of them too deep
+-- the bytes are the joined canonical encodings of `count` items, none too deep
 pub record AreRawItems (bytes : List ℕ) (count : ℕ) : Type 0 where
   pub brought : List Item
   pub joined : bytes ≡ join brought
   pub counted : length brought ≡ count
   pub shallow : All IsShallow brought
 
--- ---- the same, computed, by reading the bytes as items and writing these again
+-- ---- the same, computed: the bytes are read as items, and these are written again
 
--- the string that was read, and no bytes for a fault
+-- the string that was read, or no bytes for a fault
 abbrev pub string_or_none : Result (List ℕ) DecoderError → List ℕ
 string_or_none (Ok d) = d
 string_or_none (Err e) = []
 
--- the string that was read, or else the list of what the items of the bytes are read as
+-- the string that was read, or else the list of the items that the items of the bytes are read as
 abbrev pub item_by : (List ℕ → Item) → List ℕ → Result (List ℕ) DecoderError → Item
 item_by inside bytes (Ok d) = string d
 item_by inside bytes (Err e) = list_of (map inside (items bytes))
 
--- The item that bytes are read as, through at most a number of lists, one in another. It says nothing of bytes that don't begin with the encoding of such an item.
+-- The item that bytes are read as, through at most this number of nested lists. Nothing is said of bytes that don't begin with the encoding of such an item.
 unfoldable pub item_within : ℕ → List ℕ → Item
 item_within zero bytes = string (string_or_none (read_string bytes))
 item_within (suc most) bytes = item_by (item_within most) bytes (read_string bytes)
 
--- the items that the framed items at the front of bytes are read as
+-- the items that the first framed items of bytes are read as
 abbrev pub raw_items : List ℕ → List Item
 raw_items bytes = map (item_within deepest_raw_item) (split bytes)
 
--- whether bytes are the joined encodings of the given number of items: those that they are read as
+-- whether bytes are the joined encodings of this number of items, the items that they are read as
 abbrev pub are_raw_items : List ℕ → ℕ → Bool
 are_raw_items bytes count = bytes_eq (join (raw_items bytes)) bytes && nat_eq (length (raw_items bytes)) count

@@ -4,11 +4,11 @@ use Rattle.std.specs.List.{flat_map}
 use Rattle.rlp_tool.specs.Answer.{answer}
 use Rattle.rlp_tool.specs.Lines.{lines}
 
--- a line's answer, with a newline
+-- the answer to a line, and a newline
 abbrev pub reply : List ℕ → List ℕ
 reply line = answer line ++ 10 ∷ []
 
--- the replies to some lines, one after the other
+-- the replies to some lines, one after another
 unfoldable pub replies_to : List (List ℕ) → List ℕ
 replies_to some_lines = flat_map reply some_lines
 

@@ -1,4 +1,4 @@
--- What a run leaves: in0 and in1 are the bytes that its reader had left before and after it, and out0 and out1 the bytes that its writer held.
+-- What a run leaves. in0 and in1 are the bytes that the reader had left before and after the run. out0 and out1 are the bytes that the writer held.
 use Rattle.std.specs.Prelude.{ℕ, ◌≡◌, ◌<◌, ◌≤◌, List, ◌++◌, length, take, Option}
 use Rattle.std.specs.Io.KnownBytes.{Consumes, Appends, IsAtEnd}
 use Rattle.rlp_tool.specs.Lines.{lines, ended_lines}
@@ -9,18 +9,18 @@ pub record AppendsPart (out0 out1 : Option (List ℕ)) (bytes : List ℕ) : Type
   pub count : ℕ
   pub wrote : Appends out0 out1 (take count bytes)
 
--- the input was read to its end, and the replies to all of its lines were written
+-- the input was read to its end, and the replies to all its lines were written
 pub record AnswersAll (in0 in1 out0 out1 : Option (List ℕ)) : Type 0 where
   pub took : List ℕ
   pub read : Consumes in0 in1 took
   pub ended : IsAtEnd in1
   pub wrote : Appends out0 out1 (replies took)
 
--- the most bytes that one read brings
+-- the most bytes of one read
 abbrev pub longest_read : ℕ
 longest_read = 16384
 
--- the whole replies to the lines before one of a text, a line that hadn't ended in the earlier part of the text
+-- the whole replies to the lines before some line of a text, which had not ended in the earlier part of the text
 pub record AreRepliesBefore (earlier text bytes : List ℕ) : Type 0 where
   pub refused : ℕ
   pub unended : length (ended_lines earlier) ≤ refused
@@ -33,7 +33,7 @@ pub record AppendsBefore (out0 out1 : Option (List ℕ)) (earlier text : List �
   pub replies : AreRepliesBefore earlier text bytes
   pub wrote : Appends out0 out1 bytes
 
--- memory was refused at a line of what was read, one that hadn't ended before the last read, and the whole replies to exactly the lines before it were written
+-- memory was refused at a line that had not ended before the last read, and the whole replies to exactly the lines before it were written
 pub record AnswersBefore (in0 in1 out0 out1 : Option (List ℕ)) : Type 0 where
   pub earlier : List ℕ
   pub last : List ℕ

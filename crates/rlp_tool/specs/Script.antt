@@ -1,4 +1,4 @@
--- What a script says: calls of a stream as text.
+-- Scripts: calls of a stream as text.
 use Rattle.std.specs.Prelude.{ℕ, ◌≡◌, ◌≢◌, IsSome, ◌+◌, ◌==◌, ◌++◌, codes, decimal, length, Bool, if◌then◌else◌, List, [], ◌∷◌, take, drop, is_some, Option, Some, None, option_map, position, filter_map, Result, Ok, Err}
 use Rattle.std.specs.List.{slice_split, list_all, prefix_len}
 use Rattle.std.specs.Str.{byte}
@@ -8,7 +8,7 @@ use Rattle.rlp_tool.specs.Digits.{bytes_in, number_in}
 use Rattle.rlp_tool.specs.declared.script.ScriptFault.{ScriptFault}
 use Rattle.rlp_tool.specs.declared.script.ScriptFault.TheVariants.{Syntax, OutOfMemory}
 
--- the call that a letter alone says: `u` begins an unbounded list, `e` ends it, `c` clears
+-- the call of a single letter: `u` begins an unbounded list, `e` ends it, `c` clears
 abbrev pub letter_call : ℕ → Option Call
 letter_call letter =
     if letter == byte "u" then Some begin_unbounded_list
@@ -16,7 +16,7 @@ letter_call letter =
     else if letter == byte "c" then Some clear
     else None
 
--- raw bytes and how many items they count as, if both are there
+-- raw bytes and their announced number of items, if both are there
 abbrev pub raw_call : Option ℕ → Option (List ℕ) → Option Call
 raw_call (Some count) (Some bytes) = Some (append_raw bytes count)
 raw_call (Some count) None = None
@@ -27,8 +27,8 @@ abbrev pub raw_parts : List ℕ → Option ℕ → Option Call
 raw_parts text (Some at) = raw_call (number_in (take at text)) (bytes_in (drop (at + 1) text))
 raw_parts text None = None
 
--- the call that a letter and a colon say, by what follows: `d` appends the string of the bytes, `r` puts raw bytes, with the number of items that they count as,
--- `l` begins a list, with the number of its items
+-- the call of a letter and a colon, by the text that follows: `d` appends the string of the bytes, `r` puts raw bytes with their announced number of items,
+-- `l` begins a list with its number of items
 abbrev pub labelled_call : ℕ → List ℕ → Option Call
 labelled_call letter text =
     if letter == byte "d" then option_map (λ bytes. append (string bytes)) (bytes_in text)
@@ -36,53 +36,53 @@ labelled_call letter text =
     else if letter == byte "l" then option_map begin_list (number_in text)
     else None
 
--- the call that a piece says, if it says one: a letter alone, or a letter and a colon and what it brings
+-- the call of a piece, if it is one: a single letter, or a letter, a colon and its arguments
 abbrev pub call_in : List ℕ → Option Call
 call_in [] = None
 call_in (letter ∷ []) = letter_call letter
 call_in (letter ∷ colon ∷ text) = if colon == byte ":" then labelled_call letter text else None
 
--- whether a piece says a call
+-- whether a piece is a call
 abbrev pub is_call : List ℕ → Bool
 is_call piece = is_some (call_in piece)
 
--- the calls of all pieces, or the place, from 1, of the first that says none
+-- the calls of all pieces, or the place, counted from 1, of the first that isn't a call
 abbrev pub calls_in : List (List ℕ) → Result (List Call) ℕ
 calls_in pieces = if list_all is_call pieces then Ok (filter_map call_in pieces) else Err (1 + prefix_len is_call pieces)
 
--- What a whole script says. An empty text is no calls; any other is cut at every space.
+-- The calls of a script. An empty text has no calls. Any other text is cut at every space.
 abbrev pub script : List ℕ → Result (List Call) ℕ
 script [] = Ok []
 script (b ∷ text) = calls_in (slice_split (λ c. c == byte " ") (b ∷ text))
 
--- the first piece of a text says a call, and so takes memory
+-- the first piece of a text is a call, and so takes memory
 abbrev pub BeginsWithCall : List ℕ → Type 0
 BeginsWithCall text = (text ≢ []) × (script text ≢ Err 1)
 
--- why a script is read no further: a piece says no call, or memory was refused for a call
+-- why a script can't be read: a piece isn't a call, or memory was refused for a call
 abbrev pub IsScriptFault : List ℕ → ScriptFault → Type 0
 IsScriptFault text (Syntax place) = script text ≡ Err place
 IsScriptFault text OutOfMemory = BeginsWithCall text
 
--- ---- parts, which only clauses of private functions cite
+-- ---- parts that only clauses of private functions cite
 
--- the call was added to those before it
+-- the call was added to the calls before it
 abbrev pub AddsCall : List Call → List Call → Option Call → Type 0
 AddsCall old new (Some call) = new ≡ old ++ call ∷ []
 AddsCall old new None = ⊥
 
--- a call brings bytes, for which memory may be refused
+-- a call has bytes, for which memory may be refused
 abbrev pub BringsBytes : Option Call → Type 0
 BringsBytes (Some (append (string bytes))) = bytes ≢ []
 BringsBytes (Some (append_raw bytes count)) = bytes ≢ []
 BringsBytes _ = ⊥
 
--- why a piece is not read, after these calls: it says no call, or memory was refused for its call
+-- why a piece isn't read, after these calls: it isn't a call, or memory was refused for its call
 abbrev pub IsUnread : List Call → Option Call → ScriptFault → Type 0
 IsUnread old call (Syntax place) = (call ≡ None) × (place ≡ length old + 1)
 IsUnread old call OutOfMemory = IsSome call
 
--- the place of the piece that says no call was printed
+-- the place of the piece that isn't a call was printed
 abbrev pub AppendsScriptFault : List ℕ → List ℕ → ScriptFault → Type 0
 AppendsScriptFault old new (Syntax place) = new ≡ old ++ (codes "error syntax at " ++ decimal place)
 AppendsScriptFault old new OutOfMemory = ⊥

@@ -1,4 +1,4 @@
--- Which calls of a stream some `StreamCall`s are.
+-- The calls of a stream for `StreamCall`s.
 use Rattle.std.specs.Prelude.{ℕ, List, map, Vec}
 use Rattle.std.specs.declared.alloc.Global.{Global}
 use Rattle.rlp.specs.Format.Item.{Item, string, list_of}
@@ -6,7 +6,7 @@ use Rattle.rlp.specs.Streams.Calls.{Call, append, append_raw, begin_list, begin_
 use Rattle.rlp_tool.specs.declared.calls.StreamCall.{StreamCall}
 use Rattle.rlp_tool.specs.declared.calls.StreamCall.TheVariants.{Value, Values, Raw, Begin, BeginUnbounded, Finish, Clear}
 
--- the call of a stream, where `item` says which item a value is: a value is appended, and of values the list
+-- the call of a stream, with `item` for the item of a value: a value is appended, and values are appended as their list
 abbrev pub call_of : {E : Type 0} → (E → Item) → StreamCall E → Call
 call_of item (Value v) = append (item v)
 call_of item (Values vs) = append (list_of (map item vs.items))
@@ -20,7 +20,7 @@ call_of item Clear = clear
 abbrev pub calls_of : {E : Type 0} → (E → Item) → List (StreamCall E) → List Call
 calls_of item calls = map (call_of item) calls
 
--- the same of byte strings, each of which is the string of its bytes
+-- the same for byte strings, each as the string of its bytes
 abbrev pub call_of_bytes : StreamCall (Vec ℕ Global) → Call
 call_of_bytes call = call_of (λ v. string v.items) call
 

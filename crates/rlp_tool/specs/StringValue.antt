@@ -1,4 +1,4 @@
--- Strings that are kept in place where they are short.
+-- Strings that are kept in place if they are short.
 use Rattle.rlp.specs.Format.Item.{Item, string}
 use Rattle.rlp_tool.specs.declared.strings.StringValue.{StringValue}
 use Rattle.rlp_tool.specs.declared.strings.StringValue.TheVariants.{Short, Long}

@@ -15,10 +15,10 @@ use rlp::Rlp;
 use std::alloc::{AllocError, Global};
 use std::fmt::Write;
 
-/// How many bytes a script writes with no further request for memory.
+/// The number of bytes that a script can write without another request for memory.
 const STARTING_CAPACITY: usize = 1024;
 
-/// The greatest depth of what is printed.
+/// The greatest depth that is printed.
 const DEEPEST_NESTING: usize = 256;
 
 /// Appends the answer to a line that isn't too long.
@@ -31,7 +31,7 @@ pub(crate) fn answer_within(alloc: Global, line: &[u8], out: &mut String) -> Res
     }
 }
 
-/// The line less one carriage return at its end.
+/// The line without one carriage return at its end.
 fn without_carriage_return(line: &[u8]) -> &[u8]
     ensures { result.now ≡ strip_carriage_return line.now }
 {
@@ -52,7 +52,7 @@ fn digits_answer(alloc: Global, text: &[u8], out: &mut String) -> Result<(), All
     }
 }
 
-/// Appends the text of the view of these bytes, if its lists don't nest too deep.
+/// Appends the text of the view of these bytes, or `error deep` if its lists nest too deep.
 fn view_answer(bytes: &[u8], out: &mut String) -> Result<(), AllocError>
     ensures { OnOk result (string_bytes out.new ≡ string_bytes out.old ++ view_answer bytes.now) }
 {
@@ -88,7 +88,7 @@ fn put_finished(bytes: &[u8], out: &mut String) -> Result<(), AllocError>
     push_bytes(bytes, out)
 }
 
-/// Appends the size and the bytes of what is still open.
+/// Appends the size and the bytes of a buffer with open lists.
 fn put_open(size: usize, raw: &[u8], out: &mut String) -> Result<(), AllocError>
     ensures { OnOk result
         (string_bytes out.new ≡ string_bytes out.old ++ open_answer size raw.now) }
@@ -108,7 +108,7 @@ fn put_fault(name: &str, place: usize, out: &mut String) -> Result<(), AllocErro
     push_number(place, out)
 }
 
-/// Appends what calls come to, or why they come to nothing.
+/// Appends the result of calls, or the fault of the first that fails.
 fn put_outcome(outcome: &Result<Built, BuildFault>, out: &mut String) -> Result<(), AllocError>
     ensures { OnOk result
         (AppendsOutcome (string_bytes out.old) (string_bytes out.new) outcome.now) }
@@ -125,7 +125,7 @@ fn put_outcome(outcome: &Result<Built, BuildFault>, out: &mut String) -> Result<
     }
 }
 
-/// Appends why a script isn't read.
+/// Appends the fault of a script.
 fn put_script_fault(fault: &ScriptFault, out: &mut String) -> Result<(), AllocError>
     ensures { OnOk result
         (AppendsScriptFault (string_bytes out.old) (string_bytes out.new) fault.now) }

@@ -1,4 +1,4 @@
-//! What calls of a stream over a front come to.
+//! Makes calls of a stream over a front.
 ghost use Rattle.std.specs.Prelude.{◌≡◌, ◌≢◌, ◌++◌, ◌↔◌, List, MatchOption, OnOk, OnErr, IfOk, IfErr, IsTrue, Ok};
 ghost use Rattle.rlp.specs.Format.Item.{Item};
 ghost use Rattle.rlp.specs.Format.Encoding.{join};
@@ -21,10 +21,10 @@ use rlp::laws::{
 use rlp::{Encodable, Rlp, RlpStream};
 use std::alloc::{AllocError, Global};
 
-/// The greatest depth of an item that raw bytes may bring.
+/// The greatest depth of an item in raw bytes.
 const DEEPEST_RAW_ITEM: usize = 256;
 
-/// What calls come to.
+/// The result of calls.
 #[derive(Drop)]
 pub enum Built {
     /// No list is open: the front and the encodings after it.
@@ -33,26 +33,26 @@ pub enum Built {
     Open {
         /// The closed size, as `RlpStream::len`.
         size: usize,
-        /// The bytes as they stand, as `RlpStream::as_raw`.
+        /// The bytes now, as `RlpStream::as_raw`.
         raw: Vec<u8>,
     },
 }
 
-/// Why calls aren't all made. A place is that of the first call that isn't admitted, from 1.
+/// Why not all calls are made. A place is that of the first call that fails, counted from 1.
 #[derive(Debug, PartialEq, Eq, Drop)]
 pub enum BuildFault {
-    /// Raw bytes count more items than the innermost list awaits.
+    /// Raw bytes announce more items than the innermost list awaits.
     TooManyItems(usize),
-    /// No list is open, or the innermost one is to be closed by its items.
+    /// No list is open, or the innermost one awaits a number of items.
     NothingToFinish(usize),
-    /// Raw bytes aren't the joined canonical encodings of as many items as they count, each of depth
-    /// at most 256.
+    /// Raw bytes aren't the joined canonical encodings of the announced number of items, each of
+    /// depth at most 256.
     RawNotItems(usize),
     /// Memory was refused.
     OutOfMemory,
 }
 
-/// Whether the innermost list awaits at least `count` items, or no list with a length is open.
+/// Whether the innermost list awaits at least `count` items, is unbounded, or no list is open.
 #[tactic(auto, using(crate::proofs::CallsLemmas::room))]
 fn has_room(stream: &RlpStream, count: usize) -> bool
     ensures { result ≡ has_room count stream.now.state.stack.lists }
@@ -63,7 +63,7 @@ fn has_room(stream: &RlpStream, count: usize) -> bool
     }
 }
 
-/// The item that bytes begin with, and what follows it; `None` where they begin with none.
+/// The item that bytes begin with, and the bytes after it. Returns `None` if there is no item.
 fn first_item<'a>(bytes: &'a [u8]) -> Option<(&'a [u8], &'a [u8])>
     ensures { MatchOption result (¬ IsFramed bytes.now)
         (λ r. (frame bytes.now ≡ Ok r.0.now) × (bytes.now ≡ r.0.now ++ r.1.now)) }
@@ -75,7 +75,7 @@ fn first_item<'a>(bytes: &'a [u8]) -> Option<(&'a [u8], &'a [u8])>
     }
 }
 
-/// Whether raw bytes are the joined canonical encodings of `item_count` items, none of them too deep.
+/// Whether raw bytes are the joined canonical encodings of `item_count` items, none too deep.
 fn raw_items_are_canonical(bytes: &[u8], item_count: usize) -> bool
     ensures { IsTrue result ↔ AreRawItems bytes.now item_count }
 {
@@ -97,7 +97,7 @@ fn raw_items_are_canonical(bytes: &[u8], item_count: usize) -> bool
     awaited == 0
 }
 
-/// Tests whether raw bytes are admitted; `place` is the place of the call.
+/// Tests raw bytes before they are put. `place` is the place of the call.
 fn admit_raw(stream: &RlpStream, bytes: &[u8], count: usize, place: usize) -> Result<(), BuildFault>
     ensures ok { OnOk result (IsTrue (has_room count stream.now.state.stack.lists)) }
     ensures brings { OnOk result (AreRawItems bytes.now count) }
@@ -113,7 +113,7 @@ fn admit_raw(stream: &RlpStream, bytes: &[u8], count: usize, place: usize) -> Re
     Ok(())
 }
 
-/// Tests whether a call is admitted; `place` is its place.
+/// Tests a call before it is made. `place` is its place.
 fn admit<E: Encodable>(
     stream: &RlpStream,
     call: &StreamCall<E>,
@@ -167,7 +167,7 @@ fn make_call<E: Encodable>(stream: &mut RlpStream, call: &StreamCall<E>) -> Resu
     Ok(())
 }
 
-/// Makes a call if it is admitted; `place` is its place.
+/// Tests a call and makes it. `place` is its place.
 fn take_call<E: Encodable>(
     stream: &mut RlpStream,
     call: &StreamCall<E>,
@@ -187,7 +187,7 @@ fn take_call<E: Encodable>(
     }
 }
 
-/// What a stream holds in the end.
+/// The result of a stream after all calls.
 fn held(alloc: Global, stream: RlpStream) -> Result<Built, BuildFault>
     ensures ok { IfOk result (IsHeld stream.state) }
     ensures refused { IfErr result (λ fault. fault ≡ BuildFault.OutOfMemory) }
@@ -205,17 +205,18 @@ fn held(alloc: Global, stream: RlpStream) -> Result<Built, BuildFault>
 
 /// Makes the calls in order on a stream over the front.
 ///
-/// Returns what the stream holds then: the finished bytes, or where a list is open the closed size
-/// and the bytes as they stand.
+/// Returns the finished bytes. If a list is open, returns the closed size and the bytes now.
 ///
-/// Raw bytes are checked: each `Raw` must bring the joined canonical encodings of as many items as
-/// it counts, each of depth at most 256. So the finished bytes are the front and the canonical
-/// encodings of the items that the calls describe.
+/// Raw bytes are checked. Each `Raw` must have the joined canonical encodings of the announced
+/// number of items, each of depth at most 256. So the finished bytes are the front and the
+/// canonical encodings of the items that the calls describe.
 ///
-/// Fails at the first call that isn't admitted, with its place from 1: `TooManyItems` or else
-/// `RawNotItems` at a `Raw`, `NothingToFinish` at a `Finish`. Fails with `OutOfMemory` where memory
-/// is refused, or a value's own `rlp_append` says so; then some call was admitted that takes memory,
-/// as all but `Clear` do, and each call before it was admitted too.
+/// Fails at the first call that doesn't pass its test, with its place counted from 1. A `Raw` fails
+/// with `TooManyItems` or else `RawNotItems`, a `Finish` with `NothingToFinish`.
+///
+/// Fails with `OutOfMemory` if memory is refused, or if a value's own `rlp_append` returns an
+/// error. Then some call that takes memory was admitted, and so was each call before it. All calls
+/// but `Clear` take memory.
 ///
 /// ```rust
 /// let calls = [StreamCall::Begin(2), StreamCall::Value(1u64), StreamCall::Value(2u64)];
@@ -227,17 +228,17 @@ pub fn build<E: Encodable>(
     front: BytesMut,
     calls: &[StreamCall<E>],
 ) -> Result<Built, BuildFault>
-    // What it answers, and why it answers a fault.
+    // What it returns, and why it fails.
     ensures ok { IfOk result (IsBuilt front.items (calls_of E.item calls.now)) }
     ensures refused { IfErr result (IsRefusal front.items (calls_of E.item calls.now)) }
 
-    // Where there is an answer, no call was refused, and what is finished is the front and the joined
+    // If it returns `Ok`, each call passed its test. Finished bytes are the front and the joined
     // encodings of the items that the calls describe.
     ensures taken { OnOk result (AreTaken front.items (calls_of E.item calls.now)) }
     ensures joined { IfOk result (IsJoined front.items (calls_of E.item calls.now)) }
 
-    // Where the calls describe items, the answer is the front and their joined encodings; where those
-    // that raw bytes bring aren't too deep, it is that, or memory was refused.
+    // If the calls describe items and it returns `Ok`, the result is the front and their joined
+    // encodings. If also no item of raw bytes is too deep, it fails only with `OutOfMemory`.
     ensures described { (items : List Item)
         → IsDescribed front.items (calls_of E.item calls.now) items
         → IfOk result (IsFinishedAs (front.items ++ join items)) }

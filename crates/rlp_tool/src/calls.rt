@@ -1,13 +1,13 @@
 //! Calls of a stream as values.
 
-/// A call of a stream of encodings, with what it brings.
+/// A call of a stream, with its arguments.
 #[derive(Debug, Drop)]
 pub enum StreamCall<E> {
     /// Appends a value, as `RlpStream::append`.
     Value(E),
     /// Appends the list of the values, as `RlpStream::append_list`.
     Values(Vec<E>),
-    /// Appends bytes as they are and counts them as this number of items, as `RlpStream::append_raw`.
+    /// Appends bytes as they are, and counts this number of items, as `RlpStream::append_raw`.
     Raw(Vec<u8>, usize),
     /// Begins a list of this number of items, as `RlpStream::begin_list`.
     Begin(usize),
@@ -15,6 +15,6 @@ pub enum StreamCall<E> {
     BeginUnbounded,
     /// Closes the innermost list, which is unbounded, as `RlpStream::finalize_unbounded_list`.
     Finish,
-    /// Drops all that was written, as `RlpStream::clear`.
+    /// Drops everything that was written, as `RlpStream::clear`.
     Clear,
 }

@@ -9,10 +9,10 @@ use hex::FromHexError;
 use std::alloc::{AllocError, Global};
 use std::str::from_utf8;
 
-/// How many bytes are printed at once as digits.
+/// The number of bytes that are printed at once as digits.
 const AT_ONCE: usize = 64;
 
-/// What follows `0x` in the text, if it begins so.
+/// The text without a leading `0x`.
 pub(crate) fn without_prefix(text: &[u8]) -> &[u8]
     ensures { result.now ≡ digits_of text.now }
 {
@@ -29,7 +29,8 @@ fn are_digits(text: &[u8]) -> bool
     text.iter().all(|byte| byte.is_ascii_hexdigit())
 }
 
-/// The bytes that a text writes, if it is digits. `AllocError` where there is no memory for them.
+/// The bytes of a text of digits. Returns `None` if the text isn't digits.
+/// Fails with `AllocError` if it is out of memory.
 pub(crate) fn read_bytes(alloc: Global, text: &[u8]) -> Result<Option<Vec<u8>>, AllocError>
     ensures gives { IfOk result (λ read. option_map (λ v. v.items) read ≡ bytes_in text.now) }
     ensures refused { OnErr result (IsSomeAnd (bytes_in text.now) (λ bytes. bytes ≢ [])) }
@@ -51,7 +52,8 @@ pub(crate) fn read_bytes(alloc: Global, text: &[u8]) -> Result<Option<Vec<u8>>, 
     }
 }
 
-/// The number with one more digit at its end.
+/// The number with one more digit at its end. Returns `None` if the byte isn't a digit, or if the
+/// number isn't below 2^64.
 fn put_digit(value: usize, byte: u8) -> Option<usize>
     ensures { result ≡ with_digit value byte }
 {
@@ -64,7 +66,7 @@ fn put_digit(value: usize, byte: u8) -> Option<usize>
     tens.checked_add(usize::from(byte - b'0'))
 }
 
-/// The number that a text writes, if it is one.
+/// The number of a text of decimal digits, if it is one.
 #[tactic(auto, using(crate::proofs::DigitLemmas::small_digit))]
 pub(crate) fn read_number(text: &[u8]) -> Option<usize>
     ensures { result ≡ number_in text.now }
@@ -84,7 +86,7 @@ pub(crate) fn read_number(text: &[u8]) -> Option<usize>
     Some(value)
 }
 
-/// Appends each of a few bytes as two digits, in one piece.
+/// Appends a few bytes in one piece, each as two digits.
 fn push_few(bytes: &[u8], out: &mut String) -> Result<(), AllocError>
     requires { length bytes.now ≤ 64 }
     ensures { OnOk result
@@ -101,7 +103,7 @@ fn push_few(bytes: &[u8], out: &mut String) -> Result<(), AllocError>
     }
 }
 
-/// Appends each byte as two digits in lower case.
+/// Appends each byte as two lower-case digits.
 pub(crate) fn push_bytes(bytes: &[u8], out: &mut String) -> Result<(), AllocError>
     ensures { OnOk result
         (string_bytes out.new ≡ string_bytes out.old ++ encode_lower bytes.now) }

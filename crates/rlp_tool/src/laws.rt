@@ -1,5 +1,4 @@
-//! Laws over what is answered to lines. None of these functions does anything: each contract is the
-//! law.
+//! Laws about the answers to lines. These functions have no effect: each contract is the law.
 
 ghost use Rattle.std.specs.Prelude.{◌≡◌, ◌++◌, ◌↔◌, ℕ, List, [], IsTrue, codes, decimal};
 ghost use Rattle.rlp.specs.Format.Item.{Item};
@@ -12,15 +11,15 @@ ghost use Rattle.rlp_tool.specs.RawItems.{AreRawItems, IsShallow, are_raw_items}
 
 use rlp::laws::{parts_of_sized_are_sized, stream_joins_what_is_described};
 
-/// The test of raw bytes that the answers cite passes exactly where the bytes are the joined
-/// encodings of as many items as are counted, none of them too deep.
+/// Raw bytes pass the test of the answers exactly if they are the joined encodings of the
+/// announced number of items, and none is too deep.
 pub fn raw_items_are_tested(bytes: &[u8])
     ensures { (count : ℕ) → IsTrue (are_raw_items bytes.now count) ↔ AreRawItems bytes.now count }
 {}
 
-/// Where the calls that a line says describe items, the answer is `out` and the digits of the joined
-/// encodings of these items. Calls of which none is refused and that leave no list open do describe
-/// items, and the digits are those of the finished buffer. No other line of calls has an answer that
+/// If the calls of a line describe items, the answer is `out` and the digits of the joined
+/// encodings of these items. If no call fails and no list stays open, the calls do describe items,
+/// and the digits are those of the finished buffer. No other line of calls has an answer that
 /// begins with `out`.
 pub fn finished_lines_are_answered(line: &[u8])
     ensures described { (calls : List Call) (items : List Item) → SaysCalls line.now calls
@@ -37,14 +36,13 @@ pub fn finished_lines_are_answered(line: &[u8])
     stream_joins_what_is_described();
 }
 
-/// Where the calls that a line says leave a list open, the answer is the closed size and the bytes as
-/// they stand.
+/// If the calls of a line leave a list open, the answer is the closed size and the bytes now.
 pub fn open_lines_are_answered(line: &[u8])
     ensures { (calls : List Call) (size : ℕ) (raw : List ℕ) → SaysCalls line.now calls
         → AreTaken [] calls → StayOpen [] calls size raw → answer line.now ≡ open_answer size raw }
 {}
 
-/// The first call of a line that is refused, and its reason, decide the answer.
+/// The first call of a line that fails, and the reason, decide the answer.
 pub fn refused_lines_are_answered(line: &[u8])
     ensures too_many { (calls : List Call) (place : ℕ) → SaysCalls line.now calls
         → AreRefused BringsTooMany [] calls place

@@ -1,4 +1,4 @@
-//! A tool that answers lines, and what calls of a stream come to.
+//! A tool that answers lines, and makes calls of a stream from values or from text.
 #![tactic(auto)]
 
 mod answer;

@@ -1,4 +1,4 @@
-//! The line that has begun.
+//! The current line of the input.
 ghost use Rattle.std.specs.Prelude.{◌≡◌, ◌++◌, ◌+◌, ◌≢◌, ◌<◌, ◌≤◌, ◌==◌, ℕ, List, [], ◌∷◌, length, position, string_bytes, OnOk, OnErr, IsTrue, ◌↔◌};
 ghost use Rattle.rlp_tool.specs.Answer.{answer};
 ghost use Rattle.rlp_tool.specs.Replies.{reply, replies_to};
@@ -10,15 +10,15 @@ use crate::answer::answer_within;
 use memchr::memchr;
 use std::alloc::{AllocError, Global};
 
-/// The most bytes that a line may have, its newline not counted.
+/// The most bytes that a line may have, without its newline.
 const LONGEST_LINE: usize = 131_072;
 
-/// The bytes of a line that has begun, or that it is too long already.
+/// The bytes of the current line, or the fact that it is too long.
 #[derive(Drop)]
 pub(crate) struct Line {
     bytes: Vec<u8>,
     over: bool,
-    // Where a reply is put together, so that others get it whole or not at all.
+    // A reply is built here, and then added to others whole or not at all.
     reply: String,
     ghost within: { length bytes.items ≤ 131072 },
 }
@@ -50,7 +50,7 @@ impl Line {
         self.bytes.extend_from_slice(run)
     }
 
-    /// The answer, in the place where a reply is put together.
+    /// Builds the answer in the buffer for replies.
     #[tactic(auto, unfolding(crate::specs::Answer::answer))]
     fn put_answer(&mut self, alloc: Global) -> Result<(), AllocError>
         ensures { (begun : List ℕ) → IsLine self.old.bytes.items self.old.over begun
@@ -63,7 +63,7 @@ impl Line {
         answer_within(alloc, self.bytes.as_slice(), &mut self.reply)
     }
 
-    /// Appends the answer and a newline, both or nothing.
+    /// Appends the answer and a newline, or nothing.
     fn reply(&mut self, alloc: Global, out: &mut String) -> Result<(), AllocError>
         ensures ok { (begun : List ℕ) → IsLine self.old.bytes.items self.old.over begun
             → OnOk result (string_bytes out.new ≡ string_bytes out.old ++ reply begun) }
@@ -88,7 +88,7 @@ impl Line {
         self.over = false;
     }
 
-    /// Ends the line by some bytes and a newline, and appends the reply.
+    /// Adds the last bytes of the line, and appends the reply.
     fn end(&mut self, alloc: Global, run: &[u8], out: &mut String) -> Result<(), AllocError>
         ensures ok { (text written : List ℕ)
             → IsAfter text written (string_bytes out.old) self.old.bytes.items self.old.over
@@ -103,8 +103,8 @@ impl Line {
         Ok(())
     }
 
-    /// Takes bytes, and appends the replies to the lines that end among them, up to the first whose
-    /// memory is refused.
+    /// Takes bytes, and appends the replies to the lines that end in them. It stops at the first
+    /// line for which memory is refused.
     pub(crate) fn feed(
         &mut self,
         alloc: Global,
@@ -129,7 +129,7 @@ impl Line {
         self.extend(rest)
     }
 
-    /// Appends the reply to a last line, if one has begun.
+    /// Appends the reply to the last line, if it isn't empty.
     #[tactic(auto, using(crate::proofs::ProgressLemmas::last_line))]
     pub(crate) fn finish(&mut self, alloc: Global, out: &mut String) -> Result<(), AllocError>
         ensures ok { (text : List ℕ) → IsLine self.old.bytes.items self.old.over (last_piece text)
@@ -145,7 +145,7 @@ impl Line {
     }
 }
 
-/// Where the first newline is.
+/// The place of the first newline.
 #[tactic(auto, using(crate::proofs::LinesLemmas::first_newline))]
 fn newline_at(bytes: &[u8]) -> Option<usize>
     ensures { result ≡ position (λ byte. byte == 10) bytes.now }

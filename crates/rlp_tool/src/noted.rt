@@ -1,5 +1,5 @@
-//! A reader or writer that keeps whether it has failed, how often it was read, and whether it was
-//! flushed.
+//! A reader or writer that remembers whether it has failed, how many reads it made, and whether it
+//! was flushed.
 ghost use Rattle.std.specs.Prelude.{◌≡◌, ◌+◌, ◌-◌, ◌^◌, ◌<◌, min, true, false, length, OnOk, OnErr, IfOk, ◌||◌};
 ghost use Rattle.std.specs.Io.KnownBytes.{ReadConsumes, WriteAppends, Keeps};
 ghost use Rattle.std.specs.Io.{ReadsAtMost, WritesAtMost};
@@ -8,8 +8,8 @@ use std::io;
 use std::io::{Read, Write};
 use std::marker::Model;
 
-/// A reader or writer, with whether a call of it has failed, how many reads were made, and whether
-/// it was flushed since the last write that took bytes.
+/// A reader or writer that remembers its calls: whether one has failed, how many reads it made, and
+/// whether it was flushed since the last write that took bytes.
 #[derive(Drop)]
 pub struct Noted<T> {
     inner: T,
@@ -32,7 +32,7 @@ impl<T> Model for Noted<T> {
 }
 
 impl<T> Noted<T> {
-    /// It has not failed, and no read and no flush was made.
+    /// Wraps a reader or writer. It has not failed, and counts no reads and no flush.
     pub fn new(inner: T) -> Noted<T>
         ensures inner { result.inner ≡ inner }
         ensures failed { result.failed ≡ false }
@@ -61,21 +61,21 @@ impl<T> Noted<T> {
         self.failed
     }
 
-    /// How many reads were made. The count stays at `u64::MAX` once it is there.
+    /// The number of reads. The count stays at `u64::MAX` once it is there.
     pub fn reads(&self) -> u64
         ensures { result ≡ self.now.reads }
     {
         self.reads
     }
 
-    /// Whether a flush was made, and no write took a byte since the last one.
+    /// Whether a flush succeeded, and no write took a byte since then.
     pub fn flushed(&self) -> bool
         ensures { result ≡ self.now.flushed }
     {
         self.flushed
     }
 
-    /// From here on it counts as failed, if there was a fault.
+    /// Remembers a fault. It counts as failed from then on.
     fn note(&mut self, fault: bool)
         ensures { self.new ≡ record self.old { failed = self.old.failed || fault } }
     {
@@ -84,7 +84,7 @@ impl<T> Noted<T> {
 }
 
 impl<R: Read> Noted<R> {
-    /// Reads once. Returns the reader's own error, and then counts the reader as failed.
+    /// Reads once. If the reader fails, returns its error and counts it as failed.
     pub fn read(&mut self, buf: &mut [u8]) -> io::Result<usize>
         ensures bound { ReadsAtMost result buf.new }
         ensures bytes { ReadConsumes (R.remaining self.old.inner)
@@ -102,11 +102,11 @@ impl<R: Read> Noted<R> {
 }
 
 impl<W: Write> Noted<W> {
-    /// Writes once, and answers how many bytes were taken. Where it takes any, it counts as not
+    /// Writes once, and returns how many bytes were taken. If it takes any, it no longer counts as
     /// flushed.
     ///
-    /// Returns the writer's own error, and then counts the writer as failed. A writer that takes none
-    /// of one or more bytes counts as failed too.
+    /// If the writer fails, returns its error and counts it as failed. A writer that takes none of
+    /// one or more bytes counts as failed too.
     pub fn write(&mut self, buf: &[u8]) -> io::Result<usize>
         ensures bound { WritesAtMost result buf.now }
         ensures bytes { WriteAppends (W.contents self.old.inner)
@@ -119,7 +119,7 @@ impl<W: Write> Noted<W> {
         ensures err { OnErr result (self.new.failed ≡ true) }
         ensures reads { self.new.reads ≡ self.old.reads }
 
-        // Bytes that were taken wait for a flush.
+        // The taken bytes aren't flushed yet.
         ensures unflushed { IfOk result (λ n. 0 < n → self.new.flushed ≡ false) }
         ensures flushed { IfOk result (λ n. n ≡ 0 → self.new.flushed ≡ self.old.flushed) }
         ensures flushed_still { OnErr result (self.new.flushed ≡ self.old.flushed) }
@@ -133,9 +133,9 @@ impl<W: Write> Noted<W> {
         result
     }
 
-    /// Flushes, after which it counts as flushed.
+    /// Flushes, and then counts as flushed.
     ///
-    /// Returns the writer's own error, and then counts the writer as failed.
+    /// If the writer fails, returns its error and counts it as failed.
     pub fn flush(&mut self) -> io::Result<()>
         ensures bytes { Keeps (W.contents self.old.inner) (W.contents self.new.inner) }
         ensures ok { OnOk result (self.new.failed ≡ self.old.failed) }

@@ -12,16 +12,16 @@ use crate::strings::FromDigits;
 use memchr::memchr;
 use std::alloc::{AllocError, Global};
 
-/// Why a script is read no further.
+/// Why a script can't be read.
 #[derive(Debug, PartialEq, Eq, Drop)]
 pub enum ScriptFault {
-    /// The piece in this place, from 1, is the first that says no call.
+    /// The piece in this place, counted from 1, is the first that isn't a call.
     Syntax(usize),
     /// Memory was refused.
     OutOfMemory,
 }
 
-/// Where the first such byte is.
+/// The place of the first such byte.
 #[tactic(auto, using(crate::proofs::CutLemmas::first_byte))]
 fn place_of(byte: u8, text: &[u8]) -> Option<usize>
     ensures { result ≡ position (λ b. b == byte) text.now }
@@ -29,7 +29,7 @@ fn place_of(byte: u8, text: &[u8]) -> Option<usize>
     memchr(byte, text)
 }
 
-/// The call that a letter alone says.
+/// The call of a single letter.
 fn letter_call<E: FromDigits>(letter: u8) -> Option<StreamCall<E>>
     ensures { option_map (call_of E.item) result ≡ letter_call letter }
 {
@@ -41,7 +41,7 @@ fn letter_call<E: FromDigits>(letter: u8) -> Option<StreamCall<E>>
     }
 }
 
-/// The string that digits write, to be appended.
+/// Reads the string of `d:HEX`, from behind the colon.
 fn read_value<E: FromDigits>(
     alloc: Global,
     text: &[u8],
@@ -57,7 +57,7 @@ fn read_value<E: FromDigits>(
     }
 }
 
-/// Raw bytes and the number of items that they count as, with a colon between.
+/// Reads the number of items and the raw bytes of `r:N:HEX`, from behind the first colon.
 fn read_raw<E: FromDigits>(alloc: Global, text: &[u8]) -> Result<Option<StreamCall<E>>, AllocError>
     ensures gives { IfOk result (λ read. option_map (call_of E.item) read
         ≡ raw_parts text.now (position (λ b. b == 58) text.now)) }
@@ -87,7 +87,7 @@ fn read_list<E: FromDigits>(text: &[u8]) -> Option<StreamCall<E>>
     }
 }
 
-/// The call that a letter, a colon and what follows say.
+/// Reads a call of a letter, a colon and the text that follows.
 fn read_labelled<E: FromDigits>(
     alloc: Global,
     letter: u8,
@@ -105,7 +105,7 @@ fn read_labelled<E: FromDigits>(
     }
 }
 
-/// The call that a piece says, if it says one.
+/// Reads the call of a piece, if it is one.
 fn read_call<E: FromDigits>(
     alloc: Global,
     piece: &[u8],
@@ -120,7 +120,7 @@ fn read_call<E: FromDigits>(
     }
 }
 
-/// Reads a piece, and adds its call to those before it.
+/// Reads a piece, and adds its call to the calls before it.
 fn take_piece<E: FromDigits>(
     alloc: Global,
     piece: &[u8],
@@ -141,7 +141,7 @@ fn take_piece<E: FromDigits>(
     }
 }
 
-/// Reads the calls that a script says, at any type of strings.
+/// Reads the calls of a script, for any type of strings.
 pub(crate) fn read_script<E: FromDigits>(
     alloc: Global,
     text: &[u8],
@@ -167,14 +167,14 @@ pub(crate) fn read_script<E: FromDigits>(
     }
 }
 
-/// Reads the calls of a script: what follows the `+` of a line.
+/// Reads the calls of a script, which is the text after the `+` of a line.
 ///
-/// Empty text is no calls. Any other is cut at every space, and each piece is a call: `d:HEX` is a
-/// `Value` of the bytes, `r:N:HEX` is `Raw`, `l:N` is `Begin`, and `u`, `e`, `c` are
+/// An empty text has no calls. Any other text is cut at every space, and each piece is a call:
+/// `d:HEX` is a `Value` of the bytes, `r:N:HEX` is `Raw`, `l:N` is `Begin`, and `u`, `e`, `c` are
 /// `BeginUnbounded`, `Finish`, `Clear`.
 ///
-/// Fails with `Syntax` at the first piece that is no call, with its place from 1. Fails with
-/// `OutOfMemory` where memory is refused for a call; then the first piece is a call.
+/// Fails with `Syntax` and the place, counted from 1, of the first piece that isn't a call. Fails
+/// with `OutOfMemory` if memory is refused for a call. Then the first piece is a call.
 ///
 /// ```rust
 /// let calls = rlp_tool::read_calls(alloc, b"l:1 d:2a")?;

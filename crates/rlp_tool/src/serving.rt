@@ -10,15 +10,15 @@ use crate::noted::Noted;
 use std::alloc::Global;
 use std::io::{Read, Write};
 
-/// How many bytes are asked of the input at once.
+/// The most bytes of one read.
 const CHUNK: usize = 16_384;
 
 /// Why a run ended before the end of its input.
 #[derive(Debug, PartialEq, Eq, Drop)]
 pub enum RunFault {
-    /// More memory was refused.
+    /// Memory was refused.
     Memory,
-    /// A read failed, or the reader's count of reads came to `u64::MAX` without an end.
+    /// A read failed, or the count of reads was at `u64::MAX` before the end of the input.
     Read,
     /// A write or the last flush failed, or a write took no byte.
     Write,
@@ -27,7 +27,7 @@ pub enum RunFault {
 impl RunFault {
     ghost use Rattle.rlp_tool.specs.Status.{status_of};
 
-    /// The status that a program ends with after this fault.
+    /// The exit status of a program after this fault.
     pub fn status(&self) -> u8
         ensures { result ≡ status_of self.now }
     {
@@ -78,7 +78,8 @@ fn write_last<W: Write>(output: &mut Noted<W>, bytes: &[u8]) -> Result<(), RunFa
     }
 }
 
-/// Answers the lines that end in these bytes, or those before the first whose memory is refused.
+/// Answers the lines that end in these bytes. It stops at the first line for which memory is
+/// refused.
 fn serve<W: Write>(
     alloc: Global,
     line: &mut Line,
@@ -96,7 +97,7 @@ fn serve<W: Write>(
         → IfErr result (λ fault. IsStop fault start
         (W.contents output.new.inner) text (text ++ bytes.now) output.new.failed) }
 
-    // The whole replies that were put together are written, also where memory was refused then.
+    // The finished replies are written even if memory was refused after them.
     ensures waiting { result ≡ Err RunFault.Memory → Appends (W.contents output.old.inner)
         (W.contents output.new.inner) (string_bytes answers.new) }
 {
@@ -110,7 +111,7 @@ fn serve<W: Write>(
     }
 }
 
-/// Answers a last line that has no newline, and flushes.
+/// Answers a last line without a newline, and flushes.
 fn finish<W: Write>(
     alloc: Global,
     line: &mut Line,
@@ -134,11 +135,11 @@ fn finish<W: Write>(
     }
 }
 
-/// Answers each line of the input, up to its end.
+/// Answers each line of the input, until its end.
 ///
-/// Fails with the fault that stopped it. Only whole answers were written by then, except after
-/// `Write`. After `Memory` they are the answers to exactly the lines before one that hadn't ended
-/// before the last read.
+/// Fails with the fault that stopped it. It has written whole answers only, except after `Write`.
+/// After `Memory` it has written the answers to exactly the lines before some line, which had not
+/// ended before the last read.
 pub fn run<R: Read, W: Write>(
     alloc: Global,
     input: &mut Noted<R>,
@@ -147,15 +148,15 @@ pub fn run<R: Read, W: Write>(
     requires input { input.old.failed ≡ false }
     requires output { output.old.failed ≡ false }
 
-    // At the end of the input all lines were answered, the output was flushed, and neither device
-    // had failed.
+    // At the end of the input, all lines are answered, the output is flushed, and neither device
+    // has failed.
     ensures ok { OnOk result (AnswersAll
         (R.remaining input.old.inner) (R.remaining input.new.inner)
         (W.contents output.old.inner) (W.contents output.new.inner)) }
     ensures faultless { OnOk result ((input.new.failed ≡ false) × (output.new.failed ≡ false)) }
     ensures flushed { OnOk result (output.new.flushed ≡ true) }
 
-    // What each fault leaves, and which device had failed then.
+    // What was written before each fault, and which device has failed.
     ensures memory { result ≡ Err RunFault.Memory → AnswersBefore
         (R.remaining input.old.inner) (R.remaining input.new.inner)
         (W.contents output.old.inner) (W.contents output.new.inner) }

@@ -1,11 +1,11 @@
-//! The status that the program ends with.
+//! The exit status of the program.
 
 ghost use Rattle.std.specs.Prelude.{◌≡◌};
 ghost use Rattle.rlp_tool.specs.Status.{exit_status};
 
 use crate::serving::RunFault;
 
-/// The status that a program ends with after a run: 0, or its fault's own.
+/// The exit status of a program after a run: 0 after `Ok`, else the status of the fault.
 pub fn exit_status(outcome: &Result<(), RunFault>) -> u8
     ensures { result ≡ exit_status outcome.now }
 {

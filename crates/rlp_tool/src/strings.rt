@@ -1,4 +1,4 @@
-//! Strings that digits write, as values; one type of them keeps short ones in place.
+//! Strings that are read from digits. One type keeps short strings in place.
 
 ghost use Rattle.std.specs.Prelude.{◌≡◌, ◌≢◌, ◌≤◌, [], length, option_map, IfOk, IsOk, OnErr};
 ghost use Rattle.std.specs.Option.{IsSomeAnd};
@@ -14,20 +14,20 @@ use rlp::{Encodable, RlpStream};
 use std::alloc::{AllocError, Global};
 use std::marker::Model;
 
-/// The most bytes that are kept in place.
+/// The most bytes that a value keeps in place.
 const MOST_IN_PLACE: usize = 32;
 
-/// A type whose values are read from digits, and are written as the strings that these write.
+/// A type whose values are read from digits, and written as strings of these bytes.
 pub(crate) trait FromDigits: Encodable + Drop + Sized {
-    /// The value that is written as the string of the bytes that a text writes, if it is digits.
-    /// `AllocError` where there is no memory for them.
+    /// Reads a value from a text of digits. Returns `None` if the text isn't digits.
+    /// Fails with `AllocError` if it is out of memory.
     fn from_digits(alloc: Global, text: &[u8]) -> Result<Option<Self>, AllocError>
         ensures gives { IfOk result
             (λ read. option_map Self.item read ≡ option_map string (bytes_in text.now)) }
         ensures refused { OnErr result (IsSomeAnd (bytes_in text.now) (λ bytes. bytes ≢ [])) };
 }
 
-/// The bytes, in memory of their own.
+/// The bytes, in an allocation.
 impl FromDigits for Vec<u8> {
     fn from_digits(alloc: Global, text: &[u8]) -> Result<Option<Vec<u8>>, AllocError> {
         read_bytes(alloc, text)
@@ -37,9 +37,9 @@ impl FromDigits for Vec<u8> {
 /// At most 32 bytes, kept in place.
 #[derive(Drop)]
 pub(crate) struct FewBytes {
-    /// Begins with the bytes.
+    /// The array that begins with the bytes.
     room: [u8; MOST_IN_PLACE],
-    /// How many they are.
+    /// The number of bytes.
     len: u8,
 }
 
@@ -54,7 +54,7 @@ impl Model for FewBytes {
 }
 
 impl FewBytes {
-    /// The bytes that digits write, if they are digits.
+    /// The bytes of a text of digits. Returns `None` if the text isn't digits.
     fn decode(digits: &[u8]) -> Option<FewBytes>
         requires { length digits.now ≤ 64 }
         ensures { result ≡ result_ok (decode_of digits.now) }
@@ -105,7 +105,7 @@ impl Encodable for StringValue {
     }
 }
 
-/// At most 64 digits, which write at most 32 bytes, are `Short` and take no memory.
+/// At most 64 digits are at most 32 bytes. They become `Short` and take no memory.
 impl FromDigits for StringValue {
     fn from_digits(alloc: Global, text: &[u8]) -> Result<Option<StringValue>, AllocError>
         ensures gives { IfOk result

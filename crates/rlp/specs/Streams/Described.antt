@@ -1,4 +1,4 @@
--- The items that calls of a stream describe, with no bytes.
+-- The items that calls of a stream describe, without bytes.
 use Rattle.std.specs.Prelude.{ℕ, suc, ◌≡◌, List, [], ◌∷◌, ◌++◌, Ok, length, map, All, Option, None, Some, IsTrue, not}
 use Rattle.rlp_format.specs.Format.Item.{Item, string, list_of}
 use Rattle.rlp_format.specs.Format.Encoding.{join, IsSized}
@@ -6,7 +6,7 @@ use Rattle.rlp_buffer.specs.Streams.Stack.{OpenList, Stack, empty_stack, stack_p
 use Rattle.rlp_buffer.specs.Streams.Stream.{State, initial_state, IsFinished}
 use Rattle.rlp_buffer.specs.Streams.Calls.{Call, append, append_empty_data, append_raw, append_raw_checked, begin_list, begin_unbounded_list, finalize_unbounded_list, append_internal, clear, effect, is_admitted, is_within_size, after}
 
--- What a call brings to the items: some items, a new list, the end of a list, the loss of all, or nothing.
+-- What a call does to the items: it adds some, opens a list, closes a list, drops all, or does nothing.
 pub data Step : Type 0 where
   brings : List Item → Step
   opens : Option ℕ → Step
@@ -14,11 +14,11 @@ pub data Step : Type 0 where
   clears : Step
   stays : Step
 
--- a list's items, closed, are one item of the list around it
+-- the items of a closed list are one item of the list around it
 abbrev pub one_list : List Item → List Item
 one_list items = list_of items ∷ []
 
--- the items after a step: the moves of a stream, over items in place of bytes
+-- the items after a step: the moves of a stream, over items instead of bytes
 abbrev pub items_after : Step → Stack Item → Stack Item
 items_after (brings xs) s = stack_count one_list (length xs) (stack_put xs s)
 items_after (opens awaits) s = stack_with_list awaits s
@@ -31,7 +31,8 @@ abbrev pub items_after_all : List Step → Stack Item → Stack Item
 items_after_all [] s = s
 items_after_all (m ∷ ms) s = items_after_all ms (items_after m s)
 
--- Which step a call is, made in the state s. Raw bytes bring items where they are the joined encodings of as many as were announced, and P holds of each. A checked raw call that is refused for its size is no step. Strings that are written uncounted are none of these.
+-- Which step a call is in the state s. Raw bytes add items if they are the joined encodings of the announced number of items, and P holds for each. A checked
+-- raw call does nothing if the size is too large. Strings that are written without being counted aren't described.
 pub data DescribesWhere (P : Item → Type 0) (s : State) : Call → Step → Type 0 where
   by_append : (x : Item) → DescribesWhere P s (append x) (brings (x ∷ []))
   by_empty_data : DescribesWhere P s append_empty_data (brings (string [] ∷ []))
@@ -58,30 +59,30 @@ pub record IsDescribedWhere (P : Item → Type 0) (front : List ℕ) (calls : Li
   pub described : AreDescribedWhere P (initial_state front) calls steps
   pub finished : items_after_all steps empty_stack ≡ record { inner = items; lists = [] }
 
--- this holds of every item
+-- this holds for every item
 abbrev pub IsAny : Item → Type 0
 IsAny x = Unit
 
--- which step a call is, where raw bytes may bring any items
+-- which step a call is, if raw bytes may add any items
 abbrev pub Describes : State → Call → Step → Type 0
 Describes s c m = DescribesWhere IsAny s c m
 
--- from the state s on each call is admitted, and is the step in its place, where raw bytes may bring any items
+-- from the state s on each call is admitted, and is the step in its place, if raw bytes may add any items
 abbrev pub AreDescribed : State → List Call → List Step → Type 0
 AreDescribed s calls steps = AreDescribedWhere IsAny s calls steps
 
--- the calls over the front describe these items, and leave no list open, where raw bytes may bring any items
+-- the calls over the front describe these items, and leave no list open, if raw bytes may add any items
 abbrev pub IsDescribed : List ℕ → List Call → List Item → Type 0
 IsDescribed front calls items = IsDescribedWhere IsAny front calls items
 
--- the calls over the front are all admitted and leave no list open, and the finished buffer is these bytes: the front, and what stands at the top
+-- all calls over the front are admitted and leave no list open, and the finished buffer is these bytes: the front and the payload of the top
 pub record FinishAs (front : List ℕ) (calls : List Call) (bytes : List ℕ) : Type 0 where
   pub last : State
   pub admitted : after front calls ≡ Ok last
   pub closed : IsFinished last
   pub buffer : bytes ≡ front ++ last.stack.inner
 
--- an open list, each payload by the joined encodings of its items
+-- an open list, with the joined encodings of its items as its payload
 abbrev pub joined_list : OpenList Item → OpenList ℕ
 joined_list l = record { awaits = l.awaits; outer = join l.outer }
 

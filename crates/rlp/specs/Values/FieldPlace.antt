@@ -1,20 +1,20 @@
--- Where a reader of fields is.
+-- The place of a reader of fields.
 use Rattle.std.specs.Prelude.{ℕ, ◌≡◌, ◌≤◌, List, None, Err, length, drop}
 use Rattle.rlp_format.specs.Format.Framing.{fault}
 use Rattle.rlp_format.specs.Format.Split.{items, split}
 use Rattle.rlp_format.specs.Format.Strict.{after_items}
 use Rattle.rlp_format.specs.Views.View.{View, item_at, items_fault}
 
--- What a reader of fields is at: the view whose items are the fields, and the number of items that it took.
+-- The view whose items are the fields, and the number of items that the reader took.
 pub record FieldPlace : Type 0 where
   pub view : View
   pub place : ℕ
 
--- a reader of these fields, with the number of those that it took
+-- a reader of these fields, with the number of items that it took
 abbrev pub field_place : View → ℕ → FieldPlace
 field_place v n = record { view = v; place = n }
 
--- After the first `place` items of a view, these bytes are left. Items are told by number, and past the last one each number has the fault of what follows the items.
+-- These bytes are left after the first `place` items of a view. Past the last item each number has the fault of what follows the items.
 pub record IsAtPlace (v : View) (place : ℕ) (left : List ℕ) : Type 0 where
   pub told : items_fault v ≡ None
   pub others : split left ≡ drop place (items v.bytes)

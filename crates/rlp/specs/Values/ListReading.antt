@@ -1,18 +1,18 @@
--- Which values the items of a list give, and what is answered of an item by its number.
+-- The values that the items of a list give, and the value of an item by its number.
 use Rattle.std.specs.Prelude.{◌≡◌, ◌≢◌, ◌++◌, ◌∷◌, ◌⊎◌, ◌<◌, ℕ, zero, suc, List, [], Option, Some, None, Result, Ok, Err, MatchResult, IsOkAnd}
 use Rattle.rlp_format.specs.declared.error.DecoderError.{DecoderError}
 use Rattle.rlp_format.specs.declared.error.DecoderError.TheVariants.{OutOfMemory, RlpIncorrectListLen}
 use Rattle.rlp_format.specs.Views.View.{View, item_at, item_count, item_views, list_fault}
 use Rattle.rlp.specs.Values.ValueReading.{GivesSome}
 
--- there are as many values as views, and each view gives the value in its place
+-- there is one value for each view, and each view gives the value in its place
 abbrev pub GivesEach : {A : Type 0} → (View → A → Type 0) → List View → List A → Type 0
 GivesEach gives [] [] = Unit {0}
 GivesEach gives [] (x ∷ xs) = ⊥
 GivesEach gives (v ∷ vs) [] = ⊥
 GivesEach gives (v ∷ vs) (x ∷ xs) = gives v x × GivesEach gives vs xs
 
--- one of the views is such a one, and each before it gives a value
+-- one of the views has this property, and each before it gives a value
 pub record ComesTo {A : Type 0} (gives : View → A → Type 0) (IsSuch : View → Type 0) (views : List View) : Type 0 where
   pub before : List View
   pub values : List A
@@ -26,26 +26,27 @@ pub record ComesTo {A : Type 0} (gives : View → A → Type 0) (IsSuch : View �
 abbrev pub FaultsFirst : {A : Type 0} → (View → A → Type 0) → (View → DecoderError → Type 0) → List View → DecoderError → Type 0
 FaultsFirst gives faults views e = ComesTo gives (λ v. faults v e) views
 
--- memory may lack for the values of the views: some first views give values, and the next one gives a value too, for which there may be no room, or may lack memory itself
+-- Memory may be short for the values of the views. Some first views give values. Then either the next view gives a value too, for which there may be no room,
+-- or memory may be short for that view.
 abbrev pub MayLackFirst : {A : Type 0} → (View → A → Type 0) → (View → Type 0) → List View → Type 0
 MayLackFirst gives may_lack views = ComesTo gives (λ v. GivesSome gives v ⊎ may_lack v) views
 
--- the view is read as a list, and its items give the values in their places
+-- the view can be read as a list, and its items give the values in their places
 pub record GivesList {A : Type 0} (gives : View → A → Type 0) (v : View) (xs : List A) : Type 0 where
   pub is_list : list_fault v ≡ None
   pub each : GivesEach gives (item_views v) xs
 
--- Why a view gives no list of values: it isn't read as a list, or an item is at fault and each before it gives a value.
+-- Why a view gives no list of values: it can't be read as a list, or an item has the fault and each before it gives a value.
 pub data FaultsAsList {A : Type 0} (gives : View → A → Type 0) (faults : View → DecoderError → Type 0) (v : View) (e : DecoderError) : Type 0 where
   not_list : list_fault v ≡ Some e → FaultsAsList gives faults v e
   faulty_in_list : list_fault v ≡ None → FaultsFirst gives faults (item_views v) e → FaultsAsList gives faults v e
 
--- memory may lack for the list of values of a view: it is read as a list, and memory may lack for the values of its items
+-- memory may be short for the list of values of a view: it can be read as a list, and memory may be short for the values of its items
 pub record MayLackAsList {A : Type 0} (gives : View → A → Type 0) (may_lack : View → Type 0) (v : View) : Type 0 where
   pub is_list : list_fault v ≡ None
   pub comes : MayLackFirst gives may_lack (item_views v)
 
--- the right answer for a view, by which values its type gives, which faults it has, and where it may lack memory
+-- the right answer for a view, by the values and faults of the type, and where memory may be short
 abbrev pub ReadsValue : {A : Type 0} → (View → A → Type 0) → (View → DecoderError → Type 0) → (View → Type 0) → View → Result A DecoderError → Type 0
 ReadsValue gives faults may_lack v answer = MatchResult answer (λ x. gives v x) (λ e. faults v e ⊎ ((e ≡ OutOfMemory) × may_lack v))
 
@@ -58,46 +59,48 @@ pub record GivesSomeAt {A : Type 0} (gives : View → A → Type 0) (v : View) (
   pub given : A
   pub at : GivesAt gives v i given
 
--- item i of the view has the fault, or that number has it
+-- item i of the view has the fault, or there is no item i for this fault
 abbrev pub FaultsAt : (View → DecoderError → Type 0) → View → ℕ → DecoderError → Type 0
 FaultsAt faults v i e = MatchResult (item_at v i) (λ item. faults item e) (λ f. e ≡ f)
 
--- the view has an item i, and memory may lack for its value
+-- the view has an item i, and memory may be short for its value
 abbrev pub MayLackAt : (View → Type 0) → View → ℕ → Type 0
 MayLackAt may_lack v i = IsOkAnd (item_at v i) (λ item. may_lack item)
 
--- Which option a view gives: none of a list of no items, and of a list of one what the item gives.
+-- The option that a view gives: `None` for a list of no items, and for a list of one what the item gives.
 pub data GivesOption {A : Type 0} (gives : View → A → Type 0) (v : View) : Option A → Type 0 where
   no_value : item_count v ≡ Ok 0 → GivesOption gives v None
   one_value : (x : A) → item_count v ≡ Ok 1 → GivesAt gives v 0 x → GivesOption gives v (Some x)
 
--- Why a view gives no option: it is no list, it has more than one item, or its one item has the fault.
+-- Why a view gives no option: it isn't a list, it has more than one item, or its one item has the fault.
 pub data FaultsAsOption (faults : View → DecoderError → Type 0) (v : View) : DecoderError → Type 0 where
   no_list : (e : DecoderError) → item_count v ≡ Err e → FaultsAsOption faults v e
   many_items : (n : ℕ) → item_count v ≡ Ok n → 1 < n → FaultsAsOption faults v RlpIncorrectListLen
   faulty_item : (e : DecoderError) → item_count v ≡ Ok 1 → FaultsAt faults v 0 e → FaultsAsOption faults v e
 
--- memory may lack for an option: the view has one item, and memory may lack for its value
+-- memory may be short for an option: the view has one item, and memory may be short for its value
 pub record MayLackAsOption (may_lack : View → Type 0) (v : View) : Type 0 where
   pub one : item_count v ≡ Ok 1
   pub lacks : MayLackAt may_lack v 0
 
--- Why a view gives no value whose item is a list of n items, where IsFaulty says why of the items: it is no list, it has another number of items, or an item is at fault.
+-- Why a view gives no value whose item is a list of n items: it isn't a list, it has another number of items, or an item has a fault. `IsFaulty` gives the
+-- faults of items.
 pub data FaultsAsFields (n : ℕ) (IsFaulty : View → DecoderError → Type 0) (v : View) : DecoderError → Type 0 where
   no_fields : (e : DecoderError) → item_count v ≡ Err e → FaultsAsFields n IsFaulty v e
   other_count : (m : ℕ) → item_count v ≡ Ok m → m ≢ n → FaultsAsFields n IsFaulty v RlpIncorrectListLen
   faulty_field : (e : DecoderError) → item_count v ≡ Ok n → IsFaulty v e → FaultsAsFields n IsFaulty v e
 
--- each of the first k fields is given by the item in its place
+-- the item in its place gives each of the first k fields
 abbrev pub GivesBefore : (ℕ → ℕ → View → Type 0) → View → ℕ → Type 0
 GivesBefore some v zero = Unit {0}
 GivesBefore some v (suc k) = GivesBefore some v k × some k k v
 
--- One of the first items is at fault, by the type of its field, and each before it gives a value of its field.
+-- One of the first items has the fault, by the type of its field, and each before it gives a value of its field.
 pub data FaultsInField (count : ℕ) (some : ℕ → ℕ → View → Type 0) (faults : ℕ → View → DecoderError → Type 0) (v : View) (e : DecoderError) : Type 0 where
   in_field : (k : ℕ) → k < count → GivesBefore some v k → FaultsAt (faults k) v k e → FaultsInField count some faults v e
 
--- memory may lack for a struct, by its number of fields: the view has as many items, and memory may lack for the value of one before which each gives a value
+-- Memory may be short for a struct of this number of fields. The view has the same number of items. Memory may be short for the value of one, and each before
+-- it gives a value.
 pub record MayLackAsStruct (count : ℕ) (some : ℕ → ℕ → View → Type 0) (may_lack : ℕ → View → Type 0) (v : View) : Type 0 where
   pub many : item_count v ≡ Ok count
   pub place : ℕ

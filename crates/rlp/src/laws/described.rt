@@ -8,10 +8,10 @@ ghost use Rattle.rlp_buffer.specs.Streams.Stream.{State, initial_state};
 ghost use Rattle.rlp_buffer.specs.Streams.Calls.{Call, after};
 ghost use Rattle.rlp.specs.Streams.Described.{Step, AreDescribed, AreDescribedWhere, IsDescribed, IsDescribedWhere, items_after_all, joined_stack, FinishAs};
 
-/// Calls that describe items are admitted, and each payload that they leave is the join of the
-/// items that stand there. With no list left open that is the front, and the join of the items
-/// described, and no other items are described. All of this holds as well where each item that raw
-/// bytes bring has to pass a test, since the same is described without it.
+/// Calls that describe items are admitted, and leave payloads that are each the join of their
+/// items. If no list is left open, the buffer is the front and the join of the items described, and
+/// the calls describe no other items. All of this also holds if each item of raw bytes has to pass
+/// a test, since the calls describe the same items without it.
 pub fn stream_joins_what_is_described()
     ensures payloads { (front : List ℕ) (calls : List Call) (steps : List Step)
         → AreDescribed (initial_state front) calls steps
@@ -33,7 +33,7 @@ pub fn stream_joins_what_is_described()
         → IsDescribed front calls items }
 {}
 
-/// Where calls describe items, the finished buffer is the front and the join of the items. Over one
+/// If calls describe items, the finished buffer is the front and the join of the items. Over one
 /// front, two finished buffers are equal exactly if the items described are.
 pub fn finished_buffers_tell_items(one: &[u8], other: &[u8])
     ensures joined { (front : List ℕ) (calls : List Call) (xs : List Item)

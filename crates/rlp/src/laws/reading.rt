@@ -1,4 +1,4 @@
-//! What is read from the front of bytes: strings, numbers, byte strings and text.
+//! What is read from the beginning of bytes: strings, numbers, byte strings and text.
 
 ghost use Rattle.std.specs.Prelude.{◌≡◌, ◌<◌, ◌^◌, ℕ, List, Ok, length};
 ghost use Rattle.rlp_format.specs.Format.Item.{string};
@@ -12,14 +12,14 @@ ghost use Rattle.rlp_format.specs.Format.WrittenHeader.{AreBytes};
 use crate::traits::Decodable;
 use rlp_streams::Encodable;
 
-/// `read_string` gives the one string whose encoding stands at the front of the bytes, and where none
-/// stands there the fault of the first case that applies.
+/// `read_string` gives the one string whose encoding the bytes begin with. If they begin with none,
+/// it gives the fault of the first case that applies.
 pub fn string_is_read(bytes: &[u8])
     ensures read { ReadsString bytes.now (read_string bytes.now) }
     ensures only { (d : List ℕ) → IsString bytes.now d → read_string bytes.now ≡ Ok d }
 {}
 
-/// Of each width, bytes give one number and have no fault, or give none and have one fault.
+/// For each width, bytes give one number and have no fault, or give none and have one fault.
 pub fn number_is_read(bytes: &[u8])
     ensures { (width : ℕ)
         → HasOneReading number_item (GivesNumber width (view_of bytes.now))
@@ -36,8 +36,8 @@ pub fn text_is_read(bytes: &[u8])
     ensures { HasOneReading string (GivesText (view_of bytes.now)) (FaultsAsText (view_of bytes.now)) }
 {}
 
-/// Where each item gives one value of a type or has one fault, bytes give one option of it or have
-/// one fault.
+/// If each item gives one value of a type or has one fault, bytes give one option of it or have one
+/// fault.
 pub fn option_is_read<T: Encodable + Decodable>(bytes: &[u8])
     ensures { ((item : View) → AreBytes item.bytes → length item.bytes < 2 ^ 64
         → HasOneReading T.item (T.gives item) (T.faults item))
@@ -52,7 +52,8 @@ pub fn option_of_bytes_is_read(bytes: &[u8])
         (λ e. FaultsAsOption FaultsAsBytes (view_of bytes.now) e) }
 {}
 
-/// Bytes give one option of a number of each width, of a truth value or of a text, or have one fault.
+/// Bytes give one option of a number of each width, of a truth value or of a text, or have one
+/// fault.
 pub fn options_are_read(bytes: &[u8])
     ensures numbers { (width : ℕ) → HasOneReading (option_item number_item)
         (λ o. GivesOption (GivesNumber width) (view_of bytes.now) o)
@@ -65,7 +66,7 @@ pub fn options_are_read(bytes: &[u8])
         (λ e. FaultsAsOption FaultsAsText (view_of bytes.now) e) }
 {}
 
-/// Where each item gives one value of a type or has one fault, so do options of its options.
+/// If each item gives one value of a type or has one fault, so do options of its options.
 pub fn option_of_option_is_read<T: Encodable + Decodable>(bytes: &[u8])
     ensures { ((item : View) → AreBytes item.bytes → length item.bytes < 2 ^ 64
         → HasOneReading T.item (T.gives item) (T.faults item))

@@ -1,4 +1,4 @@
-//! Encodings are read back, by every type that keeps the law of `RoundTrip`.
+//! Encodings are read back, for every type with the law of `RoundTrip`.
 
 ghost use Rattle.std.specs.Prelude.{◌≡◌, ◌↔◌, ◌++◌, ◌∷◌, ℕ, List, All, IfErr, IfOk, IsOkAnd, length, map};
 ghost use Rattle.rlp_format.specs.declared.error.DecoderError.TheVariants.{OutOfMemory};
@@ -14,9 +14,9 @@ use crate::traits::{RoundTrip, Scalar};
 use rlp_format::error::DecoderError;
 use std::alloc::Global;
 
-/// On bytes that begin with the encoding of a list of values, the items are the encodings of the
-/// values, in order, and each gives the values that fit and are alike to the value in its place, no
-/// others, and has no fault. So the bytes give the list of the values, where all fit.
+/// If bytes begin with the encoding of a list of values, the items are the encodings of the values,
+/// in order. Each item gives the values that fit and are alike to the value in its place, no
+/// others, and has no fault. So the bytes give the list of the values if all of them fit.
 pub fn list_is_read_back<T: RoundTrip>(bytes: &[u8])
     ensures items { (vs : List T) → BeginsWith bytes.now (encoding (list_of (map T.item vs)))
         → items bytes.now ≡ map (λ v. encoding (T.item v)) vs }
@@ -29,8 +29,8 @@ pub fn list_is_read_back<T: RoundTrip>(bytes: &[u8])
         → GivesList T.gives (view_of bytes.now) vs }
 {}
 
-/// The value that bytes begin with: where they begin with the encoding of a value that fits, it is
-/// alike to that value, and only memory can lack.
+/// The value that bytes begin with. If they begin with the encoding of a value that fits, the
+/// result is alike to that value, or memory ran out.
 pub fn encoding_is_decoded<T: RoundTrip>(alloc: Global, bytes: &[u8]) -> Result<T, DecoderError>
     ensures alike { (v : T) → T.fits v → BeginsWith bytes.now (encoding (T.item v))
         → IfOk result (λ w. T.fits w × AreAlike T.item w v) }
@@ -40,8 +40,8 @@ pub fn encoding_is_decoded<T: RoundTrip>(alloc: Global, bytes: &[u8]) -> Result<
     crate::decode(alloc, bytes)
 }
 
-/// The value that bytes begin with: it is alike to a value that fits exactly where they begin with
-/// that value's encoding, and where they do, only memory can lack.
+/// The value that bytes begin with. It is alike to a value that fits exactly if they begin with the
+/// encoding of that value. If they do, the call fails only if memory runs out.
 pub fn scalar_is_decoded<T: Scalar>(alloc: Global, bytes: &[u8]) -> Result<T, DecoderError>
     ensures only { (v : T) → IsOkAnd result (λ w. AreAlike T.item w v)
         → BeginsWith bytes.now (encoding (T.item v)) }
@@ -53,9 +53,9 @@ pub fn scalar_is_decoded<T: Scalar>(alloc: Global, bytes: &[u8]) -> Result<T, De
     crate::decode(alloc, bytes)
 }
 
-/// The values of the items of a list: where bytes begin with the encoding of a list of values that
-/// fit, there are as many, each fits and is alike to the value in its place, and only memory can
-/// lack.
+/// The values of the items of a list. If bytes begin with the encoding of a list of values that
+/// fit, the result has the same number of values, and each fits and is alike to the value in its
+/// place. The call then fails only if memory runs out.
 pub fn list_is_decoded<T: RoundTrip>(alloc: Global, bytes: &[u8]) -> Result<Vec<T>, DecoderError>
     ensures alike { (vs : List T) → All T.fits vs
         → BeginsWith bytes.now (encoding (list_of (map T.item vs)))

@@ -1,5 +1,4 @@
-//! Views of both kinds: what is read strictly is the whole encoding of its value, and nothing else
-//! is.
+//! Views of both kinds. Strict reading gives a value exactly for its whole encoding.
 
 ghost use Rattle.std.specs.Prelude.{◌≡◌, ◌+◌, ◌<◌, ◌^◌, ◌↔◌, ℕ, List, All, if◌then◌else◌, length, Ok, Err, Some, None, IfErr, IfOk, IsOkAnd, map};
 ghost use Rattle.rlp_format.specs.declared.error.DecoderError.TheVariants.{OutOfMemory, RlpExpectedToBeList, RlpIsTooBig};
@@ -21,8 +20,8 @@ use rlp_format::error::DecoderError;
 use rlp_streams::Encodable;
 use std::alloc::Global;
 
-/// The value that is read strictly: it is alike to a value that fits exactly where the bytes are the
-/// encoding of that value, and where they are, only memory can lack.
+/// The value that is read strictly. It is alike to a value that fits exactly if the bytes are the
+/// encoding of that value. If they are, the call fails only if memory runs out.
 pub fn strictly_decoded<T: StrictRead>(alloc: Global, bytes: &[u8]) -> Result<T, DecoderError>
     ensures only { (v : T) → IsOkAnd result (λ w. AreAlike T.item w v)
         → bytes.now ≡ encoding (T.item v) }
@@ -34,9 +33,9 @@ pub fn strictly_decoded<T: StrictRead>(alloc: Global, bytes: &[u8]) -> Result<T,
     crate::decode_strict(alloc, bytes)
 }
 
-/// The values of a list that is read strictly: they are alike to values that fit, each to the one in
-/// its place, exactly where the bytes are the encoding of the list of these, and where they are,
-/// only memory can lack.
+/// The values of a list that is read strictly. They are alike to values that fit, each to the one
+/// in its place, exactly if the bytes are the encoding of the list of those values. If they are,
+/// the call fails only if memory runs out.
 pub fn list_strictly_decoded<T: StrictRead>(
     alloc: Global,
     bytes: &[u8],
@@ -54,8 +53,8 @@ pub fn list_strictly_decoded<T: StrictRead>(
     crate::decode_list_strict(alloc, bytes)
 }
 
-/// Why bytes aren't one framed item and nothing else: they aren't framed, or bytes follow the framed
-/// item. Canonical bytes have no such fault.
+/// Why bytes aren't exactly one framed item: they aren't framed, or bytes follow the framed item.
+/// Canonical bytes have no such fault.
 pub fn strict_fault_is_read(bytes: &[u8])
     ensures whole { (h n : ℕ) → HasHeader bytes.now h n → h + n ≡ length bytes.now
         → strict_fault bytes.now ≡ None }
@@ -65,7 +64,7 @@ pub fn strict_fault_is_read(bytes: &[u8])
     ensures canonical { IsCanonical bytes.now → strict_fault bytes.now ≡ None }
 {}
 
-/// On a lenient view each word means what it does of the bytes alone, whatever follows the first
+/// Each definition over a lenient view equals the one over its bytes, whatever follows the first
 /// item.
 pub fn lenient_views_ignore_what_follows(bytes: &[u8])
     ensures header { view_header (view_of bytes.now) ≡ framing bytes.now }
@@ -82,8 +81,8 @@ pub fn lenient_views_ignore_what_follows(bytes: &[u8])
         else Err RlpExpectedToBeList) }
 {}
 
-/// Of each provided type, a strict view gives one value and has no fault, or gives none and has one
-/// fault.
+/// For each provided type, a strict view gives one value and has no fault, or gives none and has
+/// one fault.
 pub fn strict_values_are_read(bytes: &[u8])
     ensures numbers { (width : ℕ)
         → HasOneReading number_item (GivesNumber width (strict_view_of bytes.now))
@@ -97,8 +96,8 @@ pub fn strict_values_are_read(bytes: &[u8])
         (FaultsAsText (strict_view_of bytes.now)) }
 {}
 
-/// Where each item gives one value of a type or has one fault, a strict view gives one option of it
-/// or has one fault.
+/// If each item gives one value of a type or has one fault, a strict view gives one option of it or
+/// has one fault.
 pub fn strict_option_is_read<T: Encodable + Decodable>(bytes: &[u8])
     ensures { ((item : View) → AreBytes item.bytes → length item.bytes < 2 ^ 64
         → HasOneReading T.item (T.gives item) (T.faults item))

@@ -1,4 +1,4 @@
-//! What a view answers of the items of a list, and of the encodings of values in a list.
+//! The items of a view of a list, and of the encodings of values in a list.
 
 ghost use Rattle.std.specs.Prelude.{◌≡◌, ◌≤◌, ◌+◌, ◌↔◌, ◌++◌, ◌∷◌, [], ℕ, List, None, Ok, Err, Some, IfOk, IsOkAnd, length, map, slice_get};
 ghost use Rattle.std.specs.Iterator.{Yields};
@@ -10,8 +10,8 @@ ghost use Rattle.rlp_format.specs.Views.View.{IsStep, Remaining, View, item_at, 
 use crate::rlpin::Rlp;
 use rlp_format::error::DecoderError;
 
-/// The item by number is the one in that place among the items in order, and past the last item
-/// every number has the same fault.
+/// The item of a number is the one in that place in the items. Past the last item every number has
+/// the same fault.
 pub fn items_by_number_are_in_order(bytes: &[u8])
     ensures there { (i : ℕ) (item : View) → (item_at (view_of bytes.now) i ≡ Ok item)
         ↔ (slice_get (item_views (view_of bytes.now)) i ≡ Some item) }
@@ -20,8 +20,8 @@ pub fn items_by_number_are_in_order(bytes: &[u8])
         → item_at (view_of bytes.now) i ≡ item_at (view_of bytes.now) j }
 {}
 
-/// A view of bytes that begin with the encoding of a list has as many items, in order and by
-/// number, and each is the encoding of the item in its place.
+/// A view of bytes that begin with the encoding of a list has the same number of items. In order
+/// and by number, each is the encoding of the item in its place.
 pub fn view_of_list_has_its_items(bytes: &[u8])
     ensures count { (xs : List Item) → BeginsWith bytes.now (encoding (list_of xs))
         → item_count (view_of bytes.now) ≡ Ok (length xs) }
@@ -32,8 +32,8 @@ pub fn view_of_list_has_its_items(bytes: &[u8])
         → item_at (view_of bytes.now) (length before) ≡ Ok (view_of (encoding x)) }
 {}
 
-/// The calls of `next` up to the first `None` give the items that were left. If one header was read
-/// before, as by `iter`, then n items and `None` have read n + 2 headers at most.
+/// The calls of `next` until the first `None` return the items that were left. If one header was
+/// read before, as by `iter`, then n items and `None` read at most n + 2 headers.
 pub fn iteration_reads_few_headers()
     ensures items { (start last end : Remaining) (given : List View)
         → Yields IsStep start given last → IsStep last None end → given ≡ start.left }
@@ -42,9 +42,9 @@ pub fn iteration_reads_few_headers()
         → end.headers ≤ length given + 2 }
 {}
 
-/// Over joined encodings, [`Rlp::split_first`] gives the first and leaves the others joined: called
-/// again on what it leaves, it gives them one by one, and after the last no bytes are left. So does
-/// [`Rlp::split_first_strict`].
+/// Over joined encodings, [`Rlp::split_first`] returns the first and leaves the others joined.
+/// Called again on what is left, it returns them one by one, and after the last no bytes are left.
+/// The same holds for [`Rlp::split_first_strict`].
 pub fn joined_items_are_split_off<'a>(
     bytes: &'a [u8],
     strict: bool,

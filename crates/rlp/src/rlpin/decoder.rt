@@ -11,7 +11,7 @@ use rlp_format::framed::is_followed;
 use rlp_format::string_reading::string_in;
 use std::marker::Model;
 
-/// A decoder of the string at the front of bytes. Contracts see it as the record `View` of its
+/// A decoder of the string that bytes begin with. Contracts see it as the record `View` of its
 /// bytes and its kind.
 #[derive(Drop)]
 pub struct BasicDecoder<'a> {
@@ -28,7 +28,7 @@ impl<'a> Model for BasicDecoder<'a> {
 }
 
 impl<'a> BasicDecoder<'a> {
-    /// A lenient decoder of these bytes. It looks at none of them yet.
+    /// A lenient decoder of these bytes. It doesn't read them yet.
     pub fn new(rlp: &'a [u8]) -> BasicDecoder<'a>
         ensures { result ≡ view_of rlp.now }
     {
@@ -42,15 +42,17 @@ impl<'a> BasicDecoder<'a> {
         BasicDecoder { rlp, strict }
     }
 
-    /// What `f` answers on the string at the front of the bytes, without its header. What follows
-    /// the string is never looked at, but by the decoder of a strict view, which then answers
-    /// `RlpIsTooBig`.
+    /// Calls `f` with the string that the bytes begin with, without its header, and returns its
+    /// result. A lenient decoder ignores what follows the string. A strict one fails with
+    /// `RlpIsTooBig` if bytes follow it.
     ///
-    /// Where no string stands there, `f` isn't called, and the fault is `RlpIsTooShort` for no
-    /// bytes, `RlpExpectedToBeData` for a list, `RlpInconsistentLengthAndData` where the bytes end
-    /// before the string or its length does, `RlpInvalidLength` where header and string would pass
-    /// 2^64 - 1 bytes, and `RlpInvalidIndirection` where a shorter spelling of the string or of its
-    /// length is the canonical one.
+    /// If the bytes begin with no string, `f` isn't called. The call then fails with:
+    ///
+    /// - `RlpIsTooShort` if there are no bytes;
+    /// - `RlpExpectedToBeData` for a list;
+    /// - `RlpInconsistentLengthAndData` if the bytes end before the string or its length does;
+    /// - `RlpInvalidLength` if header and string would be longer than 2^64 - 1 bytes;
+    /// - `RlpInvalidIndirection` if the canonical form of the string or of its length is shorter.
     ///
     /// ```rust
     /// let decoder = rlp::BasicDecoder::new(&[0x83, b'c', b'a', b't']);
@@ -73,12 +75,11 @@ impl<'a> BasicDecoder<'a> {
         }
     }
 
-    /// The string at the front of the bytes, without its header. It is part of these bytes, and
-    /// no memory is taken.
+    /// The string that the bytes begin with, without its header. It is a part of these bytes, so no
+    /// memory is taken.
     ///
-    /// Where no string stands there, the fault is the one that [`BasicDecoder::decode_value`]
-    /// names. A strict decoder answers the fault of the string first, and then `RlpIsTooBig` where
-    /// bytes follow it.
+    /// The faults are those of [`BasicDecoder::decode_value`]. A strict decoder fails with the fault
+    /// of the string, or else with `RlpIsTooBig` if bytes follow it.
     ///
     /// ```rust
     /// let decoder = rlp::BasicDecoder::new(&[0x83, b'c', b'a', b't']);

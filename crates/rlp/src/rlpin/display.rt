@@ -4,9 +4,9 @@ use crate::rlpin::rlp::Rlp;
 use rlp_format::text::write_text;
 use std::fmt;
 
-/// `null` for no bytes, `"0x` and the digits of a string, `[`, the texts of a list's items with `,
-/// ` between and `]`. Bytes that aren't framed print the name of their fault, as
-/// [`Rlp::payload_info`] answers it. The formatter's flags change nothing.
+/// Prints `null` for no bytes, `"0x..."` for a string, and `[.., ..]` for a list. Bytes that aren't
+/// framed print the name of their fault, the one of [`Rlp::payload_info`]. The formatter's flags
+/// change nothing.
 impl fmt::Display for Rlp<'_> {
     ghost use Rattle.std.specs.Prelude.{Some};
     ghost use Rattle.rlp_format.specs.Views.Text.{text};

@@ -17,12 +17,12 @@ use rlp_format::items::ItemReader;
 use std::alloc::Global;
 use std::marker::Model;
 
-/// The items of a list, read one after another. Contracts see it as the record `FieldPlace` of the
-/// view and the number of items that were taken.
+/// A reader of the items of a list, one after another. Contracts see it as the record `FieldPlace`
+/// of the view and the number of taken items.
 ///
-/// It keeps its place, so the header of each item is read once, where [`Rlp::val_at`] begins at the
-/// start of the list each time. What it answers is what [`Rlp::val_at`], [`Rlp::list_at`] and
-/// [`Rlp::at`] answer of that number.
+/// It keeps its place, so it reads the header of each item once. [`Rlp::val_at`] begins at the
+/// start of the list each time. Each call returns what [`Rlp::val_at`], [`Rlp::list_at`] or
+/// [`Rlp::at`] returns for the next number.
 ///
 /// ```rust
 /// let list = rlp::Rlp::new(&[0xc5, 0x05, 0x83, b'c', b'a', b't']);
@@ -34,7 +34,7 @@ use std::marker::Model;
 pub struct Fields<'a> {
     rlp: Rlp<'a>,
     items: ItemReader<'a>,
-    // How many items were taken.
+    // The number of taken items.
     taken: Count,
 }
 
@@ -49,9 +49,9 @@ impl<'a> Model for Fields<'a> {
 }
 
 impl<'a> Rlp<'a> {
-    /// The items of the list that the view begins with, to be read in order.
+    /// A reader of the items of the list that the view begins with, in order.
     ///
-    /// The faults are those of [`Rlp::item_count`].
+    /// Fails as [`Rlp::item_count`] does.
     pub fn fields(&self) -> Result<Fields<'a>, DecoderError>
         ensures read { IfOk result (λ f. f ≡ record { view = self.now; place = 0 }) }
         ensures fault { MatchResult result (λ _. items_fault self.now ≡ None)
@@ -63,7 +63,8 @@ impl<'a> Rlp<'a> {
         }
     }
 
-    /// The same, of a list of `len` items. Another number of them is `RlpIncorrectListLen`.
+    /// The same as [`Rlp::fields`] for a list of `len` items. Fails with `RlpIncorrectListLen` if
+    /// the list has another number of items.
     #[tactic(auto, using(crate::proofs::Views::InOrder::counted_fields))]
     pub fn fields_of(&self, len: usize) -> Result<Fields<'a>, DecoderError>
         ensures read { IfOk result (λ f. f ≡ record { view = self.now; place = 0 }) }
@@ -83,7 +84,7 @@ impl<'a> Rlp<'a> {
 }
 
 impl<'a> Fields<'a> {
-    /// Before the first item of a view whose items are told by number.
+    /// A reader before the first item of a view.
     fn over(rlp: &Rlp<'a>) -> Fields<'a>
         requires { items_fault rlp.now ≡ None }
         ensures { result ≡ record { view = rlp.now; place = 0 } }
@@ -94,7 +95,7 @@ impl<'a> Fields<'a> {
         }
     }
 
-    /// Before the items that these bytes begin with, which are those of the view.
+    /// A reader before the items that these bytes begin with, which are the items of the view.
     fn before(rlp: &Rlp<'a>, left: &'a [u8]) -> Fields<'a>
         requires { IsAtPlace rlp.now 0 left.now }
         ensures { result ≡ record { view = rlp.now; place = 0 } }
@@ -108,7 +109,7 @@ impl<'a> Fields<'a> {
 
     /// The next item.
     ///
-    /// The fault past the last one is that of [`Rlp::at`], and no item is taken then.
+    /// After the last item it fails as [`Rlp::at`] does, and takes no item.
     pub fn next_view(&mut self) -> Result<Rlp<'a>, DecoderError>
         ensures exact { result ≡ item_at self.old.view self.old.place }
         ensures next { OnOk result (self.new ≡ record self.old { place = self.old.place + 1 }) }
@@ -172,7 +173,7 @@ impl<'a> Fields<'a> {
         }
     }
 
-    /// Tests whether each item was taken. Where one is left it is `RlpIncorrectListLen`.
+    /// Tests that all items were taken. Fails with `RlpIncorrectListLen` if one is left.
     pub fn finish(self) -> Result<(), DecoderError>
         ensures all { OnOk result (item_count self.entry.view ≡ Ok self.entry.place) }
         ensures fault { IfErr result (λ e.

@@ -11,12 +11,13 @@ use crate::rlpin::rlp::Rlp;
 use rlp_format::items::{ItemReader, count_items};
 use std::marker::Model;
 
-/// The items of a view, in order. Contracts see it as the record `Remaining`: the views that it has
-/// still to give, how many headers were read, and whether it has ended.
+/// An iterator over the items of a view. Contracts see it as the record `Remaining`: the views that
+/// are left, how many headers were read, and whether it has ended.
 ///
-/// It keeps its place. [`Rlp::iter`] reads the header of the list, and each `next` reads one header
-/// more; once `next` gave `None` it reads none. So n items and the first `None` take n + 2 headers
-/// at most. `len` and `size_hint` walk over what is left each time, and their headers aren't counted.
+/// It keeps its place. [`Rlp::iter`] reads the header of the list, and each `next` reads at most
+/// one header more. After `next` returned `None` it reads none. So n items and the first `None`
+/// read at most n + 2 headers. `len` and `size_hint` walk the items that are left each time,
+/// uncounted.
 #[derive(Drop)]
 pub struct RlpIterator<'a, 'view> {
     rlp: &'view Rlp<'a>,
@@ -72,7 +73,7 @@ impl<'a, 'view> Iterator for RlpIterator<'a, 'view> {
 }
 
 impl<'a, 'view> ExactSizeIterator for RlpIterator<'a, 'view> {
-    /// How many items are still to come, by a walk over them.
+    /// The number of items that are left. It walks them.
     fn len(&self) -> usize
         ensures { result ≡ length self.now.left }
     {
@@ -81,7 +82,7 @@ impl<'a, 'view> ExactSizeIterator for RlpIterator<'a, 'view> {
 }
 
 impl<'a, 'view> RlpIterator<'a, 'view> {
-    /// The iterator over the items of a view. Over anything but a framed list it has ended.
+    /// The iterator over the items of a view. It is empty if the view isn't a framed list.
     #[tactic(auto, unfolding(rlp_format::specs::Format::Split::items), using(rlp_format::proofs::Format::Splits::splits))]
     pub(crate) fn over(view: &'view Rlp<'a>) -> RlpIterator<'a, 'view>
         ensures items { result.left ≡ item_views view.now }
@@ -99,7 +100,7 @@ impl<'a, 'view> RlpIterator<'a, 'view> {
         }
     }
 
-    /// How many items are still to come.
+    /// The number of items that are left.
     #[tactic(auto, using(rlp_format::proofs::Format::Splits::splits))]
     fn count_left(&self) -> usize
         ensures { result ≡ length self.now.left }

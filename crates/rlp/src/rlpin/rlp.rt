@@ -1,4 +1,4 @@
-//! A view of bytes, and what it answers of their first item.
+//! A view of bytes, and its methods on their first item.
 
 ghost use Rattle.std.specs.Vec.{vec_items};
 ghost use Rattle.std.specs.declared.alloc.Global.{Global};
@@ -25,9 +25,9 @@ use std::marker::Model;
 
 /// A view of bytes that may begin with an item.
 ///
-/// It holds the bytes and nothing else, so every answer is a function of them: asked again, it is
-/// the same. Contracts see a view as the record `View` of its bytes and its kind. A lenient view
-/// never looks at what stands after the first item; a strict one has a fault where bytes do.
+/// It holds only the bytes and whether it is strict, so the same call always returns the same
+/// result. Contracts see a view as the record `View` of its bytes and its kind. A lenient view
+/// ignores the bytes after the first item. A strict view has a fault if there are any.
 #[derive(Debug, Drop)]
 pub struct Rlp<'a> {
     bytes: &'a [u8],
@@ -43,15 +43,15 @@ impl<'a> Model for Rlp<'a> {
 }
 
 impl<'a> Rlp<'a> {
-    /// A view of these bytes. It looks at none of them yet.
+    /// A view of these bytes. It doesn't read them yet.
     pub fn new(bytes: &'a [u8]) -> Rlp<'a>
         ensures { result ≡ view_of bytes.now }
     {
         Rlp::of_kind(bytes, false)
     }
 
-    /// A strict view of these bytes: what it answers, it answers of bytes that are one item and
-    /// nothing else. Its items are strict too. It looks at no byte yet.
+    /// A strict view of these bytes, which must be exactly one item: its methods fail if bytes
+    /// follow the item. Its items are strict too. It doesn't read the bytes yet.
     ///
     /// ```rust
     /// let view = rlp::Rlp::new_strict(&[0xc1, 0x05, 0x06]);
@@ -77,7 +77,7 @@ impl<'a> Rlp<'a> {
         self.with_bytes(self.bytes)
     }
 
-    /// All the bytes, those after the first item too.
+    /// All the bytes, including those after the first item.
     pub fn as_raw(&self) -> &'a [u8]
         ensures { result.now ≡ self.now.bytes }
     {
@@ -85,8 +85,8 @@ impl<'a> Rlp<'a> {
     }
 
     /// What the view begins with: no bytes, a string with its [`Rlp::size`], or a list with the
-    /// number of its items. It is always `Ok`; bytes that aren't framed are a string of size 0 or a
-    /// list of no items, by their first byte.
+    /// number of its items. It never fails. Bytes that aren't framed are a string of size 0 or a
+    /// list of no items, depending on their first byte.
     #[tactic(auto, unfolding(rlp_format::specs::Format::Split::items))]
     pub fn prototype(&self) -> Result<Prototype, DecoderError>
         ensures { result ≡ Ok (prototype_of self.now.bytes) }
@@ -100,10 +100,10 @@ impl<'a> Rlp<'a> {
         Ok(Prototype::Data(self.size()))
     }
 
-    /// The header of the first item, where header and value lie within the bytes.
+    /// The header of the first item, if header and value lie within the bytes.
     ///
-    /// Otherwise the fault of [`PayloadInfo::from`], or `RlpIsTooShort` where the value ends early. A
-    /// strict view answers `RlpIsTooBig` where bytes follow the item.
+    /// Fails as [`PayloadInfo::from`] does, or with `RlpIsTooShort` if the value is cut. A strict
+    /// view fails with `RlpIsTooBig` if bytes follow the item.
     pub fn payload_info(&self) -> Result<PayloadInfo, DecoderError>
         ensures { result ≡ view_header self.now }
     {
@@ -113,9 +113,10 @@ impl<'a> Rlp<'a> {
         }
     }
 
-    /// The bytes of the first item after its header: a string's own, or a list's joined items.
+    /// The bytes of the first item after its header: the bytes of a string, or the payload of a
+    /// list.
     ///
-    /// The faults are those of [`Rlp::payload_info`].
+    /// Fails as [`Rlp::payload_info`] does.
     pub fn data(&self) -> Result<&'a [u8], DecoderError>
         ensures { MatchResult result (λ d. view_value self.now ≡ Ok d.now)
             (λ e. view_value self.now ≡ Err e) }
@@ -126,11 +127,11 @@ impl<'a> Rlp<'a> {
         }
     }
 
-    /// How many items the list has that the view begins with.
+    /// The number of items in the list that the view begins with.
     ///
-    /// `RlpExpectedToBeList` where there is no byte or the first is one of a string. A list that
-    /// isn't framed has no items. A strict view must be a list and nothing else: then come the fault
-    /// of [`Rlp::payload_info`], and that of bytes that follow the items in the list.
+    /// Fails with `RlpExpectedToBeList` if there is no byte, or the first byte begins a string. A
+    /// list that isn't framed has no items. A strict view must be exactly one list. After the first
+    /// fault come those of [`Rlp::payload_info`] and of bytes that follow the items in the list.
     #[tactic(auto, unfolding(rlp_format::specs::Views::View::item_count, rlp_format::specs::Format::Split::items))]
     pub fn item_count(&self) -> Result<usize, DecoderError>
         ensures { result ≡ item_count self.now }
@@ -144,8 +145,7 @@ impl<'a> Rlp<'a> {
         Ok(self.iter().len())
     }
 
-    /// The length of the string that the view begins with, and 0 where no framed string stands
-    /// there.
+    /// The length of the string that the view begins with, or 0 if it begins with no framed string.
     pub fn size(&self) -> usize
         ensures { result ≡ data_size self.now.bytes }
     {
@@ -160,7 +160,7 @@ impl<'a> Rlp<'a> {
 
     /// The item at `index`, counted from 0.
     ///
-    /// The faults are those of [`Rlp::at_with_offset`].
+    /// Fails as [`Rlp::at_with_offset`] does.
     ///
     /// ```rust
     /// let list = rlp::Rlp::new(&[0xc4, 0x83, b'c', b'a', b't']);
@@ -176,11 +176,15 @@ impl<'a> Rlp<'a> {
 
     /// The item at `index`, counted from 0, and its place, counted from the view's first byte.
     ///
-    /// `RlpExpectedToBeList` where there is no byte or the first is one of a string; then the fault
-    /// of [`Rlp::payload_info`] where the list isn't framed; then, past the last item, the fault of
-    /// the bytes that follow the items in the list, which is `RlpIsTooShort` where none do. It
-    /// reads the list's header and at most `index + 1` more. A strict view has the faults of
-    /// [`Rlp::item_count`] first, for which it reads the header of each item.
+    /// Fails with the first of these:
+    ///
+    /// - `RlpExpectedToBeList` if there is no byte, or the first byte begins a string;
+    /// - the fault of [`Rlp::payload_info`] if the list isn't framed;
+    /// - past the last item, the fault of the bytes that follow the items in the list, which is
+    ///   `RlpIsTooShort` if there are none.
+    ///
+    /// It reads the list's header and at most `index + 1` more. A strict view has the faults of
+    /// [`Rlp::item_count`] first, and reads the header of each item to find them.
     pub fn at_with_offset(&self, index: usize) -> Result<(Rlp<'a>, usize), DecoderError>
         ensures { result ≡ item_with_place self.now index }
     {
@@ -212,7 +216,7 @@ impl<'a> Rlp<'a> {
         }
     }
 
-    /// Whether the first byte is one of a list: `0xc0` or above.
+    /// Whether the first byte begins a list: it is `0xc0` or above.
     pub fn is_list(&self) -> bool
         ensures { result ≡ begins_as_list self.now.bytes }
     {
@@ -222,7 +226,7 @@ impl<'a> Rlp<'a> {
         }
     }
 
-    /// Whether the first byte is one of a string: below `0xc0`.
+    /// Whether the first byte begins a string: it is below `0xc0`.
     pub fn is_data(&self) -> bool
         ensures { result ≡ begins_as_data self.now.bytes }
     {
@@ -232,11 +236,10 @@ impl<'a> Rlp<'a> {
         }
     }
 
-    /// Whether the bytes begin as a number does: with one byte up to `0x80`, or as a string whose
-    /// first byte is there and isn't zero.
+    /// Whether the bytes begin as a number does. They begin with one byte up to `0x80`, or with the
+    /// header of a string and a first byte of it that isn't zero.
     ///
-    /// It looks for that one byte and no further, so `00` begins as a number, and so does a string
-    /// that ends early.
+    /// It looks no further than that byte. So it is true for `00`, and for a string that is cut.
     pub fn is_int(&self) -> bool
         ensures { result ≡ begins_as_int self.now.bytes }
     {
@@ -251,10 +254,10 @@ impl<'a> Rlp<'a> {
         }
     }
 
-    /// The items of the list that the view begins with, in order, as views.
+    /// An iterator over views of the items of the list that the view begins with.
     ///
-    /// Anything but a framed list has none. They end where the list's value does, or before it at
-    /// the first bytes that aren't framed. The items outlive the view.
+    /// Anything but a framed list has no items. The items end with the list's value, or before it
+    /// at the first bytes that aren't framed. The items may outlive the view.
     ///
     /// ```rust
     /// let list = rlp::Rlp::new(&[0xc2, 0x05, 0x06]);
@@ -272,7 +275,7 @@ impl<'a> Rlp<'a> {
         RlpIterator::over(self)
     }
 
-    /// The value that the view begins with, as its type reads it: [`Decodable::decode`].
+    /// The value that the view begins with, read by [`Decodable::decode`] of its type.
     pub fn as_val<T: Decodable>(&self, alloc: Global) -> Result<T, DecoderError>
         ensures value { IfOk result (λ v. T.gives self.now v) }
         ensures fault { IfErr result (λ e. (T.faults self.now e) ⊎ ((e ≡ OutOfMemory)
@@ -283,10 +286,10 @@ impl<'a> Rlp<'a> {
 
     /// The values of the items, in order.
     ///
-    /// The fault is that of an item before which every item gives a value, or `OutOfMemory` where
-    /// memory is refused for the value of an item, or for room for it.
-    /// Anything but a framed list has no items, and gives an empty list; on a strict view it has the
-    /// fault of [`Rlp::item_count`].
+    /// Fails with the fault of an item if all items before it give values. Fails with `OutOfMemory`
+    /// if memory is refused for the value of an item, or for room for it. Anything but a framed
+    /// list has no items, and gives an empty list. A strict view fails then as [`Rlp::item_count`]
+    /// does.
     ///
     /// ```rust
     /// let list = rlp::Rlp::new(&[0xc2, 0x05, 0x06]);
@@ -314,7 +317,7 @@ impl<'a> Rlp<'a> {
 
     /// The value of the item at `index`, counted from 0: [`Rlp::at`], and then [`Rlp::as_val`].
     ///
-    /// The faults are those of the two.
+    /// Fails as either of them does.
     #[tactic(auto, using(crate::proofs::Values::ListValues::some_given))]
     pub fn val_at<T: Decodable>(&self, alloc: Global, index: usize) -> Result<T, DecoderError>
         ensures exact { MatchResult (item_at self.now index)
@@ -334,7 +337,7 @@ impl<'a> Rlp<'a> {
     /// The values of the items of the item at `index`, counted from 0: [`Rlp::at`], and then
     /// [`Rlp::as_list`].
     ///
-    /// The faults are those of the two.
+    /// Fails as either of them does.
     #[tactic(auto, using(crate::proofs::Values::ListValues::some_given))]
     pub fn list_at<T: Decodable>(&self, alloc: Global, index: usize) -> Result<Vec<T>, DecoderError>
         ensures exact { MatchResult (item_at self.now index)
@@ -357,19 +360,19 @@ impl<'a> Rlp<'a> {
         }
     }
 
-    /// A decoder of the view's bytes, of the same kind. A strict one answers `RlpIsTooBig` where
-    /// bytes follow the string.
+    /// A decoder of the view's bytes, of the same kind. A strict decoder fails with `RlpIsTooBig`
+    /// if bytes follow the string.
     pub fn decoder(&self) -> BasicDecoder<'a>
         ensures { result ≡ self.now }
     {
         BasicDecoder::of_kind(self.bytes, self.strict)
     }
 
-    /// Whether the depth is at most `limit`. Anything but a framed list has depth 0, and a framed
-    /// list 1 more than the deepest of its items, or 1 without items.
+    /// Whether the depth is at most `limit`. A framed list has a depth of 1 more than the deepest
+    /// of its items, or 1 without items. Anything else has depth 0.
     ///
-    /// It goes no deeper than `limit` lists, so bytes of any origin can be asked before they are
-    /// printed by [`Display`](std::fmt::Display), which goes as deep as they nest.
+    /// It goes no deeper than `limit` lists. [`Display`](std::fmt::Display) goes as deep as the
+    /// lists nest, so test untrusted bytes by this call before you print them.
     ///
     /// ```rust
     /// let list = rlp::Rlp::new(&[0xc2, 0xc1, 0x05]);
@@ -384,9 +387,9 @@ impl<'a> Rlp<'a> {
         }
     }
 
-    /// Whether the bytes are the whole canonical encoding of an item whose depth is at most
-    /// `max_depth`: a string has depth 0, and a list 1 more than the deepest of its items, or 1
-    /// without items. It is the same on lenient and strict views.
+    /// Whether the bytes are exactly the canonical encoding of an item of depth at most
+    /// `max_depth`. A string has depth 0. A list has a depth of 1 more than the deepest of its
+    /// items, or 1 without items. The result is the same on lenient and strict views.
     ///
     /// It reads each header once or a few times, takes no memory, and goes no deeper than
     /// `max_depth` lists.
@@ -465,7 +468,7 @@ impl<'a> Rlp<'a> {
         }
     }
 
-    /// Tests whether the view is read as a list.
+    /// Fails if the view can't be read as a list.
     #[tactic(auto, using(rlp_format::proofs::Format::StrictLists::list_checks))]
     pub(crate) fn check_list(&self) -> Result<(), DecoderError>
         ensures { MatchResult result (λ _. list_fault self.now ≡ None)
@@ -480,7 +483,7 @@ impl<'a> Rlp<'a> {
         }
     }
 
-    /// Tests whether items are told by number.
+    /// Fails if the view has no items by number.
     #[tactic(auto, using(rlp_format::proofs::Format::StrictLists::items_checks))]
     pub(crate) fn check_items(&self) -> Result<(), DecoderError>
         ensures { MatchResult result (λ _. items_fault self.now ≡ None)
@@ -493,7 +496,7 @@ impl<'a> Rlp<'a> {
     }
 }
 
-/// Whether a byte stands at this place that isn't zero.
+/// Whether there is a byte at this place, and it isn't zero.
 fn is_nonzero_at(bytes: &[u8], place: usize) -> bool
     ensures { result ≡ has_nonzero_at place bytes.now }
 {

@@ -1,4 +1,4 @@
-//! Items that stand one after another, taken off bytes one by one.
+//! Joined items, taken off bytes one by one.
 
 ghost use Rattle.std.specs.Prelude.{◌≡◌, ◌++◌, true, false, Ok, Err, IfOk, IfErr};
 ghost use Rattle.rlp_format.specs.Format.Framing.{fault, frame};
@@ -8,10 +8,10 @@ use rlp_format::error::DecoderError;
 use rlp_format::framed::first_framed;
 
 impl<'a> Rlp<'a> {
-    /// A view of the item at the front of these bytes, and the bytes that follow it. Called again on
-    /// these, it gives items that stand one after another, until no bytes are left.
+    /// A view of the item that these bytes begin with, and the bytes that follow it. Call it again
+    /// on these to read joined items one by one, until no bytes are left.
     ///
-    /// The faults are those of [`Rlp::payload_info`].
+    /// Fails as [`Rlp::payload_info`] does.
     ///
     /// ```rust
     /// let (id, rest) = rlp::Rlp::split_first(&[0x05, 0xc1, 0x06])?;
@@ -31,8 +31,8 @@ impl<'a> Rlp<'a> {
         }
     }
 
-    /// The same, by a strict view. What follows the item is no fault of the view, which is of the
-    /// item alone.
+    /// The same as [`Rlp::split_first`], but the view of the item is strict. The view has only the
+    /// item's bytes, so the bytes that follow aren't a fault.
     ///
     /// ```rust
     /// let (message, rest) = rlp::Rlp::split_first_strict(&[0xc1, 0x05, 0xc0])?;

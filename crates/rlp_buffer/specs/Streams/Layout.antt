@@ -5,7 +5,7 @@ use Rattle.rlp_buffer.specs.Streams.Stack.{Stack}
 use Rattle.rlp_buffer.specs.Streams.Stream.{State}
 use Rattle.rlp_buffer.specs.Streams.Placeholders.{begin_of, lists_of}
 
--- what the bytes behind the front stand for, peeled from the inside out
+-- the stack that the bytes behind the front stand for, from the inside out
 abbrev pub stack_of : ℕ → List ℕ → List Placeholder → Stack ℕ
 stack_of start b ps = record { inner = drop (begin_of start ps) b; lists = lists_of start b ps }
 

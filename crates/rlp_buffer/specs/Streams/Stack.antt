@@ -1,47 +1,48 @@
--- Open lists, one inside the other, and what stands in each. In a stream those are bytes; over items the same moves say what the bytes mean.
+-- Open lists, one inside the other, and the payload of each. In a stream payloads are bytes. Over items the same moves say what the bytes mean.
 use Rattle.std.specs.Prelude.{ℕ, ◌-◌, ◌<◌, Bool, true, false, if◌then◌else◌, nat_le, List, [], ◌∷◌, ◌++◌, Option, Some, None, All}
 
--- A list that is open, seen from inside: how many items it still awaits, which is 1 or more, or `None` where it is unbounded; and what stands before it in the payload around it.
+-- An open list, seen from inside: the number of items that it still awaits, which is 1 or more, or `None` if it is unbounded; and the payload before it in the
+-- list around it.
 pub record OpenList (A : Type 0) : Type 0 where
   pub awaits : Option ℕ
   pub outer : List A
 
--- The payload of the innermost open list, or of the top where no list is open; and the open lists, the innermost first.
+-- The payload of the innermost open list, or of the top if no list is open; and the open lists, the innermost first.
 pub record Stack (A : Type 0) : Type 0 where
   pub inner : List A
   pub lists : List (OpenList A)
 
--- nothing at the top, and no open list
+-- an empty top, and no open list
 abbrev pub empty_stack : {A : Type 0} → Stack A
 empty_stack = record { inner = []; lists = [] }
 
--- a list that has a bound is open only while it awaits an item
+-- a bounded list is open only while it awaits an item
 abbrev pub AwaitsSome : Option ℕ → Type 0
 AwaitsSome None = Unit
 AwaitsSome (Some n) = 0 < n
 
--- what holds of each open list of a stream
+-- what holds for each open list of a stream
 abbrev pub AllAwait : {A : Type 0} → List (OpenList A) → Type 0
 AllAwait lists = All (λ l. AwaitsSome l.awaits) lists
 
 -- ---- the same stack, seen from the outside
 
--- An open list with what stands in it.
+-- An open list with its payload.
 pub record Level (A : Type 0) : Type 0 where
   pub payload : List A
   pub awaits : Option ℕ
 
--- the top's payload, where `payload` stands inside the lists
+-- the top's payload, if `payload` is inside the lists
 abbrev pub top_around : {A : Type 0} → List A → List (OpenList A) → List A
 top_around payload [] = payload
 top_around payload (l ∷ ls) = top_around l.outer ls
 
--- the lists from the outside in, where `payload` stands in the innermost
+-- the lists from the outside in, if `payload` is in the innermost
 abbrev pub levels_around : {A : Type 0} → List A → List (OpenList A) → List (Level A)
 levels_around payload [] = []
 levels_around payload (l ∷ ls) = levels_around l.outer ls ++ record { payload = payload; awaits = l.awaits } ∷ []
 
--- what stands outside every open list
+-- the payload outside every open list
 abbrev pub top : {A : Type 0} → Stack A → List A
 top s = top_around s.inner s.lists
 
@@ -49,9 +50,9 @@ top s = top_around s.inner s.lists
 abbrev pub levels : {A : Type 0} → Stack A → List (Level A)
 levels s = levels_around s.inner s.lists
 
--- ---- moves. `wrap` makes of a list's payload what stands for the closed list in the payload around it.
+-- ---- moves. `wrap` turns the payload of a closed list into its encoding in the payload around it.
 
--- x goes to the end of the innermost payload
+-- x is put at the end of the innermost payload
 abbrev pub stack_put : {A : Type 0} → List A → Stack A → Stack A
 stack_put x s = record s { inner = s.inner ++ x }
 
@@ -59,26 +60,27 @@ stack_put x s = record s { inner = s.inner ++ x }
 abbrev pub stack_with_list : {A : Type 0} → Option ℕ → Stack A → Stack A
 stack_with_list awaits s = record { inner = []; lists = record { awaits = awaits; outer = s.inner } ∷ s.lists }
 
--- the innermost of the lists, in which `payload` stands, is taken off; it goes to the end of the payload around it
+-- the innermost of the lists, which has this `payload`, is closed, and put at the end of the payload around it
 abbrev pub shut_around : {A : Type 0} → (List A → List A) → List A → List (OpenList A) → Stack A
 shut_around wrap payload [] = record { inner = payload; lists = [] }
 shut_around wrap payload (l ∷ ls) = record { inner = l.outer ++ wrap payload; lists = ls }
 
--- the innermost open list is taken off, and goes to the end of the payload around it
+-- the innermost open list is closed, and put at the end of the payload around it
 abbrev pub stack_shut : {A : Type 0} → (List A → List A) → Stack A → Stack A
 stack_shut wrap s = shut_around wrap s.inner s.lists
 
--- whether the count of k items closes a list by what it awaits
+-- whether the count of k items closes a list that awaits this number
 abbrev pub is_last : ℕ → Option ℕ → Bool
 is_last k None = false
 is_last k (Some n) = nat_le n k
 
--- what a list awaits after k items
+-- the number of items that a list awaits after k items
 abbrev pub awaits_after : ℕ → Option ℕ → Option ℕ
 awaits_after k None = None
 awaits_after k (Some n) = Some (n - k)
 
--- K items were counted in the innermost of the lists, in which `payload` stands: it awaits k fewer. With the last that it awaits it is shut, and one item is counted in the list around it.
+-- K items were counted in the innermost of the lists, which has this `payload`: it awaits k fewer. The last item that it awaits shuts it, and one item is
+-- counted in the list around it.
 abbrev pub count_around : {A : Type 0} → (List A → List A) → ℕ → List A → List (OpenList A) → Stack A
 count_around wrap k payload [] = record { inner = payload; lists = [] }
 count_around wrap k payload (l ∷ ls) =
@@ -89,21 +91,21 @@ count_around wrap k payload (l ∷ ls) =
 abbrev pub stack_count : {A : Type 0} → (List A → List A) → ℕ → Stack A → Stack A
 stack_count wrap k s = count_around wrap k s.inner s.lists
 
--- the mark after k items were counted: whether that closed a list; with no open list it stays
+-- the mark after k items were counted: whether that closed a list; with no list open it stays
 abbrev pub mark_after : {A : Type 0} → ℕ → List (OpenList A) → Bool → Bool
 mark_after k [] mark = mark
 mark_after k (l ∷ ls) mark = is_last k l.awaits
 
--- the top's payload after every list was shut, where `payload` stands inside them
+-- the top's payload after every list was shut, if `payload` is inside them
 abbrev pub closed_payload_around : {A : Type 0} → (List A → List A) → List A → List (OpenList A) → List A
 closed_payload_around wrap payload [] = payload
 closed_payload_around wrap payload (l ∷ ls) = closed_payload_around wrap (l.outer ++ wrap payload) ls
 
--- the top's payload after every list was shut, whatever it awaits
+-- the top's payload after every list was shut, even if it still awaits items
 abbrev pub closed_payload : {A : Type 0} → (List A → List A) → Stack A → List A
 closed_payload wrap s = closed_payload_around wrap s.inner s.lists
 
--- whether k items may be counted: the innermost list is unbounded, or absent, or awaits at least k
+-- whether k items may be counted: the innermost list is unbounded or awaits at least k, or no list is open
 abbrev pub has_room : {A : Type 0} → ℕ → List (OpenList A) → Bool
 has_room k [] = true
 has_room k (l ∷ ls) = room_in l.awaits
@@ -121,7 +123,7 @@ is_unbounded (l ∷ ls) = none_in l.awaits
     none_in None = true
     none_in (Some n) = false
 
--- what the innermost open list awaits, if one is open and has a bound
+-- the number of items that the innermost open list awaits, if a list is open and it is bounded
 abbrev pub awaited : {A : Type 0} → List (OpenList A) → Option ℕ
 awaited [] = None
 awaited (l ∷ ls) = l.awaits

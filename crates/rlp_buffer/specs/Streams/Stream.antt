@@ -5,20 +5,22 @@ use Rattle.rlp_format.specs.Format.Item.{Item, string, list}
 use Rattle.rlp_format.specs.Format.Encoding.{encoding}
 use Rattle.rlp_buffer.specs.Streams.Stack.{Stack, empty_stack, top, levels, stack_put, stack_with_list, stack_shut, stack_count, closed_payload, mark_after}
 
--- The bytes handed in at the start; the payloads and the open lists; and the mark, which tells a caller of `rlp_append` whether the value counted itself.
+-- The front, which is the bytes handed in; the payloads and the open lists; and the mark, which tells a caller of `rlp_append` whether the value counted
+-- itself.
 pub record State : Type 0 where
   pub front : List ℕ
   pub stack : Stack ℕ
   pub mark : Bool
 
--- What clauses see of a stream: its state; how many more bytes its buffer takes with no allocation; how many more lists it opens with none; and how many payload bytes its closings have moved.
+-- What clauses see of a stream: its state; how many more bytes its buffer takes without an allocation; how many more lists it opens without one; and how many
+-- payload bytes its closings have moved.
 pub record Seen : Type 0 where
   pub state : State
   pub spare : ℕ
   pub spare_lists : ℕ
   pub moved : ℕ
 
--- The state is the old one, the mark included, and no payload byte was moved. The room may be another.
+-- The state is the old one, including the mark, and no payload byte was moved. The room may differ.
 abbrev pub IsAsBefore : Seen → Seen → Type 0
 IsAsBefore old new = (new.state ≡ old.state) × (new.moved ≡ old.moved)
 
@@ -36,19 +38,20 @@ list_encoding payload = written_header 0xc0 (length payload) ++ payload
 
 -- ---- moves
 
--- x goes to the end of the innermost payload, or of the top's
+-- x is put at the end of the innermost payload, or of the top's
 abbrev pub put : List ℕ → State → State
 put x s = record s { stack = stack_put x s.stack }
 
--- the innermost list is taken off, and its header and payload are put
+-- the innermost list is closed, and its header and payload are put in the list around it
 abbrev pub shut : State → State
 shut s = record s { stack = stack_shut list_encoding s.stack }
 
--- K items are counted. With no open list nothing changes. An unbounded innermost list has the mark become false. A bounded one awaits k fewer: at 0 it is shut, one item is counted in the list around it, and the mark becomes true; else the mark becomes false.
+-- K items are counted. With no list open nothing changes. If the innermost list is unbounded, the mark becomes false. If it is bounded, it awaits k fewer. At 0
+-- it is shut, one item is counted in the list around it, and the mark becomes true. Else the mark becomes false.
 abbrev pub count : ℕ → State → State
 count k s = record { front = s.front; stack = stack_count list_encoding k s.stack; mark = mark_after k s.stack.lists s.mark }
 
--- the state but for the mark, which is this one
+-- the state with this mark
 abbrev pub with_mark : Bool → State → State
 with_mark mark s = record s { mark = mark }
 
@@ -67,7 +70,8 @@ is_list (list xs) = true
 abbrev pub add : Item → State → State
 add x s = let counted : State = count 1 (put (encoding x) (with_mark false s)) in record counted { mark = is_list x || counted.mark }
 
--- What a value's `rlp_append` does. The encoding of a string is put, and nothing else changes. That of a list is put, one is counted, and the mark is true.
+-- What a value's `rlp_append` does. It puts the encoding of a string, and nothing else changes. Or it puts the encoding of a list, one is counted, and the mark
+-- is true.
 abbrev pub put_item : Item → State → State
 put_item x s = if is_list x then with_mark true (count 1 (put (encoding x) s)) else put (encoding x) s
 
@@ -82,25 +86,25 @@ add_all (x ∷ xs) s = add_all xs (add x s)
 abbrev pub raw_text : State → List ℕ
 raw_text s = s.front ++ (top s.stack ++ flat_map (λ l. 0 ∷ l.payload) (levels s.stack))
 
--- the top after every list was shut, whatever it awaits; the front isn't in it
+-- the top after every list was shut, even if it still awaits items; the front isn't in it
 abbrev pub closed_text : State → List ℕ
 closed_text s = closed_payload list_encoding s.stack
 
--- how many bytes there are once every list is closed
+-- the number of bytes once every list is closed
 abbrev pub closed_size : State → ℕ
 closed_size s = length (closed_text s)
 
--- the closed size with more bytes put, by their number. Which bytes they are makes no difference to it.
+-- The closed size with this number of bytes more put. It doesn't depend on which bytes they are.
 abbrev pub closed_size_with : ℕ → State → ℕ
 closed_size_with more s = closed_size (put (replicate more 0) s)
 
 -- ---- room
 
--- how many bytes the buffer holds with no allocation, with those that stand in it
+-- the number of bytes that the buffer holds without an allocation, with its present bytes
 abbrev pub room : Seen → ℕ
 room v = length (raw_text v.state) + v.spare
 
--- how many lists are open at once with no allocation, with those that are open
+-- the number of lists that may be open without an allocation, with the open ones
 abbrev pub list_room : Seen → ℕ
 list_room v = length v.state.stack.lists + v.spare_lists
 
@@ -110,11 +114,11 @@ pub record RetainsAll (old new : Seen) : Type 0 where
   pub room : room old ≤ room new
   pub list_room : list_room old ≤ list_room new
 
--- No call takes back what was counted of moved bytes, nor gives room up. Proofs go by its lemmas, and see its fields where they unfold it.
+-- No call lowers the count of moved bytes, or gives room up. Proofs use its lemmas, or unfold it to see its fields.
 unfoldable pub Retains : Seen → Seen → Type 0
 Retains old new = RetainsAll old new
 
--- The buffer has room for all bytes that it holds in the other state, which are fewer than 2^63.
+-- The buffer has room for all bytes of the other state, which are fewer than 2^63.
 pub record HasRoomFor (v : Seen) (s : State) : Type 0 where
   pub enough : length (raw_text s) ≤ room v
   pub few : length (raw_text s) < 2 ^ 63

@@ -1,4 +1,4 @@
-//! A buffer, and the number of bytes in it that were moved to a later place.
+//! A buffer, and the number of its bytes that were moved to a later place.
 
 ghost use Rattle.std.specs.Prelude.{◌≡◌, ◌<◌, ◌≤◌, ◌+◌, ◌-◌, ◌^◌, ◌++◌, length, take, drop, OnOk, OnErr};
 ghost use Rattle.bytes.specs.Filled.{MakesSpare};
@@ -15,13 +15,13 @@ use std::marker::Model;
 
 /// The bytes of a stream. Only these methods touch them.
 ///
-/// [`Buffer::shift`] alone brings bytes to a later place for a closing, and it always counts them.
-/// Bytes that an iterator gave make place for their header by [`Buffer::insert`], which counts
-/// nothing; only the module that writes strings can call it.
+/// Only [`Buffer::shift`] moves bytes to a later place for a closing, and it always counts them.
+/// [`Buffer::insert`] moves the bytes of an iterator to make place for their header. It counts
+/// nothing, and only the module that writes strings can call it.
 #[derive(Drop)]
 pub struct Buffer {
     bytes: BytesMut,
-    // How many bytes were moved.
+    // The number of moved bytes.
     moved: Count,
 }
 
@@ -34,7 +34,7 @@ impl Model for Buffer {
 }
 
 impl Buffer {
-    /// A buffer over bytes, of which none was moved.
+    /// A buffer over bytes. No byte was moved yet.
     pub fn new(bytes: BytesMut) -> Buffer
         ensures items { result.items ≡ bytes.items }
         ensures spare { result.spare ≡ bytes.spare }
@@ -55,7 +55,7 @@ impl Buffer {
         bytes
     }
 
-    /// How many bytes there are.
+    /// The number of bytes.
     #[inline]
     pub fn len(&self) -> usize
         ensures value { result ≡ length self.now.items }
@@ -72,7 +72,7 @@ impl Buffer {
         self.bytes.as_slice()
     }
 
-    /// Makes room for `additional` bytes more.
+    /// Makes room for `additional` more bytes.
     #[inline]
     pub fn reserve(&mut self, additional: usize) -> Result<(), AllocError>
         ensures items { self.new.items ≡ self.old.items }
@@ -82,7 +82,7 @@ impl Buffer {
         self.bytes.reserve(additional)
     }
 
-    /// Appends bytes for which there is room.
+    /// Appends bytes. There must be room for them.
     #[inline]
     pub fn extend_reserved(&mut self, part: &[u8])
         requires { length part.now ≤ self.old.spare }
@@ -93,7 +93,7 @@ impl Buffer {
         self.bytes.extend_reserved(part);
     }
 
-    /// Appends bytes, after room was made for them.
+    /// Makes room for bytes, and appends them.
     #[inline]
     pub fn extend_from_slice(&mut self, part: &[u8]) -> Result<(), AllocError>
         ensures ok { OnOk result (self.new.items ≡ self.old.items ++ part.now) }
@@ -107,7 +107,7 @@ impl Buffer {
         Ok(())
     }
 
-    /// Appends `more` bytes for which there is room, whatever they are.
+    /// Appends `more` bytes of any value. There must be room for them.
     #[inline]
     pub fn advance_mut(&mut self, more: usize)
         requires { more ≤ self.old.spare }
@@ -119,7 +119,7 @@ impl Buffer {
         self.bytes.advance_mut(more);
     }
 
-    /// Keeps the first `len` bytes. What the others took becomes room.
+    /// Keeps the first `len` bytes. The place of the others becomes room.
     #[inline]
     pub fn truncate(&mut self, len: usize)
         ensures items { self.new.items ≡ take len self.old.items }
@@ -130,8 +130,8 @@ impl Buffer {
         self.bytes.truncate(len);
     }
 
-    /// Brings bytes to a later place in the buffer, and counts them. Where they stand there already,
-    /// none is moved.
+    /// Moves bytes to a later place in the buffer, and counts them. If they are there already, it
+    /// moves nothing.
     #[inline]
     pub fn shift(&mut self, from: usize, len: usize, to: usize)
         requires forward { from ≤ to }
@@ -149,8 +149,8 @@ impl Buffer {
         }
     }
 
-    /// Writes the header of the list whose payload is all that stands from a place on, over the
-    /// bytes in front of that. Returns where the header begins.
+    /// Writes the header of the list whose payload is all bytes from a place on. It writes over the
+    /// bytes in front of that place. Returns the place where the header begins.
     #[inline]
     pub fn write_list_header(&mut self, payload: usize) -> usize
         requires within { payload ≤ length self.old.items }
@@ -169,8 +169,8 @@ impl Buffer {
         begin
     }
 
-    /// Inserts a part at a place. What stands behind it goes further, and isn't counted: it is a
-    /// string that has no header yet.
+    /// Inserts a part at a place, and moves the bytes behind it. It doesn't count them, since they
+    /// are a string without a header, and not a payload.
     pub(super) fn insert(&mut self, at: usize, part: &[u8]) -> Result<(), AllocError>
         requires { at ≤ length self.old.items }
         ensures ok { OnOk result (self.new.items

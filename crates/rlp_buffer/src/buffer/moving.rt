@@ -1,9 +1,9 @@
-//! Bytes of a buffer, moved to a later place and written over.
+//! Moving bytes of a buffer to a later place, and writing over bytes.
 
 ghost use Rattle.std.specs.Prelude.{◌≡◌, ◌+◌, ◌≤◌, ◌++◌, ◌-◌, length, take, drop};
 
-/// Brings bytes to a later place. A header of two or three bytes in the place of one byte has the
-/// bytes behind it go one or two places further.
+/// Moves bytes to a later place. A header of two or three bytes in the place of one byte moves the
+/// bytes behind it by one or two places.
 pub(super) fn bring(bytes: &mut [u8], from: usize, len: usize, to: usize)
     requires forward { from ≤ to }
     requires within { to + len ≤ length bytes.old }
@@ -17,8 +17,8 @@ pub(super) fn bring(bytes: &mut [u8], from: usize, len: usize, to: usize)
     }
 }
 
-/// Moves the first bytes up by `D` places. Since the distance is known where this is compiled, the
-/// loop becomes one move of memory.
+/// Moves the first bytes up by `D` places. The distance is known at compile time, so the loop
+/// becomes one move of memory.
 #[inline(never)]
 fn move_up<const D: usize>(bytes: &mut [u8], len: usize)
     requires whole { length bytes.old ≡ D + len }
@@ -39,7 +39,7 @@ pub(super) fn write_at(bytes: &mut [u8], at: usize, part: &[u8])
     bytes[at..at + part.len()].copy_from_slice(part);
 }
 
-/// Inserts a part at a place. As many bytes are lost at the end.
+/// Inserts a part at a place. The same number of bytes at the end is lost.
 pub(super) fn insert(bytes: &mut [u8], at: usize, part: &[u8])
     requires { at + length part.now ≤ length bytes.old }
     ensures { bytes.new ≡ take at bytes.old

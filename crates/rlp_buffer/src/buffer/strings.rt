@@ -22,8 +22,8 @@ fn is_low_byte(value: &[u8]) -> bool
     }
 }
 
-/// Writes the encoding of a string at the end of a buffer, after room was made for all of it: the
-/// header, which is computed before, and then the string by one copy.
+/// Writes the encoding of a string at the end of a buffer. It makes room for all of it first, then
+/// writes the header, and then copies the string once.
 #[tactic(auto, using(crate::proofs::Streams::Written::written))]
 pub fn write_string(buffer: &mut Buffer, value: &[u8]) -> Result<(), AllocError>
     ensures ok { OnOk result
@@ -46,7 +46,7 @@ pub fn write_string(buffer: &mut Buffer, value: &[u8]) -> Result<(), AllocError>
     Ok(())
 }
 
-/// The same for a string that has a header of one byte.
+/// The same as [`write_string`] for a string with a header of one byte.
 #[tactic(auto, using(crate::proofs::Streams::Written::written))]
 fn write_short(buffer: &mut Buffer, value: &[u8]) -> Result<(), AllocError>
     requires short { length value.now ≤ 55 }
@@ -79,7 +79,7 @@ pub fn encoded_string(alloc: Global, value: &[u8]) -> Result<BytesMut, AllocErro
     Ok(BytesMut::from_vec(bytes))
 }
 
-/// Writes the bytes that an iterator gives at the end of a buffer. What is refused may leave some.
+/// Writes the bytes that an iterator gives at the end of a buffer. A refused call may leave some.
 fn write_bytes_of<I: IntoIterator<Item = u8>>(
     buffer: &mut Buffer,
     value: I,
@@ -98,8 +98,8 @@ fn write_bytes_of<I: IntoIterator<Item = u8>>(
     Ok(())
 }
 
-/// Makes an encoding of the string that stands in a buffer from a place on: puts its header before
-/// it, where it isn't its own encoding.
+/// Turns the bytes from a place on into the encoding of their string. If the string isn't its own
+/// encoding, it inserts the header.
 fn write_header_before(buffer: &mut Buffer, start: usize) -> Result<(), AllocError>
     requires { start ≤ length buffer.old.items }
     ensures ok { OnOk result (buffer.new.items
@@ -117,8 +117,8 @@ fn write_header_before(buffer: &mut Buffer, start: usize) -> Result<(), AllocErr
     Ok(())
 }
 
-/// Writes the encoding of the string that an iterator gives at the end of a buffer. The bytes are
-/// written as they come, and make place for the header of as many as came.
+/// Writes the encoding of the string that an iterator gives at the end of a buffer. It writes the
+/// bytes as they come, and then inserts the header for their number.
 pub fn write_string_of<I: IntoIterator<Item = u8>>(
     buffer: &mut Buffer,
     value: I,
@@ -141,7 +141,7 @@ pub fn write_string_of<I: IntoIterator<Item = u8>>(
     }
 }
 
-/// The same, where what is refused may leave some of the bytes.
+/// The same as [`write_string_of`], but a refused call may leave some of the bytes.
 fn write_parts_of<I: IntoIterator<Item = u8>>(
     buffer: &mut Buffer,
     value: I,

@@ -9,11 +9,11 @@ is_low_byte [] = false
 is_low_byte (byte ∷ []) = nat_lt byte 0x80
 is_low_byte (byte ∷ next ∷ rest) = false
 
--- one byte below 0x80 stands for itself; any other string has a header
+-- one byte below 0x80 is its own encoding; any other string has a header
 abbrev pub string_encoding : List ℕ → List ℕ
 string_encoding s = if is_low_byte s then s else written_header 0x80 (length s) ++ s
 
--- The encoding of an item: that of a string, or a header and the joined encodings of a list's items.
+-- The encoding of an item: the encoding of a string, or a header and the joined encodings of a list's items.
 unfoldable mutual
   pub encoding : Item → List ℕ
   encoding (string s) = string_encoding s
@@ -28,10 +28,10 @@ unfoldable mutual
 abbrev pub join : List Item → List ℕ
 join xs = flat_map encoding xs
 
--- an item whose encoding a slice can hold
+-- a slice can hold the item's encoding
 abbrev pub IsSized : Item → Type 0
 IsSized x = length (encoding x) < 2 ^ 64
 
--- the list b begins with s
+-- the bytes b begin with s
 abbrev pub BeginsWith : {A : Type 0} → List A → List A → Type 0
 BeginsWith {A} b s = (rest : List A) × (b ≡ s ++ rest)

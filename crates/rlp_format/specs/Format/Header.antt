@@ -1,4 +1,4 @@
--- Which header stands at the front of bytes, and why none does.
+-- The header that bytes begin with, and why they begin with none.
 use Rattle.std.specs.Prelude.{ℕ, ◌≡◌, ◌+◌, ◌-◌, ◌^◌, ◌<◌, Bool, ◌&&◌, if◌then◌else◌, ◌==◌, nat_lt, nat_le, List, [], ◌∷◌, ◌++◌, length, take, Result, Ok, Err, MatchResult}
 use Rattle.std.specs.Int.Digits.{number_from_digits}
 use Rattle.rlp_format.specs.declared.error.DecoderError.{DecoderError}
@@ -6,24 +6,24 @@ use Rattle.rlp_format.specs.declared.error.DecoderError.TheVariants.{RlpIsTooSho
 use Rattle.rlp_format.specs.declared.header.PayloadInfo.{PayloadInfo}
 use Rattle.rlp_format.specs.Format.WrittenHeader.{written_header, IsBase}
 
--- `HasHeader b h n`: at the front of b stands a header of h bytes, which says that n bytes of value follow it. A byte below 0x80 is its own value, with no header.
+-- `HasHeader b h n`: b begins with a header of h bytes, which announces n bytes of value. A byte below 0x80 is its own value, with a header of 0 bytes.
 pub data HasHeader : List ℕ → ℕ → ℕ → Type 0 where
   lone : (byte : ℕ) (rest : List ℕ) → byte < 0x80 → HasHeader (byte ∷ rest) 0 1
   written : (base n : ℕ) (rest : List ℕ) → IsBase base → n < 2 ^ 64 → HasHeader (written_header base n ++ rest) (length (written_header base n)) n
 
--- no header stands at the front of b
+-- b begins with no header
 abbrev pub HasNoHeader : List ℕ → Type 0
 HasNoHeader b = (h n : ℕ) → ¬ HasHeader b h n
 
--- how many bytes of length a first byte announces
+-- the number of length bytes that a first byte announces
 abbrev pub announced : ℕ → ℕ
 announced first = if nat_lt first 0xc0 then first - 0xb7 else first - 0xf7
 
--- whether n is one of low to high
+-- whether n is between low and high, or one of them
 abbrev pub is_within : ℕ → ℕ → ℕ → Bool
 is_within low high n = nat_le low n && nat_le n high
 
--- Why no header stands at the front: the first of these that applies. It says nothing of bytes that have a header.
+-- Why bytes begin with no header: the first of these that applies. Nothing is said of bytes that have a header.
 abbrev pub header_fault : List ℕ → DecoderError
 header_fault [] = RlpIsTooShort
 header_fault (first ∷ []) = RlpIsTooShort
@@ -33,17 +33,17 @@ header_fault (first ∷ second ∷ rest) =
     else if nat_lt (length (second ∷ rest)) (announced first) then RlpIsTooShort
     else RlpInvalidIndirection
 
--- the right answer for b: the lengths of its header and value, or, where it has no header, the fault
+-- the right answer for b: the lengths of its header and value, or the fault if it has no header
 abbrev pub ReadsHeader : List ℕ → Result PayloadInfo DecoderError → Type 0
 ReadsHeader b answer = MatchResult answer (λ p. HasHeader b p.header_len p.value_len) (λ e. HasNoHeader b × (e ≡ header_fault b))
 
 -- ---- the same, computed by the first byte. The law `header_is_read` says that it gives the one header of `HasHeader`, or `header_fault`.
 
--- a header of h bytes, before a value of n bytes
+-- a header of h bytes and a value of n bytes
 abbrev pub payload_info : ℕ → ℕ → PayloadInfo
 payload_info h n = record { header_len = h; value_len = n }
 
--- the header of a first byte that announces k bytes of length, which the bytes after it begin with
+-- the header of a first byte that announces k length bytes; the bytes after it begin with these
 abbrev pub long_header : DecoderError → ℕ → List ℕ → Result PayloadInfo DecoderError
 long_header zero_fault k [] = Err RlpIsTooShort
 long_header zero_fault k (second ∷ rest) =
@@ -52,7 +52,7 @@ long_header zero_fault k (second ∷ rest) =
     else if nat_le (number_from_digits 256 (take k (second ∷ rest))) 55 then Err RlpInvalidIndirection
     else Ok (payload_info (1 + k) (number_from_digits 256 (take k (second ∷ rest))))
 
--- the lengths of the header and the value at the front of b, or why no header stands there
+-- the lengths of the header that b begins with and of its value, or why there is no header
 unfoldable pub header : List ℕ → Result PayloadInfo DecoderError
 header [] = Err RlpIsTooShort
 header (first ∷ rest) =

@@ -1,7 +1,7 @@
 -- What is encoded: a byte string, or a list of items.
 use Rattle.std.specs.Prelude.{ℕ, suc, max, List, [], ◌∷◌}
 
--- An item is a byte string or a list of items. A type can't hold itself inside `List`, so a list holds its items as `Items`, and `list_of` makes one of a `List Item`.
+-- An item is a byte string or a list of items. A type can't hold itself inside `List`, so a list holds `Items`. `list_of` makes a list of a `List Item`.
 mutual
   pub data Item : Type 0 where
     string : List ℕ → Item
@@ -11,21 +11,21 @@ mutual
     no_items : Items
     item_and : Item → Items → Items
 
--- a list of items, as an item holds it
+-- the items inside an item
 abbrev pub items_from : List Item → Items
 items_from [] = no_items
 items_from (x ∷ xs) = item_and x (items_from xs)
 
--- the items that an item holds, as a list
+-- the items inside an item, as a `List Item`
 abbrev pub listed : Items → List Item
 listed no_items = []
 listed (item_and x xs) = x ∷ listed xs
 
--- the list of these items, which is an item itself
+-- the item that is the list of these items
 abbrev pub list_of : List Item → Item
 list_of xs = list (items_from xs)
 
--- How deep lists nest: a string has depth 0, and a list 1 more than the deepest of its items, or 1 with no items.
+-- How deep lists nest. A string has depth 0. A list has a depth of 1 more than the deepest of its items, or 1 without items.
 abbrev mutual
   pub item_depth : Item → ℕ
   item_depth (string s) = 0

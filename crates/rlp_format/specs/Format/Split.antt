@@ -17,26 +17,27 @@ pub record IsSplit (p : List ℕ) (fs : List (List ℕ)) : Type 0 where
 
 -- ---- the same, computed
 
--- the frame at the front of p, and what more gives of the bytes after it
+-- the first frame of p, and then what `more` gives for the bytes after it
 abbrev pub frame_and_more : (List ℕ → List (List ℕ)) → List ℕ → Result (List ℕ) DecoderError → List (List ℕ)
 frame_and_more more p (Err e) = []
 frame_and_more more p (Ok f) = f ∷ more (drop (length f) p)
 
--- the first framed items of p, as many as the number allows
+-- the first framed items of p, at most this number of them
 abbrev pub split_within : ℕ → List ℕ → List (List ℕ)
 split_within zero p = []
 split_within (suc turns) p = frame_and_more (split_within turns) p (frame p)
 
--- The longest list of framed items that begins p: the law `split_is_longest` says that this is the one list that `IsSplit` allows. An item has a byte at least, so there are no more items than bytes.
+-- The longest list of framed items that begins p. The law `split_is_longest` says that only this list is `IsSplit`. Each item has a byte, so there are no more
+-- items than bytes.
 unfoldable pub split : List ℕ → List (List ℕ)
 split p = split_within (length p) p
 
--- whether the first byte is one of a list
+-- whether the first byte begins a list
 abbrev pub begins_as_list : List ℕ → Bool
 begins_as_list [] = false
 begins_as_list (first ∷ rest) = nat_le 0xc0 first
 
--- the value where there is one and the bytes are a list's
+-- the value, if there is one and the bytes begin a list
 abbrev pub payload_in : Bool → Result (List ℕ) DecoderError → List ℕ
 payload_in true (Ok v) = v
 payload_in true (Err e) = []

@@ -1,4 +1,4 @@
--- Bytes that are one item and nothing else.
+-- Bytes that are exactly one item.
 use Rattle.std.specs.Prelude.{ℕ, ◌≡◌, ◌≤◌, Bool, false, if◌then◌else◌, nat_lt, List, [], ◌∷◌, length, drop, Option, Some, None, Result, Ok, Err}
 use Rattle.std.specs.List.{concat}
 use Rattle.rlp_format.specs.declared.error.DecoderError.{DecoderError}
@@ -32,25 +32,25 @@ abbrev pub strict_fault_in : List ℕ → Result PayloadInfo DecoderError → Op
 strict_fault_in b (Err e) = Some e
 strict_fault_in b (Ok p) = if nat_lt (total_len p) (length b) then Some RlpIsTooBig else None
 
--- The strict fault: why b isn't framed, and else that bytes follow the framed item. A framed item has none.
+-- The strict fault: why b isn't framed, or else that bytes follow the framed item. Exactly one framed item has no strict fault.
 unfoldable pub strict_fault : List ℕ → Option DecoderError
 strict_fault b = strict_fault_in b (framing b)
 
--- whether bytes follow those that the framing of b says
+-- whether b is longer than its header and value
 abbrev pub is_longer : List ℕ → Result PayloadInfo DecoderError → Bool
 is_longer b (Err e) = false
 is_longer b (Ok p) = nat_lt (total_len p) (length b)
 
--- whether bytes follow the framed item at the front of b
+-- whether bytes follow the framed item that b begins with
 unfoldable pub is_followed : List ℕ → Bool
 is_followed b = is_longer b (framing b)
 
--- why bytes are no item, where there are any
+-- why bytes aren't an item, if there are any
 abbrev pub fault_of_some : List ℕ → Option DecoderError
 fault_of_some [] = None
 fault_of_some (byte ∷ more) = Some (fault (byte ∷ more))
 
--- Why b isn't a list and nothing else, in order: it begins as no list, it has a strict fault, or bytes follow the items in it that are no item.
+-- Why b isn't exactly one list. The first that applies: it doesn't begin as a list, it has a strict fault, bytes that aren't an item follow the items in it.
 unfoldable pub strict_list_fault : List ℕ → Option DecoderError
 strict_list_fault b = if begins_as_list b then first_fault (strict_fault b) (fault_of_some (rest b)) else Some RlpExpectedToBeList
 

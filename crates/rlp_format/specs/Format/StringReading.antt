@@ -1,4 +1,4 @@
--- How one string is read from the front of bytes.
+-- How the string is read that bytes begin with.
 use Rattle.std.specs.Prelude.{ℕ, ◌≡◌, ◌+◌, ◌-◌, ◌^◌, if◌then◌else◌, ◌==◌, nat_lt, nat_le, List, [], ◌∷◌, length, take, drop, slice_index, Result, Ok, Err, MatchResult}
 use Rattle.std.specs.Int.Digits.{number_from_digits}
 use Rattle.rlp_format.specs.declared.error.DecoderError.{DecoderError}
@@ -10,15 +10,16 @@ use Rattle.rlp_format.specs.Format.Encoding.{encoding, BeginsWith, is_low_byte}
 abbrev pub IsString : List ℕ → List ℕ → Type 0
 IsString b d = BeginsWith b (encoding (string d))
 
--- no string's encoding stands at the front of b
+-- b begins with no string's encoding
 abbrev pub HasNoString : List ℕ → Type 0
 HasNoString b = (d : List ℕ) → ¬ IsString b d
 
--- why no string stands after a first byte that announces n bytes, at most 55: they aren't all there, or a single byte below 0x80 would stand for itself
+-- why there is no string after a first byte that announces n bytes, at most 55: they aren't all there, or are one byte below 0x80, which has no header
 abbrev pub short_string_fault : ℕ → List ℕ → DecoderError
 short_string_fault n rest = if nat_lt (length rest) n then RlpInconsistentLengthAndData else RlpInvalidIndirection
 
--- why no string of n bytes stands after k bytes of length: a length up to 55 belongs in the first byte, header and string have to be fewer than 2^64 bytes, and the n bytes aren't all there
+-- why no string of n bytes stands after k bytes of length: a length up to 55 belongs in the first byte, header and string have to be fewer than 2^64 bytes, and
+-- the n bytes aren't all there
 abbrev pub long_value_fault : ℕ → ℕ → DecoderError
 long_value_fault k n =
     if nat_le n 55 then RlpInvalidIndirection
@@ -32,7 +33,7 @@ long_string_fault k rest =
     else if slice_index rest 0 == 0 then RlpInvalidIndirection
     else long_value_fault k (number_from_digits 256 (take k rest))
 
--- Why no string stands at the front of b: the first case that applies. It says nothing of bytes that begin with a string.
+-- Why b begins with no string: the first case that applies. Nothing is said of bytes that begin with a string.
 abbrev pub string_fault : List ℕ → DecoderError
 string_fault [] = RlpIsTooShort
 string_fault (first ∷ rest) =
@@ -40,20 +41,21 @@ string_fault (first ∷ rest) =
     else if nat_lt first 0xc0 then long_string_fault (first - 0xb7) rest
     else RlpExpectedToBeData
 
--- the right answer for b: the string at its front, or, where none stands there, the fault
+-- the right answer for b: the string that it begins with, or the fault if there is none
 abbrev pub ReadsString : List ℕ → Result (List ℕ) DecoderError → Type 0
 ReadsString b answer = MatchResult answer (λ d. IsString b d) (λ e. HasNoString b × (e ≡ string_fault b))
 
 -- ---- the same, computed by the first byte. The law `string_is_read` says that the strings are those of `IsString`, and the faults `string_fault`.
 
--- After a first byte that announces n bytes, at most 55: they have to be there, and a single byte below 0x80 would stand for itself.
+-- After a first byte that announces n bytes, at most 55: all have to be there, and one byte below 0x80 must not have a header.
 abbrev pub short_string : ℕ → List ℕ → Result (List ℕ) DecoderError
 short_string n rest =
     if nat_lt (length rest) n then Err RlpInconsistentLengthAndData
     else if is_low_byte (take n rest) then Err RlpInvalidIndirection
     else Ok (take n rest)
 
--- After k bytes of length that say n: a length up to 55 belongs in the first byte, header and string have to be fewer than 2^64 bytes, and the n bytes have to be there.
+-- After k bytes of length that say n: a length up to 55 belongs in the first byte, header and string have to be fewer than 2^64 bytes, and the n bytes have to
+-- be there.
 abbrev pub long_value : ℕ → ℕ → List ℕ → Result (List ℕ) DecoderError
 long_value k n rest =
     if nat_le n 55 then Err RlpInvalidIndirection
@@ -61,14 +63,15 @@ long_value k n rest =
     else if nat_lt (length rest) n then Err RlpInconsistentLengthAndData
     else Ok (take n rest)
 
--- After a first byte that announces k bytes of length: they have to be there, and the first isn't zero.
+-- After a first byte that announces k length bytes: all have to be there, and the first isn't zero.
 abbrev pub long_string : ℕ → List ℕ → Result (List ℕ) DecoderError
 long_string k rest =
     if nat_lt (length rest) k then Err RlpInconsistentLengthAndData
     else if slice_index rest 0 == 0 then Err RlpInvalidIndirection
     else long_value k (number_from_digits 256 (take k rest)) (drop k rest)
 
--- The string at the front of b, or why none stands there: a byte below 0x80 is its own string, one below 0xb8 announces the string's length, one below 0xc0 how many bytes the length has, and the others begin a list.
+-- The string at the front of b, or why none stands there: a byte below 0x80 is its own string, one below 0xb8 announces the string's length, one below 0xc0 how
+-- many bytes the length has, and the others begin a list.
 unfoldable pub read_string : List ℕ → Result (List ℕ) DecoderError
 read_string [] = Err RlpIsTooShort
 read_string (first ∷ rest) =

@@ -12,15 +12,15 @@ abbrev pub bit : Bool → ℕ
 bit false = 0
 bit true = 1
 
--- no value is the list of no items, and a value the list of its item alone
+-- `None` is the list of no items, and `Some` the list with only the value's item
 abbrev pub option_item : {A : Type 0} → (A → Item) → Option A → Item
 option_item item None = list_of []
 option_item item (Some x) = list_of (item x ∷ [])
 
--- n is a number of that many bytes. In definitions and laws a number has no greatest value, so each type says which ones it has.
+-- n has at most that number of bytes. In definitions and laws numbers have no greatest value, so each type says which ones fit.
 abbrev pub FitsBytes : ℕ → ℕ → Type 0
 FitsBytes width n = n < 2 ^ (8 * width)
 
--- two values of a type are alike if their items are equal, by what the type calls the item of a value
+-- two values of a type are alike if their items are equal; the type says which item a value is
 abbrev pub AreAlike : {T : Type 0} → (T → Item) → T → T → Type 0
 AreAlike item v w = item v ≡ item w

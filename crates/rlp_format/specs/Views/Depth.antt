@@ -15,7 +15,7 @@ framed_depth depth_of b is_list (Err e) = 0
 framed_depth depth_of b false (Ok v) = 0
 framed_depth depth_of b true (Ok v) = suc (greatest (map depth_of (items b)))
 
--- the depth of b, where depth_of gives the depths of its items
+-- the depth of b, if depth_of gives the depths of its items
 abbrev pub depth_by : (List ℕ → ℕ) → List ℕ → ℕ
 depth_by depth_of b = framed_depth depth_of b (begins_as_list b) (value b)
 

@@ -6,7 +6,7 @@ use Rattle.rlp_format.specs.Format.Framing.{value}
 use Rattle.rlp_format.specs.Format.Split.{begins_as_list, items}
 use Rattle.rlp_format.specs.Views.ByItems.{by_items}
 
--- what an error prints: its name, and of `Custom` the text too
+-- what an error prints: its name, and for `Custom` also the text
 abbrev pub error_name : DecoderError → List ℕ
 error_name RlpIsTooBig = codes "RlpIsTooBig"
 error_name RlpIsTooShort = codes "RlpIsTooShort"
@@ -29,7 +29,7 @@ hex_digit d = if nat_lt d 10 then 48 + d else 87 + d
 abbrev pub hex_pair : ℕ → List ℕ
 hex_pair byte = hex_digit (byte / 16) ∷ hex_digit (byte % 16) ∷ []
 
--- bytes as digits, two a byte
+-- bytes as digits, two for each
 abbrev pub hex : List ℕ → List ℕ
 hex bytes = flat_map hex_pair bytes
 
@@ -39,13 +39,14 @@ separated [] = []
 separated (t ∷ []) = t
 separated (t ∷ u ∷ ts) = t ++ codes ", " ++ separated (u ∷ ts)
 
--- The text of b, by its value: a string is its digits, and a list the texts of its items; `text_of` gives those. Where b has no value, the name of the fault.
+-- The text of b, by its value. For a string it has the digits, for a list the texts of its items, which `text_of` gives. If b has no value, it is the fault's
+-- name.
 abbrev pub framed_text : (List ℕ → List ℕ) → List ℕ → Bool → Result (List ℕ) DecoderError → List ℕ
 framed_text text_of b is_list (Err e) = error_name e
 framed_text text_of b false (Ok v) = codes "\"0x" ++ hex v ++ codes "\""
 framed_text text_of b true (Ok v) = codes "[" ++ separated (map text_of (items b)) ++ codes "]"
 
--- the text of b, where text_of gives the texts of its items
+-- the text of b, if text_of gives the texts of its items
 abbrev pub text_by : (List ℕ → List ℕ) → List ℕ → List ℕ
 text_by text_of [] = codes "null"
 text_by text_of (first ∷ more) = framed_text text_of (first ∷ more) (begins_as_list (first ∷ more)) (value (first ∷ more))

@@ -1,4 +1,4 @@
--- What contracts see of a view, and what a view of bytes answers.
+-- What contracts see of a view, and the results of its methods.
 use Rattle.std.specs.Prelude.{ℕ, ◌≡◌, ◌≤◌, ◌↔◌, ◌+◌, ◌-◌, Bool, IsTrue, IsNone, true, false, Option, Some, None, ◌||◌, ◌==◌, if◌then◌else◌, nat_lt, nat_le, List, [], ◌∷◌, length, take, map, slice_index_or, Result, Ok, Err}
 use Rattle.std.specs.List.{concat}
 use Rattle.std.specs.Iterator.{YieldsFirst}
@@ -14,7 +14,7 @@ use Rattle.rlp_format.specs.Format.Split.{begins_as_list, items, rest}
 use Rattle.rlp_format.specs.Format.StringReading.{read_string}
 use Rattle.rlp_format.specs.Format.Strict.{strict_fault, strict_list_fault, unless, whole_string}
 
--- A view is of these bytes, and is lenient or strict.
+-- A view has these bytes, and is lenient or strict.
 pub record View : Type 0 where
   pub bytes : List ℕ
   pub is_strict : Bool
@@ -31,19 +31,19 @@ strict_view_of b = record { bytes = b; is_strict = true }
 abbrev pub frame_fault : View → Option DecoderError
 frame_fault v = if v.is_strict then strict_fault v.bytes else None
 
--- the lengths of the header and the value at the front of a view, or why they don't lie within it; of a strict view, why they aren't all of it
+-- the lengths of the header and the value that a view begins with, or why they don't lie within it; for a strict view, why they aren't all of it
 abbrev pub view_header : View → Result PayloadInfo DecoderError
 view_header v = unless (frame_fault v) (framing v.bytes)
 
--- the value alone
+-- only the value
 abbrev pub view_value : View → Result (List ℕ) DecoderError
 view_value v = unless (frame_fault v) (value v.bytes)
 
--- the string at the front of a view, or why none stands there; of a strict view, nothing follows it
+-- the string that a view begins with, or why there is none; in a strict view nothing follows it
 abbrev pub view_string : View → Result (List ℕ) DecoderError
 view_string v = if v.is_strict then whole_string v.bytes (read_string v.bytes) else read_string v.bytes
 
--- the bytes s stand at the front of b, or, read strictly, are all of b
+-- b begins with the bytes s, or, read strictly, is s
 abbrev pub Holds : Bool → List ℕ → List ℕ → Type 0
 Holds false b s = BeginsWith b s
 Holds true b s = b ≡ s
@@ -52,7 +52,7 @@ Holds true b s = b ≡ s
 abbrev pub HoldsItem : View → Item → Type 0
 HoldsItem v x = Holds v.is_strict v.bytes (encoding x)
 
--- the same of a string
+-- the same for a string
 abbrev pub HoldsString : View → List ℕ → Type 0
 HoldsString v d = HoldsItem v (string d)
 
@@ -60,7 +60,8 @@ HoldsString v d = HoldsItem v (string d)
 abbrev pub HoldsNoString : View → Type 0
 HoldsNoString v = (d : List ℕ) → ¬ HoldsString v d
 
--- Why a view isn't read as a list, for a reason apart from its items. No lenient view has such a fault: bytes that are no framed list are read as one of no items, and what follows the items in a list is never looked at.
+-- Why a view can't be read as a list, apart from faults of items. A lenient view has no such fault:
+-- bytes that aren't a framed list are read as a list of no items, and what follows the items in a list is ignored.
 abbrev pub list_fault : View → Option DecoderError
 list_fault v = if v.is_strict then strict_list_fault v.bytes else None
 
@@ -68,18 +69,20 @@ list_fault v = if v.is_strict then strict_list_fault v.bytes else None
 abbrev pub item_views : View → List View
 item_views v = map (λ b. record v { bytes = b }) (items v.bytes)
 
--- What a reader of items has still to read, and how many headers it has read.
+-- The bytes that a reader of items has left, and how many headers it has read.
 pub record Reading : Type 0 where
   pub rest : List ℕ
   pub headers : ℕ
 
--- What an iterator has still to give, in order; how many headers were read by its `next` and by the call that made it; and whether it has ended, so that it gives nothing and reads nothing more.
+-- The items that an iterator has left, in order; how many headers its `next` and the call that made it have read; and whether it has ended.
+-- An ended iterator gives nothing and reads nothing.
 pub record Remaining : Type 0 where
   pub left : List View
   pub headers : ℕ
   pub has_ended : Bool
 
--- What a call of `next` makes of an iterator. It gives the first item left, or nothing where none is left. It reads one header at most, and none once the iterator has ended, which it has where nothing was given.
+-- What a call of `next` does. It gives the first item that is left, or nothing if none is left. It reads at most one header.
+-- Once it gave nothing the iterator has ended, and reads no header.
 pub record IsStep (old : Remaining) (given : Option View) (new : Remaining) : Type 0 where
   pub steps : YieldsFirst (λ (i : Remaining). i.left) old given new
   pub headers : new.headers ≤ old.headers + 1
@@ -91,16 +94,17 @@ abbrev pub begins_as_empty : List ℕ → Bool
 begins_as_empty [] = false
 begins_as_empty (first ∷ rest) = (first == 0x80) || (first == 0xc0)
 
--- whether the first byte is one of a string
+-- whether the first byte begins a string
 abbrev pub begins_as_data : List ℕ → Bool
 begins_as_data [] = false
 begins_as_data (first ∷ rest) = nat_lt first 0xc0
 
--- whether a byte stands at place i that isn't zero
+-- whether there is a byte at place i, and it isn't zero
 abbrev pub has_nonzero_at : ℕ → List ℕ → Bool
 has_nonzero_at i b = nat_lt 0 (slice_index_or b i 0)
 
--- Whether the bytes begin as a number does: one byte up to 0x80, or a string whose first byte is there and isn't zero. It is sought after the one byte of a short header, and after the length bytes of a long one.
+-- Whether the bytes begin as a number does: one byte up to 0x80, or a string whose first byte is there and isn't zero.
+-- That byte is after the one byte of a short header, or after the length bytes of a long one.
 abbrev pub begins_as_int : List ℕ → Bool
 begins_as_int [] = false
 begins_as_int (first ∷ rest) =
@@ -111,15 +115,15 @@ begins_as_int (first ∷ rest) =
 
 -- ---- the items of a view, by number and by place
 
--- why items aren't told by number: only bytes that begin as a list have a number of them
+-- why a view has no items by number: only bytes that begin as a list have items
 abbrev pub items_fault : View → Option DecoderError
 items_fault v = if begins_as_list v.bytes then list_fault v else Some RlpExpectedToBeList
 
--- how many items
+-- the number of items
 unfoldable pub item_count : View → Result ℕ DecoderError
 item_count v = unless (items_fault v) (Ok (length (items v.bytes)))
 
--- Item i and its place, counted from the view's first byte, where the list's header has h bytes. Past the last item it is the fault of what follows the items.
+-- Item i and its place, counted from the view's first byte, if the list's header has h bytes. Past the last item, the fault of what follows the items.
 abbrev pub item_after : View → ℕ → ℕ → Result (View × ℕ) DecoderError
 item_after v i h =
     if nat_lt i (length (items v.bytes)) then Ok (record v { bytes = slice_index_or (items v.bytes) i [] }, h + length (concat (take i (items v.bytes))))
@@ -130,7 +134,7 @@ abbrev pub item_by : View → ℕ → Result PayloadInfo DecoderError → Result
 item_by v i (Err e) = Err e
 item_by v i (Ok p) = item_after v i p.header_len
 
--- Item i and its place: first the bytes must begin as a list, then they must be framed. A strict view must be a list and nothing else.
+-- Item i and its place. First the bytes must begin as a list, then they must be framed. A strict view must be exactly one list.
 unfoldable pub item_with_place : View → ℕ → Result (View × ℕ) DecoderError
 item_with_place v i = unless (items_fault v) (item_by v i (framing v.bytes))
 
@@ -147,7 +151,7 @@ value_length (Err e) = 0
 abbrev pub data_size : List ℕ → ℕ
 data_size b = if begins_as_data b then value_length (value b) else 0
 
--- what stands at the front: no bytes, a string with its length, or a list with the number of its items
+-- what bytes begin with: no bytes, a string with its length, or a list with its number of items
 abbrev pub prototype_of : List ℕ → Prototype
 prototype_of [] = prototype.Null
 prototype_of (first ∷ more) = if begins_as_list (first ∷ more) then prototype.List (length (items (first ∷ more))) else prototype.Data (data_size (first ∷ more))

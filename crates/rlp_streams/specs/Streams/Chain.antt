@@ -1,11 +1,11 @@
--- What is shared by the calls that give the stream back for the next call.
+-- What the calls share that return the stream for the next call.
 use Rattle.std.specs.Prelude.{◌≡◌, ◌≤◌, ◌+◌, Result, IfOk}
 use Rattle.std.specs.Borrow.{Fml, MutBor, RestsIfErr}
 use Rattle.rlp_streams.specs.contracts.stream.RlpStream.{the_row}
 use Rattle.rlp_streams.specs.declared.stream.chain.Chain.{Chain}
 use Rattle.rlp_buffer.specs.Streams.Stream.{State, Seen, IsAsBefore, Retains, closed_size}
 
--- after a refusal the stream is in the state in which the call found it, its mark included, and gave nothing up; otherwise the chain holds it
+-- after a refusal the stream has the state from before the call, including the mark, and gave nothing up; otherwise the chain holds it
 abbrev pub stays_if_refused : {E : Type 0} → MutBor Seen → Result Chain E → Fml
 stays_if_refused stream r = RestsIfErr the_row stream (λ c. c.stream.ghost_name) r (λ last. (last.state ≡ stream.now.state) × Retains stream.now last)
 
@@ -17,14 +17,14 @@ rests_if_refused stream r = RestsIfErr the_row stream (λ c. c.stream.ghost_name
 abbrev pub HoldsStream : {E : Type 0} → MutBor Seen → Result Chain E → Type 0
 HoldsStream stream r = IfOk r (λ c. c.stream.ghost_name ≡ stream.ghost_name)
 
--- the stream that the chain holds is in this state
+-- the stream that the chain holds has this state
 abbrev pub LeavesState : {E : Type 0} → Result Chain E → State → Type 0
 LeavesState r state = IfOk r (λ c. c.stream.now.state ≡ state)
 
--- the stream that the chain holds gave up no room and nothing of what was counted
+-- the stream that the chain holds gave up no room, and its count of moved bytes didn't fall
 abbrev pub RetainsInChain : {E : Type 0} → Seen → Result Chain E → Type 0
 RetainsInChain old r = IfOk r (λ c. Retains old c.stream.now)
 
--- closings moved at most as many payload bytes as there are in the end
+-- closings moved at most the final closed size in payload bytes
 abbrev pub MovesWithin : {E : Type 0} → Seen → Result Chain E → Type 0
 MovesWithin old r = IfOk r (λ c. c.stream.now.moved ≤ old.moved + closed_size c.stream.now.state)

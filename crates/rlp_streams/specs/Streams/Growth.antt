@@ -1,9 +1,9 @@
--- What a call that was refused may leave of a stream: the old bytes and the old open lists, and perhaps more.
+-- What a refused call may leave of a stream: the old bytes and the old open lists, and perhaps more.
 use Rattle.std.specs.Prelude.{ℕ, ◌≡◌, List, [], ◌∷◌, ◌++◌}
 use Rattle.rlp_buffer.specs.Streams.Stack.{OpenList}
 use Rattle.rlp_buffer.specs.Streams.Stream.{State}
 
--- the same open lists, but for what the innermost awaits
+-- the same open lists, except for the number of items that the innermost awaits
 abbrev pub AreSameAround : List (OpenList ℕ) → List (OpenList ℕ) → Type 0
 AreSameAround [] [] = Unit
 AreSameAround [] (m ∷ ms) = ⊥
@@ -15,7 +15,8 @@ pub data Stands (payload : List ℕ) (lists : List (OpenList ℕ)) : List ℕ �
   here : (more : List ℕ) (same_lists : List (OpenList ℕ)) → AreSameAround lists same_lists → Stands payload lists (payload ++ more) same_lists
   within : (inner : List ℕ) (l : OpenList ℕ) (ls : List (OpenList ℕ)) → Stands payload lists l.outer ls → Stands payload lists inner (l ∷ ls)
 
--- The old state grows to the new one: the front stays, and so do the open lists, perhaps with further ones inside. Every payload but the innermost stays, and that one begins what stands in its place. What the innermost list awaits and the mark are open.
+-- The old state grows to the new one. The front stays, and so do the open lists, perhaps with further lists inside. Every payload but the innermost stays, and
+-- that one begins the payload in its place. The number of items that the innermost list awaits and the mark may be any.
 pub record GrowsTo (old new : State) : Type 0 where
   pub front : new.front ≡ old.front
   pub stands : Stands old.stack.inner old.stack.lists new.stack.inner new.stack.lists

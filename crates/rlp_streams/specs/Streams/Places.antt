@@ -1,4 +1,4 @@
--- Where a stream stands: what a call that may be refused on its way notes before it begins.
+-- The place of a stream: what a call that may be refused on its way notes before it begins.
 use Rattle.std.specs.Prelude.{ℕ, ◌≡◌, List, length, reverse}
 use Rattle.rlp_buffer.specs.declared.open_lists.Placeholder.{Placeholder}
 use Rattle.rlp_buffer.specs.declared.rewinding.Place.{Place}
@@ -6,7 +6,7 @@ use Rattle.rlp_buffer.specs.Streams.Stream.{State}
 use Rattle.rlp_buffer.specs.Streams.Placeholders.{IsLaid, innermost_awaits}
 use Rattle.rlp_buffer.specs.Streams.Layout.{state_of}
 
--- The place of a stream in this state: how long its bytes are, how many lists are open, what the innermost of them awaits, and its mark.
+-- The place of a stream in this state: its number of bytes, its number of open lists, the number of items that the innermost awaits, and its mark.
 pub record IsPlaceOf (place : Place) (s : State) : Type 0 where
   pub start : ℕ
   pub bytes : List ℕ

@@ -13,7 +13,7 @@ use crate::stream::RlpStream;
 use crate::traits::Encodable;
 use std::alloc::AllocError;
 
-/// A stream after a call that wasn't refused: call on, or go on with the stream that it lends.
+/// A stream after a call that wasn't refused. Make the next call on the chain, or on its `stream`.
 ///
 /// ```rust
 /// let mut s = rlp::RlpStream::new(alloc)?;
@@ -24,7 +24,7 @@ use std::alloc::AllocError;
 /// ```
 #[derive(Drop)]
 pub struct Chain<'a> {
-    /// The stream, lent for as long as the first call of the chain borrowed it.
+    /// The stream, borrowed as long as by the first call of the chain.
     pub stream: &'a mut RlpStream,
 }
 

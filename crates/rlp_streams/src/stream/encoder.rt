@@ -1,4 +1,4 @@
-//! Strings that are written uncounted.
+//! Strings that are written without being counted.
 
 ghost use Rattle.std.specs.Prelude.{◌≡◌, ◌<◌, ℕ, List, IsOk, OnOk, OnErr, length};
 ghost use Rattle.std.specs.Iterator.{IsFiniteIterable};
@@ -11,8 +11,8 @@ ghost use Rattle.rlp_buffer.specs.Streams.Iterated.{GivesAll};
 use crate::stream::RlpStream;
 use std::alloc::AllocError;
 
-/// A writer of strings into a stream that it borrows. What it writes isn't counted, and the mark
-/// stays. [`crate::Encodable::rlp_append`] of a type that is a string writes by it.
+/// A writer of strings into a stream that it borrows. It doesn't count the strings, and the mark
+/// stays. Use it in [`crate::Encodable::rlp_append`] of a type that is written as a string.
 ///
 /// ```rust
 /// let mut s = rlp::RlpStream::new_list(alloc, 1)?;
@@ -27,9 +27,9 @@ pub struct BasicEncoder<'a> {
 }
 
 impl BasicEncoder<'_> {
-    /// Puts the encoding of a string behind what stands in the innermost open list, or at the top.
-    /// `AllocError` where memory is refused, which it is only where the room was less than the
-    /// encoding; then nothing is written.
+    /// Puts the encoding of a string at the end of the innermost open list, or of the top. Fails
+    /// with `AllocError` if memory is refused, and then writes nothing. That happens only if the
+    /// room was less than the encoding.
     pub fn encode_value(&mut self, value: &[u8]) -> Result<(), AllocError>
         ensures same_reference { self.new.stream.ghost_name ≡ self.old.stream.ghost_name }
         ensures ok { OnOk result (self.new.stream.now.state
@@ -45,8 +45,8 @@ impl BasicEncoder<'_> {
         self.stream.put_string(value)
     }
 
-    /// The same for the string of the bytes that an iterator gives. They are written as they come,
-    /// and the header is made for as many as came. The iterator must end.
+    /// Puts the encoding of the string of the bytes that an iterator gives. It writes them as they
+    /// come, and then the header for their number. The iterator must end.
     pub fn encode_iter<I: IntoIterator<Item = u8>>(&mut self, value: I) -> Result<(), AllocError>
         requires { IsFiniteIterable I.into_iter_gives I.IntoIter.can_next I.IntoIter.remaining value }
         ensures same_reference { self.new.stream.ghost_name ≡ self.old.stream.ghost_name }

@@ -1,4 +1,4 @@
-//! The list of some values.
+//! Values that are written as one list.
 
 ghost use Rattle.std.specs.Prelude.{◌≡◌, [], map, All};
 ghost use Rattle.rlp_format.specs.Format.Item.{list_of};

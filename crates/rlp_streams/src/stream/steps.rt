@@ -1,4 +1,4 @@
-//! What the public calls of a stream are made of.
+//! The steps of a stream's public calls.
 
 ghost use Rattle.std.specs.Prelude.{◌≡◌, ◌≤◌, ◌<◌, ◌+◌, ◌*◌, ◌++◌, ℕ, List, [], IsTrue, IsOk, OnOk, OnErr, length, false};
 ghost use Rattle.std.specs.Iterator.{IsFiniteIterable};
@@ -21,8 +21,8 @@ use rlp_buffer::rewinding::{Place, place_of, rewind};
 use std::alloc::AllocError;
 
 impl RlpStream {
-    /// Whether the closed size with `add` bytes put is at most the limit already where the header of
-    /// each open list is as long as one can be. The lists aren't walked for it.
+    /// Whether the closed size with `add` bytes put is at most the limit even if each open list has
+    /// the longest header. It doesn't walk the lists.
     fn is_surely_within_size(&self, add: usize, limit: usize) -> bool
         ensures within { IsTrue result → closed_size_with add self.now.state ≤ limit }
         ensures sure { closed_size_with add self.now.state
@@ -36,8 +36,8 @@ impl RlpStream {
         }
     }
 
-    /// Whether the closed size with these bytes put is at most the limit. It is summed up, list by
-    /// list, only where a bound on it is too much.
+    /// Whether the closed size with these bytes put is at most the limit. It sums the size up, list
+    /// by list, only if an upper bound of it is above the limit.
     #[tactic(auto, using(rlp_buffer::proofs::Streams::States::within_size))]
     pub(super) fn is_within_size(&self, bytes: &[u8], limit: usize) -> bool
         ensures { result ≡ is_within_size bytes.now limit self.now.state }
@@ -51,7 +51,7 @@ impl RlpStream {
         }
     }
 
-    /// Puts the encoding of a string. It is refused only where the room was less.
+    /// Puts the encoding of a string. It is refused only if the room was less.
     #[tactic(auto, unfolding(rlp_buffer::specs::Streams::Stream::Retains))]
     pub(super) fn put_string(&mut self, value: &[u8]) -> Result<(), AllocError>
         ensures ok { OnOk result
@@ -107,7 +107,7 @@ impl RlpStream {
         }
     }
 
-    /// Opens a list that awaits `len` items, or writes that of no items.
+    /// Opens a list that awaits `len` items. A list of no items is written at once.
     #[tactic(auto, using(crate::proofs::Streams::Opened::opened), unfolding(rlp_buffer::specs::Streams::Stream::Retains))]
     pub(super) fn try_begin(&mut self, len: usize) -> Result<(), AllocError>
         ensures ok { OnOk result (self.new.state ≡ with_list_of len self.old.state) }
@@ -150,8 +150,8 @@ impl RlpStream {
         Ok(())
     }
 
-    /// Closes the innermost list, which is unbounded, and counts it in the list around it: the
-    /// list is closed as by the last item of a list that awaits one.
+    /// Closes the innermost list, which is unbounded, and counts it in the list around it. It does
+    /// what the last item does in a list that awaits one.
     #[tactic(auto, unfolding(rlp_buffer::specs::Streams::Stream::Retains))]
     pub(super) fn try_finalize(&mut self) -> Result<(), AllocError>
         requires { IsTrue (is_unbounded self.old.state.stack.lists) }
@@ -187,7 +187,7 @@ impl RlpStream {
         self.try_put_counted(&[], items)
     }
 
-    /// Puts a value and counts it, where the mark is false. What is refused may leave more.
+    /// Puts a value and counts it if the mark is false. A refused call may leave some bytes.
     #[tactic(auto, using(crate::proofs::Streams::Growth::grows_unmarked), unfolding(rlp_buffer::specs::Streams::Stream::Retains))]
     fn put_value<E: Encodable>(&mut self, value: &E) -> Result<(), AllocError>
         requires { self.old.state.mark ≡ false }
@@ -205,8 +205,8 @@ impl RlpStream {
         Ok(())
     }
 
-    /// Puts the string that an iterator gives and counts it, where the mark is false. What is
-    /// refused may leave more.
+    /// Puts the string that an iterator gives and counts it if the mark is false. A refused call
+    /// may leave some bytes.
     #[tactic(auto, using(crate::proofs::Streams::Growth::growth), unfolding(rlp_buffer::specs::Streams::Stream::Retains))]
     fn put_iter<I: IntoIterator<Item = u8>>(&mut self, value: I) -> Result<(), AllocError>
         requires unmarked { self.old.state.mark ≡ false }
@@ -221,14 +221,14 @@ impl RlpStream {
         self.try_count(1)
     }
 
-    /// The place at which the stream stands.
+    /// The current place of the stream, to go back to.
     fn place(&self) -> Place
         ensures { IsPlaceOf result self.now.state }
     {
         place_of(&self.buffer, &self.lists, self.mark)
     }
 
-    /// Goes back to a place from which the stream grew.
+    /// Goes back to a place. The stream must have grown from it.
     #[tactic(auto, unfolding(rlp_buffer::specs::Streams::Stream::Retains))]
     fn go_back(&mut self, place: Place)
         requires { (s : State) × IsPlaceOf place s × GrowsTo s self.old.state }
@@ -240,7 +240,7 @@ impl RlpStream {
         self.mark = place.mark;
     }
 
-    /// Appends a value, and goes back to where it began where that is refused.
+    /// Appends a value. If it is refused, goes back to the place before the call.
     #[tactic(auto, unfolding(rlp_buffer::specs::Streams::Stream::Retains))]
     pub(super) fn try_append<E: Encodable>(&mut self, value: &E) -> Result<(), AllocError>
         ensures fits { OnOk result (E.fits value.now) }
@@ -261,8 +261,8 @@ impl RlpStream {
         }
     }
 
-    /// Writes a value by its own `rlp_append`, and goes back to where it began where that is
-    /// refused.
+    /// Writes a value by its own `rlp_append`. If it is refused, goes back to the place before the
+    /// call.
     #[tactic(auto, unfolding(rlp_buffer::specs::Streams::Stream::Retains))]
     pub(super) fn try_append_internal<E: Encodable>(&mut self, value: &E) -> Result<(), AllocError>
         ensures fits { OnOk result (E.fits value.now) }
@@ -282,8 +282,8 @@ impl RlpStream {
         }
     }
 
-    /// Appends the string that an iterator gives, and goes back to where it began where that is
-    /// refused.
+    /// Appends the string that an iterator gives. If it is refused, goes back to the place before
+    /// the call.
     #[tactic(auto, unfolding(rlp_buffer::specs::Streams::Stream::Retains))]
     pub(super) fn try_append_iter<I: IntoIterator<Item = u8>>(
         &mut self,
