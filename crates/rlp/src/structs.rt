@@ -173,7 +173,7 @@ impl<F: DecodeField, Q: DecodeFields> DecodeFields for (F, Q) {
 ///
 /// `RlpIncorrectListLen` where the list has another number of items than there are fields. The other
 /// faults are those of [`Rlp::item_count`], and of the first field that has one.
-#[tactic(auto, using(crate::proofs::Values::FieldReading::whole_struct))]
+#[tactic(auto, using(crate::proofs::Values::FieldReading::whole_struct, crate::proofs::Views::InOrder::counted_fields))]
 pub fn decode_struct<F: DecodeFields>(alloc: Global, rlp: &Rlp<'_>) -> Result<F, DecoderError>
     ensures count { OnOk result (item_count rlp.now ≡ Ok F.count) }
     ensures value { IfOk result (λ x. F.give 0 rlp.now x) }
@@ -188,10 +188,7 @@ pub fn decode_struct<F: DecodeFields>(alloc: Global, rlp: &Rlp<'_>) -> Result<F,
     if !F::has_len(count) {
         return Err(DecoderError::RlpIncorrectListLen);
     }
-    let mut fields = match rlp.fields_of(count) {
-        Ok(fields) => fields,
-        Err(fault) => return Err(fault),
-    };
+    let mut fields = Fields::over(rlp);
     match F::decode_fields(alloc, &mut fields) {
         Ok(values) => Ok(values),
         Err(fault) => Err(fault),

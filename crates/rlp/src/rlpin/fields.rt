@@ -85,7 +85,7 @@ impl<'a> Rlp<'a> {
 
 impl<'a> Fields<'a> {
     /// A reader before the first item of a view.
-    fn over(rlp: &Rlp<'a>) -> Fields<'a>
+    pub(crate) fn over(rlp: &Rlp<'a>) -> Fields<'a>
         requires { items_fault rlp.now ≡ None }
         ensures { result ≡ record { view = rlp.now; place = 0 } }
     {
