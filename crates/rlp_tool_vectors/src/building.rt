@@ -71,7 +71,7 @@ fn build_checks_raw_bytes(rt: HostRuntime) -> Result<(), AllocError> {
     Ok(())
 }
 
-/// Whether a value that is refused among calls is answered as a want of memory.
+/// Whether a value that is refused among calls is answered as a lack of memory.
 fn refused_value_is_told(alloc: Global) -> bool {
     let calls = [
         StreamCall::Begin(1),

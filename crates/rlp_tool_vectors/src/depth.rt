@@ -6,7 +6,7 @@ use crate::long_answers::bytes_of_lists;
 use std::alloc::{AllocError, Global};
 use std::test::Fail;
 
-/// Whether a line of these bytes, and then one of a list of no items, are answered so.
+/// Whether a line of these bytes, and then one of a list of no items, get these answers.
 fn line_is_answered(alloc: Global, bytes: &[u8], answer: &[u8]) -> Result<bool, AllocError> {
     let mut input = Vec::from_slice(alloc, hex::encode(alloc, bytes)?.as_bytes())?;
     input.extend_from_slice(b"\nc0\n")?;

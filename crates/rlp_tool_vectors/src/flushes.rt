@@ -1,4 +1,4 @@
-//! Flushes: one for each that is asked for, and none else.
+//! Flushes: one for each that is asked for, and no others.
 
 use crate::devices_once::sink;
 use rlp_tool::{Noted, RunFault, run};

@@ -69,8 +69,8 @@ fn reads_needed(alloc: Global, most: usize) -> Result<Option<usize>, AllocError>
     Ok(None)
 }
 
-/// Whether a run whose writer failed answered that, and wrote a beginning of the replies that has at
-/// least `least` bytes.
+/// Whether a run whose writer failed answered that, and wrote a beginning of the replies that has
+/// at least `least` bytes.
 fn is_cut_off(left: &Left, least: usize) -> bool {
     left.outcome == Err(RunFault::Write)
         && left.writer_failed
@@ -126,7 +126,7 @@ fn every_call_of_a_device_fails_in_turn(rt: HostRuntime) -> Result<(), Fail> {
     Ok(())
 }
 
-/// Bytes before and after a byte that is repeated. What the run answers, and what is written.
+/// Bytes before and after a byte that is repeated. The result of the run, and what is written.
 struct Row {
     front: &'static [u8],
     byte: u8,

@@ -168,7 +168,7 @@ fn strings_that_are_no_text(rt: HostRuntime) {
     assert!(rt; no_texts_are_refused(rt.alloc()));
 }
 
-/// Whether a text is cut short, as its header tells.
+/// Whether a text is cut short, by its header.
 fn is_cut(alloc: Global, bytes: &[u8]) -> bool {
     is_fault(
         fault_of::<String>(alloc, bytes),

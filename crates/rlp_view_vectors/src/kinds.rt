@@ -1,4 +1,4 @@
-//! What a view tells of its bytes as a whole.
+//! What a view returns for its bytes as a whole.
 
 use rlp::{Prototype, Rlp, RlpStream};
 use std::alloc::{AllocError, Global};
