@@ -6,7 +6,7 @@ use std::alloc::{AllocError, Global};
 use std::io;
 use std::io::ErrorKind;
 
-/// What may stand written once the memory of a line was refused, or of none.
+/// What may be written after memory was refused for a line, or for no line.
 const WHOLE_ANSWERS: [&[u8]; 4] = [b"", b"[]\n", b"[]\nnull\n", b"[]\nnull\n\"0x80\"\n"];
 
 /// Whether a run ends well with all answers, or for lack of memory with whole ones of first lines.

@@ -132,7 +132,7 @@ struct Row {
     byte: u8,
     times: usize,
     rest: &'static [u8],
-    // The reader fails where the bytes end.
+    // The reader fails at the end of the bytes.
     cut: bool,
     // How many bytes the writer takes in all.
     room: usize,

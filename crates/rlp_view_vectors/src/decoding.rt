@@ -176,7 +176,7 @@ fn is_cut(alloc: Global, bytes: &[u8]) -> bool {
     )
 }
 
-/// A header, and then as many bytes `63` as a number says.
+/// A header, and then this number of bytes `63`.
 fn announced(alloc: Global, header: &[u8], len: usize) -> Result<Vec<u8>, AllocError> {
     let mut bytes = Vec::from_slice(alloc, header)?;
     let letters = vec![in alloc; 0x63u8; len]?;

@@ -126,7 +126,7 @@ const COUNTS: [(&[u8], usize); 7] = [
     (&[0xc5], 0),
 ];
 
-/// The place of the first row that is counted otherwise.
+/// The place of the first row with another count.
 fn first_wrong_count() -> Result<Option<usize>, DecoderError> {
     for (row, (bytes, count)) in COUNTS.iter().enumerate() {
         let view = Rlp::new(bytes);

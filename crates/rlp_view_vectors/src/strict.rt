@@ -105,7 +105,7 @@ const NO_ITEMS: [(&[u8], usize, DecoderError); 5] = [
     (&[0xc1, 0x01], 1, DecoderError::RlpIsTooShort),
 ];
 
-/// The place of the first row by whose number an item is told, or another fault.
+/// The place of the first row whose number has an item or another fault.
 fn first_told() -> Option<usize> {
     for (row, (bytes, index, want)) in NO_ITEMS.iter().enumerate() {
         let view = Rlp::new_strict(bytes);
@@ -274,7 +274,7 @@ const INVALID: [(&[u8], DecoderError); 24] = [
     (&[0x00, 0x00], DecoderError::RlpIsTooBig),
 ];
 
-/// The fault of strict bytes: as a list where they begin as one, and else as a string.
+/// The fault of strict bytes: as a list if they begin as one, else as a string.
 fn invalid_fault(alloc: Global, bytes: &[u8]) -> Option<DecoderError> {
     let view = Rlp::new_strict(bytes);
     if view.is_list() {

@@ -371,7 +371,7 @@ fn give(alloc: Global, value: u8) -> Result<usize, AllocError> {
     }
 }
 
-/// How many inputs begin with the encoding of some number, where all that begin with one give it.
+/// The number of inputs that begin with the encoding of some number and give that number.
 fn begun_by_encodings(alloc: Global) -> Result<usize, AllocError> {
     let mut sum = 0usize;
     for value in 0..=u8::MAX {

@@ -167,7 +167,7 @@ const AROUND_RAW_ITEM: [Stand; 6] = [
     ),
 ];
 
-/// The header of a string of 252 bytes, and as many bytes 00.
+/// The header of a string of 252 bytes, and 252 bytes 00.
 fn put_raw_item(s: &mut RlpStream) -> Result<bool, AllocError> {
     let mut item = [0u8; 254];
     item[0] = 0xb8;

@@ -9,7 +9,7 @@ use rlp_examples::Pair;
 use std::alloc::{AllocError, Global};
 use std::test::Fail;
 
-/// Whether a buffer that was handed in stands before a new list, or comes back if that is refused.
+/// Whether the given buffer is the front of a new list, or comes back if the call is refused.
 fn buffer_comes_back(alloc: Global) -> Result<bool, AllocError> {
     let mut buffer = BytesMut::new(alloc);
     buffer.extend_from_slice(b"junk")?;

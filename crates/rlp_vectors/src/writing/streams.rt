@@ -83,7 +83,7 @@ const ROWS: [(Option<usize>, &[Step], &[u8]); 16] = [
     (None, &[Step::Smalls(&[1, 2, 3])], &[0xc3, 0x01, 0x02, 0x03]),
 ];
 
-/// The place of the first row that finishes otherwise.
+/// The place of the first row that finishes as other bytes.
 fn first_wrong_row(alloc: Global) -> Result<Option<usize>, AllocError> {
     for (row, (list, steps, want)) in ROWS.iter().enumerate() {
         if !finish_as(alloc, *list, steps, want)? {
