@@ -190,7 +190,7 @@ impl RlpStream {
         Ok(Chain { stream: self })
     }
 
-    /// Only calls the value's own [`Encodable::rlp_append`]. A string isn't counted, and a list
+    /// Writes a value only by its own [`Encodable::rlp_append`]. A string isn't counted, and a list
     /// counts itself. Use it in the `rlp_append` of a custom type that wraps another value.
     pub fn append_internal<E: Encodable>(&mut self, value: &E) -> Result<Chain<'_>, AllocError>
         ensures* refused { sem 𝓛 (stays_if_refused self.entry result) }

@@ -1,4 +1,4 @@
-//! Answers each line of the standard input on the standard output.
+//! Answers each line of standard input on standard output.
 #![tactic(auto)]
 
 use rlp_tool::{Noted, exit_status, run};

@@ -1,10 +1,10 @@
-//! What the tool answers to lines.
+//! The tool's answers to lines.
 
 use crate::devices::{answers, ran, sound};
 use crate::lists::{list_of, nested};
 use std::alloc::{AllocError, Global};
 
-/// Lines, and what is answered to them.
+/// Lines, and their answers.
 const LINES: [(&[u8], &[u8]); 14] = [
     (
         b"c20506\nc0\n\n80",
@@ -25,7 +25,7 @@ const LINES: [(&[u8], &[u8]); 14] = [
     (b"", b""),
 ];
 
-/// Whether each row of `LINES` is answered so.
+/// Whether each row of `LINES` gets this answer.
 fn lines_are_answered(alloc: Global) -> Result<bool, AllocError> {
     for (input, expected) in LINES {
         if !answers(alloc, input, expected)? {
@@ -41,7 +41,7 @@ fn run_answers_lines(rt: HostRuntime) -> Result<(), AllocError> {
     Ok(())
 }
 
-/// Whether the first row of `LINES` is answered so, whatever number of bytes a call takes.
+/// Whether the first row of `LINES` gets this answer, whatever number of bytes a call takes.
 fn pieces_are_answered(alloc: Global) -> Result<bool, AllocError> {
     let (input, expected) = LINES[0];
     for most in [1, 2, 3, 4096] {
@@ -59,7 +59,7 @@ fn run_always_lacks_memory(rt: HostRuntime) -> Result<(), AllocError> {
     Ok(())
 }
 
-/// Whether a line of `count` lists, one in another, is printed.
+/// Whether a line of `count` lists, one inside another, is printed.
 fn prints_nested(alloc: Global, count: usize) -> Result<bool, AllocError> {
     let lists = nested(alloc, &[], count)?;
     let digits = hex::encode(alloc, lists.as_slice())?;

@@ -31,7 +31,7 @@ fn build_always_lacks_memory(rt: HostRuntime) -> Result<(), AllocError> {
     Ok(())
 }
 
-/// Whether a front stays, and what is open is told.
+/// Whether the front stays, and the result has the open lists.
 fn front_stays(alloc: Global) -> Result<bool, BuildFault> {
     let mut front = BytesMut::new(alloc);
     if front.extend_from_slice(b"junk").is_err() {
@@ -71,7 +71,7 @@ fn build_checks_raw_bytes(rt: HostRuntime) -> Result<(), AllocError> {
     Ok(())
 }
 
-/// Whether a value that is refused among calls is answered as a want of memory.
+/// Whether calls with a value that is refused fail with `OutOfMemory`.
 fn refused_value_is_told(alloc: Global) -> bool {
     let calls = [
         StreamCall::Begin(1),

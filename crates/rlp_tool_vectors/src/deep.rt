@@ -40,7 +40,7 @@ const OPENED: [Opened; 2] = [
     (257, 559, &[0xf9, 0x02, 0x2c]),
 ];
 
-/// Whether lists that are opened and finished are answered by their bytes.
+/// Whether the answer to lists that are opened and finished is their bytes.
 fn lists_are_finished(alloc: Global, row: Opened) -> Result<bool, AllocError> {
     let (lists, size, begin) = row;
     let bytes = nested(alloc, &[], lists)?;
@@ -68,7 +68,7 @@ fn run_answers_lists_opened_and_finished(rt: HostRuntime) -> Result<(), Fail> {
     Ok(())
 }
 
-/// Whether lists that stay open are answered by these words, and a byte 00 for each.
+/// Whether the answer to lists that stay open is these words, and a byte 00 for each list.
 fn open_lists_are_answered(alloc: Global, lists: usize, words: &[u8]) -> Result<bool, AllocError> {
     let zeros = vec![in alloc; 0u8; lists]?;
     let line = line_of(alloc, (b"u", lists), (b"", 0))?;
@@ -76,7 +76,7 @@ fn open_lists_are_answered(alloc: Global, lists: usize, words: &[u8]) -> Result<
     answers(alloc, line.as_slice(), answer.as_slice())
 }
 
-/// Whether 5,000 lists are answered that one call closes.
+/// Whether 5,000 lists that one call closes get their answer.
 fn closed_lists_are_answered(alloc: Global) -> Result<bool, AllocError> {
     let bytes = nested(alloc, &[0x80], 5_000)?;
     let line = line_of(alloc, (b"l:1", 5_000), (b"d:", 1))?;
@@ -103,7 +103,7 @@ fn run_answers_sixty_thousand_open_lists(rt: HostRuntime) -> Result<(), Fail> {
     Ok(())
 }
 
-/// Whether a list of 30,000 empty strings is answered.
+/// Whether a list of 30,000 empty strings gets its answer.
 fn wide_list_is_answered(alloc: Global) -> Result<bool, AllocError> {
     let strings = vec![in alloc; 0x80u8; 30_000]?;
     let line = line_of(alloc, (b"l:30000", 1), (b"d:", 30_000))?;

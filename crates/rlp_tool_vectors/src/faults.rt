@@ -1,4 +1,4 @@
-//! Faults in the midst of a run of the tool, and what its devices keep.
+//! Faults in the middle of a run of the tool, and what its devices keep.
 
 use crate::devices::{Failure, Sink, Source, ran, sound};
 use rlp_tool::{Noted, RunFault, exit_status};
@@ -6,10 +6,10 @@ use std::alloc::{AllocError, Global};
 use std::io;
 use std::io::ErrorKind;
 
-/// What may stand written once the memory of a line was refused, or of none.
+/// What may be written after memory was refused for a line, or for no line.
 const WHOLE_ANSWERS: [&[u8]; 4] = [b"", b"[]\n", b"[]\nnull\n", b"[]\nnull\n\"0x80\"\n"];
 
-/// Whether a run ends well with all answers, or for want of memory with whole ones of first lines.
+/// Whether a run ends well with all answers, or for lack of memory with whole ones of first lines.
 fn leaves_whole_answers(alloc: Global) -> Result<bool, AllocError> {
     let left = ran(alloc, b"c0\n\n8180\n", sound(usize::MAX))?;
     let written = left.written.as_slice();
@@ -92,7 +92,7 @@ fn noted_hands_errors_on(rt: HostRuntime) {
     assert!(rt; errors_are_handed_on(rt.alloc()));
 }
 
-/// What runs answer, and the status that the program ends with then.
+/// The results of runs, and the exit status of the program.
 const STATUSES: [(Result<(), RunFault>, u8); 4] = [
     (Ok(()), 0),
     (Err(RunFault::Memory), 1),

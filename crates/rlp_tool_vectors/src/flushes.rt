@@ -1,4 +1,4 @@
-//! Flushes: one for each that is asked for, and none else.
+//! Flushes: each call of `flush` makes one, and nothing else does.
 
 use crate::devices_once::sink;
 use rlp_tool::{Noted, RunFault, run};
@@ -46,7 +46,7 @@ fn flushes_once(
     outcome == expected && sink.inner().flushes == 1 && sink.inner().taken.as_slice() == written
 }
 
-/// Whether each run flushes once, also where the flush fails, and would work the next time.
+/// Whether each run flushes once, even if the flush fails and would succeed the next time.
 fn runs_flush_once(alloc: Global) -> bool {
     INPUTS.iter().all(|row| {
         flushes_once(alloc, *row, 0, Ok(())) && flushes_once(alloc, *row, 1, Err(RunFault::Write))

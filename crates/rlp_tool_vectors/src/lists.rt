@@ -19,7 +19,7 @@ pub(crate) fn list_of(payload: &mut Vec<u8>) -> Result<(), AllocError> {
     Ok(())
 }
 
-/// The bytes inside a number of lists, one in another.
+/// The bytes inside a number of lists, one inside another.
 pub(crate) fn nested(alloc: Global, inner: &[u8], lists: usize) -> Result<Vec<u8>, AllocError> {
     let mut item = Vec::from_slice(alloc, inner)?;
     for _ in 0..lists {

@@ -4,7 +4,7 @@ use crate::devices::answers;
 use std::alloc::{AllocError, Global};
 use std::test::Fail;
 
-/// How many lists, one in another, are closed by the empty string in the innermost one.
+/// How many lists, one inside another, are closed by the empty string in the innermost one.
 const LISTS: usize = 25_000;
 
 /// The encoding of the empty string inside a number of lists, written from its end.

@@ -1,6 +1,6 @@
 //! Calls as values, made in order, of which one is refused memory; and lines, of which one is.
 //!
-//! `refusals/run` refuses each request of these tests in turn. They then answer `AllocError`.
+//! `refusals/run` refuses each request of these tests in turn. They then return `AllocError`.
 
 use crate::devices_once::sink;
 use bytes::BytesMut;
@@ -32,7 +32,7 @@ fn texts_in_lists(rt: HostRuntime) -> Result<(), Fail> {
     Ok(())
 }
 
-/// Whether a run over three lines flushes once, at its end. Where memory lacks it doesn't flush.
+/// Whether a run over three lines flushes once, at its end. If memory runs out, it doesn't flush.
 fn flushes_at_its_end_alone(alloc: Global) -> Result<bool, AllocError> {
     let mut source = Noted::new(b"c20506\n+l:1 d:2a\n80".as_slice());
     let mut sink = sink(alloc, 0, 0);

@@ -1,11 +1,11 @@
-//! What lines of calls are answered, and how they are read.
+//! The answers to lines of calls, and how they are read.
 
 use crate::devices::answers;
 use crate::lists::nested;
 use rlp_tool::{ScriptFault, StreamCall, read_calls};
 use std::alloc::{AllocError, Global};
 
-/// Lines, and what is answered to them.
+/// Lines, and their answers.
 const LINES: [(&[u8], &[u8]); 17] = [
     (
         b"+l:2 l:2 d:636174 d:646f67 d:",
@@ -64,7 +64,7 @@ const REFUSED: [(&[u8], &[u8]); 31] = [
     (b"+D:61", b"error syntax at 1\n"),
 ];
 
-/// Whether each row is answered so.
+/// Whether each row gets its answer.
 fn are_answered(alloc: Global, rows: &[(&[u8], &[u8])]) -> Result<bool, AllocError> {
     for &(input, expected) in rows {
         if !answers(alloc, input, expected)? {
@@ -131,8 +131,8 @@ fn out_of(alloc: Global, bytes: &[u8]) -> Result<Vec<u8>, AllocError> {
     Ok(text)
 }
 
-/// The answer that 5,000 lists, one in another, are finished, with at most one byte innermost. The
-/// bytes are put together from their end.
+/// The answer that 5,000 lists, one inside another, are finished, with at most one byte innermost.
+/// The bytes are put together from their end.
 fn out_of_lists(alloc: Global, innermost: &[u8]) -> Result<Vec<u8>, AllocError> {
     let mut backwards = Vec::from_slice(alloc, innermost)?;
     for _ in 0..5_000 {
@@ -173,7 +173,7 @@ fn run_answers_long_scripts(rt: HostRuntime) -> Result<(), AllocError> {
     Ok(())
 }
 
-/// Whether a raw item of nested lists is answered by itself where it isn't too deep, and else refused.
+/// Whether a raw item of nested lists is its own answer if it isn't too deep, and else refused.
 fn raw_lists_are_answered(alloc: Global, lists: usize, taken: bool) -> Result<bool, AllocError> {
     let item = nested(alloc, &[], lists)?;
     let mut line = Vec::from_slice(alloc, b"+r:1:")?;

@@ -41,7 +41,8 @@ fn replied(read: usize) -> usize {
     replied
 }
 
-/// Whether a run whose reader failed after some bytes answered that, and all lines before.
+/// Whether a run whose reader failed after some bytes returned `Read` and answered all lines
+/// before.
 fn is_cut_short(left: &Left, read: usize) -> bool {
     let expected = REPLIES.get(..replied(read)).unwrap_or(b"");
     left.outcome == Err(RunFault::Read)
@@ -50,8 +51,8 @@ fn is_cut_short(left: &Left, read: usize) -> bool {
         && has_written(left, expected)
 }
 
-/// The first call of a reader of `most` bytes a call at which a failure isn't met any more. `None`
-/// where a run with one answers something else.
+/// The first call of a reader of `most` bytes a call at which a failure makes no difference. `None`
+/// if a run with an earlier failure has another result.
 fn reads_needed(alloc: Global, most: usize) -> Result<Option<usize>, AllocError> {
     for calls in 0..MOST_CALLS {
         let plan = Plan {
@@ -69,7 +70,7 @@ fn reads_needed(alloc: Global, most: usize) -> Result<Option<usize>, AllocError>
     Ok(None)
 }
 
-/// Whether a run whose writer failed answered that, and wrote a beginning of the replies that has at
+/// Whether a run whose writer failed returned `Write`, and wrote a beginning of the replies with at
 /// least `least` bytes.
 fn is_cut_off(left: &Left, least: usize) -> bool {
     left.outcome == Err(RunFault::Write)
@@ -79,8 +80,8 @@ fn is_cut_off(left: &Left, least: usize) -> bool {
         && REPLIES.starts_with(left.written.as_slice())
 }
 
-/// The first call of a writer of `most` bytes a call at which a failure isn't met any more. `None`
-/// where a run with one answers something else.
+/// The first call of a writer of `most` bytes a call at which a failure makes no difference. `None`
+/// if a run with an earlier failure has another result.
 fn writes_needed(
     alloc: Global,
     most: usize,
@@ -107,7 +108,8 @@ fn writes_needed(
 /// end.
 const NEEDED: [(usize, usize, usize); 3] = [(1, 42, 52), (2, 22, 28), (4096, 2, 1)];
 
-/// Whether each failing call of a reader and a writer is answered by its fault, and none but those.
+/// Whether each failing call of a reader and a writer ends the run with its fault, and no other
+/// does.
 fn all_failures_are_answered(alloc: Global) -> Result<bool, AllocError> {
     for (most, reads, writes) in NEEDED {
         if reads_needed(alloc, most)? != Some(reads)
@@ -126,13 +128,13 @@ fn every_call_of_a_device_fails_in_turn(rt: HostRuntime) -> Result<(), Fail> {
     Ok(())
 }
 
-/// Bytes before and after a byte that is repeated. What the run answers, and what is written.
+/// Bytes before and after a byte that is repeated. The result of the run, and what is written.
 struct Row {
     front: &'static [u8],
     byte: u8,
     times: usize,
     rest: &'static [u8],
-    // The reader fails where the bytes end.
+    // The reader fails at the end of the bytes.
     cut: bool,
     // How many bytes the writer takes in all.
     room: usize,

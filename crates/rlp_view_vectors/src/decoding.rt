@@ -168,7 +168,7 @@ fn strings_that_are_no_text(rt: HostRuntime) {
     assert!(rt; no_texts_are_refused(rt.alloc()));
 }
 
-/// Whether a text is cut short, as its header tells.
+/// Whether a text is cut short, by its header.
 fn is_cut(alloc: Global, bytes: &[u8]) -> bool {
     is_fault(
         fault_of::<String>(alloc, bytes),
@@ -176,7 +176,7 @@ fn is_cut(alloc: Global, bytes: &[u8]) -> bool {
     )
 }
 
-/// A header, and then as many bytes `63` as a number says.
+/// A header, and then this number of bytes `63`.
 fn announced(alloc: Global, header: &[u8], len: usize) -> Result<Vec<u8>, AllocError> {
     let mut bytes = Vec::from_slice(alloc, header)?;
     let letters = vec![in alloc; 0x63u8; len]?;

@@ -48,7 +48,7 @@ const LENIENT: &[ItemsRow] = &[
     ),
 ];
 
-/// Whether the fields are these items, and then end by this fault as often as they are asked.
+/// Whether the fields are these items, and then fail with this fault however often they are read.
 fn give_items(
     fields: Result<Fields<'_>, DecoderError>,
     strict: bool,
@@ -159,7 +159,7 @@ fn fields_of_another_number(rt: HostRuntime) {
 /// Three numbers.
 const NUMBERS: &[u8] = &[0xc3, 0x05, 0x06, 0x07];
 
-/// Whether the fields are finished after some of three numbers exactly where all were taken.
+/// Whether the fields are finished after some of three numbers exactly if all were taken.
 fn is_finished_at_three(strict: bool, taken: u64) -> Result<bool, DecoderError> {
     let mut fields = view_of(NUMBERS, strict).fields()?;
     for _ in 0..taken {
@@ -191,7 +191,8 @@ fn fields_that_are_finished(rt: HostRuntime) -> Result<(), Fail> {
 /// A list of 5, "cat" and a list of 1 and 2.
 const MIXED: &[u8] = &[0xc8, 0x05, 0x83, 0x63, 0x61, 0x74, 0xc2, 0x01, 0x02];
 
-/// Whether the list is read whole, and a value or a list past its end is a fault that takes nothing.
+/// Whether the list is read whole, and a value or a list past its end is a fault that takes
+/// nothing.
 fn is_read_whole(alloc: Global, strict: bool) -> Result<bool, DecoderError> {
     let mut fields = view_of(MIXED, strict).fields_of(3)?;
     let number = fields.next_value::<u64>(alloc)?;
@@ -217,7 +218,7 @@ fn fields_as_values(rt: HostRuntime) -> Result<(), Fail> {
 }
 
 /// Lists of 5, an item and 7, and the fault of the item as a number of one byte, and as a list of
-/// such numbers by a lenient and by a strict view, where it has one.
+/// such numbers by a lenient and by a strict view, if it has one.
 const MIDDLES: [(
     &[u8],
     Option<DecoderError>,
@@ -250,7 +251,7 @@ const MIDDLES: [(
     ),
 ];
 
-/// The faults of the item in the midst of three as a number, and as a list of numbers, where the
+/// The faults of the item in the middle of three as a number, and as a list of numbers, where the
 /// others are read as 5 and 7 in either case.
 fn middle_faults(
     alloc: Global,

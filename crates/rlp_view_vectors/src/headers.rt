@@ -98,7 +98,7 @@ fn faults_of_headers(rt: HostRuntime) {
     assert!(rt; have_faults());
 }
 
-/// What an item begins with, and how long it is with its header, where that fits.
+/// What an item begins with, and how long it is with its header, if that fits.
 const TOTALS: [(&[u8], Option<usize>); 4] = [
     (&[0xb8, 0x38], Some(58)),
     (

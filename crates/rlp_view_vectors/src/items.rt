@@ -1,4 +1,4 @@
-//! What a view tells of the items of a list.
+//! What a view returns for the items of a list.
 
 use crate::faults::is_fault;
 use rlp::{DecoderError, Rlp, RlpIterator};
@@ -60,7 +60,7 @@ fn rlp_at_with_offset(rt: HostRuntime) -> Result<(), Fail> {
     Ok(())
 }
 
-/// Whether the item by number has this fault, whenever it is asked for.
+/// Whether the item by number has this fault, whenever it is called.
 fn is_fault_at(bytes: &[u8], index: usize, want: &DecoderError) -> bool {
     let view = Rlp::new(bytes);
     is_fault(view.at(index).err(), want)
@@ -126,7 +126,7 @@ const COUNTS: [(&[u8], usize); 7] = [
     (&[0xc5], 0),
 ];
 
-/// The place of the first row that is counted otherwise.
+/// The place of the first row with another count.
 fn first_wrong_count() -> Result<Option<usize>, DecoderError> {
     for (row, (bytes, count)) in COUNTS.iter().enumerate() {
         let view = Rlp::new(bytes);

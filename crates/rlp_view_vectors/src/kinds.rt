@@ -1,4 +1,4 @@
-//! What a view tells of its bytes as a whole.
+//! What a view returns for its bytes as a whole.
 
 use rlp::{Prototype, Rlp, RlpStream};
 use std::alloc::{AllocError, Global};
@@ -32,7 +32,7 @@ fn kinds_of_views(rt: HostRuntime) {
     assert!(rt; kinds_agree());
 }
 
-/// Bytes, and whether a number stands in front.
+/// Bytes, and whether they begin with a number.
 const NUMBERS: [(&[u8], bool); 8] = [
     (&[], false),
     (&[0x81], false),

@@ -41,7 +41,7 @@ fn lists_of_small_numbers(rt: HostRuntime) -> Result<(), Fail> {
     Ok(())
 }
 
-/// Whether the one item of a list that is followed stands at its place.
+/// Whether the one item of a list with bytes after it is at its place.
 fn item_stands_at_its_place() -> Result<bool, DecoderError> {
     let (item, place) = Rlp::new(&[0xc1, 0x01, 0x02]).at_with_offset(0)?;
     Ok(item.as_raw() == [0x01].as_slice() && place == 1)

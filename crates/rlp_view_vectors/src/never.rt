@@ -7,7 +7,7 @@ use std::alloc::Global;
 use std::fmt;
 use std::fmt::Write;
 
-/// How many bytes are asked for at the signal.
+/// The number of bytes that is requested as the signal.
 const SIGNAL: usize = 77_777;
 
 /// Gives the signal. Whether the request is met makes no difference.

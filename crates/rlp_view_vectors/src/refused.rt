@@ -1,14 +1,14 @@
 //! Values that are read, of which one is refused memory.
 //!
-//! `refusals/run` refuses each request of these tests in turn. A test then answers `OutOfMemory`, once
-//! it has seen that nothing else was lost.
+//! `refusals/run` refuses each request of these tests in turn. A test then returns `OutOfMemory`,
+//! once it has seen that nothing else was lost.
 
 use bytes::{Bytes, BytesMut};
 use rlp::{Decodable, DecoderError, Rlp};
 use std::alloc::Global;
 use std::test::Fail;
 
-/// The value of a view, read once more where memory was refused.
+/// The value of a view, read once more if memory was refused.
 fn read_again<T: Decodable>(
     alloc: Global,
     view: &Rlp<'_>,
@@ -22,7 +22,7 @@ fn read_again<T: Decodable>(
     first
 }
 
-/// `OutOfMemory` where memory was refused and all else is right.
+/// `OutOfMemory` if memory was refused and all else is right.
 fn answered(right: bool, refused: bool) -> Result<bool, DecoderError> {
     if right && refused {
         return Err(DecoderError::OutOfMemory);
@@ -74,7 +74,7 @@ const NUMBERS: &[u8] = &[0xc2, 0x01, 0x02, 0x00];
 
 const TEXTS: &[u8] = b"\xc9\xc8\x83cat\x83dog\x00";
 
-/// The numbers of a view, read once more where memory was refused.
+/// The numbers of a view, read once more if memory was refused.
 fn numbers_again(alloc: Global, refused: &mut bool) -> Result<Vec<u64>, DecoderError> {
     let view = Rlp::new(NUMBERS);
     let first = view.as_list::<u64>(alloc);

@@ -3,7 +3,7 @@
 use rlp::Rlp;
 use std::alloc::{AllocError, Global};
 
-/// How many lists stand one inside the other.
+/// How many lists are nested.
 const LEVELS: usize = 256;
 
 /// The header of a list of `len` bytes, fewer than 65,536.

@@ -81,8 +81,8 @@ fn bytes_that_begin_with_no_item(rt: HostRuntime) {
     assert_eq!(rt; first_with_an_item(true), None);
 }
 
-/// First items that are framed but not canonical with an empty list after them, and their faults: as
-/// a number or as a list of numbers, of the lenient view and of the strict one.
+/// First items that are framed but not canonical with an empty list after them, and their faults:
+/// as a number or as a list of numbers, of the lenient view and of the strict one.
 const NOT_CANONICAL: [(&[u8], Option<DecoderError>, Option<DecoderError>); 3] = [
     (
         &[0x81, 0x05, 0xc0],
@@ -114,7 +114,7 @@ fn is_read_as(alloc: Global, bytes: &[u8], strict: bool, want: &Option<DecoderEr
     rest == [0xc0].as_slice() && !item.is_canonical(9) && fault == *want
 }
 
-/// The place of the first row that is read otherwise.
+/// The place of the first row that isn't read as expected.
 fn first_wrong_reading(alloc: Global) -> Option<usize> {
     for (row, (bytes, lenient, strict)) in NOT_CANONICAL.iter().enumerate() {
         if !is_read_as(alloc, bytes, false, lenient) || !is_read_as(alloc, bytes, true, strict) {

@@ -92,7 +92,7 @@ fn strict_lists(rt: HostRuntime) -> Result<(), Fail> {
     Ok(())
 }
 
-/// Strict bytes, the number of an item, and why none is told by it.
+/// Strict bytes, the number of an item, and why there is no item of this number.
 const NO_ITEMS: [(&[u8], usize, DecoderError); 5] = [
     (&[0xc1, 0x01, 0x02], 0, DecoderError::RlpIsTooBig),
     (&[0xc1, 0x01, 0x02], 1, DecoderError::RlpIsTooBig),
@@ -105,7 +105,7 @@ const NO_ITEMS: [(&[u8], usize, DecoderError); 5] = [
     (&[0xc1, 0x01], 1, DecoderError::RlpIsTooShort),
 ];
 
-/// The place of the first row by whose number an item is told, or another fault.
+/// The place of the first row whose number has an item or another fault.
 fn first_told() -> Option<usize> {
     for (row, (bytes, index, want)) in NO_ITEMS.iter().enumerate() {
         let view = Rlp::new_strict(bytes);
@@ -183,12 +183,12 @@ const CANONICAL: [(&[u8], usize, bool); 10] = [
     (&[0xc1, 0xc0], 2, true),
 ];
 
-/// Whether views of both kinds tell the same.
+/// Whether views of both kinds return the same.
 fn is_told(bytes: &[u8], most: usize, want: bool) -> bool {
     Rlp::new(bytes).is_canonical(most) == want && Rlp::new_strict(bytes).is_canonical(most) == want
 }
 
-/// The place of the first row that is told otherwise.
+/// The place of the first row for which they return something else.
 fn first_untold() -> Option<usize> {
     for (row, (bytes, most, want)) in CANONICAL.iter().enumerate() {
         if !is_told(bytes, *most, *want) {
@@ -226,7 +226,7 @@ const INVALID: [(&[u8], DecoderError); 24] = [
     // Sizes of lists that are written too long.
     (&[0xf8, 0x01, 0x80], DecoderError::RlpInvalidIndirection),
     (&[0xf8, 0x01, 0x00], DecoderError::RlpInvalidIndirection),
-    // Single bytes that stand for themselves.
+    // Single bytes that are their own encoding.
     (&[0x81, 0x00], DecoderError::RlpInvalidIndirection),
     (&[0x81, 0x01], DecoderError::RlpInvalidIndirection),
     (&[0x81, 0x7f], DecoderError::RlpInvalidIndirection),
@@ -274,7 +274,7 @@ const INVALID: [(&[u8], DecoderError); 24] = [
     (&[0x00, 0x00], DecoderError::RlpIsTooBig),
 ];
 
-/// The fault of strict bytes: as a list where they begin as one, and else as a string.
+/// The fault of strict bytes: as a list if they begin as one, else as a string.
 fn invalid_fault(alloc: Global, bytes: &[u8]) -> Option<DecoderError> {
     let view = Rlp::new_strict(bytes);
     if view.is_list() {

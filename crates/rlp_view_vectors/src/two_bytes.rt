@@ -6,8 +6,8 @@ use rlp::{BasicDecoder, Decodable, DecoderError, PayloadInfo, Prototype, Rlp};
 use std::alloc::{AllocError, Global};
 use std::test::Fail;
 
-/// How many inputs are answered `Ok`, and how many by each fault, in the order in which the faults
-/// are declared.
+/// The number of inputs that are `Ok`, and the number for each fault, in the order in which the
+/// faults are declared.
 pub(crate) type Tally = [usize; 13];
 
 /// The place of a fault in a tally.
@@ -28,7 +28,7 @@ fn place_of(fault: &DecoderError) -> usize {
     }
 }
 
-/// Counts one answer.
+/// Counts one result.
 pub(crate) fn note<T>(tally: &mut Tally, answer: &Result<T, DecoderError>) {
     let place = match answer {
         Ok(_) => 0,
@@ -39,7 +39,7 @@ pub(crate) fn note<T>(tally: &mut Tally, answer: &Result<T, DecoderError>) {
     }
 }
 
-/// What the header at the front of the inputs is answered, and the sum of the lengths of what it
+/// The results of reading the header of the inputs, and the sum of the lengths of what it
 /// announces and itself.
 fn headers() -> (Tally, usize) {
     let (mut tally, mut sum) = ([0; 13], 0usize);
@@ -147,7 +147,7 @@ fn sizes_of_two_bytes(rt: HostRuntime) {
     assert!(rt; sizes() == [33_024, 33_024, 130]);
 }
 
-/// What the item by this number is answered, and the sum of the places.
+/// The results for the item of this number, and the sum of the places.
 fn items_at(index: usize) -> (Tally, usize) {
     let (mut tally, mut sum) = ([0; 13], 0usize);
     for word in 0..=u16::MAX {
@@ -187,14 +187,14 @@ fn items_of_two_bytes(rt: HostRuntime) {
     );
 }
 
-/// Whether the item by this number is these bytes, asked for twice.
+/// Whether the item by this number is these bytes, read twice.
 fn is_item_twice(view: &Rlp<'_>, index: usize, bytes: &[u8]) -> bool {
     let first = view.at(index).is_ok_and(|item| item.as_raw() == bytes);
     let second = view.at(index).is_ok_and(|item| item.as_raw() == bytes);
     first && second
 }
 
-/// Whether each item that the iterator gives is the one that is asked for by number.
+/// Whether each item that the iterator gives is the one of that number by `at`.
 fn items_are_numbered(view: &Rlp<'_>) -> bool {
     let mut index = 0usize;
     for item in view {
@@ -206,7 +206,7 @@ fn items_are_numbered(view: &Rlp<'_>) -> bool {
     view.item_count().unwrap_or(0) == index
 }
 
-/// Whether the iterator gives as many items as it tells, and then none.
+/// Whether the iterator gives the number of items that it announces, and then none.
 fn iterator_ends(view: &Rlp<'_>) -> bool {
     let mut items = view.iter();
     let len = items.len();
@@ -371,7 +371,7 @@ fn give(alloc: Global, value: u8) -> Result<usize, AllocError> {
     }
 }
 
-/// How many inputs begin with the encoding of some number, where all that begin with one give it.
+/// The number of inputs that begin with the encoding of some number and give that number.
 fn begun_by_encodings(alloc: Global) -> Result<usize, AllocError> {
     let mut sum = 0usize;
     for value in 0..=u8::MAX {

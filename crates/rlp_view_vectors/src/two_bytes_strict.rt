@@ -55,7 +55,7 @@ fn canonical_items_of_two_bytes(rt: HostRuntime) {
     assert!(rt; first_wrong_depth().is_none());
 }
 
-/// What the header of strict views is answered.
+/// The results for the header of strict views.
 fn headers() -> Tally {
     let mut tally = [0; 13];
     for word in 0..=u16::MAX {
@@ -67,7 +67,7 @@ fn headers() -> Tally {
     tally
 }
 
-/// What the value of strict views is answered.
+/// The results for the value of strict views.
 fn values() -> Tally {
     let mut tally = [0; 13];
     for word in 0..=u16::MAX {
@@ -76,7 +76,7 @@ fn values() -> Tally {
     tally
 }
 
-/// What the number of items of strict views is answered.
+/// The results for the number of items of strict views.
 fn counts() -> Tally {
     let mut tally = [0; 13];
     for word in 0..=u16::MAX {
@@ -88,7 +88,7 @@ fn counts() -> Tally {
     tally
 }
 
-/// What the item by this number is answered.
+/// The results for the item of this number.
 fn items_at(index: usize) -> Tally {
     let mut tally = [0; 13];
     for word in 0..=u16::MAX {
@@ -97,7 +97,7 @@ fn items_at(index: usize) -> Tally {
     tally
 }
 
-/// One framed item and nothing else: `8100` to `81ff`, `c100` to `c1ff`.
+/// Exactly one framed item: `8100` to `81ff`, `c100` to `c1ff`.
 const WHOLE: Tally = [512, 33_280, 31_618, 0, 0, 0, 8, 8, 110, 0, 0, 0, 0];
 
 /// Whole lists of whole items: `c100` to `c180`, `c1c0`.

@@ -50,8 +50,8 @@ impl<'a> Rlp<'a> {
         Rlp::of_kind(bytes, false)
     }
 
-    /// A strict view of these bytes, which must be exactly one item: its methods fail if bytes
-    /// follow the item. Its items are strict too. It doesn't read the bytes yet.
+    /// A strict view of these bytes, which should be exactly one item. Methods that read the item
+    /// fail if bytes follow it. Its items are strict too. It doesn't read the bytes yet.
     ///
     /// ```rust
     /// let view = rlp::Rlp::new_strict(&[0xc1, 0x05, 0x06]);

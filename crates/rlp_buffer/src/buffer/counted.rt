@@ -170,7 +170,7 @@ impl Buffer {
     }
 
     /// Inserts a part at a place, and moves the bytes behind it. It doesn't count them, since they
-    /// are a string without a header, and not a payload.
+    /// are a string that has no header yet.
     pub(super) fn insert(&mut self, at: usize, part: &[u8]) -> Result<(), AllocError>
         requires { at ≤ length self.old.items }
         ensures ok { OnOk result (self.new.items

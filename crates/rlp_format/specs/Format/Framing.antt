@@ -44,7 +44,7 @@ abbrev pub fault_in : Result PayloadInfo DecoderError → DecoderError
 fault_in (Err e) = e
 fault_in (Ok p) = RlpIsTooShort
 
--- why b isn't framed; nothing is said of framed bytes
+-- why b isn't framed; it has no meaning for framed bytes
 unfoldable pub fault : List ℕ → DecoderError
 fault b = fault_in (framing b)
 

@@ -23,7 +23,7 @@ announced first = if nat_lt first 0xc0 then first - 0xb7 else first - 0xf7
 abbrev pub is_within : ℕ → ℕ → ℕ → Bool
 is_within low high n = nat_le low n && nat_le n high
 
--- Why bytes begin with no header: the first of these that applies. Nothing is said of bytes that have a header.
+-- Why bytes begin with no header: the first of these that applies. It has no meaning for bytes that have a header.
 abbrev pub header_fault : List ℕ → DecoderError
 header_fault [] = RlpIsTooShort
 header_fault (first ∷ []) = RlpIsTooShort

@@ -18,22 +18,22 @@ HasNoString b = (d : List ℕ) → ¬ IsString b d
 abbrev pub short_string_fault : ℕ → List ℕ → DecoderError
 short_string_fault n rest = if nat_lt (length rest) n then RlpInconsistentLengthAndData else RlpInvalidIndirection
 
--- why no string of n bytes stands after k bytes of length: a length up to 55 belongs in the first byte, header and string have to be fewer than 2^64 bytes, and
--- the n bytes aren't all there
+-- Why there is no string of n bytes after k length bytes, in this order: a length up to 55 belongs in the first byte, header and string have to be
+-- fewer than 2^64 bytes, or the n bytes aren't all there.
 abbrev pub long_value_fault : ℕ → ℕ → DecoderError
 long_value_fault k n =
     if nat_le n 55 then RlpInvalidIndirection
     else if nat_lt (2 ^ 64 - 1) (1 + k + n) then RlpInvalidLength
     else RlpInconsistentLengthAndData
 
--- why no string stands after a first byte that announces k bytes of length: these aren't all there, the first of them is zero, or by the length that they write
+-- why there is no string after a first byte that announces k length bytes: they aren't all there, the first of them is zero, or a fault of the length itself
 abbrev pub long_string_fault : ℕ → List ℕ → DecoderError
 long_string_fault k rest =
     if nat_lt (length rest) k then RlpInconsistentLengthAndData
     else if slice_index rest 0 == 0 then RlpInvalidIndirection
     else long_value_fault k (number_from_digits 256 (take k rest))
 
--- Why b begins with no string: the first case that applies. Nothing is said of bytes that begin with a string.
+-- Why b begins with no string: the first case that applies. It has no meaning for bytes that begin with a string.
 abbrev pub string_fault : List ℕ → DecoderError
 string_fault [] = RlpIsTooShort
 string_fault (first ∷ rest) =
@@ -54,8 +54,8 @@ short_string n rest =
     else if is_low_byte (take n rest) then Err RlpInvalidIndirection
     else Ok (take n rest)
 
--- After k bytes of length that say n: a length up to 55 belongs in the first byte, header and string have to be fewer than 2^64 bytes, and the n bytes have to
--- be there.
+-- After k length bytes that announce n: a length up to 55 belongs in the first byte, header and string have to be fewer than 2^64 bytes, and the
+-- n bytes have to be there.
 abbrev pub long_value : ℕ → ℕ → List ℕ → Result (List ℕ) DecoderError
 long_value k n rest =
     if nat_le n 55 then Err RlpInvalidIndirection
@@ -70,8 +70,8 @@ long_string k rest =
     else if slice_index rest 0 == 0 then Err RlpInvalidIndirection
     else long_value k (number_from_digits 256 (take k rest)) (drop k rest)
 
--- The string at the front of b, or why none stands there: a byte below 0x80 is its own string, one below 0xb8 announces the string's length, one below 0xc0 how
--- many bytes the length has, and the others begin a list.
+-- The string that b begins with, or why there is none. A byte below 0x80 is its own string. A byte below 0xb8 announces the string's length.
+-- A byte below 0xc0 announces the number of length bytes. The others begin a list.
 unfoldable pub read_string : List ℕ → Result (List ℕ) DecoderError
 read_string [] = Err RlpIsTooShort
 read_string (first ∷ rest) =

@@ -10,7 +10,7 @@ AreSameAround [] (m ∷ ms) = ⊥
 AreSameAround (l ∷ ls) [] = ⊥
 AreSameAround (l ∷ ls) (m ∷ ms) = (l.outer ≡ m.outer) × (ls ≡ ms)
 
--- `Stands payload lists inner more_lists`: the payload, inside its lists, begins what stands in its place in the other stack, innermost or in a list around.
+-- `Stands payload lists inner more_lists`: the payload, inside its lists, begins the payload in its place in the other stack, innermost or in a list around.
 pub data Stands (payload : List ℕ) (lists : List (OpenList ℕ)) : List ℕ → List (OpenList ℕ) → Type 0 where
   here : (more : List ℕ) (same_lists : List (OpenList ℕ)) → AreSameAround lists same_lists → Stands payload lists (payload ++ more) same_lists
   within : (inner : List ℕ) (l : OpenList ℕ) (ls : List (OpenList ℕ)) → Stands payload lists l.outer ls → Stands payload lists inner (l ∷ ls)

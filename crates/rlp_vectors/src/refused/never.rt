@@ -9,7 +9,7 @@ use rlp::RlpStream;
 use std::alloc::{AllocError, Global};
 use std::test::Fail;
 
-/// How many bytes are asked for at the signal.
+/// The number of bytes that is requested as the signal.
 const SIGNAL: usize = 77_777;
 
 /// Gives the signal. Whether the request is met makes no difference.
@@ -41,7 +41,7 @@ fn room_is_used(mut s: RlpStream) -> Result<bool, AllocError> {
     Ok(put && refused && s.len() == 1004 && s.as_raw().ends_with(b"rlp\x80"))
 }
 
-/// Whether calls that take no memory answer once every request is refused.
+/// Whether calls that take no memory return once every request is refused.
 fn need_no_memory(alloc: Global) -> Result<bool, AllocError> {
     let mut list = RlpStream::new_list(alloc, 3)?;
     list.append(&"cat")?;

@@ -1,7 +1,7 @@
 //! Calls on streams of which one is refused memory: it leaves all as it was, and can be made again.
 //!
-//! `refusals/run` refuses each request of these tests in turn. A test then answers `AllocError`, once
-//! it has seen that the refused call left nothing.
+//! `refusals/run` refuses each request of these tests in turn. A test then returns `AllocError`,
+//! once it has seen that the refused call left nothing.
 
 use crate::support::guarded::{put_raw, put_raw_within};
 use crate::support::iterators::{append_undotted, encode_undotted};
@@ -12,11 +12,11 @@ use rlp_examples::Pair;
 use std::alloc::{AllocError, Global};
 use std::test::Fail;
 
-/// How a stream stands: what its bytes begin with, and how many bytes 00 follow; the closed size;
+/// The state of a stream: what its bytes begin with, and how many bytes 00 follow; the closed size;
 /// what the innermost open list awaits; whether it is one without a bound.
 type Stand = (&'static [u8], usize, usize, Option<usize>, bool);
 
-/// Whether a stream stands so.
+/// Whether a stream has this state.
 fn stands_as(s: &RlpStream, stand: Stand) -> bool {
     let (front, zeros, size, awaited, unbounded) = stand;
     let raw = s.as_raw();
@@ -35,15 +35,15 @@ trait Calls {
     /// How many calls there are.
     fn count(&self) -> usize;
 
-    /// Makes the call at this place. `false` where its condition doesn't hold.
+    /// Makes the call at this place. `false` if its condition doesn't hold.
     fn make(&self, s: &mut RlpStream, place: usize) -> Result<bool, AllocError>;
 
-    /// Whether the stream stands as it does after the first calls.
+    /// Whether the stream has the state that it has after the first calls.
     fn stands(&self, s: &RlpStream, done: usize) -> bool;
 }
 
-/// Makes the calls in turn, and one that is refused again. `AllocError` where one was refused and
-/// left the stream as it was, and the rest went as ever; `false` where the stream stands otherwise.
+/// Makes the calls in turn, and one that is refused again. `AllocError` if one was refused and
+/// left the stream as it was, and the rest went as ever; `false` if the stream stands otherwise.
 fn go_again<C: Calls>(s: &mut RlpStream, calls: &C) -> Result<bool, AllocError> {
     let mut refused = false;
     for place in 0..calls.count() {
@@ -74,7 +74,7 @@ fn go_again_twice<C: Calls>(alloc: Global, calls: &C) -> Result<bool, AllocError
 /// Calls in a table.
 struct Table {
     steps: &'static [Step],
-    // One more than steps: how the stream stands before all, and after each.
+    // One more than steps: the state of the stream before all, and after each.
     stands: &'static [Stand],
 }
 
@@ -151,7 +151,7 @@ fn pairs_in_a_list(rt: HostRuntime) -> Result<(), Fail> {
 /// Two unbounded lists, a raw item of 254 bytes in them, and their ends.
 struct RawItem;
 
-/// How the stream stands.
+/// The state of the stream.
 const AROUND_RAW_ITEM: [Stand; 6] = [
     NEW,
     (&[], 1, 1, None, true),
@@ -167,7 +167,7 @@ const AROUND_RAW_ITEM: [Stand; 6] = [
     ),
 ];
 
-/// The header of a string of 252 bytes, and as many bytes 00.
+/// The header of a string of 252 bytes, and 252 bytes 00.
 fn put_raw_item(s: &mut RlpStream) -> Result<bool, AllocError> {
     let mut item = [0u8; 254];
     item[0] = 0xb8;
@@ -202,7 +202,7 @@ fn a_raw_item_in_two_lists(rt: HostRuntime) -> Result<(), Fail> {
     Ok(())
 }
 
-/// Sixty lists of one item, one in another, which an empty string closes.
+/// Sixty lists of one item, one inside another, which an empty string closes.
 struct Sixty;
 
 /// The headers of the lists that are over 55 bytes long.
@@ -250,7 +250,7 @@ fn sixty_lists(rt: HostRuntime) -> Result<(), Fail> {
     Ok(())
 }
 
-/// Twenty unbounded lists, one in another, finalized one by one.
+/// Twenty unbounded lists, one inside another, finalized one by one.
 struct Twenty;
 
 /// Their bytes.

@@ -1,7 +1,7 @@
 //! Streams that are begun and values that are encoded, of which one is refused memory.
 //!
-//! `refusals/run` refuses each request of these tests in turn. A test then answers `AllocError`, once
-//! it has seen that nothing else was lost.
+//! `refusals/run` refuses each request of these tests in turn. A test then returns `AllocError`,
+//! once it has seen that nothing else was lost.
 
 use bytes::BytesMut;
 use rlp::{Encodable, RlpStream};
@@ -9,7 +9,7 @@ use rlp_examples::Pair;
 use std::alloc::{AllocError, Global};
 use std::test::Fail;
 
-/// Whether a buffer that was handed in stands before a new list, or comes back where that is refused.
+/// Whether the given buffer is the front of a new list, or comes back if the call is refused.
 fn buffer_comes_back(alloc: Global) -> Result<bool, AllocError> {
     let mut buffer = BytesMut::new(alloc);
     buffer.extend_from_slice(b"junk")?;

@@ -17,7 +17,7 @@ pub(crate) fn takes_items(s: &RlpStream, items: usize) -> bool
     }
 }
 
-/// Appends raw bytes. `false` where the innermost open list awaits fewer items.
+/// Appends raw bytes. `false` if the innermost open list awaits fewer items.
 pub(crate) fn put_raw(s: &mut RlpStream, bytes: &[u8], items: usize) -> Result<bool, AllocError> {
     if !takes_items(s, items) {
         return Ok(false);
@@ -39,7 +39,7 @@ pub(crate) fn put_raw_chained(
     Ok(true)
 }
 
-/// Appends raw bytes within a size. `false` where they pass it, or where the innermost open list
+/// Appends raw bytes within a size. `false` if they pass it, or if the innermost open list
 /// awaits fewer items.
 pub(crate) fn put_raw_within(
     s: &mut RlpStream,
@@ -53,7 +53,7 @@ pub(crate) fn put_raw_within(
     s.append_raw_checked(bytes, items, max_size)
 }
 
-/// Closes the innermost open list. `false` where it has a bound, or none is open.
+/// Closes the innermost open list. `false` if it has a bound, or none is open.
 pub(crate) fn finalize(s: &mut RlpStream) -> Result<bool, AllocError> {
     if !s.can_finalize() {
         return Ok(false);
@@ -62,7 +62,7 @@ pub(crate) fn finalize(s: &mut RlpStream) -> Result<bool, AllocError> {
     Ok(true)
 }
 
-/// The bytes, where no list is open.
+/// The bytes, if no list is open.
 pub(crate) fn finished(s: RlpStream) -> Option<BytesMut> {
     if s.is_finished() { Some(s.out()) } else { None }
 }

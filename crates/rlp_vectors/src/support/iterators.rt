@@ -1,4 +1,4 @@
-//! Bytes of iterators that don't tell how many there are before they are taken.
+//! Bytes of iterators that don't say in advance how many there are.
 
 use rlp::{BasicEncoder, RlpStream};
 use std::alloc::AllocError;

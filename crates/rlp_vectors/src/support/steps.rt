@@ -42,7 +42,7 @@ pub(crate) enum Step {
     Clear,
 }
 
-/// Makes a call. `false` where its condition doesn't hold.
+/// Makes a call. `false` if its condition doesn't hold.
 pub(crate) fn make(s: &mut RlpStream, step: Step) -> Result<bool, AllocError> {
     match step {
         Step::Begin(len) => {
@@ -98,7 +98,7 @@ fn append(s: &mut RlpStream, step: Step) -> Result<bool, AllocError> {
     Ok(true)
 }
 
-/// Makes calls, up to the first whose condition doesn't hold: then the answer is `false`.
+/// Makes calls, up to the first whose condition doesn't hold. Returns `false` then.
 pub(crate) fn make_all(s: &mut RlpStream, steps: &[Step]) -> Result<bool, AllocError> {
     for step in steps {
         if !make(s, *step)? {

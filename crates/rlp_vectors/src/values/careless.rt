@@ -34,7 +34,7 @@ fn appends_go_back(alloc: Global) -> Result<bool, AllocError> {
     Ok(one && uncounted && all && finishes_as(s, &[0xc2, 0x05, 0x06]))
 }
 
-/// Whether a refused value leaves what it wrote where its own function is called, and nothing of
+/// Whether a refused value leaves what it wrote if its own function is called, and nothing of
 /// what stood before is lost.
 fn own_function_stays(alloc: Global) -> Result<bool, AllocError> {
     let mut s = begun(alloc)?;

@@ -1,4 +1,4 @@
-//! A value that is refused the first time it is written, in the midst of its bytes, and counts how
+//! A value that is refused the first time it is written, in the middle of its bytes, and counts how
 //! often it was.
 
 use rlp::{Encodable, RlpStream};

@@ -1,4 +1,4 @@
-//! Each call that a chain and a writer of strings lend on, once.
+//! Each call that a chain and a writer of strings forward, once.
 
 use crate::support::guarded::{finalize, finishes_as, put_raw_chained};
 use crate::support::iterators::{append_undotted, encode_undotted};

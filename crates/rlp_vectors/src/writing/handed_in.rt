@@ -1,4 +1,4 @@
-//! Streams over bytes that are handed in.
+//! Streams with a front, over bytes that are handed in.
 
 use crate::support::guarded::{finished, finishes_as};
 use bytes::BytesMut;

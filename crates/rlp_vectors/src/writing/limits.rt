@@ -120,8 +120,8 @@ fn is_answered(
     )
 }
 
-/// Whether a row is answered so at each limit: next to none, around the size, around the size with
-/// nine bytes for each header, and the greatest.
+/// Whether a row gets this answer at each limit: next to none, around the size, around the size
+/// with nine bytes for each header, and the greatest.
 fn is_answered_at_limits(
     alloc: Global,
     front: &[u8],
@@ -150,7 +150,7 @@ fn is_answered_at_limits(
     Ok(true)
 }
 
-/// Whether all rows are answered so, over no bytes and over some.
+/// Whether all rows get these answers, over no bytes and over some.
 fn all_are_answered(alloc: Global, awaited: Awaited) -> Result<bool, AllocError> {
     for row in ROWS {
         if !is_answered_at_limits(alloc, &[], row, awaited)?

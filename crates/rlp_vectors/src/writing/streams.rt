@@ -83,7 +83,7 @@ const ROWS: [(Option<usize>, &[Step], &[u8]); 16] = [
     (None, &[Step::Smalls(&[1, 2, 3])], &[0xc3, 0x01, 0x02, 0x03]),
 ];
 
-/// The place of the first row that finishes otherwise.
+/// The place of the first row that finishes as other bytes.
 fn first_wrong_row(alloc: Global) -> Result<Option<usize>, AllocError> {
     for (row, (list, steps, want)) in ROWS.iter().enumerate() {
         if !finish_as(alloc, *list, steps, want)? {
@@ -138,7 +138,8 @@ fn conditions_are_told_before_the_call(rt: HostRuntime) -> Result<(), Fail> {
     Ok(())
 }
 
-/// A call; and after it the bytes as they stand, their size, and what the innermost list awaits.
+/// A call; and after it the bytes now, their size, and the number of items that the innermost list
+/// awaits.
 const CALL_BY_CALL: [(Step, &[u8], usize, Option<usize>); 5] = [
     (Step::Begin(2), &[0x00], 1, Some(2)),
     (Step::Begin(2), &[0x00, 0x00], 2, Some(2)),
@@ -172,7 +173,7 @@ fn stands_as(s: &RlpStream, raw: &[u8], size: usize, awaited: Option<usize>) -> 
         && s.items_awaited() == awaited
 }
 
-/// The place of the first call after which a new stream stands otherwise.
+/// The place of the first call after which a new stream has another state.
 fn first_wrong_call(s: &mut RlpStream) -> Result<Option<usize>, AllocError> {
     for (call, (step, raw, size, awaited)) in CALL_BY_CALL.iter().enumerate() {
         if !make(s, *step)? || !stands_as(s, raw, *size, *awaited) {

@@ -76,7 +76,7 @@ fn append_announced(s: &mut RlpStream, tree: &Tree<'_>) -> Result<(), AllocError
     Ok(())
 }
 
-/// Appends a tree by unbounded lists. `false` where one can't be closed.
+/// Appends a tree by unbounded lists. `false` if one can't be closed.
 fn append_unbounded(s: &mut RlpStream, tree: &Tree<'_>) -> Result<bool, AllocError> {
     match tree {
         Tree::Empty => {
