@@ -1,4 +1,4 @@
--- How values of `Header` are written and read.
+-- How headers of blocks are written and read.
 use Rattle.std.specs.Vec.{vec_items}
 use Rattle.rlp.specs.Codec.{Codec, Fields, and_field, byte_string, last_field, number, struct_of}
 use Rattle.rlp_examples.specs.declared.header.Header.{Header}

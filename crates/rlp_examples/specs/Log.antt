@@ -1,4 +1,4 @@
--- How values of `Log` are written and read.
+-- How logs are written and read.
 use Rattle.std.specs.Vec.{vec_items}
 use Rattle.rlp.specs.Codec.{Codec, Fields, and_field, byte_string, last_field, list_type, struct_of}
 use Rattle.rlp_examples.specs.declared.log.Log.{Log}

@@ -1,51 +1,51 @@
-//! Values of `Header`: the list of its fields.
+//! A header of a block: the list of its twenty fields.
 
 use crate::{Address, Hash};
 use rlp::{Decodable, DecoderError, Encodable, Rlp, RlpStream, RoundTrip, StrictRead};
 use std::alloc::{AllocError, Global};
 
-/// The list of its 20 fields.
+/// A header of a block, with the fields that it has since the fork of Cancun.
 #[derive(Drop)]
 pub struct Header {
-    /// The parent hash.
+    /// The hash of the header before.
     pub parent_hash: Hash,
-    /// The ommers hash.
+    /// The hash of the list of ommers.
     pub ommers_hash: Hash,
-    /// The beneficiary.
+    /// Who is paid for the block.
     pub beneficiary: Address,
-    /// The state root.
+    /// The root of the state after the block.
     pub state_root: Hash,
-    /// The transactions root.
+    /// The root of the transactions.
     pub transactions_root: Hash,
-    /// The receipts root.
+    /// The root of the receipts.
     pub receipts_root: Hash,
-    /// The logs bloom.
+    /// The filter of the logs.
     pub logs_bloom: Vec<u8>,
-    /// The difficulty.
+    /// How much work was asked for.
     pub difficulty: u128,
-    /// The number.
+    /// How many blocks come before.
     pub number: u64,
-    /// The gas limit.
+    /// How much gas the block may use.
     pub gas_limit: u64,
-    /// The gas used.
+    /// How much gas it used.
     pub gas_used: u64,
-    /// The timestamp.
+    /// When it was made, in seconds.
     pub timestamp: u64,
-    /// The extra data.
+    /// Bytes that its maker chose.
     pub extra_data: Vec<u8>,
-    /// The prev randao.
+    /// The random value of the beacon chain.
     pub prev_randao: Hash,
-    /// The nonce.
+    /// The eight bytes of the proof of work.
     pub nonce: Vec<u8>,
-    /// The base fee per gas.
+    /// The least price of a unit of gas.
     pub base_fee_per_gas: u128,
-    /// The withdrawals root.
+    /// The root of the withdrawals.
     pub withdrawals_root: Hash,
-    /// The blob gas used.
+    /// How much gas its blobs used.
     pub blob_gas_used: u64,
-    /// The excess blob gas.
+    /// How much gas of blobs is above the target.
     pub excess_blob_gas: u64,
-    /// The parent beacon block root.
+    /// The root of the block of the beacon chain before.
     pub parent_beacon_block_root: Hash,
 }
 

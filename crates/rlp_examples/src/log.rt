@@ -1,17 +1,17 @@
-//! Values of `Log`: the list of its fields.
+//! A log: the list of an address, the list of topics, and bytes.
 
 use crate::{Address, Hash};
 use rlp::{Decodable, DecoderError, Encodable, ListOf, Rlp, RlpStream, RoundTrip, StrictRead};
 use std::alloc::{AllocError, Global};
 
-/// The list of its 3 fields.
+/// What a contract noted.
 #[derive(Drop)]
 pub struct Log {
-    /// The address.
+    /// Which contract.
     pub address: Address,
-    /// The topics.
+    /// What it is found by.
     pub topics: Vec<Hash>,
-    /// The data.
+    /// What was noted.
     pub data: Vec<u8>,
 }
 
