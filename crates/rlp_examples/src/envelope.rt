@@ -1,0 +1,48 @@
+//! Values in an envelope, as typed transactions are (EIP-2718): the byte of their type, and then
+//! their encoding. The envelope is no item.
+
+ghost use Rattle.std.specs.Prelude.{◌≡◌, ◌∷◌, OnOk, IfOk, IfErr};
+ghost use Rattle.rlp.specs.DecoderError.TheVariants.{OutOfMemory};
+ghost use Rattle.rlp.specs.Format.Encoding.{encoding};
+ghost use Rattle.rlp.specs.Values.Value.{AreAlike};
+
+use bytes::{BufMut, BytesMut};
+use rlp::{DecoderError, Encodable, RlpStream, StrictRead, laws};
+use std::alloc::{AllocError, Global};
+
+/// The envelope of a value: the byte of its type, and its encoding. Types are below 0x80, so that
+/// no envelope begins as a list does.
+pub fn to_envelope<T: Encodable>(
+    alloc: Global,
+    kind: u8,
+    payload: &T,
+) -> Result<BytesMut, AllocError>
+    ensures fits { OnOk result (T.fits payload.now) }
+    ensures bytes { IfOk result (λ b. b.items ≡ kind ∷ encoding (T.item payload.now)) }
+{
+    let mut buffer = BytesMut::new(alloc);
+    buffer.put_u8(kind)?;
+    let mut s = RlpStream::new_with_buffer(alloc, buffer);
+    s.append(payload)?;
+    Ok(s.out())
+}
+
+/// The value whose whole envelope the bytes are, by the law of [`StrictRead`]: bytes with another
+/// type are [`DecoderError::Custom`], and other bytes after it have the fault of the value's type.
+pub fn from_envelope<T: StrictRead>(
+    alloc: Global,
+    kind: u8,
+    bytes: &[u8],
+) -> Result<T, DecoderError>
+    ensures only { (v : T) → IfOk result (λ w. AreAlike T.item w v
+        → bytes.now ≡ kind ∷ encoding (T.item v)) }
+    ensures alike { (v : T) → T.fits v → bytes.now ≡ kind ∷ encoding (T.item v)
+        → IfOk result (λ w. T.fits w × AreAlike T.item w v) }
+    ensures memory { (v : T) → T.fits v → bytes.now ≡ kind ∷ encoding (T.item v)
+        → IfErr result (λ e. e ≡ OutOfMemory) }
+{
+    match bytes {
+        [first, payload @ ..] if *first == kind => laws::strictly_decoded(alloc, payload),
+        _ => Err(DecoderError::Custom("another type")),
+    }
+}
