@@ -175,8 +175,7 @@ impl<F: DecodeField, Q: DecodeFields> DecodeFields for (F, Q) {
 /// faults are those of [`Rlp::item_count`], and of the first field that has one.
 #[tactic(auto, using(crate::proofs::Values::FieldReading::whole_struct, crate::proofs::Views::InOrder::counted_fields))]
 pub fn decode_struct<F: DecodeFields>(alloc: Global, rlp: &Rlp<'_>) -> Result<F, DecoderError>
-    ensures count { OnOk result (item_count rlp.now ≡ Ok F.count) }
-    ensures value { IfOk result (λ x. F.give 0 rlp.now x) }
+    ensures value { IfOk result (λ x. (item_count rlp.now ≡ Ok F.count) × F.give 0 rlp.now x) }
     ensures fault { IfErr result (λ e.
         (FaultsAsStruct F.count F.gives_some F.faults rlp.now e)
         ⊎ ((e ≡ OutOfMemory) × MayLackAsStruct F.count F.gives_some F.may_lack_memory rlp.now)) }
