@@ -2,7 +2,7 @@
 //! The numbers were found by counting over the tables of the format, not by these calls.
 
 use bytes::{Bytes, BytesMut};
-use rlp::{BasicDecoder, Decodable, DecoderError, PayloadInfo, Prototype, Rlp};
+use rlp::{BasicDecoder, Decodable, DecoderError, PayloadInfo, Prototype, Rlp, Uint};
 use std::alloc::{AllocError, Global};
 use std::test::Fail;
 
@@ -253,6 +253,8 @@ const BOOLS: Tally = [512, 0, 0, 0, 16_384, 0, 0, 0, 440, 15_816, 0, 32_384, 0];
 
 const STRINGS: Tally = [33_152, 0, 0, 0, 16_384, 0, 0, 0, 184, 15_816, 0, 0, 0];
 
+const ARRAYS: Tally = [32_896, 0, 256, 0, 16_384, 0, 0, 0, 184, 15_816, 0, 0, 0];
+
 const TEXTS: Tally = [33_024, 0, 0, 0, 16_512, 0, 0, 0, 184, 15_816, 0, 0, 0];
 
 const OPTIONS: Tally = [16_382, 0, 0, 49_152, 1, 0, 0, 0, 1, 0, 0, 0, 0];
@@ -264,6 +266,7 @@ fn numbers_are_decoded(alloc: Global) -> bool {
         && decoded::<u64>(alloc) == NUMBERS
         && decoded::<u128>(alloc) == NUMBERS
         && decoded::<usize>(alloc) == NUMBERS
+        && decoded::<Uint<2>>(alloc) == NUMBERS
         && decoded::<bool>(alloc) == BOOLS
 }
 
@@ -276,6 +279,7 @@ fn strings_are_decoded(alloc: Global) -> bool {
     decoded::<Vec<u8>>(alloc) == STRINGS
         && decoded::<Bytes>(alloc) == STRINGS
         && decoded::<BytesMut>(alloc) == STRINGS
+        && decoded::<[u8; 1]>(alloc) == ARRAYS
         && decoded::<String>(alloc) == TEXTS
         && decoded::<Box<u8>>(alloc) == NUMBERS
         && decoded::<Option<u8>>(alloc) == OPTIONS
