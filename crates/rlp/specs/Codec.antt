@@ -9,11 +9,14 @@ use Rattle.rlp_format.specs.Format.Encoding.{encoding}
 use Rattle.rlp_format.specs.Format.WrittenHeader.{AreBytes}
 use Rattle.rlp_format.specs.Views.View.{View, HoldsItem, item_count, view_of}
 use Rattle.rlp_format.specs.Values.Value.{FitsBytes, bit, number_item, option_item}
-use Rattle.rlp.specs.Values.ValueReading.{FaultsAs, FaultsAsBool, FaultsAsBytes, FaultsAsNumber, FaultsAsText, GivesBool, GivesBytes, GivesNumber, GivesSome, GivesText, GivesValue, IsLengthFault}
-use Rattle.rlp.specs.Values.ListReading.{FaultsAsFields, FaultsAsList, FaultsAsOption, FaultsAt, FaultsInField, GivesAt, GivesList, GivesOption, GivesSomeAt, MayLackAsList, MayLackAsOption, MayLackAsStruct}
+use Rattle.rlp.specs.Values.ValueReading.{FaultsAs, FaultsAsBool, FaultsAsBytes, FaultsAsNumber, FaultsAsText, GivesBool, GivesBytes, GivesNumber,
+  GivesSome, GivesText, GivesValue, IsLengthFault}
+use Rattle.rlp.specs.Values.ListReading.{FaultsAsFields, FaultsAsList, FaultsAsOption, FaultsAt, FaultsInField, GivesAt, GivesList, GivesOption,
+  GivesSomeAt, MayLackAsList, MayLackAsOption, MayLackAsStruct}
 use Rattle.std.proofs.lemmas.List.{nil_from_length}
 use Rattle.rlp.specs.Values.Tails.{FaultsAsTailed, FitsFirst, GivesFirst, MayLackAsTailed, items_first}
-use Rattle.rlp.specs.Lemmas.Tails.{any_enough, first_few, first_tail_alike, first_tail_exact, first_tail_exactly_sound, first_tail_sound, no_tail_enough, no_tail_few, one_more_enough, tailed_reads_back, tailed_strict}
+use Rattle.rlp.specs.Lemmas.Tails.{any_enough, first_few, first_tail_alike, first_tail_exact, first_tail_exactly_sound, first_tail_sound,
+  no_tail_enough, no_tail_few, one_more_enough, tailed_reads_back, tailed_strict}
 use Rattle.rlp.specs.Values.RoundTrip.{ReadsBack, ReadsStrictly}
 use Rattle.rlp.specs.Lemmas.RoundTrips.{bool_reads_back, bytes_in, number_reads_back, reads_back, reads_back_through, sound_length, text_in}
 use Rattle.rlp.specs.Lemmas.ListRoundTrips.{option_reads_back}
@@ -34,9 +37,12 @@ pub record Codec (A : Type 0) : Type 1 where
   pub reads_strictly : (b : List ℕ) (v : A) → AreBytes b → length b < 2 ^ 64 → ReadsStrictly Fits item gives faults b v
 
 -- the codec of a type that has these traits, from their members: for a type with a parameter
-abbrev pub codec_of : {A : Type 0} (Fits : A → Type 0) (item : A → Item) (gives : View → A → Type 0) (faults : View → DecoderError → Type 0) (may_lack : View → Type 0) → ((b : List ℕ) (v : A) → length b < 2 ^ 64 → Fits v → HoldsItem (view_of b) (item v) → ReadsBack Fits item gives faults (view_of b) v)
+abbrev pub codec_of : {A : Type 0} (Fits : A → Type 0) (item : A → Item) (gives : View → A → Type 0) (faults : View → DecoderError → Type 0)
+    (may_lack : View → Type 0) → ((b : List ℕ) (v : A) → length b < 2 ^ 64 → Fits v → HoldsItem (view_of b) (item v)
+    → ReadsBack Fits item gives faults (view_of b) v)
     → ((b : List ℕ) (v : A) → AreBytes b → length b < 2 ^ 64 → ReadsStrictly Fits item gives faults b v) → Codec A
-codec_of Fits item gives faults may_lack reads_back reads_strictly = record { Fits = Fits; item = item; gives = gives; faults = faults; may_lack = may_lack; reads_back = reads_back; reads_strictly = reads_strictly }
+codec_of Fits item gives faults may_lack reads_back reads_strictly =
+    record { Fits = Fits; item = item; gives = gives; faults = faults; may_lack = may_lack; reads_back = reads_back; reads_strictly = reads_strictly }
 
 -- ---- the provided types
 
@@ -89,7 +95,8 @@ text bytes = record {
 }
 
 -- A type that is read from one string: the strings of the values that fit are read, and others have the faults of IsFaulty. No memory is taken.
-abbrev pub string_type : {B : Type 0} (Fits : B → Type 0) (bytes : B → List ℕ) (IsFaulty : List ℕ → DecoderError → Type 0) → ((b : B) (e : DecoderError) → Fits b → ¬ IsFaulty (bytes b) e) → Codec B
+abbrev pub string_type : {B : Type 0} (Fits : B → Type 0) (bytes : B → List ℕ) (IsFaulty : List ℕ → DecoderError → Type 0)
+    → ((b : B) (e : DecoderError) → Fits b → ¬ IsFaulty (bytes b) e) → Codec B
 string_type Fits bytes IsFaulty sound = record {
   Fits = Fits;
   item = λ b. string (bytes b);
@@ -162,7 +169,8 @@ list_type values c = record {
 
 -- ---- structs
 
--- The fields of a struct from some field on, in order. `gives i` says what the items from place i on give, `some k i` that item i gives some value of field k, and `faults k` and `may_lack k` are of the type of field k.
+-- The fields of a struct from some field on, in order. `gives i` says what the items from place i on give, `some k i` that item i gives some value of
+-- field k, and `faults k` and `may_lack k` are of the type of field k.
 pub record Fields (P : Type 0) : Type 1 where
   pub count : ℕ
   pub Fits : P → Type 0
@@ -173,9 +181,12 @@ pub record Fields (P : Type 0) : Type 1 where
   pub may_lack : ℕ → View → Type 0
   pub counted : (p : P) → length (items p) ≡ count
   pub alike : (i : ℕ) (view : View) (p : P) → Fits p → HoldsFrom view i (items p) → (q : P) → gives i view q ↔ (Fits q × (items q ≡ items p))
-  pub sound : (i : ℕ) (view : View) (p : P) → Fits p → HoldsFrom view i (items p) → (k : ℕ) (e : DecoderError) → k < count → ¬ FaultsAt (faults k) view (i + k) e
-  pub exact : (i : ℕ) (view : View) (parts : List (List ℕ)) (p : P) → PartsFrom view i parts → length parts ≡ count → gives i view p ↔ (Fits p × (parts ≡ map encoding (items p)))
-  pub exactly_sound : (i : ℕ) (view : View) (parts : List (List ℕ)) (p : P) → PartsFrom view i parts → Fits p → parts ≡ map encoding (items p) → (k : ℕ) (e : DecoderError) → k < count → ¬ FaultsAt (faults k) view (i + k) e
+  pub sound : (i : ℕ) (view : View) (p : P) → Fits p → HoldsFrom view i (items p) → (k : ℕ) (e : DecoderError) → k < count
+      → ¬ FaultsAt (faults k) view (i + k) e
+  pub exact : (i : ℕ) (view : View) (parts : List (List ℕ)) (p : P) → PartsFrom view i parts → length parts ≡ count → gives i view p
+      ↔ (Fits p × (parts ≡ map encoding (items p)))
+  pub exactly_sound : (i : ℕ) (view : View) (parts : List (List ℕ)) (p : P) → PartsFrom view i parts → Fits p → parts ≡ map encoding (items p)
+      → (k : ℕ) (e : DecoderError) → k < count → ¬ FaultsAt (faults k) view (i + k) e
 
 -- the last field
 abbrev pub last_field : {A P : Type 0} → (P → A) → Codec A → Fields P
@@ -234,7 +245,8 @@ struct_of f = record {
 
 -- ---- structs whose last fields may be missing
 
--- The fields of a struct from some field on, of which the last ones may be missing: there are at least `least` items and at most `most`. The others are as in `Fields`.
+-- The fields of a struct from some field on, of which the last ones may be missing: there are at least `least` items and at most `most`. The others
+-- are as in `Fields`.
 pub record Tailed (P : Type 0) : Type 1 where
   pub least : ℕ
   pub most : ℕ
@@ -246,10 +258,14 @@ pub record Tailed (P : Type 0) : Type 1 where
   pub may_lack : ℕ → View → Type 0
   pub enough : (p : P) → least ≤ length (items p)
   pub few : (p : P) → length (items p) ≤ most
-  pub alike : (i : ℕ) (view : View) (p : P) → Fits p → HoldsFrom view i (items p) → (q : P) → length (items q) ≡ length (items p) → gives i view q ↔ (Fits q × (items q ≡ items p))
-  pub sound : (i : ℕ) (view : View) (p : P) → Fits p → HoldsFrom view i (items p) → (k : ℕ) (e : DecoderError) → k < length (items p) → ¬ FaultsAt (faults k) view (i + k) e
-  pub exact : (i : ℕ) (view : View) (parts : List (List ℕ)) (p : P) → PartsFrom view i parts → length parts ≡ length (items p) → gives i view p ↔ (Fits p × (parts ≡ map encoding (items p)))
-  pub exactly_sound : (i : ℕ) (view : View) (parts : List (List ℕ)) (p : P) → PartsFrom view i parts → Fits p → parts ≡ map encoding (items p) → (k : ℕ) (e : DecoderError) → k < length (items p) → ¬ FaultsAt (faults k) view (i + k) e
+  pub alike : (i : ℕ) (view : View) (p : P) → Fits p → HoldsFrom view i (items p) → (q : P) → length (items q) ≡ length (items p) → gives i view q
+      ↔ (Fits q × (items q ≡ items p))
+  pub sound : (i : ℕ) (view : View) (p : P) → Fits p → HoldsFrom view i (items p) → (k : ℕ) (e : DecoderError) → k < length (items p)
+      → ¬ FaultsAt (faults k) view (i + k) e
+  pub exact : (i : ℕ) (view : View) (parts : List (List ℕ)) (p : P) → PartsFrom view i parts → length parts ≡ length (items p) → gives i view p
+      ↔ (Fits p × (parts ≡ map encoding (items p)))
+  pub exactly_sound : (i : ℕ) (view : View) (parts : List (List ℕ)) (p : P) → PartsFrom view i parts → Fits p → parts ≡ map encoding (items p)
+      → (k : ℕ) (e : DecoderError) → k < length (items p) → ¬ FaultsAt (faults k) view (i + k) e
 
 -- no more fields
 abbrev pub no_tail : {P : Type 0} → Tailed P
@@ -283,12 +299,16 @@ and_optional field c more = record {
   may_lack = by_place c.may_lack more.may_lack;
   enough = λ p. any_enough (length (items_first c.item (field p) (more.items p)));
   few = λ p. first_few c.item (field p) (more.items p) more.most (more.few p);
-  alike = λ i view p fit holds q many. first_tail_alike c.Fits c.item c.gives c.faults c.reads_back i view (field p) (field q) (more.items p) (more.items q) (more.Fits p) (more.Fits q) (more.gives (suc i) view q)
+  alike = λ i view p fit holds q many. first_tail_alike c.Fits c.item c.gives c.faults c.reads_back i view (field p) (field q) (more.items p)
+      (more.items q) (more.Fits p) (more.Fits q) (more.gives (suc i) view q)
       (λ fits others same. more.alike (suc i) view p fits others q same) fit holds many;
-  sound = λ i view p fit holds. first_tail_sound c.Fits c.item c.gives c.faults c.reads_back more.faults i view (field p) (more.items p) (more.Fits p) (λ fits others. more.sound (suc i) view p fits others) fit holds;
-  exact = λ i view parts p held many. first_tail_exact c.Fits c.item c.gives c.faults c.reads_strictly i view parts (field p) (more.items p) (more.Fits p) (more.gives (suc i) view p)
+  sound = λ i view p fit holds. first_tail_sound c.Fits c.item c.gives c.faults c.reads_back more.faults i view (field p) (more.items p) (more.Fits p)
+      (λ fits others. more.sound (suc i) view p fits others) fit holds;
+  exact = λ i view parts p held many. first_tail_exact c.Fits c.item c.gives c.faults c.reads_strictly i view parts (field p) (more.items p)
+      (more.Fits p) (more.gives (suc i) view p)
       (λ others held same. more.exact (suc i) view others p held same) held many;
-  exactly_sound = λ i view parts p held fit same. first_tail_exactly_sound c.Fits c.item c.gives c.faults c.reads_strictly more.faults i view parts (field p) (more.items p) (more.Fits p)
+  exactly_sound = λ i view parts p held fit same. first_tail_exactly_sound c.Fits c.item c.gives c.faults c.reads_strictly more.faults i view parts
+      (field p) (more.items p) (more.Fits p)
       (λ others held fits same. more.exactly_sound (suc i) view others p held fits same) held fit same;
 }
 

@@ -1,5 +1,6 @@
 -- What a stream writes is the join of the items that its calls describe.
-use Rattle.std.proofs.Common.{◌≡◌, ◌<◌, ◌^◌, ℕ, suc, ◌+◌, arith, length-append, Bool, true, false, cond, List, [], ◌∷◌, ◌++◌, length, map, Some, None, refl, sym, ap, ◌∙◌, append-nil, Result, Ok, Err, IsTrue, not, All}
+use Rattle.std.proofs.Common.{◌≡◌, ◌<◌, ◌^◌, ℕ, suc, ◌+◌, arith, length-append, Bool, true, false, cond, List, [], ◌∷◌, ◌++◌, length, map, Some, None,
+  refl, sym, ap, ◌∙◌, append-nil, Result, Ok, Err, IsTrue, not, All}
 use Rattle.std.proofs.lemmas.List.{append_cancel_left}
 use Rattle.std.proofs.lemmas.List.Concat.{flat_map-append}
 use Rattle.rlp_format.specs.Format.WrittenHeader.{big_endian, written_header}
@@ -8,7 +9,9 @@ use Rattle.rlp_format.specs.Format.Encoding.{encoding, join, IsSized}
 use Rattle.rlp_buffer.specs.Streams.Stack.{OpenList, Stack, empty_stack, stack_put, stack_shut, shut_around, stack_count, count_around, is_last}
 use Rattle.rlp_buffer.specs.Streams.Stream.{State, initial_state, list_encoding, put, count}
 use Rattle.rlp_buffer.specs.Streams.Calls.{Call, effect, is_within_size, is_admitted, after, after_from}
-use Rattle.rlp.specs.Streams.Described.{Step, one_list, items_after, items_after_all, Describes, by_append, by_empty_data, by_raw, by_checked_raw, by_refused_raw, by_empty_list, by_list, by_unbounded_list, by_finalize, by_internal_list, by_clear, AreDescribed, IsDescribed, DescribesWhere, AreDescribedWhere, IsDescribedWhere, joined_stack, joined_list, FinishAs}
+use Rattle.rlp.specs.Streams.Described.{Step, one_list, items_after, items_after_all, Describes, by_append, by_empty_data, by_raw, by_checked_raw,
+  by_refused_raw, by_empty_list, by_list, by_unbounded_list, by_finalize, by_internal_list, by_clear, AreDescribed, IsDescribed, DescribesWhere,
+  AreDescribedWhere, IsDescribedWhere, joined_stack, joined_list, FinishAs}
 use Rattle.rlp_format.specs.Lemmas.Encodings.{encoding_list, join_same}
 use Rattle.rlp_format.specs.Lemmas.Views.{sized_items}
 
@@ -22,7 +25,8 @@ closed_joined outer xs = ap (λ (b : List ℕ). join outer ++ b) (one_list_joine
 put_joined : (xs : List Item) (s : Stack Item) → stack_put (join xs) (joined_stack s) ≡ joined_stack (stack_put xs s)
 put_joined xs s = ap (λ (p : List ℕ). record (joined_stack s) { inner = p }) (sym (flat_map-append encoding s.inner xs))
 
-shut_around_joined : (p : List Item) (ls : List (OpenList Item)) → shut_around list_encoding (join p) (map joined_list ls) ≡ joined_stack (shut_around one_list p ls)
+shut_around_joined : (p : List Item) (ls : List (OpenList Item)) → shut_around list_encoding (join p) (map joined_list ls)
+    ≡ joined_stack (shut_around one_list p ls)
 shut_around_joined p [] = refl
 shut_around_joined p (l ∷ ls) =
     let stack : List ℕ → Stack ℕ = λ b. record { inner = b; lists = map joined_list ls } in ap stack (closed_joined l.outer p)
@@ -34,7 +38,8 @@ cond_joined : (b : Bool) (x y : Stack ℕ) (s t : Stack Item) → x ≡ joined_s
 cond_joined true x y s t e f = e
 cond_joined false x y s t e f = f
 
-count_around_joined : (k : ℕ) (p : List Item) (ls : List (OpenList Item)) → count_around list_encoding k (join p) (map joined_list ls) ≡ joined_stack (count_around one_list k p ls)
+count_around_joined : (k : ℕ) (p : List Item) (ls : List (OpenList Item))
+    → count_around list_encoding k (join p) (map joined_list ls) ≡ joined_stack (count_around one_list k p ls)
 count_around_joined k p [] = refl
 count_around_joined k p (l ∷ ls) =
     cond_joined (is_last k l.awaits) _ _ _ _
@@ -44,10 +49,12 @@ count_around_joined k p (l ∷ ls) =
 count_joined : (k : ℕ) (s : Stack Item) → stack_count list_encoding k (joined_stack s) ≡ joined_stack (stack_count one_list k s)
 count_joined k s = count_around_joined k s.inner s.lists
 
-brought_joined : (xs : List Item) (k : ℕ) (s : Stack Item) → stack_count list_encoding k (stack_put (join xs) (joined_stack s)) ≡ joined_stack (stack_count one_list k (stack_put xs s))
+brought_joined : (xs : List Item) (k : ℕ) (s : Stack Item) → stack_count list_encoding k (stack_put (join xs) (joined_stack s))
+    ≡ joined_stack (stack_count one_list k (stack_put xs s))
 brought_joined xs k s = ap (stack_count list_encoding k) (put_joined xs s) ∙ count_joined k (stack_put xs s)
 
-one_joined : (x : Item) (s : Stack Item) → stack_count list_encoding 1 (stack_put (encoding x) (joined_stack s)) ≡ joined_stack (stack_count one_list 1 (stack_put (x ∷ []) s))
+one_joined : (x : Item) (s : Stack Item) → stack_count list_encoding 1 (stack_put (encoding x) (joined_stack s))
+    ≡ joined_stack (stack_count one_list 1 (stack_put (x ∷ []) s))
 one_joined x s = ap (λ (b : List ℕ). stack_count list_encoding 1 (stack_put b (joined_stack s))) (sym (append-nil (encoding x))) ∙ brought_joined (x ∷ []) 1 s
 
 empty_string : encoding (string []) ≡ 0x80 ∷ []
@@ -62,20 +69,27 @@ not_taken : (b : Bool) (x y : State) → IsTrue (not b) → (cond b x y).stack �
 not_taken true x y h = absurd (let no : ⊥ = cc in no)
 not_taken false x y h = refl
 
-effect_joined : (s : State) {c : Call} {m : Step} → Describes s c m → (t : Stack Item) → s.stack ≡ joined_stack t → (effect c s).stack ≡ joined_stack (items_after m t)
+effect_joined : (s : State) {c : Call} {m : Step} → Describes s c m → (t : Stack Item) → s.stack ≡ joined_stack t
+    → (effect c s).stack ≡ joined_stack (items_after m t)
 effect_joined s (by_append x) t e = ap (λ (k : Stack ℕ). stack_count list_encoding 1 (stack_put (encoding x) k)) e ∙ one_joined x t
 effect_joined s by_empty_data t e =
-    ap (λ (k : Stack ℕ). stack_count list_encoding 1 (stack_put (0x80 ∷ []) k)) e ∙ ap (λ (b : List ℕ). stack_count list_encoding 1 (stack_put b (joined_stack t))) (sym empty_string) ∙ one_joined (string []) t
+    ap (λ (k : Stack ℕ). stack_count list_encoding 1 (stack_put (0x80 ∷ []) k)) e
+        ∙ ap (λ (b : List ℕ). stack_count list_encoding 1 (stack_put b (joined_stack t))) (sym empty_string) ∙ one_joined (string []) t
 effect_joined s (by_raw xs a p) t e = ap (λ (k : Stack ℕ). stack_count list_encoding (length xs) (stack_put (join xs) k)) e ∙ brought_joined xs (length xs) t
 effect_joined s (by_checked_raw xs limit a p h) t e =
-    taken (is_within_size (join xs) limit s) (count (length xs) (put (join xs) s)) s _ h (ap (λ (k : Stack ℕ). stack_count list_encoding (length xs) (stack_put (join xs) k)) e ∙ brought_joined xs (length xs) t)
+    taken (is_within_size (join xs) limit s) (count (length xs) (put (join xs) s)) s _ h
+        (ap (λ (k : Stack ℕ). stack_count list_encoding (length xs) (stack_put (join xs) k)) e ∙ brought_joined xs (length xs) t)
 effect_joined s (by_refused_raw b k limit h) t e = not_taken (is_within_size b limit s) (count k (put b s)) s h ∙ e
 effect_joined s by_empty_list t e = ap (λ (k : Stack ℕ). stack_count list_encoding 1 (stack_put (encoding (list_of [])) k)) e ∙ one_joined (list_of []) t
-effect_joined s (by_list n) t e = let with_list : Stack ℕ → Stack ℕ = λ k. record { inner = []; lists = record { awaits = Some (suc n); outer = k.inner } ∷ k.lists } in ap with_list e
-effect_joined s by_unbounded_list t e = let with_list : Stack ℕ → Stack ℕ = λ k. record { inner = []; lists = record { awaits = None; outer = k.inner } ∷ k.lists } in ap with_list e
+effect_joined s (by_list n) t e = let with_list : Stack ℕ → Stack ℕ = λ k.
+    record { inner = []; lists = record { awaits = Some (suc n); outer = k.inner } ∷ k.lists } in ap with_list e
+effect_joined s by_unbounded_list t e = let with_list : Stack ℕ → Stack ℕ = λ k.
+    record { inner = []; lists = record { awaits = None; outer = k.inner } ∷ k.lists } in ap with_list e
 effect_joined s by_finalize t e =
-    ap (λ (k : Stack ℕ). stack_count list_encoding 1 (stack_shut list_encoding k)) e ∙ ap (stack_count list_encoding 1) (shut_joined t) ∙ count_joined 1 (stack_shut one_list t)
-effect_joined s (by_internal_list xs) t e = ap (λ (k : Stack ℕ). stack_count list_encoding 1 (stack_put (encoding (list_of xs)) k)) e ∙ one_joined (list_of xs) t
+    ap (λ (k : Stack ℕ). stack_count list_encoding 1 (stack_shut list_encoding k)) e ∙ ap (stack_count list_encoding 1) (shut_joined t)
+        ∙ count_joined 1 (stack_shut one_list t)
+effect_joined s (by_internal_list xs) t e = ap (λ (k : Stack ℕ). stack_count list_encoding 1 (stack_put (encoding (list_of xs)) k)) e
+    ∙ one_joined (list_of xs) t
 effect_joined s by_clear t e = refl
 
 cond_true : {A : Type 0} (b : Bool) (x y : A) → IsTrue b → cond b x y ≡ x
@@ -130,7 +144,8 @@ described_finishes front calls xs d =
     let r = described_joins front calls d.steps d.described in (r.0, r.1, r.2, r.3 ∙ ap joined_stack d.finished)
 
 -- no other items are described
-pub described_once : (front : List ℕ) (calls : List Call) (xs ys : List Item) → All IsSized xs → All IsSized ys → IsDescribed front calls xs → IsDescribed front calls ys → xs ≡ ys
+pub described_once : (front : List ℕ) (calls : List Call) (xs ys : List Item) → All IsSized xs → All IsSized ys → IsDescribed front calls xs
+    → IsDescribed front calls ys → xs ≡ ys
 described_once front calls xs ys a b d e =
     let r = described_finishes front calls xs d in
     let q = described_finishes front calls ys e in
@@ -160,7 +175,8 @@ are_described_anyhow P s (c ∷ calls) [] d = absurd d
 are_described_anyhow P s (c ∷ calls) (m ∷ steps) d = (d.0, described_anyhow s d.1, are_described_anyhow P (effect c s) calls steps d.2)
 
 -- calls that are described where raw items are restricted are described
-pub steps_anyhow : (P : Item → Type 0) (front : List ℕ) (calls : List Call) (steps : List Step) → AreDescribedWhere P (initial_state front) calls steps → AreDescribed (initial_state front) calls steps
+pub steps_anyhow : (P : Item → Type 0) (front : List ℕ) (calls : List Call) (steps : List Step)
+    → AreDescribedWhere P (initial_state front) calls steps → AreDescribed (initial_state front) calls steps
 steps_anyhow P front calls steps d = are_described_anyhow P (initial_state front) calls steps d
 
 -- they describe the same items then
@@ -176,14 +192,16 @@ described_buffer front calls xs d =
     record { last = r.0; admitted = r.1; closed = ap (λ (s : Stack ℕ). s.lists) r.3; buffer = sym (ap (λ (s : Stack ℕ). front ++ s.inner) r.3) }
 
 -- and as nothing else
-pub described_buffer_only : (front : List ℕ) (calls : List Call) (xs : List Item) (bytes : List ℕ) → IsDescribed front calls xs → FinishAs front calls bytes → bytes ≡ front ++ join xs
+pub described_buffer_only : (front : List ℕ) (calls : List Call) (xs : List Item) (bytes : List ℕ) → IsDescribed front calls xs
+    → FinishAs front calls bytes → bytes ≡ front ++ join xs
 described_buffer_only front calls xs bytes d f =
     let r = described_finishes front calls xs d in
     let last : f.last ≡ r.0 = let both : Ok f.last ≡ Ok r.0 = sym f.admitted ∙ r.1 in cc in
     f.buffer ∙ ap (λ (s : State). front ++ s.stack.inner) last ∙ ap (λ (s : Stack ℕ). front ++ s.inner) r.3
 
 -- equal buffers over one front are of equal items
-pub same_buffer : (front : List ℕ) (calls more : List Call) (xs ys : List Item) (one other : List ℕ) → length one < 2 ^ 64 → length other < 2 ^ 64 → IsDescribed front calls xs → FinishAs front calls one
+pub same_buffer : (front : List ℕ) (calls more : List Call) (xs ys : List Item) (one other : List ℕ) → length one < 2 ^ 64 → length other < 2 ^ 64
+    → IsDescribed front calls xs → FinishAs front calls one
     → IsDescribed front more ys → FinishAs front more other → one ≡ other → xs ≡ ys
 same_buffer front calls more xs ys one other small little d f e g same =
     let first : one ≡ front ++ join xs = described_buffer_only front calls xs one d f in
@@ -193,6 +211,7 @@ same_buffer front calls more xs ys one other small little d f e g same =
     join_same xs ys (sized_items xs (2 ^ 64) a) (sized_items ys (2 ^ 64) b) (append_cancel_left front (join xs) (join ys) (sym first ∙ same ∙ second))
 
 -- calls that describe the same items finish alike
-pub same_items : (front : List ℕ) (calls more : List Call) (xs ys : List Item) (one other : List ℕ) → IsDescribed front calls xs → FinishAs front calls one → IsDescribed front more ys → FinishAs front more other → xs ≡ ys → one ≡ other
+pub same_items : (front : List ℕ) (calls more : List Call) (xs ys : List Item) (one other : List ℕ) → IsDescribed front calls xs
+    → FinishAs front calls one → IsDescribed front more ys → FinishAs front more other → xs ≡ ys → one ≡ other
 same_items front calls more xs ys one other d f e g same =
     described_buffer_only front calls xs one d f ∙ ap (λ (zs : List Item). front ++ join zs) same ∙ sym (described_buffer_only front more ys other e g)

@@ -1,5 +1,6 @@
 -- One reading of values whose items are lists.
-use Rattle.std.proofs.Common.{◌≡◌, ℕ, zero, suc, ◌^◌, ◌<◌, ◌⊎◌, inl, inr, Bool, true, false, [], ◌∷◌, length, refl, sym, ap, ◌∙◌, subst, arith, codes, Option, Some, None, Result, Ok, Err, IsOkAnd, MatchResult}
+use Rattle.std.proofs.Common.{◌≡◌, ℕ, zero, suc, ◌^◌, ◌<◌, ◌⊎◌, inl, inr, Bool, true, false, [], ◌∷◌, length, refl, sym, ap, ◌∙◌, subst, arith, codes,
+  Option, Some, None, Result, Ok, Err, IsOkAnd, MatchResult}
 use Rattle.rlp_format.specs.declared.error.DecoderError.{DecoderError}
 use Rattle.rlp_format.specs.declared.error.DecoderError.TheVariants.{RlpIncorrectListLen, Custom}
 use Rattle.rlp_format.specs.Format.Item.{Item, list_of}
@@ -15,8 +16,10 @@ use Rattle.rlp.specs.Lemmas.Slices.{part_of_items}
 
 -- ---- one item of a list
 
-module _ {A : Type 0} (item : A → Item) (gives : View → A → Type 0) (faults : View → DecoderError → Type 0) (law : (v : View) → AreBytes v.bytes → length v.bytes < 2 ^ 64 → HasOneReading item (gives v) (faults v)) where
-  read_by : (r : Result View DecoderError) → ((v : View) → r ≡ Ok v → AreBytes v.bytes × (length v.bytes < 2 ^ 64)) → HasOneReading item (λ x. IsOkAnd r (λ v. gives v x)) (λ e. MatchResult r (λ v. faults v e) (λ f. e ≡ f))
+module _ {A : Type 0} (item : A → Item) (gives : View → A → Type 0) (faults : View → DecoderError → Type 0)
+    (law : (v : View) → AreBytes v.bytes → length v.bytes < 2 ^ 64 → HasOneReading item (gives v) (faults v)) where
+  read_by : (r : Result View DecoderError) → ((v : View) → r ≡ Ok v → AreBytes v.bytes × (length v.bytes < 2 ^ 64))
+      → HasOneReading item (λ x. IsOkAnd r (λ v. gives v x)) (λ e. MatchResult r (λ v. faults v e) (λ f. e ≡ f))
   read_by (Ok v) slice = let (bytes, short) = slice v refl in law v bytes short
   read_by (Err f) slice = record {
     some = inr (f, refl);
@@ -26,13 +29,15 @@ module _ {A : Type 0} (item : A → Item) (gives : View → A → Type 0) (fault
   }
 
   -- the value of an item by number has one reading
-  pub at_reading : (view : View) (i : ℕ) → AreBytes view.bytes → length view.bytes < 2 ^ 64 → HasOneReading item (λ x. GivesAt gives view i x) (λ e. FaultsAt faults view i e)
+  pub at_reading : (view : View) (i : ℕ) → AreBytes view.bytes → length view.bytes < 2 ^ 64
+      → HasOneReading item (λ x. GivesAt gives view i x) (λ e. FaultsAt faults view i e)
   at_reading view i bytes short = read_by (item_at view i) (λ v is. part_of_items view v i bytes short is)
 
   -- ---- options
 
   module _ (view : View) (field : HasOneReading item (λ x. GivesAt gives view 0 x) (λ e. FaultsAt faults view 0 e)) where
-    some_counted : (r : Result ℕ DecoderError) → item_count view ≡ r → ((o : Option A) × GivesOption gives view o) ⊎ ((e : DecoderError) × FaultsAsOption faults view e)
+    some_counted : (r : Result ℕ DecoderError) → item_count view ≡ r → ((o : Option A) × GivesOption gives view o)
+        ⊎ ((e : DecoderError) × FaultsAsOption faults view e)
     some_counted (Err e) is = inr (e, no_list e is)
     some_counted (Ok zero) is = inl (None, no_value is)
     some_counted (Ok (suc zero)) is = elim field.some [ inl (x, g) ↦ inl (Some x, one_value x is g) | inr (e, f) ↦ inr (e, faulty_item e is f) ]
@@ -67,7 +72,8 @@ module _ {A : Type 0} (item : A → Item) (gives : View → A → Type 0) (fault
     by_field = record { some = some_counted (item_count view) refl; one_value = one_given; one_fault = one_faulty; not_both = not_both_by }
 
   -- an option has one reading where its value has
-  pub option_reading : (view : View) → AreBytes view.bytes → length view.bytes < 2 ^ 64 → HasOneReading (option_item item) (λ o. GivesOption gives view o) (λ e. FaultsAsOption faults view e)
+  pub option_reading : (view : View) → AreBytes view.bytes → length view.bytes < 2 ^ 64
+      → HasOneReading (option_item item) (λ o. GivesOption gives view o) (λ e. FaultsAsOption faults view e)
   option_reading view bytes short = by_field view (at_reading view 0 bytes short)
 
 -- ---- truth values

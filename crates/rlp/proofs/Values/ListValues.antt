@@ -20,19 +20,22 @@ pub views-all : (done left all : List View) → done ++ left ≡ all → left �
 views-all done left all e s = sym (append-nil done) ∙ ap (λ vs. done ++ vs) (sym s) ∙ e
 
 -- one value more, of one view more
-pub gives-more : {A : Type 0} (gives : View → A → Type 0) (vs : List View) (xs : List A) (v : View) (x : A) → GivesEach gives vs xs → gives v x → GivesEach gives (vs ++ v ∷ []) (xs ++ x ∷ [])
+pub gives-more : {A : Type 0} (gives : View → A → Type 0) (vs : List View) (xs : List A) (v : View) (x : A) → GivesEach gives vs xs → gives v x
+    → GivesEach gives (vs ++ v ∷ []) (xs ++ x ∷ [])
 gives-more gives [] [] v x each one = (one, tt)
 gives-more gives [] (y ∷ xs) v x each one = absurd each
 gives-more gives (w ∷ vs) [] v x each one = absurd each
 gives-more gives (w ∷ vs) (y ∷ xs) v x each one = (each.0, gives-more gives vs xs v x each.1 one)
 
-module _ {A : Type 0} (gives : View → A → Type 0) (faults : View → DecoderError → Type 0) (may_lack : View → Type 0) (v : View) (is_list : list_fault v ≡ None) (done more : List View) (item : View) (xs : List A)
+module _ {A : Type 0} (gives : View → A → Type 0) (faults : View → DecoderError → Type 0) (may_lack : View → Type 0) (v : View)
+    (is_list : list_fault v ≡ None) (done more : List View) (item : View) (xs : List A)
     (all : item_views v ≡ done ++ item ∷ more) (good : GivesEach gives done xs) where
   reached : (IsSuch : View → Type 0) → IsSuch item → ComesTo gives IsSuch (item_views v)
   reached IsSuch is = record { before = done; values = xs; reached = item; after = more; all = all; good = good; is = is }
 
   -- a fault of an item before which each item gives a value, or want of memory there
-  pub faults-first : (e : DecoderError) → (faults item e) ⊎ ((e ≡ OutOfMemory) × may_lack item) → FaultsAsList gives faults v e ⊎ ((e ≡ OutOfMemory) × MayLackAsList gives may_lack v)
+  pub faults-first : (e : DecoderError) → (faults item e) ⊎ ((e ≡ OutOfMemory) × may_lack item) → FaultsAsList gives faults v e
+      ⊎ ((e ≡ OutOfMemory) × MayLackAsList gives may_lack v)
   faults-first e (inl bad) = inl (faulty_in_list is_list (reached (λ v. faults v e) bad))
   faults-first e (inr (lacks, may)) = inr (lacks, record { is_list = is_list; comes = reached (λ v. GivesSome gives v ⊎ may_lack v) (inr may) })
 
@@ -41,6 +44,7 @@ module _ {A : Type 0} (gives : View → A → Type 0) (faults : View → Decoder
   no-room x given = record { is_list = is_list; comes = reached (λ v. GivesSome gives v ⊎ may_lack v) (inl (x, given)) }
 
 -- where an answer is what the item by number gives, it gives some value
-pub some_given : {A : Type 0} (r : Result A DecoderError) (gives : View → A → Type 0) (v : View) (i : ℕ) → IfOk r (λ x. GivesAt gives v i x) → OnOk r (GivesSomeAt gives v i)
+pub some_given : {A : Type 0} (r : Result A DecoderError) (gives : View → A → Type 0) (v : View) (i : ℕ) → IfOk r (λ x. GivesAt gives v i x)
+    → OnOk r (GivesSomeAt gives v i)
 some_given (Ok x) gives v i given = record { given = x; at = given }
 some_given (Err e) gives v i given = tt

@@ -1,5 +1,6 @@
 -- Whether bytes are the whole encoding of an item, as a walk over its items tells.
-use Rattle.std.proofs.Common.{◌≡◌, ℕ, suc, max, ◌-◌, ◌^◌, ◌<◌, ◌≤◌, ◌↔◌, Bool, true, false, List, [], ◌∷◌, ◌++◌, length, map, refl, sym, ap, ◌∙◌, subst, arith, append-nil, append_assoc, length-append, IsTrue, Some, None, pos_of_ne-zero}
+use Rattle.std.proofs.Common.{◌≡◌, ℕ, suc, max, ◌-◌, ◌^◌, ◌<◌, ◌≤◌, ◌↔◌, Bool, true, false, List, [], ◌∷◌, ◌++◌, length, map, refl, sym, ap, ◌∙◌,
+  subst, arith, append-nil, append_assoc, length-append, IsTrue, Some, None, pos_of_ne-zero}
 use Rattle.std.specs.List.{concat}
 use Rattle.rlp_format.specs.declared.error.DecoderError.{DecoderError}
 use Rattle.rlp_format.specs.Format.Item.{Item, Items, string, list, items_from, listed, list_of, item_depth, items_depth}
@@ -24,10 +25,12 @@ string_alone : (b : List ℕ) (x : Item) → length b < 2 ^ 64 → false ≡ beg
 string_alone b (string s) fits kind is = (s, is)
 string_alone b (list ys) fits kind is =
     let is' : b ≡ encoding (list_of (listed ys)) = is ∙ ap encoding (sym (list_again ys)) in
-    let begins : begins_as_list b ≡ true = (list_shape (listed ys) b (sized_whole (list_of (listed ys)) b fits is') ([], is' ∙ sym (append-nil (encoding (list_of (listed ys)))))).0 in
+    let begins : begins_as_list b ≡ true =
+        (list_shape (listed ys) b (sized_whole (list_of (listed ys)) b fits is') ([], is' ∙ sym (append-nil (encoding (list_of (listed ys)))))).0 in
     absurd (let no : ⊥ = cc in no)
 
-pub string_canonical : (b : List ℕ) (most : ℕ) (r : Bool) → length b < 2 ^ 64 → false ≡ begins_as_list b → (IsTrue r ↔ ((d : List ℕ) × (b ≡ encoding (string d)))) → IsTrue r ↔ IsCanonicalWithin most b
+pub string_canonical : (b : List ℕ) (most : ℕ) (r : Bool) → length b < 2 ^ 64 → false ≡ begins_as_list b
+    → (IsTrue r ↔ ((d : List ℕ) × (b ≡ encoding (string d)))) → IsTrue r ↔ IsCanonicalWithin most b
 string_canonical b most r fits kind found = (
   λ t. let (d, is) = found.0 t in (string d, is, let low : 0 ≤ most = omega arith in low),
   λ (x, is, deep). found.1 (string_alone b x fits kind is),
@@ -41,7 +44,8 @@ record IsListWithin (b : List ℕ) (most : ℕ) : Type 0 where
 
 list_alone : (b : List ℕ) (most : ℕ) (x : Item) → length b < 2 ^ 64 → true ≡ begins_as_list b → b ≡ encoding x → item_depth x ≤ most → IsListWithin b most
 list_alone b most (string s) fits kind is deep =
-    let other : begins_as_list b ≡ false = not_list s b (sized_whole (string s) b fits is) ([], is ∙ sym (append-nil (encoding (string s)))) in absurd (let no : ⊥ = cc in no)
+    let other : begins_as_list b ≡ false = not_list s b (sized_whole (string s) b fits is) ([], is ∙ sym (append-nil (encoding (string s)))) in
+        absurd (let no : ⊥ = cc in no)
 list_alone b most (list ys) fits kind is deep = record {
   xs = listed ys;
   is = is ∙ ap encoding (sym (list_again ys));
@@ -69,31 +73,37 @@ listed_items : (b : List ℕ) (xs : List Item) → length b < 2 ^ 64 → b ≡ e
 listed_items b xs fits is = strict_items xs b (sized_whole (list_of xs) b fits is) is
 
 -- bytes of a payload that are no item
-pub stray_bytes : (b rest : List ℕ) (most : ℕ) (done : List Item) → length b < 2 ^ 64 → true ≡ begins_as_list b → map encoding done ++ split rest ≡ items b → payload b ≡ join done ++ rest → split rest ≡ [] → 0 < length rest
+pub stray_bytes : (b rest : List ℕ) (most : ℕ) (done : List Item) → length b < 2 ^ 64 → true ≡ begins_as_list b
+    → map encoding done ++ split rest ≡ items b → payload b ≡ join done ++ rest → split rest ≡ [] → 0 < length rest
     → ¬ IsCanonicalWithin most b
 stray_bytes b rest most done fits kind all whole none some (x, is, deep) =
     let l = list_alone b most x fits kind is deep in
-    let same : map encoding done ≡ map encoding l.xs = sym (append-nil (map encoding done)) ∙ ap (λ s. map encoding done ++ s) (sym none) ∙ all ∙ listed_items b l.xs fits l.is in
+    let same : map encoding done ≡ map encoding l.xs = sym (append-nil (map encoding done)) ∙ ap (λ s. map encoding done ++ s) (sym none) ∙ all
+        ∙ listed_items b l.xs fits l.is in
     let joined : join done ≡ join l.xs = join_is done ∙ ap concat same ∙ sym (join_is l.xs) in
     let bytes : join done ++ rest ≡ join done = sym whole ∙ payload_joined b l.xs fits l.is ∙ sym joined in
     omega (arith, ap length bytes, length-append (join done) rest)
 
 -- one of the encodings is that of an item, no deeper than the deepest
-one_of : (before after : List (List ℕ)) (f : List ℕ) (xs : List Item) → before ++ f ∷ after ≡ map encoding xs → (y : Item) × (f ≡ encoding y) × (item_depth y ≤ items_depth (items_from xs))
+one_of : (before after : List (List ℕ)) (f : List ℕ) (xs : List Item) → before ++ f ∷ after ≡ map encoding xs → (y : Item) × (f ≡ encoding y)
+    × (item_depth y ≤ items_depth (items_from xs))
 one_of [] after f [] is = absurd (let no : ⊥ = cc in no)
 one_of (g ∷ before) after f [] is = absurd (let no : ⊥ = cc in no)
-one_of [] after f (x ∷ xs) is = let same : f ≡ encoding x = cc in (x, same, let low : item_depth x ≤ max (item_depth x) (items_depth (items_from xs)) = omega arith in low)
+one_of [] after f (x ∷ xs) is = let same : f ≡ encoding x = cc in
+    (x, same, let low : item_depth x ≤ max (item_depth x) (items_depth (items_from xs)) = omega arith in low)
 one_of (g ∷ before) after f (x ∷ xs) is =
     let more : before ++ f ∷ after ≡ map encoding xs = cc in
     let (y, same, low) = one_of before after f xs more in
     (y, same, let below : item_depth y ≤ max (item_depth x) (items_depth (items_from xs)) = omega (arith, low) in below)
 
 -- an item that isn't canonical within the depth that is left
-pub stray_item : (b rest item others : List ℕ) (most : ℕ) (done : List Item) → length b < 2 ^ 64 → true ≡ begins_as_list b → map encoding done ++ split rest ≡ items b → split rest ≡ item ∷ split others → ¬ IsCanonicalWithin (most - 1) item
+pub stray_item : (b rest item others : List ℕ) (most : ℕ) (done : List Item) → length b < 2 ^ 64 → true ≡ begins_as_list b
+    → map encoding done ++ split rest ≡ items b → split rest ≡ item ∷ split others → ¬ IsCanonicalWithin (most - 1) item
     → ¬ IsCanonicalWithin most b
 stray_item b rest item others most done fits kind all parts other (x, is, deep) =
     let l = list_alone b most x fits kind is deep in
-    let same : map encoding done ++ item ∷ split others ≡ map encoding l.xs = ap (λ s. map encoding done ++ s) (sym parts) ∙ all ∙ listed_items b l.xs fits l.is in
+    let same : map encoding done ++ item ∷ split others ≡ map encoding l.xs = ap (λ s. map encoding done ++ s) (sym parts) ∙ all
+        ∙ listed_items b l.xs fits l.is in
     let (y, found, low) = one_of (map encoding done) (split others) item l.xs same in
     other (y, found, omega (arith, low, l.deep))
 
@@ -119,20 +129,25 @@ depth-more : (xs : List Item) (x : Item) (most : ℕ) → items_depth (items_fro
 depth-more [] x most few low = omega arith
 depth-more (y ∷ xs) x most few low = let more : items_depth (items_from (xs ++ x ∷ [])) ≤ most = depth-more xs x most (omega arith) low in omega (arith, more)
 
-pub done_one : (b rest item others : List ℕ) (most : ℕ) → IsDone b rest most → split rest ≡ item ∷ split others → rest ≡ item ++ others → IsCanonicalWithin most item → IsDone b others most
+pub done_one : (b rest item others : List ℕ) (most : ℕ) → IsDone b rest most → split rest ≡ item ∷ split others → rest ≡ item ++ others
+    → IsCanonicalWithin most item → IsDone b others most
 done_one b rest item others most is parts whole (x, same, low) = record {
   done = is.done ++ x ∷ [];
-  all = ap (λ s. s ++ split others) (map-more is.done x) ∙ append_assoc (map encoding is.done) (encoding x ∷ []) (split others) ∙ ap (λ f. map encoding is.done ++ f ∷ split others) (sym same) ∙ ap (λ s. map encoding is.done ++ s) (sym parts) ∙ is.all;
-  whole = is.whole ∙ ap (λ s. join is.done ++ s) (whole ∙ ap (λ f. f ++ others) same) ∙ sym (append_assoc (join is.done) (encoding x) others) ∙ ap (λ s. s ++ others) (sym (join-more is.done x));
+  all = ap (λ s. s ++ split others) (map-more is.done x) ∙ append_assoc (map encoding is.done) (encoding x ∷ []) (split others)
+      ∙ ap (λ f. map encoding is.done ++ f ∷ split others) (sym same) ∙ ap (λ s. map encoding is.done ++ s) (sym parts) ∙ is.all;
+  whole = is.whole ∙ ap (λ s. join is.done ++ s) (whole ∙ ap (λ f. f ++ others) same) ∙ sym (append_assoc (join is.done) (encoding x) others)
+      ∙ ap (λ s. s ++ others) (sym (join-more is.done x));
   shallow = depth-more is.done x most is.shallow low;
 }
 
 -- a walk that comes to the end of a list's payload
-pub done_all : (b rest : List ℕ) (most : ℕ) → IsFramedItem b → true ≡ begins_as_list b → (most ≡ 0 → ⊥) → rest ≡ [] → IsDone b rest (most - 1) → IsCanonicalWithin most b
+pub done_all : (b rest : List ℕ) (most : ℕ) → IsFramedItem b → true ≡ begins_as_list b → (most ≡ 0 → ⊥) → rest ≡ [] → IsDone b rest (most - 1)
+    → IsCanonicalWithin most b
 done_all b rest most framed kind some none is =
     let joined : payload b ≡ join is.done = is.whole ∙ ap (λ r. join is.done ++ r) none ∙ append-nil (join is.done) in
     let positive : 0 < most = pos_of_ne-zero some in
-    (list_of is.done, whole_by b framed.header_len framed.value_len is.done (sym kind) joined framed.has_header framed.whole, let deep : suc (items_depth (items_from is.done)) ≤ most = omega (arith, is.shallow) in deep)
+    (list_of is.done, whole_by b framed.header_len framed.value_len is.done (sym kind) joined framed.has_header framed.whole,
+        let deep : suc (items_depth (items_from is.done)) ≤ most = omega (arith, is.shallow) in deep)
 
 never : false ≡ true → ⊥
 never e = cc

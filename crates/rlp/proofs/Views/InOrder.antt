@@ -9,13 +9,15 @@ use Rattle.rlp_format.specs.Views.View.{View, item_at, item_count, items_fault}
 use Rattle.rlp_format.specs.declared.error.DecoderError.TheVariants.{RlpIncorrectListLen}
 use Rattle.rlp.specs.Values.FieldPlace.{IsAtPlace}
 use Rattle.rlp.specs.Values.ListReading.{FaultsAsFields, no_fields, other_count}
-use Rattle.rlp_format.specs.Lemmas.Numbered.{Numbered, item_at-past, item_at-unframed, item_count-fault, item_count-told, item_there, no_item, not_told, numbered, payload-fault, told_begins}
+use Rattle.rlp_format.specs.Lemmas.Numbered.{Numbered, item_at-past, item_at-unframed, item_count-fault, item_count-told, item_there, no_item,
+  not_told, numbered, payload-fault, told_begins}
 use Rattle.rlp_format.proofs.Views.ItemPlaces.{fault-err, get_or-drop}
 use Rattle.rlp_format.proofs.Format.Splits.{drop-inside, drop-next, split-nil}
 use Rattle.rlp_format.proofs.Format.StrictLists.{after_items-next, after_items-none, rest-after, value-items, value-payload}
 
 -- before the first item of a framed list
-pub framed_place : (v : View) (p : PayloadInfo) (q left : List ℕ) → items_fault v ≡ None → framing v.bytes ≡ Ok p → value v.bytes ≡ Ok q → left ≡ q → IsAtPlace v 0 left
+pub framed_place : (v : View) (p : PayloadInfo) (q left : List ℕ) → items_fault v ≡ None → framing v.bytes ≡ Ok p → value v.bytes ≡ Ok q → left ≡ q
+    → IsAtPlace v 0 left
 framed_place v p q left told framed is same =
     let kind : true ≡ _ = sym (told_begins v told) in
     let whole : rest v.bytes ≡ after_items left = rest-after v.bytes ∙ ap after_items (sym (same ∙ value-payload v.bytes q kind is)) in
@@ -31,7 +33,8 @@ unfolding items
 no_items b none = ap split none ∙ split-nil
 
 -- before a list that isn't framed, which has no items
-pub unframed_place : (v : View) (e : DecoderError) (left : List ℕ) → items_fault v ≡ None → framing v.bytes ≡ Err e → split v.bytes ≡ [] → left ≡ v.bytes → IsAtPlace v 0 left
+pub unframed_place : (v : View) (e : DecoderError) (left : List ℕ) → items_fault v ≡ None → framing v.bytes ≡ Err e → split v.bytes ≡ []
+    → left ≡ v.bytes → IsAtPlace v 0 left
 unframed_place v e left told framed none same =
     let fault_is : e ≡ fault (after_items left) = fault-err v.bytes e framed ∙ ap fault (sym (ap after_items same ∙ after_items-none v.bytes none)) in
     record {
@@ -41,21 +44,25 @@ unframed_place v e left told framed none same =
       past = λ i l. item_at-unframed v i e told framed ∙ ap Err fault_is;
     }
 
-there_by : (v : View) (item : List ℕ) (i : ℕ) (ys : List (List ℕ)) → items_fault v ≡ None → drop i (items v.bytes) ≡ item ∷ ys → Numbered v i → item_at v i ≡ Ok (record v { bytes = item })
+there_by : (v : View) (item : List ℕ) (i : ℕ) (ys : List (List ℕ)) → items_fault v ≡ None → drop i (items v.bytes) ≡ item ∷ ys → Numbered v i
+    → item_at v i ≡ Ok (record v { bytes = item })
 there_by v item i ys told' here (item_there told inside is) = is ∙ ap (λ b. Ok (record v { bytes = b })) (get_or-drop i (items v.bytes) ys item [] here)
 there_by v item i ys told' here (no_item e told past is others) = let inside = drop-inside i (items v.bytes) ys item here in absurd (omega arith)
 there_by v item i ys told here (not_told e none all) = absurd (let no : ⊥ = cc in no)
 
-there_same : (v : View) (item : List ℕ) (i : ℕ) (ys : List (List ℕ)) → items_fault v ≡ None → drop i (items v.bytes) ≡ item ∷ ys → Ok (record v { bytes = item }) ≡ item_at v i
+there_same : (v : View) (item : List ℕ) (i : ℕ) (ys : List (List ℕ)) → items_fault v ≡ None → drop i (items v.bytes) ≡ item ∷ ys
+    → Ok (record v { bytes = item }) ≡ item_at v i
 there_same v item i ys told here = sym (there_by v item i ys told here (numbered v i))
 
 -- the next item is the one by that number
-pub next_there : (v : View) (place : ℕ) (left item others : List ℕ) → IsAtPlace v place left → split left ≡ item ∷ split others → Ok (record v { bytes = item }) ≡ item_at v place
+pub next_there : (v : View) (place : ℕ) (left item others : List ℕ) → IsAtPlace v place left → split left ≡ item ∷ split others
+    → Ok (record v { bytes = item }) ≡ item_at v place
 next_there v place left item others at parts =
     let here = sym at.others ∙ parts in there_same v item place (split others) at.told here
 
 -- the place after it
-pub next_place : (v : View) (place : ℕ) (left item others : List ℕ) → IsAtPlace v place left → split left ≡ item ∷ split others → left ≡ item ++ others → IsAtPlace v (place + 1) others
+pub next_place : (v : View) (place : ℕ) (left item others : List ℕ) → IsAtPlace v place left → split left ≡ item ∷ split others
+    → left ≡ item ++ others → IsAtPlace v (place + 1) others
 next_place v place left item others at parts whole =
     let here = sym at.others ∙ parts in
     record {
@@ -70,7 +77,8 @@ all_taken v place left at none =
     let zero_left : length (items v.bytes) - place ≡ 0 = sym (length-drop place (items v.bytes)) ∙ ap length (sym at.others ∙ none) in omega arith
 
 -- where no item is left, the fault is that of what follows the items
-pub next_missing : (v : View) (place : ℕ) (left : List ℕ) (e : DecoderError) → IsAtPlace v place left → split left ≡ [] → e ≡ fault left → Err e ≡ item_at v place
+pub next_missing : (v : View) (place : ℕ) (left : List ℕ) (e : DecoderError) → IsAtPlace v place left → split left ≡ [] → e ≡ fault left
+    → Err e ≡ item_at v place
 next_missing v place left e at none same =
     sym (at.past place (all_taken v place left at none) ∙ ap (λ b. Err (fault b)) (after_items-none left none) ∙ ap Err (sym same))
 
@@ -82,7 +90,8 @@ all_counted v place left at none =
     item_count-told v at.told ∙ ap Ok same
 
 -- with an item left, there are more
-pub more_counted : (v : View) (place : ℕ) (left item others : List ℕ) → IsAtPlace v place left → split left ≡ item ∷ split others → FaultsAsFields place (λ _ _. ⊥) v RlpIncorrectListLen
+pub more_counted : (v : View) (place : ℕ) (left item others : List ℕ) → IsAtPlace v place left → split left ≡ item ∷ split others
+    → FaultsAsFields place (λ _ _. ⊥) v RlpIncorrectListLen
 more_counted v place left item others at parts =
     let inside = drop-inside place (items v.bytes) (split others) item (sym at.others ∙ parts) in
     other_count (length (items v.bytes)) (item_count-told v at.told) (λ same. omega (arith, same))

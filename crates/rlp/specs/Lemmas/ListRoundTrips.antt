@@ -1,5 +1,6 @@
 -- Values whose items are lists, and whose encodings are read back.
-use Rattle.std.proofs.Common.{◌≡◌, ◌↔◌, ℕ, ◌^◌, ◌<◌, List, [], ◌∷◌, ◌++◌, length, sym, ap, refl, subst, arith, append-nil, Option, Some, None, Result, Ok, IsOkAnd, MatchResult, IfSome, map, length-append}
+use Rattle.std.proofs.Common.{◌≡◌, ◌↔◌, ℕ, ◌^◌, ◌<◌, List, [], ◌∷◌, ◌++◌, length, sym, ap, refl, subst, arith, append-nil, Option, Some, None, Result,
+  Ok, IsOkAnd, MatchResult, IfSome, map, length-append}
 use Rattle.std.proofs.lemmas.List.{length-map}
 use Rattle.std.proofs.lemmas.List.{map-append}
 use Rattle.rlp_format.specs.declared.error.DecoderError.{DecoderError}
@@ -15,22 +16,26 @@ use Rattle.rlp_format.specs.Lemmas.Numbered.{item_count-list, item_at-list_item}
 
 -- what the law of `RoundTrip` says of a type
 abbrev pub AlwaysReadsBack : {A : Type 0} → (A → Type 0) → (A → Item) → (View → A → Type 0) → (View → DecoderError → Type 0) → Type 0
-AlwaysReadsBack {A} Fits item gives faults = (b : List ℕ) (v : A) → length b < 2 ^ 64 → Fits v → BeginsWith b (encoding (item v)) → ReadsBack Fits item gives faults (view_of b) v
+AlwaysReadsBack {A} Fits item gives faults = (b : List ℕ) (v : A) → length b < 2 ^ 64 → Fits v → BeginsWith b (encoding (item v))
+    → ReadsBack Fits item gives faults (view_of b) v
 
 -- ---- one item of a list
 
 at_by : {A : Type 0} (gives : View → A → Type 0) (r : Result View DecoderError) (item : View) (w : A) → r ≡ Ok item → IsOkAnd r (λ v. gives v w) ↔ gives item w
 at_by gives r item w is = (λ g. subst (λ r. IsOkAnd r (λ v. gives v w)) is g, λ g. subst (λ r. IsOkAnd r (λ v. gives v w)) (sym is) g)
 
-fault_at_by : (faults : View → DecoderError → Type 0) (r : Result View DecoderError) (item : View) (e : DecoderError) → r ≡ Ok item → MatchResult r (λ v. faults v e) (λ f. e ≡ f) → faults item e
+fault_at_by : (faults : View → DecoderError → Type 0) (r : Result View DecoderError) (item : View) (e : DecoderError) → r ≡ Ok item
+    → MatchResult r (λ v. faults v e) (λ f. e ≡ f) → faults item e
 fault_at_by faults r item e is h = subst (λ r. MatchResult r (λ v. faults v e) (λ f. e ≡ f)) is h
 
 -- an item that is read back is read back by its number
-pub item_reads_back : {A : Type 0} (Fits : A → Type 0) (item : A → Item) (gives : View → A → Type 0) (faults : View → DecoderError → Type 0) (view : View) (i : ℕ) (x : A)
+pub item_reads_back : {A : Type 0} (Fits : A → Type 0) (item : A → Item) (gives : View → A → Type 0) (faults : View → DecoderError → Type 0)
+    (view : View) (i : ℕ) (x : A)
     → AlwaysReadsBack Fits item gives faults → Fits x → IsSized (item x) → item_at view i ≡ Ok (view_of (encoding (item x)))
     → ReadsBack Fits item (λ v w. GivesAt gives v i w) (λ v e. FaultsAt faults v i e) view x
 item_reads_back Fits item gives faults view i x law fit sized is =
-    let back : ReadsBack Fits item gives faults (view_of (encoding (item x))) x = law (encoding (item x)) x sized fit ([], sym (append-nil (encoding (item x)))) in
+    let back : ReadsBack Fits item gives faults (view_of (encoding (item x))) x =
+        law (encoding (item x)) x sized fit ([], sym (append-nil (encoding (item x)))) in
     record {
       alike = λ w. let at = at_by gives (item_at view i) (view_of (encoding (item x))) w is in (λ g. (back.alike w).0 (at.0 g), λ h. at.1 ((back.alike w).1 h));
       no_fault = λ e h. back.no_fault e (fault_at_by faults (item_at view i) (view_of (encoding (item x))) e is h);
@@ -44,7 +49,8 @@ middle_sized (y ∷ before) after x small = middle_sized before after x (omega (
 -- ---- options
 
 pub sized_one : (x : Item) → IsSized (list_of (x ∷ [])) → IsSized x
-sized_one x sized = sized_items (x ∷ []) (2 ^ 64) (small_payload 0xc0 (join (x ∷ [])) (encoding (list_of (x ∷ []))) (encoding_list (x ∷ [])) sized) 0 x (omega arith)
+sized_one x sized = sized_items (x ∷ []) (2 ^ 64) (small_payload 0xc0 (join (x ∷ [])) (encoding (list_of (x ∷ []))) (encoding_list (x ∷ [])) sized) 0
+    x (omega arith)
 
 one_same : (x y : Item) → list_of (x ∷ []) ≡ list_of (y ∷ []) → x ≡ y
 one_same x y e = cc
@@ -63,7 +69,8 @@ module _ {A : Type 0} (Fits : A → Type 0) (item : A → Item) (gives : View �
   none_faulty count e (many_items n is many) = let same : n ≡ 0 = cc in omega arith
   none_faulty count e (faulty_item g is at) = cc
 
-  some_given : (x : A) → item_count view ≡ Ok 1 → ReadsBack Fits item (λ v w. GivesAt gives v 0 w) (λ v e. FaultsAt faults v 0 e) view x → (o : Option A) → GivesOption gives view o
+  some_given : (x : A) → item_count view ≡ Ok 1 → ReadsBack Fits item (λ v w. GivesAt gives v 0 w) (λ v e. FaultsAt faults v 0 e) view x
+      → (o : Option A) → GivesOption gives view o
       → IfSome o Fits × (option_item item o ≡ option_item item (Some x))
   some_given x count back o (no_value is) = absurd (let no : ⊥ = cc in no)
   some_given x count back o (one_value y is at) = let h = (back.alike y).0 at in (h.0, ap (λ i. list_of (i ∷ [])) h.1)
@@ -73,13 +80,15 @@ module _ {A : Type 0} (Fits : A → Type 0) (item : A → Item) (gives : View �
   some_back x count back None (fit, same) = absurd (let no : ⊥ = cc in no)
   some_back x count back (Some y) (fit, same) = one_value y count ((back.alike y).1 (fit, one_same (item y) (item x) same))
 
-  some_faulty : (x : A) → item_count view ≡ Ok 1 → ReadsBack Fits item (λ v w. GivesAt gives v 0 w) (λ v e. FaultsAt faults v 0 e) view x → (e : DecoderError) → ¬ FaultsAsOption faults view e
+  some_faulty : (x : A) → item_count view ≡ Ok 1 → ReadsBack Fits item (λ v w. GivesAt gives v 0 w) (λ v e. FaultsAt faults v 0 e) view x
+      → (e : DecoderError) → ¬ FaultsAsOption faults view e
   some_faulty x count back e (no_list g is) = cc
   some_faulty x count back e (many_items n is many) = let same : n ≡ 1 = cc in omega arith
   some_faulty x count back e (faulty_item g is at) = back.no_fault g at
 
 -- an option is read back where its value is
-pub option_reads_back : {A : Type 0} (Fits : A → Type 0) (item : A → Item) (gives : View → A → Type 0) (faults : View → DecoderError → Type 0) → AlwaysReadsBack Fits item gives faults
+pub option_reads_back : {A : Type 0} (Fits : A → Type 0) (item : A → Item) (gives : View → A → Type 0) (faults : View → DecoderError → Type 0)
+    → AlwaysReadsBack Fits item gives faults
     → AlwaysReadsBack (λ o. IfSome o Fits) (option_item item) (λ v o. GivesOption gives v o) (λ v e. FaultsAsOption faults v e)
 option_reads_back Fits item gives faults law b None fits fit (more, is) =
     let view = view_of b in
@@ -101,16 +110,20 @@ option_reads_back Fits item gives faults law b (Some x) fits fit (more, is) =
 -- ---- lists of values
 
 -- an item of a list is read back where its value is
-pub list_item_reads_back : {A : Type 0} (Fits : A → Type 0) (item : A → Item) (gives : View → A → Type 0) (faults : View → DecoderError → Type 0) (law : AlwaysReadsBack Fits item gives faults)
+pub list_item_reads_back : {A : Type 0} (Fits : A → Type 0) (item : A → Item) (gives : View → A → Type 0) (faults : View → DecoderError → Type 0)
+    (law : AlwaysReadsBack Fits item gives faults)
     (before after : List A) (x : A) (b : List ℕ) → length b < 2 ^ 64 → Fits x → BeginsWith b (encoding (list_of (map item (before ++ x ∷ after))))
     → ReadsBack Fits item (λ v w. GivesAt gives v (length before) w) (λ v e. FaultsAt faults v (length before) e) (view_of b) x
 list_item_reads_back Fits item gives faults law before after x b fits fit (more, is) =
     let whole : map item (before ++ x ∷ after) ≡ map item before ++ item x ∷ map item after = map-append item before (x ∷ after) in
     let is' : b ≡ encoding (list_of (map item before ++ item x ∷ map item after)) ++ more = subst (λ xs. b ≡ encoding (list_of xs) ++ more) whole is in
-    let sized : IsSized (list_of (map item before ++ item x ∷ map item after)) = front_sized (list_of (map item before ++ item x ∷ map item after)) b more fits is' in
+    let sized : IsSized (list_of (map item before ++ item x ∷ map item after)) =
+        front_sized (list_of (map item before ++ item x ∷ map item after)) b more fits is' in
     let small : length (join (map item before ++ item x ∷ map item after)) < 2 ^ 64 =
-    small_payload 0xc0 (join (map item before ++ item x ∷ map item after)) (encoding (list_of (map item before ++ item x ∷ map item after))) (encoding_list (map item before ++ item x ∷ map item after)) sized in
+    small_payload 0xc0 (join (map item before ++ item x ∷ map item after)) (encoding (list_of (map item before ++ item x ∷ map item after)))
+        (encoding_list (map item before ++ item x ∷ map item after)) sized in
     let one : IsSized (item x) = middle_sized (map item before) (map item after) (item x) small in
     let there : item_at (view_of b) (length before) ≡ Ok (view_of (encoding (item x))) =
-    subst (λ n. item_at (view_of b) n ≡ Ok (view_of (encoding (item x)))) (length-map before item) (item_at-list_item (map item before) (map item after) (item x) b sized (more, is')) in
+    subst (λ n. item_at (view_of b) n ≡ Ok (view_of (encoding (item x)))) (length-map before item)
+        (item_at-list_item (map item before) (map item after) (item x) b sized (more, is')) in
     item_reads_back Fits item gives faults (view_of b) (length before) x law fit one there

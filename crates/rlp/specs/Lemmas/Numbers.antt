@@ -1,10 +1,12 @@
 -- A view that begins with the digits of a number gives the number.
-use Rattle.std.proofs.Common.{◌≡◌, ◌≢◌, pos_of_ne-zero, get_or, ℕ, zero, suc, ◌≤◌, List, [], ◌∷◌, ◌++◌, length, take, replicate, Fits, w8, refl, sym, ap, subst, arith}
+use Rattle.std.proofs.Common.{◌≡◌, ◌≢◌, pos_of_ne-zero, get_or, ℕ, zero, suc, ◌≤◌, List, [], ◌∷◌, ◌++◌, length, take, replicate, Fits, w8, refl, sym,
+  ap, subst, arith}
 use Rattle.std.specs.Int.Digits.{number_from_digits}
 use Rattle.rlp_format.specs.Format.WrittenHeader.{big_endian}
 use Rattle.rlp_format.specs.Values.Value.{FitsBytes}
 use Rattle.rlp_format.specs.declared.error.DecoderError.TheVariants.{RlpInvalidIndirection}
-use Rattle.rlp.specs.Values.ValueReading.{IsDigitsFault, too_long, leading_zero, GivesNumber, FaultsAsNumber, GivesValue, FaultsAs, IsLengthFault, shorter, longer, no_string, no_value}
+use Rattle.rlp.specs.Values.ValueReading.{IsDigitsFault, too_long, leading_zero, GivesNumber, FaultsAsNumber, GivesValue, FaultsAs, IsLengthFault,
+  shorter, longer, no_string, no_value}
 use Rattle.rlp_format.specs.Format.Item.{string}
 use Rattle.rlp_format.specs.declared.error.DecoderError.{DecoderError}
 use Rattle.rlp_format.specs.Views.View.{View, HoldsString}
@@ -20,7 +22,8 @@ leading_is_value width (d ∷ ds) bytes few leading =
     (digits_fit width (d ∷ ds) held few, digits_again d ds held (pos_of_ne-zero leading))
 
 -- digits that begin with a zero are at fault
-pub zero_is_fault : (width : ℕ) (digits : List ℕ) → length digits ≤ width → 1 ≤ length digits → get_or digits 0 0 ≡ 0 → IsDigitsFault width digits RlpInvalidIndirection
+pub zero_is_fault : (width : ℕ) (digits : List ℕ) → length digits ≤ width → 1 ≤ length digits → get_or digits 0 0 ≡ 0
+    → IsDigitsFault width digits RlpInvalidIndirection
 zero_is_fault width [] few some leads = absurd (omega arith)
 zero_is_fault width (d ∷ ds) few some leads = leading_zero ds few (ap (λ c. c ∷ ds) leads)
 
@@ -29,7 +32,8 @@ pub ruleset digit_faults = (too_long, zero_is_fault)
 -- ---- a view that begins with the digits of a number gives the number
 
 -- digits that stand as a string give their number
-pub gives_number : (width : ℕ) (v : View) (d : List ℕ) → HoldsString v d → FitsBytes width (number_from_digits 256 d) × (big_endian (number_from_digits 256 d) ≡ d) → GivesNumber width v (number_from_digits 256 d)
+pub gives_number : (width : ℕ) (v : View) (d : List ℕ) → HoldsString v d → FitsBytes width (number_from_digits 256 d)
+    × (big_endian (number_from_digits 256 d) ≡ d) → GivesNumber width v (number_from_digits 256 d)
 gives_number width v d stands (fits, again) = record { fits = fits; begins = subst (HoldsString v) (sym again) stands }
 
 -- digits at fault that stand as a string are the view's fault

@@ -1,5 +1,6 @@
 -- Bytes give one value of a type that is read from one string, or have one fault.
-use Rattle.std.proofs.Common.{◌≡◌, ℕ, zero, suc, ◌^◌, ◌<◌, ◌≤◌, ◌⊎◌, inl, inr, ⊎_elim, List, [], ◌∷◌, ◌++◌, length, get_or, true, false, refl, sym, ap, ◌∙◌, subst, arith, Result, Ok, Err, IsUtf8}
+use Rattle.std.proofs.Common.{◌≡◌, ℕ, zero, suc, ◌^◌, ◌<◌, ◌≤◌, ◌⊎◌, inl, inr, ⊎_elim, List, [], ◌∷◌, ◌++◌, length, get_or, true, false, refl, sym,
+  ap, ◌∙◌, subst, arith, Result, Ok, Err, IsUtf8}
 use Rattle.std.specs.Int.Digits.{number_from_digits}
 use Rattle.std.specs.Str.{is_utf8}
 use Rattle.std.proofs.lemmas.Bool.{cases_Bool, cases_lt, cond-true, cond-false}
@@ -13,7 +14,8 @@ use Rattle.rlp_format.specs.Format.WrittenHeader.{big_endian, written_header, Ar
 use Rattle.rlp_format.specs.Format.Encoding.{encoding, string_encoding, is_low_byte}
 use Rattle.rlp_format.specs.Format.StringReading.{IsString}
 use Rattle.rlp_format.specs.Values.Value.{FitsBytes, number_item}
-use Rattle.rlp.specs.Values.ValueReading.{GivesValue, FaultsAs, no_string, no_value, GivesNumber, IsDigitsFault, too_long, leading_zero, FaultsAsNumber, GivesBytes, FaultsAsBytes, GivesText, IsTextFault, FaultsAsText, HasOneReading}
+use Rattle.rlp.specs.Values.ValueReading.{GivesValue, FaultsAs, no_string, no_value, GivesNumber, IsDigitsFault, too_long, leading_zero,
+  FaultsAsNumber, GivesBytes, FaultsAsBytes, GivesText, IsTextFault, FaultsAsText, HasOneReading}
 use Rattle.rlp_format.specs.Views.Text.{error_name}
 use Rattle.rlp_format.specs.Views.View.{View, HoldsString, view_string}
 use Rattle.rlp_format.specs.Lemmas.Digits.{big_endian_is, big_endian_first, big_endian_zero, pow-bytes, digits_fit, digits_again, none_is_zero}
@@ -43,7 +45,8 @@ encoded_bytes d h =
 string_bytes : (b d : List ℕ) → AreBytes b → IsString b d → AreBytes d
 unfolding encoding
 string_bytes b d bytes (rest, is) =
-    All-from_recursion (λ byte. byte < 2 ^ 8) d (encoded_bytes d (front_bytes (string_encoding d) rest (subst Bytes is (recursion_from_All (λ byte. byte < 2 ^ 8) b bytes))))
+    All-from_recursion (λ byte. byte < 2 ^ 8) d
+        (encoded_bytes d (front_bytes (string_encoding d) rest (subst Bytes is (recursion_from_All (λ byte. byte < 2 ^ 8) b bytes))))
 
 -- ---- one reading, where the strings of values and the faulty ones are told apart
 
@@ -52,18 +55,21 @@ record IsTold {A : Type 0} (Fits : A → Type 0) (text : A → List ℕ) (IsFaul
   pub sound : (x : A) (e : DecoderError) → Fits x → ¬ IsFaulty (text x) e
   pub one : (d : List ℕ) (e f : DecoderError) → IsFaulty d e → IsFaulty d f → e ≡ f
 
-module _ {A : Type 0} (Fits : A → Type 0) (text : A → List ℕ) (IsFaulty : List ℕ → DecoderError → Type 0) (is : IsTold Fits text IsFaulty) (v : View) (fits : length v.bytes < 2 ^ 64) where
+module _ {A : Type 0} (Fits : A → Type 0) (text : A → List ℕ) (IsFaulty : List ℕ → DecoderError → Type 0) (is : IsTold Fits text IsFaulty) (v : View)
+    (fits : length v.bytes < 2 ^ 64) where
   abbrev Given : A → Type 0
   Given x = GivesValue Fits (λ x. string (text x)) v x
 
   abbrev Fault : DecoderError → Type 0
   Fault e = FaultsAs IsFaulty v e
 
-  some_found : (d : List ℕ) → HoldsString v d → ((x : A) × (Fits x) × (text x ≡ d)) ⊎ ((e : DecoderError) × IsFaulty d e) → ((x : A) × Given x) ⊎ ((e : DecoderError) × Fault e)
+  some_found : (d : List ℕ) → HoldsString v d → ((x : A) × (Fits x) × (text x ≡ d)) ⊎ ((e : DecoderError) × IsFaulty d e) → ((x : A) × Given x)
+      ⊎ ((e : DecoderError) × Fault e)
   some_found d stands (inl (x, fit, same)) = inl (x, record { fits = fit; begins = subst (HoldsString v) (sym same) stands })
   some_found d stands (inr (e, faulty)) = inr (e, no_value d e stands faulty)
 
-  some_read : AreBytes v.bytes → (r : Result (List ℕ) DecoderError) → view_string v ≡ r → ReadsHeld v.is_strict v.bytes r → ((x : A) × Given x) ⊎ ((e : DecoderError) × Fault e)
+  some_read : AreBytes v.bytes → (r : Result (List ℕ) DecoderError) → view_string v ≡ r → ReadsHeld v.is_strict v.bytes r → ((x : A) × Given x)
+      ⊎ ((e : DecoderError) × Fault e)
   some_read bytes (Ok d) same stands = some_found d stands (is.told d (string_bytes v.bytes d bytes (held_begins v (string d) stands)))
   some_read bytes (Err e) same none = inr (e, no_string e same)
 
@@ -124,14 +130,16 @@ one_digits width d e f (leading_zero more few same) (too_long long) = absurd (om
 one_digits width d e f (leading_zero more few same) (leading_zero more' few' same') = refl
 
 -- a number has one reading
-pub number_reading : (v : View) → AreBytes v.bytes → length v.bytes < 2 ^ 64 → (width : ℕ) → HasOneReading number_item (GivesNumber width v) (FaultsAsNumber width v)
+pub number_reading : (v : View) → AreBytes v.bytes → length v.bytes < 2 ^ 64 → (width : ℕ)
+    → HasOneReading number_item (GivesNumber width v) (FaultsAsNumber width v)
 number_reading v bytes fits width =
     reading (FitsBytes width) big_endian (IsDigitsFault width)
     (record { told = told_digits width; sound = sound_digits width; one = one_digits width }) v fits bytes
 
 -- ---- byte strings
 
-bytes_some : (v : View) (r : Result (List ℕ) DecoderError) → view_string v ≡ r → ReadsHeld v.is_strict v.bytes r → ((d : List ℕ) × GivesBytes v d) ⊎ ((e : DecoderError) × FaultsAsBytes v e)
+bytes_some : (v : View) (r : Result (List ℕ) DecoderError) → view_string v ≡ r → ReadsHeld v.is_strict v.bytes r → ((d : List ℕ) × GivesBytes v d)
+    ⊎ ((e : DecoderError) × FaultsAsBytes v e)
 bytes_some v (Ok d) same stands = inl (d, record { fits = tt; begins = stands })
 bytes_some v (Err e) same none = inr (e, same)
 

@@ -7,7 +7,8 @@ use Rattle.rlp_format.specs.Format.Encoding.{BeginsWith, encoding}
 use Rattle.rlp_format.specs.Format.StringReading.{IsString}
 use Rattle.rlp_format.specs.Values.Value.{FitsBytes, number_item, bit}
 use Rattle.rlp_format.specs.Format.WrittenHeader.{big_endian}
-use Rattle.rlp.specs.Values.ValueReading.{GivesValue, FaultsAs, no_string, no_value, GivesNumber, IsDigitsFault, FaultsAsNumber, GivesBytes, FaultsAsBytes, GivesText, IsTextFault, FaultsAsText, IsCustom, GivesBool, FaultsAsBool, no_number, other_number, IsLengthFault, shorter, longer}
+use Rattle.rlp.specs.Values.ValueReading.{GivesValue, FaultsAs, no_string, no_value, GivesNumber, IsDigitsFault, FaultsAsNumber, GivesBytes,
+  FaultsAsBytes, GivesText, IsTextFault, FaultsAsText, IsCustom, GivesBool, FaultsAsBool, no_number, other_number, IsLengthFault, shorter, longer}
 use Rattle.rlp_format.specs.Views.View.{View, HoldsItem, HoldsString, view_of}
 use Rattle.rlp.specs.Values.RoundTrip.{ReadsBack}
 use Rattle.rlp_format.specs.Lemmas.Digits.{big_endian_same}
@@ -21,12 +22,14 @@ itself = (λ p. p, λ p. p)
 -- ---- a type of which contracts see another one's value
 
 -- a type that holds a value is read back where the value is
-pub reads_back_through : {A B : Type 0} (value : B → A) {Fits : A → Type 0} {item : A → Item} {gives : View → A → Type 0} {faults : View → DecoderError → Type 0} {view : View} {v : B}
+pub reads_back_through : {A B : Type 0} (value : B → A) {Fits : A → Type 0} {item : A → Item} {gives : View → A → Type 0}
+    {faults : View → DecoderError → Type 0} {view : View} {v : B}
     → ReadsBack Fits item gives faults view (value v) → ReadsBack (λ w. Fits (value w)) (λ w. item (value w)) (λ view w. gives view (value w)) faults view v
 reads_back_through value back = record { alike = λ w. back.alike (value w); no_fault = back.no_fault }
 
 -- a type that holds a value is given by the same bytes
-pub given_through : {A B : Type 0} (Fits : A → Type 0) (item : A → Item) (value : B → A) (b : List ℕ) (v : B) → GivesValue Fits item (view_of b) (value v) ↔ GivesValue (λ w. Fits (value w)) (λ w. item (value w)) (view_of b) v
+pub given_through : {A B : Type 0} (Fits : A → Type 0) (item : A → Item) (value : B → A) (b : List ℕ) (v : B)
+    → GivesValue Fits item (view_of b) (value v) ↔ GivesValue (λ w. Fits (value w)) (λ w. item (value w)) (view_of b) v
 given_through Fits item value b v = (λ g. record { fits = g.fits; begins = g.begins }, λ g. record { fits = g.fits; begins = g.begins })
 
 -- ---- a type that is read from one string
@@ -34,7 +37,8 @@ given_through Fits item value b v = (λ g. record { fits = g.fits; begins = g.be
 string_same : (d s : List ℕ) → string d ≡ string s → d ≡ s
 string_same d s e = cc
 
-module _ {A : Type 0} (Fits : A → Type 0) (text : A → List ℕ) (view : View) (v : A) (fits : length view.bytes < 2 ^ 64) (holds : HoldsString view (text v)) where
+module _ {A : Type 0} (Fits : A → Type 0) (text : A → List ℕ) (view : View) (v : A) (fits : length view.bytes < 2 ^ 64)
+    (holds : HoldsString view (text v)) where
   -- the values that are given are those alike
   alike_given : (w : A) → GivesValue Fits (λ x. string (text x)) view w ↔ (Fits w × (string (text w) ≡ string (text v)))
   alike_given w = (
@@ -54,10 +58,12 @@ pub number_held_back : (width : ℕ) (view : View) (n : ℕ) → length view.byt
     → ReadsBack (FitsBytes width) number_item (GivesNumber width) (FaultsAsNumber width) view n
 number_held_back width view n fits fit holds = held_back (FitsBytes width) big_endian view n fits holds (IsDigitsFault width) (λ e. sound_digits width n e fit)
 
-pub bytes_held_back : (view : View) (d : List ℕ) → length view.bytes < 2 ^ 64 → HoldsItem view (string d) → ReadsBack (λ d. ⊤) string GivesBytes FaultsAsBytes view d
+pub bytes_held_back : (view : View) (d : List ℕ) → length view.bytes < 2 ^ 64 → HoldsItem view (string d)
+    → ReadsBack (λ d. ⊤) string GivesBytes FaultsAsBytes view d
 bytes_held_back view d fits holds = record { alike = alike_given (λ d. ⊤) (λ d. d) view d fits holds; no_fault = λ e none. held_read view d e fits holds none }
 
-pub text_held_back : (view : View) (t : List ℕ) → length view.bytes < 2 ^ 64 → IsUtf8 t → HoldsItem view (string t) → ReadsBack IsUtf8 string GivesText FaultsAsText view t
+pub text_held_back : (view : View) (t : List ℕ) → length view.bytes < 2 ^ 64 → IsUtf8 t → HoldsItem view (string t)
+    → ReadsBack IsUtf8 string GivesText FaultsAsText view t
 text_held_back view t fits good holds = held_back IsUtf8 (λ t. t) view t fits holds IsTextFault (λ e bad. bad.0 good)
 
 -- a string of the right length has no fault of its length
@@ -68,7 +74,8 @@ sound_length n d e fit (longer many) = omega arith
 pub ruleset length_faults = (shorter, longer)
 
 -- the same for the law of `Scalar`
-pub exact_through : {A B : Type 0} (Fits : A → Type 0) (item : A → Item) (value : B → A) (b : List ℕ) (v : B) {G : Type 0} → (G ↔ GivesValue Fits item (view_of b) (value v))
+pub exact_through : {A B : Type 0} (Fits : A → Type 0) (item : A → Item) (value : B → A) (b : List ℕ) (v : B) {G : Type 0}
+    → (G ↔ GivesValue Fits item (view_of b) (value v))
     → G ↔ GivesValue (λ w. Fits (value w)) (λ w. item (value w)) (view_of b) v
 exact_through Fits item value b v exact = let through = given_through Fits item value b v in (λ g. through.0 (exact.0 g), λ g. exact.1 (through.1 g))
 
@@ -87,7 +94,8 @@ bit_least false h = omega arith
 pub bool_exact : (bytes : List ℕ) (b : Bool) → GivesBool (view_of bytes) b ↔ GivesValue (λ b. ⊤) (λ b. number_item (bit b)) (view_of bytes) b
 bool_exact bytes b = (λ g. record { fits = tt; begins = g.begins }, λ g. record { fits = bit_below b; begins = g.begins })
 
-no_other : (view : View) (b : Bool) → ReadsBack (FitsBytes 1) number_item (GivesNumber 1) (FaultsAsNumber 1) view (bit b) → (e : DecoderError) → ¬ FaultsAsBool view e
+no_other : (view : View) (b : Bool) → ReadsBack (FitsBytes 1) number_item (GivesNumber 1) (FaultsAsNumber 1) view (bit b) → (e : DecoderError)
+    → ¬ FaultsAsBool view e
 no_other view b back e (no_number g faults) = back.no_fault g faults
 no_other view b back e (other_number n g gives large custom) =
     let alike : number_item n ≡ number_item (bit b) = ((back.alike n).0 gives).1 in
@@ -98,7 +106,8 @@ pub bool_held_back : (view : View) (b : Bool) → length view.bytes < 2 ^ 64 →
     → ReadsBack (λ b. ⊤) (λ b. number_item (bit b)) GivesBool FaultsAsBool view b
 bool_held_back view b fits holds =
     let back : ReadsBack (FitsBytes 1) number_item (GivesNumber 1) (FaultsAsNumber 1) view (bit b) = number_held_back 1 view (bit b) fits (bit_below b) holds in
-    record { alike = λ w. (λ g. (tt, ((back.alike (bit w)).0 g).1), λ (any, same). (back.alike (bit w)).1 (bit_below w, same)); no_fault = no_other view b back }
+    record { alike = λ w. (λ g. (tt, ((back.alike (bit w)).0 g).1), λ (any, same). (back.alike (bit w)).1 (bit_below w, same)); no_fault =
+        no_other view b back }
 
 -- a number that is neither 0 nor 1 is no truth value
 pub other_bool : (v : View) (n : ℕ) (e : DecoderError) → GivesNumber 1 v n → n ≢ 0 → n ≢ 1 → IsCustom (codes "invalid boolean value") e → FaultsAsBool v e
@@ -108,7 +117,8 @@ pub ruleset bool_faults = (no_number, other_bool)
 
 -- ---- the law of `RoundTrip`
 
-pub reads_back : {A : Type 0} (Fits : A → Type 0) (text : A → List ℕ) (b : List ℕ) (v : A) → length b < 2 ^ 64 → IsString b (text v) → (IsFaulty : List ℕ → DecoderError → Type 0) → ((e : DecoderError) → ¬ IsFaulty (text v) e)
+pub reads_back : {A : Type 0} (Fits : A → Type 0) (text : A → List ℕ) (b : List ℕ) (v : A) → length b < 2 ^ 64 → IsString b (text v)
+    → (IsFaulty : List ℕ → DecoderError → Type 0) → ((e : DecoderError) → ¬ IsFaulty (text v) e)
     → ReadsBack Fits (λ x. string (text x)) (λ view w. GivesValue Fits (λ x. string (text x)) view w) (FaultsAs IsFaulty) (view_of b) v
 reads_back Fits text b v fits begins IsFaulty sound = held_back Fits text (view_of b) v fits begins IsFaulty sound
 
@@ -126,6 +136,7 @@ pub bytes_in : {B : Type 0} (value : B → List ℕ) (bytes : List ℕ) (b : B) 
 bytes_in value bytes b fits fit begins = reads_back_through value (bytes_held_back (view_of bytes) (value b) fits begins)
 
 -- of types of which contracts see text
-pub text_in : {B : Type 0} (value : B → List ℕ) (bytes : List ℕ) (b : B) → length bytes < 2 ^ 64 → IsUtf8 (value b) → BeginsWith bytes (encoding (string (value b)))
+pub text_in : {B : Type 0} (value : B → List ℕ) (bytes : List ℕ) (b : B) → length bytes < 2 ^ 64 → IsUtf8 (value b)
+    → BeginsWith bytes (encoding (string (value b)))
     → ReadsBack (λ b. IsUtf8 (value b)) (λ b. string (value b)) (λ view b. GivesText view (value b)) FaultsAsText (view_of bytes) b
 text_in value bytes b fits fit begins = reads_back_through value (text_held_back (view_of bytes) (value b) fits fit begins)

@@ -1,5 +1,6 @@
 -- The items of a slice are slices.
-use Rattle.std.proofs.Common.{◌≡◌, ℕ, zero, suc, ◌^◌, ◌<◌, ◌≤◌, List, [], ◌∷◌, ◌++◌, length, map, ap, subst, arith, length-append, append_assoc, Some, Ok, Err, Result, le_refl}
+use Rattle.std.proofs.Common.{◌≡◌, ℕ, zero, suc, ◌^◌, ◌<◌, ◌≤◌, List, [], ◌∷◌, ◌++◌, length, map, ap, subst, arith, length-append, append_assoc, Some,
+  Ok, Err, Result, le_refl}
 use Rattle.std.specs.List.{concat, slice_get}
 use Rattle.std.proofs.lemmas.List.Elements.{All-from_recursion, recursion_from_All}
 use Rattle.rlp_format.specs.declared.error.DecoderError.{DecoderError}
@@ -16,17 +17,21 @@ use Rattle.rlp_format.specs.Lemmas.Frames.{walk}
 use Rattle.rlp_format.specs.Lemmas.Views.{payload_bytes}
 use Rattle.rlp_format.specs.Lemmas.Numbered.{item_at-slice_get}
 
-part : (whole_view : View) (n : ℕ) (fs : List (List ℕ)) (left : List ℕ) (i : ℕ) (v : View) → Bytes (concat fs ++ left) → length (concat fs ++ left) ≤ n → slice_get (map (λ b. record whole_view { bytes = b }) fs) i ≡ Some v → Bytes v.bytes × (length v.bytes ≤ n)
+part : (whole_view : View) (n : ℕ) (fs : List (List ℕ)) (left : List ℕ) (i : ℕ) (v : View) → Bytes (concat fs ++ left)
+    → length (concat fs ++ left) ≤ n → slice_get (map (λ b. record whole_view { bytes = b }) fs) i ≡ Some v → Bytes v.bytes × (length v.bytes ≤ n)
 part whole_view n [] left i v bytes short got = absurd (let no : ⊥ = cc in no)
 part whole_view n (f ∷ fs) left zero v bytes short got =
     let same : f ≡ v.bytes = cc in
     let whole : (f ++ concat fs) ++ left ≡ f ++ (concat fs ++ left) = append_assoc f (concat fs) left in
-    (subst Bytes same (front_bytes f (concat fs ++ left) (subst Bytes whole bytes)), omega (arith, ap length whole, length-append f (concat fs ++ left), ap length same))
+    (subst Bytes same (front_bytes f (concat fs ++ left) (subst Bytes whole bytes)),
+        omega (arith, ap length whole, length-append f (concat fs ++ left), ap length same))
 part whole_view n (f ∷ fs) left (suc i) v bytes short got =
     let whole : (f ++ concat fs) ++ left ≡ f ++ (concat fs ++ left) = append_assoc f (concat fs) left in
-    part whole_view n fs left i v (back_bytes f (concat fs ++ left) (subst Bytes whole bytes)) (omega (arith, ap length whole, length-append f (concat fs ++ left))) got
+    part whole_view n fs left i v (back_bytes f (concat fs ++ left) (subst Bytes whole bytes))
+        (omega (arith, ap length whole, length-append f (concat fs ++ left))) got
 
-short_by : (b : List ℕ) (is_list : Bool) (r : Result PayloadInfo DecoderError) → length (payload_in is_list (map_ok (λ p. take p.value_len (drop p.header_len b)) r)) ≤ length b
+short_by : (b : List ℕ) (is_list : Bool) (r : Result PayloadInfo DecoderError)
+    → length (payload_in is_list (map_ok (λ p. take p.value_len (drop p.header_len b)) r)) ≤ length b
 short_by b true (Err e) = omega arith
 short_by b false (Err e) = omega arith
 short_by b false (Ok p) = omega arith
@@ -37,7 +42,8 @@ unfolding payload value
 payload_short b = short_by b (begins_as_list b) (framing b)
 
 -- an item by number is bytes, and fewer than 2^64
-pub part_of_items : (view v : View) (i : ℕ) → AreBytes view.bytes → length view.bytes < 2 ^ 64 → item_at view i ≡ Ok v → AreBytes v.bytes × (length v.bytes < 2 ^ 64)
+pub part_of_items : (view v : View) (i : ℕ) → AreBytes view.bytes → length view.bytes < 2 ^ 64 → item_at view i ≡ Ok v → AreBytes v.bytes
+    × (length v.bytes < 2 ^ 64)
 unfolding items split
 part_of_items view v i bytes short is =
     let p : List ℕ = payload view.bytes in
@@ -45,5 +51,6 @@ part_of_items view v i bytes short is =
     let got : slice_get (item_views view) i ≡ Some v = item_at-slice_get view v i is in
     let held : Bytes (payload view.bytes) = recursion_from_All (λ byte. byte < 2 ^ 8) (payload view.bytes) (payload_bytes view.bytes bytes) in
     let small : length (payload view.bytes) ≤ length view.bytes = payload_short view.bytes in
-    let (front, few) = part view (length view.bytes) (split_within (length (payload view.bytes)) (payload view.bytes)) w.left i v (subst Bytes w.is held) (omega (arith, ap length w.is)) got in
+    let (front, few) = part view (length view.bytes) (split_within (length (payload view.bytes)) (payload view.bytes)) w.left i v
+        (subst Bytes w.is held) (omega (arith, ap length w.is)) got in
     (All-from_recursion (λ byte. byte < 2 ^ 8) v.bytes front, omega arith)

@@ -39,8 +39,10 @@ item_parts b bytes fits =
     let held : Bytes (payload b) = recursion_from_All (λ byte. byte < 2 ^ 8) (payload b) (payload_bytes b bytes) in
     all_parts (items b) (rest b) (subst Bytes whole held) (omega (arith, ap length whole, payload_short b))
 
-module _ {A : Type 0} (Fits : A → Type 0) (item : A → Item) (gives : View → A → Type 0) (faults : View → DecoderError → Type 0) (law : AlwaysReadsStrictly Fits item gives faults) where
-  each_whole : (fs : List (List ℕ)) (ws : List A) → AllByRecursion IsPart fs → GivesEach gives (map strict_view_of fs) ws → AllByRecursion Fits ws × (fs ≡ map encoding (map item ws))
+module _ {A : Type 0} (Fits : A → Type 0) (item : A → Item) (gives : View → A → Type 0) (faults : View → DecoderError → Type 0)
+    (law : AlwaysReadsStrictly Fits item gives faults) where
+  each_whole : (fs : List (List ℕ)) (ws : List A) → AllByRecursion IsPart fs → GivesEach gives (map strict_view_of fs) ws → AllByRecursion Fits ws
+      × (fs ≡ map encoding (map item ws))
   each_whole [] [] parts each = (tt, refl)
   each_whole [] (w ∷ ws) parts each = absurd each
   each_whole (f ∷ fs) [] parts each = absurd each
@@ -49,7 +51,8 @@ module _ {A : Type 0} (Fits : A → Type 0) (item : A → Item) (gives : View �
       let hs = each_whole fs ws parts each in
       ((h.0, hs.0), ap (λ f. f ∷ fs) h.1 ∙ ap (λ fs. encoding (item w) ∷ fs) hs.1)
 
-  each_given : (fs : List (List ℕ)) (ws : List A) → AllByRecursion IsPart fs → AllByRecursion Fits ws → fs ≡ map encoding (map item ws) → GivesEach gives (map strict_view_of fs) ws
+  each_given : (fs : List (List ℕ)) (ws : List A) → AllByRecursion IsPart fs → AllByRecursion Fits ws → fs ≡ map encoding (map item ws)
+      → GivesEach gives (map strict_view_of fs) ws
   each_given [] [] parts fits same = tt
   each_given [] (w ∷ ws) parts fits same = absurd (let no : ⊥ = cc in no)
   each_given (f ∷ fs) [] parts fits same = absurd (let no : ⊥ = cc in no)
@@ -64,11 +67,14 @@ module _ {A : Type 0} (Fits : A → Type 0) (item : A → Item) (gives : View �
   all_sound [] all parts = tt
   all_sound (v ∷ vs) (fit, all) (part, parts) = ((law (encoding (item v)) v part.held part.short).sound fit refl, all_sound vs all parts)
 
-  none_first : (vs : List A) (before after : List View) (faulty : View) (e : DecoderError) → AllByRecursion Sound vs → map strict_view_of (map encoding (map item vs)) ≡ before ++ faulty ∷ after → ¬ faults faulty e
+  none_first : (vs : List A) (before after : List View) (faulty : View) (e : DecoderError) → AllByRecursion Sound vs
+      → map strict_view_of (map encoding (map item vs)) ≡ before ++ faulty ∷ after → ¬ faults faulty e
   none_first [] [] after faulty e sound is bad = cc
   none_first [] (b ∷ before) after faulty e sound is bad = cc
-  none_first (v ∷ vs) [] after faulty e (one, sound) is bad = let same : faulty ≡ strict_view_of (encoding (item v)) = cc in one e (subst (λ w. faults w e) same bad)
-  none_first (v ∷ vs) (b ∷ before) after faulty e (one, sound) is bad = let more : map strict_view_of (map encoding (map item vs)) ≡ before ++ faulty ∷ after = cc in none_first vs before after faulty e sound more bad
+  none_first (v ∷ vs) [] after faulty e (one, sound) is bad = let same : faulty ≡ strict_view_of (encoding (item v)) = cc in
+      one e (subst (λ w. faults w e) same bad)
+  none_first (v ∷ vs) (b ∷ before) after faulty e (one, sound) is bad =
+      let more : map strict_view_of (map encoding (map item vs)) ≡ before ++ faulty ∷ after = cc in none_first vs before after faulty e sound more bad
 
   module _ (b : List ℕ) (bytes : AreBytes b) (fits : length b < 2 ^ 64) (ws : List A) where
     -- a strict view gives a list by its whole encoding alone
@@ -87,14 +93,18 @@ module _ {A : Type 0} (Fits : A → Type 0) (item : A → Item) (gives : View �
 
     -- and has no fault where it is given
     pub no_list_fault : All Fits ws → b ≡ encoding (list_of (map item ws)) → (e : DecoderError) → ¬ FaultsAsList gives faults (strict_view_of b) e
-    no_list_fault all whole e (not_list is) = let none : strict_list_fault b ≡ None = strict_list_fault-encoding (map item ws) b (whole_sized (list_of (map item ws)) b fits whole) whole in cc
+    no_list_fault all whole e (not_list is) = let none : strict_list_fault b ≡ None =
+        strict_list_fault-encoding (map item ws) b (whole_sized (list_of (map item ws)) b fits whole) whole in cc
     no_list_fault all whole e (faulty_in_list is first) =
         let same : items b ≡ map encoding (map item ws) = strict_items (map item ws) b (whole_sized (list_of (map item ws)) b fits whole) whole in
-        none_first ws first.before first.after first.reached e (all_sound ws (recursion_from_All Fits ws all) (subst (AllByRecursion IsPart) same (item_parts b bytes fits))) (sym (ap (map strict_view_of) same) ∙ first.all) first.is
+        none_first ws first.before first.after first.reached e
+            (all_sound ws (recursion_from_All Fits ws all) (subst (AllByRecursion IsPart) same (item_parts b bytes fits)))
+            (sym (ap (map strict_view_of) same) ∙ first.all) first.is
 
   -- a list of such values, of a type of which contracts see the values, is read strictly
   pub list_strict : {B : Type 0} (values : B → List A)
-      → AlwaysReadsStrictly (λ b. All Fits (values b)) (λ b. list_of (map item (values b))) (λ v b. GivesList gives v (values b)) (λ v e. FaultsAsList gives faults v e)
+      → AlwaysReadsStrictly (λ b. All Fits (values b)) (λ b. list_of (map item (values b))) (λ v b. GivesList gives v (values b))
+          (λ v e. FaultsAsList gives faults v e)
   list_strict values b x bytes fits = record {
     exact = (list_whole b bytes fits (values x), λ (all, whole). list_given b bytes fits (values x) all whole);
     sound = no_list_fault b bytes fits (values x);

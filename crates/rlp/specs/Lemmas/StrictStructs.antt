@@ -1,5 +1,6 @@
 -- Structs that are lists of their fields, of types that are read strictly: they are read strictly.
-use Rattle.std.proofs.Common.{◌≡◌, ◌↔◌, ℕ, zero, suc, ◌+◌, ◌^◌, ◌<◌, List, [], ◌∷◌, ◌++◌, length, map, refl, sym, ap, ◌∙◌, subst, arith, append_assoc, length-append, IsOkAnd, MatchResult, Some, None, Ok}
+use Rattle.std.proofs.Common.{◌≡◌, ◌↔◌, ℕ, zero, suc, ◌+◌, ◌^◌, ◌<◌, List, [], ◌∷◌, ◌++◌, length, map, refl, sym, ap, ◌∙◌, subst, arith, append_assoc,
+  length-append, IsOkAnd, MatchResult, Some, None, Ok}
 use Rattle.std.specs.List.{slice_get}
 use Rattle.rlp_format.specs.declared.error.DecoderError.{DecoderError}
 use Rattle.rlp_format.specs.Format.Item.{Item, list_of}
@@ -21,14 +22,16 @@ PartsFrom view i (part ∷ parts) = (item_at view i ≡ Ok (strict_view_of part)
 
 -- ---- the first field, of a type whose values are read strictly
 
-module _ {A P : Type 0} (field : P → A) (Fits : A → Type 0) (item : A → Item) (gives : View → A → Type 0) (faults : View → DecoderError → Type 0) (law : AlwaysReadsStrictly Fits item gives faults) where
+module _ {A P : Type 0} (field : P → A) (Fits : A → Type 0) (item : A → Item) (gives : View → A → Type 0) (faults : View → DecoderError → Type 0)
+    (law : AlwaysReadsStrictly Fits item gives faults) where
   pub exact_at : (i : ℕ) (view : View) (part : List ℕ) (p : P) → item_at view i ≡ Ok (strict_view_of part) → AreBytes part → length part < 2 ^ 64
       → GivesAt gives view i (field p) ↔ (Fits (field p) × (part ≡ encoding (item (field p))))
   exact_at i view part p is bytes short =
       let one = law part (field p) bytes short in
       (λ at. one.exact.0 (subst (λ r. IsOkAnd r (λ v. gives v (field p))) is at), λ h. subst (λ r. IsOkAnd r (λ v. gives v (field p))) (sym is) (one.exact.1 h))
 
-  pub sound_at : (i : ℕ) (view : View) (part : List ℕ) (p : P) (j : ℕ) (e : DecoderError) → item_at view i ≡ Ok (strict_view_of part) → AreBytes part → length part < 2 ^ 64
+  pub sound_at : (i : ℕ) (view : View) (part : List ℕ) (p : P) (j : ℕ) (e : DecoderError) → item_at view i ≡ Ok (strict_view_of part) → AreBytes part
+      → length part < 2 ^ 64
       → Fits (field p) → part ≡ encoding (item (field p)) → j ≡ i → ¬ FaultsAt faults view j e
   sound_at i view part p j e is bytes short fit whole same at =
       let there : FaultsAt faults view i e = subst (λ j. FaultsAt faults view j e) same at in
@@ -44,7 +47,8 @@ module _ {A P : Type 0} (field : P → A) (Fits : A → Type 0) (item : A → It
       (λ at. let h = one.0 at in (h.0, ap (λ x. x ∷ []) h.1), λ (fit, same). one.1 (fit, (parts_same part (encoding (item (field p))) [] [] same).0))
 
   -- and has no fault there
-  pub first_exactly_sound : (i : ℕ) (view : View) (parts : List (List ℕ)) (p : P) → PartsFrom view i parts → Fits (field p) → parts ≡ map encoding (item (field p) ∷ [])
+  pub first_exactly_sound : (i : ℕ) (view : View) (parts : List (List ℕ)) (p : P) → PartsFrom view i parts → Fits (field p)
+      → parts ≡ map encoding (item (field p) ∷ [])
       → (k : ℕ) (e : DecoderError) → k < 1 → ¬ FaultsAt (by_place faults (λ k v e. ⊥) k) view (i + k) e
   first_exactly_sound i view [] p held fit same k e few at = absurd (let no : ⊥ = cc in no)
   first_exactly_sound i view (part ∷ parts) p (is, (bytes, (short, none))) fit same zero e few at =
@@ -54,7 +58,8 @@ module _ {A P : Type 0} (field : P → A) (Fits : A → Type 0) (item : A → It
   module _ (FitMore : P → Type 0) (more : P → List Item) (count : ℕ) where
     -- a field is given exactly by its whole encoding, and so are those after it
     pub more_exact : (giveMore : ℕ → View → P → Type 0)
-        → ((i : ℕ) (view : View) (parts : List (List ℕ)) (p : P) → PartsFrom view i parts → length parts ≡ count → giveMore i view p ↔ (FitMore p × (parts ≡ map encoding (more p))))
+        → ((i : ℕ) (view : View) (parts : List (List ℕ)) (p : P) → PartsFrom view i parts → length parts ≡ count → giveMore i view p
+            ↔ (FitMore p × (parts ≡ map encoding (more p))))
         → (i : ℕ) (view : View) (parts : List (List ℕ)) (p : P) → PartsFrom view i parts → length parts ≡ suc count
         → (GivesAt gives view i (field p) × giveMore (suc i) view p) ↔ ((Fits (field p) × FitMore p) × (parts ≡ map encoding (item (field p) ∷ more p)))
     more_exact giveMore later i view [] p held many = absurd (omega arith)
@@ -62,33 +67,41 @@ module _ {A P : Type 0} (field : P → A) (Fits : A → Type 0) (item : A → It
         let one = exact_at i view part p is bytes short in
         let rest = later (suc i) view parts p others (omega arith) in (
           λ (at, given). let h = one.0 at in let hs = rest.0 given in ((h.0, hs.0), ap (λ x. x ∷ parts) h.1 ∙ ap (λ xs. encoding (item (field p)) ∷ xs) hs.1),
-          λ ((fit, fits), same). let both = parts_same part (encoding (item (field p))) parts (map encoding (more p)) same in (one.1 (fit, both.0), rest.1 (fits, both.1)),
+          λ ((fit, fits), same). let both = parts_same part (encoding (item (field p))) parts (map encoding (more p)) same in
+              (one.1 (fit, both.0), rest.1 (fits, both.1)),
         )
 
     -- a field has no fault there, and neither have those after it
     pub more_exactly_sound : (faultMore : ℕ → View → DecoderError → Type 0)
-        → ((i : ℕ) (view : View) (parts : List (List ℕ)) (p : P) → PartsFrom view i parts → FitMore p → parts ≡ map encoding (more p) → (k : ℕ) (e : DecoderError) → k < count → ¬ FaultsAt (faultMore k) view (i + k) e)
-        → (i : ℕ) (view : View) (parts : List (List ℕ)) (p : P) → PartsFrom view i parts → Fits (field p) × FitMore p → parts ≡ map encoding (item (field p) ∷ more p)
+        → ((i : ℕ) (view : View) (parts : List (List ℕ)) (p : P) → PartsFrom view i parts → FitMore p → parts ≡ map encoding (more p)
+            → (k : ℕ) (e : DecoderError) → k < count → ¬ FaultsAt (faultMore k) view (i + k) e)
+        → (i : ℕ) (view : View) (parts : List (List ℕ)) (p : P) → PartsFrom view i parts → Fits (field p) × FitMore p
+            → parts ≡ map encoding (item (field p) ∷ more p)
         → (k : ℕ) (e : DecoderError) → k < suc count → ¬ FaultsAt (by_place faults faultMore k) view (i + k) e
     more_exactly_sound faultMore later i view [] p held fits same k e few at = absurd (let no : ⊥ = cc in no)
     more_exactly_sound faultMore later i view (part ∷ parts) p (is, (bytes, (short, others))) (fit, fits) same zero e few at =
         sound_at i view part p (i + 0) e is bytes short fit (parts_same part (encoding (item (field p))) parts (map encoding (more p)) same).0 (omega arith) at
     more_exactly_sound faultMore later i view (part ∷ parts) p (is, (bytes, (short, others))) (fit, fits) same (suc k) e few at =
         let place : i + suc k ≡ suc i + k = omega arith in
-        later (suc i) view parts p others fits (parts_same part (encoding (item (field p))) parts (map encoding (more p)) same).1 k e (omega arith) (subst (λ j. FaultsAt (faultMore k) view j e) place at)
+        later (suc i) view parts p others fits (parts_same part (encoding (item (field p))) parts (map encoding (more p)) same).1 k e (omega arith)
+            (subst (λ j. FaultsAt (faultMore k) view j e) place at)
 
 -- ---- the items of a strict view
 
-middle_get : (before after : List (List ℕ)) (part : List ℕ) → slice_get (map strict_view_of (before ++ part ∷ after)) (length before) ≡ Some (strict_view_of part)
+middle_get : (before after : List (List ℕ)) (part : List ℕ) → slice_get (map strict_view_of (before ++ part ∷ after)) (length before)
+    ≡ Some (strict_view_of part)
 middle_get [] after part = refl
 middle_get (f ∷ before) after part = middle_get before after part
 
 module _ (b : List ℕ) (bytes : AreBytes b) (fits : length b < 2 ^ 64) where
-  parts_from : items_fault (strict_view_of b) ≡ None → (before after : List (List ℕ)) → items b ≡ before ++ after → PartsFrom (strict_view_of b) (length before) after
+  parts_from : items_fault (strict_view_of b) ≡ None → (before after : List (List ℕ)) → items b ≡ before ++ after
+      → PartsFrom (strict_view_of b) (length before) after
   parts_from told before [] is = tt
   parts_from told before (part ∷ after) is =
-      let got : slice_get (item_views (strict_view_of b)) (length before) ≡ Some (strict_view_of part) = ap (λ fs. slice_get (map strict_view_of fs) (length before)) is ∙ middle_get before after part in
-      let there : item_at (strict_view_of b) (length before) ≡ Ok (strict_view_of part) = slice_get-item_at (strict_view_of b) (strict_view_of part) (length before) told got in
+      let got : slice_get (item_views (strict_view_of b)) (length before) ≡ Some (strict_view_of part) =
+          ap (λ fs. slice_get (map strict_view_of fs) (length before)) is ∙ middle_get before after part in
+      let there : item_at (strict_view_of b) (length before) ≡ Ok (strict_view_of part) =
+          slice_get-item_at (strict_view_of b) (strict_view_of part) (length before) told got in
       let (held, short) = part_of_items (strict_view_of b) (strict_view_of part) (length before) bytes fits there in
       let next : length (before ++ part ∷ []) ≡ suc (length before) = omega (arith, length-append before (part ∷ [])) in
       let others = parts_from told (before ++ part ∷ []) after (is ∙ sym (append_assoc before (part ∷ []) after)) in
@@ -100,10 +113,13 @@ module _ (b : List ℕ) (bytes : AreBytes b) (fits : length b < 2 ^ 64) where
 
 -- ---- the struct
 
-module _ {P : Type 0} (count : ℕ) (Fits : P → Type 0) (items_of : P → List Item) (gives : ℕ → View → P → Type 0) (some : ℕ → ℕ → View → Type 0) (faults : ℕ → View → DecoderError → Type 0)
+module _ {P : Type 0} (count : ℕ) (Fits : P → Type 0) (items_of : P → List Item) (gives : ℕ → View → P → Type 0) (some : ℕ → ℕ → View → Type 0)
+    (faults : ℕ → View → DecoderError → Type 0)
     (counted : (p : P) → length (items_of p) ≡ count)
-    (exact : (i : ℕ) (view : View) (parts : List (List ℕ)) (p : P) → PartsFrom view i parts → length parts ≡ count → gives i view p ↔ (Fits p × (parts ≡ map encoding (items_of p))))
-    (sound : (i : ℕ) (view : View) (parts : List (List ℕ)) (p : P) → PartsFrom view i parts → Fits p → parts ≡ map encoding (items_of p) → (k : ℕ) (e : DecoderError) → k < count → ¬ FaultsAt (faults k) view (i + k) e) where
+    (exact : (i : ℕ) (view : View) (parts : List (List ℕ)) (p : P) → PartsFrom view i parts → length parts ≡ count → gives i view p
+        ↔ (Fits p × (parts ≡ map encoding (items_of p))))
+    (sound : (i : ℕ) (view : View) (parts : List (List ℕ)) (p : P) → PartsFrom view i parts → Fits p → parts ≡ map encoding (items_of p)
+        → (k : ℕ) (e : DecoderError) → k < count → ¬ FaultsAt (faults k) view (i + k) e) where
   module _ (b : List ℕ) (p : P) (bytes : AreBytes b) (fits : length b < 2 ^ 64) where
     struct_whole : item_count (strict_view_of b) ≡ Ok count → gives 0 (strict_view_of b) p → Fits p × (b ≡ encoding (list_of (items_of p)))
     struct_whole many given =
@@ -120,10 +136,12 @@ module _ {P : Type 0} (count : ℕ) (Fits : P → Type 0) (items_of : P → List
     struct_given : Fits p → b ≡ encoding (list_of (items_of p)) → (item_count (strict_view_of b) ≡ Ok count) × gives 0 (strict_view_of b) p
     struct_given fit is = (
       struct_count is,
-      (exact 0 (strict_view_of b) (items b) p (struct_parts is) (counted_items (strict_view_of b) count (struct_count is))).1 (fit, strict_items (items_of p) b (whole_sized (list_of (items_of p)) b fits is) is),
+      (exact 0 (strict_view_of b) (items b) p (struct_parts is) (counted_items (strict_view_of b) count (struct_count is))).1
+          (fit, strict_items (items_of p) b (whole_sized (list_of (items_of p)) b fits is) is),
     )
 
-    struct_sound : Fits p → b ≡ encoding (list_of (items_of p)) → (e : DecoderError) → ¬ FaultsAsFields count (λ v e. FaultsInField count some faults v e) (strict_view_of b) e
+    struct_sound : Fits p → b ≡ encoding (list_of (items_of p)) → (e : DecoderError)
+        → ¬ FaultsAsFields count (λ v e. FaultsInField count some faults v e) (strict_view_of b) e
     struct_sound fit is e (no_fields g none) = let many = struct_count is in cc
     struct_sound fit is e (other_count m same other) = let many = struct_count is in let equal : m ≡ count = cc in other equal
     struct_sound fit is e (faulty_field g same (in_field k few before at)) =
@@ -131,7 +149,8 @@ module _ {P : Type 0} (count : ℕ) (Fits : P → Type 0) (items_of : P → List
         (subst (λ j. FaultsAt (faults k) (strict_view_of b) j g) (let zero_add : k ≡ 0 + k = omega arith in zero_add) at)
 
   -- a struct is read strictly where its fields are
-  pub struct_strict : AlwaysReadsStrictly Fits (λ p. list_of (items_of p)) (λ v p. (item_count v ≡ Ok count) × gives 0 v p) (λ v e. FaultsAsFields count (λ v e. FaultsInField count some faults v e) v e)
+  pub struct_strict : AlwaysReadsStrictly Fits (λ p. list_of (items_of p)) (λ v p. (item_count v ≡ Ok count) × gives 0 v p)
+      (λ v e. FaultsAsFields count (λ v e. FaultsInField count some faults v e) v e)
   struct_strict b p bytes fits = record {
     exact = (λ (many, given). struct_whole b p bytes fits many given, λ (fit, is). struct_given b p bytes fits fit is);
     sound = struct_sound b p bytes fits;

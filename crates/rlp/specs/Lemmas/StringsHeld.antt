@@ -1,5 +1,6 @@
 -- What a view holds, lenient or strict, and the string that is read from it.
-use Rattle.std.proofs.Common.{◌≡◌, ℕ, ◌^◌, ◌<◌, ◌≤◌, ⊎_elim, Bool, true, false, if◌then◌else◌, ltb, List, [], ◌∷◌, ◌++◌, length, sym, ap, ◌∙◌, subst, arith, append-nil, length-append, le-ltb, lt-ltb, Result, Ok, Err, MatchResult, IfErr}
+use Rattle.std.proofs.Common.{◌≡◌, ℕ, ◌^◌, ◌<◌, ◌≤◌, ⊎_elim, Bool, true, false, if◌then◌else◌, ltb, List, [], ◌∷◌, ◌++◌, length, sym, ap, ◌∙◌, subst,
+  arith, append-nil, length-append, le-ltb, lt-ltb, Result, Ok, Err, MatchResult, IfErr}
 use Rattle.std.proofs.lemmas.Bool.{cases_lt, cond-true, cond-false}
 use Rattle.rlp_format.specs.declared.error.DecoderError.{DecoderError}
 use Rattle.rlp_format.specs.declared.error.DecoderError.TheVariants.{RlpIsTooBig}
@@ -25,7 +26,8 @@ held_begins v x holds = begins_by v.is_strict v.bytes (encoding x) holds
 whole_is : (b d : List ℕ) → b ≡ encoding (string d) → whole_string b (Ok d) ≡ Ok d
 whole_is b d is = cond-false (ltb (length (encoding (string d))) (length b)) _ _ (le-ltb _ _ (omega (arith, ap length is)))
 
-read_by : (strict : Bool) (b d : List ℕ) → length b < 2 ^ 64 → Holds strict b (encoding (string d)) → (if strict then whole_string b (read_string b) else read_string b) ≡ Ok d
+read_by : (strict : Bool) (b d : List ℕ) → length b < 2 ^ 64 → Holds strict b (encoding (string d))
+    → (if strict then whole_string b (read_string b) else read_string b) ≡ Ok d
 read_by false b d fits holds = string_only b d fits holds
 read_by true b d fits holds = ap (whole_string b) (string_only b d fits (begins_by true b (encoding (string d)) holds)) ∙ whole_is b d holds
 
@@ -64,7 +66,8 @@ lenient_reads : (b : List ℕ) (r : Result (List ℕ) DecoderError) → ReadsStr
 lenient_reads b (Err e) (none, same) = none
 lenient_reads b (Ok d) stands = stands
 
-reads_by : (strict : Bool) (b : List ℕ) → length b < 2 ^ 64 → ReadsString b (read_string b) → ReadsHeld strict b (if strict then whole_string b (read_string b) else read_string b)
+reads_by : (strict : Bool) (b : List ℕ) → length b < 2 ^ 64 → ReadsString b (read_string b)
+    → ReadsHeld strict b (if strict then whole_string b (read_string b) else read_string b)
 reads_by false b fits read = lenient_reads b (read_string b) read
 reads_by true b fits read = whole_reads b (read_string b) fits read
 
@@ -76,8 +79,10 @@ pub held_reads : (v : View) → AreBytes v.bytes → length v.bytes < 2 ^ 64 →
 held_reads v bytes fits = reads_by v.is_strict v.bytes fits (string_reads v.bytes bytes fits)
 
 -- where a string is missing, there is none, and what holds of the fault holds
-pub missing_held : (v : View) (e : DecoderError) (F : DecoderError → Type 0) → ReadsHeld v.is_strict v.bytes (view_string v) → view_string v ≡ Err e → F e → IfErr (view_string v) (λ e. HoldsNoString v × F e)
-missing_held v e F read is holds = let none : ReadsHeld v.is_strict v.bytes (Err e) = subst (ReadsHeld v.is_strict v.bytes) is read in subst (λ r. IfErr r (λ e. HoldsNoString v × F e)) (sym is) (none, holds)
+pub missing_held : (v : View) (e : DecoderError) (F : DecoderError → Type 0) → ReadsHeld v.is_strict v.bytes (view_string v) → view_string v ≡ Err e
+    → F e → IfErr (view_string v) (λ e. HoldsNoString v × F e)
+missing_held v e F read is holds = let none : ReadsHeld v.is_strict v.bytes (Err e) = subst (ReadsHeld v.is_strict v.bytes) is read in
+    subst (λ r. IfErr r (λ e. HoldsNoString v × F e)) (sym is) (none, holds)
 
 -- whether bytes follow an encoding that they begin with
 pub is_followed-encoding : (x : Item) (b more : List ℕ) → IsSized x → b ≡ encoding x ++ more → is_followed b ≡ ltb (length (encoding x)) (length b)
@@ -90,24 +95,28 @@ is_followed-encoding x b more sized is =
 
 -- ---- the string of a decoder
 
-followed_as : (b d : List ℕ) (kind : Bool) → length b < 2 ^ 64 → read_string b ≡ Ok d → ReadsString b (read_string b) → is_followed b ≡ kind → ltb (length (encoding (string d))) (length b) ≡ kind
+followed_as : (b d : List ℕ) (kind : Bool) → length b < 2 ^ 64 → read_string b ≡ Ok d → ReadsString b (read_string b) → is_followed b ≡ kind
+    → ltb (length (encoding (string d))) (length b) ≡ kind
 followed_as b d kind fits is read followed =
     let there : IsString b d = subst (ReadsString b) is read in
     sym (is_followed-encoding (string d) b there.0 (front_sized (string d) b there.0 fits there.1) there.1) ∙ followed
 
 -- a strict view whose string is followed by bytes
-pub held_too_big : (v : View) (d : List ℕ) → length v.bytes < 2 ^ 64 → v.is_strict ≡ true → read_string v.bytes ≡ Ok d → ReadsString v.bytes (read_string v.bytes) → is_followed v.bytes ≡ true → view_string v ≡ Err RlpIsTooBig
+pub held_too_big : (v : View) (d : List ℕ) → length v.bytes < 2 ^ 64 → v.is_strict ≡ true → read_string v.bytes ≡ Ok d
+    → ReadsString v.bytes (read_string v.bytes) → is_followed v.bytes ≡ true → view_string v ≡ Err RlpIsTooBig
 held_too_big v d fits strict is read followed =
     cond-true v.is_strict _ _ strict ∙ ap (whole_string v.bytes) is
     ∙ cond-true (ltb (length (encoding (string d))) (length v.bytes)) _ _ (followed_as v.bytes d true fits is read followed)
 
 -- a strict view that ends with its string
-pub held_whole : (v : View) (d : List ℕ) → length v.bytes < 2 ^ 64 → read_string v.bytes ≡ Ok d → ReadsString v.bytes (read_string v.bytes) → is_followed v.bytes ≡ false → view_string v ≡ Ok d
+pub held_whole : (v : View) (d : List ℕ) → length v.bytes < 2 ^ 64 → read_string v.bytes ≡ Ok d → ReadsString v.bytes (read_string v.bytes)
+    → is_followed v.bytes ≡ false → view_string v ≡ Ok d
 held_whole v d fits is read followed = whole_kind v.is_strict
   where
     whole_kind : (strict : Bool) → (if strict then whole_string v.bytes (read_string v.bytes) else read_string v.bytes) ≡ Ok d
     whole_kind false = is
-    whole_kind true = ap (whole_string v.bytes) is ∙ cond-false (ltb (length (encoding (string d))) (length v.bytes)) _ _ (followed_as v.bytes d false fits is read followed)
+    whole_kind true = ap (whole_string v.bytes) is
+        ∙ cond-false (ltb (length (encoding (string d))) (length v.bytes)) _ _ (followed_as v.bytes d false fits is read followed)
 
 -- a lenient view
 pub held_front : (v : View) (r : Result (List ℕ) DecoderError) → v.is_strict ≡ false → read_string v.bytes ≡ r → view_string v ≡ r

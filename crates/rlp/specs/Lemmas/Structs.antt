@@ -1,11 +1,13 @@
 -- Structs that are lists of their fields: their encodings are read back, and the rules for bodies that read them.
-use Rattle.std.proofs.Common.{◌≡◌, ◌↔◌, ℕ, zero, suc, ◌+◌, ◌^◌, ◌<◌, ◌⊎◌, inl, inr, List, [], ◌∷◌, ◌++◌, length, sym, ap, ◌∙◌, subst, arith, append_assoc, length-append, Ok, ◌≢◌}
+use Rattle.std.proofs.Common.{◌≡◌, ◌↔◌, ℕ, zero, suc, ◌+◌, ◌^◌, ◌<◌, ◌⊎◌, inl, inr, List, [], ◌∷◌, ◌++◌, length, sym, ap, ◌∙◌, subst, arith,
+  append_assoc, length-append, Ok, ◌≢◌}
 use Rattle.rlp_format.specs.declared.error.DecoderError.{DecoderError}
 use Rattle.rlp_format.specs.declared.error.DecoderError.TheVariants.{OutOfMemory, RlpIncorrectListLen}
 use Rattle.rlp_format.specs.Format.Item.{Item, list_of, items_from, listed}
 use Rattle.rlp_format.specs.Format.Encoding.{BeginsWith, encoding, join, IsSized}
 use Rattle.rlp_format.specs.Views.View.{View, view_of, item_at, item_count}
-use Rattle.rlp.specs.Values.ListReading.{FaultsAsFields, no_fields, other_count, faulty_field, FaultsAt, FaultsInField, in_field, GivesAt, GivesBefore, MayLackAsStruct, MayLackAt}
+use Rattle.rlp.specs.Values.ListReading.{FaultsAsFields, no_fields, other_count, faulty_field, FaultsAt, FaultsInField, in_field, GivesAt,
+  GivesBefore, MayLackAsStruct, MayLackAt}
 use Rattle.rlp.specs.Values.FieldPlace.{FieldPlace, field_place}
 use Rattle.rlp.specs.Values.RoundTrip.{ReadsBack}
 use Rattle.rlp_format.specs.Lemmas.Encodings.{encoding_list, small_payload, front_sized, listed_from}
@@ -31,13 +33,16 @@ HoldsFrom view i [] = Unit {0}
 HoldsFrom view i (x ∷ xs) = (item_at view i ≡ Ok (view_of (encoding x))) × (IsSized x × HoldsFrom view (suc i) xs)
 
 -- from the encoding of a list, the items after some first ones are in their places
-pub holds_from : (before xs : List Item) (b : List ℕ) → IsSized (list_of (before ++ xs)) → BeginsWith b (encoding (list_of (before ++ xs))) → HoldsFrom (view_of b) (length before) xs
+pub holds_from : (before xs : List Item) (b : List ℕ) → IsSized (list_of (before ++ xs)) → BeginsWith b (encoding (list_of (before ++ xs)))
+    → HoldsFrom (view_of b) (length before) xs
 holds_from before [] b sized begins = tt
 holds_from before (x ∷ xs) b sized begins =
-    let small : length (join (before ++ x ∷ xs)) < 2 ^ 64 = small_payload 0xc0 (join (before ++ x ∷ xs)) (encoding (list_of (before ++ x ∷ xs))) (encoding_list (before ++ x ∷ xs)) sized in
+    let small : length (join (before ++ x ∷ xs)) < 2 ^ 64 = small_payload 0xc0 (join (before ++ x ∷ xs)) (encoding (list_of (before ++ x ∷ xs)))
+        (encoding_list (before ++ x ∷ xs)) sized in
     let whole : before ++ x ∷ xs ≡ (before ++ x ∷ []) ++ xs = sym (append_assoc before (x ∷ []) xs) in
     let next : length (before ++ x ∷ []) ≡ suc (length before) = omega (arith, length-append before (x ∷ [])) in
-    let others : HoldsFrom (view_of b) (length (before ++ x ∷ [])) xs = holds_from (before ++ x ∷ []) xs b (subst (λ ys. IsSized (list_of ys)) whole sized) (subst (λ ys. BeginsWith b (encoding (list_of ys))) whole begins) in
+    let others : HoldsFrom (view_of b) (length (before ++ x ∷ [])) xs =
+        holds_from (before ++ x ∷ []) xs b (subst (λ ys. IsSized (list_of ys)) whole sized) (subst (λ ys. BeginsWith b (encoding (list_of ys))) whole begins) in
     (item_at-list_item before xs x b sized begins, (middle_sized before xs x small, subst (λ i. HoldsFrom (view_of b) i xs) next others))
 
 -- the items of a view that begins with the encoding of a list
@@ -46,7 +51,8 @@ holds_items xs b sized begins = holds_from [] xs b sized begins
 
 -- ---- the first field, of a type whose values are read back
 
-module _ {A P : Type 0} (field : P → A) (Fits : A → Type 0) (item : A → Item) (gives : View → A → Type 0) (faults : View → DecoderError → Type 0) (law : AlwaysReadsBack Fits item gives faults) where
+module _ {A P : Type 0} (field : P → A) (Fits : A → Type 0) (item : A → Item) (gives : View → A → Type 0) (faults : View → DecoderError → Type 0)
+    (law : AlwaysReadsBack Fits item gives faults) where
   pub first_back : (i : ℕ) (view : View) (p : P) → Fits (field p) → item_at view i ≡ Ok (view_of (encoding (item (field p)))) → IsSized (item (field p))
       → ReadsBack Fits item (λ v w. GivesAt gives v i w) (λ v e. FaultsAt faults v i e) view (field p)
   first_back i view p fit is sized = item_reads_back Fits item gives faults view i (field p) law fit sized is
@@ -58,11 +64,13 @@ module _ {A P : Type 0} (field : P → A) (Fits : A → Type 0) (item : A → It
       let one = (first_back i view p fit is sized).alike (field q) in
       (λ g. let h = one.0 g in (h.0, ap (λ x. x ∷ []) h.1), λ (fit', same). one.1 (fit', (cons_same (item (field q)) (item (field p)) [] [] same).0))
 
-  pub sound_by : (i : ℕ) (view : View) (p : P) (j : ℕ) (e : DecoderError) → Fits (field p) → item_at view i ≡ Ok (view_of (encoding (item (field p)))) → IsSized (item (field p)) → j ≡ i → ¬ FaultsAt faults view j e
+  pub sound_by : (i : ℕ) (view : View) (p : P) (j : ℕ) (e : DecoderError) → Fits (field p) → item_at view i ≡ Ok (view_of (encoding (item (field p))))
+      → IsSized (item (field p)) → j ≡ i → ¬ FaultsAt faults view j e
   sound_by i view p j e fit is sized same at = (first_back i view p fit is sized).no_fault e (subst (λ j. FaultsAt faults view j e) same at)
 
   -- the first field has no fault
-  pub first_sound : (i : ℕ) (view : View) (p : P) → Fits (field p) → HoldsFrom view i (item (field p) ∷ []) → (k : ℕ) (e : DecoderError) → k < 1 → ¬ FaultsAt (by_place faults (λ k v e. ⊥) k) view (i + k) e
+  pub first_sound : (i : ℕ) (view : View) (p : P) → Fits (field p) → HoldsFrom view i (item (field p) ∷ []) → (k : ℕ) (e : DecoderError) → k < 1
+      → ¬ FaultsAt (by_place faults (λ k v e. ⊥) k) view (i + k) e
   first_sound i view p fit (is, (sized, none)) zero e few at = sound_by i view p (i + 0) e fit is sized (omega arith) at
   first_sound i view p fit (is, (sized, none)) (suc k) e few at = omega arith
 
@@ -76,13 +84,16 @@ module _ {A P : Type 0} (field : P → A) (Fits : A → Type 0) (item : A → It
         let one = (first_back i view p fit is sized).alike (field q) in
         let rest = later (suc i) view p fits others q in (
           λ (g, gs). let h = one.0 g in let hs = rest.0 gs in ((h.0, hs.0), ap (λ x. x ∷ more q) h.1 ∙ ap (λ xs. item (field p) ∷ xs) hs.1),
-          λ ((fit', fits'), same). let parts = cons_same (item (field q)) (item (field p)) (more q) (more p) same in (one.1 (fit', parts.0), rest.1 (fits', parts.1)),
+          λ ((fit', fits'), same). let parts = cons_same (item (field q)) (item (field p)) (more q) (more p) same in
+              (one.1 (fit', parts.0), rest.1 (fits', parts.1)),
         )
 
     -- a field has no fault, and neither have those after it
     pub more_sound : (count : ℕ) (faultMore : ℕ → View → DecoderError → Type 0)
-        → ((i : ℕ) (view : View) (p : P) → FitMore p → HoldsFrom view i (more p) → (k : ℕ) (e : DecoderError) → k < count → ¬ FaultsAt (faultMore k) view (i + k) e)
-        → (i : ℕ) (view : View) (p : P) → Fits (field p) × FitMore p → HoldsFrom view i (item (field p) ∷ more p) → (k : ℕ) (e : DecoderError) → k < suc count → ¬ FaultsAt (by_place faults faultMore k) view (i + k) e
+        → ((i : ℕ) (view : View) (p : P) → FitMore p → HoldsFrom view i (more p) → (k : ℕ) (e : DecoderError) → k < count
+            → ¬ FaultsAt (faultMore k) view (i + k) e)
+        → (i : ℕ) (view : View) (p : P) → Fits (field p) × FitMore p → HoldsFrom view i (item (field p) ∷ more p) → (k : ℕ) (e : DecoderError)
+            → k < suc count → ¬ FaultsAt (by_place faults faultMore k) view (i + k) e
     more_sound count faultMore later i view p (fit, fits) (is, (sized, others)) zero e few at = sound_by i view p (i + 0) e fit is sized (omega arith) at
     more_sound count faultMore later i view p (fit, fits) (is, (sized, others)) (suc k) e few at =
         let place : i + suc k ≡ suc i + k = omega arith in
@@ -90,17 +101,22 @@ module _ {A P : Type 0} (field : P → A) (Fits : A → Type 0) (item : A → It
 
 -- ---- the struct
 
-module _ {P : Type 0} (count : ℕ) (Fits : P → Type 0) (items : P → List Item) (gives : ℕ → View → P → Type 0) (some : ℕ → ℕ → View → Type 0) (faults : ℕ → View → DecoderError → Type 0)
+module _ {P : Type 0} (count : ℕ) (Fits : P → Type 0) (items : P → List Item) (gives : ℕ → View → P → Type 0) (some : ℕ → ℕ → View → Type 0)
+    (faults : ℕ → View → DecoderError → Type 0)
     (counted : (p : P) → length (items p) ≡ count)
     (alike : (i : ℕ) (view : View) (p : P) → Fits p → HoldsFrom view i (items p) → (q : P) → gives i view q ↔ (Fits q × (items q ≡ items p)))
-    (sound : (i : ℕ) (view : View) (p : P) → Fits p → HoldsFrom view i (items p) → (k : ℕ) (e : DecoderError) → k < count → ¬ FaultsAt (faults k) view (i + k) e) where
-  no_struct_fault : (view : View) (p : P) → Fits p → HoldsFrom view 0 (items p) → item_count view ≡ Ok count → (e : DecoderError) → ¬ FaultsAsFields count (λ v e. FaultsInField count some faults v e) view e
+    (sound : (i : ℕ) (view : View) (p : P) → Fits p → HoldsFrom view i (items p) → (k : ℕ) (e : DecoderError) → k < count
+        → ¬ FaultsAt (faults k) view (i + k) e) where
+  no_struct_fault : (view : View) (p : P) → Fits p → HoldsFrom view 0 (items p) → item_count view ≡ Ok count → (e : DecoderError)
+      → ¬ FaultsAsFields count (λ v e. FaultsInField count some faults v e) view e
   no_struct_fault view p fit holds is e (no_fields g none) = cc
   no_struct_fault view p fit holds is e (other_count m same other) = let equal : m ≡ count = cc in other equal
-  no_struct_fault view p fit holds is e (faulty_field g same (in_field k few before at)) = sound 0 view p fit holds k g few (subst (λ j. FaultsAt (faults k) view j g) (let zero_add : k ≡ 0 + k = omega arith in zero_add) at)
+  no_struct_fault view p fit holds is e (faulty_field g same (in_field k few before at)) =
+      sound 0 view p fit holds k g few (subst (λ j. FaultsAt (faults k) view j g) (let zero_add : k ≡ 0 + k = omega arith in zero_add) at)
 
   -- a struct is read back where its fields are
-  pub struct_reads_back : AlwaysReadsBack Fits (λ p. list_of (items p)) (λ v p. (item_count v ≡ Ok count) × gives 0 v p) (λ v e. FaultsAsFields count (λ v e. FaultsInField count some faults v e) v e)
+  pub struct_reads_back : AlwaysReadsBack Fits (λ p. list_of (items p)) (λ v p. (item_count v ≡ Ok count) × gives 0 v p)
+      (λ v e. FaultsAsFields count (λ v e. FaultsInField count some faults v e) v e)
   struct_reads_back b p fits fit (more, is) =
       let sized : IsSized (list_of (items p)) = front_sized (list_of (items p)) b more fits is in
       let holds : HoldsFrom (view_of b) 0 (items p) = holds_from [] (items p) b sized (more, is) in
@@ -115,13 +131,15 @@ module _ {P : Type 0} (count : ℕ) (Fits : P → Type 0) (items : P → List It
 
 -- ---- rules for bodies that read a struct
 
-module _ (count : ℕ) (some : ℕ → ℕ → View → Type 0) (faults : ℕ → View → DecoderError → Type 0) (may_lack : ℕ → View → Type 0) (v : View) (e : DecoderError) where
+module _ (count : ℕ) (some : ℕ → ℕ → View → Type 0) (faults : ℕ → View → DecoderError → Type 0) (may_lack : ℕ → View → Type 0) (v : View)
+    (e : DecoderError) where
   -- the fault is one of the struct, or memory may lack
   abbrev pub StructFails : Type 0
   StructFails = FaultsAsFields count (λ v e. FaultsInField count some faults v e) v e ⊎ ((e ≡ OutOfMemory) × MayLackAsStruct count some may_lack v)
 
   -- a fault of a field is one of the struct
-  pub field_fails : (k : ℕ) → FaultsAt (faults k) v k e ⊎ ((e ≡ OutOfMemory) × MayLackAt (may_lack k) v k) → item_count v ≡ Ok count → k < count → GivesBefore some v k → StructFails
+  pub field_fails : (k : ℕ) → FaultsAt (faults k) v k e ⊎ ((e ≡ OutOfMemory) × MayLackAt (may_lack k) v k) → item_count v ≡ Ok count → k < count
+      → GivesBefore some v k → StructFails
   field_fails k (inl fault) many few before = inl (faulty_field e many (in_field k few before fault))
   field_fails k (inr (lacks, may)) many few before = inr (lacks, record { many = many; place = k; few = few; before = before; may = may })
 
@@ -200,16 +218,19 @@ pub count_off : (n m : ℕ) (IsFaulty : View → DecoderError → Type 0) (v : V
 count_off n m IsFaulty v is other = other_count m (sym is) other
 
 -- for bodies that read the fields of a struct, up to seventeen
-pub ruleset struct_fields = (no_fields, count_off, field_0, field_1, field_2, field_3, field_4, field_5, field_6, field_7, field_8, field_9, field_10, field_11, field_12, field_13, field_14, field_15, field_16)
+pub ruleset struct_fields = (no_fields, count_off, field_0, field_1, field_2, field_3, field_4, field_5, field_6, field_7, field_8, field_9, field_10,
+    field_11, field_12, field_13, field_14, field_15, field_16)
 
 -- a view that isn't a list of that number of items is faulty
-pub fields_off : (n : ℕ) (IsFaulty : View → DecoderError → Type 0) (v : View) (e : DecoderError) → FaultsAsFields n (λ _ _. ⊥) v e → FaultsAsFields n IsFaulty v e
+pub fields_off : (n : ℕ) (IsFaulty : View → DecoderError → Type 0) (v : View) (e : DecoderError) → FaultsAsFields n (λ _ _. ⊥) v e
+    → FaultsAsFields n IsFaulty v e
 fields_off n IsFaulty v e (no_fields f none) = no_fields f none
 fields_off n IsFaulty v e (other_count m is other) = other_count m is other
 fields_off n IsFaulty v e (faulty_field f is bad) = absurd bad
 
 -- a reader's places, one after another: each of the first k was read, and gave a value of its field
-module _ (count : ℕ) (some : ℕ → ℕ → View → Type 0) (faults : ℕ → View → DecoderError → Type 0) (may_lack : ℕ → View → Type 0) (v : View) (e : DecoderError) where
+module _ (count : ℕ) (some : ℕ → ℕ → View → Type 0) (faults : ℕ → View → DecoderError → Type 0) (may_lack : ℕ → View → Type 0) (v : View)
+    (e : DecoderError) where
   -- the fact, where each of the first k places was read by one that is now at (w, i)
   abbrev pub WhereRead : ℕ → View → ℕ → Type 0 → Type 0
   WhereRead zero w i Fact = record { view = w; place = i } ≡ field_place v 0 → Fact
@@ -232,7 +253,8 @@ module _ (count : ℕ) (some : ℕ → ℕ → View → Type 0) (faults : ℕ �
   pub next_by : (k : ℕ) → NextFails k
   next_by k w i fails many few = where_read k w i (StructFails count some faults may_lack v e) (λ same here before.
       field_fails count some faults may_lack v e k
-      (subst (λ n. FaultsAt (faults k) v n e ⊎ ((e ≡ OutOfMemory) × MayLackAt (may_lack k) v n)) here (subst (λ u. FaultsAt (faults k) u i e ⊎ ((e ≡ OutOfMemory) × MayLackAt (may_lack k) u i)) same fails))
+      (subst (λ n. FaultsAt (faults k) v n e ⊎ ((e ≡ OutOfMemory) × MayLackAt (may_lack k) v n)) here
+          (subst (λ u. FaultsAt (faults k) u i e ⊎ ((e ≡ OutOfMemory) × MayLackAt (may_lack k) u i)) same fails))
       many few before)
 
   -- each of the first seventeen fields, as a rule of its own
@@ -288,4 +310,5 @@ module _ (count : ℕ) (some : ℕ → ℕ → View → Type 0) (faults : ℕ �
   next_16 = next_by 16
 
 -- for bodies that read the fields of a struct in order, up to seventeen
-pub ruleset struct_in_order = (fields_off, next_0, next_1, next_2, next_3, next_4, next_5, next_6, next_7, next_8, next_9, next_10, next_11, next_12, next_13, next_14, next_15, next_16)
+pub ruleset struct_in_order = (fields_off, next_0, next_1, next_2, next_3, next_4, next_5, next_6, next_7, next_8, next_9, next_10, next_11, next_12,
+    next_13, next_14, next_15, next_16)

@@ -1,5 +1,6 @@
 -- Bytes that are a list and nothing else.
-use Rattle.std.proofs.Common.{◌≡◌, ℕ, ◌+◌, ◌^◌, ◌<◌, ◌≤◌, inl, inr, ⊎_elim, true, false, List, [], ◌∷◌, ◌++◌, length, map, take, drop, refl, sym, ap, ◌∙◌, subst, arith, ltb, leb-true, le-ltb, lt-ltb, le_refl, append-nil, length-append, take_at, drop_at, Option, Some, None, Result, Ok, Err}
+use Rattle.std.proofs.Common.{◌≡◌, ℕ, ◌+◌, ◌^◌, ◌<◌, ◌≤◌, inl, inr, ⊎_elim, true, false, List, [], ◌∷◌, ◌++◌, length, map, take, drop, refl, sym, ap,
+  ◌∙◌, subst, arith, ltb, leb-true, le-ltb, lt-ltb, le_refl, append-nil, length-append, take_at, drop_at, Option, Some, None, Result, Ok, Err}
 use Rattle.std.specs.List.{concat, slice_get}
 use Rattle.std.proofs.lemmas.Bool.{cases_Bool, cases_lt, cond-true, cond-false, lt-leb}
 use Rattle.std.proofs.lemmas.List.{length-map}
@@ -35,7 +36,8 @@ head_whole (written base n more (inl is80) small) kind whole =
     let t = shape 0x80 n small in
     let parts = t.parts in
     let high : t.first < 0xc0 = grind arith in
-    let other : begins_as_list (written_header base n ++ more) ≡ false = ap (λ base. begins_as_list (written_header base n ++ more)) is80 ∙ ap (λ c. begins_as_list (c ++ more)) t.is ∙ lt-leb 0xc0 t.first high in
+    let other : begins_as_list (written_header base n ++ more) ≡ false = ap (λ base. begins_as_list (written_header base n ++ more)) is80
+        ∙ ap (λ c. begins_as_list (c ++ more)) t.is ∙ lt-leb 0xc0 t.first high in
     absurd (let no : ⊥ = cc in no)
 head_whole (written base n more (inr isc0) small) kind whole = record {
   inside = more;
@@ -55,7 +57,8 @@ framed_whole b (Ok p) is none = record {
   info = p;
   framed = is;
   all = ⊎_elim
-      (λ long. let some : strict_fault_in b (Ok p) ≡ Some RlpIsTooBig = cond-true (ltb (total_len p) (length b)) _ _ (lt-ltb _ _ long) in absurd (let no : ⊥ = cc in no))
+      (λ long. let some : strict_fault_in b (Ok p) ≡ Some RlpIsTooBig = cond-true (ltb (total_len p) (length b)) _ _ (lt-ltb _ _ long) in
+          absurd (let no : ⊥ = cc in no))
       (λ few. few)
       (cases_lt (total_len p) (length b));
 }
@@ -78,9 +81,12 @@ pub whole_parts : (b : List ℕ) → strict_list_fault b ≡ None → IsWholeLis
 unfolding strict_list_fault
 whole_parts b is =
     ⊎_elim
-    (λ kind. let both = first_none (strict_fault b) (fault_of_some (rest b)) (sym (cond-true (begins_as_list b) (first_fault (strict_fault b) (fault_of_some (rest b))) (Some RlpExpectedToBeList) kind) ∙ is) in
+    (λ kind. let both = first_none (strict_fault b) (fault_of_some (rest b))
+        (sym (cond-true (begins_as_list b) (first_fault (strict_fault b) (fault_of_some (rest b))) (Some RlpExpectedToBeList) kind) ∙ is) in
     record { kind = kind; framed = both.0; none_left = no_bytes_by (rest b) both.1 })
-    (λ kind. let no : Some RlpExpectedToBeList ≡ None = sym (cond-false (begins_as_list b) (first_fault (strict_fault b) (fault_of_some (rest b))) (Some RlpExpectedToBeList) kind) ∙ is in absurd (let none : ⊥ = cc in none))
+    (λ kind. let no : Some RlpExpectedToBeList ≡ None =
+        sym (cond-false (begins_as_list b) (first_fault (strict_fault b) (fault_of_some (rest b))) (Some RlpExpectedToBeList) kind)
+        ∙ is in absurd (let none : ⊥ = cc in none))
     (cases_Bool (begins_as_list b))
 
 -- the payload is the items and what follows them
@@ -90,7 +96,8 @@ payload_parts b bytes =
     let w = walk (length (payload b)) (payload b) (payload_bytes b bytes) (le_refl (length (payload b))) in
     let fs = split_within (length (payload b)) (payload b) in
     w.is ∙ ap (λ s. concat (split_within (length (payload b)) (payload b)) ++ s)
-    (sym (ap (drop (length (concat (split_within (length (payload b)) (payload b))))) w.is ∙ drop_at (concat (split_within (length (payload b)) (payload b))) w.left (length (concat (split_within (length (payload b)) (payload b)))) refl))
+    (sym (ap (drop (length (concat (split_within (length (payload b)) (payload b))))) w.is
+        ∙ drop_at (concat (split_within (length (payload b)) (payload b))) w.left (length (concat (split_within (length (payload b)) (payload b)))) refl))
 
 payload_inside : (b : List ℕ) (h n : ℕ) → begins_as_list b ≡ true → HasHeader b h n → h + n ≤ length b → (w : IsWhole b h n) → payload b ≡ w.inside
 unfolding payload
@@ -100,7 +107,8 @@ payload_inside b h n kind has within w =
     ∙ ap (take n) (drop_at (written_header 0xc0 n) w.inside h (sym w.head))
     ∙ ap (take n) (sym (append-nil w.inside)) ∙ take_at w.inside [] n w.many
 
-pub whole_by : (b : List ℕ) (h n : ℕ) (xs : List Item) → begins_as_list b ≡ true → payload b ≡ join xs → HasHeader b h n → h + n ≡ length b → b ≡ encoding (list_of xs)
+pub whole_by : (b : List ℕ) (h n : ℕ) (xs : List Item) → begins_as_list b ≡ true → payload b ≡ join xs → HasHeader b h n → h + n ≡ length b
+    → b ≡ encoding (list_of xs)
 whole_by b h n xs kind joined has equal =
     let w = head_whole has kind equal in
     let inner : w.inside ≡ join xs = sym (payload_inside b h n kind has (omega arith) w) ∙ joined in
@@ -108,7 +116,8 @@ whole_by b h n xs kind joined has equal =
     w.is ∙ ap (λ s. written_header 0xc0 n ++ s) inner ∙ ap (λ n. written_header 0xc0 n ++ join xs) many ∙ sym (encoding_list xs)
 
 items_joined : (b : List ℕ) (xs : List Item) → AreBytes b → rest b ≡ [] → items b ≡ map encoding xs → payload b ≡ join xs
-items_joined b xs bytes none same = payload_parts b bytes ∙ ap (λ r. concat (items b) ++ r) none ∙ append-nil (concat (items b)) ∙ ap concat same ∙ sym (join_is xs)
+items_joined b xs bytes none same = payload_parts b bytes ∙ ap (λ r. concat (items b) ++ r) none ∙ append-nil (concat (items b)) ∙ ap concat same
+    ∙ sym (join_is xs)
 
 -- a whole list whose items are encodings is the encoding of their list
 pub whole_list : (b : List ℕ) (xs : List Item) → AreBytes b → strict_list_fault b ≡ None → items b ≡ map encoding xs → b ≡ encoding (list_of xs)
@@ -149,7 +158,8 @@ pub strict_told : (b : List ℕ) → begins_as_list b ≡ true → strict_list_f
 strict_told b kind is = cond-true (begins_as_list b) _ _ kind ∙ is
 
 pub strict_list_told : (xs : List Item) (b : List ℕ) → IsSized (list_of xs) → b ≡ encoding (list_of xs) → items_fault (strict_view_of b) ≡ None
-strict_list_told xs b sized is = strict_told b (list_shape xs b sized ([], is ∙ sym (append-nil (encoding (list_of xs))))).0 (strict_list_fault-encoding xs b sized is)
+strict_list_told xs b sized is = strict_told b (list_shape xs b sized ([], is ∙ sym (append-nil (encoding (list_of xs))))).0
+    (strict_list_fault-encoding xs b sized is)
 
 pub strict_items : (xs : List Item) (b : List ℕ) → IsSized (list_of xs) → b ≡ encoding (list_of xs) → items b ≡ map encoding xs
 strict_items xs b sized is = (items_of_list xs b sized ([], is ∙ sym (append-nil (encoding (list_of xs))))).0
@@ -164,5 +174,6 @@ first_view : (f : List ℕ) (fs gs : List (List ℕ)) → gs ≡ f ∷ fs → sl
 first_view f fs gs is = ap (λ gs. slice_get (map strict_view_of gs) 0) is
 
 -- the first item of a strict view
-pub strict_first : (b f : List ℕ) (fs : List (List ℕ)) → items_fault (strict_view_of b) ≡ None → items b ≡ f ∷ fs → item_at (strict_view_of b) 0 ≡ Ok (strict_view_of f)
+pub strict_first : (b f : List ℕ) (fs : List (List ℕ)) → items_fault (strict_view_of b) ≡ None → items b ≡ f ∷ fs
+    → item_at (strict_view_of b) 0 ≡ Ok (strict_view_of f)
 strict_first b f fs told is = slice_get-item_at (strict_view_of b) (strict_view_of f) 0 told (first_view f fs (items b) is)

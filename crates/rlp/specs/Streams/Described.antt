@@ -4,7 +4,8 @@ use Rattle.rlp_format.specs.Format.Item.{Item, string, list_of}
 use Rattle.rlp_format.specs.Format.Encoding.{join, IsSized}
 use Rattle.rlp_buffer.specs.Streams.Stack.{OpenList, Stack, empty_stack, stack_put, stack_with_list, stack_shut, stack_count}
 use Rattle.rlp_buffer.specs.Streams.Stream.{State, initial_state, IsFinished}
-use Rattle.rlp_buffer.specs.Streams.Calls.{Call, append, append_empty_data, append_raw, append_raw_checked, begin_list, begin_unbounded_list, finalize_unbounded_list, append_internal, clear, effect, is_admitted, is_within_size, after}
+use Rattle.rlp_buffer.specs.Streams.Calls.{Call, append, append_empty_data, append_raw, append_raw_checked, begin_list, begin_unbounded_list,
+  finalize_unbounded_list, append_internal, clear, effect, is_admitted, is_within_size, after}
 
 -- What a call does to the items: it adds some, opens a list, closes a list, drops all, or does nothing.
 pub data Step : Type 0 where
@@ -37,7 +38,8 @@ pub data DescribesWhere (P : Item → Type 0) (s : State) : Call → Step → Ty
   by_append : (x : Item) → DescribesWhere P s (append x) (brings (x ∷ []))
   by_empty_data : DescribesWhere P s append_empty_data (brings (string [] ∷ []))
   by_raw : (xs : List Item) → All IsSized xs → All P xs → DescribesWhere P s (append_raw (join xs) (length xs)) (brings xs)
-  by_checked_raw : (xs : List Item) (limit : ℕ) → All IsSized xs → All P xs → IsTrue (is_within_size (join xs) limit s) → DescribesWhere P s (append_raw_checked (join xs) (length xs) limit) (brings xs)
+  by_checked_raw : (xs : List Item) (limit : ℕ) → All IsSized xs → All P xs → IsTrue (is_within_size (join xs) limit s)
+      → DescribesWhere P s (append_raw_checked (join xs) (length xs) limit) (brings xs)
   by_refused_raw : (bytes : List ℕ) (k limit : ℕ) → IsTrue (not (is_within_size bytes limit s)) → DescribesWhere P s (append_raw_checked bytes k limit) stays
   by_empty_list : DescribesWhere P s (begin_list 0) (brings (list_of [] ∷ []))
   by_list : (n : ℕ) → DescribesWhere P s (begin_list (suc n)) (opens (Some (suc n)))

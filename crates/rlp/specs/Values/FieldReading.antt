@@ -9,7 +9,8 @@ abbrev pub GivesFields : ℕ → (ℕ → ℕ → View → Type 0) → View → 
 GivesFields k some v i = (j : ℕ) → j < k → some j (i + j) v
 
 -- One of the items from place i on is at fault, by the type of its field, and each before it gives a value of its field.
-pub record FaultsInFields (count : ℕ) (some : ℕ → ℕ → View → Type 0) (faults : ℕ → View → DecoderError → Type 0) (v : View) (i : ℕ) (e : DecoderError) : Type 0 where
+pub record FaultsInFields (count : ℕ) (some : ℕ → ℕ → View → Type 0) (faults : ℕ → View → DecoderError → Type 0) (v : View) (i : ℕ)
+    (e : DecoderError) : Type 0 where
   pub number : ℕ
   pub few : number < count
   pub before : GivesFields number some v i

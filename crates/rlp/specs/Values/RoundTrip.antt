@@ -7,11 +7,13 @@ use Rattle.rlp_format.specs.Format.Encoding.{encoding}
 use Rattle.rlp_format.specs.Views.View.{View, strict_view_of}
 
 -- A view reads a value back: it gives exactly the values that fit and are alike to it, and has no fault.
-pub record ReadsBack {A : Type 0} (Fits : A → Type 0) (item : A → Item) (gives : View → A → Type 0) (faults : View → DecoderError → Type 0) (view : View) (v : A) : Type 0 where
+pub record ReadsBack {A : Type 0} (Fits : A → Type 0) (item : A → Item) (gives : View → A → Type 0) (faults : View → DecoderError → Type 0)
+    (view : View) (v : A) : Type 0 where
   pub alike : (w : A) → gives view w ↔ (Fits w × AreAlike item w v)
   pub no_fault : (e : DecoderError) → ¬ faults view e
 
 -- Read strictly, bytes give a value exactly if it fits and they are the encoding of its item, and then have no fault.
-pub record ReadsStrictly {A : Type 0} (Fits : A → Type 0) (item : A → Item) (gives : View → A → Type 0) (faults : View → DecoderError → Type 0) (b : List ℕ) (v : A) : Type 0 where
+pub record ReadsStrictly {A : Type 0} (Fits : A → Type 0) (item : A → Item) (gives : View → A → Type 0) (faults : View → DecoderError → Type 0)
+    (b : List ℕ) (v : A) : Type 0 where
   pub exact : gives (strict_view_of b) v ↔ (Fits v × (b ≡ encoding (item v)))
   pub sound : Fits v → b ≡ encoding (item v) → (e : DecoderError) → ¬ faults (strict_view_of b) e

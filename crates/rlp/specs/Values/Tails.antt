@@ -21,7 +21,8 @@ abbrev pub GivesFirst : {A : Type 0} → (View → A → Type 0) → View → �
 GivesFirst gives v i None givesMore more = more ≡ []
 GivesFirst gives v i (Some x) givesMore more = GivesAt gives v i x × givesMore
 
--- Why a view gives no struct whose last fields may be missing: it is no list, it has fewer items than fields that are always there or more than fields in all, or an item is at fault.
+-- Why a view gives no struct whose last fields may be missing: it is no list, it has fewer items than fields that are always there or more than
+-- fields in all, or an item is at fault.
 pub data FaultsAsTailed (least most : ℕ) (some : ℕ → ℕ → View → Type 0) (faults : ℕ → View → DecoderError → Type 0) (v : View) : DecoderError → Type 0 where
   no_items : (e : DecoderError) → item_count v ≡ Err e → FaultsAsTailed least most some faults v e
   other_number : (m : ℕ) → item_count v ≡ Ok m → (m < least) ⊎ (most < m) → FaultsAsTailed least most some faults v RlpIncorrectListLen

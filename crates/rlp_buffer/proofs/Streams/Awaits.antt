@@ -6,7 +6,8 @@ use Rattle.std.proofs.lemmas.List.Elements.{All-from_recursion, recursion_from_A
 use Rattle.rlp_format.specs.Format.Item.{string, list}
 use Rattle.rlp_buffer.specs.Streams.Stack.{OpenList, Stack, AwaitsSome, AllAwait, is_last, awaits_after, count_around, shut_around}
 use Rattle.rlp_buffer.specs.Streams.Stream.{State, list_encoding}
-use Rattle.rlp_buffer.specs.Streams.Calls.{Call, append, append_empty_data, append_raw, append_raw_checked, begin_list, begin_unbounded_list, finalize_unbounded_list, append_internal, encode_value, clear, effect, is_within_size}
+use Rattle.rlp_buffer.specs.Streams.Calls.{Call, append, append_empty_data, append_raw, append_raw_checked, begin_list, begin_unbounded_list,
+  finalize_unbounded_list, append_internal, encode_value, clear, effect, is_within_size}
 
 abbrev Awaits : {A : Type 0} → OpenList A → Type 0
 Awaits l = AwaitsSome l.awaits
@@ -20,7 +21,8 @@ pub await-after : (k : ℕ) (awaits : Option ℕ) → AwaitsSome awaits → is_l
 await-after k None some open_still = tt
 await-after k (Some n) some open_still = let more : k < n = leb-false n k open_still in omega arith
 
-await-count : {A : Type 0} (wrap : List A → List A) (k : ℕ) (payload : List A) (lists : List (OpenList A)) → Await lists → Await (count_around wrap k payload lists).lists
+await-count : {A : Type 0} (wrap : List A → List A) (k : ℕ) (payload : List A) (lists : List (OpenList A)) → Await lists
+    → Await (count_around wrap k payload lists).lists
 await-count wrap k payload [] all = tt
 await-count {A} wrap k payload (l ∷ ls) (some, all) =
     cond_both (is_last k l.awaits) _ _ (λ (s : Stack A). Await s.lists)
@@ -40,7 +42,8 @@ await-effect (append_raw_checked bytes k limit) s all =
 await-effect (begin_list zero) s all = await-count list_encoding 1 _ s.stack.lists all
 await-effect (begin_list (suc n)) s all = (omega arith, all)
 await-effect begin_unbounded_list s all = (tt, all)
-await-effect finalize_unbounded_list s all = await-count list_encoding 1 _ (shut_around list_encoding s.stack.inner s.stack.lists).lists (await-shut list_encoding s.stack.inner s.stack.lists all)
+await-effect finalize_unbounded_list s all = await-count list_encoding 1 _ (shut_around list_encoding s.stack.inner s.stack.lists).lists
+    (await-shut list_encoding s.stack.inner s.stack.lists all)
 await-effect (append_internal (string t)) s all = all
 await-effect (append_internal (list xs)) s all = await-count list_encoding 1 _ s.stack.lists all
 await-effect (encode_value t) s all = all

@@ -1,7 +1,9 @@
 -- What closing does, step by step, and what counting leaves.
-use Rattle.std.proofs.Common.{◌≡◌, ℕ, zero, suc, ◌+◌, ◌-◌, ◌*◌, ◌<◌, ◌≤◌, Bool, true, false, cond, List, [], ◌∷◌, ◌++◌, length, take, drop, reverse, get_or, set, Option, refl, sym, ◌∙◌, ap, subst, arith, length-append, length-drop, ⊎_elim}
+use Rattle.std.proofs.Common.{◌≡◌, ℕ, zero, suc, ◌+◌, ◌-◌, ◌*◌, ◌<◌, ◌≤◌, Bool, true, false, cond, List, [], ◌∷◌, ◌++◌, length, take, drop, reverse,
+  get_or, set, Option, refl, sym, ◌∙◌, ap, subst, arith, length-append, length-drop, ⊎_elim}
 use Rattle.std.proofs.lemmas.Bool.{cases_lt}
-use Rattle.std.proofs.lemmas.List.{take-take, take-append-le, drop_at, drop-drop, drop-take, length-take-le, length_push, set_at, get_or_at, take-append-drop, reverse-append, reverse-reverse}
+use Rattle.std.proofs.lemmas.List.{take-take, take-append-le, drop_at, drop-drop, drop-take, length-take-le, length_push, set_at, get_or_at,
+  take-append-drop, reverse-append, reverse-reverse}
 use Rattle.rlp_buffer.specs.declared.open_lists.Placeholder.{Placeholder}
 use Rattle.rlp_format.specs.Format.WrittenHeader.{big_endian, written_header}
 use Rattle.rlp_buffer.specs.Streams.Stack.{is_last, awaits_after}
@@ -16,7 +18,8 @@ reverse_push ps p = reverse-append ps (p ∷ [])
 
 -- ---- finding the growth
 
--- how far the search for full lists has come: how many were found, and by how much they make the buffer grow; the next are `ps`, of which the innermost ends at `left`, with `tail` bytes behind that
+-- how far the search for full lists has come: how many were found, and by how much they make the buffer grow; the next are `ps`, of which the
+-- innermost ends at `left`, with `tail` bytes behind that
 pub record Planned (k end : ℕ) (whole : List Placeholder) (closing grown left tail counts : ℕ) (ps : List Placeholder) : Type 0 where
   pub closes : filled k whole ≡ closing + filled counts ps
   pub grows : growth (filled k whole) end 0 whole ≡ grown + growth (filled counts ps) left tail ps
@@ -49,17 +52,20 @@ header_some len =
     (cases_lt 55 len)
 
 -- how many bytes there are once lists are closed
-pub length-closed_bytes : (n : ℕ) (b tail : List ℕ) (ps : List Placeholder) → Descends (length b) ps → length (closed_bytes n b tail ps) ≡ length b + length tail + growth n (length b) (length tail) ps
+pub length-closed_bytes : (n : ℕ) (b tail : List ℕ) (ps : List Placeholder) → Descends (length b) ps
+    → length (closed_bytes n b tail ps) ≡ length b + length tail + growth n (length b) (length tail) ps
 length-closed_bytes zero b tail ps order = omega (arith, length-append b tail)
 length-closed_bytes (suc n) b tail [] order = omega (arith, length-append b tail)
 length-closed_bytes (suc n) b tail (p ∷ ps) order =
     let payload = drop (p.position + 1) b ++ tail in
     let below : length (take p.position b) ≡ p.position = length-take-le p.position b (omega (arith, order.0)) in
-    let len : length payload ≡ (length b - (p.position + 1)) + length tail = omega (arith, length-append (drop (p.position + 1) b) tail, length-drop (p.position + 1) b) in
+    let len : length payload ≡ (length b - (p.position + 1)) + length tail =
+        omega (arith, length-append (drop (p.position + 1) b) tail, length-drop (p.position + 1) b) in
     let encoded : length (list_encoding payload) ≡ header_len ((length b - (p.position + 1)) + length tail) + ((length b - (p.position + 1)) + length tail) =
     length-append (written_header 0xc0 (length payload)) payload ∙ ap (λ m. header_len m + m) len in
     let around = length-closed_bytes n (take p.position b) (list_encoding payload) ps (subst (λ m. Descends m ps) (sym below) order.1) in
-    let same : growth n (length (take p.position b)) (length (list_encoding payload)) ps ≡ growth n p.position (header_len ((length b - (p.position + 1)) + length tail) + ((length b - (p.position + 1)) + length tail)) ps =
+    let same : growth n (length (take p.position b)) (length (list_encoding payload)) ps
+        ≡ growth n p.position (header_len ((length b - (p.position + 1)) + length tail) + ((length b - (p.position + 1)) + length tail)) ps =
     ap (λ m. growth n m (length (list_encoding payload)) ps) below ∙ ap (λ m. growth n p.position m ps) encoded in
     omega (arith, order.0, below, encoded, around, same, header_some ((length b - (p.position + 1)) + length tail))
 
@@ -69,7 +75,8 @@ growth_more : (n from tail len : ℕ) (p : Placeholder) (ps : List Placeholder) 
 growth_more n from tail len p ps is = let e : from - (p.position + 1) ≡ len = omega arith in rw e refl
 
 -- there is room for the header in front of the stretch, and for the headers of the lists around
-pub closes_room : (whole : List ℕ) (n : ℕ) (bytes : List ℕ) (from to : ℕ) (p : Placeholder) (ps : List Placeholder) (len at : ℕ) → Closes whole (suc n) bytes from to (p ∷ ps) → len + (p.position + 1) ≡ from → at + len ≡ to
+pub closes_room : (whole : List ℕ) (n : ℕ) (bytes : List ℕ) (from to : ℕ) (p : Placeholder) (ps : List Placeholder) (len at : ℕ)
+    → Closes whole (suc n) bytes from to (p ∷ ps) → len + (p.position + 1) ≡ from → at + len ≡ to
     → p.position + growth n p.position (header_len (len + (length bytes - to)) + (len + (length bytes - to))) ps + header_len (len + (length bytes - to)) ≡ at
 closes_room whole n bytes from to p ps len at h is goes =
     let step = growth_more n from (length bytes - to) len p ps is in
@@ -99,26 +106,33 @@ closes_more whole n bytes from to p ps len at low moved placed h is goes moves f
     let ends : drop (at + len) bytes ≡ tail = ap (λ n. drop n bytes) goes in
     let is_moved : moved ≡ take at bytes ++ (stretch ++ tail) = moves ∙ ap (λ t. take at bytes ++ (stretch ++ t)) ends in
     let len_payload : length (stretch ++ tail) ≡ len + (length bytes - to) = omega (arith, length-append stretch tail, len_stretch, len_tail) in
-    let len_moved : length moved ≡ at + (len + (length bytes - to)) = ap length is_moved ∙ omega (arith, length-append (take at bytes) (stretch ++ tail), len_front, len_payload) in
+    let len_moved : length moved ≡ at + (len + (length bytes - to)) = ap length is_moved
+        ∙ omega (arith, length-append (take at bytes) (stretch ++ tail), len_front, len_payload) in
     let payload_is : length moved - at ≡ length (stretch ++ tail) = omega (arith, len_moved, len_payload) in
     let heads_list : header ≡ written_header 0xc0 (length (stretch ++ tail)) = ap (λ n. written_header 0xc0 n) payload_is in
     let closed : header ++ (stretch ++ tail) ≡ list_encoding (stretch ++ tail) = ap (λ b. b ++ (stretch ++ tail)) heads_list in
     let header_is : length header ≡ header_len (len + (length bytes - to)) = ap length heads_list ∙ ap header_len len_payload in
-    let low_is : p.position + growth n p.position (header_len (len + (length bytes - to)) + (len + (length bytes - to))) ps ≡ low = omega (arith, room, header_is, fits) in
+    let low_is : p.position + growth n p.position (header_len (len + (length bytes - to)) + (len + (length bytes - to))) ps ≡ low =
+        omega (arith, room, header_is, fits) in
     let rest_moved : drop at moved ≡ stretch ++ tail = ap (λ b. drop at b) is_moved ∙ drop_at (take at bytes) (stretch ++ tail) at len_front in
     let front_moved : take low moved ≡ take low bytes =
     ap (λ b. take low b) is_moved ∙ take-append-le low (take at bytes) (stretch ++ tail) (omega arith) ∙ take-take low at bytes (omega arith) in
-    let is_placed : placed ≡ take low bytes ++ list_encoding (stretch ++ tail) = places ∙ ap (λ f. f ++ (header ++ drop at moved)) front_moved ∙ ap (λ b. take low bytes ++ (header ++ b)) rest_moved ∙ ap (λ b. take low bytes ++ b) closed in
+    let is_placed : placed ≡ take low bytes ++ list_encoding (stretch ++ tail) = places ∙ ap (λ f. f ++ (header ++ drop at moved)) front_moved
+        ∙ ap (λ b. take low bytes ++ (header ++ b)) rest_moved ∙ ap (λ b. take low bytes ++ b) closed in
     let len_low : length (take low bytes) ≡ low = length-take-le low bytes (omega arith) in
     let left : take p.position placed ≡ take p.position (take from bytes) =
-    ap (λ b. take p.position b) is_placed ∙ take-append-le p.position (take low bytes) (list_encoding (stretch ++ tail)) (omega arith) ∙ take-take p.position low bytes (omega arith) ∙ sym (take-take p.position from bytes (omega arith)) in
+    ap (λ b. take p.position b) is_placed ∙ take-append-le p.position (take low bytes) (list_encoding (stretch ++ tail)) (omega arith)
+        ∙ take-take p.position low bytes (omega arith) ∙ sym (take-take p.position from bytes (omega arith)) in
     let stretch_is : drop (p.position + 1) (take from bytes) ≡ stretch =
     ap (λ n. drop (p.position + 1) (take n bytes)) (let e : from ≡ (p.position + 1) + len = omega arith in e) ∙ drop-take (p.position + 1) len bytes in
     let right : drop low placed ≡ list_encoding (drop (p.position + 1) (take from bytes) ++ tail) =
-    ap (λ b. drop low b) is_placed ∙ drop_at (take low bytes) (list_encoding (stretch ++ tail)) low len_low ∙ ap (λ s. list_encoding (s ++ tail)) (sym stretch_is) in
+    ap (λ b. drop low b) is_placed ∙ drop_at (take low bytes) (list_encoding (stretch ++ tail)) low len_low
+        ∙ ap (λ s. list_encoding (s ++ tail)) (sym stretch_is) in
     let len_right : length placed - low ≡ header_len (len + (length bytes - to)) + (len + (length bytes - to)) =
-    let all : length placed ≡ low + length (list_encoding (stretch ++ tail)) = ap length is_placed ∙ omega (arith, length-append (take low bytes) (list_encoding (stretch ++ tail)), len_low) in
-    let enc : length (list_encoding (stretch ++ tail)) ≡ header_len (length (stretch ++ tail)) + length (stretch ++ tail) = length-append (written_header 0xc0 (length (stretch ++ tail))) (stretch ++ tail) in
+    let all : length placed ≡ low + length (list_encoding (stretch ++ tail)) = ap length is_placed
+        ∙ omega (arith, length-append (take low bytes) (list_encoding (stretch ++ tail)), len_low) in
+    let enc : length (list_encoding (stretch ++ tail)) ≡ header_len (length (stretch ++ tail)) + length (stretch ++ tail) =
+        length-append (written_header 0xc0 (length (stretch ++ tail))) (stretch ++ tail) in
     let same : header_len (length (stretch ++ tail)) ≡ header_len (len + (length bytes - to)) = ap header_len len_payload in
     omega (arith, all, enc, same, len_payload) in
     record {
@@ -137,16 +151,19 @@ closes_popped whole left n bytes from to lists rest p h is more =
     (subst (λ ps. Closes whole left bytes from to ps) (ap reverse is ∙ reverse_push rest p) h)
 
 -- past the innermost list, by the list that was taken from the others
-pub dropped_popped : (left n : ℕ) (lists rest : List Placeholder) (p : Placeholder) → lists ≡ rest ++ p ∷ [] → left ≡ suc n → drop left (reverse lists) ≡ drop n (reverse rest)
+pub dropped_popped : (left n : ℕ) (lists rest : List Placeholder) (p : Placeholder) → lists ≡ rest ++ p ∷ [] → left ≡ suc n
+    → drop left (reverse lists) ≡ drop n (reverse rest)
 dropped_popped left n lists rest p is more =
     ap (λ m. drop m (reverse lists)) more ∙ ap (λ ps. drop (suc n) ps) (ap reverse is ∙ reverse_push rest p)
 
 -- a stretch that was shifted leaves the length as it was
-shifted_len : (bytes : List ℕ) (begin len at : ℕ) → begin ≤ at → at + len ≤ length bytes → length (take at bytes ++ (take len (drop begin bytes) ++ drop (at + len) bytes)) ≡ length bytes
+shifted_len : (bytes : List ℕ) (begin len at : ℕ) → begin ≤ at → at + len ≤ length bytes
+    → length (take at bytes ++ (take len (drop begin bytes) ++ drop (at + len) bytes)) ≡ length bytes
 shifted_len bytes begin len at forward within =
     let stretch = take len (drop begin bytes) in
     let tail = drop (at + len) bytes in
-    omega (arith, length-append (take at bytes) (stretch ++ tail), length-append stretch tail, length-take-le at bytes (omega arith), length-take-le len (drop begin bytes) (omega (arith, length-drop begin bytes)), length-drop begin bytes, length-drop (at + len) bytes)
+    omega (arith, length-append (take at bytes) (stretch ++ tail), length-append stretch tail, length-take-le at bytes (omega arith),
+        length-take-le len (drop begin bytes) (omega (arith, length-drop begin bytes)), length-drop begin bytes, length-drop (at + len) bytes)
 
 -- the header fits between the placeholder and the stretch
 pub closes_fits : (whole : List ℕ) (n : ℕ) (bytes : List ℕ) (from to : ℕ) (p : Placeholder) (ps : List Placeholder) (len at : ℕ) (moved : List ℕ)
@@ -155,19 +172,22 @@ pub closes_fits : (whole : List ℕ) (n : ℕ) (bytes : List ℕ) (from to : ℕ
     → (header_len (length moved - at) + p.position ≤ at) × (at ≤ length moved)
 closes_fits whole n bytes from to p ps len at moved h is goes moves =
     let room = closes_room whole n bytes from to p ps len at h is goes in
-    let len_moved : length moved ≡ length bytes = ap length moves ∙ shifted_len bytes (p.position + 1) len at (omega (arith, h.room)) (omega (arith, h.within)) in
+    let len_moved : length moved ≡ length bytes = ap length moves
+        ∙ shifted_len bytes (p.position + 1) len at (omega (arith, h.room)) (omega (arith, h.within)) in
     let payload : length moved - at ≡ len + (length bytes - to) = omega (arith, len_moved, h.within) in
     let header_is : header_len (length moved - at) ≡ header_len (len + (length bytes - to)) = ap header_len payload in
     (omega (arith, room, header_is), omega (arith, len_moved, h.within))
 
 -- what stands left of the closed lists, by the list that was taken from the others
-pub left_popped : (left n end : ℕ) (lists rest : List Placeholder) (p : Placeholder) → lists ≡ rest ++ p ∷ [] → left ≡ suc n → left_of left end (reverse lists) ≡ left_of n p.position (reverse rest)
+pub left_popped : (left n end : ℕ) (lists rest : List Placeholder) (p : Placeholder) → lists ≡ rest ++ p ∷ [] → left ≡ suc n
+    → left_of left end (reverse lists) ≡ left_of n p.position (reverse rest)
 left_popped left n end lists rest p is more =
     ap (λ m. left_of m end (reverse lists)) more ∙ ap (λ ps. left_of (suc n) end ps) (ap reverse is ∙ reverse_push rest p)
 
 -- ---- the innermost list that stays open
 
-counted_by : (full : Bool) (k : ℕ) (p : Placeholder) (ps : List Placeholder) → is_last k p.awaits ≡ full → counted 1 ps ≡ with_innermost (awaits_after 1) (drop (filled 1 ps) ps)
+counted_by : (full : Bool) (k : ℕ) (p : Placeholder) (ps : List Placeholder) → is_last k p.awaits ≡ full
+    → counted 1 ps ≡ with_innermost (awaits_after 1) (drop (filled 1 ps) ps)
     → counted k (p ∷ ps) ≡ with_innermost (awaits_after (cond full 1 k)) (drop (filled k (p ∷ ps)) (p ∷ ps))
 counted_by true k p ps e around = rw e around
 counted_by false k p ps e around = rw e refl
@@ -177,12 +197,14 @@ pub counted_one : (ps : List Placeholder) → counted 1 ps ≡ with_innermost (a
 counted_one [] = refl
 counted_one (p ∷ ps) = counted_by (is_last 1 p.awaits) 1 p ps refl (counted_one ps) ∙ cond_same (is_last 1 p.awaits)
   where
-    cond_same : (full : Bool) → with_innermost (awaits_after (cond full 1 1)) (drop (filled 1 (p ∷ ps)) (p ∷ ps)) ≡ with_innermost (awaits_after 1) (drop (filled 1 (p ∷ ps)) (p ∷ ps))
+    cond_same : (full : Bool) → with_innermost (awaits_after (cond full 1 1)) (drop (filled 1 (p ∷ ps)) (p ∷ ps))
+        ≡ with_innermost (awaits_after 1) (drop (filled 1 (p ∷ ps)) (p ∷ ps))
     cond_same true = refl
     cond_same false = refl
 
 -- after a count, the innermost list that stays open awaits fewer by what was counted in it
-pub counted_is : (k more : ℕ) (ps : List Placeholder) → (filled k ps ≡ 0 → more ≡ k) → (0 < filled k ps → more ≡ 1) → counted k ps ≡ with_innermost (awaits_after more) (drop (filled k ps) ps)
+pub counted_is : (k more : ℕ) (ps : List Placeholder) → (filled k ps ≡ 0 → more ≡ k) → (0 < filled k ps → more ≡ 1)
+    → counted k ps ≡ with_innermost (awaits_after more) (drop (filled k ps) ps)
 counted_is k more [] none some = refl
 counted_is k more (p ∷ ps) none some = with_more (is_last k p.awaits) refl
   where
@@ -210,7 +232,8 @@ descends_le low high [] le d = tt
 descends_le low high (p ∷ ps) le d = (omega (arith, d.0), d.1)
 
 -- the innermost list is the last in the order in which they were opened
-set_last_reversed : (change : Option ℕ → Option ℕ) (n : ℕ) (ps : List Placeholder) (p q : Placeholder) → 0 < length (reverse ps) → n ≡ length (reverse ps) - 1 → p ≡ get_or (reverse ps) n p → q ≡ record p { awaits = change p.awaits }
+set_last_reversed : (change : Option ℕ → Option ℕ) (n : ℕ) (ps : List Placeholder) (p q : Placeholder) → 0 < length (reverse ps)
+    → n ≡ length (reverse ps) - 1 → p ≡ get_or (reverse ps) n p → q ≡ record p { awaits = change p.awaits }
     → reverse (set (reverse ps) n q) ≡ with_innermost change ps
 set_last_reversed change n [] p q some last is new = absurd (let no : 0 < 0 = some in omega arith)
 set_last_reversed change n (u ∷ ps) p q some last is new =
@@ -223,7 +246,8 @@ set_last_reversed change n (u ∷ ps) p q some last is new =
     back ∙ ap (λ z. z ∷ ps) (new ∙ ap with same)
 
 -- the last place, set with what it awaits changed, is the innermost list changed
-pub set_last : (change : Option ℕ → Option ℕ) (n : ℕ) (lists : List Placeholder) (p q : Placeholder) → 0 < length lists → n ≡ length lists - 1 → p ≡ get_or lists n p → q ≡ record p { awaits = change p.awaits }
+pub set_last : (change : Option ℕ → Option ℕ) (n : ℕ) (lists : List Placeholder) (p q : Placeholder) → 0 < length lists → n ≡ length lists - 1
+    → p ≡ get_or lists n p → q ≡ record p { awaits = change p.awaits }
     → reverse (set lists n q) ≡ with_innermost change (reverse lists)
 set_last change n lists p q some last is new =
     let same : reverse (reverse lists) ≡ lists = reverse-reverse lists in
@@ -233,5 +257,6 @@ set_last change n lists p q some last is new =
 -- a stretch that stands in its place already
 pub shifted_none : (bytes : List ℕ) (from len to : ℕ) → from ≡ to → bytes ≡ take to bytes ++ (take len (drop from bytes) ++ drop (to + len) bytes)
 shifted_none bytes from len to same =
-    let back : take len (drop to bytes) ++ drop (to + len) bytes ≡ drop to bytes = ap (λ t. take len (drop to bytes) ++ t) (sym (drop-drop len to bytes)) ∙ take-append-drop len (drop to bytes) in
+    let back : take len (drop to bytes) ++ drop (to + len) bytes ≡ drop to bytes =
+        ap (λ t. take len (drop to bytes) ++ t) (sym (drop-drop len to bytes)) ∙ take-append-drop len (drop to bytes) in
     sym (ap (λ n. take to bytes ++ (take len (drop n bytes) ++ drop (to + len) bytes)) same ∙ ap (λ t. take to bytes ++ t) back ∙ take-append-drop to bytes)

@@ -1,5 +1,6 @@
 -- The room of a stream, by that of its buffer and of its open lists.
-use Rattle.std.proofs.Common.{◌≡◌, ℕ, ◌+◌, ◌-◌, ◌^◌, ◌<◌, ◌≤◌, ◌⊎◌, Bool, List, [], ◌∷◌, ◌++◌, Option, length, sym, ◌∙◌, ap, arith, append-nil, length-append, ⊎_elim, inl, inr, refl, true, IsTrue}
+use Rattle.std.proofs.Common.{◌≡◌, ℕ, ◌+◌, ◌-◌, ◌^◌, ◌<◌, ◌≤◌, ◌⊎◌, Bool, List, [], ◌∷◌, ◌++◌, Option, length, sym, ◌∙◌, ap, arith, append-nil,
+  length-append, ⊎_elim, inl, inr, refl, true, IsTrue}
 use Rattle.std.proofs.lemmas.Bool.{cond_both}
 use Rattle.std.proofs.lemmas.List.{take-append-drop}
 use Rattle.rlp_format.specs.Format.Item.{Item, string, list}
@@ -7,7 +8,8 @@ use Rattle.rlp_format.specs.Format.Encoding.{encoding}
 use Rattle.rlp_format.specs.Format.WrittenHeader.{written_header}
 use Rattle.rlp_buffer.specs.declared.open_lists.Placeholder.{Placeholder}
 use Rattle.rlp_buffer.specs.Streams.Stack.{OpenList, Stack, mark_after, is_unbounded, is_last, awaits_after, count_around}
-use Rattle.rlp_buffer.specs.Streams.Stream.{State, Seen, Retains, HasRoomFor, IsFinished, raw_text, list_encoding, put, put_item, add, shut, with_list, with_mark, count}
+use Rattle.rlp_buffer.specs.Streams.Stream.{State, Seen, Retains, HasRoomFor, IsFinished, raw_text, list_encoding, put, put_item, add, shut,
+  with_list, with_mark, count}
 use Rattle.rlp_buffer.specs.Streams.Placeholders.{lists_of, IsLaid}
 use Rattle.rlp_buffer.specs.Streams.Closing.{filled, counted, closed_bytes, growth}
 use Rattle.rlp_buffer.specs.Streams.Layout.{state_of}
@@ -46,8 +48,10 @@ retains_laid start start' b b' ps ps' m m' spare spare' capacity capacity' moved
     }
 
 -- A count that was refused had no room for its bytes: `more` of them were to be put behind those of the stream, and make b with them.
-short_of : (k start : ℕ) (b : List ℕ) (ps : List Placeholder) (n : Bool) (v : Seen) (more : ℕ) (t : State) → IsLaid start b ps → length (raw_text v.state) + more ≡ length b
-    → state_of start (closed_bytes (filled k ps) b [] ps) (counted k ps) n ≡ t → (2 ^ 63 ≤ length b) ⊎ (v.spare < more + growth (filled k ps) (length b) 0 ps) → HasRoomFor v t → ⊥
+short_of : (k start : ℕ) (b : List ℕ) (ps : List Placeholder) (n : Bool) (v : Seen) (more : ℕ) (t : State) → IsLaid start b ps
+    → length (raw_text v.state) + more ≡ length b
+    → state_of start (closed_bytes (filled k ps) b [] ps) (counted k ps) n ≡ t → (2 ^ 63 ≤ length b)
+        ⊎ (v.spare < more + growth (filled k ps) (length b) 0 ps) → HasRoomFor v t → ⊥
 short_of k start b ps n v more t laid before is short has =
     let after = closed_bytes (filled k ps) b [] ps in
     let size = length-closed_bytes (filled k ps) b [] ps (laid_descends start b ps laid) in
@@ -66,7 +70,8 @@ short_to_count k start b x ps m v laid is short has =
     (state_put_counted k start b x ps m n laid refl ∙ ap (λ s. count k (put x s)) (sym is)) short has
 
 -- and one that finalizes a list
-pub short_to_finalize : (start : ℕ) (b : List ℕ) (ps qs : List Placeholder) (m : Bool) (spare : ℕ) (v : Seen) → IsLaid start b ps → IsTrue (is_unbounded (lists_of start b ps)) → qs ≡ with_last ps → v.state ≡ state_of start b ps m → v.spare ≡ spare
+pub short_to_finalize : (start : ℕ) (b : List ℕ) (ps qs : List Placeholder) (m : Bool) (spare : ℕ) (v : Seen) → IsLaid start b ps
+    → IsTrue (is_unbounded (lists_of start b ps)) → qs ≡ with_last ps → v.state ≡ state_of start b ps m → v.spare ≡ spare
     → (2 ^ 63 ≤ length (b ++ [])) ⊎ (spare < 0 + growth (filled 1 qs) (length (b ++ [])) 0 qs) → HasRoomFor v (with_mark true (count 1 (shut v.state))) → ⊥
 short_to_finalize start b ps qs m spare v laid unbounded last is room short has =
     let before = ap length (raw_state start b ps m laid) in
@@ -97,8 +102,10 @@ raw_count k f p (l ∷ ls) m =
     let closed = raw_count 1 f (l.outer ++ list_encoding p) ls m in
     let counted_in = λ (awaits : Option ℕ). ap length (raw_text-put p (with_list awaits around) ∙ ap (λ b. b ++ p) (raw_text-with_list awaits around)) in
     let put_list = ap length (raw_text-put (list_encoding p) around) in
-    cond_both (is_last k l.awaits) _ _ (λ (s : Stack ℕ). length (raw_text (state_with f m (record { inner = p; lists = l ∷ ls }))) ≤ length (raw_text (state_with f m s)))
-    (λ _. omega (arith, closed, counted_in l.awaits, put_list, length-append (raw_text around ++ 0 ∷ []) p, length-append (raw_text around) (0 ∷ []), length-append (raw_text around) (list_encoding p), length-append (written_header 0xc0 (length p)) p, header_some (length p)))
+    cond_both (is_last k l.awaits) _ _
+        (λ (s : Stack ℕ). length (raw_text (state_with f m (record { inner = p; lists = l ∷ ls }))) ≤ length (raw_text (state_with f m s)))
+    (λ _. omega (arith, closed, counted_in l.awaits, put_list, length-append (raw_text around ++ 0 ∷ []) p, length-append (raw_text around) (0 ∷ []),
+        length-append (raw_text around) (list_encoding p), length-append (written_header 0xc0 (length p)) p, header_some (length p)))
     (λ _. omega (arith, counted_in l.awaits, counted_in (awaits_after k l.awaits)))
 
 -- a stream with room for an item that is added has room for it put
@@ -112,6 +119,7 @@ room_to_put (list xs) v has = record { enough = has.enough; few = has.few }
 -- ---- all bytes of a finished stream
 
 -- with no list open, the bytes are the front and what stands at the top
-pub finished_bytes : (start : ℕ) (b : List ℕ) (ps : List Placeholder) (m : Bool) (s : State) → state_of start b ps m ≡ s → IsFinished s → b ≡ s.front ++ s.stack.inner
+pub finished_bytes : (start : ℕ) (b : List ℕ) (ps : List Placeholder) (m : Bool) (s : State) → state_of start b ps m ≡ s → IsFinished s
+    → b ≡ s.front ++ s.stack.inner
 finished_bytes start b [] m s is finished = sym (take-append-drop start b) ∙ ap (λ (t : State). t.front ++ t.stack.inner) is
 finished_bytes start b (p ∷ ps) m s is finished = absurd (let none = ap (λ (t : State). t.stack.lists) is ∙ finished in let no : ⊥ = cc in no)

@@ -1,5 +1,6 @@
 -- What moves do to the texts of a stream's state.
-use Rattle.std.proofs.Common.{◌≡◌, ℕ, ◌+◌, ◌<◌, ◌≤◌, ◌^◌, nat_le, arith, Bool, true, false, cond, List, [], ◌∷◌, ◌++◌, length, replicate, flat_map, Option, refl, sym, ap, ◌∙◌, append-nil, append_assoc, length-append}
+use Rattle.std.proofs.Common.{◌≡◌, ℕ, ◌+◌, ◌<◌, ◌≤◌, ◌^◌, nat_le, arith, Bool, true, false, cond, List, [], ◌∷◌, ◌++◌, length, replicate, flat_map,
+  Option, refl, sym, ap, ◌∙◌, append-nil, append_assoc, length-append}
 use Rattle.std.proofs.lemmas.Bool.Decides.{nat_tests}
 use Rattle.std.proofs.lemmas.List.{length-replicate}
 use Rattle.std.proofs.lemmas.List.Concat.{flat_map-append}
@@ -8,11 +9,13 @@ use Rattle.rlp_format.specs.Format.WrittenHeader.{written_header}
 use Rattle.rlp_format.specs.Format.Encoding.{encoding}
 use Rattle.rlp_buffer.specs.Streams.Stack.{OpenList, Level, Stack, top_around, levels_around, closed_payload_around, count_around, is_last}
 use Rattle.rlp_buffer.specs.Streams.Calls.{effect, finalize_unbounded_list, is_within_size}
-use Rattle.rlp_buffer.specs.Streams.Stream.{State, IsFinished, list_encoding, put, shut, count, with_list, add, put_item, is_list, raw_text, closed_text, closed_size, closed_size_with}
+use Rattle.rlp_buffer.specs.Streams.Stream.{State, IsFinished, list_encoding, put, shut, count, with_list, add, put_item, is_list, raw_text,
+  closed_text, closed_size, closed_size_with}
 
 -- ---- what is closed
 
-closed_shut_around : (f : List ℕ) (p : List ℕ) (ls : List (OpenList ℕ)) (m : Bool) → closed_text (shut (record { front = f; stack = record { inner = p; lists = ls }; mark = m })) ≡ closed_payload_around list_encoding p ls
+closed_shut_around : (f : List ℕ) (p : List ℕ) (ls : List (OpenList ℕ)) (m : Bool)
+    → closed_text (shut (record { front = f; stack = record { inner = p; lists = ls }; mark = m })) ≡ closed_payload_around list_encoding p ls
 closed_shut_around f p [] m = refl
 closed_shut_around f p (l ∷ ls) m = refl
 
@@ -20,12 +23,15 @@ closed_shut_around f p (l ∷ ls) m = refl
 pub closed_text-shut : (s : State) → closed_text (shut s) ≡ closed_text s
 closed_text-shut s = closed_shut_around s.front s.stack.inner s.stack.lists s.mark
 
-cond_closed : (b : Bool) (x y : Stack ℕ) (c : List ℕ) → closed_payload_around list_encoding x.inner x.lists ≡ c → closed_payload_around list_encoding y.inner y.lists ≡ c
+cond_closed : (b : Bool) (x y : Stack ℕ) (c : List ℕ) → closed_payload_around list_encoding x.inner x.lists ≡ c
+    → closed_payload_around list_encoding y.inner y.lists ≡ c
     → closed_payload_around list_encoding (cond b x y).inner (cond b x y).lists ≡ c
 cond_closed true x y c e f = e
 cond_closed false x y c e f = f
 
-closed_count_around : (k : ℕ) (p : List ℕ) (ls : List (OpenList ℕ)) → closed_payload_around list_encoding (count_around list_encoding k p ls).inner (count_around list_encoding k p ls).lists ≡ closed_payload_around list_encoding p ls
+closed_count_around : (k : ℕ) (p : List ℕ) (ls : List (OpenList ℕ)) →
+    closed_payload_around list_encoding (count_around list_encoding k p ls).inner (count_around list_encoding k p ls).lists
+    ≡ closed_payload_around list_encoding p ls
 closed_count_around k p [] = refl
 closed_count_around k p (l ∷ ls) =
     cond_closed (is_last k l.awaits) _ _ _ (closed_count_around 1 (l.outer ++ list_encoding p) ls) refl
@@ -40,7 +46,8 @@ length-list_encoding : (p q : List ℕ) → length p ≡ length q → length (li
 length-list_encoding p q e =
     length-append (written_header 0xc0 (length p)) p ∙ ap (λ n. length (written_header 0xc0 n) + n) e ∙ sym (length-append (written_header 0xc0 (length q)) q)
 
-length-closed_payload_around : (p q : List ℕ) (ls : List (OpenList ℕ)) → length p ≡ length q → length (closed_payload_around list_encoding p ls) ≡ length (closed_payload_around list_encoding q ls)
+length-closed_payload_around : (p q : List ℕ) (ls : List (OpenList ℕ)) → length p ≡ length q
+    → length (closed_payload_around list_encoding p ls) ≡ length (closed_payload_around list_encoding q ls)
 length-closed_payload_around p q [] e = e
 length-closed_payload_around p q (l ∷ ls) e =
     length-closed_payload_around (l.outer ++ list_encoding p) (l.outer ++ list_encoding q) ls
@@ -50,18 +57,21 @@ length-closed_payload_around p q (l ∷ ls) e =
 pub closed_size-put : (x : List ℕ) (s : State) → closed_size (put x s) ≡ closed_size_with (length x) s
 closed_size-put x s =
     length-closed_payload_around (s.stack.inner ++ x) (s.stack.inner ++ replicate (length x) 0) s.stack.lists
-    (length-append s.stack.inner x ∙ ap (λ n. length s.stack.inner + n) (sym (length-replicate (length x) 0)) ∙ sym (length-append s.stack.inner (replicate (length x) 0)))
+    (length-append s.stack.inner x ∙ ap (λ n. length s.stack.inner + n) (sym (length-replicate (length x) 0))
+        ∙ sym (length-append s.stack.inner (replicate (length x) 0)))
 
 -- finalizing a list closes it, and counts it in the list around
 pub size_kept : (s t : State) → t ≡ effect finalize_unbounded_list s → closed_size t ≡ closed_size s
 size_kept s t e = ap closed_size e ∙ ap length (closed_text-count 1 (shut s) ∙ closed_text-shut s)
 
 -- the test of a size that was found, and of one that is too large to be found
-pub within_size-found : (bytes : List ℕ) (limit size : ℕ) (s : State) → size ≡ closed_size_with (length bytes) s → nat_le size limit ≡ is_within_size bytes limit s
+pub within_size-found : (bytes : List ℕ) (limit size : ℕ) (s : State) → size ≡ closed_size_with (length bytes) s
+    → nat_le size limit ≡ is_within_size bytes limit s
 within_size-found bytes limit size s e = ap (λ n. nat_le n limit) (e ∙ sym (closed_size-put bytes s))
 
 -- a size of 2^64 or more is within no limit
-pub within_size-too_large : (bytes : List ℕ) (limit : ℕ) (s : State) → limit < 2 ^ 64 → ¬ (closed_size_with (length bytes) s < 2 ^ 64) → is_within_size bytes limit s ≡ false
+pub within_size-too_large : (bytes : List ℕ) (limit : ℕ) (s : State) → limit < 2 ^ 64 → ¬ (closed_size_with (length bytes) s < 2 ^ 64)
+    → is_within_size bytes limit s ≡ false
 within_size-too_large bytes limit s small large =
     let same = closed_size-put bytes s in
     let above : ¬ (closed_size (put bytes s) < 2 ^ 64) = rw same large in
@@ -93,11 +103,14 @@ levels_bytes = flat_map (λ (l : Level ℕ). 0 ∷ l.payload)
 -- the last level's bytes stand last
 levels_last : (top : List ℕ) (around : List (Level ℕ)) (l : Level ℕ) → top ++ levels_bytes (around ++ l ∷ []) ≡ (top ++ levels_bytes around) ++ (0 ∷ l.payload)
 levels_last top around l =
-    let split : levels_bytes (around ++ l ∷ []) ≡ levels_bytes around ++ ((0 ∷ l.payload) ++ []) = flat_map-append (λ (l : Level ℕ). 0 ∷ l.payload) around (l ∷ []) in
-    let whole : levels_bytes (around ++ l ∷ []) ≡ levels_bytes around ++ (0 ∷ l.payload) = split ∙ ap (λ (b : List ℕ). levels_bytes around ++ b) (append-nil (0 ∷ l.payload)) in
+    let split : levels_bytes (around ++ l ∷ []) ≡ levels_bytes around ++ ((0 ∷ l.payload) ++ []) =
+        flat_map-append (λ (l : Level ℕ). 0 ∷ l.payload) around (l ∷ []) in
+    let whole : levels_bytes (around ++ l ∷ []) ≡ levels_bytes around ++ (0 ∷ l.payload) = split
+        ∙ ap (λ (b : List ℕ). levels_bytes around ++ b) (append-nil (0 ∷ l.payload)) in
     ap (λ (b : List ℕ). top ++ b) whole ∙ sym (append_assoc top (levels_bytes around) (0 ∷ l.payload))
 
-raw_put_around : (f p x : List ℕ) (ls : List (OpenList ℕ)) → f ++ (top_around (p ++ x) ls ++ levels_bytes (levels_around (p ++ x) ls)) ≡ (f ++ (top_around p ls ++ levels_bytes (levels_around p ls))) ++ x
+raw_put_around : (f p x : List ℕ) (ls : List (OpenList ℕ)) → f ++ (top_around (p ++ x) ls ++ levels_bytes (levels_around (p ++ x) ls))
+    ≡ (f ++ (top_around p ls ++ levels_bytes (levels_around p ls))) ++ x
 raw_put_around f p x [] =
     let longer : (p ++ x) ++ [] ≡ (p ++ []) ++ x = append-nil (p ++ x) ∙ ap (λ (b : List ℕ). b ++ x) (sym (append-nil p)) in
     ap (λ (b : List ℕ). f ++ b) longer ∙ sym (append_assoc f (p ++ []) x)
@@ -125,13 +138,15 @@ raw_text-with_list awaits s =
 -- ---- with no list open
 
 add_with : (x : Item) (f p : List ℕ) (ls : List (OpenList ℕ)) (m : Bool) → ls ≡ []
-    → add x (record { front = f; stack = record { inner = p; lists = ls }; mark = m }) ≡ record { front = f; stack = record { inner = p ++ encoding x; lists = [] }; mark = is_list x }
+    → add x (record { front = f; stack = record { inner = p; lists = ls }; mark = m })
+        ≡ record { front = f; stack = record { inner = p ++ encoding x; lists = [] }; mark = is_list x }
 add_with (string t) f p [] m e = refl
 add_with (list xs) f p [] m e = refl
 add_with x f p (l ∷ ls) m e = absurd (let no : ⊥ = cc in no)
 
 -- an item that is added to a finished stream
-pub add-finished : (x : Item) (s : State) → IsFinished s → add x s ≡ record { front = s.front; stack = record { inner = s.stack.inner ++ encoding x; lists = [] }; mark = is_list x }
+pub add-finished : (x : Item) (s : State) → IsFinished s
+    → add x s ≡ record { front = s.front; stack = record { inner = s.stack.inner ++ encoding x; lists = [] }; mark = is_list x }
 add-finished x s e = add_with x s.front s.stack.inner s.stack.lists s.mark e
 
 put_item_with : (x : Item) (f p : List ℕ) (ls : List (OpenList ℕ)) (m : Bool) → ls ≡ []

@@ -1,5 +1,6 @@
 -- Headers and strings as they are written.
-use Rattle.std.proofs.Common.{◌≡◌, ℕ, ◌+◌, ◌-◌, ◌<◌, ◌≤◌, List, ◌∷◌, [], ◌++◌, length, take, drop, length-append, length-drop, append-nil, true, false, refl, sym, ap, ◌∙◌, arith, add-one, append_assoc}
+use Rattle.std.proofs.Common.{◌≡◌, ℕ, ◌+◌, ◌-◌, ◌<◌, ◌≤◌, List, ◌∷◌, [], ◌++◌, length, take, drop, length-append, length-drop, append-nil, true,
+  false, refl, sym, ap, ◌∙◌, arith, add-one, append_assoc}
 use Rattle.std.proofs.lemmas.Bool.{cond-true, cond-false}
 use Rattle.std.proofs.lemmas.List.{drop-set, take-append-le, take-take, drop_at, drop_all, length-take-le, take-append-drop, take_all}
 use Rattle.std.specs.Prelude.{slice_set}
@@ -19,12 +20,14 @@ unfolding encoding
 encoding_other s e = cond-false (is_low_byte s) s (written_header 0x80 (length s) ++ s) e
 
 -- the first byte of a long header, set in front of the digits
-pub header_set : (base n zeros first : ℕ) (bytes : List ℕ) → 55 < n → drop zeros bytes ≡ big_endian n → zeros + length (big_endian n) ≡ 8 → zeros ≤ length bytes → first ≡ base + 55 + (8 - zeros)
+pub header_set : (base n zeros first : ℕ) (bytes : List ℕ) → 55 < n → drop zeros bytes ≡ big_endian n → zeros + length (big_endian n) ≡ 8
+    → zeros ≤ length bytes → first ≡ base + 55 + (8 - zeros)
     → drop zeros (slice_set (0 ∷ bytes) zeros first) ≡ written_header base n
 header_set base n zeros first bytes long digits len within is =
     let value : first ≡ base + 55 + length (big_endian n) = omega arith in
     let after : drop (zeros + 1) (0 ∷ bytes) ≡ drop zeros bytes = rw add-one refl in
-    drop-set (0 ∷ bytes) zeros first (omega arith) ∙ ap (λ ds. first ∷ ds) (after ∙ digits) ∙ ap (λ d. d ∷ big_endian n) value ∙ sym (written_header_long base n long)
+    drop-set (0 ∷ bytes) zeros first (omega arith) ∙ ap (λ ds. first ∷ ds) (after ∙ digits) ∙ ap (λ d. d ∷ big_endian n) value
+        ∙ sym (written_header_long base n long)
 
 -- header and string, one after the other, behind what was there
 pub header_and_string : (old s : List ℕ) → is_low_byte s ≡ false → (old ++ written_header 0x80 (length s)) ++ s ≡ old ++ encoding (string s)
@@ -60,7 +63,8 @@ pub header_none : (b : List ℕ) (start : ℕ) → is_low_byte (drop start b) �
 header_none b start low = sym (ap (λ z. take start b ++ z) (encoding_low (drop start b) low) ∙ take-append-drop start b)
 
 -- how long an encoding with a header is
-pub encoding_length : (s header : List ℕ) (room : ℕ) → is_low_byte s ≡ false → header ≡ written_header 0x80 (length s) → room < length header + length s → room < length (encoding (string s))
+pub encoding_length : (s header : List ℕ) (room : ℕ) → is_low_byte s ≡ false → header ≡ written_header 0x80 (length s)
+    → room < length header + length s → room < length (encoding (string s))
 encoding_length s header room other is less =
     let len = length-append (written_header 0x80 (length s)) s in
     let whole : length (encoding (string s)) ≡ length (written_header 0x80 (length s) ++ s) = ap length (encoding_other s other) in

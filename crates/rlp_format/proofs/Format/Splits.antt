@@ -1,12 +1,14 @@
 -- How the items of a view come one after another.
-use Rattle.std.proofs.Common.{ℕ, zero, suc, ◌+◌, ◌-◌, ◌<◌, ◌≤◌, ◌≡◌, List, [], ◌∷◌, length, drop, map, Result, Ok, Err, refl, sym, ◌∙◌, ap, arith, length-drop, add-one}
+use Rattle.std.proofs.Common.{ℕ, zero, suc, ◌+◌, ◌-◌, ◌<◌, ◌≤◌, ◌≡◌, List, [], ◌∷◌, length, drop, map, Result, Ok, Err, refl, sym, ◌∙◌, ap, arith,
+  length-drop, add-one}
 use Rattle.std.proofs.lemmas.List.{drop_all, drop-map, length-map}
 use Rattle.rlp_format.specs.declared.error.DecoderError.{DecoderError}
 use Rattle.rlp_format.specs.Format.Framing.{frame}
 use Rattle.rlp_format.specs.Format.Split.{split, split_within, frame_and_more, items, payload}
 use Rattle.rlp_format.specs.Views.View.{View, item_views}
 
-frame_and_more-shorter : (turns : ℕ) (p : List ℕ) (r : Result (List ℕ) DecoderError) → ((q : List ℕ) → length (split_within turns q) ≤ turns) → length (frame_and_more (split_within turns) p r) ≤ suc turns
+frame_and_more-shorter : (turns : ℕ) (p : List ℕ) (r : Result (List ℕ) DecoderError) → ((q : List ℕ) → length (split_within turns q) ≤ turns)
+    → length (frame_and_more (split_within turns) p r) ≤ suc turns
 frame_and_more-shorter turns p (Err e) below = omega arith
 frame_and_more-shorter turns p (Ok f) below = omega (arith, below (drop (length f) p))
 
@@ -48,7 +50,8 @@ view_of : View → List ℕ → View
 view_of v b = record v { bytes = b }
 
 -- the views of the items from place i on, by the items
-pub drop-item_views : (v : View) (x : List ℕ) (i : ℕ) (ys : List (List ℕ)) → drop i (items v.bytes) ≡ x ∷ ys → drop i (item_views v) ≡ (record v { bytes = x }) ∷ drop (i + 1) (item_views v)
+pub drop-item_views : (v : View) (x : List ℕ) (i : ℕ) (ys : List (List ℕ)) → drop i (items v.bytes) ≡ x ∷ ys
+    → drop i (item_views v) ≡ (record v { bytes = x }) ∷ drop (i + 1) (item_views v)
 unfolding view_of
 drop-item_views v x i ys e =
     let here : drop i (item_views v) ≡ (view_of v x) ∷ map (view_of v) ys = drop-map (view_of v) i (items v.bytes) ∙ ap (map (view_of v)) e in
@@ -64,4 +67,5 @@ pub length-item_views : (v : View) → length (item_views v) ≡ length (split (
 unfolding view_of items
 length-item_views v = length-map (items v.bytes) (view_of v)
 
-pub ruleset splits = (split-nil, drop-next, drop-past, drop-inside, length-split, drop-item_views, drop-item_views-past, length-item_views, length-map, length-drop)
+pub ruleset splits = (split-nil, drop-next, drop-past, drop-inside, length-split, drop-item_views, drop-item_views-past, length-item_views,
+    length-map, length-drop)

@@ -1,5 +1,6 @@
 -- Whether a strict view is a list and nothing else.
-use Rattle.std.proofs.Common.{◌≡◌, ℕ, zero, suc, ◌+◌, ◌<◌, Bool, true, false, List, [], ◌∷◌, ◌++◌, length, drop, refl, sym, ap, ◌∙◌, arith, length-append, ◌==◌, Option, Some, None, Ok, Result, Err, IfOk, MatchResult}
+use Rattle.std.proofs.Common.{◌≡◌, ℕ, zero, suc, ◌+◌, ◌<◌, Bool, true, false, List, [], ◌∷◌, ◌++◌, length, drop, refl, sym, ap, ◌∙◌, arith,
+  length-append, ◌==◌, Option, Some, None, Ok, Result, Err, IfOk, MatchResult}
 use Rattle.std.specs.List.{concat}
 use Rattle.std.proofs.lemmas.Bool.Decides.{nat_tests}
 use Rattle.std.proofs.lemmas.Bool.{cond-true, cond-false}
@@ -66,9 +67,11 @@ pub strict_not_begun : (b : List ℕ) → false ≡ begins_as_list b → strict_
 unfolding strict_list_fault
 strict_not_begun b kind = cond-false (begins_as_list b) _ _ (sym kind)
 
-begun : (b : List ℕ) (o : Option DecoderError) → true ≡ begins_as_list b → strict_fault b ≡ o → strict_list_fault b ≡ first_fault o (fault_of_some (after_items (payload b)))
+begun : (b : List ℕ) (o : Option DecoderError) → true ≡ begins_as_list b → strict_fault b ≡ o
+    → strict_list_fault b ≡ first_fault o (fault_of_some (after_items (payload b)))
 unfolding strict_list_fault
-begun b o kind is = cond-true (begins_as_list b) _ _ (sym kind) ∙ ap (λ o. first_fault o (fault_of_some (rest b))) is ∙ ap (λ r. first_fault o (fault_of_some r)) (rest-after b)
+begun b o kind is = cond-true (begins_as_list b) _ _ (sym kind) ∙ ap (λ o. first_fault o (fault_of_some (rest b))) is
+    ∙ ap (λ r. first_fault o (fault_of_some r)) (rest-after b)
 
 -- a list that isn't framed, or is followed by bytes
 pub strict_not_whole : (b : List ℕ) (e : DecoderError) → true ≡ begins_as_list b → strict_fault b ≡ Some e → strict_list_fault b ≡ Some e
@@ -101,7 +104,8 @@ items_strict : (v : View) → v.is_strict ≡ true → items_fault v ≡ strict_
 items_strict v strict = strict_kind v (begins_as_list v.bytes) refl strict
 
 -- the number of items of a strict view, as its bytes are read
-pub strict_counted : (v : View) (r : Result ℕ DecoderError) → v.is_strict ≡ true → MatchResult r (λ _. strict_list_fault v.bytes ≡ None) (λ e. strict_list_fault v.bytes ≡ Some e) → IfOk r (λ n. n ≡ length (items v.bytes))
+pub strict_counted : (v : View) (r : Result ℕ DecoderError) → v.is_strict ≡ true
+    → MatchResult r (λ _. strict_list_fault v.bytes ≡ None) (λ e. strict_list_fault v.bytes ≡ Some e) → IfOk r (λ n. n ≡ length (items v.bytes))
     → r ≡ item_count v
 strict_counted v (Ok n) strict none same = sym (item_count-told v (items_strict v strict ∙ none) ∙ ap Ok (sym same))
 strict_counted v (Err e) strict fault same = sym (item_count-fault v e (items_strict v strict ∙ fault))

@@ -1,5 +1,6 @@
 -- The depth of the bytes of an item is the item's.
-use Rattle.std.proofs.Common.{◌≡◌, ℕ, suc, max, ◌<◌, true, false, List, [], ◌∷◌, ◌++◌, length, map, fold, refl, sym, ap, ◌∙◌, subst, arith, ⊎_elim, Ok, Err, Result, append-nil}
+use Rattle.std.proofs.Common.{◌≡◌, ℕ, suc, max, ◌<◌, true, false, List, [], ◌∷◌, ◌++◌, length, map, fold, refl, sym, ap, ◌∙◌, subst, arith, ⊎_elim,
+  Ok, Err, Result, append-nil}
 use Rattle.std.proofs.lemmas.Bool.{lt-leb}
 use Rattle.rlp_format.specs.declared.error.DecoderError.{DecoderError}
 use Rattle.rlp_format.specs.Format.Item.{Item, string, list, Items, no_items, item_and, items_from, listed, list_of, item_depth, items_depth}
@@ -15,7 +16,8 @@ use Rattle.rlp_format.specs.Lemmas.Views.{list_shape, items_of_list}
 greatest_from : (a : ℕ) (xs : List Item) → fold max a (map item_depth xs) ≡ max a (items_depth (items_from xs))
 greatest_from a [] = omega arith
 greatest_from a (x ∷ xs) =
-    let below : fold max (max a (item_depth x)) (map item_depth xs) ≡ max (max a (item_depth x)) (items_depth (items_from xs)) = greatest_from (max a (item_depth x)) xs in
+    let below : fold max (max a (item_depth x)) (map item_depth xs) ≡ max (max a (item_depth x)) (items_depth (items_from xs)) =
+        greatest_from (max a (item_depth x)) xs in
     let turned : max (max a (item_depth x)) (items_depth (items_from xs)) ≡ max a (max (item_depth x) (items_depth (items_from xs))) = omega arith in
     below ∙ turned
 
@@ -35,7 +37,8 @@ not_list s b h (more, is) =
     ap begins_as_list (is ∙ ap (λ c. c ++ more) w.is ∙ ap (λ c. (c ++ s) ++ more) t.is) ∙ lt-leb 0xc0 t.first high)
     (string_cases s h)
 
-list_depth : (xs : List Item) (b : List ℕ) → IsSized (list_of xs) → BeginsWith b (encoding (list_of xs)) → map depth (map encoding xs) ≡ map item_depth xs → depth b ≡ suc (items_depth (items_from xs))
+list_depth : (xs : List Item) (b : List ℕ) → IsSized (list_of xs) → BeginsWith b (encoding (list_of xs))
+    → map depth (map encoding xs) ≡ map item_depth xs → depth b ≡ suc (items_depth (items_from xs))
 list_depth xs b h begins same =
     let (is_list, is_value) = list_shape xs b h begins in
     depth_is b

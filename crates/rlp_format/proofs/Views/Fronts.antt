@@ -1,5 +1,6 @@
 -- The first item of bytes, by the header that was read.
-use Rattle.std.proofs.Common.{◌≡◌, ℕ, ◌-◌, ◌<◌, ◌≤◌, true, false, not, ◌==◌, ltb, lt-ltb, le-ltb, List, [], ◌∷◌, ◌++◌, length, length-append, length-take-le, take, drop, Some, None, Ok, Err, sym, ap, ◌∙◌, subst, arith}
+use Rattle.std.proofs.Common.{◌≡◌, ℕ, ◌-◌, ◌<◌, ◌≤◌, true, false, not, ◌==◌, ltb, lt-ltb, le-ltb, List, [], ◌∷◌, ◌++◌, length, length-append,
+  length-take-le, take, drop, Some, None, Ok, Err, sym, ap, ◌∙◌, subst, arith}
 use Rattle.std.proofs.lemmas.Bool.{cond-true, cond-false}
 use Rattle.std.proofs.lemmas.Bool.Decides.{nat_tests}
 use Rattle.std.proofs.lemmas.List.{take_rest, drop-take}
@@ -30,18 +31,21 @@ unfolding value
 front_value_fault b e is = ap (map_ok (λ q. take q.value_len (drop q.header_len b))) is
 
 -- the value is what follows the header in the item
-pub front_value : (b item : List ℕ) (p : PayloadInfo) → framing b ≡ Ok p → item ≡ take (total_len p) b → value b ≡ Ok (take (length item - p.header_len) (drop p.header_len item))
+pub front_value : (b item : List ℕ) (p : PayloadInfo) → framing b ≡ Ok p → item ≡ take (total_len p) b
+    → value b ≡ Ok (take (length item - p.header_len) (drop p.header_len item))
 unfolding value
 front_value b item p is same =
     ap (map_ok (λ q. take q.value_len (drop q.header_len b))) is
     ∙ ap Ok (sym (take_rest item p.header_len ∙ ap (drop p.header_len) same ∙ drop-take p.header_len p.value_len b))
 
 -- the item alone has the same value
-pub front_item_value : (b item : List ℕ) (p : PayloadInfo) → AreBytes b → framing b ≡ Ok p → item ≡ take (total_len p) b → value item ≡ Ok (take (length item - p.header_len) (drop p.header_len item))
+pub front_item_value : (b item : List ℕ) (p : PayloadInfo) → AreBytes b → framing b ≡ Ok p → item ≡ take (total_len p) b
+    → value item ≡ Ok (take (length item - p.header_len) (drop p.header_len item))
 front_item_value b item p bytes is same = ap value same ∙ value-front b p bytes is ∙ front_value b item p is same
 
 -- the item is framed by that header and ends with its value
-pub front_item : (b item : List ℕ) (p : PayloadInfo) → HasHeader b p.header_len p.value_len → total_len p ≤ length b → item ≡ take (total_len p) b → IsFramedItem item
+pub front_item : (b item : List ℕ) (p : PayloadInfo) → HasHeader b p.header_len p.value_len → total_len p ≤ length b → item ≡ take (total_len p) b
+    → IsFramedItem item
 front_item b item p has within same = subst IsFramedItem (sym same) (frame_item b p.header_len p.value_len has within)
 
 -- the item is as long as its header says
@@ -51,18 +55,22 @@ front_ends b item p within same = sym (ap length same ∙ length-take-le (total_
 -- ---- what follows the item
 
 -- bytes that are the item and nothing else have no strict fault
-pub whole_front : (b item others : List ℕ) (p : PayloadInfo) → framing b ≡ Ok p → total_len p ≡ length item → b ≡ item ++ others → true ≡ (length others == 0) → strict_fault b ≡ None
+pub whole_front : (b item others : List ℕ) (p : PayloadInfo) → framing b ≡ Ok p → total_len p ≡ length item → b ≡ item ++ others
+    → true ≡ (length others == 0) → strict_fault b ≡ None
 unfolding strict_fault
 whole_front b item others p is long whole none =
     let end : length others ≡ 0 = ap length (no_bytes others none) in
-    ap (strict_fault_in b) is ∙ cond-false (ltb (total_len p) (length b)) _ _ (le-ltb (total_len p) (length b) (omega (arith, ap length whole, length-append item others)))
+    ap (strict_fault_in b) is ∙ cond-false (ltb (total_len p) (length b)) _ _
+        (le-ltb (total_len p) (length b) (omega (arith, ap length whole, length-append item others)))
 
 -- bytes that go on have one
-pub long_front : (b item others : List ℕ) (p : PayloadInfo) → framing b ≡ Ok p → total_len p ≡ length item → b ≡ item ++ others → false ≡ (length others == 0) → strict_fault b ≡ Some RlpIsTooBig
+pub long_front : (b item others : List ℕ) (p : PayloadInfo) → framing b ≡ Ok p → total_len p ≡ length item → b ≡ item ++ others
+    → false ≡ (length others == 0) → strict_fault b ≡ Some RlpIsTooBig
 unfolding strict_fault
 long_front b item others p is long whole some =
     let more : 0 < length others = some_bytes others some in
-    ap (strict_fault_in b) is ∙ cond-true (ltb (total_len p) (length b)) _ _ (lt-ltb (total_len p) (length b) (omega (arith, ap length whole, length-append item others)))
+    ap (strict_fault_in b) is ∙ cond-true (ltb (total_len p) (length b)) _ _
+        (lt-ltb (total_len p) (length b) (omega (arith, ap length whole, length-append item others)))
 
 -- so do bytes that aren't framed
 pub faulty_front : (b : List ℕ) (e : DecoderError) → framing b ≡ Err e → strict_fault b ≡ Some e
@@ -70,7 +78,8 @@ unfolding strict_fault
 faulty_front b e is = ap (strict_fault_in b) is
 
 -- whether bytes go on
-pub followed_front : (b item others : List ℕ) (p : PayloadInfo) → framing b ≡ Ok p → total_len p ≡ length item → b ≡ item ++ others → not (length others == 0) ≡ is_followed b
+pub followed_front : (b item others : List ℕ) (p : PayloadInfo) → framing b ≡ Ok p → total_len p ≡ length item → b ≡ item ++ others
+    → not (length others == 0) ≡ is_followed b
 unfolding is_followed
 followed_front b item [] p is long whole =
     sym (ap (is_longer b) is ∙ le-ltb (total_len p) (length b) (omega (arith, ap length whole, length-append item [])))

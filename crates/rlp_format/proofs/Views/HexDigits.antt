@@ -9,6 +9,7 @@ pub hex-append : (front others : List ℕ) → hex front ++ hex others ≡ hex (
 hex-append front others = sym (flat_map-append hex_pair front others)
 
 -- a cut leaves the bytes what they are
-pub all-cut : (done rest front after bytes : List ℕ) (n : ℕ) → front ≡ take n rest → after ≡ drop n rest → done ++ rest ≡ bytes → (done ++ front) ++ after ≡ bytes
+pub all-cut : (done rest front after bytes : List ℕ) (n : ℕ) → front ≡ take n rest → after ≡ drop n rest → done ++ rest ≡ bytes
+    → (done ++ front) ++ after ≡ bytes
 all-cut done rest front after bytes n f a e =
     append_assoc done front after ∙ ap (λ bs. done ++ bs) (rw (f, a) (take-append-drop n rest)) ∙ e

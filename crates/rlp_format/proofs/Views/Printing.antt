@@ -1,5 +1,6 @@
 -- The text and the depth of bytes of each kind, as their items come one after another.
-use Rattle.std.proofs.Common.{◌≡◌, ℕ, suc, ◌-◌, ◌<◌, ◌≤◌, max, true, false, List, [], ◌∷◌, ◌++◌, length, map, fold, codes, refl, sym, ap, ◌∙◌, subst, arith, Ok, Err, Result, append_assoc, append-nil, IsTrue, ◌↔◌}
+use Rattle.std.proofs.Common.{◌≡◌, ℕ, suc, ◌-◌, ◌<◌, ◌≤◌, max, true, false, List, [], ◌∷◌, ◌++◌, length, map, fold, codes, refl, sym, ap, ◌∙◌, subst,
+  arith, Ok, Err, Result, append_assoc, append-nil, IsTrue, ◌↔◌}
 use Rattle.std.proofs.lemmas.Bool.{false≢true}
 use Rattle.std.proofs.lemmas.List.{map-append}
 use Rattle.rlp_format.specs.declared.error.DecoderError.{DecoderError}
@@ -92,7 +93,8 @@ no_middle (c ∷ done) more b e = cc
 pub item-shorter : (b item : List ℕ) (done more : List (List ℕ)) → done ++ item ∷ more ≡ items b → length item < length b
 item-shorter [] item done more e = absurd (no_middle done more item (e ∙ items_nil))
 item-shorter (first ∷ rest) item done more e =
-    let short = within-middle (length rest) done more item (subst (AllWithinLength (length rest)) (sym e) (items_short (length rest) (first ∷ rest) (omega arith))) in
+    let short = within-middle (length rest) done more item
+        (subst (AllWithinLength (length rest)) (sym e) (items_short (length rest) (first ∷ rest) (omega arith))) in
     omega (arith, short)
 
 -- ---- the depth of each kind of bytes
@@ -130,7 +132,8 @@ max-bounded [] a n limit l k = omega arith
 max-bounded (m ∷ ns) a n limit l k = max-bounded ns (max a m) n limit l k
 
 -- one item more is within the limit too
-pub greatest-more : (done : List (List ℕ)) (b : List ℕ) (limit : ℕ) → greatest (map depth done) ≤ limit → depth b ≤ limit → greatest (map depth (done ++ b ∷ [])) ≤ limit
+pub greatest-more : (done : List (List ℕ)) (b : List ℕ) (limit : ℕ) → greatest (map depth done) ≤ limit → depth b ≤ limit
+    → greatest (map depth (done ++ b ∷ [])) ≤ limit
 greatest-more done b limit l k = subst (λ ns. greatest ns ≤ limit) (sym (map-append depth done (b ∷ []))) (max-bounded (map depth done) 0 (depth b) limit l k)
 
 -- ---- whether b is nested within the limit, from what is known of it
@@ -144,7 +147,8 @@ pub deep-list : (b v : List ℕ) (limit : ℕ) → begins_as_list b ≡ true →
 deep-list b v limit kind is none = let one = depth-list b v kind is in (λ h. absurd (false≢true h), λ h. absurd (omega arith))
 
 -- a list isn't nested within a limit where an item of it isn't within 1 less
-pub deep-item : (b v item : List ℕ) (limit : ℕ) (done more : List (List ℕ)) → begins_as_list b ≡ true → value b ≡ Ok v → done ++ item ∷ more ≡ items b → limit - 1 < depth item
+pub deep-item : (b v item : List ℕ) (limit : ℕ) (done more : List (List ℕ)) → begins_as_list b ≡ true → value b ≡ Ok v → done ++ item ∷ more ≡ items b
+    → limit - 1 < depth item
     → IsTrue false ↔ (depth b ≤ limit)
 deep-item b v item limit done more kind is all deep =
     let one = depth-list b v kind is in
@@ -152,7 +156,8 @@ deep-item b v item limit done more kind is all deep =
     (λ h. absurd (false≢true h), λ h. absurd (omega arith))
 
 -- a list is nested within a limit where its items are within 1 less
-pub shallow-list : (b v : List ℕ) (limit : ℕ) (done : List (List ℕ)) → begins_as_list b ≡ true → value b ≡ Ok v → 0 < limit → done ≡ items b → greatest (map depth done) ≤ limit - 1
+pub shallow-list : (b v : List ℕ) (limit : ℕ) (done : List (List ℕ)) → begins_as_list b ≡ true → value b ≡ Ok v → 0 < limit → done ≡ items b
+    → greatest (map depth done) ≤ limit - 1
     → IsTrue true ↔ (depth b ≤ limit)
 shallow-list b v limit done kind is some all shallow =
     let one = depth-list b v kind is in
@@ -165,11 +170,13 @@ unfolding items payload
 items-list b v kind is = ap split (ap (λ k. payload_in k (value b)) kind ∙ ap (payload_in true) is)
 
 -- one item more is done, of those that stand before the rest
-pub done-next : (done : List (List ℕ)) (all : List (List ℕ)) (rest item others : List ℕ) → done ++ split rest ≡ all → split rest ≡ item ∷ split others → done ++ item ∷ split others ≡ all
+pub done-next : (done : List (List ℕ)) (all : List (List ℕ)) (rest item others : List ℕ) → done ++ split rest ≡ all → split rest ≡ item ∷ split others
+    → done ++ item ∷ split others ≡ all
 done-next done all rest item others e s = ap (λ bs. done ++ bs) (sym s) ∙ e
 
 -- the items that were walked, and one more
-pub done-more : (done : List (List ℕ)) (all : List (List ℕ)) (rest item others : List ℕ) → done ++ split rest ≡ all → split rest ≡ item ∷ split others → (done ++ item ∷ []) ++ split others ≡ all
+pub done-more : (done : List (List ℕ)) (all : List (List ℕ)) (rest item others : List ℕ) → done ++ split rest ≡ all → split rest ≡ item ∷ split others
+    → (done ++ item ∷ []) ++ split others ≡ all
 done-more done all rest item others e s = append_assoc done (item ∷ []) (split others) ∙ done-next done all rest item others e s
 
 -- with no item left, all are done

@@ -1,5 +1,6 @@
 -- The text and the depth of bytes, by those of their items.
-use Rattle.std.proofs.Common.{◌≡◌, ℕ, zero, suc, ◌+◌, ◌<◌, ◌≤◌, Bool, true, false, List, [], ◌∷◌, ◌++◌, length, take, drop, map, codes, refl, sym, ap, ◌∙◌, arith, Ok, Err, Result, length-take, length-drop, leb-true, ltb-true, ltb, ◌==◌, leb, MatchResult, le-add_right, le_refl}
+use Rattle.std.proofs.Common.{◌≡◌, ℕ, zero, suc, ◌+◌, ◌<◌, ◌≤◌, Bool, true, false, List, [], ◌∷◌, ◌++◌, length, take, drop, map, codes, refl, sym, ap,
+  ◌∙◌, arith, Ok, Err, Result, length-take, length-drop, leb-true, ltb-true, ltb, ◌==◌, leb, MatchResult, le-add_right, le_refl}
 use Rattle.std.specs.Bool.{⊤}
 use Rattle.std.specs.List.{AllByRecursion}
 use Rattle.std.specs.Int.Digits.{number_from_digits}
@@ -37,7 +38,8 @@ walk_short : (turns : ℕ) (p : List ℕ) (r : Result (List ℕ) DecoderError) �
     → AllWithinLength (length p) (frame_and_more (split_within turns) p r)
 walk_short turns p (Err e) short again = tt
 walk_short turns p (Ok f) short again =
-    (short, weaker (length (drop (length f) p)) (length p) (split_within turns (drop (length f) p)) (omega (arith, length-drop (length f) p)) (again (drop (length f) p)))
+    (short, weaker (length (drop (length f) p)) (length p) (split_within turns (drop (length f) p)) (omega (arith, length-drop (length f) p))
+        (again (drop (length f) p)))
 
 split_short : (turns : ℕ) (p : List ℕ) → AllWithinLength (length p) (split_within turns p)
 split_short zero p = tt
@@ -82,7 +84,8 @@ framed_some : (b : List ℕ) (r : Result PayloadInfo DecoderError) → HasSome r
 framed_some b (Err e) some = some
 framed_some b (Ok p) some = cond_both (leb (total_len p) (length b)) _ _ HasSome (λ _. some) (λ _. some_err _)
 
-value_short : (b : List ℕ) (r : Result PayloadInfo DecoderError) → 0 < length b → HasSome r → length (payload_in true (map_ok (λ p. take p.value_len (drop p.header_len b)) r)) + 1 ≤ length b
+value_short : (b : List ℕ) (r : Result PayloadInfo DecoderError) → 0 < length b → HasSome r
+    → length (payload_in true (map_ok (λ p. take p.value_len (drop p.header_len b)) r)) + 1 ≤ length b
 value_short b (Err e) l some = omega arith
 value_short b (Ok p) l some = omega (arith, length-take p.value_len (drop p.header_len b), length-drop p.header_len b, some_is p.header_len p.value_len some)
 
@@ -90,7 +93,8 @@ payload_by : (b : List ℕ) (is_list : Bool) → begins_as_list b ≡ is_list �
 unfolding value framing
 payload_by b false e l = omega arith
 payload_by [] true e l = absurd (omega arith)
-payload_by (first ∷ rest) true e l = value_short (first ∷ rest) (framing (first ∷ rest)) l (framed_some (first ∷ rest) (header (first ∷ rest)) (header_some first rest (leb-true _ _ e)))
+payload_by (first ∷ rest) true e l = value_short (first ∷ rest) (framing (first ∷ rest)) l
+    (framed_some (first ∷ rest) (header (first ∷ rest)) (header_some first rest (leb-true _ _ e)))
 
 payload_nil : payload [] ≡ []
 unfolding payload
@@ -112,7 +116,8 @@ items_nil = ap (λ p. split_within (length p) p) payload_nil
 
 -- ---- a function of bytes that is said by its values at their items
 
-map_agree : {A : Type 0} (f g : List ℕ → A) (n : ℕ) (fs : List (List ℕ)) → ((b : List ℕ) → length b ≤ n → f b ≡ g b) → AllWithinLength n fs → map f fs ≡ map g fs
+map_agree : {A : Type 0} (f g : List ℕ → A) (n : ℕ) (fs : List (List ℕ)) → ((b : List ℕ) → length b ≤ n → f b ≡ g b) → AllWithinLength n fs
+    → map f fs ≡ map g fs
 map_agree f g n [] same a = refl
 map_agree f g n (b ∷ fs) same a =
     let heads : f b ≡ g b = same b a.0 in
@@ -126,7 +131,9 @@ module _ (A : Type 0) (none : A) (step : (List ℕ → A) → List ℕ → A)
 
   by_short : (f g : List ℕ → A) (b : List ℕ) → ((n : ℕ) → length b ≡ suc n → (q : List ℕ) → length q ≤ n → f q ≡ g q) → step f b ≡ step g b
   by_short f g [] same = same_items f g [] (ap (map f) items_nil ∙ sym (ap (map g) items_nil))
-  by_short f g (first ∷ rest) same = same_items f g (first ∷ rest) (map_agree f g (length rest) (items (first ∷ rest)) (same (length rest) refl) (items_short (length rest) (first ∷ rest) (omega arith)))
+  by_short f g (first ∷ rest) same =
+      same_items f g (first ∷ rest) (map_agree f g (length rest) (items (first ∷ rest)) (same (length rest) refl)
+      (items_short (length rest) (first ∷ rest) (omega arith)))
 
   enough : (m n : ℕ) (b : List ℕ) → length b ≤ m → length b ≤ n → within (suc m) b ≡ within (suc n) b
   enough zero zero b l k = refl
@@ -139,7 +146,8 @@ module _ (A : Type 0) (none : A) (step : (List ℕ → A) → List ℕ → A)
       is b
       ∙ by_short (within (length b)) f b (λ j e q s. ap (λ n. within n q) e ∙ enough j (length q) q s (le_refl (length q)) ∙ sym (is q))
 
-text_same : (f g : List ℕ → List ℕ) (b : List ℕ) (is_list : Bool) (r : Result (List ℕ) DecoderError) → map f (items b) ≡ map g (items b) → framed_text f b is_list r ≡ framed_text g b is_list r
+text_same : (f g : List ℕ → List ℕ) (b : List ℕ) (is_list : Bool) (r : Result (List ℕ) DecoderError) → map f (items b) ≡ map g (items b)
+    → framed_text f b is_list r ≡ framed_text g b is_list r
 text_same f g b true (Err e) same = refl
 text_same f g b false (Err e) same = refl
 text_same f g b false (Ok v) same = refl
@@ -157,7 +165,8 @@ text_by_items b = refl
 pub text_is : (b : List ℕ) → text b ≡ text_by text b
 text_is b = by_items_step (List ℕ) [] text_by text_step_same text text_by_items b
 
-depth_same : (f g : List ℕ → ℕ) (b : List ℕ) (is_list : Bool) (r : Result (List ℕ) DecoderError) → map f (items b) ≡ map g (items b) → framed_depth f b is_list r ≡ framed_depth g b is_list r
+depth_same : (f g : List ℕ → ℕ) (b : List ℕ) (is_list : Bool) (r : Result (List ℕ) DecoderError) → map f (items b) ≡ map g (items b)
+    → framed_depth f b is_list r ≡ framed_depth g b is_list r
 depth_same f g b true (Err e) same = refl
 depth_same f g b false (Err e) same = refl
 depth_same f g b false (Ok v) same = refl

@@ -1,5 +1,6 @@
 -- `be` writes a number's digits: they are the number's, they begin with no zero, and no others do.
-use Rattle.std.proofs.Common.{◌≡◌, ℕ, zero, suc, ◌+◌, ◌*◌, ◌/◌, ◌%◌, ◌^◌, ◌<◌, ◌≤◌, List, [], ◌∷◌, ◌++◌, length, get_or, lt_of_lt_of_le, refl, false, eqb, ne_eqb, sym, ap, ◌∙◌, arith, append_assoc, length-append, append-nil, zero-add}
+use Rattle.std.proofs.Common.{◌≡◌, ℕ, zero, suc, ◌+◌, ◌*◌, ◌/◌, ◌%◌, ◌^◌, ◌<◌, ◌≤◌, List, [], ◌∷◌, ◌++◌, length, get_or, lt_of_lt_of_le, refl, false,
+  eqb, ne_eqb, sym, ap, ◌∙◌, arith, append_assoc, length-append, append-nil, zero-add}
 use Rattle.std.specs.Int.Digits.{digits_of, digits_with_fuel, number_from_digits, number_from_digits_after, AllBelowBase}
 use Rattle.std.proofs.lemmas.Int.Digits.{number_lt, number_digits_of, first_digits_of, length-digits_of-le, all_below_base_digits_of, digits_of_step}
 use Rattle.std.proofs.lemmas.Nat.{div-mul-add, mod-mul-add, pow-add}
@@ -15,7 +16,8 @@ big_endian_within_is zero n = refl
 big_endian_within_is (suc turns) zero = refl
 big_endian_within_is (suc turns) (suc n) =
     let positive : eqb (suc n) 0 ≡ false = ne_eqb (suc n) 0 (λ e. omega arith) in
-    ap (λ ds. ds ++ (suc n % 256) ∷ []) (big_endian_within_is turns (suc n / 256)) ∙ sym (cond-false (eqb (suc n) 0) [] (digits_with_fuel 256 turns (suc n / 256) ++ (suc n % 256) ∷ []) positive)
+    ap (λ ds. ds ++ (suc n % 256) ∷ []) (big_endian_within_is turns (suc n / 256))
+        ∙ sym (cond-false (eqb (suc n) 0) [] (digits_with_fuel 256 turns (suc n / 256) ++ (suc n % 256) ∷ []) positive)
 
 -- digits to the base 256, in the words of the standard library
 pub big_endian_is : (n : ℕ) → big_endian n ≡ digits_of 256 n
@@ -103,6 +105,7 @@ pub digits_again : (first : ℕ) (rest : List ℕ) → AreBytes (first ∷ rest)
 digits_again first rest bytes leading = big_endian_again first rest leading (recursion_from_All (λ byte. byte < 2 ^ 8) (first ∷ rest) bytes)
 
 -- no digits write 0
-pub none_is_zero : (width : ℕ) (digits : List ℕ) → length digits < 1 → FitsBytes width (number_from_digits 256 digits) × (big_endian (number_from_digits 256 digits) ≡ digits)
+pub none_is_zero : (width : ℕ) (digits : List ℕ) → length digits < 1 → FitsBytes width (number_from_digits 256 digits)
+    × (big_endian (number_from_digits 256 digits) ≡ digits)
 none_is_zero width [] h = (digits_fit width [] (All-from_recursion (λ byte. byte < 2 ^ 8) [] tt) (omega arith), big_endian_zero)
 none_is_zero width (d ∷ ds) h = absurd (omega arith)

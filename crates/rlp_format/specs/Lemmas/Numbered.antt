@@ -1,5 +1,6 @@
 -- The items of a view by number.
-use Rattle.std.proofs.Common.{ℕ, ◌<◌, ◌≤◌, ◌≡◌, ◌⊎◌, inl, inr, ⊎_elim, true, false, List, [], ◌∷◌, ◌++◌, length, map, take, drop, get_or, Option, Some, None, option_map, Result, Ok, Err, ◌↔◌, refl, sym, ◌∙◌, ap, arith, ltb, lt-ltb, le-ltb}
+use Rattle.std.proofs.Common.{ℕ, ◌<◌, ◌≤◌, ◌≡◌, ◌⊎◌, inl, inr, ⊎_elim, true, false, List, [], ◌∷◌, ◌++◌, length, map, take, drop, get_or, Option,
+  Some, None, option_map, Result, Ok, Err, ◌↔◌, refl, sym, ◌∙◌, ap, arith, ltb, lt-ltb, le-ltb}
 use Rattle.std.specs.List.{slice_get}
 use Rattle.std.proofs.lemmas.Bool.{cases_Bool, cases_lt, cond-true, cond-false}
 use Rattle.std.proofs.lemmas.List.{length-map}
@@ -44,7 +45,8 @@ pub item_with_place-fault : (v : View) (i : ℕ) (e : DecoderError) → items_fa
 unfolding item_with_place
 item_with_place-fault v i e is = unless-some (items_fault v) (item_by v i (framing v.bytes)) e is
 
-pub item_with_place-told : (v : View) (i : ℕ) (r : Result PayloadInfo DecoderError) → items_fault v ≡ None → framing v.bytes ≡ r → item_with_place v i ≡ item_by v i r
+pub item_with_place-told : (v : View) (i : ℕ) (r : Result PayloadInfo DecoderError) → items_fault v ≡ None → framing v.bytes ≡ r
+    → item_with_place v i ≡ item_by v i r
 unfolding item_with_place
 item_with_place-told v i r is same = unless-none (items_fault v) (item_by v i (framing v.bytes)) is ∙ ap (item_by v i) same
 
@@ -55,7 +57,8 @@ fault_cases o (Some e) is = inr (e, is)
 -- items are told by number only of bytes that begin as a list
 pub told_begins : (v : View) → items_fault v ≡ None → begins_as_list v.bytes ≡ true
 told_begins v is = ⊎_elim (λ kind. kind)
-    (λ kind. let no : Some RlpExpectedToBeList ≡ None = sym (cond-false (begins_as_list v.bytes) (list_fault v) (Some RlpExpectedToBeList) kind) ∙ is in absurd (let none : ⊥ = cc in none))
+    (λ kind. let no : Some RlpExpectedToBeList ≡ None = sym (cond-false (begins_as_list v.bytes) (list_fault v) (Some RlpExpectedToBeList) kind)
+        ∙ is in absurd (let none : ⊥ = cc in none))
     (cases_Bool (begins_as_list v.bytes))
 
 -- they are told of lenient views that begin as a list
@@ -75,18 +78,21 @@ payload-string : (b : List ℕ) → begins_as_list b ≡ false → payload b ≡
 unfolding payload
 payload-string b kind = ap (λ k. payload_in k (value b)) kind
 
-framing_cases : (b : List ℕ) (r : Result PayloadInfo DecoderError) → framing b ≡ r → ((p : PayloadInfo) × (framing b ≡ Ok p)) ⊎ ((e : DecoderError) × (framing b ≡ Err e))
+framing_cases : (b : List ℕ) (r : Result PayloadInfo DecoderError) → framing b ≡ r → ((p : PayloadInfo) × (framing b ≡ Ok p))
+    ⊎ ((e : DecoderError) × (framing b ≡ Err e))
 framing_cases b (Ok p) is = inl (p, is)
 framing_cases b (Err e) is = inr (e, is)
 
 item_at-inside : (v : View) (i : ℕ) (p : PayloadInfo) → items_fault v ≡ None → framing v.bytes ≡ Ok p → i < length (items v.bytes)
     → item_at v i ≡ Ok (record v { bytes = get_or (items v.bytes) i [] })
-item_at-inside v i p told is inside = ap (map_ok (λ q. q.0)) (item_with_place-told v i (Ok p) told is ∙ cond-true (ltb i (length (items v.bytes))) _ _ (lt-ltb i (length (items v.bytes)) inside))
+item_at-inside v i p told is inside =
+    ap (map_ok (λ q. q.0)) (item_with_place-told v i (Ok p) told is ∙ cond-true (ltb i (length (items v.bytes))) _ _ (lt-ltb i (length (items v.bytes)) inside))
 
 -- past the last item it is the fault of what follows the items
 pub item_at-past : (v : View) (i : ℕ) (p : PayloadInfo) → items_fault v ≡ None → framing v.bytes ≡ Ok p → length (items v.bytes) ≤ i
     → item_at v i ≡ Err (fault (rest v.bytes))
-item_at-past v i p told is past = ap (map_ok (λ q. q.0)) (item_with_place-told v i (Ok p) told is ∙ cond-false (ltb i (length (items v.bytes))) _ _ (le-ltb i (length (items v.bytes)) past))
+item_at-past v i p told is past =
+    ap (map_ok (λ q. q.0)) (item_with_place-told v i (Ok p) told is ∙ cond-false (ltb i (length (items v.bytes))) _ _ (le-ltb i (length (items v.bytes)) past))
 
 -- of a list that isn't framed, its fault
 pub item_at-unframed : (v : View) (i : ℕ) (e : DecoderError) → items_fault v ≡ None → framing v.bytes ≡ Err e → item_at v i ≡ Err e
@@ -95,7 +101,8 @@ item_at-unframed v i e told is = ap (map_ok (λ q. q.0)) (item_with_place-told v
 -- The answer to a number, by whether it is that of an item, is past the last one, or none is told.
 pub data Numbered (v : View) (i : ℕ) : Type 0 where
   item_there : items_fault v ≡ None → i < length (items v.bytes) → item_at v i ≡ Ok (record v { bytes = get_or (items v.bytes) i [] }) → Numbered v i
-  no_item : (e : DecoderError) → items_fault v ≡ None → length (items v.bytes) ≤ i → item_at v i ≡ Err e → ((j : ℕ) → length (items v.bytes) ≤ j → item_at v j ≡ Err e) → Numbered v i
+  no_item : (e : DecoderError) → items_fault v ≡ None → length (items v.bytes) ≤ i → item_at v i ≡ Err e
+      → ((j : ℕ) → length (items v.bytes) ≤ j → item_at v j ≡ Err e) → Numbered v i
   not_told : (e : DecoderError) → items_fault v ≡ Some e → ((j : ℕ) → item_at v j ≡ Err e) → Numbered v i
 
 none_left : (v : View) (i : ℕ) → items v.bytes ≡ [] → length (items v.bytes) ≤ i
@@ -108,7 +115,8 @@ told_numbered v i told =
     (λ inside. item_there told inside (item_at-inside v i p told is inside))
     (λ past. no_item (fault (rest v.bytes)) told past (item_at-past v i p told is past) (λ j l. item_at-past v j p told is l))
     (cases_lt i (length (items v.bytes))))
-    (λ (e, is). no_item e told (none_left v i (items-payload v.bytes (payload-fault v.bytes e (told_begins v told) is))) (item_at-unframed v i e told is) (λ j l. item_at-unframed v j e told is))
+    (λ (e, is). no_item e told (none_left v i (items-payload v.bytes (payload-fault v.bytes e (told_begins v told) is)))
+        (item_at-unframed v i e told is) (λ j l. item_at-unframed v j e told is))
     (framing_cases v.bytes (framing v.bytes) refl)
 
 pub numbered : (v : View) (i : ℕ) → Numbered v i
@@ -152,9 +160,11 @@ pub slice_get-item_at : (v item : View) (i : ℕ) → items_fault v ≡ None →
 slice_get-item_at v item i told e = slice_by v item i told (numbered v i) e
 
 some_left : (b : List ℕ) (f : List ℕ) (fs : List (List ℕ)) → items b ≡ f ∷ fs → begins_as_list b ≡ true
-some_left b f fs is = ⊎_elim (λ kind. kind) (λ kind. let none : items b ≡ [] = items-payload b (payload-string b kind) in absurd (let no : ⊥ = cc in no)) (cases_Bool (begins_as_list b))
+some_left b f fs is = ⊎_elim (λ kind. kind)
+    (λ kind. let none : items b ≡ [] = items-payload b (payload-string b kind) in absurd (let no : ⊥ = cc in no)) (cases_Bool (begins_as_list b))
 
-lenient_told_some : (b : List ℕ) (fs : List (List ℕ)) (i : ℕ) (item : View) → items b ≡ fs → slice_get (map (viewed (view_of b)) fs) i ≡ Some item → items_fault (view_of b) ≡ None
+lenient_told_some : (b : List ℕ) (fs : List (List ℕ)) (i : ℕ) (item : View) → items b ≡ fs → slice_get (map (viewed (view_of b)) fs) i ≡ Some item
+    → items_fault (view_of b) ≡ None
 lenient_told_some b [] i item is e = absurd (let no : ⊥ = cc in no)
 lenient_told_some b (f ∷ fs) i item is e = lenient_told b (some_left b f fs is)
 
@@ -175,7 +185,8 @@ item_at-past_same v i j l k = past_by v i j (omega (arith, length-views v)) (ome
 -- ---- views over the encoding of a list
 
 -- the views of an encoded list's items are of their encodings
-pub item_views-list : (xs : List Item) (b : List ℕ) → IsSized (list_of xs) → BeginsWith b (encoding (list_of xs)) → item_views (view_of b) ≡ map (λ x. view_of (encoding x)) xs
+pub item_views-list : (xs : List Item) (b : List ℕ) → IsSized (list_of xs) → BeginsWith b (encoding (list_of xs))
+    → item_views (view_of b) ≡ map (λ x. view_of (encoding x)) xs
 item_views-list xs b sized begins = ap (map view_of) (items_of_list xs b sized begins).0 ∙ map-map view_of encoding xs
 
 -- an encoded list has as many items
@@ -190,8 +201,10 @@ slice_get-middle f [] after x = refl
 slice_get-middle f (y ∷ before) after x = slice_get-middle f before after x
 
 -- an item of an encoded list, by its number
-pub item_at-list_item : (before after : List Item) (x : Item) (b : List ℕ) → IsSized (list_of (before ++ x ∷ after)) → BeginsWith b (encoding (list_of (before ++ x ∷ after)))
+pub item_at-list_item : (before after : List Item) (x : Item) (b : List ℕ) → IsSized (list_of (before ++ x ∷ after))
+    → BeginsWith b (encoding (list_of (before ++ x ∷ after)))
     → item_at (view_of b) (length before) ≡ Ok (view_of (encoding x))
 item_at-list_item before after x b sized begins =
     (lenient_item_at b (view_of (encoding x)) (length before)).1
-    (ap (λ vs. slice_get vs (length before)) (item_views-list (before ++ x ∷ after) b sized begins) ∙ slice_get-middle (λ (y : Item). view_of (encoding y)) before after x)
+    (ap (λ vs. slice_get vs (length before)) (item_views-list (before ++ x ∷ after) b sized begins)
+        ∙ slice_get-middle (λ (y : Item). view_of (encoding y)) before after x)

@@ -1,5 +1,7 @@
 -- `header` gives the one header that stands at the front, and the fault where none does.
-use Rattle.std.proofs.Common.{◌≡◌, ℕ, zero, suc, ◌+◌, ◌-◌, ◌^◌, ◌<◌, ◌≤◌, inl, inr, ⊎_elim, List, [], ◌∷◌, ◌++◌, length, take, get_or, refl, sym, ap, ◌∙◌, subst, arith, Ok, Err, Result, false, ◌==◌, leb, ltb, ne_eqb, le-ltb, take_at, Fits, w8, length-append, MatchResult, ◌≢◌, length-take-le, lt_of_lt_of_le, take-append-drop, drop, ltb-true, ltb-false, eqb-true, leb-false}
+use Rattle.std.proofs.Common.{◌≡◌, ℕ, zero, suc, ◌+◌, ◌-◌, ◌^◌, ◌<◌, ◌≤◌, inl, inr, ⊎_elim, List, [], ◌∷◌, ◌++◌, length, take, get_or, refl, sym, ap,
+  ◌∙◌, subst, arith, Ok, Err, Result, false, ◌==◌, leb, ltb, ne_eqb, le-ltb, take_at, Fits, w8, length-append, MatchResult, ◌≢◌, length-take-le,
+  lt_of_lt_of_le, take-append-drop, drop, ltb-true, ltb-false, eqb-true, leb-false}
 use Rattle.std.proofs.lemmas.Bool.Decides.{nat_tests}
 use Rattle.std.proofs.lemmas.Bool.{cases_lt, cond_both, eqb-false, cond-false, lt-leb}
 use Rattle.std.specs.List.{AllByRecursion}
@@ -26,7 +28,8 @@ unfolding header
 header_string first rest l h = grind (arith, nat_tests)
 
 -- the header of a long string
-pub header_long_string : (first : ℕ) (rest : List ℕ) → 0xb8 ≤ first → first < 0xc0 → header (first ∷ rest) ≡ long_header RlpDataLenWithZeroPrefix (first - 0xb7) rest
+pub header_long_string : (first : ℕ) (rest : List ℕ) → 0xb8 ≤ first → first < 0xc0
+    → header (first ∷ rest) ≡ long_header RlpDataLenWithZeroPrefix (first - 0xb7) rest
 unfolding header
 header_long_string first rest l h = grind (arith, nat_tests)
 
@@ -55,9 +58,11 @@ long_header_is zero_fault k (d ∷ ds) rest l first large =
     let nonzero : (d == 0) ≡ false = ne_eqb d 0 (λ e. omega arith) in
     let enough : ltb (length ((d ∷ ds) ++ rest)) k ≡ false = le-ltb _ _ (omega (arith, length-append (d ∷ ds) rest)) in
     let long : leb (number_from_digits 256 (take k ((d ∷ ds) ++ rest))) 55 ≡ false = ap (λ s. leb (number_from_digits 256 s) 55) front ∙ lt-leb _ _ large in
-    cond-false (d == 0) _ _ nonzero ∙ cond-false (ltb (length ((d ∷ ds) ++ rest)) k) _ _ enough ∙ cond-false _ _ _ long ∙ ap (λ s. Ok (payload_info (1 + k) (number_from_digits 256 s))) front
+    cond-false (d == 0) _ _ nonzero ∙ cond-false (ltb (length ((d ∷ ds) ++ rest)) k) _ _ enough ∙ cond-false _ _ _ long
+        ∙ ap (λ s. Ok (payload_info (1 + k) (number_from_digits 256 s))) front
 
-read_parts : (base n first : ℕ) (more rest : List ℕ) → IsBase base → Parts base n first more → header (first ∷ (more ++ rest)) ≡ Ok (payload_info (1 + length more) n)
+read_parts : (base n first : ℕ) (more rest : List ℕ) → IsBase base → Parts base n first more
+    → header (first ∷ (more ++ rest)) ≡ Ok (payload_info (1 + length more) n)
 read_parts base n first more rest (inl b) (inl (short, is, none)) =
     let value : first - 0x80 ≡ n = omega arith in
     let header_len : 1 ≡ 1 + length more = omega (arith, ap length none) in
@@ -82,7 +87,8 @@ read_parts base n first more rest (inr b) (inr (long, is, digits, some, few)) =
     ∙ cc
 
 -- a header that was written is read
-pub read_written : (base n : ℕ) (rest : List ℕ) → IsBase base → n < 2 ^ 64 → header (written_header base n ++ rest) ≡ Ok (payload_info (length (written_header base n)) n)
+pub read_written : (base n : ℕ) (rest : List ℕ) → IsBase base → n < 2 ^ 64
+    → header (written_header base n ++ rest) ≡ Ok (payload_info (length (written_header base n)) n)
 read_written base n rest b small =
     let s = shape base n small in
     let one : length (first_and s.first s.more) ≡ 1 + length s.more = omega arith in
@@ -113,16 +119,20 @@ no_header b e is h n has = let same = sym (read has) ∙ is in cc
 abbrev pub Row : List ℕ → Result PayloadInfo DecoderError → Type 0
 Row b r = MatchResult r (λ p. HasHeader b p.header_len p.value_len) (λ e. e ≡ header_fault b)
 
-fault_zero_string : (first second : ℕ) (more : List ℕ) → second ≡ 0 → 0xb8 ≤ first → first < 0xc0 → RlpDataLenWithZeroPrefix ≡ header_fault (first ∷ second ∷ more)
+fault_zero_string : (first second : ℕ) (more : List ℕ) → second ≡ 0 → 0xb8 ≤ first → first < 0xc0
+    → RlpDataLenWithZeroPrefix ≡ header_fault (first ∷ second ∷ more)
 fault_zero_string first second more z l h = grind (arith, nat_tests)
 
-fault_zero_list : (first second : ℕ) (more : List ℕ) → second ≡ 0 → 0xf8 ≤ first → first < 0x100 → RlpListLenWithZeroPrefix ≡ header_fault (first ∷ second ∷ more)
+fault_zero_list : (first second : ℕ) (more : List ℕ) → second ≡ 0 → 0xf8 ≤ first → first < 0x100
+    → RlpListLenWithZeroPrefix ≡ header_fault (first ∷ second ∷ more)
 fault_zero_list first second more z l h = grind (arith, nat_tests)
 
-fault_short : (first second k : ℕ) (more : List ℕ) → second ≢ 0 → announced first ≡ k → length (second ∷ more) < k → RlpIsTooShort ≡ header_fault (first ∷ second ∷ more)
+fault_short : (first second k : ℕ) (more : List ℕ) → second ≢ 0 → announced first ≡ k → length (second ∷ more) < k
+    → RlpIsTooShort ≡ header_fault (first ∷ second ∷ more)
 fault_short first second k more z a h = grind (arith, nat_tests)
 
-fault_indirect : (first second k : ℕ) (more : List ℕ) → second ≢ 0 → announced first ≡ k → k ≤ length (second ∷ more) → RlpInvalidIndirection ≡ header_fault (first ∷ second ∷ more)
+fault_indirect : (first second k : ℕ) (more : List ℕ) → second ≢ 0 → announced first ≡ k → k ≤ length (second ∷ more)
+    → RlpInvalidIndirection ≡ header_fault (first ∷ second ∷ more)
 fault_indirect first second k more z a h = grind (arith, nat_tests)
 
 announced_string : (first : ℕ) → first < 0xc0 → announced first ≡ first - 0xb7
@@ -140,7 +150,8 @@ take_bytes zero s h = tt
 take_bytes (suc k) [] h = tt
 take_bytes (suc k) (c ∷ s) (low, h) = (low, take_bytes k s h)
 
-long_hdr : (base n first k : ℕ) (digits : List ℕ) → big_endian n ≡ digits → 55 < n → length digits ≡ k → first ≡ base + 55 + k → written_header base n ≡ first ∷ digits
+long_hdr : (base n first k : ℕ) (digits : List ℕ) → big_endian n ≡ digits → 55 < n → length digits ≡ k → first ≡ base + 55 + k
+    → written_header base n ≡ first ∷ digits
 long_hdr base n first k digits e large l is =
     let lengths : base + 55 + length (big_endian n) ≡ first = omega (arith, ap length e) in
     written_header_long base n large ∙ cc
@@ -152,7 +163,8 @@ pub long_whole : (base first k n second : ℕ) (more : List ℕ) → first ≡ b
 long_whole base first k n second more is few leading (low, bytes) enough value large =
     let digits : big_endian n ≡ second ∷ take k more = ap big_endian value ∙ big_endian_again second (take k more) leading (low, take_bytes k more bytes) in
     let long : length (second ∷ take k more) ≡ suc k = omega (arith, length-take-le k more (omega arith)) in
-    let below : number_from_digits 256 (second ∷ take k more) < 256 ^ length (second ∷ take k more) = number_lt 256 (second ∷ take k more) (low, take_bytes k more bytes) in
+    let below : number_from_digits 256 (second ∷ take k more) < 256 ^ length (second ∷ take k more) =
+        number_lt 256 (second ∷ take k more) (low, take_bytes k more bytes) in
     let at_most : length (second ∷ take k more) ≤ 8 = omega arith in
     let base_above : 0 < 256 = omega arith in
     let most : 256 ^ length (second ∷ take k more) ≤ 256 ^ 8 = pow-le-pow_right base_above at_most in
@@ -193,17 +205,21 @@ long_rows : (base first k : ℕ) (zero_fault : DecoderError) (rest : List ℕ) �
     → Bytes rest → ((second : ℕ) (more : List ℕ) → second ≡ 0 → zero_fault ≡ header_fault (first ∷ second ∷ more))
     → Row (first ∷ rest) (long_header zero_fault (suc k) rest)
 long_rows base first k zero_fault [] b is few says bytes zero_case = refl
-long_rows base first k zero_fault (second ∷ more) b is few says bytes zero_case = long_row base first k second zero_fault more b is few says bytes (zero_case second more)
+long_rows base first k zero_fault (second ∷ more) b is few says bytes zero_case =
+    long_row base first k second zero_fault more b is few says bytes (zero_case second more)
 
-string_row : (first : ℕ) (rest : List ℕ) → 0xb8 ≤ first → first < 0xc0 → Bytes rest → Row (first ∷ rest) (long_header RlpDataLenWithZeroPrefix (first - 0xb7) rest)
+string_row : (first : ℕ) (rest : List ℕ) → 0xb8 ≤ first → first < 0xc0 → Bytes rest
+    → Row (first ∷ rest) (long_header RlpDataLenWithZeroPrefix (first - 0xb7) rest)
 string_row first rest l h bytes =
     let k : first - 0xb7 ≡ suc (first - 0xb8) = omega arith in
-    rw k (long_rows 0x80 first (first - 0xb8) RlpDataLenWithZeroPrefix rest (inl refl) (omega arith) (omega arith) (announced_string first h ∙ k) bytes (λ second more z. fault_zero_string first second more z l h))
+    rw k (long_rows 0x80 first (first - 0xb8) RlpDataLenWithZeroPrefix rest (inl refl) (omega arith) (omega arith)
+        (announced_string first h ∙ k) bytes (λ second more z. fault_zero_string first second more z l h))
 
 list_row : (first : ℕ) (rest : List ℕ) → 0xf8 ≤ first → first < 256 → Bytes rest → Row (first ∷ rest) (long_header RlpListLenWithZeroPrefix (first - 0xf7) rest)
 list_row first rest l h bytes =
     let k : first - 0xf7 ≡ suc (first - 0xf8) = omega arith in
-    rw k (long_rows 0xc0 first (first - 0xf8) RlpListLenWithZeroPrefix rest (inr refl) (omega arith) (omega arith) (announced_list first (omega arith) ∙ k) bytes (λ second more z. fault_zero_list first second more z l h))
+    rw k (long_rows 0xc0 first (first - 0xf8) RlpListLenWithZeroPrefix rest (inr refl) (omega arith) (omega arith)
+        (announced_list first (omega arith) ∙ k) bytes (λ second more z. fault_zero_list first second more z l h))
 
 first_row : (first : ℕ) (rest : List ℕ) → first < 256 → Bytes rest → Row (first ∷ rest) (header (first ∷ rest))
 first_row first rest low bytes =

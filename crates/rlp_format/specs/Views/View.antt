@@ -1,5 +1,6 @@
 -- What contracts see of a view, and the results of its methods.
-use Rattle.std.specs.Prelude.{ℕ, ◌≡◌, ◌≤◌, ◌↔◌, ◌+◌, ◌-◌, Bool, IsTrue, IsNone, true, false, Option, Some, None, ◌||◌, ◌==◌, if◌then◌else◌, nat_lt, nat_le, List, [], ◌∷◌, length, take, map, slice_index_or, Result, Ok, Err}
+use Rattle.std.specs.Prelude.{ℕ, ◌≡◌, ◌≤◌, ◌↔◌, ◌+◌, ◌-◌, Bool, IsTrue, IsNone, true, false, Option, Some, None, ◌||◌, ◌==◌, if◌then◌else◌, nat_lt,
+  nat_le, List, [], ◌∷◌, length, take, map, slice_index_or, Result, Ok, Err}
 use Rattle.std.specs.List.{concat}
 use Rattle.std.specs.Iterator.{YieldsFirst}
 use Rattle.rlp_format.specs.declared.error.DecoderError.{DecoderError}
@@ -154,4 +155,5 @@ data_size b = if begins_as_data b then value_length (value b) else 0
 -- what bytes begin with: no bytes, a string with its length, or a list with its number of items
 abbrev pub prototype_of : List ℕ → Prototype
 prototype_of [] = prototype.Null
-prototype_of (first ∷ more) = if begins_as_list (first ∷ more) then prototype.List (length (items (first ∷ more))) else prototype.Data (data_size (first ∷ more))
+prototype_of (first ∷ more) = if begins_as_list (first ∷ more) then prototype.List (length (items (first ∷ more))) else prototype.Data
+    (data_size (first ∷ more))

@@ -1,5 +1,6 @@
 -- Values that are appended one after another, as the fields of a struct are.
-use Rattle.std.proofs.Common.{◌≡◌, ◌<◌, ◌≤◌, ◌+◌, ◌^◌, ℕ, Option, Some, None, zero, suc, List, [], ◌∷◌, ◌++◌, length, take, get_or, map, refl, sym, ap, ◌∙◌, subst, arith, append-nil, append_assoc, length-append}
+use Rattle.std.proofs.Common.{◌≡◌, ◌<◌, ◌≤◌, ◌+◌, ◌^◌, ℕ, Option, Some, None, zero, suc, List, [], ◌∷◌, ◌++◌, length, take, get_or, map, refl, sym,
+  ap, ◌∙◌, subst, arith, append-nil, append_assoc, length-append}
 use Rattle.std.proofs.lemmas.List.{length-map}
 use Rattle.std.specs.Prelude.{MatchOption, SomeIff}
 use Rattle.rlp_format.specs.Format.Item.{Item, list_of}
@@ -20,7 +21,8 @@ some_none x xs s t is = record { before = []; next = x; after = xs; all = refl; 
 
 -- some of the first, and so of all
 pub some_first : (xs ys : List Item) (s t : State) → AppendsSome xs s t → AppendsSome (xs ++ ys) s t
-some_first xs ys s t p = record { before = p.before; next = p.next; after = p.after ++ ys; all = ap (λ zs. zs ++ ys) p.all ∙ append_assoc p.before (p.next ∷ p.after) ys; is = p.is }
+some_first xs ys s t p = record { before = p.before; next = p.next; after = p.after ++ ys; all = ap (λ zs. zs ++ ys) p.all
+    ∙ append_assoc p.before (p.next ∷ p.after) ys; is = p.is }
 
 -- the first, and some of the others
 pub some_second : (xs ys : List Item) (s t u : State) → t ≡ add_all xs s → AppendsSome ys t u → AppendsSome (xs ++ ys) s u
@@ -55,7 +57,8 @@ pub items_pushed : (xs ys : List Item) (x : Item) (s t u : State) → ys ≡ xs 
 items_pushed xs ys x s t u more added next = next ∙ ap (add x) added ∙ sym (add_all-append xs (x ∷ []) s) ∙ ap (λ zs. add_all zs s) (sym more)
 
 -- some of the values, and not the last
-pub some_at : {A : Type 0} (item : A → Item) (values : List A) (i : ℕ) (s t : State) → i < length values → t ≡ add_all (map item (take i values)) s → AppendsSome (map item values) s t
+pub some_at : {A : Type 0} (item : A → Item) (values : List A) (i : ℕ) (s t : State) → i < length values → t ≡ add_all (map item (take i values)) s
+    → AppendsSome (map item values) s t
 some_at item [] i s t inside is = absurd (omega arith)
 some_at item (v ∷ vs) zero s t inside is = some_none (item v) (map item vs) s t is
 some_at item (v ∷ vs) (suc i) s t inside is =
@@ -65,7 +68,8 @@ some_at item (v ∷ vs) (suc i) s t inside is =
 -- ---- values that are several items each
 
 -- all items of some values, and some of the next value's
-pub flattened_at : {A : Type 0} (items : A → List Item) (values : List A) (i : ℕ) (x d : A) (s t u : State) → i < length values → x ≡ get_or values i d → t ≡ add_all (all_items items (take i values)) s → AppendsSome (items x) t u → AppendsSome (all_items items values) s u
+pub flattened_at : {A : Type 0} (items : A → List Item) (values : List A) (i : ℕ) (x d : A) (s t u : State) → i < length values
+    → x ≡ get_or values i d → t ≡ add_all (all_items items (take i values)) s → AppendsSome (items x) t u → AppendsSome (all_items items values) s u
 flattened_at items [] i x d s t u inside is at part = absurd (omega arith)
 flattened_at items (v ∷ vs) zero x d s t u inside is at part =
     some_first (items v) (all_items items vs) s u (subst (λ y. AppendsSome (items y) s u) is (subst (λ t. AppendsSome (items x) t u) at part))
@@ -73,19 +77,23 @@ flattened_at items (v ∷ vs) (suc i) x d s t u inside is at part =
     some_second (items v) (all_items items vs) s (add_all (items v) s) u refl
     (flattened_at items vs i x d (add_all (items v) s) t u (omega arith) is (at ∙ add_all-append (items v) (all_items items (take i vs)) s) part)
 
-all_items-next : {A : Type 0} (items : A → List Item) (values : List A) (i : ℕ) (d : A) → i < length values → all_items items (take (suc i) values) ≡ all_items items (take i values) ++ items (get_or values i d)
+all_items-next : {A : Type 0} (items : A → List Item) (values : List A) (i : ℕ) (d : A) → i < length values
+    → all_items items (take (suc i) values) ≡ all_items items (take i values) ++ items (get_or values i d)
 all_items-next items [] i d inside = absurd (omega arith)
 all_items-next items (v ∷ vs) zero d inside = append-nil (items v)
-all_items-next items (v ∷ vs) (suc i) d inside = ap (λ zs. items v ++ zs) (all_items-next items vs i d (omega arith)) ∙ sym (append_assoc (items v) (all_items items (take i vs)) (items (get_or vs i d)))
+all_items-next items (v ∷ vs) (suc i) d inside = ap (λ zs. items v ++ zs) (all_items-next items vs i d (omega arith))
+    ∙ sym (append_assoc (items v) (all_items items (take i vs)) (items (get_or vs i d)))
 
 -- the items of one more value
-all_items-more : {A : Type 0} (items : A → List Item) (values : List A) (i : ℕ) (x d : A) → i < length values → x ≡ get_or values i d → all_items items (take (i + 1) values) ≡ all_items items (take i values) ++ items x
+all_items-more : {A : Type 0} (items : A → List Item) (values : List A) (i : ℕ) (x d : A) → i < length values → x ≡ get_or values i d
+    → all_items items (take (i + 1) values) ≡ all_items items (take i values) ++ items x
 all_items-more items values i x d inside is =
     let one_more : i + 1 ≡ suc i = omega arith in
     ap (λ n. all_items items (take n values)) one_more ∙ all_items-next items values i d inside ∙ ap (λ y. all_items items (take i values) ++ items y) (sym is)
 
 -- one more value
-pub flattened_pushed : {A : Type 0} (items : A → List Item) (values : List A) (i : ℕ) (x d : A) (s t u : State) → i < length values → x ≡ get_or values i d → t ≡ add_all (all_items items (take i values)) s → u ≡ add_all (items x) t
+pub flattened_pushed : {A : Type 0} (items : A → List Item) (values : List A) (i : ℕ) (x d : A) (s t u : State) → i < length values
+    → x ≡ get_or values i d → t ≡ add_all (all_items items (take i values)) s → u ≡ add_all (items x) t
     → u ≡ add_all (all_items items (take (i + 1) values)) s
 flattened_pushed items values i x d s t u inside is at next =
     next ∙ ap (add_all (items x)) at ∙ sym (add_all-append (all_items items (take i values)) (items x) s)
@@ -103,20 +111,24 @@ counted_within items (v ∷ vs) (suc i) =
     omega (arith, others, length-append (items v) (all_items items (take i vs)), length-append (items v) (all_items items vs))
 
 -- with one value more
-pub counted_more : {A : Type 0} (items : A → List Item) (values : List A) (i n m : ℕ) (x d : A) → i < length values → x ≡ get_or values i d → n ≡ length (all_items items (take i values)) → m ≡ length (items x) → n + m ≡ length (all_items items (take (i + 1) values))
+pub counted_more : {A : Type 0} (items : A → List Item) (values : List A) (i n m : ℕ) (x d : A) → i < length values → x ≡ get_or values i d
+    → n ≡ length (all_items items (take i values)) → m ≡ length (items x) → n + m ≡ length (all_items items (take (i + 1) values))
 counted_more items values i n m x d inside is before one =
-    let whole : length (all_items items (take (i + 1) values)) ≡ length (all_items items (take i values)) + length (items x) = ap length (all_items-more items values i x d inside is) ∙ length-append (all_items items (take i values)) (items x) in
+    let whole : length (all_items items (take (i + 1) values)) ≡ length (all_items items (take i values)) + length (items x) =
+        ap length (all_items-more items values i x d inside is) ∙ length-append (all_items items (take i values)) (items x) in
     omega (arith, whole, before, one)
 
 -- one value and those before it have no more items than all
-pub counted_so_far : {A : Type 0} (items : A → List Item) (values : List A) (i : ℕ) (x d : A) → i < length values → x ≡ get_or values i d → length (all_items items (take i values)) + length (items x) ≤ length (all_items items values)
+pub counted_so_far : {A : Type 0} (items : A → List Item) (values : List A) (i : ℕ) (x d : A) → i < length values → x ≡ get_or values i d
+    → length (all_items items (take i values)) + length (items x) ≤ length (all_items items values)
 counted_so_far items values i x d inside is =
     let sum = counted_more items values i (length (all_items items (take i values))) (length (items x)) x d inside is refl refl in
     let few = counted_within items values (i + 1) in
     omega (arith, sum, few)
 
 -- with those of others
-pub counted_both : (xs ys : List Item) (n m : ℕ) (o : Option ℕ) → n ≡ length xs → m ≡ length ys → SomeIff o (n + m < 2 ^ 64) (n + m) → MatchOption o (2 ^ 64 ≤ length (xs ++ ys)) (λ k. k ≡ length (xs ++ ys))
+pub counted_both : (xs ys : List Item) (n m : ℕ) (o : Option ℕ) → n ≡ length xs → m ≡ length ys → SomeIff o (n + m < 2 ^ 64) (n + m)
+    → MatchOption o (2 ^ 64 ≤ length (xs ++ ys)) (λ k. k ≡ length (xs ++ ys))
 counted_both xs ys n m None first second not = omega (arith, length-append xs ys, first, second, not)
 counted_both xs ys n m (Some k) first second (fits, is) = omega (arith, length-append xs ys, first, second, is)
 

@@ -29,10 +29,12 @@ grows_put s t x e = subst (λ (u : State). GrowsTo s u) (sym e) (record { front 
 -- one more open list, with something in it
 pub grows_in_list : (s t : State) (l : OpenList ℕ) → t.front ≡ s.front → t.stack.lists ≡ l ∷ s.stack.lists → l.outer ≡ s.stack.inner → GrowsTo s t
 grows_in_list s t l front lists outer =
-    let inside : Stands s.stack.inner s.stack.lists l.outer s.stack.lists = subst (λ (q : List ℕ). Stands s.stack.inner s.stack.lists q s.stack.lists) (sym outer) (stands_same s.stack.inner s.stack.lists) in
+    let inside : Stands s.stack.inner s.stack.lists l.outer s.stack.lists =
+        subst (λ (q : List ℕ). Stands s.stack.inner s.stack.lists q s.stack.lists) (sym outer) (stands_same s.stack.inner s.stack.lists) in
     record {
       front = front;
-      stands = subst (λ (ls : List (OpenList ℕ)). Stands s.stack.inner s.stack.lists t.stack.inner ls) (sym lists) (within t.stack.inner l s.stack.lists inside);
+      stands = subst (λ (ls : List (OpenList ℕ)). Stands s.stack.inner s.stack.lists t.stack.inner ls) (sym lists)
+          (within t.stack.inner l s.stack.lists inside);
     }
 
 -- one more open list
@@ -50,14 +52,16 @@ same_around_trans (l ∷ ls) (m ∷ ms) [] h k = absurd k
 same_around_trans (l ∷ ls) (m ∷ ms) (n ∷ ns) h k = (h.0 ∙ k.0, h.1 ∙ k.1)
 
 -- more bytes after a payload in which the first stands
-stands_longer : (p : List ℕ) (ls : List (OpenList ℕ)) {q : List ℕ} {ms : List (OpenList ℕ)} → Stands p ls q ms → (more : List ℕ) (ns : List (OpenList ℕ)) → AreSameAround ms ns → Stands p ls (q ++ more) ns
+stands_longer : (p : List ℕ) (ls : List (OpenList ℕ)) {q : List ℕ} {ms : List (OpenList ℕ)} → Stands p ls q ms
+    → (more : List ℕ) (ns : List (OpenList ℕ)) → AreSameAround ms ns → Stands p ls (q ++ more) ns
 stands_longer p ls (here first ms same) more ns k =
     subst (λ (q : List ℕ). Stands p ls q ns) (sym (append_assoc p first more)) (here (first ++ more) ns (same_around_trans ls ms ns same k))
 stands_longer p ls (within q m ms st) more [] k = absurd k
 stands_longer p ls (within q m ms st) more (n ∷ ns) k =
     within (q ++ more) n ns (subst (λ (zs : List (OpenList ℕ)). Stands p ls n.outer zs) k.1 (subst (λ (o : List ℕ). Stands p ls o ms) k.0 st))
 
-stands_trans : (p : List ℕ) (ls : List (OpenList ℕ)) (q : List ℕ) (ms : List (OpenList ℕ)) → Stands p ls q ms → {r : List ℕ} {ns : List (OpenList ℕ)} → Stands q ms r ns → Stands p ls r ns
+stands_trans : (p : List ℕ) (ls : List (OpenList ℕ)) (q : List ℕ) (ms : List (OpenList ℕ)) → Stands p ls q ms → {r : List ℕ} {ns : List (OpenList ℕ)}
+    → Stands q ms r ns → Stands p ls r ns
 stands_trans p ls q ms st (here more ns same) = stands_longer p ls st more ns same
 stands_trans p ls q ms st (within r n ns st2) = within r n ns (stands_trans p ls q ms st st2)
 

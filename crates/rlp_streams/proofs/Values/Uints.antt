@@ -9,7 +9,8 @@ use Rattle.rlp_format.specs.Lemmas.Reading.{bytes_held}
 -- a zero in front makes no difference
 pub zero_in_front : (ds : List ℕ) → get_or ds 0 0 ≡ 0 → number_from_digits 256 (drop 1 ds) ≡ number_from_digits 256 ds
 zero_in_front [] is = refl
-zero_in_front (d ∷ ds) is = let none : 0 * 256 + d ≡ 0 = omega (arith, is) in ap (λ n. number_from_digits_after 256 n ds) (let other : 0 ≡ 0 * 256 + d = omega (arith, is) in other)
+zero_in_front (d ∷ ds) is = let none : 0 * 256 + d ≡ 0 = omega (arith, is) in
+    ap (λ n. number_from_digits_after 256 n ds) (let other : 0 ≡ 0 * 256 + d = omega (arith, is) in other)
 
 -- no bytes are the digits of 0
 pub none_significant : (ds : List ℕ) → length ds ≡ 0 → ds ≡ big_endian (number_from_digits 256 ds)

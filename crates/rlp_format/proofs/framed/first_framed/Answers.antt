@@ -19,7 +19,8 @@ returns-in-Err-clause-whole c = fault-err c.args.bytes.now c.in-Err.fault (sym c
 
 pub invariant_of-result : goal.invariant_of-result
 invariant_of-result c = record {
-  reads = front_item_value c.args.bytes.now c.split_at.result.0.now c.in-Ok.header (bytes_held c.args.bytes.now c.type_inv.bytes) (sym c.in-Ok.ensures.exact) c.split_at.ensures.front;
+  reads = front_item_value c.args.bytes.now c.split_at.result.0.now c.in-Ok.header (bytes_held c.args.bytes.now c.type_inv.bytes)
+      (sym c.in-Ok.ensures.exact) c.split_at.ensures.front;
   ends = front_ends c.args.bytes.now c.split_at.result.0.now c.in-Ok.header c.in-Ok.ensures.within.1 c.split_at.ensures.front;
 }
 
@@ -34,5 +35,6 @@ returns-clause-item c = front_item c.args.bytes.now c.split_at.result.0.now c.in
 
 pub returns-clause-parts : goal.returns-clause-parts
 returns-clause-parts c =
-    let parts = split_framed c.args.bytes.now c.in-Ok.header.header_len c.in-Ok.header.value_len (bytes_held c.args.bytes.now c.type_inv.bytes) (sym c.in-Ok.ensures.exact) in
+    let parts = split_framed c.args.bytes.now c.in-Ok.header.header_len c.in-Ok.header.value_len (bytes_held c.args.bytes.now c.type_inv.bytes)
+        (sym c.in-Ok.ensures.exact) in
     cc (parts, c.split_at.ensures.front, c.split_at.ensures.back)

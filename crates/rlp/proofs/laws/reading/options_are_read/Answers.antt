@@ -13,7 +13,9 @@ returns c =
     let fits : length c.args.bytes.now < 2 ^ 64 = omega arith in
     let held = bytes_held c.args.bytes.now c.type_inv.bytes in
     record {
-      numbers = λ width. option_reading number_item (GivesNumber width) (FaultsAsNumber width) (λ v bytes short. number_reading v bytes short width) (view_of c.args.bytes.now) held fits;
-      truth_values = option_reading (λ b. number_item (bit b)) GivesBool FaultsAsBool (λ v bytes short. bool_reading v (number_reading v bytes short 1)) (view_of c.args.bytes.now) held fits;
+      numbers = λ width. option_reading number_item (GivesNumber width) (FaultsAsNumber width) (λ v bytes short. number_reading v bytes short width)
+          (view_of c.args.bytes.now) held fits;
+      truth_values = option_reading (λ b. number_item (bit b)) GivesBool FaultsAsBool
+          (λ v bytes short. bool_reading v (number_reading v bytes short 1)) (view_of c.args.bytes.now) held fits;
       texts = option_reading string GivesText FaultsAsText (λ v bytes short. text_reading v bytes short) (view_of c.args.bytes.now) held fits;
     }

@@ -10,5 +10,6 @@ returns c =
     record {
       count = λ xs (more, is). item_count-list xs c.args.bytes.now (front_sized (list_of xs) c.args.bytes.now more fits is) (more, is);
       items = λ xs (more, is). item_views-list xs c.args.bytes.now (front_sized (list_of xs) c.args.bytes.now more fits is) (more, is);
-      at = λ before after x (more, is). item_at-list_item before after x c.args.bytes.now (front_sized (list_of (before ++ x ∷ after)) c.args.bytes.now more fits is) (more, is);
+      at = λ before after x (more, is). item_at-list_item before after x c.args.bytes.now
+          (front_sized (list_of (before ++ x ∷ after)) c.args.bytes.now more fits is) (more, is);
     }

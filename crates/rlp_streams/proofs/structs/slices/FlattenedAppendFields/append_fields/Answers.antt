@@ -11,13 +11,17 @@ on_err (Err e) P p = p
 
 pub returns-in_err-append_fields-clause-refused : goal.returns-in_err-append_fields-clause-refused
 returns-in_err-append_fields-clause-refused g c =
-    on_err _ _ (flattened_at g.T.AppendFields.items c.args.self.now.0.now c.loop-value.value-index c.value-item.result c.value-item.result c.args.s.now.state c.loop-value.s.state c.append_fields.new.s.state c.loop-value-test.true c.value-item.is c.loop-value.invariant.state c.in_err-append_fields.ensures.refused)
+    on_err _ _ (flattened_at g.T.AppendFields.items c.args.self.now.0.now c.loop-value.value-index c.value-item.result c.value-item.result
+        c.args.s.now.state c.loop-value.s.state c.append_fields.new.s.state c.loop-value-test.true c.value-item.is c.loop-value.invariant.state
+        c.in_err-append_fields.ensures.refused)
 
 pub loop-value-preserved : goal.loop-value-preserved
 loop-value-preserved g c =
     let more = retains_trans _ _ _ c.loop-value.invariant.retains c.append_fields.ensures.retains in
     record {
-      state = flattened_pushed g.T.AppendFields.items c.args.self.now.0.now c.loop-value.value-index c.value-item.result c.value-item.result c.args.s.now.state c.loop-value.s.state c.append_fields.new.s.state c.loop-value-test.true c.value-item.is c.loop-value.invariant.state c.in_ok-append_fields.ensures.ok;
+      state = flattened_pushed g.T.AppendFields.items c.args.self.now.0.now c.loop-value.value-index c.value-item.result c.value-item.result
+          c.args.s.now.state c.loop-value.s.state c.append_fields.new.s.state c.loop-value-test.true c.value-item.is c.loop-value.invariant.state
+          c.in_ok-append_fields.ensures.ok;
       retains = search rules;
       fits = grind (arith, elements);
     }
