@@ -37,11 +37,11 @@ fault_found IsFaulty Fits v d holds e (inr (lacks, fit)) = inr (lacks, (d, recor
 pub faults_from : {A : Type 0} (r : Result A DecoderError) (IsFaulty : List ℕ → DecoderError → Type 0)
     (Fits : List ℕ → Type 0) {Calls : List ℕ → Type 0} {decoder v : View} → decoder ≡ v → Answers r Calls decoder
     → ((d : List ℕ) → Calls d → IfErr r (λ e. IsFaulty d e ⊎ ((e ≡ OutOfMemory) × Fits d)))
-        → IfErr r (λ e. FaultsAs IsFaulty v e ⊎ ((e ≡ OutOfMemory) × GivesSome (GivesValue Fits string) v))
+    → IfErr r (λ e. FaultsAs IsFaulty v e ⊎ ((e ≡ OutOfMemory) × GivesSome (GivesValue Fits string) v))
 faults_from r IsFaulty Fits {decoder = decoder} same answers called =
     subst (λ v. IfErr r (λ e. FaultsAs IsFaulty v e ⊎ ((e ≡ OutOfMemory) × GivesSome (GivesValue Fits string) v))) same
     (by_string r (λ e. FaultsAs IsFaulty decoder e ⊎ ((e ≡ OutOfMemory) × GivesSome (GivesValue Fits string) decoder)) decoder
-        (view_string decoder) refl answers.found answers.missing
+    (view_string decoder) refl answers.found answers.missing
     (λ e is. inl (no_string e is)) (λ d holds call. if_err r (fault_found IsFaulty Fits decoder d holds) (called d call)))
 
 -- the same where any string is a value's
@@ -50,7 +50,7 @@ pub bytes_faults_from : {A : Type 0} (r : Result A DecoderError) {Calls : List �
 bytes_faults_from r {decoder = decoder} same answers called =
     subst (λ v. IfErr r (λ e. FaultsAsBytes v e ⊎ ((e ≡ OutOfMemory) × GivesSome GivesBytes v))) same
     (by_string r (λ e. FaultsAsBytes decoder e ⊎ ((e ≡ OutOfMemory) × GivesSome GivesBytes decoder)) decoder
-        (view_string decoder) refl answers.found answers.missing
+    (view_string decoder) refl answers.found answers.missing
     (λ e is. inl is) (λ d holds call. if_err r (λ e lacks. inr (lacks, (d, record { fits = tt; begins = holds }))) (called d call)))
 
 if_ok : {A : Type 0} (r : Result A DecoderError) {F G : A → Type 0} → ((x : A) → F x → G x) → IfOk r F → IfOk r G

@@ -9,14 +9,14 @@ use Rattle.rlp_format.specs.Format.Encoding.{encoding}
 use Rattle.rlp_format.specs.Format.WrittenHeader.{AreBytes}
 use Rattle.rlp_format.specs.Views.View.{View, HoldsItem, item_count, view_of}
 use Rattle.rlp_format.specs.Values.Value.{FitsBytes, bit, number_item, option_item}
-use Rattle.rlp.specs.Values.ValueReading.{FaultsAs, FaultsAsBool, FaultsAsBytes, FaultsAsNumber, FaultsAsText, GivesBool, GivesBytes, GivesNumber,
-  GivesSome, GivesText, GivesValue, IsLengthFault}
-use Rattle.rlp.specs.Values.ListReading.{FaultsAsFields, FaultsAsList, FaultsAsOption, FaultsAt, FaultsInField, GivesAt, GivesList, GivesOption,
-  GivesSomeAt, MayLackAsList, MayLackAsOption, MayLackAsStruct}
+use Rattle.rlp.specs.Values.ValueReading.{FaultsAs, FaultsAsBool, FaultsAsBytes, FaultsAsNumber, FaultsAsText, GivesBool, GivesBytes, GivesNumber}
+use Rattle.rlp.specs.Values.ValueReading.{GivesSome, GivesText, GivesValue, IsLengthFault}
+use Rattle.rlp.specs.Values.ListReading.{FaultsAsFields, FaultsAsList, FaultsAsOption, FaultsAt, FaultsInField, GivesAt, GivesList, GivesOption}
+use Rattle.rlp.specs.Values.ListReading.{GivesSomeAt, MayLackAsList, MayLackAsOption, MayLackAsStruct}
 use Rattle.std.proofs.lemmas.List.{nil_from_length}
 use Rattle.rlp.specs.Values.Tails.{FaultsAsTailed, FitsFirst, GivesFirst, MayLackAsTailed, items_first}
-use Rattle.rlp.specs.Lemmas.Tails.{any_enough, first_few, first_tail_alike, first_tail_exact, first_tail_exactly_sound, first_tail_sound,
-  no_tail_enough, no_tail_few, one_more_enough, tailed_reads_back, tailed_strict}
+use Rattle.rlp.specs.Lemmas.Tails.{any_enough, first_few, first_tail_alike, first_tail_exact, first_tail_exactly_sound, first_tail_sound}
+use Rattle.rlp.specs.Lemmas.Tails.{no_tail_enough, no_tail_few, one_more_enough, tailed_reads_back, tailed_strict}
 use Rattle.rlp.specs.Values.RoundTrip.{ReadsBack, ReadsStrictly}
 use Rattle.rlp.specs.Lemmas.RoundTrips.{bool_reads_back, bytes_in, number_reads_back, reads_back, reads_back_through, sound_length, text_in}
 use Rattle.rlp.specs.Lemmas.ListRoundTrips.{option_reads_back}

@@ -26,7 +26,7 @@ module _ {A P : Type 0} (d : A) (values : P → List A) (c : Codec A) (more : Fi
   items_from k (suc n) before [] whole at many = absurd (omega arith)
   items_from k (suc n) before (x ∷ after) whole at many =
       ap (λ zs. c.item x ∷ zs) (items_from (suc k) n (before ++ x ∷ []) after (one_further before after x whole)
-          (omega (arith, length-append before (x ∷ []))) (omega arith))
+      (omega (arith, length-append before (x ∷ []))) (omega arith))
       ∙ ap (λ y. c.item y ∷ (fields_from (suc k) n).items p) (sym (there before after x k whole at))
 
   fits_from : (k n : ℕ) (before after : List A) → values p ≡ before ++ after → length before ≡ k → length after ≡ n → AllByRecursion c.Fits after
@@ -34,9 +34,10 @@ module _ {A P : Type 0} (d : A) (values : P → List A) (c : Codec A) (more : Fi
   fits_from k zero before [] whole at many all last = last
   fits_from k zero before (x ∷ after) whole at many all last = absurd (omega arith)
   fits_from k (suc n) before [] whole at many all last = absurd (omega arith)
-  fits_from k (suc n) before (x ∷ after) whole at many (fit, all) last =
-      (subst (λ y. c.Fits y) (sym (there before after x k whole at)) fit,
-          fits_from (suc k) n (before ++ x ∷ []) after (one_further before after x whole) (omega (arith, length-append before (x ∷ []))) (omega arith) all last)
+  fits_from k (suc n) before (x ∷ after) whole at many (fit, all) last = (
+    subst (λ y. c.Fits y) (sym (there before after x k whole at)) fit,
+    fits_from (suc k) n (before ++ x ∷ []) after (one_further before after x whole) (omega (arith, length-append before (x ∷ []))) (omega arith) all last,
+  )
 
   -- fields of one type, of values of which there are as many, are written as their items
   pub each_items : (n : ℕ) → length (values p) ≡ n → map c.item (values p) ++ more.items p ≡ (fields_from 0 n).items p

@@ -43,10 +43,10 @@ MayLackAsNest {A} gives may_lack v = MayLackAsStruct 1 (GivesSomeValues (vec_ite
 pub nest_reads_back : {A : Type 0} (Fits : A → Type 0) (item : A → Item) (gives : View → A → Type 0) (faults : View → DecoderError → Type 0)
     → AlwaysReadsBack Fits item gives faults
     → AlwaysReadsBack (λ (n : Nest A). All Fits (vec_items n.0)) (λ (n : Nest A). list_of (list_of (map item (vec_items n.0)) ∷ [])) (GivesNest gives)
-        (FaultsAsNest gives faults)
+    (FaultsAsNest gives faults)
 nest_reads_back {A} Fits item gives faults law =
     let back = list_reads_back Fits item gives faults law (vec_items {X = A} {Z = Global}) in
     struct_reads_back 1 (λ (n : Nest A). All Fits (vec_items n.0)) (λ (n : Nest A). list_of (map item (vec_items n.0)) ∷ [])
-        (λ i v (n : Nest A). GivesAt (λ v xs. GivesList gives v (vec_items xs)) v i n.0)
+    (λ i v (n : Nest A). GivesAt (λ v xs. GivesList gives v (vec_items xs)) v i n.0)
     (GivesSomeValues (vec_items {X = A} {Z = Global}) gives) (by_place (λ v e. FaultsAsList gives faults v e) (λ k v e. ⊥)) (λ n. refl)
     (first_alike (λ (n : Nest A). n.0) _ _ _ _ back) (first_sound (λ (n : Nest A). n.0) _ _ _ _ back)

@@ -1,25 +1,26 @@
 -- The answers to lines of calls.
-use Rattle.std.proofs.Common.{◌≡◌, ℕ, suc, ◌+◌, ◌^◌, ◌<◌, All, subst, Bool, true, false, cond, List, [], ◌∷◌, ◌++◌, length, append-nil, codes,
-  decimal, Result, Ok, Err, IfOk, IfErr, OnOk, IsTrue, nat_lt, refl, sym, ap, ◌∙◌, arith}
+use Rattle.std.proofs.Common.{◌≡◌, ℕ, suc, ◌+◌, ◌^◌, ◌<◌, All, subst, Bool, true, false, cond, List, [], ◌∷◌, ◌++◌, length, append-nil, codes}
+use Rattle.std.proofs.Common.{decimal, Result, Ok, Err, IfOk, IfErr, OnOk, IsTrue, nat_lt, refl, sym, ap, ◌∙◌, arith}
 use Rattle.std.proofs.lemmas.Bool.Decides.{nat_tests}
 use Rattle.rlp.specs.Format.Item.{Item}
 use Rattle.rlp.specs.Format.Encoding.{join, BeginsWith, IsSized}
 use Rattle.rlp.specs.Streams.Stack.{OpenList, Stack}
 use Rattle.rlp.specs.Streams.Stream.{State, initial_state, closed_size, raw_text}
-use Rattle.rlp.specs.Streams.Calls.{Call, append, append_empty_data, append_raw, append_raw_checked, begin_list, begin_unbounded_list,
-  finalize_unbounded_list, append_internal, encode_value, clear, effect, is_admitted, after, after_from}
-use Rattle.rlp.specs.Streams.Described.{Step, DescribesWhere, by_append, by_empty_data, by_raw, by_checked_raw, by_refused_raw, by_empty_list,
-  by_list, by_unbounded_list, by_finalize, by_internal_list, by_clear, AreDescribedWhere, IsDescribedWhere, FinishAs}
+use Rattle.rlp.specs.Streams.Calls.{Call, append, append_empty_data, append_raw, append_raw_checked, begin_list, begin_unbounded_list}
+use Rattle.rlp.specs.Streams.Calls.{finalize_unbounded_list, append_internal, encode_value, clear, effect, is_admitted, after, after_from}
+use Rattle.rlp.specs.Streams.Described.{Step, DescribesWhere, by_append, by_empty_data, by_raw, by_checked_raw, by_refused_raw, by_empty_list}
+use Rattle.rlp.specs.Streams.Described.{by_list, by_unbounded_list, by_finalize, by_internal_list, by_clear, AreDescribedWhere, IsDescribedWhere}
+use Rattle.rlp.specs.Streams.Described.{FinishAs}
 use Rattle.rlp_tool.specs.declared.building.Built.{Built}
 use Rattle.rlp_tool.specs.declared.building.Built.TheVariants.{Finished, Open}
 use Rattle.rlp_tool.specs.declared.building.BuildFault.{BuildFault}
 use Rattle.rlp_tool.specs.declared.building.BuildFault.TheVariants.{TooManyItems, NothingToFinish, RawNotItems, OutOfMemory}
-use Rattle.rlp_tool.specs.Building.{AreRefused, AreTaken, BringsItems, BringsNoItems, BringsTooMany, HasNothingToFinish, StayOpen, is_raw, is_finish,
-  IsBuilt, IsRefusal}
+use Rattle.rlp_tool.specs.Building.{AreRefused, AreTaken, BringsItems, BringsNoItems, BringsTooMany, HasNothingToFinish, StayOpen, is_raw, is_finish}
+use Rattle.rlp_tool.specs.Building.{IsBuilt, IsRefusal}
 use Rattle.rlp_tool.specs.RawItems.{IsShallow, are_raw_items}
 use Rattle.rlp_tool.specs.Script.{script}
-use Rattle.rlp_tool.specs.Answer.{SaysCalls, answer, answer_within, brings_items, longest_line, text_answer, finished_answer, open_answer,
-  state_answer, refusal_name, outcome_answer, calls_answer, AppendsOutcome}
+use Rattle.rlp_tool.specs.Answer.{SaysCalls, answer, answer_within, brings_items, longest_line, text_answer, finished_answer, open_answer}
+use Rattle.rlp_tool.specs.Answer.{state_answer, refusal_name, outcome_answer, calls_answer, AppendsOutcome}
 use Rattle.rlp_tool.proofs.CallsLemmas.{Leaves}
 use Rattle.rlp_tool.proofs.SaidLemmas.{EndFinished, end_finished, length-stripped, script_said}
 use Rattle.rlp_tool.proofs.RawLemmas.{are_raw_items-join, are_raw_items-told}

@@ -1,6 +1,7 @@
 -- Calls of a stream, one after another.
-use Rattle.std.proofs.Common.{◌≡◌, ℕ, zero, suc, ◌+◌, ◌^◌, ◌<◌, ◌≤◌, Bool, true, false, cond, List, [], ◌∷◌, ◌++◌, length, map, take, drop,
-  take-append-drop, get_or, Option, Some, None, Result, Ok, Err, IfOk, IfErr, OnErr, OnOk, IsTrue, All, Vec, refl, sym, ap, ◌∙◌, nat_le, arith, subst}
+use Rattle.std.proofs.Common.{◌≡◌, ℕ, zero, suc, ◌+◌, ◌^◌, ◌<◌, ◌≤◌, Bool, true, false, cond, List, [], ◌∷◌, ◌++◌, length, map, take, drop}
+use Rattle.std.proofs.Common.{take-append-drop, get_or, Option, Some, None, Result, Ok, Err, IfOk, IfErr, OnErr, OnOk, IsTrue, All, Vec, refl, sym}
+use Rattle.std.proofs.Common.{ap, ◌∙◌, nat_le, arith, subst}
 use Rattle.std.specs.declared.alloc.Global.{Global}
 use Rattle.std.specs.List.{AllByRecursion}
 use Rattle.std.proofs.lemmas.List.Elements.{All-from_recursion}
@@ -8,11 +9,13 @@ use Rattle.rlp.specs.Format.Item.{Item, string, list, list_of}
 use Rattle.rlp.specs.Format.Encoding.{join, IsSized}
 use Rattle.rlp.specs.Streams.Stack.{OpenList, Stack, empty_stack, has_room, awaited}
 use Rattle.rlp.specs.Streams.Stream.{State, initial_state, IsFinished, put, count, put_item}
-use Rattle.rlp.specs.Streams.Calls.{Call, append, append_empty_data, append_raw, append_raw_checked, begin_list, begin_unbounded_list,
-  finalize_unbounded_list, append_internal, encode_value, clear, effect, is_admitted, is_within_size, after, after_from}
-use Rattle.rlp.specs.Streams.Described.{Step, brings, opens, finishes, clears, DescribesWhere, Describes, by_append, by_empty_data, by_raw,
-  by_checked_raw, by_refused_raw, by_empty_list, by_list, by_unbounded_list, by_finalize, by_internal_list, by_clear, AreDescribedWhere, AreDescribed,
-  IsDescribed, IsDescribedWhere, IsAny, items_after_all, joined_list, joined_stack}
+use Rattle.rlp.specs.Streams.Calls.{Call, append, append_empty_data, append_raw, append_raw_checked, begin_list, begin_unbounded_list}
+use Rattle.rlp.specs.Streams.Calls.{finalize_unbounded_list, append_internal, encode_value, clear, effect, is_admitted, is_within_size, after}
+use Rattle.rlp.specs.Streams.Calls.{after_from}
+use Rattle.rlp.specs.Streams.Described.{Step, brings, opens, finishes, clears, DescribesWhere, Describes, by_append, by_empty_data, by_raw}
+use Rattle.rlp.specs.Streams.Described.{by_checked_raw, by_refused_raw, by_empty_list, by_list, by_unbounded_list, by_finalize, by_internal_list}
+use Rattle.rlp.specs.Streams.Described.{by_clear, AreDescribedWhere, AreDescribed, IsDescribed, IsDescribedWhere, IsAny, items_after_all, joined_list}
+use Rattle.rlp.specs.Streams.Described.{joined_stack}
 use Rattle.rlp_tool.specs.declared.building.Built.{Built}
 use Rattle.rlp_tool.specs.declared.building.Built.TheVariants.{Finished, Open}
 use Rattle.rlp_tool.specs.declared.building.BuildFault.{BuildFault}
@@ -21,8 +24,8 @@ use Rattle.rlp_tool.specs.declared.calls.StreamCall.{StreamCall}
 use Rattle.rlp_tool.specs.declared.calls.StreamCall.TheVariants.{Value, Values, Raw, Begin, BeginUnbounded, Finish, Clear}
 use Rattle.rlp_tool.specs.RawItems.{AreRawItems, IsShallow}
 use Rattle.rlp_tool.specs.StreamCalls.{call_of}
-use Rattle.rlp_tool.specs.Building.{AreRefused, AreTaken, BringsItems, BringsNoItems, BringsTooMany, HasNothingToFinish, IsBuilt, IsJoined, IsRefusal,
-  AreJoined, IsFinishedAs, IsSomeStep, IsUnfit, IsHeld, takes_memory}
+use Rattle.rlp_tool.specs.Building.{AreRefused, AreTaken, BringsItems, BringsNoItems, BringsTooMany, HasNothingToFinish, IsBuilt, IsJoined, IsRefusal}
+use Rattle.rlp_tool.specs.Building.{AreJoined, IsFinishedAs, IsSomeStep, IsUnfit, IsHeld, takes_memory}
 
 -- room for k items, by what is awaited
 abbrev pub room_for : ℕ → Option ℕ → Bool

@@ -1,7 +1,7 @@
 -- Pieces of a text, cut at a byte.
-use Rattle.std.proofs.Common.{◌≡◌, ◌≢◌, IsSome, option_map, subst, ℕ, ◌+◌, ◌-◌, ◌<◌, ◌==◌, ◌&&◌, Bool, true, false, cond, nat_eq, nat_lt, List, [],
-  ◌∷◌, ◌++◌, length, take, drop, get_or, is_some, Option, Some, None, Result, Ok, Err, OnOk, refl, sym, ap, ◌∙◌, append_assoc, append-nil,
-  length-append, arith, position, filter_map}
+use Rattle.std.proofs.Common.{◌≡◌, ◌≢◌, IsSome, option_map, subst, ℕ, ◌+◌, ◌-◌, ◌<◌, ◌==◌, ◌&&◌, Bool, true, false, cond, nat_eq, nat_lt, List, []}
+use Rattle.std.proofs.Common.{◌∷◌, ◌++◌, length, take, drop, get_or, is_some, Option, Some, None, Result, Ok, Err, OnOk, refl, sym, ap, ◌∙◌}
+use Rattle.std.proofs.Common.{append_assoc, append-nil, length-append, arith, position, filter_map}
 use Rattle.std.specs.List.{slice_split, list_all, prefix_len, position_or_len, cons_option}
 use Rattle.std.proofs.lemmas.List.{drop-drop, take_all, length-drop}
 use Rattle.std.proofs.lemmas.List.Splits.{slice_split_first, slice_split_none}

@@ -1,6 +1,6 @@
 -- Lines of a text that grows at its end.
-use Rattle.std.proofs.Common.{ℕ, Option, ◌≡◌, ◌≢◌, ◌<◌, ◌≤◌, ◌==◌, subst, length-append, nat_lt, cond, Some, None, Bool, true, false, List, [], ◌∷◌,
-  ◌++◌, length, take, get_or, refl, sym, ap, ◌∙◌, append_assoc, append-nil, arith, length-take}
+use Rattle.std.proofs.Common.{ℕ, Option, ◌≡◌, ◌≢◌, ◌<◌, ◌≤◌, ◌==◌, subst, length-append, nat_lt, cond, Some, None, Bool, true, false, List, [], ◌∷◌}
+use Rattle.std.proofs.Common.{◌++◌, length, take, get_or, refl, sym, ap, ◌∙◌, append_assoc, append-nil, arith, length-take}
 use Rattle.std.proofs.Math.Seq.{take-append_seam}
 use Rattle.std.proofs.lemmas.List.{get_or-take}
 use Rattle.std.proofs.lemmas.List.Splits.{slice_split-cons_yes, slice_split-cons_no, slice_split_none, length-slice_split}

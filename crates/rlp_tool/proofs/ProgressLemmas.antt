@@ -1,6 +1,7 @@
 -- Steps of the loop over the input.
-use Rattle.std.proofs.Common.{ℕ, ◌≡◌, ◌<◌, ◌≤◌, Bool, true, false, List, [], ◌∷◌, ◌++◌, length, take, drop, get_or, nat_eq, ◌+◌, ◌-◌, ◌==◌, arith,
-  ◌≢◌, Option, Some, None, Result, Ok, Err, OnOk, OnErr, IfErr, inl, inr, refl, sym, ap, ◌∙◌, append_assoc, append-nil, subst, take-append-drop}
+use Rattle.std.proofs.Common.{ℕ, ◌≡◌, ◌<◌, ◌≤◌, Bool, true, false, List, [], ◌∷◌, ◌++◌, length, take, drop, get_or, nat_eq, ◌+◌, ◌-◌, ◌==◌, arith}
+use Rattle.std.proofs.Common.{◌≢◌, Option, Some, None, Result, Ok, Err, OnOk, OnErr, IfErr, inl, inr, refl, sym, ap, ◌∙◌, append_assoc, append-nil}
+use Rattle.std.proofs.Common.{subst, take-append-drop}
 use Rattle.std.proofs.Math.Seq.{take-append_seam}
 use Rattle.std.proofs.KnownBytes.{Appends-nil, Appends-trans, Appends-kept, Consumes-nil, Consumes-trans}
 use Rattle.std.specs.Io.KnownBytes.{Appends, Consumes, Keeps, IsAtEnd}
@@ -14,8 +15,9 @@ use Rattle.std.proofs.lemmas.List.Concat.{flat_map-append}
 use Rattle.rlp_tool.specs.Lines.{lines, ended_lines, last_piece, line_of_last, unended_line}
 use Rattle.rlp_tool.specs.Replies.{reply, replies_to, replies}
 use Rattle.rlp_tool.specs.Progress.{IsOnePiece, IsLine, IsAfter, IsServed, IsStop}
-use Rattle.rlp_tool.proofs.LinesLemmas.{ended_lines-run, last_piece-run, ended_lines-line, last_piece-line, one_piece-take, one_piece-whole,
-  is_newline, take-lines, length-ended_lines-append, length-lines-more, length-lines-begun, ended_lines-nil, last_piece-nil}
+use Rattle.rlp_tool.proofs.LinesLemmas.{ended_lines-run, last_piece-run, ended_lines-line, last_piece-line, one_piece-take, one_piece-whole}
+use Rattle.rlp_tool.proofs.LinesLemmas.{is_newline, take-lines, length-ended_lines-append, length-lines-more, length-lines-begun, ended_lines-nil}
+use Rattle.rlp_tool.proofs.LinesLemmas.{last_piece-nil}
 
 pub replies_to-append : (xs ys : List (List ℕ)) → replies_to (xs ++ ys) ≡ replies_to xs ++ replies_to ys
 unfolding replies_to

@@ -1,6 +1,6 @@
 -- Raw bytes that are items.
-use Rattle.std.proofs.Common.{◌≡◌, ℕ, zero, suc, ◌-◌, ◌^◌, ◌<◌, ◌≤◌, ◌↔◌, Bool, true, false, List, [], ◌∷◌, ◌++◌, length, map, All, refl, sym, ap,
-  ◌∙◌, subst, arith, append-nil, length-append, IsTrue, Result, Ok, Err, leb-true, pos_of_ne-zero, nat_eq, ◌&&◌}
+use Rattle.std.proofs.Common.{◌≡◌, ℕ, zero, suc, ◌-◌, ◌^◌, ◌<◌, ◌≤◌, ◌↔◌, Bool, true, false, List, [], ◌∷◌, ◌++◌, length, map, All, refl, sym, ap}
+use Rattle.std.proofs.Common.{◌∙◌, subst, arith, append-nil, length-append, IsTrue, Result, Ok, Err, leb-true, pos_of_ne-zero, nat_eq, ◌&&◌}
 use Rattle.std.specs.Str.{bytes_eq}
 use Rattle.std.proofs.lemmas.Slice.Eq.{bytes_eq-Decides}
 use Rattle.std.proofs.lemmas.Bool.Decides.{nat_tests, Decides-eqb}

@@ -1,6 +1,7 @@
 -- What a line of calls that is answered by `out` says.
-use Rattle.std.proofs.Common.{◌≡◌, ℕ, suc, ◌+◌, ◌-◌, ◌^◌, ◌<◌, ◌≤◌, ◌==◌, Bool, true, false, cond, List, [], ◌∷◌, ◌++◌, length, length-take, take,
-  drop, get_or, codes, decimal, Option, Some, None, Result, Ok, Err, IsTrue, All, option_map, position, filter_map, refl, sym, ap, ◌∙◌, subst, arith}
+use Rattle.std.proofs.Common.{◌≡◌, ℕ, suc, ◌+◌, ◌-◌, ◌^◌, ◌<◌, ◌≤◌, ◌==◌, Bool, true, false, cond, List, [], ◌∷◌, ◌++◌, length, length-take, take}
+use Rattle.std.proofs.Common.{drop, get_or, codes, decimal, Option, Some, None, Result, Ok, Err, IsTrue, All, option_map, position, filter_map, refl}
+use Rattle.std.proofs.Common.{sym, ap, ◌∙◌, subst, arith}
 use Rattle.std.specs.List.{list_all, prefix_len, cons_option, onto_first}
 use Rattle.std.specs.Str.{byte}
 use Rattle.std.specs.Str.Lines.{strip_carriage_return}
@@ -14,8 +15,8 @@ use Rattle.rlp.specs.Format.Item.{Item, string}
 use Rattle.rlp.specs.Format.Encoding.{join, BeginsWith, IsSized}
 use Rattle.rlp.specs.Streams.Stack.{OpenList}
 use Rattle.rlp.specs.Streams.Stream.{State, IsFinished}
-use Rattle.rlp.specs.Streams.Calls.{Call, append, append_empty_data, append_raw, append_raw_checked, begin_list, begin_unbounded_list,
-  finalize_unbounded_list, append_internal, encode_value, clear, effect, is_admitted, after_from}
+use Rattle.rlp.specs.Streams.Calls.{Call, append, append_empty_data, append_raw, append_raw_checked, begin_list, begin_unbounded_list}
+use Rattle.rlp.specs.Streams.Calls.{finalize_unbounded_list, append_internal, encode_value, clear, effect, is_admitted, after_from}
 use Rattle.rlp.specs.Streams.Described.{Step, brings, opens, finishes, clears, by_append, by_unbounded_list, by_finalize, by_clear, AreDescribedWhere}
 use Rattle.rlp_tool.specs.Answer.{brings_items, outcome_answer, refusal_name, state_answer}
 use Rattle.rlp_tool.specs.Building.{IsSomeStep, is_raw}

@@ -1,6 +1,6 @@
 -- Scripts: calls of a stream as text.
-use Rattle.std.specs.Prelude.{ℕ, ◌≡◌, ◌≢◌, IsSome, ◌+◌, ◌==◌, ◌++◌, codes, decimal, length, Bool, if◌then◌else◌, List, [], ◌∷◌, take, drop, is_some,
-  Option, Some, None, option_map, position, filter_map, Result, Ok, Err}
+use Rattle.std.specs.Prelude.{ℕ, ◌≡◌, ◌≢◌, IsSome, ◌+◌, ◌==◌, ◌++◌, codes, decimal, length, Bool, if◌then◌else◌, List, [], ◌∷◌, take, drop, is_some}
+use Rattle.std.specs.Prelude.{Option, Some, None, option_map, position, filter_map, Result, Ok, Err}
 use Rattle.std.specs.List.{slice_split, list_all, prefix_len}
 use Rattle.std.specs.Str.{byte}
 use Rattle.rlp.specs.Format.Item.{string}

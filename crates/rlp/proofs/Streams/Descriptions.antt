@@ -1,6 +1,6 @@
 -- What a stream writes is the join of the items that its calls describe.
-use Rattle.std.proofs.Common.{◌≡◌, ◌<◌, ◌^◌, ℕ, suc, ◌+◌, arith, length-append, Bool, true, false, cond, List, [], ◌∷◌, ◌++◌, length, map, Some, None,
-  refl, sym, ap, ◌∙◌, append-nil, Result, Ok, Err, IsTrue, not, All}
+use Rattle.std.proofs.Common.{◌≡◌, ◌<◌, ◌^◌, ℕ, suc, ◌+◌, arith, length-append, Bool, true, false, cond, List, [], ◌∷◌, ◌++◌, length, map, Some, None}
+use Rattle.std.proofs.Common.{refl, sym, ap, ◌∙◌, append-nil, Result, Ok, Err, IsTrue, not, All}
 use Rattle.std.proofs.lemmas.List.{append_cancel_left}
 use Rattle.std.proofs.lemmas.List.Concat.{flat_map-append}
 use Rattle.rlp_format.specs.Format.WrittenHeader.{big_endian, written_header}
@@ -9,9 +9,10 @@ use Rattle.rlp_format.specs.Format.Encoding.{encoding, join, IsSized}
 use Rattle.rlp_buffer.specs.Streams.Stack.{OpenList, Stack, empty_stack, stack_put, stack_shut, shut_around, stack_count, count_around, is_last}
 use Rattle.rlp_buffer.specs.Streams.Stream.{State, initial_state, list_encoding, put, count}
 use Rattle.rlp_buffer.specs.Streams.Calls.{Call, effect, is_within_size, is_admitted, after, after_from}
-use Rattle.rlp.specs.Streams.Described.{Step, one_list, items_after, items_after_all, Describes, by_append, by_empty_data, by_raw, by_checked_raw,
-  by_refused_raw, by_empty_list, by_list, by_unbounded_list, by_finalize, by_internal_list, by_clear, AreDescribed, IsDescribed, DescribesWhere,
-  AreDescribedWhere, IsDescribedWhere, joined_stack, joined_list, FinishAs}
+use Rattle.rlp.specs.Streams.Described.{Step, one_list, items_after, items_after_all, Describes, by_append, by_empty_data, by_raw, by_checked_raw}
+use Rattle.rlp.specs.Streams.Described.{by_refused_raw, by_empty_list, by_list, by_unbounded_list, by_finalize, by_internal_list, by_clear}
+use Rattle.rlp.specs.Streams.Described.{AreDescribed, IsDescribed, DescribesWhere, AreDescribedWhere, IsDescribedWhere, joined_stack, joined_list}
+use Rattle.rlp.specs.Streams.Described.{FinishAs}
 use Rattle.rlp_format.specs.Lemmas.Encodings.{encoding_list, join_same}
 use Rattle.rlp_format.specs.Lemmas.Views.{sized_items}
 
@@ -74,11 +75,11 @@ effect_joined : (s : State) {c : Call} {m : Step} → Describes s c m → (t : S
 effect_joined s (by_append x) t e = ap (λ (k : Stack ℕ). stack_count list_encoding 1 (stack_put (encoding x) k)) e ∙ one_joined x t
 effect_joined s by_empty_data t e =
     ap (λ (k : Stack ℕ). stack_count list_encoding 1 (stack_put (0x80 ∷ []) k)) e
-        ∙ ap (λ (b : List ℕ). stack_count list_encoding 1 (stack_put b (joined_stack t))) (sym empty_string) ∙ one_joined (string []) t
+    ∙ ap (λ (b : List ℕ). stack_count list_encoding 1 (stack_put b (joined_stack t))) (sym empty_string) ∙ one_joined (string []) t
 effect_joined s (by_raw xs a p) t e = ap (λ (k : Stack ℕ). stack_count list_encoding (length xs) (stack_put (join xs) k)) e ∙ brought_joined xs (length xs) t
 effect_joined s (by_checked_raw xs limit a p h) t e =
     taken (is_within_size (join xs) limit s) (count (length xs) (put (join xs) s)) s _ h
-        (ap (λ (k : Stack ℕ). stack_count list_encoding (length xs) (stack_put (join xs) k)) e ∙ brought_joined xs (length xs) t)
+    (ap (λ (k : Stack ℕ). stack_count list_encoding (length xs) (stack_put (join xs) k)) e ∙ brought_joined xs (length xs) t)
 effect_joined s (by_refused_raw b k limit h) t e = not_taken (is_within_size b limit s) (count k (put b s)) s h ∙ e
 effect_joined s by_empty_list t e = ap (λ (k : Stack ℕ). stack_count list_encoding 1 (stack_put (encoding (list_of [])) k)) e ∙ one_joined (list_of []) t
 effect_joined s (by_list n) t e = let with_list : Stack ℕ → Stack ℕ = λ k.
@@ -87,7 +88,7 @@ effect_joined s by_unbounded_list t e = let with_list : Stack ℕ → Stack ℕ 
     record { inner = []; lists = record { awaits = None; outer = k.inner } ∷ k.lists } in ap with_list e
 effect_joined s by_finalize t e =
     ap (λ (k : Stack ℕ). stack_count list_encoding 1 (stack_shut list_encoding k)) e ∙ ap (stack_count list_encoding 1) (shut_joined t)
-        ∙ count_joined 1 (stack_shut one_list t)
+    ∙ count_joined 1 (stack_shut one_list t)
 effect_joined s (by_internal_list xs) t e = ap (λ (k : Stack ℕ). stack_count list_encoding 1 (stack_put (encoding (list_of xs)) k)) e
     ∙ one_joined (list_of xs) t
 effect_joined s by_clear t e = refl

@@ -46,7 +46,7 @@ list_items item vs b fits (more, is) = (items_of_list (map item vs) b (front_siz
 
 module _ {A : Type 0} (Fits : A → Type 0) (item : A → Item) (gives : View → A → Type 0) (faults : View → DecoderError → Type 0)
     (law : AlwaysReadsBack Fits item gives faults) (vs : List A) (b : List ℕ) (fits : length b < 2 ^ 64) (all : All Fits vs)
-        (begins : BeginsWith b (encoding (list_of (map item vs)))) where
+    (begins : BeginsWith b (encoding (list_of (map item vs)))) where
   list_back : ReadsBack (λ ws. All Fits ws) (λ ws. list_of (map item ws)) (λ v ws. GivesList gives v ws) (λ v e. FaultsAsList gives faults v e) (view_of b) vs
   list_back = list_reads_back Fits item gives faults law (λ ws. ws) b vs fits all begins
 

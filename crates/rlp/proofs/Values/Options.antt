@@ -27,7 +27,7 @@ pub gives_one : {A : Type 0} (gives : View → A → Type 0) (v item : View) (le
     → left ≡ item_views v → left ≡ item ∷ others → others ≡ [] → gives item x → GivesOption gives v (Some x)
 gives_one gives v item left others x kind all first none given =
     one_value x (one_counted v item left others kind all first none)
-        (subst (λ r. IsOkAnd r (λ w. gives w x)) (first_there v item left others kind all first) given)
+    (subst (λ r. IsOkAnd r (λ w. gives w x)) (first_there v item left others kind all first) given)
 
 -- a list with a second item is at fault
 pub faulty_many : (faults : View → DecoderError → Type 0) (v item second : View) (left others more : List View) → items_fault v ≡ None
@@ -45,9 +45,15 @@ pub faulty_one : (faults : View → DecoderError → Type 0) (may_lack : View �
     → faults item e ⊎ ((e ≡ OutOfMemory) × may_lack item) → FaultsAsOption faults v e ⊎ ((e ≡ OutOfMemory) × MayLackAsOption may_lack v)
 faulty_one faults may_lack v item left others e kind all first none (inl faulty) =
     inl (faulty_item e (one_counted v item left others kind all first none)
-        (subst (λ r. MatchResult r (λ w. faults w e) (λ g. e ≡ g)) (first_there v item left others kind all first) faulty))
+    (subst (λ r. MatchResult r (λ w. faults w e) (λ g. e ≡ g)) (first_there v item left others kind all first) faulty))
 faulty_one faults may_lack v item left others e kind all first none (inr (lacks, may)) =
-    inr (lacks, record { one = one_counted v item left others kind all first none; lacks =
-        subst (λ r. IsOkAnd r (λ w. may_lack w)) (first_there v item left others kind all first) may })
+    inr (
+      lacks,
+      record {
+        one = one_counted v item left others kind all first none;
+        lacks =
+            subst (λ r. IsOkAnd r (λ w. may_lack w)) (first_there v item left others kind all first) may;
+      },
+    )
 
 pub ruleset option_answers = (gives_none, gives_one, faulty_many, faulty_other, faulty_one)

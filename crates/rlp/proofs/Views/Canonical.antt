@@ -1,6 +1,6 @@
 -- Whether bytes are the whole encoding of an item, as a walk over its items tells.
-use Rattle.std.proofs.Common.{◌≡◌, ℕ, suc, max, ◌-◌, ◌^◌, ◌<◌, ◌≤◌, ◌↔◌, Bool, true, false, List, [], ◌∷◌, ◌++◌, length, map, refl, sym, ap, ◌∙◌,
-  subst, arith, append-nil, append_assoc, length-append, IsTrue, Some, None, pos_of_ne-zero}
+use Rattle.std.proofs.Common.{◌≡◌, ℕ, suc, max, ◌-◌, ◌^◌, ◌<◌, ◌≤◌, ◌↔◌, Bool, true, false, List, [], ◌∷◌, ◌++◌, length, map, refl, sym, ap, ◌∙◌}
+use Rattle.std.proofs.Common.{subst, arith, append-nil, append_assoc, length-append, IsTrue, Some, None, pos_of_ne-zero}
 use Rattle.std.specs.List.{concat}
 use Rattle.rlp_format.specs.declared.error.DecoderError.{DecoderError}
 use Rattle.rlp_format.specs.Format.Item.{Item, Items, string, list, items_from, listed, list_of, item_depth, items_depth}
@@ -26,7 +26,7 @@ string_alone b (string s) fits kind is = (s, is)
 string_alone b (list ys) fits kind is =
     let is' : b ≡ encoding (list_of (listed ys)) = is ∙ ap encoding (sym (list_again ys)) in
     let begins : begins_as_list b ≡ true =
-        (list_shape (listed ys) b (sized_whole (list_of (listed ys)) b fits is') ([], is' ∙ sym (append-nil (encoding (list_of (listed ys)))))).0 in
+    (list_shape (listed ys) b (sized_whole (list_of (listed ys)) b fits is') ([], is' ∙ sym (append-nil (encoding (list_of (listed ys)))))).0 in
     absurd (let no : ⊥ = cc in no)
 
 pub string_canonical : (b : List ℕ) (most : ℕ) (r : Bool) → length b < 2 ^ 64 → false ≡ begins_as_list b
@@ -45,7 +45,7 @@ record IsListWithin (b : List ℕ) (most : ℕ) : Type 0 where
 list_alone : (b : List ℕ) (most : ℕ) (x : Item) → length b < 2 ^ 64 → true ≡ begins_as_list b → b ≡ encoding x → item_depth x ≤ most → IsListWithin b most
 list_alone b most (string s) fits kind is deep =
     let other : begins_as_list b ≡ false = not_list s b (sized_whole (string s) b fits is) ([], is ∙ sym (append-nil (encoding (string s)))) in
-        absurd (let no : ⊥ = cc in no)
+    absurd (let no : ⊥ = cc in no)
 list_alone b most (list ys) fits kind is deep = record {
   xs = listed ys;
   is = is ∙ ap encoding (sym (list_again ys));
@@ -79,7 +79,7 @@ pub stray_bytes : (b rest : List ℕ) (most : ℕ) (done : List Item) → length
 stray_bytes b rest most done fits kind all whole none some (x, is, deep) =
     let l = list_alone b most x fits kind is deep in
     let same : map encoding done ≡ map encoding l.xs = sym (append-nil (map encoding done)) ∙ ap (λ s. map encoding done ++ s) (sym none) ∙ all
-        ∙ listed_items b l.xs fits l.is in
+    ∙ listed_items b l.xs fits l.is in
     let joined : join done ≡ join l.xs = join_is done ∙ ap concat same ∙ sym (join_is l.xs) in
     let bytes : join done ++ rest ≡ join done = sym whole ∙ payload_joined b l.xs fits l.is ∙ sym joined in
     omega (arith, ap length bytes, length-append (join done) rest)
@@ -103,7 +103,7 @@ pub stray_item : (b rest item others : List ℕ) (most : ℕ) (done : List Item)
 stray_item b rest item others most done fits kind all parts other (x, is, deep) =
     let l = list_alone b most x fits kind is deep in
     let same : map encoding done ++ item ∷ split others ≡ map encoding l.xs = ap (λ s. map encoding done ++ s) (sym parts) ∙ all
-        ∙ listed_items b l.xs fits l.is in
+    ∙ listed_items b l.xs fits l.is in
     let (y, found, low) = one_of (map encoding done) (split others) item l.xs same in
     other (y, found, omega (arith, low, l.deep))
 
@@ -145,9 +145,11 @@ pub done_all : (b rest : List ℕ) (most : ℕ) → IsFramedItem b → true ≡ 
     → IsCanonicalWithin most b
 done_all b rest most framed kind some none is =
     let joined : payload b ≡ join is.done = is.whole ∙ ap (λ r. join is.done ++ r) none ∙ append-nil (join is.done) in
-    let positive : 0 < most = pos_of_ne-zero some in
-    (list_of is.done, whole_by b framed.header_len framed.value_len is.done (sym kind) joined framed.has_header framed.whole,
-        let deep : suc (items_depth (items_from is.done)) ≤ most = omega (arith, is.shallow) in deep)
+    let positive : 0 < most = pos_of_ne-zero some in (
+      list_of is.done,
+      whole_by b framed.header_len framed.value_len is.done (sym kind) joined framed.has_header framed.whole,
+      let deep : suc (items_depth (items_from is.done)) ≤ most = omega (arith, is.shallow) in deep,
+    )
 
 never : false ≡ true → ⊥
 never e = cc

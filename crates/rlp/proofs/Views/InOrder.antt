@@ -9,8 +9,8 @@ use Rattle.rlp_format.specs.Views.View.{View, item_at, item_count, items_fault}
 use Rattle.rlp_format.specs.declared.error.DecoderError.TheVariants.{RlpIncorrectListLen}
 use Rattle.rlp.specs.Values.FieldPlace.{IsAtPlace}
 use Rattle.rlp.specs.Values.ListReading.{FaultsAsFields, no_fields, other_count}
-use Rattle.rlp_format.specs.Lemmas.Numbered.{Numbered, item_at-past, item_at-unframed, item_count-fault, item_count-told, item_there, no_item,
-  not_told, numbered, payload-fault, told_begins}
+use Rattle.rlp_format.specs.Lemmas.Numbered.{Numbered, item_at-past, item_at-unframed, item_count-fault, item_count-told, item_there, no_item}
+use Rattle.rlp_format.specs.Lemmas.Numbered.{not_told, numbered, payload-fault, told_begins}
 use Rattle.rlp_format.proofs.Views.ItemPlaces.{fault-err, get_or-drop}
 use Rattle.rlp_format.proofs.Format.Splits.{drop-inside, drop-next, split-nil}
 use Rattle.rlp_format.proofs.Format.StrictLists.{after_items-next, after_items-none, rest-after, value-items, value-payload}

@@ -23,7 +23,7 @@ module _ {R : Type 0} (item rest : R → List ℕ) (S : R → Type 0) where
   -- what is split off joined encodings is the first, and the others are left
   pub split_off : (b : List ℕ) (r : Result R DecoderError) (x : Item) (xs : List Item) → length b < 2 ^ 64 → b ≡ join (x ∷ xs)
       → IfOk r (λ p. (frame b ≡ Ok (item p)) × S p) → IfOk r (λ p. b ≡ item p ++ rest p) → IfErr r (λ e. (frame b ≡ Err e) × (e ≡ fault b))
-          → IsOkAnd r (λ p. (item p ≡ encoding x) × (rest p ≡ join xs))
+      → IsOkAnd r (λ p. (item p ≡ encoding x) × (rest p ≡ join xs))
   split_off b (Ok p) x xs fits joined front whole fault = split_one b (item p) (rest p) x xs fits joined front.0 whole
   split_off b (Err e) x xs fits joined front whole (none, same) =
       let first : frame b ≡ Ok (encoding x) = (encoding_framed x b (front_sized x b (join xs) fits joined) (join xs, joined)).1 in

@@ -1,6 +1,6 @@
 -- What lenient views answer, and the strict fault, by the definitions of the format.
-use Rattle.std.proofs.Common.{◌≡◌, ℕ, ◌+◌, ◌^◌, ◌<◌, ⊎_elim, false, if◌then◌else◌, List, [], length, refl, sym, ap, ◌∙◌, arith, ltb, lt-ltb, le-ltb,
-  append-nil, Some, None, Result, Ok, Err}
+use Rattle.std.proofs.Common.{◌≡◌, ℕ, ◌+◌, ◌^◌, ◌<◌, ⊎_elim, false, if◌then◌else◌, List, [], length, refl, sym, ap, ◌∙◌, arith, ltb, lt-ltb, le-ltb}
+use Rattle.std.proofs.Common.{append-nil, Some, None, Result, Ok, Err}
 use Rattle.std.proofs.lemmas.Bool.{cases_Bool, cond-true, cond-false}
 use Rattle.rlp_format.specs.declared.error.DecoderError.{DecoderError}
 use Rattle.rlp_format.specs.declared.error.DecoderError.TheVariants.{RlpExpectedToBeList, RlpIsTooBig}
@@ -48,7 +48,7 @@ lenient_count b =
     ⊎_elim
     (λ kind. item_count-told (view_of b) (lenient_told b kind) ∙ sym (cond-true (begins_as_list b) (Ok (length (items b))) (Err RlpExpectedToBeList) kind))
     (λ kind. item_count-fault (view_of b) RlpExpectedToBeList (string_untold b kind)
-        ∙ sym (cond-false (begins_as_list b) (Ok (length (items b))) (Err RlpExpectedToBeList) kind))
+    ∙ sym (cond-false (begins_as_list b) (Ok (length (items b))) (Err RlpExpectedToBeList) kind))
     (cases_Bool (begins_as_list b))
 
 pub lenient_place : (b : List ℕ) (i : ℕ) → item_with_place (view_of b) i
@@ -56,7 +56,7 @@ pub lenient_place : (b : List ℕ) (i : ℕ) → item_with_place (view_of b) i
 lenient_place b i =
     ⊎_elim
     (λ kind. item_with_place-told (view_of b) i (framing b) (lenient_told b kind) refl
-        ∙ sym (cond-true (begins_as_list b) (item_by (view_of b) i (framing b)) (Err RlpExpectedToBeList) kind))
+    ∙ sym (cond-true (begins_as_list b) (item_by (view_of b) i (framing b)) (Err RlpExpectedToBeList) kind))
     (λ kind. item_with_place-fault (view_of b) i RlpExpectedToBeList (string_untold b kind)
-        ∙ sym (cond-false (begins_as_list b) (item_by (view_of b) i (framing b)) (Err RlpExpectedToBeList) kind))
+    ∙ sym (cond-false (begins_as_list b) (item_by (view_of b) i (framing b)) (Err RlpExpectedToBeList) kind))
     (cases_Bool (begins_as_list b))

@@ -1,6 +1,6 @@
 -- Values whose items are lists, and whose encodings are read back.
-use Rattle.std.proofs.Common.{◌≡◌, ◌↔◌, ℕ, ◌^◌, ◌<◌, List, [], ◌∷◌, ◌++◌, length, sym, ap, refl, subst, arith, append-nil, Option, Some, None, Result,
-  Ok, IsOkAnd, MatchResult, IfSome, map, length-append}
+use Rattle.std.proofs.Common.{◌≡◌, ◌↔◌, ℕ, ◌^◌, ◌<◌, List, [], ◌∷◌, ◌++◌, length, sym, ap, refl, subst, arith, append-nil, Option, Some, None, Result}
+use Rattle.std.proofs.Common.{Ok, IsOkAnd, MatchResult, IfSome, map, length-append}
 use Rattle.std.proofs.lemmas.List.{length-map}
 use Rattle.std.proofs.lemmas.List.{map-append}
 use Rattle.rlp_format.specs.declared.error.DecoderError.{DecoderError}
@@ -35,7 +35,7 @@ pub item_reads_back : {A : Type 0} (Fits : A → Type 0) (item : A → Item) (gi
     → ReadsBack Fits item (λ v w. GivesAt gives v i w) (λ v e. FaultsAt faults v i e) view x
 item_reads_back Fits item gives faults view i x law fit sized is =
     let back : ReadsBack Fits item gives faults (view_of (encoding (item x))) x =
-        law (encoding (item x)) x sized fit ([], sym (append-nil (encoding (item x)))) in
+    law (encoding (item x)) x sized fit ([], sym (append-nil (encoding (item x)))) in
     record {
       alike = λ w. let at = at_by gives (item_at view i) (view_of (encoding (item x))) w is in (λ g. (back.alike w).0 (at.0 g), λ h. at.1 ((back.alike w).1 h));
       no_fault = λ e h. back.no_fault e (fault_at_by faults (item_at view i) (view_of (encoding (item x))) e is h);
@@ -118,12 +118,12 @@ list_item_reads_back Fits item gives faults law before after x b fits fit (more,
     let whole : map item (before ++ x ∷ after) ≡ map item before ++ item x ∷ map item after = map-append item before (x ∷ after) in
     let is' : b ≡ encoding (list_of (map item before ++ item x ∷ map item after)) ++ more = subst (λ xs. b ≡ encoding (list_of xs) ++ more) whole is in
     let sized : IsSized (list_of (map item before ++ item x ∷ map item after)) =
-        front_sized (list_of (map item before ++ item x ∷ map item after)) b more fits is' in
+    front_sized (list_of (map item before ++ item x ∷ map item after)) b more fits is' in
     let small : length (join (map item before ++ item x ∷ map item after)) < 2 ^ 64 =
     small_payload 0xc0 (join (map item before ++ item x ∷ map item after)) (encoding (list_of (map item before ++ item x ∷ map item after)))
-        (encoding_list (map item before ++ item x ∷ map item after)) sized in
+    (encoding_list (map item before ++ item x ∷ map item after)) sized in
     let one : IsSized (item x) = middle_sized (map item before) (map item after) (item x) small in
     let there : item_at (view_of b) (length before) ≡ Ok (view_of (encoding (item x))) =
     subst (λ n. item_at (view_of b) n ≡ Ok (view_of (encoding (item x)))) (length-map before item)
-        (item_at-list_item (map item before) (map item after) (item x) b sized (more, is')) in
+    (item_at-list_item (map item before) (map item after) (item x) b sized (more, is')) in
     item_reads_back Fits item gives faults (view_of b) (length before) x law fit one there

@@ -1,6 +1,6 @@
 -- Bytes give one value of a type that is read from one string, or have one fault.
-use Rattle.std.proofs.Common.{◌≡◌, ℕ, zero, suc, ◌^◌, ◌<◌, ◌≤◌, ◌⊎◌, inl, inr, ⊎_elim, List, [], ◌∷◌, ◌++◌, length, get_or, true, false, refl, sym,
-  ap, ◌∙◌, subst, arith, Result, Ok, Err, IsUtf8}
+use Rattle.std.proofs.Common.{◌≡◌, ℕ, zero, suc, ◌^◌, ◌<◌, ◌≤◌, ◌⊎◌, inl, inr, ⊎_elim, List, [], ◌∷◌, ◌++◌, length, get_or, true, false, refl, sym}
+use Rattle.std.proofs.Common.{ap, ◌∙◌, subst, arith, Result, Ok, Err, IsUtf8}
 use Rattle.std.specs.Int.Digits.{number_from_digits}
 use Rattle.std.specs.Str.{is_utf8}
 use Rattle.std.proofs.lemmas.Bool.{cases_Bool, cases_lt, cond-true, cond-false}
@@ -14,8 +14,8 @@ use Rattle.rlp_format.specs.Format.WrittenHeader.{big_endian, written_header, Ar
 use Rattle.rlp_format.specs.Format.Encoding.{encoding, string_encoding, is_low_byte}
 use Rattle.rlp_format.specs.Format.StringReading.{IsString}
 use Rattle.rlp_format.specs.Values.Value.{FitsBytes, number_item}
-use Rattle.rlp.specs.Values.ValueReading.{GivesValue, FaultsAs, no_string, no_value, GivesNumber, IsDigitsFault, too_long, leading_zero,
-  FaultsAsNumber, GivesBytes, FaultsAsBytes, GivesText, IsTextFault, FaultsAsText, HasOneReading}
+use Rattle.rlp.specs.Values.ValueReading.{GivesValue, FaultsAs, no_string, no_value, GivesNumber, IsDigitsFault, too_long, leading_zero}
+use Rattle.rlp.specs.Values.ValueReading.{FaultsAsNumber, GivesBytes, FaultsAsBytes, GivesText, IsTextFault, FaultsAsText, HasOneReading}
 use Rattle.rlp_format.specs.Views.Text.{error_name}
 use Rattle.rlp_format.specs.Views.View.{View, HoldsString, view_string}
 use Rattle.rlp_format.specs.Lemmas.Digits.{big_endian_is, big_endian_first, big_endian_zero, pow-bytes, digits_fit, digits_again, none_is_zero}
@@ -46,7 +46,7 @@ string_bytes : (b d : List ℕ) → AreBytes b → IsString b d → AreBytes d
 unfolding encoding
 string_bytes b d bytes (rest, is) =
     All-from_recursion (λ byte. byte < 2 ^ 8) d
-        (encoded_bytes d (front_bytes (string_encoding d) rest (subst Bytes is (recursion_from_All (λ byte. byte < 2 ^ 8) b bytes))))
+    (encoded_bytes d (front_bytes (string_encoding d) rest (subst Bytes is (recursion_from_All (λ byte. byte < 2 ^ 8) b bytes))))
 
 -- ---- one reading, where the strings of values and the faulty ones are told apart
 

@@ -7,8 +7,9 @@ use Rattle.rlp_format.specs.Format.Encoding.{BeginsWith, encoding}
 use Rattle.rlp_format.specs.Format.StringReading.{IsString}
 use Rattle.rlp_format.specs.Values.Value.{FitsBytes, number_item, bit}
 use Rattle.rlp_format.specs.Format.WrittenHeader.{big_endian}
-use Rattle.rlp.specs.Values.ValueReading.{GivesValue, FaultsAs, no_string, no_value, GivesNumber, IsDigitsFault, FaultsAsNumber, GivesBytes,
-  FaultsAsBytes, GivesText, IsTextFault, FaultsAsText, IsCustom, GivesBool, FaultsAsBool, no_number, other_number, IsLengthFault, shorter, longer}
+use Rattle.rlp.specs.Values.ValueReading.{GivesValue, FaultsAs, no_string, no_value, GivesNumber, IsDigitsFault, FaultsAsNumber, GivesBytes}
+use Rattle.rlp.specs.Values.ValueReading.{FaultsAsBytes, GivesText, IsTextFault, FaultsAsText, IsCustom, GivesBool, FaultsAsBool, no_number}
+use Rattle.rlp.specs.Values.ValueReading.{other_number, IsLengthFault, shorter, longer}
 use Rattle.rlp_format.specs.Views.View.{View, HoldsItem, HoldsString, view_of}
 use Rattle.rlp.specs.Values.RoundTrip.{ReadsBack}
 use Rattle.rlp_format.specs.Lemmas.Digits.{big_endian_same}
@@ -106,8 +107,11 @@ pub bool_held_back : (view : View) (b : Bool) → length view.bytes < 2 ^ 64 →
     → ReadsBack (λ b. ⊤) (λ b. number_item (bit b)) GivesBool FaultsAsBool view b
 bool_held_back view b fits holds =
     let back : ReadsBack (FitsBytes 1) number_item (GivesNumber 1) (FaultsAsNumber 1) view (bit b) = number_held_back 1 view (bit b) fits (bit_below b) holds in
-    record { alike = λ w. (λ g. (tt, ((back.alike (bit w)).0 g).1), λ (any, same). (back.alike (bit w)).1 (bit_below w, same)); no_fault =
-        no_other view b back }
+    record {
+      alike = λ w. (λ g. (tt, ((back.alike (bit w)).0 g).1), λ (any, same). (back.alike (bit w)).1 (bit_below w, same));
+      no_fault =
+          no_other view b back;
+    }
 
 -- a number that is neither 0 nor 1 is no truth value
 pub other_bool : (v : View) (n : ℕ) (e : DecoderError) → GivesNumber 1 v n → n ≢ 0 → n ≢ 1 → IsCustom (codes "invalid boolean value") e → FaultsAsBool v e

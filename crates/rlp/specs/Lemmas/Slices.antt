@@ -1,6 +1,6 @@
 -- The items of a slice are slices.
-use Rattle.std.proofs.Common.{◌≡◌, ℕ, zero, suc, ◌^◌, ◌<◌, ◌≤◌, List, [], ◌∷◌, ◌++◌, length, map, ap, subst, arith, length-append, append_assoc, Some,
-  Ok, Err, Result, le_refl}
+use Rattle.std.proofs.Common.{◌≡◌, ℕ, zero, suc, ◌^◌, ◌<◌, ◌≤◌, List, [], ◌∷◌, ◌++◌, length, map, ap, subst, arith, length-append, append_assoc, Some}
+use Rattle.std.proofs.Common.{Ok, Err, Result, le_refl}
 use Rattle.std.specs.List.{concat, slice_get}
 use Rattle.std.proofs.lemmas.List.Elements.{All-from_recursion, recursion_from_All}
 use Rattle.rlp_format.specs.declared.error.DecoderError.{DecoderError}
@@ -22,13 +22,14 @@ part : (whole_view : View) (n : ℕ) (fs : List (List ℕ)) (left : List ℕ) (i
 part whole_view n [] left i v bytes short got = absurd (let no : ⊥ = cc in no)
 part whole_view n (f ∷ fs) left zero v bytes short got =
     let same : f ≡ v.bytes = cc in
-    let whole : (f ++ concat fs) ++ left ≡ f ++ (concat fs ++ left) = append_assoc f (concat fs) left in
-    (subst Bytes same (front_bytes f (concat fs ++ left) (subst Bytes whole bytes)),
-        omega (arith, ap length whole, length-append f (concat fs ++ left), ap length same))
+    let whole : (f ++ concat fs) ++ left ≡ f ++ (concat fs ++ left) = append_assoc f (concat fs) left in (
+      subst Bytes same (front_bytes f (concat fs ++ left) (subst Bytes whole bytes)),
+      omega (arith, ap length whole, length-append f (concat fs ++ left), ap length same),
+    )
 part whole_view n (f ∷ fs) left (suc i) v bytes short got =
     let whole : (f ++ concat fs) ++ left ≡ f ++ (concat fs ++ left) = append_assoc f (concat fs) left in
     part whole_view n fs left i v (back_bytes f (concat fs ++ left) (subst Bytes whole bytes))
-        (omega (arith, ap length whole, length-append f (concat fs ++ left))) got
+    (omega (arith, ap length whole, length-append f (concat fs ++ left))) got
 
 short_by : (b : List ℕ) (is_list : Bool) (r : Result PayloadInfo DecoderError)
     → length (payload_in is_list (map_ok (λ p. take p.value_len (drop p.header_len b)) r)) ≤ length b
@@ -52,5 +53,5 @@ part_of_items view v i bytes short is =
     let held : Bytes (payload view.bytes) = recursion_from_All (λ byte. byte < 2 ^ 8) (payload view.bytes) (payload_bytes view.bytes bytes) in
     let small : length (payload view.bytes) ≤ length view.bytes = payload_short view.bytes in
     let (front, few) = part view (length view.bytes) (split_within (length (payload view.bytes)) (payload view.bytes)) w.left i v
-        (subst Bytes w.is held) (omega (arith, ap length w.is)) got in
+    (subst Bytes w.is held) (omega (arith, ap length w.is)) got in
     (All-from_recursion (λ byte. byte < 2 ^ 8) v.bytes front, omega arith)

@@ -98,13 +98,13 @@ module _ {A : Type 0} (Fits : A → Type 0) (item : A → Item) (gives : View �
     no_list_fault all whole e (faulty_in_list is first) =
         let same : items b ≡ map encoding (map item ws) = strict_items (map item ws) b (whole_sized (list_of (map item ws)) b fits whole) whole in
         none_first ws first.before first.after first.reached e
-            (all_sound ws (recursion_from_All Fits ws all) (subst (AllByRecursion IsPart) same (item_parts b bytes fits)))
-            (sym (ap (map strict_view_of) same) ∙ first.all) first.is
+        (all_sound ws (recursion_from_All Fits ws all) (subst (AllByRecursion IsPart) same (item_parts b bytes fits)))
+        (sym (ap (map strict_view_of) same) ∙ first.all) first.is
 
   -- a list of such values, of a type of which contracts see the values, is read strictly
   pub list_strict : {B : Type 0} (values : B → List A)
       → AlwaysReadsStrictly (λ b. All Fits (values b)) (λ b. list_of (map item (values b))) (λ v b. GivesList gives v (values b))
-          (λ v e. FaultsAsList gives faults v e)
+      (λ v e. FaultsAsList gives faults v e)
   list_strict values b x bytes fits = record {
     exact = (list_whole b bytes fits (values x), λ (all, whole). list_given b bytes fits (values x) all whole);
     sound = no_list_fault b bytes fits (values x);

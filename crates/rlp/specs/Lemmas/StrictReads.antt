@@ -1,6 +1,6 @@
 -- Values that are read strictly.
-use Rattle.std.proofs.Common.{◌≡◌, ◌↔◌, ℕ, ◌^◌, ◌<◌, ⊎_elim, true, List, [], ◌∷◌, length, map, sym, ap, refl, ◌∙◌, subst, arith, IsUtf8, IfSome,
-  IsOkAnd, MatchResult, Option, Some, None, Ok, Err}
+use Rattle.std.proofs.Common.{◌≡◌, ◌↔◌, ℕ, ◌^◌, ◌<◌, ⊎_elim, true, List, [], ◌∷◌, length, map, sym, ap, refl, ◌∙◌, subst, arith, IsUtf8, IfSome}
+use Rattle.std.proofs.Common.{IsOkAnd, MatchResult, Option, Some, None, Ok, Err}
 use Rattle.std.specs.Bool.{⊤}
 use Rattle.std.proofs.lemmas.Bool.{cond-true}
 use Rattle.rlp_format.specs.declared.error.DecoderError.{DecoderError}
@@ -10,8 +10,8 @@ use Rattle.rlp_format.specs.Format.Encoding.{encoding, IsSized}
 use Rattle.rlp_format.specs.Format.Split.{begins_as_list, items}
 use Rattle.rlp_format.specs.Format.Strict.{strict_list_fault}
 use Rattle.rlp_format.specs.Values.Value.{FitsBytes, number_item, bit, option_item}
-use Rattle.rlp.specs.Values.ValueReading.{GivesValue, FaultsAs, GivesNumber, FaultsAsNumber, GivesBytes, FaultsAsBytes, GivesText, FaultsAsText,
-  GivesBool, FaultsAsBool}
+use Rattle.rlp.specs.Values.ValueReading.{GivesValue, FaultsAs, GivesNumber, FaultsAsNumber, GivesBytes, FaultsAsBytes, GivesText, FaultsAsText}
+use Rattle.rlp.specs.Values.ValueReading.{GivesBool, FaultsAsBool}
 use Rattle.rlp.specs.Values.ListReading.{GivesAt, GivesOption, no_value, one_value, FaultsAsOption, no_list, many_items, faulty_item}
 use Rattle.rlp.specs.Values.RoundTrip.{ReadsStrictly}
 use Rattle.rlp_format.specs.Views.View.{View, item_at, item_count, items_fault, strict_view_of}

@@ -1,6 +1,6 @@
 -- Structs that are lists of their fields, of types that are read strictly: they are read strictly.
-use Rattle.std.proofs.Common.{◌≡◌, ◌↔◌, ℕ, zero, suc, ◌+◌, ◌^◌, ◌<◌, List, [], ◌∷◌, ◌++◌, length, map, refl, sym, ap, ◌∙◌, subst, arith, append_assoc,
-  length-append, IsOkAnd, MatchResult, Some, None, Ok}
+use Rattle.std.proofs.Common.{◌≡◌, ◌↔◌, ℕ, zero, suc, ◌+◌, ◌^◌, ◌<◌, List, [], ◌∷◌, ◌++◌, length, map, refl, sym, ap, ◌∙◌, subst, arith, append_assoc}
+use Rattle.std.proofs.Common.{length-append, IsOkAnd, MatchResult, Some, None, Ok}
 use Rattle.std.specs.List.{slice_get}
 use Rattle.rlp_format.specs.declared.error.DecoderError.{DecoderError}
 use Rattle.rlp_format.specs.Format.Item.{Item, list_of}
@@ -59,7 +59,7 @@ module _ {A P : Type 0} (field : P → A) (Fits : A → Type 0) (item : A → It
     -- a field is given exactly by its whole encoding, and so are those after it
     pub more_exact : (giveMore : ℕ → View → P → Type 0)
         → ((i : ℕ) (view : View) (parts : List (List ℕ)) (p : P) → PartsFrom view i parts → length parts ≡ count → giveMore i view p
-            ↔ (FitMore p × (parts ≡ map encoding (more p))))
+        ↔ (FitMore p × (parts ≡ map encoding (more p))))
         → (i : ℕ) (view : View) (parts : List (List ℕ)) (p : P) → PartsFrom view i parts → length parts ≡ suc count
         → (GivesAt gives view i (field p) × giveMore (suc i) view p) ↔ ((Fits (field p) × FitMore p) × (parts ≡ map encoding (item (field p) ∷ more p)))
     more_exact giveMore later i view [] p held many = absurd (omega arith)
@@ -74,9 +74,9 @@ module _ {A P : Type 0} (field : P → A) (Fits : A → Type 0) (item : A → It
     -- a field has no fault there, and neither have those after it
     pub more_exactly_sound : (faultMore : ℕ → View → DecoderError → Type 0)
         → ((i : ℕ) (view : View) (parts : List (List ℕ)) (p : P) → PartsFrom view i parts → FitMore p → parts ≡ map encoding (more p)
-            → (k : ℕ) (e : DecoderError) → k < count → ¬ FaultsAt (faultMore k) view (i + k) e)
+        → (k : ℕ) (e : DecoderError) → k < count → ¬ FaultsAt (faultMore k) view (i + k) e)
         → (i : ℕ) (view : View) (parts : List (List ℕ)) (p : P) → PartsFrom view i parts → Fits (field p) × FitMore p
-            → parts ≡ map encoding (item (field p) ∷ more p)
+        → parts ≡ map encoding (item (field p) ∷ more p)
         → (k : ℕ) (e : DecoderError) → k < suc count → ¬ FaultsAt (by_place faults faultMore k) view (i + k) e
     more_exactly_sound faultMore later i view [] p held fits same k e few at = absurd (let no : ⊥ = cc in no)
     more_exactly_sound faultMore later i view (part ∷ parts) p (is, (bytes, (short, others))) (fit, fits) same zero e few at =
@@ -84,7 +84,7 @@ module _ {A P : Type 0} (field : P → A) (Fits : A → Type 0) (item : A → It
     more_exactly_sound faultMore later i view (part ∷ parts) p (is, (bytes, (short, others))) (fit, fits) same (suc k) e few at =
         let place : i + suc k ≡ suc i + k = omega arith in
         later (suc i) view parts p others fits (parts_same part (encoding (item (field p))) parts (map encoding (more p)) same).1 k e (omega arith)
-            (subst (λ j. FaultsAt (faultMore k) view j e) place at)
+        (subst (λ j. FaultsAt (faultMore k) view j e) place at)
 
 -- ---- the items of a strict view
 
@@ -99,9 +99,9 @@ module _ (b : List ℕ) (bytes : AreBytes b) (fits : length b < 2 ^ 64) where
   parts_from told before [] is = tt
   parts_from told before (part ∷ after) is =
       let got : slice_get (item_views (strict_view_of b)) (length before) ≡ Some (strict_view_of part) =
-          ap (λ fs. slice_get (map strict_view_of fs) (length before)) is ∙ middle_get before after part in
+      ap (λ fs. slice_get (map strict_view_of fs) (length before)) is ∙ middle_get before after part in
       let there : item_at (strict_view_of b) (length before) ≡ Ok (strict_view_of part) =
-          slice_get-item_at (strict_view_of b) (strict_view_of part) (length before) told got in
+      slice_get-item_at (strict_view_of b) (strict_view_of part) (length before) told got in
       let (held, short) = part_of_items (strict_view_of b) (strict_view_of part) (length before) bytes fits there in
       let next : length (before ++ part ∷ []) ≡ suc (length before) = omega (arith, length-append before (part ∷ [])) in
       let others = parts_from told (before ++ part ∷ []) after (is ∙ sym (append_assoc before (part ∷ []) after)) in
@@ -117,9 +117,9 @@ module _ {P : Type 0} (count : ℕ) (Fits : P → Type 0) (items_of : P → List
     (faults : ℕ → View → DecoderError → Type 0)
     (counted : (p : P) → length (items_of p) ≡ count)
     (exact : (i : ℕ) (view : View) (parts : List (List ℕ)) (p : P) → PartsFrom view i parts → length parts ≡ count → gives i view p
-        ↔ (Fits p × (parts ≡ map encoding (items_of p))))
+    ↔ (Fits p × (parts ≡ map encoding (items_of p))))
     (sound : (i : ℕ) (view : View) (parts : List (List ℕ)) (p : P) → PartsFrom view i parts → Fits p → parts ≡ map encoding (items_of p)
-        → (k : ℕ) (e : DecoderError) → k < count → ¬ FaultsAt (faults k) view (i + k) e) where
+    → (k : ℕ) (e : DecoderError) → k < count → ¬ FaultsAt (faults k) view (i + k) e) where
   module _ (b : List ℕ) (p : P) (bytes : AreBytes b) (fits : length b < 2 ^ 64) where
     struct_whole : item_count (strict_view_of b) ≡ Ok count → gives 0 (strict_view_of b) p → Fits p × (b ≡ encoding (list_of (items_of p)))
     struct_whole many given =

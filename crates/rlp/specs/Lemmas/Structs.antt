@@ -1,13 +1,13 @@
 -- Structs that are lists of their fields: their encodings are read back, and the rules for bodies that read them.
-use Rattle.std.proofs.Common.{◌≡◌, ◌↔◌, ℕ, zero, suc, ◌+◌, ◌^◌, ◌<◌, ◌⊎◌, inl, inr, List, [], ◌∷◌, ◌++◌, length, sym, ap, ◌∙◌, subst, arith,
-  append_assoc, length-append, Ok, ◌≢◌}
+use Rattle.std.proofs.Common.{◌≡◌, ◌↔◌, ℕ, zero, suc, ◌+◌, ◌^◌, ◌<◌, ◌⊎◌, inl, inr, List, [], ◌∷◌, ◌++◌, length, sym, ap, ◌∙◌, subst, arith}
+use Rattle.std.proofs.Common.{append_assoc, length-append, Ok, ◌≢◌}
 use Rattle.rlp_format.specs.declared.error.DecoderError.{DecoderError}
 use Rattle.rlp_format.specs.declared.error.DecoderError.TheVariants.{OutOfMemory, RlpIncorrectListLen}
 use Rattle.rlp_format.specs.Format.Item.{Item, list_of, items_from, listed}
 use Rattle.rlp_format.specs.Format.Encoding.{BeginsWith, encoding, join, IsSized}
 use Rattle.rlp_format.specs.Views.View.{View, view_of, item_at, item_count}
-use Rattle.rlp.specs.Values.ListReading.{FaultsAsFields, no_fields, other_count, faulty_field, FaultsAt, FaultsInField, in_field, GivesAt,
-  GivesBefore, MayLackAsStruct, MayLackAt}
+use Rattle.rlp.specs.Values.ListReading.{FaultsAsFields, no_fields, other_count, faulty_field, FaultsAt, FaultsInField, in_field, GivesAt}
+use Rattle.rlp.specs.Values.ListReading.{GivesBefore, MayLackAsStruct, MayLackAt}
 use Rattle.rlp.specs.Values.FieldPlace.{FieldPlace, field_place}
 use Rattle.rlp.specs.Values.RoundTrip.{ReadsBack}
 use Rattle.rlp_format.specs.Lemmas.Encodings.{encoding_list, small_payload, front_sized, listed_from}
@@ -38,11 +38,11 @@ pub holds_from : (before xs : List Item) (b : List ℕ) → IsSized (list_of (be
 holds_from before [] b sized begins = tt
 holds_from before (x ∷ xs) b sized begins =
     let small : length (join (before ++ x ∷ xs)) < 2 ^ 64 = small_payload 0xc0 (join (before ++ x ∷ xs)) (encoding (list_of (before ++ x ∷ xs)))
-        (encoding_list (before ++ x ∷ xs)) sized in
+    (encoding_list (before ++ x ∷ xs)) sized in
     let whole : before ++ x ∷ xs ≡ (before ++ x ∷ []) ++ xs = sym (append_assoc before (x ∷ []) xs) in
     let next : length (before ++ x ∷ []) ≡ suc (length before) = omega (arith, length-append before (x ∷ [])) in
     let others : HoldsFrom (view_of b) (length (before ++ x ∷ [])) xs =
-        holds_from (before ++ x ∷ []) xs b (subst (λ ys. IsSized (list_of ys)) whole sized) (subst (λ ys. BeginsWith b (encoding (list_of ys))) whole begins) in
+    holds_from (before ++ x ∷ []) xs b (subst (λ ys. IsSized (list_of ys)) whole sized) (subst (λ ys. BeginsWith b (encoding (list_of ys))) whole begins) in
     (item_at-list_item before xs x b sized begins, (middle_sized before xs x small, subst (λ i. HoldsFrom (view_of b) i xs) next others))
 
 -- the items of a view that begins with the encoding of a list
@@ -91,9 +91,9 @@ module _ {A P : Type 0} (field : P → A) (Fits : A → Type 0) (item : A → It
     -- a field has no fault, and neither have those after it
     pub more_sound : (count : ℕ) (faultMore : ℕ → View → DecoderError → Type 0)
         → ((i : ℕ) (view : View) (p : P) → FitMore p → HoldsFrom view i (more p) → (k : ℕ) (e : DecoderError) → k < count
-            → ¬ FaultsAt (faultMore k) view (i + k) e)
+        → ¬ FaultsAt (faultMore k) view (i + k) e)
         → (i : ℕ) (view : View) (p : P) → Fits (field p) × FitMore p → HoldsFrom view i (item (field p) ∷ more p) → (k : ℕ) (e : DecoderError)
-            → k < suc count → ¬ FaultsAt (by_place faults faultMore k) view (i + k) e
+        → k < suc count → ¬ FaultsAt (by_place faults faultMore k) view (i + k) e
     more_sound count faultMore later i view p (fit, fits) (is, (sized, others)) zero e few at = sound_by i view p (i + 0) e fit is sized (omega arith) at
     more_sound count faultMore later i view p (fit, fits) (is, (sized, others)) (suc k) e few at =
         let place : i + suc k ≡ suc i + k = omega arith in
@@ -106,7 +106,7 @@ module _ {P : Type 0} (count : ℕ) (Fits : P → Type 0) (items : P → List It
     (counted : (p : P) → length (items p) ≡ count)
     (alike : (i : ℕ) (view : View) (p : P) → Fits p → HoldsFrom view i (items p) → (q : P) → gives i view q ↔ (Fits q × (items q ≡ items p)))
     (sound : (i : ℕ) (view : View) (p : P) → Fits p → HoldsFrom view i (items p) → (k : ℕ) (e : DecoderError) → k < count
-        → ¬ FaultsAt (faults k) view (i + k) e) where
+    → ¬ FaultsAt (faults k) view (i + k) e) where
   no_struct_fault : (view : View) (p : P) → Fits p → HoldsFrom view 0 (items p) → item_count view ≡ Ok count → (e : DecoderError)
       → ¬ FaultsAsFields count (λ v e. FaultsInField count some faults v e) view e
   no_struct_fault view p fit holds is e (no_fields g none) = cc
@@ -218,8 +218,27 @@ pub count_off : (n m : ℕ) (IsFaulty : View → DecoderError → Type 0) (v : V
 count_off n m IsFaulty v is other = other_count m (sym is) other
 
 -- for bodies that read the fields of a struct, up to seventeen
-pub ruleset struct_fields = (no_fields, count_off, field_0, field_1, field_2, field_3, field_4, field_5, field_6, field_7, field_8, field_9, field_10,
-    field_11, field_12, field_13, field_14, field_15, field_16)
+pub ruleset struct_fields = (
+  no_fields,
+  count_off,
+  field_0,
+  field_1,
+  field_2,
+  field_3,
+  field_4,
+  field_5,
+  field_6,
+  field_7,
+  field_8,
+  field_9,
+  field_10,
+  field_11,
+  field_12,
+  field_13,
+  field_14,
+  field_15,
+  field_16,
+)
 
 -- a view that isn't a list of that number of items is faulty
 pub fields_off : (n : ℕ) (IsFaulty : View → DecoderError → Type 0) (v : View) (e : DecoderError) → FaultsAsFields n (λ _ _. ⊥) v e
@@ -254,7 +273,7 @@ module _ (count : ℕ) (some : ℕ → ℕ → View → Type 0) (faults : ℕ �
   next_by k w i fails many few = where_read k w i (StructFails count some faults may_lack v e) (λ same here before.
       field_fails count some faults may_lack v e k
       (subst (λ n. FaultsAt (faults k) v n e ⊎ ((e ≡ OutOfMemory) × MayLackAt (may_lack k) v n)) here
-          (subst (λ u. FaultsAt (faults k) u i e ⊎ ((e ≡ OutOfMemory) × MayLackAt (may_lack k) u i)) same fails))
+      (subst (λ u. FaultsAt (faults k) u i e ⊎ ((e ≡ OutOfMemory) × MayLackAt (may_lack k) u i)) same fails))
       many few before)
 
   -- each of the first seventeen fields, as a rule of its own
@@ -310,5 +329,23 @@ module _ (count : ℕ) (some : ℕ → ℕ → View → Type 0) (faults : ℕ �
   next_16 = next_by 16
 
 -- for bodies that read the fields of a struct in order, up to seventeen
-pub ruleset struct_in_order = (fields_off, next_0, next_1, next_2, next_3, next_4, next_5, next_6, next_7, next_8, next_9, next_10, next_11, next_12,
-    next_13, next_14, next_15, next_16)
+pub ruleset struct_in_order = (
+  fields_off,
+  next_0,
+  next_1,
+  next_2,
+  next_3,
+  next_4,
+  next_5,
+  next_6,
+  next_7,
+  next_8,
+  next_9,
+  next_10,
+  next_11,
+  next_12,
+  next_13,
+  next_14,
+  next_15,
+  next_16,
+)

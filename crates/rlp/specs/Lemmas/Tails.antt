@@ -1,6 +1,6 @@
 -- Structs whose last fields may be missing: their encodings are read back, and they are read strictly.
-use Rattle.std.proofs.Common.{◌≡◌, ◌↔◌, ℕ, zero, suc, ◌+◌, ◌^◌, ◌<◌, ◌≤◌, ◌⊎◌, inl, inr, List, [], ◌∷◌, length, map, refl, sym, ap, ◌∙◌, subst, arith,
-  Option, Some, None, Ok}
+use Rattle.std.proofs.Common.{◌≡◌, ◌↔◌, ℕ, zero, suc, ◌+◌, ◌^◌, ◌<◌, ◌≤◌, ◌⊎◌, inl, inr, List, [], ◌∷◌, length, map, refl, sym, ap, ◌∙◌, subst, arith}
+use Rattle.std.proofs.Common.{Option, Some, None, Ok}
 use Rattle.std.proofs.lemmas.List.{nil_from_length}
 use Rattle.rlp_format.specs.declared.error.DecoderError.{DecoderError}
 use Rattle.rlp_format.specs.declared.error.DecoderError.TheVariants.{OutOfMemory}
@@ -48,9 +48,11 @@ module _ {A : Type 0} (Fits : A → Type 0) (item : A → Item) (gives : View �
   first_tail_alike law i view None None xs ys FitsO FitsU givesU later fit holds many = (λ none. (none, none ∙ sym fit), λ h. h.0)
   first_tail_alike law i view None (Some w) xs ys FitsO FitsU givesU later fit holds many = let none : length xs ≡ 0 = ap length fit in
       absurd (omega (arith, many, none))
-  first_tail_alike law i view (Some x) None xs ys FitsO FitsU givesU later fit holds many =
-      (λ none. let no : length ys ≡ 0 = ap length none in absurd (omega (arith, many, no)), λ h. let no : length ys ≡ 0 = ap length h.0 in
-          absurd (omega (arith, many, no)))
+  first_tail_alike law i view (Some x) None xs ys FitsO FitsU givesU later fit holds many = (
+    λ none. let no : length ys ≡ 0 = ap length none in absurd (omega (arith, many, no)),
+    λ h. let no : length ys ≡ 0 = ap length h.0 in
+        absurd (omega (arith, many, no)),
+  )
   first_tail_alike law i view (Some x) (Some w) xs ys FitsO FitsU givesU later (fit, fits) (is, (sized, others)) many =
       let one = (first_back (λ (y : A). y) Fits item gives faults law i view x fit is sized).alike w in
       let rest = later fits others (omega (arith, many)) in (
@@ -63,7 +65,7 @@ module _ {A : Type 0} (Fits : A → Type 0) (item : A → Item) (gives : View �
       → (faultMore : ℕ → View → DecoderError → Type 0) (i : ℕ) (view : View) (o : Option A) (xs : List Item) (FitsO : Type 0)
       → (FitsO → HoldsFrom view (suc i) xs → (k : ℕ) (e : DecoderError) → k < length xs → ¬ FaultsAt (faultMore k) view (suc i + k) e)
       → FitsFirst Fits o FitsO xs → HoldsFrom view i (items_first item o xs) → (k : ℕ) (e : DecoderError) → k < length (items_first item o xs)
-          → ¬ FaultsAt (by_place faults faultMore k) view (i + k) e
+      → ¬ FaultsAt (by_place faults faultMore k) view (i + k) e
   first_tail_sound law faultMore i view None xs FitsO later fit holds k e few at = let none : length xs ≡ 0 = ap length fit in omega (arith, none, few)
   first_tail_sound law faultMore i view (Some x) xs FitsO later (fit, fits) (is, (sized, others)) zero e few at =
       sound_by (λ (y : A). y) Fits item gives faults law i view x (i + 0) e fit is sized (omega arith) at
@@ -91,19 +93,19 @@ module _ {A : Type 0} (Fits : A → Type 0) (item : A → Item) (gives : View �
   pub first_tail_exactly_sound : AlwaysReadsStrictly Fits item gives faults
       → (faultMore : ℕ → View → DecoderError → Type 0) (i : ℕ) (view : View) (parts : List (List ℕ)) (o : Option A) (xs : List Item) (FitsO : Type 0)
       → ((more : List (List ℕ)) → PartsFrom view (suc i) more → FitsO → more ≡ map encoding xs → (k : ℕ) (e : DecoderError) → k < length xs
-          → ¬ FaultsAt (faultMore k) view (suc i + k) e)
+      → ¬ FaultsAt (faultMore k) view (suc i + k) e)
       → PartsFrom view i parts → FitsFirst Fits o FitsO xs → parts ≡ map encoding (items_first item o xs) → (k : ℕ) (e : DecoderError)
-          → k < length (items_first item o xs) → ¬ FaultsAt (by_place faults faultMore k) view (i + k) e
+      → k < length (items_first item o xs) → ¬ FaultsAt (by_place faults faultMore k) view (i + k) e
   first_tail_exactly_sound law faultMore i view parts None xs FitsO later held fit same k e few at = let none : length xs ≡ 0 = ap length fit in
       omega (arith, none, few)
   first_tail_exactly_sound law faultMore i view [] (Some x) xs FitsO later held fit same k e few at = absurd (let no : ⊥ = cc in no)
   first_tail_exactly_sound law faultMore i view (part ∷ parts) (Some x) xs FitsO later (is, (bytes, (short, others))) (fit, fits) same zero e few at =
       sound_at (λ (y : A). y) Fits item gives faults law i view part x (i + 0) e is bytes short fit
-          (parts_same part (encoding (item x)) parts (map encoding xs) same).0 (omega arith) at
+      (parts_same part (encoding (item x)) parts (map encoding xs) same).0 (omega arith) at
   first_tail_exactly_sound law faultMore i view (part ∷ parts) (Some x) xs FitsO later (is, (bytes, (short, others))) (fit, fits) same (suc k) e few at =
       let place : i + suc k ≡ suc i + k = omega arith in
       later parts others fits (parts_same part (encoding (item x)) parts (map encoding xs) same).1 k e (omega arith)
-          (subst (λ j. FaultsAt (faultMore k) view j e) place at)
+      (subst (λ j. FaultsAt (faultMore k) view j e) place at)
 
 -- ---- the struct
 
@@ -128,9 +130,9 @@ module _ {P : Type 0} (least most : ℕ) (Fits : P → Type 0) (items_of : P →
   pub tailed_reads_back : ((i : ℕ) (view : View) (p : P) → Fits p → HoldsFrom view i (items_of p) → (q : P)
       → length (items_of q) ≡ length (items_of p) → gives i view q ↔ (Fits q × (items_of q ≡ items_of p)))
       → ((i : ℕ) (view : View) (p : P) → Fits p → HoldsFrom view i (items_of p) → (k : ℕ) (e : DecoderError) → k < length (items_of p)
-          → ¬ FaultsAt (faults k) view (i + k) e)
+      → ¬ FaultsAt (faults k) view (i + k) e)
       → AlwaysReadsBack Fits (λ p. list_of (items_of p)) (λ v p. (item_count v ≡ Ok (length (items_of p))) × gives 0 v p)
-          (λ v e. FaultsAsTailed least most some faults v e)
+      (λ v e. FaultsAsTailed least most some faults v e)
   tailed_reads_back alike sound b p fits fit (more, is) =
       let sized : IsSized (list_of (items_of p)) = front_sized (list_of (items_of p)) b more fits is in
       let holds : HoldsFrom (view_of b) 0 (items_of p) = holds_items (items_of p) b sized (more, is) in
@@ -147,13 +149,13 @@ module _ {P : Type 0} (least most : ℕ) (Fits : P → Type 0) (items_of : P →
   module _ (exact : (i : ℕ) (view : View) (parts : List (List ℕ)) (p : P) → PartsFrom view i parts → length parts ≡ length (items_of p)
       → gives i view p ↔ (Fits p × (parts ≡ map encoding (items_of p))))
       (sound : (i : ℕ) (view : View) (parts : List (List ℕ)) (p : P) → PartsFrom view i parts → Fits p → parts ≡ map encoding (items_of p)
-          → (k : ℕ) (e : DecoderError) → k < length (items_of p) → ¬ FaultsAt (faults k) view (i + k) e) where
+      → (k : ℕ) (e : DecoderError) → k < length (items_of p) → ¬ FaultsAt (faults k) view (i + k) e) where
     module _ (b : List ℕ) (p : P) (bytes : AreBytes b) (fits : length b < 2 ^ 64) where
       tailed_whole : item_count (strict_view_of b) ≡ Ok (length (items_of p)) → gives 0 (strict_view_of b) p → Fits p × (b ≡ encoding (list_of (items_of p)))
       tailed_whole many given =
           let told = counted_told (strict_view_of b) (length (items_of p)) many in
           let h = (exact 0 (strict_view_of b) (items b) p (parts_of_strict b bytes fits told)
-              (counted_items (strict_view_of b) (length (items_of p)) many)).0 given in
+          (counted_items (strict_view_of b) (length (items_of p)) many)).0 given in
           (h.0, whole_list b (items_of p) bytes (told_whole b told) h.1)
 
       tailed_count : b ≡ encoding (list_of (items_of p)) → item_count (strict_view_of b) ≡ Ok (length (items_of p))
@@ -172,7 +174,7 @@ module _ {P : Type 0} (least most : ℕ) (Fits : P → Type 0) (items_of : P →
       tailed_sound : Fits p → b ≡ encoding (list_of (items_of p)) → (e : DecoderError) → ¬ FaultsAsTailed least most some faults (strict_view_of b) e
       tailed_sound fit is = no_tailed_fault (strict_view_of b) p (tailed_count is)
           (λ k e within at. sound 0 (strict_view_of b) (items b) p (tailed_parts is) fit
-              (strict_items (items_of p) b (whole_sized (list_of (items_of p)) b fits is) is) k e within (zero_place k (strict_view_of b) e at))
+          (strict_items (items_of p) b (whole_sized (list_of (items_of p)) b fits is) is) k e within (zero_place k (strict_view_of b) e at))
 
     -- and is read strictly where they are
     pub tailed_strict : AlwaysReadsStrictly Fits (λ p. list_of (items_of p)) (λ v p. (item_count v ≡ Ok (length (items_of p))) × gives 0 v p)
@@ -299,5 +301,31 @@ module _ (least most : ℕ) (some : ℕ → ℕ → View → Type 0) (faults : �
   item_23 = item_by 23
 
 -- for bodies that read the fields of such a struct, up to twenty-four
-pub ruleset tailed_fields = (no_items, other_number, item_0, item_1, item_2, item_3, item_4, item_5, item_6, item_7, item_8, item_9, item_10, item_11,
-    item_12, item_13, item_14, item_15, item_16, item_17, item_18, item_19, item_20, item_21, item_22, item_23)
+pub ruleset tailed_fields = (
+  no_items,
+  other_number,
+  item_0,
+  item_1,
+  item_2,
+  item_3,
+  item_4,
+  item_5,
+  item_6,
+  item_7,
+  item_8,
+  item_9,
+  item_10,
+  item_11,
+  item_12,
+  item_13,
+  item_14,
+  item_15,
+  item_16,
+  item_17,
+  item_18,
+  item_19,
+  item_20,
+  item_21,
+  item_22,
+  item_23,
+)

@@ -63,21 +63,24 @@ module _ {A : Type 0} (Fits : A → Type 0) (item : A → Item) (gives : View �
   -- a list of such values, of a type of which contracts see the values, is read back
   pub list_reads_back : AlwaysReadsBack Fits item gives faults → {B : Type 0} (values : B → List A)
       → AlwaysReadsBack (λ b. All Fits (values b)) (λ b. list_of (map item (values b))) (λ v b. GivesList gives v (values b))
-          (λ v e. FaultsAsList gives faults v e)
+      (λ v e. FaultsAsList gives faults v e)
   list_reads_back law values b x fits all begins =
       let vs : List A = values x in
       let view : View = view_of b in
       let sized : IsSized (list_of (map item vs)) = front_sized (list_of (map item vs)) b begins.0 fits begins.1 in
       let small : length (join (map item vs)) < 2 ^ 64 = small_payload 0xc0 (join (map item vs)) (encoding (list_of (map item vs)))
-          (encoding_list (map item vs)) sized in
+      (encoding_list (map item vs)) sized in
       let are : item_views view ≡ views_of vs = item_views-list (map item vs) b sized begins ∙ map-map (λ x. view_of (encoding x)) item vs in
       let back : AllByRecursion Back vs = all_back law vs (recursion_from_All Fits vs all) small in
       record {
         alike = λ c. (
           λ g. let h = each_alike vs (values c) back (subst (λ ws. GivesEach gives ws (values c)) are g.each) in
               (All-from_recursion Fits (values c) h.0, ap list_of h.1),
-          λ (fit, same). record { is_list = refl; each = subst (λ ws. GivesEach gives ws (values c)) (sym are)
-              (each_given vs (values c) back (recursion_from_All Fits (values c) fit) (list_same (map item (values c)) (map item vs) same)) },
+          λ (fit, same). record {
+            is_list = refl;
+            each = subst (λ ws. GivesEach gives ws (values c)) (sym are)
+                (each_given vs (values c) back (recursion_from_All Fits (values c) fit) (list_same (map item (values c)) (map item vs) same));
+          },
         );
         no_fault = no_list_fault b vs are back;
       }

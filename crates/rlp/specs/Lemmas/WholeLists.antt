@@ -1,6 +1,7 @@
 -- Bytes that are a list and nothing else.
-use Rattle.std.proofs.Common.{◌≡◌, ℕ, ◌+◌, ◌^◌, ◌<◌, ◌≤◌, inl, inr, ⊎_elim, true, false, List, [], ◌∷◌, ◌++◌, length, map, take, drop, refl, sym, ap,
-  ◌∙◌, subst, arith, ltb, leb-true, le-ltb, lt-ltb, le_refl, append-nil, length-append, take_at, drop_at, Option, Some, None, Result, Ok, Err}
+use Rattle.std.proofs.Common.{◌≡◌, ℕ, ◌+◌, ◌^◌, ◌<◌, ◌≤◌, inl, inr, ⊎_elim, true, false, List, [], ◌∷◌, ◌++◌, length, map, take, drop, refl, sym, ap}
+use Rattle.std.proofs.Common.{◌∙◌, subst, arith, ltb, leb-true, le-ltb, lt-ltb, le_refl, append-nil, length-append, take_at, drop_at, Option, Some}
+use Rattle.std.proofs.Common.{None, Result, Ok, Err}
 use Rattle.std.specs.List.{concat, slice_get}
 use Rattle.std.proofs.lemmas.Bool.{cases_Bool, cases_lt, cond-true, cond-false, lt-leb}
 use Rattle.std.proofs.lemmas.List.{length-map}
@@ -37,7 +38,7 @@ head_whole (written base n more (inl is80) small) kind whole =
     let parts = t.parts in
     let high : t.first < 0xc0 = grind arith in
     let other : begins_as_list (written_header base n ++ more) ≡ false = ap (λ base. begins_as_list (written_header base n ++ more)) is80
-        ∙ ap (λ c. begins_as_list (c ++ more)) t.is ∙ lt-leb 0xc0 t.first high in
+    ∙ ap (λ c. begins_as_list (c ++ more)) t.is ∙ lt-leb 0xc0 t.first high in
     absurd (let no : ⊥ = cc in no)
 head_whole (written base n more (inr isc0) small) kind whole = record {
   inside = more;
@@ -58,7 +59,7 @@ framed_whole b (Ok p) is none = record {
   framed = is;
   all = ⊎_elim
       (λ long. let some : strict_fault_in b (Ok p) ≡ Some RlpIsTooBig = cond-true (ltb (total_len p) (length b)) _ _ (lt-ltb _ _ long) in
-          absurd (let no : ⊥ = cc in no))
+      absurd (let no : ⊥ = cc in no))
       (λ few. few)
       (cases_lt (total_len p) (length b));
 }
@@ -82,11 +83,11 @@ unfolding strict_list_fault
 whole_parts b is =
     ⊎_elim
     (λ kind. let both = first_none (strict_fault b) (fault_of_some (rest b))
-        (sym (cond-true (begins_as_list b) (first_fault (strict_fault b) (fault_of_some (rest b))) (Some RlpExpectedToBeList) kind) ∙ is) in
+    (sym (cond-true (begins_as_list b) (first_fault (strict_fault b) (fault_of_some (rest b))) (Some RlpExpectedToBeList) kind) ∙ is) in
     record { kind = kind; framed = both.0; none_left = no_bytes_by (rest b) both.1 })
     (λ kind. let no : Some RlpExpectedToBeList ≡ None =
-        sym (cond-false (begins_as_list b) (first_fault (strict_fault b) (fault_of_some (rest b))) (Some RlpExpectedToBeList) kind)
-        ∙ is in absurd (let none : ⊥ = cc in none))
+    sym (cond-false (begins_as_list b) (first_fault (strict_fault b) (fault_of_some (rest b))) (Some RlpExpectedToBeList) kind)
+    ∙ is in absurd (let none : ⊥ = cc in none))
     (cases_Bool (begins_as_list b))
 
 -- the payload is the items and what follows them
@@ -97,7 +98,7 @@ payload_parts b bytes =
     let fs = split_within (length (payload b)) (payload b) in
     w.is ∙ ap (λ s. concat (split_within (length (payload b)) (payload b)) ++ s)
     (sym (ap (drop (length (concat (split_within (length (payload b)) (payload b))))) w.is
-        ∙ drop_at (concat (split_within (length (payload b)) (payload b))) w.left (length (concat (split_within (length (payload b)) (payload b)))) refl))
+    ∙ drop_at (concat (split_within (length (payload b)) (payload b))) w.left (length (concat (split_within (length (payload b)) (payload b)))) refl))
 
 payload_inside : (b : List ℕ) (h n : ℕ) → begins_as_list b ≡ true → HasHeader b h n → h + n ≤ length b → (w : IsWhole b h n) → payload b ≡ w.inside
 unfolding payload

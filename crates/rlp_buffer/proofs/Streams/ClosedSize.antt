@@ -1,6 +1,6 @@
 -- The closed size goes by the places of the open lists.
-use Rattle.std.proofs.Common.{◌≡◌, ℕ, ◌+◌, ◌-◌, ◌*◌, ◌^◌, ◌<◌, ◌≤◌, Bool, List, [], ◌∷◌, ◌++◌, length, take, drop, replicate, reverse, refl, sym, ◌∙◌,
-  ap, subst, arith, append-nil, length-append, length-drop, ⊎_elim, suc, Option, Some, None}
+use Rattle.std.proofs.Common.{◌≡◌, ℕ, ◌+◌, ◌-◌, ◌*◌, ◌^◌, ◌<◌, ◌≤◌, Bool, List, [], ◌∷◌, ◌++◌, length, take, drop, replicate, reverse, refl, sym, ◌∙◌}
+use Rattle.std.proofs.Common.{ap, subst, arith, append-nil, length-append, length-drop, ⊎_elim, suc, Option, Some, None}
 use Rattle.std.specs.Option.{SomeIff}
 use Rattle.std.proofs.lemmas.Bool.{cases_lt}
 use Rattle.std.proofs.lemmas.List.{length-take-le, length-replicate, length-reverse}
@@ -25,11 +25,11 @@ closed_len_is start b x (p ∷ ps) h =
     let around = closed_len_is start (take p.position b) (list_encoding payload) ps h.1 in
     let below : length (take p.position b) ≡ p.position = length-take-le p.position b (omega arith) in
     let len : length payload ≡ (length b - (p.position + 1)) + length x =
-        omega (arith, length-append (drop (p.position + 1) b) x, length-drop (p.position + 1) b) in
+    omega (arith, length-append (drop (p.position + 1) b) x, length-drop (p.position + 1) b) in
     let encoded : length (list_encoding payload) ≡ header_len (length payload) + length payload =
-        length-append (written_header 0xc0 (length payload)) payload in
+    length-append (written_header 0xc0 (length payload)) payload in
     around ∙ ap (λ n. closed_len start n (length (list_encoding payload)) ps) below ∙ ap (λ n. closed_len start p.position n ps) encoded
-        ∙ ap (λ n. closed_len start p.position (header_len n + n) ps) len
+    ∙ ap (λ n. closed_len start p.position (header_len n + n) ps) len
 
 -- the closed size of a state, found from the places of its open lists
 pub closed_size_is : (start : ℕ) (b : List ℕ) (ps : List Placeholder) (m : Bool) (more : ℕ) → IsLaid start b ps
@@ -61,7 +61,7 @@ pub record Measured (start end more : ℕ) (whole : List Placeholder) (left tail
 -- one more list is measured, with its header
 pub measured_more : (start end more : ℕ) (whole : List Placeholder) (left tail : ℕ) (p : Placeholder) (ps : List Placeholder) (len header : ℕ)
     → Measured start end more whole left tail (p ∷ ps) → len ≡ (left - (p.position + 1)) + tail → header ≡ header_len len
-        → Measured start end more whole p.position (header + len) ps
+    → Measured start end more whole p.position (header + len) ps
 measured_more start end more whole left tail p ps len header h is written =
     let order = h.order in
     record {
@@ -90,7 +90,7 @@ measured_encoded start end more whole left tail p ps len header h is written =
 header_few : (len : ℕ) → len < 2 ^ 64 → header_len len ≤ 9
 header_few len small =
     ⊎_elim (λ long. let e : header_len len ≡ suc (length (big_endian len)) = ap length (written_header_long 0xc0 len long) in
-        omega (arith, big_endian_length len small))
+    omega (arith, big_endian_length len small))
     (λ short. let e : header_len len ≡ 1 = ap length (written_header_short 0xc0 len short) in omega arith)
     (cases_lt 55 len)
 
@@ -106,7 +106,7 @@ closed_len_few start more b (p ∷ ps) h small =
     let few : header_len len ≤ 9 = header_few len (omega (arith, low, below)) in
     let around = closed_len_few start (header_len len + len) (take p.position b) ps h.1 (omega (arith, low, below)) in
     let size : closed_len start p.position (header_len len + len) ps ≤ (p.position - start) + 8 * length ps + (header_len len + len) =
-        subst (λ n. closed_len start n (header_len len + len) ps ≤ (n - start) + 8 * length ps + (header_len len + len)) below around in
+    subst (λ n. closed_len start n (header_len len + len) ps ≤ (n - start) + 8 * length ps + (header_len len + len)) below around in
     omega (arith, size, few, low, below)
 
 -- and one at least
@@ -119,7 +119,7 @@ closed_len_some start more b (p ∷ ps) h =
     let len : ℕ = (length b - (p.position + 1)) + more in
     let around = closed_len_some start (header_len len + len) (take p.position b) ps h.1 in
     let size : (p.position - start) + (header_len len + len) ≤ closed_len start p.position (header_len len + len) ps =
-        subst (λ n. (n - start) + (header_len len + len) ≤ closed_len start n (header_len len + len) ps) below around in
+    subst (λ n. (n - start) + (header_len len + len) ≤ closed_len start n (header_len len + len) ps) below around in
     omega (arith, size, header_some len, low, below)
 
 -- so the size of a state is within a limit where that many bytes are
@@ -163,7 +163,7 @@ pub found_len : (start end : ℕ) (b : List ℕ) (lists : List Placeholder) (r :
 found_len start end b lists r ends is laid below few =
     let number : length (reverse lists) ≡ length lists = length-reverse lists in
     let bound : closed_len start end 0 (reverse lists) ≤ (length b - start) + 8 * length (reverse lists) + 0 =
-        rw ends (closed_len_few start 0 b (reverse lists) laid (omega (arith, number, ends))) in
+    rw ends (closed_len_few start 0 b (reverse lists) laid (omega (arith, number, ends))) in
     found r (closed_len start end 0 (reverse lists) < 2 ^ 64) (closed_len start end 0 (reverse lists)) is (omega (arith, number, bound, ends))
 
 -- nothing is closed exactly where the buffer holds the front alone

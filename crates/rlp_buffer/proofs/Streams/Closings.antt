@@ -1,9 +1,9 @@
 -- What closing does, step by step, and what counting leaves.
-use Rattle.std.proofs.Common.{◌≡◌, ℕ, zero, suc, ◌+◌, ◌-◌, ◌*◌, ◌<◌, ◌≤◌, Bool, true, false, cond, List, [], ◌∷◌, ◌++◌, length, take, drop, reverse,
-  get_or, set, Option, refl, sym, ◌∙◌, ap, subst, arith, length-append, length-drop, ⊎_elim}
+use Rattle.std.proofs.Common.{◌≡◌, ℕ, zero, suc, ◌+◌, ◌-◌, ◌*◌, ◌<◌, ◌≤◌, Bool, true, false, cond, List, [], ◌∷◌, ◌++◌, length, take, drop, reverse}
+use Rattle.std.proofs.Common.{get_or, set, Option, refl, sym, ◌∙◌, ap, subst, arith, length-append, length-drop, ⊎_elim}
 use Rattle.std.proofs.lemmas.Bool.{cases_lt}
-use Rattle.std.proofs.lemmas.List.{take-take, take-append-le, drop_at, drop-drop, drop-take, length-take-le, length_push, set_at, get_or_at,
-  take-append-drop, reverse-append, reverse-reverse}
+use Rattle.std.proofs.lemmas.List.{take-take, take-append-le, drop_at, drop-drop, drop-take, length-take-le, length_push, set_at, get_or_at}
+use Rattle.std.proofs.lemmas.List.{take-append-drop, reverse-append, reverse-reverse}
 use Rattle.rlp_buffer.specs.declared.open_lists.Placeholder.{Placeholder}
 use Rattle.rlp_format.specs.Format.WrittenHeader.{big_endian, written_header}
 use Rattle.rlp_buffer.specs.Streams.Stack.{is_last, awaits_after}
@@ -60,12 +60,12 @@ length-closed_bytes (suc n) b tail (p ∷ ps) order =
     let payload = drop (p.position + 1) b ++ tail in
     let below : length (take p.position b) ≡ p.position = length-take-le p.position b (omega (arith, order.0)) in
     let len : length payload ≡ (length b - (p.position + 1)) + length tail =
-        omega (arith, length-append (drop (p.position + 1) b) tail, length-drop (p.position + 1) b) in
+    omega (arith, length-append (drop (p.position + 1) b) tail, length-drop (p.position + 1) b) in
     let encoded : length (list_encoding payload) ≡ header_len ((length b - (p.position + 1)) + length tail) + ((length b - (p.position + 1)) + length tail) =
     length-append (written_header 0xc0 (length payload)) payload ∙ ap (λ m. header_len m + m) len in
     let around = length-closed_bytes n (take p.position b) (list_encoding payload) ps (subst (λ m. Descends m ps) (sym below) order.1) in
     let same : growth n (length (take p.position b)) (length (list_encoding payload)) ps
-        ≡ growth n p.position (header_len ((length b - (p.position + 1)) + length tail) + ((length b - (p.position + 1)) + length tail)) ps =
+    ≡ growth n p.position (header_len ((length b - (p.position + 1)) + length tail) + ((length b - (p.position + 1)) + length tail)) ps =
     ap (λ m. growth n m (length (list_encoding payload)) ps) below ∙ ap (λ m. growth n p.position m ps) encoded in
     omega (arith, order.0, below, encoded, around, same, header_some ((length b - (p.position + 1)) + length tail))
 
@@ -107,32 +107,32 @@ closes_more whole n bytes from to p ps len at low moved placed h is goes moves f
     let is_moved : moved ≡ take at bytes ++ (stretch ++ tail) = moves ∙ ap (λ t. take at bytes ++ (stretch ++ t)) ends in
     let len_payload : length (stretch ++ tail) ≡ len + (length bytes - to) = omega (arith, length-append stretch tail, len_stretch, len_tail) in
     let len_moved : length moved ≡ at + (len + (length bytes - to)) = ap length is_moved
-        ∙ omega (arith, length-append (take at bytes) (stretch ++ tail), len_front, len_payload) in
+    ∙ omega (arith, length-append (take at bytes) (stretch ++ tail), len_front, len_payload) in
     let payload_is : length moved - at ≡ length (stretch ++ tail) = omega (arith, len_moved, len_payload) in
     let heads_list : header ≡ written_header 0xc0 (length (stretch ++ tail)) = ap (λ n. written_header 0xc0 n) payload_is in
     let closed : header ++ (stretch ++ tail) ≡ list_encoding (stretch ++ tail) = ap (λ b. b ++ (stretch ++ tail)) heads_list in
     let header_is : length header ≡ header_len (len + (length bytes - to)) = ap length heads_list ∙ ap header_len len_payload in
     let low_is : p.position + growth n p.position (header_len (len + (length bytes - to)) + (len + (length bytes - to))) ps ≡ low =
-        omega (arith, room, header_is, fits) in
+    omega (arith, room, header_is, fits) in
     let rest_moved : drop at moved ≡ stretch ++ tail = ap (λ b. drop at b) is_moved ∙ drop_at (take at bytes) (stretch ++ tail) at len_front in
     let front_moved : take low moved ≡ take low bytes =
     ap (λ b. take low b) is_moved ∙ take-append-le low (take at bytes) (stretch ++ tail) (omega arith) ∙ take-take low at bytes (omega arith) in
     let is_placed : placed ≡ take low bytes ++ list_encoding (stretch ++ tail) = places ∙ ap (λ f. f ++ (header ++ drop at moved)) front_moved
-        ∙ ap (λ b. take low bytes ++ (header ++ b)) rest_moved ∙ ap (λ b. take low bytes ++ b) closed in
+    ∙ ap (λ b. take low bytes ++ (header ++ b)) rest_moved ∙ ap (λ b. take low bytes ++ b) closed in
     let len_low : length (take low bytes) ≡ low = length-take-le low bytes (omega arith) in
     let left : take p.position placed ≡ take p.position (take from bytes) =
     ap (λ b. take p.position b) is_placed ∙ take-append-le p.position (take low bytes) (list_encoding (stretch ++ tail)) (omega arith)
-        ∙ take-take p.position low bytes (omega arith) ∙ sym (take-take p.position from bytes (omega arith)) in
+    ∙ take-take p.position low bytes (omega arith) ∙ sym (take-take p.position from bytes (omega arith)) in
     let stretch_is : drop (p.position + 1) (take from bytes) ≡ stretch =
     ap (λ n. drop (p.position + 1) (take n bytes)) (let e : from ≡ (p.position + 1) + len = omega arith in e) ∙ drop-take (p.position + 1) len bytes in
     let right : drop low placed ≡ list_encoding (drop (p.position + 1) (take from bytes) ++ tail) =
     ap (λ b. drop low b) is_placed ∙ drop_at (take low bytes) (list_encoding (stretch ++ tail)) low len_low
-        ∙ ap (λ s. list_encoding (s ++ tail)) (sym stretch_is) in
+    ∙ ap (λ s. list_encoding (s ++ tail)) (sym stretch_is) in
     let len_right : length placed - low ≡ header_len (len + (length bytes - to)) + (len + (length bytes - to)) =
     let all : length placed ≡ low + length (list_encoding (stretch ++ tail)) = ap length is_placed
-        ∙ omega (arith, length-append (take low bytes) (list_encoding (stretch ++ tail)), len_low) in
+    ∙ omega (arith, length-append (take low bytes) (list_encoding (stretch ++ tail)), len_low) in
     let enc : length (list_encoding (stretch ++ tail)) ≡ header_len (length (stretch ++ tail)) + length (stretch ++ tail) =
-        length-append (written_header 0xc0 (length (stretch ++ tail))) (stretch ++ tail) in
+    length-append (written_header 0xc0 (length (stretch ++ tail))) (stretch ++ tail) in
     let same : header_len (length (stretch ++ tail)) ≡ header_len (len + (length bytes - to)) = ap header_len len_payload in
     omega (arith, all, enc, same, len_payload) in
     record {
@@ -162,8 +162,15 @@ shifted_len : (bytes : List ℕ) (begin len at : ℕ) → begin ≤ at → at + 
 shifted_len bytes begin len at forward within =
     let stretch = take len (drop begin bytes) in
     let tail = drop (at + len) bytes in
-    omega (arith, length-append (take at bytes) (stretch ++ tail), length-append stretch tail, length-take-le at bytes (omega arith),
-        length-take-le len (drop begin bytes) (omega (arith, length-drop begin bytes)), length-drop begin bytes, length-drop (at + len) bytes)
+    omega (
+      arith,
+      length-append (take at bytes) (stretch ++ tail),
+      length-append stretch tail,
+      length-take-le at bytes (omega arith),
+      length-take-le len (drop begin bytes) (omega (arith, length-drop begin bytes)),
+      length-drop begin bytes,
+      length-drop (at + len) bytes,
+    )
 
 -- the header fits between the placeholder and the stretch
 pub closes_fits : (whole : List ℕ) (n : ℕ) (bytes : List ℕ) (from to : ℕ) (p : Placeholder) (ps : List Placeholder) (len at : ℕ) (moved : List ℕ)
@@ -173,7 +180,7 @@ pub closes_fits : (whole : List ℕ) (n : ℕ) (bytes : List ℕ) (from to : ℕ
 closes_fits whole n bytes from to p ps len at moved h is goes moves =
     let room = closes_room whole n bytes from to p ps len at h is goes in
     let len_moved : length moved ≡ length bytes = ap length moves
-        ∙ shifted_len bytes (p.position + 1) len at (omega (arith, h.room)) (omega (arith, h.within)) in
+    ∙ shifted_len bytes (p.position + 1) len at (omega (arith, h.room)) (omega (arith, h.within)) in
     let payload : length moved - at ≡ len + (length bytes - to) = omega (arith, len_moved, h.within) in
     let header_is : header_len (length moved - at) ≡ header_len (len + (length bytes - to)) = ap header_len payload in
     (omega (arith, room, header_is), omega (arith, len_moved, h.within))
@@ -258,5 +265,5 @@ set_last change n lists p q some last is new =
 pub shifted_none : (bytes : List ℕ) (from len to : ℕ) → from ≡ to → bytes ≡ take to bytes ++ (take len (drop from bytes) ++ drop (to + len) bytes)
 shifted_none bytes from len to same =
     let back : take len (drop to bytes) ++ drop (to + len) bytes ≡ drop to bytes =
-        ap (λ t. take len (drop to bytes) ++ t) (sym (drop-drop len to bytes)) ∙ take-append-drop len (drop to bytes) in
+    ap (λ t. take len (drop to bytes) ++ t) (sym (drop-drop len to bytes)) ∙ take-append-drop len (drop to bytes) in
     sym (ap (λ n. take to bytes ++ (take len (drop n bytes) ++ drop (to + len) bytes)) same ∙ ap (λ t. take to bytes ++ t) back ∙ take-append-drop to bytes)

@@ -1,6 +1,6 @@
 -- How the state that a stream's bytes stand for follows what is put, opened and counted.
-use Rattle.std.proofs.Common.{◌≡◌, ℕ, zero, suc, nat_eq, nat_lt, ◌+◌, ◌<◌, ◌≤◌, Bool, true, false, IsTrue, cond, List, [], ◌∷◌, ◌++◌, length, take,
-  drop, Some, refl, sym, ◌∙◌, ap, arith, append_assoc, append-nil, length-append, length-drop, subst}
+use Rattle.std.proofs.Common.{◌≡◌, ℕ, zero, suc, nat_eq, nat_lt, ◌+◌, ◌<◌, ◌≤◌, Bool, true, false, IsTrue, cond, List, [], ◌∷◌, ◌++◌, length, take}
+use Rattle.std.proofs.Common.{drop, Some, refl, sym, ◌∙◌, ap, arith, append_assoc, append-nil, length-append, length-drop, subst}
 use Rattle.std.proofs.lemmas.Bool.{cond_both}
 use Rattle.std.proofs.lemmas.Bool.Decides.{nat_tests}
 use Rattle.std.proofs.lemmas.List.{take-take, take-append-le, drop-append-le, take_at, drop_all, length-take-le, length_push, take-append-drop}
@@ -102,9 +102,9 @@ raw_state start b (p ∷ ps) m h =
 count_laid_by : (full : Bool) (k start : ℕ) (b tail : List ℕ) (p : Placeholder) (ps : List Placeholder) → is_last k p.awaits ≡ full → IsLaid start b (p ∷ ps)
     → stack_of start (closed_bytes (filled 1 ps) (take p.position b) (list_encoding (drop (p.position + 1) b ++ tail)) ps) (counted 1 ps)
     ≡ count_around list_encoding 1 (drop (begin_of start ps) (take p.position b) ++ list_encoding (drop (p.position + 1) b ++ tail))
-        (lists_of start (take p.position b) ps)
+    (lists_of start (take p.position b) ps)
     → stack_of start (closed_bytes (filled k (p ∷ ps)) b tail (p ∷ ps)) (counted k (p ∷ ps))
-        ≡ count_around list_encoding k (drop (p.position + 1) b ++ tail) (lists_of start b (p ∷ ps))
+    ≡ count_around list_encoding k (drop (p.position + 1) b ++ tail) (lists_of start b (p ∷ ps))
 count_laid_by true k start b tail p ps e h around = rw e around
 count_laid_by false k start b tail p ps e h around =
     let within = h.0.within in
@@ -113,11 +113,11 @@ count_laid_by false k start b tail p ps e h around =
 -- closing all the lists that the count fills is counting, where `tail` was put behind the bytes
 pub count_laid : (k start : ℕ) (b tail : List ℕ) (ps : List Placeholder) → IsLaid start b ps
     → stack_of start (closed_bytes (filled k ps) b tail ps) (counted k ps)
-        ≡ count_around list_encoding k (drop (begin_of start ps) b ++ tail) (lists_of start b ps)
+    ≡ count_around list_encoding k (drop (begin_of start ps) b ++ tail) (lists_of start b ps)
 count_laid k start b tail [] h = rw (drop-append-le start b tail h) refl
 count_laid k start b tail (p ∷ ps) h =
     count_laid_by (is_last k p.awaits) k start b tail p ps refl h
-        (count_laid 1 start (take p.position b) (list_encoding (drop (p.position + 1) b ++ tail)) ps h.1)
+    (count_laid 1 start (take p.position b) (list_encoding (drop (p.position + 1) b ++ tail)) ps h.1)
 
 front_closed : (n start : ℕ) (b tail : List ℕ) (ps : List Placeholder) → IsLaid start b ps → take start (closed_bytes n b tail ps) ≡ take start b
 front_closed zero start b tail ps h = take-append-le start b tail (start_le start b ps h)
@@ -139,7 +139,7 @@ laid_counted_with : (k start : ℕ) (b tail : List ℕ) (ps : List Placeholder) 
 laid_counted_with k start b tail [] h = laid_append start b tail [] h
 laid_counted_with k start b tail (p ∷ ps) h =
     laid_counted_by (is_last k p.awaits) k start b tail p ps refl h
-        (laid_counted_with 1 start (take p.position b) (list_encoding (drop (p.position + 1) b ++ tail)) ps h.1)
+    (laid_counted_with 1 start (take p.position b) (list_encoding (drop (p.position + 1) b ++ tail)) ps h.1)
 
 -- the lists that a count leaves open are laid in what it leaves of the bytes
 pub laid_counted : (k start : ℕ) (b : List ℕ) (ps : List Placeholder) → IsLaid start b ps → IsLaid start (closed_bytes (filled k ps) b [] ps) (counted k ps)
@@ -150,7 +150,7 @@ pub state_counted : (k start : ℕ) (b : List ℕ) (ps : List Placeholder) (m n 
     → state_of start (closed_bytes (filled k ps) b [] ps) (counted k ps) n ≡ count k (state_of start b ps m)
 state_counted k start b ps m n h e =
     let stack : stack_of start (closed_bytes (filled k ps) b [] ps) (counted k ps)
-        ≡ count_around list_encoding k (drop (begin_of start ps) b) (lists_of start b ps) =
+    ≡ count_around list_encoding k (drop (begin_of start ps) b) (lists_of start b ps) =
     count_laid k start b [] ps h ∙ ap (λ payload. count_around list_encoding k payload (lists_of start b ps)) (append-nil (drop (begin_of start ps) b)) in
     rw (front_closed (filled k ps) start b [] ps h, stack, e) refl
 
@@ -187,8 +187,14 @@ length_closed (suc n) start b tail (p ∷ ps) h =
     let payload = drop (p.position + 1) b ++ tail in
     let more : length (take p.position b) + length (list_encoding payload) ≤ length (closed_bytes n (take p.position b) (list_encoding payload) ps) =
     length_closed n start (take p.position b) (list_encoding payload) ps h.1 in
-    omega (arith, more, length-take-le p.position b (omega arith), length_list_encoding payload, length-append (drop (p.position + 1) b) tail,
-        length-drop (p.position + 1) b)
+    omega (
+      arith,
+      more,
+      length-take-le p.position b (omega arith),
+      length_list_encoding payload,
+      length-append (drop (p.position + 1) b) tail,
+      length-drop (p.position + 1) b,
+    )
 
 begin_counted_by : (full : Bool) (k start : ℕ) (b : List ℕ) (p : Placeholder) (ps : List Placeholder) → is_last k p.awaits ≡ full
     → IsLaid start b (p ∷ ps) → begin_of start (counted 1 ps) ≤ left_of (filled 1 ps) p.position ps
@@ -221,7 +227,7 @@ moved_counted k start b ps n old new h moved =
     let longer : length b + 0 ≤ length after = length_closed (filled k ps) start b [] ps h in
     let low : begin ≤ left_of (filled k ps) (length b) ps = begin_counted k start b ps h in
     let inner : length (drop begin after) ≤ closed_size (state_of start after (counted k ps) n) =
-        inner_closed (drop begin after) (lists_of start after (counted k ps)) in
+    inner_closed (drop begin after) (lists_of start after (counted k ps)) in
     omega (arith, moved, longer, low, inner, length-drop begin after)
 
 -- ---- as a stream's methods cite it
@@ -237,7 +243,7 @@ pub state_put_counted : (k start : ℕ) (b x : List ℕ) (ps : List Placeholder)
     → state_of start (closed_bytes (filled k ps) (b ++ x) [] ps) (counted k ps) n ≡ count k (put x (state_of start b ps m))
 state_put_counted k start b x ps m n h e =
     state_counted k start (b ++ x) ps m n (laid_append start b x ps h) (e ∙ ap (λ ls. mark_after k ls m) (sym (lists_append start b x ps h)))
-        ∙ ap (count k) (state_put start b x ps m h)
+    ∙ ap (count k) (state_put start b x ps m h)
 
 -- a number that isn't 0 is greater
 pub not_empty : (n : ℕ) → false ≡ nat_eq n 0 → 0 < n
@@ -257,7 +263,7 @@ laid_last start b (p ∷ ps) h = (record { within = h.0.within; placeholder = h.
 -- to finalize the innermost list is to count the one item that it awaits
 pub state_finalized : (start : ℕ) (b : List ℕ) (ps : List Placeholder) (m : Bool) → IsLaid start b ps → IsTrue (is_unbounded (lists_of start b ps))
     → state_of start (closed_bytes (filled 1 (with_last ps)) b [] (with_last ps)) (counted 1 (with_last ps)) true
-        ≡ with_mark true (count 1 (shut (state_of start b ps m)))
+    ≡ with_mark true (count 1 (shut (state_of start b ps m)))
 state_finalized start b [] m h unbounded = absurd (let no : ⊥ = cc in no)
 state_finalized start b (p ∷ ps) m h unbounded =
     state_counted 1 start b (with_last (p ∷ ps)) m true (laid_last start b (p ∷ ps) h) refl

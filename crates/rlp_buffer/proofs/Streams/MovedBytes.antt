@@ -1,6 +1,6 @@
 -- Bytes that are brought to a later place, one by one from the last on.
-use Rattle.std.proofs.Common.{◌≡◌, ℕ, suc, ◌+◌, ◌≤◌, List, ◌∷◌, ◌++◌, length, take, drop, sym, ap, subst, ◌∙◌, arith, take-append-drop, length-append,
-  length-drop}
+use Rattle.std.proofs.Common.{◌≡◌, ℕ, suc, ◌+◌, ◌≤◌, List, ◌∷◌, ◌++◌, length, take, drop, sym, ap, subst, ◌∙◌, arith, take-append-drop, length-append}
+use Rattle.std.proofs.Common.{length-drop}
 use Rattle.std.proofs.Math.ListN.{set, get_or}
 use Rattle.std.proofs.Math.Seq.{take-add}
 use borrow.Rule.Slice.PartMut.{put_mid}
@@ -24,13 +24,13 @@ brought_next old bytes gap some left done more at one_less one_more same within 
     let h : Brought old bytes gap (suc left) done = subst (λ n. Brought old bytes gap n done) one_less begun in
     let byte : get_or bytes at 0 ≡ get_or old left 0 =
     sym (get_or-take (gap + suc left) bytes at 0 (omega (arith, is))) ∙ ap (λ bs. get_or bs at 0) h.front
-        ∙ get_or-take (gap + suc left) old at 0 (omega (arith, is)) ∙ ap (λ n. get_or old n 0) is in
+    ∙ get_or-take (gap + suc left) old at 0 (omega (arith, is)) ∙ ap (λ n. get_or old n 0) is in
     let place : at + gap + 1 ≡ gap + suc left = omega (arith, is) in
     let more_left : suc left ≡ left + 1 = omega arith in
     let others : drop (at + gap + 1) bytes ≡ take done (drop (left + 1) old) = ap (λ n. drop n bytes) place ∙ h.back
-        ∙ ap (λ n. take done (drop n old)) more_left in
+    ∙ ap (λ n. take done (drop n old)) more_left in
     let brought : get_or old left 0 ∷ take done (drop (left + 1) old) ≡ take (suc done) (drop left old) =
-        ap (take (suc done)) (sym (drop_more old left 0 (omega (arith, within, one_less)))) in
+    ap (take (suc done)) (sym (drop_more old left 0 (omega (arith, within, one_less)))) in
     subst (λ n. Brought old (set bytes (at + gap) (get_or bytes at 0)) gap left n) (sym one_more) (record {
       front = take-set-le (gap + left) bytes (at + gap) (get_or bytes at 0) (omega (arith, is))
           ∙ shorter (gap + left) (gap + suc left) bytes old (omega arith) h.front;
@@ -49,12 +49,12 @@ moved_up b new from len to k gap place within whole moves =
     let stretch : take len (take k rest) ≡ take len rest = take-take len k rest (omega arith) in
     let is : new ≡ take gap rest ++ take len rest = moves ∙ ap (λ bs. bs ++ take len (take k rest)) gaps ∙ ap (λ bs. take gap rest ++ bs) stretch in
     let long : length new ≡ k = omega
-        (arith, ap length is, length-append (take gap rest) (take len rest), length-take-le gap rest (omega arith), length-take-le len rest (omega arith)) in
+    (arith, ap length is, length-append (take gap rest) (take len rest), length-take-le gap rest (omega arith), length-take-le len rest (omega arith)) in
     let before : take from b ++ take gap rest ≡ take to b = sym (take-add from gap b) ∙ ap (λ n. take n b) place in
     let front : take (to + len) (put_mid from k b new) ≡ take to b ++ take len rest =
     take-put_mid from k b new (to + len) (omega arith) (omega arith) ∙ ap (λ bs. take from b ++ bs) is
-        ∙ sym (append_assoc (take from b) (take gap rest) (take len rest)) ∙ ap (λ bs. bs ++ take len rest) before in
+    ∙ sym (append_assoc (take from b) (take gap rest) (take len rest)) ∙ ap (λ bs. bs ++ take len rest) before in
     let back : drop (to + len) (put_mid from k b new) ≡ drop (to + len) b = drop-put_mid from k b new (to + len) (omega arith) (omega arith) long in
     sym (take-append-drop (to + len) (put_mid from k b new)) ∙ ap (λ bs. bs ++ drop (to + len) (put_mid from k b new)) front
-        ∙ ap (λ bs. (take to b ++ take len rest) ++ bs) back
+    ∙ ap (λ bs. (take to b ++ take len rest) ++ bs) back
     ∙ append_assoc (take to b) (take len rest) (drop (to + len) b)

@@ -1,6 +1,6 @@
 -- The room of a stream, by that of its buffer and of its open lists.
-use Rattle.std.proofs.Common.{◌≡◌, ℕ, ◌+◌, ◌-◌, ◌^◌, ◌<◌, ◌≤◌, ◌⊎◌, Bool, List, [], ◌∷◌, ◌++◌, Option, length, sym, ◌∙◌, ap, arith, append-nil,
-  length-append, ⊎_elim, inl, inr, refl, true, IsTrue}
+use Rattle.std.proofs.Common.{◌≡◌, ℕ, ◌+◌, ◌-◌, ◌^◌, ◌<◌, ◌≤◌, ◌⊎◌, Bool, List, [], ◌∷◌, ◌++◌, Option, length, sym, ◌∙◌, ap, arith, append-nil}
+use Rattle.std.proofs.Common.{length-append, ⊎_elim, inl, inr, refl, true, IsTrue}
 use Rattle.std.proofs.lemmas.Bool.{cond_both}
 use Rattle.std.proofs.lemmas.List.{take-append-drop}
 use Rattle.rlp_format.specs.Format.Item.{Item, string, list}
@@ -8,8 +8,8 @@ use Rattle.rlp_format.specs.Format.Encoding.{encoding}
 use Rattle.rlp_format.specs.Format.WrittenHeader.{written_header}
 use Rattle.rlp_buffer.specs.declared.open_lists.Placeholder.{Placeholder}
 use Rattle.rlp_buffer.specs.Streams.Stack.{OpenList, Stack, mark_after, is_unbounded, is_last, awaits_after, count_around}
-use Rattle.rlp_buffer.specs.Streams.Stream.{State, Seen, Retains, HasRoomFor, IsFinished, raw_text, list_encoding, put, put_item, add, shut,
-  with_list, with_mark, count}
+use Rattle.rlp_buffer.specs.Streams.Stream.{State, Seen, Retains, HasRoomFor, IsFinished, raw_text, list_encoding, put, put_item, add, shut}
+use Rattle.rlp_buffer.specs.Streams.Stream.{with_list, with_mark, count}
 use Rattle.rlp_buffer.specs.Streams.Placeholders.{lists_of, IsLaid}
 use Rattle.rlp_buffer.specs.Streams.Closing.{filled, counted, closed_bytes, growth}
 use Rattle.rlp_buffer.specs.Streams.Layout.{state_of}
@@ -51,7 +51,7 @@ retains_laid start start' b b' ps ps' m m' spare spare' capacity capacity' moved
 short_of : (k start : ℕ) (b : List ℕ) (ps : List Placeholder) (n : Bool) (v : Seen) (more : ℕ) (t : State) → IsLaid start b ps
     → length (raw_text v.state) + more ≡ length b
     → state_of start (closed_bytes (filled k ps) b [] ps) (counted k ps) n ≡ t → (2 ^ 63 ≤ length b)
-        ⊎ (v.spare < more + growth (filled k ps) (length b) 0 ps) → HasRoomFor v t → ⊥
+    ⊎ (v.spare < more + growth (filled k ps) (length b) 0 ps) → HasRoomFor v t → ⊥
 short_of k start b ps n v more t laid before is short has =
     let after = closed_bytes (filled k ps) b [] ps in
     let size = length-closed_bytes (filled k ps) b [] ps (laid_descends start b ps laid) in
@@ -103,9 +103,18 @@ raw_count k f p (l ∷ ls) m =
     let counted_in = λ (awaits : Option ℕ). ap length (raw_text-put p (with_list awaits around) ∙ ap (λ b. b ++ p) (raw_text-with_list awaits around)) in
     let put_list = ap length (raw_text-put (list_encoding p) around) in
     cond_both (is_last k l.awaits) _ _
-        (λ (s : Stack ℕ). length (raw_text (state_with f m (record { inner = p; lists = l ∷ ls }))) ≤ length (raw_text (state_with f m s)))
-    (λ _. omega (arith, closed, counted_in l.awaits, put_list, length-append (raw_text around ++ 0 ∷ []) p, length-append (raw_text around) (0 ∷ []),
-        length-append (raw_text around) (list_encoding p), length-append (written_header 0xc0 (length p)) p, header_some (length p)))
+    (λ (s : Stack ℕ). length (raw_text (state_with f m (record { inner = p; lists = l ∷ ls }))) ≤ length (raw_text (state_with f m s)))
+    (λ _. omega (
+      arith,
+      closed,
+      counted_in l.awaits,
+      put_list,
+      length-append (raw_text around ++ 0 ∷ []) p,
+      length-append (raw_text around) (0 ∷ []),
+      length-append (raw_text around) (list_encoding p),
+      length-append (written_header 0xc0 (length p)) p,
+      header_some (length p),
+    ))
     (λ _. omega (arith, counted_in l.awaits, counted_in (awaits_after k l.awaits)))
 
 -- a stream with room for an item that is added has room for it put

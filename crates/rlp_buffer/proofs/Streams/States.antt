@@ -1,6 +1,6 @@
 -- What moves do to the texts of a stream's state.
-use Rattle.std.proofs.Common.{◌≡◌, ℕ, ◌+◌, ◌<◌, ◌≤◌, ◌^◌, nat_le, arith, Bool, true, false, cond, List, [], ◌∷◌, ◌++◌, length, replicate, flat_map,
-  Option, refl, sym, ap, ◌∙◌, append-nil, append_assoc, length-append}
+use Rattle.std.proofs.Common.{◌≡◌, ℕ, ◌+◌, ◌<◌, ◌≤◌, ◌^◌, nat_le, arith, Bool, true, false, cond, List, [], ◌∷◌, ◌++◌, length, replicate, flat_map}
+use Rattle.std.proofs.Common.{Option, refl, sym, ap, ◌∙◌, append-nil, append_assoc, length-append}
 use Rattle.std.proofs.lemmas.Bool.Decides.{nat_tests}
 use Rattle.std.proofs.lemmas.List.{length-replicate}
 use Rattle.std.proofs.lemmas.List.Concat.{flat_map-append}
@@ -9,8 +9,8 @@ use Rattle.rlp_format.specs.Format.WrittenHeader.{written_header}
 use Rattle.rlp_format.specs.Format.Encoding.{encoding}
 use Rattle.rlp_buffer.specs.Streams.Stack.{OpenList, Level, Stack, top_around, levels_around, closed_payload_around, count_around, is_last}
 use Rattle.rlp_buffer.specs.Streams.Calls.{effect, finalize_unbounded_list, is_within_size}
-use Rattle.rlp_buffer.specs.Streams.Stream.{State, IsFinished, list_encoding, put, shut, count, with_list, add, put_item, is_list, raw_text,
-  closed_text, closed_size, closed_size_with}
+use Rattle.rlp_buffer.specs.Streams.Stream.{State, IsFinished, list_encoding, put, shut, count, with_list, add, put_item, is_list, raw_text}
+use Rattle.rlp_buffer.specs.Streams.Stream.{closed_text, closed_size, closed_size_with}
 
 -- ---- what is closed
 
@@ -58,7 +58,7 @@ pub closed_size-put : (x : List ℕ) (s : State) → closed_size (put x s) ≡ c
 closed_size-put x s =
     length-closed_payload_around (s.stack.inner ++ x) (s.stack.inner ++ replicate (length x) 0) s.stack.lists
     (length-append s.stack.inner x ∙ ap (λ n. length s.stack.inner + n) (sym (length-replicate (length x) 0))
-        ∙ sym (length-append s.stack.inner (replicate (length x) 0)))
+    ∙ sym (length-append s.stack.inner (replicate (length x) 0)))
 
 -- finalizing a list closes it, and counts it in the list around
 pub size_kept : (s t : State) → t ≡ effect finalize_unbounded_list s → closed_size t ≡ closed_size s
@@ -104,9 +104,9 @@ levels_bytes = flat_map (λ (l : Level ℕ). 0 ∷ l.payload)
 levels_last : (top : List ℕ) (around : List (Level ℕ)) (l : Level ℕ) → top ++ levels_bytes (around ++ l ∷ []) ≡ (top ++ levels_bytes around) ++ (0 ∷ l.payload)
 levels_last top around l =
     let split : levels_bytes (around ++ l ∷ []) ≡ levels_bytes around ++ ((0 ∷ l.payload) ++ []) =
-        flat_map-append (λ (l : Level ℕ). 0 ∷ l.payload) around (l ∷ []) in
+    flat_map-append (λ (l : Level ℕ). 0 ∷ l.payload) around (l ∷ []) in
     let whole : levels_bytes (around ++ l ∷ []) ≡ levels_bytes around ++ (0 ∷ l.payload) = split
-        ∙ ap (λ (b : List ℕ). levels_bytes around ++ b) (append-nil (0 ∷ l.payload)) in
+    ∙ ap (λ (b : List ℕ). levels_bytes around ++ b) (append-nil (0 ∷ l.payload)) in
     ap (λ (b : List ℕ). top ++ b) whole ∙ sym (append_assoc top (levels_bytes around) (0 ∷ l.payload))
 
 raw_put_around : (f p x : List ℕ) (ls : List (OpenList ℕ)) → f ++ (top_around (p ++ x) ls ++ levels_bytes (levels_around (p ++ x) ls))
@@ -139,7 +139,7 @@ raw_text-with_list awaits s =
 
 add_with : (x : Item) (f p : List ℕ) (ls : List (OpenList ℕ)) (m : Bool) → ls ≡ []
     → add x (record { front = f; stack = record { inner = p; lists = ls }; mark = m })
-        ≡ record { front = f; stack = record { inner = p ++ encoding x; lists = [] }; mark = is_list x }
+    ≡ record { front = f; stack = record { inner = p ++ encoding x; lists = [] }; mark = is_list x }
 add_with (string t) f p [] m e = refl
 add_with (list xs) f p [] m e = refl
 add_with x f p (l ∷ ls) m e = absurd (let no : ⊥ = cc in no)

@@ -1,6 +1,6 @@
 -- Headers and strings as they are written.
-use Rattle.std.proofs.Common.{◌≡◌, ℕ, ◌+◌, ◌-◌, ◌<◌, ◌≤◌, List, ◌∷◌, [], ◌++◌, length, take, drop, length-append, length-drop, append-nil, true,
-  false, refl, sym, ap, ◌∙◌, arith, add-one, append_assoc}
+use Rattle.std.proofs.Common.{◌≡◌, ℕ, ◌+◌, ◌-◌, ◌<◌, ◌≤◌, List, ◌∷◌, [], ◌++◌, length, take, drop, length-append, length-drop, append-nil, true}
+use Rattle.std.proofs.Common.{false, refl, sym, ap, ◌∙◌, arith, add-one, append_assoc}
 use Rattle.std.proofs.lemmas.Bool.{cond-true, cond-false}
 use Rattle.std.proofs.lemmas.List.{drop-set, take-append-le, take-take, drop_at, drop_all, length-take-le, take-append-drop, take_all}
 use Rattle.std.specs.Prelude.{slice_set}
@@ -27,7 +27,7 @@ header_set base n zeros first bytes long digits len within is =
     let value : first ≡ base + 55 + length (big_endian n) = omega arith in
     let after : drop (zeros + 1) (0 ∷ bytes) ≡ drop zeros bytes = rw add-one refl in
     drop-set (0 ∷ bytes) zeros first (omega arith) ∙ ap (λ ds. first ∷ ds) (after ∙ digits) ∙ ap (λ d. d ∷ big_endian n) value
-        ∙ sym (written_header_long base n long)
+    ∙ sym (written_header_long base n long)
 
 -- header and string, one after the other, behind what was there
 pub header_and_string : (old s : List ℕ) → is_low_byte s ≡ false → (old ++ written_header 0x80 (length s)) ++ s ≡ old ++ encoding (string s)

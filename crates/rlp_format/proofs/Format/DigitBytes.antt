@@ -1,6 +1,6 @@
 -- Digits of numbers as they are read and written: the number of two parts, and the last bytes of a number, highest first.
-use Rattle.std.proofs.Common.{◌≡◌, ℕ, zero, suc, ◌+◌, ◌*◌, ◌/◌, ◌%◌, ◌^◌, ◌<◌, ◌≤◌, List, [], ◌∷◌, ◌++◌, length, take, drop, length-take, length-drop,
-  take-append-drop, refl, sym, ap, ◌∙◌, arith}
+use Rattle.std.proofs.Common.{◌≡◌, ℕ, zero, suc, ◌+◌, ◌*◌, ◌/◌, ◌%◌, ◌^◌, ◌<◌, ◌≤◌, List, [], ◌∷◌, ◌++◌, length, take, drop, length-take, length-drop}
+use Rattle.std.proofs.Common.{take-append-drop, refl, sym, ap, ◌∙◌, arith}
 use Rattle.std.proofs.Math.Nat.{pow-suc, pow-succ', one-le-pow, div-div-eq-div-mul, pow-le-pow_right}
 use Rattle.std.proofs.lemmas.Nat.{div_below, le-div, leading_top}
 use Rattle.std.proofs.lemmas.List.Elements.{All-take}
@@ -28,7 +28,7 @@ number_after n (d ∷ ds) =
     let power : 256 ^ suc (length ds) ≡ 256 ^ length ds * 256 = pow-suc 256 (length ds) in
     let powers : n * 256 ^ suc (length ds) ≡ n * (256 ^ length ds * 256) = ap (λ p. n * p) power in
     moved n d (256 ^ length ds) (number_from_digits 256 ds) (number_from_digits_after 256 (n * 256 + d) ds)
-        (number_from_digits_after 256 (0 * 256 + d) ds) more first
+    (number_from_digits_after 256 (0 * 256 + d) ds) more first
     ∙ ap (λ p. p + number_from_digits 256 (d ∷ ds)) (sym powers)
 
 -- the number of more than eight digits, by that of the last eight and that of the others
@@ -37,7 +37,7 @@ pub number-halves : (ds : List ℕ) (k : ℕ) → k + 8 ≡ length ds → number
 number-halves ds k e =
     let low : length (drop k ds) ≡ 8 = omega (arith, length-drop k ds) in
     ap (number_from_digits 256) (sym (take-append-drop k ds)) ∙ number_after_append 256 0 (take k ds) (drop k ds)
-        ∙ number_after (number_from_digits 256 (take k ds)) (drop k ds)
+    ∙ number_after (number_from_digits 256 (take k ds)) (drop k ds)
     ∙ ap (λ n. number_from_digits 256 (take k ds) * 256 ^ n + number_from_digits 256 (drop k ds)) low
 
 pub ruleset halves = (number-halves)
@@ -89,7 +89,7 @@ some_bytes m n some small =
     let all : zeros + suc k ≡ m = omega arith in
     let least : 256 ^ k ≤ n = let le : 2 ^ (8 * k) ≤ 2 ^ j = pow-le-pow_right (omega arith) (omega arith) in omega (arith, le, pow-bytes k, top.2) in
     let below : n < 256 ^ suc k = let le : 2 ^ suc j ≤ 2 ^ (8 * suc k) = pow-le-pow_right (omega arith) (omega arith) in
-        omega (arith, le, pow-bytes (suc k), top.3) in
+    omega (arith, le, pow-bytes (suc k), top.3) in
     let digits : bytes_high_first (suc k) n ≡ big_endian n = digits_high_first k n least below in
     let number : length (big_endian n) ≡ suc k = ap length (sym digits) ∙ length-bytes_high_first (suc k) n in
     record { digits = drop-bytes_high_first zeros (suc k) m n all ∙ digits; len = omega (arith, number, all) }
@@ -104,8 +104,11 @@ leading_bytes : (m n : ℕ) → n < 2 ^ (8 * m) → LeadingBytes m n
 leading_bytes m zero small =
     let all : count_leading_zeros (8 * m) 0 ≡ 8 * m = leading_of_zero (8 * m) in
     let bytes : count_leading_zeros (8 * m) 0 / 8 ≡ m = ap (λ z. z / 8) all ∙ no_bytes m in
-    record { digits = ap (λ z. drop z (bytes_high_first m 0)) bytes ∙ drop_bytes m 0
-        ∙ sym big_endian_zero; len = omega (arith, bytes, ap length big_endian_zero) }
+    record {
+      digits = ap (λ z. drop z (bytes_high_first m 0)) bytes ∙ drop_bytes m 0
+          ∙ sym big_endian_zero;
+      len = omega (arith, bytes, ap length big_endian_zero);
+    }
 leading_bytes m (suc n) small = some_bytes m (suc n) (omega arith) small
 
 -- behind the zeros in front, the eight bytes of a number are its digits

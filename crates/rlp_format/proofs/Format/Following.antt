@@ -1,6 +1,6 @@
 -- Bytes that follow a framed item make no difference to what is read of it.
-use Rattle.std.proofs.Common.{◌≡◌, ℕ, ◌<◌, Bool, true, false, List, [], ◌∷◌, ◌++◌, length, take, drop, Result, Ok, Err, refl, sym, ap, ◌∙◌, arith,
-  length-append, length-drop, subst, take-append-drop, ◌≤◌}
+use Rattle.std.proofs.Common.{◌≡◌, ℕ, ◌<◌, Bool, true, false, List, [], ◌∷◌, ◌++◌, length, take, drop, Result, Ok, Err, refl, sym, ap, ◌∙◌, arith}
+use Rattle.std.proofs.Common.{length-append, length-drop, subst, take-append-drop, ◌≤◌}
 use Rattle.std.proofs.lemmas.List.{take-append-le, drop-append-le}
 use Rattle.rlp_format.specs.declared.error.DecoderError.{DecoderError}
 use Rattle.rlp_format.specs.declared.header.PayloadInfo.{PayloadInfo}
@@ -28,7 +28,7 @@ value-followed f more is =
     let n = is.value_len in
     let behind : drop h (f ++ more) ≡ drop h f ++ more = drop-append-le h f more (omega arith) in
     let same : take n (drop h (f ++ more)) ≡ take n (drop h f) = ap (λ b. take n b) behind
-        ∙ take-append-le n (drop h f) more (omega (arith, length-drop h f)) in
+    ∙ take-append-le n (drop h f) more (omega (arith, length-drop h f)) in
     value_is (f ++ more) h n (longer more is.has_header) (omega (arith, length-append f more))
     ∙ ap Ok same ∙ sym (value_is f h n is.has_header (omega arith))
 

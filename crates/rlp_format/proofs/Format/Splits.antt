@@ -1,6 +1,6 @@
 -- How the items of a view come one after another.
-use Rattle.std.proofs.Common.{ℕ, zero, suc, ◌+◌, ◌-◌, ◌<◌, ◌≤◌, ◌≡◌, List, [], ◌∷◌, length, drop, map, Result, Ok, Err, refl, sym, ◌∙◌, ap, arith,
-  length-drop, add-one}
+use Rattle.std.proofs.Common.{ℕ, zero, suc, ◌+◌, ◌-◌, ◌<◌, ◌≤◌, ◌≡◌, List, [], ◌∷◌, length, drop, map, Result, Ok, Err, refl, sym, ◌∙◌, ap, arith}
+use Rattle.std.proofs.Common.{length-drop, add-one}
 use Rattle.std.proofs.lemmas.List.{drop_all, drop-map, length-map}
 use Rattle.rlp_format.specs.declared.error.DecoderError.{DecoderError}
 use Rattle.rlp_format.specs.Format.Framing.{frame}
@@ -67,5 +67,15 @@ pub length-item_views : (v : View) → length (item_views v) ≡ length (split (
 unfolding view_of items
 length-item_views v = length-map (items v.bytes) (view_of v)
 
-pub ruleset splits = (split-nil, drop-next, drop-past, drop-inside, length-split, drop-item_views, drop-item_views-past, length-item_views,
-    length-map, length-drop)
+pub ruleset splits = (
+  split-nil,
+  drop-next,
+  drop-past,
+  drop-inside,
+  length-split,
+  drop-item_views,
+  drop-item_views-past,
+  length-item_views,
+  length-map,
+  length-drop,
+)

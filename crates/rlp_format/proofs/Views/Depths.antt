@@ -1,6 +1,6 @@
 -- The depth of the bytes of an item is the item's.
-use Rattle.std.proofs.Common.{◌≡◌, ℕ, suc, max, ◌<◌, true, false, List, [], ◌∷◌, ◌++◌, length, map, fold, refl, sym, ap, ◌∙◌, subst, arith, ⊎_elim,
-  Ok, Err, Result, append-nil}
+use Rattle.std.proofs.Common.{◌≡◌, ℕ, suc, max, ◌<◌, true, false, List, [], ◌∷◌, ◌++◌, length, map, fold, refl, sym, ap, ◌∙◌, subst, arith, ⊎_elim}
+use Rattle.std.proofs.Common.{Ok, Err, Result, append-nil}
 use Rattle.std.proofs.lemmas.Bool.{lt-leb}
 use Rattle.rlp_format.specs.declared.error.DecoderError.{DecoderError}
 use Rattle.rlp_format.specs.Format.Item.{Item, string, list, Items, no_items, item_and, items_from, listed, list_of, item_depth, items_depth}
@@ -17,7 +17,7 @@ greatest_from : (a : ℕ) (xs : List Item) → fold max a (map item_depth xs) �
 greatest_from a [] = omega arith
 greatest_from a (x ∷ xs) =
     let below : fold max (max a (item_depth x)) (map item_depth xs) ≡ max (max a (item_depth x)) (items_depth (items_from xs)) =
-        greatest_from (max a (item_depth x)) xs in
+    greatest_from (max a (item_depth x)) xs in
     let turned : max (max a (item_depth x)) (items_depth (items_from xs)) ≡ max a (max (item_depth x) (items_depth (items_from xs))) = omega arith in
     below ∙ turned
 

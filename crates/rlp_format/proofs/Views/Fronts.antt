@@ -1,6 +1,6 @@
 -- The first item of bytes, by the header that was read.
-use Rattle.std.proofs.Common.{◌≡◌, ℕ, ◌-◌, ◌<◌, ◌≤◌, true, false, not, ◌==◌, ltb, lt-ltb, le-ltb, List, [], ◌∷◌, ◌++◌, length, length-append,
-  length-take-le, take, drop, Some, None, Ok, Err, sym, ap, ◌∙◌, subst, arith}
+use Rattle.std.proofs.Common.{◌≡◌, ℕ, ◌-◌, ◌<◌, ◌≤◌, true, false, not, ◌==◌, ltb, lt-ltb, le-ltb, List, [], ◌∷◌, ◌++◌, length, length-append}
+use Rattle.std.proofs.Common.{length-take-le, take, drop, Some, None, Ok, Err, sym, ap, ◌∙◌, subst, arith}
 use Rattle.std.proofs.lemmas.Bool.{cond-true, cond-false}
 use Rattle.std.proofs.lemmas.Bool.Decides.{nat_tests}
 use Rattle.std.proofs.lemmas.List.{take_rest, drop-take}
@@ -61,7 +61,7 @@ unfolding strict_fault
 whole_front b item others p is long whole none =
     let end : length others ≡ 0 = ap length (no_bytes others none) in
     ap (strict_fault_in b) is ∙ cond-false (ltb (total_len p) (length b)) _ _
-        (le-ltb (total_len p) (length b) (omega (arith, ap length whole, length-append item others)))
+    (le-ltb (total_len p) (length b) (omega (arith, ap length whole, length-append item others)))
 
 -- bytes that go on have one
 pub long_front : (b item others : List ℕ) (p : PayloadInfo) → framing b ≡ Ok p → total_len p ≡ length item → b ≡ item ++ others
@@ -70,7 +70,7 @@ unfolding strict_fault
 long_front b item others p is long whole some =
     let more : 0 < length others = some_bytes others some in
     ap (strict_fault_in b) is ∙ cond-true (ltb (total_len p) (length b)) _ _
-        (lt-ltb (total_len p) (length b) (omega (arith, ap length whole, length-append item others)))
+    (lt-ltb (total_len p) (length b) (omega (arith, ap length whole, length-append item others)))
 
 -- so do bytes that aren't framed
 pub faulty_front : (b : List ℕ) (e : DecoderError) → framing b ≡ Err e → strict_fault b ≡ Some e

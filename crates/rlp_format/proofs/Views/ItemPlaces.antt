@@ -1,6 +1,7 @@
 -- Where the items of a list stand, as a walk over them goes.
-use Rattle.std.proofs.Common.{ℕ, zero, suc, ◌+◌, ◌-◌, ◌<◌, ◌≤◌, ◌≡◌, true, false, List, [], ◌∷◌, ◌++◌, length, take, drop, get_or, Some, None, Ok,
-  Err, refl, sym, ◌∙◌, ap, arith, append_assoc, append-nil, length-append, length-drop, length-take-le, add-one, ltb, lt-ltb, le-ltb, drop_at}
+use Rattle.std.proofs.Common.{ℕ, zero, suc, ◌+◌, ◌-◌, ◌<◌, ◌≤◌, ◌≡◌, true, false, List, [], ◌∷◌, ◌++◌, length, take, drop, get_or, Some, None, Ok}
+use Rattle.std.proofs.Common.{Err, refl, sym, ◌∙◌, ap, arith, append_assoc, append-nil, length-append, length-drop, length-take-le, add-one, ltb}
+use Rattle.std.proofs.Common.{lt-ltb, le-ltb, drop_at}
 use Rattle.std.proofs.lemmas.Bool.{cond-true, cond-false}
 use Rattle.std.specs.List.{concat}
 use Rattle.rlp_format.specs.declared.error.DecoderError.{DecoderError}
@@ -60,7 +61,7 @@ walked-one b item others left k is parts whole =
           is.whole ∙ ap (λ s. concat (take k (items b)) ++ s) whole
           ∙ sym (append_assoc (concat (take k (items b))) item others)
           ∙ ap (λ s. s ++ others) (sym (concat-more (take k (items b)) item) ∙ ap concat (sym (take-next k (items b) (split others) item here))
-              ∙ ap (λ n. concat (take n (items b))) (sym (add-one k)));
+          ∙ ap (λ n. concat (take n (items b))) (sym (add-one k)));
     }
 
 -- the item that a walk of i items comes to, and its place
@@ -72,9 +73,9 @@ walked-item v item i n p others left kind is long walked parts whole =
     let here : drop i (items v.bytes) ≡ item ∷ split others = sym walked.others ∙ parts in
     let inside : i < length (items v.bytes) = drop-inside i (items v.bytes) (split others) item here in
     let lengths : length (payload v.bytes) ≡ length (concat (take i (items v.bytes))) + length left = ap length walked.whole
-        ∙ length-append (concat (take i (items v.bytes))) left in
+    ∙ length-append (concat (take i (items v.bytes))) left in
     let place : p.header_len + (n - length others - length item) ≡ p.header_len + length (concat (take i (items v.bytes))) =
-        omega (arith, ap length whole, length-append item others) in
+    omega (arith, ap length whole, length-append item others) in
     let found : item ≡ get_or (items v.bytes) i [] = sym (get_or-drop i (items v.bytes) (split others) item [] here) in
     ap (λ (n : ℕ). Ok (record v { bytes = item }, n)) place
     ∙ ap (λ (b : List ℕ). Ok (record v { bytes = b }, p.header_len + length (concat (take i (items v.bytes))))) found
@@ -89,11 +90,11 @@ unfolding rest
 walked-past v i k p left e kind is walked none same below =
     let gone : drop k (items v.bytes) ≡ [] = sym walked.others ∙ none in
     let few : length (items v.bytes) ≤ k = let zero_left : length (items v.bytes) - k ≡ 0 = sym (length-drop k (items v.bytes))
-        ∙ ap length gone in omega arith in
+    ∙ ap length gone in omega arith in
     let past : ltb i (length (items v.bytes)) ≡ false = le-ltb i (length (items v.bytes)) (omega arith) in
     let whole : payload v.bytes ≡ concat (items v.bytes) ++ left = walked.whole ∙ ap (λ fs. concat fs ++ left) (take-past k (items v.bytes) gone) in
     let after : rest v.bytes ≡ left = ap (drop (length (concat (items v.bytes)))) whole
-        ∙ drop_at (concat (items v.bytes)) left (length (concat (items v.bytes))) refl in
+    ∙ drop_at (concat (items v.bytes)) left (length (concat (items v.bytes))) refl in
     ap Err (same ∙ ap fault (sym after))
     ∙ sym (cond-false (ltb i (length (items v.bytes))) _ _ past)
     ∙ sym (item_with_place-told v i (Ok p) kind is)

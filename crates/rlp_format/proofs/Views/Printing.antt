@@ -1,6 +1,6 @@
 -- The text and the depth of bytes of each kind, as their items come one after another.
-use Rattle.std.proofs.Common.{◌≡◌, ℕ, suc, ◌-◌, ◌<◌, ◌≤◌, max, true, false, List, [], ◌∷◌, ◌++◌, length, map, fold, codes, refl, sym, ap, ◌∙◌, subst,
-  arith, Ok, Err, Result, append_assoc, append-nil, IsTrue, ◌↔◌}
+use Rattle.std.proofs.Common.{◌≡◌, ℕ, suc, ◌-◌, ◌<◌, ◌≤◌, max, true, false, List, [], ◌∷◌, ◌++◌, length, map, fold, codes, refl, sym, ap, ◌∙◌, subst}
+use Rattle.std.proofs.Common.{arith, Ok, Err, Result, append_assoc, append-nil, IsTrue, ◌↔◌}
 use Rattle.std.proofs.lemmas.Bool.{false≢true}
 use Rattle.std.proofs.lemmas.List.{map-append}
 use Rattle.rlp_format.specs.declared.error.DecoderError.{DecoderError}
@@ -94,7 +94,7 @@ pub item-shorter : (b item : List ℕ) (done more : List (List ℕ)) → done ++
 item-shorter [] item done more e = absurd (no_middle done more item (e ∙ items_nil))
 item-shorter (first ∷ rest) item done more e =
     let short = within-middle (length rest) done more item
-        (subst (AllWithinLength (length rest)) (sym e) (items_short (length rest) (first ∷ rest) (omega arith))) in
+    (subst (AllWithinLength (length rest)) (sym e) (items_short (length rest) (first ∷ rest) (omega arith))) in
     omega (arith, short)
 
 -- ---- the depth of each kind of bytes

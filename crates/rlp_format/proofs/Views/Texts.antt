@@ -1,6 +1,7 @@
 -- The text and the depth of bytes, by those of their items.
-use Rattle.std.proofs.Common.{◌≡◌, ℕ, zero, suc, ◌+◌, ◌<◌, ◌≤◌, Bool, true, false, List, [], ◌∷◌, ◌++◌, length, take, drop, map, codes, refl, sym, ap,
-  ◌∙◌, arith, Ok, Err, Result, length-take, length-drop, leb-true, ltb-true, ltb, ◌==◌, leb, MatchResult, le-add_right, le_refl}
+use Rattle.std.proofs.Common.{◌≡◌, ℕ, zero, suc, ◌+◌, ◌<◌, ◌≤◌, Bool, true, false, List, [], ◌∷◌, ◌++◌, length, take, drop, map, codes, refl, sym, ap}
+use Rattle.std.proofs.Common.{◌∙◌, arith, Ok, Err, Result, length-take, length-drop, leb-true, ltb-true, ltb, ◌==◌, leb, MatchResult, le-add_right}
+use Rattle.std.proofs.Common.{le_refl}
 use Rattle.std.specs.Bool.{⊤}
 use Rattle.std.specs.List.{AllByRecursion}
 use Rattle.std.specs.Int.Digits.{number_from_digits}
@@ -37,9 +38,11 @@ frame_short p = short_front p (framing p)
 walk_short : (turns : ℕ) (p : List ℕ) (r : Result (List ℕ) DecoderError) → ShortFront p r → ((q : List ℕ) → AllWithinLength (length q) (split_within turns q))
     → AllWithinLength (length p) (frame_and_more (split_within turns) p r)
 walk_short turns p (Err e) short again = tt
-walk_short turns p (Ok f) short again =
-    (short, weaker (length (drop (length f) p)) (length p) (split_within turns (drop (length f) p)) (omega (arith, length-drop (length f) p))
-        (again (drop (length f) p)))
+walk_short turns p (Ok f) short again = (
+  short,
+  weaker (length (drop (length f) p)) (length p) (split_within turns (drop (length f) p)) (omega (arith, length-drop (length f) p))
+      (again (drop (length f) p)),
+)
 
 split_short : (turns : ℕ) (p : List ℕ) → AllWithinLength (length p) (split_within turns p)
 split_short zero p = tt

@@ -1,6 +1,6 @@
 -- The header that bytes begin with, and why they begin with none.
-use Rattle.std.specs.Prelude.{ℕ, ◌≡◌, ◌+◌, ◌-◌, ◌^◌, ◌<◌, Bool, ◌&&◌, if◌then◌else◌, ◌==◌, nat_lt, nat_le, List, [], ◌∷◌, ◌++◌, length, take, Result,
-  Ok, Err, MatchResult}
+use Rattle.std.specs.Prelude.{ℕ, ◌≡◌, ◌+◌, ◌-◌, ◌^◌, ◌<◌, Bool, ◌&&◌, if◌then◌else◌, ◌==◌, nat_lt, nat_le, List, [], ◌∷◌, ◌++◌, length, take, Result}
+use Rattle.std.specs.Prelude.{Ok, Err, MatchResult}
 use Rattle.std.specs.Int.Digits.{number_from_digits}
 use Rattle.rlp_format.specs.declared.error.DecoderError.{DecoderError}
 use Rattle.rlp_format.specs.declared.error.DecoderError.TheVariants.{RlpIsTooShort, RlpDataLenWithZeroPrefix, RlpListLenWithZeroPrefix, RlpInvalidIndirection}

@@ -1,10 +1,10 @@
 -- How the string is read that bytes begin with.
-use Rattle.std.specs.Prelude.{ℕ, ◌≡◌, ◌+◌, ◌-◌, ◌^◌, if◌then◌else◌, ◌==◌, nat_lt, nat_le, List, [], ◌∷◌, length, take, drop, slice_index, Result, Ok,
-  Err, MatchResult}
+use Rattle.std.specs.Prelude.{ℕ, ◌≡◌, ◌+◌, ◌-◌, ◌^◌, if◌then◌else◌, ◌==◌, nat_lt, nat_le, List, [], ◌∷◌, length, take, drop, slice_index, Result, Ok}
+use Rattle.std.specs.Prelude.{Err, MatchResult}
 use Rattle.std.specs.Int.Digits.{number_from_digits}
 use Rattle.rlp_format.specs.declared.error.DecoderError.{DecoderError}
-use Rattle.rlp_format.specs.declared.error.DecoderError.TheVariants.{RlpIsTooShort, RlpExpectedToBeData, RlpInvalidIndirection,
-  RlpInconsistentLengthAndData, RlpInvalidLength}
+use Rattle.rlp_format.specs.declared.error.DecoderError.TheVariants.{RlpIsTooShort, RlpExpectedToBeData, RlpInvalidIndirection}
+use Rattle.rlp_format.specs.declared.error.DecoderError.TheVariants.{RlpInconsistentLengthAndData, RlpInvalidLength}
 use Rattle.rlp_format.specs.Format.Item.{string}
 use Rattle.rlp_format.specs.Format.Encoding.{encoding, BeginsWith, is_low_byte}
 

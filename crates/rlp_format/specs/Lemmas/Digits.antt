@@ -1,6 +1,6 @@
 -- `be` writes a number's digits: they are the number's, they begin with no zero, and no others do.
-use Rattle.std.proofs.Common.{◌≡◌, ℕ, zero, suc, ◌+◌, ◌*◌, ◌/◌, ◌%◌, ◌^◌, ◌<◌, ◌≤◌, List, [], ◌∷◌, ◌++◌, length, get_or, lt_of_lt_of_le, refl, false,
-  eqb, ne_eqb, sym, ap, ◌∙◌, arith, append_assoc, length-append, append-nil, zero-add}
+use Rattle.std.proofs.Common.{◌≡◌, ℕ, zero, suc, ◌+◌, ◌*◌, ◌/◌, ◌%◌, ◌^◌, ◌<◌, ◌≤◌, List, [], ◌∷◌, ◌++◌, length, get_or, lt_of_lt_of_le, refl, false}
+use Rattle.std.proofs.Common.{eqb, ne_eqb, sym, ap, ◌∙◌, arith, append_assoc, length-append, append-nil, zero-add}
 use Rattle.std.specs.Int.Digits.{digits_of, digits_with_fuel, number_from_digits, number_from_digits_after, AllBelowBase}
 use Rattle.std.proofs.lemmas.Int.Digits.{number_lt, number_digits_of, first_digits_of, length-digits_of-le, all_below_base_digits_of, digits_of_step}
 use Rattle.std.proofs.lemmas.Nat.{div-mul-add, mod-mul-add, pow-add}
@@ -17,7 +17,7 @@ big_endian_within_is (suc turns) zero = refl
 big_endian_within_is (suc turns) (suc n) =
     let positive : eqb (suc n) 0 ≡ false = ne_eqb (suc n) 0 (λ e. omega arith) in
     ap (λ ds. ds ++ (suc n % 256) ∷ []) (big_endian_within_is turns (suc n / 256))
-        ∙ sym (cond-false (eqb (suc n) 0) [] (digits_with_fuel 256 turns (suc n / 256) ++ (suc n % 256) ∷ []) positive)
+    ∙ sym (cond-false (eqb (suc n) 0) [] (digits_with_fuel 256 turns (suc n / 256) ++ (suc n % 256) ∷ []) positive)
 
 -- digits to the base 256, in the words of the standard library
 pub big_endian_is : (n : ℕ) → big_endian n ≡ digits_of 256 n

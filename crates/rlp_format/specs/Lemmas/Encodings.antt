@@ -1,6 +1,6 @@
 -- No encoding begins another.
-use Rattle.std.proofs.Common.{◌≡◌, ℕ, ◌^◌, ◌<◌, ◌≤◌, ◌⊎◌, inl, inr, ⊎_elim, List, [], ◌∷◌, ◌++◌, length, refl, sym, ap, ◌∙◌, arith, true, ltb-true,
-  All, length-append, append_assoc}
+use Rattle.std.proofs.Common.{◌≡◌, ℕ, ◌^◌, ◌<◌, ◌≤◌, ◌⊎◌, inl, inr, ⊎_elim, List, [], ◌∷◌, ◌++◌, length, refl, sym, ap, ◌∙◌, arith, true, ltb-true}
+use Rattle.std.proofs.Common.{All, length-append, append_assoc}
 use Rattle.std.proofs.lemmas.Bool.{cases_Bool, cond-true, cond-false}
 use Rattle.std.proofs.lemmas.List.{append_cancel_left}
 use Rattle.rlp_format.specs.Format.Item.{Item, string, list, Items, no_items, item_and, items_from, listed, list_of}
@@ -74,7 +74,7 @@ written_same : (a b p q : List ℕ) (base1 base2 : ℕ) (s t : List ℕ) → IsW
 written_same a b p q base1 base2 s t v w e =
     let cells : written_header base1 (length s) ++ (s ++ p) ≡ written_header base2 (length t) ++ (t ++ q) =
     sym (append_assoc (written_header base1 (length s)) s p) ∙ sym (ap (λ c. c ++ p) v.is) ∙ e ∙ ap (λ c. c ++ q) w.is
-        ∙ append_assoc (written_header base2 (length t)) t q in
+    ∙ append_assoc (written_header base2 (length t)) t q in
     let (bases, lengths) = written_header_prefix_free base1 base2 (length s) (length t) (s ++ p) (t ++ q) v.is_base w.is_base v.small w.small cells in
     let headers : written_header base1 (length s) ≡ written_header base2 (length t) = cc in
     let after = append_cancel_left (written_header base1 (length s)) (s ++ p) (t ++ q) (cells ∙ ap (λ c. c ++ (t ++ q)) (sym headers)) in
@@ -121,7 +121,7 @@ apart_kinds s ys hs hl e =
     let w = list_written ys hl in
     let shifted : encoding (string s) ++ [] ≡ encoding (list ys) ++ [] = ap (λ b. b ++ []) e in
     ⊎_elim (λ (low, is). lone_apart (encoding (string s)) (encoding (list ys)) [] [] 0xc0 (join_items ys)
-        (record { byte = low.byte; low = low.low; is = is ∙ low.is }) w shifted)
+    (record { byte = low.byte; low = low.low; is = is ∙ low.is }) w shifted)
     (λ v. let same = written_same (encoding (string s)) (encoding (list ys)) [] [] 0x80 0xc0 s (join_items ys) v w shifted in omega (arith, same.0))
     (string_cases s hs)
 
@@ -133,11 +133,11 @@ strings_same s t hs ht e =
     (λ (low1, is1). ⊎_elim
     (λ (low2, is2). sym is1 ∙ e ∙ is2)
     (λ w. absurd (lone_apart (encoding (string s)) (encoding (string t)) [] [] 0x80 t
-        (record { byte = low1.byte; low = low1.low; is = is1 ∙ low1.is }) w shifted))
+    (record { byte = low1.byte; low = low1.low; is = is1 ∙ low1.is }) w shifted))
     (string_cases t ht))
     (λ v. ⊎_elim
     (λ (low2, is2). absurd (lone_apart (encoding (string t)) (encoding (string s)) [] [] 0x80 s
-        (record { byte = low2.byte; low = low2.low; is = is2 ∙ low2.is }) v (sym shifted)))
+    (record { byte = low2.byte; low = low2.low; is = is2 ∙ low2.is }) v (sym shifted)))
     (λ w. (written_same (encoding (string s)) (encoding (string t)) [] [] 0x80 0x80 s t v w shifted).1)
     (string_cases t ht))
     (string_cases s hs)
@@ -206,7 +206,7 @@ pub join_same : (xs ys : List Item) → All IsSized xs → All IsSized ys → jo
 join_same xs ys a b e =
     let same : items_from xs ≡ items_from ys =
     join_items_same (items_from xs) (items_from ys) (all_sized xs (recursion_from_All IsSized xs a)) (all_sized ys (recursion_from_All IsSized ys b))
-        (join_items_is xs ∙ e ∙ sym (join_items_is ys)) in
+    (join_items_is xs ∙ e ∙ sym (join_items_is ys)) in
     sym (listed_from xs) ∙ ap listed same ∙ listed_from ys
 
 -- an item whose encoding begins bytes of a slice is sized

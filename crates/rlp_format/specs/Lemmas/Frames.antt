@@ -1,7 +1,7 @@
 -- Frames, and the lists of items that begin bytes.
-use Rattle.std.proofs.Common.{◌≡◌, ℕ, zero, suc, ◌+◌, ◌^◌, ◌<◌, ◌≤◌, ◌⊎◌, inl, inr, ⊎_elim, List, [], ◌∷◌, ◌++◌, length, take, drop, map, All, refl,
-  sym, ap, ◌∙◌, subst, arith, Ok, Err, Result, leb, le-leb, leb-true, length-append, length-take-le, append_assoc, append-nil, take_at, drop_at,
-  take-append-drop, MatchResult, IsTrue, is_ok, ◌↔◌}
+use Rattle.std.proofs.Common.{◌≡◌, ℕ, zero, suc, ◌+◌, ◌^◌, ◌<◌, ◌≤◌, ◌⊎◌, inl, inr, ⊎_elim, List, [], ◌∷◌, ◌++◌, length, take, drop, map, All, refl}
+use Rattle.std.proofs.Common.{sym, ap, ◌∙◌, subst, arith, Ok, Err, Result, leb, le-leb, leb-true, length-append, length-take-le, append_assoc}
+use Rattle.std.proofs.Common.{append-nil, take_at, drop_at, take-append-drop, MatchResult, IsTrue, is_ok, ◌↔◌}
 use Rattle.std.proofs.lemmas.Bool.{leb-false, false≢true, cond_both, cond-true, cond-false}
 use Rattle.std.specs.List.{concat, AllByRecursion}
 use Rattle.std.proofs.lemmas.List.Elements.{All-drop, All-same, recursion_from_All, All-from_recursion}
@@ -14,8 +14,8 @@ use Rattle.rlp_format.specs.Format.Item.{Item}
 use Rattle.rlp_format.specs.Format.WrittenHeader.{written_header, AreBytes}
 use Rattle.rlp_format.specs.Format.Encoding.{encoding, join, IsSized, BeginsWith}
 use Rattle.rlp_format.specs.Format.Header.{HasHeader, lone, written, header, ReadsHeader, payload_info}
-use Rattle.rlp_format.specs.Format.Framing.{IsFramed, IsFramedItem, IsFault, no_header, cut_short, fault, fault_in, framing, framing_in, frame, value,
-  map_ok, total_len}
+use Rattle.rlp_format.specs.Format.Framing.{IsFramed, IsFramedItem, IsFault, no_header, cut_short, fault, fault_in, framing, framing_in, frame, value}
+use Rattle.rlp_format.specs.Format.Framing.{map_ok, total_len}
 use Rattle.rlp_format.specs.Format.Split.{IsCut, IsSplit, split, split_within, frame_and_more}
 use Rattle.rlp_format.specs.Lemmas.Reading.{read, header_unique, header_reads}
 use Rattle.rlp_format.specs.Lemmas.Encodings.{IsForm, form, first_of_header}
@@ -63,8 +63,13 @@ encoding_item x h = item_from (encoding x) (form x h)
     item_from b (inl l) = subst IsFramedItem (sym l.is) (record { header_len = 0; value_len = 1; has_header = lone l.byte [] l.low; whole = refl })
     item_from b (inr (base, payload, w)) =
         subst IsFramedItem (sym w.is)
-        (record { header_len = length (written_header base (length payload)); value_len = length payload; has_header =
-            written base (length payload) payload w.is_base w.small; whole = sym (length-append (written_header base (length payload)) payload) })
+        (record {
+          header_len = length (written_header base (length payload));
+          value_len = length payload;
+          has_header =
+              written base (length payload) payload w.is_base w.small;
+          whole = sym (length-append (written_header base (length payload)) payload);
+        })
 
 -- ---- two cuts of one list
 
@@ -160,8 +165,13 @@ split_join xs a = ap split (join_is xs) ∙ split_items (map encoding xs) (encod
 
 -- bytes that begin with a framed item are framed
 pub front_framed : (f more : List ℕ) → IsFramedItem f → IsFramed (f ++ more)
-front_framed f more is = record { header_len = is.header_len; value_len = is.value_len; has_header = longer more is.has_header; within =
-    omega (arith, is.whole, length-append f more) }
+front_framed f more is = record {
+  header_len = is.header_len;
+  value_len = is.value_len;
+  has_header = longer more is.has_header;
+  within =
+      omega (arith, is.whole, length-append f more);
+}
 
 no_more : (fs gs more : List (List ℕ)) (x y : List ℕ) → ¬ IsFramed x → AllFramed gs → gs ≡ fs ++ more → concat fs ++ x ≡ concat gs ++ y → length gs ≤ length fs
 no_more [] [] more x y stop a e is = omega arith
@@ -172,7 +182,7 @@ no_more (f ∷ fs) (g ∷ gs) more x y stop a e is =
     let heads : g ≡ f = cc in
     let tails : gs ≡ fs ++ more = cc in
     let cells : f ++ (concat fs ++ x) ≡ f ++ (concat gs ++ y) = sym (append_assoc f (concat fs) x) ∙ is ∙ append_assoc g (concat gs) y
-        ∙ ap (λ h. h ++ (concat gs ++ y)) heads in
+    ∙ ap (λ h. h ++ (concat gs ++ y)) heads in
     let below : length gs ≤ length fs = no_more fs gs more x y stop a.1 tails (append_cancel_left f _ _ cells) in
     omega arith
 
@@ -267,7 +277,7 @@ walk zero p bytes l = record { left = p; is = refl; each = tt; stopped = subst (
 walk (suc turns) p bytes l =
     walk_by turns p (frame p) l (frame_reads p bytes)
     (λ q short f e. walk turns q (All-same (λ byte. byte < 2 ^ 8) q (drop (length f) p) (sym (ap (drop (length f)) e ∙ drop_at f q (length f) refl))
-        (All-drop (λ byte. byte < 2 ^ 8) (length f) p bytes)) short)
+    (All-drop (λ byte. byte < 2 ^ 8) (length f) p bytes)) short)
 
 -- `split` is the longest list of framed items that begins p
 pub split_longest : (p : List ℕ) → AreBytes p → IsSplit p (split p)
@@ -311,7 +321,7 @@ within_is_split : (turns : ℕ) (p : List ℕ) → AreBytes p → length p ≤ t
 within_is_split turns p bytes l =
     let w = walk turns p bytes l in
     split_only p (split_within turns p) bytes
-        (subst (λ s. IsSplit s (split_within turns p)) (sym w.is) (stopped_split (split_within turns p) w.left w.each w.stopped))
+    (subst (λ s. IsSplit s (split_within turns p)) (sym w.is) (stopped_split (split_within turns p) w.left w.each w.stopped))
 
 -- the split goes by a framed item and what follows it
 pub split_more : (p f q : List ℕ) → AreBytes p → p ≡ f ++ q → IsFramedItem f → split p ≡ f ∷ split q
@@ -319,7 +329,7 @@ split_more p f q bytes is item =
     let shorter : length q ≤ length p = omega (arith, ap length is, length-append f q) in
     let some = item_some f item in
     let bytes_left : AreBytes q = All-same (λ byte. byte < 2 ^ 8) q (drop (length f) p) (sym (ap (drop (length f)) is ∙ drop_at f q (length f) refl))
-        (All-drop (λ byte. byte < 2 ^ 8) (length f) p bytes) in
+    (All-drop (λ byte. byte < 2 ^ 8) (length f) p bytes) in
     sym (within_is_split (suc (length p)) p bytes (omega arith))
     ∙ ap (split_within (suc (length p))) is
     ∙ split_step (length p) f q item

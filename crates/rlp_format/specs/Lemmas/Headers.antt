@@ -31,8 +31,13 @@ pub record Shape (base n : ℕ) : Type 0 where
 -- each header has such parts
 pub shape : (base n : ℕ) → n < 2 ^ 64 → Shape base n
 shape base n small =
-    ⊎_elim (λ long. record { first = base + 55 + length (big_endian n); more = big_endian n; is = written_header_long base n long; parts =
-        inr (long, refl, refl, big_endian_some n (omega arith), big_endian_length n small) })
+    ⊎_elim (λ long. record {
+      first = base + 55 + length (big_endian n);
+      more = big_endian n;
+      is = written_header_long base n long;
+      parts =
+          inr (long, refl, refl, big_endian_some n (omega arith), big_endian_length n small);
+    })
     (λ short. record { first = base + n; more = []; is = written_header_short base n short; parts = inl (short, refl, refl) })
     (cases_lt 55 n)
 

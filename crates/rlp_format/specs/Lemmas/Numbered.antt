@@ -1,6 +1,6 @@
 -- The items of a view by number.
-use Rattle.std.proofs.Common.{ℕ, ◌<◌, ◌≤◌, ◌≡◌, ◌⊎◌, inl, inr, ⊎_elim, true, false, List, [], ◌∷◌, ◌++◌, length, map, take, drop, get_or, Option,
-  Some, None, option_map, Result, Ok, Err, ◌↔◌, refl, sym, ◌∙◌, ap, arith, ltb, lt-ltb, le-ltb}
+use Rattle.std.proofs.Common.{ℕ, ◌<◌, ◌≤◌, ◌≡◌, ◌⊎◌, inl, inr, ⊎_elim, true, false, List, [], ◌∷◌, ◌++◌, length, map, take, drop, get_or, Option}
+use Rattle.std.proofs.Common.{Some, None, option_map, Result, Ok, Err, ◌↔◌, refl, sym, ◌∙◌, ap, arith, ltb, lt-ltb, le-ltb}
 use Rattle.std.specs.List.{slice_get}
 use Rattle.std.proofs.lemmas.Bool.{cases_Bool, cases_lt, cond-true, cond-false}
 use Rattle.std.proofs.lemmas.List.{length-map}
@@ -58,7 +58,7 @@ fault_cases o (Some e) is = inr (e, is)
 pub told_begins : (v : View) → items_fault v ≡ None → begins_as_list v.bytes ≡ true
 told_begins v is = ⊎_elim (λ kind. kind)
     (λ kind. let no : Some RlpExpectedToBeList ≡ None = sym (cond-false (begins_as_list v.bytes) (list_fault v) (Some RlpExpectedToBeList) kind)
-        ∙ is in absurd (let none : ⊥ = cc in none))
+    ∙ is in absurd (let none : ⊥ = cc in none))
     (cases_Bool (begins_as_list v.bytes))
 
 -- they are told of lenient views that begin as a list
@@ -116,7 +116,7 @@ told_numbered v i told =
     (λ past. no_item (fault (rest v.bytes)) told past (item_at-past v i p told is past) (λ j l. item_at-past v j p told is l))
     (cases_lt i (length (items v.bytes))))
     (λ (e, is). no_item e told (none_left v i (items-payload v.bytes (payload-fault v.bytes e (told_begins v told) is)))
-        (item_at-unframed v i e told is) (λ j l. item_at-unframed v j e told is))
+    (item_at-unframed v i e told is) (λ j l. item_at-unframed v j e told is))
     (framing_cases v.bytes (framing v.bytes) refl)
 
 pub numbered : (v : View) (i : ℕ) → Numbered v i
@@ -207,4 +207,4 @@ pub item_at-list_item : (before after : List Item) (x : Item) (b : List ℕ) →
 item_at-list_item before after x b sized begins =
     (lenient_item_at b (view_of (encoding x)) (length before)).1
     (ap (λ vs. slice_get vs (length before)) (item_views-list (before ++ x ∷ after) b sized begins)
-        ∙ slice_get-middle (λ (y : Item). view_of (encoding y)) before after x)
+    ∙ slice_get-middle (λ (y : Item). view_of (encoding y)) before after x)

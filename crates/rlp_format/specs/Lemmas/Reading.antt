@@ -1,7 +1,7 @@
 -- `header` gives the one header that stands at the front, and the fault where none does.
-use Rattle.std.proofs.Common.{◌≡◌, ℕ, zero, suc, ◌+◌, ◌-◌, ◌^◌, ◌<◌, ◌≤◌, inl, inr, ⊎_elim, List, [], ◌∷◌, ◌++◌, length, take, get_or, refl, sym, ap,
-  ◌∙◌, subst, arith, Ok, Err, Result, false, ◌==◌, leb, ltb, ne_eqb, le-ltb, take_at, Fits, w8, length-append, MatchResult, ◌≢◌, length-take-le,
-  lt_of_lt_of_le, take-append-drop, drop, ltb-true, ltb-false, eqb-true, leb-false}
+use Rattle.std.proofs.Common.{◌≡◌, ℕ, zero, suc, ◌+◌, ◌-◌, ◌^◌, ◌<◌, ◌≤◌, inl, inr, ⊎_elim, List, [], ◌∷◌, ◌++◌, length, take, get_or, refl, sym, ap}
+use Rattle.std.proofs.Common.{◌∙◌, subst, arith, Ok, Err, Result, false, ◌==◌, leb, ltb, ne_eqb, le-ltb, take_at, Fits, w8, length-append}
+use Rattle.std.proofs.Common.{MatchResult, ◌≢◌, length-take-le, lt_of_lt_of_le, take-append-drop, drop, ltb-true, ltb-false, eqb-true, leb-false}
 use Rattle.std.proofs.lemmas.Bool.Decides.{nat_tests}
 use Rattle.std.proofs.lemmas.Bool.{cases_lt, cond_both, eqb-false, cond-false, lt-leb}
 use Rattle.std.specs.List.{AllByRecursion}
@@ -59,7 +59,7 @@ long_header_is zero_fault k (d ∷ ds) rest l first large =
     let enough : ltb (length ((d ∷ ds) ++ rest)) k ≡ false = le-ltb _ _ (omega (arith, length-append (d ∷ ds) rest)) in
     let long : leb (number_from_digits 256 (take k ((d ∷ ds) ++ rest))) 55 ≡ false = ap (λ s. leb (number_from_digits 256 s) 55) front ∙ lt-leb _ _ large in
     cond-false (d == 0) _ _ nonzero ∙ cond-false (ltb (length ((d ∷ ds) ++ rest)) k) _ _ enough ∙ cond-false _ _ _ long
-        ∙ ap (λ s. Ok (payload_info (1 + k) (number_from_digits 256 s))) front
+    ∙ ap (λ s. Ok (payload_info (1 + k) (number_from_digits 256 s))) front
 
 read_parts : (base n first : ℕ) (more rest : List ℕ) → IsBase base → Parts base n first more
     → header (first ∷ (more ++ rest)) ≡ Ok (payload_info (1 + length more) n)
@@ -164,7 +164,7 @@ long_whole base first k n second more is few leading (low, bytes) enough value l
     let digits : big_endian n ≡ second ∷ take k more = ap big_endian value ∙ big_endian_again second (take k more) leading (low, take_bytes k more bytes) in
     let long : length (second ∷ take k more) ≡ suc k = omega (arith, length-take-le k more (omega arith)) in
     let below : number_from_digits 256 (second ∷ take k more) < 256 ^ length (second ∷ take k more) =
-        number_lt 256 (second ∷ take k more) (low, take_bytes k more bytes) in
+    number_lt 256 (second ∷ take k more) (low, take_bytes k more bytes) in
     let at_most : length (second ∷ take k more) ≤ 8 = omega arith in
     let base_above : 0 < 256 = omega arith in
     let most : 256 ^ length (second ∷ take k more) ≤ 256 ^ 8 = pow-le-pow_right base_above at_most in
@@ -213,13 +213,13 @@ string_row : (first : ℕ) (rest : List ℕ) → 0xb8 ≤ first → first < 0xc0
 string_row first rest l h bytes =
     let k : first - 0xb7 ≡ suc (first - 0xb8) = omega arith in
     rw k (long_rows 0x80 first (first - 0xb8) RlpDataLenWithZeroPrefix rest (inl refl) (omega arith) (omega arith)
-        (announced_string first h ∙ k) bytes (λ second more z. fault_zero_string first second more z l h))
+    (announced_string first h ∙ k) bytes (λ second more z. fault_zero_string first second more z l h))
 
 list_row : (first : ℕ) (rest : List ℕ) → 0xf8 ≤ first → first < 256 → Bytes rest → Row (first ∷ rest) (long_header RlpListLenWithZeroPrefix (first - 0xf7) rest)
 list_row first rest l h bytes =
     let k : first - 0xf7 ≡ suc (first - 0xf8) = omega arith in
     rw k (long_rows 0xc0 first (first - 0xf8) RlpListLenWithZeroPrefix rest (inr refl) (omega arith) (omega arith)
-        (announced_list first (omega arith) ∙ k) bytes (λ second more z. fault_zero_list first second more z l h))
+    (announced_list first (omega arith) ∙ k) bytes (λ second more z. fault_zero_list first second more z l h))
 
 first_row : (first : ℕ) (rest : List ℕ) → first < 256 → Bytes rest → Row (first ∷ rest) (header (first ∷ rest))
 first_row first rest low bytes =

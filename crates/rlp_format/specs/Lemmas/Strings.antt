@@ -1,20 +1,21 @@
 -- `read_string` gives the one string that stands at the front of bytes.
-use Rattle.std.proofs.Common.{◌≡◌, ℕ, suc, ◌+◌, ◌-◌, ◌^◌, ◌<◌, ◌≤◌, inl, inr, ⊎_elim, Bool, true, false, if◌then◌else◌, slice_index, ◌==◌, ltb, leb,
-  List, [], ◌∷◌, ◌++◌, length, take, drop, get_or, refl, sym, ap, ◌∙◌, subst, arith, Ok, Err, Result, MatchResult, ne_eqb, le-ltb, lt-ltb, ltb-false,
-  leb-false, take_at, drop_at, length-append, length-take-le, append_assoc, take-append-drop, pos_of_ne-zero}
+use Rattle.std.proofs.Common.{◌≡◌, ℕ, suc, ◌+◌, ◌-◌, ◌^◌, ◌<◌, ◌≤◌, inl, inr, ⊎_elim, Bool, true, false, if◌then◌else◌, slice_index, ◌==◌, ltb, leb}
+use Rattle.std.proofs.Common.{List, [], ◌∷◌, ◌++◌, length, take, drop, get_or, refl, sym, ap, ◌∙◌, subst, arith, Ok, Err, Result, MatchResult, ne_eqb}
+use Rattle.std.proofs.Common.{le-ltb, lt-ltb, ltb-false, leb-false, take_at, drop_at, length-append, length-take-le, append_assoc, take-append-drop}
+use Rattle.std.proofs.Common.{pos_of_ne-zero}
 use Rattle.std.specs.Bool.{⊤}
 use Rattle.std.specs.Int.Digits.{number_from_digits}
 use Rattle.std.proofs.lemmas.Bool.{cases_Bool, cases_lt, cond_both, cond-true, cond-false, lt-leb, eqb-false}
 use Rattle.std.proofs.lemmas.Bool.Decides.{nat_tests}
 use Rattle.std.proofs.lemmas.List.Elements.{recursion_from_All}
 use Rattle.rlp_format.specs.declared.error.DecoderError.{DecoderError}
-use Rattle.rlp_format.specs.declared.error.DecoderError.TheVariants.{RlpIsTooShort, RlpExpectedToBeData, RlpInvalidIndirection,
-  RlpInconsistentLengthAndData, RlpInvalidLength}
+use Rattle.rlp_format.specs.declared.error.DecoderError.TheVariants.{RlpIsTooShort, RlpExpectedToBeData, RlpInvalidIndirection}
+use Rattle.rlp_format.specs.declared.error.DecoderError.TheVariants.{RlpInconsistentLengthAndData, RlpInvalidLength}
 use Rattle.rlp_format.specs.Format.Item.{string}
 use Rattle.rlp_format.specs.Format.WrittenHeader.{written_header, AreBytes}
 use Rattle.rlp_format.specs.Format.Encoding.{encoding, string_encoding, is_low_byte}
-use Rattle.rlp_format.specs.Format.StringReading.{IsString, ReadsString, short_string, long_value, long_string, read_string, short_string_fault,
-  long_value_fault, long_string_fault, string_fault}
+use Rattle.rlp_format.specs.Format.StringReading.{IsString, ReadsString, short_string, long_value, long_string, read_string, short_string_fault}
+use Rattle.rlp_format.specs.Format.StringReading.{long_value_fault, long_string_fault, string_fault}
 use Rattle.rlp_format.specs.Lemmas.Digits.{big_endian_first, big_endian_value}
 use Rattle.rlp_format.specs.Lemmas.Headers.{Parts, shape, written_header_short}
 use Rattle.rlp_format.specs.Lemmas.Encodings.{low_byte, small_payload, front_sized}
@@ -140,10 +141,10 @@ short_stands first n rest is short =
     (λ e. let enough : n ≤ length rest = ltb-false _ _ e in
     let long : length (take n rest) ≡ n = length-take-le n rest enough in
     let head : written_header 0x80 (length (take n rest)) ≡ first ∷ [] = ap (written_header 0x80) long ∙ written_header_short 0x80 n short
-        ∙ ap (λ c. c ∷ []) (sym is) in
+    ∙ ap (λ c. c ∷ []) (sym is) in
     cond_both (is_low_byte (take n rest)) _ _ (Stands (first ∷ rest)) (λ _. stands_err _ _)
     (λ high. stands_ok _ _ (written_string (first ∷ rest) (take n rest) (drop n rest) high
-        (ap (λ s. first ∷ s) (sym (take-append-drop n rest)) ∙ ap (λ h. h ++ (take n rest ++ drop n rest)) (sym head)))))
+    (ap (λ s. first ∷ s) (sym (take-append-drop n rest)) ∙ ap (λ h. h ++ (take n rest ++ drop n rest)) (sym head)))))
 
 not_low : (s : List ℕ) → 1 < length s → is_low_byte s ≡ false
 not_low [] h = refl
@@ -165,12 +166,12 @@ value_stands first k n second more is few leading bytes enough value =
     stands_ok _ _
     (written_string (first ∷ second ∷ more) (take n (drop k more)) (drop n (drop k more)) (not_low (take n (drop k more)) (omega arith))
     (sym whole ∙ ap (λ s. written_header 0x80 n ++ s) (sym (take-append-drop n (drop k more)))
-        ∙ ap (λ m. written_header 0x80 m ++ (take n (drop k more) ++ drop n (drop k more))) (sym long))))))
+    ∙ ap (λ m. written_header 0x80 m ++ (take n (drop k more) ++ drop n (drop k more))) (sym long))))))
 
 long_stands : (first k : ℕ) (rest : List ℕ) → first ≡ 0x80 + 55 + suc k → suc k ≤ 8 → Bytes rest → Stands (first ∷ rest) (long_string (suc k) rest)
 long_stands first k [] is few bytes =
     cond_both (ltb (length {A = ℕ} []) (suc k)) _ _ (Stands (first ∷ [])) (λ _. stands_err _ _)
-        (λ e. absurd (let none : suc k ≤ 0 = ltb-false 0 (suc k) e in omega arith))
+    (λ e. absurd (let none : suc k ≤ 0 = ltb-false 0 (suc k) e in omega arith))
 long_stands first k (second ∷ more) is few bytes =
     cond_both (ltb (length (second ∷ more)) (suc k)) _ _ (Stands (first ∷ second ∷ more)) (λ _. stands_err _ _)
     (λ e. let enough : suc k ≤ length (second ∷ more) = ltb-false _ _ e in
@@ -182,7 +183,7 @@ long_stands first k (second ∷ more) is few bytes =
 first_stands : (first : ℕ) (rest : List ℕ) → Bytes rest → Stands (first ∷ rest) (read_string (first ∷ rest))
 first_stands first rest bytes =
     let at = λ (r : Result (List ℕ) DecoderError) (e : read_string (first ∷ rest) ≡ r) (is : Stands (first ∷ rest) r). subst (Stands (first ∷ rest))
-        (sym e) is in
+    (sym e) is in
     ⊎_elim (λ below. at _ (string_low first rest below) (stands_ok _ _ (low_string first rest below)))
     (λ from80. ⊎_elim (λ below. at _ (string_short first rest from80 below) (short_stands first (first - 0x80) rest (omega arith) (omega arith)))
     (λ fromb8. ⊎_elim

@@ -1,6 +1,6 @@
 -- A view of the encoding of a list.
-use Rattle.std.proofs.Common.{◌≡◌, ℕ, zero, suc, ◌+◌, ◌^◌, ◌<◌, ◌≤◌, Bool, true, false, List, [], ◌∷◌, ◌++◌, length, take, drop, map, refl, sym, ap,
-  ◌∙◌, subst, arith, Ok, Err, Result, le-leb, length-append, append_assoc, take_at, drop_at, inr, get_or, le_refl}
+use Rattle.std.proofs.Common.{◌≡◌, ℕ, zero, suc, ◌+◌, ◌^◌, ◌<◌, ◌≤◌, Bool, true, false, List, [], ◌∷◌, ◌++◌, length, take, drop, map, refl, sym, ap}
+use Rattle.std.proofs.Common.{◌∙◌, subst, arith, Ok, Err, Result, le-leb, length-append, append_assoc, take_at, drop_at, inr, get_or, le_refl}
 use Rattle.std.proofs.lemmas.List.{drop_all}
 use Rattle.std.specs.List.{concat}
 use Rattle.rlp_format.specs.Format.Item.{Item, list_of}
@@ -27,7 +27,7 @@ list_value : (n : ℕ) (p more : List ℕ) → length p ≡ n → n < 2 ^ 64 →
 list_value n p more l small =
     let b : List ℕ = written_header 0xc0 n ++ (p ++ more) in
     let lengths : length (written_header 0xc0 n) + n ≤ length (written_header 0xc0 n ++ (p ++ more)) =
-        omega (arith, length-append (written_header 0xc0 n) (p ++ more), length-append p more) in
+    omega (arith, length-append (written_header 0xc0 n) (p ++ more), length-append p more) in
     value_is (written_header 0xc0 n ++ (p ++ more)) (length (written_header 0xc0 n)) n (written 0xc0 n (p ++ more) (inr refl) small) lengths
     ∙ ap (λ s. Ok (take n s)) (drop_at (written_header 0xc0 n) (p ++ more) (length (written_header 0xc0 n)) refl)
     ∙ ap Ok (take_at p more n l)
@@ -38,10 +38,10 @@ unfolding payload
 payload_of_list xs b h (more, is) =
     let small : length (join xs) < 2 ^ 64 = small_payload 0xc0 (join xs) (encoding (list_of xs)) (encoding_list xs) h in
     let whole : b ≡ written_header 0xc0 (length (join xs)) ++ (join xs ++ more) = is ∙ ap (λ s. s ++ more) (encoding_list xs)
-        ∙ append_assoc (written_header 0xc0 (length (join xs))) (join xs) more in
+    ∙ append_assoc (written_header 0xc0 (length (join xs))) (join xs) more in
     ap payload whole
     ∙ ap (λ is_list. payload_in is_list (value (written_header 0xc0 (length (join xs)) ++ (join xs ++ more))))
-        (list_first (length (join xs)) (join xs ++ more) small)
+    (list_first (length (join xs)) (join xs ++ more) small)
     ∙ ap (payload_in true) (list_value (length (join xs)) (join xs) more refl small)
 
 -- each item is shorter than a bound of all joined
@@ -58,7 +58,7 @@ items_of_list xs b h begins =
     let small : length (join xs) < 2 ^ 64 = small_payload 0xc0 (join xs) (encoding (list_of xs)) (encoding_list xs) h in
     let pieces : split (payload b) ≡ map encoding xs = ap split same ∙ split_join xs (sized_items xs (2 ^ 64) small) in
     let left : length (concat (split (payload b))) ≡ length (payload b) = ap (λ fs. length (concat fs)) pieces ∙ ap length (sym (join_is xs))
-        ∙ ap length (sym same) in
+    ∙ ap length (sym same) in
     (pieces, ap (λ n. drop n (payload b)) left ∙ drop_all (length (payload b)) (payload b) (le_refl (length (payload b))))
 
 -- ---- what follows the items isn't framed
@@ -81,7 +81,7 @@ split_left p bytes =
     let w = walk (length p) p bytes (le_refl (length p)) in
     subst (λ s. ¬ IsFramed s)
     (sym (ap (drop (length (concat (split_within (length p) p)))) w.is
-        ∙ drop_at (concat (split_within (length p) p)) w.left (length (concat (split_within (length p) p))) refl))
+    ∙ drop_at (concat (split_within (length p) p)) w.left (length (concat (split_within (length p) p))) refl))
     w.stopped
 
 -- what follows the last item isn't framed
@@ -95,5 +95,5 @@ pub list_shape : (xs : List Item) (b : List ℕ) → IsSized (list_of xs) → Be
 list_shape xs b h (more, is) =
     let small : length (join xs) < 2 ^ 64 = small_payload 0xc0 (join xs) (encoding (list_of xs)) (encoding_list xs) h in
     let whole : b ≡ written_header 0xc0 (length (join xs)) ++ (join xs ++ more) = is ∙ ap (λ s. s ++ more) (encoding_list xs)
-        ∙ append_assoc (written_header 0xc0 (length (join xs))) (join xs) more in
+    ∙ append_assoc (written_header 0xc0 (length (join xs))) (join xs) more in
     (ap begins_as_list whole ∙ list_first (length (join xs)) (join xs ++ more) small, ap value whole ∙ list_value (length (join xs)) (join xs) more refl small)

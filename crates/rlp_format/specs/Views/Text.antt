@@ -1,9 +1,10 @@
 -- The text of a view, and of an error.
 use Rattle.std.specs.Prelude.{ℕ, ◌+◌, ◌/◌, ◌%◌, Bool, true, false, if◌then◌else◌, nat_lt, List, [], ◌∷◌, ◌++◌, map, flat_map, codes, Result, Ok, Err}
 use Rattle.rlp_format.specs.declared.error.DecoderError.{DecoderError}
-use Rattle.rlp_format.specs.declared.error.DecoderError.TheVariants.{RlpIsTooBig, RlpIsTooShort, RlpExpectedToBeList, RlpExpectedToBeData,
-  RlpIncorrectListLen, RlpDataLenWithZeroPrefix, RlpListLenWithZeroPrefix, RlpInvalidIndirection, RlpInconsistentLengthAndData, RlpInvalidLength,
-  Custom, OutOfMemory}
+use Rattle.rlp_format.specs.declared.error.DecoderError.TheVariants.{RlpIsTooBig, RlpIsTooShort, RlpExpectedToBeList, RlpExpectedToBeData}
+use Rattle.rlp_format.specs.declared.error.DecoderError.TheVariants.{RlpIncorrectListLen, RlpDataLenWithZeroPrefix, RlpListLenWithZeroPrefix}
+use Rattle.rlp_format.specs.declared.error.DecoderError.TheVariants.{RlpInvalidIndirection, RlpInconsistentLengthAndData, RlpInvalidLength, Custom}
+use Rattle.rlp_format.specs.declared.error.DecoderError.TheVariants.{OutOfMemory}
 use Rattle.rlp_format.specs.Format.Framing.{value}
 use Rattle.rlp_format.specs.Format.Split.{begins_as_list, items}
 use Rattle.rlp_format.specs.Views.ByItems.{by_items}

@@ -1,6 +1,6 @@
 -- What contracts see of a view, and the results of its methods.
-use Rattle.std.specs.Prelude.{ℕ, ◌≡◌, ◌≤◌, ◌↔◌, ◌+◌, ◌-◌, Bool, IsTrue, IsNone, true, false, Option, Some, None, ◌||◌, ◌==◌, if◌then◌else◌, nat_lt,
-  nat_le, List, [], ◌∷◌, length, take, map, slice_index_or, Result, Ok, Err}
+use Rattle.std.specs.Prelude.{ℕ, ◌≡◌, ◌≤◌, ◌↔◌, ◌+◌, ◌-◌, Bool, IsTrue, IsNone, true, false, Option, Some, None, ◌||◌, ◌==◌, if◌then◌else◌, nat_lt}
+use Rattle.std.specs.Prelude.{nat_le, List, [], ◌∷◌, length, take, map, slice_index_or, Result, Ok, Err}
 use Rattle.std.specs.List.{concat}
 use Rattle.std.specs.Iterator.{YieldsFirst}
 use Rattle.rlp_format.specs.declared.error.DecoderError.{DecoderError}

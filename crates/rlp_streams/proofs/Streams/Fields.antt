@@ -1,6 +1,6 @@
 -- Values that are appended one after another, as the fields of a struct are.
-use Rattle.std.proofs.Common.{◌≡◌, ◌<◌, ◌≤◌, ◌+◌, ◌^◌, ℕ, Option, Some, None, zero, suc, List, [], ◌∷◌, ◌++◌, length, take, get_or, map, refl, sym,
-  ap, ◌∙◌, subst, arith, append-nil, append_assoc, length-append}
+use Rattle.std.proofs.Common.{◌≡◌, ◌<◌, ◌≤◌, ◌+◌, ◌^◌, ℕ, Option, Some, None, zero, suc, List, [], ◌∷◌, ◌++◌, length, take, get_or, map, refl, sym}
+use Rattle.std.proofs.Common.{ap, ◌∙◌, subst, arith, append-nil, append_assoc, length-append}
 use Rattle.std.proofs.lemmas.List.{length-map}
 use Rattle.std.specs.Prelude.{MatchOption, SomeIff}
 use Rattle.rlp_format.specs.Format.Item.{Item, list_of}
@@ -21,8 +21,14 @@ some_none x xs s t is = record { before = []; next = x; after = xs; all = refl; 
 
 -- some of the first, and so of all
 pub some_first : (xs ys : List Item) (s t : State) → AppendsSome xs s t → AppendsSome (xs ++ ys) s t
-some_first xs ys s t p = record { before = p.before; next = p.next; after = p.after ++ ys; all = ap (λ zs. zs ++ ys) p.all
-    ∙ append_assoc p.before (p.next ∷ p.after) ys; is = p.is }
+some_first xs ys s t p = record {
+  before = p.before;
+  next = p.next;
+  after = p.after ++ ys;
+  all = ap (λ zs. zs ++ ys) p.all
+      ∙ append_assoc p.before (p.next ∷ p.after) ys;
+  is = p.is;
+}
 
 -- the first, and some of the others
 pub some_second : (xs ys : List Item) (s t u : State) → t ≡ add_all xs s → AppendsSome ys t u → AppendsSome (xs ++ ys) s u
@@ -115,7 +121,7 @@ pub counted_more : {A : Type 0} (items : A → List Item) (values : List A) (i n
     → n ≡ length (all_items items (take i values)) → m ≡ length (items x) → n + m ≡ length (all_items items (take (i + 1) values))
 counted_more items values i n m x d inside is before one =
     let whole : length (all_items items (take (i + 1) values)) ≡ length (all_items items (take i values)) + length (items x) =
-        ap length (all_items-more items values i x d inside is) ∙ length-append (all_items items (take i values)) (items x) in
+    ap length (all_items-more items values i x d inside is) ∙ length-append (all_items items (take i values)) (items x) in
     omega (arith, whole, before, one)
 
 -- one value and those before it have no more items than all

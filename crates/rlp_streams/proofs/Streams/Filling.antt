@@ -1,6 +1,6 @@
 -- A list that is opened, and filled item by item. Whoever writes an `Encodable` that is a list needs these.
-use Rattle.std.proofs.Common.{◌≡◌, ℕ, zero, suc, ◌+◌, ◌-◌, ◌<◌, ◌≤◌, nat_le, ◌||◌, Bool, true, false, List, [], ◌∷◌, ◌++◌, length, take, map, Some,
-  refl, sym, ◌∙◌, ap, subst, arith, cond, append_assoc, append-nil}
+use Rattle.std.proofs.Common.{◌≡◌, ℕ, zero, suc, ◌+◌, ◌-◌, ◌<◌, ◌≤◌, nat_le, ◌||◌, Bool, true, false, List, [], ◌∷◌, ◌++◌, length, take, map, Some}
+use Rattle.std.proofs.Common.{refl, sym, ◌∙◌, ap, subst, arith, cond, append_assoc, append-nil}
 use Rattle.rlp_format.specs.Format.WrittenHeader.{written_header}
 use Rattle.rlp_format.specs.Format.Item.{Item, list, Items, no_items, item_and, list_of}
 use Rattle.rlp_format.specs.Format.Encoding.{encoding, join_items}
@@ -26,17 +26,20 @@ record StaysOpen (s t : State) (outer : List ℕ) (ls : List (OpenList ℕ)) : T
 
 stays_open : (xs : List Item) (n : ℕ) (f p outer : List ℕ) (ls : List (OpenList ℕ)) (m : Bool) → length xs < n
     → StaysOpen (record { front = f; stack = record { inner = p; lists = record { awaits = Some n; outer = outer } ∷ ls }; mark = m })
-        (add_all xs (record { front = f; stack = record { inner = p; lists = record { awaits = Some n; outer = outer } ∷ ls }; mark = m })) outer ls
+    (add_all xs (record { front = f; stack = record { inner = p; lists = record { awaits = Some n; outer = outer } ∷ ls }; mark = m })) outer ls
 stays_open [] n f p outer ls m few = record { l = record { awaits = Some n; outer = outer }; front = refl; lists = refl; around = refl }
 stays_open (x ∷ xs) zero f p outer ls m few = absurd (omega arith)
 stays_open (x ∷ xs) (suc zero) f p outer ls m few = absurd (omega arith)
 stays_open (x ∷ xs) (suc (suc n)) f p outer ls m few =
     let r = stays_open xs (suc n) f (p ++ encoding x) outer ls (is_list x || false) (omega arith) in
     let old : State = record { front = f; stack = record { inner = p; lists = record { awaits = Some (suc (suc n)); outer = outer } ∷ ls }; mark = m } in
-    let next : State = record { front = f; stack = record { inner = p ++ encoding x; lists = record { awaits = Some (suc n); outer = outer } ∷ ls };
-        mark = is_list x || false } in
+    let next : State = record {
+      front = f;
+      stack = record { inner = p ++ encoding x; lists = record { awaits = Some (suc n); outer = outer } ∷ ls };
+      mark = is_list x || false;
+    } in
     subst (λ (t : State). StaysOpen old (add_all xs t) outer ls) (sym (add_more n x f p outer ls m))
-        (record { l = r.l; front = r.front; lists = r.lists; around = r.around })
+    (record { l = r.l; front = r.front; lists = r.lists; around = r.around })
 
 -- what is refused before the list is full grew from what stood before the list
 pub grows_filling : (xs : List Item) (n : ℕ) (s t : State) → length xs < n → t ≡ add_all xs (with_list_of n s) → GrowsTo s t
@@ -68,5 +71,18 @@ unfolding join_items
 join_and x xs = refl
 
 -- what an author of an `Encodable` that is a list cites
-pub ruleset filling = (grows_same, grows_put, grows_with_list, grows_in_list, grows_trans, retains_same, retains_trans, encoding_of_list, join_none,
-    join_and, or_true, append_assoc, append-nil)
+pub ruleset filling = (
+  grows_same,
+  grows_put,
+  grows_with_list,
+  grows_in_list,
+  grows_trans,
+  retains_same,
+  retains_trans,
+  encoding_of_list,
+  join_none,
+  join_and,
+  or_true,
+  append_assoc,
+  append-nil,
+)

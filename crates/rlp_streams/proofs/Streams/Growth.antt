@@ -30,7 +30,7 @@ grows_put s t x e = subst (λ (u : State). GrowsTo s u) (sym e) (record { front 
 pub grows_in_list : (s t : State) (l : OpenList ℕ) → t.front ≡ s.front → t.stack.lists ≡ l ∷ s.stack.lists → l.outer ≡ s.stack.inner → GrowsTo s t
 grows_in_list s t l front lists outer =
     let inside : Stands s.stack.inner s.stack.lists l.outer s.stack.lists =
-        subst (λ (q : List ℕ). Stands s.stack.inner s.stack.lists q s.stack.lists) (sym outer) (stands_same s.stack.inner s.stack.lists) in
+    subst (λ (q : List ℕ). Stands s.stack.inner s.stack.lists q s.stack.lists) (sym outer) (stands_same s.stack.inner s.stack.lists) in
     record {
       front = front;
       stands = subst (λ (ls : List (OpenList ℕ)). Stands s.stack.inner s.stack.lists t.stack.inner ls) (sym lists)

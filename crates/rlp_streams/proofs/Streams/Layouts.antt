@@ -1,6 +1,6 @@
 -- What is left of a stream's bytes and open lists where a call is refused: it grew, so the old ones still stand in it, but for what the innermost list awaits.
-use Rattle.std.proofs.Common.{◌≡◌, ℕ, ◌+◌, ◌≤◌, Bool, List, [], ◌∷◌, ◌++◌, length, take, drop, reverse, Option, None, refl, sym, ◌∙◌, ap, subst,
-  arith, append_assoc}
+use Rattle.std.proofs.Common.{◌≡◌, ℕ, ◌+◌, ◌≤◌, Bool, List, [], ◌∷◌, ◌++◌, length, take, drop, reverse, Option, None, refl, sym, ◌∙◌, ap, subst}
+use Rattle.std.proofs.Common.{arith, append_assoc}
 use Rattle.std.proofs.lemmas.List.{length-take-le, length-reverse, take-append-drop, take_at, reverse-append, reverse-reverse}
 use Rattle.rlp_buffer.specs.declared.open_lists.Placeholder.{Placeholder}
 use Rattle.rlp_buffer.specs.declared.rewinding.Place.{Place}
@@ -80,7 +80,7 @@ record Rewinds (b : List ℕ) (ps : List Placeholder) (c : List ℕ) (qs : List 
 -- where the innermost payload only grew
 rewind_here : (start : ℕ) (b c : List ℕ) (ps qs : List Placeholder) (more : List ℕ) → IsLaid start b ps → IsLaid start c qs
     → take start b ≡ take start c → drop (begin_of start ps) b ++ more ≡ drop (begin_of start qs) c
-        → AreSameAround (lists_of start b ps) (lists_of start c qs) → Rewinds b ps c qs
+    → AreSameAround (lists_of start b ps) (lists_of start c qs) → Rewinds b ps c qs
 rewind_here start b c [] [] more h k f i s =
     let x : c ≡ take start b ++ (drop start b ++ more) = sym (take-append-drop start c) ∙ cc (f, i) in
     let y : c ≡ b ++ more = x ∙ (sym (append_assoc (take start b) (drop start b) more) ∙ ap (λ (z : List ℕ). z ++ more) (take-append-drop start b)) in
@@ -112,7 +112,7 @@ rewind_within b c ps qs q k r =
 rewind_step : (start : ℕ) (b : List ℕ) (ps : List Placeholder) → IsLaid start b ps → {inner : List ℕ} {ls : List (OpenList ℕ)}
     → Stands (drop (begin_of start ps) b) (lists_of start b ps) inner ls
     → (c : List ℕ) (qs : List Placeholder) → IsLaid start c qs → take start b ≡ take start c → inner ≡ drop (begin_of start qs) c
-        → ls ≡ lists_of start c qs → Rewinds b ps c qs
+    → ls ≡ lists_of start c qs → Rewinds b ps c qs
 rewind_step start b ps h (here more ls same) c qs k f i e =
     rewind_here start b c ps qs more h k f i (subst (λ (z : List (OpenList ℕ)). AreSameAround (lists_of start b ps) z) e same)
 rewind_step start b ps h (within inner l ls st) c [] k f i e = absurd (nil_cons _ _ (sym e))
@@ -130,7 +130,7 @@ kept_lists (p ∷ ps) qs extra (k ∷ ks) e s =
     let order : reverse qs ≡ reverse (k ∷ ks) ++ reverse extra = ap reverse e ∙ reverse-append extra (k ∷ ks) in
     let number : length (reverse (k ∷ ks)) ≡ length (p ∷ ps) = let tails : length ps ≡ length ks = ap length s.1 in omega (arith, length-reverse (k ∷ ks)) in
     let old : reverse (take (length (p ∷ ps)) (reverse qs)) ≡ k ∷ ks = ap (λ z. reverse (take (length (p ∷ ps)) z)) order
-        ∙ ap reverse (take_at (reverse (k ∷ ks)) (reverse extra) (length (p ∷ ps)) number) ∙ reverse-reverse (k ∷ ks) in
+    ∙ ap reverse (take_at (reverse (k ∷ ks)) (reverse extra) (length (p ∷ ps)) number) ∙ reverse-reverse (k ∷ ks) in
     let head : record k { awaits = p.awaits } ≡ p = same_placeholder (record k { awaits = p.awaits }) p (sym s.0) refl in
     ap (with_innermost (λ _. p.awaits)) old ∙ cc (head, s.1)
 
@@ -161,12 +161,12 @@ goes_back start start' b c ps qs m m' h k grown =
 pub lists_back : (items grown cut last : List Placeholder) (open_lists : ℕ) (w : Option ℕ)
     → with_innermost (λ _. innermost_awaits (reverse items)) (reverse (take (length (reverse items)) (reverse (reverse grown)))) ≡ reverse items
     → open_lists ≡ length items → cut ≡ take open_lists grown → w ≡ innermost_awaits (reverse items)
-        → reverse last ≡ with_innermost (λ _. w) (reverse cut) → reverse last ≡ reverse items
+    → reverse last ≡ with_innermost (λ _. w) (reverse cut) → reverse last ≡ reverse items
 lists_back items grown cut last open_lists w back number cuts awaited is =
     let same : cut ≡ take (length (reverse items)) (reverse (reverse grown)) = cuts ∙ ap (λ n. take n grown) (number ∙ sym (length-reverse items))
-        ∙ ap (λ z. take (length (reverse items)) z) (sym (reverse-reverse grown)) in
+    ∙ ap (λ z. take (length (reverse items)) z) (sym (reverse-reverse grown)) in
     is ∙ ap (λ z. with_innermost (λ _. w) (reverse z)) same
-        ∙ ap (λ v. with_innermost (λ _. v) (reverse (take (length (reverse items)) (reverse (reverse grown))))) awaited ∙ back
+    ∙ ap (λ v. with_innermost (λ _. v) (reverse (take (length (reverse items)) (reverse (reverse grown))))) awaited ∙ back
 
 -- what rewinding to a place leaves
 record Rewound (start : ℕ) (b : List ℕ) (ps : List Placeholder) (start' : ℕ) (c : List ℕ) (ms : List Placeholder) : Type 0 where
@@ -177,10 +177,10 @@ record Rewound (start : ℕ) (b : List ℕ) (ps : List Placeholder) (start' : �
 -- rewinding a stream that grew from a place leaves what stood there
 rewound : (start start' : ℕ) (b c bytes : List ℕ) (old grown lists : List Placeholder) (m m' : Bool) (place : Place) (s t : State)
     → IsLaid start b (reverse old) → IsLaid start' c (reverse grown) → state_of start b (reverse old) m ≡ s → state_of start' c (reverse grown) m' ≡ t
-        → GrowsTo s t
+    → GrowsTo s t
     → place.len ≡ length b → place.open_count ≡ length old → place.awaits ≡ innermost_awaits (reverse old)
     → bytes ≡ take place.len c → reverse lists ≡ with_innermost (λ _. place.awaits) (reverse (take place.open_count grown))
-        → Rewound start b (reverse old) start' bytes lists
+    → Rewound start b (reverse old) start' bytes lists
 rewound start start' b c bytes old grown lists m m' place s t h k was is grows len number awaits cut last =
     let from_old = subst (λ (u : State). GrowsTo u t) (sym was) grows in
     let between = subst (λ (u : State). GrowsTo (state_of start b (reverse old) m) u) (sym is) from_old in

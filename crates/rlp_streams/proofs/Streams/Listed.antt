@@ -1,6 +1,6 @@
 -- A list that is opened, and the values appended to it.
-use Rattle.std.proofs.Common.{◌≡◌, ℕ, suc, ◌-◌, ◌||◌, nat_le, Bool, true, false, List, [], ◌∷◌, ◌++◌, length, Some, refl, sym, ◌∙◌, ap, arith,
-  append_assoc, append-nil}
+use Rattle.std.proofs.Common.{◌≡◌, ℕ, suc, ◌-◌, ◌||◌, nat_le, Bool, true, false, List, [], ◌∷◌, ◌++◌, length, Some, refl, sym, ◌∙◌, ap, arith}
+use Rattle.std.proofs.Common.{append_assoc, append-nil}
 use Rattle.std.proofs.lemmas.Bool.Decides.{nat_tests}
 use Rattle.rlp_format.specs.Format.Item.{Item, list_of}
 use Rattle.rlp_format.specs.Format.Encoding.{encoding, join}
@@ -33,11 +33,15 @@ add_all_in : (x : Item) (xs : List Item) (f p outer : List ℕ) (ls : List (Open
     ≡ record { front = f; stack = count_around list_encoding 1 (outer ++ list_encoding (p ++ join (x ∷ xs))) ls; mark = true }
 add_all_in x [] f p outer ls m = add_last x f p outer ls m ∙ rw (append-nil (encoding x)) refl
 add_all_in x (y ∷ ys) f p outer ls m =
-    let next : State = record { front = f; stack =
-        record { inner = p ++ encoding x; lists = record { awaits = Some (suc (length ys)); outer = outer } ∷ ls }; mark = is_list x || false } in
+    let next : State = record {
+      front = f;
+      stack =
+          record { inner = p ++ encoding x; lists = record { awaits = Some (suc (length ys)); outer = outer } ∷ ls };
+      mark = is_list x || false;
+    } in
     let whole : List ℕ → State = λ b. record { front = f; stack = count_around list_encoding 1 (outer ++ list_encoding b) ls; mark = true } in
     ap (add_all (y ∷ ys)) (add_more (length ys) x f p outer ls m) ∙ add_all_in y ys f (p ++ encoding x) outer ls (is_list x || false)
-        ∙ ap whole (append_assoc p (encoding x) (join (y ∷ ys)))
+    ∙ ap whole (append_assoc p (encoding x) (join (y ∷ ys)))
 
 -- a list of some items that is opened and filled is written as its item
 pub list_filled : (x : Item) (xs : List Item) (s : State) → add_all (x ∷ xs) (with_list (Some (length (x ∷ xs))) s) ≡ put_item (list_of (x ∷ xs)) s

@@ -1,24 +1,24 @@
 use Rattle.std.proofs.Common.{◌≡◌, ◌+◌, ◌-◌, length, reverse, suc, sym, ◌∙◌, arith}
-use Rattle.rlp_buffer.proofs.Streams.Closings.{closes_all, closes_more, closes_fits, closes_popped, dropped_popped, left_popped, moved_within,
-  moved_more, header_some}
+use Rattle.rlp_buffer.proofs.Streams.Closings.{closes_all, closes_more, closes_fits, closes_popped, dropped_popped, left_popped, moved_within}
+use Rattle.rlp_buffer.proofs.Streams.Closings.{moved_more, header_some}
 use Rattle.rlp_buffer.proofs.closing.close_lists.Goals as goal
 
 pub write_list_header-to-requires-clause-room : goal.write_list_header-to-requires-clause-room
 write_list_header-to-requires-clause-room c =
     let next : c.loop-left.left ≡ suc (c.loop-left.left - 1) = omega arith in
     let h = closes_popped _ _ (c.loop-left.left - 1) _ _ _ c.loop-left.lists.items c.pop.new.self.items c.in-Some.list c.loop-left.invariant.closes
-        c.in-Some.ensures.items next in
+    c.in-Some.ensures.items next in
     let order = h.order in
     let len = c.loop-left.from - (c.in-Some.list.position + 1) in
     let fits = closes_fits _ _ _ _ _ _ _ len (c.loop-left.to - len) c.shift.new.self.items h (omega (arith, order.0))
-        (omega (arith, h.room)) c.shift.ensures.items in
+    (omega (arith, h.room)) c.shift.ensures.items in
     omega (arith, fits.0)
 
 pub loop-left-preserved : goal.loop-left-preserved
 loop-left-preserved c =
     let next : c.loop-left.left ≡ suc (c.loop-left.left - 1) = omega arith in
     let h = closes_popped _ _ (c.loop-left.left - 1) _ _ _ c.loop-left.lists.items c.pop.new.self.items c.in-Some.list c.loop-left.invariant.closes
-        c.in-Some.ensures.items next in
+    c.in-Some.ensures.items next in
     let order = h.order in
     let len = c.loop-left.from - (c.in-Some.list.position + 1) in
     let at = c.loop-left.to - len in
@@ -27,7 +27,7 @@ loop-left-preserved c =
     let fits = closes_fits _ _ _ _ _ _ _ len at c.shift.new.self.items h is goes c.shift.ensures.items in
     let low = c.write_list_header-to.result in
     let closes = closes_more _ _ _ _ _ _ _ len at low c.shift.new.self.items c.write_list_header-to.new.self.items h is goes c.shift.ensures.items
-        c.write_list_header-to.ensures.begin c.write_list_header-to.ensures.items in
+    c.write_list_header-to.ensures.begin c.write_list_header-to.ensures.items in
     let some = header_some (length c.shift.new.self.items - at) in
     let shifted = c.shift.ensures in
     record {
@@ -38,17 +38,29 @@ loop-left-preserved c =
           c.in-Some.ensures.items next) ∙ c.loop-left.invariant.lowest;
       capacity = c.pop.ensures.capacity ∙ c.loop-left.invariant.capacity;
       spare = c.write_list_header-to.ensures.spare ∙ shifted.spare ∙ c.loop-left.invariant.spare;
-      counted = omega (arith, c.loop-left.invariant.counted, c.write_list_header-to.ensures.moved,
-          moved_more (c.in-Some.list.position + 1) at len c.loop-left.buffer.moved c.shift.new.self.moved
-          (omega (arith, h.room)) shifted.counted shifted.in_place);
-      moved = omega (arith, h.room, order.0, c.loop-left.invariant.moved, c.write_list_header-to.ensures.moved,
-          moved_within (c.in-Some.list.position + 1) at len c.loop-left.buffer.moved c.shift.new.self.moved
-          (omega (arith, h.room)) shifted.counted shifted.in_place);
+      counted = omega (
+        arith,
+        c.loop-left.invariant.counted,
+        c.write_list_header-to.ensures.moved,
+        moved_more (c.in-Some.list.position + 1) at len c.loop-left.buffer.moved c.shift.new.self.moved
+            (omega (arith, h.room)) shifted.counted shifted.in_place,
+      );
+      moved = omega (
+        arith,
+        h.room,
+        order.0,
+        c.loop-left.invariant.moved,
+        c.write_list_header-to.ensures.moved,
+        moved_within (c.in-Some.list.position + 1) at len c.loop-left.buffer.moved c.shift.new.self.moved
+            (omega (arith, h.room)) shifted.counted shifted.in_place,
+      );
       in_place = λ none.
           let still = c.loop-left.invariant.in_place none in
-          let here : c.loop-left.to ≡ c.loop-left.from = omega (arith, still.0, c.loop-left.invariant.closes.room) in
-          (omega (arith, closes.room, some, here, is, goes, fits.0, c.write_list_header-to.ensures.begin), c.write_list_header-to.ensures.moved
-              ∙ shifted.in_place (omega (arith, here, is, goes)) ∙ still.1);
+          let here : c.loop-left.to ≡ c.loop-left.from = omega (arith, still.0, c.loop-left.invariant.closes.room) in (
+            omega (arith, closes.room, some, here, is, goes, fits.0, c.write_list_header-to.ensures.begin),
+            c.write_list_header-to.ensures.moved
+                ∙ shifted.in_place (omega (arith, here, is, goes)) ∙ still.1,
+          );
     }
 
 pub returns-after-loop-left-clause-bytes : goal.returns-after-loop-left-clause-bytes

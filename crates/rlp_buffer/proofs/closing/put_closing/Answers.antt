@@ -27,7 +27,7 @@ returns-clause-keeps c =
     let end = c.in-Some.end in
     let longer = length-append c.reserve.new.self.items c.args.bytes.now in
     let put : length c.extend_reserved.new.self.items ≡ length old + length c.args.bytes.now =
-        omega (arith, longer, ap length c.extend_reserved.ensures.items, ap length c.in_ok-reserve.ensures.items) in
+    omega (arith, longer, ap length c.extend_reserved.ensures.items, ap length c.in_ok-reserve.ensures.items) in
     let closing : n ≡ filled items ps = rw c.as_slice.ensures.value at c.plan_count-plan.ensures.closing in
     let planned : c.plan_count-plan.result.growth ≡ growth (filled items ps) end 0 ps = rw c.as_slice.ensures.value at c.plan_count-plan.ensures.growth in
     let grown : c.plan_count-plan.result.growth ≡ growth n end 0 ps = planned ∙ ap (λ m. growth m end 0 ps) (sym closing) in

@@ -1,8 +1,8 @@
 use Rattle.std.proofs.Common.{◌<◌, ◌++◌, ◌∙◌, ap, ◌∷◌, [], ◌-◌, sym, arith, rules}
 use Rattle.rlp_format.specs.Format.Split.{items, split}
 use Rattle.rlp_format.specs.Views.Depth.{depth}
-use Rattle.rlp_format.proofs.Views.Printing.{depth-string, shallow-other, deep-list, deep-item, shallow-list, greatest-more, items-list, done-next,
-  done-more, done-all}
+use Rattle.rlp_format.proofs.Views.Printing.{depth-string, shallow-other, deep-list, deep-item, shallow-list, greatest-more, items-list, done-next}
+use Rattle.rlp_format.proofs.Views.Printing.{done-more, done-all}
 use Rattle.rlp_format.proofs.depth.+is_nested_within.Goals as goal
 
 pub returns-then-not-is_list : goal.returns-then-not-is_list
@@ -24,9 +24,9 @@ pub returns-then-not-is_nested_within : goal.returns-then-not-is_nested_within
 returns-then-not-is_nested_within t c =
     let deep : c.args.limit - 1 < depth c.in-Ok.item.item.now = search rules in
     let all = done-next c.loop-item.invariant.done (items c.args.framed.now.item.now) c.loop-item.items.rest c.in-Ok.item.item.now
-        c.next_framed.new.self.rest c.loop-item.invariant.all c.in-Ok.ensures.parts in
+    c.next_framed.new.self.rest c.loop-item.invariant.all c.in-Ok.ensures.parts in
     deep-item c.args.framed.now.item.now c.args.framed.now.content.now c.in-Ok.item.item.now c.args.limit c.loop-item.invariant.done
-        (split c.next_framed.new.self.rest) (sym c.if-not-is_list.ensures) c.args.framed.now.reads all deep
+    (split c.next_framed.new.self.rest) (sym c.if-not-is_list.ensures) c.args.framed.now.reads all deep
 
 pub loop-item-preserved : goal.loop-item-preserved
 loop-item-preserved t c = record {
@@ -39,6 +39,6 @@ loop-item-preserved t c = record {
 pub returns : goal.returns
 returns t c =
     let all = done-all c.loop-item.invariant.done (items c.args.framed.now.item.now) c.loop-item.items.rest c.loop-item.invariant.all
-        c.in_default.ensures.parts in
+    c.in_default.ensures.parts in
     shallow-list c.args.framed.now.item.now c.args.framed.now.content.now c.args.limit c.loop-item.invariant.done
-        (sym c.if-not-is_list.ensures) c.args.framed.now.reads (omega arith) all c.loop-item.invariant.shallow
+    (sym c.if-not-is_list.ensures) c.args.framed.now.reads (omega arith) all c.loop-item.invariant.shallow

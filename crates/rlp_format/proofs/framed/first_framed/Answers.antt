@@ -36,5 +36,5 @@ returns-clause-item c = front_item c.args.bytes.now c.split_at.result.0.now c.in
 pub returns-clause-parts : goal.returns-clause-parts
 returns-clause-parts c =
     let parts = split_framed c.args.bytes.now c.in-Ok.header.header_len c.in-Ok.header.value_len (bytes_held c.args.bytes.now c.type_inv.bytes)
-        (sym c.in-Ok.ensures.exact) in
+    (sym c.in-Ok.ensures.exact) in
     cc (parts, c.split_at.ensures.front, c.split_at.ensures.back)

@@ -12,8 +12,8 @@ returns-then-is_null g c flush ok =
 pub returns-in-Ok : goal.returns-in-Ok
 returns-in-Ok g c flush ok =
     has_written_styled_of_eq _ _ _ _ _
-        (sym (ap text c.in-Ok.ensures.whole ∙ text-followed c.in-Ok.framed.item.now c.in-Ok.field-0-1.now c.in-Ok.ensures.item))
-        (c.write_framed.ensures flush ok)
+    (sym (ap text c.in-Ok.ensures.whole ∙ text-followed c.in-Ok.framed.item.now c.in-Ok.field-0-1.now c.in-Ok.ensures.item))
+    (c.write_framed.ensures flush ok)
 
 pub returns-in-Err : goal.returns-in-Err
 returns-in-Err g c flush ok =

@@ -1,6 +1,6 @@
 use Rattle.rlp_tool.specs.StreamCalls.{call_of, calls_of}
-use Rattle.rlp_tool.proofs.CallsLemmas.{AreMade, made_none, made_next, made_all, refused, built, joined_built, described_built, described_refused,
-  refused_at_end, IfErr-both, IfOk-map, OnOk-all}
+use Rattle.rlp_tool.proofs.CallsLemmas.{AreMade, made_none, made_next, made_all, refused, built, joined_built, described_built, described_refused}
+use Rattle.rlp_tool.proofs.CallsLemmas.{refused_at_end, IfErr-both, IfOk-map, OnOk-all}
 use Rattle.rlp_tool.proofs.building.build.Goals as goal
 
 pub loop-i-init : goal.loop-i-init

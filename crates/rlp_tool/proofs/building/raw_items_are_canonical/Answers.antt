@@ -1,10 +1,10 @@
 use Rattle.std.proofs.Common.{◌<◌, ◌-◌, length, arith, rules, refl, nat_eq}
 use Rattle.rlp.specs.Format.Strict.{IsCanonicalWithin}
 use Rattle.rlp_tool.specs.RawItems.{deepest_raw_item}
-use Rattle.rlp_tool.proofs.RawLemmas.{at_end, next_item, none_brought, no_bytes, not_empty, not_true, refuted, shorter_rest, stray_bytes, stray_item,
-  stray_rest, zero_test}
-use Rattle.rlp_tool.proofs.building.raw_items_are_canonical.Goals.{then-awaited-eq0-via-then-awaited-eq0,
-  then-awaited-eq0-via-else-awaited-eq0+then-not-is_canonical}
+use Rattle.rlp_tool.proofs.RawLemmas.{at_end, next_item, none_brought, no_bytes, not_empty, not_true, refuted, shorter_rest, stray_bytes, stray_item}
+use Rattle.rlp_tool.proofs.RawLemmas.{stray_rest, zero_test}
+use Rattle.rlp_tool.proofs.building.raw_items_are_canonical.Goals.{then-awaited-eq0-via-then-awaited-eq0}
+use Rattle.rlp_tool.proofs.building.raw_items_are_canonical.Goals.{then-awaited-eq0-via-else-awaited-eq0+then-not-is_canonical}
 use Rattle.rlp_tool.proofs.building.raw_items_are_canonical.Goals as goal
 
 pub loop-rest-init : goal.loop-rest-init

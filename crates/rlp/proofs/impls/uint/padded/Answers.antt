@@ -10,7 +10,7 @@ last_put : (n a k : ℕ) (ds digits : List ℕ) → ds ≡ digits → n ≤ a + 
 last_put n a k ds digits is few =
     let zeros : List ℕ = replicate n 0 in
     let none : post_of a k zeros ≡ [] = nil_from_length (post_of a k zeros)
-        (omega (arith, length-drop k (drop a zeros), length-drop a zeros, length-replicate {A = ℕ} n 0)) in
+    (omega (arith, length-drop k (drop a zeros), length-drop a zeros, length-replicate {A = ℕ} n 0)) in
     ap (λ rest. number_from_digits 256 (take a zeros ++ (ds ++ rest))) none
     ∙ ap (λ s. number_from_digits 256 (take a zeros ++ s)) (append-nil ds ∙ is)
     ∙ zeros_in_front a n digits

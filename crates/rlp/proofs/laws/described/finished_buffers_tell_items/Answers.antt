@@ -6,7 +6,8 @@ pub returns : goal.returns
 returns c = record {
   joined = described_buffer;
   only = described_buffer_only;
-  equal = λ front calls more xs ys d f e g.
-      (same_buffer front calls more xs ys c.args.one.now c.args.other.now (omega arith) (omega arith) d f e g,
-      same_items front calls more xs ys c.args.one.now c.args.other.now d f e g);
+  equal = λ front calls more xs ys d f e g. (
+    same_buffer front calls more xs ys c.args.one.now c.args.other.now (omega arith) (omega arith) d f e g,
+    same_items front calls more xs ys c.args.one.now c.args.other.now d f e g,
+  );
 }

@@ -8,4 +8,4 @@ pub returns : goal.returns
 returns g c =
     let fits : length c.args.bytes.now < 2 ^ 64 = omega arith in
     λ law. option_reading g.T.Encodable.item g.T.Decodable.gives g.T.Decodable.faults law (view_of c.args.bytes.now)
-        (bytes_held c.args.bytes.now c.type_inv.bytes) fits
+    (bytes_held c.args.bytes.now c.type_inv.bytes) fits

@@ -11,4 +11,4 @@ pub returns : goal.returns
 returns c =
     let fits : length c.args.bytes.now < 2 ^ 64 = omega arith in
     option_reading string GivesBytes FaultsAsBytes (λ v bytes short. bytes_reading v bytes short) (view_of c.args.bytes.now)
-        (bytes_held c.args.bytes.now c.type_inv.bytes) fits
+    (bytes_held c.args.bytes.now c.type_inv.bytes) fits

@@ -13,10 +13,10 @@ returns-clause-each g c =
     let fits : length c.args.bytes.now < 2 ^ 64 = omega arith in
     λ before after v begins fit.
     list_item_reads_back g.T.Encodable.fits g.T.Encodable.item g.T.Decodable.gives g.T.Decodable.faults g.met.T.RoundTrip.round_trip before after v
-        c.args.bytes.now fits fit begins
+    c.args.bytes.now fits fit begins
 
 pub returns-clause-all : goal.returns-clause-all
 returns-clause-all g c =
     let fits : length c.args.bytes.now < 2 ^ 64 = omega arith in
     λ vs all begins. list_given g.T.Encodable.fits g.T.Encodable.item g.T.Decodable.gives g.T.Decodable.faults g.met.T.RoundTrip.round_trip vs
-        c.args.bytes.now fits all begins
+    c.args.bytes.now fits all begins

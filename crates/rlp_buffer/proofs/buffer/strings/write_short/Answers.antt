@@ -16,5 +16,5 @@ returns-clause-ok c =
     let old = c.args.buffer.now.items in
     let header = sym (written_header_short 0x80 (length value) c.requires.short) in
     c.extend_reserved-2.ensures.items
-        ∙ ap (λ b. b ++ value) (c.extend_reserved.ensures.items ∙ ap (λ b. b ++ (0x80 + length value) ∷ []) c.in_ok-reserve.ensures.items
-        ∙ ap (λ h. old ++ h) header) ∙ header_and_string old value c.requires.headed
+    ∙ ap (λ b. b ++ value) (c.extend_reserved.ensures.items ∙ ap (λ b. b ++ (0x80 + length value) ∷ []) c.in_ok-reserve.ensures.items
+    ∙ ap (λ h. old ++ h) header) ∙ header_and_string old value c.requires.headed

@@ -18,7 +18,7 @@ returns-in-Ok-append_fields-clause-ok c =
     let same : c.as_slice.result.now ≡ c.args.self.now.children = search rules in
     let many : length c.args.self.now.children ≡ 16 = first_of (omega arith, grind (arith, common_steps)) in
     let written : c.append_fields-append_struct.new.s.state ≡ put_item
-        (list_of (map child.item c.as_slice.result.now ++ last.items branch)) c.args.s.now.state = search rules in
+    (list_of (map child.item c.as_slice.result.now ++ last.items branch)) c.args.s.now.state = search rules in
     written
     ∙ ap (λ (xs : List Child). put_item (list_of (map child.item xs ++ last.items branch)) c.args.s.now.state) same
     ∙ ap (λ (xs : List Item). put_item (list_of xs) c.args.s.now.state) (each_items Nothing (λ (b : Branch). b.children) child last branch 16 many)

@@ -12,16 +12,16 @@ pub returns-in_err-val_at-2-clause-fault : goal.returns-in_err-val_at-2-clause-f
 returns-in_err-val_at-2-clause-fault c =
     let p = err_from_is_err_and c.from_residual-in_err-val_at-2.result c.from_residual-in_err-val_at-2.ensures.1 in
     rw (p.1, p.2) (item_1 2 5 _ _ _ c.args.rlp.now c.in_err-val_at-2.field-0.0 c.in_err-val_at-2.ensures.fault _ (sym c.in_ok-count.ensures)
-        (omega arith) c.in_ok-val_at.ensures.some)
+    (omega arith) c.in_ok-val_at.ensures.some)
 
 pub returns-in_err-val_at-3-clause-fault : goal.returns-in_err-val_at-3-clause-fault
 returns-in_err-val_at-3-clause-fault c =
     let p = err_from_is_err_and c.from_residual-in_err-val_at-3.result c.from_residual-in_err-val_at-3.ensures.1 in
     rw (p.1, p.2) (item_2 2 5 _ _ _ c.args.rlp.now c.in_err-val_at-3.field-0.0 c.in_err-val_at-3.ensures.fault _ (sym c.in_ok-count.ensures)
-        (omega arith) c.in_ok-val_at.ensures.some c.in_ok-val_at-2.ensures.some)
+    (omega arith) c.in_ok-val_at.ensures.some c.in_ok-val_at-2.ensures.some)
 
 pub returns-in_err-val_at-4-clause-fault : goal.returns-in_err-val_at-4-clause-fault
 returns-in_err-val_at-4-clause-fault c =
     let p = err_from_is_err_and c.from_residual-in_err-val_at-4.result c.from_residual-in_err-val_at-4.ensures.1 in
     rw (p.1, p.2) (item_3 2 5 _ _ _ c.args.rlp.now c.in_err-val_at-4.field-0.0 c.in_err-val_at-4.ensures.fault _ (sym c.in_ok-count.ensures)
-        (omega arith) c.in_ok-val_at.ensures.some c.in_ok-val_at-2.ensures.some c.in_ok-val_at-3.ensures.some)
+    (omega arith) c.in_ok-val_at.ensures.some c.in_ok-val_at-2.ensures.some c.in_ok-val_at-3.ensures.some)

@@ -10,4 +10,4 @@ returns-in_ok-write_str-in-Custom-2-clause-styled g c flush ok =
     let b = c.in_ok-write_str-in-Custom-2.ensures.styled a.flush (search rules) in
     let d = c.write_str-in-Custom-3.ensures.styled b.flush ok in
     has_written_styled_of_eq _ _ _ _ _ (sym (ap error_name c.in-Custom.is))
-        (has_written_styled_append _ _ _ _ _ _ (has_written_styled_append _ _ _ _ _ _ a b) d)
+    (has_written_styled_append _ _ _ _ _ _ (has_written_styled_append _ _ _ _ _ _ a b) d)

@@ -10,7 +10,7 @@ invariant_of-self c =
     let i = c.self.inside in
     let le = start_le i.start i.buffer.items (reverse i.lists.items) c.self.invariant in
     rw (c.truncate.ensures.items, c.clear.ensures.items)
-        (let whole : i.start ≤ length (take i.start i.buffer.items) = omega (arith, length-take-le i.start i.buffer.items le) in whole)
+    (let whole : i.start ≤ length (take i.start i.buffer.items) = omega (arith, length-take-le i.start i.buffer.items le) in whole)
 
 pub returns-clause-retains : goal.returns-clause-retains
 returns-clause-retains c =
@@ -18,7 +18,7 @@ returns-clause-retains c =
     let le = start_le i.start i.buffer.items (reverse i.lists.items) c.self.invariant in
     let laid : IsLaid i.start c.truncate.new.self.items (reverse c.clear.new.self.items) =
     rw (c.truncate.ensures.items, c.clear.ensures.items)
-        (let whole : i.start ≤ length (take i.start i.buffer.items) = omega (arith, length-take-le i.start i.buffer.items le) in whole) in
+    (let whole : i.start ≤ length (take i.start i.buffer.items) = omega (arith, length-take-le i.start i.buffer.items le) in whole) in
     retained c.args.self.now i (record { buffer = c.truncate.new.self; start = i.start; lists = c.clear.new.self; mark = i.mark }) c.self.view_is
-        c.self.invariant laid
+    c.self.invariant laid
     (record { moved = omega arith; room = omega arith }) (omega arith)

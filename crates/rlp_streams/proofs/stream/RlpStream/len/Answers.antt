@@ -20,14 +20,14 @@ pub unwrap-requires : goal.unwrap-requires
 unwrap-requires c =
     let i = c.self.inside in
     let is = found_len i.start c.len.result i.buffer.items c.as_slice-lists.result.now c.closed_len.result c.len.ensures.value c.closed_len.ensures
-        (rw c.as_slice-lists.ensures.value c.self.invariant) c.len.ensures.bound c.as_slice-lists.type_inv.1 in
+    (rw c.as_slice-lists.ensures.value c.self.invariant) c.len.ensures.bound c.as_slice-lists.type_inv.1 in
     rw is refl
 
 pub returns : goal.returns
 returns c =
     let i = c.self.inside in
     let is = found_len i.start c.len.result i.buffer.items c.as_slice-lists.result.now c.closed_len.result c.len.ensures.value c.closed_len.ensures
-        (rw c.as_slice-lists.ensures.value c.self.invariant) c.len.ensures.bound c.as_slice-lists.type_inv.1 in
+    (rw c.as_slice-lists.ensures.value c.self.invariant) c.len.ensures.bound c.as_slice-lists.type_inv.1 in
     let size : Some c.unwrap.result ≡ Some (closed_len i.start c.len.result 0 (reverse c.as_slice-lists.result.now)) = sym c.unwrap.ensures ∙ is in
     let value : c.unwrap.result ≡ closed_len i.start c.len.result 0 (reverse c.as_slice-lists.result.now) = cc in
     let state = state_of i.start i.buffer.items (reverse i.lists.items) i.mark in

@@ -15,4 +15,4 @@ pub returns-in_err-write_string-clause-has_room : goal.returns-in_err-write_stri
 returns-in_err-write_string-clause-has_room c =
     λ has.
     absurd (short_to_put (encoding (string c.args.value.now)) c.args.self.now
-        (rw (ap (λ (v : Seen). v.spare) (sym c.self.view_is)) c.in_err-write_string.ensures.room) has)
+    (rw (ap (λ (v : Seen). v.spare) (sym c.self.view_is)) c.in_err-write_string.ensures.room) has)

@@ -17,7 +17,7 @@ invariant_of-self-then-open c =
     let i = c.self.inside in
     let done = c.in_ok-closed.ensures in
     rw (done.bytes, done.lists) (laid_counted c.args.items i.start (i.buffer.items ++ c.args.bytes.now) (reverse i.lists.items)
-        (laid_append i.start i.buffer.items c.args.bytes.now (reverse i.lists.items) c.self.invariant))
+    (laid_append i.start i.buffer.items c.args.bytes.now (reverse i.lists.items) c.self.invariant))
 
 pub returns-then-open-clause-ok : goal.returns-then-open-clause-ok
 returns-then-open-clause-ok c =
@@ -36,7 +36,7 @@ returns-then-open-clause-moved c =
     let done = c.in_ok-closed.ensures in
     rw (done.bytes, done.lists, ← c.self.view_is)
     (moved_counted c.args.items i.start (i.buffer.items ++ c.args.bytes.now)
-        (reverse i.lists.items) c.in_ok-closed.closed i.buffer.moved c.put_counted.new.buffer.moved
+    (reverse i.lists.items) c.in_ok-closed.closed i.buffer.moved c.put_counted.new.buffer.moved
     (laid_append i.start i.buffer.items c.args.bytes.now (reverse i.lists.items) c.self.invariant) done.moved)
 
 pub returns-in_err-closed-clause-has_room : goal.returns-in_err-closed-clause-has_room
@@ -53,6 +53,11 @@ returns-then-open-clause-retains c =
     let done = c.in_ok-closed.ensures in
     let laid : IsLaid i.start c.put_counted.new.buffer.items (reverse c.put_counted.new.lists.items) =
     rw (done.bytes, done.lists) (laid_counted c.args.items i.start (i.buffer.items ++ c.args.bytes.now) (reverse i.lists.items)
-        (laid_append i.start i.buffer.items c.args.bytes.now (reverse i.lists.items) c.self.invariant)) in
-    retained c.args.self.now i (record { buffer = c.put_counted.new.buffer; start = i.start; lists = c.put_counted.new.lists; mark =
-        c.in_ok-closed.closed }) c.self.view_is c.self.invariant laid done.keeps (omega arith)
+    (laid_append i.start i.buffer.items c.args.bytes.now (reverse i.lists.items) c.self.invariant)) in
+    retained c.args.self.now i (record {
+      buffer = c.put_counted.new.buffer;
+      start = i.start;
+      lists = c.put_counted.new.lists;
+      mark =
+          c.in_ok-closed.closed;
+    }) c.self.view_is c.self.invariant laid done.keeps (omega arith)

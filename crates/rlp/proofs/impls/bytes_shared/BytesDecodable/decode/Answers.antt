@@ -5,4 +5,4 @@ use Rattle.rlp.proofs.impls.bytes_shared.BytesDecodable.decode.Goals as goal
 pub returns-clause-fault : goal.returns-clause-fault
 returns-clause-fault c =
     bytes_faults_from c.decode_value.result c.decoder.ensures
-        (record { found = c.decode_value.ensures.found; missing = c.decode_value.ensures.missing }) (λ d call. search rules)
+    (record { found = c.decode_value.ensures.found; missing = c.decode_value.ensures.missing }) (λ d call. search rules)

@@ -23,24 +23,30 @@ loop-item-preserved g c = record {
 pub returns-clause-value : goal.returns-clause-value
 returns-clause-value g c =
     let all = views-all c.loop-item.yielded c.loop-item.item-iterator.left
-        (item_views c.args.self.now) c.loop-item.invariant.all c.in-None.ensures.steps.steps.0 in
-    record { is_list = c.in_ok-check_list.ensures; each = subst (λ vs. GivesEach g.T.Decodable.gives vs c.loop-item.values.items) all
-        c.loop-item.invariant.read }
+    (item_views c.args.self.now) c.loop-item.invariant.all c.in-None.ensures.steps.steps.0 in
+    record {
+      is_list = c.in_ok-check_list.ensures;
+      each = subst (λ vs. GivesEach g.T.Decodable.gives vs c.loop-item.values.items) all
+          c.loop-item.invariant.read;
+    }
 
 pub returns-in-Err-clause-fault : goal.returns-in-Err-clause-fault
 returns-in-Err-clause-fault g c =
     let all = views-next c.in-Some.item c.loop-item.yielded c.loop-item.item-iterator.left c.next.new.self.left
-        (item_views c.args.self.now) c.loop-item.invariant.all c.in-Some.ensures.steps.steps in
+    (item_views c.args.self.now) c.loop-item.invariant.all c.in-Some.ensures.steps.steps in
     faults-first g.T.Decodable.gives g.T.Decodable.faults g.T.Decodable.may_lack_memory c.args.self.now c.in_ok-check_list.ensures c.loop-item.yielded
-        c.next.new.self.left c.in-Some.item c.loop-item.values.items (sym all) c.loop-item.invariant.read c.in-Err.fault c.in-Err.ensures.fault
+    c.next.new.self.left c.in-Some.item c.loop-item.values.items (sym all) c.loop-item.invariant.read c.in-Err.fault c.in-Err.ensures.fault
 
 pub returns-in-Err-push-clause-fault : goal.returns-in-Err-push-clause-fault
 returns-in-Err-push-clause-fault g c =
     let all = views-next c.in-Some.item c.loop-item.yielded c.loop-item.item-iterator.left c.next.new.self.left
-        (item_views c.args.self.now) c.loop-item.invariant.all c.in-Some.ensures.steps.steps in
-    inr (refl, no-room g.T.Decodable.gives g.T.Decodable.faults g.T.Decodable.may_lack_memory c.args.self.now c.in_ok-check_list.ensures
-        c.loop-item.yielded c.next.new.self.left c.in-Some.item c.loop-item.values.items
-        (sym all) c.loop-item.invariant.read c.in-Ok.value c.in-Ok.ensures.value)
+    (item_views c.args.self.now) c.loop-item.invariant.all c.in-Some.ensures.steps.steps in
+    inr (
+      refl,
+      no-room g.T.Decodable.gives g.T.Decodable.faults g.T.Decodable.may_lack_memory c.args.self.now c.in_ok-check_list.ensures
+          c.loop-item.yielded c.next.new.self.left c.in-Some.item c.loop-item.values.items
+          (sym all) c.loop-item.invariant.read c.in-Ok.value c.in-Ok.ensures.value,
+    )
 
 pub returns-in_err-check_list-clause-fault : goal.returns-in_err-check_list-clause-fault
 returns-in_err-check_list-clause-fault g c =

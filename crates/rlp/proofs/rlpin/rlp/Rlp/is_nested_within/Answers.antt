@@ -10,7 +10,7 @@ pub returns-in-Ok : goal.returns-in-Ok
 returns-in-Ok c =
     let same : c.self.inside.bytes.now ≡ c.args.self.now.bytes = ap (λ (v : View). v.bytes) c.self.view_is in
     let whole : depth c.args.self.now.bytes ≡ depth c.in-Ok.framed.item.now = ap depth (sym same ∙ c.in-Ok.ensures.whole)
-        ∙ depth-followed c.in-Ok.framed.item.now c.in-Ok.field-0-1.now c.in-Ok.ensures.item in
+    ∙ depth-followed c.in-Ok.framed.item.now c.in-Ok.field-0-1.now c.in-Ok.ensures.item in
     subst (λ (n : ℕ). IsTrue c.is_nested_within.result ↔ (n ≤ c.args.limit)) (sym whole) c.is_nested_within.ensures
 
 pub returns-in-Err : goal.returns-in-Err

@@ -22,7 +22,7 @@ returns-in_err-s-2-clause-refused g c =
     let few : length (map g.E.Encodable.item before) < length values =
     omega (arith, length-map before g.E.Encodable.item, length-take-le c.loop-value.value-index values (omega arith)) in
     on_err _ _ (grows_filling (map g.E.Encodable.item before) (length values) c.args.s.now.state c.append.follows.lender-at-none.state few
-        (same ∙ c.loop-value.invariant.state))
+    (same ∙ c.loop-value.invariant.state))
 
 pub loop-value-preserved : goal.loop-value-preserved
 loop-value-preserved g c =
@@ -36,7 +36,7 @@ loop-value-preserved g c =
     let pushed : add_all (map item (take (c.loop-value.value-index + 1) values)) begun ≡ add x (add_all before begun) =
     ap (λ (ys : List Item). add_all ys begun) more ∙ add_all-push before x begun in
     let step : c.in_ok-s-2.field-0.stream.now.state ≡ add x (add_all before begun) = c.in_ok-s-2.ensures.ok
-        ∙ ap (λ (t : State). add x t) c.loop-value.invariant.state in
+    ∙ ap (λ (t : State). add x t) c.loop-value.invariant.state in
     let done : c.in_ok-s-2.field-0.stream.now.state ≡ add_all (map item (take (c.loop-value.value-index + 1) values)) begun = step ∙ sym pushed in
     let more = retains_trans _ _ _ c.loop-value.invariant.retains c.in_ok-s-2.ensures.retains in
     record { state = search rules; retains = search rules; fits = grind (arith, elements) }
@@ -47,7 +47,7 @@ returns-clause-ok g c =
     let filled = c.loop-value.invariant.state in
     let all : take c.loop-value.value-index values ≡ values = take_all c.loop-value.value-index values c.loop-value-test.false in
     filled_list (map g.E.Encodable.item values) (length values) c.args.s.now.state c.loop-value.s.state (length-map values g.E.Encodable.item)
-        (rw all at filled)
+    (rw all at filled)
 
 pub returns-in_err-s-2-clause-retains : goal.returns-in_err-s-2-clause-retains
 returns-in_err-s-2-clause-retains g c =

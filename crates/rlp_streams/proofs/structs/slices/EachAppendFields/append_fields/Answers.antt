@@ -16,7 +16,7 @@ returns-in_err-s-clause-refused g c =
     let values = c.args.self.now.0.now in
     let same : c.append.follows.lender-at-none.state ≡ c.loop-value.s.state = (rw c.in_err-s.was at c.append.follows.holds-at-none).0 in
     on_err _ _ (some_at g.T.Encodable.item values c.loop-value.value-index c.args.s.now.state c.append.follows.lender-at-none.state
-        c.loop-value-test.true (same ∙ c.loop-value.invariant.state))
+    c.loop-value-test.true (same ∙ c.loop-value.invariant.state))
 
 pub returns-in_err-s-clause-retains : goal.returns-in_err-s-clause-retains
 returns-in_err-s-clause-retains g c =
@@ -31,8 +31,8 @@ loop-value-preserved g c =
     map_more item values c.loop-value.value-index c.value-item.result c.loop-value-test.true ∙ ap (λ v. before ++ item v ∷ []) (sym c.value-item.is) in
     let done : c.in_ok-s.field-0.stream.now.state ≡ add_all (map item (take (c.loop-value.value-index + 1) values)) c.args.s.now.state =
     items_pushed before (map item (take (c.loop-value.value-index + 1) values))
-        (item c.value-item.result) c.args.s.now.state c.loop-value.s.state c.in_ok-s.field-0.stream.now.state more c.loop-value.invariant.state
-        c.in_ok-s.ensures.ok in
+    (item c.value-item.result) c.args.s.now.state c.loop-value.s.state c.in_ok-s.field-0.stream.now.state more c.loop-value.invariant.state
+    c.in_ok-s.ensures.ok in
     let more = retains_trans _ _ _ c.loop-value.invariant.retains c.in_ok-s.ensures.retains in
     record { state = search rules; retains = search rules; fits = grind (arith, elements) }
 

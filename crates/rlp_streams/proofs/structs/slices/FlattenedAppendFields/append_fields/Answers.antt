@@ -12,8 +12,8 @@ on_err (Err e) P p = p
 pub returns-in_err-append_fields-clause-refused : goal.returns-in_err-append_fields-clause-refused
 returns-in_err-append_fields-clause-refused g c =
     on_err _ _ (flattened_at g.T.AppendFields.items c.args.self.now.0.now c.loop-value.value-index c.value-item.result c.value-item.result
-        c.args.s.now.state c.loop-value.s.state c.append_fields.new.s.state c.loop-value-test.true c.value-item.is c.loop-value.invariant.state
-        c.in_err-append_fields.ensures.refused)
+    c.args.s.now.state c.loop-value.s.state c.append_fields.new.s.state c.loop-value-test.true c.value-item.is c.loop-value.invariant.state
+    c.in_err-append_fields.ensures.refused)
 
 pub loop-value-preserved : goal.loop-value-preserved
 loop-value-preserved g c =
