@@ -84,7 +84,11 @@ fn headers_go_both_ways(rt: HostRuntime) -> Result<(), Fail> {
     let alloc = rt.alloc();
     let bytes = rlp::encode(alloc, &header(alloc))?;
     assert_eq!(rt; bytes.len(), 299);
-    assert!(rt; bytes.as_slice().starts_with(&[0xf9, 0x01, 0x28, 0xa0, 0x01]));
+    assert!(rt;
+        bytes
+            .as_slice()
+            .starts_with(&[0xf9, 0x01, 0x28, 0xa0, 0x01])
+    );
     let back = rlp::decode::<Header>(alloc, bytes.as_slice())?;
     let again = rlp::encode(alloc, &back)?;
     assert_eq!(rt; again.as_slice(), bytes.as_slice());

@@ -20,9 +20,9 @@ returns-clause-described g c = λ xs ys d e.
     let others = calls_of g.B.Encodable.item c.args.other.now in
     let front = c.args.front.now in
     let first : FinishAs front ones c.as_slice-first.result.now = subst (FinishAs front ones) (sym c.as_slice-first.ensures)
-        (rw c.in-Some.is at c.in_ok-first.ensures.finished) in
+    (rw c.in-Some.is at c.in_ok-first.ensures.finished) in
     let second : FinishAs front others c.as_slice-second.result.now =
-        subst (FinishAs front others) (sym c.as_slice-second.ensures) (rw c.in-Some-2.is at c.in_ok-second.ensures.finished) in
+    subst (FinishAs front others) (sym c.as_slice-second.ensures) (rw c.in-Some-2.is at c.in_ok-second.ensures.finished) in
     let told = c.finished_buffers_tell_items.ensures.equal front ones others xs ys d first e second in
     (λ alike. told.0 (c.same_bytes.ensures.0 alike), λ same. c.same_bytes.ensures.1 (told.1 same))
 

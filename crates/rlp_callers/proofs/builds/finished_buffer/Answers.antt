@@ -9,4 +9,4 @@ returns-in-Ok-clause-joined g c = rw c.in-Ok.ensures at c.finished_over.ensures.
 pub returns-in-Ok-clause-described : goal.returns-in-Ok-clause-described
 returns-in-Ok-clause-described g c = λ items d.
     c.finished_over.ensures.described items
-        (subst (λ (front : List ℕ). IsDescribed front (calls_of g.E.Encodable.item c.args.calls.now) items) (sym c.in-Ok.ensures) d)
+    (subst (λ (front : List ℕ). IsDescribed front (calls_of g.E.Encodable.item c.args.calls.now) items) (sym c.in-Ok.ensures) d)
