@@ -5,6 +5,6 @@ mod careless;
 mod codecs;
 mod nodes;
 mod once_refused;
-mod tails;
 mod structs;
+mod tails;
 mod uses;

@@ -2,7 +2,7 @@
 
 use crate::values::arrays::is_fault;
 use rlp::DecoderError;
-use rlp_examples::Header;
+use rlp_examples::ShortHeader;
 use std::alloc::{AllocError, Global};
 use std::test::Fail;
 
@@ -38,7 +38,7 @@ const NO_HEADERS: [(&[u8], DecoderError); 5] = [
 
 fn short_ones_go_both_ways(alloc: Global) -> Result<bool, Fail> {
     for (bytes, fee) in SHORT {
-        let header = rlp::decode_strict::<Header>(alloc, bytes)?;
+        let header = rlp::decode_strict::<ShortHeader>(alloc, bytes)?;
         if header.number != 5
             || header.base_fee != fee
             || header.withdrawals_root.is_some()
@@ -51,7 +51,7 @@ fn short_ones_go_both_ways(alloc: Global) -> Result<bool, Fail> {
 }
 
 fn whole_goes_both_ways(alloc: Global) -> Result<bool, Fail> {
-    let header = rlp::decode_strict::<Header>(alloc, &WHOLE)?;
+    let header = rlp::decode_strict::<ShortHeader>(alloc, &WHOLE)?;
     Ok(
         header.blob_gas_used == Some(8)
             && header.withdrawals_root.is_some()
@@ -60,12 +60,12 @@ fn whole_goes_both_ways(alloc: Global) -> Result<bool, Fail> {
 }
 
 fn no_headers(alloc: Global) -> bool {
-    NO_HEADERS.iter().all(|row| is_fault(rlp::decode::<Header>(alloc, row.0).err(), &row.1))
+    NO_HEADERS.iter().all(|row| is_fault(rlp::decode::<ShortHeader>(alloc, row.0).err(), &row.1))
 }
 
 /// Whether a header with a field and without the one before it is refused.
 fn gap_is_refused(alloc: Global) -> bool {
-    let header = Header {
+    let header = ShortHeader {
         number: 5,
         gas_limit: 6,
         base_fee: None,
