@@ -30,9 +30,8 @@ pub trait DecodeField: Sized + Drop {
     // Reading the item may answer `OutOfMemory` where memory is refused.
     ghost may_lack_memory: { View → Type 0 };
 
-    /// The field that the next item gives.
-    ///
-    /// The faults are those of [`Fields::next_value`] or [`Fields::next_list`].
+    /// Reads the field from the next item. Fails as [`Fields::next_value`] or
+    /// [`Fields::next_list`] does.
     fn decode_field(alloc: Global, fields: &mut Fields<'_>) -> Result<Self, DecoderError>
         ensures value { IfOk result (λ x. GivesAt gives fields.old.view fields.old.place x) }
         ensures some { OnOk result (gives_some fields.old.place fields.old.view) }
@@ -85,8 +84,7 @@ impl<T: Decodable> DecodeField for ListField<T> {
     }
 }
 
-/// The fields of a struct, as they are read from items one after another: the last one alone, in
-/// brackets with a comma, and a field before others as a pair.
+/// The fields of a struct that is read from a list, as nested pairs: `(a, (b, (c,)))`.
 pub trait DecodeFields: Sized + Drop {
     // How many there are.
     ghost count: { ℕ };
@@ -107,9 +105,8 @@ pub trait DecodeFields: Sized + Drop {
     fn has_len(len: usize) -> bool
         ensures { IsTrue result ↔ (len ≡ count) };
 
-    /// The fields that the next items give.
-    ///
-    /// The faults are those of [`DecodeField::decode_field`] of the first field that has one.
+    /// Reads the fields from the next items. Fails as [`DecodeField::decode_field`] does for the first
+    /// field that fails.
     fn decode_fields(alloc: Global, fields: &mut Fields<'_>) -> Result<Self, DecoderError>
         ensures value { IfOk result (λ x. give fields.old.place fields.old.view x) }
         ensures fault { IfErr result (λ e.
@@ -169,10 +166,11 @@ impl<F: DecodeField, Q: DecodeFields> DecodeFields for (F, Q) {
     }
 }
 
-/// The fields of the list that the view begins with: what `rlp::decode_fields!` calls.
+/// Reads the fields of a struct from the list that the view begins with. `rlp::decode_fields!` calls
+/// it.
 ///
-/// `RlpIncorrectListLen` where the list has another number of items than there are fields. The other
-/// faults are those of [`Rlp::item_count`], and of the first field that has one.
+/// Fails with `RlpIncorrectListLen` if the number of items isn't the number of fields. No field is
+/// read then. The other faults are those of [`Rlp::item_count`], and of the first field that fails.
 #[tactic(auto, using(crate::proofs::Values::FieldReading::whole_struct, crate::proofs::Views::InOrder::counted_fields))]
 pub fn decode_struct<F: DecodeFields>(alloc: Global, rlp: &Rlp<'_>) -> Result<F, DecoderError>
     ensures value { IfOk result (λ x. (item_count rlp.now ≡ Ok F.count) × F.give 0 rlp.now x) }
@@ -194,12 +192,12 @@ pub fn decode_struct<F: DecodeFields>(alloc: Global, rlp: &Rlp<'_>) -> Result<F,
     }
 }
 
-/// Writes a struct as the list of its fields: the stream, and then each field in order. It is the
-/// whole body of an `rlp_append`, and counts the fields itself.
+/// Writes a struct as the list of its fields. It takes the stream, and then each field in order, and
+/// counts the fields itself. It is the whole body of an `rlp_append`.
 ///
 /// A reference to a value is one item, and `ListOf(&self.keys)` is one item that is a list.
 /// `Each(&self.children)` is an item for each value, and `Flattened(&self.pairs)` the fields of
-/// each value. `AllocError` as for [`append_struct`].
+/// each value. Fails as [`append_struct`] does.
 ///
 /// ```rust
 /// fn rlp_append(&self, s: &mut RlpStream) -> Result<(), AllocError> {
@@ -237,10 +235,9 @@ macro_rules! append_fields {
     };
 }
 
-/// Reads a struct from the list of its fields: the allocator, the view, and the struct with its
-/// fields in order, where `keys: [..]` is a field that is a list. It is the whole body of a `decode`.
-///
-/// The faults are those of [`decode_struct`].
+/// Reads a struct from the list of its fields. It takes the allocator, the view, and the struct with
+/// its fields in order. A field that is a list is written `keys: [..]`. It is the whole body of a
+/// `decode`, and fails as [`decode_struct`] does.
 ///
 /// ```rust
 /// fn decode(alloc: Global, rlp: &Rlp<'_>) -> Result<Access, DecoderError> {

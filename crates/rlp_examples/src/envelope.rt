@@ -27,8 +27,8 @@ pub fn to_envelope<T: Encodable>(
     Ok(s.out())
 }
 
-/// The value whose whole envelope the bytes are, by the law of [`StrictRead`]: bytes with another
-/// type are [`DecoderError::Custom`], and other bytes after it have the fault of the value's type.
+/// Reads a value from its whole envelope, strictly. Fails with [`DecoderError::Custom`] if the bytes
+/// begin with another type, and else with the value's own fault.
 pub fn from_envelope<T: StrictRead>(
     alloc: Global,
     kind: u8,

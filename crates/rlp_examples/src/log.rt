@@ -4,14 +4,14 @@ use crate::{Address, Hash};
 use rlp::{Decodable, DecoderError, Encodable, ListOf, Rlp, RlpStream, RoundTrip, StrictRead};
 use std::alloc::{AllocError, Global};
 
-/// What a contract noted.
+/// An entry that a contract writes to the log.
 #[derive(Drop)]
 pub struct Log {
-    /// Which contract.
+    /// The contract's account.
     pub address: Address,
-    /// What it is found by.
+    /// The topics, by which the entry is found.
     pub topics: Vec<Hash>,
-    /// What was noted.
+    /// The data.
     pub data: Vec<u8>,
 }
 

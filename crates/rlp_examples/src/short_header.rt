@@ -1,4 +1,4 @@
-//! A header that grew: the list of two fields, and of three of which the last may be missing.
+//! A header whose last fields may be missing: two fields that are always there, and three more.
 
 use crate::Hash;
 use rlp::{Decodable, DecoderError, Encodable, Rlp, RlpStream, RoundTrip, StrictRead};
@@ -20,7 +20,7 @@ pub struct ShortHeader {
     pub blob_gas_used: Option<u64>,
 }
 
-/// `AllocError` also where a field is there without one before it.
+/// Fails with `AllocError` also if a field is there without the one before it.
 impl Encodable for ShortHeader {
     ghost use Rattle.rlp_examples.specs.ShortHeader.{short_header};
 

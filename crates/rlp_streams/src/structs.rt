@@ -16,8 +16,8 @@ use std::alloc::AllocError;
 /// Values that are appended one after another, as the fields of a struct are.
 ///
 /// A reference to a value is one item. [`ListOf`] is one item too, the list of the values of a
-/// slice. [`Each`] is an item for each value of a slice, and [`Flattened`] as many items for each
-/// value as it is appended as. A pair is its first part and then its second.
+/// slice. [`Each`] is one item for each value of a slice, and [`Flattened`] the fields of each value.
+/// A pair is its first part and then its second.
 pub trait AppendFields {
     // The items, in order.
     ghost items: { Self → List Item };
@@ -25,13 +25,13 @@ pub trait AppendFields {
     // Each value is one of its type.
     ghost fit: { Self → Type 0 };
 
-    /// How many items there are, or `None` where there are 2^64 or more.
+    /// The number of items, or `None` if there are 2^64 or more.
     fn field_count(&self) -> Option<usize>
         ensures { MatchOption result (2 ^ 64 ≤ length (items self.now))
             (λ n. n ≡ length (items self.now)) };
 
-    /// Appends each value. `AllocError` as for [`RlpStream::append`] of the first one that is
-    /// refused; those before it are left in the stream.
+    /// Appends each value. Fails as [`RlpStream::append`] does for the first value that fails. The
+    /// values before it stay in the stream.
     fn append_fields(&self, s: &mut RlpStream) -> Result<(), AllocError>
         ensures fits { OnOk result (fit self.now) }
         ensures ok { OnOk result (s.new.state ≡ add_all (items self.now) s.old.state) }
@@ -76,10 +76,10 @@ impl<P: AppendFields, Q: AppendFields> AppendFields for (P, Q) {
     }
 }
 
-/// Writes a struct as the list of its fields: what `rlp::append_fields!` calls.
+/// Writes a struct as the list of its fields. `rlp::append_fields!` calls it.
 ///
-/// `AllocError` where memory is refused, where a value's own [`Encodable::rlp_append`] answers it,
-/// or where there are 2^64 items or more.
+/// Fails with `AllocError` if memory is refused, if a value's own [`Encodable::rlp_append`] fails,
+/// or if there are 2^64 items or more.
 #[tactic(auto, using(crate::proofs::Streams::Fields::fields))]
 pub fn append_struct<F: AppendFields>(s: &mut RlpStream, fields: &F) -> Result<(), AllocError>
     ensures fits { OnOk result (F.fit fields.now) }

@@ -5,9 +5,9 @@ use crate::traits::{Decodable, RoundTrip, Scalar, StrictRead};
 use rlp_format::error::DecoderError;
 use std::alloc::Global;
 
-/// The bytes of a string of exactly `N`. No memory is taken.
+/// Read from a string of exactly `N` bytes. It takes no memory.
 ///
-/// A string of fewer bytes is `RlpIsTooShort`, and one of more `RlpIsTooBig`.
+/// A shorter string fails with `RlpIsTooShort`, and a longer one with `RlpIsTooBig`.
 impl<const N: usize> Decodable for [u8; N] {
     ghost use Rattle.std.specs.Prelude.{◌≡◌, length};
     ghost use Rattle.rlp_format.specs.Format.Item.{string};
