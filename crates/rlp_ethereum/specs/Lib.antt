@@ -1,7 +1,11 @@
 pub mod Access
+pub mod AccessListTransaction
 pub mod Account
 pub mod Address
 pub mod Bloom
+pub mod FeeMarketTransaction
 pub mod Hash
+pub mod LegacyTransaction
 pub mod Log
+pub mod Recipient
 pub mod Withdrawal

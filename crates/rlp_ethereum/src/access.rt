@@ -4,8 +4,8 @@ use crate::{Address, Hash};
 use rlp::{Decodable, DecoderError, Encodable, ListOf, Rlp, RlpStream, RoundTrip, StrictRead};
 use std::alloc::{AllocError, Global};
 
-/// An account and the keys of its storage that a transaction declares: the list of both, as EIP-2930
-/// says.
+/// An account and the keys of its storage that a transaction declares: the list of both, as
+/// EIP-2930 says.
 #[derive(Debug, PartialEq, Eq, Drop)]
 pub struct AccessListItem {
     /// The account.

@@ -9,8 +9,8 @@ use std::alloc::{AllocError, Global};
 /// The yellow paper, section 4.1.
 #[derive(Drop)]
 pub struct Account {
-    /// The number of transactions that the account has sent, or of contracts that it has created. EIP-2681
-    /// limits it to 64 bits.
+    /// The number of transactions that the account has sent, or of contracts that it has created.
+    /// EIP-2681 limits it to 64 bits.
     pub nonce: u64,
     /// The balance, in Wei.
     pub balance: Uint<32>,

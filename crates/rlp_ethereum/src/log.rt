@@ -11,8 +11,8 @@ use std::alloc::{AllocError, Global};
 pub struct Log {
     /// The contract that emitted the log.
     pub address: Address,
-    /// The topics that the log is found by, in order. The protocol has at most four; this type has no
-    /// limit.
+    /// The topics that the log is found by, in order. The protocol has at most four; this type has
+    /// no limit.
     pub topics: Vec<Hash>,
     /// The data of the log.
     pub data: Vec<u8>,
