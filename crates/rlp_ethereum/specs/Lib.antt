@@ -5,7 +5,9 @@ pub mod Address
 pub mod Bloom
 pub mod FeeMarketTransaction
 pub mod Hash
+pub mod Header
 pub mod LegacyTransaction
 pub mod Log
+pub mod Receipt
 pub mod Recipient
 pub mod Withdrawal
