@@ -4,6 +4,8 @@
 #[cfg(test)]
 mod headers;
 #[cfg(test)]
+mod records;
+#[cfg(test)]
 mod support;
 #[cfg(test)]
 mod transactions;
