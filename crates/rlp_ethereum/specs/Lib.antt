@@ -1,0 +1,13 @@
+pub mod Access
+pub mod AccessListTransaction
+pub mod Account
+pub mod Address
+pub mod Bloom
+pub mod FeeMarketTransaction
+pub mod Hash
+pub mod Header
+pub mod LegacyTransaction
+pub mod Log
+pub mod Receipt
+pub mod Recipient
+pub mod Withdrawal

@@ -1,0 +1,16 @@
+-- How withdrawals are written and read.
+use Rattle.rlp.specs.Codec.{Codec, Fields, and_field, last_field, number, struct_of}
+use Rattle.rlp_ethereum.specs.declared.withdrawal.Withdrawal.{Withdrawal}
+use Rattle.rlp_ethereum.specs.Address.{address}
+
+-- the fields, in order
+abbrev pub withdrawal_fields : Fields Withdrawal
+withdrawal_fields =
+    and_field (λ (w : Withdrawal). w.index) (number 8) (
+    and_field (λ (w : Withdrawal). w.validator_index) (number 8) (
+    and_field (λ (w : Withdrawal). w.address) address (
+    last_field (λ (w : Withdrawal). w.amount) (number 8))))
+
+-- the list of the fields
+abbrev pub withdrawal : Codec Withdrawal
+withdrawal = struct_of withdrawal_fields

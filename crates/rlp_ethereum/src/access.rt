@@ -1,0 +1,105 @@
+//! Access lists: the accounts and the storage that a transaction declares.
+
+use crate::{Address, Hash};
+use rlp::{Decodable, DecoderError, Encodable, ListOf, Rlp, RlpStream, RoundTrip, StrictRead};
+use std::alloc::{AllocError, Global};
+
+/// An account and the keys of its storage that a transaction declares: the list of both, as
+/// EIP-2930 says.
+#[derive(Debug, PartialEq, Eq, Drop)]
+pub struct AccessListItem {
+    /// The account.
+    pub address: Address,
+    /// The keys of its storage, 32 bytes each.
+    pub storage_keys: Vec<Hash>,
+}
+
+impl Encodable for AccessListItem {
+    ghost use Rattle.rlp_ethereum.specs.Access.{access_list_item};
+
+    ghost item = { access_list_item.item };
+
+    ghost fits = { access_list_item.Fits };
+
+    fn rlp_append(&self, s: &mut RlpStream) -> Result<(), AllocError> {
+        rlp::append_fields!(s, &self.address, ListOf(&self.storage_keys))
+    }
+}
+
+impl Decodable for AccessListItem {
+    ghost use Rattle.rlp_ethereum.specs.Access.{access_list_item};
+
+    ghost gives = { access_list_item.gives };
+
+    ghost faults = { access_list_item.faults };
+
+    ghost may_lack_memory = { access_list_item.may_lack };
+
+    fn decode(alloc: Global, rlp: &Rlp<'_>) -> Result<AccessListItem, DecoderError> {
+        rlp::decode_fields!(
+            alloc,
+            rlp,
+            AccessListItem {
+                address,
+                storage_keys: [..]
+            }
+        )
+    }
+}
+
+impl RoundTrip for AccessListItem {
+    ghost use Rattle.rlp_ethereum.specs.Access.{access_list_item};
+
+    ghost round_trip = { access_list_item.reads_back };
+}
+
+impl StrictRead for AccessListItem {
+    ghost use Rattle.rlp_ethereum.specs.Access.{access_list_item};
+
+    ghost strict = { access_list_item.reads_strictly };
+}
+
+/// The accounts that a transaction declares, in order: the list of its items, as EIP-2930 says.
+#[derive(Debug, PartialEq, Eq, Drop)]
+pub struct AccessList(pub Vec<AccessListItem>);
+
+impl Encodable for AccessList {
+    ghost use Rattle.rlp_ethereum.specs.Access.{access_list};
+
+    ghost item = { access_list.item };
+
+    ghost fits = { access_list.Fits };
+
+    #[tactic(auto, using(rlp::proofs::Writing::writing))]
+    fn rlp_append(&self, s: &mut RlpStream) -> Result<(), AllocError> {
+        s.append_list(self.0.as_slice())?;
+        Ok(())
+    }
+}
+
+impl Decodable for AccessList {
+    ghost use Rattle.rlp_ethereum.specs.Access.{access_list};
+
+    ghost gives = { access_list.gives };
+
+    ghost faults = { access_list.faults };
+
+    ghost may_lack_memory = { access_list.may_lack };
+
+    fn decode(alloc: Global, rlp: &Rlp<'_>) -> Result<AccessList, DecoderError> {
+        let items = rlp.as_list(alloc)?;
+        Ok(AccessList(items))
+    }
+}
+
+impl RoundTrip for AccessList {
+    ghost use Rattle.rlp_ethereum.specs.Access.{access_list};
+
+    ghost round_trip = { access_list.reads_back };
+}
+
+impl StrictRead for AccessList {
+    ghost use Rattle.rlp_ethereum.specs.Access.{access_list};
+
+    ghost strict = { access_list.reads_strictly };
+}

@@ -1,0 +1,106 @@
+//! Transactions of type 2.
+
+use crate::{AccessList, Recipient};
+use rlp::{Decodable, DecoderError, Encodable, Rlp, RlpStream, RoundTrip, StrictRead, Uint};
+use std::alloc::{AllocError, Global};
+
+/// The payload of a signed transaction of type 2: the list of its twelve fields, as EIP-1559 says.
+///
+/// EIP-2718 puts the byte 2 before the payload. This type neither writes nor reads that byte.
+#[derive(Drop)]
+pub struct FeeMarketTransaction {
+    /// The number of the chain, as EIP-155 says. This type reads numbers of at most 64 bits.
+    pub chain_id: u64,
+    /// The number of transactions that the sender has sent before. EIP-2681 limits it to 64 bits.
+    pub nonce: u64,
+    /// The most that the sender pays to the block's beneficiary for a unit of gas, in Wei.
+    pub max_priority_fee_per_gas: Uint<32>,
+    /// The most that the sender pays in all for a unit of gas, in Wei.
+    pub max_fee_per_gas: Uint<32>,
+    /// The gas that the transaction may use at most.
+    pub gas_limit: u64,
+    /// The recipient of the value.
+    pub to: Recipient,
+    /// The value that is sent, in Wei.
+    pub value: Uint<32>,
+    /// The input of the call, or the code that creates the contract.
+    pub data: Vec<u8>,
+    /// The accounts and the keys of storage that the transaction declares.
+    pub access_list: AccessList,
+    /// The parity of the signature's point: 0 is `false` and 1 is `true`. Other numbers aren't
+    /// read.
+    pub y_parity: bool,
+    /// The first number of the signature. It isn't checked.
+    pub r: Uint<32>,
+    /// The second number of the signature. It isn't checked.
+    pub s: Uint<32>,
+}
+
+impl Encodable for FeeMarketTransaction {
+    ghost use Rattle.rlp_ethereum.specs.FeeMarketTransaction.{fee_market_transaction};
+
+    ghost item = { fee_market_transaction.item };
+
+    ghost fits = { fee_market_transaction.Fits };
+
+    fn rlp_append(&self, s: &mut RlpStream) -> Result<(), AllocError> {
+        rlp::append_fields!(
+            s,
+            &self.chain_id,
+            &self.nonce,
+            &self.max_priority_fee_per_gas,
+            &self.max_fee_per_gas,
+            &self.gas_limit,
+            &self.to,
+            &self.value,
+            &self.data,
+            &self.access_list,
+            &self.y_parity,
+            &self.r,
+            &self.s
+        )
+    }
+}
+
+impl Decodable for FeeMarketTransaction {
+    ghost use Rattle.rlp_ethereum.specs.FeeMarketTransaction.{fee_market_transaction};
+
+    ghost gives = { fee_market_transaction.gives };
+
+    ghost faults = { fee_market_transaction.faults };
+
+    ghost may_lack_memory = { fee_market_transaction.may_lack };
+
+    fn decode(alloc: Global, rlp: &Rlp<'_>) -> Result<FeeMarketTransaction, DecoderError> {
+        rlp::decode_fields!(
+            alloc,
+            rlp,
+            FeeMarketTransaction {
+                chain_id,
+                nonce,
+                max_priority_fee_per_gas,
+                max_fee_per_gas,
+                gas_limit,
+                to,
+                value,
+                data,
+                access_list,
+                y_parity,
+                r,
+                s
+            }
+        )
+    }
+}
+
+impl RoundTrip for FeeMarketTransaction {
+    ghost use Rattle.rlp_ethereum.specs.FeeMarketTransaction.{fee_market_transaction};
+
+    ghost round_trip = { fee_market_transaction.reads_back };
+}
+
+impl StrictRead for FeeMarketTransaction {
+    ghost use Rattle.rlp_ethereum.specs.FeeMarketTransaction.{fee_market_transaction};
+
+    ghost strict = { fee_market_transaction.reads_strictly };
+}

@@ -1,0 +1,33 @@
+//! Records of Ethereum in the Recursive Length Prefix format.
+//!
+//! Each type says which bytes a value has and which value bytes give. There is no cryptography
+//! here: no hash is computed and no signature is checked.
+#![tactic(auto)]
+
+mod access;
+mod access_list_transaction;
+mod account;
+mod address;
+mod bloom;
+mod fee_market_transaction;
+mod hash;
+mod header;
+mod legacy_transaction;
+mod log;
+mod receipt;
+mod recipient;
+mod withdrawal;
+
+pub use access::{AccessList, AccessListItem};
+pub use access_list_transaction::AccessListTransaction;
+pub use account::Account;
+pub use address::Address;
+pub use bloom::Bloom;
+pub use fee_market_transaction::FeeMarketTransaction;
+pub use hash::Hash;
+pub use header::Header;
+pub use legacy_transaction::LegacyTransaction;
+pub use log::Log;
+pub use receipt::Receipt;
+pub use recipient::Recipient;
+pub use withdrawal::Withdrawal;

@@ -1,0 +1,76 @@
+//! Receipts of transactions.
+
+use crate::{Bloom, Log};
+use rlp::{Decodable, DecoderError, Encodable, ListOf, Rlp, RlpStream, RoundTrip, StrictRead};
+use std::alloc::{AllocError, Global};
+
+/// A receipt: the list of its four fields.
+///
+/// The yellow paper, section 4.4.1, and EIP-658. EIP-2718 puts a byte with the transaction's type
+/// before the receipt, for types other than legacy. This type neither writes nor reads that byte.
+#[derive(Drop)]
+pub struct Receipt {
+    /// Since Byzantium the status, as EIP-658 says: the byte 1 for success, and no byte for
+    /// failure. Before, the 32 bytes of the state's root after the transaction. Other strings are
+    /// read too.
+    pub status_or_state_root: Vec<u8>,
+    /// The gas that this transaction and those before it in the block used.
+    pub cumulative_gas_used: u64,
+    /// The filter of the logs.
+    pub logs_bloom: Bloom,
+    /// The logs that the transaction emitted, in order.
+    pub logs: Vec<Log>,
+}
+
+impl Encodable for Receipt {
+    ghost use Rattle.rlp_ethereum.specs.Receipt.{receipt};
+
+    ghost item = { receipt.item };
+
+    ghost fits = { receipt.Fits };
+
+    fn rlp_append(&self, s: &mut RlpStream) -> Result<(), AllocError> {
+        rlp::append_fields!(
+            s,
+            &self.status_or_state_root,
+            &self.cumulative_gas_used,
+            &self.logs_bloom,
+            ListOf(&self.logs)
+        )
+    }
+}
+
+impl Decodable for Receipt {
+    ghost use Rattle.rlp_ethereum.specs.Receipt.{receipt};
+
+    ghost gives = { receipt.gives };
+
+    ghost faults = { receipt.faults };
+
+    ghost may_lack_memory = { receipt.may_lack };
+
+    fn decode(alloc: Global, rlp: &Rlp<'_>) -> Result<Receipt, DecoderError> {
+        rlp::decode_fields!(
+            alloc,
+            rlp,
+            Receipt {
+                status_or_state_root,
+                cumulative_gas_used,
+                logs_bloom,
+                logs: [..]
+            }
+        )
+    }
+}
+
+impl RoundTrip for Receipt {
+    ghost use Rattle.rlp_ethereum.specs.Receipt.{receipt};
+
+    ghost round_trip = { receipt.reads_back };
+}
+
+impl StrictRead for Receipt {
+    ghost use Rattle.rlp_ethereum.specs.Receipt.{receipt};
+
+    ghost strict = { receipt.reads_strictly };
+}

@@ -1,0 +1,84 @@
+//! Recipients of transactions: the string of 20 bytes, or the empty one.
+
+ghost use Rattle.std.specs.Prelude.{◌≡◌, IfErr, IfOk};
+ghost use Rattle.rlp_ethereum.specs.Recipient.{IsRecipient, IsRecipientFault, recipient_bytes};
+
+use crate::Address;
+use rlp::{Decodable, DecoderError, Encodable, Rlp, RlpStream, RoundTrip, StrictRead};
+use std::alloc::{AllocError, Global};
+
+/// The recipient of a transaction: the address of an account, or the empty string where the
+/// transaction creates a contract.
+///
+/// The yellow paper, section 4.2.
+#[derive(Debug, Clone, Copy, PartialEq, Eq)]
+pub enum Recipient {
+    /// Creation: the transaction makes a contract.
+    Creation,
+    /// The account with this address.
+    Account(Address),
+}
+
+impl Encodable for Recipient {
+    ghost use Rattle.rlp_ethereum.specs.Recipient.{recipient};
+
+    ghost item = { recipient.item };
+
+    ghost fits = { recipient.Fits };
+
+    #[tactic(auto, using(rlp::proofs::Writing::writing))]
+    fn rlp_append(&self, s: &mut RlpStream) -> Result<(), AllocError> {
+        match self {
+            Recipient::Creation => s.encoder().encode_value(&[]),
+            Recipient::Account(address) => s.encoder().encode_value(&address.0),
+        }
+    }
+}
+
+/// A string of fewer than 20 bytes, but not none, is `RlpIsTooShort`, and one of more
+/// `RlpIsTooBig`. No memory is taken.
+impl Decodable for Recipient {
+    ghost use Rattle.rlp_ethereum.specs.Recipient.{recipient};
+
+    ghost gives = { recipient.gives };
+
+    ghost faults = { recipient.faults };
+
+    ghost may_lack_memory = { recipient.may_lack };
+
+    #[tactic(auto, using(rlp::proofs::Reading::reading))]
+    fn decode(_alloc: Global, rlp: &Rlp<'_>) -> Result<Recipient, DecoderError> {
+        match rlp.decoder().decode_value(recipient_of) {
+            Ok(recipient) => Ok(recipient),
+            Err(fault) => Err(fault),
+        }
+    }
+}
+
+impl RoundTrip for Recipient {
+    ghost use Rattle.rlp_ethereum.specs.Recipient.{recipient};
+
+    ghost round_trip = { recipient.reads_back };
+}
+
+impl StrictRead for Recipient {
+    ghost use Rattle.rlp_ethereum.specs.Recipient.{recipient};
+
+    ghost strict = { recipient.reads_strictly };
+}
+
+/// The recipient of these bytes, if they are 20 or none.
+#[tactic(auto, using(crate::specs::Recipient::recipient_faults))]
+fn recipient_of(string: &[u8]) -> Result<Recipient, DecoderError>
+    ensures value { IfOk result (λ r. IsRecipient r × (recipient_bytes r ≡ string.now)) }
+    ensures fault { IfErr result (λ e. IsRecipientFault string.now e) }
+{
+    if string.is_empty() {
+        return Ok(Recipient::Creation);
+    }
+    match <[u8; 20]>::try_from(string) {
+        Ok(address) => Ok(Recipient::Account(Address(address))),
+        Err(_) if string.len() < 20 => Err(DecoderError::RlpIsTooShort),
+        Err(_) => Err(DecoderError::RlpIsTooBig),
+    }
+}

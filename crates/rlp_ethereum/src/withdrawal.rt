@@ -1,0 +1,71 @@
+//! Withdrawals from the beacon chain.
+
+use crate::Address;
+use rlp::{Decodable, DecoderError, Encodable, Rlp, RlpStream, RoundTrip, StrictRead};
+use std::alloc::{AllocError, Global};
+
+/// A withdrawal from the beacon chain: the list of its four fields, as EIP-4895 says.
+#[derive(Debug, PartialEq, Eq, Drop)]
+pub struct Withdrawal {
+    /// The number of the withdrawal, counted over all blocks from 0.
+    pub index: u64,
+    /// The number of the validator that the amount comes from.
+    pub validator_index: u64,
+    /// The account that receives the amount.
+    pub address: Address,
+    /// The amount, in Gwei (10^9 Wei).
+    pub amount: u64,
+}
+
+impl Encodable for Withdrawal {
+    ghost use Rattle.rlp_ethereum.specs.Withdrawal.{withdrawal};
+
+    ghost item = { withdrawal.item };
+
+    ghost fits = { withdrawal.Fits };
+
+    fn rlp_append(&self, s: &mut RlpStream) -> Result<(), AllocError> {
+        rlp::append_fields!(
+            s,
+            &self.index,
+            &self.validator_index,
+            &self.address,
+            &self.amount
+        )
+    }
+}
+
+impl Decodable for Withdrawal {
+    ghost use Rattle.rlp_ethereum.specs.Withdrawal.{withdrawal};
+
+    ghost gives = { withdrawal.gives };
+
+    ghost faults = { withdrawal.faults };
+
+    ghost may_lack_memory = { withdrawal.may_lack };
+
+    fn decode(alloc: Global, rlp: &Rlp<'_>) -> Result<Withdrawal, DecoderError> {
+        rlp::decode_fields!(
+            alloc,
+            rlp,
+            Withdrawal {
+                index,
+                validator_index,
+                address,
+                amount
+            }
+        )
+    }
+}
+
+impl RoundTrip for Withdrawal {
+    ghost use Rattle.rlp_ethereum.specs.Withdrawal.{withdrawal};
+
+    ghost round_trip = { withdrawal.reads_back };
+}
+
+impl StrictRead for Withdrawal {
+    ghost use Rattle.rlp_ethereum.specs.Withdrawal.{withdrawal};
+
+    ghost strict = { withdrawal.reads_strictly };
+}

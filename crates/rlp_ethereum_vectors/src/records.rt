@@ -1,0 +1,199 @@
+//! Records with chosen values, against bytes that were worked out by the rules of the format.
+
+use crate::support::{bytes_of, goes_both_ways};
+use rlp::{DecoderError, Uint};
+use rlp_ethereum::{
+    AccessList, AccessListItem, AccessListTransaction, Account, Address, Bloom,
+    FeeMarketTransaction, Hash, Header, Log, Receipt, Recipient, Withdrawal,
+};
+use std::alloc::{AllocError, Global};
+use std::test::Fail;
+
+/// The payload of type 2 of a payment of 1 ether.
+const PAYMENT: [&str; 2] = [
+    "f30180843b9aca008504a817c800825208943535353535353535353535353535353535353535880d",
+    "e0b6b3a764000080c0800102",
+];
+
+/// The payload of type 1 that creates a contract, with an access list.
+const CREATION: [&str; 2] = [
+    "f84d0180843b9aca00825208808083636174f838f794111111111111111111111111111111111111",
+    "1111e1a02222222222222222222222222222222222222222222222222222222222222222010102",
+];
+
+/// The end of a receipt: the list of one log.
+const RECEIPT_END: [&str; 2] = [
+    "f83df83b941111111111111111111111111111111111111111e1a022222222222222222222222222",
+    "2222222222222222222222222222222222222283636174",
+];
+
+/// A withdrawal of 4 Gwei.
+const WITHDRAWAL: [&str; 1] = ["d8010294030303030303030303030303030303030303030304"];
+
+/// An account with one transaction and 256 Wei.
+const ACCOUNT: [&str; 2] = [
+    "f84601820100a00404040404040404040404040404040404040404040404040404040404040404a0",
+    "0505050505050505050505050505050505050505050505050505050505050505",
+];
+
+/// The number `n`, as one of 256 bits.
+fn wide(n: u64) -> Uint<32> {
+    let [a, b, c, d, e, f, g, h] = n.to_be_bytes();
+    let mut bytes = [0; 32];
+    bytes[24] = a;
+    bytes[25] = b;
+    bytes[26] = c;
+    bytes[27] = d;
+    bytes[28] = e;
+    bytes[29] = f;
+    bytes[30] = g;
+    bytes[31] = h;
+    Uint { bytes }
+}
+
+/// A payment of 1 ether, with a chosen signature.
+fn payment(alloc: Global) -> FeeMarketTransaction {
+    FeeMarketTransaction {
+        chain_id: 1,
+        nonce: 0,
+        max_priority_fee_per_gas: wide(1_000_000_000),
+        max_fee_per_gas: wide(20_000_000_000),
+        gas_limit: 21_000,
+        to: Recipient::Account(Address([0x35; 20])),
+        value: wide(1_000_000_000_000_000_000),
+        data: Vec::new(alloc),
+        access_list: AccessList(Vec::new(alloc)),
+        y_parity: false,
+        r: wide(1),
+        s: wide(2),
+    }
+}
+
+/// The creation of a contract, with a declared key of storage.
+fn creation(alloc: Global) -> Result<AccessListTransaction, AllocError> {
+    let item = AccessListItem {
+        address: Address([0x11; 20]),
+        storage_keys: Vec::from_array(alloc, [Hash([0x22; 32])])?,
+    };
+    Ok(AccessListTransaction {
+        chain_id: 1,
+        nonce: 0,
+        gas_price: wide(1_000_000_000),
+        gas_limit: 21_000,
+        to: Recipient::Creation,
+        value: wide(0),
+        data: Vec::from_array(alloc, *b"cat")?,
+        access_list: AccessList(Vec::from_array(alloc, [item])?),
+        y_parity: true,
+        r: wide(1),
+        s: wide(2),
+    })
+}
+
+/// A receipt of a transaction that succeeded, with one log.
+fn receipt(alloc: Global) -> Result<Receipt, AllocError> {
+    let log = Log {
+        address: Address([0x11; 20]),
+        topics: Vec::from_array(alloc, [Hash([0x22; 32])])?,
+        data: Vec::from_array(alloc, *b"cat")?,
+    };
+    Ok(Receipt {
+        status_or_state_root: Vec::from_array(alloc, [1])?,
+        cumulative_gas_used: 21_000,
+        logs_bloom: Bloom([0; 256]),
+        logs: Vec::from_array(alloc, [log])?,
+    })
+}
+
+/// Whether the block with this header has a root of withdrawals, as blocks have since Shanghai.
+fn has_withdrawals(alloc: Global, bytes: &[u8]) -> Result<bool, DecoderError> {
+    let header = rlp::decode_strict::<Header>(alloc, bytes)?;
+    Ok(header.withdrawals_root.is_some())
+}
+
+/// A header with chosen values, without the fields of later forks.
+fn header(alloc: Global) -> Header {
+    Header {
+        parent_hash: Hash([1; 32]),
+        ommers_hash: Hash([2; 32]),
+        beneficiary: Address([3; 20]),
+        state_root: Hash([4; 32]),
+        transactions_root: Hash([5; 32]),
+        receipts_root: Hash([6; 32]),
+        logs_bloom: Bloom([0; 256]),
+        difficulty: wide(0),
+        number: 1,
+        gas_limit: 2,
+        gas_used: 3,
+        timestamp: 4,
+        extra_data: Vec::new(alloc),
+        mix_hash: Hash([7; 32]),
+        nonce: [0; 8],
+        base_fee_per_gas: None,
+        withdrawals_root: None,
+        blob_gas_used: None,
+        excess_blob_gas: None,
+        parent_beacon_block_root: None,
+        requests_hash: None,
+    }
+}
+
+/// Whether a header is written in `len` bytes and read back, and has a root of withdrawals or not.
+fn is_written(alloc: Global, header: &Header, len: usize, has: bool) -> Result<bool, Fail> {
+    let bytes = rlp::encode(alloc, header)?;
+    Ok(
+        bytes.len() == len
+            && has_withdrawals(alloc, bytes.as_slice())? == has
+            && goes_both_ways::<Header>(alloc, bytes.as_slice())?,
+    )
+}
+
+#[test]
+fn headers_of_all_forks(rt: HostRuntime) -> Result<(), Fail> {
+    let alloc = rt.alloc();
+    let mut header = header(alloc);
+    assert!(rt; is_written(alloc, &header, 496, false)?);
+    header.base_fee_per_gas = Some(wide(7));
+    assert!(rt; is_written(alloc, &header, 497, false)?);
+    header.withdrawals_root = Some(Hash([8; 32]));
+    assert!(rt; is_written(alloc, &header, 530, true)?);
+    header.blob_gas_used = Some(0);
+    header.excess_blob_gas = Some(0);
+    header.parent_beacon_block_root = Some(Hash([9; 32]));
+    assert!(rt; is_written(alloc, &header, 565, true)?);
+    header.requests_hash = Some(Hash([10; 32]));
+    assert!(rt; is_written(alloc, &header, 598, true)?);
+    header.base_fee_per_gas = None;
+    assert!(rt; rlp::encode(alloc, &header).err() == Some(AllocError));
+    Ok(())
+}
+
+#[test]
+fn transactions_with_types(rt: HostRuntime) -> Result<(), Fail> {
+    let alloc = rt.alloc();
+    let bytes = rlp::encode(alloc, &payment(alloc))?;
+    assert_eq!(rt; bytes.as_slice(), bytes_of(alloc, &PAYMENT)?.as_slice());
+    assert!(rt; goes_both_ways::<FeeMarketTransaction>(alloc, bytes.as_slice())?);
+    let bytes = rlp::encode(alloc, &creation(alloc)?)?;
+    assert_eq!(rt; bytes.as_slice(), bytes_of(alloc, &CREATION)?.as_slice());
+    assert!(rt; goes_both_ways::<AccessListTransaction>(alloc, bytes.as_slice())?);
+    Ok(())
+}
+
+#[test]
+fn other_records(rt: HostRuntime) -> Result<(), Fail> {
+    let alloc = rt.alloc();
+    let bytes = rlp::encode(alloc, &receipt(alloc)?)?;
+    assert!(rt;
+        bytes.as_slice().starts_with(&[0xf9, 0x01, 0x46, 0x01, 0x82, 0x52, 0x08, 0xb9, 0x01, 0x00])
+    );
+    assert!(rt;
+        bytes
+            .as_slice()
+            .ends_with(bytes_of(alloc, &RECEIPT_END)?.as_slice())
+    );
+    assert!(rt; goes_both_ways::<Receipt>(alloc, bytes.as_slice())?);
+    assert!(rt; goes_both_ways::<Withdrawal>(alloc, bytes_of(alloc, &WITHDRAWAL)?.as_slice())?);
+    assert!(rt; goes_both_ways::<Account>(alloc, bytes_of(alloc, &ACCOUNT)?.as_slice())?);
+    Ok(())
+}
