@@ -85,6 +85,7 @@ impl<'a> Rlp<'a> {
 
 impl<'a> Fields<'a> {
     /// A reader before the first item of a view.
+    #[inline(always)]
     pub(crate) fn over(rlp: &Rlp<'a>) -> Fields<'a>
         requires { items_fault rlp.now ≡ None }
         ensures { result ≡ record { view = rlp.now; place = 0 } }
@@ -96,6 +97,7 @@ impl<'a> Fields<'a> {
     }
 
     /// A reader before the items that these bytes begin with, which are the items of the view.
+    #[inline(always)]
     fn before(rlp: &Rlp<'a>, left: &'a [u8]) -> Fields<'a>
         requires { IsAtPlace rlp.now 0 left.now }
         ensures { result ≡ record { view = rlp.now; place = 0 } }
@@ -110,6 +112,7 @@ impl<'a> Fields<'a> {
     /// The next item.
     ///
     /// After the last item it fails as [`Rlp::at`] does, and takes no item.
+    #[inline(always)]
     pub fn next_view(&mut self) -> Result<Rlp<'a>, DecoderError>
         ensures exact { result ≡ item_at self.old.view self.old.place }
         ensures next { OnOk result (self.new ≡ record self.old { place = self.old.place + 1 }) }

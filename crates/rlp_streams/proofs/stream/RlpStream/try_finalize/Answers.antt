@@ -13,7 +13,7 @@ put_counted-requires c =
     record {
       order = rw c.set_innermost.ensures.lists
           (laid_descends i.start i.buffer.items (with_last (reverse i.lists.items))
-              (laid_last i.start i.buffer.items (reverse i.lists.items) c.self.invariant));
+          (laid_last i.start i.buffer.items (reverse i.lists.items) c.self.invariant));
     }
 
 pub invariant_of-self : goal.invariant_of-self
