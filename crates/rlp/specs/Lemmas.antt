@@ -1,22 +1,44 @@
+-- the digits of a number, written and read
 pub use Rattle.rlp_format.specs.Lemmas.Digits
+-- lists that begin one list
 pub use Rattle.rlp_format.specs.Lemmas.Lists
+-- written headers: none begins another
 pub use Rattle.rlp_format.specs.Lemmas.Headers
+-- the one header that bytes begin with
 pub use Rattle.rlp_format.specs.Lemmas.Reading
+-- no encoding begins another
 pub use Rattle.rlp_format.specs.Lemmas.Encodings
+-- frames, and the items that bytes begin with
 pub use Rattle.rlp_format.specs.Lemmas.Frames
+-- a view of the encoding of a list
 pub use Rattle.rlp_format.specs.Lemmas.Views
+-- the one string that bytes begin with
 pub use Rattle.rlp_format.specs.Lemmas.Strings
+-- the string that a view holds
 pub mod StringsHeld
+-- views that begin with the digits of a number
 pub mod Numbers
+-- one value or one fault of a type that is read from one string
 pub mod OneReading
+-- encodings that are read back
 pub mod RoundTrips
+-- the items of a view by number
 pub use Rattle.rlp_format.specs.Lemmas.Numbered
+-- the items of a slice
 pub mod Slices
+-- bytes that are a list and nothing else
 pub mod WholeLists
+-- encodings of lists that are read back
 pub mod ListRoundTrips
+-- lists of values that are read back
 pub mod ValueLists
+-- structs that are read back, and the rules for bodies that read them
 pub mod Structs
+-- values that are read strictly
 pub mod StrictReads
+-- lists of values that are read strictly
 pub mod StrictLists
+-- structs that are read strictly
 pub mod StrictStructs
+-- structs whose last fields may be missing
 pub mod Tails
