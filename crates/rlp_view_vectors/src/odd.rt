@@ -6,7 +6,7 @@ use rlp_callers::Odd;
 use std::alloc::Global;
 use std::test::Fail;
 
-/// The fault that bytes have as a list of odd numbers, if they have one.
+/// Returns the fault that bytes have as a list of odd numbers, if they have one.
 fn list_fault(alloc: Global, bytes: &[u8]) -> Option<DecoderError> {
     rlp::decode_list::<Odd>(alloc, bytes).err()
 }
@@ -36,7 +36,8 @@ fn first_faults_are_found(alloc: Global) -> bool {
     true
 }
 
-/// Whether the odd numbers before a cut string are read, and an option hands on its value's fault.
+/// Returns whether the odd numbers before a cut string are read, and an option hands on its value's
+/// fault.
 fn odd_numbers_are_read(alloc: Global) -> Result<bool, DecoderError> {
     let odd = rlp::decode_list::<Odd>(alloc, &[0xc4, 0x01, 0x03, 0x82, 0x00])?;
     let option = rlp::decode::<Option<Odd>>(alloc, &[0xc1, 0x02]).err();
