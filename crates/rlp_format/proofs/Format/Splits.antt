@@ -1,4 +1,4 @@
--- How the items of a view come one after another.
+-- The items of a view, one after another.
 use Rattle.std.proofs.Common.{ℕ, zero, suc, ◌+◌, ◌-◌, ◌<◌, ◌≤◌, ◌≡◌, List, [], ◌∷◌, length, drop, map, Result, Ok, Err, refl, sym, ◌∙◌, ap, arith}
 use Rattle.std.proofs.Common.{length-drop, add-one}
 use Rattle.std.proofs.lemmas.List.{drop_all, drop-map, length-map}
@@ -62,7 +62,7 @@ pub drop-item_views-past : (v : View) (i j : ℕ) → drop i (items v.bytes) ≡
 unfolding view_of
 drop-item_views-past v i j e h = drop-past i j (item_views v) (drop-map (view_of v) i (items v.bytes) ∙ ap (map (view_of v)) e) h
 
--- as many views as items
+-- the number of views is the number of items
 pub length-item_views : (v : View) → length (item_views v) ≡ length (split (payload v.bytes))
 unfolding view_of items
 length-item_views v = length-map (items v.bytes) (view_of v)

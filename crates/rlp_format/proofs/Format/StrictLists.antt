@@ -1,4 +1,4 @@
--- Whether a strict view is a list and nothing else.
+-- Whether a strict view is exactly one list.
 use Rattle.std.proofs.Common.{◌≡◌, ℕ, zero, suc, ◌+◌, ◌<◌, Bool, true, false, List, [], ◌∷◌, ◌++◌, length, drop, refl, sym, ap, ◌∙◌, arith}
 use Rattle.std.proofs.Common.{length-append, ◌==◌, Option, Some, None, Ok, Result, Err, IfOk, MatchResult}
 use Rattle.std.specs.List.{concat}
@@ -62,7 +62,7 @@ list_lenient v lenient = cond-false v.is_strict (strict_list_fault v.bytes) None
 pub list_strict : (v : View) (o : Option DecoderError) → v.is_strict ≡ true → strict_list_fault v.bytes ≡ o → list_fault v ≡ o
 list_strict v o strict is = cond-true v.is_strict (strict_list_fault v.bytes) None strict ∙ is
 
--- bytes that begin as no list
+-- bytes that don't begin as a list
 pub strict_not_begun : (b : List ℕ) → false ≡ begins_as_list b → strict_list_fault b ≡ Some RlpExpectedToBeList
 unfolding strict_list_fault
 strict_not_begun b kind = cond-false (begins_as_list b) _ _ (sym kind)
@@ -82,7 +82,7 @@ pub value-payload : (b q : List ℕ) → true ≡ begins_as_list b → value b �
 unfolding payload
 value-payload b q kind is = sym (ap (λ k. payload_in k (value b)) (sym kind) ∙ ap (payload_in true) is)
 
--- a list and nothing else has the fault of what follows the items in it
+-- bytes that are exactly one list have the fault of the bytes that follow the items in it
 pub strict_whole : (b q : List ℕ) → true ≡ begins_as_list b → strict_fault b ≡ None → value b ≡ Ok q → fault_of_some (after_items q) ≡ strict_list_fault b
 strict_whole b q kind none is = ap (λ p. fault_of_some (after_items p)) (value-payload b q kind is) ∙ sym (begun b None kind none)
 
