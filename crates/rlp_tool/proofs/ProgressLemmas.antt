@@ -294,14 +294,14 @@ pub record IsRunning (in0 in1 out0 out1 : Option (List ℕ)) (kept : List ℕ) (
 pub IsRunning-begin : (in0 out0 : Option (List ℕ)) (kept : List ℕ) (over : Bool) → IsLine kept over [] → IsRunning in0 in0 out0 out0 kept over
 IsRunning-begin in0 out0 kept over line = record { took = []; read = Consumes-nil in0; served = IsServed-begin out0 kept over line }
 
--- some bytes more of the input were taken, and served
+-- more bytes of the input were taken, and served
 pub IsRunning-more : {in0 in1 out0 out1 : Option (List ℕ)} {kept kept' : List ℕ} {over over' : Bool} (in2 out2 : Option (List ℕ)) (more : List ℕ)
     (running : IsRunning in0 in1 out0 out1 kept over) → Consumes in1 in2 more → IsServed out0 out2 (running.took ++ more) kept' over'
     → IsRunning in0 in2 out0 out2 kept' over'
 IsRunning-more {in0} {in1} in2 out2 more running read served =
     record { took = running.took ++ more; read = Consumes-trans in0 in1 in2 running.took more running.read read; served = served }
 
--- the input is at its end, which gave no more bytes
+-- the input gives no more bytes
 pub AnswersAll-end : (result : Result (Unit {0}) RunFault) {in0 in1 out0 out1 : Option (List ℕ)} {kept : List ℕ} {over : Bool}
     (in2 out2 : Option (List ℕ)) (running : IsRunning in0 in1 out0 out1 kept over) → Consumes in1 in2 [] → IsAtEnd in2
     → OnOk result (Appends out0 out2 (replies running.took)) → OnOk result (AnswersAll in0 in2 out0 out2)

@@ -54,7 +54,7 @@ stray_rest_by b (x ∷ xs) some none joined = omega (arith, none)
 pub stray_rest : (b : List ℕ) (count : ℕ) → 0 < length b → count ≡ 0 → AreRawItems b count → ⊥
 stray_rest b count some none is = stray_rest_by b is.brought some (is.counted ∙ none) is.joined
 
--- the first item, and what follows it
+-- the first item, and the bytes after it
 record IsFirst (b item others : List ℕ) (xs : List Item) : Type 0 where
   head : Item
   tail : List Item

@@ -1,4 +1,4 @@
--- The values of the items of a list, as they come one after another.
+-- The values of the items of a list, one after another.
 use Rattle.std.proofs.Common.{ℕ, ◌≡◌, List, [], ◌∷◌, ◌++◌, ◌⊎◌, inl, inr, None, sym, ◌∙◌, ap, append_assoc, append-nil, Result, Ok, Err, IfOk}
 use Rattle.std.specs.Prelude.{OnOk}
 use Rattle.rlp_format.specs.declared.error.DecoderError.{DecoderError}

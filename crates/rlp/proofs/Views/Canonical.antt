@@ -107,7 +107,7 @@ stray_item b rest item others most done fits kind all parts other (x, is, deep) 
     let (y, found, low) = one_of (map encoding done) (split others) item l.xs same in
     other (y, found, omega (arith, low, l.deep))
 
--- what a walk of some items has done
+-- the progress of a walk over some items
 pub record IsDone (b rest : List ℕ) (most : ℕ) : Type 0 where
   pub done : List Item
   pub all : map encoding done ++ split rest ≡ items b

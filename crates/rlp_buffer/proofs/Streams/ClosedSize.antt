@@ -151,7 +151,7 @@ measured_popped start end more whole left tail lists rest p h is =
 pub closed_size_none : (s : State) → closed_size_with 0 s ≡ closed_size s
 closed_size_none s = ap (λ b. length (closed_payload_around list_encoding b s.stack.lists)) (append-nil s.stack.inner)
 
--- a size that is small is found
+-- a small size is found
 pub found : (r : Option ℕ) (P : Type 0) (v : ℕ) → SomeIff r P v → P → r ≡ Some v
 found None P v h p = absurd (h p)
 found (Some w) P v h p = ap Some h.1

@@ -209,7 +209,7 @@ counted_one (p ∷ ps) = counted_by (is_last 1 p.awaits) 1 p ps refl (counted_on
     cond_same true = refl
     cond_same false = refl
 
--- after a count, the innermost list that stays open awaits fewer by what was counted in it
+-- after a count, the innermost list that stays open awaits fewer items, by the number of items counted in it
 pub counted_is : (k more : ℕ) (ps : List Placeholder) → (filled k ps ≡ 0 → more ≡ k) → (0 < filled k ps → more ≡ 1)
     → counted k ps ≡ with_innermost (awaits_after more) (drop (filled k ps) ps)
 counted_is k more [] none some = refl
@@ -233,7 +233,7 @@ pub moved_more : (begin at len old new : ℕ) → begin ≤ at → (begin < at �
 moved_more begin at len old new forward counts stays =
     ⊎_elim (λ before. omega (arith, counts before)) (λ after. omega (arith, stays (omega arith))) (cases_lt begin at)
 
--- places that descend from a lower place do so from a higher one
+-- places that descend from a lower place also descend from a higher one
 pub descends_le : (low high : ℕ) (ps : List Placeholder) → low ≤ high → Descends low ps → Descends high ps
 descends_le low high [] le d = tt
 descends_le low high (p ∷ ps) le d = (omega (arith, d.0), d.1)
@@ -252,7 +252,7 @@ set_last_reversed change n (u ∷ ps) p q some last is new =
     let with : Placeholder → Placeholder = λ r. record r { awaits = change r.awaits } in
     back ∙ ap (λ z. z ∷ ps) (new ∙ ap with same)
 
--- the last place, set with what it awaits changed, is the innermost list changed
+-- changing what the last list awaits changes the innermost list
 pub set_last : (change : Option ℕ → Option ℕ) (n : ℕ) (lists : List Placeholder) (p q : Placeholder) → 0 < length lists → n ≡ length lists - 1
     → p ≡ get_or lists n p → q ≡ record p { awaits = change p.awaits }
     → reverse (set lists n q) ≡ with_innermost change (reverse lists)

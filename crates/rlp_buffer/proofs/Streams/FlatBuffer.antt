@@ -245,7 +245,7 @@ state_put_counted k start b x ps m n h e =
     state_counted k start (b ++ x) ps m n (laid_append start b x ps h) (e ∙ ap (λ ls. mark_after k ls m) (sym (lists_append start b x ps h)))
     ∙ ap (count k) (state_put start b x ps m h)
 
--- a number that isn't 0 is greater
+-- a number that isn't 0 is greater than 0
 pub not_empty : (n : ℕ) → false ≡ nat_eq n 0 → 0 < n
 not_empty n e = grind (arith, nat_tests)
 

@@ -12,7 +12,7 @@ use Rattle.rlp_buffer.specs.Streams.Calls.{effect, finalize_unbounded_list, is_w
 use Rattle.rlp_buffer.specs.Streams.Stream.{State, IsFinished, list_encoding, put, shut, count, with_list, add, put_item, is_list, raw_text}
 use Rattle.rlp_buffer.specs.Streams.Stream.{closed_text, closed_size, closed_size_with}
 
--- ---- what is closed
+-- ---- the closed text
 
 closed_shut_around : (f : List ℕ) (p : List ℕ) (ls : List (OpenList ℕ)) (m : Bool)
     → closed_text (shut (record { front = f; stack = record { inner = p; lists = ls }; mark = m })) ≡ closed_payload_around list_encoding p ls

@@ -13,7 +13,7 @@ use Rattle.rlp_format.specs.Lemmas.Digits.{big_endian_zero, big_endian_digit, bi
 
 -- ---- the number that digits write
 
--- what fewer than eight bytes write
+-- fewer than eight bytes write a number below 2^56
 pub number_below : (s : List ℕ) (i : ℕ) → AreBytes s → i < 8 → number_from_digits 256 (take i s) < 2 ^ 56
 number_below s i bytes few = digits_fit 7 (take i s) (All-take (λ byte. byte < 2 ^ 8) i s bytes) (omega (arith, length-take i s))
 
@@ -74,7 +74,7 @@ drop-bytes_high_first zero k m n e = let same : m ≡ k = omega arith in ap (λ 
 drop-bytes_high_first (suc z) k zero n e = absurd (omega arith)
 drop-bytes_high_first (suc z) k (suc m) n e = drop-bytes_high_first z k m n (omega arith)
 
--- what the count of leading zero bits says of the number of a number's bytes
+-- the leading zero bytes of a number, by the count of its leading zero bits
 record LeadingBytes (m n : ℕ) : Type 0 where
   pub digits : drop (count_leading_zeros (8 * m) n / 8) (bytes_high_first m n) ≡ big_endian n
   pub len : count_leading_zeros (8 * m) n / 8 + length (big_endian n) ≡ m

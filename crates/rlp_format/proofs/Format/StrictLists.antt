@@ -12,7 +12,7 @@ use Rattle.rlp_format.specs.Format.Strict.{after_items, fault_of_some, first_fau
 use Rattle.rlp_format.specs.Views.View.{View, item_count, items_fault, list_fault}
 use Rattle.rlp_format.specs.Lemmas.Numbered.{item_count-fault, item_count-told}
 
--- ---- what follows the items of a payload
+-- ---- the bytes after the items of a payload
 
 drop-more : (n : ℕ) (s t : List ℕ) → drop (length s + n) (s ++ t) ≡ drop n t
 drop-more n [] t = ap (λ m. drop m t) (let same : 0 + n ≡ n = omega arith in same)
@@ -39,7 +39,7 @@ pub fault_of_some-some : (p : List ℕ) → 0 < length p → fault_of_some p ≡
 fault_of_some-some [] some = absurd (omega arith)
 fault_of_some-some (byte ∷ more) some = refl
 
--- what follows the items of a list
+-- the bytes after the items of a list
 pub rest-after : (b : List ℕ) → rest b ≡ after_items (payload b)
 unfolding rest items
 rest-after b = refl
@@ -54,11 +54,11 @@ some_bytes (c ∷ b) is = omega arith
 
 -- ---- the fault of a list
 
--- a lenient view has none
+-- a lenient view has no such fault
 pub list_lenient : (v : View) → v.is_strict ≡ false → list_fault v ≡ None
 list_lenient v lenient = cond-false v.is_strict (strict_list_fault v.bytes) None lenient
 
--- a strict one has that of its bytes
+-- a strict view has that of its bytes
 pub list_strict : (v : View) (o : Option DecoderError) → v.is_strict ≡ true → strict_list_fault v.bytes ≡ o → list_fault v ≡ o
 list_strict v o strict is = cond-true v.is_strict (strict_list_fault v.bytes) None strict ∙ is
 

@@ -30,7 +30,7 @@ pub front_value_fault : (b : List ℕ) (e : DecoderError) → framing b ≡ Err 
 unfolding value
 front_value_fault b e is = ap (map_ok (λ q. take q.value_len (drop q.header_len b))) is
 
--- the value is what follows the header in the item
+-- the value is the bytes after the header of the item
 pub front_value : (b item : List ℕ) (p : PayloadInfo) → framing b ≡ Ok p → item ≡ take (total_len p) b
     → value b ≡ Ok (take (length item - p.header_len) (drop p.header_len item))
 unfolding value
@@ -52,7 +52,7 @@ front_item b item p has within same = subst IsFramedItem (sym same) (frame_item 
 pub front_ends : (b item : List ℕ) (p : PayloadInfo) → total_len p ≤ length b → item ≡ take (total_len p) b → total_len p ≡ length item
 front_ends b item p within same = sym (ap length same ∙ length-take-le (total_len p) b within)
 
--- ---- what follows the item
+-- ---- the bytes after the item
 
 -- bytes that are exactly the item have no strict fault
 pub whole_front : (b item others : List ℕ) (p : PayloadInfo) → framing b ≡ Ok p → total_len p ≡ length item → b ≡ item ++ others

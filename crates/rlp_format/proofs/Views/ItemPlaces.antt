@@ -50,7 +50,7 @@ pub walked-none : (b p : List ℕ) → p ≡ payload b → IsWalked b 0 p
 unfolding items
 walked-none b p e = record { others = ap split e; whole = sym e }
 
--- the walk goes on past one item
+-- the walk goes on after one item
 pub walked-one : (b item others left : List ℕ) (k : ℕ) → IsWalked b k left → split left ≡ item ∷ split others → left ≡ item ++ others
     → IsWalked b (k + 1) others
 walked-one b item others left k is parts whole =

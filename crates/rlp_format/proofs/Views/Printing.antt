@@ -11,7 +11,7 @@ use Rattle.rlp_format.specs.Views.Text.{error_name, hex, separated, framed_text,
 use Rattle.rlp_format.specs.Views.Depth.{greatest, framed_depth, depth}
 use Rattle.rlp_format.proofs.Views.Texts.{AllWithinLength, items_short, items_nil, text_is, depth_is}
 
--- what is written before an item, after these
+-- the separator before the next item, after these texts
 abbrev pub separator_after : List (List ℕ) → List ℕ
 separator_after [] = []
 separator_after (t ∷ ts) = codes ", "
@@ -111,7 +111,7 @@ depth-string b kind = depth_is b ∙ ap (λ k. framed_depth depth b k (value b))
 pub depth-fault : (b : List ℕ) (e : DecoderError) → value b ≡ Err e → depth b ≡ 0
 depth-fault b e is = depth_is b ∙ ap (framed_depth depth b (begins_as_list b)) is
 
--- the depth of a list is 1 more than the greatest of its items
+-- the depth of a list is 1 more than the greatest depth of its items
 pub depth-list : (b v : List ℕ) → begins_as_list b ≡ true → value b ≡ Ok v → depth b ≡ suc (greatest (map depth (items b)))
 depth-list b v kind is = depth_is b ∙ ap (λ k. framed_depth depth b k (value b)) kind ∙ ap (framed_depth depth b true) is
 
@@ -136,7 +136,7 @@ pub greatest-more : (done : List (List ℕ)) (b : List ℕ) (limit : ℕ) → gr
     → greatest (map depth (done ++ b ∷ [])) ≤ limit
 greatest-more done b limit l k = subst (λ ns. greatest ns ≤ limit) (sym (map-append depth done (b ∷ []))) (max-bounded (map depth done) 0 (depth b) limit l k)
 
--- ---- whether b is nested within the limit, from what is known of it
+-- ---- whether b is nested within the limit
 
 -- bytes of depth 0 are nested within each limit
 pub shallow-other : (b : List ℕ) (limit : ℕ) → depth b ≡ 0 → IsTrue true ↔ (depth b ≤ limit)

@@ -112,7 +112,7 @@ items_short n (first ∷ rest) l =
     let p : List ℕ = payload (first ∷ rest) in
     weaker (length p) n (split_within (length p) p) (omega (arith, short)) (split_short (length p) p)
 
--- no bytes have no items
+-- an empty slice has no items
 pub items_nil : items [] ≡ []
 unfolding items split
 items_nil = ap (λ p. split_within (length p) p) payload_nil

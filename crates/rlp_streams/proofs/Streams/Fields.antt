@@ -132,7 +132,7 @@ counted_so_far items values i x d inside is =
     let few = counted_within items values (i + 1) in
     omega (arith, sum, few)
 
--- with those of others
+-- with the items of other values
 pub counted_both : (xs ys : List Item) (n m : ℕ) (o : Option ℕ) → n ≡ length xs → m ≡ length ys → SomeIff o (n + m < 2 ^ 64) (n + m)
     → MatchOption o (2 ^ 64 ≤ length (xs ++ ys)) (λ k. k ≡ length (xs ++ ys))
 counted_both xs ys n m None first second not = omega (arith, length-append xs ys, first, second, not)

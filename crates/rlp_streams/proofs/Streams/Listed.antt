@@ -8,7 +8,7 @@ use Rattle.rlp_buffer.specs.Streams.Stack.{OpenList, count_around}
 use Rattle.rlp_buffer.specs.Streams.Stream.{State, list_encoding, add, put_item, with_list, is_list, add_all}
 use Rattle.rlp_format.specs.Lemmas.Encodings.{encoding_list}
 
--- a truth value or true is true
+-- `b || true` is true
 pub or_true : (b : Bool) → (b || true) ≡ true
 or_true true = refl
 or_true false = refl

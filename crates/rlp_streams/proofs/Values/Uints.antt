@@ -12,7 +12,7 @@ zero_in_front [] is = refl
 zero_in_front (d ∷ ds) is = let none : 0 * 256 + d ≡ 0 = omega (arith, is) in
     ap (λ n. number_from_digits_after 256 n ds) (let other : 0 ≡ 0 * 256 + d = omega (arith, is) in other)
 
--- no bytes are the digits of 0
+-- the digits of 0 are no bytes
 pub none_significant : (ds : List ℕ) → length ds ≡ 0 → ds ≡ big_endian (number_from_digits 256 ds)
 none_significant [] is = let h : big_endian 0 ≡ [] = big_endian_zero in cc
 none_significant (d ∷ ds) is = absurd (omega arith)

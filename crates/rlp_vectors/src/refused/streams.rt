@@ -43,9 +43,9 @@ trait Calls {
     fn stands(&self, s: &RlpStream, done: usize) -> bool;
 }
 
-/// Makes the calls in turn. A call that is refused is made again. Returns `AllocError` if a call
-/// was refused and left the stream as it was, and all other calls succeeded, and `false` if the
-/// stream has another state.
+/// Makes the calls in turn. A call that is refused is made again. Returns `true` if no call is
+/// refused, `AllocError` if a refused call leaves the stream as it was and then succeeds, and
+/// `false` if the stream has a wrong state or a call isn't admitted.
 fn go_again<C: Calls>(s: &mut RlpStream, calls: &C) -> Result<bool, AllocError> {
     let mut refused = false;
     for place in 0..calls.count() {
@@ -122,7 +122,7 @@ const TEXTS: Table = Table {
     ],
 };
 
-/// Two pairs, in a list of two items.
+/// A list of two pairs, as the first item of a list of two.
 const PAIRS: Table = Table {
     steps: &[Step::Begin(2), Step::Pairs(&[Pair(1, 2), Pair(3, 4)])],
     stands: &[
