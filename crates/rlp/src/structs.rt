@@ -92,7 +92,7 @@ pub trait DecodeFields: Sized + Drop {
     // The items from this place on give the fields.
     ghost give: { ℕ → View → Self → Type 0 };
 
-    // The item at the place of the second number gives some value of the field of the first number.
+    // `gives_some k i v`: item `i` of the view `v` gives some value of field `k`.
     ghost gives_some: { ℕ → ℕ → View → Type 0 };
 
     // An item gives no value of the field with this number, and this is the error.

@@ -1,4 +1,4 @@
-//! What tests share.
+//! Functions that several tests call.
 
 use rlp::{Decodable, Encodable};
 use std::alloc::Global;

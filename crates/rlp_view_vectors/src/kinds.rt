@@ -32,7 +32,7 @@ fn kinds_of_views(rt: HostRuntime) {
     assert!(rt; kinds_agree());
 }
 
-/// Bytes, and whether they begin with a number.
+/// Bytes, and the results of `is_int`.
 const NUMBERS: [(&[u8], bool); 8] = [
     (&[], false),
     (&[0x81], false),

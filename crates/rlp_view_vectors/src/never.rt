@@ -1,6 +1,6 @@
 //! Calls on views that take no memory.
 //!
-//! `refusals/run` refuses every request from a signal on, which is one for `SIGNAL` bytes.
+//! `refusals/run` refuses every request after a signal. The signal is a request for `SIGNAL` bytes.
 
 use rlp::{DecoderError, Rlp};
 use std::alloc::Global;
@@ -10,7 +10,7 @@ use std::fmt::Write;
 /// The number of bytes that is requested as the signal.
 const SIGNAL: usize = 77_777;
 
-/// Gives the signal. Whether the request is met makes no difference.
+/// Gives the signal. The result of the request makes no difference.
 fn refuse_from_here(alloc: Global) -> bool {
     Vec::<u8>::with_capacity(alloc, SIGNAL).is_ok()
 }

@@ -12,7 +12,7 @@ use rlp_format::digits::{number_of, wide_number_of};
 use rlp_format::error::DecoderError;
 use std::alloc::Global;
 
-/// Reads a number of at most one byte. It fails as `u64` does.
+/// Reads a number of at most one byte. Fails with the same errors as for `u64`.
 impl Decodable for u8 {
     ghost use Rattle.rlp.specs.Values.ValueReading.{GivesNumber, FaultsAsNumber};
 
@@ -30,7 +30,7 @@ impl Decodable for u8 {
     }
 }
 
-/// Reads a number of at most two bytes. It fails as `u64` does.
+/// Reads a number of at most two bytes. Fails with the same errors as for `u64`.
 impl Decodable for u16 {
     ghost use Rattle.rlp.specs.Values.ValueReading.{GivesNumber, FaultsAsNumber};
 
@@ -48,7 +48,7 @@ impl Decodable for u16 {
     }
 }
 
-/// Reads a number of at most four bytes. It fails as `u64` does.
+/// Reads a number of at most four bytes. Fails with the same errors as for `u64`.
 impl Decodable for u32 {
     ghost use Rattle.rlp.specs.Values.ValueReading.{GivesNumber, FaultsAsNumber};
 
@@ -105,7 +105,7 @@ impl Decodable for usize {
     }
 }
 
-/// Reads a number of at most sixteen bytes. It fails as `u64` does.
+/// Reads a number of at most sixteen bytes. Fails with the same errors as for `u64`.
 impl Decodable for u128 {
     ghost use Rattle.rlp.specs.Values.ValueReading.{GivesNumber, FaultsAsNumber};
 

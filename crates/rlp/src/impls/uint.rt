@@ -10,7 +10,7 @@ use rlp_format::error::DecoderError;
 use rlp_streams::Uint;
 use std::alloc::Global;
 
-/// Reads a number of at most `N` bytes. It fails as `u64` does.
+/// Reads a number of at most `N` bytes. Fails with the same errors as for `u64`.
 impl<const N: usize> Decodable for Uint<N> {
     ghost use Rattle.std.specs.Int.Digits.{number_from_digits};
     ghost use Rattle.rlp.specs.Values.ValueReading.{FaultsAsNumber, GivesNumber};

@@ -100,7 +100,7 @@ impl Calls for Table {
     }
 }
 
-/// A new stream.
+/// The state of a new stream.
 const NEW: Stand = (&[], 0, 0, None, false);
 
 /// A list of two texts in a list, and then an empty text.

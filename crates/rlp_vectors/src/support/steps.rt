@@ -1,4 +1,4 @@
-//! Calls on streams as data.
+//! Calls on streams, as values.
 
 use crate::support::guarded::{finalize, finishes_as, put_raw};
 use rlp::RlpStream;

@@ -13,7 +13,7 @@ const LONG_TEXT: &str = "Lorem ipsum dolor sit amet, consectetur adipisicing eli
 /// more than 55 bytes.
 const LONG_HEADERS: &[u8] = &[0xf8, 0x40, 0xf8, 0x3e, 0xf8, 0x3c, 0xf8, 0x3a, 0xf8, 0x38];
 
-/// Begins lists of one item, one inside the other.
+/// Begins lists of one item, one inside another.
 fn begin_singles(s: &mut RlpStream, lists: usize) -> Result<(), AllocError> {
     for _ in 0..lists {
         s.begin_list(1)?;
@@ -102,7 +102,7 @@ fn closes_a_list_of_many_items(rt: HostRuntime) -> Result<(), Fail> {
     Ok(())
 }
 
-/// A number, and then an unbounded list, in a list of two.
+/// Calls that write a number and then an open unbounded list of three items, in a list of two.
 const MIXED: &[Step] = &[
     Step::Begin(2),
     Step::Number(1),
