@@ -7,8 +7,8 @@ use std::alloc::{AllocError, Global};
 /// The header of a block: the list of fifteen fields, and of up to six more that later forks added.
 ///
 /// See section 4.4 of the yellow paper, and the EIPs of the fields. Each of the last six fields is
-/// `None` in blocks of earlier forks, and is `Some` only if all fields before it are. Reading
-/// accepts lists of 15 to 21 items. It also accepts 18 and 19 items, which no fork has.
+/// `None` in blocks of earlier forks, and is `Some` only if all of the six before it are. Reading
+/// accepts lists of 15 to 21 items. This includes 18 and 19 items, which no fork has.
 #[derive(Drop)]
 pub struct Header {
     /// The hash of the parent's header.

@@ -63,7 +63,8 @@ impl StrictRead for Child {
     ghost strict = { child.reads_strictly };
 }
 
-/// Returns the child of a string of 32 bytes, or of the empty string.
+/// Makes a child from a string of 32 bytes, or from the empty string. Fails as reading a child
+/// does.
 #[tactic(auto, using(crate::specs::Child::child_faults))]
 fn child_of(string: &[u8]) -> Result<Child, DecoderError>
     ensures value { IfOk result (λ c. IsChild c × (child_bytes c ≡ string.now)) }

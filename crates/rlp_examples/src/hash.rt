@@ -59,7 +59,7 @@ impl StrictRead for Hash {
     ghost strict = { hash.reads_strictly };
 }
 
-/// Returns the hash of a string of 32 bytes.
+/// Makes a hash from a string of 32 bytes. Fails as reading a hash does.
 #[tactic(auto, using(rlp::specs::Lemmas::RoundTrips::length_faults))]
 fn hash_of(string: &[u8]) -> Result<Hash, DecoderError>
     ensures value { IfOk result (λ h. (length h.bytes ≡ 32) × (h.bytes ≡ string.now)) }

@@ -9,7 +9,7 @@ use std::alloc::{AllocError, Global};
 /// The recipient of a transaction.
 #[derive(Debug, PartialEq, Eq, Drop)]
 pub enum Recipient {
-    /// None: the transaction creates a contract.
+    /// No account: the transaction creates a contract.
     Nobody,
     /// The account with this address.
     Account([u8; 20]),
@@ -63,7 +63,8 @@ impl StrictRead for Recipient {
     ghost strict = { recipient.reads_strictly };
 }
 
-/// Returns the recipient of a string of 20 bytes, or of the empty string.
+/// Makes a recipient from a string of 20 bytes, or from the empty string. Fails as reading a
+/// recipient does.
 #[tactic(auto, using(crate::specs::Recipient::recipient_faults))]
 fn recipient_of(string: &[u8]) -> Result<Recipient, DecoderError>
     ensures value { IfOk result (λ r. IsRecipient r × (recipient_bytes r ≡ string.now)) }

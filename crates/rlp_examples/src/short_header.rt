@@ -6,7 +6,7 @@ use rlp::{Decodable, DecoderError, Encodable, Rlp, RlpStream, RoundTrip, StrictR
 use std::alloc::{AllocError, Global};
 
 /// Some fields of a block's header. Older blocks don't have the fields that later forks added. A
-/// field is present only if all fields before it are.
+/// field is `Some` only if all optional fields before it are.
 #[derive(Drop)]
 pub struct ShortHeader {
     /// The number of the block.
