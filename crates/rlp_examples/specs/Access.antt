@@ -6,7 +6,7 @@ use Rattle.rlp_examples.specs.declared.access.Access.{Access}
 use Rattle.rlp_examples.specs.declared.access.AccessList.{AccessList}
 use Rattle.rlp_examples.specs.Hash.{hash}
 
--- an array of 20 bytes
+-- an address is an array of 20 bytes
 abbrev pub address : Codec Address
 address = newtype (λ (a : Address). a.bytes) (byte_array 20)
 

@@ -122,7 +122,7 @@ held_whole v d fits is read followed = whole_kind v.is_strict
 pub held_front : (v : View) (r : Result (List ℕ) DecoderError) → v.is_strict ≡ false → read_string v.bytes ≡ r → view_string v ≡ r
 held_front v r lenient is = cond-false v.is_strict _ _ lenient ∙ is
 
--- bytes that begin with no string
+-- bytes that don't begin with a string
 pub held_fault : (v : View) (e : DecoderError) → read_string v.bytes ≡ Err e → view_string v ≡ Err e
 held_fault v e is = fault_kind v.is_strict
   where
