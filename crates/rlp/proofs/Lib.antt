@@ -1,15 +1,15 @@
--- Lemmas, in folders as the definitions that they are about. A function's invariants and answers stand in a folder of its own name.
+-- Lemmas, in folders named as those of the definitions that they are about. The invariants and results of a function are in a folder with its name.
 
--- what a view of bytes answers
+-- what a view of bytes returns
 pub mod Views
 -- values, and which bytes give them
 pub mod Values
 -- the items that calls describe
 pub mod Streams
--- for authors of types: what bodies cite that write, and that read
+-- for authors of types: the rules for bodies that write and that read
 pub mod Writing
 pub mod Reading
--- the same by smaller sets: a type that is read from one string, and what is passed on from `rlp_streams`
+-- the same rules in smaller sets: for a type that is read from one string, and those that are passed on from `rlp_streams`
 pub mod OneString
 pub mod Growth
 pub mod Filling

@@ -1,4 +1,4 @@
--- For authors of types: what a body of `decode` cites that reads a string, or the fields of a list by number.
+-- For authors of types: the rules for a body of `decode` that reads a string, or the fields of a list by number.
 use Rattle.rlp.specs.Lemmas.Structs.{struct_fields}
 use Rattle.rlp.proofs.OneString.{one_string}
 

@@ -2,7 +2,7 @@
 pub mod Canonical
 -- lenient and strict views
 pub mod ViewKinds
--- items taken off bytes
+-- items that are split off bytes
 pub mod SplitOff
 -- fields in order
 pub mod InOrder

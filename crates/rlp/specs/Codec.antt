@@ -1,4 +1,4 @@
--- Types of which a struct is made, and structs that are lists of their fields.
+-- Codecs of types, and of structs that are lists of their fields.
 use Rattle.std.specs.Prelude.{ℕ, zero, suc, ◌≡◌, ◌^◌, ◌<◌, ◌≤◌, ◌↔◌, ⊤, ◌⊎◌, All, IsUtf8, IfSome, Bool, List, [], ◌∷◌, length, map, Ok, Option, Some, refl, ◌+◌}
 use Rattle.std.specs.Int.Digits.{number_from_digits}
 use Rattle.std.proofs.Common.{ap}
@@ -26,7 +26,7 @@ use Rattle.rlp.specs.Lemmas.StrictReads.{bool_strict, bytes_strict, number_stric
 use Rattle.rlp.specs.Lemmas.StrictLists.{list_strict}
 use Rattle.rlp.specs.Lemmas.StrictStructs.{PartsFrom, first_exact, first_exactly_sound, more_exact, more_exactly_sound, struct_strict}
 
--- How the values of a type are written and read: what its `Encodable`, `Decodable`, `RoundTrip` and `StrictRead` say, in one record.
+-- How the values of a type are written and read. The record holds the members of its `Encodable`, `Decodable`, `RoundTrip` and `StrictRead`.
 pub record Codec (A : Type 0) : Type 1 where
   pub Fits : A → Type 0
   pub item : A → Item
@@ -36,7 +36,7 @@ pub record Codec (A : Type 0) : Type 1 where
   pub reads_back : (b : List ℕ) (v : A) → length b < 2 ^ 64 → Fits v → HoldsItem (view_of b) (item v) → ReadsBack Fits item gives faults (view_of b) v
   pub reads_strictly : (b : List ℕ) (v : A) → AreBytes b → length b < 2 ^ 64 → ReadsStrictly Fits item gives faults b v
 
--- the codec of a type that has these traits, from their members: for a type with a parameter
+-- the codec of a type that implements these traits, made from their members; it is for a type with a parameter
 abbrev pub codec_of : {A : Type 0} (Fits : A → Type 0) (item : A → Item) (gives : View → A → Type 0) (faults : View → DecoderError → Type 0)
     (may_lack : View → Type 0) → ((b : List ℕ) (v : A) → length b < 2 ^ 64 → Fits v → HoldsItem (view_of b) (item v)
     → ReadsBack Fits item gives faults (view_of b) v)
@@ -46,7 +46,7 @@ codec_of Fits item gives faults may_lack reads_back reads_strictly =
 
 -- ---- the provided types
 
--- numbers of that many bytes
+-- numbers of at most `width` bytes
 abbrev pub number : ℕ → Codec ℕ
 number width = record {
   Fits = FitsBytes width;
@@ -70,7 +70,7 @@ truth_value = record {
   reads_strictly = bool_strict;
 }
 
--- a type of which contracts see a byte string
+-- a type whose values contracts see as byte strings
 abbrev pub byte_string : {B : Type 0} → (B → List ℕ) → Codec B
 byte_string bytes = record {
   Fits = λ b. ⊤;
@@ -82,7 +82,7 @@ byte_string bytes = record {
   reads_strictly = bytes_strict bytes;
 }
 
--- a type of which contracts see a text
+-- a type whose values contracts see as texts
 abbrev pub text : {B : Type 0} → (B → List ℕ) → Codec B
 text bytes = record {
   Fits = λ b. IsUtf8 (bytes b);
@@ -94,7 +94,7 @@ text bytes = record {
   reads_strictly = text_strict bytes;
 }
 
--- A type that is read from one string: the strings of the values that fit are read, and others have the faults of IsFaulty. No memory is taken.
+-- A type that is read from one string. The strings of the values that fit are read; other strings have the faults of IsFaulty. Reading takes no memory.
 abbrev pub string_type : {B : Type 0} (Fits : B → Type 0) (bytes : B → List ℕ) (IsFaulty : List ℕ → DecoderError → Type 0)
     → ((b : B) (e : DecoderError) → Fits b → ¬ IsFaulty (bytes b) e) → Codec B
 string_type Fits bytes IsFaulty sound = record {
@@ -107,7 +107,7 @@ string_type Fits bytes IsFaulty sound = record {
   reads_strictly = strings_strict Fits bytes IsFaulty sound;
 }
 
--- a type of n bytes, no more and no fewer
+-- a type of exactly n bytes
 abbrev pub fixed_bytes : {B : Type 0} → ℕ → (B → List ℕ) → Codec B
 fixed_bytes n bytes = string_type (λ b. length (bytes b) ≡ n) bytes (IsLengthFault n) (λ b e fit. sound_length n (bytes b) e fit)
 
@@ -127,7 +127,7 @@ option c = record {
   reads_strictly = option_strict c.Fits c.item c.gives c.faults c.reads_strictly;
 }
 
--- a type of which contracts see another one's value, as a box is
+-- a type whose values contracts see as values of another type, such as a box
 abbrev pub holding : {A B : Type 0} → (B → A) → Codec A → Codec B
 holding value c = record {
   Fits = λ b. c.Fits (value b);
@@ -139,7 +139,7 @@ holding value c = record {
   reads_strictly = λ b x bytes fits. strict_through value (c.reads_strictly b (value x) bytes fits);
 }
 
--- a type that is another one's value under a name of its own, and takes no memory for it
+-- a custom type that holds a value of another type, and takes no memory for that
 abbrev pub newtype : {A B : Type 0} → (B → A) → Codec A → Codec B
 newtype value c = record {
   Fits = λ b. c.Fits (value b);
@@ -151,11 +151,11 @@ newtype value c = record {
   reads_strictly = λ b x bytes fits. strict_through value (c.reads_strictly b (value x) bytes fits);
 }
 
--- numbers of n bytes, kept as these
+-- numbers that are kept as n bytes
 abbrev pub uint : (n : ℕ) → Codec (Uint n)
 uint n = newtype (λ (u : Uint n). number_from_digits 256 u.bytes) (number n)
 
--- a type of which contracts see the values of a list
+-- a type whose values contracts see as lists of values
 abbrev pub list_type : {A B : Type 0} → (B → List A) → Codec A → Codec B
 list_type values c = record {
   Fits = λ b. All c.Fits (values b);
@@ -169,8 +169,8 @@ list_type values c = record {
 
 -- ---- structs
 
--- The fields of a struct from some field on, in order. `gives i` says what the items from place i on give, `some k i` that item i gives some value of
--- field k, and `faults k` and `may_lack k` are of the type of field k.
+-- The fields of a struct from some field on, in order. `gives i` says what the items from place i on give. `some k i` says that item i gives some value of
+-- field k. `faults k` and `may_lack k` are those of the type of field k.
 pub record Fields (P : Type 0) : Type 1 where
   pub count : ℕ
   pub Fits : P → Type 0
@@ -222,16 +222,16 @@ and_field field c more = record {
   exactly_sound = more_exactly_sound field c.Fits c.item c.gives c.faults c.reads_strictly more.Fits more.items more.count more.faults more.exactly_sound;
 }
 
--- n fields of one type before others: the first of them is field k of its kind
+-- n fields of one type before others; `field k` is the first of the n
 abbrev pub and_each : {A P : Type 0} → (ℕ → P → A) → Codec A → Fields P → ℕ → ℕ → Fields P
 and_each field c more k zero = more
 and_each field c more k (suc n) = and_field (field k) c (and_each field c more (suc k) n)
 
--- Why a view gives no struct of its fields: it is no list, it has another number of items, or an item is at fault and each before it gives a value.
+-- The fault of a view that gives no struct: it isn't a list, it has another number of items, or an item has a fault and each item before it gives a value.
 abbrev pub FaultsAsStruct : ℕ → (ℕ → ℕ → View → Type 0) → (ℕ → View → DecoderError → Type 0) → View → DecoderError → Type 0
 FaultsAsStruct count some faults v e = FaultsAsFields count (λ v e. FaultsInField count some faults v e) v e
 
--- a struct that is the list of its fields
+-- a struct that is written as the list of its fields
 abbrev pub struct_of : {P : Type 0} → Fields P → Codec P
 struct_of f = record {
   Fits = f.Fits;
@@ -245,8 +245,8 @@ struct_of f = record {
 
 -- ---- structs whose last fields may be missing
 
--- The fields of a struct from some field on, of which the last ones may be missing: there are at least `least` items and at most `most`. The others
--- are as in `Fields`.
+-- The fields of a struct from some field on. The last fields may be missing: the number of items is at least `least` and at most `most`. The other members are
+-- as in `Fields`.
 pub record Tailed (P : Type 0) : Type 1 where
   pub least : ℕ
   pub most : ℕ
@@ -286,7 +286,7 @@ no_tail = record {
   exactly_sound = λ i view parts p held fit same k e few at. no_tail_few k few;
 }
 
--- a field that may be missing, and then those after it are
+-- a field that may be missing; if it is, the fields after it are missing too
 abbrev pub and_optional : {A P : Type 0} → (P → Option A) → Codec A → Tailed P → Tailed P
 and_optional field c more = record {
   least = 0;
@@ -312,11 +312,11 @@ and_optional field c more = record {
       (λ others held fits same. more.exactly_sound (suc i) view others p held fits same) held fit same;
 }
 
--- a field that is always there, before those of which the last may be missing
+-- a field that is always present, before fields whose last may be missing
 abbrev pub and_always : {A P : Type 0} → (P → A) → Codec A → Tailed P → Tailed P
 and_always field c more = record (and_optional (λ p. Some (field p)) c more) { least = suc more.least; enough = λ p. one_more_enough (more.enough p) }
 
--- a struct that is the list of its fields, of which the last may be missing
+-- a struct that is written as the list of its fields, whose last may be missing
 abbrev pub tailed : {P : Type 0} → Tailed P → Codec P
 tailed t = record {
   Fits = t.Fits;

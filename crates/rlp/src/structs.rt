@@ -16,18 +16,18 @@ use crate::traits::Decodable;
 use rlp_format::error::DecoderError;
 use std::alloc::Global;
 
-/// One field of a struct, as it is read from one item.
+/// One field of a struct, read from one item.
 pub trait DecodeField: Sized + Drop {
     // The item gives the field.
     ghost gives: { View → Self → Type 0 };
 
-    // The item in this place of a view gives some field.
+    // The item at this place of a view gives some field.
     ghost gives_some: { ℕ → View → Type 0 };
 
-    // The item gives no field, for this reason.
+    // The item gives no field, and this is the error.
     ghost faults: { View → DecoderError → Type 0 };
 
-    // Reading the item may answer `OutOfMemory` where memory is refused.
+    // Reading the item can fail with `OutOfMemory`, if memory is refused.
     ghost may_lack_memory: { View → Type 0 };
 
     /// Reads the field from the next item. Fails as [`Fields::next_value`] or
@@ -84,29 +84,29 @@ impl<T: Decodable> DecodeField for ListField<T> {
     }
 }
 
-/// The fields of a struct that is read from a list, as nested pairs: `(a, (b, (c,)))`.
+/// The fields of a struct that is read from a list. They are nested pairs: `(a, (b, (c,)))`.
 pub trait DecodeFields: Sized + Drop {
-    // How many there are.
+    // The number of fields.
     ghost count: { ℕ };
 
     // The items from this place on give the fields.
     ghost give: { ℕ → View → Self → Type 0 };
 
-    // The item in the second place gives some value of the field with the first number.
+    // `gives_some k i v`: item `i` of the view `v` gives some value of field `k`.
     ghost gives_some: { ℕ → ℕ → View → Type 0 };
 
-    // An item gives no value of the field with this number, for this reason.
+    // An item gives no value of the field with this number, and this is the error.
     ghost faults: { ℕ → View → DecoderError → Type 0 };
 
-    // Reading the field with this number may answer `OutOfMemory` where memory is refused.
+    // Reading the field with this number can fail with `OutOfMemory`, if memory is refused.
     ghost may_lack_memory: { ℕ → View → Type 0 };
 
-    /// Whether there are `len` fields.
+    /// Returns whether the number of fields is `len`.
     fn has_len(len: usize) -> bool
         ensures { IsTrue result ↔ (len ≡ count) };
 
-    /// Reads the fields from the next items. Fails as [`DecodeField::decode_field`] does for the first
-    /// field that fails.
+    /// Reads the fields from the next items. If a field fails, returns the error of
+    /// [`DecodeField::decode_field`] for the first field that fails.
     fn decode_fields(alloc: Global, fields: &mut Fields<'_>) -> Result<Self, DecoderError>
         ensures value { IfOk result (λ x. give fields.old.place fields.old.view x) }
         ensures fault { IfErr result (λ e.
@@ -166,11 +166,12 @@ impl<F: DecodeField, Q: DecodeFields> DecodeFields for (F, Q) {
     }
 }
 
-/// Reads the fields of a struct from the list that the view begins with. `rlp::decode_fields!` calls
-/// it.
+/// Reads the fields of a struct from the list that the view begins with. `rlp::decode_fields!`
+/// calls it.
 ///
-/// Fails with `RlpIncorrectListLen` if the number of items isn't the number of fields. No field is
-/// read then. The other faults are those of [`Rlp::item_count`], and of the first field that fails.
+/// Fails with `RlpIncorrectListLen` if the number of items isn't the number of fields. It then
+/// reads no field. Also fails as [`Rlp::item_count`] does, and with the error of the first field
+/// that fails.
 #[tactic(auto, using(crate::proofs::Values::FieldReading::whole_struct, crate::proofs::Views::InOrder::counted_fields))]
 pub fn decode_struct<F: DecodeFields>(alloc: Global, rlp: &Rlp<'_>) -> Result<F, DecoderError>
     ensures value { IfOk result (λ x. (item_count rlp.now ≡ Ok F.count) × F.give 0 rlp.now x) }
@@ -192,11 +193,11 @@ pub fn decode_struct<F: DecodeFields>(alloc: Global, rlp: &Rlp<'_>) -> Result<F,
     }
 }
 
-/// Writes a struct as the list of its fields. It takes the stream, and then each field in order, and
-/// counts the fields itself. It is the whole body of an `rlp_append`.
+/// Writes a struct as the list of its fields. The arguments are the stream, and then each field in
+/// order. The macro counts the fields. It is the whole body of an `rlp_append`.
 ///
-/// A reference to a value is one item, and `ListOf(&self.keys)` is one item that is a list.
-/// `Each(&self.children)` is an item for each value, and `Flattened(&self.pairs)` the fields of
+/// A reference to a value is one item. `ListOf(&self.keys)` is one item, which is a list.
+/// `Each(&self.children)` is one item for each value. `Flattened(&self.pairs)` is the fields of
 /// each value. Fails as [`append_struct`] does.
 ///
 /// ```rust
@@ -206,7 +207,7 @@ pub fn decode_struct<F: DecodeFields>(alloc: Global, rlp: &Rlp<'_>) -> Result<F,
 /// ```
 #[macro_export]
 macro_rules! append_fields {
-    // Pairs of groups of four, and these of sixteen, so that no value lies deep in pairs.
+    // The pairs hold groups of sixteen and of four fields, so that no field is deep in pairs.
     (@nested $a:expr, $b:expr, $c:expr, $d:expr, $e:expr, $f:expr, $g:expr, $h:expr,
         $i:expr, $j:expr, $k:expr, $l:expr, $m:expr, $n:expr, $o:expr, $p:expr,
         $($others:expr),+) => {
@@ -235,9 +236,9 @@ macro_rules! append_fields {
     };
 }
 
-/// Reads a struct from the list of its fields. It takes the allocator, the view, and the struct with
-/// its fields in order. A field that is a list is written `keys: [..]`. It is the whole body of a
-/// `decode`, and fails as [`decode_struct`] does.
+/// Reads a struct from the list of its fields. The arguments are the allocator, the view, and the
+/// struct with its fields in order. A field that is a list is written `keys: [..]`. The macro is
+/// the whole body of a `decode`. Fails as [`decode_struct`] does.
 ///
 /// ```rust
 /// fn decode(alloc: Global, rlp: &Rlp<'_>) -> Result<Access, DecoderError> {

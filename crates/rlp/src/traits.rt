@@ -1,4 +1,4 @@
-//! What a type does to be read, and to be read back.
+//! The traits of types that are read.
 
 mod decodable;
 mod round_trip;

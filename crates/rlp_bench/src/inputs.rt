@@ -1,38 +1,38 @@
-//! What the operations are run on.
+//! The inputs of the operations.
 
 use rlp::{Encodable, RlpStream};
 use rlp_examples::{Recipient, Transaction};
 use std::alloc::Global;
 
-/// Values, and their encodings, each twice in a row.
+/// Values, and encodings. Each encoding is there twice, one after the other.
 #[derive(Drop)]
 pub(crate) struct Inputs {
     /// Numbers of one to eight bytes.
     pub numbers: Vec<u64>,
-    /// 1,000 bytes.
+    /// A text of 1,000 bytes.
     pub text: String,
-    /// A transaction of 104 bytes or so.
+    /// A transaction of about 104 bytes.
     pub transaction: Transaction,
-    /// The encoding of a number below 128, and of one of eight bytes.
+    /// The encodings of a number below 128 and of a number of eight bytes.
     pub small_number: Vec<u8>,
     pub large_number: Vec<u8>,
-    /// The encodings of 32 and of 1,000 bytes.
+    /// The encodings of strings of 32 and of 1,000 bytes.
     pub short_string: Vec<u8>,
     pub long_string: Vec<u8>,
-    /// The encoding of the transaction, and of a list of 100 of them.
+    /// The encodings of the transaction and of a list of 100 transactions.
     pub transaction_bytes: Vec<u8>,
     pub block: Vec<u8>,
-    /// The encoding of the list of the numbers, and of a list of 10,000 small items.
+    /// The encodings of the list of the numbers and of a list of 10,000 small items.
     pub list: Vec<u8>,
     pub long_list: Vec<u8>,
-    /// The encoding of a list of seventeen strings of 32 bytes, as a branch of the trie is.
+    /// The encoding of a list of seventeen strings of 32 bytes, such as a branch of the trie.
     pub branch: Vec<u8>,
     /// The encoding of a list of 200 strings of 32 bytes.
     pub hashes: Vec<u8>,
 }
 
 impl Inputs {
-    /// The inputs, which are the same each time, or `None` where memory lacks.
+    /// Returns the inputs, which are the same each time, or `None` if memory is refused.
     pub(crate) fn new(alloc: Global) -> Option<Inputs> {
         let numbers = numbers(alloc, 1000)?;
         let text = text(alloc, 1000)?;
@@ -59,7 +59,7 @@ impl Inputs {
     }
 }
 
-/// Numbers of one to eight bytes.
+/// Returns `count` numbers of one to eight bytes.
 fn numbers(alloc: Global, count: usize) -> Option<Vec<u64>> {
     let mut numbers = Vec::new(alloc);
     let mut state: u64 = 1;
@@ -72,7 +72,7 @@ fn numbers(alloc: Global, count: usize) -> Option<Vec<u64>> {
     Some(numbers)
 }
 
-/// Text of this length.
+/// Returns a text of this length.
 fn text(alloc: Global, len: usize) -> Option<String> {
     let mut text = String::new(alloc);
     for turn in 0..len {
@@ -81,7 +81,7 @@ fn text(alloc: Global, len: usize) -> Option<String> {
     Some(text)
 }
 
-/// A signed transfer.
+/// Returns a signed transfer.
 fn transaction(alloc: Global) -> Option<Transaction> {
     Some(Transaction {
         nonce: 9,
@@ -96,19 +96,19 @@ fn transaction(alloc: Global) -> Option<Transaction> {
     })
 }
 
-/// The encoding of a value.
+/// Returns the encoding of a value.
 fn encoded<E: Encodable>(alloc: Global, value: &E) -> Option<Vec<u8>> {
     let bytes = rlp::encode(alloc, value).ok()?;
     twice(alloc, bytes.as_slice())
 }
 
-/// The encoding of a list of values.
+/// Returns the encoding of a list of values.
 fn listed<E: Encodable>(alloc: Global, values: &[E]) -> Option<Vec<u8>> {
     let bytes = rlp::encode_list(alloc, values).ok()?;
     twice(alloc, bytes.as_slice())
 }
 
-/// The encoding of a list of one value, many times over.
+/// Returns the encoding of a list that holds one value `count` times.
 fn repeated<E: Encodable>(alloc: Global, value: &E, count: usize) -> Option<Vec<u8>> {
     let mut stream = RlpStream::new_list(alloc, count).ok()?;
     for _ in 0..count {
@@ -117,7 +117,7 @@ fn repeated<E: Encodable>(alloc: Global, value: &E, count: usize) -> Option<Vec<
     twice(alloc, stream.as_raw())
 }
 
-/// These bytes, and then the same again.
+/// Returns the bytes twice, one after the other.
 fn twice(alloc: Global, bytes: &[u8]) -> Option<Vec<u8>> {
     let mut both = Vec::from_slice(alloc, bytes).ok()?;
     both.extend_from_slice(bytes).ok()?;

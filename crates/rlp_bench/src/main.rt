@@ -1,5 +1,5 @@
-//! Runs one operation of the library many times over, for `bench/run`: `rlp_bench OPERATION TIMES`.
-//! It prints a sum of what the operation gave, so that none of it can be left out.
+//! Runs one operation of the library many times, for `bench/run`: `rlp_bench OPERATION TIMES`. It
+//! prints a sum of the operation's results, so that the compiler can't leave out any of the work.
 #![tactic(auto)]
 
 mod inputs;

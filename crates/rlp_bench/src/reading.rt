@@ -5,7 +5,7 @@ use rlp::{Decodable, Rlp, decode, decode_list};
 use rlp_examples::Transaction;
 use std::alloc::Global;
 
-/// Runs an operation that reads, and adds up lengths or numbers of what it read.
+/// Runs an operation that reads, and returns the sum of the lengths or numbers that it read.
 pub(crate) fn run(alloc: Global, inputs: &Inputs, operation: &str, times: usize) -> Option<usize> {
     match operation {
         "decode_small_number" => decode_number(alloc, inputs.small_number.as_slice(), times),
@@ -36,8 +36,8 @@ pub(crate) fn run(alloc: Global, inputs: &Inputs, operation: &str, times: usize)
     }
 }
 
-/// One of the two encodings that the bytes are. Each turn takes the other one, so that no turn's
-/// work serves the next.
+/// Returns one of the two encodings in the bytes. Each turn takes the other one, so that a turn
+/// can't reuse the work of the turn before.
 fn turned(bytes: &[u8], turn: usize) -> Option<&[u8]> {
     bytes.get(turn % 2 * (bytes.len() / 2)..)
 }

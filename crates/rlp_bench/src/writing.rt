@@ -4,7 +4,7 @@ use crate::inputs::Inputs;
 use rlp::{Encodable, RlpStream, encode, encode_list};
 use std::alloc::Global;
 
-/// Runs an operation that writes, and adds up the lengths of what it wrote.
+/// Runs an operation that writes, and returns the sum of the lengths that it wrote.
 pub(crate) fn run(alloc: Global, inputs: &Inputs, operation: &str, times: usize) -> Option<usize> {
     match operation {
         "encode_small_number" => encode_numbers(alloc, inputs, 0x7f, times),

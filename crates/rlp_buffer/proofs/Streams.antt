@@ -2,15 +2,15 @@
 pub mod Written
 -- the texts of a state, as bytes are put and lists closed
 pub mod States
--- what open lists await
+-- the number of items that open lists await
 pub mod Awaits
--- bytes that go to a later place
+-- bytes that are moved to a later place
 pub mod MovedBytes
 -- closing, step by step
 pub mod Closings
--- the state that a flat buffer stands for
+-- the state that a flat buffer represents
 pub mod FlatBuffer
--- the closed size, by the places of the open lists
+-- the closed size, computed from the places of the open lists
 pub mod ClosedSize
 -- room in the buffer and in the open lists
 pub mod Rooms

@@ -6,7 +6,7 @@ use Rattle.rlp_ethereum.specs.Address.{address}
 use Rattle.rlp_ethereum.specs.Bloom.{bloom}
 use Rattle.rlp_ethereum.specs.Hash.{hash}
 
--- fifteen fields that are always there, and six of which the last may be missing
+-- fifteen fields that are always present, and six fields whose last may be missing
 abbrev pub header_fields : Tailed Header
 header_fields =
     and_always (λ (h : Header). h.parent_hash) hash (

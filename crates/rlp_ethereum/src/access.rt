@@ -4,13 +4,13 @@ use crate::{Address, Hash};
 use rlp::{Decodable, DecoderError, Encodable, ListOf, Rlp, RlpStream, RoundTrip, StrictRead};
 use std::alloc::{AllocError, Global};
 
-/// An account and the keys of its storage that a transaction declares: the list of both, as
-/// EIP-2930 says.
+/// An account and the keys of its storage that a transaction declares. It is written as the list of
+/// both, as in EIP-2930.
 #[derive(Debug, PartialEq, Eq, Drop)]
 pub struct AccessListItem {
     /// The account.
     pub address: Address,
-    /// The keys of its storage, 32 bytes each.
+    /// The keys of its storage, of 32 bytes each.
     pub storage_keys: Vec<Hash>,
 }
 
@@ -59,7 +59,8 @@ impl StrictRead for AccessListItem {
     ghost strict = { access_list_item.reads_strictly };
 }
 
-/// The accounts that a transaction declares, in order: the list of its items, as EIP-2930 says.
+/// The accounts that a transaction declares, in order. It is written as the list of its items, as
+/// in EIP-2930.
 #[derive(Debug, PartialEq, Eq, Drop)]
 pub struct AccessList(pub Vec<AccessListItem>);
 

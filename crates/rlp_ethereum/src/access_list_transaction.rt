@@ -4,12 +4,12 @@ use crate::{AccessList, Recipient};
 use rlp::{Decodable, DecoderError, Encodable, Rlp, RlpStream, RoundTrip, StrictRead, Uint};
 use std::alloc::{AllocError, Global};
 
-/// The payload of a signed transaction of type 1: the list of its eleven fields, as EIP-2930 says.
+/// The payload of a signed transaction of type 1: the list of its eleven fields, as in EIP-2930.
 ///
 /// EIP-2718 puts the byte 1 before the payload. This type neither writes nor reads that byte.
 #[derive(Drop)]
 pub struct AccessListTransaction {
-    /// The number of the chain, as EIP-155 says. This type reads numbers of at most 64 bits.
+    /// The number of the chain, as in EIP-155. This type reads numbers of at most 64 bits.
     pub chain_id: u64,
     /// The number of transactions that the sender has sent before. EIP-2681 limits it to 64 bits.
     pub nonce: u64,
@@ -25,12 +25,12 @@ pub struct AccessListTransaction {
     pub data: Vec<u8>,
     /// The accounts and the keys of storage that the transaction declares.
     pub access_list: AccessList,
-    /// The parity of the signature's point: 0 is `false` and 1 is `true`. Other numbers aren't
-    /// read.
+    /// The parity of the signature's point: 0 is `false` and 1 is `true`. Reading fails for other
+    /// numbers.
     pub y_parity: bool,
-    /// The first number of the signature. It isn't checked.
+    /// The first number of the signature. This type doesn't check it.
     pub r: Uint<32>,
-    /// The second number of the signature. It isn't checked.
+    /// The second number of the signature. This type doesn't check it.
     pub s: Uint<32>,
 }
 

@@ -4,13 +4,13 @@ use crate::Hash;
 use rlp::{Decodable, DecoderError, Encodable, Rlp, RlpStream, RoundTrip, StrictRead, Uint};
 use std::alloc::{AllocError, Global};
 
-/// An account, as the trie of the state holds it: the list of its four fields.
+/// An account in the trie of the state: the list of its four fields.
 ///
-/// The yellow paper, section 4.1.
+/// See section 4.1 of the yellow paper.
 #[derive(Drop)]
 pub struct Account {
-    /// The number of transactions that the account has sent, or of contracts that it has created.
-    /// EIP-2681 limits it to 64 bits.
+    /// The number of transactions that the account has sent, or for a contract the number of
+    /// contracts that it has created. EIP-2681 limits it to 64 bits.
     pub nonce: u64,
     /// The balance, in Wei.
     pub balance: Uint<32>,

@@ -5,11 +5,11 @@ use std::alloc::{AllocError, Global};
 
 /// The address of an account: 20 bytes.
 ///
-/// The yellow paper, section 4.1.
+/// See section 4.1 of the yellow paper.
 #[derive(Debug, Clone, Copy, PartialEq, Eq)]
 pub struct Address(pub [u8; 20]);
 
-/// As the array of the bytes.
+/// Written as the array of the bytes is.
 impl Encodable for Address {
     ghost use Rattle.rlp_ethereum.specs.Address.{address};
 
@@ -22,8 +22,8 @@ impl Encodable for Address {
     }
 }
 
-/// As the array of the bytes. A shorter string is `RlpIsTooShort`, and a longer one `RlpIsTooBig`.
-/// No memory is taken.
+/// Read as the array of the bytes is. Fails with `RlpIsTooShort` if the string is shorter, and with
+/// `RlpIsTooBig` if it is longer. It takes no memory.
 impl Decodable for Address {
     ghost use Rattle.rlp_ethereum.specs.Address.{address};
 

@@ -5,11 +5,11 @@ use std::alloc::{AllocError, Global};
 
 /// The Bloom filter of logs: 256 bytes.
 ///
-/// The yellow paper, section 4.4.1. The library computes no filter.
+/// See section 4.4.1 of the yellow paper. The library computes no filter.
 #[derive(Drop)]
 pub struct Bloom(pub [u8; 256]);
 
-/// As the array of the bytes.
+/// Written as the array of the bytes is.
 impl Encodable for Bloom {
     ghost use Rattle.rlp_ethereum.specs.Bloom.{bloom};
 
@@ -22,8 +22,8 @@ impl Encodable for Bloom {
     }
 }
 
-/// As the array of the bytes. A shorter string is `RlpIsTooShort`, and a longer one `RlpIsTooBig`.
-/// No memory is taken.
+/// Read as the array of the bytes is. Fails with `RlpIsTooShort` if the string is shorter, and with
+/// `RlpIsTooBig` if it is longer. It takes no memory.
 impl Decodable for Bloom {
     ghost use Rattle.rlp_ethereum.specs.Bloom.{bloom};
 

@@ -5,11 +5,11 @@ use std::alloc::{AllocError, Global};
 
 /// A Keccak-256 hash, or the root of a trie: 32 bytes.
 ///
-/// The yellow paper, section 4.3 and appendix B. The library computes no hash.
+/// See section 4.3 and appendix B of the yellow paper. The library computes no hash.
 #[derive(Debug, Clone, Copy, PartialEq, Eq)]
 pub struct Hash(pub [u8; 32]);
 
-/// As the array of the bytes.
+/// Written as the array of the bytes is.
 impl Encodable for Hash {
     ghost use Rattle.rlp_ethereum.specs.Hash.{hash};
 
@@ -22,8 +22,8 @@ impl Encodable for Hash {
     }
 }
 
-/// As the array of the bytes. A shorter string is `RlpIsTooShort`, and a longer one `RlpIsTooBig`.
-/// No memory is taken.
+/// Read as the array of the bytes is. Fails with `RlpIsTooShort` if the string is shorter, and with
+/// `RlpIsTooBig` if it is longer. It takes no memory.
 impl Decodable for Hash {
     ghost use Rattle.rlp_ethereum.specs.Hash.{hash};
 

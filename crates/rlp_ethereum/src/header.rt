@@ -1,14 +1,14 @@
-//! Headers of blocks, of all forks up to Prague.
+//! Headers of the blocks of all forks up to Prague.
 
 use crate::{Address, Bloom, Hash};
 use rlp::{Decodable, DecoderError, Encodable, Rlp, RlpStream, RoundTrip, StrictRead, Uint};
 use std::alloc::{AllocError, Global};
 
-/// The header of a block: the list of fifteen fields, and of up to six that later forks added.
+/// The header of a block: the list of fifteen fields, and of up to six more that later forks added.
 ///
-/// The yellow paper, section 4.4, and the EIPs of the fields. A field of the last six is `None` in
-/// blocks of earlier forks, and none is there without those before it. Lists of 15 to 21 items are
-/// read, so also lists of 18 and 19 items, which no fork has.
+/// See section 4.4 of the yellow paper, and the EIPs of the fields. Each of the last six fields is
+/// `None` in blocks of earlier forks, and is `Some` only if all of the six before it are. Reading
+/// accepts lists of 15 to 21 items. This includes 18 and 19 items, which no fork has.
 #[derive(Drop)]
 pub struct Header {
     /// The hash of the parent's header.
@@ -33,7 +33,7 @@ pub struct Header {
     pub gas_limit: u64,
     /// The gas that the block's transactions used.
     pub gas_used: u64,
-    /// The time at the block's inception, in seconds since 1970 began.
+    /// The time of the block, in seconds since the beginning of 1970.
     pub timestamp: u64,
     /// Bytes that the block's maker chose. The protocol allows at most 32; this type has no limit.
     pub extra_data: Vec<u8>,
@@ -41,21 +41,21 @@ pub struct Header {
     pub mix_hash: Hash,
     /// The nonce of the proof of work: 8 bytes.
     pub nonce: [u8; 8],
-    /// The base fee of a unit of gas, in Wei: since London, EIP-1559.
+    /// The base fee of a unit of gas, in Wei. Since London, EIP-1559.
     pub base_fee_per_gas: Option<Uint<32>>,
-    /// The root of the trie of the block's withdrawals: since Shanghai, EIP-4895.
+    /// The root of the trie of the block's withdrawals. Since Shanghai, EIP-4895.
     pub withdrawals_root: Option<Hash>,
-    /// The blob gas that the block's transactions used: since Cancun, EIP-4844.
+    /// The blob gas that the block's transactions used. Since Cancun, EIP-4844.
     pub blob_gas_used: Option<u64>,
-    /// The blob gas above the target, summed over the blocks so far: since Cancun, EIP-4844.
+    /// The blob gas above the target, summed over the blocks so far. Since Cancun, EIP-4844.
     pub excess_blob_gas: Option<u64>,
-    /// The root of the parent's block of the beacon chain: since Cancun, EIP-4788.
+    /// The root of the parent's block of the beacon chain. Since Cancun, EIP-4788.
     pub parent_beacon_block_root: Option<Hash>,
-    /// The hash of the block's requests: since Prague, EIP-7685.
+    /// The hash of the block's requests. Since Prague, EIP-7685.
     pub requests_hash: Option<Hash>,
 }
 
-/// Writes a header with these of the last six fields.
+/// Writes a header with the given ones of the last six fields.
 macro_rules! append_header {
     ($s:expr, $header:expr $(, $later:expr)*) => {
         rlp::append_fields!(
@@ -79,7 +79,8 @@ macro_rules! append_header {
     };
 }
 
-/// `AllocError` also where a field of the last six is there without one before it.
+/// Writing also fails with `AllocError` if one of the last six fields is `Some` and one before it
+/// is `None`.
 impl Encodable for Header {
     ghost use Rattle.rlp_ethereum.specs.Header.{header};
 

@@ -6,8 +6,8 @@ use std::alloc::{AllocError, Global};
 
 /// A signed legacy transaction: the list of its nine fields.
 ///
-/// The yellow paper, section 4.2. The bytes that EIP-155 signs are those of the same list, with the
-/// number of the chain in `v`, and 0 in `r` and `s`.
+/// See section 4.2 of the yellow paper. The bytes that are signed with EIP-155 are the same list
+/// with the number of the chain in `v`, and 0 in `r` and `s`.
 #[derive(Drop)]
 pub struct LegacyTransaction {
     /// The number of transactions that the sender has sent before. EIP-2681 limits it to 64 bits.
@@ -22,11 +22,12 @@ pub struct LegacyTransaction {
     pub value: Uint<32>,
     /// The input of the call, or the code that creates the contract.
     pub data: Vec<u8>,
-    /// 27 or 28, or with EIP-155 twice the number of the chain and 35 or 36. It isn't checked.
+    /// 27 or 28, or with EIP-155 twice the number of the chain plus 35 or 36. This type doesn't
+    /// check it.
     pub v: Uint<32>,
-    /// The first number of the signature. It isn't checked.
+    /// The first number of the signature. This type doesn't check it.
     pub r: Uint<32>,
-    /// The second number of the signature. It isn't checked.
+    /// The second number of the signature. This type doesn't check it.
     pub s: Uint<32>,
 }
 

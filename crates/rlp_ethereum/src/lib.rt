@@ -1,7 +1,7 @@
 //! Records of Ethereum in the Recursive Length Prefix format.
 //!
-//! Each type says which bytes a value has and which value bytes give. There is no cryptography
-//! here: no hash is computed and no signature is checked.
+//! Each type says which bytes encode a value, and which value bytes decode to. The crate has no
+//! cryptography: it computes no hash and checks no signature.
 #![tactic(auto)]
 
 mod access;

@@ -6,13 +6,13 @@ use std::alloc::{AllocError, Global};
 
 /// A log: the list of its three fields.
 ///
-/// The yellow paper, section 4.4.1.
+/// See section 4.4.1 of the yellow paper.
 #[derive(Debug, PartialEq, Eq, Drop)]
 pub struct Log {
     /// The contract that emitted the log.
     pub address: Address,
-    /// The topics that the log is found by, in order. The protocol has at most four; this type has
-    /// no limit.
+    /// The topics that the log is found by, in order. The protocol allows at most four; this type
+    /// has no limit.
     pub topics: Vec<Hash>,
     /// The data of the log.
     pub data: Vec<u8>,

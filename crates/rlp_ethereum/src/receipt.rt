@@ -6,13 +6,14 @@ use std::alloc::{AllocError, Global};
 
 /// A receipt: the list of its four fields.
 ///
-/// The yellow paper, section 4.4.1, and EIP-658. EIP-2718 puts a byte with the transaction's type
-/// before the receipt, for types other than legacy. This type neither writes nor reads that byte.
+/// See section 4.4.1 of the yellow paper, and EIP-658. For types other than legacy, EIP-2718 puts
+/// the byte of the transaction's type before the receipt. This type neither writes nor reads that
+/// byte.
 #[derive(Drop)]
 pub struct Receipt {
-    /// Since Byzantium the status, as EIP-658 says: the byte 1 for success, and no byte for
-    /// failure. Before, the 32 bytes of the state's root after the transaction. Other strings are
-    /// read too.
+    /// Since Byzantium the status, as in EIP-658: the byte 1 for success, and no bytes for failure.
+    /// Before, the 32 bytes of the state's root after the transaction. Reading accepts other
+    /// strings too.
     pub status_or_state_root: Vec<u8>,
     /// The gas that this transaction and those before it in the block used.
     pub cumulative_gas_used: u64,

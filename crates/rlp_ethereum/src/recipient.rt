@@ -1,4 +1,4 @@
-//! Recipients of transactions: the string of 20 bytes, or the empty one.
+//! Recipients of transactions: a string of 20 bytes, or the empty string.
 
 ghost use Rattle.std.specs.Prelude.{◌≡◌, IfErr, IfOk};
 ghost use Rattle.rlp_ethereum.specs.Recipient.{IsRecipient, IsRecipientFault, recipient_bytes};
@@ -7,13 +7,13 @@ use crate::Address;
 use rlp::{Decodable, DecoderError, Encodable, Rlp, RlpStream, RoundTrip, StrictRead};
 use std::alloc::{AllocError, Global};
 
-/// The recipient of a transaction: the address of an account, or the empty string where the
+/// The recipient of a transaction: the address of an account, or the empty string if the
 /// transaction creates a contract.
 ///
-/// The yellow paper, section 4.2.
+/// See section 4.2 of the yellow paper.
 #[derive(Debug, Clone, Copy, PartialEq, Eq)]
 pub enum Recipient {
-    /// Creation: the transaction makes a contract.
+    /// No account: the transaction creates a contract.
     Creation,
     /// The account with this address.
     Account(Address),
@@ -35,8 +35,8 @@ impl Encodable for Recipient {
     }
 }
 
-/// A string of fewer than 20 bytes, but not none, is `RlpIsTooShort`, and one of more
-/// `RlpIsTooBig`. No memory is taken.
+/// Reading fails with `RlpIsTooShort` if the string has 1 to 19 bytes, and with `RlpIsTooBig` if
+/// it has more than 20. It takes no memory.
 impl Decodable for Recipient {
     ghost use Rattle.rlp_ethereum.specs.Recipient.{recipient};
 
@@ -67,7 +67,8 @@ impl StrictRead for Recipient {
     ghost strict = { recipient.reads_strictly };
 }
 
-/// The recipient of these bytes, if they are 20 or none.
+/// Makes a recipient from a string of 20 bytes, or from the empty string. Fails as reading a
+/// recipient does.
 #[tactic(auto, using(crate::specs::Recipient::recipient_faults))]
 fn recipient_of(string: &[u8]) -> Result<Recipient, DecoderError>
     ensures value { IfOk result (λ r. IsRecipient r × (recipient_bytes r ≡ string.now)) }

@@ -4,7 +4,7 @@ use crate::Address;
 use rlp::{Decodable, DecoderError, Encodable, Rlp, RlpStream, RoundTrip, StrictRead};
 use std::alloc::{AllocError, Global};
 
-/// A withdrawal from the beacon chain: the list of its four fields, as EIP-4895 says.
+/// A withdrawal from the beacon chain: the list of its four fields, as in EIP-4895.
 #[derive(Debug, PartialEq, Eq, Drop)]
 pub struct Withdrawal {
     /// The number of the withdrawal, counted over all blocks from 0.

@@ -1,4 +1,4 @@
-//! Headers of the public chain, with the values that block explorers show.
+//! Headers of Ethereum's main network. The expected values are those that block explorers show.
 
 use crate::support::{are_digits, bytes_of, goes_both_ways};
 use rlp_ethereum::Header;
@@ -43,7 +43,7 @@ const BLOCK_1: [&str; 14] = [
     "e66f5988539bd4979fef1ec4",
 ];
 
-/// Whether the hashes of a header are those of block 0.
+/// Returns whether the hashes of a header are those of block 0.
 fn has_hashes_of_genesis(alloc: Global, header: &Header) -> Result<bool, Fail> {
     Ok(
         are_digits(
@@ -78,7 +78,7 @@ fn has_hashes_of_genesis(alloc: Global, header: &Header) -> Result<bool, Fail> {
     )
 }
 
-/// Whether the other fields of a header are those of block 0.
+/// Returns whether the other fields of a header are those of block 0.
 fn has_fields_of_genesis(alloc: Global, header: &Header) -> Result<bool, Fail> {
     Ok(
         are_digits(alloc, &header.nonce, "0000000000000042")?
@@ -101,7 +101,7 @@ fn has_fields_of_genesis(alloc: Global, header: &Header) -> Result<bool, Fail> {
     )
 }
 
-/// Whether the hashes of a header are those of block 1.
+/// Returns whether the hashes of a header are those of block 1.
 fn has_hashes_of_block_1(alloc: Global, header: &Header) -> Result<bool, Fail> {
     Ok(
         are_digits(
@@ -136,7 +136,7 @@ fn has_hashes_of_block_1(alloc: Global, header: &Header) -> Result<bool, Fail> {
     )
 }
 
-/// Whether the other fields of a header are those of block 1.
+/// Returns whether the other fields of a header are those of block 1.
 fn has_fields_of_block_1(alloc: Global, header: &Header) -> Result<bool, Fail> {
     Ok(
         are_digits(alloc, &header.nonce, "539bd4979fef1ec4")?

@@ -1,4 +1,4 @@
-//! Tests of the records of Ethereum against public ones. There is nothing here but tests.
+//! Tests of the records of Ethereum, compared with public records. The crate has only tests.
 #![tactic(auto)]
 
 #[cfg(test)]

@@ -1,4 +1,4 @@
-//! Records with chosen values, against bytes that were worked out by the rules of the format.
+//! Records with chosen values. The expected bytes were worked out by the rules of the format.
 
 use crate::support::{bytes_of, goes_both_ways};
 use rlp::{DecoderError, Uint};
@@ -9,13 +9,13 @@ use rlp_ethereum::{
 use std::alloc::{AllocError, Global};
 use std::test::Fail;
 
-/// The payload of type 2 of a payment of 1 ether.
+/// The payload of a payment of 1 ether, of type 2.
 const PAYMENT: [&str; 2] = [
     "f30180843b9aca008504a817c800825208943535353535353535353535353535353535353535880d",
     "e0b6b3a764000080c0800102",
 ];
 
-/// The payload of type 1 that creates a contract, with an access list.
+/// The payload of a transaction of type 1 that creates a contract, with an access list.
 const CREATION: [&str; 2] = [
     "f84d0180843b9aca00825208808083636174f838f794111111111111111111111111111111111111",
     "1111e1a02222222222222222222222222222222222222222222222222222222222222222010102",
@@ -36,7 +36,7 @@ const ACCOUNT: [&str; 2] = [
     "0505050505050505050505050505050505050505050505050505050505050505",
 ];
 
-/// The number `n`, as one of 256 bits.
+/// Returns `n` as a number of 256 bits.
 fn wide(n: u64) -> Uint<32> {
     let [a, b, c, d, e, f, g, h] = n.to_be_bytes();
     let mut bytes = [0; 32];
@@ -51,7 +51,7 @@ fn wide(n: u64) -> Uint<32> {
     Uint { bytes }
 }
 
-/// A payment of 1 ether, with a chosen signature.
+/// Returns a payment of 1 ether, with a chosen signature.
 fn payment(alloc: Global) -> FeeMarketTransaction {
     FeeMarketTransaction {
         chain_id: 1,
@@ -69,7 +69,7 @@ fn payment(alloc: Global) -> FeeMarketTransaction {
     }
 }
 
-/// The creation of a contract, with a declared key of storage.
+/// Returns the creation of a contract, with a declared key of storage.
 fn creation(alloc: Global) -> Result<AccessListTransaction, AllocError> {
     let item = AccessListItem {
         address: Address([0x11; 20]),
@@ -90,7 +90,7 @@ fn creation(alloc: Global) -> Result<AccessListTransaction, AllocError> {
     })
 }
 
-/// A receipt of a transaction that succeeded, with one log.
+/// Returns the receipt of a transaction that succeeded, with one log.
 fn receipt(alloc: Global) -> Result<Receipt, AllocError> {
     let log = Log {
         address: Address([0x11; 20]),
@@ -105,13 +105,14 @@ fn receipt(alloc: Global) -> Result<Receipt, AllocError> {
     })
 }
 
-/// Whether the block with this header has a root of withdrawals, as blocks have since Shanghai.
+/// Returns whether the block with this header has a root of withdrawals, as blocks have since
+/// Shanghai.
 fn has_withdrawals(alloc: Global, bytes: &[u8]) -> Result<bool, DecoderError> {
     let header = rlp::decode_strict::<Header>(alloc, bytes)?;
     Ok(header.withdrawals_root.is_some())
 }
 
-/// A header with chosen values, without the fields of later forks.
+/// Returns a header with chosen values, without the fields of later forks.
 fn header(alloc: Global) -> Header {
     Header {
         parent_hash: Hash([1; 32]),
@@ -138,7 +139,8 @@ fn header(alloc: Global) -> Header {
     }
 }
 
-/// Whether a header is written in `len` bytes and read back, and has a root of withdrawals or not.
+/// Returns whether a header is written in `len` bytes and read back, and has a root of withdrawals
+/// exactly if `has`.
 fn is_written(alloc: Global, header: &Header, len: usize, has: bool) -> Result<bool, Fail> {
     let bytes = rlp::encode(alloc, header)?;
     Ok(

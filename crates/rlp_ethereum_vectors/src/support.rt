@@ -1,10 +1,10 @@
-//! What tests share.
+//! Functions that several tests call.
 
 use rlp::{Decodable, Encodable};
 use std::alloc::Global;
 use std::test::Fail;
 
-/// The bytes of these digits.
+/// Returns the bytes of these digits.
 pub(crate) fn bytes_of(alloc: Global, rows: &[&str]) -> Result<Vec<u8>, Fail> {
     let mut bytes = Vec::new(alloc);
     for row in rows {
@@ -13,13 +13,13 @@ pub(crate) fn bytes_of(alloc: Global, rows: &[&str]) -> Result<Vec<u8>, Fail> {
     Ok(bytes)
 }
 
-/// Whether the bytes have these digits.
+/// Returns whether the bytes have these digits.
 pub(crate) fn are_digits(alloc: Global, bytes: &[u8], digits: &str) -> Result<bool, Fail> {
     Ok(hex::encode(alloc, bytes)?.as_str() == digits)
 }
 
-/// Whether strict reading gives a value that is written as the same bytes, and gives none where the
-/// last byte is cut off or a byte is added.
+/// Returns whether strict reading gives a value that is written as the same bytes, and fails if the
+/// last byte is missing or another byte follows.
 pub(crate) fn goes_both_ways<T: Encodable + Decodable>(
     alloc: Global,
     bytes: &[u8],

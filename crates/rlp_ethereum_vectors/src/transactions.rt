@@ -1,4 +1,4 @@
-//! Legacy transactions of the public chain and of EIP-155.
+//! Legacy transactions of Ethereum's main network and of EIP-155.
 
 use crate::support::{are_digits, bytes_of, goes_both_ways};
 use rlp_ethereum::{LegacyTransaction, Recipient};
@@ -20,7 +20,7 @@ const TO_SIGN: [&str; 2] = [
     "0080018080",
 ];
 
-/// Whether the fields of a transaction are those of the first transaction.
+/// Returns whether the fields of a transaction are those of the first transaction.
 fn has_fields_of_first(alloc: Global, tx: &LegacyTransaction) -> Result<bool, Fail> {
     let is_called = match &tx.to {
         Recipient::Creation => false,
@@ -63,7 +63,7 @@ fn has_fields_of_first(alloc: Global, tx: &LegacyTransaction) -> Result<bool, Fa
     )
 }
 
-/// Whether the fields of a transaction are those of EIP-155's example.
+/// Returns whether the fields of a transaction are those of EIP-155's example.
 fn has_fields_of_example(alloc: Global, tx: &LegacyTransaction) -> Result<bool, Fail> {
     let is_called = match &tx.to {
         Recipient::Creation => false,

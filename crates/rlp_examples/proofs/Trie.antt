@@ -39,10 +39,10 @@ module _ {A P : Type 0} (d : A) (values : P → List A) (c : Codec A) (more : Fi
     fits_from (suc k) n (before ++ x ∷ []) after (one_further before after x whole) (omega (arith, length-append before (x ∷ []))) (omega arith) all last,
   )
 
-  -- fields of one type, of values of which there are as many, are written as their items
+  -- fields of one type, for the same number of values, are written as the items of the values
   pub each_items : (n : ℕ) → length (values p) ≡ n → map c.item (values p) ++ more.items p ≡ (fields_from 0 n).items p
   each_items n many = items_from 0 n [] (values p) refl refl many
 
-  -- and fit where each does
+  -- and fit if each value does
   pub each_fits : (n : ℕ) → length (values p) ≡ n → All c.Fits (values p) → more.Fits p → (fields_from 0 n).Fits p
   each_fits n many all last = fits_from 0 n [] (values p) refl refl many (recursion_from_All c.Fits (values p) all) last

@@ -6,14 +6,14 @@ use Rattle.rlp_examples.specs.declared.access.Access.{Access}
 use Rattle.rlp_examples.specs.declared.access.AccessList.{AccessList}
 use Rattle.rlp_examples.specs.Hash.{hash}
 
--- an array of 20 bytes
+-- an address is an array of 20 bytes
 abbrev pub address : Codec Address
 address = newtype (λ (a : Address). a.bytes) (byte_array 20)
 
--- the list of an address and the list of its keys
+-- the list of an address and of the list of its keys
 abbrev pub access : Codec Access
 access = struct_of (and_field (λ (a : Access). a.address) address (last_field (λ (a : Access). a.keys) (list_type vec_items hash)))
 
--- the list of these
+-- the list of the accesses
 abbrev pub access_list : Codec AccessList
 access_list = list_type (λ (a : AccessList). vec_items a.0) access

@@ -17,7 +17,7 @@ abbrev pub IsChild : Child → Type 0
 IsChild Nothing = ⊤
 IsChild (Node hash) = length hash ≡ 32
 
--- Why a string is that of no child: it has some bytes and fewer than 32, or more.
+-- The fault of a string that isn't a child's: it has 1 to 31 bytes, or more than 32.
 pub data IsChildFault (d : List ℕ) : DecoderError → Type 0 where
   shorter_child : 0 < length d → length d < 32 → IsChildFault d RlpIsTooShort
   longer_child : 32 < length d → IsChildFault d RlpIsTooBig
@@ -30,6 +30,6 @@ sound_child Nothing e fit (longer_child many) = omega arith
 sound_child (Node hash) e fit (shorter_child some few) = omega arith
 sound_child (Node hash) e fit (longer_child many) = omega arith
 
--- the string of the node's hash, or the empty one
+-- the string of the node's hash, or the empty string
 abbrev pub child : Codec Child
 child = string_type IsChild child_bytes IsChildFault sound_child

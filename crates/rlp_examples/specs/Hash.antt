@@ -2,6 +2,6 @@
 use Rattle.rlp.specs.Codec.{Codec, fixed_bytes}
 use Rattle.rlp_examples.specs.declared.hash.Hash.{Hash}
 
--- 32 bytes
+-- a hash is an array of 32 bytes
 abbrev pub hash : Codec Hash
 hash = fixed_bytes 32 (λ (h : Hash). h.bytes)

@@ -21,11 +21,11 @@ inner = struct_of (and_field (λ (p : Inner). p.0) (number 8) (last_field (λ (p
 abbrev pub nest : {A : Type 0} → Codec A → Codec (Nest A)
 nest {A} c = struct_of (last_field (λ (n : Nest A). n.0) (list_type vec_items c))
 
--- Of the codec of nests, in the members of a type of which no law is known: the values that it gives,
+-- The members of the codec of nests, for a type without known laws: the values that it gives,
 abbrev pub GivesNest : {A : Type 0} → (View → A → Type 0) → View → Nest A → Type 0
 GivesNest gives v n = (item_count v ≡ Ok 1) × GivesAt (λ v xs. GivesList gives v (vec_items xs)) v 0 n.0
 
--- that item i of a view gives some list of values, which is the one field,
+-- that item i of a view gives some list of values, which is the only field,
 abbrev pub GivesSomeValues : {A B : Type 0} → (B → List A) → (View → A → Type 0) → ℕ → ℕ → View → Type 0
 GivesSomeValues {A} {B} values gives = by_place (λ i v. GivesSomeAt (λ v (b : B). GivesList gives v (values b)) v i) (λ k i v. ⊥)
 
@@ -34,12 +34,12 @@ abbrev pub FaultsAsNest : {A : Type 0} → (View → A → Type 0) → (View →
 FaultsAsNest {A} gives faults = FaultsAsStruct 1 (GivesSomeValues (vec_items {X = A} {Z = Global}) gives)
     (by_place (λ v e. FaultsAsList gives faults v e) (λ k v e. ⊥))
 
--- and where memory may lack.
+-- and the views for which memory may be short.
 abbrev pub MayLackAsNest : {A : Type 0} → (View → A → Type 0) → (View → Type 0) → View → Type 0
 MayLackAsNest {A} gives may_lack v = MayLackAsStruct 1 (GivesSomeValues (vec_items {X = A} {Z = Global}) gives)
     (by_place (λ v. MayLackAsList gives may_lack v) (λ k v. ⊥)) v
 
--- A nest of values that are read back is read back, whether they are read strictly or not.
+-- A nest is read back if its values are, whether they are read strictly or not.
 pub nest_reads_back : {A : Type 0} (Fits : A → Type 0) (item : A → Item) (gives : View → A → Type 0) (faults : View → DecoderError → Type 0)
     → AlwaysReadsBack Fits item gives faults
     → AlwaysReadsBack (λ (n : Nest A). All Fits (vec_items n.0)) (λ (n : Nest A). list_of (list_of (map item (vec_items n.0)) ∷ [])) (GivesNest gives)

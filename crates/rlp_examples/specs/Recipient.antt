@@ -7,7 +7,7 @@ use Rattle.rlp.specs.Codec.{Codec, string_type}
 use Rattle.rlp_examples.specs.declared.recipient.Recipient.{Recipient}
 use Rattle.rlp_examples.specs.declared.recipient.Recipient.TheVariants.{Nobody, Account}
 
--- the bytes of an account, or none
+-- the bytes of an account, or no bytes
 abbrev pub recipient_bytes : Recipient → List ℕ
 recipient_bytes Nobody = []
 recipient_bytes (Account address) = address
@@ -17,7 +17,7 @@ abbrev pub IsRecipient : Recipient → Type 0
 IsRecipient Nobody = ⊤
 IsRecipient (Account address) = length address ≡ 20
 
--- Why a string is that of no recipient: it has some bytes and fewer than 20, or more.
+-- The fault of a string that isn't a recipient's: it has 1 to 19 bytes, or more than 20.
 pub data IsRecipientFault (d : List ℕ) : DecoderError → Type 0 where
   shorter_recipient : 0 < length d → length d < 20 → IsRecipientFault d RlpIsTooShort
   longer_recipient : 20 < length d → IsRecipientFault d RlpIsTooBig
@@ -30,6 +30,6 @@ sound_recipient Nobody e fit (longer_recipient many) = omega arith
 sound_recipient (Account address) e fit (shorter_recipient some few) = omega arith
 sound_recipient (Account address) e fit (longer_recipient many) = omega arith
 
--- the string of the account's bytes, or the empty one
+-- the string of the account's bytes, or the empty string
 abbrev pub recipient : Codec Recipient
 recipient = string_type IsRecipient recipient_bytes IsRecipientFault sound_recipient

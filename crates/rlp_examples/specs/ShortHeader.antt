@@ -3,7 +3,7 @@ use Rattle.rlp.specs.Codec.{Codec, Tailed, and_always, and_optional, no_tail, nu
 use Rattle.rlp_examples.specs.declared.short_header.ShortHeader.{ShortHeader}
 use Rattle.rlp_examples.specs.Hash.{hash}
 
--- two fields that are always there, and three of which the last may be missing
+-- two fields that are always present, and three fields whose last may be missing
 abbrev pub short_header_fields : Tailed ShortHeader
 short_header_fields =
     and_always (λ (h : ShortHeader). h.number) (number 8) (

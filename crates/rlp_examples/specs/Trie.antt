@@ -16,7 +16,7 @@ leaf_fields = and_field (λ (l : Leaf). l.path) (byte_string vec_items) (last_fi
 abbrev pub leaf : Codec Leaf
 leaf = struct_of leaf_fields
 
--- the child in place k
+-- the child at place k
 abbrev pub child_at : ℕ → Branch → Child
 child_at k b = get_or b.children k Nothing
 

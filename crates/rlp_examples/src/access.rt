@@ -1,19 +1,20 @@
-//! Access lists: which accounts a transaction will look into, and where. Lists in lists in a list.
+//! Access lists: the accounts and the storage keys that a transaction declares. A list of items
+//! that hold lists.
 
 use crate::{Address, Hash};
 use rlp::{Decodable, DecoderError, Encodable, ListOf, Rlp, RlpStream, RoundTrip, StrictRead};
 use std::alloc::{AllocError, Global};
 
-/// An account, and the places of its storage that are looked into.
+/// An account and the keys of its storage that a transaction declares.
 #[derive(Debug, PartialEq, Eq, Drop)]
 pub struct Access {
-    /// Whose storage.
+    /// The account.
     pub address: Address,
-    /// The places in it.
+    /// The keys of its storage.
     pub keys: Vec<Hash>,
 }
 
-/// All accounts that are looked into.
+/// All accounts that a transaction declares.
 #[derive(Debug, PartialEq, Eq, Drop)]
 pub struct AccessList(pub Vec<Access>);
 

@@ -10,7 +10,7 @@ pub struct Address {
     pub bytes: [u8; 20],
 }
 
-/// As the array of the bytes.
+/// Written as the array of the bytes is.
 impl Encodable for Address {
     ghost use Rattle.rlp_examples.specs.Access.{address};
 
@@ -23,7 +23,7 @@ impl Encodable for Address {
     }
 }
 
-/// As the array of the bytes.
+/// Read as the array of the bytes is.
 impl Decodable for Address {
     ghost use Rattle.rlp_examples.specs.Access.{address};
 

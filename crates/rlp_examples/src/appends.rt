@@ -8,7 +8,7 @@ use bytes::BytesMut;
 use rlp::{Encodable, RlpStream};
 use std::alloc::{AllocError, Global};
 
-/// Appends one value, and is refused as a whole.
+/// Appends one value. If the value is refused, the stream stays as it was.
 pub fn append_one<A: Encodable>(s: &mut RlpStream, a: &A) -> Result<(), AllocError>
     ensures ok { OnOk result (s.new.state ≡ add (A.item a.now) s.old.state) }
     ensures refused { OnErr result (s.new.state ≡ s.old.state) }
@@ -17,7 +17,7 @@ pub fn append_one<A: Encodable>(s: &mut RlpStream, a: &A) -> Result<(), AllocErr
     Ok(())
 }
 
-/// Appends three values. The first that is refused leaves those before it.
+/// Appends three values. If one is refused, the values before it stay in the stream.
 pub fn append_three<A: Encodable, B: Encodable, C: Encodable>(
     s: &mut RlpStream,
     a: &A,
@@ -35,7 +35,7 @@ pub fn append_three<A: Encodable, B: Encodable, C: Encodable>(
     Ok(())
 }
 
-/// The bytes of three values, one after another.
+/// Returns the encodings of three values, one after another.
 pub fn bytes_of_three<A: Encodable, B: Encodable, C: Encodable>(
     alloc: Global,
     a: &A,

@@ -7,9 +7,9 @@ use std::alloc::{AllocError, Global};
 /// A branch of the trie.
 #[derive(Drop)]
 pub struct Branch {
-    /// The node for each next digit of the path.
+    /// The child for each next digit of the path.
     pub children: [Child; 16],
-    /// The value where the path ends here, or no bytes.
+    /// The value if a path ends here, or no bytes.
     pub value: Vec<u8>,
 }
 

@@ -1,4 +1,4 @@
-//! What a branch of the trie has in a place: the hash of a node, or nothing.
+//! A child of a branch of the trie: the hash of a node, or the empty string.
 
 ghost use Rattle.std.specs.Prelude.{◌≡◌, IfErr, IfOk};
 ghost use Rattle.rlp_examples.specs.Child.{IsChild, IsChildFault, child_bytes};
@@ -11,7 +11,7 @@ use std::alloc::{AllocError, Global};
 pub enum Child {
     /// No node.
     Nothing,
-    /// The node of this hash.
+    /// The node with this hash.
     Node([u8; 32]),
 }
 
@@ -31,8 +31,8 @@ impl Encodable for Child {
     }
 }
 
-/// A string of fewer than 32 bytes, but not none, is `RlpIsTooShort`, and one of more
-/// `RlpIsTooBig`. No memory is taken.
+/// Reading fails with `RlpIsTooShort` if the string has 1 to 31 bytes, and with `RlpIsTooBig` if
+/// it has more than 32. It takes no memory.
 impl Decodable for Child {
     ghost use Rattle.rlp_examples.specs.Child.{child};
 
@@ -63,7 +63,8 @@ impl StrictRead for Child {
     ghost strict = { child.reads_strictly };
 }
 
-/// The child of these bytes, if they are 32 or none.
+/// Makes a child from a string of 32 bytes, or from the empty string. Fails as reading a child
+/// does.
 #[tactic(auto, using(crate::specs::Child::child_faults))]
 fn child_of(string: &[u8]) -> Result<Child, DecoderError>
     ensures value { IfOk result (λ c. IsChild c × (child_bytes c ≡ string.now)) }

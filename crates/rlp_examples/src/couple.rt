@@ -7,7 +7,7 @@ ghost use Rattle.rlp.specs.Streams.Stream.{add};
 use rlp::{Encodable, RlpStream};
 use std::alloc::AllocError;
 
-/// Two values, written as the list of both.
+/// Two values, written as a list of two items.
 #[derive(Drop)]
 pub struct Couple<A, B>(pub A, pub B);
 
@@ -21,7 +21,7 @@ impl<A: Encodable, B: Encodable> Encodable for Couple<A, B> {
     }
 }
 
-/// One value, written as the list of it alone.
+/// One value, written as a list of one item.
 #[derive(Drop)]
 pub struct Alone<T>(pub T);
 
@@ -35,7 +35,8 @@ impl<T: Encodable> Encodable for Alone<T> {
     }
 }
 
-/// Appends a list that holds the list of two values. A refusal in its midst leaves the stream alone.
+/// Appends a list whose one item is the list of two values. If it is refused, the stream stays as
+/// it was.
 pub fn append_list_in_list<A: Encodable + Drop, B: Encodable + Drop>(
     s: &mut RlpStream,
     a: A,
@@ -49,7 +50,7 @@ pub fn append_list_in_list<A: Encodable + Drop, B: Encodable + Drop>(
     Ok(())
 }
 
-/// Writes the same call by call. The second value closes both lists.
+/// Appends the same list by one call for each list and value. The second value closes both lists.
 #[tactic(auto, using(rlp::proofs::Writing::writing))]
 pub fn write_list_in_list<A: Encodable, B: Encodable>(
     s: &mut RlpStream,

@@ -63,8 +63,8 @@ impl StrictRead for Entry {
     ghost strict = { entry.reads_strictly };
 }
 
-/// The entry that an encoding is of, by the law of [`RoundTrip`]: where bytes begin with the encoding of
-/// an entry that fits, that entry, or want of memory.
+/// Reads an entry. If the bytes begin with the encoding of an entry that fits, the law of
+/// [`RoundTrip`] says that the result is that entry, or `OutOfMemory`.
 pub fn entry_back(alloc: Global, bytes: &[u8], wanted: &Entry) -> Result<Entry, DecoderError>
     ensures alike { entry.Fits wanted.now → BeginsWith bytes.now (encoding (entry.item wanted.now))
         → IfOk result (λ p. entry.item p ≡ entry.item wanted.now) }

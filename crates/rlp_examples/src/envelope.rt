@@ -1,5 +1,5 @@
-//! Values in an envelope, as typed transactions are (EIP-2718): the byte of their type, and then
-//! their encoding. The envelope is no item.
+//! Values in an envelope, such as typed transactions (EIP-2718): the byte of the type, and then the
+//! encoding of the value. The envelope isn't an item.
 
 ghost use Rattle.std.specs.Prelude.{◌≡◌, ◌∷◌, OnOk, IfOk, IfErr};
 ghost use Rattle.rlp.specs.DecoderError.TheVariants.{OutOfMemory};
@@ -10,8 +10,8 @@ use bytes::{BufMut, BytesMut};
 use rlp::{DecoderError, Encodable, RlpStream, StrictRead, laws};
 use std::alloc::{AllocError, Global};
 
-/// The envelope of a value: the byte of its type, and its encoding. Types are below 0x80, so that
-/// no envelope begins as a list does.
+/// Returns the envelope of a value: the byte `kind` of its type, and its encoding. In EIP-2718 the
+/// type is below 0x80, so an envelope doesn't begin as a list does.
 pub fn to_envelope<T: Encodable>(
     alloc: Global,
     kind: u8,
@@ -27,8 +27,8 @@ pub fn to_envelope<T: Encodable>(
     Ok(s.out())
 }
 
-/// Reads a value from its whole envelope, strictly. Fails with [`DecoderError::Custom`] if the bytes
-/// begin with another type, and else with the value's own fault.
+/// Reads a value strictly from its whole envelope. Fails with [`DecoderError::Custom`] if the bytes
+/// are empty or begin with another type, and else with the fault of the value.
 pub fn from_envelope<T: StrictRead>(
     alloc: Global,
     kind: u8,

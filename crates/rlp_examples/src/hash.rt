@@ -13,7 +13,7 @@ pub struct Hash {
     pub bytes: [u8; 32],
 }
 
-/// The string of the bytes.
+/// Written as the string of the bytes.
 impl Encodable for Hash {
     ghost use Rattle.rlp_examples.specs.Hash.{hash};
 
@@ -27,7 +27,8 @@ impl Encodable for Hash {
     }
 }
 
-/// A shorter string is `RlpIsTooShort`, and a longer one `RlpIsTooBig`. No memory is taken.
+/// Reading fails with `RlpIsTooShort` if the string is shorter, and with `RlpIsTooBig` if it is
+/// longer. It takes no memory.
 impl Decodable for Hash {
     ghost use Rattle.rlp_examples.specs.Hash.{hash};
 
@@ -58,7 +59,7 @@ impl StrictRead for Hash {
     ghost strict = { hash.reads_strictly };
 }
 
-/// The hash of these bytes, if they are 32.
+/// Makes a hash from a string of 32 bytes. Fails as reading a hash does.
 #[tactic(auto, using(rlp::specs::Lemmas::RoundTrips::length_faults))]
 fn hash_of(string: &[u8]) -> Result<Hash, DecoderError>
     ensures value { IfOk result (λ h. (length h.bytes ≡ 32) × (h.bytes ≡ string.now)) }

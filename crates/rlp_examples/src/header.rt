@@ -7,45 +7,45 @@ use std::alloc::{AllocError, Global};
 /// A header of a block, with the fields that it has since the fork of Cancun.
 #[derive(Drop)]
 pub struct Header {
-    /// The hash of the header before.
+    /// The hash of the parent's header.
     pub parent_hash: Hash,
     /// The hash of the list of ommers.
     pub ommers_hash: Hash,
-    /// Who is paid for the block.
+    /// The account that receives the fees of the block.
     pub beneficiary: Address,
-    /// The root of the state after the block.
+    /// The root of the trie of the state, after the block.
     pub state_root: Hash,
-    /// The root of the transactions.
+    /// The root of the trie of the transactions.
     pub transactions_root: Hash,
-    /// The root of the receipts.
+    /// The root of the trie of the receipts.
     pub receipts_root: Hash,
     /// The filter of the logs.
     pub logs_bloom: Vec<u8>,
-    /// How much work was asked for.
+    /// The difficulty of the block.
     pub difficulty: u128,
-    /// How many blocks come before.
+    /// The number of blocks before this one.
     pub number: u64,
-    /// How much gas the block may use.
+    /// The gas that the block may use at most.
     pub gas_limit: u64,
-    /// How much gas it used.
+    /// The gas that the block used.
     pub gas_used: u64,
-    /// When it was made, in seconds.
+    /// The time at which the block was made, in seconds.
     pub timestamp: u64,
-    /// Bytes that its maker chose.
+    /// Bytes that the block's maker chose.
     pub extra_data: Vec<u8>,
     /// The random value of the beacon chain.
     pub prev_randao: Hash,
-    /// The eight bytes of the proof of work.
+    /// The nonce of the proof of work: eight bytes.
     pub nonce: Vec<u8>,
-    /// The least price of a unit of gas.
+    /// The base fee of a unit of gas.
     pub base_fee_per_gas: u128,
-    /// The root of the withdrawals.
+    /// The root of the trie of the withdrawals.
     pub withdrawals_root: Hash,
-    /// How much gas its blobs used.
+    /// The blob gas that the block used.
     pub blob_gas_used: u64,
-    /// How much gas of blobs is above the target.
+    /// The blob gas above the target.
     pub excess_blob_gas: u64,
-    /// The root of the block of the beacon chain before.
+    /// The root of the parent's block of the beacon chain.
     pub parent_beacon_block_root: Hash,
 }
 

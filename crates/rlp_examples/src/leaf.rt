@@ -1,4 +1,4 @@
-//! A leaf of the trie: the list of what is left of the path, and the value.
+//! A leaf of the trie: the list of the rest of the path and the value.
 
 use rlp::{Decodable, DecoderError, Encodable, Rlp, RlpStream, RoundTrip, StrictRead};
 use std::alloc::{AllocError, Global};
@@ -6,7 +6,7 @@ use std::alloc::{AllocError, Global};
 /// A leaf of the trie.
 #[derive(Debug, PartialEq, Eq, Drop)]
 pub struct Leaf {
-    /// What is left of the path, two digits a byte after the mark of a leaf.
+    /// The rest of the path: the mark of a leaf, then two digits in each byte.
     pub path: Vec<u8>,
     /// The value.
     pub value: Vec<u8>,

@@ -1,5 +1,5 @@
-//! Types that are written and read by `rlp`, and callers of `rlp`, each proved from the public
-//! contracts and the lemmas that authors of types cite.
+//! Custom types that `rlp` writes and reads, and functions that call `rlp`. Each is proved from the
+//! public contracts and from the lemmas that authors of types cite.
 #![tactic(auto)]
 
 mod access;

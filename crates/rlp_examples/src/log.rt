@@ -1,17 +1,17 @@
-//! A log: the list of an address, the list of topics, and bytes.
+//! A log: the list of an address, a list of topics, and a byte string.
 
 use crate::{Address, Hash};
 use rlp::{Decodable, DecoderError, Encodable, ListOf, Rlp, RlpStream, RoundTrip, StrictRead};
 use std::alloc::{AllocError, Global};
 
-/// An entry that a contract writes to the log.
+/// A log that a contract emits.
 #[derive(Drop)]
 pub struct Log {
-    /// The contract's account.
+    /// The contract that emitted the log.
     pub address: Address,
-    /// The topics, by which the entry is found.
+    /// The topics that the log is found by.
     pub topics: Vec<Hash>,
-    /// The data.
+    /// The data of the log.
     pub data: Vec<u8>,
 }
 

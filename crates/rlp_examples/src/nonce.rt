@@ -1,13 +1,13 @@
-//! A custom type that is written and read as the number that it is.
+//! A custom type that is written and read as a number.
 
 use rlp::{Decodable, DecoderError, Encodable, Rlp, RlpStream, RoundTrip, StrictRead};
 use std::alloc::{AllocError, Global};
 
-/// How many transactions an account has sent.
+/// The number of transactions that an account has sent.
 #[derive(Debug, PartialEq, Eq, Drop)]
 pub struct Nonce(pub u64);
 
-/// As a `u64`.
+/// Written as a `u64` is.
 impl Encodable for Nonce {
     ghost use Rattle.rlp.specs.Values.Value.{FitsBytes, number_item};
 
@@ -20,7 +20,7 @@ impl Encodable for Nonce {
     }
 }
 
-/// As a `u64`.
+/// Read as a `u64` is.
 impl Decodable for Nonce {
     ghost use Rattle.rlp.specs.Values.ValueReading.{FaultsAsNumber, GivesNumber};
 

@@ -3,7 +3,7 @@
 use rlp::{Encodable, RlpStream};
 use std::alloc::AllocError;
 
-/// Two numbers, written as the list of both.
+/// Two numbers, written as a list of two items.
 #[derive(Debug, Clone, Copy, PartialEq, Eq)]
 pub struct Pair(pub u64, pub u64);
 

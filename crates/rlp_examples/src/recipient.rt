@@ -1,4 +1,4 @@
-//! Who receives a transaction: the string of 20 bytes, or the empty one.
+//! The recipient of a transaction: a string of 20 bytes, or the empty string.
 
 ghost use Rattle.std.specs.Prelude.{◌≡◌, IfErr, IfOk};
 ghost use Rattle.rlp_examples.specs.Recipient.{IsRecipient, IsRecipientFault, recipient_bytes};
@@ -6,12 +6,12 @@ ghost use Rattle.rlp_examples.specs.Recipient.{IsRecipient, IsRecipientFault, re
 use rlp::{Decodable, DecoderError, Encodable, Rlp, RlpStream, RoundTrip, StrictRead};
 use std::alloc::{AllocError, Global};
 
-/// Who receives a transaction.
+/// The recipient of a transaction.
 #[derive(Debug, PartialEq, Eq, Drop)]
 pub enum Recipient {
-    /// Nobody: the transaction makes a contract.
+    /// No account: the transaction creates a contract.
     Nobody,
-    /// The account of this address.
+    /// The account with this address.
     Account([u8; 20]),
 }
 
@@ -31,8 +31,8 @@ impl Encodable for Recipient {
     }
 }
 
-/// A string of fewer than 20 bytes, but not none, is `RlpIsTooShort`, and one of more
-/// `RlpIsTooBig`. No memory is taken.
+/// Reading fails with `RlpIsTooShort` if the string has 1 to 19 bytes, and with `RlpIsTooBig` if
+/// it has more than 20. It takes no memory.
 impl Decodable for Recipient {
     ghost use Rattle.rlp_examples.specs.Recipient.{recipient};
 
@@ -63,7 +63,8 @@ impl StrictRead for Recipient {
     ghost strict = { recipient.reads_strictly };
 }
 
-/// The recipient of these bytes, if they are 20 or none.
+/// Makes a recipient from a string of 20 bytes, or from the empty string. Fails as reading a
+/// recipient does.
 #[tactic(auto, using(crate::specs::Recipient::recipient_faults))]
 fn recipient_of(string: &[u8]) -> Result<Recipient, DecoderError>
     ensures value { IfOk result (λ r. IsRecipient r × (recipient_bytes r ≡ string.now)) }

@@ -1,26 +1,27 @@
-//! A header whose last fields may be missing: two fields that are always there, and three more.
+//! A header whose last fields may be missing: two fields that are always present, and up to three
+//! more.
 
 use crate::Hash;
 use rlp::{Decodable, DecoderError, Encodable, Rlp, RlpStream, RoundTrip, StrictRead};
 use std::alloc::{AllocError, Global};
 
-/// Some fields of a block's header. Those that later forks added are missing in older blocks, and
-/// none is there without those before it.
+/// Some fields of a block's header. Older blocks don't have the fields that later forks added. A
+/// field is `Some` only if all optional fields before it are.
 #[derive(Drop)]
 pub struct ShortHeader {
-    /// The block's place in the chain.
+    /// The number of the block.
     pub number: u64,
-    /// How much gas its transactions may use.
+    /// The gas that the block's transactions may use at most.
     pub gas_limit: u64,
-    /// What a unit of gas costs at least.
+    /// The base fee of a unit of gas.
     pub base_fee: Option<u64>,
-    /// The root of the trie of withdrawals.
+    /// The root of the trie of the block's withdrawals.
     pub withdrawals_root: Option<Hash>,
-    /// How much gas its blobs used.
+    /// The blob gas that the block's transactions used.
     pub blob_gas_used: Option<u64>,
 }
 
-/// Fails with `AllocError` also if a field is there without the one before it.
+/// Writing also fails with `AllocError` if a field is `Some` and the one before it is `None`.
 impl Encodable for ShortHeader {
     ghost use Rattle.rlp_examples.specs.ShortHeader.{short_header};
 

@@ -4,27 +4,27 @@ use crate::Recipient;
 use rlp::{Decodable, DecoderError, Encodable, Rlp, RlpStream, RoundTrip, StrictRead};
 use std::alloc::{AllocError, Global};
 
-/// A signed legacy transaction, or one for signing, with the chain in place of `v` and no `r` and
-/// `s`.
+/// A signed legacy transaction, or one to be signed: `v` is then the number of the chain, and `r`
+/// and `s` are empty.
 #[derive(Drop)]
 pub struct Transaction {
-    /// How many transactions the sender has sent.
+    /// The number of transactions that the sender has sent before.
     pub nonce: u64,
-    /// What a unit of gas costs.
+    /// The price of a unit of gas.
     pub gas_price: u128,
-    /// How much gas may be used.
+    /// The gas that the transaction may use at most.
     pub gas_limit: u64,
-    /// Who receives the value.
+    /// The recipient of the value.
     pub recipient: Recipient,
-    /// What is sent.
+    /// The value that is sent.
     pub value: u128,
-    /// What a contract is called with, or made of.
+    /// The input of the call, or the code that creates the contract.
     pub data: Vec<u8>,
-    /// The signature's parity, with the chain.
+    /// The parity of the signature, combined with the number of the chain.
     pub v: u64,
-    /// The digits of the first part of the signature.
+    /// The digits of the first number of the signature.
     pub r: Vec<u8>,
-    /// The digits of the second part of the signature.
+    /// The digits of the second number of the signature.
     pub s: Vec<u8>,
 }
 

@@ -1,9 +1,9 @@
-//! A list of two numbers and a value of any type, and a value that is always refused.
+//! A list of two numbers and a value of any type, and a type that is never written.
 
 use rlp::{Encodable, RlpStream};
 use std::alloc::AllocError;
 
-/// It is always refused, before it writes.
+/// A value whose `rlp_append` always fails with `AllocError`, and writes nothing.
 #[derive(Debug, Drop)]
 pub struct Refusing;
 
@@ -21,7 +21,7 @@ impl Encodable for Refusing {
     }
 }
 
-/// Two numbers with a value of any type between them, written as the list of the three.
+/// Two numbers with a value of any type between them, written as a list of three items.
 #[derive(Drop)]
 pub struct Trio<M>(pub u64, pub M, pub u64);
 

@@ -1,4 +1,4 @@
-//! Uses as the documents show them.
+//! Examples of calls, some of which the pages show.
 
 ghost use Rattle.std.specs.Prelude.{◌+◌, ◌≤◌, length};
 ghost use Rattle.rlp.specs.Views.View.{item_views};
@@ -7,8 +7,8 @@ use bytes::BytesMut;
 use rlp::{DecoderError, Rlp, RlpIterator, RlpStream};
 use std::alloc::{AllocError, Global};
 
-/// The iterator over the items of a view, after its first `None`: over n items it has read at most
-/// n + 2 headers.
+/// Calls the iterator over the items of a view until it returns `None`, and returns the iterator.
+/// It has read at most n + 2 headers for n items.
 pub fn drained<'a, 'view>(view: &'view Rlp<'a>) -> RlpIterator<'a, 'view>
     ensures { result.headers ≤ length (item_views view.now) + 2 }
 {
@@ -17,7 +17,8 @@ pub fn drained<'a, 'view>(view: &'view Rlp<'a>) -> RlpIterator<'a, 'view>
     items
 }
 
-/// A chain, then a string that isn't counted, by the stream that the chain lends, and a chain again.
+/// Appends a number by a chain. Then the encoder of the stream that the chain lends writes a string
+/// that isn't counted. Then a chain appends two more numbers.
 pub fn chain_and_encoder(alloc: Global) -> Result<RlpStream, AllocError> {
     let mut s = RlpStream::new(alloc)?;
     let chain = s.append(&1u64)?;
@@ -26,14 +27,14 @@ pub fn chain_and_encoder(alloc: Global) -> Result<RlpStream, AllocError> {
     Ok(s)
 }
 
-/// Two numbers, the second by the stream itself.
+/// Appends two numbers, the second by the stream that the first call lends.
 pub fn append_by_stream(s: &mut RlpStream) -> Result<(), AllocError> {
     let lent: &mut RlpStream = s.append(&1u64)?.stream;
     lent.append(&2u64)?;
     Ok(())
 }
 
-/// Each of some numbers.
+/// Appends each number of a slice.
 pub fn append_each(s: &mut RlpStream, values: &[u64]) -> Result<(), AllocError> {
     for value in values {
         s.append(value)?;
@@ -41,7 +42,7 @@ pub fn append_each(s: &mut RlpStream, values: &[u64]) -> Result<(), AllocError> 
     Ok(())
 }
 
-/// The bytes of the list of a text, a list of two numbers, and a list of one.
+/// Returns the encoding of a list of three items: a text, a list of two numbers, and a list of one.
 pub fn nested(alloc: Global) -> Result<Option<BytesMut>, AllocError> {
     let mut s = RlpStream::new_list(alloc, 3)?;
     s.append(&"cat")?;
@@ -57,7 +58,7 @@ pub fn nested(alloc: Global) -> Result<Option<BytesMut>, AllocError> {
     }
 }
 
-/// The first item's value, and the text of the whole.
+/// Returns the value of the first item, and the text of the whole view.
 pub fn first_and_text<'a>(
     alloc: Global,
     view: &Rlp<'a>,

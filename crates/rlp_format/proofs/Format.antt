@@ -4,5 +4,5 @@ pub mod DigitBytes
 pub mod Splits
 -- bytes that follow a framed item
 pub mod Following
--- whether a strict view is a list and nothing else
+-- whether a strict view is exactly one list
 pub mod StrictLists

@@ -1,6 +1,6 @@
--- Lemmas, in folders as the definitions that they are about. A function's invariants and answers stand in a folder of its own name.
+-- Lemmas, in folders named as those of the definitions that they are about. The invariants and results of a function are in a folder with its name.
 
 -- items, and the bytes that they are written as
 pub mod Format
--- what a view of bytes answers
+-- what a view of bytes returns
 pub mod Views

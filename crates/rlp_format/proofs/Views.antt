@@ -1,6 +1,6 @@
 -- the first item of bytes, by its header
 pub mod Fronts
--- where the items of a list stand
+-- the places of the items of a list
 pub mod ItemPlaces
 -- text and depth, by those of the items
 pub mod Texts

@@ -1,4 +1,4 @@
-//! The first item of bytes, by one reading of its header.
+//! The first item of bytes. Its header is read once.
 
 ghost use Rattle.std.specs.Prelude.{◌≡◌, ◌↔◌, ◌+◌, ◌∷◌, ◌++◌, ◌<◌, ◌≤◌, [], length, Ok, Err, None, Some, IsTrue, IfOk, MatchResult};
 ghost use Rattle.rlp_format.specs.Format.Header.{HasHeader};
@@ -20,7 +20,7 @@ pub struct Framed<'a> {
 }
 
 impl<'a> Framed<'a> {
-    /// Whether the item is a list.
+    /// Returns whether the item is a list.
     pub fn is_list(&self) -> bool
         ensures { result ≡ begins_as_list self.now.item.now }
     {
@@ -28,14 +28,14 @@ impl<'a> Framed<'a> {
     }
 }
 
-/// Whether there are no bytes.
+/// Returns whether there are no bytes.
 pub fn is_null(bytes: &[u8]) -> bool
     ensures { IsTrue result ↔ (bytes.now ≡ []) }
 {
     matches!(bytes, [])
 }
 
-/// Whether the first byte is one of a list.
+/// Returns whether the first byte is one of a list. Without bytes it returns `false`.
 pub fn begins_as_list(bytes: &[u8]) -> bool
     ensures { result ≡ begins_as_list bytes.now }
 {
@@ -45,8 +45,8 @@ pub fn begins_as_list(bytes: &[u8]) -> bool
     }
 }
 
-/// The item at the front of bytes and what follows it, by one reading of its header, or why no item
-/// stands there. Every walk over items goes by this step.
+/// Returns the item that the bytes begin with and the bytes that follow it, or the fault of the
+/// bytes. It reads the item's header once. All functions that go over items call it.
 #[inline(always)]
 pub fn first_framed<'a>(bytes: &'a [u8]) -> Result<(Framed<'a>, &'a [u8]), DecoderError>
     ensures header { MatchResult result (λ r. framing bytes.now ≡ Ok r.0.header)
@@ -78,7 +78,7 @@ pub fn first_framed<'a>(bytes: &'a [u8]) -> Result<(Framed<'a>, &'a [u8]), Decod
     ))
 }
 
-/// The header of framed bytes, or why they aren't framed.
+/// Returns the header of framed bytes, or the fault of bytes that aren't framed.
 #[inline(always)]
 #[tactic(auto, unfolding(crate::specs::Format::Framing::framing))]
 fn framing_of(bytes: &[u8]) -> Result<PayloadInfo, DecoderError>
@@ -93,7 +93,7 @@ fn framing_of(bytes: &[u8]) -> Result<PayloadInfo, DecoderError>
     }
 }
 
-/// The item that the bytes are and nothing else, or their strict fault.
+/// Returns the item if the bytes are exactly one framed item. Else fails with their strict fault.
 #[tactic(auto, using(crate::proofs::Views::Fronts::strict_fronts))]
 pub fn whole_framed<'a>(bytes: &'a [u8]) -> Result<Framed<'a>, DecoderError>
     ensures fault { MatchResult result (λ _. strict_fault bytes.now ≡ None)
@@ -113,7 +113,7 @@ pub fn whole_framed<'a>(bytes: &'a [u8]) -> Result<Framed<'a>, DecoderError>
     }
 }
 
-/// Whether bytes follow the framed item at the front of these.
+/// Returns whether other bytes follow the framed item that the bytes begin with.
 #[tactic(auto, using(crate::proofs::Views::Fronts::strict_fronts))]
 pub fn is_followed(bytes: &[u8]) -> bool
     ensures { result ≡ is_followed bytes.now }

@@ -1,4 +1,4 @@
-//! Headers: the lengths that stand in front of a value.
+//! Headers: the lengths before a value.
 
 ghost use Rattle.std.specs.Prelude.{◌≡◌, ◌<◌, ◌≤◌, ◌^◌};
 ghost use Rattle.std.specs.Option.{SomeIff};
@@ -8,7 +8,7 @@ ghost use Rattle.rlp_format.specs.Format.Framing.{total_len};
 use crate::digits::number_of;
 use crate::error::DecoderError;
 
-/// The lengths that a header says: its own, and the value's after it.
+/// The length of a header, and the length of the value that follows it.
 ///
 /// ```rust
 /// let info = rlp::PayloadInfo::from(&[0xb8, 0x38])?;
@@ -17,18 +17,20 @@ use crate::error::DecoderError;
 /// ```
 #[derive(Debug, Drop)]
 pub struct PayloadInfo {
-    /// How many bytes the header has; none where a byte below `0x80` is its own value.
+    /// The number of bytes of the header. It is 0 if the first byte is below `0x80`: that byte is
+    /// the value.
     pub header_len: usize,
-    /// How many bytes of value follow it.
+    /// The number of bytes of the value that follows the header.
     pub value_len: usize,
 }
 
 impl PayloadInfo {
-    /// The header at the front of the bytes, whether or not the value that it announces is there.
+    /// Reads the header that the bytes begin with. The value that it announces may be missing.
     ///
-    /// `RlpIsTooShort` where the bytes end before the header does, `RlpDataLenWithZeroPrefix` and
-    /// `RlpListLenWithZeroPrefix` where the length of a string or list begins with a zero byte, and
-    /// `RlpInvalidIndirection` where a length up to 55 isn't written in the first byte.
+    /// Fails with `RlpIsTooShort` if the bytes end before the header does, with
+    /// `RlpDataLenWithZeroPrefix` or `RlpListLenWithZeroPrefix` if the length of a string or list
+    /// begins with a zero byte, and with `RlpInvalidIndirection` if a length up to 55 isn't written
+    /// in the first byte.
     pub fn from(header_bytes: &[u8]) -> Result<PayloadInfo, DecoderError>
         ensures read { ReadsHeader header_bytes.now result }
         ensures exact { result ≡ header header_bytes.now }
@@ -36,8 +38,8 @@ impl PayloadInfo {
         header_by_first_byte(header_bytes)
     }
 
-    /// How many bytes header and value have together. [`PayloadInfo::checked_total`] tests whether
-    /// that is a `usize`.
+    /// Returns the number of bytes of header and value together. [`PayloadInfo::checked_total`]
+    /// tests whether that is a `usize`.
     pub fn total(&self) -> usize
         requires { total_len self.now < 2 ^ 64 }
         ensures { result ≡ total_len self.now }
@@ -45,8 +47,8 @@ impl PayloadInfo {
         self.header_len + self.value_len
     }
 
-    /// How many bytes header and value have together, or `None` where that is more than a `usize`
-    /// holds.
+    /// Returns the number of bytes of header and value together, or `None` if a `usize` can't hold
+    /// it.
     pub fn checked_total(&self) -> Option<usize>
         ensures { SomeIff result (total_len self.now < 2 ^ 64) (total_len self.now) }
     {
@@ -54,7 +56,7 @@ impl PayloadInfo {
     }
 }
 
-/// The header, by the table of first bytes.
+/// Reads the header by the table of first bytes.
 #[inline(always)]
 #[tactic(auto, using(crate::specs::Lemmas::Reading::rows), unfolding(crate::specs::Format::Header::header))]
 fn header_by_first_byte(bytes: &[u8]) -> Result<PayloadInfo, DecoderError>
@@ -89,7 +91,8 @@ fn header_by_first_byte(bytes: &[u8]) -> Result<PayloadInfo, DecoderError>
     }
 }
 
-/// The header whose first byte announces `len` bytes of length, which `rest` begins with.
+/// Reads a header whose first byte announces a length of `len` bytes. `rest` is the bytes after the
+/// first one. Fails with `zero_fault` if the length begins with a zero byte.
 fn long_header(
     rest: &[u8],
     len: usize,

@@ -1,6 +1,6 @@
 -- which states a state grows to
 pub mod Growth
--- the way back to where a call began
+-- going back to the state before a call
 pub mod Layouts
 -- a list that is opened
 pub mod Opened

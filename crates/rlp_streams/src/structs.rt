@@ -13,25 +13,25 @@ use crate::traits::Encodable;
 pub use slices::{Each, Flattened, ListOf};
 use std::alloc::AllocError;
 
-/// Values that are appended one after another, as the fields of a struct are.
+/// Values that are appended one after another, such as the fields of a struct.
 ///
-/// A reference to a value is one item. [`ListOf`] is one item too, the list of the values of a
-/// slice. [`Each`] is one item for each value of a slice, and [`Flattened`] the fields of each value.
-/// A pair is its first part and then its second.
+/// A reference to a value is one item. [`ListOf`] is one item too: the list of the values of a
+/// slice. [`Each`] is one item for each value of a slice, and [`Flattened`] is the fields of each
+/// value. A pair is the items of its first part, and then those of its second part.
 pub trait AppendFields {
     // The items, in order.
     ghost items: { Self → List Item };
 
-    // Each value is one of its type.
+    // Each value belongs to its type.
     ghost fit: { Self → Type 0 };
 
-    /// The number of items, or `None` if there are 2^64 or more.
+    /// Returns the number of items, or `None` if it is 2^64 or more.
     fn field_count(&self) -> Option<usize>
         ensures { MatchOption result (2 ^ 64 ≤ length (items self.now))
             (λ n. n ≡ length (items self.now)) };
 
-    /// Appends each value. Fails as [`RlpStream::append`] does for the first value that fails. The
-    /// values before it stay in the stream.
+    /// Appends each value. If a value fails, returns the error of [`RlpStream::append`] for the
+    /// first value that fails. The values before it stay in the stream.
     fn append_fields(&self, s: &mut RlpStream) -> Result<(), AllocError>
         ensures fits { OnOk result (fit self.now) }
         ensures ok { OnOk result (s.new.state ≡ add_all (items self.now) s.old.state) }
@@ -78,8 +78,8 @@ impl<P: AppendFields, Q: AppendFields> AppendFields for (P, Q) {
 
 /// Writes a struct as the list of its fields. `rlp::append_fields!` calls it.
 ///
-/// Fails with `AllocError` if memory is refused, if a value's own [`Encodable::rlp_append`] fails,
-/// or if there are 2^64 items or more.
+/// Fails with `AllocError` if memory is refused, if the [`Encodable::rlp_append`] of a value fails,
+/// or if the number of items is 2^64 or more.
 #[tactic(auto, using(crate::proofs::Streams::Fields::fields))]
 pub fn append_struct<F: AppendFields>(s: &mut RlpStream, fields: &F) -> Result<(), AllocError>
     ensures fits { OnOk result (F.fit fields.now) }

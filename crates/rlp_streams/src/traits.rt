@@ -1,4 +1,4 @@
-//! What a type does to be written.
+//! The trait of types that are written.
 
 mod encodable;
 

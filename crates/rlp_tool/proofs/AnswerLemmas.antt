@@ -61,7 +61,7 @@ outcome-next n s c calls admitted passes =
     (refusal_name c ++ decimal n) admitted
     ∙ cond-true (brings_items c) (outcome_answer (n + 1) (effect c s) calls) (codes "error raw not items at " ++ decimal n) passes
 
--- the calls behind those that pass decide
+-- if some calls pass, the calls after them decide
 outcome-taken : (before later : List Call) (steps : List Step) (n : ℕ) (s t : State) → AreDescribedWhere IsShallow s before steps
     → after_from n s before ≡ Ok t → outcome_answer n s (before ++ later) ≡ outcome_answer (n + length before) t later
 outcome-taken [] later [] n s t d e =
@@ -76,7 +76,7 @@ outcome-taken (c ∷ before) later (m ∷ steps) n s t d e =
     ∙ outcome-taken before later steps (n + 1) (effect c s) t d.2 (cond_ok (is_admitted c s) (after_from (n + 1) (effect c s) before) n t e)
     ∙ ap (λ (k : ℕ). outcome_answer k t later) more
 
--- calls of which none is refused come to what the state after them tells
+-- the result of calls, none of which is refused, is that of the state after them
 outcome-all : (calls : List Call) (t : State) → AreTaken [] calls → after [] calls ≡ Ok t
     → outcome_answer 1 (initial_state []) calls ≡ state_answer t.stack.lists t
 outcome-all calls t taken e =
@@ -146,7 +146,7 @@ told : (b : Bool) → (IsTrue b → ⊥) → b ≡ false
 told true h = absurd (h refl)
 told false h = refl
 
--- raw bytes that are no items fail the test
+-- raw bytes that aren't items fail the test
 fails : (c : Call) → (BringsItems c → ⊥) → brings_items c ≡ false
 fails (append x) h = absurd (h tt)
 fails append_empty_data h = absurd (h tt)
@@ -167,7 +167,7 @@ answer-no_items calls place r =
     sym (refused-first calls place r ∙ cond-true (is_admitted r.call r.met) (cond (brings_items r.call) next name)
     (refusal_name r.call ++ decimal place) r.refused.0 ∙ cond-false (brings_items r.call) next name (fails r.call r.refused.1))
 
--- what is printed of what calls come to is the answer to them
+-- the printed result of calls is the answer to them
 answer-outcome : (r : Result Built BuildFault) (calls : List Call) (old new : List ℕ) → OnOk r (AreTaken [] calls) → IfOk r (IsBuilt [] calls)
     → IfErr r (IsRefusal [] calls) → AppendsOutcome old new r → new ≡ old ++ outcome_answer 1 (initial_state []) calls
 answer-outcome (Ok (Finished bytes)) calls old new t b f e = e ∙ ap (λ (a : List ℕ). old ++ a) (answer-finished calls bytes.items t b)
@@ -187,7 +187,7 @@ answer-script (Err x) built text calls old new is t b f e = tt
 
 -- ---- lines of calls
 
--- the answer to a line of calls is what the calls come to
+-- the answer to a line of calls is the result of the calls
 pub answer-calls : (line : List ℕ) (calls : List Call) → SaysCalls line calls → answer line ≡ outcome_answer 1 (initial_state []) calls
 unfolding answer
 answer-calls line calls says =
@@ -195,7 +195,7 @@ answer-calls line calls says =
     cond-false (nat_lt longest_line (length line)) (codes "error long line") (answer_within line) short ∙ ap text_answer says.stripped
     ∙ ap calls_answer says.says
 
--- calls that describe items are answered by their joined encodings
+-- the answer to calls that describe items is the join of the items
 pub answer-described : (line : List ℕ) (calls : List Call) (items : List Item) → Leaves [] calls items → SaysCalls line calls
     → IsDescribedWhere IsShallow [] calls items → answer line ≡ finished_answer (join items)
 answer-described line calls items (last, admitted, same_front, stack) says d =
@@ -222,7 +222,7 @@ pub answer-refuses_raw : (line : List ℕ) (calls : List Call) (place : ℕ) →
     → answer line ≡ codes "error raw not items at " ++ decimal place
 answer-refuses_raw line calls place says r = answer-calls line calls says ∙ sym (answer-no_items calls place r)
 
--- calls that are answered by `out` are steps, and leave no list open
+-- calls whose answer is `out` are steps, and leave no list open
 pub answer-ends : (line : List ℕ) (calls : List Call) → ((xs : List Item) → length (join xs) < 2 ^ 64 → All IsSized xs) → SaysCalls line calls
     → BeginsWith (answer line) (codes "out") → EndFinished 1 (initial_state []) calls
 answer-ends line calls sized says begins =

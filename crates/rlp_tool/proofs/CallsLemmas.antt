@@ -27,7 +27,7 @@ use Rattle.rlp_tool.specs.StreamCalls.{call_of}
 use Rattle.rlp_tool.specs.Building.{AreRefused, AreTaken, BringsItems, BringsNoItems, BringsTooMany, HasNothingToFinish, IsBuilt, IsJoined, IsRefusal}
 use Rattle.rlp_tool.specs.Building.{AreJoined, IsFinishedAs, IsSomeStep, IsUnfit, IsHeld, takes_memory}
 
--- room for k items, by what is awaited
+-- room for k items, by the number of awaited items
 abbrev pub room_for : ℕ → Option ℕ → Bool
 room_for k None = true
 room_for k (Some n) = nat_le k n
@@ -42,7 +42,7 @@ room k (l ∷ ls) = room_in l.awaits
 
 -- ---- one call
 
--- the calls that are left begin with the call in this place
+-- the calls that are left begin with the call at this place
 left-next : {E : Type 0} (f : E → Call) (xs : List E) (i : ℕ) (x : E) → i < length xs → x ≡ get_or xs i x → drop i (map f xs) ≡ f x ∷ drop (i + 1) (map f xs)
 left-next f [] i x h e = absurd (omega arith)
 left-next f (y ∷ ys) zero x h e = ap (λ z. f z ∷ map f ys) (sym e)
@@ -153,7 +153,7 @@ around : {E : Type 0} (f : E → Call) (xs : List E) (i : ℕ) (x : E) → i < l
     → map f xs ≡ take i (map f xs) ++ f x ∷ drop (i + 1) (map f xs)
 around f xs i x h e = sym (take-append-drop i (map f xs)) ∙ ap (λ cs. take i (map f xs) ++ cs) (left-next f xs i x h e)
 
--- the call in this place is made
+-- the call at this place is made
 pub made_next : {E : Type 0} (f : E → Call) (xs : List E) (front : List ℕ) (i : ℕ) (x : E) (s t : State) → i < length xs → x ≡ get_or xs i x
     → IsTrue (is_admitted (f x) s) → IsSomeStep (f x) s → t ≡ effect (f x) s
     → AreMade front (take i (map f xs)) s → AreMade front (take (i + 1) (map f xs)) t
@@ -164,7 +164,7 @@ pub made_all : {E : Type 0} (f : E → Call) (xs : List E) (front : List ℕ) (i
     → AreMade front (map f xs) s
 made_all f xs front i s h made = subst (λ cs. AreMade front cs s) (take-all f xs i h) made
 
--- the call in this place is refused
+-- the call at this place is refused
 refused_there : {E : Type 0} (reason : Call → State → Type 0) (f : E → Call) (xs : List E) (front : List ℕ) (i : ℕ) (x : E) (s : State) (place : ℕ)
     → i < length xs → x ≡ get_or xs i x
     → AreMade front (take i (map f xs)) s → place ≡ i + 1 → reason (f x) s → AreRefused reason front (map f xs) place
@@ -220,7 +220,7 @@ clears_all (append_internal x) s none = absurd (let no : ⊥ = cc in no)
 clears_all (encode_value t) s none = absurd (let no : ⊥ = cc in no)
 clears_all clear s none = refl
 
--- where a list is open in the end, and none was in the beginning, a call took memory
+-- if a list is open at the end, and none was at the beginning, a call took memory
 first_taking : (calls : List Call) (steps : List Step) (n : ℕ) (s t : State) → AreDescribedWhere IsShallow s calls steps → after_from n s calls ≡ Ok t
     → s.stack.lists ≡ [] → ¬ IsFinished t → IsFirstTaking s calls
 first_taking [] steps n s t d e none unended =
@@ -274,7 +274,7 @@ pub step_begin : (n : ℕ) (s : State) → IsSomeStep (begin_list n) s
 step_begin zero s = (brings (list_of [] ∷ []), by_empty_list)
 step_begin (suc n) s = (opens (Some (suc n)), by_list n)
 
--- each other call is a step, whatever it brings
+-- each other call is a step, with any bytes
 pub step_other : {E : Type 0} (item : E → Item) (call : StreamCall E) (s : State) → ((bytes : Vec ℕ Global) (n : ℕ) → call ≡ Raw bytes n → ⊥)
     → IsSomeStep (call_of item call) s
 step_other item (Value v) s other = (brings (item v ∷ []), by_append (item v))
@@ -310,7 +310,7 @@ admitted_other item BeginUnbounded s raw finish = refl
 admitted_other item Finish s raw finish = absurd (finish refl)
 admitted_other item Clear s raw finish = refl
 
--- raw bytes that are a step bring items
+-- raw bytes that are a step are items
 pub step_brings : (c : Call) (m : Step) (s : State) → DescribesWhere IsShallow s c m → BringsItems c
 step_brings _ _ s (by_append x) = tt
 step_brings _ _ s by_empty_data = tt
@@ -350,7 +350,7 @@ all_described_anyhow s [] (m ∷ steps) d = absurd d
 all_described_anyhow s (c ∷ calls) [] d = absurd d
 all_described_anyhow s (c ∷ calls) (m ∷ steps) d = (d.0, described_anyhow c m s d.1, all_described_anyhow (effect c s) calls steps d.2)
 
--- a described call, in the state that it meets
+-- a described call, in the state before it
 described-at : (before : List Call) (c : Call) (later : List Call) (steps : List Step) (n : ℕ) (s t : State)
     → AreDescribedWhere IsShallow s (before ++ c ∷ later) steps → after_from n s before ≡ Ok t → IsTrue (is_admitted c t) × IsSomeStep c t
 described-at [] c later [] n s t d e = absurd d
@@ -367,14 +367,14 @@ described_there front calls items place r d =
     described-at r.before r.call r.later d.steps 1 (initial_state front) r.met
     (subst (λ cs. AreDescribedWhere IsShallow (initial_state front) cs d.steps) r.in_order d.described) r.admitted
 
--- ---- what the calls come to
+-- ---- the result of the calls
 
 pub built : (front : List ℕ) (calls : List Call) (s : State) (b : Built) → after front calls ≡ Ok s → s.front ≡ front → IsHeld s b → IsBuilt front calls b
 built front calls s (Finished bytes) e same (closed, is) =
     record { last = s; admitted = e; closed = closed; buffer = is ∙ ap (λ (f : List ℕ). f ++ s.stack.inner) same }
 built front calls s (Open size raw) e same (unfinished, closed, text) = record { last = s; admitted = e; unfinished = unfinished; closed = closed; text = text }
 
--- what described calls leave, as the law says it
+-- the state after described calls, as in the law
 abbrev pub Leaves : List ℕ → List Call → List Item → Type 0
 Leaves front calls items = (last : State) × (after front calls ≡ Ok last) × (last.front ≡ front) × (last.stack ≡ record { inner = join items; lists = [] })
 
@@ -403,7 +403,7 @@ described_refused front calls items (RawNotItems place) d r =
     let (admitted, (m, step)) = described_there front calls items place r d in absurd (r.refused.1 (step_brings r.call m r.met step))
 described_refused front calls items OutOfMemory d r = refl
 
--- what calls leave, by the steps that they are, as the law says it
+-- the state after calls, by their steps, as in the law
 abbrev pub LeavesSteps : List ℕ → List Call → List Step → Type 0
 LeavesSteps front calls steps =
     (last : State) × (after front calls ≡ Ok last) × (last.front ≡ front) × (last.stack ≡ joined_stack (items_after_all steps empty_stack))
@@ -412,7 +412,7 @@ no_lists : (ls : List (OpenList Item)) → map joined_list ls ≡ [] → ls ≡ 
 no_lists [] e = refl
 no_lists (l ∷ ls) e = absurd (let no : ⊥ = cc in no)
 
--- what is finished is the joined encodings of the items described
+-- the finished bytes are the join of the described items
 pub are_joined : (front : List ℕ) (calls : List Call) (s : State) (bytes : List ℕ) (taken : AreTaken front calls)
     → (AreDescribed (initial_state front) calls taken.steps → LeavesSteps front calls taken.steps) → after front calls ≡ Ok s → IsFinished s
     → bytes ≡ front ++ s.stack.inner
@@ -438,7 +438,7 @@ joined_built front calls s (Finished bytes) made law (closed, is) =
     are_joined front calls s bytes.items made.taken law made.admitted closed (is ∙ ap (λ (f : List ℕ). f ++ s.stack.inner) made.same_front)
 joined_built front calls s (Open size raw) made law is = tt
 
--- items that are shallow are described as any others
+-- shallow items are described like all others
 pub described_items : (front : List ℕ) (calls : List Call) (items : List Item) → IsDescribedWhere IsShallow front calls items → IsDescribed front calls items
 described_items front calls items d =
     record { steps = d.steps; described = all_described_anyhow (initial_state front) calls d.steps d.described; finished = d.finished }

@@ -63,13 +63,13 @@ cut-nowhere a xs e =
 
 -- ---- reading piece by piece
 
--- what a piece, by the call that it says, and the pieces after it come to, after some calls
+-- the result of a piece, by its call, and of the pieces after it, after some calls
 abbrev left_by : Option Call → List Call → List (List ℕ) → Result (List Call) ℕ
 left_by o calls pieces =
     cond (is_some o && list_all is_call pieces) (Ok (calls ++ cons_option o (filter_map call_in pieces)))
     (Err (length calls + 1 + cond (is_some o) (1 + prefix_len is_call pieces) 0))
 
--- what the pieces that are left come to, after some calls
+-- the result of the pieces that are left, after some calls
 abbrev pub left : List Call → List (List ℕ) → Result (List Call) ℕ
 left calls pieces = cond (list_all is_call pieces) (Ok (calls ++ filter_map call_in pieces)) (Err (length calls + 1 + prefix_len is_call pieces))
 
@@ -152,7 +152,7 @@ pub script-last_unread : (text rest : List ℕ) (old : List Call) (fault : Scrip
     → script text ≡ left old (spaces rest) → IsUnread old (call_in rest) fault → text ≢ [] → IsScriptFault text fault
 script-last_unread text rest old fault e all h some = unread text (call_in rest) old [] fault some (all ∙ ap (left old) (cut-nowhere 32 rest e)) h
 
--- ---- bytes that calls bring
+-- ---- the bytes of calls
 
 brings_raw : (count : ℕ) (o : Option (List ℕ)) → IsSomeAnd o (λ bytes. bytes ≢ []) → BringsBytes (raw_call (Some count) o)
 brings_raw count (Some bytes) some = some
@@ -163,7 +163,7 @@ pub string_refused : (o : Option (List ℕ)) → IsSomeAnd o (λ bytes. bytes �
 string_refused (Some bytes) some = some
 string_refused None some = absurd some
 
--- bytes are brought by a call
+-- bytes are those of a call
 pub brings_some : (o : Option Call) → BringsBytes o → IsSome o
 brings_some (Some call) some = refl
 brings_some None some = absurd some
@@ -187,7 +187,7 @@ raw_refused text number rest at count colon front back n some =
 
 -- ---- answers
 
--- why a script isn't read, if it was printed, is the answer to it
+-- the printed fault of a script is the answer to it
 pub answer-unread : {T E : Type 0} (printed : Result T E) (fault : ScriptFault) (text old new : List ℕ) → IsScriptFault text fault
     → OnOk printed (AppendsScriptFault old new fault) → OnOk printed (new ≡ old ++ calls_answer (script text))
 answer-unread (Ok x) (Syntax place) text old new is e = e ∙ ap (λ (r : Result (List Call) ℕ). old ++ calls_answer r) (sym is)

@@ -77,13 +77,13 @@ small a b k m h e =
     let fits : k < 2 ^ 64 = h both.1 in
     omega arith
 
--- a number with a digit more is below 2^64
+-- a number with one more digit is below 2^64
 pub small_digit : (n c m : ℕ) → with_digit n c ≡ Some m → m < 2 ^ 64
 small_digit n c m e = small (is_ascii_digit c) (nat_lt (n * 10 + digit_value c) (2 ^ 64)) (n * 10 + digit_value c) m (λ less. grind (arith, nat_tests)) e
 
 -- ---- bytes
 
--- what is read of no digits
+-- the result of reading no digits
 pub read-nothing : (digits : List ℕ) → true ≡ nat_eq (length digits) 0 → result_ok (decode_of digits) ≡ Some []
 unfolding decode_pairs
 read-nothing [] none = refl
@@ -103,7 +103,7 @@ refused_by : (digits : List ℕ) (r : Result (List ℕ) FromHexError) → decode
 refused_by digits (Ok bytes) is other = absurd (let no : false ≡ true = other (decode_of-ok digits bytes is).1 in let never : ⊥ = cc in never)
 refused_by digits (Err e) is other = refl
 
--- what is read of a text that isn't all digits
+-- the result of reading a text that isn't all digits
 pub read-no_digits : (digits : List ℕ) → (AllPass is_hex_digit digits → IsTrue false) → result_ok (decode_of digits) ≡ None
 read-no_digits digits other = refused_by digits (decode_of digits) refl other
 
@@ -121,7 +121,7 @@ encode_lower-cut rest front back n f b =
     sym (encode_with-append lower_digits front back)
     ∙ ap encode_lower (ap (λ (x : List ℕ). x ++ back) f ∙ ap (λ (x : List ℕ). take n rest ++ x) b ∙ take-append-drop n rest)
 
--- the digits of a front are printed, and those of what follows it are left
+-- the digits of the first bytes are printed, and those of the bytes after them are left
 pub printed-more : (before after old front back rest : List ℕ) (n : ℕ) → front ≡ take n rest → back ≡ drop n rest
     → after ≡ before ++ encode_lower front → before ++ encode_lower rest ≡ old → after ++ encode_lower back ≡ old
 printed-more before after old front back rest n f b grown all =

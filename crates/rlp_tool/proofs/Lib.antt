@@ -1,4 +1,4 @@
--- Lemmas, a file for each of the definitions that they are about. A function's invariants and answers stand in a folder of its own name.
+-- Lemmas, in a file for each file of definitions that they are about. The invariants and results of a function are in a folder with its name.
 
 -- numbers and bytes as digits
 pub mod DigitLemmas
@@ -8,7 +8,7 @@ pub mod CutLemmas
 pub mod RawLemmas
 -- calls of a stream, one after another
 pub mod CallsLemmas
--- what a line that is answered by `out` says
+-- the calls of a line whose answer is `out`
 pub mod SaidLemmas
 -- the answers to lines of calls
 pub mod AnswerLemmas

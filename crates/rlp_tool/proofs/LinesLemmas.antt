@@ -17,7 +17,7 @@ is-false : (b : Bool) → (b ≡ true → ⊥) → b ≡ false
 is-false true other = absurd (other refl)
 is-false false other = refl
 
--- pieces whose first continues another piece
+-- pieces, the first of which continues another piece
 abbrev onto : List ℕ → List (List ℕ) → List (List ℕ)
 onto begun [] = begun ∷ []
 onto begun (piece ∷ rest) = (begun ++ piece) ∷ rest
@@ -122,7 +122,7 @@ ended_lines-line t run h =
 pub last_piece-line : (t run : List ℕ) → last_piece (t ++ run ++ 10 ∷ []) ≡ []
 last_piece-line t run = last_piece-end (t ++ run)
 
--- the lines that are ended stay at the front as a text grows
+-- when a text grows, its lines begin with the lines that were ended
 pub ended_lines-append : (t x : List ℕ) → (more : List (List ℕ)) × (ended_lines (t ++ x) ≡ ended_lines t ++ more)
 unfolding ended_lines
 ended_lines-append t x =
@@ -176,7 +176,7 @@ line_of_more begun b x =
       | false ↦ λ e. subst P (sym (pieces-cons_no b x e)) (line_after_byte begun b (pieces x) (some_piece x))
     ] refl
 
--- what follows a text makes a line more than those that are ended
+-- with bytes after a text, there is one more line than the ended ones
 pub length-lines-more : (t x : List ℕ) → x ≢ [] → length (ended_lines t) < length (lines (t ++ x))
 unfolding ended_lines last_piece
 length-lines-more t [] some = absurd (some refl)
@@ -186,11 +186,11 @@ length-lines-more t (b ∷ x) some =
     ∙ lines_of-append (all_but_last (pieces t)) rest (length-onto (last_of (pieces t)) (pieces (b ∷ x))) in
     omega (arith, ap length whole, length-append (all_but_last (pieces t)) (lines_of rest), line_of_more (last_of (pieces t)) b x)
 
--- a line that has begun is a line more than those that are ended
+-- with a line that has begun, there is one more line than the ended ones
 pub length-lines-begun : (t : List ℕ) → last_piece t ≢ [] → length (ended_lines t) < length (lines t)
 length-lines-begun t some = omega (arith, length-append (ended_lines t) (line_of_last (last_piece t)), length-line_of_last (last_piece t) some)
 
--- where no byte is a newline
+-- if no byte is a newline
 one_piece : (xs : List ℕ) → ((k : ℕ) → k < length xs → (get_or xs k 0 == 10) ≡ false) → IsOnePiece xs
 unfolding pieces
 one_piece xs h = slice_split_none (λ byte. byte == 10) xs (All-from_get_or (λ byte. (byte == 10) ≡ false) xs 0 h)
@@ -208,7 +208,7 @@ position-None : (test : Bool) (at : ℕ) → cond test (Some at) None ≡ None �
 position-None true at e = cc
 position-None false at e = refl
 
--- what a newline is found in has a byte
+-- bytes in which a newline is found aren't empty
 pub some_byte : (xs : List ℕ) (at : ℕ) → position (λ byte. byte == 10) xs ≡ Some at → xs ≢ []
 some_byte [] at e = let found = position-Some (λ byte. byte == 10) [] at 0 e in absurd (omega (arith, found.0))
 some_byte (x ∷ xs) at e = λ none. cc

@@ -98,7 +98,7 @@ newline_parts rest at e =
     let more = drop_more rest at 0 found.0 in
     ap (λ l. 10 ∷ drop 1 l) more ∙ ap (λ b. b ∷ drop (at + 1) rest) (sym (is_newline (get_or rest at 0) found.1)) ∙ sym more
 
--- a line more was ended
+-- one more line was ended
 pub IsFeeding-line : {waiting kept waiting' kept' waiting'' kept'' bytes : List ℕ} {over over' over'' : Bool} (rest run others : List ℕ) (at : ℕ)
     → IsFeeding waiting kept over waiting' kept' over' bytes rest → position (λ byte. byte == 10) rest ≡ Some at → run ≡ take at rest → others ≡ drop at rest
     → ((text written : List ℕ) → IsAfter text written waiting' kept' over' → IsOnePiece run → IsAfter (text ++ run ++ 10 ∷ []) written waiting'' kept'' over'')
@@ -153,7 +153,7 @@ IsFeeding-refused {bytes = bytes} rest new feeding same text written before some
           ∙ ap (λ t. replies_to (take (length (ended_lines answered)) (lines t))) whole;
     }
 
--- an empty line that has begun is no line
+-- an empty line that has begun isn't a line
 pub replies_to-none : (begun : List ℕ) → begun ≡ [] → replies_to (line_of_last begun) ≡ []
 unfolding replies_to
 replies_to-none begun e = ap (λ l. replies_to (line_of_last l)) e
@@ -294,14 +294,14 @@ pub record IsRunning (in0 in1 out0 out1 : Option (List ℕ)) (kept : List ℕ) (
 pub IsRunning-begin : (in0 out0 : Option (List ℕ)) (kept : List ℕ) (over : Bool) → IsLine kept over [] → IsRunning in0 in0 out0 out0 kept over
 IsRunning-begin in0 out0 kept over line = record { took = []; read = Consumes-nil in0; served = IsServed-begin out0 kept over line }
 
--- some bytes more of the input were taken, and served
+-- more bytes of the input were taken, and served
 pub IsRunning-more : {in0 in1 out0 out1 : Option (List ℕ)} {kept kept' : List ℕ} {over over' : Bool} (in2 out2 : Option (List ℕ)) (more : List ℕ)
     (running : IsRunning in0 in1 out0 out1 kept over) → Consumes in1 in2 more → IsServed out0 out2 (running.took ++ more) kept' over'
     → IsRunning in0 in2 out0 out2 kept' over'
 IsRunning-more {in0} {in1} in2 out2 more running read served =
     record { took = running.took ++ more; read = Consumes-trans in0 in1 in2 running.took more running.read read; served = served }
 
--- the input is at its end, which gave no more bytes
+-- the input gives no more bytes
 pub AnswersAll-end : (result : Result (Unit {0}) RunFault) {in0 in1 out0 out1 : Option (List ℕ)} {kept : List ℕ} {over : Bool}
     (in2 out2 : Option (List ℕ)) (running : IsRunning in0 in1 out0 out1 kept over) → Consumes in1 in2 [] → IsAtEnd in2
     → OnOk result (Appends out0 out2 (replies running.took)) → OnOk result (AnswersAll in0 in2 out0 out2)
@@ -313,7 +313,7 @@ AnswersAll-end (Ok unit) {in0} {in1} in2 out2 running read end wrote = record {
   wrote = wrote;
 }
 
--- what a stop leaves
+-- the state after a stop
 pub record StopLeaves (result : Result (Unit {0}) RunFault) (in0 in1 out0 out1 : Option (List ℕ)) (failed : Bool) : Type 0 where
   pub memory : result ≡ Err Memory → AnswersBefore in0 in1 out0 out1
   pub not_read : result ≢ Err Read

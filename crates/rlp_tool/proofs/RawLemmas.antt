@@ -30,7 +30,7 @@ FramesEncodings b = (x : Item) → BeginsWith b (encoding x) → IsFramed b × (
 pub none_left : (count : ℕ) (b : List ℕ) → b ≡ [] → count ≡ 0 → AreRawItems b count
 none_left count b none zero_left = record { brought = []; joined = none; counted = sym zero_left; shallow = All-from_recursion IsShallow [] tt }
 
--- no bytes are no items
+-- an empty slice is no items
 pub none_brought : (b : List ℕ) (count : ℕ) → ((xs : List Item) → length (join xs) < 2 ^ 64 → All IsSized xs)
     → ((xs ys : List Item) → All IsSized xs → All IsSized ys → (join xs ≡ join ys) ↔ (xs ≡ ys)) → length b < 2 ^ 64 → b ≡ [] → AreRawItems b count → count ≡ 0
 none_brought b count sized same fits none is =
@@ -42,7 +42,7 @@ stray_bytes_by : (b : List ℕ) (xs : List Item) → FramesEncodings b → 0 < l
 stray_bytes_by b [] frames some unframed joined = omega (arith, ap length joined)
 stray_bytes_by b (x ∷ xs) frames some unframed joined = unframed (frames x (join xs, joined)).0
 
--- bytes that begin with no item are no items
+-- bytes that don't begin with an item aren't items
 pub stray_bytes : (b : List ℕ) (count : ℕ) → FramesEncodings b → 0 < length b → ¬ IsFramed b → AreRawItems b count → ⊥
 stray_bytes b count frames some unframed is = stray_bytes_by b is.brought frames some unframed is.joined
 
@@ -50,11 +50,11 @@ stray_rest_by : (b : List ℕ) (xs : List Item) → 0 < length b → length xs �
 stray_rest_by b [] some none joined = omega (arith, ap length joined)
 stray_rest_by b (x ∷ xs) some none joined = omega (arith, none)
 
--- bytes are more than no items
+-- bytes that aren't empty aren't 0 items
 pub stray_rest : (b : List ℕ) (count : ℕ) → 0 < length b → count ≡ 0 → AreRawItems b count → ⊥
 stray_rest b count some none is = stray_rest_by b is.brought some (is.counted ∙ none) is.joined
 
--- the first item, and what follows it
+-- the first item, and the bytes after it
 record IsFirst (b item others : List ℕ) (xs : List Item) : Type 0 where
   head : Item
   tail : List Item
@@ -82,14 +82,14 @@ all_shallow xs tail x whole shallow =
     let deep : AllByRecursion IsShallow (x ∷ tail) = recursion_from_All IsShallow (x ∷ tail) (subst (λ ys. All IsShallow ys) whole shallow) in
     (deep.0, All-from_recursion IsShallow tail deep.1)
 
--- bytes that begin with an item that isn't canonical, or is too deep, are no such items
+-- bytes that begin with an item that isn't canonical, or is too deep, aren't such items
 pub stray_item : (b item others : List ℕ) (count : ℕ) → FramesEncodings b → 0 < length b → frame b ≡ Ok item → b ≡ item ++ others
     → ¬ IsCanonicalWithin deepest_raw_item item → AreRawItems b count → ⊥
 stray_item b item others count frames some framed is other a =
     let f = first_of b item others a.brought frames some framed is a.joined in
     other (f.head, f.same, (all_shallow a.brought f.tail f.head f.whole a.shallow).0)
 
--- without a canonical item at their front, the others are one item fewer
+-- after the first of raw items, the rest is one item fewer
 fewer : (b item others : List ℕ) (count : ℕ) → FramesEncodings b → 0 < length b → frame b ≡ Ok item → b ≡ item ++ others → AreRawItems b count
     → AreRawItems others (count - 1)
 fewer b item others count frames some framed is a =
@@ -111,7 +111,7 @@ more b item others count is (x, same, deep) some rest = record {
   shallow = All-from_recursion IsShallow (x ∷ rest.brought) (deep, recursion_from_All IsShallow rest.brought rest.shallow);
 }
 
--- the walk goes on behind a canonical item
+-- the walk goes on after a canonical item
 pub next_item : (all : List ℕ) (total : ℕ) (b item others : List ℕ) (count left : ℕ) → FramesEncodings b → 0 < length b
     → (AreRawItems all total ↔ AreRawItems b count) → frame b ≡ Ok item → b ≡ item ++ others → IsCanonicalWithin deepest_raw_item item
     → (count ≡ 0 → ⊥) → left ≡ count - 1
@@ -133,14 +133,14 @@ at_end all total b count r brought walked none found = (
 never : false ≡ true → ⊥
 never e = cc
 
--- what isn't so is answered by `false`
+-- if it isn't so, the result is `false`
 pub refuted : (all : List ℕ) (total : ℕ) (b : List ℕ) (count : ℕ) → (AreRawItems all total ↔ AreRawItems b count) → (AreRawItems b count → ⊥)
     → IsTrue false ↔ AreRawItems all total
 refuted all total b count walked none = (λ t. absurd (never t), λ a. absurd (none (walked.0 a)))
 
 -- ---- the same, computed
 
--- a list is read as no string
+-- a list isn't read as a string
 list_unread : (b : List ℕ) → begins_as_list b ≡ true → (e : DecoderError) × (read_string b ≡ Err e)
 list_unread [] begins = absurd (never begins)
 list_unread (first ∷ rest) begins = (RlpExpectedToBeData, string_list first rest (leb-true 0xc0 first begins))
@@ -191,7 +191,7 @@ not_true from p = never (from p)
 pub zero_test : (n : ℕ) → IsTrue (nat_eq n 0) ↔ (n ≡ 0)
 zero_test n = Decides-eqb n 0
 
--- ---- raw bytes as items that a call brings
+-- ---- raw bytes as the items of a call
 
 -- items that are written are read again
 raw_items-join : (xs : List Item) → AllByRecursion IsSized xs → AllByRecursion IsShallow xs → map (item_within deepest_raw_item) (map encoding xs) ≡ xs
@@ -209,7 +209,7 @@ and_parts : (a b : Bool) → IsTrue (a && b) → IsTrue a × IsTrue b
 and_parts true b h = (refl, h)
 and_parts false b h = absurd (never h)
 
--- the test is passed by the joined encodings of items
+-- the joined encodings of items pass the test
 pub are_raw_items-join : (xs : List Item) → All IsSized xs → All IsShallow xs → IsTrue (are_raw_items (join xs) (length xs))
 are_raw_items-join xs sized shallow =
     let again : raw_items (join xs) ≡ xs = ap (map (item_within deepest_raw_item)) (split_join xs sized)
@@ -230,7 +230,7 @@ shallow_by inside most low b (Ok d) = omega arith
 shallow_by inside most low b (Err e) =
     let deepest : items_depth (items_from (map inside (items b))) ≤ most = shallow_all inside most low (items b) in omega (arith, deepest)
 
--- what is read is no deeper than asked
+-- an item that is read is no deeper than the limit
 shallow_within : (most : ℕ) (b : List ℕ) → item_depth (item_within most b) ≤ most
 unfolding item_within
 shallow_within zero b = omega arith

@@ -1,4 +1,4 @@
--- What a line of calls that is answered by `out` says.
+-- The calls of a line whose answer is `out`.
 use Rattle.std.proofs.Common.{◌≡◌, ℕ, suc, ◌+◌, ◌-◌, ◌^◌, ◌<◌, ◌≤◌, ◌==◌, Bool, true, false, cond, List, [], ◌∷◌, ◌++◌, length, length-take, take}
 use Rattle.std.proofs.Common.{drop, get_or, codes, decimal, Option, Some, None, Result, Ok, Err, IsTrue, All, option_map, position, filter_map, refl}
 use Rattle.std.proofs.Common.{sym, ap, ◌∙◌, subst, arith}
@@ -29,7 +29,7 @@ use Rattle.rlp_tool.proofs.RawLemmas.{are_raw_items-told}
 
 -- ---- the calls of a script
 
--- a call that a script can say, whose raw bytes are at most n
+-- a call that a script can hold, whose raw bytes are at most n
 abbrev pub IsSaid : ℕ → Call → Type 0
 IsSaid n (append x) = Unit
 IsSaid n (append_raw bytes k) = length bytes ≤ n
@@ -191,7 +191,7 @@ no : {A : Type 0} (b : Bool) (x y : A) → b ≡ false → cond b x y ≡ y
 no true x y e = absurd (let never : ⊥ = cc in never)
 no false x y e = refl
 
--- calls of a script that are answered by `out` are steps, and leave no list open
+-- calls of a script whose answer is `out` are steps, and leave no list open
 pub end_finished : (n place : ℕ) (s : State) (calls : List Call) → ((xs : List Item) → length (join xs) < 2 ^ 64 → All IsSized xs) → n < 2 ^ 64
     → AreSaid n calls → BeginsWith (outcome_answer place s calls) (codes "out") → EndFinished place s calls
 end_finished n place s [] sized fits said begins = record { steps = []; described = tt; last = s; admitted = refl; closed = none_open s.stack.lists s begins }

@@ -25,7 +25,7 @@ const LINES: [(&[u8], &[u8]); 14] = [
     (b"", b""),
 ];
 
-/// Whether each row of `LINES` gets this answer.
+/// Returns whether each row of `LINES` gets its answer.
 fn lines_are_answered(alloc: Global) -> Result<bool, AllocError> {
     for (input, expected) in LINES {
         if !answers(alloc, input, expected)? {
@@ -41,7 +41,8 @@ fn run_answers_lines(rt: HostRuntime) -> Result<(), AllocError> {
     Ok(())
 }
 
-/// Whether the first row of `LINES` gets this answer, whatever number of bytes a call takes.
+/// Returns whether the first row of `LINES` gets its answer for several numbers of bytes that a
+/// call moves.
 fn pieces_are_answered(alloc: Global) -> Result<bool, AllocError> {
     let (input, expected) = LINES[0];
     for most in [1, 2, 3, 4096] {
@@ -59,7 +60,7 @@ fn run_always_lacks_memory(rt: HostRuntime) -> Result<(), AllocError> {
     Ok(())
 }
 
-/// Whether a line of `count` lists, one inside another, is printed.
+/// Returns whether a line of `count` lists, one inside another, is printed.
 fn prints_nested(alloc: Global, count: usize) -> Result<bool, AllocError> {
     let lists = nested(alloc, &[], count)?;
     let digits = hex::encode(alloc, lists.as_slice())?;
@@ -77,7 +78,7 @@ fn run_answers_deep_lists(rt: HostRuntime) -> Result<(), AllocError> {
     Ok(())
 }
 
-/// The same bytes so often.
+/// Returns the bytes, repeated `count` times.
 fn repeated(alloc: Global, bytes: &[u8], count: usize) -> Result<Vec<u8>, AllocError> {
     let mut all = Vec::new(alloc);
     for _ in 0..count {
@@ -86,7 +87,7 @@ fn repeated(alloc: Global, bytes: &[u8], count: usize) -> Result<Vec<u8>, AllocE
     Ok(all)
 }
 
-/// The digits of a list of bytes 01, and a byte before them.
+/// Returns the digits of a list of `more` bytes 01 and one more.
 fn digits_of_ones(alloc: Global, more: usize) -> Result<String, AllocError> {
     let mut list = repeated(alloc, &[1], more)?;
     list.push(1)?;
@@ -94,7 +95,7 @@ fn digits_of_ones(alloc: Global, more: usize) -> Result<String, AllocError> {
     hex::encode(alloc, list.as_slice())
 }
 
-/// The answer to the line of these digits.
+/// Returns the answer to the line of the digits of [`digits_of_ones`].
 fn answer_of_ones(alloc: Global, more: usize) -> Result<Vec<u8>, AllocError> {
     let mut text = Vec::from_slice(alloc, b"[\"0x01\"")?;
     text.extend_from_slice(repeated(alloc, b", \"0x01\"", more)?.as_slice())?;
@@ -102,7 +103,7 @@ fn answer_of_ones(alloc: Global, more: usize) -> Result<Vec<u8>, AllocError> {
     Ok(text)
 }
 
-/// Whether a list of 1,100 bytes is printed.
+/// Returns whether a list of 1,100 bytes is printed.
 fn prints_ones(alloc: Global) -> Result<bool, AllocError> {
     let digits = digits_of_ones(alloc, 1_099)?;
     let expected = answer_of_ones(alloc, 1_099)?;
@@ -115,7 +116,7 @@ fn run_prints_a_list_of_1_100_bytes(rt: HostRuntime) -> Result<(), AllocError> {
     Ok(())
 }
 
-/// Whether a list of 20,000 bytes and 8,000 lines more are answered by one write.
+/// Returns whether one write has the answers to a list of 20,000 bytes and to 8,000 more lines.
 fn writes_at_once(alloc: Global) -> Result<bool, AllocError> {
     let mut input = Vec::from_slice(alloc, digits_of_ones(alloc, 19_999)?.as_bytes())?;
     input.extend_from_slice(repeated(alloc, b"\n", 8_001)?.as_slice())?;
@@ -136,7 +137,7 @@ fn run_writes_many_answers_at_once(rt: HostRuntime) -> Result<(), AllocError> {
     Ok(())
 }
 
-/// Whether 600 lines are answered by a reader that gives a byte a call.
+/// Returns whether 600 lines are answered if the reader gives one byte in each call.
 fn reads_byte_by_byte(alloc: Global) -> Result<bool, AllocError> {
     let input = repeated(alloc, b"c0\n", 600)?;
     let expected = repeated(alloc, b"[]\n", 600)?;

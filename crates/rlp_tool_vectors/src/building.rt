@@ -1,11 +1,11 @@
-//! What calls come to.
+//! The results of calls.
 
 use bytes::BytesMut;
 use rlp_examples::{Pair, Refusing, Trio};
 use rlp_tool::{BuildFault, Built, StreamCall, build};
 use std::alloc::{AllocError, Global};
 
-/// Whether calls come to these bytes, with no list open.
+/// Returns whether calls result in these bytes, with no open list.
 fn finishes(built: &Result<Built, BuildFault>, expected: &[u8]) -> bool {
     match built {
         Ok(Built::Finished(bytes)) => bytes.as_slice() == expected,
@@ -13,7 +13,7 @@ fn finishes(built: &Result<Built, BuildFault>, expected: &[u8]) -> bool {
     }
 }
 
-/// Whether values and lists of values are written, behind a front.
+/// Returns whether values and lists of values are written after a front.
 fn pairs_are_built(alloc: Global) -> Result<bool, AllocError> {
     let calls = [
         StreamCall::Begin(2),
@@ -31,7 +31,7 @@ fn build_always_lacks_memory(rt: HostRuntime) -> Result<(), AllocError> {
     Ok(())
 }
 
-/// Whether the front stays, and the result has the open lists.
+/// Returns whether the front stays, and the result has the open lists.
 fn front_stays(alloc: Global) -> Result<bool, BuildFault> {
     let mut front = BytesMut::new(alloc);
     if front.extend_from_slice(b"junk").is_err() {
@@ -50,7 +50,7 @@ fn build_keeps_its_front(rt: HostRuntime) -> Result<(), AllocError> {
     Ok(())
 }
 
-/// Whether raw bytes are refused in their place, behind raw bytes that are items.
+/// Returns whether raw bytes that aren't items fail at their place, after raw bytes that are items.
 fn raw_bytes_are_checked(alloc: Global) -> Result<bool, AllocError> {
     let calls: [StreamCall<u64>; 3] = [
         StreamCall::Raw(Vec::from_slice(alloc, &[0x01, 0xc0])?, 2),
@@ -71,7 +71,7 @@ fn build_checks_raw_bytes(rt: HostRuntime) -> Result<(), AllocError> {
     Ok(())
 }
 
-/// Whether calls with a value that is refused fail with `OutOfMemory`.
+/// Returns whether calls with a value that is refused fail with `OutOfMemory`.
 fn refused_value_is_told(alloc: Global) -> bool {
     let calls = [
         StreamCall::Begin(1),

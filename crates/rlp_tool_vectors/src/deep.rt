@@ -1,11 +1,11 @@
-//! Lines of calls that open and close very many lists.
+//! Lines of calls that open and close many lists.
 
 use crate::devices::answers;
 use crate::lists::nested;
 use std::alloc::{AllocError, Global};
 use std::test::Fail;
 
-/// A line of calls: the first one several times, and then the second one several times.
+/// Returns a line of calls: the first call several times, and then the second one several times.
 fn line_of(
     alloc: Global,
     first: (&[u8], usize),
@@ -24,7 +24,7 @@ fn line_of(
     Ok(line)
 }
 
-/// The answer of these words, and the digits of bytes.
+/// Returns the answer of these words and the digits of the bytes.
 fn answer_of(alloc: Global, words: &[u8], bytes: &[u8]) -> Result<Vec<u8>, AllocError> {
     let mut answer = Vec::from_slice(alloc, words)?;
     answer.extend_from_slice(hex::encode(alloc, bytes)?.as_bytes())?;
@@ -32,7 +32,8 @@ fn answer_of(alloc: Global, words: &[u8], bytes: &[u8]) -> Result<Vec<u8>, Alloc
     Ok(answer)
 }
 
-/// How many lists are opened and finished, how long their bytes are, and what they begin with.
+/// The number of lists that are opened and finished, the number of their bytes, and their first
+/// bytes.
 type Opened = (usize, usize, &'static [u8]);
 
 const OPENED: [Opened; 2] = [
@@ -40,7 +41,7 @@ const OPENED: [Opened; 2] = [
     (257, 559, &[0xf9, 0x02, 0x2c]),
 ];
 
-/// Whether the answer to lists that are opened and finished is their bytes.
+/// Returns whether the answer to lists that are opened and finished is their bytes.
 fn lists_are_finished(alloc: Global, row: Opened) -> Result<bool, AllocError> {
     let (lists, size, begin) = row;
     let bytes = nested(alloc, &[], lists)?;
@@ -68,7 +69,7 @@ fn run_answers_lists_opened_and_finished(rt: HostRuntime) -> Result<(), Fail> {
     Ok(())
 }
 
-/// Whether the answer to lists that stay open is these words, and a byte 00 for each list.
+/// Returns whether the answer to lists that stay open is these words, and a byte 00 for each list.
 fn open_lists_are_answered(alloc: Global, lists: usize, words: &[u8]) -> Result<bool, AllocError> {
     let zeros = vec![in alloc; 0u8; lists]?;
     let line = line_of(alloc, (b"u", lists), (b"", 0))?;
@@ -76,7 +77,7 @@ fn open_lists_are_answered(alloc: Global, lists: usize, words: &[u8]) -> Result<
     answers(alloc, line.as_slice(), answer.as_slice())
 }
 
-/// Whether 5,000 lists that one call closes get their answer.
+/// Returns whether the answer to 5,000 lists that one call closes is right.
 fn closed_lists_are_answered(alloc: Global) -> Result<bool, AllocError> {
     let bytes = nested(alloc, &[0x80], 5_000)?;
     let line = line_of(alloc, (b"l:1", 5_000), (b"d:", 1))?;
@@ -103,7 +104,7 @@ fn run_answers_sixty_thousand_open_lists(rt: HostRuntime) -> Result<(), Fail> {
     Ok(())
 }
 
-/// Whether a list of 30,000 empty strings gets its answer.
+/// Returns whether the answer to a list of 30,000 empty strings is right.
 fn wide_list_is_answered(alloc: Global) -> Result<bool, AllocError> {
     let strings = vec![in alloc; 0x80u8; 30_000]?;
     let line = line_of(alloc, (b"l:30000", 1), (b"d:", 30_000))?;

@@ -1,4 +1,4 @@
-//! Lines of lists that nest as deep as is printed, and deeper.
+//! Lines of lists that nest up to the depth that is printed, and deeper.
 
 use crate::devices::answers;
 use crate::lists::nested;
@@ -6,7 +6,8 @@ use crate::long_answers::bytes_of_lists;
 use std::alloc::{AllocError, Global};
 use std::test::Fail;
 
-/// Whether a line of these bytes, and then one of a list of no items, get these answers.
+/// Returns whether a line of these bytes gets this answer, and a line of an empty list after it
+/// gets `[]`.
 fn line_is_answered(alloc: Global, bytes: &[u8], answer: &[u8]) -> Result<bool, AllocError> {
     let mut input = Vec::from_slice(alloc, hex::encode(alloc, bytes)?.as_bytes())?;
     input.extend_from_slice(b"\nc0\n")?;
@@ -15,7 +16,7 @@ fn line_is_answered(alloc: Global, bytes: &[u8], answer: &[u8]) -> Result<bool, 
     answers(alloc, input.as_slice(), expected.as_slice())
 }
 
-/// Opening brackets, and the same number of closing ones.
+/// Returns `lists` opening brackets, and the same number of closing ones.
 fn brackets(alloc: Global, lists: usize) -> Result<Vec<u8>, AllocError> {
     let mut text = vec![in alloc; b'['; lists]?;
     let closed = vec![in alloc; b']'; lists]?;
@@ -23,7 +24,8 @@ fn brackets(alloc: Global, lists: usize) -> Result<Vec<u8>, AllocError> {
     Ok(text)
 }
 
-/// Whether 256 levels are printed, and more levels, up to what a line can hold, give `error deep`.
+/// Returns whether 256 levels are printed, and the answer to more levels, up to the limit of a
+/// line, is `error deep`.
 fn depth_is_limited(alloc: Global) -> Result<bool, AllocError> {
     let printed = nested(alloc, &[], 256)?;
     let text = brackets(alloc, 256)?;

@@ -1,11 +1,12 @@
-//! Runs of the tool over readers and writers that can fail at a call of their own.
+//! Runs of the tool over readers and writers that can fail at a chosen call.
 
 use rlp_tool::{Noted, RunFault, run};
 use std::alloc::{AllocError, Global};
 use std::io;
 use std::io::{ErrorKind, Read, Write};
 
-/// A reader of some bytes that gives at most `most` bytes a call, and fails once `calls` were made.
+/// A reader of some bytes that gives at most `most` bytes in each call, and fails after `calls`
+/// calls.
 #[derive(Drop)]
 pub(crate) struct Source<'a> {
     pub(crate) bytes: &'a [u8],
@@ -27,15 +28,15 @@ impl<'a> Read for Source<'a> {
     }
 }
 
-/// What a writer does at the call at which it fails.
+/// What a writer does at the call that fails.
 #[derive(Clone, Copy, PartialEq)]
 pub(crate) enum Failure {
     Error,
     TakesNone,
 }
 
-/// A writer that takes at most `most` bytes a call and `room` bytes in all, and fails once `calls`
-/// were made or there is no room. It keeps how many bytes the largest write took.
+/// A writer that takes at most `most` bytes in each call and `room` bytes in all, and fails after
+/// `calls` calls or if it has no room. It keeps the number of bytes of the largest write.
 #[derive(Drop)]
 pub(crate) struct Sink {
     pub(crate) taken: Vec<u8>,
@@ -73,7 +74,7 @@ impl Write for Sink {
     }
 }
 
-/// How the reader and the writer of a run behave.
+/// The behavior of the reader and the writer of a run.
 #[derive(Clone, Copy)]
 pub(crate) struct Plan {
     pub(crate) most: usize,
@@ -84,7 +85,7 @@ pub(crate) struct Plan {
     pub(crate) flushes: bool,
 }
 
-/// No call fails.
+/// Returns the plan in which no call fails.
 pub(crate) fn sound(most: usize) -> Plan {
     Plan {
         most,
@@ -96,7 +97,7 @@ pub(crate) fn sound(most: usize) -> Plan {
     }
 }
 
-/// What a run leaves.
+/// The state after a run.
 #[derive(Drop)]
 pub(crate) struct Left {
     pub(crate) outcome: Result<(), RunFault>,
@@ -108,7 +109,7 @@ pub(crate) struct Left {
     pub(crate) writer_failed: bool,
 }
 
-/// Runs over these bytes. The writer has room for the first 1,024 bytes.
+/// Runs the tool over these bytes. The writer has room for the first 1,024 bytes.
 pub(crate) fn ran(alloc: Global, input: &[u8], plan: Plan) -> Result<Left, AllocError> {
     let mut source = Noted::new(Source {
         bytes: input,
@@ -136,7 +137,8 @@ pub(crate) fn ran(alloc: Global, input: &[u8], plan: Plan) -> Result<Left, Alloc
     })
 }
 
-/// Whether a run over these bytes, by whole chunks, ends well and writes these.
+/// Returns whether a run over these bytes, by whole chunks, returns `Ok` and writes the expected
+/// bytes.
 pub(crate) fn answers(alloc: Global, input: &[u8], expected: &[u8]) -> Result<bool, AllocError> {
     let left = ran(alloc, input, sound(usize::MAX))?;
     Ok(left.outcome == Ok(()) && left.flushed && left.written.as_slice() == expected)

@@ -1,4 +1,4 @@
-//! Devices that fail at one call and work at every other: each failure is handed on, and nothing is
+//! Devices that fail at one call and work at all others. Each failure is passed on, and nothing is
 //! tried again.
 
 ghost use Rattle.std.specs.Prelude.{◌≡◌, false};
@@ -9,8 +9,8 @@ use std::io;
 use std::io::{ErrorKind, Read, Write};
 use std::test::Fail;
 
-/// A reader of some bytes, at most `most` a call, that fails at call `fails`, from 1, and works at
-/// every other.
+/// A reader of some bytes that gives at most `most` bytes in each call, fails at call `fails`,
+/// counted from 1, and works at all other calls.
 #[derive(Drop)]
 struct OnceSource<'a> {
     bytes: &'a [u8],
@@ -33,8 +33,8 @@ impl<'a> Read for OnceSource<'a> {
     }
 }
 
-/// A writer that takes at most `most` bytes a call, fails at write `write_fails` and at flush
-/// `flush_fails`, from 1, and works at every other. It counts both.
+/// A writer that takes at most `most` bytes in each call, fails at write `write_fails` and at flush
+/// `flush_fails`, counted from 1, and works at all other calls. It counts both.
 #[derive(Drop)]
 pub(crate) struct OnceSink {
     pub(crate) taken: Vec<u8>,
@@ -66,7 +66,7 @@ impl Write for OnceSink {
     }
 }
 
-/// A writer that fails at these calls. 0 is at none.
+/// Returns a writer that fails at these calls. 0 means that no call fails.
 pub(crate) fn sink(alloc: Global, write_fails: usize, flush_fails: usize) -> Noted<OnceSink>
     ensures { result.failed ≡ false }
 {
@@ -80,12 +80,12 @@ pub(crate) fn sink(alloc: Global, write_fails: usize, flush_fails: usize) -> Not
     })
 }
 
-/// Whether an error is of this kind.
+/// Returns whether a result is an error of this kind.
 fn fails_with<T>(outcome: &io::Result<T>, kind: ErrorKind) -> bool {
     matches!(outcome, Err(error) if error.kind() == kind)
 }
 
-/// Whether the one failure of a reader is handed on, and the next call reads.
+/// Returns whether the one failure of a reader is passed on, and the next call reads.
 fn read_fails_once() -> io::Result<bool> {
     let mut source = Noted::new(OnceSource {
         bytes: b"c0",
@@ -102,7 +102,8 @@ fn read_fails_once() -> io::Result<bool> {
     Ok(before && handed && after && no_room && source.failed())
 }
 
-/// Whether the one failure of a writer is handed on with nothing written, and the next call writes.
+/// Returns whether the one failure of a writer is passed on with nothing written, and the next call
+/// writes.
 fn write_fails_once(alloc: Global) -> io::Result<bool> {
     let mut sink = sink(alloc, 1, 0);
     let refused = fails_with(&sink.write(b"[]"), ErrorKind::Interrupted);
@@ -114,7 +115,7 @@ fn write_fails_once(alloc: Global) -> io::Result<bool> {
     Ok(handed && after && sink.inner().writes == 2 && sink.failed())
 }
 
-/// Whether the one failure of a flush is handed on, and the next call flushes.
+/// Returns whether the one failure of a flush is passed on, and the next call flushes.
 fn flush_fails_once(alloc: Global) -> io::Result<bool> {
     let mut sink = sink(alloc, 0, 1);
     let refused = fails_with(&sink.flush(), ErrorKind::StorageFull);
@@ -136,8 +137,8 @@ const INPUT: &[u8] = b"c0\nc0\nc0\n";
 
 const REPLIES: &[u8] = b"[]\n[]\n[]\n";
 
-/// Whether a run ends at the first failure of its reader, which would read on, and has answered each
-/// line before it.
+/// Returns whether a run ends at the first failure of its reader, although the next read would
+/// succeed, and has answered each line before it.
 fn run_ends_at_read(alloc: Global, fails: usize) -> Result<bool, AllocError> {
     let mut source = Noted::new(OnceSource {
         bytes: INPUT,
@@ -156,7 +157,8 @@ fn run_ends_at_read(alloc: Global, fails: usize) -> Result<bool, AllocError> {
     )
 }
 
-/// Whether a run ends at the first failure of its writer, which would write on.
+/// Returns whether a run ends at the first failure of its writer, although the next write would
+/// succeed.
 fn run_ends_at_write(alloc: Global, fails: usize) -> Result<bool, AllocError> {
     let mut source = Noted::new(OnceSource {
         bytes: INPUT,
@@ -176,7 +178,8 @@ fn run_ends_at_write(alloc: Global, fails: usize) -> Result<bool, AllocError> {
     )
 }
 
-/// Whether a run ends so at each call. A read after the last line would find the end of the input.
+/// Returns whether a run ends at its first failure, for each call at which it can fail. A read
+/// after the last line would find the end of the input.
 fn run_ends_at_each_failure(alloc: Global) -> Result<bool, AllocError> {
     for fails in 1..5 {
         if !run_ends_at_read(alloc, fails)? {

@@ -1,4 +1,4 @@
-//! Faults in the middle of a run of the tool, and what its devices keep.
+//! Faults in the middle of a run of the tool, and the state of its devices after that.
 
 use crate::devices::{Failure, Sink, Source, ran, sound};
 use rlp_tool::{Noted, RunFault, exit_status};
@@ -6,10 +6,11 @@ use std::alloc::{AllocError, Global};
 use std::io;
 use std::io::ErrorKind;
 
-/// What may be written after memory was refused for a line, or for no line.
+/// The outputs that are right if memory is refused for some line or for none.
 const WHOLE_ANSWERS: [&[u8]; 4] = [b"", b"[]\n", b"[]\nnull\n", b"[]\nnull\n\"0x80\"\n"];
 
-/// Whether a run ends well with all answers, or for lack of memory with whole ones of first lines.
+/// Returns whether a run ends with all answers, or for lack of memory with the whole answers to the
+/// first lines.
 fn leaves_whole_answers(alloc: Global) -> Result<bool, AllocError> {
     let left = ran(alloc, b"c0\n\n8180\n", sound(usize::MAX))?;
     let written = left.written.as_slice();
@@ -25,7 +26,7 @@ fn run_leaves_whole_answers(rt: HostRuntime) -> Result<(), AllocError> {
     Ok(())
 }
 
-/// Whether a reader counts its reads, and has failed once a read failed.
+/// Returns whether a reader counts its reads, and has failed after a read fails.
 fn reader_faults_late() -> io::Result<bool> {
     let mut source = Noted::new(Source {
         bytes: b"c0",
@@ -39,7 +40,8 @@ fn reader_faults_late() -> io::Result<bool> {
     Ok(sound && refused && source.failed() && source.reads() == 3)
 }
 
-/// Whether a writer is flushed after a flush alone, and has failed once a write took no byte.
+/// Returns whether a writer is flushed only after a flush, and has failed after a write takes no
+/// byte.
 fn writer_faults_late(alloc: Global) -> io::Result<bool> {
     let mut sink = Noted::new(Sink {
         taken: Vec::new(alloc),
@@ -63,7 +65,7 @@ fn noted_faults_at_once(rt: HostRuntime) -> Result<(), io::Error> {
     Ok(())
 }
 
-/// Whether the errors of a reader and a writer are handed on as they are.
+/// Returns whether the errors of a reader and a writer are passed on unchanged.
 fn errors_are_handed_on(alloc: Global) -> bool {
     let mut source = Noted::new(Source {
         bytes: b"",
@@ -92,7 +94,7 @@ fn noted_hands_errors_on(rt: HostRuntime) {
     assert!(rt; errors_are_handed_on(rt.alloc()));
 }
 
-/// The results of runs, and the exit status of the program.
+/// The results of runs, and the exit statuses of the program.
 const STATUSES: [(Result<(), RunFault>, u8); 4] = [
     (Ok(()), 0),
     (Err(RunFault::Memory), 1),
@@ -100,7 +102,7 @@ const STATUSES: [(Result<(), RunFault>, u8); 4] = [
     (Err(RunFault::Write), 3),
 ];
 
-/// The status of the fault of a run, or 0.
+/// Returns the exit status of the fault of a run, or 0 without a fault.
 fn fault_status(outcome: &Result<(), RunFault>) -> u8 {
     match outcome {
         Ok(()) => 0,

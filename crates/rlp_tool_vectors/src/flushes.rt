@@ -5,8 +5,8 @@ use rlp_tool::{Noted, RunFault, run};
 use std::alloc::Global;
 use std::io;
 
-/// Whether a write makes no flush, and each call of `flush` makes one, also of a writer that counts
-/// as flushed.
+/// Returns whether a write makes no flush, and each call of `flush` makes one, even if the writer
+/// counts as flushed.
 fn flushes_are_counted(alloc: Global) -> io::Result<bool> {
     let mut sink = sink(alloc, 0, 0);
     let written = sink.write(b"[]")? == 2 && sink.write(b"\n")? == 1;
@@ -24,7 +24,7 @@ fn noted_flushes_as_often_as_it_is_asked(rt: HostRuntime) -> Result<(), io::Erro
     Ok(())
 }
 
-/// Inputs, and what is written for them.
+/// Inputs, and the expected output.
 const INPUTS: [(&[u8], &[u8]); 4] = [
     (b"", b""),
     (b"c0", b"[]\n"),
@@ -32,7 +32,8 @@ const INPUTS: [(&[u8], &[u8]); 4] = [
     (b"+u d:01\n\n0g", b"open 2 0001\nnull\nerror hex\n"),
 ];
 
-/// Whether a run over these bytes ends so, by one flush, after it has written these.
+/// Returns whether a run over these bytes has this result, flushes once, and writes these bytes
+/// before.
 fn flushes_once(
     alloc: Global,
     row: (&[u8], &[u8]),
@@ -46,7 +47,7 @@ fn flushes_once(
     outcome == expected && sink.inner().flushes == 1 && sink.inner().taken.as_slice() == written
 }
 
-/// Whether each run flushes once, even if the flush fails and would succeed the next time.
+/// Returns whether each run flushes once, even if the flush fails and would succeed the next time.
 fn runs_flush_once(alloc: Global) -> bool {
     INPUTS.iter().all(|row| {
         flushes_once(alloc, *row, 0, Ok(())) && flushes_once(alloc, *row, 1, Err(RunFault::Write))

@@ -1,4 +1,4 @@
-//! Each law of `rlp_tool::laws` is called once, so that none is out of reach. What a law says is
+//! Calls each law of `rlp_tool::laws` once, to show that it can be called. What a law says is
 //! proved.
 
 use rlp_tool::laws;

@@ -1,4 +1,4 @@
-//! Tests of `rlp_tool`. There is nothing here but tests.
+//! Tests of `rlp_tool`. The crate has only tests.
 #![tactic(auto)]
 
 #[cfg(test)]

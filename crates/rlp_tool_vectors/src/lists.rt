@@ -1,8 +1,8 @@
-//! Lists around bytes, with no stream.
+//! Lists around bytes, written without a stream.
 
 use std::alloc::{AllocError, Global};
 
-/// Makes a payload of at most 65,535 bytes a list.
+/// Puts the header of a list before a payload of at most 65,535 bytes.
 pub(crate) fn list_of(payload: &mut Vec<u8>) -> Result<(), AllocError> {
     let length = payload.len().to_be_bytes();
     let [.., high, low] = length;
@@ -19,7 +19,7 @@ pub(crate) fn list_of(payload: &mut Vec<u8>) -> Result<(), AllocError> {
     Ok(())
 }
 
-/// The bytes inside a number of lists, one inside another.
+/// Returns the bytes inside `lists` lists, one inside another.
 pub(crate) fn nested(alloc: Global, inner: &[u8], lists: usize) -> Result<Vec<u8>, AllocError> {
     let mut item = Vec::from_slice(alloc, inner)?;
     for _ in 0..lists {

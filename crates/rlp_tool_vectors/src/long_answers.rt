@@ -1,13 +1,13 @@
-//! Answers of more than 70,000 bytes as digits.
+//! Answers that print more than 70,000 bytes as digits.
 
 use crate::devices::answers;
 use std::alloc::{AllocError, Global};
 use std::test::Fail;
 
-/// How many lists, one inside another, are closed by the empty string in the innermost one.
+/// The number of lists, one inside another, that the empty string in the innermost one closes.
 const LISTS: usize = 25_000;
 
-/// The encoding of the empty string inside a number of lists, written from its end.
+/// Returns the encoding of the empty string inside `lists` lists, written from its end.
 pub(crate) fn bytes_of_lists(alloc: Global, lists: usize) -> Result<Vec<u8>, AllocError> {
     let mut backwards = Vec::from_slice(alloc, &[0x80])?;
     for _ in 0..lists {
@@ -26,7 +26,7 @@ pub(crate) fn bytes_of_lists(alloc: Global, lists: usize) -> Result<Vec<u8>, All
     Ok(backwards)
 }
 
-/// Whether the bytes of these lists are printed.
+/// Returns whether the bytes of `LISTS` lists are printed.
 fn lists_are_printed(alloc: Global) -> Result<bool, AllocError> {
     let mut line = Vec::from_slice(alloc, b"+")?;
     for _ in 0..LISTS {

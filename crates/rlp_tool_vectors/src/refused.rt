@@ -1,6 +1,6 @@
-//! Calls as values, made in order, of which one is refused memory; and lines, of which one is.
+//! Calls as values, made in order, and lines. One call or line is refused memory.
 //!
-//! `refusals/run` refuses each request of these tests in turn. They then return `AllocError`.
+//! `refusals/run` refuses each request of these tests in turn. A test then returns `AllocError`.
 
 use crate::devices_once::sink;
 use bytes::BytesMut;
@@ -8,7 +8,8 @@ use rlp_tool::{BuildFault, Built, Noted, RunFault, StreamCall, build, run};
 use std::alloc::{AllocError, Global};
 use std::test::Fail;
 
-/// Whether a list of two texts in a list, with an empty text after it, is built, or memory lacks.
+/// Returns whether a list of two texts in a list, and then an empty text, is built. Fails if memory
+/// is refused.
 fn texts_are_built(alloc: Global) -> Result<bool, AllocError> {
     let calls = [
         StreamCall::Begin(2),
@@ -32,7 +33,8 @@ fn texts_in_lists(rt: HostRuntime) -> Result<(), Fail> {
     Ok(())
 }
 
-/// Whether a run over three lines flushes once, at its end. If memory runs out, it doesn't flush.
+/// Returns whether a run over three lines flushes once, at its end. If memory is refused, it
+/// doesn't flush.
 fn flushes_at_its_end_alone(alloc: Global) -> Result<bool, AllocError> {
     let mut source = Noted::new(b"c20506\n+l:1 d:2a\n80".as_slice());
     let mut sink = sink(alloc, 0, 0);

@@ -1,4 +1,4 @@
-//! The answers to lines of calls, and how they are read.
+//! Lines of calls: how they are read, and their answers.
 
 use crate::devices::answers;
 use crate::lists::nested;
@@ -29,7 +29,7 @@ const LINES: [(&[u8], &[u8]); 17] = [
     (b"+u\nc0\n+d:61 d:62\n", b"open 1 00\n[]\nout 6162\n"),
 ];
 
-/// Lines that are refused, and why.
+/// Lines with an error, and their answers.
 const REFUSED: [(&[u8], &[u8]); 31] = [
     (b"+l:1 d:01 e", b"error nothing to finish at 3\n"),
     (b"+u l:1 e", b"error nothing to finish at 3\n"),
@@ -64,7 +64,7 @@ const REFUSED: [(&[u8], &[u8]); 31] = [
     (b"+D:61", b"error syntax at 1\n"),
 ];
 
-/// Whether each row gets its answer.
+/// Returns whether each row gets its answer.
 fn are_answered(alloc: Global, rows: &[(&[u8], &[u8])]) -> Result<bool, AllocError> {
     for &(input, expected) in rows {
         if !answers(alloc, input, expected)? {
@@ -86,7 +86,7 @@ fn run_answers_refused_scripts(rt: HostRuntime) -> Result<(), AllocError> {
     Ok(())
 }
 
-/// Whether a script is read, and one that isn't is refused in its place.
+/// Returns whether a script is read, and a wrong one fails at the right place.
 fn scripts_are_read(alloc: Global) -> Result<bool, ScriptFault> {
     let calls = read_calls(alloc, b"d:2a r:3:0102")?;
     let none = read_calls(alloc, b"")?;
@@ -105,7 +105,7 @@ fn scripts_are_read_as_calls(rt: HostRuntime) -> Result<(), AllocError> {
     Ok(())
 }
 
-/// A line of a first piece, and then so often two others.
+/// Returns a line of `first`, then `count` times `piece`, and then `count` times `other`.
 fn line_of(
     alloc: Global,
     first: &[u8],
@@ -123,7 +123,7 @@ fn line_of(
     Ok(line)
 }
 
-/// The answer that such bytes are finished.
+/// Returns the answer that these bytes are finished.
 fn out_of(alloc: Global, bytes: &[u8]) -> Result<Vec<u8>, AllocError> {
     let mut text = Vec::from_slice(alloc, b"out ")?;
     text.extend_from_slice(hex::encode(alloc, bytes)?.as_bytes())?;
@@ -131,8 +131,8 @@ fn out_of(alloc: Global, bytes: &[u8]) -> Result<Vec<u8>, AllocError> {
     Ok(text)
 }
 
-/// The answer that 5,000 lists, one inside another, are finished, with at most one byte innermost.
-/// The bytes are put together from their end.
+/// Returns the answer that 5,000 lists, one inside another, are finished, with at most one byte in
+/// the innermost. The bytes are made from their end.
 fn out_of_lists(alloc: Global, innermost: &[u8]) -> Result<Vec<u8>, AllocError> {
     let mut backwards = Vec::from_slice(alloc, innermost)?;
     for _ in 0..5_000 {
@@ -150,7 +150,8 @@ fn out_of_lists(alloc: Global, innermost: &[u8]) -> Result<Vec<u8>, AllocError> 
     out_of(alloc, backwards.as_slice())
 }
 
-/// Whether 20,000 strings are answered, and 5,000 lists closed by one call as well as one by one.
+/// Returns whether the answers are right for 20,000 strings, and for 5,000 lists that are closed by
+/// one call or one by one.
 fn long_scripts_are_answered(alloc: Global) -> Result<bool, AllocError> {
     let strings = line_of(alloc, b"+d:", 19_999, b" d:", b"")?;
     let empty = vec![in alloc; 0x80; 20_000]?;
@@ -173,7 +174,8 @@ fn run_answers_long_scripts(rt: HostRuntime) -> Result<(), AllocError> {
     Ok(())
 }
 
-/// Whether a raw item of nested lists is its own answer if it isn't too deep, and else refused.
+/// Returns whether the answer to a raw item of nested lists is the item if `taken`, and else an
+/// error.
 fn raw_lists_are_answered(alloc: Global, lists: usize, taken: bool) -> Result<bool, AllocError> {
     let item = nested(alloc, &[], lists)?;
     let mut line = Vec::from_slice(alloc, b"+r:1:")?;
@@ -187,7 +189,7 @@ fn raw_lists_are_answered(alloc: Global, lists: usize, taken: bool) -> Result<bo
     answers(alloc, line.as_slice(), answer)
 }
 
-/// Whether raw items nest 256 deep, and no deeper.
+/// Returns whether raw items are accepted up to a depth of 256, and not deeper.
 fn deep_raw_items_are_answered(alloc: Global) -> Result<bool, AllocError> {
     Ok(raw_lists_are_answered(alloc, 256, true)? && raw_lists_are_answered(alloc, 257, false)?)
 }

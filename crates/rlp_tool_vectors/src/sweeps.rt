@@ -1,4 +1,4 @@
-//! Runs over devices that move a few bytes a call and fail at any of their calls.
+//! Runs over devices that move a few bytes in each call, and fail at one of their calls.
 
 use crate::devices::{Failure, Left, Plan, ran, sound};
 use rlp_tool::RunFault;
@@ -10,19 +10,19 @@ const INPUT: &[u8] = b"c20506\nc0\n\n+l:2 l:2 d:636174 d:646f67 d:\n";
 
 const REPLIES: &[u8] = b"[\"0x05\", \"0x06\"]\n[]\nnull\nout cac88363617483646f6780\n";
 
-/// How many bytes of the input end with a line, and how many of the replies are to the lines up to
-/// there.
+/// The number of bytes of the input up to the end of a line, and the number of bytes of the replies
+/// to the lines up to there.
 const ENDS: [(usize, usize); 4] = [(7, 17), (10, 20), (11, 25), (41, 52)];
 
-/// How many calls a sweep makes at most.
+/// The greatest number of calls in a sweep.
 const MOST_CALLS: usize = 100;
 
-/// Whether these bytes are what was written.
+/// Returns whether these bytes were written.
 fn has_written(left: &Left, expected: &[u8]) -> bool {
     left.written.as_slice() == expected
 }
 
-/// Whether a run ended well, with all replies written, and neither device failed.
+/// Returns whether a run returned `Ok` and wrote all replies, and neither device failed.
 fn is_whole(left: &Left) -> bool {
     left.outcome == Ok(())
         && !left.reader_failed
@@ -30,7 +30,8 @@ fn is_whole(left: &Left) -> bool {
         && has_written(left, REPLIES)
 }
 
-/// How many bytes of the replies are to lines that end in the first bytes of the input.
+/// Returns the number of bytes of the replies to the lines that end in the first `read` bytes of
+/// the input.
 fn replied(read: usize) -> usize {
     let mut replied = 0;
     for (end, replies) in ENDS {
@@ -41,8 +42,8 @@ fn replied(read: usize) -> usize {
     replied
 }
 
-/// Whether a run whose reader failed after some bytes returned `Read` and answered all lines
-/// before.
+/// Returns whether a run whose reader failed after `read` bytes returned `Read`, and answered all
+/// lines before.
 fn is_cut_short(left: &Left, read: usize) -> bool {
     let expected = REPLIES.get(..replied(read)).unwrap_or(b"");
     left.outcome == Err(RunFault::Read)
@@ -51,8 +52,8 @@ fn is_cut_short(left: &Left, read: usize) -> bool {
         && has_written(left, expected)
 }
 
-/// The first call of a reader of `most` bytes a call at which a failure makes no difference. `None`
-/// if a run with an earlier failure has another result.
+/// Returns the first call at which a failure makes no difference, for a reader of `most` bytes in
+/// each call. Returns `None` if a run with an earlier failure has another result than expected.
 fn reads_needed(alloc: Global, most: usize) -> Result<Option<usize>, AllocError> {
     for calls in 0..MOST_CALLS {
         let plan = Plan {
@@ -70,8 +71,8 @@ fn reads_needed(alloc: Global, most: usize) -> Result<Option<usize>, AllocError>
     Ok(None)
 }
 
-/// Whether a run whose writer failed returned `Write`, and wrote a beginning of the replies with at
-/// least `least` bytes.
+/// Returns whether a run whose writer failed returned `Write`, and wrote at least the first `least`
+/// bytes of the replies and nothing else.
 fn is_cut_off(left: &Left, least: usize) -> bool {
     left.outcome == Err(RunFault::Write)
         && left.writer_failed
@@ -80,8 +81,8 @@ fn is_cut_off(left: &Left, least: usize) -> bool {
         && REPLIES.starts_with(left.written.as_slice())
 }
 
-/// The first call of a writer of `most` bytes a call at which a failure makes no difference. `None`
-/// if a run with an earlier failure has another result.
+/// Returns the first call at which a failure makes no difference, for a writer of `most` bytes in
+/// each call. Returns `None` if a run with an earlier failure has another result than expected.
 fn writes_needed(
     alloc: Global,
     most: usize,
@@ -104,12 +105,12 @@ fn writes_needed(
     Ok(None)
 }
 
-/// How many bytes a call moves; how many reads and writes there are then. The last read finds the
-/// end.
+/// The number of bytes that each call moves, and the numbers of reads and writes. The last read
+/// finds the end of the input.
 const NEEDED: [(usize, usize, usize); 3] = [(1, 42, 52), (2, 22, 28), (4096, 2, 1)];
 
-/// Whether each failing call of a reader and a writer ends the run with its fault, and no other
-/// does.
+/// Returns whether each failing call of a reader or a writer ends the run with its fault, and no
+/// other call does.
 fn all_failures_are_answered(alloc: Global) -> Result<bool, AllocError> {
     for (most, reads, writes) in NEEDED {
         if reads_needed(alloc, most)? != Some(reads)
@@ -128,22 +129,23 @@ fn every_call_of_a_device_fails_in_turn(rt: HostRuntime) -> Result<(), Fail> {
     Ok(())
 }
 
-/// Bytes before and after a byte that is repeated. The result of the run, and what is written.
+/// The bytes before and after a byte that is repeated, the result of the run, and the bytes that
+/// are written.
 struct Row {
     front: &'static [u8],
     byte: u8,
     times: usize,
     rest: &'static [u8],
-    // The reader fails at the end of the bytes.
+    // Whether the reader fails at the end of the bytes.
     cut: bool,
-    // How many bytes the writer takes in all.
+    // The number of bytes that the writer takes in all.
     room: usize,
     flushes: bool,
     outcome: Result<(), RunFault>,
     written: &'static [u8],
 }
 
-/// No device fails.
+/// A row in which no device fails.
 const SOUND: Row = Row {
     front: b"",
     byte: b'0',
@@ -234,7 +236,7 @@ const ROWS: [Row; 12] = [
     },
 ];
 
-/// The whole input of a row.
+/// Returns the whole input of a row.
 fn input_of(alloc: Global, row: &Row) -> Result<Vec<u8>, AllocError> {
     let mut input = Vec::from_slice(alloc, row.front)?;
     input.extend_from_slice(vec![in alloc; row.byte; row.times]?.as_slice())?;
@@ -242,7 +244,7 @@ fn input_of(alloc: Global, row: &Row) -> Result<Vec<u8>, AllocError> {
     Ok(input)
 }
 
-/// Whether a row is answered by devices that move at most `most` bytes a call.
+/// Returns whether a row has its result with devices that move at most `most` bytes in each call.
 fn row_is_answered(
     alloc: Global,
     row: &Row,
@@ -267,7 +269,7 @@ fn row_is_answered(
     )
 }
 
-/// Whether all rows are answered by such devices.
+/// Returns whether all rows have their results with such devices.
 fn rows_are_answered(alloc: Global, most: usize, failure: Failure) -> Result<bool, AllocError> {
     for row in &ROWS {
         if !row_is_answered(alloc, row, most, failure)? {
@@ -277,7 +279,7 @@ fn rows_are_answered(alloc: Global, most: usize, failure: Failure) -> Result<boo
     Ok(true)
 }
 
-/// Whether they are, for each number of bytes a call and each way to fail.
+/// Returns whether they have, for each number of bytes in a call and each kind of failure.
 fn all_rows_are_answered(alloc: Global) -> Result<bool, AllocError> {
     for (most, ..) in NEEDED {
         if !rows_are_answered(alloc, most, Failure::Error)?

@@ -1,4 +1,4 @@
-//! Tests of what `rlp` writes, and of values both ways. There is nothing here but tests.
+//! Tests of what `rlp` writes, and of values that are written and read. The crate has only tests.
 #![tactic(auto)]
 
 #[cfg(test)]

@@ -1,4 +1,4 @@
-//! The runs of `refusals/run`: requests for memory that are refused.
+//! Tests for `refusals/run`, which refuses requests for memory.
 
 mod never;
 mod streams;

@@ -1,4 +1,4 @@
-//! What tests share.
+//! Functions that several tests call.
 
 pub(crate) mod guarded;
 pub(crate) mod iterators;

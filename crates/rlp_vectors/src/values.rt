@@ -1,4 +1,4 @@
-//! Types of callers, written and read, and uses of both ways.
+//! Custom types that are written and read, and examples of calls.
 
 mod arrays;
 mod careless;

@@ -1,4 +1,4 @@
-//! What is written: strings, lists, values, and streams of calls.
+//! Tests of what is written: strings, lists, values, and streams of calls.
 
 mod chains;
 mod closing;

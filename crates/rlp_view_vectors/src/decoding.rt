@@ -1,4 +1,4 @@
-//! Values of strings, and the faults of bytes that aren't one.
+//! Values that are read from strings, and the faults of bytes that give no value.
 
 use crate::faults::is_fault;
 use rlp::{BasicDecoder, Decodable, DecoderError, Rlp};
@@ -6,12 +6,12 @@ use rlp_examples::Nonce;
 use std::alloc::{AllocError, Global};
 use std::test::Fail;
 
-/// The fault that bytes have as a type, if they have one.
+/// Returns the fault of reading the bytes as a `T`, if there is one.
 fn fault_of<T: Decodable>(alloc: Global, bytes: &[u8]) -> Option<DecoderError> {
     rlp::decode::<T>(alloc, bytes).err()
 }
 
-/// Bytes, and the string that they begin with.
+/// Bytes, and the value of the string that they begin with.
 const STRINGS: [(&[u8], &[u8]); 4] = [
     (&[0x80], &[]),
     (&[0x00], &[0x00]),
@@ -49,7 +49,7 @@ const NUMBERS: [(&[u8], u64); 8] = [
     (&[0x05, 0xff], 5),
 ];
 
-/// Whether a number is read by each call that reads one.
+/// Returns whether each call that reads a number reads this one.
 fn is_number(alloc: Global, bytes: &[u8], want: u64) -> Result<bool, DecoderError> {
     Ok(
         rlp::decode::<u64>(alloc, bytes)? == want
@@ -73,7 +73,7 @@ fn decode_untrusted_u64(rt: HostRuntime) -> Result<(), Fail> {
     Ok(())
 }
 
-/// Bytes that are no number, and why.
+/// Bytes that aren't a number, and the faults.
 const NO_NUMBERS: [(&[u8], DecoderError); 9] = [
     (
         &[0x88, 0x00, 0xff, 0xff, 0xff, 0xff, 0xff, 0xff, 0xff],
@@ -142,7 +142,7 @@ fn decode_untrusted_str(rt: HostRuntime) -> Result<(), Fail> {
     Ok(())
 }
 
-/// Bytes that are no text, and why.
+/// Bytes that aren't a text, and the faults.
 const NO_TEXTS: [(&[u8], DecoderError); 5] = [
     (
         &[0xb8, 0x02, 0x61, 0x62],
@@ -168,7 +168,7 @@ fn strings_that_are_no_text(rt: HostRuntime) {
     assert!(rt; no_texts_are_refused(rt.alloc()));
 }
 
-/// Whether a text is cut short, by its header.
+/// Returns whether the bytes end before the text that the header announces.
 fn is_cut(alloc: Global, bytes: &[u8]) -> bool {
     is_fault(
         fault_of::<String>(alloc, bytes),
@@ -176,7 +176,7 @@ fn is_cut(alloc: Global, bytes: &[u8]) -> bool {
     )
 }
 
-/// A header, and then this number of bytes `63`.
+/// Returns the header, and then `len` bytes `63`.
 fn announced(alloc: Global, header: &[u8], len: usize) -> Result<Vec<u8>, AllocError> {
     let mut bytes = Vec::from_slice(alloc, header)?;
     let letters = vec![in alloc; 0x63u8; len]?;
@@ -210,7 +210,7 @@ fn test_rlp_2bytes_data_length_check(rt: HostRuntime) -> Result<(), Fail> {
     Ok(())
 }
 
-/// The first byte of a string.
+/// Returns the first byte of a string.
 fn first_of(string: &[u8]) -> Result<u8, DecoderError> {
     match string.first() {
         Some(byte) => Ok(*byte),

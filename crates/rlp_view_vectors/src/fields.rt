@@ -1,11 +1,11 @@
-//! The items of a list, taken in order as views and as values.
+//! The items of a list, read in order as views and as values.
 
 use crate::faults::is_fault;
 use rlp::{DecoderError, Fields, Rlp};
 use std::alloc::Global;
 use std::test::Fail;
 
-/// A view of either kind.
+/// Returns a strict or a lenient view of the bytes.
 fn view_of<'a>(bytes: &'a [u8], strict: bool) -> Rlp<'a> {
     if strict {
         Rlp::new_strict(bytes)
@@ -14,7 +14,7 @@ fn view_of<'a>(bytes: &'a [u8], strict: bool) -> Rlp<'a> {
     }
 }
 
-/// A list, its items, and the fault past the last of them.
+/// A list, its items, and the fault of reading another item.
 type ItemsRow = (&'static [u8], &'static [&'static [u8]], DecoderError);
 
 /// Lists for views of both kinds.
@@ -32,7 +32,7 @@ const WHOLE: &[ItemsRow] = &[
     ),
 ];
 
-/// Lists for lenient views alone.
+/// Lists for lenient views only.
 const LENIENT: &[ItemsRow] = &[
     (&[0xc5], &[], DecoderError::RlpIsTooShort),
     (&[0xc1, 0x01, 0x02], &[&[0x01]], DecoderError::RlpIsTooShort),
@@ -48,7 +48,7 @@ const LENIENT: &[ItemsRow] = &[
     ),
 ];
 
-/// Whether the fields are these items, and then fail with this fault however often they are read.
+/// Returns whether the fields are these items, and each read after them fails with this fault.
 fn give_items(
     fields: Result<Fields<'_>, DecoderError>,
     strict: bool,
@@ -69,7 +69,8 @@ fn give_items(
         && fields.finish().is_ok()
 }
 
-/// The place of the first row whose items come otherwise, of any number or of as many as there are.
+/// Returns the place of the first row with other items, for `fields` or for `fields_of` with the
+/// number of items.
 fn first_wrong_items(rows: &[ItemsRow], strict: bool) -> Option<usize> {
     for (row, (bytes, items, fault)) in rows.iter().enumerate() {
         let view = view_of(bytes, strict);
@@ -89,7 +90,7 @@ fn fields_as_views(rt: HostRuntime) {
     assert_eq!(rt; first_wrong_items(LENIENT, false), None);
 }
 
-/// Bytes, whether their view is strict, and why it has no fields.
+/// Bytes, whether their view is strict, and the fault of `fields`.
 const NO_FIELDS: [(&[u8], bool, DecoderError); 9] = [
     (&[], false, DecoderError::RlpExpectedToBeList),
     (&[], true, DecoderError::RlpExpectedToBeList),
@@ -110,7 +111,7 @@ const NO_FIELDS: [(&[u8], bool, DecoderError); 9] = [
     ),
 ];
 
-/// The place of the first row with another fault, or with none.
+/// Returns the place of the first row with another fault, or with none.
 fn first_with_fields() -> Option<usize> {
     for (row, (bytes, strict, fault)) in NO_FIELDS.iter().enumerate() {
         let view = view_of(bytes, *strict);
@@ -126,7 +127,7 @@ fn views_with_no_fields(rt: HostRuntime) {
     assert_eq!(rt; first_with_fields(), None);
 }
 
-/// Bytes, whether their view is strict, and a number that their items aren't.
+/// Bytes, whether their view is strict, and a number that isn't the number of items.
 const MISCOUNTED: [(&[u8], bool, usize); 10] = [
     (&[0xc2, 0x05, 0x06], false, 0),
     (&[0xc2, 0x05, 0x06], false, 1),
@@ -140,7 +141,7 @@ const MISCOUNTED: [(&[u8], bool, usize); 10] = [
     (&[0xc3, 0x05, 0x82, 0x00], false, 2),
 ];
 
-/// The place of the first row that isn't refused for its number of items.
+/// Returns the place of the first row that doesn't fail for its number of items.
 fn first_not_miscounted() -> Option<usize> {
     for (row, (bytes, strict, len)) in MISCOUNTED.iter().enumerate() {
         let fields = view_of(bytes, *strict).fields_of(*len);
@@ -156,10 +157,10 @@ fn fields_of_another_number(rt: HostRuntime) {
     assert_eq!(rt; first_not_miscounted(), None);
 }
 
-/// Three numbers.
+/// A list of three numbers.
 const NUMBERS: &[u8] = &[0xc3, 0x05, 0x06, 0x07];
 
-/// Whether the fields are finished after some of three numbers exactly if all were taken.
+/// Returns whether `finish` succeeds after `taken` of three numbers exactly if all were taken.
 fn is_finished_at_three(strict: bool, taken: u64) -> Result<bool, DecoderError> {
     let mut fields = view_of(NUMBERS, strict).fields()?;
     for _ in 0..taken {
@@ -171,7 +172,7 @@ fn is_finished_at_three(strict: bool, taken: u64) -> Result<bool, DecoderError> 
     }
 }
 
-/// The first number of items taken after which it isn't so.
+/// Returns the first number of taken items after which `finish` is wrong.
 fn first_wrong_finish(strict: bool) -> Result<Option<u64>, DecoderError> {
     for taken in 0..4 {
         if !is_finished_at_three(strict, taken)? {
@@ -188,11 +189,11 @@ fn fields_that_are_finished(rt: HostRuntime) -> Result<(), Fail> {
     Ok(())
 }
 
-/// A list of 5, "cat" and a list of 1 and 2.
+/// A list of 5, "cat", and a list of 1 and 2.
 const MIXED: &[u8] = &[0xc8, 0x05, 0x83, 0x63, 0x61, 0x74, 0xc2, 0x01, 0x02];
 
-/// Whether the list is read whole, and a value or a list past its end is a fault that takes
-/// nothing.
+/// Returns whether the whole list is read, and reading a value or a list after its end fails and
+/// takes no item.
 fn is_read_whole(alloc: Global, strict: bool) -> Result<bool, DecoderError> {
     let mut fields = view_of(MIXED, strict).fields_of(3)?;
     let number = fields.next_value::<u64>(alloc)?;
@@ -217,8 +218,8 @@ fn fields_as_values(rt: HostRuntime) -> Result<(), Fail> {
     Ok(())
 }
 
-/// Lists of 5, an item and 7, and the fault of the item as a number of one byte, and as a list of
-/// such numbers by a lenient and by a strict view, if it has one.
+/// Lists of 5, an item and 7. Then the fault of the item, if it has one: as a number of one byte,
+/// and as a list of such numbers for a lenient and for a strict view.
 const MIDDLES: [(
     &[u8],
     Option<DecoderError>,
@@ -251,8 +252,8 @@ const MIDDLES: [(
     ),
 ];
 
-/// The faults of the item in the middle of three as a number, and as a list of numbers, where the
-/// others are read as 5 and 7 in either case.
+/// Returns the faults of the second of three items, as a number and as a list of numbers, if the
+/// other items are read as 5 and 7 in both cases.
 fn middle_faults(
     alloc: Global,
     view: &Rlp<'_>,
@@ -279,7 +280,7 @@ fn middle_faults(
     Ok(faults)
 }
 
-/// The place of the first row whose item has other faults.
+/// Returns the place of the first row whose item has other faults.
 fn first_wrong_middle(alloc: Global) -> Result<Option<usize>, DecoderError> {
     for (row, (bytes, value, lenient, strict)) in MIDDLES.iter().enumerate() {
         let (as_value, as_list) = middle_faults(alloc, &Rlp::new(bytes))?;

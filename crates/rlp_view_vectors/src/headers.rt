@@ -1,9 +1,9 @@
-//! Headers at the lengths where their form changes, and their faults.
+//! Headers at the lengths at which their form changes, and faulty headers.
 
 use crate::faults::is_fault;
 use rlp::{DecoderError, PayloadInfo};
 
-/// What a string begins with; how long its header is; and how long the string.
+/// The first bytes of strings; the lengths of their headers; and the lengths of their values.
 const STRINGS: [(&[u8], usize, usize); 16] = [
     (&[0x00], 0, 1),
     (&[0x7f], 0, 1),
@@ -27,7 +27,7 @@ const STRINGS: [(&[u8], usize, usize); 16] = [
     (&[0x05, 0xff], 0, 1),
 ];
 
-/// The same of lists, by the length of what they hold.
+/// The first bytes of lists; the lengths of their headers; and the lengths of their payloads.
 const LISTS: [(&[u8], usize, usize); 14] = [
     (&[0xc0], 1, 0),
     (&[0xc1], 1, 1),
@@ -70,7 +70,7 @@ fn headers_at_the_boundaries(rt: HostRuntime) {
     assert!(rt; have_headers(&STRINGS) && have_headers(&LISTS));
 }
 
-/// Bytes that don't begin with a header, and what is wrong with them.
+/// Bytes that don't begin with a header, and the faults.
 const FAULTY: [(&[u8], DecoderError); 10] = [
     (&[], DecoderError::RlpIsTooShort),
     (&[0xb8], DecoderError::RlpIsTooShort),
@@ -98,7 +98,7 @@ fn faults_of_headers(rt: HostRuntime) {
     assert!(rt; have_faults());
 }
 
-/// What an item begins with, and how long it is with its header, if that fits.
+/// The first bytes of items, and their length with the header, if a `usize` can hold it.
 const TOTALS: [(&[u8], Option<usize>); 4] = [
     (&[0xb8, 0x38], Some(58)),
     (

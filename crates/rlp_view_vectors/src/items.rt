@@ -1,4 +1,4 @@
-//! What a view returns for the items of a list.
+//! The items of a list, by the calls of a view.
 
 use crate::faults::is_fault;
 use rlp::{DecoderError, Rlp, RlpIterator};
@@ -8,10 +8,10 @@ use std::test::Fail;
 /// A list of the strings "cat" and "dog".
 const CAT_DOG: &[u8] = &[0xc8, 0x83, 0x63, 0x61, 0x74, 0x83, 0x64, 0x6f, 0x67];
 
-/// The same, cut off before its last byte.
+/// The same list without its last byte.
 const CAT_DOG_CUT: &[u8] = &[0xc8, 0x83, 0x63, 0x61, 0x74, 0x83, 0x64, 0x6f];
 
-/// The places of items, the items, their offsets and their texts.
+/// The numbers of items, the items, their offsets and their texts.
 const ITEMS: [(usize, &[u8], usize, &str); 3] = [
     (0, &[0x83, 0x63, 0x61, 0x74], 1, "cat"),
     (1, &[0x83, 0x64, 0x6f, 0x67], 5, "dog"),
@@ -25,7 +25,7 @@ fn is_text_at(alloc: Global, index: usize, text: &str) -> Result<bool, DecoderEr
     Ok(found.as_str() == text && value.as_str() == text)
 }
 
-/// The place of the first row whose item isn't found.
+/// Returns the place of the first row whose item isn't found.
 fn first_not_found(alloc: Global) -> Result<Option<usize>, DecoderError> {
     let view = Rlp::new(CAT_DOG);
     for (row, (index, item, _, text)) in ITEMS.iter().enumerate() {
@@ -43,7 +43,7 @@ fn rlp_at(rt: HostRuntime) -> Result<(), Fail> {
     Ok(())
 }
 
-/// The place of the first row whose item is found elsewhere.
+/// Returns the place of the first row whose item has another offset.
 fn first_wrong_offset() -> Result<Option<usize>, DecoderError> {
     for (row, (index, item, offset, _)) in ITEMS.iter().enumerate() {
         let (found, place) = Rlp::new(CAT_DOG).at_with_offset(*index)?;
@@ -60,7 +60,7 @@ fn rlp_at_with_offset(rt: HostRuntime) -> Result<(), Fail> {
     Ok(())
 }
 
-/// Whether the item by number has this fault, whenever it is called.
+/// Returns whether the item of this number has this fault, for each call.
 fn is_fault_at(bytes: &[u8], index: usize, want: &DecoderError) -> bool {
     let view = Rlp::new(bytes);
     is_fault(view.at(index).err(), want)
@@ -68,7 +68,7 @@ fn is_fault_at(bytes: &[u8], index: usize, want: &DecoderError) -> bool {
         && is_fault(view.at_with_offset(index).err(), want)
 }
 
-/// Bytes, a number, and what is wrong with the item there.
+/// Bytes, the number of an item, and the fault of the item.
 const FAULTS: [(&[u8], usize, DecoderError); 10] = [
     (CAT_DOG_CUT, 0, DecoderError::RlpIsTooShort),
     (CAT_DOG_CUT, 1, DecoderError::RlpIsTooShort),
@@ -90,7 +90,7 @@ const FAULTS: [(&[u8], usize, DecoderError); 10] = [
     ),
 ];
 
-/// The place of the first row with another fault, or with none.
+/// Returns the place of the first row with another fault, or with none.
 fn first_wrong_fault() -> Option<usize> {
     for (row, (bytes, index, want)) in FAULTS.iter().enumerate() {
         if !is_fault_at(bytes, *index, want) {
@@ -115,7 +115,7 @@ fn rlp_at_err(rt: HostRuntime) {
     assert!(rt; is_cut_off());
 }
 
-/// Bytes, and how many items their list has.
+/// Bytes, and the number of items of their list.
 const COUNTS: [(&[u8], usize); 7] = [
     (CAT_DOG, 2),
     (CAT_DOG_CUT, 0),
@@ -126,7 +126,7 @@ const COUNTS: [(&[u8], usize); 7] = [
     (&[0xc5], 0),
 ];
 
-/// The place of the first row with another count.
+/// Returns the place of the first row with another count.
 fn first_wrong_count() -> Result<Option<usize>, DecoderError> {
     for (row, (bytes, count)) in COUNTS.iter().enumerate() {
         let view = Rlp::new(bytes);
@@ -154,7 +154,7 @@ fn counts_of_items(rt: HostRuntime) -> Result<(), Fail> {
     Ok(())
 }
 
-/// Whether the next item of an iterator, by how many are left, is this.
+/// Returns whether an iterator announces `left` items, and the next one is `item`.
 fn gives_item(items: &mut RlpIterator<'_, '_>, left: usize, item: &[u8]) -> bool {
     if items.len() != left || items.size_hint() != (left, Some(left)) {
         return false;
@@ -165,7 +165,7 @@ fn gives_item(items: &mut RlpIterator<'_, '_>, left: usize, item: &[u8]) -> bool
     }
 }
 
-/// Whether an iterator has ended.
+/// Returns whether an iterator has ended.
 fn is_ended(items: &mut RlpIterator<'_, '_>) -> bool {
     items.len() == 0 && items.size_hint() == (0, Some(0)) && items.next().is_none()
 }
@@ -195,7 +195,7 @@ fn others_give_no_item() -> bool {
     true
 }
 
-/// The first item of the bytes, taken from a view that is gone by then.
+/// Returns the first item of the bytes. The view that it is taken from is dropped here.
 fn first_of<'a>(bytes: &'a [u8]) -> Option<Rlp<'a>> {
     let view = Rlp::new(bytes);
     let mut items = view.iter();
@@ -214,7 +214,7 @@ fn items_of_others_and_of_views_that_are_gone(rt: HostRuntime) {
     assert!(rt; others_give_no_item() && item_outlives_its_view());
 }
 
-/// Whether the value of the list that some bytes hold is this.
+/// Returns whether the item of a view has a header of this length, and this value.
 fn is_value(view: &Rlp<'_>, header_len: usize, value: &[u8]) -> Result<bool, DecoderError> {
     let info = view.payload_info()?;
     Ok(info.header_len == header_len && info.value_len == value.len() && view.data()? == value)
@@ -232,7 +232,7 @@ fn values_agree() -> Result<bool, DecoderError> {
     )
 }
 
-/// Whether each item of a view is four bytes long.
+/// Returns whether each item of a view is four bytes long.
 fn items_are_of_four() -> bool {
     for item in &Rlp::new(CAT_DOG) {
         if item.as_raw().len() != 4 {

@@ -1,10 +1,10 @@
-//! What a view returns for its bytes as a whole.
+//! The calls of a view about all its bytes.
 
 use rlp::{Prototype, Rlp, RlpStream};
 use std::alloc::{AllocError, Global};
 use std::test::Fail;
 
-/// Bytes, and whether there are none, whether they are empty, a list, a string.
+/// Bytes, and the results of `is_null`, `is_empty`, `is_list` and `is_data`.
 const KINDS: [(&[u8], bool, bool, bool, bool); 5] = [
     (&[], true, false, false, false),
     (&[0x80], false, true, false, true),
@@ -32,7 +32,7 @@ fn kinds_of_views(rt: HostRuntime) {
     assert!(rt; kinds_agree());
 }
 
-/// Bytes, and whether they begin with a number.
+/// Bytes, and the results of `is_int`.
 const NUMBERS: [(&[u8], bool); 8] = [
     (&[], false),
     (&[0x81], false),
@@ -58,7 +58,8 @@ fn numbers_at_the_front(rt: HostRuntime) {
     assert!(rt; numbers_agree());
 }
 
-/// Whether no lone first byte of a long string is a number.
+/// Returns whether `is_int` is `false` for the first byte of each long header of a string, without
+/// other bytes.
 fn no_long_header_is_int() -> bool {
     for first in 0xb8..=0xbf {
         if Rlp::new(&[first]).is_int() {
@@ -73,7 +74,7 @@ fn test_rlp_is_int(rt: HostRuntime) {
     assert!(rt; no_long_header_is_int());
 }
 
-/// Bytes, a limit, and whether their lists nest within it.
+/// Bytes, a limit, and whether their lists nest within the limit.
 const NESTING: [(&[u8], usize, bool); 6] = [
     (&[0x80], 0, true),
     (&[0xc0], 0, false),
@@ -97,7 +98,7 @@ fn nesting(rt: HostRuntime) {
     assert!(rt; nesting_agrees());
 }
 
-/// Whether 200 lists, one inside the other, nest as deep, and no less.
+/// Returns whether 200 lists, one inside another, nest within a limit of 200, and not within 199.
 fn two_hundred_nest(alloc: Global) -> Result<bool, AllocError> {
     let mut s = RlpStream::new(alloc)?;
     for _ in 1..200 {
@@ -114,7 +115,7 @@ fn two_hundred_lists_nest(rt: HostRuntime) -> Result<(), Fail> {
     Ok(())
 }
 
-/// Bytes; how long a string they are, or of how many items a list; and the size.
+/// Bytes; the length if they are a string; the number of items if they are a list; and the size.
 const PROTOTYPES: [(&[u8], Option<usize>, Option<usize>, usize); 6] = [
     (&[], None, None, 0),
     (&[0x84, 0x63, 0x61, 0x74], Some(0), None, 0),
@@ -129,7 +130,8 @@ const PROTOTYPES: [(&[u8], Option<usize>, Option<usize>, usize); 6] = [
     ),
 ];
 
-/// Whether a view is a string of this length, a list of this many items, or, with neither, nothing.
+/// Returns whether the prototype of a view is a string of this length, or a list of this number of
+/// items, or null if both are `None`.
 fn is_prototype(view: &Rlp<'_>, data: Option<usize>, list: Option<usize>) -> bool {
     match view.prototype() {
         Ok(Prototype::Null) => data.is_none() && list.is_none(),

@@ -1,4 +1,4 @@
-//! Each law of `rlp::laws` is called once, so that none is out of reach. What a law says is proved.
+//! Calls each law of `rlp::laws` once, to show that it can be called. What a law says is proved.
 
 use rlp::{DecoderError, laws};
 use std::alloc::Global;
@@ -67,7 +67,7 @@ fn laws_of_streams() {
     laws::finished_buffers_tell_items(&LIST, &LIST);
 }
 
-/// Whether the law that takes an item off returns it, and what follows.
+/// Returns whether the law that splits off an item returns the item and the rest.
 fn split_off() -> Result<bool, DecoderError> {
     let (item, rest) = laws::joined_items_are_split_off(&LIST[1..], false)?;
     Ok(item.as_raw() == [0x01].as_slice() && rest == [0x02].as_slice())
@@ -79,7 +79,7 @@ fn laws_that_split_items_off(rt: HostRuntime) -> Result<(), Fail> {
     Ok(())
 }
 
-/// Whether the laws that decode return the values.
+/// Returns whether the laws that decode return the values.
 fn decoded(alloc: Global) -> Result<bool, DecoderError> {
     let items = [1, 2];
     Ok(

@@ -1,4 +1,4 @@
-//! Tests of what `rlp` reads: headers, views and values. There is nothing here but tests.
+//! Tests of what `rlp` reads: headers, views and values. The crate has only tests.
 #![tactic(auto)]
 
 #[cfg(test)]

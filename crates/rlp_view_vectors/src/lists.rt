@@ -1,4 +1,4 @@
-//! Values of the items of a list.
+//! Values that are read from the items of a list.
 
 use crate::faults::is_fault;
 use rlp::{DecoderError, Rlp, RlpIterator};
@@ -87,12 +87,12 @@ fn lists_of_numbers(rt: HostRuntime) -> Result<(), Fail> {
     Ok(())
 }
 
-/// Whether the first item of the list isn't read as a text, by this fault.
+/// Returns whether reading the first item of the list as a text fails with this fault.
 fn is_no_text(alloc: Global, bytes: &[u8], want: &DecoderError) -> bool {
     is_fault(Rlp::new(bytes).val_at::<String>(alloc, 0).err(), want)
 }
 
-/// Whether the first item of the list is the text "ab".
+/// Returns whether the first item of the list is the text "ab".
 fn is_ab(alloc: Global, bytes: &[u8]) -> bool {
     match Rlp::new(bytes).val_at::<String>(alloc, 0) {
         Ok(text) => text.as_str() == "ab",
@@ -142,7 +142,7 @@ fn test_inner_length_capping_for_short_lists(rt: HostRuntime) {
     assert!(rt; short_lists_are_capped(rt.alloc()));
 }
 
-/// The header of 10,000 bytes of list, and 10,000 bytes 01.
+/// Returns the header of a list of 10,000 bytes, and 10,000 bytes 01.
 fn ten_thousand(alloc: Global) -> Result<Vec<u8>, AllocError> {
     let mut bytes = Vec::from_slice(alloc, &[0xf9, 0x27, 0x10])?;
     let ones = vec![in alloc; 1u8; 10_000]?;
@@ -150,7 +150,7 @@ fn ten_thousand(alloc: Global) -> Result<Vec<u8>, AllocError> {
     Ok(bytes)
 }
 
-/// Whether the last of 10,000 items is found, and none after it.
+/// Returns whether the last of 10,000 items is found, and none after it.
 fn last_is_found(view: &Rlp<'_>) -> Result<bool, DecoderError> {
     let (last, place) = view.at_with_offset(9_999)?;
     Ok(
@@ -161,7 +161,7 @@ fn last_is_found(view: &Rlp<'_>) -> Result<bool, DecoderError> {
     )
 }
 
-/// Whether an iterator gives 10,000 items 01, and then stays ended.
+/// Returns whether an iterator gives 10,000 items 01, and then `None` each time.
 fn all_are_given(view: &Rlp<'_>) -> bool {
     let mut items = view.iter();
     for _ in 0..9_999 {
@@ -172,7 +172,7 @@ fn all_are_given(view: &Rlp<'_>) -> bool {
     items.len() == 1 && gives_one(&mut items) && items.next().is_none() && items.next().is_none()
 }
 
-/// Whether the next item is 01.
+/// Returns whether the next item is 01.
 fn gives_one(items: &mut RlpIterator<'_, '_>) -> bool {
     match items.next() {
         Some(item) => item.as_raw() == [0x01].as_slice(),
@@ -195,7 +195,7 @@ fn ten_thousand_items(rt: HostRuntime) -> Result<(), Fail> {
     Ok(())
 }
 
-// A list, and bytes after it that are no part of it.
+// A list, and then bytes that aren't part of it.
 const LIST: [u8; 186] = [
     0xf8, 0x3e, 0x82, 0x02, 0x2b, 0xd7, 0x90, 0x20, 0x01, 0x0d, 0xb8, 0x3c, 0x4d, 0x00, 0x15, 0x00,
     0x00, 0x00, 0x00, 0xab, 0xcd, 0xef, 0x12, 0x82, 0x0c, 0xfa, 0x82, 0x15, 0xa8, 0xd7, 0x90, 0x20,
@@ -211,8 +211,8 @@ const LIST: [u8; 186] = [
     0xc4, 0x91, 0x98, 0x3c, 0x09, 0xc7, 0x6d, 0x92, 0x2d, 0xc3,
 ];
 
-/// Whether the list's third item holds the number that is wanted, and its items are five, before and
-/// after.
+/// Returns whether the third item of the list holds the expected number, and the number of items is
+/// five, before and after it is read.
 fn list_holds_its_number(alloc: Global) -> Result<bool, DecoderError> {
     let view = Rlp::new(&LIST);
     let before = view.item_count()?;

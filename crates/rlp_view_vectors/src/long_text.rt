@@ -4,10 +4,10 @@ use rlp::Rlp;
 use std::alloc::{AllocError, Global};
 use std::test::Fail;
 
-/// How many bytes the string has. As a length these are 01 11 70.
+/// The number of bytes of the string. In a header it is the bytes 01 11 70.
 const LEN: usize = 70_000;
 
-/// Whether a string of bytes 5a is printed.
+/// Returns whether a string of bytes 5a is printed.
 fn long_string_is_printed(alloc: Global) -> Result<bool, AllocError> {
     let mut bytes = Vec::from_slice(alloc, &[0xba, 0x01, 0x11, 0x70])?;
     bytes.extend_from_slice(vec![in alloc; 0x5au8; LEN]?.as_slice())?;

@@ -1,6 +1,6 @@
 //! Calls on views that take no memory.
 //!
-//! `refusals/run` refuses every request from a signal on, which is one for `SIGNAL` bytes.
+//! `refusals/run` refuses every request after a signal. The signal is a request for `SIGNAL` bytes.
 
 use rlp::{DecoderError, Rlp};
 use std::alloc::Global;
@@ -10,12 +10,12 @@ use std::fmt::Write;
 /// The number of bytes that is requested as the signal.
 const SIGNAL: usize = 77_777;
 
-/// Gives the signal. Whether the request is met makes no difference.
+/// Gives the signal. The result of the request makes no difference.
 fn refuse_from_here(alloc: Global) -> bool {
     Vec::<u8>::with_capacity(alloc, SIGNAL).is_ok()
 }
 
-/// A writer that compares what is written with what is still to come.
+/// A writer that compares the written text with the expected text.
 #[derive(Drop)]
 struct Comparing<'a> {
     rest: &'a [u8],
@@ -33,7 +33,7 @@ impl<'a> fmt::Write for Comparing<'a> {
     }
 }
 
-/// Whether a view is printed as this text.
+/// Returns whether a view is printed as this text.
 fn prints(bytes: &[u8], text: &str) -> bool {
     let mut out = Comparing {
         rest: text.as_bytes(),
@@ -49,7 +49,7 @@ const TEXTS: [(&[u8], &str); 4] = [
     (&[0x84, 0x63, 0x61, 0x74], "RlpIsTooShort"),
 ];
 
-/// Whether views are printed, and a fault is cloned, once every request is refused.
+/// Returns whether views are printed, and a fault is cloned, while every request is refused.
 fn print_without_memory(alloc: Global) -> bool {
     refuse_from_here(alloc);
     for (bytes, text) in TEXTS {

@@ -1,4 +1,4 @@
-//! Views over a type that reads half of the numbers.
+//! Views that read values of a type of odd numbers.
 
 use crate::faults::is_fault;
 use rlp::DecoderError;
@@ -6,12 +6,12 @@ use rlp_callers::Odd;
 use std::alloc::Global;
 use std::test::Fail;
 
-/// The fault that bytes have as a list of odd numbers, if they have one.
+/// Returns the fault of reading the bytes as a list of odd numbers, if there is one.
 fn list_fault(alloc: Global, bytes: &[u8]) -> Option<DecoderError> {
     rlp::decode_list::<Odd>(alloc, bytes).err()
 }
 
-/// Lists of numbers, and why they are no lists of odd ones.
+/// Lists of numbers that aren't lists of odd numbers, and the faults.
 const NOT_ALL_ODD: [(&[u8], DecoderError); 3] = [
     (
         &[0xc4, 0x01, 0x03, 0x02, 0x05],
@@ -36,7 +36,8 @@ fn first_faults_are_found(alloc: Global) -> bool {
     true
 }
 
-/// Whether the odd numbers before a cut string are read, and an option hands on its value's fault.
+/// Returns whether the odd numbers before a cut string are read, and reading an option fails with
+/// the fault of its value.
 fn odd_numbers_are_read(alloc: Global) -> Result<bool, DecoderError> {
     let odd = rlp::decode_list::<Odd>(alloc, &[0xc4, 0x01, 0x03, 0x82, 0x00])?;
     let option = rlp::decode::<Option<Odd>>(alloc, &[0xc1, 0x02]).err();

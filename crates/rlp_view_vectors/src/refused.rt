@@ -1,14 +1,14 @@
-//! Values that are read, of which one is refused memory.
+//! Values that are read, one of which is refused memory.
 //!
-//! `refusals/run` refuses each request of these tests in turn. A test then returns `OutOfMemory`,
-//! once it has seen that nothing else was lost.
+//! `refusals/run` refuses each request of these tests in turn. A test returns `OutOfMemory` if
+//! nothing else was lost.
 
 use bytes::{Bytes, BytesMut};
 use rlp::{Decodable, DecoderError, Rlp};
 use std::alloc::Global;
 use std::test::Fail;
 
-/// The value of a view, read once more if memory was refused.
+/// Returns the value of a view. If memory is refused, reads it again and sets `refused`.
 fn read_again<T: Decodable>(
     alloc: Global,
     view: &Rlp<'_>,
@@ -22,7 +22,7 @@ fn read_again<T: Decodable>(
     first
 }
 
-/// `OutOfMemory` if memory was refused and all else is right.
+/// Returns `OutOfMemory` if memory was refused and all else is right, and else `right`.
 fn answered(right: bool, refused: bool) -> Result<bool, DecoderError> {
     if right && refused {
         return Err(DecoderError::OutOfMemory);
@@ -30,7 +30,7 @@ fn answered(right: bool, refused: bool) -> Result<bool, DecoderError> {
     Ok(right)
 }
 
-/// A string, and a list of it, with bytes behind them.
+/// A string, and a list of it, with bytes after them.
 const TEXT: &[u8] = b"\x83cat\x00";
 
 const LISTED_TEXT: &[u8] = b"\xc4\x83cat\x00";
@@ -69,12 +69,12 @@ fn boxes_and_options_of_a_view(rt: HostRuntime) -> Result<(), Fail> {
     Ok(())
 }
 
-/// A list of two numbers, and a list of a list of two texts, with bytes behind them.
+/// A list of two numbers, and a list of a list of two texts, with bytes after them.
 const NUMBERS: &[u8] = &[0xc2, 0x01, 0x02, 0x00];
 
 const TEXTS: &[u8] = b"\xc9\xc8\x83cat\x83dog\x00";
 
-/// The numbers of a view, read once more if memory was refused.
+/// Returns the numbers of a view. If memory is refused, reads them again and sets `refused`.
 fn numbers_again(alloc: Global, refused: &mut bool) -> Result<Vec<u64>, DecoderError> {
     let view = Rlp::new(NUMBERS);
     let first = view.as_list::<u64>(alloc);
@@ -85,7 +85,8 @@ fn numbers_again(alloc: Global, refused: &mut bool) -> Result<Vec<u64>, DecoderE
     first
 }
 
-/// The texts of a view's first item.
+/// Returns the texts of the first item of a view. If memory is refused, reads them again and sets
+/// `refused`.
 fn texts_again(alloc: Global, refused: &mut bool) -> Result<Vec<String>, DecoderError> {
     let view = Rlp::new(TEXTS);
     let first = view.list_at::<String>(alloc, 0);
@@ -96,7 +97,7 @@ fn texts_again(alloc: Global, refused: &mut bool) -> Result<Vec<String>, Decoder
     first
 }
 
-/// The numbers of bytes.
+/// Returns the numbers of bytes. If memory is refused, reads them again and sets `refused`.
 fn decoded_again(alloc: Global, refused: &mut bool) -> Result<Vec<u64>, DecoderError> {
     let first = rlp::decode_list::<u64>(alloc, NUMBERS);
     if let Err(DecoderError::OutOfMemory) = &first {

@@ -1,12 +1,12 @@
-//! Lists at every level beside others: a body that tests an item twice doesn't end on them.
+//! Lists with siblings at every level. A function that tests each item twice wouldn't end in time.
 
 use rlp::Rlp;
 use std::alloc::{AllocError, Global};
 
-/// How many lists are nested.
+/// The number of nested lists.
 const LEVELS: usize = 256;
 
-/// The header of a list of `len` bytes, fewer than 65,536.
+/// Puts the header of a list of `len` bytes, fewer than 65,536.
 fn put_list_header(bytes: &mut Vec<u8>, len: usize) -> Result<(), AllocError> {
     let [.., high, low] = len.to_be_bytes();
     if high > 0 {
@@ -19,7 +19,7 @@ fn put_list_header(bytes: &mut Vec<u8>, len: usize) -> Result<(), AllocError> {
     Ok(())
 }
 
-/// The list of the empty string, these bytes and the empty list.
+/// Returns the list of the empty string, these bytes, and the empty list.
 fn with_siblings(alloc: Global, bytes: &[u8]) -> Result<Vec<u8>, AllocError> {
     let mut list = Vec::new(alloc);
     put_list_header(&mut list, bytes.len().saturating_add(2))?;
@@ -29,7 +29,7 @@ fn with_siblings(alloc: Global, bytes: &[u8]) -> Result<Vec<u8>, AllocError> {
     Ok(list)
 }
 
-/// `levels` lists, one inside the other, each but the innermost between two siblings.
+/// Returns `levels` lists, one inside another. Each but the outermost has two siblings.
 fn nested(alloc: Global, levels: usize) -> Result<Vec<u8>, AllocError> {
     let mut bytes = Vec::from_slice(alloc, &[0xc0])?;
     for _ in 1..levels {
@@ -38,7 +38,7 @@ fn nested(alloc: Global, levels: usize) -> Result<Vec<u8>, AllocError> {
     Ok(bytes)
 }
 
-/// Whether the lists nest exactly as deep as they were made.
+/// Returns whether the depth of the lists is exactly `LEVELS`.
 fn nest_as_made(alloc: Global) -> Result<bool, AllocError> {
     let bytes = nested(alloc, LEVELS)?;
     let view = Rlp::new(bytes.as_slice());

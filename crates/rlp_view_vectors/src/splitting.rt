@@ -1,10 +1,10 @@
-//! Items that are taken off the front of bytes.
+//! Items that are split off the beginning of bytes.
 
 use crate::faults::is_fault;
 use rlp::{DecoderError, Rlp};
 use std::alloc::Global;
 
-/// The first item as a view of either kind, and what follows it.
+/// Returns the first item as a strict or a lenient view, and the bytes that follow it.
 fn split<'a>(bytes: &'a [u8], strict: bool) -> Result<(Rlp<'a>, &'a [u8]), DecoderError> {
     if strict {
         Rlp::split_first_strict(bytes)
@@ -13,7 +13,7 @@ fn split<'a>(bytes: &'a [u8], strict: bool) -> Result<(Rlp<'a>, &'a [u8]), Decod
     }
 }
 
-/// Bytes, and the items that they are, one after another.
+/// Bytes, and the items that they consist of.
 const JOINED: [(&[u8], &[&[u8]]); 6] = [
     (&[], &[]),
     (&[0x05], &[&[0x05]]),
@@ -26,7 +26,7 @@ const JOINED: [(&[u8], &[&[u8]]); 6] = [
     (&[0x81, 0x05, 0x06], &[&[0x81, 0x05], &[0x06]]),
 ];
 
-/// Whether the bytes are these items, by views of one kind.
+/// Returns whether the bytes consist of these items, by strict or by lenient views.
 fn are_items(bytes: &[u8], strict: bool, items: &[&[u8]]) -> bool {
     let mut left = bytes;
     for item in items {
@@ -38,7 +38,7 @@ fn are_items(bytes: &[u8], strict: bool, items: &[&[u8]]) -> bool {
     left.is_empty() && is_fault(split(left, strict).err(), &DecoderError::RlpIsTooShort)
 }
 
-/// The place of the first row that is other items.
+/// Returns the place of the first row with other items.
 fn first_wrong_items(strict: bool) -> Option<usize> {
     for (row, (bytes, items)) in JOINED.iter().enumerate() {
         if !are_items(bytes, strict, items) {
@@ -54,7 +54,7 @@ fn joined_items(rt: HostRuntime) {
     assert_eq!(rt; first_wrong_items(true), None);
 }
 
-/// Bytes that begin with no item, and why.
+/// Bytes that don't begin with an item, and the faults.
 const NO_ITEM: [(&[u8], DecoderError); 7] = [
     (&[], DecoderError::RlpIsTooShort),
     (&[0x83, 0x63, 0x61], DecoderError::RlpIsTooShort),
@@ -65,7 +65,7 @@ const NO_ITEM: [(&[u8], DecoderError); 7] = [
     (&[0xf8, 0x00, 0x05], DecoderError::RlpListLenWithZeroPrefix),
 ];
 
-/// The place of the first row with another fault, or with none, by views of one kind.
+/// Returns the place of the first row with another fault or none, by strict or by lenient views.
 fn first_with_an_item(strict: bool) -> Option<usize> {
     for (row, (bytes, fault)) in NO_ITEM.iter().enumerate() {
         if !is_fault(split(bytes, strict).err(), fault) {
@@ -81,8 +81,8 @@ fn bytes_that_begin_with_no_item(rt: HostRuntime) {
     assert_eq!(rt; first_with_an_item(true), None);
 }
 
-/// First items that are framed but not canonical with an empty list after them, and their faults:
-/// as a number or as a list of numbers, of the lenient view and of the strict one.
+/// Items that are framed but not canonical, with an empty list after them, and their faults as a
+/// number or as a list of numbers: for the lenient view and for the strict one.
 const NOT_CANONICAL: [(&[u8], Option<DecoderError>, Option<DecoderError>); 3] = [
     (
         &[0x81, 0x05, 0xc0],
@@ -101,7 +101,8 @@ const NOT_CANONICAL: [(&[u8], Option<DecoderError>, Option<DecoderError>); 3] = 
     ),
 ];
 
-/// Whether the first item is taken with the empty list left, isn't canonical, and has this fault.
+/// Returns whether the first item is split off and leaves the empty list, isn't canonical, and has
+/// this fault.
 fn is_read_as(alloc: Global, bytes: &[u8], strict: bool, want: &Option<DecoderError>) -> bool {
     let Ok((item, rest)) = split(bytes, strict) else {
         return false;
@@ -114,7 +115,7 @@ fn is_read_as(alloc: Global, bytes: &[u8], strict: bool, want: &Option<DecoderEr
     rest == [0xc0].as_slice() && !item.is_canonical(9) && fault == *want
 }
 
-/// The place of the first row that isn't read as expected.
+/// Returns the place of the first row that isn't read as expected.
 fn first_wrong_reading(alloc: Global) -> Option<usize> {
     for (row, (bytes, lenient, strict)) in NOT_CANONICAL.iter().enumerate() {
         if !is_read_as(alloc, bytes, false, lenient) || !is_read_as(alloc, bytes, true, strict) {

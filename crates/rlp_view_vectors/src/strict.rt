@@ -5,12 +5,12 @@ use rlp::{Decodable, DecoderError, Prototype, Rlp};
 use std::alloc::Global;
 use std::test::Fail;
 
-/// The fault that strict bytes have as a type, if they have one.
+/// Returns the fault of reading the bytes strictly as a `T`, if there is one.
 fn fault_of<T: Decodable>(alloc: Global, bytes: &[u8]) -> Option<DecoderError> {
     rlp::decode_strict::<T>(alloc, bytes).err()
 }
 
-/// Whether strict bytes have this fault as a type.
+/// Returns whether reading the bytes strictly as a `T` fails with this fault.
 fn has_fault<T: Decodable>(alloc: Global, bytes: &[u8], want: &DecoderError) -> bool {
     is_fault(fault_of::<T>(alloc, bytes), want)
         && is_fault(Rlp::new_strict(bytes).as_val::<T>(alloc).err(), want)
@@ -54,7 +54,7 @@ fn strict_values(rt: HostRuntime) -> Result<(), Fail> {
     Ok(())
 }
 
-/// Bytes that are no list of numbers by themselves, and why.
+/// Bytes that aren't exactly a list of numbers, and the faults.
 const NO_LISTS: [(&[u8], DecoderError); 6] = [
     (&[], DecoderError::RlpExpectedToBeList),
     (&[0x05], DecoderError::RlpExpectedToBeList),
@@ -67,7 +67,7 @@ const NO_LISTS: [(&[u8], DecoderError); 6] = [
     ),
 ];
 
-/// The place of the first row with another fault, or with none.
+/// Returns the place of the first row with another fault, or with none.
 fn first_wrong_list(alloc: Global) -> Option<usize> {
     for (row, (bytes, want)) in NO_LISTS.iter().enumerate() {
         if !is_fault(rlp::decode_list_strict::<u8>(alloc, bytes).err(), want)
@@ -92,7 +92,7 @@ fn strict_lists(rt: HostRuntime) -> Result<(), Fail> {
     Ok(())
 }
 
-/// Strict bytes, the number of an item, and why there is no item of this number.
+/// Bytes of a strict view, the number of an item, and the fault of the item.
 const NO_ITEMS: [(&[u8], usize, DecoderError); 5] = [
     (&[0xc1, 0x01, 0x02], 0, DecoderError::RlpIsTooBig),
     (&[0xc1, 0x01, 0x02], 1, DecoderError::RlpIsTooBig),
@@ -105,7 +105,7 @@ const NO_ITEMS: [(&[u8], usize, DecoderError); 5] = [
     (&[0xc1, 0x01], 1, DecoderError::RlpIsTooShort),
 ];
 
-/// The place of the first row whose number has an item or another fault.
+/// Returns the place of the first row with an item or with another fault.
 fn first_told() -> Option<usize> {
     for (row, (bytes, index, want)) in NO_ITEMS.iter().enumerate() {
         let view = Rlp::new_strict(bytes);
@@ -127,7 +127,7 @@ fn counts_are_told() -> bool {
         && matches!(Rlp::new_strict(&[0xc2, 0x81, 0x05]).item_count(), Ok(1))
 }
 
-/// The kind of a view goes to its items and its clone.
+/// Returns whether the items and the clone of a strict view are strict.
 fn kinds_are_kept(alloc: Global) -> Result<bool, DecoderError> {
     let view = Rlp::new_strict(&[0xc1, 0x01]);
     let item = view.at(0)?;
@@ -183,12 +183,12 @@ const CANONICAL: [(&[u8], usize, bool); 10] = [
     (&[0xc1, 0xc0], 2, true),
 ];
 
-/// Whether views of both kinds return the same.
+/// Returns whether `is_canonical` of views of both kinds is `want`.
 fn is_told(bytes: &[u8], most: usize, want: bool) -> bool {
     Rlp::new(bytes).is_canonical(most) == want && Rlp::new_strict(bytes).is_canonical(most) == want
 }
 
-/// The place of the first row for which they return something else.
+/// Returns the place of the first row for which it isn't.
 fn first_untold() -> Option<usize> {
     for (row, (bytes, most, want)) in CANONICAL.iter().enumerate() {
         if !is_told(bytes, *most, *want) {
@@ -198,7 +198,8 @@ fn first_untold() -> Option<usize> {
     None
 }
 
-/// A list of 56 numbers 1, whose header has two bytes.
+/// Returns whether a list of 56 numbers 1, whose header has two bytes, is canonical within depth 1
+/// and not within 0.
 fn long_list_is_canonical() -> bool {
     let mut bytes = [0x01u8; 58];
     bytes[0] = 0xf8;
@@ -212,9 +213,9 @@ fn canonical_bytes(rt: HostRuntime) {
     assert!(rt; long_list_is_canonical());
 }
 
-/// Encodings that the public standard calls invalid, and why they are none.
+/// Bytes that the public standard lists as invalid encodings, and their strict faults.
 const INVALID: [(&[u8], DecoderError); 24] = [
-    // Lengths that pass the end by far.
+    // Lengths that are far over the end of the bytes.
     (
         b"\xbf\x0f\0\0\0\0\0\0\x02\x11\x11",
         DecoderError::RlpInconsistentLengthAndData,
@@ -223,14 +224,14 @@ const INVALID: [(&[u8], DecoderError); 24] = [
         b"\xff\x0f\0\0\0\0\0\0\x02\x11\x11",
         DecoderError::RlpIsTooShort,
     ),
-    // Sizes of lists that are written too long.
+    // Lengths of lists that are written with too many bytes.
     (&[0xf8, 0x01, 0x80], DecoderError::RlpInvalidIndirection),
     (&[0xf8, 0x01, 0x00], DecoderError::RlpInvalidIndirection),
-    // Single bytes that are their own encoding.
+    // Single bytes that must be written without a header.
     (&[0x81, 0x00], DecoderError::RlpInvalidIndirection),
     (&[0x81, 0x01], DecoderError::RlpInvalidIndirection),
     (&[0x81, 0x7f], DecoderError::RlpInvalidIndirection),
-    // Leading zeros of lengths.
+    // Lengths with leading zeros.
     (&[0xb8, 0x00], DecoderError::RlpInvalidIndirection),
     (&[0xb9, 0x00, 0x40], DecoderError::RlpInvalidIndirection),
     (&[0xf8, 0x00], DecoderError::RlpListLenWithZeroPrefix),
@@ -238,7 +239,7 @@ const INVALID: [(&[u8], DecoderError); 24] = [
         &[0xfb, 0x00, 0x00, 0x00, 0x40],
         DecoderError::RlpListLenWithZeroPrefix,
     ),
-    // Lengths up to 55 in a byte of their own.
+    // Lengths up to 55 that aren't in the first byte.
     (
         b"\xb8\x10\0\x11\x22\x33\x44\x55\x66\x77\x88\x99\xaa\xbb\xcc\xdd\xee\xff",
         DecoderError::RlpInvalidIndirection,
@@ -252,7 +253,7 @@ const INVALID: [(&[u8], DecoderError); 24] = [
         &[0xf8, 0x03, 0x11, 0x22, 0x33],
         DecoderError::RlpInvalidIndirection,
     ),
-    // Fewer bytes than the header says.
+    // Fewer bytes than the header announces.
     (&[], DecoderError::RlpIsTooShort),
     (&[0x81], DecoderError::RlpInconsistentLengthAndData),
     (&[0xc5, 0x01, 0x02, 0x03], DecoderError::RlpIsTooShort),
@@ -274,7 +275,8 @@ const INVALID: [(&[u8], DecoderError); 24] = [
     (&[0x00, 0x00], DecoderError::RlpIsTooBig),
 ];
 
-/// The fault of strict bytes: as a list if they begin as one, else as a string.
+/// Returns the fault of reading the bytes strictly: as a list if they begin as one, else as a
+/// string.
 fn invalid_fault(alloc: Global, bytes: &[u8]) -> Option<DecoderError> {
     let view = Rlp::new_strict(bytes);
     if view.is_list() {
@@ -284,7 +286,7 @@ fn invalid_fault(alloc: Global, bytes: &[u8]) -> Option<DecoderError> {
     }
 }
 
-/// The place of the first row that isn't refused so.
+/// Returns the place of the first row with another fault.
 fn first_not_refused(alloc: Global) -> Option<usize> {
     for (row, (bytes, want)) in INVALID.iter().enumerate() {
         if !is_fault(invalid_fault(alloc, bytes), want) || Rlp::new(bytes).is_canonical(9) {

@@ -13,7 +13,7 @@ const HASHES: &[u8] = &[
     0x00, 0xb6, 0x53, 0xca, 0x82, 0x27, 0x3b, 0x7b, 0xfa, 0xd8, 0x04, 0x5d, 0x85, 0xa4, 0x70,
 ];
 
-/// Their text.
+/// The text of that list.
 const HASHES_TEXT: &str =
     "[\"0x05\", \"0x010efbef67941f79b2\", \"0x56e81f171bcc55a6ff8345e692c0f86e5b48e01b996cadc001622fb5e363b421\", \"0xc5d2460186f7233c927e7db2dcc703c0e500b653ca82273b7bfad8045d85a470\"]";
 
@@ -62,7 +62,8 @@ fn test_rlp_display(rt: HostRuntime) -> Result<(), Fail> {
     Ok(())
 }
 
-/// Whether the first bytes of the list, by their number, are printed as too short, none as `null`, all as the text.
+/// Returns whether the first `len` bytes of the list are printed as `RlpIsTooShort`, or as `null`
+/// for no bytes, or as the text for all bytes.
 fn cut_is_printed(alloc: Global, len: usize) -> Result<bool, AllocError> {
     let text = match len {
         0 => "null",
@@ -107,7 +108,7 @@ fn prints_whatever_the_flags(rt: HostRuntime) -> Result<(), Fail> {
     Ok(())
 }
 
-/// Each fault, and its name.
+/// The faults, and their names.
 const NAMES: [(DecoderError, &str); 12] = [
     (DecoderError::RlpIsTooBig, "RlpIsTooBig"),
     (DecoderError::RlpIsTooShort, "RlpIsTooShort"),

@@ -1,16 +1,16 @@
-//! Every input of two bytes, through every call of a view and each type that is read from a string.
-//! The numbers were found by counting over the tables of the format, not by these calls.
+//! All inputs of two bytes, by each call of a view and each type that is read from a string. The
+//! expected numbers were counted by the tables of the format, not by these calls.
 
 use bytes::{Bytes, BytesMut};
 use rlp::{BasicDecoder, Decodable, DecoderError, PayloadInfo, Prototype, Rlp, Uint};
 use std::alloc::{AllocError, Global};
 use std::test::Fail;
 
-/// The number of inputs that are `Ok`, and the number for each fault, in the order in which the
-/// faults are declared.
+/// The number of inputs with an `Ok` result, and then the number of inputs with each fault, in the
+/// order in which the faults are declared.
 pub(crate) type Tally = [usize; 13];
 
-/// The place of a fault in a tally.
+/// Returns the place of a fault in a tally.
 fn place_of(fault: &DecoderError) -> usize {
     match fault {
         DecoderError::RlpIsTooBig => 1,
@@ -39,8 +39,8 @@ pub(crate) fn note<T>(tally: &mut Tally, answer: &Result<T, DecoderError>) {
     }
 }
 
-/// The results of reading the header of the inputs, and the sum of the lengths of what it
-/// announces and itself.
+/// Returns the results of `PayloadInfo::from`, and the sum of the lengths of header and value
+/// together.
 fn headers() -> (Tally, usize) {
     let (mut tally, mut sum) = ([0; 13], 0usize);
     for word in 0..=u16::MAX {
@@ -52,7 +52,7 @@ fn headers() -> (Tally, usize) {
     (tally, sum)
 }
 
-/// The same of framed inputs.
+/// Returns the results of `payload_info`, and the sum of the lengths of header and value together.
 fn framed_headers() -> (Tally, usize) {
     let (mut tally, mut sum) = ([0; 13], 0usize);
     for word in 0..=u16::MAX {
@@ -65,7 +65,7 @@ fn framed_headers() -> (Tally, usize) {
     (tally, sum)
 }
 
-/// The values of framed inputs, and the sum of their lengths.
+/// Returns the results of reading the value, and the sum of the values' lengths.
 fn values() -> (Tally, usize) {
     let (mut tally, mut sum) = ([0; 13], 0usize);
     for word in 0..=u16::MAX {
@@ -90,8 +90,9 @@ fn headers_of_two_bytes(rt: HostRuntime) {
     );
 }
 
-/// How many inputs are a list, are a string, are empty, begin with a number, and nest within 0, 1
-/// and 2 lists. One that is null, or isn't its own bytes or its clone's, counts nowhere.
+/// Returns the numbers of inputs that are a list, are a string, are empty, begin with a number, and
+/// nest within 0, 1 and 2 lists. An input isn't counted if its view is null, or if the view or its
+/// clone has other bytes.
 fn kinds() -> [usize; 7] {
     let mut counts = [0usize; 7];
     for word in 0..=u16::MAX {
@@ -114,7 +115,7 @@ fn kinds() -> [usize; 7] {
     counts
 }
 
-/// Counts each kind that holds.
+/// Adds 1 to the count of each kind that holds.
 fn add_each(counts: &mut [usize; 7], kinds: &[bool; 7], sound: bool) {
     for (count, kind) in counts.iter_mut().zip(kinds.iter()) {
         *count = count.saturating_add(usize::from(*kind && sound));
@@ -126,7 +127,8 @@ fn kinds_of_two_bytes(rt: HostRuntime) {
     assert!(rt; kinds() == [16_384, 49_152, 512, 47_049, 65_024, 65_535, 65_536]);
 }
 
-/// The sums of the sizes of strings, of those that prototypes tell, and of their numbers of items.
+/// Returns the sums of the sizes, of the lengths in prototypes of strings, and of the numbers of
+/// items in prototypes of lists.
 fn sizes() -> [usize; 3] {
     let [mut size, mut data, mut items] = [0usize; 3];
     for word in 0..=u16::MAX {
@@ -147,7 +149,7 @@ fn sizes_of_two_bytes(rt: HostRuntime) {
     assert!(rt; sizes() == [33_024, 33_024, 130]);
 }
 
-/// The results for the item of this number, and the sum of the places.
+/// Returns the results for the item of this number, and the sum of the items' offsets.
 fn items_at(index: usize) -> (Tally, usize) {
     let (mut tally, mut sum) = ([0; 13], 0usize);
     for word in 0..=u16::MAX {
@@ -161,7 +163,7 @@ fn items_at(index: usize) -> (Tally, usize) {
     (tally, sum)
 }
 
-/// How many inputs have a number of items.
+/// Returns the results of counting the items.
 fn counted() -> Tally {
     let mut tally = [0; 13];
     for word in 0..=u16::MAX {
@@ -187,14 +189,14 @@ fn items_of_two_bytes(rt: HostRuntime) {
     );
 }
 
-/// Whether the item by this number is these bytes, read twice.
+/// Returns whether the item of this number has these bytes each of two times that it is read.
 fn is_item_twice(view: &Rlp<'_>, index: usize, bytes: &[u8]) -> bool {
     let first = view.at(index).is_ok_and(|item| item.as_raw() == bytes);
     let second = view.at(index).is_ok_and(|item| item.as_raw() == bytes);
     first && second
 }
 
-/// Whether each item that the iterator gives is the one of that number by `at`.
+/// Returns whether each item of the iterator is the item of the same number by `at`.
 fn items_are_numbered(view: &Rlp<'_>) -> bool {
     let mut index = 0usize;
     for item in view {
@@ -206,7 +208,7 @@ fn items_are_numbered(view: &Rlp<'_>) -> bool {
     view.item_count().unwrap_or(0) == index
 }
 
-/// Whether the iterator gives the number of items that it announces, and then none.
+/// Returns whether the iterator gives the number of items that it announces, and then `None`.
 fn iterator_ends(view: &Rlp<'_>) -> bool {
     let mut items = view.iter();
     let len = items.len();
@@ -238,7 +240,7 @@ fn iterators_over_two_bytes(rt: HostRuntime) {
     assert!(rt; all_are_numbered());
 }
 
-/// What the inputs are as values of a type.
+/// Returns the results of reading the inputs as values of a type.
 fn decoded<T: Decodable>(alloc: Global) -> Tally {
     let mut tally = [0; 13];
     for word in 0..=u16::MAX {
@@ -290,8 +292,8 @@ fn strings_of_two_bytes(rt: HostRuntime) {
     assert!(rt; strings_are_decoded(rt.alloc()));
 }
 
-/// The strings that the closure is called on, by the view's decoder and by a new one, and the sum
-/// of their lengths.
+/// Returns the results of `decode_value`, by the view's decoder and by a new one, and the sum of
+/// the lengths of the strings that the closure is called with.
 fn strings() -> (Tally, usize) {
     let (mut tally, mut sum) = ([0; 13], 0usize);
     for word in 0..=u16::MAX {
@@ -306,7 +308,7 @@ fn strings() -> (Tally, usize) {
     (tally, sum)
 }
 
-/// How long the string is.
+/// Returns the length of the string that the closure is called with.
 fn length(decoder: &BasicDecoder<'_>) -> Result<usize, DecoderError> {
     decoder.decode_value(|string: &[u8]| -> Result<usize, DecoderError> { Ok(string.len()) })
 }
@@ -316,7 +318,8 @@ fn closures_over_two_bytes(rt: HostRuntime) {
     assert!(rt; strings() == (STRINGS, 32_896));
 }
 
-/// The lists of `u8`, the first items as `u8`, and the first items as lists of it.
+/// Returns the results of reading the inputs as lists of `u8`, their first items as `u8`, and their
+/// first items as lists of `u8`.
 fn lists(alloc: Global) -> [Tally; 3] {
     let [mut whole, mut first, mut inner] = [[0; 13]; 3];
     for word in 0..=u16::MAX {
@@ -338,7 +341,7 @@ fn lists_of_two_bytes(rt: HostRuntime) {
     assert!(rt; lists(rt.alloc()) == [LISTS, FIRST_NUMBERS, FIRST_ITEMS]);
 }
 
-/// How many inputs print as `[]`, and how long all the texts are together.
+/// Returns the number of inputs that print as `[]`, and the sum of the lengths of all texts.
 fn texts(alloc: Global) -> Result<(usize, usize), AllocError> {
     let (mut empty, mut letters) = (0usize, 0usize);
     for word in 0..=u16::MAX {
@@ -356,7 +359,8 @@ fn texts_of_two_bytes(rt: HostRuntime) -> Result<(), Fail> {
     Ok(())
 }
 
-/// How many inputs of two bytes begin with this byte, if all of them give the value.
+/// Returns the number of inputs that begin with this byte, if all of them give the value, and else
+/// 0.
 fn begun_by(alloc: Global, first: u8, value: u8) -> usize {
     for last in 0..=u8::MAX {
         if rlp::decode::<u8>(alloc, &[first, last]) != Ok(value) {
@@ -366,7 +370,8 @@ fn begun_by(alloc: Global, first: u8, value: u8) -> usize {
     256
 }
 
-/// How many inputs begin with the encoding of a number, if all of them give it.
+/// Returns the number of inputs that begin with the encoding of a number, if all of them give it,
+/// and else 0.
 fn give(alloc: Global, value: u8) -> Result<usize, AllocError> {
     let encoding = rlp::encode(alloc, &value)?;
     match encoding.as_slice() {
@@ -375,7 +380,7 @@ fn give(alloc: Global, value: u8) -> Result<usize, AllocError> {
     }
 }
 
-/// The number of inputs that begin with the encoding of some number and give that number.
+/// Returns the number of inputs that begin with the encoding of some number and give that number.
 fn begun_by_encodings(alloc: Global) -> Result<usize, AllocError> {
     let mut sum = 0usize;
     for value in 0..=u8::MAX {
@@ -384,7 +389,7 @@ fn begun_by_encodings(alloc: Global) -> Result<usize, AllocError> {
     Ok(sum)
 }
 
-// As many inputs give a number as begin with the encoding of one, and the latter give that one.
+// The inputs that give a number are exactly those that begin with the encoding of that number.
 #[test]
 fn encodings_of_two_bytes(rt: HostRuntime) -> Result<(), Fail> {
     assert!(rt; begun_by_encodings(rt.alloc())? == 32_896);

@@ -1,10 +1,10 @@
-//! Every input of two bytes, through the calls of strict views. The numbers were found by counting
-//! over the tables of the format, not by these calls.
+//! All inputs of two bytes, by the calls of strict views. The expected numbers were counted by the
+//! tables of the format, not by these calls.
 
 use crate::two_bytes::{Tally, note};
 use rlp::Rlp;
 
-/// How many inputs aren't their own strict view: not strict, or over other bytes.
+/// Returns the number of inputs whose strict view isn't strict or has other bytes.
 fn wrong_views() -> usize {
     let mut count = 0usize;
     for word in 0..=u16::MAX {
@@ -24,8 +24,8 @@ fn views_of_two_bytes(rt: HostRuntime) {
     assert!(rt; wrong_views() == 0);
 }
 
-/// How many inputs are the canonical encoding of an item within this depth, asked of a lenient view
-/// and of a strict one.
+/// Returns the numbers of inputs that are the canonical encoding of an item within this depth, by a
+/// lenient view and by a strict one.
 fn canonical_within(max_depth: usize) -> [usize; 2] {
     let [mut lenient, mut strict] = [0usize; 2];
     for word in 0..=u16::MAX {
@@ -38,11 +38,11 @@ fn canonical_within(max_depth: usize) -> [usize; 2] {
     [lenient, strict]
 }
 
-/// A depth, and how many inputs are canonical within it: `8180` to `81ff`; `c100` to `c17f` and
-/// `c180`; `c1c0`.
+/// Depths, and the numbers of inputs that are canonical within them. `8180` to `81ff` have depth 0,
+/// `c100` to `c17f` and `c180` have depth 1, and `c1c0` has depth 2.
 const CANONICAL: [(usize, usize); 4] = [(0, 128), (1, 257), (2, 258), (3, 258)];
 
-/// The first depth for which another number of inputs is canonical.
+/// Returns the first depth for which another number of inputs is canonical.
 fn first_wrong_depth() -> Option<usize> {
     CANONICAL
         .iter()
@@ -55,7 +55,7 @@ fn canonical_items_of_two_bytes(rt: HostRuntime) {
     assert!(rt; first_wrong_depth().is_none());
 }
 
-/// The results for the header of strict views.
+/// Returns the results for the header of strict views.
 fn headers() -> Tally {
     let mut tally = [0; 13];
     for word in 0..=u16::MAX {
@@ -67,7 +67,7 @@ fn headers() -> Tally {
     tally
 }
 
-/// The results for the value of strict views.
+/// Returns the results for the value of strict views.
 fn values() -> Tally {
     let mut tally = [0; 13];
     for word in 0..=u16::MAX {
@@ -76,7 +76,7 @@ fn values() -> Tally {
     tally
 }
 
-/// The results for the number of items of strict views.
+/// Returns the results for the number of items of strict views.
 fn counts() -> Tally {
     let mut tally = [0; 13];
     for word in 0..=u16::MAX {
@@ -88,7 +88,7 @@ fn counts() -> Tally {
     tally
 }
 
-/// The results for the item of this number.
+/// Returns the results for the item of this number.
 fn items_at(index: usize) -> Tally {
     let mut tally = [0; 13];
     for word in 0..=u16::MAX {
@@ -97,13 +97,13 @@ fn items_at(index: usize) -> Tally {
     tally
 }
 
-/// Exactly one framed item: `8100` to `81ff`, `c100` to `c1ff`.
+/// The inputs that are exactly one framed item: `8100` to `81ff`, `c100` to `c1ff`.
 const WHOLE: Tally = [512, 33_280, 31_618, 0, 0, 0, 8, 8, 110, 0, 0, 0, 0];
 
-/// Whole lists of whole items: `c100` to `c180`, `c1c0`.
+/// The inputs that are exactly one list of framed items: `c100` to `c180`, `c1c0`.
 const LISTS: Tally = [130, 256, 15_935, 49_152, 0, 0, 0, 8, 55, 0, 0, 0, 0];
 
-/// The same, none of which has a second item.
+/// The results for the second item: none of those lists has one.
 const SECOND: Tally = [0, 256, 16_065, 49_152, 0, 0, 0, 8, 55, 0, 0, 0, 0];
 
 #[test]

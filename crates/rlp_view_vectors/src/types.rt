@@ -1,10 +1,10 @@
-//! Values of every type, read.
+//! Values of each type, and the bytes that they are read from.
 
 use bytes::{Bytes, BytesMut};
 use rlp::{Decodable, DecoderError};
 use std::alloc::{AllocError, Global};
 
-/// Whether the bytes give the value beside them.
+/// Returns whether the bytes of each row give its value.
 fn are_read<T: Decodable + PartialEq>(
     alloc: Global,
     rows: &[(&[u8], T)],
@@ -17,7 +17,7 @@ fn are_read<T: Decodable + PartialEq>(
     Ok(true)
 }
 
-/// Whether the bytes have the fault beside them, as a type.
+/// Returns whether reading the bytes of each row as a `T` fails with its fault.
 fn are_faulty<T: Decodable>(alloc: Global, rows: &[(&[u8], DecoderError)]) -> bool {
     for row in rows {
         match rlp::decode::<T>(alloc, row.0) {
@@ -39,7 +39,7 @@ const STRINGS: [(&[u8], &[u8]); 4] = [
     (&[0x40, 0x00], &[0x82, 0x40, 0x00]),
 ];
 
-/// Whether the strings are read, as `Bytes`.
+/// Returns whether the strings are read, as `Bytes`.
 fn bytes_are_read(alloc: Global) -> Result<bool, DecoderError> {
     for (want, bytes) in STRINGS {
         if rlp::decode::<Bytes>(alloc, bytes)?.as_slice() != want {
@@ -55,7 +55,7 @@ fn decode_bytes(rt: HostRuntime) -> Result<(), DecoderError> {
     Ok(())
 }
 
-/// Whether the strings are read, as `BytesMut`.
+/// Returns whether the strings are read, as `BytesMut`.
 fn bytesmut_are_read(alloc: Global) -> Result<bool, DecoderError> {
     for (want, bytes) in STRINGS {
         if rlp::decode::<BytesMut>(alloc, bytes)?.as_slice() != want {
@@ -200,7 +200,7 @@ fn options_nest(rt: HostRuntime) -> Result<(), DecoderError> {
     Ok(())
 }
 
-/// Whether an option of a box is read, and its number is the one that is wanted.
+/// Returns whether an option of a box is read, and holds the expected number.
 fn is_boxed(alloc: Global, bytes: &[u8], want: u8) -> Result<bool, DecoderError> {
     Ok(match rlp::decode::<Option<Box<u8>>>(alloc, bytes)? {
         Some(boxed) => *boxed == want,

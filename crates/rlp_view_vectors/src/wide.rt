@@ -4,10 +4,10 @@ use rlp::{DecoderError, Rlp};
 use std::alloc::{AllocError, Global};
 use std::test::Fail;
 
-/// How many items the list has.
+/// The number of items of the list.
 const WIDE: usize = 1_000_000;
 
-/// A list with a payload of bytes 01: its header and these bytes.
+/// Returns a list with a payload of `WIDE` bytes 01.
 fn wide_list(alloc: Global) -> Result<Vec<u8>, AllocError> {
     let mut bytes = Vec::from_slice(alloc, &[0xfa, 0x0f, 0x42, 0x40])?;
     let ones = vec![in alloc; 1u8; WIDE]?;
@@ -15,7 +15,7 @@ fn wide_list(alloc: Global) -> Result<Vec<u8>, AllocError> {
     Ok(bytes)
 }
 
-/// Whether an iterator gives that many items of one byte.
+/// Returns whether an iterator gives `WIDE` items of one byte.
 fn is_iterated(view: &Rlp<'_>) -> bool {
     let mut count = 0usize;
     for item in view.iter() {
@@ -32,8 +32,8 @@ fn is_counted_and_decoded(alloc: Global, view: &Rlp<'_>) -> Result<bool, Decoder
     Ok(view.item_count()? == WIDE && values.len() == WIDE && values.iter().all(|value| *value == 1))
 }
 
-/// Whether the text has four characters of digits, two quotes, and a comma and a space or a bracket
-/// for each item.
+/// Returns whether the text has the expected length: for each item four characters `0x01`, two
+/// quotes, and two characters of comma and space or of brackets.
 fn is_printed(alloc: Global, view: &Rlp<'_>) -> Result<bool, Fail> {
     let text = format!(in alloc; "{view}")?;
     Ok(

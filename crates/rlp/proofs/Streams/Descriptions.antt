@@ -19,7 +19,7 @@ use Rattle.rlp_format.specs.Lemmas.Views.{sized_items}
 one_list_joined : (xs : List Item) → list_encoding (join xs) ≡ join (one_list xs)
 one_list_joined xs = sym (encoding_list xs) ∙ sym (append-nil (encoding (list_of xs)))
 
--- a closed list, put behind what stands in the payload around it
+-- a closed list, put after the bytes of the payload around it
 closed_joined : (outer xs : List Item) → join outer ++ list_encoding (join xs) ≡ join (outer ++ one_list xs)
 closed_joined outer xs = ap (λ (b : List ℕ). join outer ++ b) (one_list_joined xs) ∙ sym (flat_map-append encoding outer (one_list xs))
 
@@ -118,11 +118,11 @@ effect_front s by_clear = refl
 
 -- ---- all calls
 
--- what described calls leave
+-- the state after described calls
 abbrev pub Leaves : Result State ℕ → List ℕ → Stack ℕ → Type 0
 Leaves r front stack = (last : State) × (r ≡ Ok last) × (last.front ≡ front) × (last.stack ≡ stack)
 
--- described calls are all admitted, and leave the joins
+-- described calls are all admitted, and their payloads are the joins
 after_described : (calls : List Call) (steps : List Step) (n : ℕ) (s : State) (t : Stack Item) → AreDescribed s calls steps → s.stack ≡ joined_stack t
     → Leaves (after_from n s calls) s.front (joined_stack (items_after_all steps t))
 after_described [] [] n s t d e = (s, refl, refl, e)
@@ -133,12 +133,12 @@ after_described (c ∷ calls) (m ∷ steps) n s t d e =
     after_described calls steps (n + 1) (effect c s) (items_after m t) d.2 (effect_joined s d.1 t e) in
     (r.0, cond_true (is_admitted c s) (after_from (n + 1) (effect c s) calls) (Err n) d.0 ∙ r.1, r.2 ∙ effect_front s d.1, r.3)
 
--- described calls leave the joins of the items that stand in each payload
+-- after described calls, each payload is the join of its items
 pub described_joins : (front : List ℕ) (calls : List Call) (steps : List Step) → AreDescribed (initial_state front) calls steps
     → Leaves (after front calls) front (joined_stack (items_after_all steps empty_stack))
 described_joins front calls steps d = after_described calls steps 1 (initial_state front) empty_stack d refl
 
--- with no list left open, the join of the items stands at the top
+-- if no list is left open, the top payload is the join of the items
 pub described_finishes : (front : List ℕ) (calls : List Call) (xs : List Item) → IsDescribed front calls xs
     → Leaves (after front calls) front (record { inner = join xs; lists = [] })
 described_finishes front calls xs d =
@@ -154,7 +154,7 @@ described_once front calls xs ys a b d e =
     let stacks : record { inner = join xs; lists = [] } ≡ record { inner = join ys; lists = [] } = sym r.3 ∙ ap (λ (s : State). s.stack) last ∙ q.3 in
     join_same xs ys a b (ap (λ (s : Stack ℕ). s.inner) stacks)
 
--- ---- raw items of some kind alone
+-- ---- only raw items of some kind
 
 described_anyhow : {P : Item → Type 0} (s : State) {c : Call} {m : Step} → DescribesWhere P s c m → Describes s c m
 described_anyhow s (by_append x) = by_append x
@@ -175,24 +175,24 @@ are_described_anyhow P s [] (m ∷ steps) d = absurd d
 are_described_anyhow P s (c ∷ calls) [] d = absurd d
 are_described_anyhow P s (c ∷ calls) (m ∷ steps) d = (d.0, described_anyhow s d.1, are_described_anyhow P (effect c s) calls steps d.2)
 
--- calls that are described where raw items are restricted are described
+-- calls that are described with restricted raw items are described
 pub steps_anyhow : (P : Item → Type 0) (front : List ℕ) (calls : List Call) (steps : List Step)
     → AreDescribedWhere P (initial_state front) calls steps → AreDescribed (initial_state front) calls steps
 steps_anyhow P front calls steps d = are_described_anyhow P (initial_state front) calls steps d
 
--- they describe the same items then
+-- and they describe the same items
 pub items_anyhow : (P : Item → Type 0) (front : List ℕ) (calls : List Call) (xs : List Item) → IsDescribedWhere P front calls xs → IsDescribed front calls xs
 items_anyhow P front calls xs d = record { steps = d.steps; described = steps_anyhow P front calls d.steps d.described; finished = d.finished }
 
 -- ---- finished buffers
 
--- described calls finish as the front and the join
+-- the finished bytes of described calls are the front and the join
 pub described_buffer : (front : List ℕ) (calls : List Call) (xs : List Item) → IsDescribed front calls xs → FinishAs front calls (front ++ join xs)
 described_buffer front calls xs d =
     let r = described_finishes front calls xs d in
     record { last = r.0; admitted = r.1; closed = ap (λ (s : Stack ℕ). s.lists) r.3; buffer = sym (ap (λ (s : Stack ℕ). front ++ s.inner) r.3) }
 
--- and as nothing else
+-- and nothing else
 pub described_buffer_only : (front : List ℕ) (calls : List Call) (xs : List Item) (bytes : List ℕ) → IsDescribed front calls xs
     → FinishAs front calls bytes → bytes ≡ front ++ join xs
 described_buffer_only front calls xs bytes d f =
@@ -200,7 +200,7 @@ described_buffer_only front calls xs bytes d f =
     let last : f.last ≡ r.0 = let both : Ok f.last ≡ Ok r.0 = sym f.admitted ∙ r.1 in cc in
     f.buffer ∙ ap (λ (s : State). front ++ s.stack.inner) last ∙ ap (λ (s : Stack ℕ). front ++ s.inner) r.3
 
--- equal buffers over one front are of equal items
+-- equal finished buffers with the same front have equal items
 pub same_buffer : (front : List ℕ) (calls more : List Call) (xs ys : List Item) (one other : List ℕ) → length one < 2 ^ 64 → length other < 2 ^ 64
     → IsDescribed front calls xs → FinishAs front calls one
     → IsDescribed front more ys → FinishAs front more other → one ≡ other → xs ≡ ys
@@ -211,7 +211,7 @@ same_buffer front calls more xs ys one other small little d f e g same =
     let b : length (join ys) < 2 ^ 64 = omega (arith, ap length second, length-append front (join ys)) in
     join_same xs ys (sized_items xs (2 ^ 64) a) (sized_items ys (2 ^ 64) b) (append_cancel_left front (join xs) (join ys) (sym first ∙ same ∙ second))
 
--- calls that describe the same items finish alike
+-- calls that describe the same items have the same finished bytes
 pub same_items : (front : List ℕ) (calls more : List Call) (xs ys : List Item) (one other : List ℕ) → IsDescribed front calls xs
     → FinishAs front calls one → IsDescribed front more ys → FinishAs front more other → xs ≡ ys → one ≡ other
 same_items front calls more xs ys one other d f e g same =

@@ -1,4 +1,4 @@
--- What decoding answers on the encoding of a value.
+-- What decoding returns for the encoding of a value.
 use Rattle.std.proofs.Common.{◌≡◌, ◌↔◌, ℕ, ◌^◌, ◌<◌, ◌⊎◌, inl, inr, List, length, map, subst, Result, Ok, Err, IfOk, IfErr, IsOkAnd, ◌∙◌, refl}
 use Rattle.std.specs.List.{All}
 use Rattle.std.proofs.lemmas.Simd.{map-map}
@@ -17,20 +17,20 @@ use Rattle.rlp_format.specs.Lemmas.Views.{items_of_list}
 use Rattle.rlp.specs.Values.RoundTrip.{ReadsBack}
 
 module _ {A : Type 0} (Fits : A → Type 0) (item : A → Item) (gives : View → A → Type 0) (faults : View → DecoderError → Type 0) (b : List ℕ) where
-  -- a value that is read is one with the item that was written
+  -- a value that is read has the item that was written
   pub decoded_alike : (r : Result A DecoderError) (v : A) → ReadsBack Fits item gives faults (view_of b) v → IfOk r (λ w. gives (view_of b) w)
       → IfOk r (λ w. Fits w × (item w ≡ item v))
   decoded_alike (Ok w) v back given = (back.alike w).0 given
   decoded_alike (Err e) v back given = tt
 
-  -- where a value was written, reading it has no fault but want of memory
+  -- reading a value that was written fails only with `OutOfMemory`
   pub decoded_memory : (r : Result A DecoderError) (M : DecoderError → Type 0) (v : A) → ReadsBack Fits item gives faults (view_of b) v
       → IfErr r (λ e. faults (view_of b) e ⊎ M e) → IfErr r (λ e. M e)
   decoded_memory (Ok w) M v back faulty = tt
   decoded_memory (Err e) M v back (inl fault) = absurd (back.no_fault e fault)
   decoded_memory (Err e) M v back (inr memory) = memory
 
-  -- where a value with this item is read, of a type whose values are given by their encodings alone, the encoding stands in front
+  -- if a value with this item is read, of a type whose values are given only by their encodings, the bytes begin with the encoding
   pub decoded_only : (r : Result A DecoderError) (v : A) → ((w : A) → gives (view_of b) w ↔ GivesValue Fits item (view_of b) w)
       → IfOk r (λ w. gives (view_of b) w) → IsOkAnd r (λ w. item w ≡ item v) → BeginsWith b (encoding (item v))
   decoded_only (Ok w) v exact given same = subst (λ x. BeginsWith b (encoding x)) same ((exact w).0 given).begins
@@ -60,7 +60,7 @@ module _ {A : Type 0} (Fits : A → Type 0) (item : A → Item) (gives : View �
   list_alike content (Ok x) given = let h = (list_back.alike (content x)).0 given in (h.0, list_same (map item (content x)) (map item vs) h.1)
   list_alike content (Err e) given = tt
 
-  -- where a list of values was written, reading it has no fault but want of memory
+  -- reading a list of values that was written fails only with `OutOfMemory`
   pub list_memory : {B : Type 0} (r : Result B DecoderError) (M : DecoderError → Type 0)
       → IfErr r (λ e. FaultsAsList gives faults (view_of b) e ⊎ M e) → IfErr r (λ e. M e)
   list_memory (Ok x) M h = tt

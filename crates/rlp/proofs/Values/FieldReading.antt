@@ -10,7 +10,7 @@ use Rattle.rlp.specs.Values.FieldReading.{FaultsInFields, GivesFields, MayLackIn
 use Rattle.rlp.specs.Values.ListReading.{FaultsAsFields, FaultsAt, FaultsInField, GivesBefore, MayLackAsStruct, MayLackAt, faulty_field, in_field}
 use Rattle.rlp.specs.Values.ListReading.{no_fields, other_count}
 
--- a fault of the fields from place i on, or want of memory for them
+-- a fault of the fields from place i on, or `OutOfMemory` for them
 abbrev pub FieldsFail : ℕ → (ℕ → ℕ → View → Type 0) → (ℕ → View → DecoderError → Type 0) → (ℕ → View → Type 0) → View → ℕ → DecoderError → Type 0
 FieldsFail count some faults may_lack v i e = FaultsInFields count some faults v i e ⊎ ((e ≡ OutOfMemory) × MayLackInFields count some may_lack v i)
 
@@ -66,7 +66,7 @@ module _ (some1 : ℕ → View → Type 0) (faults1 : View → DecoderError → 
       later_fails f.view f.place e given
       (subst (λ i. FieldsFail n some faults may_lack f.view i e) place_is (subst (λ v. FieldsFail n some faults may_lack v g.place e) view_is fails))
 
--- what the others give, from the next place on
+-- the values of the others, from the next place on
 pub others_given : (f g : FieldPlace) (Give : ℕ → View → Type 0) → g ≡ record f { place = f.place + 1 } → Give g.place g.view → Give (suc f.place) f.view
 others_given f g Give next given =
     let view_is : g.view ≡ f.view = ap (λ (p : FieldPlace). p.view) next in
@@ -85,7 +85,7 @@ given_before some v (suc k) given = (
       (given k (omega arith)),
 )
 
--- where the fields of a view of as many items fail, the struct does
+-- if a view has the right number of items and its fields fail, the struct fails
 pub struct_fails : (n m : ℕ) (some : ℕ → ℕ → View → Type 0) (faults : ℕ → View → DecoderError → Type 0) (may_lack : ℕ → View → Type 0)
     (f : FieldPlace) (v : View) (e : DecoderError)
     → item_count v ≡ Ok m → m ≡ n → f ≡ field_place v 0 → FieldsFail n some faults may_lack f.view f.place e

@@ -71,7 +71,7 @@ module _ {A : Type 0} (item : A → Item) (gives : View → A → Type 0) (fault
     by_field : HasOneReading (option_item item) (λ o. GivesOption gives view o) (λ e. FaultsAsOption faults view e)
     by_field = record { some = some_counted (item_count view) refl; one_value = one_given; one_fault = one_faulty; not_both = not_both_by }
 
-  -- an option has one reading where its value has
+  -- an option has one reading if its value has
   pub option_reading : (view : View) → AreBytes view.bytes → length view.bytes < 2 ^ 64
       → HasOneReading (option_item item) (λ o. GivesOption gives view o) (λ e. FaultsAsOption faults view e)
   option_reading view bytes short = by_field view (at_reading view 0 bytes short)
@@ -100,7 +100,7 @@ module _ (view : View) (numbers : HasOneReading number_item (λ n. GivesNumber 1
       let digits : big_endian n ≡ big_endian (bit b) = cc in
       bit_least b (subst (λ m. 1 < m) (big_endian_same n (bit b) digits) large)
 
-  -- a truth value has one reading where the number has
+  -- a truth value has one reading if the number has
   pub bool_reading : HasOneReading (λ b. number_item (bit b)) (λ b. GivesBool view b) (λ e. FaultsAsBool view e)
   bool_reading = record {
     some = elim numbers.some [ inl (n, g) ↦ some_bool n g | inr (e, f) ↦ inr (e, no_number e f) ];

@@ -1,4 +1,4 @@
--- What options answer, by the first two items of a list.
+-- What options return, by the first two items of a list.
 use Rattle.std.proofs.Common.{◌≡◌, ◌⊎◌, inl, inr, List, [], ◌∷◌, length, sym, ◌∙◌, ap, subst, arith, Some, None, Ok, IsOkAnd, MatchResult}
 use Rattle.std.specs.List.{slice_get}
 use Rattle.rlp_format.specs.declared.error.DecoderError.{DecoderError}
@@ -7,7 +7,7 @@ use Rattle.rlp_format.specs.Views.View.{View, item_at, item_count, item_views, i
 use Rattle.rlp.specs.Values.ListReading.{GivesOption, no_value, one_value, FaultsAsOption, no_list, many_items, faulty_item, MayLackAsOption}
 use Rattle.rlp_format.specs.Lemmas.Numbered.{item_count-fault, item_count-told, length-views, slice_get-item_at}
 
--- as many items as views
+-- the number of items is the number of views
 counted : (v : View) (vs : List View) → items_fault v ≡ None → vs ≡ item_views v → item_count v ≡ Ok (length vs)
 counted v vs kind all = item_count-told v kind ∙ ap Ok (sym (ap length all ∙ length-views v))
 
@@ -29,17 +29,17 @@ gives_one gives v item left others x kind all first none given =
     one_value x (one_counted v item left others kind all first none)
     (subst (λ r. IsOkAnd r (λ w. gives w x)) (first_there v item left others kind all first) given)
 
--- a list with a second item is at fault
+-- a list with a second item has a fault
 pub faulty_many : (faults : View → DecoderError → Type 0) (v item second : View) (left others more : List View) → items_fault v ≡ None
     → left ≡ item_views v → left ≡ item ∷ others → others ≡ second ∷ more → FaultsAsOption faults v RlpIncorrectListLen
 faulty_many faults v item second left others more kind all first next =
     many_items (length left) (counted v left kind all) (omega (arith, ap length first, ap length next))
 
--- a string is at fault
+-- a string has a fault
 pub faulty_other : (faults : View → DecoderError → Type 0) (v : View) (e : DecoderError) → items_fault v ≡ Some e → FaultsAsOption faults v e
 faulty_other faults v e is = no_list e (item_count-fault v e is)
 
--- where a list has one item, the fault is the item's
+-- if a list has one item, the fault is the item's
 pub faulty_one : (faults : View → DecoderError → Type 0) (may_lack : View → Type 0) (v item : View) (left others : List View) (e : DecoderError)
     → items_fault v ≡ None → left ≡ item_views v → left ≡ item ∷ others → others ≡ []
     → faults item e ⊎ ((e ≡ OutOfMemory) × may_lack item) → FaultsAsOption faults v e ⊎ ((e ≡ OutOfMemory) × MayLackAsOption may_lack v)

@@ -1,4 +1,4 @@
--- What strict decoding answers: the whole encoding of a value, and of a list of values.
+-- What strict decoding returns for the whole encoding of a value, and of a list of values.
 use Rattle.std.proofs.Common.{◌≡◌, ℕ, ◌^◌, ◌<◌, ◌⊎◌, inl, inr, List, [], ◌++◌, length, map, sym, ap, ◌∙◌, Result, Ok, Err, IfOk, IfErr, IsOkAnd}
 use Rattle.std.specs.List.{All}
 use Rattle.rlp_format.specs.declared.error.DecoderError.{DecoderError}

@@ -1,4 +1,4 @@
--- Whether bytes are the whole encoding of an item, as a walk over its items tells.
+-- Whether bytes are the whole encoding of an item, tested by going over its items.
 use Rattle.std.proofs.Common.{◌≡◌, ℕ, suc, max, ◌-◌, ◌^◌, ◌<◌, ◌≤◌, ◌↔◌, Bool, true, false, List, [], ◌∷◌, ◌++◌, length, map, refl, sym, ap, ◌∙◌}
 use Rattle.std.proofs.Common.{subst, arith, append-nil, append_assoc, length-append, IsTrue, Some, None, pos_of_ne-zero}
 use Rattle.std.specs.List.{concat}
@@ -20,7 +20,7 @@ sized_whole x b fits is = front_sized x b [] fits (is ∙ sym (append-nil (encod
 list_again : (ys : Items) → list_of (listed ys) ≡ list ys
 list_again ys = ap list (items_from-listed ys)
 
--- bytes that don't begin as a list are canonical as a string alone
+-- bytes that don't begin as a list can only be canonical as a string
 string_alone : (b : List ℕ) (x : Item) → length b < 2 ^ 64 → false ≡ begins_as_list b → b ≡ encoding x → (d : List ℕ) × (b ≡ encoding (string d))
 string_alone b (string s) fits kind is = (s, is)
 string_alone b (list ys) fits kind is =
@@ -72,7 +72,7 @@ payload_joined b xs fits is = payload_of_list xs b (sized_whole (list_of xs) b f
 listed_items : (b : List ℕ) (xs : List Item) → length b < 2 ^ 64 → b ≡ encoding (list_of xs) → items b ≡ map encoding xs
 listed_items b xs fits is = strict_items xs b (sized_whole (list_of xs) b fits is) is
 
--- bytes of a payload that are no item
+-- bytes of a payload that aren't an item
 pub stray_bytes : (b rest : List ℕ) (most : ℕ) (done : List Item) → length b < 2 ^ 64 → true ≡ begins_as_list b
     → map encoding done ++ split rest ≡ items b → payload b ≡ join done ++ rest → split rest ≡ [] → 0 < length rest
     → ¬ IsCanonicalWithin most b
@@ -84,7 +84,7 @@ stray_bytes b rest most done fits kind all whole none some (x, is, deep) =
     let bytes : join done ++ rest ≡ join done = sym whole ∙ payload_joined b l.xs fits l.is ∙ sym joined in
     omega (arith, ap length bytes, length-append (join done) rest)
 
--- one of the encodings is that of an item, no deeper than the deepest
+-- each of the encodings is that of an item, no deeper than the deepest
 one_of : (before after : List (List ℕ)) (f : List ℕ) (xs : List Item) → before ++ f ∷ after ≡ map encoding xs → (y : Item) × (f ≡ encoding y)
     × (item_depth y ≤ items_depth (items_from xs))
 one_of [] after f [] is = absurd (let no : ⊥ = cc in no)
@@ -107,7 +107,7 @@ stray_item b rest item others most done fits kind all parts other (x, is, deep) 
     let (y, found, low) = one_of (map encoding done) (split others) item l.xs same in
     other (y, found, omega (arith, low, l.deep))
 
--- what a walk of some items has done
+-- the progress of a walk over some items
 pub record IsDone (b rest : List ℕ) (most : ℕ) : Type 0 where
   pub done : List Item
   pub all : map encoding done ++ split rest ≡ items b
@@ -140,7 +140,7 @@ done_one b rest item others most is parts whole (x, same, low) = record {
   shallow = depth-more is.done x most is.shallow low;
 }
 
--- a walk that comes to the end of a list's payload
+-- a walk that reaches the end of a list's payload
 pub done_all : (b rest : List ℕ) (most : ℕ) → IsFramedItem b → true ≡ begins_as_list b → (most ≡ 0 → ⊥) → rest ≡ [] → IsDone b rest (most - 1)
     → IsCanonicalWithin most b
 done_all b rest most framed kind some none is =

@@ -15,7 +15,7 @@ use Rattle.rlp_format.proofs.Views.ItemPlaces.{fault-err, get_or-drop}
 use Rattle.rlp_format.proofs.Format.Splits.{drop-inside, drop-next, split-nil}
 use Rattle.rlp_format.proofs.Format.StrictLists.{after_items-next, after_items-none, rest-after, value-items, value-payload}
 
--- before the first item of a framed list
+-- at the beginning of a framed list
 pub framed_place : (v : View) (p : PayloadInfo) (q left : List ℕ) → items_fault v ≡ None → framing v.bytes ≡ Ok p → value v.bytes ≡ Ok q → left ≡ q
     → IsAtPlace v 0 left
 framed_place v p q left told framed is same =
@@ -32,7 +32,7 @@ no_items : (b : List ℕ) → payload b ≡ [] → items b ≡ []
 unfolding items
 no_items b none = ap split none ∙ split-nil
 
--- before a list that isn't framed, which has no items
+-- at the beginning of a list that isn't framed, which has no items
 pub unframed_place : (v : View) (e : DecoderError) (left : List ℕ) → items_fault v ≡ None → framing v.bytes ≡ Err e → split v.bytes ≡ []
     → left ≡ v.bytes → IsAtPlace v 0 left
 unframed_place v e left told framed none same =
@@ -54,7 +54,7 @@ there_same : (v : View) (item : List ℕ) (i : ℕ) (ys : List (List ℕ)) → i
     → Ok (record v { bytes = item }) ≡ item_at v i
 there_same v item i ys told here = sym (there_by v item i ys told here (numbered v i))
 
--- the next item is the one by that number
+-- the next item is the one of that number
 pub next_there : (v : View) (place : ℕ) (left item others : List ℕ) → IsAtPlace v place left → split left ≡ item ∷ split others
     → Ok (record v { bytes = item }) ≡ item_at v place
 next_there v place left item others at parts =
@@ -76,27 +76,27 @@ all_taken : (v : View) (place : ℕ) (left : List ℕ) → IsAtPlace v place lef
 all_taken v place left at none =
     let zero_left : length (items v.bytes) - place ≡ 0 = sym (length-drop place (items v.bytes)) ∙ ap length (sym at.others ∙ none) in omega arith
 
--- where no item is left, the fault is that of what follows the items
+-- if no item is left, the fault is that of the bytes after the items
 pub next_missing : (v : View) (place : ℕ) (left : List ℕ) (e : DecoderError) → IsAtPlace v place left → split left ≡ [] → e ≡ fault left
     → Err e ≡ item_at v place
 next_missing v place left e at none same =
     sym (at.past place (all_taken v place left at none) ∙ ap (λ b. Err (fault b)) (after_items-none left none) ∙ ap Err (sym same))
 
--- with no item left, all were taken
+-- if no item is left, all were taken
 pub all_counted : (v : View) (place : ℕ) (left : List ℕ) → IsAtPlace v place left → split left ≡ [] → item_count v ≡ Ok place
 all_counted v place left at none =
     let few = all_taken v place left at none in
     let same : length (items v.bytes) ≡ place = let below = at.few in omega arith in
     item_count-told v at.told ∙ ap Ok same
 
--- with an item left, there are more
+-- if an item is left, not all were taken
 pub more_counted : (v : View) (place : ℕ) (left item others : List ℕ) → IsAtPlace v place left → split left ≡ item ∷ split others
     → FaultsAsFields place (λ _ _. ⊥) v RlpIncorrectListLen
 more_counted v place left item others at parts =
     let inside = drop-inside place (items v.bytes) (split others) item (sym at.others ∙ parts) in
     other_count (length (items v.bytes)) (item_count-told v at.told) (λ same. omega (arith, same))
 
--- a view of another number of items
+-- a view with another number of items
 pub other_fields : (v : View) (m n : ℕ) → item_count v ≡ Ok m → (m ≡ n → ⊥) → FaultsAsFields n (λ _ _. ⊥) v RlpIncorrectListLen
 other_fields v m n is other = other_count m is other
 
@@ -104,7 +104,7 @@ other_fields v m n is other = other_count m is other
 pub untold_fields : (v : View) (n : ℕ) (e : DecoderError) → item_count v ≡ Err e → FaultsAsFields n (λ _ _. ⊥) v e
 untold_fields v n e is = no_fields e is
 
--- where items are counted they are told by number
+-- if items are counted, they are returned by number
 pub counted_told : (v : View) (n : ℕ) → item_count v ≡ Ok n → items_fault v ≡ None
 counted_told v n is = told_by v n (numbered v 0) is
   where

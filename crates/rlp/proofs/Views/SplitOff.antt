@@ -1,4 +1,4 @@
--- Items that stand one after another, taken off bytes one by one.
+-- Items one after another, split off bytes one by one.
 use Rattle.std.proofs.Common.{◌≡◌, ◌^◌, ◌<◌, List, [], ◌∷◌, ◌++◌, length, drop, drop_at, Result, Ok, Err, IfOk, IfErr, IsOkAnd, refl, sym, ap, ◌∙◌, ℕ}
 use Rattle.rlp_format.specs.declared.error.DecoderError.{DecoderError}
 use Rattle.rlp_format.specs.declared.error.DecoderError.TheVariants.{RlpIsTooShort}
@@ -20,7 +20,7 @@ split_one b item rest x xs fits joined front whole =
     (same, same_rest (encoding x) rest (join xs) (ap (λ f. f ++ rest) (sym same) ∙ sym whole ∙ joined))
 
 module _ {R : Type 0} (item rest : R → List ℕ) (S : R → Type 0) where
-  -- what is split off joined encodings is the first, and the others are left
+  -- the first of joined encodings is split off, and the others are left
   pub split_off : (b : List ℕ) (r : Result R DecoderError) (x : Item) (xs : List Item) → length b < 2 ^ 64 → b ≡ join (x ∷ xs)
       → IfOk r (λ p. (frame b ≡ Ok (item p)) × S p) → IfOk r (λ p. b ≡ item p ++ rest p) → IfErr r (λ e. (frame b ≡ Err e) × (e ≡ fault b))
       → IsOkAnd r (λ p. (item p ≡ encoding x) × (rest p ≡ join xs))
@@ -29,7 +29,7 @@ module _ {R : Type 0} (item rest : R → List ℕ) (S : R → Type 0) where
       let first : frame b ≡ Ok (encoding x) = (encoding_framed x b (front_sized x b (join xs) fits joined) (join xs, joined)).1 in
       absurd (let no : ⊥ = cc in no)
 
-  -- nothing is split off no bytes
+  -- nothing is split off an empty slice
   pub split_end : (b : List ℕ) (r : Result R DecoderError) → b ≡ [] → IfOk r (λ p. (frame b ≡ Ok (item p)) × S p)
       → IfErr r (λ e. (frame b ≡ Err e) × (e ≡ fault b)) → r ≡ Err RlpIsTooShort
   split_end b (Ok p) none front fault = let short : frame b ≡ Err RlpIsTooShort = ap frame none

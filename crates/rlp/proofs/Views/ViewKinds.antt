@@ -1,4 +1,4 @@
--- What lenient views answer, and the strict fault, by the definitions of the format.
+-- What lenient views return, and the strict fault, by the definitions of the format.
 use Rattle.std.proofs.Common.{◌≡◌, ℕ, ◌+◌, ◌^◌, ◌<◌, ⊎_elim, false, if◌then◌else◌, List, [], length, refl, sym, ap, ◌∙◌, arith, ltb, lt-ltb, le-ltb}
 use Rattle.std.proofs.Common.{append-nil, Some, None, Result, Ok, Err}
 use Rattle.std.proofs.lemmas.Bool.{cases_Bool, cond-true, cond-false}

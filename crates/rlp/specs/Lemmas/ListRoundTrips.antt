@@ -14,7 +14,7 @@ use Rattle.rlp_format.specs.Lemmas.Encodings.{encoding_list, small_payload, fron
 use Rattle.rlp_format.specs.Lemmas.Views.{sized_items}
 use Rattle.rlp_format.specs.Lemmas.Numbered.{item_count-list, item_at-list_item}
 
--- what the law of `RoundTrip` says of a type
+-- what the law of `RoundTrip` says about a type
 abbrev pub AlwaysReadsBack : {A : Type 0} → (A → Type 0) → (A → Item) → (View → A → Type 0) → (View → DecoderError → Type 0) → Type 0
 AlwaysReadsBack {A} Fits item gives faults = (b : List ℕ) (v : A) → length b < 2 ^ 64 → Fits v → BeginsWith b (encoding (item v))
     → ReadsBack Fits item gives faults (view_of b) v
@@ -28,7 +28,7 @@ fault_at_by : (faults : View → DecoderError → Type 0) (r : Result View Decod
     → MatchResult r (λ v. faults v e) (λ f. e ≡ f) → faults item e
 fault_at_by faults r item e is h = subst (λ r. MatchResult r (λ v. faults v e) (λ f. e ≡ f)) is h
 
--- an item that is read back is read back by its number
+-- an item that is read back is also read back by its number
 pub item_reads_back : {A : Type 0} (Fits : A → Type 0) (item : A → Item) (gives : View → A → Type 0) (faults : View → DecoderError → Type 0)
     (view : View) (i : ℕ) (x : A)
     → AlwaysReadsBack Fits item gives faults → Fits x → IsSized (item x) → item_at view i ≡ Ok (view_of (encoding (item x)))
@@ -41,7 +41,7 @@ item_reads_back Fits item gives faults view i x law fit sized is =
       no_fault = λ e h. back.no_fault e (fault_at_by faults (item_at view i) (view_of (encoding (item x))) e is h);
     }
 
--- each item of a list that is shorter than 2^64 is
+-- each item of a list that is shorter than 2^64 is sized
 pub middle_sized : (before after : List Item) (x : Item) → length (join (before ++ x ∷ after)) < 2 ^ 64 → IsSized x
 middle_sized [] after x small = omega (arith, length-append (encoding x) (join after))
 middle_sized (y ∷ before) after x small = middle_sized before after x (omega (arith, length-append (encoding y) (join (before ++ x ∷ after))))
@@ -86,7 +86,7 @@ module _ {A : Type 0} (Fits : A → Type 0) (item : A → Item) (gives : View �
   some_faulty x count back e (many_items n is many) = let same : n ≡ 1 = cc in omega arith
   some_faulty x count back e (faulty_item g is at) = back.no_fault g at
 
--- an option is read back where its value is
+-- an option is read back if its value is
 pub option_reads_back : {A : Type 0} (Fits : A → Type 0) (item : A → Item) (gives : View → A → Type 0) (faults : View → DecoderError → Type 0)
     → AlwaysReadsBack Fits item gives faults
     → AlwaysReadsBack (λ o. IfSome o Fits) (option_item item) (λ v o. GivesOption gives v o) (λ v e. FaultsAsOption faults v e)
@@ -109,7 +109,7 @@ option_reads_back Fits item gives faults law b (Some x) fits fit (more, is) =
 
 -- ---- lists of values
 
--- an item of a list is read back where its value is
+-- an item of a list is read back if its value is
 pub list_item_reads_back : {A : Type 0} (Fits : A → Type 0) (item : A → Item) (gives : View → A → Type 0) (faults : View → DecoderError → Type 0)
     (law : AlwaysReadsBack Fits item gives faults)
     (before after : List A) (x : A) (b : List ℕ) → length b < 2 ^ 64 → Fits x → BeginsWith b (encoding (list_of (map item (before ++ x ∷ after))))

@@ -13,7 +13,7 @@ use Rattle.rlp_format.specs.Views.View.{View, HoldsString}
 use Rattle.rlp_format.specs.Lemmas.Reading.{bytes_held}
 use Rattle.rlp_format.specs.Lemmas.Digits.{digits_fit, digits_again}
 
--- few bytes that begin with no zero are the digits of a number that fits
+-- at most n bytes that don't begin with a zero are the digits of a number that fits
 pub leading_is_value : (width : ℕ) (digits : List ℕ) → ((i : ℕ) → Fits w8 (get_or digits i 0)) → length digits ≤ width → get_or digits 0 0 ≢ 0
     → FitsBytes width (number_from_digits 256 digits) × (big_endian (number_from_digits 256 digits) ≡ digits)
 leading_is_value width [] bytes few leading = absurd (leading refl)
@@ -21,7 +21,7 @@ leading_is_value width (d ∷ ds) bytes few leading =
     let held = bytes_held (d ∷ ds) bytes in
     (digits_fit width (d ∷ ds) held few, digits_again d ds held (pos_of_ne-zero leading))
 
--- digits that begin with a zero are at fault
+-- digits that begin with a zero have a fault
 pub zero_is_fault : (width : ℕ) (digits : List ℕ) → length digits ≤ width → 1 ≤ length digits → get_or digits 0 0 ≡ 0
     → IsDigitsFault width digits RlpInvalidIndirection
 zero_is_fault width [] few some leads = absurd (omega arith)
@@ -31,32 +31,32 @@ pub ruleset digit_faults = (too_long, zero_is_fault)
 
 -- ---- a view that begins with the digits of a number gives the number
 
--- digits that stand as a string give their number
+-- if a view begins with a string of digits, it gives their number
 pub gives_number : (width : ℕ) (v : View) (d : List ℕ) → HoldsString v d → FitsBytes width (number_from_digits 256 d)
     × (big_endian (number_from_digits 256 d) ≡ d) → GivesNumber width v (number_from_digits 256 d)
 gives_number width v d stands (fits, again) = record { fits = fits; begins = subst (HoldsString v) (sym again) stands }
 
--- digits at fault that stand as a string are the view's fault
+-- if a view begins with a string of digits that have a fault, the view has this fault
 pub number_fault : (width : ℕ) (v : View) (d : List ℕ) (e : DecoderError) → HoldsString v d → IsDigitsFault width d e → FaultsAsNumber width v e
 number_fault width v d e stands faulty = no_value d e stands faulty
 
 pub ruleset number_answers = (gives_number, no_string, number_fault)
 
--- ---- digits with zeros in front of them
+-- ---- digits with leading zeros
 
--- zeros in front make no difference
+-- leading zeros don't change the number
 pub zeros_in_front : (k n : ℕ) (digits : List ℕ) → number_from_digits 256 (take k (replicate n 0) ++ digits) ≡ number_from_digits 256 digits
 zeros_in_front zero n digits = refl
 zeros_in_front (suc k) zero digits = refl
 zeros_in_front (suc k) (suc n) digits = zeros_in_front k n digits
 
--- ---- a view that begins with a string of n bytes gives the array of them
+-- ---- a view that begins with a string of n bytes gives their array
 
--- a string of n bytes that stands gives the array
+-- if a view begins with a string of n bytes, it gives the array
 pub gives_array : (n : ℕ) (v : View) (d : List ℕ) → HoldsString v d → length d ≡ n → GivesValue (λ a. length a ≡ n) string v d
 gives_array n v d stands many = record { fits = many; begins = stands }
 
--- a string of another length that stands is the view's fault
+-- if a view begins with a string of another length, the view has the fault of that length
 pub array_fault : (n : ℕ) (v : View) (d : List ℕ) (e : DecoderError) → HoldsString v d → IsLengthFault n d e → FaultsAs (IsLengthFault n) v e
 array_fault n v d e stands faulty = no_value d e stands faulty
 

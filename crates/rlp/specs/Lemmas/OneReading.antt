@@ -22,14 +22,14 @@ use Rattle.rlp_format.specs.Lemmas.Digits.{big_endian_is, big_endian_first, big_
 use Rattle.rlp_format.specs.Lemmas.Reading.{Bytes}
 use Rattle.rlp.specs.Lemmas.StringsHeld.{ReadsHeld, held_begins, held_read, held_reads, same_held}
 
--- ---- what a string holds are bytes
+-- ---- the elements of a string are bytes
 
--- the front of bytes is bytes
+-- the first elements of a list of bytes are bytes
 pub front_bytes : (s t : List ℕ) → Bytes (s ++ t) → Bytes s
 front_bytes [] t h = tt
 front_bytes (c ∷ s) t (low, h) = (low, front_bytes s t h)
 
--- so is what follows it
+-- so are the elements after them
 pub back_bytes : (s t : List ℕ) → Bytes (s ++ t) → Bytes t
 back_bytes [] t h = h
 back_bytes (c ∷ s) t (low, h) = back_bytes s t h
@@ -48,7 +48,7 @@ string_bytes b d bytes (rest, is) =
     All-from_recursion (λ byte. byte < 2 ^ 8) d
     (encoded_bytes d (front_bytes (string_encoding d) rest (subst Bytes is (recursion_from_All (λ byte. byte < 2 ^ 8) b bytes))))
 
--- ---- one reading, where the strings of values and the faulty ones are told apart
+-- ---- one reading, if no string is both a value's and faulty
 
 record IsTold {A : Type 0} (Fits : A → Type 0) (text : A → List ℕ) (IsFaulty : List ℕ → DecoderError → Type 0) : Type 0 where
   pub told : (d : List ℕ) → AreBytes d → ((x : A) × (Fits x) × (text x ≡ d)) ⊎ ((e : DecoderError) × IsFaulty d e)

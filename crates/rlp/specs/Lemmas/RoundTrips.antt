@@ -16,13 +16,13 @@ use Rattle.rlp_format.specs.Lemmas.Digits.{big_endian_same}
 use Rattle.rlp.specs.Lemmas.StringsHeld.{held_read, same_held}
 use Rattle.rlp.specs.Lemmas.OneReading.{sound_digits}
 
--- each fact holds exactly where it does
+-- each fact is equivalent to itself
 pub itself : {P : Type 0} → P ↔ P
 itself = (λ p. p, λ p. p)
 
--- ---- a type of which contracts see another one's value
+-- ---- a type whose values contracts see as values of another type
 
--- a type that holds a value is read back where the value is
+-- a type that holds a value is read back if the value is
 pub reads_back_through : {A B : Type 0} (value : B → A) {Fits : A → Type 0} {item : A → Item} {gives : View → A → Type 0}
     {faults : View → DecoderError → Type 0} {view : View} {v : B}
     → ReadsBack Fits item gives faults view (value v) → ReadsBack (λ w. Fits (value w)) (λ w. item (value w)) (λ view w. gives view (value w)) faults view v
@@ -40,7 +40,7 @@ string_same d s e = cc
 
 module _ {A : Type 0} (Fits : A → Type 0) (text : A → List ℕ) (view : View) (v : A) (fits : length view.bytes < 2 ^ 64)
     (holds : HoldsString view (text v)) where
-  -- the values that are given are those alike
+  -- the values that are given are exactly the ones alike
   alike_given : (w : A) → GivesValue Fits (λ x. string (text x)) view w ↔ (Fits w × (string (text w) ≡ string (text v)))
   alike_given w = (
     λ given. (given.fits, ap string (same_held view (text w) (text v) fits given.begins holds)),
@@ -67,14 +67,14 @@ pub text_held_back : (view : View) (t : List ℕ) → length view.bytes < 2 ^ 64
     → ReadsBack IsUtf8 string GivesText FaultsAsText view t
 text_held_back view t fits good holds = held_back IsUtf8 (λ t. t) view t fits holds IsTextFault (λ e bad. bad.0 good)
 
--- a string of the right length has no fault of its length
+-- a string of the right length has no fault of length
 pub sound_length : (n : ℕ) (d : List ℕ) (e : DecoderError) → length d ≡ n → ¬ IsLengthFault n d e
 sound_length n d e fit (shorter few) = omega arith
 sound_length n d e fit (longer many) = omega arith
 
 pub ruleset length_faults = (shorter, longer)
 
--- the same for the law of `Scalar`
+-- the same fact for the law of `Scalar`
 pub exact_through : {A B : Type 0} (Fits : A → Type 0) (item : A → Item) (value : B → A) (b : List ℕ) (v : B) {G : Type 0}
     → (G ↔ GivesValue Fits item (view_of b) (value v))
     → G ↔ GivesValue (λ w. Fits (value w)) (λ w. item (value w)) (view_of b) v
@@ -86,12 +86,12 @@ pub bit_below : (b : Bool) → FitsBytes 1 (bit b)
 bit_below true = omega arith
 bit_below false = omega arith
 
--- a truth value is at most 1 as a number
+-- as a number, a truth value is at most 1
 pub bit_least : (b : Bool) → ¬ (1 < bit b)
 bit_least true h = omega arith
 bit_least false h = omega arith
 
--- a truth value is given by its own encoding alone
+-- a truth value is given only by its own encoding
 pub bool_exact : (bytes : List ℕ) (b : Bool) → GivesBool (view_of bytes) b ↔ GivesValue (λ b. ⊤) (λ b. number_item (bit b)) (view_of bytes) b
 bool_exact bytes b = (λ g. record { fits = tt; begins = g.begins }, λ g. record { fits = bit_below b; begins = g.begins })
 
@@ -113,7 +113,7 @@ bool_held_back view b fits holds =
           no_other view b back;
     }
 
--- a number that is neither 0 nor 1 is no truth value
+-- a number other than 0 and 1 isn't a truth value
 pub other_bool : (v : View) (n : ℕ) (e : DecoderError) → GivesNumber 1 v n → n ≢ 0 → n ≢ 1 → IsCustom (codes "invalid boolean value") e → FaultsAsBool v e
 other_bool v n e gives none one is = other_number n e gives (omega arith) is
 
@@ -134,12 +134,12 @@ pub bool_reads_back : (bytes : List ℕ) (b : Bool) → length bytes < 2 ^ 64 �
     → ReadsBack (λ b. ⊤) (λ b. number_item (bit b)) GivesBool FaultsAsBool (view_of bytes) b
 bool_reads_back bytes b fits begins = bool_held_back (view_of bytes) b fits begins
 
--- of types of which contracts see bytes
+-- for types whose values contracts see as bytes
 pub bytes_in : {B : Type 0} (value : B → List ℕ) (bytes : List ℕ) (b : B) → length bytes < 2 ^ 64 → ⊤ → BeginsWith bytes (encoding (string (value b)))
     → ReadsBack (λ b. ⊤) (λ b. string (value b)) (λ view b. GivesBytes view (value b)) FaultsAsBytes (view_of bytes) b
 bytes_in value bytes b fits fit begins = reads_back_through value (bytes_held_back (view_of bytes) (value b) fits begins)
 
--- of types of which contracts see text
+-- for types whose values contracts see as texts
 pub text_in : {B : Type 0} (value : B → List ℕ) (bytes : List ℕ) (b : B) → length bytes < 2 ^ 64 → IsUtf8 (value b)
     → BeginsWith bytes (encoding (string (value b)))
     → ReadsBack (λ b. IsUtf8 (value b)) (λ b. string (value b)) (λ view b. GivesText view (value b)) FaultsAsText (view_of bytes) b

@@ -42,7 +42,7 @@ pub payload_short : (b : List ℕ) → length (payload b) ≤ length b
 unfolding payload value
 payload_short b = short_by b (begins_as_list b) (framing b)
 
--- an item by number is bytes, and fewer than 2^64
+-- an item by number is a list of fewer than 2^64 bytes
 pub part_of_items : (view v : View) (i : ℕ) → AreBytes view.bytes → length view.bytes < 2 ^ 64 → item_at view i ≡ Ok v → AreBytes v.bytes
     × (length v.bytes < 2 ^ 64)
 unfolding items split

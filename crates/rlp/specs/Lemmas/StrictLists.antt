@@ -1,4 +1,4 @@
--- Lists of values of a type that is read strictly: they are read strictly too.
+-- Lists of values of a type that is read strictly are read strictly.
 use Rattle.std.proofs.Common.{◌≡◌, ℕ, ◌^◌, ◌<◌, List, [], ◌∷◌, ◌++◌, length, map, subst, sym, ap, refl, ◌∙◌, arith, append_assoc, length-append, None}
 use Rattle.std.specs.List.{All, AllByRecursion, concat}
 use Rattle.std.proofs.lemmas.List.Elements.{All-from_recursion, recursion_from_All}
@@ -32,7 +32,7 @@ all_parts (f ∷ fs) left bytes small =
       all_parts fs left (back_bytes f (concat fs ++ left) both) (omega (arith, ap length whole, lengths)),
     )
 
--- each item of a slice is one that a slice can hold
+-- each item of a slice can be held by a slice
 pub item_parts : (b : List ℕ) → AreBytes b → length b < 2 ^ 64 → AllByRecursion IsPart (items b)
 item_parts b bytes fits =
     let whole : payload b ≡ concat (items b) ++ rest b = payload_parts b bytes in
@@ -77,7 +77,7 @@ module _ {A : Type 0} (Fits : A → Type 0) (item : A → Item) (gives : View �
       let more : map strict_view_of (map encoding (map item vs)) ≡ before ++ faulty ∷ after = cc in none_first vs before after faulty e sound more bad
 
   module _ (b : List ℕ) (bytes : AreBytes b) (fits : length b < 2 ^ 64) (ws : List A) where
-    -- a strict view gives a list by its whole encoding alone
+    -- a strict view gives a list only by its whole encoding
     pub list_whole : GivesList gives (strict_view_of b) ws → All Fits ws × (b ≡ encoding (list_of (map item ws)))
     list_whole given =
         let each = each_whole (items b) ws (item_parts b bytes fits) given.each in
@@ -91,7 +91,7 @@ module _ {A : Type 0} (Fits : A → Type 0) (item : A → Item) (gives : View �
           each = each_given (items b) ws (item_parts b bytes fits) (recursion_from_All Fits ws all) (strict_items (map item ws) b sized whole);
         }
 
-    -- and has no fault where it is given
+    -- and has no fault if it gives the list
     pub no_list_fault : All Fits ws → b ≡ encoding (list_of (map item ws)) → (e : DecoderError) → ¬ FaultsAsList gives faults (strict_view_of b) e
     no_list_fault all whole e (not_list is) = let none : strict_list_fault b ≡ None =
         strict_list_fault-encoding (map item ws) b (whole_sized (list_of (map item ws)) b fits whole) whole in cc
@@ -101,7 +101,7 @@ module _ {A : Type 0} (Fits : A → Type 0) (item : A → Item) (gives : View �
         (all_sound ws (recursion_from_All Fits ws all) (subst (AllByRecursion IsPart) same (item_parts b bytes fits)))
         (sym (ap (map strict_view_of) same) ∙ first.all) first.is
 
-  -- a list of such values, of a type of which contracts see the values, is read strictly
+  -- a type whose values contracts see as lists of such values is read strictly
   pub list_strict : {B : Type 0} (values : B → List A)
       → AlwaysReadsStrictly (λ b. All Fits (values b)) (λ b. list_of (map item (values b))) (λ v b. GivesList gives v (values b))
       (λ v e. FaultsAsList gives faults v e)

@@ -20,7 +20,7 @@ use Rattle.rlp.specs.Lemmas.RoundTrips.{bit_below, bool_held_back, bytes_held_ba
 use Rattle.rlp.specs.Lemmas.Slices.{part_of_items}
 use Rattle.rlp.specs.Lemmas.WholeLists.{strict_first, strict_item_count, strict_items, strict_list_told, whole_list, whole_sized}
 
--- what the law of `StrictRead` says of a type
+-- what the law of `StrictRead` says about a type
 abbrev pub AlwaysReadsStrictly : {A : Type 0} → (A → Type 0) → (A → Item) → (View → A → Type 0) → (View → DecoderError → Type 0) → Type 0
 AlwaysReadsStrictly {A} Fits item gives faults = (b : List ℕ) (v : A) → AreBytes b → length b < 2 ^ 64 → ReadsStrictly Fits item gives faults b v
 
@@ -63,7 +63,7 @@ text_strict value b v bytes fits = record {
   sound = λ fit is. (text_held_back (strict_view_of b) (value v) fits fit is).no_fault;
 }
 
--- a type of which contracts see another one's value
+-- a type whose values contracts see as values of another type
 pub strict_through : {A B : Type 0} (value : B → A) {Fits : A → Type 0} {item : A → Item} {gives : View → A → Type 0}
     {faults : View → DecoderError → Type 0} {b : List ℕ} {v : B}
     → ReadsStrictly Fits item gives faults b (value v) → ReadsStrictly (λ w. Fits (value w)) (λ w. item (value w)) (λ view w. gives view (value w)) faults b v
@@ -71,13 +71,13 @@ strict_through value strict = record { exact = strict.exact; sound = strict.soun
 
 -- ---- options
 
--- where no items are told, there is no number of them
+-- a view that has a number of items has no fault of its items
 pub counted_told : (v : View) (n : ℕ) → item_count v ≡ Ok n → items_fault v ≡ None
 counted_told v n is = ⊎_elim (λ told. told)
     (λ (e, none). let count : item_count v ≡ Err e = item_count-fault v e none in absurd (let no : ⊥ = cc in no))
     (fault_cases (items_fault v) (items_fault v) refl)
 
--- a list that is counted has as many items
+-- the number of items of a list is the number that is counted
 pub counted_items : (v : View) (n : ℕ) → item_count v ≡ Ok n → length (items v.bytes) ≡ n
 counted_items v n is = let count : item_count v ≡ Ok (length (items v.bytes)) = item_count-told v (counted_told v n is) in cc
 
@@ -117,7 +117,7 @@ module _ {A : Type 0} (Fits : A → Type 0) (item : A → Item) (gives : View �
       → item_at (strict_view_of b) 0 ≡ Ok (strict_view_of (encoding (item x)))
   first_of x is sized = strict_first b (encoding (item x)) [] (strict_list_told (item x ∷ []) b sized is) (strict_items (item x ∷ []) b sized is)
 
-  -- the item itself is bytes of the slice
+  -- the bytes of the item are bytes of the slice
   first_law : (x : A) → b ≡ encoding (list_of (item x ∷ [])) → ReadsStrictly Fits item gives faults (encoding (item x)) x
   first_law x is =
       let there = first_of x is (whole_sized (list_of (item x ∷ [])) b fits is) in

@@ -1,4 +1,4 @@
--- Structs that are lists of their fields, of types that are read strictly: they are read strictly.
+-- Structs that are lists of their fields are read strictly if the types of the fields are.
 use Rattle.std.proofs.Common.{◌≡◌, ◌↔◌, ℕ, zero, suc, ◌+◌, ◌^◌, ◌<◌, List, [], ◌∷◌, ◌++◌, length, map, refl, sym, ap, ◌∙◌, subst, arith, append_assoc}
 use Rattle.std.proofs.Common.{length-append, IsOkAnd, MatchResult, Some, None, Ok}
 use Rattle.std.specs.List.{slice_get}
@@ -15,7 +15,7 @@ use Rattle.rlp.specs.Lemmas.StrictReads.{AlwaysReadsStrictly, counted_items, cou
 use Rattle.rlp.specs.Lemmas.Structs.{by_place}
 use Rattle.rlp.specs.Lemmas.WholeLists.{parts_same, strict_item_count, strict_items, strict_list_told, whole_list, whole_sized}
 
--- from place i on the items of the view are these bytes, read strictly
+-- from place i on, the items of the view are these bytes, read strictly
 abbrev pub PartsFrom : View → ℕ → List (List ℕ) → Type 0
 PartsFrom view i [] = Unit {0}
 PartsFrom view i (part ∷ parts) = (item_at view i ≡ Ok (strict_view_of part)) × (AreBytes part × ((length part < 2 ^ 64) × PartsFrom view (suc i) parts))
@@ -37,7 +37,7 @@ module _ {A P : Type 0} (field : P → A) (Fits : A → Type 0) (item : A → It
       let there : FaultsAt faults view i e = subst (λ j. FaultsAt faults view j e) same at in
       (law part (field p) bytes short).sound fit whole e (subst (λ r. MatchResult r (λ v. faults v e) (λ f. e ≡ f)) is there)
 
-  -- the first field is given exactly by its whole encoding
+  -- the first field is given exactly if the item is its whole encoding
   pub first_exact : (i : ℕ) (view : View) (parts : List (List ℕ)) (p : P) → PartsFrom view i parts → length parts ≡ 1
       → GivesAt gives view i (field p) ↔ (Fits (field p) × (parts ≡ map encoding (item (field p) ∷ [])))
   first_exact i view [] p held many = absurd (omega arith)
@@ -46,7 +46,7 @@ module _ {A P : Type 0} (field : P → A) (Fits : A → Type 0) (item : A → It
       let one = exact_at i view part p is bytes short in
       (λ at. let h = one.0 at in (h.0, ap (λ x. x ∷ []) h.1), λ (fit, same). one.1 (fit, (parts_same part (encoding (item (field p))) [] [] same).0))
 
-  -- and has no fault there
+  -- and then has no fault
   pub first_exactly_sound : (i : ℕ) (view : View) (parts : List (List ℕ)) (p : P) → PartsFrom view i parts → Fits (field p)
       → parts ≡ map encoding (item (field p) ∷ [])
       → (k : ℕ) (e : DecoderError) → k < 1 → ¬ FaultsAt (by_place faults (λ k v e. ⊥) k) view (i + k) e
@@ -56,7 +56,7 @@ module _ {A P : Type 0} (field : P → A) (Fits : A → Type 0) (item : A → It
   first_exactly_sound i view (part ∷ parts) p held fit same (suc k) e few at = absurd (omega arith)
 
   module _ (FitMore : P → Type 0) (more : P → List Item) (count : ℕ) where
-    -- a field is given exactly by its whole encoding, and so are those after it
+    -- a field is given exactly if the item is its whole encoding, and so are the fields after it
     pub more_exact : (giveMore : ℕ → View → P → Type 0)
         → ((i : ℕ) (view : View) (parts : List (List ℕ)) (p : P) → PartsFrom view i parts → length parts ≡ count → giveMore i view p
         ↔ (FitMore p × (parts ≡ map encoding (more p))))
@@ -71,7 +71,7 @@ module _ {A P : Type 0} (field : P → A) (Fits : A → Type 0) (item : A → It
               (one.1 (fit, both.0), rest.1 (fits, both.1)),
         )
 
-    -- a field has no fault there, and neither have those after it
+    -- a field then has no fault, and neither have the fields after it
     pub more_exactly_sound : (faultMore : ℕ → View → DecoderError → Type 0)
         → ((i : ℕ) (view : View) (parts : List (List ℕ)) (p : P) → PartsFrom view i parts → FitMore p → parts ≡ map encoding (more p)
         → (k : ℕ) (e : DecoderError) → k < count → ¬ FaultsAt (faultMore k) view (i + k) e)
@@ -107,7 +107,7 @@ module _ (b : List ℕ) (bytes : AreBytes b) (fits : length b < 2 ^ 64) where
       let others = parts_from told (before ++ part ∷ []) after (is ∙ sym (append_assoc before (part ∷ []) after)) in
       (there, (held, (short, subst (λ i. PartsFrom (strict_view_of b) i after) next others)))
 
-  -- each item of a strict view that is a list, in its place
+  -- each item of a strict view that is a list, at its place
   pub parts_of_strict : items_fault (strict_view_of b) ≡ None → PartsFrom (strict_view_of b) 0 (items b)
   parts_of_strict told = parts_from told [] (items b) refl
 
@@ -148,7 +148,7 @@ module _ {P : Type 0} (count : ℕ) (Fits : P → Type 0) (items_of : P → List
         sound 0 (strict_view_of b) (items b) p (struct_parts is) fit (strict_items (items_of p) b (whole_sized (list_of (items_of p)) b fits is) is) k g few
         (subst (λ j. FaultsAt (faults k) (strict_view_of b) j g) (let zero_add : k ≡ 0 + k = omega arith in zero_add) at)
 
-  -- a struct is read strictly where its fields are
+  -- a struct is read strictly if its fields are
   pub struct_strict : AlwaysReadsStrictly Fits (λ p. list_of (items_of p)) (λ v p. (item_count v ≡ Ok count) × gives 0 v p)
       (λ v e. FaultsAsFields count (λ v e. FaultsInField count some faults v e) v e)
   struct_strict b p bytes fits = record {

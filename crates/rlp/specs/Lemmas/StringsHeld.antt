@@ -1,4 +1,4 @@
--- What a view holds, lenient or strict, and the string that is read from it.
+-- What a lenient or a strict view holds, and the string that is read from it.
 use Rattle.std.proofs.Common.{◌≡◌, ℕ, ◌^◌, ◌<◌, ◌≤◌, ⊎_elim, Bool, true, false, if◌then◌else◌, ltb, List, [], ◌∷◌, ◌++◌, length, sym, ap, ◌∙◌, subst}
 use Rattle.std.proofs.Common.{arith, append-nil, length-append, le-ltb, lt-ltb, Result, Ok, Err, MatchResult, IfErr}
 use Rattle.std.proofs.lemmas.Bool.{cases_lt, cond-true, cond-false}
@@ -19,7 +19,7 @@ begins_by : (strict : Bool) (b s : List ℕ) → Holds strict b s → BeginsWith
 begins_by false b s holds = holds
 begins_by true b s holds = ([], holds ∙ sym (append-nil s))
 
--- what a view holds stands at its front
+-- a view begins with the item that it holds
 pub held_begins : (v : View) (x : Item) → HoldsItem v x → BeginsWith v.bytes (encoding x)
 held_begins v x holds = begins_by v.is_strict v.bytes (encoding x) holds
 
@@ -41,7 +41,7 @@ held_read v d e fits holds is = let same : Ok d ≡ Err e = sym (held_only v d f
 pub same_held : (v : View) (d s : List ℕ) → length v.bytes < 2 ^ 64 → HoldsString v d → HoldsString v s → d ≡ s
 same_held v d s fits one two = let same = sym (held_only v d fits one) ∙ held_only v s fits two in cc
 
--- the right answer for the string of bytes that are read so
+-- the right result for the string of bytes that are read as this
 abbrev pub ReadsHeld : Bool → List ℕ → Result (List ℕ) DecoderError → Type 0
 ReadsHeld strict b r = MatchResult r (λ d. Holds strict b (encoding (string d))) (λ e. (d : List ℕ) → ¬ Holds strict b (encoding (string d)))
 
@@ -74,11 +74,11 @@ reads_by true b fits read = whole_reads b (read_string b) fits read
 pub held_from : (v : View) → length v.bytes < 2 ^ 64 → ReadsString v.bytes (read_string v.bytes) → ReadsHeld v.is_strict v.bytes (view_string v)
 held_from v fits read = reads_by v.is_strict v.bytes fits read
 
--- what is read of a view is the string that it holds, and it holds none where none is read
+-- the string that is read from a view is the one that it holds; if no string is read, it holds none
 pub held_reads : (v : View) → AreBytes v.bytes → length v.bytes < 2 ^ 64 → ReadsHeld v.is_strict v.bytes (view_string v)
 held_reads v bytes fits = reads_by v.is_strict v.bytes fits (string_reads v.bytes bytes fits)
 
--- where a string is missing, there is none, and what holds of the fault holds
+-- if a string is missing, there is none, and what is known about the fault holds
 pub missing_held : (v : View) (e : DecoderError) (F : DecoderError → Type 0) → ReadsHeld v.is_strict v.bytes (view_string v) → view_string v ≡ Err e
     → F e → IfErr (view_string v) (λ e. HoldsNoString v × F e)
 missing_held v e F read is holds = let none : ReadsHeld v.is_strict v.bytes (Err e) = subst (ReadsHeld v.is_strict v.bytes) is read in
@@ -122,7 +122,7 @@ held_whole v d fits is read followed = whole_kind v.is_strict
 pub held_front : (v : View) (r : Result (List ℕ) DecoderError) → v.is_strict ≡ false → read_string v.bytes ≡ r → view_string v ≡ r
 held_front v r lenient is = cond-false v.is_strict _ _ lenient ∙ is
 
--- bytes that begin with no string
+-- bytes that don't begin with a string
 pub held_fault : (v : View) (e : DecoderError) → read_string v.bytes ≡ Err e → view_string v ≡ Err e
 held_fault v e is = fault_kind v.is_strict
   where

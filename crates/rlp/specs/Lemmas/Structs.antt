@@ -1,4 +1,4 @@
--- Structs that are lists of their fields: their encodings are read back, and the rules for bodies that read them.
+-- Structs that are lists of their fields: their encodings are read back. Rules for bodies that read them.
 use Rattle.std.proofs.Common.{◌≡◌, ◌↔◌, ℕ, zero, suc, ◌+◌, ◌^◌, ◌<◌, ◌⊎◌, inl, inr, List, [], ◌∷◌, ◌++◌, length, sym, ap, ◌∙◌, subst, arith}
 use Rattle.std.proofs.Common.{append_assoc, length-append, Ok, ◌≢◌}
 use Rattle.rlp_format.specs.declared.error.DecoderError.{DecoderError}
@@ -18,21 +18,21 @@ use Rattle.rlp.specs.Lemmas.ListRoundTrips.{AlwaysReadsBack, item_reads_back, mi
 pub cons_same : (x y : Item) (xs ys : List Item) → x ∷ xs ≡ y ∷ ys → (x ≡ y) × (xs ≡ ys)
 cons_same x y xs ys e = (let h : x ≡ y = cc in h, let t : xs ≡ ys = cc in t)
 
--- the items of a list are those of no other
+-- if two lists are the same item, they have the same items
 pub list_same : (xs ys : List Item) → list_of xs ≡ list_of ys → xs ≡ ys
 list_same xs ys e = let inner : items_from xs ≡ items_from ys = cc in sym (listed_from xs) ∙ ap listed inner ∙ listed_from ys
 
--- what stands in the first place, and what in the others
+-- `first` for place 0, and `others` for the places after it
 abbrev pub by_place : {A : Type 1} → A → (ℕ → A) → ℕ → A
 by_place first others zero = first
 by_place first others (suc k) = others k
 
--- from place i on the items of the view are the encodings of these
+-- from place i on, the items of the view are the encodings of these
 abbrev pub HoldsFrom : View → ℕ → List Item → Type 0
 HoldsFrom view i [] = Unit {0}
 HoldsFrom view i (x ∷ xs) = (item_at view i ≡ Ok (view_of (encoding x))) × (IsSized x × HoldsFrom view (suc i) xs)
 
--- from the encoding of a list, the items after some first ones are in their places
+-- in the encoding of a list, the items after some first ones are at their places
 pub holds_from : (before xs : List Item) (b : List ℕ) → IsSized (list_of (before ++ xs)) → BeginsWith b (encoding (list_of (before ++ xs)))
     → HoldsFrom (view_of b) (length before) xs
 holds_from before [] b sized begins = tt
@@ -75,7 +75,7 @@ module _ {A P : Type 0} (field : P → A) (Fits : A → Type 0) (item : A → It
   first_sound i view p fit (is, (sized, none)) (suc k) e few at = omega arith
 
   module _ (FitMore : P → Type 0) (more : P → List Item) where
-    -- a field is read back, and so are those after it
+    -- a field is read back, and so are the fields after it
     pub more_alike : (giveMore : ℕ → View → P → Type 0)
         → ((i : ℕ) (view : View) (p : P) → FitMore p → HoldsFrom view i (more p) → (q : P) → giveMore i view q ↔ (FitMore q × (more q ≡ more p)))
         → (i : ℕ) (view : View) (p : P) → Fits (field p) × FitMore p → HoldsFrom view i (item (field p) ∷ more p) → (q : P)
@@ -88,7 +88,7 @@ module _ {A P : Type 0} (field : P → A) (Fits : A → Type 0) (item : A → It
               (one.1 (fit', parts.0), rest.1 (fits', parts.1)),
         )
 
-    -- a field has no fault, and neither have those after it
+    -- a field has no fault, and neither have the fields after it
     pub more_sound : (count : ℕ) (faultMore : ℕ → View → DecoderError → Type 0)
         → ((i : ℕ) (view : View) (p : P) → FitMore p → HoldsFrom view i (more p) → (k : ℕ) (e : DecoderError) → k < count
         → ¬ FaultsAt (faultMore k) view (i + k) e)
@@ -114,7 +114,7 @@ module _ {P : Type 0} (count : ℕ) (Fits : P → Type 0) (items : P → List It
   no_struct_fault view p fit holds is e (faulty_field g same (in_field k few before at)) =
       sound 0 view p fit holds k g few (subst (λ j. FaultsAt (faults k) view j g) (let zero_add : k ≡ 0 + k = omega arith in zero_add) at)
 
-  -- a struct is read back where its fields are
+  -- a struct is read back if its fields are
   pub struct_reads_back : AlwaysReadsBack Fits (λ p. list_of (items p)) (λ v p. (item_count v ≡ Ok count) × gives 0 v p)
       (λ v e. FaultsAsFields count (λ v e. FaultsInField count some faults v e) v e)
   struct_reads_back b p fits fit (more, is) =
@@ -133,7 +133,7 @@ module _ {P : Type 0} (count : ℕ) (Fits : P → Type 0) (items : P → List It
 
 module _ (count : ℕ) (some : ℕ → ℕ → View → Type 0) (faults : ℕ → View → DecoderError → Type 0) (may_lack : ℕ → View → Type 0) (v : View)
     (e : DecoderError) where
-  -- the fault is one of the struct, or memory may lack
+  -- the fault is one of the struct, or memory may be short
   abbrev pub StructFails : Type 0
   StructFails = FaultsAsFields count (λ v e. FaultsInField count some faults v e) v e ⊎ ((e ≡ OutOfMemory) × MayLackAsStruct count some may_lack v)
 
@@ -143,25 +143,25 @@ module _ (count : ℕ) (some : ℕ → ℕ → View → Type 0) (faults : ℕ �
   field_fails k (inl fault) many few before = inl (faulty_field e many (in_field k few before fault))
   field_fails k (inr (lacks, may)) many few before = inr (lacks, record { many = many; place = k; few = few; before = before; may = may })
 
-  -- the fact, where each of the first k fields is given
+  -- the fact, if each of the first k fields is given
   abbrev pub WhereGiven : ℕ → Type 0 → Type 0
   WhereGiven zero Fact = Fact
   WhereGiven (suc k) Fact = WhereGiven k (some k k v → Fact)
 
-  -- a fact that follows from all first fields together follows from each of them
+  -- a fact that follows from all of the first fields together, as a chain of implications
   pub where_given : (k : ℕ) (Fact : Type 0) → (GivesBefore some v k → Fact) → WhereGiven k Fact
   where_given zero Fact from = from tt
   where_given (suc k) Fact from = where_given k (some k k v → Fact) (λ before given. from (before, given))
 
-  -- the same of the field with this number, where those before it gave values
+  -- the same for the field with this number, if the fields before it gave values
   abbrev pub FieldFails : ℕ → Type 0
   FieldFails k = FaultsAt (faults k) v k e ⊎ ((e ≡ OutOfMemory) × MayLackAt (may_lack k) v k) → item_count v ≡ Ok count → k < count → WhereGiven k StructFails
 
-  -- the same as a fact of the field with any number
+  -- the same as a fact about the field with any number
   pub field_by : (k : ℕ) → FieldFails k
   field_by k fails many few = where_given k StructFails (λ before. field_fails k fails many few before)
 
-  -- each of the first seventeen fields, as a rule of its own
+  -- a separate rule for each of the first seventeen fields
   pub field_0 : FieldFails 0
   field_0 = field_by 0
 
@@ -213,7 +213,7 @@ module _ (count : ℕ) (some : ℕ → ℕ → View → Type 0) (faults : ℕ �
   pub field_16 : FieldFails 16
   field_16 = field_by 16
 
--- a list of another number of items is faulty
+-- a list with another number of items has a fault
 pub count_off : (n m : ℕ) (IsFaulty : View → DecoderError → Type 0) (v : View) → Ok m ≡ item_count v → m ≢ n → FaultsAsFields n IsFaulty v RlpIncorrectListLen
 count_off n m IsFaulty v is other = other_count m (sym is) other
 
@@ -240,7 +240,7 @@ pub ruleset struct_fields = (
   field_16,
 )
 
--- a view that isn't a list of that number of items is faulty
+-- a view that isn't a list of that number of items has a fault
 pub fields_off : (n : ℕ) (IsFaulty : View → DecoderError → Type 0) (v : View) (e : DecoderError) → FaultsAsFields n (λ _ _. ⊥) v e
     → FaultsAsFields n IsFaulty v e
 fields_off n IsFaulty v e (no_fields f none) = no_fields f none
@@ -250,12 +250,12 @@ fields_off n IsFaulty v e (faulty_field f is bad) = absurd bad
 -- a reader's places, one after another: each of the first k was read, and gave a value of its field
 module _ (count : ℕ) (some : ℕ → ℕ → View → Type 0) (faults : ℕ → View → DecoderError → Type 0) (may_lack : ℕ → View → Type 0) (v : View)
     (e : DecoderError) where
-  -- the fact, where each of the first k places was read by one that is now at (w, i)
+  -- the fact, if each of the first k places was read by a reader that is now at (w, i)
   abbrev pub WhereRead : ℕ → View → ℕ → Type 0 → Type 0
   WhereRead zero w i Fact = record { view = w; place = i } ≡ field_place v 0 → Fact
   WhereRead (suc k) w i Fact = (x : View) (j : ℕ) → record { view = w; place = i } ≡ field_place x (j + 1) → some k j x → WhereRead k x j Fact
 
-  -- a fact that follows from all first places together follows from each of them
+  -- a fact that follows from all of the first places together, as a chain of implications
   pub where_read : (k : ℕ) (w : View) (i : ℕ) (Fact : Type 0) → (w ≡ v → i ≡ k → GivesBefore some v k → Fact) → WhereRead k w i Fact
   where_read zero w i Fact from = λ at. from (ap (λ (f : FieldPlace). f.view) at) (ap (λ (f : FieldPlace). f.place) at) tt
   where_read (suc k) w i Fact from = λ x j at given. where_read k x j Fact (λ same here before.
@@ -268,7 +268,7 @@ module _ (count : ℕ) (some : ℕ → ℕ → View → Type 0) (faults : ℕ �
   NextFails k = (w : View) (i : ℕ) → FaultsAt (faults k) w i e ⊎ ((e ≡ OutOfMemory) × MayLackAt (may_lack k) w i) → item_count v ≡ Ok count → k < count
       → WhereRead k w i (StructFails count some faults may_lack v e)
 
-  -- the same as a fact of the place with any number
+  -- the same as a fact about the place with any number
   pub next_by : (k : ℕ) → NextFails k
   next_by k w i fails many few = where_read k w i (StructFails count some faults may_lack v e) (λ same here before.
       field_fails count some faults may_lack v e k
@@ -276,7 +276,7 @@ module _ (count : ℕ) (some : ℕ → ℕ → View → Type 0) (faults : ℕ �
       (subst (λ u. FaultsAt (faults k) u i e ⊎ ((e ≡ OutOfMemory) × MayLackAt (may_lack k) u i)) same fails))
       many few before)
 
-  -- each of the first seventeen fields, as a rule of its own
+  -- a separate rule for each of the first seventeen fields
   pub next_0 : NextFails 0
   next_0 = next_by 0
 

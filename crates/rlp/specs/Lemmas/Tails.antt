@@ -19,7 +19,7 @@ use Rattle.rlp.specs.Lemmas.StrictStructs.{PartsFrom, exact_at, parts_of_strict,
 use Rattle.rlp.specs.Lemmas.Structs.{HoldsFrom, WhereGiven, by_place, cons_same, first_back, holds_items, list_same, sound_by, where_given}
 use Rattle.rlp.specs.Lemmas.WholeLists.{parts_same, strict_item_count, strict_items, strict_list_told, whole_list, whole_sized}
 
--- ---- how many items there are
+-- ---- the number of items
 
 pub no_tail_enough : 0 ≤ 0
 no_tail_enough = omega arith
@@ -40,7 +40,7 @@ first_few item (Some x) xs most few = omega arith
 -- ---- a field that may be missing, and those after it
 
 module _ {A : Type 0} (Fits : A → Type 0) (item : A → Item) (gives : View → A → Type 0) (faults : View → DecoderError → Type 0) where
-  -- what a field and those after it give, they are
+  -- a field and the fields after it give exactly their values
   pub first_tail_alike : AlwaysReadsBack Fits item gives faults → (i : ℕ) (view : View) (o u : Option A) (xs ys : List Item) (FitsO FitsU givesU : Type 0)
       → (FitsO → HoldsFrom view (suc i) xs → length ys ≡ length xs → givesU ↔ (FitsU × (ys ≡ xs)))
       → FitsFirst Fits o FitsO xs → HoldsFrom view i (items_first item o xs) → length (items_first item u ys) ≡ length (items_first item o xs)
@@ -60,7 +60,7 @@ module _ {A : Type 0} (Fits : A → Type 0) (item : A → Item) (gives : View �
         λ ((fit', fits'), same). let parts = cons_same (item w) (item x) ys xs same in (one.1 (fit', parts.0), rest.1 (fits', parts.1)),
       )
 
-  -- and have no fault
+  -- and they have no fault
   pub first_tail_sound : AlwaysReadsBack Fits item gives faults
       → (faultMore : ℕ → View → DecoderError → Type 0) (i : ℕ) (view : View) (o : Option A) (xs : List Item) (FitsO : Type 0)
       → (FitsO → HoldsFrom view (suc i) xs → (k : ℕ) (e : DecoderError) → k < length xs → ¬ FaultsAt (faultMore k) view (suc i + k) e)
@@ -73,7 +73,7 @@ module _ {A : Type 0} (Fits : A → Type 0) (item : A → Item) (gives : View �
       let place : i + suc k ≡ suc i + k = omega arith in
       later fits others k e (omega arith) (subst (λ j. FaultsAt (faultMore k) view j e) place at)
 
-  -- read strictly, a field and those after it are given exactly by their whole encodings
+  -- if read strictly, a field and the fields after it are given exactly if the items are their whole encodings
   pub first_tail_exact : AlwaysReadsStrictly Fits item gives faults →
       (i : ℕ) (view : View) (parts : List (List ℕ)) (o : Option A) (xs : List Item) (FitsO givesO : Type 0)
       → ((more : List (List ℕ)) → PartsFrom view (suc i) more → length more ≡ length xs → givesO ↔ (FitsO × (more ≡ map encoding xs)))
@@ -89,7 +89,7 @@ module _ {A : Type 0} (Fits : A → Type 0) (item : A → Item) (gives : View �
         λ ((fit, fits), same). let both = parts_same part (encoding (item x)) parts (map encoding xs) same in (one.1 (fit, both.0), rest.1 (fits, both.1)),
       )
 
-  -- and have no fault there
+  -- and then they have no fault
   pub first_tail_exactly_sound : AlwaysReadsStrictly Fits item gives faults
       → (faultMore : ℕ → View → DecoderError → Type 0) (i : ℕ) (view : View) (parts : List (List ℕ)) (o : Option A) (xs : List Item) (FitsO : Type 0)
       → ((more : List (List ℕ)) → PartsFrom view (suc i) more → FitsO → more ≡ map encoding xs → (k : ℕ) (e : DecoderError) → k < length xs
@@ -112,7 +112,7 @@ module _ {A : Type 0} (Fits : A → Type 0) (item : A → Item) (gives : View �
 module _ {P : Type 0} (least most : ℕ) (Fits : P → Type 0) (items_of : P → List Item) (gives : ℕ → View → P → Type 0) (some : ℕ → ℕ → View → Type 0)
     (faults : ℕ → View → DecoderError → Type 0)
     (enough : (p : P) → least ≤ length (items_of p)) (few : (p : P) → length (items_of p) ≤ most) where
-  -- a view of as many items as a value's, none of which has a fault, has none
+  -- a view whose number of items is that of a value, and whose items have no fault, has no fault
   no_tailed_fault : (view : View) (p : P) → item_count view ≡ Ok (length (items_of p))
       → ((k : ℕ) (e : DecoderError) → k < length (items_of p) → ¬ FaultsAt (faults k) view k e) → (e : DecoderError)
       → ¬ FaultsAsTailed least most some faults view e
@@ -126,7 +126,7 @@ module _ {P : Type 0} (least most : ℕ) (Fits : P → Type 0) (items_of : P →
   zero_place : (k : ℕ) (view : View) (e : DecoderError) → FaultsAt (faults k) view k e → FaultsAt (faults k) view (0 + k) e
   zero_place k view e at = subst (λ j. FaultsAt (faults k) view j e) (let zero_add : k ≡ 0 + k = omega arith in zero_add) at
 
-  -- such a struct is read back where its fields are
+  -- such a struct is read back if its fields are
   pub tailed_reads_back : ((i : ℕ) (view : View) (p : P) → Fits p → HoldsFrom view i (items_of p) → (q : P)
       → length (items_of q) ≡ length (items_of p) → gives i view q ↔ (Fits q × (items_of q ≡ items_of p)))
       → ((i : ℕ) (view : View) (p : P) → Fits p → HoldsFrom view i (items_of p) → (k : ℕ) (e : DecoderError) → k < length (items_of p)
@@ -176,7 +176,7 @@ module _ {P : Type 0} (least most : ℕ) (Fits : P → Type 0) (items_of : P →
           (λ k e within at. sound 0 (strict_view_of b) (items b) p (tailed_parts is) fit
           (strict_items (items_of p) b (whole_sized (list_of (items_of p)) b fits is) is) k e within (zero_place k (strict_view_of b) e at))
 
-    -- and is read strictly where they are
+    -- and is read strictly if they are
     pub tailed_strict : AlwaysReadsStrictly Fits (λ p. list_of (items_of p)) (λ v p. (item_count v ≡ Ok (length (items_of p))) × gives 0 v p)
         (λ v e. FaultsAsTailed least most some faults v e)
     tailed_strict b p bytes fits = record {
@@ -187,17 +187,17 @@ module _ {P : Type 0} (least most : ℕ) (Fits : P → Type 0) (items_of : P →
 -- ---- rules for bodies that write such a struct
 
 module _ {A : Type 0} (Fits : A → Type 0) where
-  -- a field that is missing fits where none after it is there
+  -- a missing field fits if no field after it is present
   pub missing_fits : (o : Option A) (FitsMore : Type 0) (more : List Item) → o ≡ None → more ≡ [] → FitsFirst Fits o FitsMore more
   missing_fits None FitsMore more is none = none
   missing_fits (Some x) FitsMore more is none = absurd (let no : ⊥ = cc in no)
 
-  -- a field that is there fits where it does, and those after it
+  -- a field that is present fits if its value and the fields after it do
   pub present_fits : (o : Option A) (FitsMore : Type 0) (more : List Item) (x : A) → o ≡ Some x → Fits x → FitsMore → FitsFirst Fits o FitsMore more
   present_fits None FitsMore more x is fit fits = absurd (let no : ⊥ = cc in no)
   present_fits (Some y) FitsMore more x is fit fits = (let same : x ≡ y = cc in subst Fits same fit, fits)
 
--- a field that is missing adds no item
+-- a missing field adds no item
 pub missing_items : {A : Type 0} (item : A → Item) (o : Option A) (more : List Item) → o ≡ None → items_first item o more ≡ more
 missing_items item None more is = refl
 missing_items item (Some x) more is = absurd (let no : ⊥ = cc in no)
@@ -209,11 +209,11 @@ pub ruleset tailed_writing = (missing_fits, present_fits, missing_items)
 
 module _ (least most : ℕ) (some : ℕ → ℕ → View → Type 0) (faults : ℕ → View → DecoderError → Type 0) (may_lack : ℕ → View → Type 0) (v : View)
     (e : DecoderError) where
-  -- the fault is one of the struct, or memory may lack
+  -- the fault is one of the struct, or memory may be short
   abbrev pub TailedFails : Type 0
   TailedFails = FaultsAsTailed least most some faults v e ⊎ ((e ≡ OutOfMemory) × MayLackAsTailed some may_lack v)
 
-  -- the same of the item in place k, where those before it gave values
+  -- the same for the item at place k, if the items before it gave values
   abbrev pub ItemFails : ℕ → Type 0
   ItemFails k = FaultsAt (faults k) v k e ⊎ ((e ≡ OutOfMemory) × MayLackAt (may_lack k) v k) → (n : ℕ) → item_count v ≡ Ok n → k < n
       → WhereGiven 0 some faults may_lack v e k TailedFails
@@ -227,7 +227,7 @@ module _ (least most : ℕ) (some : ℕ → ℕ → View → Type 0) (faults : �
   item_by : (k : ℕ) → ItemFails k
   item_by k fails n many within = where_given 0 some faults may_lack v e k TailedFails (λ before. item_fails k n fails many within before)
 
-  -- each of the first twenty-four fields, as a rule of its own
+  -- a separate rule for each of the first twenty-four fields
   pub item_0 : ItemFails 0
   item_0 = item_by 0
 

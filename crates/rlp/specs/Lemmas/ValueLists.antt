@@ -1,4 +1,4 @@
--- Lists of values of a type whose encodings are read back: their encodings are read back too.
+-- The encodings of lists of values are read back if those of the values are.
 use Rattle.std.proofs.Common.{◌≡◌, ℕ, ◌^◌, ◌<◌, List, [], ◌∷◌, ◌++◌, length, map, subst, sym, ◌∙◌, ap, refl, arith, append-nil, length-append}
 use Rattle.std.specs.List.{All, AllByRecursion}
 use Rattle.std.proofs.lemmas.List.Elements.{All-from_recursion, recursion_from_All}
@@ -60,7 +60,7 @@ module _ {A : Type 0} (Fits : A → Type 0) (item : A → Item) (gives : View �
   no_list_fault b vs are back e (not_list is) = cc
   no_list_fault b vs are back e (faulty_in_list is first) = none_first vs first.before first.after first.reached e back (sym are ∙ first.all) first.is
 
-  -- a list of such values, of a type of which contracts see the values, is read back
+  -- a type whose values contracts see as lists of such values is read back
   pub list_reads_back : AlwaysReadsBack Fits item gives faults → {B : Type 0} (values : B → List A)
       → AlwaysReadsBack (λ b. All Fits (values b)) (λ b. list_of (map item (values b))) (λ v b. GivesList gives v (values b))
       (λ v e. FaultsAsList gives faults v e)

@@ -1,4 +1,4 @@
--- Bytes that are a list and nothing else.
+-- Bytes that are exactly one list.
 use Rattle.std.proofs.Common.{◌≡◌, ℕ, ◌+◌, ◌^◌, ◌<◌, ◌≤◌, inl, inr, ⊎_elim, true, false, List, [], ◌∷◌, ◌++◌, length, map, take, drop, refl, sym, ap}
 use Rattle.std.proofs.Common.{◌∙◌, subst, arith, ltb, leb-true, le-ltb, lt-ltb, le_refl, append-nil, length-append, take_at, drop_at, Option, Some}
 use Rattle.std.proofs.Common.{None, Result, Ok, Err}
@@ -22,9 +22,9 @@ use Rattle.rlp_format.specs.Lemmas.Frames.{Frames, encoding_item, framing_is, fr
 use Rattle.rlp_format.specs.Lemmas.Views.{items_of_list, list_shape, payload_bytes}
 use Rattle.rlp_format.specs.Lemmas.Numbered.{item_count-told, slice_get-item_at}
 
--- ---- a list whose strict fault is none is read whole
+-- ---- a list without a strict fault is read whole
 
--- b is a list's header and a payload of the length that it announces
+-- b is the header of a list and a payload of the announced length
 record IsWhole (b : List ℕ) (h n : ℕ) : Type 0 where
   inside : List ℕ
   is : b ≡ written_header 0xc0 n ++ inside
@@ -64,7 +64,7 @@ framed_whole b (Ok p) is none = record {
       (cases_lt (total_len p) (length b));
 }
 
--- what makes a list whole
+-- the conditions under which a list is whole
 pub record IsWholeList (b : List ℕ) : Type 0 where
   pub kind : begins_as_list b ≡ true
   pub framed : strict_fault b ≡ None
@@ -90,7 +90,7 @@ whole_parts b is =
     ∙ is in absurd (let none : ⊥ = cc in none))
     (cases_Bool (begins_as_list b))
 
--- the payload is the items and what follows them
+-- the payload is the items and the bytes that follow them
 pub payload_parts : (b : List ℕ) → AreBytes b → payload b ≡ concat (items b) ++ rest b
 unfolding items split rest
 payload_parts b bytes =
@@ -120,7 +120,7 @@ items_joined : (b : List ℕ) (xs : List Item) → AreBytes b → rest b ≡ [] 
 items_joined b xs bytes none same = payload_parts b bytes ∙ ap (λ r. concat (items b) ++ r) none ∙ append-nil (concat (items b)) ∙ ap concat same
     ∙ sym (join_is xs)
 
--- a whole list whose items are encodings is the encoding of their list
+-- a whole list whose items are encodings is the encoding of the list of these items
 pub whole_list : (b : List ℕ) (xs : List Item) → AreBytes b → strict_list_fault b ≡ None → items b ≡ map encoding xs → b ≡ encoding (list_of xs)
 unfolding strict_fault
 whole_list b xs bytes is same =
@@ -131,11 +131,11 @@ whole_list b xs bytes is same =
 
 -- ---- the encoding of a list is a whole list
 
--- an item whose encoding is the whole of a slice is sized
+-- an item whose encoding is a whole slice is sized
 pub whole_sized : (x : Item) (b : List ℕ) → length b < 2 ^ 64 → b ≡ encoding x → IsSized x
 whole_sized x b fits is = front_sized x b [] fits (is ∙ sym (append-nil (encoding x)))
 
--- equal lists of bytes have the same first ones, and the same others
+-- equal lists of bytes have the same first bytes, and the same others
 pub parts_same : (f g : List ℕ) (fs gs : List (List ℕ)) → f ∷ fs ≡ g ∷ gs → (f ≡ g) × (fs ≡ gs)
 parts_same f g fs gs e = (let h : f ≡ g = cc in h, let t : fs ≡ gs = cc in t)
 

@@ -1,12 +1,12 @@
-//! Truth values: the numbers 0 and 1.
+//! Truth values: written as the numbers 0 and 1.
 
 use crate::rlpin::Rlp;
 use crate::traits::{Decodable, RoundTrip, Scalar, StrictRead};
 use rlp_format::error::DecoderError;
 use std::alloc::Global;
 
-/// The number 0 or 1 of one byte; another one is `Custom("invalid boolean value")`. No memory is
-/// taken.
+/// Reads a number as `u8` does: 0 is `false` and 1 is `true`. Fails with
+/// `Custom("invalid boolean value")` for other numbers. It takes no memory.
 impl Decodable for bool {
     ghost use Rattle.rlp.specs.Values.ValueReading.{GivesBool, FaultsAsBool};
 

@@ -1,11 +1,11 @@
-//! Boxes: the item of what they hold.
+//! Boxes: written as the value that they hold.
 
 use crate::rlpin::Rlp;
 use crate::traits::{Decodable, RoundTrip, Scalar, StrictRead};
 use rlp_format::error::DecoderError;
 use std::alloc::Global;
 
-/// What its type reads, in a box.
+/// Reads a value of type `T`, and puts it into a box.
 impl<T: Decodable> Decodable for Box<T> {
     ghost use Rattle.std.specs.Prelude.{◌⊎◌};
     ghost use Rattle.rlp.specs.Values.ValueReading.{GivesSome};

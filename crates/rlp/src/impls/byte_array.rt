@@ -1,13 +1,13 @@
-//! Byte arrays: the string of the bytes.
+//! Byte arrays: written as the string of the bytes.
 
 use crate::rlpin::Rlp;
 use crate::traits::{Decodable, RoundTrip, Scalar, StrictRead};
 use rlp_format::error::DecoderError;
 use std::alloc::Global;
 
-/// Read from a string of exactly `N` bytes. It takes no memory.
+/// Reads a string of exactly `N` bytes. It takes no memory.
 ///
-/// A shorter string fails with `RlpIsTooShort`, and a longer one with `RlpIsTooBig`.
+/// Fails with `RlpIsTooShort` if the string is shorter, and with `RlpIsTooBig` if it is longer.
 impl<const N: usize> Decodable for [u8; N] {
     ghost use Rattle.std.specs.Prelude.{◌≡◌, length};
     ghost use Rattle.rlp_format.specs.Format.Item.{string};

@@ -1,11 +1,11 @@
-//! Byte strings: the string of the bytes.
+//! Byte strings: written as the string of the bytes.
 
 use crate::rlpin::Rlp;
 use crate::traits::{Decodable, RoundTrip, Scalar, StrictRead};
 use rlp_format::error::DecoderError;
 use std::alloc::Global;
 
-/// The bytes of a string, by one copy.
+/// Reads the bytes of a string, with one copy.
 impl Decodable for Vec<u8> {
     ghost use Rattle.rlp.specs.Values.ValueReading.{GivesBytes, FaultsAsBytes, GivesSome};
 

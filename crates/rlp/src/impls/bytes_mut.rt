@@ -1,4 +1,4 @@
-//! Buffers that grow: the string of the bytes.
+//! Buffers that grow: written as the string of the bytes.
 
 use crate::rlpin::Rlp;
 use crate::traits::{Decodable, RoundTrip, Scalar, StrictRead};
@@ -6,7 +6,7 @@ use bytes::BytesMut;
 use rlp_format::error::DecoderError;
 use std::alloc::Global;
 
-/// The bytes of a string, by one copy, as a buffer that grows.
+/// Reads the bytes of a string, with one copy, as a buffer that grows.
 impl Decodable for BytesMut {
     ghost use Rattle.rlp.specs.Values.ValueReading.{GivesBytes, FaultsAsBytes, GivesSome};
 

@@ -1,4 +1,4 @@
-//! Buffers that are shared with no copy: the string of the bytes.
+//! Buffers that are shared without a copy: written as the string of the bytes.
 
 use crate::rlpin::Rlp;
 use crate::traits::{Decodable, RoundTrip, Scalar, StrictRead};
@@ -6,7 +6,7 @@ use bytes::Bytes;
 use rlp_format::error::DecoderError;
 use std::alloc::Global;
 
-/// The bytes of a string, by one copy, as a buffer that is shared with no copy.
+/// Reads the bytes of a string, with one copy, as a buffer that is shared without a copy.
 impl Decodable for Bytes {
     ghost use Rattle.rlp.specs.Values.ValueReading.{GivesBytes, FaultsAsBytes, GivesSome};
 

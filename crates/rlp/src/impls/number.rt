@@ -1,4 +1,4 @@
-//! Numbers: the string of the digits to the base 256, the greatest first.
+//! Numbers: written as the string of their digits to the base 256, the most significant first.
 
 ghost use Rattle.std.specs.Prelude.{◌≡◌, ◌≤◌, ◌<◌, length, Ok, Err, IfOk, IfErr};
 ghost use Rattle.std.specs.Int.Digits.{number_from_digits};
@@ -12,7 +12,7 @@ use rlp_format::digits::{number_of, wide_number_of};
 use rlp_format::error::DecoderError;
 use std::alloc::Global;
 
-/// A number of one byte, read as `u64` is.
+/// Reads a number of at most one byte. Fails with the same errors as for `u64`.
 impl Decodable for u8 {
     ghost use Rattle.rlp.specs.Values.ValueReading.{GivesNumber, FaultsAsNumber};
 
@@ -30,7 +30,7 @@ impl Decodable for u8 {
     }
 }
 
-/// A number of two bytes, read as `u64` is.
+/// Reads a number of at most two bytes. Fails with the same errors as for `u64`.
 impl Decodable for u16 {
     ghost use Rattle.rlp.specs.Values.ValueReading.{GivesNumber, FaultsAsNumber};
 
@@ -48,7 +48,7 @@ impl Decodable for u16 {
     }
 }
 
-/// A number of four bytes, read as `u64` is.
+/// Reads a number of at most four bytes. Fails with the same errors as for `u64`.
 impl Decodable for u32 {
     ghost use Rattle.rlp.specs.Values.ValueReading.{GivesNumber, FaultsAsNumber};
 
@@ -66,10 +66,10 @@ impl Decodable for u32 {
     }
 }
 
-/// A number of at most eight bytes. No memory is taken.
+/// Reads a number of at most eight bytes. It takes no memory.
 ///
-/// A string of more bytes is `RlpIsTooBig`, and one that begins with a zero byte
-/// `RlpInvalidIndirection`: zero is the empty string.
+/// Fails with `RlpIsTooBig` if the string has more bytes, and with `RlpInvalidIndirection` if it
+/// begins with a zero byte. The number zero is the empty string.
 impl Decodable for u64 {
     ghost use Rattle.rlp.specs.Values.ValueReading.{GivesNumber, FaultsAsNumber};
 
@@ -87,7 +87,7 @@ impl Decodable for u64 {
     }
 }
 
-/// As `u64`.
+/// Reads a number as `u64` does.
 impl Decodable for usize {
     ghost use Rattle.rlp.specs.Values.ValueReading.{GivesNumber, FaultsAsNumber};
 
@@ -105,7 +105,7 @@ impl Decodable for usize {
     }
 }
 
-/// A number of at most sixteen bytes, read as `u64` is.
+/// Reads a number of at most sixteen bytes. Fails with the same errors as for `u64`.
 impl Decodable for u128 {
     ghost use Rattle.rlp.specs.Values.ValueReading.{GivesNumber, FaultsAsNumber};
 
@@ -123,7 +123,7 @@ impl Decodable for u128 {
     }
 }
 
-/// The digits of the number of at most `width` bytes that the view begins with.
+/// Returns the digits of the number of at most `width` bytes that the view begins with.
 #[tactic(auto, using(crate::specs::Lemmas::Numbers::number_answers))]
 pub(crate) fn number_digits<'a>(rlp: &Rlp<'a>, width: usize) -> Result<&'a [u8], DecoderError>
     ensures few { IfOk result (λ d. length d.now ≤ width) }
@@ -140,8 +140,8 @@ pub(crate) fn number_digits<'a>(rlp: &Rlp<'a>, width: usize) -> Result<&'a [u8],
     }
 }
 
-/// Tests whether these are the digits of a number of `width` bytes: how many they are first, and
-/// then the first of them.
+/// Tests whether these are the digits of a number of at most `width` bytes: first their number, and
+/// then the first digit.
 #[tactic(auto, using(crate::specs::Lemmas::Numbers::digit_faults))]
 fn check_digits(digits: &[u8], width: usize) -> Result<(), DecoderError>
     ensures few { IfOk result (λ _. length digits.now ≤ width) }

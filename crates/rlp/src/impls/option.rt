@@ -1,4 +1,4 @@
-//! Options: the list of no items, or of one.
+//! Options: written as a list of no items or of one item.
 
 ghost use Rattle.rlp.specs.Values.ListReading.{GivesOption, FaultsAsOption, MayLackAsOption};
 
@@ -7,10 +7,11 @@ use crate::traits::{Decodable, RoundTrip, StrictRead};
 use rlp_format::error::DecoderError;
 use std::alloc::Global;
 
-/// `None` of a list of no items, and of a list of one item its value. It looks at two items at most.
+/// Reads `None` from a list of no items, and `Some` of the item's value from a list of one item. It
+/// looks at two items at most.
 ///
-/// `RlpExpectedToBeList` where there is no byte or the first is one of a string, and
-/// `RlpIncorrectListLen` where there is more than one item.
+/// Fails with `RlpExpectedToBeList` if there are no bytes or the first byte is one of a string, and
+/// with `RlpIncorrectListLen` if there is more than one item.
 impl<T: Decodable> Decodable for Option<T> {
     ghost gives = { λ v o. GivesOption T.gives v o };
 

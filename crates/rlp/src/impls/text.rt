@@ -1,11 +1,12 @@
-//! Text: the string of its bytes in UTF-8.
+//! Text: written as the string of its bytes in UTF-8.
 
 use crate::rlpin::Rlp;
 use crate::traits::{Decodable, RoundTrip, Scalar, StrictRead};
 use rlp_format::error::DecoderError;
 use std::alloc::Global;
 
-/// The text of a string, by one copy. Bytes that aren't UTF-8 are `RlpExpectedToBeData`.
+/// Reads a string as text, with one copy. Fails with `RlpExpectedToBeData` if the bytes aren't
+/// UTF-8.
 impl Decodable for String {
     ghost use Rattle.std.specs.String.{string_bytes};
     ghost use Rattle.rlp.specs.Values.ValueReading.{GivesText, FaultsAsText, GivesSome};

@@ -10,7 +10,7 @@ use rlp_format::error::DecoderError;
 use rlp_streams::Uint;
 use std::alloc::Global;
 
-/// A number of at most `N` bytes, read as `u64` is.
+/// Reads a number of at most `N` bytes. Fails with the same errors as for `u64`.
 impl<const N: usize> Decodable for Uint<N> {
     ghost use Rattle.std.specs.Int.Digits.{number_from_digits};
     ghost use Rattle.rlp.specs.Values.ValueReading.{FaultsAsNumber, GivesNumber};
@@ -31,7 +31,7 @@ impl<const N: usize> Decodable for Uint<N> {
     }
 }
 
-/// These digits, with zeros in front of them.
+/// Returns the digits with zeros before them.
 fn padded<const N: usize>(digits: &[u8]) -> [u8; N]
     requires { length digits.now ≤ N }
     ensures { number_from_digits 256 result ≡ number_from_digits 256 digits.now }

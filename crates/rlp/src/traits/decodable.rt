@@ -1,4 +1,4 @@
-//! Values that are read.
+//! Types whose values are read.
 
 ghost use Rattle.std.specs.Prelude.{◌≡◌, IfOk, IfErr, ◌⊎◌};
 ghost use Rattle.rlp_format.specs.declared.error.DecoderError.{DecoderError};
@@ -9,11 +9,11 @@ use crate::rlpin::Rlp;
 use rlp_format::error::DecoderError;
 use std::alloc::Global;
 
-/// A value that is read from the front of a view.
+/// A type whose values are read from the beginning of a view.
 ///
-/// An implementation says which views give which values and which have which faults, and `decode`
-/// answers nothing else. Most read one string by
-/// [`BasicDecoder::decode_value`](crate::BasicDecoder::decode_value), or another type's value by
+/// An implementation says which values and which faults each view gives. `decode` returns nothing
+/// else. Most implementations read one string by
+/// [`BasicDecoder::decode_value`](crate::BasicDecoder::decode_value), or a value of another type by
 /// [`Rlp::as_val`].
 ///
 /// ```rust
@@ -37,17 +37,18 @@ pub trait Decodable: Sized + Drop {
     /// The view gives the value.
     ghost gives: { View → Self → Type 0 };
 
-    /// The view gives no value, for this reason.
+    /// The view gives no value, and this is the error.
     ghost faults: { View → DecoderError → Type 0 };
 
-    /// Reading the view may answer `OutOfMemory` where memory is refused. A view that gives no value
-    /// mostly has its fault and not this.
+    /// Reading the view can fail with `OutOfMemory`, if memory is refused. This mostly doesn't hold
+    /// for a view that gives no value: reading then fails with the view's fault.
     ghost may_lack_memory: { View → Type 0 };
 
-    /// The value that the view begins with. The types of this crate ignore what follows its item.
+    /// Reads the value that the view begins with. The types of this crate ignore bytes that follow
+    /// its item.
     ///
-    /// The faults are the type's own, and `OutOfMemory` where memory may lack for the view and is
-    /// refused.
+    /// Fails with a fault of the type, or with `OutOfMemory` if memory may be short for the view
+    /// and is refused.
     fn decode(alloc: Global, rlp: &Rlp<'_>) -> Result<Self, DecoderError>
         ensures value { IfOk result (λ v. gives rlp.now v) }
         ensures fault { IfErr result (λ e. (faults rlp.now e) ⊎ ((e ≡ OutOfMemory)

@@ -1,4 +1,4 @@
--- A bounded list is open only while it awaits an item.
+-- A list with an announced number of items is open only while it awaits an item.
 use Rattle.std.proofs.Common.{ℕ, zero, suc, ◌<◌, ◌≡◌, false, List, [], ◌∷◌, ◌++◌, Option, Some, None, arith}
 use Rattle.std.specs.List.{AllByRecursion}
 use Rattle.std.proofs.lemmas.Bool.{cond_both, leb-false}
@@ -16,7 +16,7 @@ Awaits l = AwaitsSome l.awaits
 abbrev Await : {A : Type 0} → List (OpenList A) → Type 0
 Await lists = AllByRecursion Awaits lists
 
--- a count that closes no list leaves one that awaits some
+-- after a count that closes no list, the list awaits more items
 pub await-after : (k : ℕ) (awaits : Option ℕ) → AwaitsSome awaits → is_last k awaits ≡ false → AwaitsSome (awaits_after k awaits)
 await-after k None some open_still = tt
 await-after k (Some n) some open_still = let more : k < n = leb-false n k open_still in omega arith
@@ -49,7 +49,7 @@ await-effect (append_internal (list xs)) s all = await-count list_encoding 1 _ s
 await-effect (encode_value t) s all = all
 await-effect clear s all = tt
 
--- no call leaves a bounded list open that awaits nothing
+-- no call leaves a list with an announced number of items open that awaits none
 pub all_await-effect : (c : Call) (s : State) → AllAwait s.stack.lists → AllAwait (effect c s).stack.lists
 all_await-effect c s all =
     All-from_recursion Awaits (effect c s).stack.lists (await-effect c s (recursion_from_All Awaits s.stack.lists all))

@@ -1,4 +1,4 @@
--- What closing does, step by step, and what counting leaves.
+-- What closing does, step by step, and the state after counting.
 use Rattle.std.proofs.Common.{◌≡◌, ℕ, zero, suc, ◌+◌, ◌-◌, ◌*◌, ◌<◌, ◌≤◌, Bool, true, false, cond, List, [], ◌∷◌, ◌++◌, length, take, drop, reverse}
 use Rattle.std.proofs.Common.{get_or, set, Option, refl, sym, ◌∙◌, ap, subst, arith, length-append, length-drop, ⊎_elim}
 use Rattle.std.proofs.lemmas.Bool.{cases_lt}
@@ -18,8 +18,8 @@ reverse_push ps p = reverse-append ps (p ∷ [])
 
 -- ---- finding the growth
 
--- how far the search for full lists has come: how many were found, and by how much they make the buffer grow; the next are `ps`, of which the
--- innermost ends at `left`, with `tail` bytes behind that
+-- the progress of the search for full lists: the number of lists found, and the number of bytes by which they make the buffer grow. The next lists are `ps`,
+-- whose innermost ends at `left`, with `tail` bytes after it
 pub record Planned (k end : ℕ) (whole : List Placeholder) (closing grown left tail counts : ℕ) (ps : List Placeholder) : Type 0 where
   pub closes : filled k whole ≡ closing + filled counts ps
   pub grows : growth (filled k whole) end 0 whole ≡ grown + growth (filled counts ps) left tail ps
@@ -30,7 +30,7 @@ pub record Planned (k end : ℕ) (whole : List Placeholder) (closing grown left 
 
 -- ---- closing in place
 
--- how far closing has come: the bytes from `to` on are final, those below `from` stand as before, and n lists of `ps` are left to be closed
+-- the progress of closing: the bytes from `to` on are final, the bytes below `from` are unchanged, and n lists of `ps` are still to be closed
 pub record Closes (whole : List ℕ) (n : ℕ) (bytes : List ℕ) (from to : ℕ) (ps : List Placeholder) : Type 0 where
   pub known : closed_bytes n (take from bytes) (drop to bytes) ps ≡ whole
   pub room : from + growth n from (length bytes - to) ps ≡ to
@@ -38,7 +38,7 @@ pub record Closes (whole : List ℕ) (n : ℕ) (bytes : List ℕ) (from to : ℕ
   pub order : Descends from ps
   pub enough : n ≤ length ps
 
--- the last header is written right behind the bytes that stay
+-- the last header is written right after the bytes that stay
 pub closes_all : (whole : List ℕ) (bytes : List ℕ) (from to : ℕ) (ps : List Placeholder) → Closes whole 0 bytes from to ps → bytes ≡ whole
 closes_all whole bytes from to ps h =
     let same : to ≡ from = omega (arith, h.room) in
@@ -51,7 +51,7 @@ header_some len =
     (λ short. let e : header_len len ≡ 1 = ap length (written_header_short 0xc0 len short) in omega arith)
     (cases_lt 55 len)
 
--- how many bytes there are once lists are closed
+-- the number of bytes after lists are closed
 pub length-closed_bytes : (n : ℕ) (b tail : List ℕ) (ps : List Placeholder) → Descends (length b) ps
     → length (closed_bytes n b tail ps) ≡ length b + length tail + growth n (length b) (length tail) ps
 length-closed_bytes zero b tail ps order = omega (arith, length-append b tail)
@@ -74,7 +74,7 @@ growth_more : (n from tail len : ℕ) (p : Placeholder) (ps : List Placeholder) 
     → growth (suc n) from tail (p ∷ ps) ≡ (header_len (len + tail) - 1) + growth n p.position (header_len (len + tail) + (len + tail)) ps
 growth_more n from tail len p ps is = let e : from - (p.position + 1) ≡ len = omega arith in rw e refl
 
--- there is room for the header in front of the stretch, and for the headers of the lists around
+-- there is room for the header before the bytes, and for the headers of the lists around
 pub closes_room : (whole : List ℕ) (n : ℕ) (bytes : List ℕ) (from to : ℕ) (p : Placeholder) (ps : List Placeholder) (len at : ℕ)
     → Closes whole (suc n) bytes from to (p ∷ ps) → len + (p.position + 1) ≡ from → at + len ≡ to
     → p.position + growth n p.position (header_len (len + (length bytes - to)) + (len + (length bytes - to))) ps + header_len (len + (length bytes - to)) ≡ at
@@ -83,7 +83,7 @@ closes_room whole n bytes from to p ps len at h is goes =
     let some = header_some (len + (length bytes - to)) in
     omega (arith, h.room, step, some)
 
--- one more list is closed: its last stretch goes to its last place, and its header is written in front of it
+-- one more list is closed: its last bytes are moved to their final place, and its header is written before them
 pub closes_more : (whole : List ℕ) (n : ℕ) (bytes : List ℕ) (from to : ℕ) (p : Placeholder) (ps : List Placeholder) (len at low : ℕ) (moved placed : List ℕ)
     → Closes whole (suc n) bytes from to (p ∷ ps) → len + (p.position + 1) ≡ from → at + len ≡ to
     → moved ≡ take at bytes ++ (take len (drop (p.position + 1) bytes) ++ drop (at + len) bytes)
@@ -143,7 +143,7 @@ closes_more whole n bytes from to p ps len at low moved placed h is goes moves f
       enough = omega (arith, h.enough);
     }
 
--- the same where the list is the last of those in the order in which they were opened
+-- the same, if the list is the last in the order in which they were opened
 pub closes_popped : (whole : List ℕ) (left n : ℕ) (bytes : List ℕ) (from to : ℕ) (lists rest : List Placeholder) (p : Placeholder)
     → Closes whole left bytes from to (reverse lists) → lists ≡ rest ++ p ∷ [] → left ≡ suc n → Closes whole (suc n) bytes from to (p ∷ reverse rest)
 closes_popped whole left n bytes from to lists rest p h is more =
@@ -156,7 +156,7 @@ pub dropped_popped : (left n : ℕ) (lists rest : List Placeholder) (p : Placeho
 dropped_popped left n lists rest p is more =
     ap (λ m. drop m (reverse lists)) more ∙ ap (λ ps. drop (suc n) ps) (ap reverse is ∙ reverse_push rest p)
 
--- a stretch that was shifted leaves the length as it was
+-- moving bytes doesn't change the length
 shifted_len : (bytes : List ℕ) (begin len at : ℕ) → begin ≤ at → at + len ≤ length bytes
     → length (take at bytes ++ (take len (drop begin bytes) ++ drop (at + len) bytes)) ≡ length bytes
 shifted_len bytes begin len at forward within =
@@ -172,7 +172,7 @@ shifted_len bytes begin len at forward within =
       length-drop (at + len) bytes,
     )
 
--- the header fits between the placeholder and the stretch
+-- the header fits between the placeholder and the moved bytes
 pub closes_fits : (whole : List ℕ) (n : ℕ) (bytes : List ℕ) (from to : ℕ) (p : Placeholder) (ps : List Placeholder) (len at : ℕ) (moved : List ℕ)
     → Closes whole (suc n) bytes from to (p ∷ ps) → len + (p.position + 1) ≡ from → at + len ≡ to
     → moved ≡ take at bytes ++ (take len (drop (p.position + 1) bytes) ++ drop (at + len) bytes)
@@ -185,7 +185,7 @@ closes_fits whole n bytes from to p ps len at moved h is goes moves =
     let header_is : header_len (length moved - at) ≡ header_len (len + (length bytes - to)) = ap header_len payload in
     (omega (arith, room, header_is), omega (arith, len_moved, h.within))
 
--- what stands left of the closed lists, by the list that was taken from the others
+-- the bytes before the closed lists, by the list that was taken from the others
 pub left_popped : (left n end : ℕ) (lists rest : List Placeholder) (p : Placeholder) → lists ≡ rest ++ p ∷ [] → left ≡ suc n
     → left_of left end (reverse lists) ≡ left_of n p.position (reverse rest)
 left_popped left n end lists rest p is more =
@@ -209,7 +209,7 @@ counted_one (p ∷ ps) = counted_by (is_last 1 p.awaits) 1 p ps refl (counted_on
     cond_same true = refl
     cond_same false = refl
 
--- after a count, the innermost list that stays open awaits fewer by what was counted in it
+-- after a count, the innermost list that stays open awaits fewer items, by the number of items counted in it
 pub counted_is : (k more : ℕ) (ps : List Placeholder) → (filled k ps ≡ 0 → more ≡ k) → (0 < filled k ps → more ≡ 1)
     → counted k ps ≡ with_innermost (awaits_after more) (drop (filled k ps) ps)
 counted_is k more [] none some = refl
@@ -223,17 +223,17 @@ counted_is k more (p ∷ ps) none some = with_more (is_last k p.awaits) refl
         let closes : filled k (p ∷ ps) ≡ 0 = rw e refl in
         counted_by false k p ps e (counted_one ps) ∙ ap (λ m. with_innermost (awaits_after m) (drop (filled k (p ∷ ps)) (p ∷ ps))) (sym (none closes))
 
--- what a stretch that is shifted adds to the bytes moved
+-- the number of moved bytes grows by the length of the bytes that are moved
 pub moved_within : (begin at len old new : ℕ) → begin ≤ at → (begin < at → new ≡ old + len) → (begin ≡ at → new ≡ old) → new ≤ old + len
 moved_within begin at len old new forward counts stays =
     ⊎_elim (λ before. omega (arith, counts before)) (λ after. omega (arith, stays (omega arith))) (cases_lt begin at)
 
--- and it takes nothing back
+-- and it doesn't shrink
 pub moved_more : (begin at len old new : ℕ) → begin ≤ at → (begin < at → new ≡ old + len) → (begin ≡ at → new ≡ old) → old ≤ new
 moved_more begin at len old new forward counts stays =
     ⊎_elim (λ before. omega (arith, counts before)) (λ after. omega (arith, stays (omega arith))) (cases_lt begin at)
 
--- places that descend from a lower place do so from a higher one
+-- places that descend from a lower place also descend from a higher one
 pub descends_le : (low high : ℕ) (ps : List Placeholder) → low ≤ high → Descends low ps → Descends high ps
 descends_le low high [] le d = tt
 descends_le low high (p ∷ ps) le d = (omega (arith, d.0), d.1)
@@ -252,7 +252,7 @@ set_last_reversed change n (u ∷ ps) p q some last is new =
     let with : Placeholder → Placeholder = λ r. record r { awaits = change r.awaits } in
     back ∙ ap (λ z. z ∷ ps) (new ∙ ap with same)
 
--- the last place, set with what it awaits changed, is the innermost list changed
+-- changing what the last list awaits changes the innermost list
 pub set_last : (change : Option ℕ → Option ℕ) (n : ℕ) (lists : List Placeholder) (p q : Placeholder) → 0 < length lists → n ≡ length lists - 1
     → p ≡ get_or lists n p → q ≡ record p { awaits = change p.awaits }
     → reverse (set lists n q) ≡ with_innermost change (reverse lists)
@@ -261,7 +261,7 @@ set_last change n lists p q some last is new =
     subst (λ ls. reverse (set ls n q) ≡ with_innermost change (reverse lists)) same
     (set_last_reversed change n (reverse lists) p q (rw same some) (rw same last) (rw same is) new)
 
--- a stretch that stands in its place already
+-- bytes that are already at their place
 pub shifted_none : (bytes : List ℕ) (from len to : ℕ) → from ≡ to → bytes ≡ take to bytes ++ (take len (drop from bytes) ++ drop (to + len) bytes)
 shifted_none bytes from len to same =
     let back : take len (drop to bytes) ++ drop (to + len) bytes ≡ drop to bytes =

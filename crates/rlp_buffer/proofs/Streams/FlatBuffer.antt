@@ -1,4 +1,4 @@
--- How the state that a stream's bytes stand for follows what is put, opened and counted.
+-- How putting, opening and counting change the state that a stream's bytes represent.
 use Rattle.std.proofs.Common.{◌≡◌, ℕ, zero, suc, nat_eq, nat_lt, ◌+◌, ◌<◌, ◌≤◌, Bool, true, false, IsTrue, cond, List, [], ◌∷◌, ◌++◌, length, take}
 use Rattle.std.proofs.Common.{drop, Some, refl, sym, ◌∙◌, ap, arith, append_assoc, append-nil, length-append, length-drop, subst}
 use Rattle.std.proofs.lemmas.Bool.{cond_both}
@@ -36,7 +36,7 @@ laid_descends start b (p ∷ ps) h =
     let within = h.0.within in
     (h.0.within, rw (length-take-le p.position b (omega arith)) at (laid_descends start (take p.position b) ps h.1))
 
--- what was left of the innermost placeholder
+-- the bytes before the innermost placeholder begin with the same front
 pub below_front : (start : ℕ) (b : List ℕ) (p : Placeholder) (ps : List Placeholder) → IsLaid start b (p ∷ ps) → take start (take p.position b) ≡ take start b
 below_front start b p ps h =
     let within = h.0.within in
@@ -64,7 +64,7 @@ placed_append b x p h =
     (ap (λ c. c ++ x) h.placeholder ∙ append_assoc (take p.position b) (0 ∷ drop (p.position + 1) b) x) in
     record { within = omega (arith, length-append b x); placeholder = placeholder; awaits_some = h.awaits_some }
 
--- with bytes more at the end the open lists are laid as before
+-- with more bytes at the end, the layout of the open lists is as before
 pub laid_append : (start : ℕ) (b x : List ℕ) (ps : List Placeholder) → IsLaid start b ps → IsLaid start (b ++ x) ps
 laid_append start b x [] h = omega (arith, length-append b x, h)
 laid_append start b x (p ∷ ps) h =
@@ -110,7 +110,7 @@ count_laid_by false k start b tail p ps e h around =
     let within = h.0.within in
     rw (e, drop-append-le (p.position + 1) b tail (omega arith), take-append-le p.position b tail (omega arith)) refl
 
--- closing all the lists that the count fills is counting, where `tail` was put behind the bytes
+-- closing all lists that the count fills is counting, if `tail` was put after the bytes
 pub count_laid : (k start : ℕ) (b tail : List ℕ) (ps : List Placeholder) → IsLaid start b ps
     → stack_of start (closed_bytes (filled k ps) b tail ps) (counted k ps)
     ≡ count_around list_encoding k (drop (begin_of start ps) b ++ tail) (lists_of start b ps)
@@ -141,7 +141,7 @@ laid_counted_with k start b tail (p ∷ ps) h =
     laid_counted_by (is_last k p.awaits) k start b tail p ps refl h
     (laid_counted_with 1 start (take p.position b) (list_encoding (drop (p.position + 1) b ++ tail)) ps h.1)
 
--- the lists that a count leaves open are laid in what it leaves of the bytes
+-- the lists that a count leaves open have their layout in the bytes that it leaves
 pub laid_counted : (k start : ℕ) (b : List ℕ) (ps : List Placeholder) → IsLaid start b ps → IsLaid start (closed_bytes (filled k ps) b [] ps) (counted k ps)
 laid_counted k start b ps h = laid_counted_with k start b [] ps h
 
@@ -154,9 +154,9 @@ state_counted k start b ps m n h e =
     count_laid k start b [] ps h ∙ ap (λ payload. count_around list_encoding k payload (lists_of start b ps)) (append-nil (drop (begin_of start ps) b)) in
     rw (front_closed (filled k ps) start b [] ps h, stack, e) refl
 
--- ---- the mark, and how many lists are left
+-- ---- the mark, and the number of lists that are left
 
--- a list was closed where the mark is true after a count
+-- if the mark is true after a count, a list was closed
 pub mark_laid : (k start : ℕ) (b : List ℕ) (p : Placeholder) (ps : List Placeholder) (m : Bool)
     → mark_after k (lists_of start b (p ∷ ps)) m ≡ nat_lt 0 (filled k (p ∷ ps))
 mark_laid k start b p ps m = by_full (is_last k p.awaits) (filled 1 ps)
@@ -178,7 +178,7 @@ length_counted k (p ∷ ps) =
 length_list_encoding : (payload : List ℕ) → length payload < length (list_encoding payload)
 length_list_encoding payload = omega (arith, length-append (written_header 0xc0 (length payload)) payload, header_some (length payload))
 
--- closing takes no byte away
+-- closing removes no byte
 length_closed : (n start : ℕ) (b tail : List ℕ) (ps : List Placeholder) → IsLaid start b ps → length b + length tail ≤ length (closed_bytes n b tail ps)
 length_closed zero start b tail ps h = omega (arith, length-append b tail)
 length_closed (suc n) start b tail [] h = omega (arith, length-append b tail)
@@ -217,7 +217,7 @@ inner_closed p [] = omega arith
 inner_closed p (l ∷ ls) =
     omega (arith, inner_closed (l.outer ++ list_encoding p) ls, length-append l.outer (list_encoding p), length_list_encoding p)
 
--- what closings moved is at most the closed size
+-- the number of bytes that closings moved is at most the closed size
 pub moved_counted : (k start : ℕ) (b : List ℕ) (ps : List Placeholder) (n : Bool) (old new : ℕ) → IsLaid start b ps
     → new + left_of (filled k ps) (length b) ps ≤ old + length b
     → new ≤ old + closed_size (state_of start (closed_bytes (filled k ps) b [] ps) (counted k ps) n)
@@ -230,9 +230,9 @@ moved_counted k start b ps n old new h moved =
     inner_closed (drop begin after) (lists_of start after (counted k ps)) in
     omega (arith, moved, longer, low, inner, length-drop begin after)
 
--- ---- as a stream's methods cite it
+-- ---- rules for the methods of a stream
 
--- the mark after a count, where some list is open
+-- the mark after a count, if a list is open
 pub mark_open : (k start : ℕ) (b : List ℕ) (ps : List Placeholder) (m n : Bool) → 0 < length ps → n ≡ nat_lt 0 (filled k ps)
     → n ≡ mark_after k (lists_of start b ps) m
 mark_open k start b [] m n some e = absurd (let no : 0 < 0 = some in omega arith)
@@ -245,17 +245,17 @@ state_put_counted k start b x ps m n h e =
     state_counted k start (b ++ x) ps m n (laid_append start b x ps h) (e ∙ ap (λ ls. mark_after k ls m) (sym (lists_append start b x ps h)))
     ∙ ap (count k) (state_put start b x ps m h)
 
--- a number that isn't 0 is greater
+-- a number that isn't 0 is greater than 0
 pub not_empty : (n : ℕ) → false ≡ nat_eq n 0 → 0 < n
 not_empty n e = grind (arith, nat_tests)
 
--- ---- an unbounded list is finalized: it is closed as one that awaits its last item
+-- ---- an unbounded list is finalized: it is closed like a list that awaits its last item
 
--- the lists, of which the innermost awaits one item
+-- the lists, with one item awaited by the innermost
 abbrev pub with_last : List Placeholder → List Placeholder
 with_last ps = with_innermost (λ _. Some 1) ps
 
--- a list that awaits one item is laid as it was
+-- a list that awaits one item has the same layout
 pub laid_last : (start : ℕ) (b : List ℕ) (ps : List Placeholder) → IsLaid start b ps → IsLaid start b (with_last ps)
 laid_last start b [] h = h
 laid_last start b (p ∷ ps) h = (record { within = h.0.within; placeholder = h.0.placeholder; awaits_some = omega arith }, h.1)

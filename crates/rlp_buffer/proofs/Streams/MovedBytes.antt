@@ -1,4 +1,4 @@
--- Bytes that are brought to a later place, one by one from the last on.
+-- Bytes that are moved to a later place, one by one from the last on.
 use Rattle.std.proofs.Common.{◌≡◌, ℕ, suc, ◌+◌, ◌≤◌, List, ◌∷◌, ◌++◌, length, take, drop, sym, ap, subst, ◌∙◌, arith, take-append-drop, length-append}
 use Rattle.std.proofs.Common.{length-drop}
 use Rattle.std.proofs.Math.ListN.{set, get_or}
@@ -8,7 +8,7 @@ use Rattle.std.proofs.lemmas.List.{take-set-le, take-take, get_or-take, drop_mor
 use Rattle.std.proofs.lemmas.Slice.{take-put_mid, drop-put_mid}
 use Rattle.std.proofs.lemmas.Grind.{drop-set_at}
 
--- how far that has come: how many bytes are left, and how many stand `gap` places later
+-- the progress of this: the number of bytes that are left, and the number of bytes that are already `gap` places later
 pub record Brought (old bytes : List ℕ) (gap left done : ℕ) : Type 0 where
   pub front : take (gap + left) bytes ≡ take (gap + left) old
   pub back : drop (gap + left) bytes ≡ take done (drop left old)
@@ -16,7 +16,7 @@ pub record Brought (old bytes : List ℕ) (gap left done : ℕ) : Type 0 where
 shorter : (m n : ℕ) (bs cs : List ℕ) → m ≤ n → take n bs ≡ take n cs → take m bs ≡ take m cs
 shorter m n bs cs le e = sym (take-take m n bs le) ∙ ap (take m) e ∙ take-take m n cs le
 
--- one more
+-- one more byte
 pub brought_next : (old bytes : List ℕ) (gap some left done more at : ℕ) → some ≡ suc left → more ≡ suc done → length bytes ≡ length old
     → gap + some ≤ length old → at ≡ left
     → Brought old bytes gap some done → Brought old (set bytes (at + gap) (get_or bytes at 0)) gap left more
@@ -38,7 +38,7 @@ brought_next old bytes gap some left done more at one_less one_more same within 
           ∙ ap (λ b. b ∷ drop (at + gap + 1) bytes) byte ∙ ap (λ bs. get_or old left 0 ∷ bs) others ∙ brought;
     })
 
--- a stretch and what it is brought over, as a part of the bytes
+-- the moved bytes and the bytes that they are moved over, as a part of all bytes
 pub moved_up : (b new : List ℕ) (from len to k gap : ℕ) → from + gap ≡ to → to + len ≤ length b → k ≡ gap + len
     → new ≡ take gap (take k (drop from b)) ++ take len (take k (drop from b))
     → put_mid from k b new ≡ take to b ++ (take len (drop from b) ++ drop (to + len) b)

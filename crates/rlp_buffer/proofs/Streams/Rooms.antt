@@ -18,22 +18,22 @@ use Rattle.rlp_buffer.proofs.Streams.States.{raw_text-put, raw_text-with_list}
 use Rattle.rlp_buffer.proofs.Streams.FlatBuffer.{raw_state, laid_append, laid_counted, laid_descends, laid_last, with_last, state_put_counted, state_finalized}
 use Rattle.rlp_buffer.proofs.Streams.ClosedSize.{length-lists_of}
 
--- a stream that stays gives nothing up
+-- a stream that doesn't change gives up no room
 pub retains_same : (a : Seen) → Retains a a
 unfolding Retains
 retains_same a = record { moved = omega arith; room = omega arith; list_room = omega arith }
 
--- nor do two calls where neither does
+-- two calls give up no room if neither does
 pub retains_trans : (a b c : Seen) → Retains a b → Retains b c → Retains a c
 unfolding Retains
 retains_trans a b c g h =
     record { moved = omega (arith, g.moved, h.moved); room = omega (arith, g.room, h.room); list_room = omega (arith, g.list_room, h.list_room) }
 
--- what a stream with this layout shows
+-- the state of a stream with this layout
 abbrev pub seen_of : ℕ → List ℕ → List Placeholder → Bool → ℕ → ℕ → ℕ → Seen
 seen_of start b ps m spare capacity moved = record { state = state_of start b ps m; spare = spare; spare_lists = capacity - length ps; moved = moved }
 
--- nothing is given up where neither the buffer nor the open lists do
+-- no room is given up if neither the buffer nor the open lists give up room
 pub retains_laid : (start start' : ℕ) (b b' : List ℕ) (ps ps' : List Placeholder) (m m' : Bool) (spare spare' capacity capacity' moved moved' : ℕ)
     → IsLaid start b ps → IsLaid start' b' ps' → moved ≤ moved' → length b + spare ≤ length b' + spare' → length ps ≤ capacity → capacity ≤ capacity'
     → Retains (seen_of start b ps m spare capacity moved) (seen_of start' b' ps' m' spare' capacity' moved')
@@ -47,7 +47,7 @@ retains_laid start start' b b' ps ps' m m' spare spare' capacity capacity' moved
       list_room = omega (arith, length-lists_of start b ps, length-lists_of start' b' ps', few, lists);
     }
 
--- A count that was refused had no room for its bytes: `more` of them were to be put behind those of the stream, and make b with them.
+-- A count that was refused had no room for its bytes: `more` bytes were to be put after those of the stream, and together they are b.
 short_of : (k start : ℕ) (b : List ℕ) (ps : List Placeholder) (n : Bool) (v : Seen) (more : ℕ) (t : State) → IsLaid start b ps
     → length (raw_text v.state) + more ≡ length b
     → state_of start (closed_bytes (filled k ps) b [] ps) (counted k ps) n ≡ t → (2 ^ 63 ≤ length b)
@@ -59,7 +59,7 @@ short_of k start b ps n v more t laid before is short has =
     let state = ap (λ s. length (raw_text s)) is in
     ⊎_elim (λ many. omega (arith, has.few, size, bytes, state, many)) (λ few. omega (arith, has.enough, size, bytes, state, before, few)) short
 
--- so had one of items, after bytes were put
+-- a refused count of items, after bytes are put, had no room for them
 pub short_to_count : (k start : ℕ) (b x : List ℕ) (ps : List Placeholder) (m : Bool) (v : Seen) → IsLaid start b ps → v.state ≡ state_of start b ps m
     → (2 ^ 63 ≤ length (b ++ x)) ⊎ (v.spare < length x + growth (filled k ps) (length (b ++ x)) 0 ps) → HasRoomFor v (count k (put x v.state)) → ⊥
 short_to_count k start b x ps m v laid is short has =
@@ -69,7 +69,7 @@ short_to_count k start b x ps m v laid is short has =
     short_of k start (b ++ x) ps n v (length x) (count k (put x v.state)) (laid_append start b x ps laid) (omega (arith, before, now, length-append b x))
     (state_put_counted k start b x ps m n laid refl ∙ ap (λ s. count k (put x s)) (sym is)) short has
 
--- and one that finalizes a list
+-- a refused count that finalizes a list had no room either
 pub short_to_finalize : (start : ℕ) (b : List ℕ) (ps qs : List Placeholder) (m : Bool) (spare : ℕ) (v : Seen) → IsLaid start b ps
     → IsTrue (is_unbounded (lists_of start b ps)) → qs ≡ with_last ps → v.state ≡ state_of start b ps m → v.spare ≡ spare
     → (2 ^ 63 ≤ length (b ++ [])) ⊎ (spare < 0 + growth (filled 1 qs) (length (b ++ [])) 0 qs) → HasRoomFor v (with_mark true (count 1 (shut v.state))) → ⊥
@@ -84,11 +84,11 @@ short_to_finalize start b ps qs m spare v laid unbounded last is room short has 
     short_of 1 start b (with_last ps) true v 0 (with_mark true (count 1 (shut v.state))) (laid_last start b ps laid) (omega (arith, before, now))
     (state_finalized start b ps m laid unbounded ∙ ap (λ s. with_mark true (count 1 (shut s))) (sym is)) lacks has
 
--- nor had a string that is put
+-- a refused string had no room in the stream
 pub short_to_put : (x : List ℕ) (v : Seen) → v.spare < length x → HasRoomFor v (put x v.state) → ⊥
 short_to_put x v short has = omega (arith, has.enough, short, ap length (raw_text-put x v.state), length-append (raw_text v.state) x)
 
--- ---- a count takes no byte away
+-- ---- a count removes no byte
 
 state_with : List ℕ → Bool → Stack ℕ → State
 state_with f m s = record { front = f; stack = s; mark = m }
@@ -127,7 +127,7 @@ room_to_put (list xs) v has = record { enough = has.enough; few = has.few }
 
 -- ---- all bytes of a finished stream
 
--- with no list open, the bytes are the front and what stands at the top
+-- if no list is open, the bytes are the front and the top payload
 pub finished_bytes : (start : ℕ) (b : List ℕ) (ps : List Placeholder) (m : Bool) (s : State) → state_of start b ps m ≡ s → IsFinished s
     → b ≡ s.front ++ s.stack.inner
 finished_bytes start b [] m s is finished = sym (take-append-drop start b) ∙ ap (λ (t : State). t.front ++ t.stack.inner) is

@@ -1,4 +1,4 @@
--- What moves do to the texts of a stream's state.
+-- How the steps of a stream change the texts of its state.
 use Rattle.std.proofs.Common.{◌≡◌, ℕ, ◌+◌, ◌<◌, ◌≤◌, ◌^◌, nat_le, arith, Bool, true, false, cond, List, [], ◌∷◌, ◌++◌, length, replicate, flat_map}
 use Rattle.std.proofs.Common.{Option, refl, sym, ap, ◌∙◌, append-nil, append_assoc, length-append}
 use Rattle.std.proofs.lemmas.Bool.Decides.{nat_tests}
@@ -12,14 +12,14 @@ use Rattle.rlp_buffer.specs.Streams.Calls.{effect, finalize_unbounded_list, is_w
 use Rattle.rlp_buffer.specs.Streams.Stream.{State, IsFinished, list_encoding, put, shut, count, with_list, add, put_item, is_list, raw_text}
 use Rattle.rlp_buffer.specs.Streams.Stream.{closed_text, closed_size, closed_size_with}
 
--- ---- what is closed
+-- ---- the closed text
 
 closed_shut_around : (f : List ℕ) (p : List ℕ) (ls : List (OpenList ℕ)) (m : Bool)
     → closed_text (shut (record { front = f; stack = record { inner = p; lists = ls }; mark = m })) ≡ closed_payload_around list_encoding p ls
 closed_shut_around f p [] m = refl
 closed_shut_around f p (l ∷ ls) m = refl
 
--- closing a list leaves the closed text as it was
+-- closing a list doesn't change the closed text
 pub closed_text-shut : (s : State) → closed_text (shut s) ≡ closed_text s
 closed_text-shut s = closed_shut_around s.front s.stack.inner s.stack.lists s.mark
 
@@ -36,7 +36,7 @@ closed_count_around k p [] = refl
 closed_count_around k p (l ∷ ls) =
     cond_closed (is_last k l.awaits) _ _ _ (closed_count_around 1 (l.outer ++ list_encoding p) ls) refl
 
--- so does a count
+-- neither does a count
 pub closed_text-count : (k : ℕ) (s : State) → closed_text (count k s) ≡ closed_text s
 closed_text-count k s = closed_count_around k s.stack.inner s.stack.lists
 
@@ -86,11 +86,11 @@ within_size-within bytes limit s within =
 
 pub ruleset within_size = (within_size-found, within_size-too_large, within_size-within)
 
--- with no list open, all that was written is closed
+-- if no list is open, the closed text is all that was written
 pub closed_text-finished : (s : State) → IsFinished s → closed_text s ≡ s.stack.inner
 closed_text-finished s e = ap (closed_payload_around list_encoding s.stack.inner) e
 
--- the front and what is closed are all the bytes then
+-- the bytes are then the front and the closed text
 pub out_size : (s : State) → IsFinished s → length (s.front ++ s.stack.inner) ≡ length s.front + closed_size s
 out_size s e = length-append s.front s.stack.inner ∙ ap (λ b. length s.front + length b) (sym (closed_text-finished s e))
 
@@ -100,7 +100,7 @@ out_size s e = length-append s.front s.stack.inner ∙ ap (λ b. length s.front 
 abbrev levels_bytes : List (Level ℕ) → List ℕ
 levels_bytes = flat_map (λ (l : Level ℕ). 0 ∷ l.payload)
 
--- the last level's bytes stand last
+-- the bytes of the last level are the last bytes
 levels_last : (top : List ℕ) (around : List (Level ℕ)) (l : Level ℕ) → top ++ levels_bytes (around ++ l ∷ []) ≡ (top ++ levels_bytes around) ++ (0 ∷ l.payload)
 levels_last top around l =
     let split : levels_bytes (around ++ l ∷ []) ≡ levels_bytes around ++ ((0 ∷ l.payload) ++ []) =

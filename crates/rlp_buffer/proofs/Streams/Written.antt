@@ -1,4 +1,4 @@
--- Headers and strings as they are written.
+-- Headers and strings that are written.
 use Rattle.std.proofs.Common.{◌≡◌, ℕ, ◌+◌, ◌-◌, ◌<◌, ◌≤◌, List, ◌∷◌, [], ◌++◌, length, take, drop, length-append, length-drop, append-nil, true}
 use Rattle.std.proofs.Common.{false, refl, sym, ap, ◌∙◌, arith, add-one, append_assoc}
 use Rattle.std.proofs.lemmas.Bool.{cond-true, cond-false}
@@ -19,7 +19,7 @@ encoding_other : (s : List ℕ) → is_low_byte s ≡ false → encoding (string
 unfolding encoding
 encoding_other s e = cond-false (is_low_byte s) s (written_header 0x80 (length s) ++ s) e
 
--- the first byte of a long header, set in front of the digits
+-- the first byte of a long header, before the digits
 pub header_set : (base n zeros first : ℕ) (bytes : List ℕ) → 55 < n → drop zeros bytes ≡ big_endian n → zeros + length (big_endian n) ≡ 8
     → zeros ≤ length bytes → first ≡ base + 55 + (8 - zeros)
     → drop zeros (slice_set (0 ∷ bytes) zeros first) ≡ written_header base n
@@ -29,11 +29,11 @@ header_set base n zeros first bytes long digits len within is =
     drop-set (0 ∷ bytes) zeros first (omega arith) ∙ ap (λ ds. first ∷ ds) (after ∙ digits) ∙ ap (λ d. d ∷ big_endian n) value
     ∙ sym (written_header_long base n long)
 
--- header and string, one after the other, behind what was there
+-- the header and the string, after the old bytes
 pub header_and_string : (old s : List ℕ) → is_low_byte s ≡ false → (old ++ written_header 0x80 (length s)) ++ s ≡ old ++ encoding (string s)
 header_and_string old s e = append_assoc old (written_header 0x80 (length s)) s ∙ ap (λ b. old ++ b) (sym (encoding_other s e))
 
--- a part is inserted where the bytes behind it were brought further
+-- a part is inserted at a place from which the bytes were moved further
 pub inserted : (b part moved : List ℕ) (at n : ℕ) → n + at + length part ≡ length b
     → moved ≡ take (at + length part) b ++ (take n (drop at b) ++ drop ((at + length part) + n) b)
     → take at moved ++ (part ++ drop (at + length part) moved) ≡ take at b ++ (part ++ take n (drop at b))
@@ -58,11 +58,11 @@ pub rest_from : (b slice : List ℕ) (start : ℕ) → slice ≡ b → take (len
 rest_from b slice start same =
     take_all (length slice - start) (drop start slice) (omega (arith, length-drop start slice)) ∙ ap (λ z. drop start z) same
 
--- a string that is its own encoding needs none
+-- a string that is its own encoding needs no header
 pub header_none : (b : List ℕ) (start : ℕ) → is_low_byte (drop start b) ≡ true → b ≡ take start b ++ encoding (string (drop start b))
 header_none b start low = sym (ap (λ z. take start b ++ z) (encoding_low (drop start b) low) ∙ take-append-drop start b)
 
--- how long an encoding with a header is
+-- the length of an encoding with a header
 pub encoding_length : (s header : List ℕ) (room : ℕ) → is_low_byte s ≡ false → header ≡ written_header 0x80 (length s)
     → room < length header + length s → room < length (encoding (string s))
 encoding_length s header room other is less =

@@ -13,7 +13,7 @@ use Rattle.rlp_format.specs.Lemmas.Digits.{big_endian_zero, big_endian_digit, bi
 
 -- ---- the number that digits write
 
--- what fewer than eight bytes write
+-- fewer than eight bytes write a number below 2^56
 pub number_below : (s : List ℕ) (i : ℕ) → AreBytes s → i < 8 → number_from_digits 256 (take i s) < 2 ^ 56
 number_below s i bytes few = digits_fit 7 (take i s) (All-take (λ byte. byte < 2 ^ 8) i s bytes) (omega (arith, length-take i s))
 
@@ -42,7 +42,7 @@ number-halves ds k e =
 
 pub ruleset halves = (number-halves)
 
--- ---- a number's bytes, and the zeros in front of its digits
+-- ---- the bytes of a number, and the leading zeros before its digits
 
 -- a byte of n is the one below it of n / 256
 byte_above : (k n : ℕ) → byte_at (suc k) n ≡ byte_at k (n / 256)
@@ -58,7 +58,7 @@ length-bytes_high_first : (k n : ℕ) → length (bytes_high_first k n) ≡ k
 length-bytes_high_first zero n = refl
 length-bytes_high_first (suc k) n = ap suc (length-bytes_high_first k n)
 
--- as many bytes as n has digits are its digits
+-- if the number of bytes is that of the digits of n, the bytes are the digits
 digits_high_first : (k n : ℕ) → 256 ^ k ≤ n → n < 256 ^ suc k → bytes_high_first (suc k) n ≡ big_endian n
 digits_high_first zero n low high =
     let whole : n % 256 ≡ n = omega arith in
@@ -74,7 +74,7 @@ drop-bytes_high_first zero k m n e = let same : m ≡ k = omega arith in ap (λ 
 drop-bytes_high_first (suc z) k zero n e = absurd (omega arith)
 drop-bytes_high_first (suc z) k (suc m) n e = drop-bytes_high_first z k m n (omega arith)
 
--- what the count of leading zero bits says of the number of a number's bytes
+-- the leading zero bytes of a number, by the count of its leading zero bits
 record LeadingBytes (m n : ℕ) : Type 0 where
   pub digits : drop (count_leading_zeros (8 * m) n / 8) (bytes_high_first m n) ≡ big_endian n
   pub len : count_leading_zeros (8 * m) n / 8 + length (big_endian n) ≡ m
@@ -111,7 +111,7 @@ leading_bytes m zero small =
     }
 leading_bytes m (suc n) small = some_bytes m (suc n) (omega arith) small
 
--- behind the zeros in front, the eight bytes of a number are its digits
+-- after the leading zeros, the eight bytes of a number are its digits
 pub leading_digits : (n : ℕ) → n < 2 ^ 64 → drop (count_leading_zeros 64 n / 8) (bytes_high_first 8 n) ≡ big_endian n
 leading_digits n small = (leading_bytes 8 n small).digits
 
@@ -119,7 +119,7 @@ leading_digits n small = (leading_bytes 8 n small).digits
 pub leading_len : (n : ℕ) → n < 2 ^ 64 → count_leading_zeros 64 n / 8 + length (big_endian n) ≡ 8
 leading_len n small = (leading_bytes 8 n small).len
 
--- the same of a number of sixteen bytes
+-- the same for a number of sixteen bytes
 pub wide_leading_digits : (n : ℕ) → n < 2 ^ 128 → drop (count_leading_zeros 128 n / 8) (bytes_high_first 16 n) ≡ big_endian n
 wide_leading_digits n small = (leading_bytes 16 n small).digits
 

@@ -1,4 +1,4 @@
--- Bytes that follow a framed item make no difference to what is read of it.
+-- Bytes that follow a framed item don't change what is read from it.
 use Rattle.std.proofs.Common.{◌≡◌, ℕ, ◌<◌, Bool, true, false, List, [], ◌∷◌, ◌++◌, length, take, drop, Result, Ok, Err, refl, sym, ap, ◌∙◌, arith}
 use Rattle.std.proofs.Common.{length-append, length-drop, subst, take-append-drop, ◌≤◌}
 use Rattle.std.proofs.lemmas.List.{take-append-le, drop-append-le}
@@ -13,14 +13,14 @@ use Rattle.rlp_format.specs.Views.Depth.{depth, depth_by, framed_depth}
 use Rattle.rlp_format.specs.Lemmas.Frames.{Frames, frame_item, framing_reads, longer, framing_is, value_is, item_some}
 use Rattle.rlp_format.proofs.Views.Texts.{text_is, depth_is}
 
--- what follows a framed item makes no difference to its header
+-- bytes that follow a framed item don't change its header
 pub framing-followed : (f more : List ℕ) → IsFramedItem f → framing (f ++ more) ≡ framing f
 framing-followed f more is =
     let whole = is.whole in
     framing_is (f ++ more) is.header_len is.value_len (longer more is.has_header) (omega (arith, length-append f more))
     ∙ sym (framing_is f is.header_len is.value_len is.has_header (omega arith))
 
--- nor to its value
+-- nor its value
 pub value-followed : (f more : List ℕ) → IsFramedItem f → value (f ++ more) ≡ value f
 value-followed f more is =
     let whole = is.whole in
@@ -43,7 +43,7 @@ begins-followed : (f more : List ℕ) → 0 < length f → begins_as_list (f ++ 
 begins-followed [] more some = absurd (omega arith)
 begins-followed (first ∷ rest) more some = refl
 
--- nor to its items
+-- nor its items
 pub items-followed : (f more : List ℕ) → IsFramedItem f → items (f ++ more) ≡ items f
 unfolding items payload
 items-followed f more is =
@@ -67,7 +67,7 @@ text_by-followed (first ∷ rest) more is some =
     text_of_same (f ++ more) f (begins_as_list f) (value (f ++ more)) (items-followed f more is)
     ∙ ap (λ v. framed_text text f (begins_as_list f) v) (value-followed f more is)
 
--- nor to its text
+-- nor its text
 pub text-followed : (f more : List ℕ) → IsFramedItem f → text (f ++ more) ≡ text f
 text-followed f more is = text_is (f ++ more) ∙ text_by-followed f more is (item_some f is) ∙ sym (text_is f)
 
@@ -77,6 +77,6 @@ depth_by-followed f more is =
     ∙ depth_of_same (f ++ more) f (begins_as_list f) (value (f ++ more)) (items-followed f more is)
     ∙ ap (λ v. framed_depth depth f (begins_as_list f) v) (value-followed f more is)
 
--- nor to its depth
+-- nor its depth
 pub depth-followed : (f more : List ℕ) → IsFramedItem f → depth (f ++ more) ≡ depth f
 depth-followed f more is = depth_is (f ++ more) ∙ depth_by-followed f more is ∙ sym (depth_is f)

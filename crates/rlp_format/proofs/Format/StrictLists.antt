@@ -1,4 +1,4 @@
--- Whether a strict view is a list and nothing else.
+-- Whether a strict view is exactly one list.
 use Rattle.std.proofs.Common.{◌≡◌, ℕ, zero, suc, ◌+◌, ◌<◌, Bool, true, false, List, [], ◌∷◌, ◌++◌, length, drop, refl, sym, ap, ◌∙◌, arith}
 use Rattle.std.proofs.Common.{length-append, ◌==◌, Option, Some, None, Ok, Result, Err, IfOk, MatchResult}
 use Rattle.std.specs.List.{concat}
@@ -12,7 +12,7 @@ use Rattle.rlp_format.specs.Format.Strict.{after_items, fault_of_some, first_fau
 use Rattle.rlp_format.specs.Views.View.{View, item_count, items_fault, list_fault}
 use Rattle.rlp_format.specs.Lemmas.Numbered.{item_count-fault, item_count-told}
 
--- ---- what follows the items of a payload
+-- ---- the bytes after the items of a payload
 
 drop-more : (n : ℕ) (s t : List ℕ) → drop (length s + n) (s ++ t) ≡ drop n t
 drop-more n [] t = ap (λ m. drop m t) (let same : 0 + n ≡ n = omega arith in same)
@@ -39,7 +39,7 @@ pub fault_of_some-some : (p : List ℕ) → 0 < length p → fault_of_some p ≡
 fault_of_some-some [] some = absurd (omega arith)
 fault_of_some-some (byte ∷ more) some = refl
 
--- what follows the items of a list
+-- the bytes after the items of a list
 pub rest-after : (b : List ℕ) → rest b ≡ after_items (payload b)
 unfolding rest items
 rest-after b = refl
@@ -54,15 +54,15 @@ some_bytes (c ∷ b) is = omega arith
 
 -- ---- the fault of a list
 
--- a lenient view has none
+-- a lenient view has no such fault
 pub list_lenient : (v : View) → v.is_strict ≡ false → list_fault v ≡ None
 list_lenient v lenient = cond-false v.is_strict (strict_list_fault v.bytes) None lenient
 
--- a strict one has that of its bytes
+-- a strict view has that of its bytes
 pub list_strict : (v : View) (o : Option DecoderError) → v.is_strict ≡ true → strict_list_fault v.bytes ≡ o → list_fault v ≡ o
 list_strict v o strict is = cond-true v.is_strict (strict_list_fault v.bytes) None strict ∙ is
 
--- bytes that begin as no list
+-- bytes that don't begin as a list
 pub strict_not_begun : (b : List ℕ) → false ≡ begins_as_list b → strict_list_fault b ≡ Some RlpExpectedToBeList
 unfolding strict_list_fault
 strict_not_begun b kind = cond-false (begins_as_list b) _ _ (sym kind)
@@ -82,7 +82,7 @@ pub value-payload : (b q : List ℕ) → true ≡ begins_as_list b → value b �
 unfolding payload
 value-payload b q kind is = sym (ap (λ k. payload_in k (value b)) (sym kind) ∙ ap (payload_in true) is)
 
--- a list and nothing else has the fault of what follows the items in it
+-- bytes that are exactly one list have the fault of the bytes that follow the items in it
 pub strict_whole : (b q : List ℕ) → true ≡ begins_as_list b → strict_fault b ≡ None → value b ≡ Ok q → fault_of_some (after_items q) ≡ strict_list_fault b
 strict_whole b q kind none is = ap (λ p. fault_of_some (after_items p)) (value-payload b q kind is) ∙ sym (begun b None kind none)
 

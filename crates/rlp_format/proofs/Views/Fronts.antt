@@ -20,17 +20,17 @@ pub front_frame : (b item : List ℕ) (p : PayloadInfo) → framing b ≡ Ok p �
 unfolding frame
 front_frame b item p is same = ap (map_ok (λ q. take (total_len q) b)) is ∙ ap Ok (sym same)
 
--- where none stands there
+-- bytes that aren't framed have no frame
 pub front_frame_fault : (b : List ℕ) (e : DecoderError) → framing b ≡ Err e → frame b ≡ Err e
 unfolding frame
 front_frame_fault b e is = ap (map_ok (λ q. take (total_len q) b)) is
 
--- nor a value
+-- and no value
 pub front_value_fault : (b : List ℕ) (e : DecoderError) → framing b ≡ Err e → value b ≡ Err e
 unfolding value
 front_value_fault b e is = ap (map_ok (λ q. take q.value_len (drop q.header_len b))) is
 
--- the value is what follows the header in the item
+-- the value is the bytes after the header of the item
 pub front_value : (b item : List ℕ) (p : PayloadInfo) → framing b ≡ Ok p → item ≡ take (total_len p) b
     → value b ≡ Ok (take (length item - p.header_len) (drop p.header_len item))
 unfolding value
@@ -38,7 +38,7 @@ front_value b item p is same =
     ap (map_ok (λ q. take q.value_len (drop q.header_len b))) is
     ∙ ap Ok (sym (take_rest item p.header_len ∙ ap (drop p.header_len) same ∙ drop-take p.header_len p.value_len b))
 
--- the item alone has the same value
+-- the item without the bytes after it has the same value
 pub front_item_value : (b item : List ℕ) (p : PayloadInfo) → AreBytes b → framing b ≡ Ok p → item ≡ take (total_len p) b
     → value item ≡ Ok (take (length item - p.header_len) (drop p.header_len item))
 front_item_value b item p bytes is same = ap value same ∙ value-front b p bytes is ∙ front_value b item p is same
@@ -48,13 +48,13 @@ pub front_item : (b item : List ℕ) (p : PayloadInfo) → HasHeader b p.header_
     → IsFramedItem item
 front_item b item p has within same = subst IsFramedItem (sym same) (frame_item b p.header_len p.value_len has within)
 
--- the item is as long as its header says
+-- the length of the item is the one that its header announces
 pub front_ends : (b item : List ℕ) (p : PayloadInfo) → total_len p ≤ length b → item ≡ take (total_len p) b → total_len p ≡ length item
 front_ends b item p within same = sym (ap length same ∙ length-take-le (total_len p) b within)
 
--- ---- what follows the item
+-- ---- the bytes after the item
 
--- bytes that are the item and nothing else have no strict fault
+-- bytes that are exactly the item have no strict fault
 pub whole_front : (b item others : List ℕ) (p : PayloadInfo) → framing b ≡ Ok p → total_len p ≡ length item → b ≡ item ++ others
     → true ≡ (length others == 0) → strict_fault b ≡ None
 unfolding strict_fault
@@ -63,7 +63,7 @@ whole_front b item others p is long whole none =
     ap (strict_fault_in b) is ∙ cond-false (ltb (total_len p) (length b)) _ _
     (le-ltb (total_len p) (length b) (omega (arith, ap length whole, length-append item others)))
 
--- bytes that go on have one
+-- if other bytes follow the item, they have a strict fault
 pub long_front : (b item others : List ℕ) (p : PayloadInfo) → framing b ≡ Ok p → total_len p ≡ length item → b ≡ item ++ others
     → false ≡ (length others == 0) → strict_fault b ≡ Some RlpIsTooBig
 unfolding strict_fault
@@ -72,12 +72,12 @@ long_front b item others p is long whole some =
     ap (strict_fault_in b) is ∙ cond-true (ltb (total_len p) (length b)) _ _
     (lt-ltb (total_len p) (length b) (omega (arith, ap length whole, length-append item others)))
 
--- so do bytes that aren't framed
+-- bytes that aren't framed have one too
 pub faulty_front : (b : List ℕ) (e : DecoderError) → framing b ≡ Err e → strict_fault b ≡ Some e
 unfolding strict_fault
 faulty_front b e is = ap (strict_fault_in b) is
 
--- whether bytes go on
+-- whether other bytes follow the item
 pub followed_front : (b item others : List ℕ) (p : PayloadInfo) → framing b ≡ Ok p → total_len p ≡ length item → b ≡ item ++ others
     → not (length others == 0) ≡ is_followed b
 unfolding is_followed
@@ -87,7 +87,7 @@ followed_front b item (byte ∷ others) p is long whole =
     let some : (length (byte ∷ others) == 0) ≡ false = grind (arith, nat_tests) in
     ap not some ∙ sym (ap (is_longer b) is ∙ lt-ltb (total_len p) (length b) (omega (arith, ap length whole, length-append item (byte ∷ others))))
 
--- bytes that aren't framed don't
+-- no bytes follow if the bytes aren't framed
 pub followed_fault : (b : List ℕ) (e : DecoderError) → framing b ≡ Err e → false ≡ is_followed b
 unfolding is_followed
 followed_fault b e is = sym (ap (is_longer b) is)

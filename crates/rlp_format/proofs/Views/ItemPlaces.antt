@@ -1,4 +1,4 @@
--- Where the items of a list stand, as a walk over them goes.
+-- The places of the items of a list, found by going over them.
 use Rattle.std.proofs.Common.{ℕ, zero, suc, ◌+◌, ◌-◌, ◌<◌, ◌≤◌, ◌≡◌, true, false, List, [], ◌∷◌, ◌++◌, length, take, drop, get_or, Some, None, Ok}
 use Rattle.std.proofs.Common.{Err, refl, sym, ◌∙◌, ap, arith, append_assoc, append-nil, length-append, length-drop, length-take-le, add-one, ltb}
 use Rattle.std.proofs.Common.{lt-ltb, le-ltb, drop_at}
@@ -12,7 +12,7 @@ use Rattle.rlp_format.specs.Views.View.{View, item_with_place, items_fault}
 use Rattle.rlp_format.specs.Lemmas.Numbered.{item_with_place-fault, item_with_place-told}
 use Rattle.rlp_format.proofs.Format.Splits.{drop-next, drop-inside}
 
--- the fault of bytes that have none of the headers
+-- the fault of bytes without any of the headers
 pub fault-err : (b : List ℕ) (e : DecoderError) → framing b ≡ Err e → e ≡ fault b
 unfolding fault
 fault-err b e is = sym (ap fault_in is)
@@ -40,17 +40,17 @@ concat-more : (xs : List (List ℕ)) (x : List ℕ) → concat (xs ++ x ∷ []) 
 concat-more [] x = append-nil x
 concat-more (y ∷ xs) x = ap (λ zs. y ++ zs) (concat-more xs x) ∙ sym (append_assoc y (concat xs) x)
 
--- after the first k items of b, this stands in its payload
+-- the bytes of the payload of b after its first k items
 pub record IsWalked (b : List ℕ) (k : ℕ) (left : List ℕ) : Type 0 where
   pub others : split left ≡ drop k (items b)
   pub whole : payload b ≡ concat (take k (items b)) ++ left
 
--- the walk begins with no item taken, before the whole payload
+-- the walk begins with no item taken and the whole payload left
 pub walked-none : (b p : List ℕ) → p ≡ payload b → IsWalked b 0 p
 unfolding items
 walked-none b p e = record { others = ap split e; whole = sym e }
 
--- the walk goes on past one item
+-- the walk goes on after one item
 pub walked-one : (b item others left : List ℕ) (k : ℕ) → IsWalked b k left → split left ≡ item ∷ split others → left ≡ item ++ others
     → IsWalked b (k + 1) others
 walked-one b item others left k is parts whole =
@@ -64,7 +64,7 @@ walked-one b item others left k is parts whole =
           ∙ ap (λ n. concat (take n (items b))) (sym (add-one k)));
     }
 
--- the item that a walk of i items comes to, and its place
+-- the item after i items of a walk, and its place
 pub walked-item : (v : View) (item : List ℕ) (i n : ℕ) (p : PayloadInfo) (others left : List ℕ) → items_fault v ≡ None → framing v.bytes ≡ Ok p
     → n ≡ length (payload v.bytes)
     → IsWalked v.bytes i left → split left ≡ item ∷ split others → left ≡ item ++ others
@@ -82,7 +82,7 @@ walked-item v item i n p others left kind is long walked parts whole =
     ∙ sym (cond-true (ltb i (length (items v.bytes))) _ _ (lt-ltb i (length (items v.bytes)) inside))
     ∙ sym (item_with_place-told v i (Ok p) kind is)
 
--- past the last item stands the fault of what follows the items
+-- after the last item, the fault is that of the bytes that follow the items
 pub walked-past : (v : View) (i k : ℕ) (p : PayloadInfo) (left : List ℕ) (e : DecoderError) → items_fault v ≡ None → framing v.bytes ≡ Ok p
     → IsWalked v.bytes k left → split left ≡ [] → e ≡ fault left → k ≤ i
     → Err e ≡ item_with_place v i
@@ -106,7 +106,7 @@ not_framed_item v i e told is = sym (item_with_place-told v i (Err e) told is)
 pub not_told_item : (v : View) (i : ℕ) (e : DecoderError) → items_fault v ≡ Some e → Err e ≡ item_with_place v i
 not_told_item v i e is = sym (item_with_place-fault v i e is)
 
--- what a walk has before it, in bytes
+-- the bytes that are left for a walk
 pub walked-length : (b item others left : List ℕ) (k n : ℕ) → IsWalked b k left → left ≡ item ++ others → n ≡ length (payload b)
     → length item + length others ≤ n
 walked-length b item others left k n is whole long =

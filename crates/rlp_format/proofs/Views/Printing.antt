@@ -1,4 +1,4 @@
--- The text and the depth of bytes of each kind, as their items come one after another.
+-- The text and the depth of bytes of each kind, by their items one after another.
 use Rattle.std.proofs.Common.{◌≡◌, ℕ, suc, ◌-◌, ◌<◌, ◌≤◌, max, true, false, List, [], ◌∷◌, ◌++◌, length, map, fold, codes, refl, sym, ap, ◌∙◌, subst}
 use Rattle.std.proofs.Common.{arith, Ok, Err, Result, append_assoc, append-nil, IsTrue, ◌↔◌}
 use Rattle.std.proofs.lemmas.Bool.{false≢true}
@@ -11,7 +11,7 @@ use Rattle.rlp_format.specs.Views.Text.{error_name, hex, separated, framed_text,
 use Rattle.rlp_format.specs.Views.Depth.{greatest, framed_depth, depth}
 use Rattle.rlp_format.proofs.Views.Texts.{AllWithinLength, items_short, items_nil, text_is, depth_is}
 
--- what is written before an item, after these
+-- the separator before the next item, after these texts
 abbrev pub separator_after : List (List ℕ) → List ℕ
 separator_after [] = []
 separator_after (t ∷ ts) = codes ", "
@@ -23,7 +23,7 @@ separated-more (u ∷ v ∷ ts) t =
     append_assoc (u ++ codes ", ") (separated (v ∷ ts)) (codes ", " ++ t)
     ∙ ap (λ s. (u ++ codes ", ") ++ s) (separated-more (v ∷ ts) t)
 
--- behind some text a comma and a space stand before the next
+-- after some text, a comma and a space are written before the next item
 pub separator_after-more : (ts : List (List ℕ)) (t : List ℕ) → codes ", " ≡ separator_after (ts ++ t ∷ [])
 separator_after-more [] t = refl
 separator_after-more (u ∷ ts) t = refl
@@ -32,7 +32,7 @@ separator_after-map : (done : List (List ℕ)) → separator_after (map text don
 separator_after-map [] = refl
 separator_after-map (b ∷ done) = refl
 
--- one item more is written, after its separator
+-- one more item is written, after its separator
 pub texts-more : (done : List (List ℕ)) (b separator : List ℕ) → separator ≡ separator_after done
     → separated (map text done) ++ (separator ++ text b) ≡ separated (map text (done ++ b ∷ []))
 texts-more done b separator e =
@@ -42,7 +42,7 @@ texts-more done b separator e =
 
 -- ---- the text of each kind of bytes
 
--- bytes that aren't none are some
+-- bytes that aren't empty have a first byte
 pub length-some : (b : List ℕ) → (b ≡ [] → IsTrue false) → 0 < length b
 length-some [] other = absurd (false≢true (other refl))
 length-some (first ∷ more) other = omega arith
@@ -51,7 +51,7 @@ no_value : (v : List ℕ) → value [] ≡ Ok v → ⊥
 unfolding value framing header
 no_value v is = cc
 
--- bytes that have a value are some
+-- bytes that have a value aren't empty
 pub length-framed : (b v : List ℕ) → value b ≡ Ok v → 0 < length b
 length-framed [] v is = absurd (no_value v is)
 length-framed (first ∷ more) v is = omega arith
@@ -107,11 +107,11 @@ depth-string b kind = depth_is b ∙ ap (λ k. framed_depth depth b k (value b))
     plain (Ok v) = refl
     plain (Err e) = refl
 
--- what has a fault has depth 0
+-- bytes with a fault have depth 0
 pub depth-fault : (b : List ℕ) (e : DecoderError) → value b ≡ Err e → depth b ≡ 0
 depth-fault b e is = depth_is b ∙ ap (framed_depth depth b (begins_as_list b)) is
 
--- the depth of a list is 1 more than the greatest of its items
+-- the depth of a list is 1 more than the greatest depth of its items
 pub depth-list : (b v : List ℕ) → begins_as_list b ≡ true → value b ≡ Ok v → depth b ≡ suc (greatest (map depth (items b)))
 depth-list b v kind is = depth_is b ∙ ap (λ k. framed_depth depth b k (value b)) kind ∙ ap (framed_depth depth b true) is
 
@@ -131,14 +131,14 @@ max-bounded : (ns : List ℕ) (a n limit : ℕ) → fold max a ns ≤ limit → 
 max-bounded [] a n limit l k = omega arith
 max-bounded (m ∷ ns) a n limit l k = max-bounded ns (max a m) n limit l k
 
--- one item more is within the limit too
+-- one more item is within the limit too
 pub greatest-more : (done : List (List ℕ)) (b : List ℕ) (limit : ℕ) → greatest (map depth done) ≤ limit → depth b ≤ limit
     → greatest (map depth (done ++ b ∷ [])) ≤ limit
 greatest-more done b limit l k = subst (λ ns. greatest ns ≤ limit) (sym (map-append depth done (b ∷ []))) (max-bounded (map depth done) 0 (depth b) limit l k)
 
--- ---- whether b is nested within the limit, from what is known of it
+-- ---- whether b is nested within the limit
 
--- what has depth 0 is nested within every limit
+-- bytes of depth 0 are nested within each limit
 pub shallow-other : (b : List ℕ) (limit : ℕ) → depth b ≡ 0 → IsTrue true ↔ (depth b ≤ limit)
 shallow-other b limit none = (λ _. omega arith, λ _. refl)
 
@@ -146,7 +146,7 @@ shallow-other b limit none = (λ _. omega arith, λ _. refl)
 pub deep-list : (b v : List ℕ) (limit : ℕ) → begins_as_list b ≡ true → value b ≡ Ok v → limit ≡ 0 → IsTrue false ↔ (depth b ≤ limit)
 deep-list b v limit kind is none = let one = depth-list b v kind is in (λ h. absurd (false≢true h), λ h. absurd (omega arith))
 
--- a list isn't nested within a limit where an item of it isn't within 1 less
+-- a list isn't nested within a limit if one of its items isn't within 1 less
 pub deep-item : (b v item : List ℕ) (limit : ℕ) (done more : List (List ℕ)) → begins_as_list b ≡ true → value b ≡ Ok v → done ++ item ∷ more ≡ items b
     → limit - 1 < depth item
     → IsTrue false ↔ (depth b ≤ limit)
@@ -155,7 +155,7 @@ deep-item b v item limit done more kind is all deep =
     let has : depth item ≤ greatest (map depth (items b)) = subst (λ bs. depth item ≤ greatest (map depth bs)) all (greatest-has done more item) in
     (λ h. absurd (false≢true h), λ h. absurd (omega arith))
 
--- a list is nested within a limit where its items are within 1 less
+-- a list is nested within a limit if its items are within 1 less
 pub shallow-list : (b v : List ℕ) (limit : ℕ) (done : List (List ℕ)) → begins_as_list b ≡ true → value b ≡ Ok v → 0 < limit → done ≡ items b
     → greatest (map depth done) ≤ limit - 1
     → IsTrue true ↔ (depth b ≤ limit)
@@ -169,7 +169,7 @@ pub items-list : (b v : List ℕ) → begins_as_list b ≡ true → value b ≡ 
 unfolding items payload
 items-list b v kind is = ap split (ap (λ k. payload_in k (value b)) kind ∙ ap (payload_in true) is)
 
--- one item more is done, of those that stand before the rest
+-- one more item is done, of those before the rest
 pub done-next : (done : List (List ℕ)) (all : List (List ℕ)) (rest item others : List ℕ) → done ++ split rest ≡ all → split rest ≡ item ∷ split others
     → done ++ item ∷ split others ≡ all
 done-next done all rest item others e s = ap (λ bs. done ++ bs) (sym s) ∙ e
@@ -179,6 +179,6 @@ pub done-more : (done : List (List ℕ)) (all : List (List ℕ)) (rest item othe
     → (done ++ item ∷ []) ++ split others ≡ all
 done-more done all rest item others e s = append_assoc done (item ∷ []) (split others) ∙ done-next done all rest item others e s
 
--- with no item left, all are done
+-- if no item is left, all are done
 pub done-all : (done : List (List ℕ)) (all : List (List ℕ)) (rest : List ℕ) → done ++ split rest ≡ all → split rest ≡ [] → done ≡ all
 done-all done all rest e s = sym (append-nil done) ∙ ap (λ bs. done ++ bs) (sym s) ∙ e

@@ -112,12 +112,12 @@ items_short n (first ∷ rest) l =
     let p : List ℕ = payload (first ∷ rest) in
     weaker (length p) n (split_within (length p) p) (omega (arith, short)) (split_short (length p) p)
 
--- no bytes have no items
+-- an empty slice has no items
 pub items_nil : items [] ≡ []
 unfolding items split
 items_nil = ap (λ p. split_within (length p) p) payload_nil
 
--- ---- a function of bytes that is said by its values at their items
+-- ---- a function of bytes that is defined by its values at their items
 
 map_agree : {A : Type 0} (f g : List ℕ → A) (n : ℕ) (fs : List (List ℕ)) → ((b : List ℕ) → length b ≤ n → f b ≡ g b) → AllWithinLength n fs
     → map f fs ≡ map g fs

@@ -1,4 +1,4 @@
--- Values that are appended one after another, as the fields of a struct are.
+-- Values that are appended one after another, such as the fields of a struct.
 use Rattle.std.proofs.Common.{◌≡◌, ◌<◌, ◌≤◌, ◌+◌, ◌^◌, ℕ, Option, Some, None, zero, suc, List, [], ◌∷◌, ◌++◌, length, take, get_or, map, refl, sym}
 use Rattle.std.proofs.Common.{ap, ◌∙◌, subst, arith, append-nil, append_assoc, length-append}
 use Rattle.std.proofs.lemmas.List.{length-map}
@@ -105,7 +105,7 @@ flattened_pushed items values i x d s t u inside is at next =
     next ∙ ap (add_all (items x)) at ∙ sym (add_all-append (all_items items (take i values)) (items x) s)
     ∙ ap (λ zs. add_all zs s) (sym (all_items-more items values i x d inside is))
 
--- ---- how many items there are
+-- ---- the number of items
 
 -- some values have no more items than all
 counted_within : {A : Type 0} (items : A → List Item) (values : List A) (i : ℕ) → length (all_items items (take i values)) ≤ length (all_items items values)
@@ -116,7 +116,7 @@ counted_within items (v ∷ vs) (suc i) =
     let others = counted_within items vs i in
     omega (arith, others, length-append (items v) (all_items items (take i vs)), length-append (items v) (all_items items vs))
 
--- with one value more
+-- with one more value
 pub counted_more : {A : Type 0} (items : A → List Item) (values : List A) (i n m : ℕ) (x d : A) → i < length values → x ≡ get_or values i d
     → n ≡ length (all_items items (take i values)) → m ≡ length (items x) → n + m ≡ length (all_items items (take (i + 1) values))
 counted_more items values i n m x d inside is before one =
@@ -132,7 +132,7 @@ counted_so_far items values i x d inside is =
     let few = counted_within items values (i + 1) in
     omega (arith, sum, few)
 
--- with those of others
+-- with the items of other values
 pub counted_both : (xs ys : List Item) (n m : ℕ) (o : Option ℕ) → n ≡ length xs → m ≡ length ys → SomeIff o (n + m < 2 ^ 64) (n + m)
     → MatchOption o (2 ^ 64 ≤ length (xs ++ ys)) (λ k. k ≡ length (xs ++ ys))
 counted_both xs ys n m None first second not = omega (arith, length-append xs ys, first, second, not)

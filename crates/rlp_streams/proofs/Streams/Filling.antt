@@ -1,4 +1,4 @@
--- A list that is opened, and filled item by item. Whoever writes an `Encodable` that is a list needs these.
+-- A list that is opened, and filled item by item. Authors of an `Encodable` that is a list need these lemmas.
 use Rattle.std.proofs.Common.{◌≡◌, ℕ, zero, suc, ◌+◌, ◌-◌, ◌<◌, ◌≤◌, nat_le, ◌||◌, Bool, true, false, List, [], ◌∷◌, ◌++◌, length, take, map, Some}
 use Rattle.std.proofs.Common.{refl, sym, ◌∙◌, ap, subst, arith, cond, append_assoc, append-nil}
 use Rattle.rlp_format.specs.Format.WrittenHeader.{written_header}
@@ -41,7 +41,7 @@ stays_open (x ∷ xs) (suc (suc n)) f p outer ls m few =
     subst (λ (t : State). StaysOpen old (add_all xs t) outer ls) (sym (add_more n x f p outer ls m))
     (record { l = r.l; front = r.front; lists = r.lists; around = r.around })
 
--- what is refused before the list is full grew from what stood before the list
+-- if a call is refused before the list is full, the state has grown from the state before the list
 pub grows_filling : (xs : List Item) (n : ℕ) (s t : State) → length xs < n → t ≡ add_all xs (with_list_of n s) → GrowsTo s t
 grows_filling xs zero s t few is = absurd (omega arith)
 grows_filling xs (suc n) s t few is =
@@ -53,24 +53,24 @@ pub filled_list : (xs : List Item) (n : ℕ) (s t : State) → length xs ≡ n �
 filled_list [] n s t e is = is ∙ ap (λ k. with_list_of k s) (sym e)
 filled_list (x ∷ xs) n s t e is = is ∙ ap (λ k. add_all (x ∷ xs) (with_list_of k s)) (sym e) ∙ list_filled x xs s
 
--- ---- what the items of a list come to, appended one by one
+-- ---- the items of a list, appended one by one
 
--- the encoding of a list is the header of its joined items, and these
+-- the encoding of a list is the header of its joined items, and then the joined items
 pub encoding_of_list : (xs : Items) → encoding (list xs) ≡ written_header 0xc0 (length (join_items xs)) ++ join_items xs
 unfolding encoding
 encoding_of_list xs = refl
 
--- no items are joined to no bytes
+-- the join of no items is no bytes
 pub join_none : join_items no_items ≡ []
 unfolding join_items
 join_none = refl
 
--- an item and others are joined to its encoding and theirs
+-- the join of an item and others is its encoding and then their join
 pub join_and : (x : Item) (xs : Items) → join_items (item_and x xs) ≡ encoding x ++ join_items xs
 unfolding join_items
 join_and x xs = refl
 
--- what an author of an `Encodable` that is a list cites
+-- for authors of an `Encodable` that is a list
 pub ruleset filling = (
   grows_same,
   grows_put,

@@ -1,4 +1,4 @@
--- Which states a state grows to. Whoever writes an `Encodable` needs the ruleset `growth`.
+-- Which states a state grows to. Authors of an `Encodable` need the ruleset `growth`.
 use Rattle.std.proofs.Common.{◌≡◌, ℕ, true, false, List, [], ◌∷◌, ◌++◌, Option, refl, sym, ap, ◌∙◌, subst, append-nil, append_assoc}
 use Rattle.rlp_format.specs.Format.Item.{Item, string, list}
 use Rattle.rlp_format.specs.Format.Encoding.{encoding}
@@ -18,7 +18,7 @@ stands_more p x ls = here x ls (same_around ls)
 stands_same : (p : List ℕ) (ls : List (OpenList ℕ)) → Stands p ls p ls
 stands_same p ls = subst (λ (q : List ℕ). Stands p ls q ls) (append-nil p) (stands_more p [] ls)
 
--- a state that stays
+-- a state that doesn't change
 pub grows_same : (s t : State) → t ≡ s → GrowsTo s t
 grows_same s t e = subst (λ (u : State). GrowsTo s u) (sym e) (record { front = refl; stands = stands_same s.stack.inner s.stack.lists })
 
@@ -26,7 +26,7 @@ grows_same s t e = subst (λ (u : State). GrowsTo s u) (sym e) (record { front =
 pub grows_put : (s t : State) (x : List ℕ) → t ≡ put x s → GrowsTo s t
 grows_put s t x e = subst (λ (u : State). GrowsTo s u) (sym e) (record { front = refl; stands = stands_more s.stack.inner x s.stack.lists })
 
--- one more open list, with something in it
+-- one more open list, with bytes in it
 pub grows_in_list : (s t : State) (l : OpenList ℕ) → t.front ≡ s.front → t.stack.lists ≡ l ∷ s.stack.lists → l.outer ≡ s.stack.inner → GrowsTo s t
 grows_in_list s t l front lists outer =
     let inside : Stands s.stack.inner s.stack.lists l.outer s.stack.lists =
@@ -51,7 +51,7 @@ same_around_trans (l ∷ ls) [] ns h k = absurd h
 same_around_trans (l ∷ ls) (m ∷ ms) [] h k = absurd k
 same_around_trans (l ∷ ls) (m ∷ ms) (n ∷ ns) h k = (h.0 ∙ k.0, h.1 ∙ k.1)
 
--- more bytes after a payload in which the first stands
+-- a payload that is kept in another one is also kept if more bytes follow
 stands_longer : (p : List ℕ) (ls : List (OpenList ℕ)) {q : List ℕ} {ms : List (OpenList ℕ)} → Stands p ls q ms
     → (more : List ℕ) (ns : List (OpenList ℕ)) → AreSameAround ms ns → Stands p ls (q ++ more) ns
 stands_longer p ls (here first ms same) more ns k =
@@ -65,12 +65,12 @@ stands_trans : (p : List ℕ) (ls : List (OpenList ℕ)) (q : List ℕ) (ms : Li
 stands_trans p ls q ms st (here more ns same) = stands_longer p ls st more ns same
 stands_trans p ls q ms st (within r n ns st2) = within r n ns (stands_trans p ls q ms st st2)
 
--- growth upon growth
+-- growth that follows growth
 pub grows_trans : (s t u : State) → GrowsTo s t → GrowsTo t u → GrowsTo s u
 grows_trans s t u g h =
     record { front = h.front ∙ g.front; stands = stands_trans s.stack.inner s.stack.lists t.stack.inner t.stack.lists g.stands h.stands }
 
--- what a value put, where it left the mark false: it was a string
+-- a value that left the mark false was a string
 unmarked_put : (x : Item) (s t : State) → t ≡ put_item x s → t.mark ≡ false → t ≡ put (encoding x) s
 unmarked_put (string b) s t is unmarked = is
 unmarked_put (list xs) s t is unmarked = absurd (let marked : true ≡ false = sym (ap (λ (u : State). u.mark) is) ∙ unmarked in let no : ⊥ = cc in no)

@@ -1,4 +1,5 @@
--- What is left of a stream's bytes and open lists where a call is refused: it grew, so the old ones still stand in it, but for what the innermost list awaits.
+-- The bytes and open lists of a stream after a call is refused. The stream grew, so the old ones are still in it, but the innermost list may await another
+-- number of items.
 use Rattle.std.proofs.Common.{◌≡◌, ℕ, ◌+◌, ◌≤◌, Bool, List, [], ◌∷◌, ◌++◌, length, take, drop, reverse, Option, None, refl, sym, ◌∙◌, ap, subst}
 use Rattle.std.proofs.Common.{arith, append_assoc}
 use Rattle.std.proofs.lemmas.List.{length-take-le, length-reverse, take-append-drop, take_at, reverse-append, reverse-reverse}
@@ -13,7 +14,7 @@ use Rattle.rlp_buffer.specs.Streams.Placeholders.{begin_of, lists_of, Placed, Is
 use Rattle.rlp_buffer.specs.Streams.Layout.{state_of}
 use Rattle.rlp_buffer.proofs.Streams.FlatBuffer.{start_le, below_front}
 
--- what stands left of a placeholder
+-- the bytes before a placeholder
 abbrev below : List ℕ → Placeholder → List ℕ
 below b p = take p.position b
 
@@ -62,7 +63,7 @@ laid_same start b c (p ∷ ps) (q ∷ qs) h k f i e =
     let bytes : b ≡ below c q ++ (0 ∷ drop (q.position + 1) c) = h.0.placeholder ∙ cc (r.0, i) in
     (bytes ∙ sym k.0.placeholder, cc (same_placeholder p q places awaits, r.1))
 
--- the same lists, but for what the innermost awaits
+-- the same lists, but the innermost may await another number of items
 abbrev SameRest : List Placeholder → List Placeholder → Type 0
 SameRest [] [] = Unit
 SameRest [] (q ∷ qs) = ⊥
@@ -77,7 +78,7 @@ record Rewinds (b : List ℕ) (ps : List Placeholder) (c : List ℕ) (qs : List 
   pub lists : qs ≡ extra ++ kept
   pub same : SameRest ps kept
 
--- where the innermost payload only grew
+-- if only the innermost payload grew
 rewind_here : (start : ℕ) (b c : List ℕ) (ps qs : List Placeholder) (more : List ℕ) → IsLaid start b ps → IsLaid start c qs
     → take start b ≡ take start c → drop (begin_of start ps) b ++ more ≡ drop (begin_of start qs) c
     → AreSameAround (lists_of start b ps) (lists_of start c qs) → Rewinds b ps c qs
@@ -134,7 +135,7 @@ kept_lists (p ∷ ps) qs extra (k ∷ ks) e s =
     let head : record k { awaits = p.awaits } ≡ p = same_placeholder (record k { awaits = p.awaits }) p (sym s.0) refl in
     ap (with_innermost (λ _. p.awaits)) old ∙ cc (head, s.1)
 
--- the bytes and open lists from which a call began stand in front of those that it left
+-- the bytes and open lists after a call begin with those before the call
 pub record GoesBack (start : ℕ) (b : List ℕ) (ps : List Placeholder) (start' : ℕ) (c : List ℕ) (qs : List Placeholder) : Type 0 where
   pub front : start' ≡ start
   pub bytes : take (length b) c ≡ b
@@ -157,7 +158,7 @@ goes_back start start' b c ps qs m m' h k grown =
       lists = kept_lists ps qs r.extra r.kept r.lists r.same;
     }
 
--- the lists, cut to those that were open, of which the innermost has again what it awaited
+-- the lists, cut to those that were open; the innermost awaits the old number of items again
 pub lists_back : (items grown cut last : List Placeholder) (open_lists : ℕ) (w : Option ℕ)
     → with_innermost (λ _. innermost_awaits (reverse items)) (reverse (take (length (reverse items)) (reverse (reverse grown)))) ≡ reverse items
     → open_lists ≡ length items → cut ≡ take open_lists grown → w ≡ innermost_awaits (reverse items)
@@ -168,13 +169,13 @@ lists_back items grown cut last open_lists w back number cuts awaited is =
     is ∙ ap (λ z. with_innermost (λ _. w) (reverse z)) same
     ∙ ap (λ v. with_innermost (λ _. v) (reverse (take (length (reverse items)) (reverse (reverse grown))))) awaited ∙ back
 
--- what rewinding to a place leaves
+-- the state after rewinding to a place
 record Rewound (start : ℕ) (b : List ℕ) (ps : List Placeholder) (start' : ℕ) (c : List ℕ) (ms : List Placeholder) : Type 0 where
   front : start' ≡ start
   bytes : c ≡ b
   lists : reverse ms ≡ ps
 
--- rewinding a stream that grew from a place leaves what stood there
+-- rewinding a stream that grew from a place restores the state at the place
 rewound : (start start' : ℕ) (b c bytes : List ℕ) (old grown lists : List Placeholder) (m m' : Bool) (place : Place) (s t : State)
     → IsLaid start b (reverse old) → IsLaid start' c (reverse grown) → state_of start b (reverse old) m ≡ s → state_of start' c (reverse grown) m' ≡ t
     → GrowsTo s t
@@ -191,7 +192,7 @@ rewound start start' b c bytes old grown lists m m' place s t h k was is grows l
       lists = lists_back old grown (take place.open_count grown) lists place.open_count place.awaits back.lists number refl awaits last;
     }
 
--- the stream stands as it did at the place
+-- the stream has the state that it had at the place
 pub record IsBack (place : Place) (s : State) (start : ℕ) (bytes : List ℕ) (lists : List Placeholder) : Type 0 where
   pub laid : IsLaid start bytes (reverse lists)
   pub is : state_of start bytes (reverse lists) place.mark ≡ s

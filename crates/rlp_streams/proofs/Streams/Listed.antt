@@ -8,7 +8,7 @@ use Rattle.rlp_buffer.specs.Streams.Stack.{OpenList, count_around}
 use Rattle.rlp_buffer.specs.Streams.Stream.{State, list_encoding, add, put_item, with_list, is_list, add_all}
 use Rattle.rlp_format.specs.Lemmas.Encodings.{encoding_list}
 
--- a truth value or true is true
+-- `b || true` is true
 pub or_true : (b : Bool) → (b || true) ≡ true
 or_true true = refl
 or_true false = refl
@@ -19,7 +19,7 @@ add_last : (x : Item) (f p outer : List ℕ) (ls : List (OpenList ℕ)) (m : Boo
     ≡ record { front = f; stack = count_around list_encoding 1 (outer ++ list_encoding (p ++ encoding x)) ls; mark = true }
 add_last x f p outer ls m = rw (or_true (is_list x)) refl
 
--- an earlier one doesn't
+-- an earlier item doesn't
 pub add_more : (n : ℕ) (x : Item) (f p outer : List ℕ) (ls : List (OpenList ℕ)) (m : Bool)
     → add x (record { front = f; stack = record { inner = p; lists = record { awaits = Some (suc (suc n)); outer = outer } ∷ ls }; mark = m })
     ≡ record { front = f; stack = record { inner = p ++ encoding x; lists = record { awaits = Some (suc n); outer = outer } ∷ ls }; mark = is_list x || false }

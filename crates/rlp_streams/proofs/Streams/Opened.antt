@@ -1,4 +1,4 @@
--- A list that is opened, or written at once where it has no items.
+-- A list that is opened, or is written at once if it has no items.
 use Rattle.std.proofs.Common.{◌≡◌, ℕ, zero, suc, ◌<◌, true, List, [], ◌∷◌, length, Some, refl, sym, ◌∙◌, ap, arith}
 use Rattle.rlp_format.specs.Format.WrittenHeader.{big_endian, written_header}
 use Rattle.rlp_format.specs.Format.Item.{list_of}

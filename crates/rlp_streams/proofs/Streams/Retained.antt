@@ -8,7 +8,7 @@ use Rattle.rlp_buffer.proofs.Streams.Rooms.{retains_laid}
 use Rattle.rlp_streams.specs.declared.stream.RlpStream.TheInside.{Inside}
 use Rattle.rlp_streams.specs.contracts.stream.RlpStream.{the_view}
 
--- nothing is given up where neither the buffer nor the open lists do
+-- no room is given up if neither the buffer nor the open lists give up room
 pub retained : (v : Seen) (i j : Inside) → the_view i ≡ v → IsLaid i.start i.buffer.items (reverse i.lists.items)
     → IsLaid j.start j.buffer.items (reverse j.lists.items)
     → Keeps i.buffer j.buffer → vec_capacity i.lists ≤ vec_capacity j.lists → Retains v (the_view j)

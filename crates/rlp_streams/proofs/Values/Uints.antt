@@ -1,4 +1,4 @@
--- The bytes of a number, from the first on that isn't zero, are its digits.
+-- The bytes of a number without leading zeros are its digits.
 use Rattle.std.proofs.Common.{◌≡◌, ◌≢◌, ◌+◌, ◌*◌, ℕ, List, [], ◌∷◌, length, drop, get_or, Fits, w8, arith, pos_of_ne-zero, refl, subst, ap, le_refl}
 use Rattle.std.specs.Int.Digits.{number_from_digits, number_from_digits_after}
 use Rattle.rlp_format.specs.Format.WrittenHeader.{big_endian}
@@ -6,23 +6,23 @@ use Rattle.rlp_format.specs.Values.Value.{FitsBytes}
 use Rattle.rlp_format.specs.Lemmas.Digits.{big_endian_zero, digits_again, digits_fit}
 use Rattle.rlp_format.specs.Lemmas.Reading.{bytes_held}
 
--- a zero in front makes no difference
+-- a leading zero doesn't change the number
 pub zero_in_front : (ds : List ℕ) → get_or ds 0 0 ≡ 0 → number_from_digits 256 (drop 1 ds) ≡ number_from_digits 256 ds
 zero_in_front [] is = refl
 zero_in_front (d ∷ ds) is = let none : 0 * 256 + d ≡ 0 = omega (arith, is) in
     ap (λ n. number_from_digits_after 256 n ds) (let other : 0 ≡ 0 * 256 + d = omega (arith, is) in other)
 
--- no bytes are the digits of 0
+-- the digits of 0 are no bytes
 pub none_significant : (ds : List ℕ) → length ds ≡ 0 → ds ≡ big_endian (number_from_digits 256 ds)
 none_significant [] is = let h : big_endian 0 ≡ [] = big_endian_zero in cc
 none_significant (d ∷ ds) is = absurd (omega arith)
 
--- bytes that begin with no zero are digits
+-- bytes that don't begin with a zero are digits
 pub all_significant : (ds : List ℕ) → ((i : ℕ) → Fits w8 (get_or ds i 0)) → get_or ds 0 0 ≢ 0 → ds ≡ big_endian (number_from_digits 256 ds)
 all_significant [] bytes leads = absurd (leads refl)
 all_significant (d ∷ ds) bytes leads = let h = digits_again d ds (bytes_held (d ∷ ds) bytes) (pos_of_ne-zero leads) in cc
 
--- the number of bytes has as many bytes at most
+-- the number that n bytes write has at most n bytes
 pub bytes_fit : (ds : List ℕ) → ((i : ℕ) → Fits w8 (get_or ds i 0)) → FitsBytes (length ds) (number_from_digits 256 ds)
 bytes_fit ds bytes = digits_fit (length ds) ds (bytes_held ds bytes) (le_refl (length ds))
 

@@ -1,4 +1,4 @@
-//! Truth values: the numbers 0 and 1.
+//! Truth values: written as the numbers 0 and 1.
 
 use crate::stream::RlpStream;
 use crate::traits::Encodable;

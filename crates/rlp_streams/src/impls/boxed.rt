@@ -1,4 +1,4 @@
-//! Boxes: the item of what they hold.
+//! Boxes: written as the value that they hold.
 
 use crate::stream::RlpStream;
 use crate::traits::Encodable;

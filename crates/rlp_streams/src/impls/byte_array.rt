@@ -1,10 +1,10 @@
-//! Byte arrays: the string of the bytes.
+//! Byte arrays: written as the string of the bytes.
 
 use crate::stream::RlpStream;
 use crate::traits::Encodable;
 use std::alloc::AllocError;
 
-/// The string of the bytes.
+/// Writes the string of all `N` bytes.
 impl<const N: usize> Encodable for [u8; N] {
     ghost use Rattle.std.specs.Prelude.{◌≡◌, ⊤, length};
     ghost use Rattle.rlp_format.specs.Format.Item.{string};

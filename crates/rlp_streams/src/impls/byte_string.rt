@@ -1,4 +1,4 @@
-//! Byte strings: the string of the bytes.
+//! Byte strings: written as the string of the bytes.
 
 use crate::stream::RlpStream;
 use crate::traits::Encodable;

@@ -1,4 +1,4 @@
-//! Buffers that grow: the string of the bytes.
+//! Buffers that grow: written as the string of the bytes.
 
 use crate::stream::RlpStream;
 use crate::traits::Encodable;

@@ -1,4 +1,4 @@
-//! Buffers that are shared with no copy: the string of the bytes.
+//! Buffers that are shared without a copy: written as the string of the bytes.
 
 use crate::stream::RlpStream;
 use crate::traits::Encodable;

@@ -1,4 +1,4 @@
-//! Numbers: the string of the digits to the base 256, the greatest first.
+//! Numbers: written as the string of their digits to the base 256, the most significant first.
 
 ghost use Rattle.std.specs.Prelude.{◌<◌};
 ghost use Rattle.rlp_format.specs.Values.Value.{FitsBytes};

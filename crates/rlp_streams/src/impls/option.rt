@@ -1,4 +1,4 @@
-//! Options: the list of no items, or of one.
+//! Options: written as a list of no items or of one item.
 
 ghost use Rattle.std.specs.Prelude.{IfSome, IsNone};
 ghost use Rattle.rlp_format.specs.Values.Value.{option_item};

@@ -1,4 +1,4 @@
-//! Text: the string of its bytes in UTF-8.
+//! Text: written as the string of its bytes in UTF-8.
 
 use crate::stream::RlpStream;
 use crate::traits::Encodable;

@@ -9,15 +9,15 @@ use crate::structs::AppendFields;
 use crate::traits::Encodable;
 use std::alloc::AllocError;
 
-/// A field that is the list of the values of a slice: one item.
+/// One field, which is the list of the values of a slice.
 #[derive(Clone, Copy)]
 pub struct ListOf<'a, T>(pub &'a [T]);
 
-/// A field for each value of a slice.
+/// One field for each value of a slice.
 #[derive(Clone, Copy)]
 pub struct Each<'a, T>(pub &'a [T]);
 
-/// The fields of each value of a slice, as the keys and values of pairs.
+/// The fields of each value of a slice, such as the keys and values of a slice of pairs.
 #[derive(Clone, Copy)]
 pub struct Flattened<'a, T>(pub &'a [T]);
 

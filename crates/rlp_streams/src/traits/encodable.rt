@@ -1,4 +1,4 @@
-//! Values that are written.
+//! Types whose values are written.
 
 ghost use Rattle.std.specs.Prelude.{◌≡◌, IsOk, OnOk, OnErr, IfOk};
 ghost use Rattle.rlp_format.specs.Format.Item.{Item};
@@ -10,10 +10,10 @@ use crate::stream::RlpStream;
 use bytes::BytesMut;
 use std::alloc::{AllocError, Global};
 
-/// A value that is written as an item, which is a byte string or a list of items.
+/// A type whose values are written as items. An item is a byte string or a list of items.
 ///
-/// A type says by `item` which item a value is, and by `fits` which values are of the type. It
-/// writes by the calls of the stream, and proves that these leave what `rlp_append` promises:
+/// A type says by `item` which item a value is, and by `fits` which values belong to the type. Its
+/// `rlp_append` calls the stream, and is proved to leave the stream as the contract says:
 ///
 /// ```rust
 /// pub struct BlockNumber(pub u64);
@@ -31,28 +31,29 @@ use std::alloc::{AllocError, Global};
 /// }
 /// ```
 ///
-/// A body that writes in several steps proves what it leaves where a later one is refused by the
-/// lemmas of `#[tactic(auto, using(rlp::proofs::Growth::growth))]`.
+/// A body that writes in several steps needs the lemmas of
+/// `#[tactic(auto, using(rlp::proofs::Growth::growth))]`. They prove the stream's state after a
+/// later step is refused.
 pub trait Encodable {
     // The item of a value.
     ghost item: { Self → Item };
 
-    // Which values are of the type, where definitions and laws speak of more: a number is in the
-    // type's range, and a text is UTF-8.
+    // The value belongs to the type, if definitions and laws speak of more values: a number is in
+    // the type's range, and a text is UTF-8.
     ghost fits: { Self → Type 0 };
 
-    // Which values are written at once: these are refused only where the stream's room was short. A
-    // type that says nothing of it has none.
+    // The value is written in one step: it is refused only if the stream has too little room. By
+    // default this holds for no value.
     ghost at_once: { Self → Type 0 } = { λ _. ⊥ };
 
-    /// Writes the value into a stream. The encoding of a string is put, and nothing is counted. The
-    /// encoding of a list is put, one item is counted, and the mark is set, which tells the caller
-    /// so.
+    /// Writes the value into a stream. For a string it writes the encoding and counts no item. For
+    /// a list it writes the encoding, counts one item, and sets the mark, which says that the item
+    /// is counted.
     ///
-    /// `AllocError` where memory is refused, or for a reason of the type's own. The stream then
-    /// holds its old bytes and its old open lists, and perhaps more behind them:
-    /// [`RlpStream::append`] goes back from there. In any case it gives up no room, and nothing of
-    /// the number of bytes that were moved.
+    /// Fails with `AllocError` if memory is refused, or for a reason of the type. The stream then
+    /// holds its old bytes and its old open lists, and maybe more after them; [`RlpStream::append`]
+    /// then restores the old state. In any case the stream's room doesn't shrink, and neither does
+    /// its count of the bytes that were moved.
     fn rlp_append(&self, s: &mut RlpStream) -> Result<(), AllocError>
         ensures fits { OnOk result (fits self.now) }
         ensures ok { OnOk result (s.new.state ≡ put_item (item self.now) s.old.state) }
@@ -61,11 +62,11 @@ pub trait Encodable {
         ensures refused { OnErr result (GrowsTo s.old.state s.new.state) }
         ensures retains { Retains s.old s.new };
 
-    /// The encoding of the value, alone. Fails with `AllocError` if memory is refused, or if
-    /// [`Encodable::rlp_append`] fails with it.
+    /// Returns the encoding of the value. Fails with `AllocError` if memory is refused, or if
+    /// [`Encodable::rlp_append`] fails.
     ///
-    /// A type that doesn't say otherwise is written into a stream with room for 1,024 bytes. The
-    /// provided types that are strings make one request for memory, of the encoding's length.
+    /// The default body writes into a stream with room for 1,024 bytes. The provided types that are
+    /// strings make one request for memory, of the encoding's length.
     fn rlp_bytes(&self, alloc: Global) -> Result<BytesMut, AllocError>
         ensures fits { OnOk result (fits self.now) }
         ensures bytes { IfOk result (λ b. b.items ≡ encoding (item self.now)) }

@@ -1,6 +1,6 @@
 //! Calls on streams that take no memory.
 //!
-//! `refusals/run` refuses every request from a signal on, which is one for `SIGNAL` bytes.
+//! `refusals/run` refuses every request after a signal. The signal is a request for `SIGNAL` bytes.
 
 use crate::support::guarded::{estimates, finishes_as, put_raw, put_raw_within};
 use crate::support::iterators::{append_undotted, encode_undotted};
@@ -12,12 +12,12 @@ use std::test::Fail;
 /// The number of bytes that is requested as the signal.
 const SIGNAL: usize = 77_777;
 
-/// Gives the signal. Whether the request is met makes no difference.
+/// Gives the signal. The result of the request makes no difference.
 fn refuse_from_here(alloc: Global) -> bool {
     Vec::<u8>::with_capacity(alloc, SIGNAL).is_ok()
 }
 
-/// Whether a list of three that holds "cat" answers for itself, and is cleared.
+/// Returns whether a list of three items that holds "cat" has the right state, and is cleared.
 fn list_answers(mut s: RlpStream) -> bool {
     let open = s.as_raw() == b"\0\x83cat".as_slice()
         && s.len() == 5
@@ -33,7 +33,7 @@ fn list_answers(mut s: RlpStream) -> bool {
     open && s.is_empty() && finishes_as(s, b"")
 }
 
-/// Whether bytes are put into the room of a new stream.
+/// Returns whether raw bytes are put into the room of a new stream.
 fn room_is_used(mut s: RlpStream) -> Result<bool, AllocError> {
     let put = put_raw(&mut s, &[0u8; 1000], 1)? && put_raw_within(&mut s, b"rlp", 1, 1003)?;
     s.append_empty_data()?;
@@ -41,7 +41,7 @@ fn room_is_used(mut s: RlpStream) -> Result<bool, AllocError> {
     Ok(put && refused && s.len() == 1004 && s.as_raw().ends_with(b"rlp\x80"))
 }
 
-/// Whether calls that take no memory return once every request is refused.
+/// Returns whether calls that take no memory succeed while every request is refused.
 fn need_no_memory(alloc: Global) -> Result<bool, AllocError> {
     let mut list = RlpStream::new_list(alloc, 3)?;
     list.append(&"cat")?;
@@ -64,11 +64,11 @@ fn streams_that_need_no_memory(rt: HostRuntime) -> Result<(), Fail> {
     Ok(())
 }
 
-/// The bytes of two strings of three.
+/// The encodings of two strings of three bytes.
 const TWO_STRINGS: &[u8] = b"\x83cat\x83dog";
 
-/// Whether the bytes of iterators are put into room that is just enough, once every request is
-/// refused.
+/// Returns whether the bytes of iterators are put into room of exactly their size, while every
+/// request is refused.
 fn iterators_need_no_memory(alloc: Global) -> Result<bool, AllocError> {
     let buffer = BytesMut::with_capacity(alloc, TWO_STRINGS.len())?;
     refuse_from_here(alloc);

@@ -1,7 +1,8 @@
-//! Calls on streams of which one is refused memory: it leaves all as it was, and can be made again.
+//! Calls on streams, one of which is refused memory. That call leaves the stream as it was, and can
+//! be made again.
 //!
-//! `refusals/run` refuses each request of these tests in turn. A test then returns `AllocError`,
-//! once it has seen that the refused call left nothing.
+//! `refusals/run` refuses each request of these tests in turn. A test returns `AllocError` if the
+//! refused call left the stream as it was.
 
 use crate::support::guarded::{put_raw, put_raw_within};
 use crate::support::iterators::{append_undotted, encode_undotted};
@@ -12,11 +13,11 @@ use rlp_examples::Pair;
 use std::alloc::{AllocError, Global};
 use std::test::Fail;
 
-/// The state of a stream: what its bytes begin with, and how many bytes 00 follow; the closed size;
-/// what the innermost open list awaits; whether it is one without a bound.
+/// The state of a stream: the first bytes, and the number of bytes 00 that follow; the closed size;
+/// the number of items that the innermost open list awaits; and whether that list is unbounded.
 type Stand = (&'static [u8], usize, usize, Option<usize>, bool);
 
-/// Whether a stream has this state.
+/// Returns whether a stream has this state.
 fn stands_as(s: &RlpStream, stand: Stand) -> bool {
     let (front, zeros, size, awaited, unbounded) = stand;
     let raw = s.as_raw();
@@ -32,18 +33,19 @@ fn stands_as(s: &RlpStream, stand: Stand) -> bool {
 
 /// Calls on one stream.
 trait Calls {
-    /// How many calls there are.
+    /// Returns the number of calls.
     fn count(&self) -> usize;
 
-    /// Makes the call at this place. `false` if its condition doesn't hold.
+    /// Makes the call at this place. Returns `false` if the call isn't admitted.
     fn make(&self, s: &mut RlpStream, place: usize) -> Result<bool, AllocError>;
 
-    /// Whether the stream has the state that it has after the first calls.
+    /// Returns whether the stream has the state after the first `done` calls.
     fn stands(&self, s: &RlpStream, done: usize) -> bool;
 }
 
-/// Makes the calls in turn, and one that is refused again. `AllocError` if one was refused and
-/// left the stream as it was, and the rest went as ever; `false` if the stream stands otherwise.
+/// Makes the calls in turn. A call that is refused is made again. Returns `true` if no call is
+/// refused, `AllocError` if a refused call leaves the stream as it was and then succeeds, and
+/// `false` if the stream has a wrong state or a call isn't admitted.
 fn go_again<C: Calls>(s: &mut RlpStream, calls: &C) -> Result<bool, AllocError> {
     let mut refused = false;
     for place in 0..calls.count() {
@@ -64,17 +66,17 @@ fn go_again<C: Calls>(s: &mut RlpStream, calls: &C) -> Result<bool, AllocError> 
     if refused { Err(AllocError) } else { Ok(true) }
 }
 
-/// The calls over a new stream, and over one with no room.
+/// Makes the calls on a new stream, and on a stream without room.
 fn go_again_twice<C: Calls>(alloc: Global, calls: &C) -> Result<bool, AllocError> {
     let mut roomy = RlpStream::new(alloc)?;
     let mut narrow = RlpStream::new_with_buffer(alloc, BytesMut::new(alloc));
     Ok(go_again(&mut roomy, calls)? && go_again(&mut narrow, calls)?)
 }
 
-/// Calls in a table.
+/// A table of calls.
 struct Table {
     steps: &'static [Step],
-    // One more than steps: the state of the stream before all, and after each.
+    // The state of the stream before all steps, and after each: one more than the steps.
     stands: &'static [Stand],
 }
 
@@ -98,10 +100,10 @@ impl Calls for Table {
     }
 }
 
-/// A new stream.
+/// The state of a new stream.
 const NEW: Stand = (&[], 0, 0, None, false);
 
-/// A list of two texts in a list, and an empty text after it.
+/// A list of two texts in a list, and then an empty text.
 const TEXTS: Table = Table {
     steps: &[
         Step::Begin(2),
@@ -120,7 +122,7 @@ const TEXTS: Table = Table {
     ],
 };
 
-/// Pairs in a list of two.
+/// A list of two pairs, as the first item of a list of two.
 const PAIRS: Table = Table {
     steps: &[Step::Begin(2), Step::Pairs(&[Pair(1, 2), Pair(3, 4)])],
     stands: &[
@@ -148,10 +150,10 @@ fn pairs_in_a_list(rt: HostRuntime) -> Result<(), Fail> {
     Ok(())
 }
 
-/// Two unbounded lists, a raw item of 254 bytes in them, and their ends.
+/// Two unbounded lists, one inside the other, around a raw item of 254 bytes.
 struct RawItem;
 
-/// The state of the stream.
+/// The states of the stream.
 const AROUND_RAW_ITEM: [Stand; 6] = [
     NEW,
     (&[], 1, 1, None, true),
@@ -167,7 +169,7 @@ const AROUND_RAW_ITEM: [Stand; 6] = [
     ),
 ];
 
-/// The header of a string of 252 bytes, and 252 bytes 00.
+/// Appends raw bytes: the header of a string of 252 bytes, and 252 bytes 00.
 fn put_raw_item(s: &mut RlpStream) -> Result<bool, AllocError> {
     let mut item = [0u8; 254];
     item[0] = 0xb8;
@@ -202,14 +204,14 @@ fn a_raw_item_in_two_lists(rt: HostRuntime) -> Result<(), Fail> {
     Ok(())
 }
 
-/// Sixty lists of one item, one inside another, which an empty string closes.
+/// Sixty lists of one item, one inside another. An empty string in the innermost closes all.
 struct Sixty;
 
-/// The headers of the lists that are over 55 bytes long.
+/// The headers of the lists whose payloads have more than 55 bytes.
 const LONG_HEADERS: &[u8] = &[0xf8, 0x40, 0xf8, 0x3e, 0xf8, 0x3c, 0xf8, 0x3a, 0xf8, 0x38];
 
-/// Whether these are the bytes of the sixty lists: the long headers, those of one byte down to that
-/// of a list of one byte, and the empty string.
+/// Returns whether these are the bytes of the sixty lists: the long headers, the headers of one
+/// byte down to that of a list of one byte, and the empty string.
 fn are_sixty(raw: &[u8]) -> bool {
     let mut wanted = 0xf8u8;
     for byte in raw.iter().skip(LONG_HEADERS.len()) {
@@ -237,7 +239,7 @@ impl Calls for Sixty {
         if done > 60 {
             return are_sixty(s.as_raw()) && s.len() == 66 && s.is_finished();
         }
-        // Those of more than 55 bytes have a header of two.
+        // Lists of more than 55 bytes have a header of two bytes.
         let size = done.saturating_add(done.saturating_sub(56));
         let awaited = if done == 0 { None } else { Some(1) };
         stands_as(s, (&[], done, size, awaited, false))
@@ -250,16 +252,17 @@ fn sixty_lists(rt: HostRuntime) -> Result<(), Fail> {
     Ok(())
 }
 
-/// Twenty unbounded lists, one inside another, finalized one by one.
+/// Twenty unbounded lists, one inside another, that are finalized one by one.
 struct Twenty;
 
-/// Their bytes.
+/// The bytes of the twenty lists.
 const TWENTY: &[u8] = &[
     0xd3, 0xd2, 0xd1, 0xd0, 0xcf, 0xce, 0xcd, 0xcc, 0xcb, 0xca, 0xc9, 0xc8, 0xc7, 0xc6, 0xc5, 0xc4,
     0xc3, 0xc2, 0xc1, 0xc0,
 ];
 
-/// Whether these are the bytes of open lists, a byte 00 for each.
+/// Returns whether these are the bytes of the twenty lists while `open` of them are open. Each open
+/// list has a byte 00.
 fn are_twenty(raw: &[u8], open: usize) -> bool {
     let closed = TWENTY.get(open..).unwrap_or(&[]);
     raw.len() == TWENTY.len()
@@ -297,18 +300,18 @@ fn twenty_lists_finalized_one_by_one(rt: HostRuntime) -> Result<(), Fail> {
     Ok(())
 }
 
-/// How 300 bytes come into a stream.
+/// The call that puts 300 bytes into a stream.
 #[derive(Clone, Copy)]
 enum Way {
     /// `append_iter`.
     Iterator,
     /// `encode_iter`.
     Encoder,
-    /// `append_raw_checked`, within its limit.
+    /// `append_raw_checked`, within the limit.
     Checked,
 }
 
-/// The bytes in a list of two.
+/// The 300 bytes in a list of two items.
 struct ThreeHundred(Way);
 
 impl Calls for ThreeHundred {

@@ -1,7 +1,7 @@
-//! Streams that are begun and values that are encoded, of which one is refused memory.
+//! New streams and encoded values, one of which is refused memory.
 //!
-//! `refusals/run` refuses each request of these tests in turn. A test then returns `AllocError`,
-//! once it has seen that nothing else was lost.
+//! `refusals/run` refuses each request of these tests in turn. A test returns `AllocError` if
+//! nothing else was lost.
 
 use bytes::BytesMut;
 use rlp::{Encodable, RlpStream};
@@ -9,7 +9,8 @@ use rlp_examples::Pair;
 use std::alloc::{AllocError, Global};
 use std::test::Fail;
 
-/// Whether the given buffer is the front of a new list, or comes back if the call is refused.
+/// Returns whether the given buffer is the front of a new list, or is returned if the call is
+/// refused.
 fn buffer_comes_back(alloc: Global) -> Result<bool, AllocError> {
     let mut buffer = BytesMut::new(alloc);
     buffer.extend_from_slice(b"junk")?;
@@ -26,7 +27,7 @@ fn a_buffer_handed_in(rt: HostRuntime) -> Result<(), Fail> {
     Ok(())
 }
 
-/// Whether new streams are begun, and values encoded.
+/// Returns whether new streams are made, and values are encoded.
 fn are_made(alloc: Global) -> Result<bool, AllocError> {
     let text = "Lorem ipsum";
     let stream = RlpStream::new(alloc)?;

@@ -1,4 +1,4 @@
-//! Calls on streams that have a condition, each after the test of it.
+//! Calls on streams that have a condition. Each function tests the condition first.
 
 ghost use Rattle.std.specs.Prelude.{IsTrue};
 ghost use Rattle.rlp.specs.Streams.Stack.{has_room};
@@ -7,7 +7,7 @@ use bytes::BytesMut;
 use rlp::{Chain, RlpStream};
 use std::alloc::AllocError;
 
-/// Whether the innermost open list awaits at least `items` items, or is unbounded.
+/// Returns whether the innermost open list awaits at least `items` items, or is unbounded.
 pub(crate) fn takes_items(s: &RlpStream, items: usize) -> bool
     ensures { IsTrue result → IsTrue (has_room items s.now.state.stack.lists) }
 {
@@ -17,7 +17,7 @@ pub(crate) fn takes_items(s: &RlpStream, items: usize) -> bool
     }
 }
 
-/// Appends raw bytes. `false` if the innermost open list awaits fewer items.
+/// Appends raw bytes. Returns `false` if the innermost open list awaits fewer items.
 pub(crate) fn put_raw(s: &mut RlpStream, bytes: &[u8], items: usize) -> Result<bool, AllocError> {
     if !takes_items(s, items) {
         return Ok(false);
@@ -26,7 +26,7 @@ pub(crate) fn put_raw(s: &mut RlpStream, bytes: &[u8], items: usize) -> Result<b
     Ok(true)
 }
 
-/// The same on a chain.
+/// Appends raw bytes on a chain. Returns `false` if the innermost open list awaits fewer items.
 pub(crate) fn put_raw_chained(
     chain: Chain<'_>,
     bytes: &[u8],
@@ -39,8 +39,8 @@ pub(crate) fn put_raw_chained(
     Ok(true)
 }
 
-/// Appends raw bytes within a size. `false` if they pass it, or if the innermost open list
-/// awaits fewer items.
+/// Appends raw bytes within a size limit. Returns `false` if the closed size would be over the
+/// limit, or if the innermost open list awaits fewer items.
 pub(crate) fn put_raw_within(
     s: &mut RlpStream,
     bytes: &[u8],
@@ -53,7 +53,7 @@ pub(crate) fn put_raw_within(
     s.append_raw_checked(bytes, items, max_size)
 }
 
-/// Closes the innermost open list. `false` if it has a bound, or none is open.
+/// Closes the innermost open list. Returns `false` if it isn't unbounded, or if no list is open.
 pub(crate) fn finalize(s: &mut RlpStream) -> Result<bool, AllocError> {
     if !s.can_finalize() {
         return Ok(false);
@@ -62,12 +62,12 @@ pub(crate) fn finalize(s: &mut RlpStream) -> Result<bool, AllocError> {
     Ok(true)
 }
 
-/// The bytes, if no list is open.
+/// Returns the bytes of the stream, if no list is open.
 pub(crate) fn finished(s: RlpStream) -> Option<BytesMut> {
     if s.is_finished() { Some(s.out()) } else { None }
 }
 
-/// Whether no list is open, and these are the bytes.
+/// Returns whether no list is open, and these are the bytes.
 pub(crate) fn finishes_as(s: RlpStream, want: &[u8]) -> bool {
     match finished(s) {
         Some(bytes) => bytes.as_slice() == want,
@@ -75,7 +75,7 @@ pub(crate) fn finishes_as(s: RlpStream, want: &[u8]) -> bool {
     }
 }
 
-/// Whether this is the size with more bytes put.
+/// Returns whether the closed size with `add` more bytes is `want`.
 pub(crate) fn estimates(s: &RlpStream, add: usize, want: usize) -> bool {
     match s.checked_estimate_size(add) {
         Some(size) => size == want && s.estimate_size(add) == want,

@@ -1,11 +1,11 @@
-//! A plain writer of the format, by its rules.
+//! A simple writer of the format, made from its rules.
 
 use std::alloc::AllocError;
 
-/// The header of a string of no bytes.
+/// The header of an empty string.
 const STRING: u8 = 0x80;
 
-/// The header of a list of no bytes.
+/// The header of an empty list.
 const LIST: u8 = 0xc0;
 
 /// Writes the header of a string or a list, for a length of fewer than 2^24 bytes.
@@ -34,7 +34,7 @@ pub(crate) fn put_string(bytes: &mut Vec<u8>, value: &[u8]) -> Result<(), AllocE
     Ok(())
 }
 
-/// Writes the list of what a payload holds.
+/// Writes a list with this payload.
 pub(crate) fn put_list(bytes: &mut Vec<u8>, payload: &[u8]) -> Result<(), AllocError> {
     put_header(bytes, LIST, payload.len())?;
     bytes.extend_from_slice(payload)?;

@@ -1,4 +1,4 @@
-//! Calls on streams as data.
+//! Calls on streams, as values.
 
 use crate::support::guarded::{finalize, finishes_as, put_raw};
 use rlp::RlpStream;
@@ -42,7 +42,7 @@ pub(crate) enum Step {
     Clear,
 }
 
-/// Makes a call. `false` if its condition doesn't hold.
+/// Makes a call. Returns `false` if it isn't admitted.
 pub(crate) fn make(s: &mut RlpStream, step: Step) -> Result<bool, AllocError> {
     match step {
         Step::Begin(len) => {
@@ -63,7 +63,7 @@ pub(crate) fn make(s: &mut RlpStream, step: Step) -> Result<bool, AllocError> {
     Ok(true)
 }
 
-/// Makes a call that appends a value. `false` for any other.
+/// Makes a call that appends a value. Returns `false` for other calls.
 fn append(s: &mut RlpStream, step: Step) -> Result<bool, AllocError> {
     match step {
         Step::Number(number) => {
@@ -98,7 +98,7 @@ fn append(s: &mut RlpStream, step: Step) -> Result<bool, AllocError> {
     Ok(true)
 }
 
-/// Makes calls, up to the first whose condition doesn't hold. Returns `false` then.
+/// Makes calls in order. Returns `false` at the first that isn't admitted.
 pub(crate) fn make_all(s: &mut RlpStream, steps: &[Step]) -> Result<bool, AllocError> {
     for step in steps {
         if !make(s, *step)? {
@@ -108,7 +108,7 @@ pub(crate) fn make_all(s: &mut RlpStream, steps: &[Step]) -> Result<bool, AllocE
     Ok(true)
 }
 
-/// A new stream, in which a list is begun by its number of items, or none is.
+/// Returns a new stream, in which a list of `list` items is begun if there is a number.
 pub(crate) fn started(alloc: Global, list: Option<usize>) -> Result<RlpStream, AllocError> {
     match list {
         Some(len) => RlpStream::new_list(alloc, len),
@@ -116,7 +116,8 @@ pub(crate) fn started(alloc: Global, list: Option<usize>) -> Result<RlpStream, A
     }
 }
 
-/// Whether the calls on a new stream, with a list begun in it or none, finish as these bytes.
+/// Returns whether a new stream, with a list of `list` items begun if there is a number, has these
+/// finished bytes after the calls.
 pub(crate) fn finish_as(
     alloc: Global,
     list: Option<usize>,

@@ -1,11 +1,11 @@
-//! Byte arrays and numbers of any width, against bytes that were worked out by hand.
+//! Byte arrays and numbers of any width. The expected bytes were worked out by hand.
 
 use rlp::{DecoderError, Uint};
 use rlp_examples::{Entry, from_envelope, to_envelope};
 use std::alloc::Global;
 use std::test::Fail;
 
-/// Strings that are no array of three bytes, and why.
+/// Strings that aren't arrays of three bytes, and the faults.
 const NO_TRIPLES: [(&[u8], DecoderError); 4] = [
     (&[], DecoderError::RlpIsTooShort),
     (&[0x82, 0x01, 0x02], DecoderError::RlpIsTooShort),
@@ -25,7 +25,7 @@ const NUMBERS: [(&[u8], &[u8]); 5] = [
     ),
 ];
 
-/// Strings that are no number of two bytes, and why.
+/// Strings that aren't numbers of two bytes, and the faults.
 const NO_NUMBERS: [(&[u8], DecoderError); 4] = [
     (&[], DecoderError::RlpIsTooShort),
     (&[0x00], DecoderError::RlpInvalidIndirection),
@@ -33,7 +33,7 @@ const NO_NUMBERS: [(&[u8], DecoderError); 4] = [
     (&[0x83, 0x01, 0x00, 0x00], DecoderError::RlpIsTooBig),
 ];
 
-/// Whether this fault was found.
+/// Returns whether this fault was found.
 pub fn is_fault(found: Option<DecoderError>, want: &DecoderError) -> bool {
     match found {
         Some(fault) => fault == *want,
@@ -83,7 +83,7 @@ fn arrays_and_numbers(rt: HostRuntime) -> Result<(), Fail> {
     Ok(())
 }
 
-/// Whether a struct is read strictly from its whole encoding alone.
+/// Returns whether a struct is read strictly from exactly its encoding.
 fn entry_is_whole(alloc: Global) -> Result<bool, DecoderError> {
     let entry = rlp::decode_strict::<Entry>(alloc, &[0xc2, 0x05, 0x80])?;
     let more = rlp::decode_strict::<Entry>(alloc, &[0xc2, 0x05, 0x80, 0x00]).err();
@@ -96,7 +96,8 @@ fn entry_is_whole(alloc: Global) -> Result<bool, DecoderError> {
     )
 }
 
-/// Whether an entry goes into an envelope and comes out of it, and of no other.
+/// Returns whether an entry is written into an envelope, is read from it, and isn't read from an
+/// envelope of another type.
 fn envelopes_go_both_ways(alloc: Global) -> Result<bool, Fail> {
     let entry = rlp::decode_strict::<Entry>(alloc, &[0xc2, 0x05, 0x80])?;
     let bytes = to_envelope(alloc, 2, &entry)?;

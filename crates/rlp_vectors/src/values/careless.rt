@@ -1,4 +1,4 @@
-//! Streams over types that do little for what calls them.
+//! Streams with types whose `rlp_append` fails in the middle or doesn't count the item.
 
 use crate::support::guarded::finishes_as;
 use rlp::{Encodable, RlpStream};
@@ -7,24 +7,25 @@ use rlp_examples::{Refusing, Trio};
 use std::alloc::{AllocError, Global};
 use std::test::Fail;
 
-/// A value that is refused after its first number is written.
+/// Returns a value that is refused after its first number is written.
 fn refused() -> Trio<Refusing> {
     Trio(1, Refusing, 3)
 }
 
-/// A list of two that holds the number 5.
+/// Returns a stream with an open list of two items that holds the number 5.
 fn begun(alloc: Global) -> Result<RlpStream, AllocError> {
     let mut s = RlpStream::new_list(alloc, 2)?;
     s.append(&5u64)?;
     Ok(s)
 }
 
-/// Whether the stream holds these bytes, awaits this number of items, and has this size.
+/// Returns whether the stream holds these bytes, awaits this number of items, and has this size.
 fn stands_as(s: &RlpStream, raw: &[u8], awaited: usize, size: usize) -> bool {
     s.as_raw() == raw && s.items_awaited() == Some(awaited) && s.len() == size
 }
 
-/// Whether a refused value leaves nothing behind, by each call that goes back.
+/// Returns whether a refused value leaves nothing in the stream, for each call that restores the
+/// old state.
 fn appends_go_back(alloc: Global) -> Result<bool, AllocError> {
     let mut s = begun(alloc)?;
     let one = s.append(&refused()).is_err() && stands_as(&s, &[0x00, 0x05], 1, 2);
@@ -34,8 +35,8 @@ fn appends_go_back(alloc: Global) -> Result<bool, AllocError> {
     Ok(one && uncounted && all && finishes_as(s, &[0xc2, 0x05, 0x06]))
 }
 
-/// Whether a refused value leaves what it wrote if its own function is called, and nothing of
-/// what stood before is lost.
+/// Returns whether a direct call of `rlp_append` leaves what a refused value wrote, and loses
+/// nothing that was in the stream before.
 fn own_function_stays(alloc: Global) -> Result<bool, AllocError> {
     let mut s = begun(alloc)?;
     let refused = refused().rlp_append(&mut s).is_err();
@@ -53,7 +54,7 @@ fn refused_values_leave_nothing(rt: HostRuntime) -> Result<(), Fail> {
     Ok(())
 }
 
-/// Whether a value that is put uncounted is counted by the call that appends it.
+/// Returns whether `append` counts a value that is written without being counted.
 fn uncounted_are_counted(alloc: Global) -> Result<bool, AllocError> {
     let mut s = RlpStream::new_list(alloc, 2)?;
     s.append(&Wrapper(7))?.append(&8u64)?;

@@ -1,4 +1,4 @@
-//! Transactions, against the vectors of the public standard.
+//! Transactions. The expected bytes are the vectors of the public standard.
 
 use rlp::DecoderError;
 use rlp_examples::{Entry, Hash, Recipient, Transaction};
@@ -15,14 +15,14 @@ const S: [u8; 32] = [
     0xf5, 0x55, 0xc9, 0xf3, 0xdc, 0x64, 0x21, 0x4b, 0x29, 0x7f, 0xb1, 0x96, 0x6a, 0x3b, 0x6d, 0x83,
 ];
 
-/// What the two forms of the example share: the first six fields.
+/// The first six fields, which both forms of the example have.
 const FIELDS: [u8; 41] = [
     0x09, 0x85, 0x04, 0xa8, 0x17, 0xc8, 0x00, 0x82, 0x52, 0x08, 0x94, 0x35, 0x35, 0x35, 0x35, 0x35,
     0x35, 0x35, 0x35, 0x35, 0x35, 0x35, 0x35, 0x35, 0x35, 0x35, 0x35, 0x35, 0x35, 0x35, 0x35, 0x88,
     0x0d, 0xe0, 0xb6, 0xb3, 0xa7, 0x64, 0x00, 0x00, 0x80,
 ];
 
-/// The example of the standard, with this signature.
+/// Returns the example of the standard, with this signature.
 fn example(alloc: Global, v: u64, r: &[u8], s: &[u8]) -> Result<Transaction, AllocError> {
     Ok(Transaction {
         nonce: 9,
@@ -37,7 +37,7 @@ fn example(alloc: Global, v: u64, r: &[u8], s: &[u8]) -> Result<Transaction, All
     })
 }
 
-/// The bytes of the example that is to be signed.
+/// Returns the bytes of the example that is to be signed.
 fn bytes_for_signing(alloc: Global) -> Result<Vec<u8>, AllocError> {
     let mut bytes = Vec::from_slice(alloc, &[0xec])?;
     bytes.extend_from_slice(&FIELDS)?;
@@ -45,7 +45,7 @@ fn bytes_for_signing(alloc: Global) -> Result<Vec<u8>, AllocError> {
     Ok(bytes)
 }
 
-/// The bytes of the example that was signed.
+/// Returns the bytes of the signed example.
 fn signed_bytes(alloc: Global) -> Result<Vec<u8>, AllocError> {
     let mut bytes = Vec::from_slice(alloc, &[0xf8, 0x6c])?;
     bytes.extend_from_slice(&FIELDS)?;
@@ -56,7 +56,7 @@ fn signed_bytes(alloc: Global) -> Result<Vec<u8>, AllocError> {
     Ok(bytes)
 }
 
-/// Whether a transaction is written as these bytes, and read back from them.
+/// Returns whether a transaction is written as these bytes, and read back from them.
 fn goes_both_ways(alloc: Global, t: &Transaction, bytes: &[u8]) -> Result<bool, Fail> {
     let back = rlp::decode::<Transaction>(alloc, bytes)?;
     Ok(
@@ -89,7 +89,8 @@ fn signed_transaction(rt: HostRuntime) -> Result<(), Fail> {
     Ok(())
 }
 
-/// Whether a hash is written as its 33 bytes, read back from them, and from no shorter string.
+/// Returns whether a hash is written as its 33 bytes, is read back from them, and isn't read from a
+/// shorter string.
 fn hash_goes_both_ways(alloc: Global) -> Result<bool, Fail> {
     let mut bytes = Vec::from_slice(alloc, &[0xa0])?;
     bytes.extend_from_slice(&R)?;

@@ -1,4 +1,4 @@
-//! Nests, access lists and nodes of the trie, against bytes that were worked out by hand.
+//! Nests, access lists and nodes of the trie. The expected bytes were worked out by hand.
 
 use rlp::DecoderError;
 use rlp_examples::{Access, AccessList, Address, Branch, Child, Hash, Inner, Leaf, Nest};
@@ -16,7 +16,7 @@ const NESTED_NESTS: [u8; 30] = [
     0xcd, 0xcc, 0xc2, 0x80, 0x01, 0xc2, 0x01, 0x02, 0xc2, 0x02, 0x03, 0xc2, 0x03, 0x04,
 ];
 
-/// The pair of each of four numbers and the next.
+/// Returns the nest of four pairs. Each pair is a number and the next one.
 fn pairs(alloc: Global) -> Result<Nest<Inner>, AllocError> {
     let mut pairs = Vec::new(alloc);
     for i in 0u64..4 {
@@ -25,7 +25,7 @@ fn pairs(alloc: Global) -> Result<Nest<Inner>, AllocError> {
     Ok(Nest(pairs))
 }
 
-/// Twice the nest of those pairs.
+/// Returns the nest that holds the nest of those pairs twice.
 fn nests(alloc: Global) -> Result<Nest<Nest<Inner>>, AllocError> {
     let mut nests = Vec::new(alloc);
     nests.push(pairs(alloc)?)?;
@@ -33,7 +33,7 @@ fn nests(alloc: Global) -> Result<Nest<Nest<Inner>>, AllocError> {
     Ok(Nest(nests))
 }
 
-/// Whether the pairs are written as their bytes, and read back from them.
+/// Returns whether the pairs are written as their bytes, and read back from them.
 fn pairs_go_both_ways(alloc: Global) -> Result<bool, Fail> {
     let nest = pairs(alloc)?;
     let bytes = rlp::encode(alloc, &nest)?;
@@ -41,7 +41,7 @@ fn pairs_go_both_ways(alloc: Global) -> Result<bool, Fail> {
     Ok(bytes.as_slice() == NESTED_PAIRS.as_slice() && back == nest)
 }
 
-/// The same of nests in a nest.
+/// Returns whether nests in a nest are written as their bytes, and read back from them.
 fn nests_go_both_ways(alloc: Global) -> Result<bool, Fail> {
     let nest = nests(alloc)?;
     let bytes = rlp::encode(alloc, &nest)?;
@@ -65,14 +65,14 @@ const SECOND: [u8; 20] = [
     0x8c, 0x18, 0x94, 0x13,
 ];
 
-/// The number in 32 bytes.
+/// Returns the number as a hash of 32 bytes.
 fn key(last: u8) -> Hash {
     let mut bytes = [0; 32];
     bytes[31] = last;
     Hash { bytes }
 }
 
-/// The example of the standard: two places of one account, and none of another.
+/// Returns the example of the standard: an account with two keys, and another with none.
 fn accesses(alloc: Global) -> Result<AccessList, AllocError> {
     let mut keys = Vec::new(alloc);
     keys.push(key(3))?;
@@ -89,7 +89,7 @@ fn accesses(alloc: Global) -> Result<AccessList, AllocError> {
     Ok(AccessList(accesses))
 }
 
-/// The bytes of the example.
+/// Returns the bytes of the example.
 fn access_bytes(alloc: Global) -> Result<Vec<u8>, AllocError> {
     let mut bytes = Vec::from_slice(alloc, &[0xf8, 0x72, 0xf8, 0x59, 0x94])?;
     bytes.extend_from_slice(&FIRST)?;
@@ -103,7 +103,7 @@ fn access_bytes(alloc: Global) -> Result<Vec<u8>, AllocError> {
     Ok(bytes)
 }
 
-/// Whether the example is written as its bytes, and read back from them.
+/// Returns whether the example is written as its bytes, and read back from them.
 fn accesses_go_both_ways(alloc: Global) -> Result<bool, Fail> {
     let accesses = accesses(alloc)?;
     let bytes = access_bytes(alloc)?;
@@ -140,7 +140,7 @@ const LEAVES: [LeafRow; 2] = [
     ),
 ];
 
-/// Whether each leaf is written as its bytes, and read back from them.
+/// Returns whether each leaf is written as its bytes, and read back from them.
 fn leaves_go_both_ways(alloc: Global) -> Result<bool, Fail> {
     for (bytes, path, value) in &LEAVES {
         let leaf = Leaf {
@@ -161,7 +161,7 @@ fn leaves(rt: HostRuntime) -> Result<(), Fail> {
     Ok(())
 }
 
-/// A branch with a child in place 1, another in place 15, and a value.
+/// Returns a branch with children at places 1 and 15, and a value.
 fn branch(alloc: Global) -> Result<Branch, AllocError> {
     let mut children = [Child::Nothing; 16];
     children[1] = Child::Node([0x11; 32]);
@@ -172,7 +172,7 @@ fn branch(alloc: Global) -> Result<Branch, AllocError> {
     })
 }
 
-/// The bytes of the branch.
+/// Returns the bytes of the branch.
 fn branch_bytes(alloc: Global) -> Result<Vec<u8>, AllocError> {
     let mut bytes = Vec::from_slice(alloc, &[0xf8, 0x55, 0x80, 0xa0])?;
     bytes.extend_from_slice(&[0x11; 32])?;
@@ -183,7 +183,7 @@ fn branch_bytes(alloc: Global) -> Result<Vec<u8>, AllocError> {
     Ok(bytes)
 }
 
-/// Whether the branch is written as its bytes, and read back from them.
+/// Returns whether the branch is written as its bytes, and read back from them.
 fn branch_goes_both_ways(alloc: Global) -> Result<bool, Fail> {
     let branch = branch(alloc)?;
     let bytes = branch_bytes(alloc)?;

@@ -1,12 +1,12 @@
-//! A value that is refused the first time it is written, in the middle of its bytes, and counts how
-//! often it was.
+//! A value that is refused the first time it is written, in the middle of its bytes. It counts how
+//! often it is written.
 
 use rlp::{Encodable, RlpStream};
 use std::alloc::{AllocError, Global};
 use std::cell::Cell;
 use std::test::Fail;
 
-/// A number, and how often it was written.
+/// A number, and the number of times that it was written.
 #[derive(Drop)]
 struct OnceRefused<'a> {
     number: u64,
@@ -39,7 +39,7 @@ enum Call {
     Append,
     /// `append_internal`.
     Internal,
-    /// `append_list` of it alone.
+    /// `append_list` of this one value.
     List,
 }
 
@@ -59,15 +59,16 @@ fn make(s: &mut RlpStream, call: Call, values: &[OnceRefused<'_>; 1]) -> Result<
     Ok(())
 }
 
-/// Calls, and after each, in a list of two that holds the number 5, the bytes and what is awaited.
+/// Calls on a list of two items that holds the number 5. For each, the bytes after the call, and
+/// the number of items that are awaited.
 const CALLS: [(Call, &[u8], Option<usize>); 3] = [
     (Call::Append, &[0xc2, 0x05, 0x06], None),
     (Call::Internal, &[0x00, 0x05, 0x06], Some(1)),
     (Call::List, &[0xc3, 0x05, 0xc1, 0x06], None),
 ];
 
-/// Whether a call that is refused has written the value once and leaves nothing, and the same call
-/// then writes it once more.
+/// Returns whether a refused call has written the value once and leaves nothing in the stream, and
+/// the same call then writes the value once more.
 fn writes_once(
     alloc: Global,
     call: Call,
@@ -90,7 +91,7 @@ fn writes_once(
     Ok(refused && calls.get() == 2 && s.as_raw() == raw && s.items_awaited() == awaited)
 }
 
-/// The place of the first call that doesn't.
+/// Returns the place of the first call for which [`writes_once`] returns `false`.
 fn first_wrong_call(alloc: Global) -> Result<Option<usize>, AllocError> {
     for (row, (call, raw, awaited)) in CALLS.iter().enumerate() {
         if !writes_once(alloc, *call, raw, *awaited)? {

@@ -1,4 +1,4 @@
-//! Structs that are written and read by one call, against bytes that were worked out by hand.
+//! Structs that are written and read by one call. The expected bytes were worked out by hand.
 
 use rlp::{DecoderError, Each, Flattened, ListOf, RlpStream};
 use rlp_examples::{Address, Hash, Header, Log};
@@ -13,7 +13,7 @@ const LOG: [u8; 61] = [
     0x22, 0x22, 0x22, 0x22, 0x22, 0x22, 0x22, 0x22, 0x22, 0x83, 0x63, 0x61, 0x74,
 ];
 
-/// Bytes that give no log, and the fault.
+/// Bytes that give no log, and the faults.
 const NO_LOGS: [(&[u8], DecoderError); 4] = [
     (&[0x05], DecoderError::RlpExpectedToBeList),
     (&[0xc0], DecoderError::RlpIncorrectListLen),
@@ -24,7 +24,7 @@ const NO_LOGS: [(&[u8], DecoderError); 4] = [
     (&[0xc3, 0x05, 0xc0, 0xc0], DecoderError::RlpIsTooShort),
 ];
 
-/// The log of those bytes.
+/// Returns the log whose encoding is `LOG`.
 fn log(alloc: Global) -> Result<Log, AllocError> {
     Ok(Log {
         address: Address { bytes: [0x11; 20] },
@@ -52,8 +52,8 @@ fn other_bytes_give_no_log(rt: HostRuntime) -> Result<(), Fail> {
     Ok(())
 }
 
-/// A header with small numbers: eight hashes of 33 bytes each, an address of 21, and eleven single
-/// bytes, together 0x128.
+/// Returns a header with small numbers. Its fields are eight hashes of 33 bytes each, an address of
+/// 21 bytes, and eleven single bytes, together 0x128 bytes.
 fn header(alloc: Global) -> Header {
     Header {
         parent_hash: Hash { bytes: [1; 32] },

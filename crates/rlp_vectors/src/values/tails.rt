@@ -1,4 +1,4 @@
-//! Headers whose last fields may be missing, against bytes that were worked out by hand.
+//! Headers whose last fields may be missing. The expected bytes were worked out by hand.
 
 use crate::values::arrays::is_fault;
 use rlp::DecoderError;
@@ -18,7 +18,7 @@ const WHOLE: [u8; 38] = [
     1, 1, 1, 1, 1, 1, 1, 1, 1, 1, 0x08,
 ];
 
-/// Bytes that are no header, and why.
+/// Bytes that aren't a header, and the faults.
 const NO_HEADERS: [(&[u8], DecoderError); 5] = [
     (&[0x05], DecoderError::RlpExpectedToBeList),
     (&[0xc1, 0x05], DecoderError::RlpIncorrectListLen),
@@ -63,7 +63,7 @@ fn no_headers(alloc: Global) -> bool {
     NO_HEADERS.iter().all(|row| is_fault(rlp::decode::<ShortHeader>(alloc, row.0).err(), &row.1))
 }
 
-/// Whether a header with a field and without the one before it is refused.
+/// Returns whether writing fails for a header with a field but without the one before it.
 fn gap_is_refused(alloc: Global) -> bool {
     let header = ShortHeader {
         number: 5,

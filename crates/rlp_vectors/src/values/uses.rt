@@ -1,4 +1,4 @@
-//! Uses as the documents show them.
+//! The examples of calls, some of which the pages show.
 
 use crate::support::guarded::finishes_as;
 use rlp::{BasicDecoder, DecoderError, Rlp, RlpStream};

@@ -1,4 +1,4 @@
-//! Each call that a chain and a writer of strings forward, once.
+//! Each call that a chain or a writer of strings forwards, once.
 
 use crate::support::guarded::{finalize, finishes_as, put_raw_chained};
 use crate::support::iterators::{append_undotted, encode_undotted};
@@ -39,7 +39,7 @@ fn append_zeros(s: &mut RlpStream, len: usize) -> Result<(), AllocError> {
     Ok(())
 }
 
-/// Numbers of bytes 00 that an iterator gives, and the headers before them.
+/// Numbers of bytes 00 that an iterator gives, and the headers of these strings.
 const HEADERS: [(usize, &[u8]); 5] = [
     (1, &[]),
     (55, &[0xb7]),
@@ -72,7 +72,8 @@ fn headers_fit_what_an_iterator_gave(rt: HostRuntime) -> Result<(), Fail> {
     Ok(())
 }
 
-/// A list of six items, each by a call on the chain before, in an unbounded list.
+/// Begins an unbounded list, and in it a list of six items, and appends the items in one chain. The
+/// last item is an unbounded list, which stays open.
 fn append_six(s: &mut RlpStream) -> Result<(), AllocError> {
     s.begin_unbounded_list()?
         .begin_list(6)?
@@ -85,7 +86,7 @@ fn append_six(s: &mut RlpStream) -> Result<(), AllocError> {
     Ok(())
 }
 
-/// Six items, the last an unbounded list of two raw ones.
+/// The bytes of the six items. The last is an unbounded list of two raw items.
 const SIX: &[u8] = &[
     0xd0, 0xcf, 0x01, 0x83, 0x64, 0x6f, 0x67, 0xc2, 0x02, 0x03, 0xc2, 0x04, 0x05, 0x80, 0xc2, 0x06,
     0x07,
@@ -109,7 +110,7 @@ fn each_call_of_a_chain(rt: HostRuntime) -> Result<(), Fail> {
     Ok(())
 }
 
-/// Writes "dog" twice, of which nothing is counted.
+/// Writes "dog" twice, and counts no item.
 fn encode_dogs(encoder: &mut BasicEncoder<'_>) -> Result<(), AllocError> {
     encoder.encode_value(b"dog")?;
     encode_undotted(encoder, b"dog")

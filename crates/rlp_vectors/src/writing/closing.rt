@@ -6,14 +6,14 @@ use rlp::RlpStream;
 use std::alloc::{AllocError, Global};
 use std::test::Fail;
 
-/// A text of 56 bytes, the shortest whose header isn't one byte.
+/// A text of 56 bytes, the shortest length whose header has more than one byte.
 const LONG_TEXT: &str = "Lorem ipsum dolor sit amet, consectetur adipisicing elit";
 
-/// What 60 lists around an empty string begin with: the headers of those that are over 55 bytes
-/// long.
+/// The first bytes of 60 lists around an empty string: the headers of the lists whose payloads have
+/// more than 55 bytes.
 const LONG_HEADERS: &[u8] = &[0xf8, 0x40, 0xf8, 0x3e, 0xf8, 0x3c, 0xf8, 0x3a, 0xf8, 0x38];
 
-/// Begins lists of one item, one inside the other.
+/// Begins lists of one item, one inside another.
 fn begin_singles(s: &mut RlpStream, lists: usize) -> Result<(), AllocError> {
     for _ in 0..lists {
         s.begin_list(1)?;
@@ -21,7 +21,7 @@ fn begin_singles(s: &mut RlpStream, lists: usize) -> Result<(), AllocError> {
     Ok(())
 }
 
-/// The long headers, those of 55 bytes and less down to 1, and the empty string.
+/// Returns the long headers, the headers of the lists of 55 bytes down to 1, and the empty string.
 fn sixty_lists(alloc: Global) -> Result<Vec<u8>, AllocError> {
     let mut bytes = Vec::from_slice(alloc, LONG_HEADERS)?;
     for header in (0xc1..=0xf7).rev() {
@@ -46,7 +46,8 @@ fn closes_sixty_lists_at_once(rt: HostRuntime) -> Result<(), Fail> {
     Ok(())
 }
 
-/// Whether two lists around one string of bytes 00 finish as these headers and the bytes.
+/// Returns whether two lists around a string of `len` bytes 00 are finished as these headers and
+/// the bytes.
 fn string_closes_two(alloc: Global, len: usize, headers: &[u8]) -> Result<bool, AllocError> {
     let zeros = vec![in alloc; 0u8; len]?;
     let mut want = Vec::from_slice(alloc, headers)?;
@@ -84,7 +85,7 @@ fn stretches_of_two_lists_are_moved(rt: HostRuntime) -> Result<(), Fail> {
     Ok(())
 }
 
-/// A list of 56 numbers 1.
+/// Returns whether the last of 56 numbers 1 closes their list.
 fn numbers_close_a_long_list(alloc: Global) -> Result<bool, AllocError> {
     let mut want = Vec::from_slice(alloc, &[0xf8, 0x38])?;
     let mut s = RlpStream::new_list(alloc, 56)?;
@@ -101,7 +102,7 @@ fn closes_a_list_of_many_items(rt: HostRuntime) -> Result<(), Fail> {
     Ok(())
 }
 
-/// A number, and then an unbounded list, in a list of two.
+/// Calls that write a number and then an open unbounded list of three items, in a list of two.
 const MIXED: &[Step] = &[
     Step::Begin(2),
     Step::Number(1),
@@ -126,7 +127,7 @@ fn finalizes_unbounded_lists(rt: HostRuntime) -> Result<(), Fail> {
     Ok(())
 }
 
-/// Whether the finished bytes have this length and begin with these.
+/// Returns whether the finished bytes have this length and begin with this header.
 fn is_long(s: RlpStream, len: usize, header: [u8; 3]) -> bool {
     match finished(s) {
         Some(bytes) => bytes.len() == len && begins_with(bytes.as_slice(), header),

@@ -1,4 +1,4 @@
-//! The bytes of strings, and of streams that hold nothing else.
+//! The encodings of strings, and of streams of strings.
 
 use crate::support::guarded::finishes_as;
 use crate::support::plain;
@@ -9,10 +9,10 @@ use std::alloc::{AllocError, Global};
 use std::io;
 use std::test::Fail;
 
-/// A text of 56 bytes, the shortest whose header isn't one byte.
+/// A text of 56 bytes, the shortest length whose header has more than one byte.
 const LONG_TEXT: &str = "Lorem ipsum dolor sit amet, consectetur adipisicing elit";
 
-/// Whether this is the encoding of a value, by the crate's call and by the value's own.
+/// Returns whether `want` is the encoding of a value, by [`rlp::encode`] and by `rlp_bytes`.
 fn is_encoded<E: Encodable>(alloc: Global, value: &E, want: &[u8]) -> Result<bool, AllocError> {
     Ok(rlp::encode(alloc, value)?.as_slice() == want && value.rlp_bytes(alloc)?.as_slice() == want)
 }
@@ -99,7 +99,7 @@ fn encode_vector_u8(rt: HostRuntime) -> Result<(), Fail> {
     Ok(())
 }
 
-/// Lengths of strings of bytes 00, and the headers before them.
+/// Lengths of strings of bytes 00, and their headers.
 const HEADERS: [(usize, &[u8]); 8] = [
     (55, &[0xb7]),
     (56, &[0xb8, 0x38]),
@@ -156,7 +156,7 @@ fn a_pair_is_a_list(rt: HostRuntime) -> Result<(), Fail> {
     Ok(())
 }
 
-/// What a stream of three values, two strings and two texts holds.
+/// The bytes of a stream of three values, two strings and two texts.
 const APPENDED: &[u8] = &[
     0x01, 0x83, 0x63, 0x61, 0x74, 0x80, 0x81, 0x80, 0x82, 0x01, 0x00, 0x61, 0x83, 0x64, 0x6f, 0x67,
 ];
@@ -204,8 +204,7 @@ fn refused_appends_leave_the_stream(rt: HostRuntime) -> Result<(), Fail> {
     Ok(())
 }
 
-// Where an allocation is refused, as `rt try --test --fail-alloc N` has it, that append alone is
-// missing.
+// If `rt try --test --fail-alloc N` refuses an allocation, only that append is missing.
 #[test]
 fn refused_growth_leaves_the_stream(rt: HostRuntime) -> io::Result<()> {
     let alloc = rt.alloc();

@@ -1,4 +1,4 @@
-//! Streams with a front, over bytes that are handed in.
+//! Streams with a front: bytes that are handed in.
 
 use crate::support::guarded::{finished, finishes_as};
 use bytes::BytesMut;
@@ -6,7 +6,7 @@ use rlp::RlpStream;
 use std::alloc::{AllocError, Global};
 use std::test::Fail;
 
-/// A buffer that holds these bytes.
+/// Returns a buffer that holds these bytes.
 fn buffer_of(alloc: Global, bytes: &[u8]) -> Result<BytesMut, AllocError> {
     let mut buffer = BytesMut::new(alloc);
     buffer.extend_from_slice(bytes)?;
@@ -57,7 +57,7 @@ fn clear(rt: HostRuntime) -> Result<(), Fail> {
     Ok(())
 }
 
-/// What a stream over the buffer finishes as once a text was appended.
+/// Returns the finished bytes of a stream over the buffer after a text is appended.
 fn with_text(alloc: Global, buffer: BytesMut, text: &str) -> Result<BytesMut, AllocError> {
     let mut s = RlpStream::new_with_buffer(alloc, buffer);
     s.append(&text)?;

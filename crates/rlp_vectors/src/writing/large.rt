@@ -6,14 +6,14 @@ use rlp::RlpStream;
 use std::alloc::{AllocError, Global};
 use std::test::Fail;
 
-/// The length of a string, and its header.
+/// Lengths of strings, and their headers.
 const STRINGS: [(usize, &[u8]); 2] = [
     (2_097_152, &[0xba, 0x20, 0x00, 0x00]),
     (16_777_215, &[0xba, 0xff, 0xff, 0xff]),
 ];
 
-/// The length of a string, and the headers of the list of it and of itself. The payloads of these
-/// lists have 16,777,215 and 16,777,216 bytes.
+/// Lengths of strings, and the headers of the list of the string and of the string. The payloads of
+/// these lists have 16,777,215 and 16,777,216 bytes.
 const LISTS: [(usize, &[u8]); 2] = [
     (
         16_777_211,
@@ -25,7 +25,7 @@ const LISTS: [(usize, &[u8]); 2] = [
     ),
 ];
 
-/// Whether the bytes are these, and `len` bytes 07.
+/// Returns whether the bytes are the headers and then `len` bytes 07.
 fn are(bytes: &[u8], headers: &[u8], len: usize) -> bool {
     match bytes.strip_prefix(headers) {
         Some(string) => string.len() == len && string.iter().all(|byte| *byte == 0x07),
@@ -33,7 +33,7 @@ fn are(bytes: &[u8], headers: &[u8], len: usize) -> bool {
     }
 }
 
-/// The length of the first string that isn't written with its header.
+/// Returns the length of the first string that isn't written with its header.
 fn first_wrong_string(alloc: Global) -> Result<Option<usize>, AllocError> {
     for (len, header) in STRINGS {
         let string = vec![in alloc; 7u8; len]?;
@@ -51,7 +51,7 @@ fn long_strings(rt: HostRuntime) -> Result<(), Fail> {
     Ok(())
 }
 
-/// The list of the string, closed by a call of its own.
+/// Returns the unbounded list of the string, closed by a separate call.
 fn list_of(alloc: Global, string: &Vec<u8>) -> Result<Option<BytesMut>, AllocError> {
     let mut s = RlpStream::new(alloc)?;
     s.begin_unbounded_list()?.append(string)?;
@@ -61,7 +61,7 @@ fn list_of(alloc: Global, string: &Vec<u8>) -> Result<Option<BytesMut>, AllocErr
     Ok(finished(s))
 }
 
-/// The length of the first string whose list isn't written with both headers.
+/// Returns the length of the first string whose list isn't written with both headers.
 fn first_wrong_list(alloc: Global) -> Result<Option<usize>, AllocError> {
     for (len, headers) in LISTS {
         let string = vec![in alloc; 7u8; len]?;
@@ -79,7 +79,7 @@ fn long_lists(rt: HostRuntime) -> Result<(), Fail> {
     Ok(())
 }
 
-/// Whether a list is closed behind a string of 2 MiB, by its last item and by a call.
+/// Returns whether a list after a string of 2 MiB is closed, by its last item and by a call.
 fn lists_are_closed_behind(alloc: Global) -> Result<bool, AllocError> {
     let (len, header) = STRINGS[0];
     let string = vec![in alloc; 7u8; len]?;
@@ -105,7 +105,7 @@ fn lists_in_a_long_stream(rt: HostRuntime) -> Result<(), Fail> {
 /// Numbers of items that a list may await.
 const AWAITED: [usize; 4] = [1_000_001, 4_294_967_296, 4_294_967_297, usize::MAX];
 
-/// Whether lists that await `len` items are begun, on a new stream and over a buffer.
+/// Returns whether lists that await `len` items can be begun, in a new stream and over a buffer.
 fn are_begun(alloc: Global, len: usize) -> Result<bool, AllocError> {
     let mut s = RlpStream::new(alloc)?;
     s.begin_list(len)?;
@@ -116,7 +116,7 @@ fn are_begun(alloc: Global, len: usize) -> Result<bool, AllocError> {
     )
 }
 
-/// The first number of items for which no list is begun.
+/// Returns the first number of items for which no list can be begun.
 fn first_not_begun(alloc: Global) -> Result<Option<usize>, AllocError> {
     for len in AWAITED {
         if !are_begun(alloc, len)? {
@@ -132,11 +132,11 @@ fn lists_of_many_items(rt: HostRuntime) -> Result<(), Fail> {
     Ok(())
 }
 
-/// How many numbers 7 a list has, and its header.
+/// The number of numbers 7 in a list, and the list's header.
 const NUMBERS: (usize, &[u8]) = (65_537, &[0xfa, 0x01, 0x00, 0x01]);
 
-/// Whether a long list of numbers of one byte is written with its header, by a stream and
-/// alone.
+/// Returns whether a long list of numbers of one byte is written with its header, in a stream and
+/// by `encode_list`.
 fn numbers_are_listed(alloc: Global) -> Result<bool, AllocError> {
     let (len, header) = NUMBERS;
     let numbers = vec![in alloc; 7u8; len]?;
@@ -155,7 +155,7 @@ fn a_list_of_many_numbers(rt: HostRuntime) -> Result<(), Fail> {
     Ok(())
 }
 
-/// Whether lists of no values are written at once.
+/// Returns whether lists of no values are written.
 fn empty_lists_are_written(alloc: Global) -> Result<bool, AllocError> {
     let none: [u64; 0] = [];
     let mut s = RlpStream::new_list(alloc, 2)?;
@@ -172,10 +172,10 @@ fn lists_of_no_values(rt: HostRuntime) -> Result<(), Fail> {
     Ok(())
 }
 
-/// How many unbounded lists are opened, one inside the other.
+/// The number of unbounded lists that are opened, one inside another.
 const DEEP: usize = 1_100;
 
-/// Whether that many lists are opened, and finalized one by one around one byte.
+/// Returns whether `DEEP` lists are opened, and finalized one by one around one byte.
 fn deep_lists_are_finalized(alloc: Global) -> Result<bool, AllocError> {
     let mut s = RlpStream::new(alloc)?;
     for _ in 0..DEEP {
@@ -186,7 +186,7 @@ fn deep_lists_are_finalized(alloc: Global) -> Result<bool, AllocError> {
             return Ok(false);
         }
     }
-    // 56 headers of one byte, 100 of two, and 944 of three
+    // 56 headers of one byte, 100 of two bytes, and 944 of three bytes.
     Ok(s.len() == 56 + 2 * 100 + 3 * 944 && s.is_finished())
 }
 

@@ -1,4 +1,5 @@
-//! Raw bytes that are put within a limit, at each side of the closed size with them.
+//! Raw bytes that are appended within a limit, for limits below and above the resulting closed
+//! size.
 
 use crate::support::guarded::{put_raw, put_raw_within};
 use bytes::BytesMut;
@@ -6,8 +7,8 @@ use rlp::RlpStream;
 use std::alloc::{AllocError, Global};
 use std::test::Fail;
 
-/// How many lists are open, one inside the other; how many bytes 00 are in the innermost, and how
-/// many more are put; and the closed size with these.
+/// The number of open lists, one inside another; the number of bytes 00 in the innermost; the
+/// number of bytes 00 that are appended; and the closed size after that.
 type Row = (usize, usize, usize, usize);
 
 const ROWS: [Row; 32] = [
@@ -45,25 +46,25 @@ const ROWS: [Row; 32] = [
     (100, 65_238, 1, 65_540),
 ];
 
-/// What the open lists await.
+/// The number of items that the open lists await.
 #[derive(Clone, Copy)]
 enum Awaited {
-    /// No number of items.
+    /// Any number: the lists are unbounded.
     Any,
-    /// More items than are put.
+    /// More items than are appended.
     More,
-    /// The items that are put: the last of them closes each list.
+    /// Exactly the items that are appended. The last of them closes each list.
     These,
 }
 
-/// A stream over these bytes.
+/// Returns a stream over these bytes.
 fn stream_over(alloc: Global, front: &[u8]) -> Result<RlpStream, AllocError> {
     let mut buffer = BytesMut::new(alloc);
     buffer.extend_from_slice(front)?;
     Ok(RlpStream::new_with_buffer(alloc, buffer))
 }
 
-/// Opens a number of lists. Two items are put into the innermost.
+/// Opens `lists` lists, one inside another. Two items are appended to the innermost later.
 fn open_lists(s: &mut RlpStream, lists: usize, awaited: Awaited) -> Result<(), AllocError> {
     for list in 0..lists {
         let outer = list + 1 < lists;
@@ -76,8 +77,8 @@ fn open_lists(s: &mut RlpStream, lists: usize, awaited: Awaited) -> Result<(), A
     Ok(())
 }
 
-/// Whether the bytes of a row are put within a limit exactly if the closed size with them is within
-/// it, and else leave the stream as it was.
+/// Returns whether the bytes of a row are appended exactly if the resulting closed size is within
+/// the limit, and else leave the stream as it was.
 fn is_answered(
     alloc: Global,
     front: &[u8],
@@ -120,8 +121,8 @@ fn is_answered(
     )
 }
 
-/// Whether a row gets this answer at each limit: next to none, around the size, around the size
-/// with nine bytes for each header, and the greatest.
+/// Returns whether a row is right for each limit: 0, around the size, around the size with nine
+/// bytes for each header, and the greatest `usize`.
 fn is_answered_at_limits(
     alloc: Global,
     front: &[u8],
@@ -150,7 +151,7 @@ fn is_answered_at_limits(
     Ok(true)
 }
 
-/// Whether all rows get these answers, over no bytes and over some.
+/// Returns whether all rows are right, without a front and with one.
 fn all_are_answered(alloc: Global, awaited: Awaited) -> Result<bool, AllocError> {
     for row in ROWS {
         if !is_answered_at_limits(alloc, &[], row, awaited)?

@@ -1,4 +1,4 @@
-//! Lists of values of one type, by the call of the crate and by the stream's.
+//! Lists of values of one type, by `encode_list` and by the stream's `append_list`.
 
 use crate::support::guarded::{finalize, finishes_as};
 use rlp::{Encodable, RlpStream};
@@ -6,7 +6,7 @@ use rlp_examples::Pair;
 use std::alloc::{AllocError, Global};
 use std::test::Fail;
 
-/// Whether the list of the values is this, alone and in a stream.
+/// Returns whether the list of the values is written as these bytes, alone and in a stream.
 fn are_listed<E: Encodable>(alloc: Global, values: &[E], want: &[u8]) -> Result<bool, AllocError> {
     let mut s = RlpStream::new(alloc)?;
     s.append_list(values)?;

@@ -1,5 +1,4 @@
-//! Sizes of streams with open lists, where the headers of inner lists push the lengths of outer
-//! ones.
+//! Sizes of streams with open lists. The headers of inner lists make the outer ones longer.
 
 use crate::support::guarded::{
     estimates, finalize, finished, finishes_as, put_raw, put_raw_within,
@@ -8,8 +7,9 @@ use rlp::RlpStream;
 use std::alloc::{AllocError, Global};
 use std::test::Fail;
 
-/// How many unbounded lists are open, one inside the other; what the raw bytes in the innermost
-/// begin with, and how many bytes 00 follow; the lists' headers from the outside in; and the size.
+/// The number of open unbounded lists, one inside another; the first raw bytes in the innermost,
+/// and the number of bytes 00 that follow; the headers of the lists, the outermost first; and the
+/// size.
 type Nested = (usize, &'static [u8], usize, &'static [u8], usize);
 
 const NESTED: [Nested; 13] = [
@@ -58,7 +58,7 @@ const NESTED: [Nested; 13] = [
     ),
 ];
 
-/// Some bytes, and then bytes 00.
+/// Returns these bytes, and then bytes 00.
 fn with_zeros(alloc: Global, front: &[u8], zeros: usize) -> Result<Vec<u8>, AllocError> {
     let mut bytes = Vec::from_slice(alloc, front)?;
     let zeros = vec![in alloc; 0u8; zeros]?;
@@ -82,8 +82,8 @@ fn finalize_all(s: &mut RlpStream, lists: usize) -> Result<bool, AllocError> {
     Ok(true)
 }
 
-/// Whether a row's stream has its size before and after its lists are closed, and finishes as its
-/// headers and the raw bytes.
+/// Returns whether the stream of a row has its size before and after the lists are closed, and is
+/// finished as the headers and the raw bytes.
 fn is_sized(alloc: Global, row: Nested) -> Result<bool, AllocError> {
     let (lists, front, zeros, headers, size) = row;
     let raw = with_zeros(alloc, front, zeros)?;
@@ -116,7 +116,8 @@ fn sizes_of_nested_lists(rt: HostRuntime) -> Result<(), Fail> {
     Ok(())
 }
 
-/// One raw item of 254 bytes in two lists, and one byte more.
+/// Returns whether the estimated sizes are right for one raw item of 254 bytes in two lists, and
+/// for one byte more.
 fn is_estimated(alloc: Global) -> Result<bool, AllocError> {
     let raw = with_zeros(alloc, &[0xb8, 0xfc], 252)?;
     let mut s = RlpStream::new(alloc)?;
@@ -130,7 +131,8 @@ fn estimates_count_headers_of_open_lists(rt: HostRuntime) -> Result<(), Fail> {
     Ok(())
 }
 
-/// What an empty stream, and then one with one empty unbounded list, may still take.
+/// Returns whether estimates are right up to the greatest size, for an empty stream and for one
+/// with an empty unbounded list.
 fn limits_agree(alloc: Global) -> Result<bool, AllocError> {
     let mut s = RlpStream::new(alloc)?;
     let empty = estimates(&s, 18_446_744_073_709_551_615, 18_446_744_073_709_551_615);
@@ -149,7 +151,7 @@ fn estimates_at_the_greatest_size(rt: HostRuntime) -> Result<(), Fail> {
     Ok(())
 }
 
-/// A byte that passes a limit of 1 behind an open list, and one that is within 2.
+/// Returns whether a byte in an open list is over a limit of 1, and within a limit of 2.
 fn is_put_within_limits(alloc: Global) -> Result<bool, AllocError> {
     let mut s = RlpStream::new_list(alloc, 3)?;
     if s.len() != 1 || s.is_empty() || s.items_awaited() != Some(3) {
@@ -171,7 +173,7 @@ fn raw_bytes_within_a_limit(rt: HostRuntime) -> Result<(), Fail> {
     Ok(())
 }
 
-/// Raw bytes that are counted as no item.
+/// Returns whether raw bytes can be counted as no item.
 fn is_uncounted(alloc: Global) -> Result<bool, AllocError> {
     let mut s = RlpStream::new_list(alloc, 1)?;
     Ok(
@@ -187,7 +189,7 @@ fn raw_bytes_of_no_item(rt: HostRuntime) -> Result<(), Fail> {
     Ok(())
 }
 
-/// Puts single bytes 00 until one more passes a limit, and gives the finished length.
+/// Appends single bytes 00 until one more would be over a limit, and returns the finished length.
 fn filled_len(alloc: Global, limit: usize) -> Result<Option<usize>, AllocError> {
     let mut s = RlpStream::new(alloc)?;
     for _ in 0..=limit {

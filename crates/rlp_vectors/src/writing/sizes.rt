@@ -1,4 +1,5 @@
-//! Strings of every length up to some hundreds, and of lengths around where a header grows.
+//! Strings of all lengths up to 300 bytes, and of lengths around those at which a header gets
+//! longer.
 
 use crate::support::guarded::finishes_as;
 use crate::support::plain;
@@ -6,7 +7,7 @@ use rlp::RlpStream;
 use std::alloc::{AllocError, Global};
 use std::test::Fail;
 
-/// Stretches of lengths, each from its first up to but without its last.
+/// Ranges of lengths, each without its end.
 const STRETCHES: [(usize, usize); 6] = [
     (0, 301),
     (510, 515),
@@ -16,7 +17,7 @@ const STRETCHES: [(usize, usize); 6] = [
     (69_998, 70_001),
 ];
 
-/// Whether a string of bytes 00 is appended, with its header before it.
+/// Returns whether a string of bytes 00 is appended, with its header before it.
 fn is_appended(alloc: Global, len: usize) -> Result<bool, AllocError> {
     let zeros = vec![in alloc; 0u8; len]?;
     let mut want = Vec::new(alloc);
@@ -26,7 +27,7 @@ fn is_appended(alloc: Global, len: usize) -> Result<bool, AllocError> {
     Ok(finishes_as(s, want.as_slice()))
 }
 
-/// The first length of a stretch at which a string isn't.
+/// Returns the first length of a range at which a string isn't appended with its header.
 fn first_wrong_between(alloc: Global, from: usize, to: usize) -> Result<Option<usize>, AllocError> {
     for len in from..to {
         if !is_appended(alloc, len)? {
@@ -36,7 +37,7 @@ fn first_wrong_between(alloc: Global, from: usize, to: usize) -> Result<Option<u
     Ok(None)
 }
 
-/// The first such length of all stretches.
+/// Returns the first such length of all ranges.
 fn first_wrong_length(alloc: Global) -> Result<Option<usize>, AllocError> {
     for (from, to) in STRETCHES {
         let wrong = first_wrong_between(alloc, from, to)?;
@@ -47,7 +48,7 @@ fn first_wrong_length(alloc: Global) -> Result<Option<usize>, AllocError> {
     Ok(None)
 }
 
-/// The first such length among the multiples of a thousand.
+/// Returns the first such length of the multiples of a thousand.
 fn first_wrong_thousand(alloc: Global) -> Result<Option<usize>, AllocError> {
     for thousands in 0u32..70 {
         let len = thousands as usize * 1_000;

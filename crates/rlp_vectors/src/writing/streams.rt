@@ -1,11 +1,12 @@
-//! Rows of streams, made of calls that are data.
+//! Streams that are written by tables of calls.
 
 use crate::support::steps::{Step, finish_as, make};
 use rlp::RlpStream;
 use std::alloc::{AllocError, Global};
 use std::test::Fail;
 
-/// The list that a new stream begins with, if any; the calls; and the finished bytes.
+/// The number of items of the list that a new stream begins with, if any; the calls; and the
+/// finished bytes.
 const ROWS: [(Option<usize>, &[Step], &[u8]); 16] = [
     (Some(0), &[], &[0xc0]),
     (Some(1), &[Step::Begin(0)], &[0xc1, 0xc0]),
@@ -83,7 +84,7 @@ const ROWS: [(Option<usize>, &[Step], &[u8]); 16] = [
     (None, &[Step::Smalls(&[1, 2, 3])], &[0xc3, 0x01, 0x02, 0x03]),
 ];
 
-/// The place of the first row that finishes as other bytes.
+/// Returns the place of the first row with other finished bytes.
 fn first_wrong_row(alloc: Global) -> Result<Option<usize>, AllocError> {
     for (row, (list, steps, want)) in ROWS.iter().enumerate() {
         if !finish_as(alloc, *list, steps, want)? {
@@ -99,7 +100,7 @@ fn lists_finish_as_worked_out(rt: HostRuntime) -> Result<(), Fail> {
     Ok(())
 }
 
-/// Calls whose condition doesn't hold at the last of them.
+/// Calls of which the last isn't admitted.
 const NOT_ADMITTED: [&[Step]; 6] = [
     &[Step::Finalize],
     &[Step::Begin(1), Step::Number(1), Step::Finalize],
@@ -109,7 +110,7 @@ const NOT_ADMITTED: [&[Step]; 6] = [
     &[Step::Begin(2), Step::Number(1), Step::Raw(&[], 2)],
 ];
 
-/// Whether the last of these calls is the first that is refused.
+/// Returns whether the last of these calls is the first that isn't admitted.
 fn refuses_last(alloc: Global, steps: &[Step]) -> Result<bool, AllocError> {
     let mut s = RlpStream::new(alloc)?;
     let mut admitted = 0usize;
@@ -122,7 +123,7 @@ fn refuses_last(alloc: Global, steps: &[Step]) -> Result<bool, AllocError> {
     Ok(admitted.saturating_add(1) == steps.len())
 }
 
-/// The place of the first row whose last call isn't the first that is refused.
+/// Returns the place of the first row whose last call isn't the first that isn't admitted.
 fn first_untold(alloc: Global) -> Result<Option<usize>, AllocError> {
     for (row, steps) in NOT_ADMITTED.iter().enumerate() {
         if !refuses_last(alloc, steps)? {
@@ -138,8 +139,8 @@ fn conditions_are_told_before_the_call(rt: HostRuntime) -> Result<(), Fail> {
     Ok(())
 }
 
-/// A call; and after it the bytes now, their size, and the number of items that the innermost list
-/// awaits.
+/// Calls, and after each the bytes, the closed size, and the number of items that the innermost
+/// open list awaits.
 const CALL_BY_CALL: [(Step, &[u8], usize, Option<usize>); 5] = [
     (Step::Begin(2), &[0x00], 1, Some(2)),
     (Step::Begin(2), &[0x00, 0x00], 2, Some(2)),
@@ -165,7 +166,7 @@ const CALL_BY_CALL: [(Step, &[u8], usize, Option<usize>); 5] = [
     ),
 ];
 
-/// Whether a stream is in this state.
+/// Returns whether a stream is in this state.
 fn stands_as(s: &RlpStream, raw: &[u8], size: usize, awaited: Option<usize>) -> bool {
     s.as_raw() == raw
         && s.len() == size
@@ -173,7 +174,7 @@ fn stands_as(s: &RlpStream, raw: &[u8], size: usize, awaited: Option<usize>) -> 
         && s.items_awaited() == awaited
 }
 
-/// The place of the first call after which a new stream has another state.
+/// Returns the place of the first call after which a new stream has another state.
 fn first_wrong_call(s: &mut RlpStream) -> Result<Option<usize>, AllocError> {
     for (call, (step, raw, size, awaited)) in CALL_BY_CALL.iter().enumerate() {
         if !make(s, *step)? || !stands_as(s, raw, *size, *awaited) {

@@ -1,4 +1,4 @@
-//! Streams beside a plain recursive writer, for every small tree.
+//! Streams compared with a simple recursive writer, for every small tree.
 
 use crate::support::guarded::{finalize, finishes_as};
 use crate::support::plain;
@@ -6,8 +6,8 @@ use rlp::RlpStream;
 use std::alloc::{AllocError, Global};
 use std::test::Fail;
 
-/// How many trees there are of depth 3 and less: two strings, the list of no items, those of one
-/// tree of depth 2 and less, of which there are 93, and those of two.
+/// The number of trees of depth at most 3: two strings, the empty list, and the lists of one or two
+/// of the 93 trees of depth at most 2.
 const TREES: usize = 2 + 1 + 93 + 93 * 93;
 
 /// The empty string, the string of a byte 80, or a list of at most two of these.
@@ -20,7 +20,7 @@ enum Tree<'a> {
     TwoItems(&'a Tree<'a>, &'a Tree<'a>),
 }
 
-/// The strings, and the lists of at most two of the trees.
+/// Returns the two strings, and the lists of at most two of these trees.
 fn trees_over<'a>(alloc: Global, items: &'a [Tree<'a>]) -> Result<Vec<Tree<'a>>, AllocError> {
     let mut trees = Vec::new(alloc);
     trees.push(Tree::Empty)?;
@@ -35,7 +35,7 @@ fn trees_over<'a>(alloc: Global, items: &'a [Tree<'a>]) -> Result<Vec<Tree<'a>>,
     Ok(trees)
 }
 
-/// Writes a tree with no stream: the payload of a list first, and then its header before it.
+/// Writes a tree without a stream: first the payload of a list, and then the header before it.
 fn write(alloc: Global, tree: &Tree<'_>, bytes: &mut Vec<u8>) -> Result<(), AllocError> {
     let mut payload = Vec::new(alloc);
     match tree {
@@ -51,7 +51,7 @@ fn write(alloc: Global, tree: &Tree<'_>, bytes: &mut Vec<u8>) -> Result<(), Allo
     plain::put_list(bytes, payload.as_slice())
 }
 
-/// Appends a tree by lists of announced length.
+/// Appends a tree with lists that announce their number of items.
 fn append_announced(s: &mut RlpStream, tree: &Tree<'_>) -> Result<(), AllocError> {
     match tree {
         Tree::Empty => {
@@ -76,7 +76,7 @@ fn append_announced(s: &mut RlpStream, tree: &Tree<'_>) -> Result<(), AllocError
     Ok(())
 }
 
-/// Appends a tree by unbounded lists. `false` if one can't be closed.
+/// Appends a tree with unbounded lists. Returns `false` if a list can't be closed.
 fn append_unbounded(s: &mut RlpStream, tree: &Tree<'_>) -> Result<bool, AllocError> {
     match tree {
         Tree::Empty => {
@@ -102,7 +102,7 @@ fn append_unbounded(s: &mut RlpStream, tree: &Tree<'_>) -> Result<bool, AllocErr
     }
 }
 
-/// Whether a tree is written alike by the stream and plainly.
+/// Returns whether the stream and the simple writer write the same bytes for a tree.
 fn is_written_alike(alloc: Global, tree: &Tree<'_>) -> Result<bool, AllocError> {
     let mut bytes = Vec::new(alloc);
     write(alloc, tree, &mut bytes)?;
@@ -116,7 +116,7 @@ fn is_written_alike(alloc: Global, tree: &Tree<'_>) -> Result<bool, AllocError> 
     )
 }
 
-/// How many of the trees are written alike, up to the first that isn't.
+/// Returns the number of trees before the first for which the bytes differ.
 fn count_alike(alloc: Global, trees: &[Tree<'_>]) -> Result<usize, AllocError> {
     for (count, tree) in trees.iter().enumerate() {
         if !is_written_alike(alloc, tree)? {

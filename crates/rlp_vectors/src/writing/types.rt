@@ -1,11 +1,11 @@
-//! Values of every type, written.
+//! Values of each type, and the bytes that they are written as.
 
 use crate::support::guarded::finishes_as;
 use bytes::{Bytes, BytesMut};
 use rlp::{Encodable, RlpStream};
 use std::alloc::{AllocError, Global};
 
-/// Whether each value is written as the bytes beside it.
+/// Returns whether each value is written as the bytes beside it.
 fn are_written<E: Encodable>(alloc: Global, rows: &[(E, &[u8])]) -> Result<bool, AllocError> {
     for row in rows {
         if rlp::encode(alloc, &row.0)?.as_slice() != row.1 {
@@ -22,7 +22,7 @@ const STRINGS: [(&[u8], &[u8]); 4] = [
     (&[0x40, 0x00], &[0x82, 0x40, 0x00]),
 ];
 
-/// Whether the strings are written, as `Bytes`.
+/// Returns whether the strings are written, as `Bytes`.
 fn bytes_are_written(alloc: Global) -> Result<bool, AllocError> {
     for (string, want) in STRINGS {
         let value = Bytes::copy_from_slice(alloc, string)?;
@@ -39,7 +39,7 @@ fn encode_bytes(rt: HostRuntime) -> Result<(), AllocError> {
     Ok(())
 }
 
-/// Whether the strings are written, as `BytesMut`.
+/// Returns whether the strings are written, as `BytesMut`.
 fn bytesmut_are_written(alloc: Global) -> Result<bool, AllocError> {
     for (string, want) in STRINGS {
         let value = BytesMut::copy_from_slice(alloc, string)?;
@@ -92,7 +92,8 @@ fn encode_u128(rt: HostRuntime) -> Result<(), AllocError> {
     Ok(())
 }
 
-/// Whether truth values are written as the numbers 0 and 1, and 2 is none.
+/// Returns whether truth values are written as the numbers 0 and 1, and aren't read from the number
+/// 2.
 fn truth_values_are_numbers(alloc: Global) -> Result<bool, AllocError> {
     let two = rlp::encode(alloc, &2u8)?;
     Ok(
@@ -118,7 +119,7 @@ fn options_are_written(rt: HostRuntime) -> Result<(), AllocError> {
     Ok(())
 }
 
-/// Whether an option without a value, written by itself, counts as the one item of a list.
+/// Returns whether a `None`, appended by `append_internal`, counts as the one item of a list.
 fn none_fills_a_list(alloc: Global) -> Result<bool, AllocError> {
     let mut s = RlpStream::new_list(alloc, 1)?;
     s.append_internal(&None::<u8>)?;

@@ -2,7 +2,7 @@ use Rattle.std.proofs.Common.{◌≡◌, ◌≤◌, ◌+◌, length}
 use Rattle.rlp_format.specs.Format.Split.{split}
 use Rattle.rlp_format.proofs.items.count_items.Given as goal
 
--- with the items of the rest there are as many as in the payload, and no more were counted than bytes taken
+-- the number of counted items and the number of items of the rest add up to that of the payload; no more items were counted than bytes taken
 abbrev pub invariant-loop-count : goal.invariant-loop-count
 invariant-loop-count l = record {
   total : l.count + length (split l.items.rest) ≡ length (split l.fn.payload);

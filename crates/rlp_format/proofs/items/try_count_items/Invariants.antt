@@ -3,7 +3,7 @@ use Rattle.rlp_format.specs.Format.Split.{split}
 use Rattle.rlp_format.specs.Format.Strict.{after_items}
 use Rattle.rlp_format.proofs.items.try_count_items.Given as goal
 
--- the same follows the items of the rest, which are those that weren't counted
+-- the same bytes follow the items of the rest, which are the items that weren't counted
 abbrev pub invariant-loop-items : goal.invariant-loop-items
 invariant-loop-items l = record {
   follows : after_items l.fn.payload ≡ after_items l.items.rest;

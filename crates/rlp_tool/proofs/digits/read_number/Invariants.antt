@@ -3,7 +3,7 @@ use Rattle.rlp_tool.specs.Digits.{number_in}
 use Rattle.rlp_tool.proofs.DigitLemmas.{number_after}
 use Rattle.rlp_tool.proofs.digits.read_number.Given as goal
 
--- the digits that are left decide, behind the number so far
+-- the digits that are left decide, after the number so far
 abbrev pub invariant-loop-byte : goal.invariant-loop-byte
 invariant-loop-byte l = record {
   decide : number_in l.text ≡ number_after l.value l.rest;

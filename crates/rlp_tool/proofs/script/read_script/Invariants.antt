@@ -4,7 +4,7 @@ use Rattle.rlp_tool.specs.StreamCalls.{calls_of}
 use Rattle.rlp_tool.proofs.CutLemmas.{left, spaces}
 use Rattle.rlp_tool.proofs.script.read_script.Given as goal
 
--- the pieces that are left decide, behind the calls so far
+-- the pieces that are left decide, after the calls so far
 abbrev pub invariant-loop-space : goal.invariant-loop-space
 invariant-loop-space g l = script l.text ≡ left (calls_of g.E.Encodable.item l.calls.items) (spaces l.rest)
 

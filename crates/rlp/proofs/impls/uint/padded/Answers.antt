@@ -5,7 +5,7 @@ use borrow.Rule.Slice.PartMut.{post_of, put_mid}
 use Rattle.rlp.specs.Lemmas.Numbers.{zeros_in_front}
 use Rattle.rlp.proofs.impls.uint.padded.Goals as goal
 
--- digits that are put over the last zeros write the number that they write
+-- digits that replace the last zeros write the same number
 last_put : (n a k : ℕ) (ds digits : List ℕ) → ds ≡ digits → n ≤ a + k → number_from_digits 256 (put_mid a k (replicate n 0) ds) ≡ number_from_digits 256 digits
 last_put n a k ds digits is few =
     let zeros : List ℕ = replicate n 0 in

@@ -3,7 +3,7 @@ use Rattle.std.specs.Iterator.{Yields}
 use Rattle.rlp_format.specs.Views.View.{IsStep, Remaining, View}
 use Rattle.rlp.proofs.laws.views.iteration_reads_few_headers.Goals as goal
 
--- the items given are those left
+-- the items that are given are the ones that are left
 all_given : (start last end : Remaining) (given : List View) → Yields IsStep start given last → IsStep last None end → given ≡ start.left
 all_given start last end [] ran none = sym (ap (λ (i : Remaining). i.left) ran ∙ none.steps.0)
 all_given start last end (x ∷ given) ran none = ap (λ xs. x ∷ xs) (all_given ran.0 last end given ran.2 none) ∙ sym ran.1.steps

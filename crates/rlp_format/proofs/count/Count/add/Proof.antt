@@ -1,4 +1,4 @@
--- An empty body. The borrow is opened, and closed at the greater count.
+-- The body is empty. The proof opens the borrow, and closes it at the greater count.
 use Rattle.std.proofs.Common.{◌+◌, [], ◌∷◌, refl, w64}
 use Rattle.std.proofs.raw_atomic.Walks.{proved}
 use base.Logic.{id⊢}

@@ -3,7 +3,7 @@ use Rattle.rlp.specs.Values.ListReading.{GivesEach}
 use Rattle.rlp_format.specs.Views.View.{item_views}
 use Rattle.rlp.proofs.rlpin.rlp.Rlp.as_list.Given as goal
 
--- the items that were given gave the values so far, and the others are still to come
+-- the items so far gave the values so far, and the others are left
 abbrev pub invariant-loop-item : goal.invariant-loop-item
 invariant-loop-item g l = record {
   all : l.yielded ++ l.item-iterator.left ≡ item_views l.self;
