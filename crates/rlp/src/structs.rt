@@ -18,16 +18,16 @@ use std::alloc::Global;
 
 /// One field of a struct, read from one item.
 pub trait DecodeField: Sized + Drop {
-    // The item gives the field.
+    /// The item gives the field.
     ghost gives: { View → Self → Type 0 };
 
-    // The item at this place of a view gives some field.
+    /// The item at this place of a view gives some field.
     ghost gives_some: { ℕ → View → Type 0 };
 
-    // The item gives no field, and this is the error.
+    /// The item gives no field, and this is the error.
     ghost faults: { View → DecoderError → Type 0 };
 
-    // Reading the item can fail with `OutOfMemory`, if memory is refused.
+    /// Reading the item can fail with `OutOfMemory`, if memory is refused.
     ghost may_lack_memory: { View → Type 0 };
 
     /// Reads the field from the next item. Fails as [`Fields::next_value`] or
@@ -86,19 +86,19 @@ impl<T: Decodable> DecodeField for ListField<T> {
 
 /// The fields of a struct that is read from a list. They are nested pairs: `(a, (b, (c,)))`.
 pub trait DecodeFields: Sized + Drop {
-    // The number of fields.
+    /// The number of fields.
     ghost count: { ℕ };
 
-    // The items from this place on give the fields.
+    /// The items from this place on give the fields.
     ghost give: { ℕ → View → Self → Type 0 };
 
-    // `gives_some k i v`: item `i` of the view `v` gives some value of field `k`.
+    /// `gives_some k i v`: item `i` of the view `v` gives some value of field `k`.
     ghost gives_some: { ℕ → ℕ → View → Type 0 };
 
-    // An item gives no value of the field with this number, and this is the error.
+    /// An item gives no value of the field with this number, and this is the error.
     ghost faults: { ℕ → View → DecoderError → Type 0 };
 
-    // Reading the field with this number can fail with `OutOfMemory`, if memory is refused.
+    /// Reading the field with this number can fail with `OutOfMemory`, if memory is refused.
     ghost may_lack_memory: { ℕ → View → Type 0 };
 
     /// Returns whether the number of fields is `len`.

@@ -19,10 +19,10 @@ use std::alloc::AllocError;
 /// slice. [`Each`] is one item for each value of a slice, and [`Flattened`] is the fields of each
 /// value. A pair is the items of its first part, and then those of its second part.
 pub trait AppendFields {
-    // The items, in order.
+    /// The items, in order.
     ghost items: { Self → List Item };
 
-    // Each value belongs to its type.
+    /// Each value belongs to its type.
     ghost fit: { Self → Type 0 };
 
     /// Returns the number of items, or `None` if it is 2^64 or more.

@@ -35,15 +35,15 @@ use std::alloc::{AllocError, Global};
 /// `#[tactic(auto, using(rlp::proofs::Growth::growth))]`. They prove the stream's state after a
 /// later step is refused.
 pub trait Encodable {
-    // The item of a value.
+    /// The item of a value.
     ghost item: { Self → Item };
 
-    // The value belongs to the type, if definitions and laws speak of more values: a number is in
-    // the type's range, and a text is UTF-8.
+    /// The value belongs to the type, if definitions and laws speak of more values: a number is in
+    /// the type's range, and a text is UTF-8.
     ghost fits: { Self → Type 0 };
 
-    // The value is written in one step: it is refused only if the stream has too little room. By
-    // default this holds for no value.
+    /// The value is written in one step: it is refused only if the stream has too little room. By
+    /// default this holds for no value.
     ghost at_once: { Self → Type 0 } = { λ _. ⊥ };
 
     /// Writes the value into a stream. For a string it writes the encoding and counts no item. For
