@@ -3,8 +3,9 @@
 use crate::support::{bytes_of, goes_both_ways};
 use rlp::{DecoderError, Uint};
 use rlp_ethereum::{
-    AccessList, AccessListItem, AccessListTransaction, Account, Address, Bloom,
-    FeeMarketTransaction, Hash, Header, Log, Receipt, Recipient, Withdrawal,
+    ACCESS_LIST_TYPE, AccessList, AccessListItem, AccessListTransaction, Account, Address, Bloom,
+    FEE_MARKET_TYPE, FeeMarketTransaction, Hash, Header, Log, Receipt, Recipient, Withdrawal,
+    from_envelope, to_envelope,
 };
 use std::alloc::{AllocError, Global};
 use std::test::Fail;
@@ -197,5 +198,41 @@ fn other_records(rt: HostRuntime) -> Result<(), Fail> {
     assert!(rt; goes_both_ways::<Receipt>(alloc, bytes.as_slice())?);
     assert!(rt; goes_both_ways::<Withdrawal>(alloc, bytes_of(alloc, &WITHDRAWAL)?.as_slice())?);
     assert!(rt; goes_both_ways::<Account>(alloc, bytes_of(alloc, &ACCOUNT)?.as_slice())?);
+    Ok(())
+}
+
+/// The envelopes of the payment and of the creation: a byte, and the payload.
+const ENVELOPES: [u8; 2] = [0x02, 0x01];
+
+/// Returns whether the payment is read from its envelope and from no other bytes.
+fn payment_has_an_envelope(alloc: Global) -> Result<bool, Fail> {
+    let whole = to_envelope(alloc, FEE_MARKET_TYPE, &payment(alloc))?;
+    let mut bytes = Vec::from_array(alloc, [ENVELOPES[0]])?;
+    bytes.extend_from_slice(bytes_of(alloc, &PAYMENT)?.as_slice())?;
+    let back = from_envelope::<FeeMarketTransaction>(alloc, 0x02, bytes.as_slice())?;
+    let other = from_envelope::<FeeMarketTransaction>(alloc, 0x01, bytes.as_slice()).is_err();
+    bytes.push(0)?;
+    let more = from_envelope::<FeeMarketTransaction>(alloc, 0x02, bytes.as_slice()).is_err();
+    let none = from_envelope::<FeeMarketTransaction>(alloc, 0x02, &[]).is_err();
+    let (written, read) = (
+        whole.as_slice().len() + 1 == bytes.len(),
+        back.gas_limit == 21_000,
+    );
+    Ok(written && bytes.as_slice().starts_with(whole.as_slice()) && read && other && more && none)
+}
+
+/// Returns whether the creation is written into its envelope.
+fn creation_has_an_envelope(alloc: Global) -> Result<bool, Fail> {
+    let whole = to_envelope(alloc, ACCESS_LIST_TYPE, &creation(alloc)?)?;
+    let mut bytes = Vec::from_array(alloc, [ENVELOPES[1]])?;
+    bytes.extend_from_slice(bytes_of(alloc, &CREATION)?.as_slice())?;
+    Ok(whole.as_slice() == bytes.as_slice())
+}
+
+#[test]
+fn typed_transactions_have_envelopes(rt: HostRuntime) -> Result<(), Fail> {
+    let alloc = rt.alloc();
+    assert!(rt; payment_has_an_envelope(alloc)?);
+    assert!(rt; creation_has_an_envelope(alloc)?);
     Ok(())
 }

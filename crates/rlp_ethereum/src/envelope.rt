@@ -1,5 +1,5 @@
-//! Values in an envelope, such as typed transactions (EIP-2718): the byte of the type, and then the
-//! encoding of the value. The envelope isn't an item.
+//! Envelopes of typed transactions and receipts (EIP-2718): the byte of the type, and then the
+//! encoding of the payload. An envelope isn't an item.
 
 ghost use Rattle.std.specs.Prelude.{◌≡◌, ◌∷◌, OnOk, IfOk, IfErr};
 ghost use Rattle.rlp.specs.DecoderError.TheVariants.{OutOfMemory};
@@ -9,6 +9,12 @@ ghost use Rattle.rlp.specs.Values.Value.{AreAlike};
 use bytes::{BufMut, BytesMut};
 use rlp::{DecoderError, Encodable, RlpStream, StrictRead, laws};
 use std::alloc::{AllocError, Global};
+
+/// The type of an [`AccessListTransaction`](crate::AccessListTransaction): EIP-2930.
+pub const ACCESS_LIST_TYPE: u8 = 0x01;
+
+/// The type of a [`FeeMarketTransaction`](crate::FeeMarketTransaction): EIP-1559.
+pub const FEE_MARKET_TYPE: u8 = 0x02;
 
 /// Returns the envelope of a value: the byte `kind` of its type, and its encoding. In EIP-2718 the
 /// type is below 0x80, so an envelope doesn't begin as a list does.
