@@ -44,7 +44,7 @@ impl HeaderBytes {
 /// The header of a string of `len` bytes if the base is [`STRING`], or of a list with a payload of
 /// `len` bytes if it is [`LIST`].
 #[tactic(auto, using(crate::proofs::Streams::Written::written))]
-pub fn header(base: u8, len: usize) -> HeaderBytes
+pub fn written_header(base: u8, len: usize) -> HeaderBytes
     requires { base ≤ 0xc0 }
     ensures { result ≡ written_header base len }
 {

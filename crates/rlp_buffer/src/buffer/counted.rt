@@ -7,7 +7,7 @@ ghost use Rattle.rlp_buffer.specs.Streams.Closing.{header_len};
 ghost use Rattle.rlp_buffer.specs.Streams.Held.{Keeps};
 
 use super::moving::{bring, insert, write_at};
-use crate::header::{LIST, header};
+use crate::header::{LIST, written_header};
 use bytes::BytesMut;
 use rlp_format::count::Count;
 use std::alloc::AllocError;
@@ -162,7 +162,7 @@ impl Buffer {
         ensures spare { self.new.spare ≡ self.old.spare }
         ensures moved { self.new.moved ≡ self.old.moved }
     {
-        let written = header(LIST, self.bytes.len() - payload);
+        let written = written_header(LIST, self.bytes.len() - payload);
         let header = written.as_slice();
         let begin = payload - header.len();
         write_at(self.bytes.as_mut_slice(), begin, header);

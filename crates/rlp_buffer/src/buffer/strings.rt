@@ -8,7 +8,7 @@ ghost use Rattle.rlp_buffer.specs.Streams.Held.{Keeps};
 ghost use Rattle.rlp_buffer.specs.Streams.Iterated.{GivesAll};
 
 use super::counted::Buffer;
-use crate::header::{SHORT, STRING, header};
+use crate::header::{SHORT, STRING, written_header};
 use bytes::BytesMut;
 use std::alloc::{AllocError, Global};
 
@@ -39,7 +39,7 @@ pub fn write_string(buffer: &mut Buffer, value: &[u8]) -> Result<(), AllocError>
     if value.len() <= SHORT {
         return write_short(buffer, value);
     }
-    let header = header(STRING, value.len());
+    let header = written_header(STRING, value.len());
     buffer.reserve(header.as_slice().len() + value.len())?;
     buffer.extend_reserved(header.as_slice());
     buffer.extend_reserved(value);
@@ -72,7 +72,7 @@ pub fn encoded_string(alloc: Global, value: &[u8]) -> Result<BytesMut, AllocErro
     if is_low_byte(value) {
         return Ok(BytesMut::from_vec(Vec::from_slice(alloc, value)?));
     }
-    let header = header(STRING, value.len());
+    let header = written_header(STRING, value.len());
     let mut bytes = Vec::with_capacity(alloc, header.as_slice().len() + value.len())?;
     bytes.extend_from_slice(header.as_slice())?;
     bytes.extend_from_slice(value)?;
@@ -112,7 +112,7 @@ fn write_header_before(buffer: &mut Buffer, start: usize) -> Result<(), AllocErr
     if is_low_byte(string) {
         return Ok(());
     }
-    let header = header(STRING, string.len());
+    let header = written_header(STRING, string.len());
     buffer.insert(start, header.as_slice())?;
     Ok(())
 }
