@@ -210,7 +210,8 @@ fn payment_has_an_envelope(alloc: Global) -> Result<bool, Fail> {
     let mut bytes = Vec::from_array(alloc, [ENVELOPES[0]])?;
     bytes.extend_from_slice(bytes_of(alloc, &PAYMENT)?.as_slice())?;
     let back = from_envelope::<FeeMarketTransaction>(alloc, 0x02, bytes.as_slice())?;
-    let other = from_envelope::<FeeMarketTransaction>(alloc, 0x01, bytes.as_slice()).is_err();
+    let other = from_envelope::<FeeMarketTransaction>(alloc, 0x01, bytes.as_slice()).err()
+        == Some(DecoderError::Custom("another type"));
     bytes.push(0)?;
     let more = from_envelope::<FeeMarketTransaction>(alloc, 0x02, bytes.as_slice()).is_err();
     let none = from_envelope::<FeeMarketTransaction>(alloc, 0x02, &[]).is_err();

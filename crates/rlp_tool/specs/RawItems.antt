@@ -34,7 +34,7 @@ abbrev pub item_by : (List ℕ → Item) → List ℕ → Result (List ℕ) Deco
 item_by inside bytes (Ok d) = string d
 item_by inside bytes (Err e) = list_of (map inside (items bytes))
 
--- The item that bytes are read as, through at most this number of nested lists. Nothing is said of bytes that don't begin with the encoding of such an item.
+-- The item that bytes are read as, through at most this number of nested lists. It is meaningful only if the bytes begin with the encoding of such an item.
 unfoldable pub item_within : ℕ → List ℕ → Item
 item_within zero bytes = string (string_or_none (read_string bytes))
 item_within (suc most) bytes = item_by (item_within most) bytes (read_string bytes)

@@ -28,7 +28,7 @@ abbrev pub with_list_of : ℕ → State → State
 with_list_of zero s = add (list_of []) s
 with_list_of (suc n) s = with_list (Some (suc n)) s
 
--- The state after a call. Nothing is said of a call that isn't admitted.
+-- The state after a call that is admitted.
 abbrev pub effect : Call → State → State
 effect (append x) s = add x s
 effect append_empty_data s = count 1 (put (0x80 ∷ []) s)
