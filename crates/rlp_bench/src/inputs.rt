@@ -1,7 +1,7 @@
 //! The inputs of the operations.
 
-use rlp::{Encodable, RlpStream};
-use rlp_examples::{Recipient, Transaction};
+use rlp::{Encodable, RlpStream, Uint};
+use rlp_ethereum::{Address, LegacyTransaction, Recipient};
 use std::alloc::Global;
 
 /// Values, and encodings. Each encoding is there twice, one after the other.
@@ -11,8 +11,8 @@ pub(crate) struct Inputs {
     pub numbers: Vec<u64>,
     /// A text of 1,000 bytes.
     pub text: String,
-    /// A transaction of about 104 bytes.
-    pub transaction: Transaction,
+    /// A transaction whose encoding has 110 bytes.
+    pub transaction: LegacyTransaction,
     /// The encodings of a number below 128 and of a number of eight bytes.
     pub small_number: Vec<u8>,
     pub large_number: Vec<u8>,
@@ -37,7 +37,7 @@ impl Inputs {
         let numbers = numbers(alloc, 1000)?;
         let text = text(alloc, 1000)?;
         let short = text.as_str().as_bytes().get(..32)?;
-        let transaction = transaction(alloc)?;
+        let transaction = transaction(alloc);
         let transaction_bytes = encoded(alloc, &transaction)?;
         let block = repeated(alloc, &transaction, 100)?;
         let list = listed(alloc, numbers.as_slice())?;
@@ -82,18 +82,27 @@ fn text(alloc: Global, len: usize) -> Option<String> {
 }
 
 /// Returns a signed transfer.
-fn transaction(alloc: Global) -> Option<Transaction> {
-    Some(Transaction {
+fn transaction(alloc: Global) -> LegacyTransaction {
+    LegacyTransaction {
         nonce: 9,
-        gas_price: 20_000_000_000,
+        gas_price: wide(20_000_000_000),
         gas_limit: 21_000,
-        recipient: Recipient::Account([0x35; 20]),
-        value: 1_000_000_000_000_000_000,
+        to: Recipient::Account(Address([0x35; 20])),
+        value: wide(1_000_000_000_000_000_000),
         data: Vec::new(alloc),
-        v: 37,
-        r: Vec::from_slice(alloc, &[0x28; 32]).ok()?,
-        s: Vec::from_slice(alloc, &[0x67; 32]).ok()?,
-    })
+        v: wide(37),
+        r: Uint { bytes: [0x28; 32] },
+        s: Uint { bytes: [0x67; 32] },
+    }
+}
+
+/// Returns `n` as a number of 256 bits.
+fn wide(n: u64) -> Uint<32> {
+    let mut bytes = [0; 32];
+    for (place, byte) in bytes[24..].iter_mut().zip(n.to_be_bytes().as_slice()) {
+        *place = *byte;
+    }
+    Uint { bytes }
 }
 
 /// Returns the encoding of a value.

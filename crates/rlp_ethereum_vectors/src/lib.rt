@@ -2,10 +2,16 @@
 #![tactic(auto)]
 
 #[cfg(test)]
+mod access_lists;
+#[cfg(test)]
 mod headers;
+#[cfg(test)]
+mod logs;
 #[cfg(test)]
 mod records;
 #[cfg(test)]
 mod support;
+#[cfg(test)]
+mod tails;
 #[cfg(test)]
 mod transactions;

@@ -1,7 +1,7 @@
 //! Records with chosen values. The expected bytes were worked out by the rules of the format.
 
-use crate::support::{bytes_of, goes_both_ways};
-use rlp::{DecoderError, Uint};
+use crate::support::{bytes_of, goes_both_ways, wide};
+use rlp::DecoderError;
 use rlp_ethereum::{
     ACCESS_LIST_TYPE, AccessList, AccessListItem, AccessListTransaction, Account, Address, Bloom,
     FEE_MARKET_TYPE, FeeMarketTransaction, Hash, Header, Log, Receipt, Recipient, Withdrawal,
@@ -36,21 +36,6 @@ const ACCOUNT: [&str; 2] = [
     "f84601820100a00404040404040404040404040404040404040404040404040404040404040404a0",
     "0505050505050505050505050505050505050505050505050505050505050505",
 ];
-
-/// Returns `n` as a number of 256 bits.
-fn wide(n: u64) -> Uint<32> {
-    let [a, b, c, d, e, f, g, h] = n.to_be_bytes();
-    let mut bytes = [0; 32];
-    bytes[24] = a;
-    bytes[25] = b;
-    bytes[26] = c;
-    bytes[27] = d;
-    bytes[28] = e;
-    bytes[29] = f;
-    bytes[30] = g;
-    bytes[31] = h;
-    Uint { bytes }
-}
 
 /// Returns a payment of 1 ether, with a chosen signature.
 fn payment(alloc: Global) -> FeeMarketTransaction {

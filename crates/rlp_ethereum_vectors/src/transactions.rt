@@ -1,7 +1,8 @@
 //! Legacy transactions of Ethereum's main network and of EIP-155.
 
-use crate::support::{are_digits, bytes_of, goes_both_ways};
-use rlp_ethereum::{LegacyTransaction, Recipient};
+use crate::support::{are_digits, bytes_of, goes_both_ways, is_written_as, wide};
+use rlp::Uint;
+use rlp_ethereum::{Address, LegacyTransaction, Recipient};
 use std::alloc::Global;
 use std::test::Fail;
 
@@ -19,6 +20,30 @@ const TO_SIGN: [&str; 2] = [
     "ec098504a817c800825208943535353535353535353535353535353535353535880de0b6b3a76400",
     "0080018080",
 ];
+
+/// The signed example of EIP-155.
+const SIGNED: [&str; 3] = [
+    "f86c098504a817c800825208943535353535353535353535353535353535353535880de0b6b3a764",
+    "00008025a028ef61340bd939bc2195fe537567866003e1a15d3c71ff63e1590620aa636276a067cb",
+    "e9d8997f761aecb703304b3800ccf555c9f3dc64214b297fb1966a3b6d83",
+];
+
+/// The numbers of its signature.
+const R: Uint<32> = Uint {
+    bytes: [
+        0x28, 0xef, 0x61, 0x34, 0x0b, 0xd9, 0x39, 0xbc, 0x21, 0x95, 0xfe, 0x53, 0x75, 0x67, 0x86,
+        0x60, 0x03, 0xe1, 0xa1, 0x5d, 0x3c, 0x71, 0xff, 0x63, 0xe1, 0x59, 0x06, 0x20, 0xaa, 0x63,
+        0x62, 0x76,
+    ],
+};
+
+const S: Uint<32> = Uint {
+    bytes: [
+        0x67, 0xcb, 0xe9, 0xd8, 0x99, 0x7f, 0x76, 0x1a, 0xec, 0xb7, 0x03, 0x30, 0x4b, 0x38, 0x00,
+        0xcc, 0xf5, 0x55, 0xc9, 0xf3, 0xdc, 0x64, 0x21, 0x4b, 0x29, 0x7f, 0xb1, 0x96, 0x6a, 0x3b,
+        0x6d, 0x83,
+    ],
+};
 
 /// Returns whether the fields of a transaction are those of the first transaction.
 fn has_fields_of_first(alloc: Global, tx: &LegacyTransaction) -> Result<bool, Fail> {
@@ -123,5 +148,37 @@ fn example_of_eip_155(rt: HostRuntime) -> Result<(), Fail> {
     let tx = rlp::decode_strict::<LegacyTransaction>(alloc, bytes.as_slice())?;
     assert!(rt; has_fields_of_example(alloc, &tx)?);
     assert!(rt; goes_both_ways::<LegacyTransaction>(alloc, bytes.as_slice())?);
+    Ok(())
+}
+
+/// Returns the example of EIP-155, with this signature.
+fn example(alloc: Global, v: u64, r: Uint<32>, s: Uint<32>) -> LegacyTransaction {
+    LegacyTransaction {
+        nonce: 9,
+        gas_price: wide(20_000_000_000),
+        gas_limit: 21_000,
+        to: Recipient::Account(Address([0x35; 20])),
+        value: wide(1_000_000_000_000_000_000),
+        data: Vec::new(alloc),
+        v: wide(v),
+        r,
+        s,
+    }
+}
+
+#[test]
+fn transaction_for_signing(rt: HostRuntime) -> Result<(), Fail> {
+    let alloc = rt.alloc();
+    assert!(rt; is_written_as(alloc, &example(alloc, 1, wide(0), wide(0)), &TO_SIGN)?);
+    Ok(())
+}
+
+#[test]
+fn signed_transaction(rt: HostRuntime) -> Result<(), Fail> {
+    let alloc = rt.alloc();
+    assert!(rt; is_written_as(alloc, &example(alloc, 37, R, S), &SIGNED)?);
+    let bytes = bytes_of(alloc, &SIGNED)?;
+    let back = rlp::decode::<LegacyTransaction>(alloc, bytes.as_slice())?;
+    assert!(rt; back.nonce == 9 && back.v == wide(37) && back.r == R && back.s == S);
     Ok(())
 }

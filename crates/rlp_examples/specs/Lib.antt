@@ -1,12 +1,5 @@
-pub mod Access
 pub mod Child
 pub mod Entry
-pub mod Hash
-pub mod Header
-pub mod Log
 pub mod Nest
 pub mod Ordered
-pub mod Recipient
-pub mod ShortHeader
-pub mod Transaction
 pub mod Trie

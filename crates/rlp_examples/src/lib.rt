@@ -2,44 +2,28 @@
 //! public contracts and from the lemmas that authors of types cite.
 #![tactic(auto)]
 
-mod access;
-mod address;
 mod appends;
 mod branch;
 mod child;
 mod couple;
 mod entry;
-mod hash;
-mod header;
 mod leaf;
-mod log;
 mod nest;
 mod nonce;
 mod ordered;
 mod pair;
-mod recipient;
-mod short_header;
-mod transaction;
 mod trio;
 mod uses;
 
-pub use access::{Access, AccessList};
-pub use address::Address;
 pub use appends::{append_one, append_three, bytes_of_three};
 pub use branch::Branch;
 pub use child::Child;
 pub use couple::{Alone, Couple, append_list_in_list, write_list_in_list};
 pub use entry::{Entry, entry_back};
-pub use hash::Hash;
-pub use header::Header;
 pub use leaf::Leaf;
-pub use log::Log;
 pub use nest::{Inner, Nest};
 pub use nonce::Nonce;
 pub use ordered::Ordered;
 pub use pair::Pair;
-pub use recipient::Recipient;
-pub use short_header::ShortHeader;
-pub use transaction::Transaction;
 pub use trio::{Refusing, Trio};
 pub use uses::{append_by_stream, append_each, chain_and_encoder, drained, first_and_text, nested};

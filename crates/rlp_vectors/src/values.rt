@@ -2,9 +2,7 @@
 
 mod arrays;
 mod careless;
-mod codecs;
 mod nodes;
 mod once_refused;
 mod structs;
-mod tails;
 mod uses;

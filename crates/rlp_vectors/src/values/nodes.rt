@@ -1,7 +1,7 @@
-//! Nests, access lists and nodes of the trie. The expected bytes were worked out by hand.
+//! Nests and nodes of the trie. The expected bytes were worked out by hand.
 
 use rlp::DecoderError;
-use rlp_examples::{Access, AccessList, Address, Branch, Child, Hash, Inner, Leaf, Nest};
+use rlp_examples::{Branch, Child, Inner, Leaf, Nest};
 use std::alloc::{AllocError, Global};
 use std::test::Fail;
 
@@ -52,72 +52,6 @@ fn nests_go_both_ways(alloc: Global) -> Result<bool, Fail> {
 #[test]
 fn test_nested_list_roundtrip(rt: HostRuntime) -> Result<(), Fail> {
     assert!(rt; pairs_go_both_ways(rt.alloc())? && nests_go_both_ways(rt.alloc())?);
-    Ok(())
-}
-
-const FIRST: [u8; 20] = [
-    0xde, 0x0b, 0x29, 0x56, 0x69, 0xa9, 0xfd, 0x93, 0xd5, 0xf2, 0x8d, 0x9e, 0xc8, 0x5e, 0x40, 0xf4,
-    0xcb, 0x69, 0x7b, 0xae,
-];
-
-const SECOND: [u8; 20] = [
-    0xbb, 0x9b, 0xc2, 0x44, 0xd7, 0x98, 0x12, 0x3f, 0xde, 0x78, 0x3f, 0xcc, 0x1c, 0x72, 0xd3, 0xbb,
-    0x8c, 0x18, 0x94, 0x13,
-];
-
-/// Returns the number as a hash of 32 bytes.
-fn key(last: u8) -> Hash {
-    let mut bytes = [0; 32];
-    bytes[31] = last;
-    Hash { bytes }
-}
-
-/// Returns the example of the standard: an account with two keys, and another with none.
-fn accesses(alloc: Global) -> Result<AccessList, AllocError> {
-    let mut keys = Vec::new(alloc);
-    keys.push(key(3))?;
-    keys.push(key(7))?;
-    let mut accesses = Vec::new(alloc);
-    accesses.push(Access {
-        address: Address { bytes: FIRST },
-        keys,
-    })?;
-    accesses.push(Access {
-        address: Address { bytes: SECOND },
-        keys: Vec::new(alloc),
-    })?;
-    Ok(AccessList(accesses))
-}
-
-/// Returns the bytes of the example.
-fn access_bytes(alloc: Global) -> Result<Vec<u8>, AllocError> {
-    let mut bytes = Vec::from_slice(alloc, &[0xf8, 0x72, 0xf8, 0x59, 0x94])?;
-    bytes.extend_from_slice(&FIRST)?;
-    bytes.extend_from_slice(&[0xf8, 0x42, 0xa0])?;
-    bytes.extend_from_slice(&[0; 31])?;
-    bytes.extend_from_slice(&[0x03, 0xa0])?;
-    bytes.extend_from_slice(&[0; 31])?;
-    bytes.extend_from_slice(&[0x07, 0xd6, 0x94])?;
-    bytes.extend_from_slice(&SECOND)?;
-    bytes.extend_from_slice(&[0xc0])?;
-    Ok(bytes)
-}
-
-/// Returns whether the example is written as its bytes, and read back from them.
-fn accesses_go_both_ways(alloc: Global) -> Result<bool, Fail> {
-    let accesses = accesses(alloc)?;
-    let bytes = access_bytes(alloc)?;
-    let back = rlp::decode::<AccessList>(alloc, bytes.as_slice())?;
-    Ok(
-        rlp::encode(alloc, &accesses)?.as_slice() == bytes.as_slice()
-            && bytes.len() == 116
-            && back == accesses,
-    )
-}
-
-#[test]
-fn access_lists(rt: HostRuntime) -> Result<(), Fail> {
-    assert!(rt; accesses_go_both_ways(rt.alloc())?);
     Ok(())
 }
 
