@@ -5,6 +5,7 @@ mod careless;
 mod codecs;
 mod nodes;
 mod once_refused;
+mod raw_items;
 mod structs;
 mod tails;
 mod uses;
