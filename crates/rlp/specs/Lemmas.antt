@@ -42,3 +42,7 @@ pub mod StrictLists
 pub mod StrictStructs
 -- structs whose last fields may be missing
 pub mod Tails
+-- types whose values a view gives exactly if it holds their encodings
+pub mod ExactReads
+-- raw items and their encodings
+pub mod RawItems

@@ -12,3 +12,5 @@ pub mod RoundTrip
 pub mod FieldPlace
 -- what items from some place on give as fields
 pub mod FieldReading
+-- items that are kept as the bytes of their encodings
+pub mod RawItem

@@ -8,5 +8,8 @@ mod bytes_mut;
 mod bytes_shared;
 mod number;
 mod option;
+mod raw_item;
 mod text;
 mod uint;
+
+pub use raw_item::RawItem;

@@ -26,6 +26,7 @@ mod structs;
 mod traits;
 
 use bytes::BytesMut;
+pub use impls::RawItem;
 pub use rlp_format::{DecoderError, PayloadInfo, Prototype};
 pub use rlp_streams::{
     AppendFields, BasicEncoder, Chain, EMPTY_LIST_RLP, Each, Encodable, Flattened, ListOf,

@@ -3,6 +3,7 @@
 mod decoder;
 mod display;
 mod fields;
+mod first_item;
 mod iter;
 mod rlp;
 mod splitting;

@@ -9,7 +9,7 @@ mod structs;
 mod traits;
 
 pub use impls::Uint;
-pub use stream::{BasicEncoder, Chain, RlpStream};
+pub use stream::{BasicEncoder, Chain, RlpStream, append_list_encoding};
 pub use structs::{AppendFields, Each, Flattened, ListOf, append_struct};
 pub use traits::Encodable;
 

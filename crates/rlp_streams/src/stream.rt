@@ -12,6 +12,7 @@ ghost use Rattle.rlp_buffer.specs.Streams.Iterated.{GivesAll};
 ghost use Rattle.rlp_streams.specs.Streams.Chain.{stays_if_refused, rests_if_refused, HoldsStream, LeavesState, MovesWithin, RetainsInChain};
 
 mod chain;
+mod encoded;
 mod encoder;
 mod listed;
 mod steps;
@@ -20,6 +21,7 @@ use crate::NULL_RLP;
 use crate::traits::Encodable;
 use bytes::BytesMut;
 pub use chain::Chain;
+pub use encoded::append_list_encoding;
 pub use encoder::BasicEncoder;
 use listed::Listed;
 use rlp_buffer::buffer::Buffer;

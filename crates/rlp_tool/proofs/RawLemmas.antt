@@ -1,25 +1,21 @@
 -- Raw bytes that are items.
-use Rattle.std.proofs.Common.{◌≡◌, ℕ, zero, suc, ◌-◌, ◌^◌, ◌<◌, ◌≤◌, ◌↔◌, Bool, true, false, List, [], ◌∷◌, ◌++◌, length, map, All, refl, sym, ap}
-use Rattle.std.proofs.Common.{◌∙◌, subst, arith, append-nil, length-append, IsTrue, Result, Ok, Err, leb-true, pos_of_ne-zero, nat_eq, ◌&&◌}
+use Rattle.std.proofs.Common.{◌≡◌, ℕ, ◌-◌, ◌^◌, ◌<◌, ◌≤◌, ◌↔◌, Bool, true, false, List, [], ◌∷◌, ◌++◌, length, map, All, refl, sym, ap}
+use Rattle.std.proofs.Common.{◌∙◌, subst, arith, length-append, IsTrue, Ok, pos_of_ne-zero, nat_eq, ◌&&◌}
 use Rattle.std.specs.Str.{bytes_eq}
 use Rattle.std.proofs.lemmas.Slice.Eq.{bytes_eq-Decides}
 use Rattle.std.proofs.lemmas.Bool.Decides.{nat_tests, Decides-eqb}
 use Rattle.std.proofs.lemmas.List.{append_cancel_left}
 use Rattle.std.specs.List.{AllByRecursion}
 use Rattle.std.proofs.lemmas.List.Elements.{recursion_from_All, All-from_recursion}
-use Rattle.rlp.specs.DecoderError.{DecoderError}
-use Rattle.rlp.specs.DecoderError.TheVariants.{RlpExpectedToBeData}
-use Rattle.rlp.specs.Format.Item.{Item, Items, string, list, no_items, item_and, items_from, listed, list_of, item_depth, items_depth}
+use Rattle.rlp.specs.Format.Item.{Item}
 use Rattle.rlp.specs.Format.Encoding.{encoding, join, BeginsWith, IsSized}
 use Rattle.rlp.specs.Format.Framing.{IsFramed, frame}
-use Rattle.rlp.specs.Format.Split.{split, items, begins_as_list}
+use Rattle.rlp.specs.Format.Split.{split}
 use Rattle.rlp.specs.Format.Strict.{IsCanonicalWithin}
-use Rattle.rlp.specs.Format.StringReading.{read_string}
-use Rattle.rlp.specs.Lemmas.Encodings.{AllSized, parts_sized, list_written, items_from-listed}
 use Rattle.rlp.specs.Lemmas.Frames.{split_join}
-use Rattle.rlp.specs.Lemmas.Strings.{string_only, string_list}
-use Rattle.rlp.specs.Lemmas.Views.{items_of_list, list_shape, sized_items}
-use Rattle.rlp_tool.specs.RawItems.{AreRawItems, IsShallow, are_raw_items, deepest_raw_item, item_by, item_within, raw_items, string_or_none}
+use Rattle.rlp.specs.Lemmas.RawItems.{item_within-encoding, shallow_within}
+use Rattle.rlp.specs.Lemmas.Views.{sized_items}
+use Rattle.rlp_tool.specs.RawItems.{AreRawItems, IsShallow, are_raw_items, deepest_raw_item, item_within, raw_items}
 
 -- ---- the rest of raw bytes
 
@@ -138,40 +134,6 @@ pub refuted : (all : List ℕ) (total : ℕ) (b : List ℕ) (count : ℕ) → (A
     → IsTrue false ↔ AreRawItems all total
 refuted all total b count walked none = (λ t. absurd (never t), λ a. absurd (none (walked.0 a)))
 
--- ---- the same, computed
-
--- a list isn't read as a string
-list_unread : (b : List ℕ) → begins_as_list b ≡ true → (e : DecoderError) × (read_string b ≡ Err e)
-list_unread [] begins = absurd (never begins)
-list_unread (first ∷ rest) begins = (RlpExpectedToBeData, string_list first rest (leb-true 0xc0 first begins))
-
-mutual
-  unfolding item_within
-
-  -- an encoding is read as its item
-  pub item_within-encoding : (most : ℕ) (x : Item) → IsSized x → item_depth x ≤ most → item_within most (encoding x) ≡ x
-  item_within-encoding zero (string s) fits deep = ap (λ r. string (string_or_none r))
-      (string_only (encoding (string s)) s fits ([], sym (append-nil (encoding (string s)))))
-  item_within-encoding (suc most) (string s) fits deep = ap (item_by (item_within most) (encoding (string s)))
-      (string_only (encoding (string s)) s fits ([], sym (append-nil (encoding (string s)))))
-  item_within-encoding zero (list ys) fits deep = absurd (omega (arith, deep))
-  item_within-encoding (suc most) (list ys) fits deep =
-      let same : list_of (listed ys) ≡ list ys = ap list (items_from-listed ys) in
-      let begins : encoding (list ys) ≡ encoding (list_of (listed ys)) ++ [] = ap encoding (sym same) ∙ sym (append-nil (encoding (list_of (listed ys)))) in
-      let sized : IsSized (list_of (listed ys)) = subst IsSized (sym same) fits in
-      let (e, is) = list_unread (encoding (list ys)) (list_shape (listed ys) (encoding (list ys)) sized ([], begins)).0 in
-      ap (item_by (item_within most) (encoding (list ys))) is
-      ∙ ap (λ fs. list_of (map (item_within most) fs)) (items_of_list (listed ys) (encoding (list ys)) sized ([], begins)).0
-      ∙ ap list_of (items_within-encodings most ys (parts_sized ys (list_written ys fits).small) (omega (arith, deep)))
-      ∙ same
-
-  items_within-encodings : (most : ℕ) (ys : Items) → AllSized ys → items_depth ys ≤ most → map (item_within most) (map encoding (listed ys)) ≡ listed ys
-  items_within-encodings most no_items fits deep = refl
-  items_within-encodings most (item_and y ys) fits deep =
-      let first : item_within most (encoding y) ≡ y = item_within-encoding most y fits.0 (omega arith) in
-      let others : map (item_within most) (map encoding (listed ys)) ≡ listed ys = items_within-encodings most ys fits.1 (omega arith) in
-      ap (λ z. z ∷ map (item_within most) (map encoding (listed ys))) first ∙ ap (λ zs. y ∷ zs) others
-
 -- ---- tests of the walk
 
 pub no_bytes : (b : List ℕ) → true ≡ nat_eq (length b) 0 → b ≡ []
@@ -217,24 +179,6 @@ are_raw_items-join xs sized shallow =
     and_both (bytes_eq (join (raw_items (join xs))) (join xs)) (nat_eq (length (raw_items (join xs))) (length xs))
     ((bytes_eq-Decides (join (raw_items (join xs))) (join xs)).1 (ap join again))
     ((Decides-eqb (length (raw_items (join xs))) (length xs)).1 (ap length again))
-
-shallow_all : (inside : List ℕ → Item) (most : ℕ) → ((f : List ℕ) → item_depth (inside f) ≤ most) → (fs : List (List ℕ))
-    → items_depth (items_from (map inside fs)) ≤ most
-shallow_all inside most low [] = omega arith
-shallow_all inside most low (f ∷ fs) =
-    let others : items_depth (items_from (map inside fs)) ≤ most = shallow_all inside most low fs in omega (arith, low f, others)
-
-shallow_by : (inside : List ℕ → Item) (most : ℕ) → ((f : List ℕ) → item_depth (inside f) ≤ most) → (b : List ℕ) (r : Result (List ℕ) DecoderError)
-    → item_depth (item_by inside b r) ≤ suc most
-shallow_by inside most low b (Ok d) = omega arith
-shallow_by inside most low b (Err e) =
-    let deepest : items_depth (items_from (map inside (items b))) ≤ most = shallow_all inside most low (items b) in omega (arith, deepest)
-
--- an item that is read is no deeper than the limit
-shallow_within : (most : ℕ) (b : List ℕ) → item_depth (item_within most b) ≤ most
-unfolding item_within
-shallow_within zero b = omega arith
-shallow_within (suc most) b = shallow_by (item_within most) most (shallow_within most) b (read_string b)
 
 each_shallow : (fs : List (List ℕ)) → AllByRecursion IsShallow (map (item_within deepest_raw_item) fs)
 each_shallow [] = tt

@@ -4,5 +4,6 @@ mod arrays;
 mod careless;
 mod nodes;
 mod once_refused;
+mod raw_items;
 mod structs;
 mod uses;

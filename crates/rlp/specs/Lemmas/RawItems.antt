@@ -1,0 +1,187 @@
+-- The item of a raw item is the one that its bytes are the encoding of.
+use Rattle.std.proofs.Common.{◌≡◌, ◌≤◌, ◌<◌, ◌^◌, ℕ, zero, suc, Bool, true, false, List, [], ◌∷◌, ◌++◌, length, map, refl, sym, ap, ◌∙◌, subst, arith}
+use Rattle.std.proofs.Common.{append-nil, Result, Ok, Err, leb-true, ◌⊎◌, inl, inr}
+use Rattle.rlp_format.specs.declared.error.DecoderError.{DecoderError}
+use Rattle.rlp_format.specs.declared.error.DecoderError.TheVariants.{OutOfMemory, RlpExpectedToBeData}
+use Rattle.rlp_format.specs.Format.Item.{Item, Items, string, list, no_items, item_and, items_from, listed, list_of, item_depth, items_depth}
+use Rattle.rlp_format.specs.Format.Encoding.{BeginsWith, encoding, IsSized}
+use Rattle.rlp_format.specs.Format.Framing.{IsFramedItem, frame}
+use Rattle.rlp_format.specs.Format.Split.{begins_as_list, items}
+use Rattle.rlp_format.specs.Format.Strict.{IsCanonical, IsCanonicalWithin, unless}
+use Rattle.rlp_format.specs.Format.StringReading.{read_string}
+use Rattle.rlp_format.specs.Views.Depth.{depth}
+use Rattle.rlp_format.specs.Views.View.{View, Holds, HoldsItem, strict_view_of, view_string}
+use Rattle.rlp.specs.Values.RawItem.{FaultsAsRaw, IsRawFault, IsRawItem, MayLackAsRaw, deepest_raw_item, faulty_frame, item_by, item_within}
+use Rattle.rlp.specs.Values.RawItem.{not_canonical, not_framed, raw_item_of, string_or_none, too_deep, view_frame}
+use Rattle.rlp.specs.Values.ValueReading.{GivesValue}
+use Rattle.rlp_format.specs.Lemmas.Encodings.{AllSized, front_sized, items_from-listed, list_written, parts_sized}
+use Rattle.rlp_format.specs.Lemmas.Frames.{encoding_framed, frame_front}
+use Rattle.rlp_format.specs.Lemmas.Strings.{string_list, string_only}
+use Rattle.rlp_format.specs.Lemmas.Views.{items_of_list, list_shape}
+use Rattle.rlp_format.proofs.Views.Depths.{depth_of_item, not_list}
+use Rattle.rlp_buffer.specs.Streams.Stream.{State, count, is_list, put, put_item, with_mark}
+use Rattle.rlp.specs.Lemmas.StringsHeld.{held_begins, held_read}
+use Rattle.rlp.specs.Lemmas.WholeLists.{strict_fault-encoding}
+
+-- a list isn't read as a string
+list_unread : (b : List ℕ) → begins_as_list b ≡ true → (e : DecoderError) × (read_string b ≡ Err e)
+list_unread [] begins = absurd (let no : ⊥ = cc in no)
+list_unread (first ∷ rest) begins = (RlpExpectedToBeData, string_list first rest (leb-true 0xc0 first begins))
+
+mutual
+  unfolding item_within
+
+  -- an encoding is read as its item
+  pub item_within-encoding : (most : ℕ) (x : Item) → IsSized x → item_depth x ≤ most → item_within most (encoding x) ≡ x
+  item_within-encoding zero (string s) fits deep = ap (λ r. string (string_or_none r))
+      (string_only (encoding (string s)) s fits ([], sym (append-nil (encoding (string s)))))
+  item_within-encoding (suc most) (string s) fits deep = ap (item_by (item_within most) (encoding (string s)))
+      (string_only (encoding (string s)) s fits ([], sym (append-nil (encoding (string s)))))
+  item_within-encoding zero (list ys) fits deep = absurd (omega (arith, deep))
+  item_within-encoding (suc most) (list ys) fits deep =
+      let same : list_of (listed ys) ≡ list ys = ap list (items_from-listed ys) in
+      let begins : encoding (list ys) ≡ encoding (list_of (listed ys)) ++ [] = ap encoding (sym same) ∙ sym (append-nil (encoding (list_of (listed ys)))) in
+      let sized : IsSized (list_of (listed ys)) = subst IsSized (sym same) fits in
+      let (e, is) = list_unread (encoding (list ys)) (list_shape (listed ys) (encoding (list ys)) sized ([], begins)).0 in
+      ap (item_by (item_within most) (encoding (list ys))) is
+      ∙ ap (λ fs. list_of (map (item_within most) fs)) (items_of_list (listed ys) (encoding (list ys)) sized ([], begins)).0
+      ∙ ap list_of (items_within-encodings most ys (parts_sized ys (list_written ys fits).small) (omega (arith, deep)))
+      ∙ same
+
+  items_within-encodings : (most : ℕ) (ys : Items) → AllSized ys → items_depth ys ≤ most → map (item_within most) (map encoding (listed ys)) ≡ listed ys
+  items_within-encodings most no_items fits deep = refl
+  items_within-encodings most (item_and y ys) fits deep =
+      let first : item_within most (encoding y) ≡ y = item_within-encoding most y fits.0 (omega arith) in
+      let others : map (item_within most) (map encoding (listed ys)) ≡ listed ys = items_within-encodings most ys fits.1 (omega arith) in
+      ap (λ z. z ∷ map (item_within most) (map encoding (listed ys))) first ∙ ap (λ zs. y ∷ zs) others
+
+shallow_all : (inside : List ℕ → Item) (most : ℕ) → ((f : List ℕ) → item_depth (inside f) ≤ most) → (fs : List (List ℕ))
+    → items_depth (items_from (map inside fs)) ≤ most
+shallow_all inside most low [] = omega arith
+shallow_all inside most low (f ∷ fs) =
+    let others : items_depth (items_from (map inside fs)) ≤ most = shallow_all inside most low fs in omega (arith, low f, others)
+
+shallow_by : (inside : List ℕ → Item) (most : ℕ) → ((f : List ℕ) → item_depth (inside f) ≤ most) → (b : List ℕ) (r : Result (List ℕ) DecoderError)
+    → item_depth (item_by inside b r) ≤ suc most
+shallow_by inside most low b (Ok d) = omega arith
+shallow_by inside most low b (Err e) =
+    let deepest : items_depth (items_from (map inside (items b))) ≤ most = shallow_all inside most low (items b) in omega (arith, deepest)
+
+-- an item that is read is no deeper than the limit
+pub shallow_within : (most : ℕ) (b : List ℕ) → item_depth (item_within most b) ≤ most
+unfolding item_within
+shallow_within zero b = omega arith
+shallow_within (suc most) b = shallow_by (item_within most) most (shallow_within most) b (read_string b)
+
+-- canonical bytes are the encoding of the item that they are read as
+pub encoding-item_within : (most : ℕ) (b : List ℕ) → length b < 2 ^ 64 → IsCanonicalWithin most b → encoding (item_within most b) ≡ b
+encoding-item_within most b fits (x, is, deep) =
+    let sized : IsSized x = front_sized x b [] fits (is ∙ sym (append-nil (encoding x))) in
+    ap encoding (ap (item_within most) is ∙ item_within-encoding most x sized deep) ∙ sym is
+
+-- ---- what a view holds
+
+framed_by : (strict : Bool) (b : List ℕ) (x : Item) → length b < 2 ^ 64 → Holds strict b (encoding x) → BeginsWith b (encoding x)
+    → view_frame (record { bytes = b; is_strict = strict }) ≡ Ok (encoding x)
+framed_by false b x fits holds (more, is) = (encoding_framed x b (front_sized x b more fits is) (more, is)).1
+framed_by true b x fits holds (more, is) =
+    let sized : IsSized x = front_sized x b more fits is in
+    ap (λ o. unless o (frame b)) (strict_fault-encoding x b sized holds) ∙ (encoding_framed x b sized (more, is)).1
+
+-- the first item of a view is the one that it holds
+pub view_frame-held : (v : View) (x : Item) → length v.bytes < 2 ^ 64 → HoldsItem v x → view_frame v ≡ Ok (encoding x)
+view_frame-held v x fits holds = framed_by v.is_strict v.bytes x fits holds (held_begins v x holds)
+
+-- the encoding of an item within the depth has no fault
+raw_told : (f : List ℕ) (x : Item) (e : DecoderError) → IsSized x → f ≡ encoding x → item_depth x ≤ deepest_raw_item → ¬ IsRawFault f e
+raw_told f x e sized is deep (too_deep deeper custom) =
+    let same : depth f ≡ item_depth x = depth_of_item x f sized ([], is ∙ sym (append-nil (encoding x))) in omega (arith, deep, deeper, same)
+raw_told f x e sized is deep (not_canonical low other custom) = other (x, is)
+
+-- a view that holds the encoding of a raw item has no fault
+pub raw_sound : (v : View) (b : List ℕ) → length v.bytes < 2 ^ 64 → IsRawItem b → HoldsItem v (raw_item_of b) → (e : DecoderError) → ¬ FaultsAsRaw v e
+raw_sound v b fits fit holds e (not_framed none) = let is = view_frame-held v (raw_item_of b) fits holds in cc
+raw_sound v b fits fit holds e (faulty_frame f framed bad) =
+    let is : view_frame v ≡ Ok (encoding (raw_item_of b)) = view_frame-held v (raw_item_of b) fits holds in
+    let same : f ≡ encoding (raw_item_of b) = cc in
+    let (more, begins) = held_begins v (raw_item_of b) holds in
+    raw_told f (raw_item_of b) e (front_sized (raw_item_of b) v.bytes more fits begins) same (shallow_within deepest_raw_item b) bad
+
+-- ---- rules for bodies
+
+-- bytes that are one framed item are their own frame
+pub whole_frame : (b : List ℕ) → IsFramedItem b → frame b ≡ Ok b
+whole_frame b framed = ap frame (sym (append-nil b)) ∙ frame_front b [] framed
+
+-- bytes that nest within the depth and aren't a raw item aren't canonical
+pub not_canonical_if : (b : List ℕ) → length b < 2 ^ 64 → ¬ IsRawItem b → depth b ≤ deepest_raw_item → ¬ IsCanonical b
+not_canonical_if b fits other low (x, is) =
+    let sized : IsSized x = front_sized x b [] fits (is ∙ sym (append-nil (encoding x))) in
+    let same : depth b ≡ item_depth x = depth_of_item x b sized ([], is ∙ sym (append-nil (encoding x))) in
+    other (x, is, let deep : item_depth x ≤ deepest_raw_item = omega (arith, low, same) in deep)
+
+-- for `RawItem::new`
+pub ruleset raw_faults = (too_deep, not_canonical)
+
+-- the item of a raw item that begins as a list is a list
+list_by : (x : Item) (b : List ℕ) → length b < 2 ^ 64 → b ≡ encoding x → begins_as_list b ≡ is_list x
+list_by (string s) b fits is = not_list s b (front_sized (string s) b [] fits (is ∙ sym (append-nil (encoding (string s)))))
+    ([], is ∙ sym (append-nil (encoding (string s))))
+list_by (list ys) b fits is =
+    let same : list_of (listed ys) ≡ list ys = ap list (items_from-listed ys) in
+    let whole : b ≡ encoding (list_of (listed ys)) ++ [] = is ∙ ap encoding (sym same) ∙ sym (append-nil (encoding (list_of (listed ys)))) in
+    (list_shape (listed ys) b (front_sized (list_of (listed ys)) b [] fits whole) ([], whole)).0
+
+put_list : (x : Item) (s : State) → is_list x ≡ true → with_mark true (count 1 (put (encoding x) s)) ≡ put_item x s
+put_list (string d) s is = absurd (let no : ⊥ = cc in no)
+put_list (list xs) s is = refl
+
+put_string : (x : Item) (s : State) → is_list x ≡ false → put (encoding x) s ≡ put_item x s
+put_string (string d) s is = refl
+put_string (list xs) s is = absurd (let no : ⊥ = cc in no)
+
+-- what is written for a raw item that begins as a list
+pub raw_list_put : (b : List ℕ) (s : State) → length b < 2 ^ 64 → IsRawItem b → begins_as_list b ≡ true
+    → with_mark true (count 1 (put b s)) ≡ put_item (raw_item_of b) s
+raw_list_put b s fits is begins =
+    let same : encoding (raw_item_of b) ≡ b = encoding-item_within deepest_raw_item b fits is in
+    let kind : is_list (raw_item_of b) ≡ true = sym (list_by (raw_item_of b) b fits (sym same)) ∙ begins in
+    ap (λ c. with_mark true (count 1 (put c s))) (sym same) ∙ put_list (raw_item_of b) s kind
+
+-- what is written for any other raw item
+pub raw_string_put : (b d : List ℕ) (s : State) → length b < 2 ^ 64 → IsRawItem b → begins_as_list b ≡ false → b ≡ encoding (string d)
+    → put (encoding (string d)) s ≡ put_item (raw_item_of b) s
+raw_string_put b d s fits is begins whole =
+    let same : encoding (raw_item_of b) ≡ b = encoding-item_within deepest_raw_item b fits is in
+    let kind : is_list (raw_item_of b) ≡ false = sym (list_by (raw_item_of b) b fits (sym same)) ∙ begins in
+    ap (λ c. put c s) (sym whole ∙ sym same) ∙ put_string (raw_item_of b) s kind
+
+-- a raw item that doesn't begin as a list is a string
+pub raw_is_string : (b : List ℕ) → length b < 2 ^ 64 → IsRawItem b → begins_as_list b ≡ false → (d : List ℕ) × (b ≡ encoding (string d))
+raw_is_string b fits (string d, is, deep) begins = (d, is)
+raw_is_string b fits (list ys, is, deep) begins =
+    let kind : begins_as_list b ≡ true = list_by (list ys) b fits is in absurd (let no : ⊥ = cc in no)
+
+-- the string of such a raw item is read
+pub raw_string_read : (b : List ℕ) (v : View) (e : DecoderError) → length b < 2 ^ 64 → v ≡ strict_view_of b → IsRawItem b → begins_as_list b ≡ false
+    → view_string v ≡ Err e → ⊥
+raw_string_read b v e fits strict is begins none =
+    let (d, whole) = raw_is_string b fits is begins in
+    held_read (strict_view_of b) d e fits whole (subst (λ v. view_string v ≡ Err e) strict none)
+
+-- for the `rlp_append` of a raw item
+pub ruleset raw_writing = (raw_list_put, raw_string_put, raw_string_read, encoding-item_within)
+
+-- the value that is read from the first item
+pub raw_given : (v : View) (f : List ℕ) → length f < 2 ^ 64 → Holds v.is_strict v.bytes f → IsRawItem f → GivesValue IsRawItem raw_item_of v f
+raw_given v f fits holds is =
+    record { fits = is; begins = subst (λ c. Holds v.is_strict v.bytes c) (sym (encoding-item_within deepest_raw_item f fits is)) holds }
+
+-- why no value is read from the first item
+pub raw_fails : (v : View) (f g : List ℕ) (e : DecoderError) → view_frame v ≡ Ok f → g ≡ f → IsRawFault g e ⊎ ((e ≡ OutOfMemory) × IsRawItem g)
+    → FaultsAsRaw v e ⊎ ((e ≡ OutOfMemory) × MayLackAsRaw v)
+raw_fails v f g e is same (inl bad) = inl (faulty_frame g (is ∙ ap Ok (sym same)) bad)
+raw_fails v f g e is same (inr (lacks, raw)) = inr (lacks, record { bytes = g; framed = is ∙ ap Ok (sym same); is = raw })
+
+-- for the `decode` of a raw item
+pub ruleset raw_reading = (raw_given, raw_fails, not_framed)
