@@ -2,3 +2,5 @@
 pub mod Exact
 -- an item that is kept as the bytes of its encoding
 pub mod RawItem
+-- types whose values are of several types: sums, envelopes and tagged lists
+pub mod Sums

@@ -46,3 +46,5 @@ pub mod Tails
 pub mod ExactReads
 -- raw items and their encodings
 pub mod RawItems
+-- values of several types that are read back and read strictly
+pub mod Sums

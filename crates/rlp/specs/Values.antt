@@ -14,3 +14,5 @@ pub mod FieldPlace
 pub mod FieldReading
 -- items that are kept as the bytes of their encodings
 pub mod RawItem
+-- values of several types, and why there is none
+pub mod Sums

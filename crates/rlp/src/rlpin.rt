@@ -2,6 +2,7 @@
 
 mod decoder;
 mod display;
+mod envelope;
 mod fields;
 mod first_item;
 mod iter;
@@ -9,6 +10,7 @@ mod rlp;
 mod splitting;
 
 pub use decoder::BasicDecoder;
+pub use envelope::Envelope;
 pub use fields::Fields;
 pub use iter::RlpIterator;
 pub use rlp::Rlp;

@@ -10,4 +10,5 @@ pub mod LegacyTransaction
 pub mod Log
 pub mod Receipt
 pub mod Recipient
+pub mod Transaction
 pub mod Withdrawal

@@ -17,6 +17,7 @@ mod legacy_transaction;
 mod log;
 mod receipt;
 mod recipient;
+mod transaction;
 mod withdrawal;
 
 pub use access::{AccessList, AccessListItem};
@@ -32,4 +33,5 @@ pub use legacy_transaction::LegacyTransaction;
 pub use log::Log;
 pub use receipt::Receipt;
 pub use recipient::Recipient;
+pub use transaction::Transaction;
 pub use withdrawal::Withdrawal;
