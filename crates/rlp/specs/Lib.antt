@@ -12,8 +12,7 @@ pub mod Streams
 pub mod Lemmas
 -- the codec of a custom type, from those of its fields
 pub mod Codec
--- the codecs of some more types
--- codecs of types whose values are of several types
+-- codecs of raw items, and of types whose values are of several types
 pub mod Codecs
 -- the faults of decoding
 pub use Rattle.rlp_format.specs.declared.error.DecoderError
