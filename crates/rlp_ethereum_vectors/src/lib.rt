@@ -2,6 +2,8 @@
 #![tactic(auto)]
 
 #[cfg(test)]
+mod every_type;
+#[cfg(test)]
 mod headers;
 #[cfg(test)]
 mod records;
