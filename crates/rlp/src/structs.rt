@@ -236,6 +236,20 @@ macro_rules! append_fields {
     };
 }
 
+/// The fields of a struct as pairs, as [`append_fields!`](crate::append_fields) nests them. They
+/// have [`AppendFields`](crate::AppendFields), so [`append_struct`](crate::append_struct) and
+/// functions of your own can write them.
+///
+/// ```rust
+/// rlp::append_struct(s, &rlp::fields!(&self.address, ListOf(&self.keys)))?;
+/// ```
+#[macro_export]
+macro_rules! fields {
+    ($($field:expr),+ $(,)?) => {
+        $crate::append_fields!(@nested $($field),+)
+    };
+}
+
 /// Reads a struct from the list of its fields. The arguments are the allocator, the view, and the
 /// struct with its fields in order. A field that is a list is written `keys: [..]`. The macro is
 /// the whole body of a `decode`. Fails as [`decode_struct`] does.

@@ -2,6 +2,8 @@ pub mod Access
 pub mod AccessListTransaction
 pub mod Account
 pub mod Address
+pub mod Authorization
+pub mod BlobTransaction
 pub mod Bloom
 pub mod FeeMarketTransaction
 pub mod Hash
@@ -10,5 +12,6 @@ pub mod LegacyTransaction
 pub mod Log
 pub mod Receipt
 pub mod Recipient
+pub mod SetCodeTransaction
 pub mod Transaction
 pub mod Withdrawal

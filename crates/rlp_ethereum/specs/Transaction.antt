@@ -11,25 +11,33 @@ use Rattle.rlp.specs.Values.Sums.{IsEnvelopeFault, MayLackAfterTag}
 use Rattle.rlp.specs.Codec.{Codec, newtype}
 use Rattle.rlp.specs.Codecs.Sums.{Cases, and_case, enveloped, last_case, list_or_string}
 use Rattle.rlp_ethereum.specs.declared.access_list_transaction.AccessListTransaction.{AccessListTransaction}
+use Rattle.rlp_ethereum.specs.declared.blob_transaction.BlobTransaction.{BlobTransaction}
 use Rattle.rlp_ethereum.specs.declared.fee_market_transaction.FeeMarketTransaction.{FeeMarketTransaction}
 use Rattle.rlp_ethereum.specs.declared.legacy_transaction.LegacyTransaction.{LegacyTransaction}
+use Rattle.rlp_ethereum.specs.declared.set_code_transaction.SetCodeTransaction.{SetCodeTransaction}
 use Rattle.rlp_ethereum.specs.declared.transaction.Transaction.{Transaction}
-use Rattle.rlp_ethereum.specs.declared.transaction.Transaction.TheVariants.{AccessList, FeeMarket, Legacy}
+use Rattle.rlp_ethereum.specs.declared.transaction.Transaction.TheVariants.{AccessList, Blob, FeeMarket, Legacy, SetCode}
 use Rattle.rlp_ethereum.specs.AccessListTransaction.{access_list_transaction}
+use Rattle.rlp_ethereum.specs.BlobTransaction.{blob_transaction}
 use Rattle.rlp_ethereum.specs.FeeMarketTransaction.{fee_market_transaction}
 use Rattle.rlp_ethereum.specs.LegacyTransaction.{legacy_transaction}
+use Rattle.rlp_ethereum.specs.SetCodeTransaction.{set_code_transaction}
 
 -- the types of EIP-2718, each with its number
-abbrev pub typed_transactions : Cases (AccessListTransaction ⊎ FeeMarketTransaction)
+abbrev pub typed_transactions : Cases (AccessListTransaction ⊎ (FeeMarketTransaction ⊎ (BlobTransaction ⊎ SetCodeTransaction)))
 typed_transactions =
     and_case 1 access_list_transaction (
-    last_case 2 fee_market_transaction)
+    and_case 2 fee_market_transaction (
+    and_case 3 blob_transaction (
+    last_case 4 set_code_transaction)))
 
 -- a transaction of one of these types
-abbrev pub as_sum : Transaction → LegacyTransaction ⊎ (AccessListTransaction ⊎ FeeMarketTransaction)
+abbrev pub as_sum : Transaction → LegacyTransaction ⊎ (AccessListTransaction ⊎ (FeeMarketTransaction ⊎ (BlobTransaction ⊎ SetCodeTransaction)))
 as_sum (Legacy t) = inl t
 as_sum (AccessList t) = inr (inl t)
-as_sum (FeeMarket t) = inr (inr t)
+as_sum (FeeMarket t) = inr (inr (inl t))
+as_sum (Blob t) = inr (inr (inr (inl t)))
+as_sum (SetCode t) = inr (inr (inr (inr t)))
 
 -- the text of the fault of a type of transaction that isn't in the table
 abbrev pub unknown_type : List ℕ

@@ -1,6 +1,13 @@
 //! Transactions of type 1.
 
+ghost use Rattle.std.specs.Prelude.{◌≡◌, ◌∷◌, IfOk, take};
+ghost use Rattle.rlp.specs.Format.Encoding.{encoding};
+ghost use Rattle.rlp.specs.Format.Item.{list_of};
+ghost use Rattle.rlp_ethereum.specs.AccessListTransaction.{access_list_transaction_fields};
+
+use crate::envelope::{ACCESS_LIST_TYPE, typed_list};
 use crate::{AccessList, Recipient};
+use bytes::BytesMut;
 use rlp::{Decodable, DecoderError, Encodable, Rlp, RlpStream, RoundTrip, StrictRead, Uint};
 use std::alloc::{AllocError, Global};
 
@@ -32,6 +39,30 @@ pub struct AccessListTransaction {
     pub r: Uint<32>,
     /// The second number of the signature. This type doesn't check it.
     pub s: Uint<32>,
+}
+
+impl AccessListTransaction {
+    /// Returns the bytes that are signed: the byte 1, and the list of the fields before the
+    /// signature, as in EIP-2930.
+    pub fn signing_payload(&self, alloc: Global) -> Result<BytesMut, AllocError>
+        ensures { IfOk result (λ b. b.items
+            ≡ 1 ∷ encoding (list_of (take 8 (access_list_transaction_fields.items self.now)))) }
+    {
+        typed_list(
+            alloc,
+            ACCESS_LIST_TYPE,
+            &rlp::fields!(
+                &self.chain_id,
+                &self.nonce,
+                &self.gas_price,
+                &self.gas_limit,
+                &self.to,
+                &self.value,
+                &self.data,
+                &self.access_list
+            ),
+        )
+    }
 }
 
 impl Encodable for AccessListTransaction {

@@ -1,13 +1,15 @@
 //! Envelopes of typed transactions and receipts (EIP-2718): the byte of the type, and then the
 //! encoding of the payload. An envelope isn't an item.
 
-ghost use Rattle.std.specs.Prelude.{◌≡◌, ◌∷◌, OnOk, IfOk, IfErr};
+ghost use Rattle.std.specs.Prelude.{◌≡◌, ◌∷◌, [], OnOk, IfOk, IfErr};
 ghost use Rattle.rlp.specs.DecoderError.TheVariants.{OutOfMemory};
 ghost use Rattle.rlp.specs.Format.Encoding.{encoding};
+ghost use Rattle.rlp.specs.Format.Item.{list_of};
+ghost use Rattle.rlp.specs.Streams.Stream.{initial_state};
 ghost use Rattle.rlp.specs.Values.Value.{AreAlike};
 
 use bytes::{BufMut, BytesMut};
-use rlp::{DecoderError, Encodable, RlpStream, StrictRead, laws};
+use rlp::{AppendFields, DecoderError, Encodable, RlpStream, StrictRead, append_struct, laws};
 use std::alloc::{AllocError, Global};
 
 /// The type of an [`AccessListTransaction`](crate::AccessListTransaction): EIP-2930.
@@ -15,6 +17,12 @@ pub const ACCESS_LIST_TYPE: u8 = 0x01;
 
 /// The type of a [`FeeMarketTransaction`](crate::FeeMarketTransaction): EIP-1559.
 pub const FEE_MARKET_TYPE: u8 = 0x02;
+
+/// The type of a [`BlobTransaction`](crate::BlobTransaction): EIP-4844.
+pub const BLOB_TYPE: u8 = 0x03;
+
+/// The type of a [`SetCodeTransaction`](crate::SetCodeTransaction): EIP-7702.
+pub const SET_CODE_TYPE: u8 = 0x04;
 
 /// Returns the envelope of a value: the byte `kind` of its type, and its encoding. In EIP-2718 the
 /// type is below 0x80, so an envelope doesn't begin as a list does.
@@ -26,11 +34,43 @@ pub fn to_envelope<T: Encodable>(
     ensures fits { OnOk result (T.fits payload.now) }
     ensures bytes { IfOk result (λ b. b.items ≡ kind ∷ encoding (T.item payload.now)) }
 {
-    let mut buffer = BytesMut::new(alloc);
-    buffer.put_u8(kind)?;
-    let mut s = RlpStream::new_with_buffer(alloc, buffer);
+    let mut s = typed_stream(alloc, kind)?;
     s.append(payload)?;
     Ok(s.out())
+}
+
+/// Returns the byte `kind`, and the encoding of the list of these fields.
+pub(crate) fn typed_list<F: AppendFields>(
+    alloc: Global,
+    kind: u8,
+    fields: &F,
+) -> Result<BytesMut, AllocError>
+    ensures { IfOk result (λ b. b.items ≡ kind ∷ encoding (list_of (F.items fields.now))) }
+{
+    let mut s = typed_stream(alloc, kind)?;
+    append_struct(&mut s, fields)?;
+    Ok(s.out())
+}
+
+/// Returns the encoding of the list of these fields.
+pub(crate) fn list_of_fields<F: AppendFields>(
+    alloc: Global,
+    fields: &F,
+) -> Result<BytesMut, AllocError>
+    ensures { IfOk result (λ b. b.items ≡ encoding (list_of (F.items fields.now))) }
+{
+    let mut s = RlpStream::new(alloc)?;
+    append_struct(&mut s, fields)?;
+    Ok(s.out())
+}
+
+// Returns a stream whose front is the byte `kind`.
+fn typed_stream(alloc: Global, kind: u8) -> Result<RlpStream, AllocError>
+    ensures { IfOk result (λ s. s.state ≡ initial_state (kind ∷ [])) }
+{
+    let mut buffer = BytesMut::new(alloc);
+    buffer.put_u8(kind)?;
+    Ok(RlpStream::new_with_buffer(alloc, buffer))
 }
 
 /// Reads a value strictly from its whole envelope. Fails with [`DecoderError::Custom`] if the bytes

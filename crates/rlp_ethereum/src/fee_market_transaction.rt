@@ -1,6 +1,13 @@
 //! Transactions of type 2.
 
+ghost use Rattle.std.specs.Prelude.{◌≡◌, ◌∷◌, IfOk, take};
+ghost use Rattle.rlp.specs.Format.Encoding.{encoding};
+ghost use Rattle.rlp.specs.Format.Item.{list_of};
+ghost use Rattle.rlp_ethereum.specs.FeeMarketTransaction.{fee_market_transaction_fields};
+
+use crate::envelope::{FEE_MARKET_TYPE, typed_list};
 use crate::{AccessList, Recipient};
+use bytes::BytesMut;
 use rlp::{Decodable, DecoderError, Encodable, Rlp, RlpStream, RoundTrip, StrictRead, Uint};
 use std::alloc::{AllocError, Global};
 
@@ -34,6 +41,31 @@ pub struct FeeMarketTransaction {
     pub r: Uint<32>,
     /// The second number of the signature. This type doesn't check it.
     pub s: Uint<32>,
+}
+
+impl FeeMarketTransaction {
+    /// Returns the bytes that are signed: the byte 2, and the list of the fields before the
+    /// signature, as in EIP-1559.
+    pub fn signing_payload(&self, alloc: Global) -> Result<BytesMut, AllocError>
+        ensures { IfOk result (λ b. b.items
+            ≡ 2 ∷ encoding (list_of (take 9 (fee_market_transaction_fields.items self.now)))) }
+    {
+        typed_list(
+            alloc,
+            FEE_MARKET_TYPE,
+            &rlp::fields!(
+                &self.chain_id,
+                &self.nonce,
+                &self.max_priority_fee_per_gas,
+                &self.max_fee_per_gas,
+                &self.gas_limit,
+                &self.to,
+                &self.value,
+                &self.data,
+                &self.access_list
+            ),
+        )
+    }
 }
 
 impl Encodable for FeeMarketTransaction {

@@ -1,6 +1,14 @@
 //! Transactions without a type.
 
+ghost use Rattle.std.specs.Prelude.{◌≡◌, ◌++◌, ◌∷◌, [], IfOk, take};
+ghost use Rattle.rlp.specs.Format.Encoding.{encoding};
+ghost use Rattle.rlp.specs.Format.Item.{list_of};
+ghost use Rattle.rlp.specs.Values.Value.{number_item};
+ghost use Rattle.rlp_ethereum.specs.LegacyTransaction.{legacy_transaction_fields};
+
 use crate::Recipient;
+use crate::envelope::list_of_fields;
+use bytes::BytesMut;
 use rlp::{Decodable, DecoderError, Encodable, Rlp, RlpStream, RoundTrip, StrictRead, Uint};
 use std::alloc::{AllocError, Global};
 
@@ -29,6 +37,54 @@ pub struct LegacyTransaction {
     pub r: Uint<32>,
     /// The second number of the signature. This type doesn't check it.
     pub s: Uint<32>,
+}
+
+impl LegacyTransaction {
+    /// Returns the bytes that are signed without EIP-155: the list of the six fields before the
+    /// signature.
+    pub fn signing_payload(&self, alloc: Global) -> Result<BytesMut, AllocError>
+        ensures { IfOk result
+            (λ b. b.items ≡ encoding (list_of (take 6 (legacy_transaction_fields.items self.now)))) }
+    {
+        list_of_fields(
+            alloc,
+            &rlp::fields!(
+                &self.nonce,
+                &self.gas_price,
+                &self.gas_limit,
+                &self.to,
+                &self.value,
+                &self.data
+            ),
+        )
+    }
+
+    /// Returns the bytes that are signed with EIP-155: the list of the six fields before the
+    /// signature, the number of the chain, 0 and 0.
+    pub fn signing_payload_for_chain(
+        &self,
+        alloc: Global,
+        chain_id: u64,
+    ) -> Result<BytesMut, AllocError>
+        ensures { IfOk result (λ b. b.items
+            ≡ encoding (list_of (take 6 (legacy_transaction_fields.items self.now)
+            ++ number_item chain_id ∷ number_item 0 ∷ number_item 0 ∷ []))) }
+    {
+        list_of_fields(
+            alloc,
+            &rlp::fields!(
+                &self.nonce,
+                &self.gas_price,
+                &self.gas_limit,
+                &self.to,
+                &self.value,
+                &self.data,
+                &chain_id,
+                &0u8,
+                &0u8
+            ),
+        )
+    }
 }
 
 impl Encodable for LegacyTransaction {

@@ -8,6 +8,8 @@ mod access;
 mod access_list_transaction;
 mod account;
 mod address;
+mod authorization;
+mod blob_transaction;
 mod bloom;
 mod envelope;
 mod fee_market_transaction;
@@ -17,6 +19,7 @@ mod legacy_transaction;
 mod log;
 mod receipt;
 mod recipient;
+mod set_code_transaction;
 mod transaction;
 mod withdrawal;
 
@@ -24,8 +27,12 @@ pub use access::{AccessList, AccessListItem};
 pub use access_list_transaction::AccessListTransaction;
 pub use account::Account;
 pub use address::Address;
+pub use authorization::Authorization;
+pub use blob_transaction::BlobTransaction;
 pub use bloom::Bloom;
-pub use envelope::{ACCESS_LIST_TYPE, FEE_MARKET_TYPE, from_envelope, to_envelope};
+pub use envelope::{
+    ACCESS_LIST_TYPE, BLOB_TYPE, FEE_MARKET_TYPE, SET_CODE_TYPE, from_envelope, to_envelope,
+};
 pub use fee_market_transaction::FeeMarketTransaction;
 pub use hash::Hash;
 pub use header::Header;
@@ -33,5 +40,6 @@ pub use legacy_transaction::LegacyTransaction;
 pub use log::Log;
 pub use receipt::Receipt;
 pub use recipient::Recipient;
+pub use set_code_transaction::SetCodeTransaction;
 pub use transaction::Transaction;
 pub use withdrawal::Withdrawal;

@@ -4,8 +4,11 @@ ghost use Rattle.std.specs.Prelude.{◌≡◌, ◌⊎◌, IfErr, IfOk, OnOk};
 ghost use Rattle.rlp.specs.DecoderError.TheVariants.{OutOfMemory};
 ghost use Rattle.rlp_ethereum.specs.Transaction.{FaultsAlone, MayLackAlone, bytes_alone, transaction};
 
-use crate::envelope::{ACCESS_LIST_TYPE, FEE_MARKET_TYPE, to_envelope};
-use crate::{AccessListTransaction, FeeMarketTransaction, LegacyTransaction};
+use crate::envelope::{ACCESS_LIST_TYPE, BLOB_TYPE, FEE_MARKET_TYPE, SET_CODE_TYPE, to_envelope};
+use crate::{
+    AccessListTransaction, BlobTransaction, FeeMarketTransaction, LegacyTransaction,
+    SetCodeTransaction,
+};
 use bytes::BytesMut;
 use rlp::{
     Decodable, DecoderError, Encodable, Envelope, Rlp, RlpStream, RoundTrip, StrictRead,
@@ -23,6 +26,10 @@ pub enum Transaction {
     AccessList(AccessListTransaction),
     /// A transaction of type 2.
     FeeMarket(FeeMarketTransaction),
+    /// A transaction of type 3.
+    Blob(BlobTransaction),
+    /// A transaction of type 4.
+    SetCode(SetCodeTransaction),
 }
 
 impl Transaction {
@@ -36,6 +43,8 @@ impl Transaction {
             Transaction::Legacy(payload) => rlp::encode(alloc, payload),
             Transaction::AccessList(payload) => to_envelope(alloc, ACCESS_LIST_TYPE, payload),
             Transaction::FeeMarket(payload) => to_envelope(alloc, FEE_MARKET_TYPE, payload),
+            Transaction::Blob(payload) => to_envelope(alloc, BLOB_TYPE, payload),
+            Transaction::SetCode(payload) => to_envelope(alloc, SET_CODE_TYPE, payload),
         }
     }
 
@@ -67,6 +76,14 @@ impl Transaction {
                 Ok(payload) => Ok(Transaction::FeeMarket(payload)),
                 Err(fault) => Err(fault),
             },
+            BLOB_TYPE => match envelope.decode(alloc) {
+                Ok(payload) => Ok(Transaction::Blob(payload)),
+                Err(fault) => Err(fault),
+            },
+            SET_CODE_TYPE => match envelope.decode(alloc) {
+                Ok(payload) => Ok(Transaction::SetCode(payload)),
+                Err(fault) => Err(fault),
+            },
             _ => Err(DecoderError::Custom("unknown transaction type")),
         }
     }
@@ -84,6 +101,8 @@ impl Encodable for Transaction {
             Transaction::Legacy(payload) => payload.rlp_append(s),
             Transaction::AccessList(payload) => append_envelope(s, ACCESS_LIST_TYPE, payload),
             Transaction::FeeMarket(payload) => append_envelope(s, FEE_MARKET_TYPE, payload),
+            Transaction::Blob(payload) => append_envelope(s, BLOB_TYPE, payload),
+            Transaction::SetCode(payload) => append_envelope(s, SET_CODE_TYPE, payload),
         }
     }
 }
@@ -111,6 +130,14 @@ impl Decodable for Transaction {
             },
             FEE_MARKET_TYPE => match envelope.decode(alloc) {
                 Ok(payload) => Ok(Transaction::FeeMarket(payload)),
+                Err(fault) => Err(fault),
+            },
+            BLOB_TYPE => match envelope.decode(alloc) {
+                Ok(payload) => Ok(Transaction::Blob(payload)),
+                Err(fault) => Err(fault),
+            },
+            SET_CODE_TYPE => match envelope.decode(alloc) {
+                Ok(payload) => Ok(Transaction::SetCode(payload)),
                 Err(fault) => Err(fault),
             },
             _ => Err(DecoderError::Custom("unknown transaction type")),

@@ -3,6 +3,7 @@
 
 #[cfg(test)]
 mod access_lists;
+mod every_type;
 #[cfg(test)]
 mod headers;
 #[cfg(test)]

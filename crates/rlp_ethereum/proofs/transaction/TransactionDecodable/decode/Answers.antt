@@ -12,3 +12,13 @@ pub returns-in-Err-decode-clause-fault : goal.returns-in-Err-decode-clause-fault
 returns-in-Err-decode-clause-fault c =
     let kind : begins_as_list c.args.rlp.now.bytes ≡ false = sym c.is_list.ensures ∙ c.if-is_list.false in
     string_fails _ kind (payload_fails _ _ _ _ _ _ _ _ _ c.in_ok-envelope.ensures.value c.in-2.is c.in-Err-decode.ensures.fault)
+
+pub returns-in-Err-decode-2-clause-fault : goal.returns-in-Err-decode-2-clause-fault
+returns-in-Err-decode-2-clause-fault c =
+    let kind : begins_as_list c.args.rlp.now.bytes ≡ false = sym c.is_list.ensures ∙ c.if-is_list.false in
+    string_fails _ kind (payload_fails _ _ _ _ _ _ _ _ _ c.in_ok-envelope.ensures.value c.in-3.is c.in-Err-decode-2.ensures.fault)
+
+pub returns-in-Err-decode-3-clause-fault : goal.returns-in-Err-decode-3-clause-fault
+returns-in-Err-decode-3-clause-fault c =
+    let kind : begins_as_list c.args.rlp.now.bytes ≡ false = sym c.is_list.ensures ∙ c.if-is_list.false in
+    string_fails _ kind (payload_fails _ _ _ _ _ _ _ _ _ c.in_ok-envelope.ensures.value c.in-4.is c.in-Err-decode-3.ensures.fault)
