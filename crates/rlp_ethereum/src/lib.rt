@@ -15,6 +15,7 @@ mod hash;
 mod header;
 mod legacy_transaction;
 mod log;
+pub mod messages;
 mod receipt;
 mod recipient;
 mod withdrawal;
