@@ -9,6 +9,7 @@ pub mod Streams
 -- for authors of types: the rules for bodies that write and that read
 pub mod Writing
 pub mod Reading
+pub mod Envelopes
 -- the same rules in smaller sets: for a type that is read from one string, and those that are passed on from `rlp_streams`
 pub mod OneString
 pub mod Growth

@@ -42,3 +42,5 @@ pub mod StrictLists
 pub mod StrictStructs
 -- structs whose last fields may be missing
 pub mod Tails
+-- values of several types that are read back and read strictly
+pub mod Sums

@@ -12,6 +12,8 @@ pub mod Streams
 pub mod Lemmas
 -- the codec of a custom type, from those of its fields
 pub mod Codec
+-- codecs of types whose values are of several types
+pub mod Codecs
 -- the faults of decoding
 pub use Rattle.rlp_format.specs.declared.error.DecoderError
 -- the lengths that a header announces

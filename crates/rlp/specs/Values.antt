@@ -12,3 +12,5 @@ pub mod RoundTrip
 pub mod FieldPlace
 -- what items from some place on give as fields
 pub mod FieldReading
+-- values of several types, and why there is none
+pub mod Sums

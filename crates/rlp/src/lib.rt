@@ -29,9 +29,9 @@ use bytes::BytesMut;
 pub use rlp_format::{DecoderError, PayloadInfo, Prototype};
 pub use rlp_streams::{
     AppendFields, BasicEncoder, Chain, EMPTY_LIST_RLP, Each, Encodable, Flattened, ListOf,
-    NULL_RLP, RlpStream, Uint, append_struct,
+    NULL_RLP, RlpStream, Uint, append_envelope, append_struct,
 };
-pub use rlpin::{BasicDecoder, Fields, Rlp, RlpIterator};
+pub use rlpin::{BasicDecoder, Envelope, Fields, Rlp, RlpIterator};
 use std::alloc::{AllocError, Global};
 pub use structs::{DecodeField, DecodeFields, Field, ListField, decode_struct};
 pub use traits::{Decodable, RoundTrip, Scalar, StrictRead};

@@ -11,4 +11,5 @@ pub mod Log
 pub mod Messages
 pub mod Receipt
 pub mod Recipient
+pub mod Transaction
 pub mod Withdrawal

@@ -18,6 +18,7 @@ mod log;
 pub mod messages;
 mod receipt;
 mod recipient;
+mod transaction;
 mod withdrawal;
 
 pub use access::{AccessList, AccessListItem};
@@ -33,4 +34,5 @@ pub use legacy_transaction::LegacyTransaction;
 pub use log::Log;
 pub use receipt::Receipt;
 pub use recipient::Recipient;
+pub use transaction::Transaction;
 pub use withdrawal::Withdrawal;

@@ -2,12 +2,14 @@
 //! a stream, and on `rlp_format`. Users list `rlp`, which re-exports every public name.
 #![tactic(auto)]
 
+mod envelope;
 mod impls;
 pub mod laws;
 mod stream;
 mod structs;
 mod traits;
 
+pub use envelope::append_envelope;
 pub use impls::Uint;
 pub use stream::{BasicEncoder, Chain, RlpStream};
 pub use structs::{AppendFields, Each, Flattened, ListOf, append_struct};

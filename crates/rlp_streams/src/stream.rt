@@ -417,6 +417,11 @@ impl RlpStream {
         buffer.into_bytes()
     }
 
+    // The allocator of the stream.
+    pub(crate) fn allocator(&self) -> Global {
+        *self.lists.allocator()
+    }
+
     /// A writer of strings into this stream. It doesn't count them.
     pub fn encoder(&mut self) -> BasicEncoder<'_>
         ensures same_reference { result.stream.ghost_name ≡ self.entry.ghost_name }

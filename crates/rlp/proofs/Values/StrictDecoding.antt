@@ -24,6 +24,17 @@ module _ {A : Type 0} (Fits : A → Type 0) (item : A → Item) (gives : View �
   strict_only (Ok w) v given same = ((law b w bytes fits).exact.0 given).1 ∙ ap encoding same
   strict_only (Err e) v given same = absurd same
 
+  pub strict_whole : (r : Result A DecoderError) → IfOk r (λ w. gives (strict_view_of b) w) → IfOk r (λ w. Fits w × (b ≡ encoding (item w)))
+  strict_whole (Ok w) given = (law b w bytes fits).exact.0 given
+  strict_whole (Err e) given = tt
+
+  -- the fault is one of bytes
+  pub strict_fault_of : (r : Result A DecoderError) (M : DecoderError → Type 0) → IfErr r (λ e. faults (strict_view_of b) e ⊎ M e)
+      → IfErr r (λ e. (AreBytes b × faults (strict_view_of b) e) ⊎ M e)
+  strict_fault_of (Ok w) M faulty = tt
+  strict_fault_of (Err e) M (inl fault) = inl (bytes, fault)
+  strict_fault_of (Err e) M (inr memory) = inr memory
+
   pub strict_alike : (r : Result A DecoderError) (v : A) → b ≡ encoding (item v) → IfOk r (λ w. gives (strict_view_of b) w)
       → IfOk r (λ w. Fits w × (item w ≡ item v))
   strict_alike (Ok w) v whole given = let (fit, is) = (law b w bytes fits).exact.0 given in (fit, whole_same (item w) (item v) b fits is whole)

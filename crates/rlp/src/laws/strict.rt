@@ -1,6 +1,6 @@
 //! Views of both kinds. Strict reading gives a value exactly for its whole encoding.
 
-ghost use Rattle.std.specs.Prelude.{◌≡◌, ◌+◌, ◌<◌, ◌^◌, ◌↔◌, ℕ, List, All, if◌then◌else◌, length, Ok, Err, Some, None, IfErr, IfOk, IsOkAnd, map};
+ghost use Rattle.std.specs.Prelude.{◌≡◌, ◌+◌, ◌<◌, ◌^◌, ◌↔◌, ◌⊎◌, ℕ, List, All, if◌then◌else◌, length, Ok, Err, Some, None, IfErr, IfOk, IsOkAnd, map};
 ghost use Rattle.rlp_format.specs.declared.error.DecoderError.TheVariants.{OutOfMemory, RlpExpectedToBeList, RlpIsTooBig};
 ghost use Rattle.rlp_format.specs.Format.Encoding.{BeginsWith, encoding};
 ghost use Rattle.rlp_format.specs.Format.WrittenHeader.{AreBytes};
@@ -20,9 +20,14 @@ use rlp_format::error::DecoderError;
 use rlp_streams::Encodable;
 use std::alloc::Global;
 
-/// The value that is read strictly. It is alike to a value that fits exactly if the bytes are the
-/// encoding of that value. If they are, the call fails only if memory runs out.
+/// The value that is read strictly. It fits, and the bytes are its encoding. It is alike to a value
+/// that fits exactly if the bytes are the encoding of that value. If they are, the call fails only
+/// if memory runs out.
 pub fn strictly_decoded<T: StrictRead>(alloc: Global, bytes: &[u8]) -> Result<T, DecoderError>
+    ensures whole { IfOk result (λ w. T.fits w × (bytes.now ≡ encoding (T.item w))) }
+    ensures fault { IfErr result
+        (λ e. (AreBytes bytes.now × T.faults (strict_view_of bytes.now) e) ⊎ ((e ≡ OutOfMemory)
+        × T.may_lack_memory (strict_view_of bytes.now))) }
     ensures only { (v : T) → IsOkAnd result (λ w. AreAlike T.item w v)
         → bytes.now ≡ encoding (T.item v) }
     ensures alike { (v : T) → T.fits v → bytes.now ≡ encoding (T.item v)

@@ -1,0 +1,131 @@
+//! Transactions of every type.
+
+ghost use Rattle.std.specs.Prelude.{◌≡◌, ◌⊎◌, IfErr, IfOk, OnOk};
+ghost use Rattle.rlp.specs.DecoderError.TheVariants.{OutOfMemory};
+ghost use Rattle.rlp_ethereum.specs.Transaction.{FaultsAlone, MayLackAlone, bytes_alone, transaction};
+
+use crate::envelope::{ACCESS_LIST_TYPE, FEE_MARKET_TYPE, to_envelope};
+use crate::{AccessListTransaction, FeeMarketTransaction, LegacyTransaction};
+use bytes::BytesMut;
+use rlp::{
+    Decodable, DecoderError, Encodable, Envelope, Rlp, RlpStream, RoundTrip, StrictRead,
+    append_envelope, laws,
+};
+use std::alloc::{AllocError, Global};
+
+/// A signed transaction, as in the list of a block's transactions: a legacy transaction is a list,
+/// and a typed one is the string of its envelope, as in EIP-2718.
+#[derive(Drop)]
+pub enum Transaction {
+    /// A transaction without a type.
+    Legacy(LegacyTransaction),
+    /// A transaction of type 1.
+    AccessList(AccessListTransaction),
+    /// A transaction of type 2.
+    FeeMarket(FeeMarketTransaction),
+}
+
+impl Transaction {
+    /// Returns the bytes of the transaction by itself, as it is sent and hashed: the encoding of a
+    /// legacy transaction, or the byte of the type and the encoding of the payload.
+    pub fn to_bytes(&self, alloc: Global) -> Result<BytesMut, AllocError>
+        ensures fits { OnOk result (transaction.Fits self.now) }
+        ensures bytes { IfOk result (λ b. b.items ≡ bytes_alone (transaction.item self.now)) }
+    {
+        match self {
+            Transaction::Legacy(payload) => rlp::encode(alloc, payload),
+            Transaction::AccessList(payload) => to_envelope(alloc, ACCESS_LIST_TYPE, payload),
+            Transaction::FeeMarket(payload) => to_envelope(alloc, FEE_MARKET_TYPE, payload),
+        }
+    }
+
+    /// Reads a transaction strictly from its bytes, as [`Transaction::to_bytes`] returns them.
+    ///
+    /// Fails with `Custom("unknown transaction type")` for a first byte below `0xc0` that is no
+    /// type, with `RlpIsTooShort` if there are no bytes, and else with the strict fault of the
+    /// payload.
+    #[tactic(auto, using(rlp::proofs::Envelopes::envelope_bytes))]
+    pub fn from_bytes(alloc: Global, bytes: &[u8]) -> Result<Transaction, DecoderError>
+        ensures value { IfOk result (λ t. transaction.Fits t
+            × (bytes.now ≡ bytes_alone (transaction.item t))) }
+        ensures fault { IfErr result (λ e. (FaultsAlone bytes.now e) ⊎ ((e ≡ OutOfMemory)
+            × MayLackAlone bytes.now)) }
+    {
+        if Rlp::new(bytes).is_list() {
+            return match laws::strictly_decoded(alloc, bytes) {
+                Ok(legacy) => Ok(Transaction::Legacy(legacy)),
+                Err(fault) => Err(fault),
+            };
+        }
+        let envelope = Envelope::split(bytes)?;
+        match envelope.tag {
+            ACCESS_LIST_TYPE => match envelope.decode(alloc) {
+                Ok(payload) => Ok(Transaction::AccessList(payload)),
+                Err(fault) => Err(fault),
+            },
+            FEE_MARKET_TYPE => match envelope.decode(alloc) {
+                Ok(payload) => Ok(Transaction::FeeMarket(payload)),
+                Err(fault) => Err(fault),
+            },
+            _ => Err(DecoderError::Custom("unknown transaction type")),
+        }
+    }
+}
+
+impl Encodable for Transaction {
+    ghost use Rattle.rlp_ethereum.specs.Transaction.{transaction};
+
+    ghost item = { transaction.item };
+
+    ghost fits = { transaction.Fits };
+
+    fn rlp_append(&self, s: &mut RlpStream) -> Result<(), AllocError> {
+        match self {
+            Transaction::Legacy(payload) => payload.rlp_append(s),
+            Transaction::AccessList(payload) => append_envelope(s, ACCESS_LIST_TYPE, payload),
+            Transaction::FeeMarket(payload) => append_envelope(s, FEE_MARKET_TYPE, payload),
+        }
+    }
+}
+
+impl Decodable for Transaction {
+    ghost use Rattle.rlp_ethereum.specs.Transaction.{transaction};
+
+    ghost gives = { transaction.gives };
+
+    ghost faults = { transaction.faults };
+
+    ghost may_lack_memory = { transaction.may_lack };
+
+    #[tactic(auto, using(rlp::proofs::Envelopes::envelopes))]
+    fn decode(alloc: Global, rlp: &Rlp<'_>) -> Result<Transaction, DecoderError> {
+        if rlp.is_list() {
+            let legacy = rlp.as_val(alloc)?;
+            return Ok(Transaction::Legacy(legacy));
+        }
+        let envelope = Envelope::of(rlp)?;
+        match envelope.tag {
+            ACCESS_LIST_TYPE => match envelope.decode(alloc) {
+                Ok(payload) => Ok(Transaction::AccessList(payload)),
+                Err(fault) => Err(fault),
+            },
+            FEE_MARKET_TYPE => match envelope.decode(alloc) {
+                Ok(payload) => Ok(Transaction::FeeMarket(payload)),
+                Err(fault) => Err(fault),
+            },
+            _ => Err(DecoderError::Custom("unknown transaction type")),
+        }
+    }
+}
+
+impl RoundTrip for Transaction {
+    ghost use Rattle.rlp_ethereum.specs.Transaction.{transaction};
+
+    ghost round_trip = { transaction.reads_back };
+}
+
+impl StrictRead for Transaction {
+    ghost use Rattle.rlp_ethereum.specs.Transaction.{transaction};
+
+    ghost strict = { transaction.reads_strictly };
+}

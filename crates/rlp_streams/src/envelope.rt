@@ -1,0 +1,37 @@
+//! Strings that hold a tag and the encoding of a payload.
+
+ghost use Rattle.std.specs.Prelude.{◌≡◌, ◌∷◌, OnOk, OnErr};
+ghost use Rattle.rlp_format.specs.Format.Encoding.{encoding};
+ghost use Rattle.rlp_format.specs.Format.Item.{string};
+ghost use Rattle.rlp_buffer.specs.Streams.Stream.{Retains, put_item};
+ghost use Rattle.rlp_streams.specs.Streams.Growth.{GrowsTo};
+
+use crate::stream::RlpStream;
+use crate::traits::Encodable;
+use bytes::{BufMut, BytesMut};
+use std::alloc::AllocError;
+
+/// Writes the string of the byte `tag` and the encoding of `payload`, as in EIP-2718. Use it in
+/// [`Encodable::rlp_append`] of a type whose values are such strings.
+///
+/// The payload is written into a buffer of its own first. Fails with `AllocError` if memory is
+/// refused, or if the [`Encodable::rlp_append`] of the payload fails.
+#[tactic(auto, using(crate::proofs::Streams::Filling::filling))]
+pub fn append_envelope<T: Encodable>(
+    s: &mut RlpStream,
+    tag: u8,
+    payload: &T,
+) -> Result<(), AllocError>
+    ensures fits { OnOk result (T.fits payload.now) }
+    ensures ok { OnOk result
+        (s.new.state ≡ put_item (string (tag ∷ encoding (T.item payload.now))) s.old.state) }
+    ensures refused { OnErr result (GrowsTo s.old.state s.new.state) }
+    ensures retains { Retains s.old s.new }
+{
+    let mut buffer = BytesMut::new(s.allocator());
+    buffer.put_u8(tag)?;
+    let mut envelope = RlpStream::new_with_buffer(s.allocator(), buffer);
+    envelope.append(payload)?;
+    let bytes = envelope.out();
+    s.encoder().encode_value(bytes.as_slice())
+}
