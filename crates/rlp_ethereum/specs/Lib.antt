@@ -10,6 +10,7 @@ pub mod Hash
 pub mod Header
 pub mod LegacyTransaction
 pub mod Log
+pub mod Messages
 pub mod Receipt
 pub mod Recipient
 pub mod SetCodeTransaction

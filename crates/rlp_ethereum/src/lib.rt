@@ -17,6 +17,7 @@ mod hash;
 mod header;
 mod legacy_transaction;
 mod log;
+pub mod messages;
 mod receipt;
 mod recipient;
 mod set_code_transaction;
