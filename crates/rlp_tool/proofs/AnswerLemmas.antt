@@ -19,7 +19,7 @@ use Rattle.rlp_tool.specs.Building.{AreRefused, AreTaken, BringsItems, BringsNoI
 use Rattle.rlp_tool.specs.Building.{IsBuilt, IsRefusal}
 use Rattle.rlp_tool.specs.RawItems.{IsShallow, are_raw_items}
 use Rattle.rlp_tool.specs.Script.{script}
-use Rattle.rlp_tool.specs.Answer.{SaysCalls, answer, answer_within, brings_items, longest_line, text_answer, finished_answer, open_answer}
+use Rattle.rlp_tool.specs.Answer.{SaysCalls, answer, answer_by, answer_within, brings_items, longest_line, text_answer, finished_answer, open_answer}
 use Rattle.rlp_tool.specs.Answer.{state_answer, refusal_name, outcome_answer, calls_answer, AppendsOutcome}
 use Rattle.rlp_tool.proofs.CallsLemmas.{Leaves}
 use Rattle.rlp_tool.proofs.SaidLemmas.{EndFinished, end_finished, length-stripped, script_said}
@@ -189,7 +189,7 @@ answer-script (Err x) built text calls old new is t b f e = tt
 
 -- the answer to a line of calls is the result of the calls
 pub answer-calls : (line : List ℕ) (calls : List Call) → SaysCalls line calls → answer line ≡ outcome_answer 1 (initial_state []) calls
-unfolding answer
+unfolding answer_by
 answer-calls line calls says =
     let short : nat_lt longest_line (length line) ≡ false = let within = says.within in grind (arith, nat_tests) in
     cond-false (nat_lt longest_line (length line)) (codes "error long line") (answer_within line) short ∙ ap text_answer says.stripped

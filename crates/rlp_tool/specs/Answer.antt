@@ -86,9 +86,13 @@ text_answer (b ∷ rest) = if b == byte "+" then calls_answer (script rest) else
 abbrev pub answer_within : List ℕ → List ℕ
 answer_within line = text_answer (strip_carriage_return line)
 
+-- the answer to any line, by that to a line that isn't too long
+unfoldable pub answer_by : (List ℕ → List ℕ) → List ℕ → List ℕ
+answer_by within line = if nat_lt longest_line (length line) then codes "error long line" else within line
+
 -- the answer to a line
-unfoldable pub answer : List ℕ → List ℕ
-answer line = if nat_lt longest_line (length line) then codes "error long line" else answer_within line
+abbrev pub answer : List ℕ → List ℕ
+answer = answer_by answer_within
 
 -- a line that isn't too long has these calls: without one carriage return at its end, it is a `+` and a script of them
 pub record SaysCalls (line : List ℕ) (calls : List Call) : Type 0 where

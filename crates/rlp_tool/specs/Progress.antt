@@ -18,17 +18,17 @@ IsLine kept false begun = kept ≡ begun
 IsLine kept true begun = longest_line < length begun
 
 -- the state after a text: some replies were written, the others wait, and the last piece is kept
-pub record IsAfter (text written waiting kept : List ℕ) (over : Bool) : Type 0 where
-  pub answered : written ++ waiting ≡ replies_to (ended_lines text)
+pub record IsAfter (answer : List ℕ → List ℕ) (text written waiting kept : List ℕ) (over : Bool) : Type 0 where
+  pub answered : written ++ waiting ≡ replies_to answer (ended_lines text)
   pub line : IsLine kept over (last_piece text)
 
 -- the state after a text: all its ended lines were answered, and the last piece is kept
-pub record IsServed (start now : Option (List ℕ)) (text kept : List ℕ) (over : Bool) : Type 0 where
-  pub wrote : Appends start now (replies_to (ended_lines text))
+pub record IsServed (answer : List ℕ → List ℕ) (start now : Option (List ℕ)) (text kept : List ℕ) (over : Bool) : Type 0 where
+  pub wrote : Appends start now (replies_to answer (ended_lines text))
   pub line : IsLine kept over (last_piece text)
 
 -- how the answers to a text stop: out of memory, the whole replies to the lines before the refused one were written;
 -- a writer that failed has a beginning of the replies
-abbrev pub IsStop : RunFault → Option (List ℕ) → Option (List ℕ) → List ℕ → List ℕ → Bool → Type 0
-IsStop fault start new earlier text failed =
-    ((fault ≡ Memory) × AppendsBefore start new earlier text) ⊎ ((fault ≡ Write) × AppendsPart start new (replies text) × (failed ≡ true))
+abbrev pub IsStop : (List ℕ → List ℕ) → RunFault → Option (List ℕ) → Option (List ℕ) → List ℕ → List ℕ → Bool → Type 0
+IsStop answer fault start new earlier text failed =
+    ((fault ≡ Memory) × AppendsBefore answer start new earlier text) ⊎ ((fault ≡ Write) × AppendsPart start new (replies answer text) × (failed ≡ true))

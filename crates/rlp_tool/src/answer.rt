@@ -32,7 +32,7 @@ pub(crate) fn answer_within(alloc: Global, line: &[u8], out: &mut String) -> Res
 }
 
 /// The line without one carriage return at its end.
-fn without_carriage_return(line: &[u8]) -> &[u8]
+pub fn without_carriage_return(line: &[u8]) -> &[u8]
     ensures { result.now ≡ strip_carriage_return line.now }
 {
     match line {

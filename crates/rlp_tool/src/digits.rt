@@ -29,9 +29,9 @@ fn are_digits(text: &[u8]) -> bool
     text.iter().all(|byte| byte.is_ascii_hexdigit())
 }
 
-/// The bytes of a text of digits. Returns `None` if the text isn't digits.
-/// Fails with `AllocError` if it is out of memory.
-pub(crate) fn read_bytes(alloc: Global, text: &[u8]) -> Result<Option<Vec<u8>>, AllocError>
+/// The bytes of a text of hexadecimal digits of either case, two for each byte, after an optional
+/// `0x`. Returns `None` if the text isn't digits. Fails with `AllocError` if memory is refused.
+pub fn read_bytes(alloc: Global, text: &[u8]) -> Result<Option<Vec<u8>>, AllocError>
     ensures gives { IfOk result (λ read. option_map (λ v. v.items) read ≡ bytes_in text.now) }
     ensures refused { OnErr result (IsSomeAnd (bytes_in text.now) (λ bytes. bytes ≢ [])) }
 {
@@ -103,8 +103,9 @@ fn push_few(bytes: &[u8], out: &mut String) -> Result<(), AllocError>
     }
 }
 
-/// Appends each byte as two lower-case digits.
-pub(crate) fn push_bytes(bytes: &[u8], out: &mut String) -> Result<(), AllocError>
+/// Appends each byte as two lower-case hexadecimal digits. Fails with `AllocError` if memory is
+/// refused.
+pub fn push_bytes(bytes: &[u8], out: &mut String) -> Result<(), AllocError>
     ensures { OnOk result
         (string_bytes out.new ≡ string_bytes out.old ++ encode_lower bytes.now) }
 {

@@ -2,6 +2,7 @@
 #![tactic(auto)]
 
 mod answer;
+mod answering;
 mod building;
 mod calls;
 mod digits;
@@ -13,9 +14,12 @@ mod serving;
 mod status;
 mod strings;
 
+pub use answer::without_carriage_return;
+pub use answering::LineAnswers;
 pub use building::{BuildFault, Built, build};
 pub use calls::StreamCall;
+pub use digits::{push_bytes, read_bytes};
 pub use noted::Noted;
 pub use script::{ScriptFault, read_calls};
-pub use serving::{RunFault, run};
+pub use serving::{RunFault, answer_lines, run};
 pub use status::exit_status;

@@ -1,12 +1,12 @@
 //! The current line of the input.
 ghost use Rattle.std.specs.Prelude.{◌≡◌, ◌++◌, ◌+◌, ◌≢◌, ◌<◌, ◌≤◌, ◌==◌, ℕ, List, [], ◌∷◌, length, position, string_bytes, OnOk, OnErr, IsTrue, ◌↔◌};
-ghost use Rattle.rlp_tool.specs.Answer.{answer};
+ghost use Rattle.rlp_tool.specs.Answer.{answer_by};
 ghost use Rattle.rlp_tool.specs.Replies.{reply, replies_to};
 ghost use Rattle.rlp_tool.specs.Lines.{last_piece, unended_line};
 ghost use Rattle.rlp_tool.specs.Progress.{IsOnePiece, IsLine, IsAfter};
 ghost use Rattle.rlp_tool.specs.Run.{AreRepliesBefore};
 
-use crate::answer::answer_within;
+use crate::answering::LineAnswers;
 use memchr::memchr;
 use std::alloc::{AllocError, Global};
 
@@ -51,25 +51,25 @@ impl Line {
     }
 
     /// Builds the answer in the buffer for replies.
-    #[tactic(auto, unfolding(crate::specs::Answer::answer))]
-    fn put_answer(&mut self, alloc: Global) -> Result<(), AllocError>
+    #[tactic(auto, unfolding(crate::specs::Answer::answer_by))]
+    fn put_answer<A: LineAnswers>(&mut self, alloc: Global) -> Result<(), AllocError>
         ensures { (begun : List ℕ) → IsLine self.old.bytes.items self.old.over begun
-            → OnOk result (string_bytes self.new.reply ≡ answer begun) }
+            → OnOk result (string_bytes self.new.reply ≡ answer_by A.answer_within begun) }
     {
         self.reply.clear();
         if self.over {
             return self.reply.push_str("error long line");
         }
-        answer_within(alloc, self.bytes.as_slice(), &mut self.reply)
+        A::put_answer(alloc, self.bytes.as_slice(), &mut self.reply)
     }
 
     /// Appends the answer and a newline, or nothing.
-    fn reply(&mut self, alloc: Global, out: &mut String) -> Result<(), AllocError>
+    fn reply<A: LineAnswers>(&mut self, alloc: Global, out: &mut String) -> Result<(), AllocError>
         ensures ok { (begun : List ℕ) → IsLine self.old.bytes.items self.old.over begun
-            → OnOk result (string_bytes out.new ≡ string_bytes out.old ++ reply begun) }
+            → OnOk result (string_bytes out.new ≡ string_bytes out.old ++ reply (answer_by A.answer_within) begun) }
         ensures refused { OnErr result (string_bytes out.new ≡ string_bytes out.old) }
     {
-        self.put_answer(alloc)?;
+        self.put_answer::<A>(alloc)?;
         self.reply.push('\n')?;
         out.push_str(self.reply.as_str())
     }
@@ -89,41 +89,46 @@ impl Line {
     }
 
     /// Adds the last bytes of the line, and appends the reply.
-    fn end(&mut self, alloc: Global, run: &[u8], out: &mut String) -> Result<(), AllocError>
+    fn end<A: LineAnswers>(
+        &mut self,
+        alloc: Global,
+        run: &[u8],
+        out: &mut String,
+    ) -> Result<(), AllocError>
         ensures ok { (text written : List ℕ)
-            → IsAfter text written (string_bytes out.old) self.old.bytes.items self.old.over
+            → IsAfter (answer_by A.answer_within) text written (string_bytes out.old) self.old.bytes.items self.old.over
             → IsOnePiece run.now
-            → OnOk result (IsAfter (text ++ run.now ++ 10 ∷ []) written (string_bytes out.new)
+            → OnOk result (IsAfter (answer_by A.answer_within) (text ++ run.now ++ 10 ∷ []) written (string_bytes out.new)
             self.new.bytes.items self.new.over) }
         ensures refused { OnErr result (string_bytes out.new ≡ string_bytes out.old) }
     {
         self.extend(run)?;
-        self.reply(alloc, out)?;
+        self.reply::<A>(alloc, out)?;
         self.clear();
         Ok(())
     }
 
     /// Takes bytes, and appends the replies to the lines that end in them. It stops at the first
     /// line for which memory is refused.
-    pub(crate) fn feed(
+    pub(crate) fn feed<A: LineAnswers>(
         &mut self,
         alloc: Global,
         bytes: &[u8],
         out: &mut String,
     ) -> Result<(), AllocError>
         ensures ok { (text written : List ℕ)
-            → IsAfter text written (string_bytes out.old) self.old.bytes.items self.old.over
-            → OnOk result (IsAfter (text ++ bytes.now) written (string_bytes out.new)
+            → IsAfter (answer_by A.answer_within) text written (string_bytes out.old) self.old.bytes.items self.old.over
+            → OnOk result (IsAfter (answer_by A.answer_within) (text ++ bytes.now) written (string_bytes out.new)
             self.new.bytes.items self.new.over) }
         ensures refused { (text written : List ℕ)
-            → IsAfter text written (string_bytes out.old) self.old.bytes.items self.old.over
-            → OnErr result (AreRepliesBefore text (text ++ bytes.now)
+            → IsAfter (answer_by A.answer_within) text written (string_bytes out.old) self.old.bytes.items self.old.over
+            → OnErr result (AreRepliesBefore (answer_by A.answer_within) text (text ++ bytes.now)
             (written ++ string_bytes out.new)) }
     {
         let mut rest = bytes;
         while let Some(at) = newline_at(rest) {
             let (run, others) = rest.split_at(at);
-            self.end(alloc, run, out)?;
+            self.end::<A>(alloc, run, out)?;
             rest = &others[1..];
         }
         self.extend(rest)
@@ -131,17 +136,21 @@ impl Line {
 
     /// Appends the reply to the last line, if it isn't empty.
     #[tactic(auto, using(crate::proofs::ProgressLemmas::last_line))]
-    pub(crate) fn finish(&mut self, alloc: Global, out: &mut String) -> Result<(), AllocError>
+    pub(crate) fn finish<A: LineAnswers>(
+        &mut self,
+        alloc: Global,
+        out: &mut String,
+    ) -> Result<(), AllocError>
         ensures ok { (text : List ℕ) → IsLine self.old.bytes.items self.old.over (last_piece text)
             → OnOk result (string_bytes out.new
-            ≡ string_bytes out.old ++ replies_to (unended_line text)) }
+            ≡ string_bytes out.old ++ replies_to (answer_by A.answer_within) (unended_line text)) }
         ensures refused { (begun : List ℕ) → IsLine self.old.bytes.items self.old.over begun
             → OnErr result (begun ≢ []) }
     {
         if self.is_empty() {
             return Ok(());
         }
-        self.reply(alloc, out)
+        self.reply::<A>(alloc, out)
     }
 }
 

@@ -1,10 +1,12 @@
 //! The loop over the input.
 ghost use Rattle.std.specs.Prelude.{◌≡◌, ◌-◌, ◌^◌, ◌++◌, ◌<◌, ◌⊎◌, ℕ, List, OnOk, OnErr, IfErr, Option, string_bytes, true, false};
 ghost use Rattle.std.specs.Io.KnownBytes.{Appends};
+ghost use Rattle.rlp_tool.specs.Answer.{answer, answer_by};
 ghost use Rattle.rlp_tool.specs.Replies.{replies};
 ghost use Rattle.rlp_tool.specs.Progress.{IsServed, IsStop};
 ghost use Rattle.rlp_tool.specs.Run.{AppendsPart, AnswersAll, AnswersBefore, AnswersEnded, AnswersPart};
 
+use crate::answering::{LineAnswers, ToolAnswers};
 use crate::line::Line;
 use crate::noted::Noted;
 use std::alloc::Global;
@@ -80,7 +82,7 @@ fn write_last<W: Write>(output: &mut Noted<W>, bytes: &[u8]) -> Result<(), RunFa
 
 /// Answers the lines that end in these bytes. It stops at the first line for which memory is
 /// refused.
-fn serve<W: Write>(
+fn serve<A: LineAnswers, W: Write>(
     alloc: Global,
     line: &mut Line,
     answers: &mut String,
@@ -88,13 +90,13 @@ fn serve<W: Write>(
     bytes: &[u8],
 ) -> Result<(), RunFault>
     ensures ok { (start : Option (List ℕ)) (text : List ℕ)
-        → IsServed start (W.contents output.old.inner) text line.old.bytes.items line.old.over
-        → OnOk result (IsServed start (W.contents output.new.inner) (text ++ bytes.now)
+        → IsServed (answer_by A.answer_within) start (W.contents output.old.inner) text line.old.bytes.items line.old.over
+        → OnOk result (IsServed (answer_by A.answer_within) start (W.contents output.new.inner) (text ++ bytes.now)
         line.new.bytes.items line.new.over) }
     ensures kept { OnOk result (output.new.failed ≡ output.old.failed) }
     ensures stop { (start : Option (List ℕ)) (text : List ℕ)
-        → IsServed start (W.contents output.old.inner) text line.old.bytes.items line.old.over
-        → IfErr result (λ fault. IsStop fault start
+        → IsServed (answer_by A.answer_within) start (W.contents output.old.inner) text line.old.bytes.items line.old.over
+        → IfErr result (λ fault. IsStop (answer_by A.answer_within) fault start
         (W.contents output.new.inner) text (text ++ bytes.now) output.new.failed) }
 
     // The finished replies are written even if memory was refused after them.
@@ -102,7 +104,7 @@ fn serve<W: Write>(
         (W.contents output.new.inner) (string_bytes answers.new) }
 {
     answers.clear();
-    match line.feed(alloc, bytes, answers) {
+    match line.feed::<A>(alloc, bytes, answers) {
         Ok(()) => write_whole(output, answers.as_bytes()),
         Err(_) => match write_whole(output, answers.as_bytes()) {
             Ok(()) => Err(RunFault::Memory),
@@ -112,35 +114,36 @@ fn serve<W: Write>(
 }
 
 /// Answers a last line without a newline, and flushes.
-fn finish<W: Write>(
+fn finish<A: LineAnswers, W: Write>(
     alloc: Global,
     line: &mut Line,
     answers: &mut String,
     output: &mut Noted<W>,
 ) -> Result<(), RunFault>
     ensures ok { (start : Option (List ℕ)) (text : List ℕ)
-        → IsServed start (W.contents output.old.inner) text line.old.bytes.items line.old.over
-        → OnOk result (Appends start (W.contents output.new.inner) (replies text)) }
+        → IsServed (answer_by A.answer_within) start (W.contents output.old.inner) text line.old.bytes.items line.old.over
+        → OnOk result (Appends start (W.contents output.new.inner) (replies (answer_by A.answer_within) text)) }
     ensures kept { OnOk result (output.new.failed ≡ output.old.failed) }
     ensures flushed { OnOk result (output.new.flushed ≡ true) }
     ensures stop { (start : Option (List ℕ)) (text : List ℕ)
-        → IsServed start (W.contents output.old.inner) text line.old.bytes.items line.old.over
-        → IfErr result (λ fault. IsStop fault start
+        → IsServed (answer_by A.answer_within) start (W.contents output.old.inner) text line.old.bytes.items line.old.over
+        → IfErr result (λ fault. IsStop (answer_by A.answer_within) fault start
         (W.contents output.new.inner) text text output.new.failed) }
 {
     answers.clear();
-    match line.finish(alloc, answers) {
+    match line.finish::<A>(alloc, answers) {
         Ok(()) => write_last(output, answers.as_bytes()),
         Err(_) => Err(RunFault::Memory),
     }
 }
 
-/// Answers each line of the input, until its end.
+/// Answers each line of the input as `A` says, until its end. The answer to a line of more than
+/// 131,072 bytes is `error long line`.
 ///
 /// Fails with the fault that stopped it. It has written whole answers only, except after `Write`.
 /// After `Memory` it has written the answers to exactly the lines before some line, which had not
 /// ended before the last read.
-pub fn run<R: Read, W: Write>(
+pub fn answer_lines<A: LineAnswers, R: Read, W: Write>(
     alloc: Global,
     input: &mut Noted<R>,
     output: &mut Noted<W>,
@@ -150,22 +153,22 @@ pub fn run<R: Read, W: Write>(
 
     // At the end of the input, all lines are answered, the output is flushed, and neither device
     // has failed.
-    ensures ok { OnOk result (AnswersAll
+    ensures ok { OnOk result (AnswersAll (answer_by A.answer_within)
         (R.remaining input.old.inner) (R.remaining input.new.inner)
         (W.contents output.old.inner) (W.contents output.new.inner)) }
     ensures faultless { OnOk result ((input.new.failed ≡ false) × (output.new.failed ≡ false)) }
     ensures flushed { OnOk result (output.new.flushed ≡ true) }
 
     // What was written before each fault, and which device has failed.
-    ensures memory { result ≡ Err RunFault.Memory → AnswersBefore
+    ensures memory { result ≡ Err RunFault.Memory → AnswersBefore (answer_by A.answer_within)
         (R.remaining input.old.inner) (R.remaining input.new.inner)
         (W.contents output.old.inner) (W.contents output.new.inner) }
-    ensures read { result ≡ Err RunFault.Read → AnswersEnded
+    ensures read { result ≡ Err RunFault.Read → AnswersEnded (answer_by A.answer_within)
         (R.remaining input.old.inner) (R.remaining input.new.inner)
         (W.contents output.old.inner) (W.contents output.new.inner) }
     ensures read_only { result ≡ Err RunFault.Read → (input.new.failed ≡ true)
         ⊎ (input.new.reads ≡ 2 ^ 64 - 1) }
-    ensures write { result ≡ Err RunFault.Write → AnswersPart
+    ensures write { result ≡ Err RunFault.Write → AnswersPart (answer_by A.answer_within)
         (R.remaining input.old.inner) (R.remaining input.new.inner)
         (W.contents output.old.inner) (W.contents output.new.inner) }
     ensures write_only { result ≡ Err RunFault.Write → output.new.failed ≡ true }
@@ -179,12 +182,47 @@ pub fn run<R: Read, W: Write>(
             Err(_) => return Err(RunFault::Read),
         };
         if count == 0 {
-            return finish(alloc, &mut line, &mut answers, output);
+            return finish::<A, W>(alloc, &mut line, &mut answers, output);
         }
         let chunk = &buffer[..count];
-        if let Err(fault) = serve(alloc, &mut line, &mut answers, output, chunk) {
+        if let Err(fault) = serve::<A, W>(alloc, &mut line, &mut answers, output, chunk) {
             return Err(fault);
         }
     }
     Err(RunFault::Read)
+}
+
+/// Answers each line of the input, a line of digits or of calls, until its end. Fails as
+/// [`answer_lines`] does.
+pub fn run<R: Read, W: Write>(
+    alloc: Global,
+    input: &mut Noted<R>,
+    output: &mut Noted<W>,
+) -> Result<(), RunFault>
+    requires input { input.old.failed ≡ false }
+    requires output { output.old.failed ≡ false }
+
+    // At the end of the input, all lines are answered, the output is flushed, and neither device
+    // has failed.
+    ensures ok { OnOk result (AnswersAll answer
+        (R.remaining input.old.inner) (R.remaining input.new.inner)
+        (W.contents output.old.inner) (W.contents output.new.inner)) }
+    ensures faultless { OnOk result ((input.new.failed ≡ false) × (output.new.failed ≡ false)) }
+    ensures flushed { OnOk result (output.new.flushed ≡ true) }
+
+    // What was written before each fault, and which device has failed.
+    ensures memory { result ≡ Err RunFault.Memory → AnswersBefore answer
+        (R.remaining input.old.inner) (R.remaining input.new.inner)
+        (W.contents output.old.inner) (W.contents output.new.inner) }
+    ensures read { result ≡ Err RunFault.Read → AnswersEnded answer
+        (R.remaining input.old.inner) (R.remaining input.new.inner)
+        (W.contents output.old.inner) (W.contents output.new.inner) }
+    ensures read_only { result ≡ Err RunFault.Read → (input.new.failed ≡ true)
+        ⊎ (input.new.reads ≡ 2 ^ 64 - 1) }
+    ensures write { result ≡ Err RunFault.Write → AnswersPart answer
+        (R.remaining input.old.inner) (R.remaining input.new.inner)
+        (W.contents output.old.inner) (W.contents output.new.inner) }
+    ensures write_only { result ≡ Err RunFault.Write → output.new.failed ≡ true }
+{
+    answer_lines::<ToolAnswers, R, W>(alloc, input, output)
 }

@@ -1,9 +1,10 @@
+use Rattle.rlp_tool.specs.Answer.{answer_by}
 use Rattle.rlp_tool.specs.Lines.{last_piece}
 use Rattle.std.proofs.Common.{◌++◌}
 use Rattle.rlp_tool.proofs.ProgressLemmas.{IsAfter-line}
 use Rattle.rlp_tool.proofs.line.Line.end.Goals as goal
 
 pub returns-clause-ok : goal.returns-clause-ok
-returns-clause-ok c text written before one =
-    IsAfter-line c.args.run.now before one (c.in_ok-reply.ensures.ok (last_piece text ++ c.args.run.now)
+returns-clause-ok g c text written before one =
+    IsAfter-line (answer_by g.A.LineAnswers.answer_within) c.args.run.now before one (c.in_ok-reply.ensures.ok (last_piece text ++ c.args.run.now)
     (c.in_ok-extend.ensures.ok (last_piece text) before.line)) c.clear.ensures

@@ -1,0 +1,171 @@
+-- What the types of `rlp` give and fault, and what is shown of them.
+use Rattle.std.proofs.Common.{◌≡◌, ◌==◌, ◌&&◌, Bool, true, false, codes, ◌*◌, ℕ, zero, suc, ⊎_elim, ◌^◌, ◌<◌, ◌≤◌, List, [], ◌∷◌, length, refl, sym, ap, ◌∙◌, subst, arith, Ok, Err, nat_lt}
+use Rattle.std.proofs.Common.{le-ltb, lt-ltb}
+use Rattle.std.specs.Int.Digits.{number_from_digits}
+use Rattle.std.proofs.lemmas.Bool.{cases_lt, cond-true, cond-false}
+use Rattle.std.proofs.lemmas.Bool.Decides.{nat_tests}
+use Rattle.rlp.specs.DecoderError.{DecoderError}
+use Rattle.rlp.specs.DecoderError.TheVariants.{RlpIsTooBig, RlpIsTooShort, RlpInvalidIndirection}
+use Rattle.rlp.specs.Format.Item.{string}
+use Rattle.rlp.specs.Format.WrittenHeader.{big_endian}
+use Rattle.rlp.specs.Values.Value.{FitsBytes, bit}
+use Rattle.rlp.specs.Values.ValueReading.{FaultsAs, no_string, no_value, GivesValue, GivesNumber, FaultsAsNumber, IsDigitsFault, too_long, leading_zero}
+use Rattle.rlp.specs.Values.ValueReading.{IsLengthFault, shorter, longer}
+use Rattle.rlp.specs.Values.ValueReading.{FaultsAsBool, GivesBool, IsCustom, no_number, other_number}
+use Rattle.rlp_ethereum.specs.declared.recipient.Recipient.{Recipient}
+use Rattle.rlp_ethereum.specs.declared.recipient.Recipient.TheVariants.{Creation, Account}
+use Rattle.rlp_ethereum.specs.Recipient.{IsRecipient, IsRecipientFault, recipient_bytes, shorter_recipient, longer_recipient}
+use Rattle.rlp.specs.Views.Text.{error_name}
+use Rattle.rlp.specs.Views.View.{View, HoldsString, view_string}
+use Rattle.rlp.specs.Lemmas.Digits.{big_endian_value}
+use Rattle.rlp.specs.Lemmas.OneReading.{sound_digits}
+use Rattle.rlp.specs.Lemmas.StringsHeld.{held_only}
+use Rattle.rlp_show.specs.Lines.{Shown, line, wrong, named, in_string, string_shape, number, number_in, fixed_bytes, fixed_bytes_in, begins_with_zero}
+use Rattle.rlp_show.specs.Lines.{recipient, recipient_in, truth_value, truth_value_in}
+use Rattle.rlp_show.specs.Text.{bytes_text, number_text}
+
+-- what is shown of the string that a view holds
+shown_string : (text_in : List ℕ → Shown) (name : List ℕ) (v : View) (d : List ℕ) → length v.bytes < 2 ^ 64 → HoldsString v d
+    → string_shape text_in name v ≡ named name (text_in d)
+shown_string text_in name v d few holds = ap (λ r. named name (in_string text_in r)) (held_only v d few holds)
+
+shown_fault : (text_in : List ℕ → Shown) (name : List ℕ) (v : View) (e : DecoderError) → view_string v ≡ Err e
+    → string_shape text_in name v ≡ Err (wrong name (error_name e))
+shown_fault text_in name v e is = ap (λ r. named name (in_string text_in r)) is
+
+-- ---- strings of n bytes
+
+fixed_right : (n : ℕ) (d : List ℕ) → length d ≡ n → fixed_bytes_in n d ≡ Ok (bytes_text d)
+fixed_right n d many = cond-false (nat_lt (length d) n) _ _ (le-ltb _ _ (omega (arith, many))) ∙ cond-false (nat_lt n (length d)) _ _ (le-ltb _ _ (omega (arith, many)))
+
+fixed_wrong : (n : ℕ) (d : List ℕ) (e : DecoderError) → IsLengthFault n d e → fixed_bytes_in n d ≡ Err (error_name e)
+fixed_wrong n d e (shorter few) = cond-true (nat_lt (length d) n) _ _ (lt-ltb _ _ few)
+fixed_wrong n d e (longer many) = cond-false (nat_lt (length d) n) _ _ (le-ltb _ _ (omega arith)) ∙ cond-true (nat_lt n (length d)) _ _ (lt-ltb _ _ many)
+
+pub fixed_given : (n : ℕ) (name : List ℕ) (v : View) (d : List ℕ) → length v.bytes < 2 ^ 64 → GivesValue (λ a. length a ≡ n) string v d
+    → fixed_bytes n name v ≡ Ok (line name (bytes_text d))
+fixed_given n name v d few given = shown_string (fixed_bytes_in n) name v d few given.begins ∙ ap (named name) (fixed_right n d given.fits)
+
+pub fixed_faulty : (n : ℕ) (name : List ℕ) (v : View) (e : DecoderError) → length v.bytes < 2 ^ 64 → FaultsAs (IsLengthFault n) v e
+    → fixed_bytes n name v ≡ Err (wrong name (error_name e))
+fixed_faulty n name v e few (no_string f is) = shown_fault (fixed_bytes_in n) name v f is
+fixed_faulty n name v e few (no_value d f holds faulty) =
+    shown_string (fixed_bytes_in n) name v d few holds ∙ ap (named name) (fixed_wrong n d f faulty)
+
+pub ruleset fixed_strings = (fixed_given, fixed_faulty)
+
+-- ---- numbers
+
+few_by : (width n : ℕ) (d : List ℕ) → d ≡ big_endian n → FitsBytes width n → length d ≤ width
+few_by width n d is fit =
+    ⊎_elim
+    (λ long. absurd (sound_digits width n RlpIsTooBig fit (too_long (subst (λ s. width < length s) is long))))
+    (λ few. few)
+    (cases_lt width (length d))
+
+number_right_by : (width n : ℕ) (d : List ℕ) → d ≡ big_endian n → FitsBytes width n → number_in width d ≡ Ok (number_text n)
+number_right_by width n [] is fit =
+    cond-false (nat_lt width 0) _ _ (le-ltb _ _ (omega arith)) ∙ ap (λ n. Ok (number_text n)) (ap (number_from_digits 256) is ∙ big_endian_value n)
+number_right_by width n (zero ∷ more) is fit =
+    absurd (sound_digits width n RlpInvalidIndirection fit (leading_zero more (few_by width n (big_endian n) refl fit) (sym is)))
+number_right_by width n (suc first ∷ more) is fit =
+    cond-false (nat_lt width (length (suc first ∷ more))) _ _ (le-ltb _ _ (few_by width n (suc first ∷ more) is fit))
+    ∙ cond-false (suc first == 0) _ _ (grind (arith, nat_tests)) ∙ ap (λ n. Ok (number_text n)) (ap (number_from_digits 256) is ∙ big_endian_value n)
+
+number_wrong : (width : ℕ) (d : List ℕ) (e : DecoderError) → IsDigitsFault width d e → number_in width d ≡ Err (error_name e)
+number_wrong width d e (too_long many) = cond-true (nat_lt width (length d)) _ _ (lt-ltb _ _ many)
+number_wrong width d e (leading_zero more few is) =
+    cond-false (nat_lt width (length d)) _ _ (le-ltb _ _ few) ∙ cond-true (begins_with_zero d) _ _ (ap begins_with_zero is)
+
+pub number_given : (width n : ℕ) (name : List ℕ) (v : View) → length v.bytes < 2 ^ 64 → GivesNumber width v n
+    → number width name v ≡ Ok (line name (number_text n))
+number_given width n name v few given =
+    shown_string (number_in width) name v (big_endian n) few given.begins ∙ ap (named name) (number_right_by width n (big_endian n) refl given.fits)
+
+pub number_faulty : (width : ℕ) (name : List ℕ) (v : View) (e : DecoderError) → length v.bytes < 2 ^ 64 → FaultsAsNumber width v e
+    → number width name v ≡ Err (wrong name (error_name e))
+number_faulty width name v e few (no_string f is) = shown_fault (number_in width) name v f is
+number_faulty width name v e few (no_value d f holds faulty) =
+    shown_string (number_in width) name v d few holds ∙ ap (named name) (number_wrong width d f faulty)
+
+pub ruleset number_strings = (number_given, number_faulty)
+
+-- ---- recipients
+
+recipient_right : (r : Recipient) → IsRecipient r → recipient_in (recipient_bytes r) ≡ Ok (bytes_text (recipient_bytes r))
+recipient_right Creation fit = refl
+recipient_right (Account address) fit = by address.0 fit
+  where
+    by : (d : List ℕ) → length d ≡ 20 → recipient_in d ≡ Ok (bytes_text d)
+    by [] many = refl
+    by (c ∷ d) many = fixed_right 20 (c ∷ d) many
+
+recipient_wrong : (d : List ℕ) (e : DecoderError) → IsRecipientFault d e → recipient_in d ≡ Err (error_name e)
+recipient_wrong [] e (shorter_recipient some few) = absurd (omega arith)
+recipient_wrong [] e (longer_recipient many) = absurd (omega arith)
+recipient_wrong (c ∷ d) e (shorter_recipient some few) = fixed_wrong 20 (c ∷ d) RlpIsTooShort (shorter few)
+recipient_wrong (c ∷ d) e (longer_recipient many) = fixed_wrong 20 (c ∷ d) RlpIsTooBig (longer many)
+
+pub recipient_given : (name : List ℕ) (v : View) (r : Recipient) → length v.bytes < 2 ^ 64
+    → GivesValue IsRecipient (λ r. string (recipient_bytes r)) v r → recipient name v ≡ Ok (line name (bytes_text (recipient_bytes r)))
+recipient_given name v r few given =
+    shown_string recipient_in name v (recipient_bytes r) few given.begins ∙ ap (named name) (recipient_right r given.fits)
+
+pub recipient_faulty : (name : List ℕ) (v : View) (e : DecoderError) → length v.bytes < 2 ^ 64 → FaultsAs IsRecipientFault v e
+    → recipient name v ≡ Err (wrong name (error_name e))
+recipient_faulty name v e few (no_string f is) = shown_fault recipient_in name v f is
+recipient_faulty name v e few (no_value d f holds faulty) =
+    shown_string recipient_in name v d few holds ∙ ap (named name) (recipient_wrong d f faulty)
+
+pub ruleset recipient_strings = (recipient_given, recipient_faulty)
+
+-- ---- truth values
+
+-- the test of a truth value
+abbrev is_other : List ℕ → Bool
+is_other d = nat_lt 1 (number_from_digits 256 d) && nat_lt (length d) 2
+
+small_number : (d : List ℕ) → number_from_digits 256 d ≤ 1 → is_other d ≡ false
+small_number d low = grind (arith, nat_tests)
+
+truth_right : (b : Bool) (d : List ℕ) → d ≡ big_endian (bit b) → truth_value_in d ≡ Ok (number_text (bit b))
+truth_right b d is =
+    let value : number_from_digits 256 d ≡ bit b = ap (number_from_digits 256) is ∙ big_endian_value (bit b) in
+    cond-false (is_other d) _ _ (small_number d (omega (arith, value, low_bit b))) ∙ number_right_by 1 (bit b) d is (small_bit b)
+  where
+    low_bit : (b : Bool) → bit b ≤ 1
+    low_bit true = omega arith
+    low_bit false = omega arith
+
+    small_bit : (b : Bool) → bit b < 2 ^ (8 * 1)
+    small_bit true = omega arith
+    small_bit false = omega arith
+
+no_number_in : (d : List ℕ) (e : DecoderError) → IsDigitsFault 1 d e → truth_value_in d ≡ Err (error_name e)
+no_number_in d e (too_long many) =
+    cond-false (is_other d) _ _ (let long : 2 ≤ length d = omega arith in grind (arith, nat_tests)) ∙ number_wrong 1 d RlpIsTooBig (too_long many)
+no_number_in d e (leading_zero [] few is) =
+    cond-false (is_other d) _ _ (small_number d (omega (arith, ap (number_from_digits 256) is)))
+    ∙ number_wrong 1 d RlpInvalidIndirection (leading_zero [] few is)
+no_number_in d e (leading_zero (c ∷ more) few is) = absurd (omega (arith, ap length is))
+
+other_in : (n : ℕ) (d : List ℕ) (e : DecoderError) → d ≡ big_endian n → FitsBytes 1 n → 1 < n → IsCustom (codes "invalid boolean value") e
+    → truth_value_in d ≡ Err (error_name e)
+other_in n d e is fit above custom =
+    let value : number_from_digits 256 d ≡ n = ap (number_from_digits 256) is ∙ big_endian_value n in
+    let few : length d ≤ 1 = few_by 1 n d is fit in
+    cond-true (is_other d) _ _ (grind (arith, nat_tests)) ∙ ap (λ t. Err t) (sym custom)
+
+pub truth_given : (name : List ℕ) (v : View) (b : Bool) → length v.bytes < 2 ^ 64 → GivesBool v b → truth_value name v ≡ Ok (line name (number_text (bit b)))
+truth_given name v b few given =
+    shown_string truth_value_in name v (big_endian (bit b)) few given.begins ∙ ap (named name) (truth_right b (big_endian (bit b)) refl)
+
+pub truth_faulty : (name : List ℕ) (v : View) (e : DecoderError) → length v.bytes < 2 ^ 64 → FaultsAsBool v e
+    → truth_value name v ≡ Err (wrong name (error_name e))
+truth_faulty name v e few (no_number f (no_string g is)) = shown_fault truth_value_in name v g is
+truth_faulty name v e few (no_number f (no_value d g holds faulty)) =
+    shown_string truth_value_in name v d few holds ∙ ap (named name) (no_number_in d g faulty)
+truth_faulty name v e few (other_number n f given above custom) =
+    shown_string truth_value_in name v (big_endian n) few given.begins ∙ ap (named name) (other_in n (big_endian n) f refl given.fits above custom)
+
+pub ruleset truth_strings = (truth_given, truth_faulty)

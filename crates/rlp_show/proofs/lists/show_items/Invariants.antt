@@ -1,0 +1,16 @@
+use Rattle.std.proofs.Common.{◌≡◌, ◌+◌, ◌<◌, ◌^◌, length, string_bytes}
+use Rattle.rlp.specs.Views.View.{item_views}
+use Rattle.rlp_show.specs.Lines.{items_lines}
+use Rattle.rlp_show.specs.Answer.{after_text}
+use Rattle.rlp_show.proofs.lists.show_items.Given as goal
+
+-- the lines of the items that are left, after the text so far, are those of all items
+abbrev pub invariant-loop-next : goal.invariant-loop-next
+invariant-loop-next g l = record {
+  left : after_text (string_bytes l.initial.out) (items_lines g.T.Show.shape l.name 0 (item_views l.item))
+      ≡ after_text (string_bytes l.out) (items_lines g.T.Show.shape l.name l.index l.items.left);
+  few : l.index + length l.items.left < 2 ^ 64;
+}
+
+abbrev pub decreases-loop-next : goal.decreases-loop-next
+decreases-loop-next g l = length l.items.left

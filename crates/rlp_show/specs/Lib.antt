@@ -1,0 +1,8 @@
+-- the text of a number, and of bytes
+pub mod Text
+-- the lines of an item, or what is wrong with it
+pub mod Lines
+-- the fields of each record
+pub mod Records
+-- the answer to a line of input
+pub mod Answer

@@ -1,0 +1,169 @@
+-- The lines of an item, or what is wrong with it. A name says which item it is, as `gas_limit` or `access_list[0].address`. A whole record has no name.
+use Rattle.std.specs.Prelude.{ℕ, zero, suc, ◌+◌, ◌||◌, ◌&&◌, ◌==◌, nat_lt, Bool, false, if◌then◌else◌, List, [], ◌∷◌, ◌++◌, length, drop, codes, decimal}
+use Rattle.std.specs.Prelude.{Result, Ok, Err}
+use Rattle.std.specs.Int.Digits.{number_from_digits}
+use Rattle.rlp.specs.DecoderError.{DecoderError}
+use Rattle.rlp.specs.DecoderError.TheVariants.{RlpIsTooBig, RlpIsTooShort, RlpInvalidIndirection, RlpIncorrectListLen}
+use Rattle.rlp.specs.Views.Text.{error_name}
+use Rattle.rlp.specs.Views.View.{View, item_count, item_views, strict_view_of, view_string}
+use Rattle.rlp_show.specs.Text.{bytes_text, number_text}
+
+-- `Ok` has the text of all lines, and `Err` says what is wrong
+abbrev pub Shown : Type 0
+Shown = Result (List ℕ) (List ℕ)
+
+-- how the items of a type are shown, by the name and the view of an item
+abbrev pub Shape : Type 0
+Shape = List ℕ → View → Shown
+
+-- a line: the name, a colon and a space, the text, and a newline
+abbrev pub line : List ℕ → List ℕ → List ℕ
+line name text = name ++ codes ": " ++ text ++ 10 ∷ []
+
+-- what is wrong: the name, a colon and a space, and the fault; for a whole record only the fault
+abbrev pub wrong : List ℕ → List ℕ → List ℕ
+wrong [] fault = fault
+wrong (c ∷ name) fault = (c ∷ name) ++ codes ": " ++ fault
+
+-- the lines of two parts, or what is wrong with the first that is wrong
+abbrev pub then_lines : Shown → Shown → Shown
+then_lines (Ok lines) (Ok more) = Ok (lines ++ more)
+then_lines (Ok lines) (Err fault) = Err fault
+then_lines (Err fault) more = Err fault
+
+-- ---- items that are one string
+
+-- the line of a text under a name, or what is wrong under that name
+abbrev pub named : List ℕ → Shown → Shown
+named name (Ok text) = Ok (line name text)
+named name (Err fault) = Err (wrong name fault)
+
+-- the text of a string, or the fault of an item that is no string
+abbrev pub in_string : (List ℕ → Shown) → Result (List ℕ) DecoderError → Shown
+in_string text_in (Ok string) = text_in string
+in_string text_in (Err e) = Err (error_name e)
+
+-- a type that is read from one string: `text_in` is the text of a string, or the name of its fault
+abbrev pub string_shape : (List ℕ → Shown) → Shape
+string_shape text_in name v = named name (in_string text_in (view_string v))
+
+-- whether a string begins with a zero byte
+abbrev pub begins_with_zero : List ℕ → Bool
+begins_with_zero [] = false
+begins_with_zero (d ∷ ds) = d == 0
+
+-- the number of a string of at most `width` bytes, in decimal; it has no leading zero
+abbrev pub number_in : ℕ → List ℕ → Shown
+number_in width string =
+    if nat_lt width (length string) then Err (error_name RlpIsTooBig)
+    else if begins_with_zero string then Err (error_name RlpInvalidIndirection)
+    else Ok (number_text (number_from_digits 256 string))
+
+-- a number of at most `width` bytes
+abbrev pub number : ℕ → Shape
+number width = string_shape (number_in width)
+
+-- the bytes of a string of exactly n bytes
+abbrev pub fixed_bytes_in : ℕ → List ℕ → Shown
+fixed_bytes_in n string =
+    if nat_lt (length string) n then Err (error_name RlpIsTooShort)
+    else if nat_lt n (length string) then Err (error_name RlpIsTooBig)
+    else Ok (bytes_text string)
+
+-- exactly n bytes
+abbrev pub fixed_bytes : ℕ → Shape
+fixed_bytes n = string_shape (fixed_bytes_in n)
+
+-- any bytes
+abbrev pub byte_string : Shape
+byte_string = string_shape (λ string. Ok (bytes_text string))
+
+-- the recipient of a transaction: the bytes of an address, or no bytes
+abbrev pub recipient_in : List ℕ → Shown
+recipient_in [] = Ok (bytes_text [])
+recipient_in (d ∷ ds) = fixed_bytes_in 20 (d ∷ ds)
+
+-- a recipient
+abbrev pub recipient : Shape
+recipient = string_shape recipient_in
+
+-- a truth value is the number 0 or 1
+abbrev pub truth_value_in : List ℕ → Shown
+truth_value_in string =
+    if nat_lt 1 (number_from_digits 256 string) && nat_lt (length string) 2 then Err (codes "Custom(\"invalid boolean value\")")
+    else number_in 1 string
+
+-- a truth value
+abbrev pub truth_value : Shape
+truth_value = string_shape truth_value_in
+
+-- ---- lists of items of one type
+
+-- the place of item i of a list
+abbrev pub place : List ℕ → ℕ → List ℕ
+place name i = name ++ codes "[" ++ decimal i ++ codes "]"
+
+-- the lines of items, the first of which has place i
+abbrev pub items_lines : Shape → List ℕ → ℕ → List View → Shown
+items_lines shape name i [] = Ok []
+items_lines shape name i (v ∷ vs) = then_lines (shape (place name i) v) (items_lines shape name (i + 1) vs)
+
+-- the lines of a list by its number of items; an empty list is `[]`
+abbrev pub list_lines : Shape → List ℕ → List View → Result ℕ DecoderError → Shown
+list_lines shape name vs (Err e) = Err (wrong name (error_name e))
+list_lines shape name vs (Ok zero) = Ok (line name (codes "[]"))
+list_lines shape name vs (Ok (suc n)) = items_lines shape name 0 vs
+
+-- a list of items of one type
+abbrev pub list_of : Shape → Shape
+list_of shape name v = list_lines shape name (item_views v) (item_count v)
+
+-- ---- records
+
+-- A field of a record: its name, and how it is shown.
+pub record Field : Type 0 where
+  pub name : List ℕ
+  pub shape : Shape
+
+-- a field of this name and shape
+abbrev pub field : List ℕ → Shape → Field
+field name shape = record { name = name; shape = shape }
+
+-- what comes before the names of a record's fields: for a record with a name the name and a dot
+abbrev pub prefix : List ℕ → List ℕ
+prefix [] = []
+prefix (c ∷ name) = (c ∷ name) ++ codes "."
+
+-- the lines of a field that is the first of some items; no lines if there is no item
+abbrev pub first_lines : List ℕ → Field → List View → Shown
+first_lines before f [] = Ok []
+first_lines before f (v ∷ vs) = f.shape (before ++ f.name) v
+
+-- the lines of fields that are the items in order; fields without an item have no lines
+abbrev pub fields_lines : List ℕ → List Field → List View → Shown
+fields_lines before [] vs = Ok []
+fields_lines before (f ∷ fs) vs = then_lines (first_lines before f vs) (fields_lines before fs (drop 1 vs))
+
+-- the lines of a record by its number of items: at least `least`, and at most one for each field
+abbrev pub record_lines : ℕ → List Field → List ℕ → List View → Result ℕ DecoderError → Shown
+record_lines least fields name vs (Err e) = Err (wrong name (error_name e))
+record_lines least fields name vs (Ok n) =
+    if nat_lt n least || nat_lt (length fields) n then Err (wrong name (error_name RlpIncorrectListLen))
+    else fields_lines (prefix name) fields vs
+
+-- a list of these fields, of which those after the first `least` may be missing at the end
+abbrev pub record_of : ℕ → List Field → Shape
+record_of least fields name v = record_lines least fields name (item_views v) (item_count v)
+
+-- ---- envelopes
+
+-- the lines of a typed record: the type, and then the record that the other bytes encode exactly
+abbrev pub typed_lines : ℕ → Shape → List ℕ → Shape → View → List ℕ → Shown
+typed_lines kind shape name other v [] = other name v
+typed_lines kind shape name other v (first ∷ payload) =
+    if first == kind then then_lines (Ok (line (prefix name ++ codes "type") (number_text kind))) (shape name (strict_view_of payload))
+    else other name v
+
+-- bytes that begin with this byte are the envelope (EIP-2718) of a record of a shape; other bytes are of another shape
+abbrev pub typed : ℕ → Shape → Shape → Shape
+typed kind shape other name v = typed_lines kind shape name other v v.bytes

@@ -1,0 +1,138 @@
+-- The fields of each record, by their names in `rlp_ethereum`.
+use Rattle.std.specs.Prelude.{[], ◌∷◌, codes}
+use Rattle.rlp_show.specs.Lines.{Shape, byte_string, field, fixed_bytes, list_of, number, recipient, record_of, truth_value, typed}
+
+-- addresses
+abbrev pub address : Shape
+address = fixed_bytes 20
+
+-- hashes
+abbrev pub hash : Shape
+hash = fixed_bytes 32
+
+-- filters of logs
+abbrev pub bloom : Shape
+bloom = fixed_bytes 256
+
+-- withdrawals
+abbrev pub withdrawal : Shape
+withdrawal = record_of 4 (
+    field (codes "index") (number 8)
+    ∷ field (codes "validator_index") (number 8)
+    ∷ field (codes "address") address
+    ∷ field (codes "amount") (number 8)
+    ∷ [])
+
+-- accounts
+abbrev pub account : Shape
+account = record_of 4 (
+    field (codes "nonce") (number 8)
+    ∷ field (codes "balance") (number 32)
+    ∷ field (codes "storage_root") hash
+    ∷ field (codes "code_hash") hash
+    ∷ [])
+
+-- headers of blocks: the last six fields may be missing
+abbrev pub header : Shape
+header = record_of 15 (
+    field (codes "parent_hash") hash
+    ∷ field (codes "ommers_hash") hash
+    ∷ field (codes "beneficiary") address
+    ∷ field (codes "state_root") hash
+    ∷ field (codes "transactions_root") hash
+    ∷ field (codes "receipts_root") hash
+    ∷ field (codes "logs_bloom") bloom
+    ∷ field (codes "difficulty") (number 32)
+    ∷ field (codes "number") (number 8)
+    ∷ field (codes "gas_limit") (number 8)
+    ∷ field (codes "gas_used") (number 8)
+    ∷ field (codes "timestamp") (number 8)
+    ∷ field (codes "extra_data") byte_string
+    ∷ field (codes "mix_hash") hash
+    ∷ field (codes "nonce") (fixed_bytes 8)
+    ∷ field (codes "base_fee_per_gas") (number 32)
+    ∷ field (codes "withdrawals_root") hash
+    ∷ field (codes "blob_gas_used") (number 8)
+    ∷ field (codes "excess_blob_gas") (number 8)
+    ∷ field (codes "parent_beacon_block_root") hash
+    ∷ field (codes "requests_hash") hash
+    ∷ [])
+
+-- logs
+abbrev pub log : Shape
+log = record_of 3 (
+    field (codes "address") address
+    ∷ field (codes "topics") (list_of hash)
+    ∷ field (codes "data") byte_string
+    ∷ [])
+
+-- receipts, without the byte of a type
+abbrev pub receipt : Shape
+receipt = record_of 4 (
+    field (codes "status_or_state_root") byte_string
+    ∷ field (codes "cumulative_gas_used") (number 8)
+    ∷ field (codes "logs_bloom") bloom
+    ∷ field (codes "logs") (list_of log)
+    ∷ [])
+
+-- items of access lists
+abbrev pub access_list_item : Shape
+access_list_item = record_of 2 (
+    field (codes "address") address
+    ∷ field (codes "storage_keys") (list_of hash)
+    ∷ [])
+
+-- transactions without a type
+abbrev pub legacy_transaction : Shape
+legacy_transaction = record_of 9 (
+    field (codes "nonce") (number 8)
+    ∷ field (codes "gas_price") (number 32)
+    ∷ field (codes "gas_limit") (number 8)
+    ∷ field (codes "to") recipient
+    ∷ field (codes "value") (number 32)
+    ∷ field (codes "data") byte_string
+    ∷ field (codes "v") (number 32)
+    ∷ field (codes "r") (number 32)
+    ∷ field (codes "s") (number 32)
+    ∷ [])
+
+-- transactions of type 1, without the byte of the type
+abbrev pub access_list_transaction : Shape
+access_list_transaction = record_of 11 (
+    field (codes "chain_id") (number 8)
+    ∷ field (codes "nonce") (number 8)
+    ∷ field (codes "gas_price") (number 32)
+    ∷ field (codes "gas_limit") (number 8)
+    ∷ field (codes "to") recipient
+    ∷ field (codes "value") (number 32)
+    ∷ field (codes "data") byte_string
+    ∷ field (codes "access_list") (list_of access_list_item)
+    ∷ field (codes "y_parity") truth_value
+    ∷ field (codes "r") (number 32)
+    ∷ field (codes "s") (number 32)
+    ∷ [])
+
+-- transactions of type 2, without the byte of the type
+abbrev pub fee_market_transaction : Shape
+fee_market_transaction = record_of 12 (
+    field (codes "chain_id") (number 8)
+    ∷ field (codes "nonce") (number 8)
+    ∷ field (codes "max_priority_fee_per_gas") (number 32)
+    ∷ field (codes "max_fee_per_gas") (number 32)
+    ∷ field (codes "gas_limit") (number 8)
+    ∷ field (codes "to") recipient
+    ∷ field (codes "value") (number 32)
+    ∷ field (codes "data") byte_string
+    ∷ field (codes "access_list") (list_of access_list_item)
+    ∷ field (codes "y_parity") truth_value
+    ∷ field (codes "r") (number 32)
+    ∷ field (codes "s") (number 32)
+    ∷ [])
+
+-- transactions by their first byte: an envelope of type 1 or 2, or else a transaction without a type
+abbrev pub any_transaction : Shape
+any_transaction = typed 1 access_list_transaction (typed 2 fee_market_transaction legacy_transaction)
+
+-- receipts by their first byte: an envelope of type 1 or 2, or else a receipt without a type
+abbrev pub any_receipt : Shape
+any_receipt = typed 1 receipt (typed 2 receipt receipt)

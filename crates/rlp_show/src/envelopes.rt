@@ -1,0 +1,92 @@
+//! Records that may be in an envelope, which begins with the byte of their type.
+
+ghost use Rattle.std.specs.Prelude.{◌≡◌, ◌≢◌, ◌++◌, ◌∷◌, ℕ, List, codes, string_bytes, Ok, IfOk, OnOk, MatchOption};
+ghost use Rattle.rlp.specs.Views.View.{strict_view_of};
+ghost use Rattle.rlp_show.specs.Answer.{Shows};
+ghost use Rattle.rlp_show.specs.Lines.{line, prefix, then_lines};
+ghost use Rattle.rlp_show.specs.Text.{number_text};
+
+use crate::fault::ShowFault;
+use crate::fields::{joined, prefix_of};
+use crate::numbers::put_number_line;
+use crate::show::Show;
+use rlp::Rlp;
+use rlp_ethereum::{
+    ACCESS_LIST_TYPE, AccessListTransaction, FEE_MARKET_TYPE, FeeMarketTransaction,
+    LegacyTransaction, Receipt,
+};
+use std::alloc::{AllocError, Global};
+use std::marker::PhantomData;
+
+/// The envelope of a `T` that begins with the byte `KIND`, or else a `Q`, for [`Show`]. It has no
+/// values.
+pub struct Typed<const KIND: u8, T, Q> {
+    payload: PhantomData<T>,
+    other: PhantomData<Q>,
+}
+
+/// A transaction of any type that `rlp_ethereum` knows, for [`Show`].
+pub type AnyTransaction = Typed<
+    ACCESS_LIST_TYPE,
+    AccessListTransaction,
+    Typed<FEE_MARKET_TYPE, FeeMarketTransaction, LegacyTransaction>,
+>;
+
+/// The receipt of a transaction of any type that `rlp_ethereum` knows, for [`Show`].
+pub type AnyReceipt = Typed<ACCESS_LIST_TYPE, Receipt, Typed<FEE_MARKET_TYPE, Receipt, Receipt>>;
+
+/// The bytes after the first byte, if that is `kind`.
+fn payload_of(kind: u8, bytes: &[u8]) -> Option<&[u8]>
+    ensures { MatchOption result ((payload : List ℕ) → bytes.now ≢ kind ∷ payload)
+        (λ payload. bytes.now ≡ kind ∷ payload.now) }
+{
+    match bytes.split_first() {
+        Some((first, payload)) if *first == kind => Some(payload),
+        _ => None,
+    }
+}
+
+/// Appends the line of a type.
+#[tactic(auto, using(crate::proofs::DigitLemmas::one_digit))]
+fn put_type(alloc: Global, name: &str, kind: u8, out: &mut String) -> Result<(), AllocError>
+    ensures { OnOk result (string_bytes out.new
+        ≡ string_bytes out.old ++ line (prefix name.now ++ codes "type") (number_text kind)) }
+{
+    let before = prefix_of(alloc, name)?;
+    let label = joined(alloc, before.as_str(), "type")?;
+    let mut digits = [kind];
+    put_number_line(label.as_str(), &mut digits, out)
+}
+
+/// Appends the line of a type, and then the lines of the record that the payload encodes.
+#[tactic(auto, using(crate::proofs::FieldLemmas::fields_in_order))]
+fn show_typed<T: Show>(
+    alloc: Global,
+    name: &str,
+    kind: u8,
+    payload: &[u8],
+    out: &mut String,
+) -> Result<(), ShowFault>
+    ensures { Shows (then_lines (Ok (line (prefix name.now ++ codes "type") (number_text kind)))
+        (T.shape name.now (strict_view_of payload.now))) (string_bytes out.old)
+        (string_bytes out.new) result }
+{
+    match put_type(alloc, name, kind, out) {
+        Ok(()) => T::show(alloc, name, &Rlp::new_strict(payload), out),
+        Err(_) => Err(ShowFault::OutOfMemory),
+    }
+}
+
+impl<const KIND: u8, T: Show, Q: Show> Show for Typed<KIND, T, Q> {
+    ghost use Rattle.rlp_show.specs.Lines.{typed};
+
+    ghost shape = { typed KIND T.shape Q.shape };
+
+    #[tactic(auto, using(crate::proofs::FieldLemmas::by_type))]
+    fn show(alloc: Global, name: &str, item: &Rlp<'_>, out: &mut String) -> Result<(), ShowFault> {
+        match payload_of(KIND, item.as_raw()) {
+            Some(payload) => show_typed::<T>(alloc, name, KIND, payload, out),
+            None => Q::show(alloc, name, item, out),
+        }
+    }
+}

@@ -1,0 +1,182 @@
+//! Records that are lists of fields.
+
+ghost use Rattle.std.specs.Prelude.{◌≡◌, ◌≤◌, ◌↔◌, ◌++◌, List, ◌∷◌, drop, length, string_bytes, IsTrue, IfOk};
+ghost use Rattle.rlp_show.specs.Answer.{Shows};
+ghost use Rattle.rlp_show.specs.Lines.{Field, field, fields_lines, first_lines, prefix, record_of};
+
+use crate::fault::ShowFault;
+use crate::show::Show;
+use rlp::{DecoderError, Rlp, RlpIterator};
+use std::alloc::{AllocError, Global};
+use std::marker::PhantomData;
+
+/// A field of a record: its name, and the type that says how it is shown.
+pub struct Named<T> {
+    /// The name.
+    pub name: &'static str,
+    /// The type, which has no value here.
+    pub shown_as: PhantomData<T>,
+}
+
+/// The fields of a record, in order. They are nested pairs: `(a, (b, (c,)))`.
+pub trait ShowFields {
+    /// The fields with their names and shapes.
+    ghost fields: { Self → List Field };
+
+    /// Whether there are at least this many fields.
+    fn has_room_for(&self, count: usize) -> bool
+        ensures { IsTrue result ↔ (count ≤ length (fields self.now)) };
+
+    /// Appends the lines of the fields that are the next items. Fields without an item have none.
+    /// Fails as [`Show::show`] does for the first field that fails.
+    fn show_fields(
+        &self,
+        alloc: Global,
+        before: &str,
+        items: &mut RlpIterator<'_, '_>,
+        out: &mut String,
+    ) -> Result<(), ShowFault>
+        ensures { Shows (fields_lines before.now (fields self.now) items.old.left)
+            (string_bytes out.old) (string_bytes out.new) result };
+}
+
+/// Appends the lines of one field, if there is an item for it.
+fn show_first<T: Show>(
+    alloc: Global,
+    before: &str,
+    name: &str,
+    items: &mut RlpIterator<'_, '_>,
+    out: &mut String,
+) -> Result<(), ShowFault>
+    ensures shown { Shows (first_lines before.now (field name.now T.shape) items.old.left)
+        (string_bytes out.old) (string_bytes out.new) result }
+    ensures left { items.new.left ≡ drop 1 items.old.left }
+{
+    match items.next() {
+        Some(item) => {
+            let name = match joined(alloc, before, name) {
+                Ok(name) => name,
+                Err(_) => return Err(ShowFault::OutOfMemory),
+            };
+            T::show(alloc, name.as_str(), &item, out)
+        }
+        None => Ok(()),
+    }
+}
+
+/// One text and then another.
+pub(crate) fn joined(alloc: Global, front: &str, back: &str) -> Result<String, AllocError>
+    ensures { IfOk result (λ text. string_bytes text ≡ front.now ++ back.now) }
+{
+    let mut text = String::from_str(alloc, front)?;
+    text.push_str(back)?;
+    Ok(text)
+}
+
+impl<T: Show> ShowFields for (Named<T>,) {
+    ghost use Rattle.std.specs.Prelude.{[], ◌∷◌};
+    ghost use Rattle.rlp_show.specs.Lines.{field};
+
+    ghost fields = { λ f. field f.0.name.now T.shape ∷ [] };
+
+    fn has_room_for(&self, count: usize) -> bool {
+        count <= 1
+    }
+
+    #[tactic(auto, using(crate::proofs::FieldLemmas::fields_in_order))]
+    fn show_fields(
+        &self,
+        alloc: Global,
+        before: &str,
+        items: &mut RlpIterator<'_, '_>,
+        out: &mut String,
+    ) -> Result<(), ShowFault> {
+        show_first::<T>(alloc, before, self.0.name, items, out)
+    }
+}
+
+impl<T: Show, Q: ShowFields> ShowFields for (Named<T>, Q) {
+    ghost use Rattle.std.specs.Prelude.{◌∷◌};
+    ghost use Rattle.rlp_show.specs.Lines.{field};
+
+    ghost fields = { λ f. field f.0.name.now T.shape ∷ Q.fields f.1 };
+
+    fn has_room_for(&self, count: usize) -> bool {
+        count == 0 || self.1.has_room_for(count - 1)
+    }
+
+    #[tactic(auto, using(crate::proofs::FieldLemmas::fields_in_order))]
+    fn show_fields(
+        &self,
+        alloc: Global,
+        before: &str,
+        items: &mut RlpIterator<'_, '_>,
+        out: &mut String,
+    ) -> Result<(), ShowFault> {
+        match show_first::<T>(alloc, before, self.0.name, items, out) {
+            Ok(()) => self.1.show_fields(alloc, before, items, out),
+            Err(fault) => Err(fault),
+        }
+    }
+}
+
+/// What comes before the names of the fields of the record with this name.
+pub(crate) fn prefix_of(alloc: Global, name: &str) -> Result<String, AllocError>
+    ensures { IfOk result (λ text. string_bytes text ≡ prefix name.now) }
+{
+    if name.is_empty() {
+        return Ok(String::new(alloc));
+    }
+    joined(alloc, name, ".")
+}
+
+/// Appends the lines of a record of these fields, of which those after the first `least` may be
+/// missing at the end.
+///
+/// Fails with `Wrong` if the item isn't a list, if it has fewer items than `least` or more than
+/// fields, or if an item isn't one of its field. Fails with `OutOfMemory` if memory is refused.
+#[tactic(auto, using(crate::proofs::FieldLemmas::fields_in_order))]
+pub fn show_record<F: ShowFields>(
+    alloc: Global,
+    name: &str,
+    item: &Rlp<'_>,
+    least: usize,
+    fields: &F,
+    out: &mut String,
+) -> Result<(), ShowFault>
+    ensures { Shows (record_of least (F.fields fields.now) name.now item.now)
+        (string_bytes out.old) (string_bytes out.new) result }
+{
+    let count = match item.item_count() {
+        Ok(count) => count,
+        Err(fault) => return Err(ShowFault::of(alloc, name, &fault)),
+    };
+    if count < least || !fields.has_room_for(count) {
+        return Err(ShowFault::of(alloc, name, &DecoderError::RlpIncorrectListLen));
+    }
+    let before = match prefix_of(alloc, name) {
+        Ok(before) => before,
+        Err(_) => return Err(ShowFault::OutOfMemory),
+    };
+    let mut items = item.iter();
+    fields.show_fields(alloc, before.as_str(), &mut items, out)
+}
+
+/// Shows a record whose fields have these names and types. The arguments are the allocator, the
+/// name, the view, the text, the number of fields that are always present, and the fields.
+macro_rules! show_fields {
+    (@nested $name:literal : $type:ty) => {
+        (Named::<$type> { name: $name, shown_as: PhantomData },)
+    };
+    (@nested $name:literal : $type:ty, $($others:tt)+) => {
+        (
+            Named::<$type> { name: $name, shown_as: PhantomData },
+            show_fields!(@nested $($others)+),
+        )
+    };
+    ($alloc:expr, $name:expr, $item:expr, $out:expr, $least:expr, $($fields:tt)+) => {
+        show_record($alloc, $name, $item, $least, &show_fields!(@nested $($fields)+), $out)
+    };
+}
+
+pub(crate) use show_fields;

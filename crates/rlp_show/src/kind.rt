@@ -1,0 +1,43 @@
+//! The kinds of records.
+
+ghost use Rattle.std.specs.Prelude.{◌≡◌};
+
+/// What the program prints for arguments that aren't one known kind.
+pub const USAGE: &str =
+    "usage: rlp_show KIND, where KIND is account, header, receipt, transaction or withdrawal";
+
+/// The exit status of the program for such arguments.
+pub const UNKNOWN_KIND: u8 = 4;
+
+/// A kind of records that the program shows.
+#[derive(Debug, Clone, Copy, PartialEq, Eq)]
+pub enum Kind {
+    /// Accounts of the trie of the state.
+    Account,
+    /// Headers of blocks.
+    Header,
+    /// Receipts, also in the envelopes of types 1 and 2.
+    Receipt,
+    /// Transactions, also in the envelopes of types 1 and 2.
+    Transaction,
+    /// Withdrawals.
+    Withdrawal,
+}
+
+impl Kind {
+    ghost use Rattle.rlp_show.specs.Answer.{kind_named};
+
+    /// The kind of this name, if there is one.
+    pub fn named(name: &str) -> Option<Kind>
+        ensures { result ≡ kind_named name.now }
+    {
+        match name {
+            "account" => Some(Kind::Account),
+            "header" => Some(Kind::Header),
+            "receipt" => Some(Kind::Receipt),
+            "transaction" => Some(Kind::Transaction),
+            "withdrawal" => Some(Kind::Withdrawal),
+            _ => None,
+        }
+    }
+}

@@ -1,0 +1,22 @@
+//! Shows Ethereum's records by the names of their fields.
+#![tactic(auto)]
+
+mod envelopes;
+mod fault;
+mod fields;
+mod kind;
+mod line;
+mod lists;
+mod numbers;
+mod records;
+mod serving;
+mod show;
+mod strings;
+
+pub use envelopes::{AnyReceipt, AnyTransaction, Typed};
+pub use fault::ShowFault;
+pub use fields::{Named, ShowFields, show_record};
+pub use kind::{Kind, UNKNOWN_KIND, USAGE};
+pub use lists::Items;
+pub use serving::run;
+pub use show::Show;

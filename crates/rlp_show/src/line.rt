@@ -1,0 +1,31 @@
+//! One line.
+
+ghost use Rattle.std.specs.Prelude.{◌≡◌, ◌++◌, codes, string_bytes, OnOk};
+ghost use Rattle.rlp_show.specs.Lines.{line};
+ghost use Rattle.rlp_show.specs.Text.{bytes_text};
+
+use rlp_tool::push_bytes;
+use std::alloc::AllocError;
+
+/// Appends a line with this name and text.
+pub(crate) fn put_line(name: &str, text: &str, out: &mut String) -> Result<(), AllocError>
+    ensures { OnOk result
+        (string_bytes out.new ≡ string_bytes out.old ++ line name.now text.now) }
+{
+    out.push_str(name)?;
+    out.push_str(": ")?;
+    out.push_str(text)?;
+    out.push('\n')
+}
+
+/// Appends a line with this name and these bytes.
+pub(crate) fn put_bytes_line(name: &str, bytes: &[u8], out: &mut String) -> Result<(), AllocError>
+    ensures { OnOk result
+        (string_bytes out.new ≡ string_bytes out.old ++ line name.now (bytes_text bytes.now)) }
+{
+    out.push_str(name)?;
+    out.push_str(": ")?;
+    out.push_str("0x")?;
+    push_bytes(bytes, out)?;
+    out.push('\n')
+}

@@ -1,0 +1,227 @@
+//! Ethereum's records.
+
+use crate::fault::ShowFault;
+use crate::fields::{Named, show_fields, show_record};
+use crate::lists::Items;
+use crate::show::Show;
+use rlp::{Rlp, Uint};
+use rlp_ethereum::{
+    AccessListItem, AccessListTransaction, Account, Address, Bloom, FeeMarketTransaction, Hash,
+    Header, LegacyTransaction, Log, Receipt, Recipient, Withdrawal,
+};
+use std::alloc::Global;
+use std::marker::PhantomData;
+
+impl Show for Withdrawal {
+    ghost use Rattle.rlp_show.specs.Records.{withdrawal};
+
+    ghost shape = { withdrawal };
+
+    fn show(alloc: Global, name: &str, item: &Rlp<'_>, out: &mut String) -> Result<(), ShowFault> {
+        show_fields!(
+            alloc,
+            name,
+            item,
+            out,
+            4,
+            "index": u64,
+            "validator_index": u64,
+            "address": Address,
+            "amount": u64
+        )
+    }
+}
+
+impl Show for Account {
+    ghost use Rattle.rlp_show.specs.Records.{account};
+
+    ghost shape = { account };
+
+    fn show(alloc: Global, name: &str, item: &Rlp<'_>, out: &mut String) -> Result<(), ShowFault> {
+        show_fields!(
+            alloc,
+            name,
+            item,
+            out,
+            4,
+            "nonce": u64,
+            "balance": Uint<32>,
+            "storage_root": Hash,
+            "code_hash": Hash
+        )
+    }
+}
+
+impl Show for Header {
+    ghost use Rattle.rlp_show.specs.Records.{header};
+
+    ghost shape = { header };
+
+    fn show(alloc: Global, name: &str, item: &Rlp<'_>, out: &mut String) -> Result<(), ShowFault> {
+        show_fields!(
+            alloc,
+            name,
+            item,
+            out,
+            15,
+            "parent_hash": Hash,
+            "ommers_hash": Hash,
+            "beneficiary": Address,
+            "state_root": Hash,
+            "transactions_root": Hash,
+            "receipts_root": Hash,
+            "logs_bloom": Bloom,
+            "difficulty": Uint<32>,
+            "number": u64,
+            "gas_limit": u64,
+            "gas_used": u64,
+            "timestamp": u64,
+            "extra_data": Vec<u8>,
+            "mix_hash": Hash,
+            "nonce": [u8; 8],
+            "base_fee_per_gas": Uint<32>,
+            "withdrawals_root": Hash,
+            "blob_gas_used": u64,
+            "excess_blob_gas": u64,
+            "parent_beacon_block_root": Hash,
+            "requests_hash": Hash
+        )
+    }
+}
+
+impl Show for Log {
+    ghost use Rattle.rlp_show.specs.Records.{log};
+
+    ghost shape = { log };
+
+    fn show(alloc: Global, name: &str, item: &Rlp<'_>, out: &mut String) -> Result<(), ShowFault> {
+        show_fields!(
+            alloc,
+            name,
+            item,
+            out,
+            3,
+            "address": Address,
+            "topics": Items<Hash>,
+            "data": Vec<u8>
+        )
+    }
+}
+
+impl Show for Receipt {
+    ghost use Rattle.rlp_show.specs.Records.{receipt};
+
+    ghost shape = { receipt };
+
+    fn show(alloc: Global, name: &str, item: &Rlp<'_>, out: &mut String) -> Result<(), ShowFault> {
+        show_fields!(
+            alloc,
+            name,
+            item,
+            out,
+            4,
+            "status_or_state_root": Vec<u8>,
+            "cumulative_gas_used": u64,
+            "logs_bloom": Bloom,
+            "logs": Items<Log>
+        )
+    }
+}
+
+impl Show for AccessListItem {
+    ghost use Rattle.rlp_show.specs.Records.{access_list_item};
+
+    ghost shape = { access_list_item };
+
+    fn show(alloc: Global, name: &str, item: &Rlp<'_>, out: &mut String) -> Result<(), ShowFault> {
+        show_fields!(
+            alloc,
+            name,
+            item,
+            out,
+            2,
+            "address": Address,
+            "storage_keys": Items<Hash>
+        )
+    }
+}
+
+impl Show for LegacyTransaction {
+    ghost use Rattle.rlp_show.specs.Records.{legacy_transaction};
+
+    ghost shape = { legacy_transaction };
+
+    fn show(alloc: Global, name: &str, item: &Rlp<'_>, out: &mut String) -> Result<(), ShowFault> {
+        show_fields!(
+            alloc,
+            name,
+            item,
+            out,
+            9,
+            "nonce": u64,
+            "gas_price": Uint<32>,
+            "gas_limit": u64,
+            "to": Recipient,
+            "value": Uint<32>,
+            "data": Vec<u8>,
+            "v": Uint<32>,
+            "r": Uint<32>,
+            "s": Uint<32>
+        )
+    }
+}
+
+impl Show for AccessListTransaction {
+    ghost use Rattle.rlp_show.specs.Records.{access_list_transaction};
+
+    ghost shape = { access_list_transaction };
+
+    fn show(alloc: Global, name: &str, item: &Rlp<'_>, out: &mut String) -> Result<(), ShowFault> {
+        show_fields!(
+            alloc,
+            name,
+            item,
+            out,
+            11,
+            "chain_id": u64,
+            "nonce": u64,
+            "gas_price": Uint<32>,
+            "gas_limit": u64,
+            "to": Recipient,
+            "value": Uint<32>,
+            "data": Vec<u8>,
+            "access_list": Items<AccessListItem>,
+            "y_parity": bool,
+            "r": Uint<32>,
+            "s": Uint<32>
+        )
+    }
+}
+
+impl Show for FeeMarketTransaction {
+    ghost use Rattle.rlp_show.specs.Records.{fee_market_transaction};
+
+    ghost shape = { fee_market_transaction };
+
+    fn show(alloc: Global, name: &str, item: &Rlp<'_>, out: &mut String) -> Result<(), ShowFault> {
+        show_fields!(
+            alloc,
+            name,
+            item,
+            out,
+            12,
+            "chain_id": u64,
+            "nonce": u64,
+            "max_priority_fee_per_gas": Uint<32>,
+            "max_fee_per_gas": Uint<32>,
+            "gas_limit": u64,
+            "to": Recipient,
+            "value": Uint<32>,
+            "data": Vec<u8>,
+            "access_list": Items<AccessListItem>,
+            "y_parity": bool,
+            "r": Uint<32>,
+            "s": Uint<32>
+        )
+    }
+}

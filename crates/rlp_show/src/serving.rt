@@ -1,0 +1,97 @@
+//! The loop over the input.
+
+ghost use Rattle.std.specs.Prelude.{◌≡◌, ◌++◌, ◌^◌, ◌-◌, ◌⊎◌, [], string_bytes, true, false, OnOk, Err};
+ghost use Rattle.rlp.specs.Views.View.{strict_view_of};
+ghost use Rattle.rlp_tool.specs.Answer.{answer_by};
+ghost use Rattle.rlp_tool.specs.Run.{AnswersAll, AnswersBefore, AnswersEnded, AnswersPart};
+ghost use Rattle.rlp_tool.specs.declared.serving.RunFault.TheVariants as run_fault;
+ghost use Rattle.rlp_show.specs.Answer.{kind_answer, shown_answer};
+
+use crate::envelopes::{AnyReceipt, AnyTransaction};
+use crate::fault::ShowFault;
+use crate::kind::Kind;
+use crate::show::Show;
+use rlp::Rlp;
+use rlp_ethereum::{Account, Header, Withdrawal};
+use rlp_tool::{LineAnswers, Noted, RunFault, answer_lines, read_bytes, without_carriage_return};
+use std::alloc::{AllocError, Global};
+use std::io::{Read, Write};
+use std::marker::PhantomData;
+
+/// The answers to lines of digits, each a whole record of type `T`.
+struct RecordAnswers<T> {
+    shown_as: PhantomData<T>,
+}
+
+impl<T: Show> LineAnswers for RecordAnswers<T> {
+    ghost use Rattle.rlp_show.specs.Answer.{record_answer};
+
+    ghost answer_within = { record_answer T.shape };
+
+    fn put_answer(alloc: Global, line: &[u8], out: &mut String) -> Result<(), AllocError> {
+        match read_bytes(alloc, without_carriage_return(line))? {
+            Some(bytes) => put_record::<T>(alloc, bytes.as_slice(), out),
+            None => out.push_str("error hex"),
+        }
+    }
+}
+
+/// Appends the lines of a record, or what is wrong with it.
+fn put_record<T: Show>(alloc: Global, bytes: &[u8], out: &mut String) -> Result<(), AllocError>
+    ensures { OnOk result (string_bytes out.new
+        ≡ string_bytes out.old ++ shown_answer (T.shape [] (strict_view_of bytes.now))) }
+{
+    let mut lines = String::new(alloc);
+    match T::show(alloc, "", &Rlp::new_strict(bytes), &mut lines) {
+        Ok(()) => out.push_str(lines.as_str()),
+        Err(ShowFault::Wrong(text)) => {
+            out.push_str("error ")?;
+            out.push_str(text.as_str())
+        }
+        Err(ShowFault::OutOfMemory) => Err(AllocError),
+    }
+}
+
+/// Answers each line of the input, until its end, with the lines of the record that its digits
+/// encode, or with what is wrong with it. Fails as [`answer_lines`] does.
+pub fn run<R: Read, W: Write>(
+    alloc: Global,
+    kind: Kind,
+    input: &mut Noted<R>,
+    output: &mut Noted<W>,
+) -> Result<(), RunFault>
+    requires input { input.old.failed ≡ false }
+    requires output { output.old.failed ≡ false }
+
+    // At the end of the input, all lines are answered, the output is flushed, and neither device
+    // has failed.
+    ensures ok { OnOk result (AnswersAll (answer_by (kind_answer kind))
+        (R.remaining input.old.inner) (R.remaining input.new.inner)
+        (W.contents output.old.inner) (W.contents output.new.inner)) }
+    ensures faultless { OnOk result ((input.new.failed ≡ false) × (output.new.failed ≡ false)) }
+    ensures flushed { OnOk result (output.new.flushed ≡ true) }
+
+    // What was written before each fault, and which device has failed.
+    ensures memory { result ≡ Err run_fault.Memory → AnswersBefore (answer_by (kind_answer kind))
+        (R.remaining input.old.inner) (R.remaining input.new.inner)
+        (W.contents output.old.inner) (W.contents output.new.inner) }
+    ensures read { result ≡ Err run_fault.Read → AnswersEnded (answer_by (kind_answer kind))
+        (R.remaining input.old.inner) (R.remaining input.new.inner)
+        (W.contents output.old.inner) (W.contents output.new.inner) }
+    ensures read_only { result ≡ Err run_fault.Read → (input.new.failed ≡ true)
+        ⊎ (input.new.reads ≡ 2 ^ 64 - 1) }
+    ensures write { result ≡ Err run_fault.Write → AnswersPart (answer_by (kind_answer kind))
+        (R.remaining input.old.inner) (R.remaining input.new.inner)
+        (W.contents output.old.inner) (W.contents output.new.inner) }
+    ensures write_only { result ≡ Err run_fault.Write → output.new.failed ≡ true }
+{
+    match kind {
+        Kind::Account => answer_lines::<RecordAnswers<Account>, R, W>(alloc, input, output),
+        Kind::Header => answer_lines::<RecordAnswers<Header>, R, W>(alloc, input, output),
+        Kind::Receipt => answer_lines::<RecordAnswers<AnyReceipt>, R, W>(alloc, input, output),
+        Kind::Transaction => {
+            answer_lines::<RecordAnswers<AnyTransaction>, R, W>(alloc, input, output)
+        }
+        Kind::Withdrawal => answer_lines::<RecordAnswers<Withdrawal>, R, W>(alloc, input, output),
+    }
+}

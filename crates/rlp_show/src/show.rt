@@ -1,0 +1,23 @@
+//! Types whose items are shown.
+
+ghost use Rattle.std.specs.Prelude.{ℕ, List, Result, string_bytes};
+ghost use Rattle.rlp.specs.Views.View.{View};
+ghost use Rattle.rlp_show.specs.Answer.{Shows};
+
+use crate::fault::ShowFault;
+use rlp::Rlp;
+use std::alloc::Global;
+
+/// A type whose items are shown as lines, one for each field.
+pub trait Show {
+    /// By the name and the view of an item: the text of its lines, or what is wrong with it.
+    ghost shape: { List ℕ → View → Result (List ℕ) (List ℕ) };
+
+    /// Appends the lines of the item with this name. A whole record has the name `""`.
+    ///
+    /// Fails with `Wrong` if the item isn't one of the type, and with `OutOfMemory` if memory is
+    /// refused. Some lines may then be appended.
+    fn show(alloc: Global, name: &str, item: &Rlp<'_>, out: &mut String) -> Result<(), ShowFault>
+        ensures { Shows (shape name.now item.now) (string_bytes out.old) (string_bytes out.new)
+            result };
+}

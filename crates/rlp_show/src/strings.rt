@@ -1,0 +1,115 @@
+//! Items that are one string of bytes.
+
+ghost use Rattle.std.specs.Prelude.{◌^◌, ◌<◌, string_bytes};
+ghost use Rattle.rlp_show.specs.Answer.{Shows};
+ghost use Rattle.rlp_show.specs.Lines.{fixed_bytes};
+
+use crate::fault::ShowFault;
+use crate::line::put_bytes_line;
+use crate::show::Show;
+use rlp::{DecoderError, Rlp};
+use rlp_ethereum::{Address, Bloom, Hash, Recipient};
+use std::alloc::Global;
+
+/// Appends the line of an item of exactly `N` bytes.
+#[tactic(auto, using(crate::proofs::StringLemmas::fixed_strings))]
+fn show_fixed<const N: usize>(
+    alloc: Global,
+    name: &str,
+    item: &Rlp<'_>,
+    out: &mut String,
+) -> Result<(), ShowFault>
+    requires { N < 2 ^ 16 }
+    ensures { Shows (fixed_bytes N name.now item.now) (string_bytes out.old)
+        (string_bytes out.new) result }
+{
+    let _bytes = item.as_raw();
+    match item.as_val::<[u8; N]>(alloc) {
+        Ok(bytes) => match put_bytes_line(name, &bytes, out) {
+            Ok(()) => Ok(()),
+            Err(_) => Err(ShowFault::OutOfMemory),
+        },
+        Err(DecoderError::OutOfMemory) => Err(ShowFault::OutOfMemory),
+        Err(fault) => Err(ShowFault::of(alloc, name, &fault)),
+    }
+}
+
+impl Show for Address {
+    ghost use Rattle.rlp_show.specs.Records.{address};
+
+    ghost shape = { address };
+
+    fn show(alloc: Global, name: &str, item: &Rlp<'_>, out: &mut String) -> Result<(), ShowFault> {
+        show_fixed::<20>(alloc, name, item, out)
+    }
+}
+
+impl Show for Hash {
+    ghost use Rattle.rlp_show.specs.Records.{hash};
+
+    ghost shape = { hash };
+
+    fn show(alloc: Global, name: &str, item: &Rlp<'_>, out: &mut String) -> Result<(), ShowFault> {
+        show_fixed::<32>(alloc, name, item, out)
+    }
+}
+
+impl Show for Bloom {
+    ghost use Rattle.rlp_show.specs.Records.{bloom};
+
+    ghost shape = { bloom };
+
+    fn show(alloc: Global, name: &str, item: &Rlp<'_>, out: &mut String) -> Result<(), ShowFault> {
+        show_fixed::<256>(alloc, name, item, out)
+    }
+}
+
+impl Show for [u8; 8] {
+    ghost use Rattle.rlp_show.specs.Lines.{fixed_bytes};
+
+    ghost shape = { fixed_bytes 8 };
+
+    fn show(alloc: Global, name: &str, item: &Rlp<'_>, out: &mut String) -> Result<(), ShowFault> {
+        show_fixed::<8>(alloc, name, item, out)
+    }
+}
+
+impl Show for Vec<u8> {
+    ghost use Rattle.rlp_show.specs.Lines.{byte_string};
+
+    ghost shape = { byte_string };
+
+    fn show(alloc: Global, name: &str, item: &Rlp<'_>, out: &mut String) -> Result<(), ShowFault> {
+        match item.decoder().string() {
+            Ok(bytes) => match put_bytes_line(name, bytes, out) {
+                Ok(()) => Ok(()),
+                Err(_) => Err(ShowFault::OutOfMemory),
+            },
+            Err(fault) => Err(ShowFault::of(alloc, name, &fault)),
+        }
+    }
+}
+
+impl Show for Recipient {
+    ghost use Rattle.rlp_show.specs.Lines.{recipient};
+
+    ghost shape = { recipient };
+
+    #[tactic(auto, using(crate::proofs::StringLemmas::recipient_strings))]
+    fn show(alloc: Global, name: &str, item: &Rlp<'_>, out: &mut String) -> Result<(), ShowFault> {
+        let _bytes = item.as_raw();
+        let recipient = match item.as_val::<Recipient>(alloc) {
+            Ok(recipient) => recipient,
+            Err(DecoderError::OutOfMemory) => return Err(ShowFault::OutOfMemory),
+            Err(fault) => return Err(ShowFault::of(alloc, name, &fault)),
+        };
+        let put = match recipient {
+            Recipient::Creation => put_bytes_line(name, &[], out),
+            Recipient::Account(address) => put_bytes_line(name, &address.0, out),
+        };
+        match put {
+            Ok(()) => Ok(()),
+            Err(_) => Err(ShowFault::OutOfMemory),
+        }
+    }
+}
