@@ -3,6 +3,7 @@
 
 #[cfg(test)]
 mod access_lists;
+#[cfg(test)]
 mod every_type;
 #[cfg(test)]
 mod headers;
