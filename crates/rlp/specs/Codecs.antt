@@ -2,3 +2,5 @@
 pub mod Exact
 -- an item that is kept as the bytes of its encoding
 pub mod RawItem
+-- a struct whose last fields are groups of fields
+pub mod Groups

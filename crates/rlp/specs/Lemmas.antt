@@ -46,3 +46,5 @@ pub mod Tails
 pub mod ExactReads
 -- raw items and their encodings
 pub mod RawItems
+-- structs whose last fields are groups of fields
+pub mod Groups

@@ -8,6 +8,9 @@ pub mod Hash
 pub mod Header
 pub mod LegacyTransaction
 pub mod Log
+pub mod NodeFields
+pub mod NodeLaws
+pub mod NodeRecord
 pub mod Receipt
 pub mod Recipient
 pub mod Withdrawal

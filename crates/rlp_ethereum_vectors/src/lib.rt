@@ -4,6 +4,8 @@
 #[cfg(test)]
 mod headers;
 #[cfg(test)]
+mod node_records;
+#[cfg(test)]
 mod records;
 #[cfg(test)]
 mod support;
