@@ -4,3 +4,5 @@ pub mod Exact
 pub mod RawItem
 -- types whose values are of several types: sums, envelopes and tagged lists
 pub mod Sums
+-- a struct whose last fields are groups of fields
+pub mod Groups

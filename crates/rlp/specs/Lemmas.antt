@@ -48,3 +48,5 @@ pub mod ExactReads
 pub mod RawItems
 -- values of several types that are read back and read strictly
 pub mod Sums
+-- structs whose last fields are groups of fields
+pub mod Groups

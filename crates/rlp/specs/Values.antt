@@ -12,6 +12,8 @@ pub mod RoundTrip
 pub mod FieldPlace
 -- what items from some place on give as fields
 pub mod FieldReading
+-- structs whose last fields are groups of fields
+pub mod Groups
 -- items that are kept as the bytes of their encodings
 pub mod RawItem
 -- values of several types, and why there is none

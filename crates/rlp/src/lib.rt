@@ -34,7 +34,10 @@ pub use rlp_streams::{
 };
 pub use rlpin::{BasicDecoder, Envelope, Fields, Rlp, RlpIterator};
 use std::alloc::{AllocError, Global};
-pub use structs::{DecodeField, DecodeFields, Field, ListField, decode_struct};
+pub use structs::{
+    DecodeField, DecodeFields, DecodeGroup, DecodeGrouped, Field, Groups, ListField, decode_struct,
+    decode_with_groups,
+};
 pub use traits::{Decodable, RoundTrip, Scalar, StrictRead};
 
 /// The encoding of a value. Fails with `AllocError` if memory is refused, or if the value's own

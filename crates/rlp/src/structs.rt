@@ -11,8 +11,11 @@ ghost use Rattle.rlp.specs.Lemmas.Structs.{by_place};
 ghost use Rattle.rlp.specs.Values.FieldReading.{FaultsInFields, GivesFields, MayLackInFields};
 ghost use Rattle.rlp.specs.Values.ListReading.{FaultsAsList, FaultsAt, GivesAt, GivesList, GivesSomeAt, MayLackAsList, MayLackAsStruct, MayLackAt};
 
+mod groups;
+
 use crate::rlpin::{Fields, Rlp};
 use crate::traits::Decodable;
+pub use groups::{DecodeGroup, DecodeGrouped, Groups, decode_with_groups};
 use rlp_format::error::DecoderError;
 use std::alloc::Global;
 

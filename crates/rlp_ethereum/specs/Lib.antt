@@ -11,6 +11,9 @@ pub mod Header
 pub mod LegacyTransaction
 pub mod Log
 pub mod Messages
+pub mod NodeFields
+pub mod NodeLaws
+pub mod NodeRecord
 pub mod Receipt
 pub mod Recipient
 pub mod SetCodeTransaction

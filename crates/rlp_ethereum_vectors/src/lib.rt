@@ -11,6 +11,7 @@ mod headers;
 mod logs;
 #[cfg(test)]
 mod messages;
+mod node_records;
 #[cfg(test)]
 mod records;
 #[cfg(test)]

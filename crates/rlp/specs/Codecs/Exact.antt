@@ -1,5 +1,5 @@
 -- The codec of a type whose values a view gives exactly if it holds their encodings.
-use Rattle.std.specs.Prelude.{ℕ, ◌^◌, ◌<◌, List, length}
+use Rattle.std.specs.Prelude.{◌^◌, ◌<◌, length}
 use Rattle.rlp_format.specs.declared.error.DecoderError.{DecoderError}
 use Rattle.rlp_format.specs.Format.Item.{Item}
 use Rattle.rlp_format.specs.Views.View.{View, HoldsItem}

@@ -1,12 +1,10 @@
 -- Types whose values a view gives exactly if it holds their encodings: they are read back, and read strictly.
-use Rattle.std.proofs.Common.{◌≡◌, ◌↔◌, ℕ, ◌^◌, ◌<◌, ◌++◌, List, [], length, refl, sym, ap, ◌∙◌, subst}
+use Rattle.std.proofs.Common.{◌≡◌, ℕ, ◌^◌, ◌<◌, List, length, sym, ◌∙◌, subst}
 use Rattle.rlp_format.specs.declared.error.DecoderError.{DecoderError}
 use Rattle.rlp_format.specs.Format.Item.{Item}
-use Rattle.rlp_format.specs.Format.WrittenHeader.{AreBytes}
-use Rattle.rlp_format.specs.Format.Encoding.{BeginsWith, encoding, IsSized}
+use Rattle.rlp_format.specs.Format.Encoding.{BeginsWith, encoding}
 use Rattle.rlp_format.specs.Views.View.{View, HoldsItem, strict_view_of, view_of}
 use Rattle.rlp.specs.Values.ValueReading.{GivesValue}
-use Rattle.rlp.specs.Values.RoundTrip.{ReadsBack, ReadsStrictly}
 use Rattle.rlp_format.specs.Lemmas.Encodings.{front_sized, prefix_free}
 use Rattle.rlp.specs.Lemmas.ListRoundTrips.{AlwaysReadsBack}
 use Rattle.rlp.specs.Lemmas.StrictReads.{AlwaysReadsStrictly}

@@ -79,6 +79,20 @@ encoding-item_within most b fits (x, is, deep) =
     let sized : IsSized x = front_sized x b [] fits (is ∙ sym (append-nil (encoding x))) in
     ap encoding (ap (item_within most) is ∙ item_within-encoding most x sized deep) ∙ sym is
 
+-- a raw item is canonical within its depth
+pub raw_is : (b : List ℕ) → IsRawItem b → IsCanonicalWithin deepest_raw_item b
+unfolding IsRawItem
+raw_is b is = is
+
+-- and bytes that are so are a raw item
+pub raw_if : (b : List ℕ) → IsCanonicalWithin deepest_raw_item b → IsRawItem b
+unfolding IsRawItem
+raw_if b is = is
+
+-- a raw item is the encoding of its item
+pub raw_encoding : (b : List ℕ) → length b < 2 ^ 64 → IsRawItem b → encoding (raw_item_of b) ≡ b
+raw_encoding b fits is = encoding-item_within deepest_raw_item b fits (raw_is b is)
+
 -- ---- what a view holds
 
 framed_by : (strict : Bool) (b : List ℕ) (x : Item) → length b < 2 ^ 64 → Holds strict b (encoding x) → BeginsWith b (encoding x)
@@ -118,10 +132,10 @@ pub not_canonical_if : (b : List ℕ) → length b < 2 ^ 64 → ¬ IsRawItem b �
 not_canonical_if b fits other low (x, is) =
     let sized : IsSized x = front_sized x b [] fits (is ∙ sym (append-nil (encoding x))) in
     let same : depth b ≡ item_depth x = depth_of_item x b sized ([], is ∙ sym (append-nil (encoding x))) in
-    other (x, is, let deep : item_depth x ≤ deepest_raw_item = omega (arith, low, same) in deep)
+    other (raw_if b (x, is, let deep : item_depth x ≤ deepest_raw_item = omega (arith, low, same) in deep))
 
 -- for `RawItem::new`
-pub ruleset raw_faults = (too_deep, not_canonical)
+pub ruleset raw_faults = (too_deep, not_canonical, raw_if)
 
 -- the item of a raw item that begins as a list is a list
 list_by : (x : Item) (b : List ℕ) → length b < 2 ^ 64 → b ≡ encoding x → begins_as_list b ≡ is_list x
@@ -144,7 +158,7 @@ put_string (list xs) s is = absurd (let no : ⊥ = cc in no)
 pub raw_list_put : (b : List ℕ) (s : State) → length b < 2 ^ 64 → IsRawItem b → begins_as_list b ≡ true
     → with_mark true (count 1 (put b s)) ≡ put_item (raw_item_of b) s
 raw_list_put b s fits is begins =
-    let same : encoding (raw_item_of b) ≡ b = encoding-item_within deepest_raw_item b fits is in
+    let same : encoding (raw_item_of b) ≡ b = raw_encoding b fits is in
     let kind : is_list (raw_item_of b) ≡ true = sym (list_by (raw_item_of b) b fits (sym same)) ∙ begins in
     ap (λ c. with_mark true (count 1 (put c s))) (sym same) ∙ put_list (raw_item_of b) s kind
 
@@ -152,15 +166,17 @@ raw_list_put b s fits is begins =
 pub raw_string_put : (b d : List ℕ) (s : State) → length b < 2 ^ 64 → IsRawItem b → begins_as_list b ≡ false → b ≡ encoding (string d)
     → put (encoding (string d)) s ≡ put_item (raw_item_of b) s
 raw_string_put b d s fits is begins whole =
-    let same : encoding (raw_item_of b) ≡ b = encoding-item_within deepest_raw_item b fits is in
+    let same : encoding (raw_item_of b) ≡ b = raw_encoding b fits is in
     let kind : is_list (raw_item_of b) ≡ false = sym (list_by (raw_item_of b) b fits (sym same)) ∙ begins in
     ap (λ c. put c s) (sym whole ∙ sym same) ∙ put_string (raw_item_of b) s kind
 
 -- a raw item that doesn't begin as a list is a string
 pub raw_is_string : (b : List ℕ) → length b < 2 ^ 64 → IsRawItem b → begins_as_list b ≡ false → (d : List ℕ) × (b ≡ encoding (string d))
-raw_is_string b fits (string d, is, deep) begins = (d, is)
-raw_is_string b fits (list ys, is, deep) begins =
-    let kind : begins_as_list b ≡ true = list_by (list ys) b fits is in absurd (let no : ⊥ = cc in no)
+raw_is_string b fits raw begins = by (raw_is b raw)
+  where
+    by : IsCanonicalWithin deepest_raw_item b → (d : List ℕ) × (b ≡ encoding (string d))
+    by (string d, is, deep) = (d, is)
+    by (list ys, is, deep) = let kind : begins_as_list b ≡ true = list_by (list ys) b fits is in absurd (let no : ⊥ = cc in no)
 
 -- the string of such a raw item is read
 pub raw_string_read : (b : List ℕ) (v : View) (e : DecoderError) → length b < 2 ^ 64 → v ≡ strict_view_of b → IsRawItem b → begins_as_list b ≡ false
@@ -170,12 +186,12 @@ raw_string_read b v e fits strict is begins none =
     held_read (strict_view_of b) d e fits whole (subst (λ v. view_string v ≡ Err e) strict none)
 
 -- for the `rlp_append` of a raw item
-pub ruleset raw_writing = (raw_list_put, raw_string_put, raw_string_read, encoding-item_within)
+pub ruleset raw_writing = (raw_list_put, raw_string_put, raw_string_read, raw_encoding)
 
 -- the value that is read from the first item
 pub raw_given : (v : View) (f : List ℕ) → length f < 2 ^ 64 → Holds v.is_strict v.bytes f → IsRawItem f → GivesValue IsRawItem raw_item_of v f
 raw_given v f fits holds is =
-    record { fits = is; begins = subst (λ c. Holds v.is_strict v.bytes c) (sym (encoding-item_within deepest_raw_item f fits is)) holds }
+    record { fits = is; begins = subst (λ c. Holds v.is_strict v.bytes c) (sym (raw_encoding f fits is)) holds }
 
 -- why no value is read from the first item
 pub raw_fails : (v : View) (f g : List ℕ) (e : DecoderError) → view_frame v ≡ Ok f → g ≡ f → IsRawFault g e ⊎ ((e ≡ OutOfMemory) × IsRawItem g)

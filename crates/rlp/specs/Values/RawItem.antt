@@ -32,8 +32,8 @@ item_within (suc most) bytes = item_by (item_within most) bytes (read_string byt
 abbrev pub deepest_raw_item : ℕ
 deepest_raw_item = 256
 
--- the bytes are the encoding of an item that is no deeper than that
-abbrev pub IsRawItem : List ℕ → Type 0
+-- The bytes are the encoding of an item that is no deeper than that. Proofs of types that hold raw items don't look inside.
+unfoldable pub IsRawItem : List ℕ → Type 0
 IsRawItem b = IsCanonicalWithin deepest_raw_item b
 
 -- the item that the bytes of a raw item are the encoding of

@@ -1,0 +1,260 @@
+-- Structs whose last fields are groups of fields: their encodings are read back, and they are read strictly.
+use Rattle.std.proofs.Common.{◌≡◌, ◌↔◌, ℕ, suc, ◌+◌, ◌-◌, ◌*◌, ◌%◌, ◌^◌, ◌<◌, ◌⊎◌, inl, inr, ⊎_elim, List, [], ◌∷◌, ◌++◌, length, map}
+use Rattle.std.proofs.Common.{refl, sym, ap, ◌∙◌, subst, arith, length-append, take, drop, Ok, All}
+use Rattle.std.proofs.lemmas.Bool.{cases_lt}
+use Rattle.std.proofs.Math.Nat.{add-mod_left, mod-eq_of_lt, mul-add-mod_self_right, suc-mul}
+use Rattle.std.proofs.lemmas.List.{length-drop, length-map, length-take-le, map-append, nil_from_length, take-append-drop}
+use Rattle.std.proofs.lemmas.List.Elements.{All-cons, All-head, All-nil, All-tail}
+use Rattle.rlp_format.specs.declared.error.DecoderError.{DecoderError}
+use Rattle.rlp_format.specs.Format.Item.{Item, list_of}
+use Rattle.rlp_format.specs.Format.WrittenHeader.{AreBytes}
+use Rattle.rlp_format.specs.Format.Encoding.{encoding, IsSized}
+use Rattle.rlp_format.specs.Format.Split.{items}
+use Rattle.rlp_format.specs.Views.View.{View, view_of, strict_view_of, item_count}
+use Rattle.rlp_streams.specs.Streams.Fields.{all_items}
+use Rattle.rlp.specs.Values.ListReading.{FaultsAt, in_field}
+use Rattle.rlp.specs.Values.Groups.{AreGroups, FaultsAsGrouped, GivesGroups, IsOneMore, faulty_in_group, in_group, other_size, ungrouped}
+use Rattle.rlp_format.specs.Lemmas.Encodings.{front_sized}
+use Rattle.rlp_format.specs.Lemmas.Numbered.{item_count-list}
+use Rattle.rlp.specs.Lemmas.ListRoundTrips.{AlwaysReadsBack}
+use Rattle.rlp.specs.Lemmas.StrictReads.{AlwaysReadsStrictly, counted_items, counted_told, told_whole}
+use Rattle.rlp.specs.Lemmas.StrictStructs.{PartsFrom, parts_of_strict}
+use Rattle.rlp.specs.Lemmas.Structs.{HoldsFrom, holds_items, list_same}
+use Rattle.rlp.specs.Lemmas.WholeLists.{strict_item_count, strict_items, strict_list_told, whole_list, whole_sized}
+
+-- ---- numbers of items
+
+-- one more field
+pub one_more_right : (IsCount : ℕ → Type 0) (n : ℕ) → IsCount n → IsOneMore IsCount (suc n)
+one_more_right IsCount n right = (omega arith, subst IsCount (let same : n ≡ suc n - 1 = omega arith in same) right)
+
+-- some groups are a whole number of groups
+pub groups_right : (width n : ℕ) → 0 < width → AreGroups width (n * width)
+groups_right width n some =
+    let plain : n * width ≡ n * width + 0 = omega arith in
+    ap (λ m. m % width) plain ∙ mul-add-mod_self_right n width 0 ∙ mod-eq_of_lt some
+
+-- ---- lists that begin one list
+
+fronts_same : {A : Type 0} (a b x y : List A) → length a ≡ length b → a ++ x ≡ b ++ y → (a ≡ b) × (x ≡ y)
+fronts_same [] [] x y l e = (refl, e)
+fronts_same [] (d ∷ b) x y l e = absurd (omega arith)
+fronts_same (c ∷ a) [] x y l e = absurd (omega arith)
+fronts_same (c ∷ a) (d ∷ b) x y l e =
+    let heads : c ≡ d = cc in
+    let tails : a ++ x ≡ b ++ y = cc in
+    let below = fronts_same a b x y (omega arith) tails in
+    (let front : a ≡ b = below.0 in cc, below.1)
+
+next_place : (i n : ℕ) → suc i + n ≡ i + suc n
+next_place i n = omega arith
+
+this_place : (i : ℕ) → i ≡ i + 0
+this_place i = omega arith
+
+-- the first items of a view from a place on, and those after them
+holds_parts : (view : View) (i : ℕ) (xs ys : List Item) → HoldsFrom view i (xs ++ ys) → HoldsFrom view i xs × HoldsFrom view (i + length xs) ys
+holds_parts view i [] ys holds = (tt, subst (λ j. HoldsFrom view j ys) (this_place i) holds)
+holds_parts view i (x ∷ xs) ys (is, (sized, others)) =
+    let more = holds_parts view (suc i) xs ys others in
+    ((is, (sized, more.0)), subst (λ j. HoldsFrom view j ys) (next_place i (length xs)) more.1)
+
+-- the same for a strict view
+held_parts : (view : View) (i : ℕ) (xs ys : List (List ℕ)) → PartsFrom view i (xs ++ ys) → PartsFrom view i xs × PartsFrom view (i + length xs) ys
+held_parts view i [] ys held = (tt, subst (λ j. PartsFrom view j ys) (this_place i) held)
+held_parts view i (x ∷ xs) ys (is, (bytes, (short, others))) =
+    let more = held_parts view (suc i) xs ys others in
+    ((is, (bytes, (short, more.0))), subst (λ j. PartsFrom view j ys) (next_place i (length xs)) more.1)
+
+-- ---- the groups
+
+module _ {G : Type 0} (width : ℕ) (items_of : G → List Item) (counted : (g : G) → length (items_of g) ≡ width) where
+  -- the number of items of groups
+  pub groups_counted : (gs : List G) → length (all_items items_of gs) ≡ length gs * width
+  groups_counted [] = omega arith
+  groups_counted (g ∷ gs) =
+      let more : length (all_items items_of gs) ≡ length gs * width = groups_counted gs in
+      let one : length (items_of g) ≡ width = counted g in
+      let both : length (items_of g ++ all_items items_of gs) ≡ length gs * width + width =
+      omega (arith, length-append (items_of g) (all_items items_of gs)) in
+      both ∙ sym (suc-mul (length gs) width)
+
+  group_and_more : (g : G) (gs : List G) → length (items_of g ++ all_items items_of gs) ≡ width + length (all_items items_of gs)
+  group_and_more g gs = length-append (items_of g) (all_items items_of gs) ∙ ap (λ n. n + length (all_items items_of gs)) (counted g)
+
+-- item k of a group, or of the groups after it
+group_cases : (width k : ℕ) → (k < width) ⊎ ((j : ℕ) × (k ≡ width + j))
+group_cases width k = ⊎_elim (λ below. inl below) (λ above. inr (k - width, omega arith)) (cases_lt k width)
+
+module _ {G : Type 0} (width : ℕ) (Fits : G → Type 0) (items_of : G → List Item) where
+  module _ (gives : ℕ → View → G → Type 0) (counted : (g : G) → length (items_of g) ≡ width) where
+    -- groups give exactly their values
+    pub groups_alike : 0 < width
+        → ((i : ℕ) (view : View) (g : G) → Fits g → HoldsFrom view i (items_of g) → (h : G) → gives i view h ↔ (Fits h × (items_of h ≡ items_of g)))
+        → (i : ℕ) (view : View) (gs hs : List G) → All Fits gs → HoldsFrom view i (all_items items_of gs)
+        → length (all_items items_of hs) ≡ length (all_items items_of gs)
+        → GivesGroups width gives i view hs ↔ (All Fits hs × (all_items items_of hs ≡ all_items items_of gs))
+    groups_alike some alike i view [] [] fit holds many = (λ none. (All-nil Fits, refl), λ h. tt)
+    groups_alike some alike i view [] (h ∷ hs) fit holds many = absurd (omega (arith, group_and_more width items_of counted h hs, many))
+    groups_alike some alike i view (g ∷ gs) [] fit holds many = absurd (omega (arith, group_and_more width items_of counted g gs, many))
+    groups_alike some alike i view (g ∷ gs) (h ∷ hs) fit holds many =
+        let (front, after) = holds_parts view i (items_of g) (all_items items_of gs) holds in
+        let one = alike i view g (All-head Fits g gs fit) front h in
+        let there : HoldsFrom view (i + width) (all_items items_of gs) = subst (λ n. HoldsFrom view (i + n) (all_items items_of gs)) (counted g) after in
+        let fewer : length (all_items items_of hs) ≡ length (all_items items_of gs) =
+        omega (arith, group_and_more width items_of counted g gs, group_and_more width items_of counted h hs, many) in
+        let more = groups_alike some alike (i + width) view gs hs (All-tail Fits g gs fit) there fewer in (
+          λ (given, others). let x = one.0 given in let y = more.0 others in (
+            All-cons Fits h hs x.0 y.0,
+            ap (λ s. s ++ all_items items_of hs) x.1 ∙ ap (λ s. items_of g ++ s) y.1,
+          ),
+          λ (fits, same). let both = fronts_same (items_of h) (items_of g) (all_items items_of hs) (all_items items_of gs)
+              (counted h ∙ sym (counted g)) same in
+              (one.1 (All-head Fits h hs fits, both.0), more.1 (All-tail Fits h hs fits, both.1)),
+        )
+
+    -- if read strictly, groups are given exactly if the items are their whole encodings
+    pub groups_exact : ((i : ℕ) (view : View) (parts : List (List ℕ)) (g : G) → PartsFrom view i parts → length parts ≡ width
+        → gives i view g ↔ (Fits g × (parts ≡ map encoding (items_of g))))
+        → (i : ℕ) (view : View) (parts : List (List ℕ)) (gs : List G) → PartsFrom view i parts → length parts ≡ length (all_items items_of gs)
+        → GivesGroups width gives i view gs ↔ (All Fits gs × (parts ≡ map encoding (all_items items_of gs)))
+    groups_exact exact i view parts [] held many = (λ none. (All-nil Fits, nil_from_length parts many), λ h. tt)
+    groups_exact exact i view parts (g ∷ gs) held many =
+        let long : length parts ≡ width + length (all_items items_of gs) = many ∙ group_and_more width items_of counted g gs in
+        let first : List (List ℕ) = take width parts in
+        let others : List (List ℕ) = drop width parts in
+        let whole : take width parts ++ drop width parts ≡ parts = take-append-drop width parts in
+        let few : length (take width parts) ≡ width = length-take-le width parts (omega arith) in
+        let left : length (drop width parts) ≡ length (all_items items_of gs) = omega (arith, length-drop width parts, long) in
+        let (front, after) = held_parts view i (take width parts) (drop width parts) (subst (λ ps. PartsFrom view i ps) (sym whole) held) in
+        let there : PartsFrom view (i + width) (drop width parts) = subst (λ n. PartsFrom view (i + n) (drop width parts)) few after in
+        let one = exact i view (take width parts) g front few in
+        let more = groups_exact exact (i + width) view (drop width parts) gs there left in
+        let split : map encoding (items_of g ++ all_items items_of gs) ≡ map encoding (items_of g) ++ map encoding (all_items items_of gs) =
+        map-append encoding (items_of g) (all_items items_of gs) in (
+          λ (given, rest). let x = one.0 given in let y = more.0 rest in (
+            All-cons Fits g gs x.0 y.0,
+            sym whole ∙ ap (λ s. s ++ drop width parts) x.1 ∙ ap (λ s. map encoding (items_of g) ++ s) y.1 ∙ sym split,
+          ),
+          λ (fits, same). let both = fronts_same (take width parts) (map encoding (items_of g)) (drop width parts)
+              (map encoding (all_items items_of gs)) (few ∙ sym (counted g) ∙ sym (length-map (items_of g) encoding)) (whole ∙ same ∙ split) in
+              (one.1 (All-head Fits g gs fits, both.0), more.1 (All-tail Fits g gs fits, both.1)),
+        )
+
+  module _ (faults : ℕ → View → DecoderError → Type 0) (counted : (g : G) → length (items_of g) ≡ width) where
+    -- and they have no fault
+    pub groups_sound : ((i : ℕ) (view : View) (g : G) → Fits g → HoldsFrom view i (items_of g) → (k : ℕ) (e : DecoderError) → k < width
+        → ¬ FaultsAt (faults k) view (i + k) e)
+        → (i : ℕ) (view : View) (gs : List G) → All Fits gs → HoldsFrom view i (all_items items_of gs) → (k : ℕ) (e : DecoderError)
+        → k < length (all_items items_of gs) → ¬ FaultsAt (in_group width faults k) view (i + k) e
+    groups_sound sound i view [] fit holds k e few at = absurd (omega (arith, few))
+    groups_sound sound i view (g ∷ gs) fit holds k e few at =
+        let (front, after) = holds_parts view i (items_of g) (all_items items_of gs) holds in
+        let there : HoldsFrom view (i + width) (all_items items_of gs) = subst (λ n. HoldsFrom view (i + n) (all_items items_of gs)) (counted g) after in
+        ⊎_elim
+        (λ below. sound i view g (All-head Fits g gs fit) front k e below
+        (subst (λ n. FaultsAt (faults n) view (i + k) e) (mod-eq_of_lt below) at))
+        (λ (j, is). groups_sound sound (i + width) view gs (All-tail Fits g gs fit) there j e
+        (omega (arith, group_and_more width items_of counted g gs, few, is))
+        (subst (λ n. FaultsAt (faults n) view (i + width + j) e) (ap (λ n. n % width) is ∙ add-mod_left width j)
+        (subst (λ n. FaultsAt (faults (k % width)) view n e) (let place : i + k ≡ i + width + j = omega (arith, is) in place) at)))
+        (group_cases width k)
+
+    -- the same for a strict view
+    pub groups_exactly_sound : ((i : ℕ) (view : View) (parts : List (List ℕ)) (g : G) → PartsFrom view i parts → Fits g
+        → parts ≡ map encoding (items_of g) → (k : ℕ) (e : DecoderError) → k < width → ¬ FaultsAt (faults k) view (i + k) e)
+        → (i : ℕ) (view : View) (parts : List (List ℕ)) (gs : List G) → PartsFrom view i parts → All Fits gs
+        → parts ≡ map encoding (all_items items_of gs) → (k : ℕ) (e : DecoderError) → k < length (all_items items_of gs)
+        → ¬ FaultsAt (in_group width faults k) view (i + k) e
+    groups_exactly_sound sound i view parts [] held fit same k e few at = absurd (omega (arith, few))
+    groups_exactly_sound sound i view parts (g ∷ gs) held fit same k e few at =
+        let split : map encoding (items_of g ++ all_items items_of gs) ≡ map encoding (items_of g) ++ map encoding (all_items items_of gs) =
+        map-append encoding (items_of g) (all_items items_of gs) in
+        let (front, after) = held_parts view i (map encoding (items_of g)) (map encoding (all_items items_of gs))
+        (subst (λ ps. PartsFrom view i ps) (same ∙ split) held) in
+        let there : PartsFrom view (i + width) (map encoding (all_items items_of gs)) =
+        subst (λ n. PartsFrom view (i + n) (map encoding (all_items items_of gs))) (length-map (items_of g) encoding ∙ counted g) after in
+        ⊎_elim
+        (λ below. sound i view (map encoding (items_of g)) g front (All-head Fits g gs fit) refl k e below
+        (subst (λ n. FaultsAt (faults n) view (i + k) e) (mod-eq_of_lt below) at))
+        (λ (j, is). groups_exactly_sound sound (i + width) view (map encoding (all_items items_of gs)) gs there (All-tail Fits g gs fit) refl j e
+        (omega (arith, group_and_more width items_of counted g gs, few, is))
+        (subst (λ n. FaultsAt (faults n) view (i + width + j) e) (ap (λ n. n % width) is ∙ add-mod_left width j)
+        (subst (λ n. FaultsAt (faults (k % width)) view n e) (let place : i + k ≡ i + width + j = omega (arith, is) in place) at)))
+        (group_cases width k)
+
+-- ---- the struct
+
+module _ {P : Type 0} (IsCount : ℕ → Type 0) (number : P → ℕ) (Fits : P → Type 0) (items_of : P → List Item) (gives : ℕ → View → P → Type 0)
+    (some : ℕ → ℕ → View → Type 0) (faults : ℕ → View → DecoderError → Type 0)
+    (counted : (p : P) → length (items_of p) ≡ number p) (right : (p : P) → IsCount (number p)) where
+  -- a view whose number of items is that of a value, and whose items have no fault, has no fault
+  no_grouped_fault : (view : View) (p : P) → item_count view ≡ Ok (number p)
+      → ((k : ℕ) (e : DecoderError) → k < length (items_of p) → ¬ FaultsAt (faults k) view (0 + k) e) → (e : DecoderError)
+      → ¬ FaultsAsGrouped IsCount some faults view e
+  no_grouped_fault view p many sound e (ungrouped g none) = cc
+  no_grouped_fault view p many sound e (other_size m same wrong) = let equal : m ≡ number p = cc in wrong (subst IsCount (sym equal) (right p))
+  no_grouped_fault view p many sound e (faulty_in_group m g same (in_field k within before at)) =
+      let equal : m ≡ number p = cc in
+      sound k g (omega (arith, equal, counted p)) (subst (λ j. FaultsAt (faults k) view j g) (let zero_add : k ≡ 0 + k = omega arith in zero_add) at)
+
+  -- such a struct is read back if its fields are
+  pub grouped_reads_back : ((i : ℕ) (view : View) (p : P) → Fits p → HoldsFrom view i (items_of p) → (q : P)
+      → length (items_of q) ≡ length (items_of p) → gives i view q ↔ (Fits q × (items_of q ≡ items_of p)))
+      → ((i : ℕ) (view : View) (p : P) → Fits p → HoldsFrom view i (items_of p) → (k : ℕ) (e : DecoderError) → k < length (items_of p)
+      → ¬ FaultsAt (faults k) view (i + k) e)
+      → AlwaysReadsBack Fits (λ p. list_of (items_of p)) (λ v p. (item_count v ≡ Ok (number p)) × gives 0 v p)
+      (λ v e. FaultsAsGrouped IsCount some faults v e)
+  grouped_reads_back alike sound b p fits fit (more, is) =
+      let sized : IsSized (list_of (items_of p)) = front_sized (list_of (items_of p)) b more fits is in
+      let holds : HoldsFrom (view_of b) 0 (items_of p) = holds_items (items_of p) b sized (more, is) in
+      let many : item_count (view_of b) ≡ Ok (number p) = item_count-list (items_of p) b sized (more, is) ∙ ap Ok (counted p) in
+      record {
+        alike = λ q. (
+          λ (n, g). let same : number q ≡ number p = cc in
+              let h = (alike 0 (view_of b) p fit holds q (counted q ∙ same ∙ sym (counted p))).0 g in (h.0, ap list_of h.1),
+          λ (fit', same). let equal = list_same (items_of q) (items_of p) same in
+              let numbers : number p ≡ number q = sym (counted p) ∙ ap length (sym equal) ∙ counted q in
+              (many ∙ ap Ok numbers, (alike 0 (view_of b) p fit holds q (ap length equal)).1 (fit', equal)),
+        );
+        no_fault = no_grouped_fault (view_of b) p many (sound 0 (view_of b) p fit holds);
+      }
+
+  module _ (exact : (i : ℕ) (view : View) (parts : List (List ℕ)) (p : P) → PartsFrom view i parts → length parts ≡ length (items_of p)
+      → gives i view p ↔ (Fits p × (parts ≡ map encoding (items_of p))))
+      (sound : (i : ℕ) (view : View) (parts : List (List ℕ)) (p : P) → PartsFrom view i parts → Fits p → parts ≡ map encoding (items_of p)
+      → (k : ℕ) (e : DecoderError) → k < length (items_of p) → ¬ FaultsAt (faults k) view (i + k) e) where
+    module _ (b : List ℕ) (p : P) (bytes : AreBytes b) (fits : length b < 2 ^ 64) where
+      grouped_whole : item_count (strict_view_of b) ≡ Ok (number p) → gives 0 (strict_view_of b) p → Fits p × (b ≡ encoding (list_of (items_of p)))
+      grouped_whole many given =
+          let told = counted_told (strict_view_of b) (number p) many in
+          let h = (exact 0 (strict_view_of b) (items b) p (parts_of_strict b bytes fits told)
+          (counted_items (strict_view_of b) (number p) many ∙ sym (counted p))).0 given in
+          (h.0, whole_list b (items_of p) bytes (told_whole b told) h.1)
+
+      grouped_count : b ≡ encoding (list_of (items_of p)) → item_count (strict_view_of b) ≡ Ok (number p)
+      grouped_count is = strict_item_count (items_of p) b (whole_sized (list_of (items_of p)) b fits is) is ∙ ap Ok (counted p)
+
+      grouped_parts : b ≡ encoding (list_of (items_of p)) → PartsFrom (strict_view_of b) 0 (items b)
+      grouped_parts is = parts_of_strict b bytes fits (strict_list_told (items_of p) b (whole_sized (list_of (items_of p)) b fits is) is)
+
+      grouped_given : Fits p → b ≡ encoding (list_of (items_of p)) → (item_count (strict_view_of b) ≡ Ok (number p)) × gives 0 (strict_view_of b) p
+      grouped_given fit is = (
+        grouped_count is,
+        (exact 0 (strict_view_of b) (items b) p (grouped_parts is)
+            (counted_items (strict_view_of b) (number p) (grouped_count is) ∙ sym (counted p))).1
+            (fit, strict_items (items_of p) b (whole_sized (list_of (items_of p)) b fits is) is),
+      )
+
+      grouped_sound : Fits p → b ≡ encoding (list_of (items_of p)) → (e : DecoderError) → ¬ FaultsAsGrouped IsCount some faults (strict_view_of b) e
+      grouped_sound fit is = no_grouped_fault (strict_view_of b) p (grouped_count is)
+          (sound 0 (strict_view_of b) (items b) p (grouped_parts is) fit
+          (strict_items (items_of p) b (whole_sized (list_of (items_of p)) b fits is) is))
+
+    -- and is read strictly if they are
+    pub grouped_strict : AlwaysReadsStrictly Fits (λ p. list_of (items_of p)) (λ v p. (item_count v ≡ Ok (number p)) × gives 0 v p)
+        (λ v e. FaultsAsGrouped IsCount some faults v e)
+    grouped_strict b p bytes fits = record {
+      exact = (λ (many, given). grouped_whole b p bytes fits many given, λ (fit, is). grouped_given b p bytes fits fit is);
+      sound = grouped_sound b p bytes fits;
+    }
