@@ -1,0 +1,9 @@
+//! Tests of the program that shows records. The crate has only tests.
+#![tactic(auto)]
+
+#[cfg(test)]
+mod faults;
+#[cfg(test)]
+mod records;
+#[cfg(test)]
+mod support;
