@@ -11,6 +11,7 @@ mod headers;
 mod logs;
 #[cfg(test)]
 mod messages;
+#[cfg(test)]
 mod node_records;
 #[cfg(test)]
 mod records;
