@@ -10,3 +10,5 @@ pub mod Decoding
 pub mod StrictDecoding
 -- fields that are read one after another
 pub mod FieldReading
+-- fields of which some may be missing, read one after another
+pub mod TailReading

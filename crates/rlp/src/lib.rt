@@ -29,11 +29,14 @@ use bytes::BytesMut;
 pub use rlp_format::{DecoderError, PayloadInfo, Prototype};
 pub use rlp_streams::{
     AppendFields, BasicEncoder, Chain, EMPTY_LIST_RLP, Each, Encodable, Flattened, ListOf,
-    NULL_RLP, RlpStream, Uint, append_struct,
+    NULL_RLP, Optional, OptionalListOf, RlpStream, Uint, append_struct,
 };
 pub use rlpin::{BasicDecoder, Fields, Rlp, RlpIterator};
 use std::alloc::{AllocError, Global};
-pub use structs::{DecodeField, DecodeFields, Field, ListField, decode_struct};
+pub use structs::{
+    DecodeField, DecodeFields, DecodeOptional, DecodeTailed, Field, ListField, OptionalField,
+    OptionalListField, decode_struct, decode_tailed,
+};
 pub use traits::{Decodable, RoundTrip, Scalar, StrictRead};
 
 /// The encoding of a value. Fails with `AllocError` if memory is refused, or if the value's own

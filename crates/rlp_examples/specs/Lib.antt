@@ -1,4 +1,5 @@
 pub mod Access
+pub mod Body
 pub mod Child
 pub mod Entry
 pub mod Hash
@@ -7,6 +8,7 @@ pub mod Log
 pub mod Nest
 pub mod Ordered
 pub mod Recipient
+pub mod Row
 pub mod ShortHeader
 pub mod Transaction
 pub mod Trie

@@ -29,19 +29,15 @@ impl Encodable for ShortHeader {
 
     ghost fits = { short_header.Fits };
 
-    #[tactic(auto, using(rlp::proofs::Growth::growth, rlp::specs::Lemmas::Tails::tailed_writing))]
     fn rlp_append(&self, s: &mut RlpStream) -> Result<(), AllocError> {
-        match (&self.base_fee, &self.withdrawals_root, &self.blob_gas_used) {
-            (None, None, None) => rlp::append_fields!(s, &self.number, &self.gas_limit),
-            (Some(fee), None, None) => rlp::append_fields!(s, &self.number, &self.gas_limit, fee),
-            (Some(fee), Some(root), None) => {
-                rlp::append_fields!(s, &self.number, &self.gas_limit, fee, root)
-            }
-            (Some(fee), Some(root), Some(gas)) => {
-                rlp::append_fields!(s, &self.number, &self.gas_limit, fee, root, gas)
-            }
-            _ => Err(AllocError),
-        }
+        rlp::append_fields!(
+            s,
+            &self.number,
+            &self.gas_limit,
+            Optional(&self.base_fee),
+            Optional(&self.withdrawals_root),
+            Optional(&self.blob_gas_used)
+        )
     }
 }
 
@@ -54,32 +50,18 @@ impl Decodable for ShortHeader {
 
     ghost may_lack_memory = { short_header.may_lack };
 
-    #[tactic(auto, using(rlp::specs::Lemmas::Tails::tailed_fields))]
     fn decode(alloc: Global, rlp: &Rlp<'_>) -> Result<ShortHeader, DecoderError> {
-        let count = rlp.item_count()?;
-        if count < 2 || count > 5 {
-            return Err(DecoderError::RlpIncorrectListLen);
-        }
-        let mut header = ShortHeader {
-            number: rlp.val_at(alloc, 0)?,
-            gas_limit: rlp.val_at(alloc, 1)?,
-            base_fee: None,
-            withdrawals_root: None,
-            blob_gas_used: None,
-        };
-        if count == 2 {
-            return Ok(header);
-        }
-        header.base_fee = Some(rlp.val_at(alloc, 2)?);
-        if count == 3 {
-            return Ok(header);
-        }
-        header.withdrawals_root = Some(rlp.val_at(alloc, 3)?);
-        if count == 4 {
-            return Ok(header);
-        }
-        header.blob_gas_used = Some(rlp.val_at(alloc, 4)?);
-        Ok(header)
+        rlp::decode_fields!(
+            alloc,
+            rlp,
+            ShortHeader {
+                number,
+                gas_limit,
+                base_fee: ?,
+                withdrawals_root: ?,
+                blob_gas_used: ?
+            }
+        )
     }
 }
 

@@ -10,7 +10,7 @@ mod traits;
 
 pub use impls::Uint;
 pub use stream::{BasicEncoder, Chain, RlpStream};
-pub use structs::{AppendFields, Each, Flattened, ListOf, append_struct};
+pub use structs::{AppendFields, Each, Flattened, ListOf, Optional, OptionalListOf, append_struct};
 pub use traits::Encodable;
 
 /// The encoding of the empty string.

@@ -1,8 +1,9 @@
-//! Headers whose last fields may be missing. The expected bytes were worked out by hand.
+//! Structs whose last fields may be missing, and a struct of 32 fields. The expected bytes were
+//! worked out by hand.
 
 use crate::values::arrays::is_fault;
 use rlp::DecoderError;
-use rlp_examples::ShortHeader;
+use rlp_examples::{Body, Row, ShortHeader};
 use std::alloc::{AllocError, Global};
 use std::test::Fail;
 
@@ -80,5 +81,59 @@ fn headers_with_tails(rt: HostRuntime) -> Result<(), Fail> {
     let alloc = rt.alloc();
     assert!(rt; short_ones_go_both_ways(alloc)? && whole_goes_both_ways(alloc)?);
     assert!(rt; no_headers(alloc) && gap_is_refused(alloc));
+    Ok(())
+}
+
+/// Bodies with no transactions, and the number of their withdrawals.
+const BODIES: [(&[u8], Option<usize>); 2] = [(&[0xc1, 0xc0], None), (&[0xc2, 0xc0, 0xc0], Some(0))];
+
+/// Bytes that aren't a body, and the faults.
+const NO_BODIES: [(&[u8], DecoderError); 3] = [
+    (&[0xc0], DecoderError::RlpIncorrectListLen),
+    (&[0xc3, 0xc0, 0xc0, 0xc0], DecoderError::RlpIncorrectListLen),
+    (&[0xc2, 0xc0, 0x80], DecoderError::RlpExpectedToBeList),
+];
+
+fn bodies_go_both_ways(alloc: Global) -> Result<bool, Fail> {
+    for (bytes, count) in BODIES {
+        let body = rlp::decode_strict::<Body>(alloc, bytes)?;
+        if body.withdrawals.as_ref().map(|hashes| hashes.len()) != count
+            || rlp::encode(alloc, &body)?.as_slice() != bytes
+        {
+            return Ok(false);
+        }
+    }
+    Ok(true)
+}
+
+fn no_bodies(alloc: Global) -> bool {
+    NO_BODIES.iter().all(|row| is_fault(rlp::decode::<Body>(alloc, row.0).err(), &row.1))
+}
+
+#[test]
+fn lists_in_tails(rt: HostRuntime) -> Result<(), Fail> {
+    let alloc = rt.alloc();
+    assert!(rt; bodies_go_both_ways(alloc)? && no_bodies(alloc));
+    Ok(())
+}
+
+/// Four columns: the number 5, a hash, no bytes, and an array of eight bytes.
+const COLUMNS: [u8; 44] = [
+    0x05, 0xa0, 1, 1, 1, 1, 1, 1, 1, 1, 1, 1, 1, 1, 1, 1, 1, 1, 1, 1, 1, 1, 1, 1, 1, 1, 1, 1, 1, 1,
+    1, 1, 1, 1, 0x80, 0x88, 2, 2, 2, 2, 2, 2, 2, 2,
+];
+
+#[test]
+fn rows_of_many_columns(rt: HostRuntime) -> Result<(), Fail> {
+    let alloc = rt.alloc();
+    let mut bytes = Vec::from_array(alloc, [0xf9, 0x01, 0x60])?;
+    for _ in 0..8 {
+        bytes.extend_from_slice(&COLUMNS)?;
+    }
+    let row = rlp::decode_strict::<Row>(alloc, bytes.as_slice())?;
+    assert!(rt; row.column_29 == 5 && row.column_32 == [2; 8]);
+    assert_eq!(rt; rlp::encode(alloc, &row)?.as_slice(), bytes.as_slice());
+    let fault = rlp::decode::<Row>(alloc, &[0xc1, 0x05]).err();
+    assert!(rt; fault == Some(DecoderError::RlpIncorrectListLen));
     Ok(())
 }
