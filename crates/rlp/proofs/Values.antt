@@ -12,3 +12,5 @@ pub mod StrictDecoding
 pub mod FieldReading
 -- groups of fields that are read one after another
 pub mod GroupReading
+-- fields of which some may be missing, read one after another
+pub mod TailReading

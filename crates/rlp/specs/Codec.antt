@@ -14,8 +14,9 @@ use Rattle.rlp.specs.Values.ValueReading.{GivesSome, GivesText, GivesValue, IsLe
 use Rattle.rlp.specs.Values.ListReading.{FaultsAsFields, FaultsAsList, FaultsAsOption, FaultsAt, FaultsInField, GivesAt, GivesList, GivesOption}
 use Rattle.rlp.specs.Values.ListReading.{GivesSomeAt, MayLackAsList, MayLackAsOption, MayLackAsStruct}
 use Rattle.std.proofs.lemmas.List.{nil_from_length}
-use Rattle.rlp.specs.Values.Tails.{FaultsAsTailed, FitsFirst, GivesFirst, MayLackAsTailed, items_first}
-use Rattle.rlp.specs.Lemmas.Tails.{any_enough, first_few, first_tail_alike, first_tail_exact, first_tail_exactly_sound, first_tail_sound}
+use Rattle.rlp_streams.specs.Streams.Fields.{FitsFirst, items_first}
+use Rattle.rlp.specs.Values.Tails.{FaultsAsTailed, GivesFirst, MayLackAsTailed, count_first}
+use Rattle.rlp.specs.Lemmas.Tails.{any_enough, first_counted, first_few, first_tail_alike, first_tail_exact, first_tail_exactly_sound, first_tail_sound}
 use Rattle.rlp.specs.Lemmas.Tails.{no_tail_enough, no_tail_few, one_more_enough, tailed_reads_back, tailed_strict}
 use Rattle.rlp.specs.Values.RoundTrip.{ReadsBack, ReadsStrictly}
 use Rattle.rlp.specs.Lemmas.RoundTrips.{bool_reads_back, bytes_in, number_reads_back, reads_back, reads_back_through, sound_length, text_in}
@@ -245,17 +246,19 @@ struct_of f = record {
 
 -- ---- structs whose last fields may be missing
 
--- The fields of a struct from some field on. The last fields may be missing: the number of items is at least `least` and at most `most`. The other members are
--- as in `Fields`.
+-- The fields of a struct from some field on. The last fields may be missing: the number of items of a value is `count`, which is at least `least` and at most
+-- `most`. The other members are as in `Fields`.
 pub record Tailed (P : Type 0) : Type 1 where
   pub least : ℕ
   pub most : ℕ
+  pub count : P → ℕ
   pub Fits : P → Type 0
   pub items : P → List Item
   pub gives : ℕ → View → P → Type 0
   pub some : ℕ → ℕ → View → Type 0
   pub faults : ℕ → View → DecoderError → Type 0
   pub may_lack : ℕ → View → Type 0
+  pub counted : (p : P) → length (items p) ≡ count p
   pub enough : (p : P) → least ≤ length (items p)
   pub few : (p : P) → length (items p) ≤ most
   pub alike : (i : ℕ) (view : View) (p : P) → Fits p → HoldsFrom view i (items p) → (q : P) → length (items q) ≡ length (items p) → gives i view q
@@ -272,12 +275,14 @@ abbrev pub no_tail : {P : Type 0} → Tailed P
 no_tail = record {
   least = 0;
   most = 0;
+  count = λ p. 0;
   Fits = λ p. ⊤;
   items = λ p. [];
   gives = λ i v p. ⊤;
   some = λ k i v. ⊥;
   faults = λ k v e. ⊥;
   may_lack = λ k v. ⊥;
+  counted = λ p. refl;
   enough = λ p. no_tail_enough;
   few = λ p. no_tail_enough;
   alike = λ i view p fit holds q many. (λ g. (tt, refl), λ h. tt);
@@ -291,21 +296,23 @@ abbrev pub and_optional : {A P : Type 0} → (P → Option A) → Codec A → Ta
 and_optional field c more = record {
   least = 0;
   most = suc more.most;
+  count = λ p. count_first (field p) (more.count p);
   Fits = λ p. FitsFirst c.Fits (field p) (more.Fits p) (more.items p);
   items = λ p. items_first c.item (field p) (more.items p);
-  gives = λ i v p. GivesFirst c.gives v i (field p) (more.gives (suc i) v p) (more.items p);
+  gives = λ i v p. GivesFirst c.gives v i (field p) (more.gives (suc i) v p) (more.count p);
   some = by_place (λ i v. GivesSomeAt c.gives v i) more.some;
   faults = by_place c.faults more.faults;
   may_lack = by_place c.may_lack more.may_lack;
+  counted = λ p. first_counted c.item (field p) (more.items p) (more.count p) (more.counted p);
   enough = λ p. any_enough (length (items_first c.item (field p) (more.items p)));
   few = λ p. first_few c.item (field p) (more.items p) more.most (more.few p);
   alike = λ i view p fit holds q many. first_tail_alike c.Fits c.item c.gives c.faults c.reads_back i view (field p) (field q) (more.items p)
-      (more.items q) (more.Fits p) (more.Fits q) (more.gives (suc i) view q)
+      (more.items q) (more.count q) (more.Fits p) (more.Fits q) (more.gives (suc i) view q) (more.counted q)
       (λ fits others same. more.alike (suc i) view p fits others q same) fit holds many;
   sound = λ i view p fit holds. first_tail_sound c.Fits c.item c.gives c.faults c.reads_back more.faults i view (field p) (more.items p) (more.Fits p)
       (λ fits others. more.sound (suc i) view p fits others) fit holds;
   exact = λ i view parts p held many. first_tail_exact c.Fits c.item c.gives c.faults c.reads_strictly i view parts (field p) (more.items p)
-      (more.Fits p) (more.gives (suc i) view p)
+      (more.count p) (more.Fits p) (more.gives (suc i) view p) (more.counted p)
       (λ others held same. more.exact (suc i) view others p held same) held many;
   exactly_sound = λ i view parts p held fit same. first_tail_exactly_sound c.Fits c.item c.gives c.faults c.reads_strictly more.faults i view parts
       (field p) (more.items p) (more.Fits p)
@@ -321,9 +328,9 @@ abbrev pub tailed : {P : Type 0} → Tailed P → Codec P
 tailed t = record {
   Fits = t.Fits;
   item = λ p. list_of (t.items p);
-  gives = λ v p. (item_count v ≡ Ok (length (t.items p))) × t.gives 0 v p;
+  gives = λ v p. (item_count v ≡ Ok (t.count p)) × t.gives 0 v p;
   faults = λ v e. FaultsAsTailed t.least t.most t.some t.faults v e;
   may_lack = λ v. MayLackAsTailed t.some t.may_lack v;
-  reads_back = tailed_reads_back t.least t.most t.Fits t.items t.gives t.some t.faults t.enough t.few t.alike t.sound;
-  reads_strictly = tailed_strict t.least t.most t.Fits t.items t.gives t.some t.faults t.enough t.few t.exact t.exactly_sound;
+  reads_back = tailed_reads_back t.least t.most t.Fits t.items t.gives t.some t.faults t.enough t.few t.count t.counted t.alike t.sound;
+  reads_strictly = tailed_strict t.least t.most t.Fits t.items t.gives t.some t.faults t.enough t.few t.count t.counted t.exact t.exactly_sound;
 }

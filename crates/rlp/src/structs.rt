@@ -16,8 +16,17 @@ mod groups;
 use crate::rlpin::{Fields, Rlp};
 use crate::traits::Decodable;
 pub use groups::{DecodeGroup, DecodeGrouped, Groups, decode_with_groups};
+mod optional;
+mod optional_list;
+mod tails;
+
+use crate::rlpin::{Fields, Rlp};
+use crate::traits::Decodable;
+pub use optional::OptionalField;
+pub use optional_list::OptionalListField;
 use rlp_format::error::DecoderError;
 use std::alloc::Global;
+pub use tails::{DecodeOptional, DecodeTailed, decode_tailed};
 
 /// One field of a struct, read from one item.
 pub trait DecodeField: Sized + Drop {
@@ -88,7 +97,7 @@ impl<T: Decodable> DecodeField for ListField<T> {
 }
 
 /// The fields of a struct that is read from a list. They are nested pairs: `(a, (b, (c,)))`.
-pub trait DecodeFields: Sized + Drop {
+pub trait DecodeFields: Sized {
     /// The number of fields.
     ghost count: { ℕ };
 
@@ -203,9 +212,12 @@ pub fn decode_struct<F: DecodeFields>(alloc: Global, rlp: &Rlp<'_>) -> Result<F,
 /// `Each(&self.children)` is one item for each value. `Flattened(&self.pairs)` is the fields of
 /// each value. Fails as [`append_struct`] does.
 ///
+/// The last fields may be missing: `Optional(&self.base_fee)` is an item if the option is `Some`.
+/// Fails with `AllocError` if such a field is `Some` and one before it is `None`.
+///
 /// ```rust
 /// fn rlp_append(&self, s: &mut RlpStream) -> Result<(), AllocError> {
-///     rlp::append_fields!(s, &self.address, ListOf(&self.keys))
+///     rlp::append_fields!(s, &self.address, ListOf(&self.keys), Optional(&self.nonce))
 /// }
 /// ```
 #[macro_export]
@@ -231,11 +243,60 @@ macro_rules! append_fields {
     (@nested $first:expr, $($others:expr),+) => {
         ($first, $crate::append_fields!(@nested $($others),+))
     };
-    ($s:expr, $($field:expr),+ $(,)?) => {
-        match $crate::append_struct($s, &$crate::append_fields!(@nested $($field),+)) {
+    (@optional Optional($field:expr) $(,)?) => {
+        $crate::Optional($field, ())
+    };
+    (@optional Optional($field:expr), $($others:tt)+) => {
+        $crate::Optional($field, $crate::append_fields!(@optional $($others)+))
+    };
+    (@optional OptionalListOf($field:expr) $(,)?) => {
+        $crate::OptionalListOf($field, ())
+    };
+    (@optional OptionalListOf($field:expr), $($others:tt)+) => {
+        $crate::OptionalListOf($field, $crate::append_fields!(@optional $($others)+))
+    };
+    // The fields are taken one by one, up to the first that may be missing.
+    (@from ($s:expr) [$($field:expr,)+]) => {
+        $crate::append_fields!(@call $s, $crate::append_fields!(@nested $($field),+))
+    };
+    (@from ($s:expr) [] Optional $($others:tt)+) => {
+        $crate::append_fields!(@call $s, $crate::append_fields!(@optional Optional $($others)+))
+    };
+    (@from ($s:expr) [$($field:expr,)+] Optional $($others:tt)+) => {
+        $crate::append_fields!(
+            @call $s,
+            (
+                $crate::append_fields!(@nested $($field),+),
+                $crate::append_fields!(@optional Optional $($others)+),
+            )
+        )
+    };
+    (@from ($s:expr) [] OptionalListOf $($others:tt)+) => {
+        $crate::append_fields!(@call $s, $crate::append_fields!(@optional OptionalListOf $($others)+))
+    };
+    (@from ($s:expr) [$($field:expr,)+] OptionalListOf $($others:tt)+) => {
+        $crate::append_fields!(
+            @call $s,
+            (
+                $crate::append_fields!(@nested $($field),+),
+                $crate::append_fields!(@optional OptionalListOf $($others)+),
+            )
+        )
+    };
+    (@from $s:tt [$($field:expr,)*] $next:expr) => {
+        $crate::append_fields!(@from $s [$($field,)* $next,])
+    };
+    (@from $s:tt [$($field:expr,)*] $next:expr, $($others:tt)*) => {
+        $crate::append_fields!(@from $s [$($field,)* $next,] $($others)*)
+    };
+    (@call $s:expr, $fields:expr) => {
+        match $crate::append_struct($s, &$fields) {
             Ok(()) => Ok(()),
             Err(refused) => Err(refused),
         }
+    };
+    ($s:expr, $($fields:tt)+) => {
+        $crate::append_fields!(@from ($s) [] $($fields)+)
     };
 }
 
@@ -257,31 +318,94 @@ macro_rules! fields {
 /// struct with its fields in order. A field that is a list is written `keys: [..]`. The macro is
 /// the whole body of a `decode`. Fails as [`decode_struct`] does.
 ///
+/// The last fields may be missing. Such a field is an `Option`, and is written `nonce: ?`. Then the
+/// macro fails as [`decode_tailed`] does.
+///
 /// ```rust
 /// fn decode(alloc: Global, rlp: &Rlp<'_>) -> Result<Access, DecoderError> {
-///     rlp::decode_fields!(alloc, rlp, Access { address, keys: [..] })
+///     rlp::decode_fields!(alloc, rlp, Access { address, keys: [..], nonce: ? })
 /// }
 /// ```
 #[macro_export]
 macro_rules! decode_fields {
-    (@nested $last:ident) => { ($crate::Field($last),) };
-    (@nested $last:ident : [..]) => { ($crate::ListField($last),) };
-    (@nested $first:ident, $($others:tt)+) => {
-        ($crate::Field($first), $crate::decode_fields!(@nested $($others)+))
+    // Each field is moved out of the values, and the others are left: a pattern of all fields at
+    // once takes long to check.
+    (@always $head:tt $left:ident [$($moves:tt)*] [$($names:ident)*] $last:ident $(,)?) => {
+        $crate::decode_fields!(
+            @call decode_struct $head $left
+            [$($moves)* let ($crate::Field($last),) = $left;] [$($names)* $last]
+        )
     };
-    (@nested $first:ident : [..], $($others:tt)+) => {
-        ($crate::ListField($first), $crate::decode_fields!(@nested $($others)+))
+    (@always $head:tt $left:ident [$($moves:tt)*] [$($names:ident)*] $last:ident: [..] $(,)?) => {
+        $crate::decode_fields!(
+            @call decode_struct $head $left
+            [$($moves)* let ($crate::ListField($last),) = $left;] [$($names)* $last]
+        )
     };
-    ($alloc:expr, $rlp:expr, $name:ident { $($field:ident $(: $list:tt)?),+ $(,)? }) => {
-        match $crate::decode_struct($alloc, $rlp) {
-            Ok($crate::decode_fields!(@nested $($field $(: $list)?),+)) => Ok($name { $($field),+ }),
+    (@always $head:tt $left:ident $moves:tt $names:tt $field:ident: ? $($others:tt)*) => {
+        $crate::decode_fields!(@optional $head $left $moves $names $field: ? $($others)*)
+    };
+    (@always $head:tt $left:ident $moves:tt $names:tt $field:ident: [..]? $($others:tt)*) => {
+        $crate::decode_fields!(@optional $head $left $moves $names $field: [..]? $($others)*)
+    };
+    (@always $head:tt $left:ident [$($moves:tt)*] [$($names:ident)*] $field:ident, $($others:tt)+) => {
+        $crate::decode_fields!(
+            @always $head $left
+            [$($moves)* let ($crate::Field($field), $left) = $left;] [$($names)* $field] $($others)+
+        )
+    };
+    (@always $head:tt $left:ident [$($moves:tt)*] [$($names:ident)*] $field:ident: [..], $($others:tt)+) => {
+        $crate::decode_fields!(
+            @always $head $left
+            [$($moves)* let ($crate::ListField($field), $left) = $left;] [$($names)* $field] $($others)+
+        )
+    };
+    (@optional $head:tt $left:ident [$($moves:tt)*] [$($names:ident)*] $last:ident: ? $(,)?) => {
+        $crate::decode_fields!(
+            @call decode_tailed $head $left
+            [$($moves)* let $crate::OptionalField($last, ()) = $left;] [$($names)* $last]
+        )
+    };
+    (@optional $head:tt $left:ident [$($moves:tt)*] [$($names:ident)*] $field:ident: ?, $($others:tt)+) => {
+        $crate::decode_fields!(
+            @optional $head $left
+            [$($moves)* let $crate::OptionalField($field, $left) = $left;] [$($names)* $field] $($others)+
+        )
+    };
+    (@optional $head:tt $left:ident [$($moves:tt)*] [$($names:ident)*] $last:ident: [..]? $(,)?) => {
+        $crate::decode_fields!(
+            @call decode_tailed $head $left
+            [$($moves)* let $crate::OptionalListField($last, ()) = $left;] [$($names)* $last]
+        )
+    };
+    (@optional $head:tt $left:ident [$($moves:tt)*] [$($names:ident)*] $field:ident: [..]?, $($others:tt)+) => {
+        $crate::decode_fields!(
+            @optional $head $left
+            [$($moves)* let $crate::OptionalListField($field, $left) = $left;] [$($names)* $field] $($others)+
+        )
+    };
+    (@call $read:ident ($alloc:expr, $rlp:expr, $name:ident {}) $left:ident [$($moves:tt)*] [$($field:ident)*]) => {
+        match $crate::$read($alloc, $rlp) {
+            Ok($left) => {
+                $($moves)*
+                Ok($name { $($field),* })
+            }
             Err(fault) => Err(fault),
         }
     };
-    ($alloc:expr, $rlp:expr, $name:ident ( $($field:ident $(: $list:tt)?),+ $(,)? )) => {
-        match $crate::decode_struct($alloc, $rlp) {
-            Ok($crate::decode_fields!(@nested $($field $(: $list)?),+)) => Ok($name($($field),+)),
+    (@call $read:ident ($alloc:expr, $rlp:expr, $name:ident ()) $left:ident [$($moves:tt)*] [$($field:ident)*]) => {
+        match $crate::$read($alloc, $rlp) {
+            Ok($left) => {
+                $($moves)*
+                Ok($name($($field),*))
+            }
             Err(fault) => Err(fault),
         }
+    };
+    ($alloc:expr, $rlp:expr, $name:ident { $($fields:tt)+ }) => {
+        $crate::decode_fields!(@always ($alloc, $rlp, $name {}) fields [] [] $($fields)+)
+    };
+    ($alloc:expr, $rlp:expr, $name:ident ( $($fields:tt)+ )) => {
+        $crate::decode_fields!(@always ($alloc, $rlp, $name ()) fields [] [] $($fields)+)
     };
 }

@@ -55,30 +55,6 @@ pub struct Header {
     pub requests_hash: Option<Hash>,
 }
 
-/// Writes a header with the given ones of the last six fields.
-macro_rules! append_header {
-    ($s:expr, $header:expr $(, $later:expr)*) => {
-        rlp::append_fields!(
-            $s,
-            &$header.parent_hash,
-            &$header.ommers_hash,
-            &$header.beneficiary,
-            &$header.state_root,
-            &$header.transactions_root,
-            &$header.receipts_root,
-            &$header.logs_bloom,
-            &$header.difficulty,
-            &$header.number,
-            &$header.gas_limit,
-            &$header.gas_used,
-            &$header.timestamp,
-            &$header.extra_data,
-            &$header.mix_hash,
-            &$header.nonce $(, $later)*
-        )
-    };
-}
-
 /// Writing also fails with `AllocError` if one of the last six fields is `Some` and one before it
 /// is `None`.
 impl Encodable for Header {
@@ -88,40 +64,31 @@ impl Encodable for Header {
 
     ghost fits = { header.Fits };
 
-    #[tactic(auto, using(rlp::proofs::Growth::growth, rlp::specs::Lemmas::Tails::tailed_writing))]
     fn rlp_append(&self, s: &mut RlpStream) -> Result<(), AllocError> {
-        match (
-            &self.base_fee_per_gas,
-            &self.withdrawals_root,
-            &self.blob_gas_used,
-            &self.excess_blob_gas,
-            &self.parent_beacon_block_root,
-            &self.requests_hash,
-        ) {
-            (None, None, None, None, None, None) => { append_header!(s, self) }
-            (Some(fee), None, None, None, None, None) => { append_header!(s, self, fee) }
-            (Some(fee), Some(withdrawals), None, None, None, None) => {
-                append_header!(s, self, fee, withdrawals)
-            }
-            (Some(fee), Some(withdrawals), Some(used), None, None, None) => {
-                append_header!(s, self, fee, withdrawals, used)
-            }
-            (Some(fee), Some(withdrawals), Some(used), Some(excess), None, None) => {
-                append_header!(s, self, fee, withdrawals, used, excess)
-            }
-            (Some(fee), Some(withdrawals), Some(used), Some(excess), Some(beacon), None) => {
-                append_header!(s, self, fee, withdrawals, used, excess, beacon)
-            }
-            (
-                Some(fee),
-                Some(withdrawals),
-                Some(used),
-                Some(excess),
-                Some(beacon),
-                Some(requests),
-            ) => { append_header!(s, self, fee, withdrawals, used, excess, beacon, requests) }
-            _ => Err(AllocError),
-        }
+        rlp::append_fields!(
+            s,
+            &self.parent_hash,
+            &self.ommers_hash,
+            &self.beneficiary,
+            &self.state_root,
+            &self.transactions_root,
+            &self.receipts_root,
+            &self.logs_bloom,
+            &self.difficulty,
+            &self.number,
+            &self.gas_limit,
+            &self.gas_used,
+            &self.timestamp,
+            &self.extra_data,
+            &self.mix_hash,
+            &self.nonce,
+            Optional(&self.base_fee_per_gas),
+            Optional(&self.withdrawals_root),
+            Optional(&self.blob_gas_used),
+            Optional(&self.excess_blob_gas),
+            Optional(&self.parent_beacon_block_root),
+            Optional(&self.requests_hash)
+        )
     }
 }
 
@@ -134,60 +101,34 @@ impl Decodable for Header {
 
     ghost may_lack_memory = { header.may_lack };
 
-    #[tactic(auto, using(rlp::specs::Lemmas::Tails::tailed_fields))]
     fn decode(alloc: Global, rlp: &Rlp<'_>) -> Result<Header, DecoderError> {
-        let count = rlp.item_count()?;
-        if count < 15 || count > 21 {
-            return Err(DecoderError::RlpIncorrectListLen);
-        }
-        let mut header = Header {
-            parent_hash: rlp.val_at(alloc, 0)?,
-            ommers_hash: rlp.val_at(alloc, 1)?,
-            beneficiary: rlp.val_at(alloc, 2)?,
-            state_root: rlp.val_at(alloc, 3)?,
-            transactions_root: rlp.val_at(alloc, 4)?,
-            receipts_root: rlp.val_at(alloc, 5)?,
-            logs_bloom: rlp.val_at(alloc, 6)?,
-            difficulty: rlp.val_at(alloc, 7)?,
-            number: rlp.val_at(alloc, 8)?,
-            gas_limit: rlp.val_at(alloc, 9)?,
-            gas_used: rlp.val_at(alloc, 10)?,
-            timestamp: rlp.val_at(alloc, 11)?,
-            extra_data: rlp.val_at(alloc, 12)?,
-            mix_hash: rlp.val_at(alloc, 13)?,
-            nonce: rlp.val_at(alloc, 14)?,
-            base_fee_per_gas: None,
-            withdrawals_root: None,
-            blob_gas_used: None,
-            excess_blob_gas: None,
-            parent_beacon_block_root: None,
-            requests_hash: None,
-        };
-        if count == 15 {
-            return Ok(header);
-        }
-        header.base_fee_per_gas = Some(rlp.val_at(alloc, 15)?);
-        if count == 16 {
-            return Ok(header);
-        }
-        header.withdrawals_root = Some(rlp.val_at(alloc, 16)?);
-        if count == 17 {
-            return Ok(header);
-        }
-        header.blob_gas_used = Some(rlp.val_at(alloc, 17)?);
-        if count == 18 {
-            return Ok(header);
-        }
-        header.excess_blob_gas = Some(rlp.val_at(alloc, 18)?);
-        if count == 19 {
-            return Ok(header);
-        }
-        header.parent_beacon_block_root = Some(rlp.val_at(alloc, 19)?);
-        if count == 20 {
-            return Ok(header);
-        }
-        header.requests_hash = Some(rlp.val_at(alloc, 20)?);
-        Ok(header)
+        rlp::decode_fields!(
+            alloc,
+            rlp,
+            Header {
+                parent_hash,
+                ommers_hash,
+                beneficiary,
+                state_root,
+                transactions_root,
+                receipts_root,
+                logs_bloom,
+                difficulty,
+                number,
+                gas_limit,
+                gas_used,
+                timestamp,
+                extra_data,
+                mix_hash,
+                nonce,
+                base_fee_per_gas: ?,
+                withdrawals_root: ?,
+                blob_gas_used: ?,
+                excess_blob_gas: ?,
+                parent_beacon_block_root: ?,
+                requests_hash: ?
+            }
+        )
     }
 }
 

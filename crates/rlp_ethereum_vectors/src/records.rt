@@ -156,6 +156,35 @@ fn headers_of_all_forks(rt: HostRuntime) -> Result<(), Fail> {
     Ok(())
 }
 
+/// The number of empty strings in a list, and the fault of the list as a header.
+const NO_HEADERS: [(u8, DecoderError); 4] = [
+    (14, DecoderError::RlpIncorrectListLen),
+    (15, DecoderError::RlpIsTooShort),
+    (21, DecoderError::RlpIsTooShort),
+    (22, DecoderError::RlpIncorrectListLen),
+];
+
+/// Returns the first of these numbers with another fault.
+fn other_fault(alloc: Global) -> Result<Option<u8>, Fail> {
+    for (count, fault) in NO_HEADERS {
+        let mut bytes = Vec::new(alloc);
+        bytes.push(0xc0 | count)?;
+        for _ in 0..count {
+            bytes.push(0x80)?;
+        }
+        if rlp::decode::<Header>(alloc, bytes.as_slice()).err() != Some(fault) {
+            return Ok(Some(count));
+        }
+    }
+    Ok(None)
+}
+
+#[test]
+fn headers_of_other_lengths(rt: HostRuntime) -> Result<(), Fail> {
+    assert_eq!(rt; other_fault(rt.alloc())?, None);
+    Ok(())
+}
+
 #[test]
 fn transactions_with_types(rt: HostRuntime) -> Result<(), Fail> {
     let alloc = rt.alloc();

@@ -1,5 +1,11 @@
+pub mod Access
+pub mod Body
 pub mod Child
 pub mod Entry
 pub mod Nest
 pub mod Ordered
+pub mod Recipient
+pub mod Row
+pub mod ShortHeader
+pub mod Transaction
 pub mod Trie

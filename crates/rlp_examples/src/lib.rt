@@ -3,6 +3,7 @@
 #![tactic(auto)]
 
 mod appends;
+mod body;
 mod branch;
 mod child;
 mod couple;
@@ -12,10 +13,15 @@ mod nest;
 mod nonce;
 mod ordered;
 mod pair;
+mod recipient;
+mod row;
+mod short_header;
+mod transaction;
 mod trio;
 mod uses;
 
 pub use appends::{append_one, append_three, bytes_of_three};
+pub use body::Body;
 pub use branch::Branch;
 pub use child::Child;
 pub use couple::{Alone, Couple, append_list_in_list, write_list_in_list};
@@ -25,5 +31,9 @@ pub use nest::{Inner, Nest};
 pub use nonce::Nonce;
 pub use ordered::Ordered;
 pub use pair::Pair;
+pub use recipient::Recipient;
+pub use row::Row;
+pub use short_header::ShortHeader;
+pub use transaction::Transaction;
 pub use trio::{Refusing, Trio};
 pub use uses::{append_by_stream, append_each, chain_and_encoder, drained, first_and_text, nested};

@@ -12,3 +12,5 @@ pub mod Filling
 pub mod Retained
 -- fields that are appended one after another
 pub mod Fields
+-- last fields that may be missing
+pub mod Tails

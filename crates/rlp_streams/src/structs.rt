@@ -1,15 +1,19 @@
 //! Structs that are written as the list of their fields.
 
-ghost use Rattle.std.specs.Prelude.{◌≡◌, ◌++◌, ◌∷◌, [], ◌^◌, ◌≤◌, List, OnOk, OnErr, length, MatchOption};
+ghost use Rattle.std.specs.Prelude.{◌≡◌, ◌++◌, ◌∷◌, [], ◌^◌, ◌≤◌, List, OnOk, OnErr, length, MatchOption, ⊤};
 ghost use Rattle.rlp_format.specs.Format.Item.{Item, list_of};
 ghost use Rattle.rlp_buffer.specs.Streams.Stream.{Retains, add_all, put_item};
 ghost use Rattle.rlp_streams.specs.Streams.Growth.{GrowsTo};
 ghost use Rattle.rlp_streams.specs.Streams.Fields.{AppendsSome};
 
+mod optional;
+mod optional_list;
 mod slices;
 
 use crate::stream::RlpStream;
 use crate::traits::Encodable;
+pub use optional::Optional;
+pub use optional_list::OptionalListOf;
 pub use slices::{Each, Flattened, ListOf};
 use std::alloc::AllocError;
 
@@ -72,6 +76,22 @@ impl<P: AppendFields, Q: AppendFields> AppendFields for (P, Q) {
     fn append_fields(&self, s: &mut RlpStream) -> Result<(), AllocError> {
         self.0.append_fields(s)?;
         self.1.append_fields(s)?;
+        Ok(())
+    }
+}
+
+/// No fields. It ends the fields that may be missing.
+impl AppendFields for () {
+    ghost items = { λ v. [] };
+
+    ghost fit = { λ v. ⊤ };
+
+    fn field_count(&self) -> Option<usize> {
+        Some(0)
+    }
+
+    #[tactic(auto, using(crate::proofs::Streams::Fields::fields))]
+    fn append_fields(&self, s: &mut RlpStream) -> Result<(), AllocError> {
         Ok(())
     }
 }

@@ -77,7 +77,7 @@ pub ruleset fields_in_order = (first_fails, others_fail, others_given)
 
 -- ---- the whole struct
 
-given_before : (some : ℕ → ℕ → View → Type 0) (v : View) (k : ℕ) → GivesFields k some v 0 → GivesBefore some v k
+pub given_before : (some : ℕ → ℕ → View → Type 0) (v : View) (k : ℕ) → GivesFields k some v 0 → GivesBefore some v k
 given_before some v zero given = tt
 given_before some v (suc k) given = (
   given_before some v k (λ j few. given j (omega (arith, few))),
