@@ -44,3 +44,5 @@ pub mod StrictStructs
 pub mod Tails
 -- values of several types that are read back and read strictly
 pub mod Sums
+-- lists of a tag and a payload
+pub mod Tagged

@@ -4,6 +4,7 @@ pub mod Entry
 pub mod Hash
 pub mod Header
 pub mod Log
+pub mod Message
 pub mod Nest
 pub mod Ordered
 pub mod Recipient

@@ -3,6 +3,7 @@
 mod arrays;
 mod careless;
 mod codecs;
+mod messages;
 mod nodes;
 mod once_refused;
 mod structs;
