@@ -71,7 +71,8 @@ list_or_string c d lists strings = record {
 
 -- ---- tags
 
--- The types of a sum, each with a tag. `case k` is the codec of the values with tag k. If two types have one tag, it is that of the first.
+-- The types of a sum, each with a tag. `case k` is the codec of the values with tag k. If two types have one tag, it is that of the first, and values of the
+-- second don't fit.
 pub record Cases (A : Type 0) : Type 1 where
   pub tags : List ℕ
   pub tag : A → ℕ
@@ -108,8 +109,8 @@ case_item cases x = (cases.case (cases.tag x)).item x
 abbrev pub envelope : {A : Type 0} → Cases A → A → List ℕ
 envelope cases x = cases.tag x ∷ encoding (case_item cases x)
 
--- A value is written as the string of its tag and the encoding of its payload, as in EIP-2718. The payload is read strictly, from a lenient view too. For a string
--- with another tag the fault is `Custom` with the text.
+-- A value is written as the string of its tag and the encoding of its payload, as in EIP-2718. The payload is read strictly, from a lenient view too. For a
+-- string with another tag the fault is `Custom` with the text.
 abbrev pub enveloped : {A : Type 0} → List ℕ → Cases A → Codec A
 enveloped unknown cases = record {
   Fits = FitsCase cases;
@@ -121,7 +122,8 @@ enveloped unknown cases = record {
   reads_strictly = envelope_strict unknown cases.tags cases.tag cases.case cases.known;
 }
 
--- A value is written as the list of its tag, a number of at most `width` bytes, and its payload. For a list with another tag the fault is `Custom` with the text.
+-- A value is written as the list of its tag, a number of at most `width` bytes, and its payload. For a list with another tag the fault is `Custom` with the
+-- text.
 abbrev pub tagged_list : {A : Type 0} → ℕ → List ℕ → Cases A → Codec A
 tagged_list width unknown cases = record {
   Fits = λ x. FitsBytes width (cases.tag x) × FitsCase cases x;
