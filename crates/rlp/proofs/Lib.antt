@@ -10,6 +10,7 @@ pub mod Streams
 pub mod Writing
 pub mod Reading
 pub mod Envelopes
+pub mod Tagged
 -- the same rules in smaller sets: for a type that is read from one string, and those that are passed on from `rlp_streams`
 pub mod OneString
 pub mod Growth

@@ -50,3 +50,5 @@ pub mod RawItems
 pub mod Sums
 -- structs whose last fields are groups of fields
 pub mod Groups
+-- lists of a tag and a payload
+pub mod Tagged

@@ -48,44 +48,57 @@ impl Transaction {
         }
     }
 
-    /// Reads a transaction strictly from its bytes, as [`Transaction::to_bytes`] returns them.
+    /// Reads a transaction strictly from its bytes, as [`Transaction::to_bytes`] returns them. For
+    /// such bytes it fails only if memory runs out.
     ///
     /// Fails with `Custom("unknown transaction type")` for a first byte below `0xc0` that is no
     /// type, with `RlpIsTooShort` if there are no bytes, and else with the strict fault of the
     /// payload.
-    #[tactic(auto, using(rlp::proofs::Envelopes::envelope_bytes))]
     pub fn from_bytes(alloc: Global, bytes: &[u8]) -> Result<Transaction, DecoderError>
         ensures value { IfOk result (λ t. transaction.Fits t
             × (bytes.now ≡ bytes_alone (transaction.item t))) }
         ensures fault { IfErr result (λ e. (FaultsAlone bytes.now e) ⊎ ((e ≡ OutOfMemory)
             × MayLackAlone bytes.now)) }
+        ensures memory { (t : Transaction) → transaction.Fits t
+            → bytes.now ≡ bytes_alone (transaction.item t) → IfErr result (λ e. e ≡ OutOfMemory) }
     {
-        if Rlp::new(bytes).is_list() {
-            return match laws::strictly_decoded(alloc, bytes) {
-                Ok(legacy) => Ok(Transaction::Legacy(legacy)),
-                Err(fault) => Err(fault),
-            };
-        }
-        let envelope = Envelope::split(bytes)?;
-        match envelope.tag {
-            ACCESS_LIST_TYPE => match envelope.decode(alloc) {
-                Ok(payload) => Ok(Transaction::AccessList(payload)),
-                Err(fault) => Err(fault),
-            },
-            FEE_MARKET_TYPE => match envelope.decode(alloc) {
-                Ok(payload) => Ok(Transaction::FeeMarket(payload)),
-                Err(fault) => Err(fault),
-            },
-            BLOB_TYPE => match envelope.decode(alloc) {
-                Ok(payload) => Ok(Transaction::Blob(payload)),
-                Err(fault) => Err(fault),
-            },
-            SET_CODE_TYPE => match envelope.decode(alloc) {
-                Ok(payload) => Ok(Transaction::SetCode(payload)),
-                Err(fault) => Err(fault),
-            },
-            _ => Err(DecoderError::Custom("unknown transaction type")),
-        }
+        read_alone(alloc, bytes)
+    }
+}
+
+// Reads a transaction from its bytes. That its own bytes have no fault follows in `from_bytes`.
+#[tactic(auto, using(rlp::proofs::Envelopes::envelope_bytes))]
+fn read_alone(alloc: Global, bytes: &[u8]) -> Result<Transaction, DecoderError>
+    ensures value { IfOk result (λ t. transaction.Fits t
+        × (bytes.now ≡ bytes_alone (transaction.item t))) }
+    ensures fault { IfErr result (λ e. (FaultsAlone bytes.now e) ⊎ ((e ≡ OutOfMemory)
+        × MayLackAlone bytes.now)) }
+{
+    if Rlp::new(bytes).is_list() {
+        return match laws::strictly_decoded(alloc, bytes) {
+            Ok(legacy) => Ok(Transaction::Legacy(legacy)),
+            Err(fault) => Err(fault),
+        };
+    }
+    let envelope = Envelope::split(bytes)?;
+    match envelope.tag {
+        ACCESS_LIST_TYPE => match envelope.decode(alloc) {
+            Ok(payload) => Ok(Transaction::AccessList(payload)),
+            Err(fault) => Err(fault),
+        },
+        FEE_MARKET_TYPE => match envelope.decode(alloc) {
+            Ok(payload) => Ok(Transaction::FeeMarket(payload)),
+            Err(fault) => Err(fault),
+        },
+        BLOB_TYPE => match envelope.decode(alloc) {
+            Ok(payload) => Ok(Transaction::Blob(payload)),
+            Err(fault) => Err(fault),
+        },
+        SET_CODE_TYPE => match envelope.decode(alloc) {
+            Ok(payload) => Ok(Transaction::SetCode(payload)),
+            Err(fault) => Err(fault),
+        },
+        _ => Err(DecoderError::Custom("unknown transaction type")),
     }
 }
 

@@ -2,6 +2,8 @@
 
 mod arrays;
 mod careless;
+mod codecs;
+mod messages;
 mod nodes;
 mod once_refused;
 mod raw_items;

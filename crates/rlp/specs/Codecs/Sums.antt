@@ -1,13 +1,17 @@
 -- Codecs of types whose values are of several types.
-use Rattle.std.specs.Prelude.{ℕ, ◌≡◌, ◌⊎◌, ◌==◌, Bool, true, false, List, [], ◌∷◌}
-use Rattle.rlp_format.specs.Format.Item.{Item, string}
+use Rattle.std.specs.Prelude.{ℕ, ◌≡◌, ◌⊎◌, ◌==◌, Bool, true, false, List, [], ◌∷◌, Ok}
+use Rattle.rlp_format.specs.Format.Item.{Item, list_of, string}
 use Rattle.rlp_format.specs.Format.Encoding.{encoding}
 use Rattle.rlp_buffer.specs.Streams.Stream.{is_list}
 use Rattle.rlp.specs.Codec.{Codec}
-use Rattle.rlp.specs.Values.ValueReading.{FaultsAs, GivesValue}
-use Rattle.rlp.specs.Values.Sums.{ByFirstByte, IsEnvelopeFault, IsOtherTag, MayLackInEnvelope, OnSum, sum_item, sum_tag}
+use Rattle.rlp.specs.Values.ValueReading.{FaultsAs, GivesNumber, GivesValue}
+use Rattle.rlp.specs.Values.ListReading.{GivesAt}
+use Rattle.rlp_format.specs.Values.Value.{FitsBytes, number_item}
+use Rattle.rlp_format.specs.Views.View.{item_count}
+use Rattle.rlp.specs.Values.Sums.{ByFirstByte, FaultsAsTagged, IsEnvelopeFault, IsOtherTag, MayLackAsTagged, MayLackInEnvelope, OnSum, sum_item, sum_tag}
 use Rattle.rlp.specs.Lemmas.Sums.{envelope_reads_back, envelope_strict, either_reads_back, either_strict, known_first, known_last, left_reads_back}
 use Rattle.rlp.specs.Lemmas.Sums.{left_strict, right_reads_back, right_strict}
+use Rattle.rlp.specs.Lemmas.Tagged.{tagged_reads_back, tagged_strict}
 
 -- a type of which no value fits
 abbrev pub no_value : {A : Type 0} → Codec A
@@ -67,7 +71,8 @@ list_or_string c d lists strings = record {
 
 -- ---- tags
 
--- The types of a sum, each with a tag. `case k` is the codec of the values with tag k. If two types have one tag, it is that of the first.
+-- The types of a sum, each with a tag. `case k` is the codec of the values with tag k. If two types have one tag, it is that of the first, and values of the
+-- second don't fit.
 pub record Cases (A : Type 0) : Type 1 where
   pub tags : List ℕ
   pub tag : A → ℕ
@@ -104,8 +109,8 @@ case_item cases x = (cases.case (cases.tag x)).item x
 abbrev pub envelope : {A : Type 0} → Cases A → A → List ℕ
 envelope cases x = cases.tag x ∷ encoding (case_item cases x)
 
--- A value is written as the string of its tag and the encoding of its payload, as in EIP-2718. The payload is read strictly, from a lenient view too. For a string
--- with another tag the fault is `Custom` with the text.
+-- A value is written as the string of its tag and the encoding of its payload, as in EIP-2718. The payload is read strictly, from a lenient view too. For a
+-- string with another tag the fault is `Custom` with the text.
 abbrev pub enveloped : {A : Type 0} → List ℕ → Cases A → Codec A
 enveloped unknown cases = record {
   Fits = FitsCase cases;
@@ -115,4 +120,18 @@ enveloped unknown cases = record {
   may_lack = λ v. MayLackInEnvelope (λ k. (cases.case k).may_lack) v;
   reads_back = envelope_reads_back unknown cases.tags cases.tag cases.case cases.known;
   reads_strictly = envelope_strict unknown cases.tags cases.tag cases.case cases.known;
+}
+
+-- A value is written as the list of its tag, a number of at most `width` bytes, and its payload. For a list with another tag the fault is `Custom` with the
+-- text.
+abbrev pub tagged_list : {A : Type 0} → ℕ → List ℕ → Cases A → Codec A
+tagged_list width unknown cases = record {
+  Fits = λ x. FitsBytes width (cases.tag x) × FitsCase cases x;
+  item = λ x. list_of (number_item (cases.tag x) ∷ case_item cases x ∷ []);
+  gives = λ v x. (item_count v ≡ Ok 2)
+      × (GivesAt (GivesNumber width) v 0 (cases.tag x) × GivesAt (cases.case (cases.tag x)).gives v 1 x);
+  faults = λ v e. FaultsAsTagged width cases.tags unknown (λ k. (cases.case k).faults) v e;
+  may_lack = λ v. MayLackAsTagged width (λ k. (cases.case k).may_lack) v;
+  reads_back = tagged_reads_back width unknown cases.tags cases.tag cases.case cases.known;
+  reads_strictly = tagged_strict width unknown cases.tags cases.tag cases.case cases.known;
 }

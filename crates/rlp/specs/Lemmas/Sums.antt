@@ -64,7 +64,7 @@ module _ {A B : Type 0} (Fits : A → Type 0) (item : A → Item) (gives : View 
 -- ---- lists and strings
 
 -- bytes that begin with the encoding of a list begin as a list
-list_first : (x : Item) (b : List ℕ) → length b < 2 ^ 64 → BeginsWith b (encoding x) → is_list x ≡ true → begins_as_list b ≡ true
+pub list_first : (x : Item) (b : List ℕ) → length b < 2 ^ 64 → BeginsWith b (encoding x) → is_list x ≡ true → begins_as_list b ≡ true
 list_first (string d) b fits begins kind = cc
 list_first (list xs) b fits begins kind =
     let same : list xs ≡ list_of (listed xs) = sym (ap list (items_from-listed xs)) in
@@ -185,7 +185,8 @@ module _ {A : Type 0} (unknown tags : List ℕ) (tag : A → ℕ) (case : ℕ �
   abbrev EnvelopeFault : List ℕ → DecoderError → Type 0
   EnvelopeFault d e = IsEnvelopeFault tags unknown (λ k. (case k).faults) d e
 
-  envelope_sound : (x : A) → CaseFits x → length (encoding ((case (tag x)).item x)) < 2 ^ 64 → (e : DecoderError) → ¬ EnvelopeFault (in_envelope x) e
+  -- the bytes of a value that fits have no fault
+  pub envelope_sound : (x : A) → CaseFits x → length (encoding ((case (tag x)).item x)) < 2 ^ 64 → (e : DecoderError) → ¬ EnvelopeFault (in_envelope x) e
   envelope_sound x fit short e (no_tag is) = cc
   envelope_sound x fit short e (other_tag k payload f is other custom) =
       known x (subst (IsOtherTag tags) (sym (head_same (tag x) k (encoding ((case (tag x)).item x)) payload is)) other)

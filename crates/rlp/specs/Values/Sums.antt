@@ -1,13 +1,14 @@
 -- Values of several types: told apart by a list or a string, or by a tag, which is a number in front of a payload.
-use Rattle.std.specs.Prelude.{ℕ, ◌≡◌, ◌≢◌, ◌⊎◌, ⊤, true, false, List, [], ◌∷◌}
+use Rattle.std.specs.Prelude.{ℕ, ◌≡◌, ◌≢◌, ◌⊎◌, ⊤, true, false, List, [], ◌∷◌, Ok, Err}
 use Rattle.std.proofs.Common.{inl, inr}
 use Rattle.rlp_format.specs.declared.error.DecoderError.{DecoderError}
-use Rattle.rlp_format.specs.declared.error.DecoderError.TheVariants.{RlpIsTooShort}
+use Rattle.rlp_format.specs.declared.error.DecoderError.TheVariants.{RlpIncorrectListLen, RlpIsTooShort}
 use Rattle.rlp_format.specs.Format.Item.{Item}
 use Rattle.rlp_format.specs.Format.Split.{begins_as_list}
 use Rattle.rlp_format.specs.Format.WrittenHeader.{AreBytes}
-use Rattle.rlp_format.specs.Views.View.{View, HoldsString, strict_view_of}
-use Rattle.rlp.specs.Values.ValueReading.{IsCustom}
+use Rattle.rlp_format.specs.Views.View.{View, HoldsString, item_count, strict_view_of}
+use Rattle.rlp.specs.Values.ValueReading.{FaultsAsNumber, GivesNumber, IsCustom}
+use Rattle.rlp.specs.Values.ListReading.{FaultsAt, GivesAt, MayLackAt}
 
 -- P of a value on the left, and Q of one on the right
 abbrev pub OnSum : {A B : Type 0} → (A → Type 0) → (B → Type 0) → A ⊎ B → Type 0
@@ -55,3 +56,23 @@ pub record MayLackAfterTag (may_lack : ℕ → View → Type 0) (d : List ℕ) :
   pub payload : List ℕ
   pub is : d ≡ tag ∷ payload
   pub may : may_lack tag (strict_view_of payload)
+
+-- ---- a list of a tag and a payload
+
+-- Why a view isn't a list of two items, a tag and a payload: it isn't a list, it has another number of items, the first item is no number of at most `width`
+-- bytes or no tag, or the second has a fault of the type with this tag.
+pub data FaultsAsTagged (width : ℕ) (tags unknown : List ℕ) (faults : ℕ → View → DecoderError → Type 0) (v : View) : DecoderError → Type 0 where
+  no_pair : (e : DecoderError) → item_count v ≡ Err e → FaultsAsTagged width tags unknown faults v e
+  other_pair : (m : ℕ) → item_count v ≡ Ok m → m ≢ 2 → FaultsAsTagged width tags unknown faults v RlpIncorrectListLen
+  faulty_tag : (e : DecoderError) → item_count v ≡ Ok 2 → FaultsAt (FaultsAsNumber width) v 0 e → FaultsAsTagged width tags unknown faults v e
+  unknown_tag : (tag : ℕ) (e : DecoderError) → item_count v ≡ Ok 2 → GivesAt (GivesNumber width) v 0 tag → IsOtherTag tags tag → IsCustom unknown e
+      → FaultsAsTagged width tags unknown faults v e
+  faulty_second : (tag : ℕ) (e : DecoderError) → item_count v ≡ Ok 2 → GivesAt (GivesNumber width) v 0 tag → FaultsAt (faults tag) v 1 e
+      → FaultsAsTagged width tags unknown faults v e
+
+-- memory may be short for the payload of a view that is a list of two items
+pub record MayLackAsTagged (width : ℕ) (may_lack : ℕ → View → Type 0) (v : View) : Type 0 where
+  pub two : item_count v ≡ Ok 2
+  pub tag : ℕ
+  pub first : GivesAt (GivesNumber width) v 0 tag
+  pub may : MayLackAt (may_lack tag) v 1

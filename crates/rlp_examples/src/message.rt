@@ -1,0 +1,70 @@
+//! A sum that is written as a list: the number of a kind, and a payload.
+
+use rlp::{Decodable, DecoderError, Encodable, Rlp, RlpStream, RoundTrip, StrictRead};
+use std::alloc::{AllocError, Global};
+
+/// A message between peers: the list of the number of its kind and its content.
+#[derive(Drop)]
+pub enum Message {
+    /// Kind 1: a question with a number, to which a peer answers.
+    Ping(u64),
+    /// Kind 2: some bytes.
+    Data(Vec<u8>),
+}
+
+impl Encodable for Message {
+    ghost use Rattle.rlp_examples.specs.Message.{message};
+
+    ghost item = { message.item };
+
+    ghost fits = { message.Fits };
+
+    fn rlp_append(&self, s: &mut RlpStream) -> Result<(), AllocError> {
+        match self {
+            Message::Ping(number) => rlp::append_fields!(s, &1u8, number),
+            Message::Data(bytes) => rlp::append_fields!(s, &2u8, bytes),
+        }
+    }
+}
+
+/// Reading fails with `Custom("unknown message")` for another number.
+impl Decodable for Message {
+    ghost use Rattle.rlp_examples.specs.Message.{message};
+
+    ghost gives = { message.gives };
+
+    ghost faults = { message.faults };
+
+    ghost may_lack_memory = { message.may_lack };
+
+    #[tactic(auto, using(rlp::proofs::Tagged::tagged))]
+    fn decode(alloc: Global, rlp: &Rlp<'_>) -> Result<Message, DecoderError> {
+        if rlp.item_count()? != 2 {
+            return Err(DecoderError::RlpIncorrectListLen);
+        }
+        let kind: u8 = rlp.val_at(alloc, 0)?;
+        match kind {
+            1 => match rlp.val_at(alloc, 1) {
+                Ok(number) => Ok(Message::Ping(number)),
+                Err(fault) => Err(fault),
+            },
+            2 => match rlp.val_at(alloc, 1) {
+                Ok(bytes) => Ok(Message::Data(bytes)),
+                Err(fault) => Err(fault),
+            },
+            _ => Err(DecoderError::Custom("unknown message")),
+        }
+    }
+}
+
+impl RoundTrip for Message {
+    ghost use Rattle.rlp_examples.specs.Message.{message};
+
+    ghost round_trip = { message.reads_back };
+}
+
+impl StrictRead for Message {
+    ghost use Rattle.rlp_examples.specs.Message.{message};
+
+    ghost strict = { message.reads_strictly };
+}
