@@ -2,6 +2,7 @@ pub mod Access
 pub mod AccessListTransaction
 pub mod Account
 pub mod Address
+pub mod Block
 pub mod Bloom
 pub mod FeeMarketTransaction
 pub mod Hash

@@ -4,6 +4,8 @@
 #[cfg(test)]
 mod access_lists;
 #[cfg(test)]
+mod blocks;
+#[cfg(test)]
 mod headers;
 #[cfg(test)]
 mod logs;
