@@ -4,6 +4,7 @@ pub mod Account
 pub mod Address
 pub mod Authorization
 pub mod BlobTransaction
+pub mod Block
 pub mod Bloom
 pub mod FeeMarketTransaction
 pub mod Hash

@@ -1,6 +1,8 @@
 -- How withdrawals are written and read.
-use Rattle.rlp.specs.Codec.{Codec, Fields, and_field, last_field, number, struct_of}
+use Rattle.std.specs.Vec.{vec_items}
+use Rattle.rlp.specs.Codec.{Codec, Fields, and_field, last_field, list_type, number, struct_of}
 use Rattle.rlp_ethereum.specs.declared.withdrawal.Withdrawal.{Withdrawal}
+use Rattle.rlp_ethereum.specs.declared.withdrawal.Withdrawals.{Withdrawals}
 use Rattle.rlp_ethereum.specs.Address.{address}
 
 -- the fields, in order
@@ -14,3 +16,7 @@ withdrawal_fields =
 -- the list of the fields
 abbrev pub withdrawal : Codec Withdrawal
 withdrawal = struct_of withdrawal_fields
+
+-- the list of the withdrawals
+abbrev pub withdrawals : Codec Withdrawals
+withdrawals = list_type (λ (w : Withdrawals). vec_items w.0) withdrawal

@@ -10,6 +10,7 @@ mod account;
 mod address;
 mod authorization;
 mod blob_transaction;
+mod block;
 mod bloom;
 mod envelope;
 mod fee_market_transaction;
@@ -32,6 +33,7 @@ pub use account::Account;
 pub use address::Address;
 pub use authorization::Authorization;
 pub use blob_transaction::BlobTransaction;
+pub use block::{Block, Body};
 pub use bloom::Bloom;
 pub use envelope::{
     ACCESS_LIST_TYPE, BLOB_TYPE, FEE_MARKET_TYPE, SET_CODE_TYPE, from_envelope, to_envelope,
@@ -47,4 +49,4 @@ pub use receipt::Receipt;
 pub use recipient::Recipient;
 pub use set_code_transaction::SetCodeTransaction;
 pub use transaction::Transaction;
-pub use withdrawal::Withdrawal;
+pub use withdrawal::{Withdrawal, Withdrawals};

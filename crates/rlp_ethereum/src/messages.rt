@@ -12,11 +12,11 @@ mod status;
 mod with_request_id;
 
 pub use announcements::{
-    BlockRangeUpdate, NewBlockHash, NewBlockHashes, NewPooledTransactionHashes,
+    BlockRangeUpdate, NewBlock, NewBlockHash, NewBlockHashes, NewPooledTransactionHashes,
 };
 pub use hash_or_number::HashOrNumber;
 pub use hello::{Capability, Hello, NodeId};
-pub use requests::{BlockHeaders, GetBlockBodies, GetBlockHeaders};
+pub use requests::{BlockBodies, BlockHeaders, GetBlockBodies, GetBlockHeaders};
 pub use session::{Disconnect, Ping, Pong};
 pub use status::{ForkHash, ForkId, Status68, Status69};
 pub use with_request_id::WithRequestId;

@@ -69,3 +69,48 @@ impl StrictRead for Withdrawal {
 
     ghost strict = { withdrawal.reads_strictly };
 }
+
+/// The withdrawals of a block, in order: the list of them.
+#[derive(Debug, PartialEq, Eq, Drop)]
+pub struct Withdrawals(pub Vec<Withdrawal>);
+
+impl Encodable for Withdrawals {
+    ghost use Rattle.rlp_ethereum.specs.Withdrawal.{withdrawals};
+
+    ghost item = { withdrawals.item };
+
+    ghost fits = { withdrawals.Fits };
+
+    #[tactic(auto, using(rlp::proofs::Writing::writing))]
+    fn rlp_append(&self, s: &mut RlpStream) -> Result<(), AllocError> {
+        s.append_list(self.0.as_slice())?;
+        Ok(())
+    }
+}
+
+impl Decodable for Withdrawals {
+    ghost use Rattle.rlp_ethereum.specs.Withdrawal.{withdrawals};
+
+    ghost gives = { withdrawals.gives };
+
+    ghost faults = { withdrawals.faults };
+
+    ghost may_lack_memory = { withdrawals.may_lack };
+
+    fn decode(alloc: Global, rlp: &Rlp<'_>) -> Result<Withdrawals, DecoderError> {
+        let withdrawals = rlp.as_list(alloc)?;
+        Ok(Withdrawals(withdrawals))
+    }
+}
+
+impl RoundTrip for Withdrawals {
+    ghost use Rattle.rlp_ethereum.specs.Withdrawal.{withdrawals};
+
+    ghost round_trip = { withdrawals.reads_back };
+}
+
+impl StrictRead for Withdrawals {
+    ghost use Rattle.rlp_ethereum.specs.Withdrawal.{withdrawals};
+
+    ghost strict = { withdrawals.reads_strictly };
+}

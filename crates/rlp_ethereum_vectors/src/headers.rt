@@ -7,7 +7,7 @@ use std::test::Fail;
 
 /// The header of block 0 of Ethereum's main network. Its hash is
 /// `d4e56740f876aef8c010b86a40d5f56745a118d0906a34e69aec8c0db1cb8fa3`.
-const GENESIS: [&str; 14] = [
+pub(crate) const GENESIS: [&str; 14] = [
     "f90214a00000000000000000000000000000000000000000000000000000000000000000a01dcc4d",
     "e8dec75d7aab85b567b6ccd41ad312451b948a7413f0a142fd40d493479400000000000000000000",
     "00000000000000000000a0d7f8974fb5ac78d9ac099b9ad5018bedc2ce0a72dad1827a1709da3058",
@@ -26,7 +26,7 @@ const GENESIS: [&str; 14] = [
 
 /// The header of block 1 of Ethereum's main network. Its hash is
 /// `88e96d4537bea4d9c05d12549907b32561d3bf31f45aae734cdc119f13406cb6`.
-const BLOCK_1: [&str; 14] = [
+pub(crate) const BLOCK_1: [&str; 14] = [
     "f90211a0d4e56740f876aef8c010b86a40d5f56745a118d0906a34e69aec8c0db1cb8fa3a01dcc4d",
     "e8dec75d7aab85b567b6ccd41ad312451b948a7413f0a142fd40d493479405a56e2d52c817161883",
     "f50c441c3228cfe54d9fa0d67e4d450343046425ae4271474353857ab860dbc0a1dde64b41b5cd3a",

@@ -5,6 +5,7 @@
 mod access_lists;
 #[cfg(test)]
 mod every_type;
+mod blocks;
 #[cfg(test)]
 mod headers;
 #[cfg(test)]

@@ -1,10 +1,12 @@
 -- How announcements are written and read.
 use Rattle.std.specs.Vec.{vec_items}
-use Rattle.rlp.specs.Codec.{Codec, Fields, and_field, byte_string, last_field, list_type, number, struct_of}
+use Rattle.rlp.specs.Codec.{Codec, Fields, and_field, byte_string, last_field, list_type, number, struct_of, uint}
 use Rattle.rlp_ethereum.specs.declared.messages.announcements.NewBlockHash.{NewBlockHash}
 use Rattle.rlp_ethereum.specs.declared.messages.announcements.NewBlockHashes.{NewBlockHashes}
 use Rattle.rlp_ethereum.specs.declared.messages.announcements.NewPooledTransactionHashes.{NewPooledTransactionHashes}
 use Rattle.rlp_ethereum.specs.declared.messages.announcements.BlockRangeUpdate.{BlockRangeUpdate}
+use Rattle.rlp_ethereum.specs.declared.messages.announcements.NewBlock.{NewBlock}
+use Rattle.rlp_ethereum.specs.Block.{block}
 use Rattle.rlp_ethereum.specs.Hash.{hash}
 
 -- the fields, in order
@@ -42,3 +44,13 @@ block_range_update_fields =
 -- the list of the fields
 abbrev pub block_range_update : Codec BlockRangeUpdate
 block_range_update = struct_of block_range_update_fields
+
+-- the fields, in order
+abbrev pub new_block_fields : Fields NewBlock
+new_block_fields =
+    and_field (λ (n : NewBlock). n.block) block (
+    last_field (λ (n : NewBlock). n.total_difficulty) (uint 32))
+
+-- the list of the fields
+abbrev pub new_block : Codec NewBlock
+new_block = struct_of new_block_fields

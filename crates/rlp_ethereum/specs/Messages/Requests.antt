@@ -4,6 +4,8 @@ use Rattle.rlp.specs.Codec.{Codec, Fields, and_field, last_field, list_type, num
 use Rattle.rlp_ethereum.specs.declared.messages.requests.GetBlockHeaders.{GetBlockHeaders}
 use Rattle.rlp_ethereum.specs.declared.messages.requests.BlockHeaders.{BlockHeaders}
 use Rattle.rlp_ethereum.specs.declared.messages.requests.GetBlockBodies.{GetBlockBodies}
+use Rattle.rlp_ethereum.specs.declared.messages.requests.BlockBodies.{BlockBodies}
+use Rattle.rlp_ethereum.specs.Block.{body}
 use Rattle.rlp_ethereum.specs.Hash.{hash}
 use Rattle.rlp_ethereum.specs.Header.{header}
 use Rattle.rlp_ethereum.specs.Messages.HashOrNumber.{hash_or_number}
@@ -27,3 +29,7 @@ block_headers = list_type (λ (b : BlockHeaders). vec_items b.0) header
 -- the list of the hashes
 abbrev pub get_block_bodies : Codec GetBlockBodies
 get_block_bodies = list_type (λ (g : GetBlockBodies). vec_items g.0) hash
+
+-- the list of the bodies
+abbrev pub block_bodies : Codec BlockBodies
+block_bodies = list_type (λ (b : BlockBodies). vec_items b.0) body

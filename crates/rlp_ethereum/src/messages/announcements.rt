@@ -1,8 +1,10 @@
 //! Announcements of the protocol `eth`: new blocks and transactions, and the blocks that a client
 //! has.
 
-use crate::Hash;
-use rlp::{Decodable, DecoderError, Encodable, ListOf, Rlp, RlpStream, RoundTrip, StrictRead};
+use crate::{Block, Hash};
+use rlp::{
+    Decodable, DecoderError, Encodable, ListOf, Rlp, RlpStream, RoundTrip, StrictRead, Uint,
+};
 use std::alloc::{AllocError, Global};
 
 /// A block that a client announces: the list of both fields.
@@ -216,4 +218,58 @@ impl StrictRead for BlockRangeUpdate {
     ghost use Rattle.rlp_ethereum.specs.Messages.Announcements.{block_range_update};
 
     ghost strict = { block_range_update.reads_strictly };
+}
+
+/// A whole block that a client announces, message 0x07 of `eth/68`: the list of both fields.
+#[derive(Drop)]
+pub struct NewBlock {
+    /// The block.
+    pub block: Block,
+    /// The sum of the difficulties up to this block.
+    pub total_difficulty: Uint<32>,
+}
+
+impl Encodable for NewBlock {
+    ghost use Rattle.rlp_ethereum.specs.Messages.Announcements.{new_block};
+
+    ghost item = { new_block.item };
+
+    ghost fits = { new_block.Fits };
+
+    fn rlp_append(&self, s: &mut RlpStream) -> Result<(), AllocError> {
+        rlp::append_fields!(s, &self.block, &self.total_difficulty)
+    }
+}
+
+impl Decodable for NewBlock {
+    ghost use Rattle.rlp_ethereum.specs.Messages.Announcements.{new_block};
+
+    ghost gives = { new_block.gives };
+
+    ghost faults = { new_block.faults };
+
+    ghost may_lack_memory = { new_block.may_lack };
+
+    fn decode(alloc: Global, rlp: &Rlp<'_>) -> Result<NewBlock, DecoderError> {
+        rlp::decode_fields!(
+            alloc,
+            rlp,
+            NewBlock {
+                block,
+                total_difficulty
+            }
+        )
+    }
+}
+
+impl RoundTrip for NewBlock {
+    ghost use Rattle.rlp_ethereum.specs.Messages.Announcements.{new_block};
+
+    ghost round_trip = { new_block.reads_back };
+}
+
+impl StrictRead for NewBlock {
+    ghost use Rattle.rlp_ethereum.specs.Messages.Announcements.{new_block};
+
+    ghost strict = { new_block.reads_strictly };
 }

@@ -1,7 +1,7 @@
 //! Requests of the protocol `eth`, and their answers, without the number of the request.
 
 use crate::messages::HashOrNumber;
-use crate::{Hash, Header};
+use crate::{Body, Hash, Header};
 use rlp::{Decodable, DecoderError, Encodable, Rlp, RlpStream, RoundTrip, StrictRead};
 use std::alloc::{AllocError, Global};
 
@@ -153,4 +153,49 @@ impl StrictRead for GetBlockBodies {
     ghost use Rattle.rlp_ethereum.specs.Messages.Requests.{get_block_bodies};
 
     ghost strict = { get_block_bodies.reads_strictly };
+}
+
+/// The answer to [`GetBlockBodies`], in message 0x06 of `eth`: the list of the bodies.
+#[derive(Drop)]
+pub struct BlockBodies(pub Vec<Body>);
+
+impl Encodable for BlockBodies {
+    ghost use Rattle.rlp_ethereum.specs.Messages.Requests.{block_bodies};
+
+    ghost item = { block_bodies.item };
+
+    ghost fits = { block_bodies.Fits };
+
+    #[tactic(auto, using(rlp::proofs::Writing::writing))]
+    fn rlp_append(&self, s: &mut RlpStream) -> Result<(), AllocError> {
+        s.append_list(self.0.as_slice())?;
+        Ok(())
+    }
+}
+
+impl Decodable for BlockBodies {
+    ghost use Rattle.rlp_ethereum.specs.Messages.Requests.{block_bodies};
+
+    ghost gives = { block_bodies.gives };
+
+    ghost faults = { block_bodies.faults };
+
+    ghost may_lack_memory = { block_bodies.may_lack };
+
+    fn decode(alloc: Global, rlp: &Rlp<'_>) -> Result<BlockBodies, DecoderError> {
+        let bodies = rlp.as_list(alloc)?;
+        Ok(BlockBodies(bodies))
+    }
+}
+
+impl RoundTrip for BlockBodies {
+    ghost use Rattle.rlp_ethereum.specs.Messages.Requests.{block_bodies};
+
+    ghost round_trip = { block_bodies.reads_back };
+}
+
+impl StrictRead for BlockBodies {
+    ghost use Rattle.rlp_ethereum.specs.Messages.Requests.{block_bodies};
+
+    ghost strict = { block_bodies.reads_strictly };
 }
