@@ -9,7 +9,8 @@ use Rattle.rlp_show.specs.Answer.{after_text}
 
 -- the lines of a first part and then of the others
 pub after_both : (old mid : List ℕ) (first more : Shown) → after_text old first ≡ Ok mid → after_text old (then_lines first more) ≡ after_text mid more
-after_both old mid (Ok lines) (Ok others) is = let same : old ++ lines ≡ mid = cc in ap (λ t. Ok t) (sym (append_assoc old lines others) ∙ ap (λ t. t ++ others) same)
+after_both old mid (Ok lines) (Ok others) is = let same : old ++ lines ≡ mid = cc in ap (λ t. Ok t) (sym (append_assoc old lines others)
+    ∙ ap (λ t. t ++ others) same)
 after_both old mid (Ok lines) (Err fault) is = refl
 after_both old mid (Err fault) more is = absurd (cc)
 

@@ -6,3 +6,9 @@ pub mod Lines
 pub mod Records
 -- the answer to a line of input
 pub mod Answer
+-- lemmas on what types read and what is shown of it
+pub mod StringLemmas
+-- lemmas on the encodings of values
+pub mod ValueLemmas
+-- the lines of values
+pub mod Values

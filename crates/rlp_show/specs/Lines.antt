@@ -1,6 +1,6 @@
 -- The lines of an item, or what is wrong with it. A name says which item it is, as `gas_limit` or `access_list[0].address`. A whole record has no name.
 use Rattle.std.specs.Prelude.{ℕ, zero, suc, ◌+◌, ◌||◌, ◌&&◌, ◌==◌, nat_lt, Bool, false, if◌then◌else◌, List, [], ◌∷◌, ◌++◌, length, drop, codes, decimal}
-use Rattle.std.specs.Prelude.{Result, Ok, Err}
+use Rattle.std.specs.Prelude.{Option, Some, None, Result, Ok, Err}
 use Rattle.std.specs.Int.Digits.{number_from_digits}
 use Rattle.rlp.specs.DecoderError.{DecoderError}
 use Rattle.rlp.specs.DecoderError.TheVariants.{RlpIsTooBig, RlpIsTooShort, RlpInvalidIndirection, RlpIncorrectListLen}
@@ -167,3 +167,20 @@ typed_lines kind shape name other v (first ∷ payload) =
 -- bytes that begin with this byte are the envelope (EIP-2718) of a record of a shape; other bytes are of another shape
 abbrev pub typed : ℕ → Shape → Shape → Shape
 typed kind shape other name v = typed_lines kind shape name other v v.bytes
+
+-- ---- the lines of values; the fields of a record have them one after another
+
+-- the lines of values, the first of which has this place
+abbrev pub value_lines : {A : Type 0} → (List ℕ → A → List ℕ) → List ℕ → ℕ → List A → List ℕ
+value_lines lines name i [] = []
+value_lines lines name i (x ∷ xs) = lines (place name i) x ++ value_lines lines name (i + 1) xs
+
+-- the lines of a list of values
+abbrev pub list_value_lines : {A : Type 0} → (List ℕ → A → List ℕ) → List ℕ → List A → List ℕ
+list_value_lines lines name [] = line name (codes "[]")
+list_value_lines lines name (x ∷ xs) = value_lines lines name 0 (x ∷ xs)
+
+-- the lines of a value that may be missing, and then others; after a missing value there are none
+abbrev pub optional_lines : {A : Type 0} → (List ℕ → A → List ℕ) → List ℕ → Option A → List ℕ → List ℕ
+optional_lines lines name None others = []
+optional_lines lines name (Some x) others = lines name x ++ others

@@ -12,7 +12,7 @@ use rlp_ethereum::{Address, Bloom, Hash, Recipient};
 use std::alloc::Global;
 
 /// Appends the line of an item of exactly `N` bytes.
-#[tactic(auto, using(crate::proofs::StringLemmas::fixed_strings))]
+#[tactic(auto, using(crate::specs::StringLemmas::fixed_strings))]
 fn show_fixed<const N: usize>(
     alloc: Global,
     name: &str,
@@ -95,7 +95,7 @@ impl Show for Recipient {
 
     ghost shape = { recipient };
 
-    #[tactic(auto, using(crate::proofs::StringLemmas::recipient_strings))]
+    #[tactic(auto, using(crate::specs::StringLemmas::recipient_strings))]
     fn show(alloc: Global, name: &str, item: &Rlp<'_>, out: &mut String) -> Result<(), ShowFault> {
         let _bytes = item.as_raw();
         let recipient = match item.as_val::<Recipient>(alloc) {

@@ -112,7 +112,8 @@ module _ (answer : List ℕ → List ℕ) where
       let new = last_piece text ++ run in
       record {
         answered = ap (λ w. written ++ w) said ∙ sym (append_assoc written waiting (reply answer new)) ∙ ap (λ w. w ++ reply answer new) before.answered
-            ∙ ap (λ w. replies_to answer (ended_lines text) ++ w) (sym (replies_to-one answer new)) ∙ sym (replies_to-append answer (ended_lines text) (new ∷ []))
+            ∙ ap (λ w. replies_to answer (ended_lines text) ++ w) (sym (replies_to-one answer new))
+            ∙ sym (replies_to-append answer (ended_lines text) (new ∷ []))
             ∙ ap (replies_to answer) (sym (ended_lines-line text run one));
         line = subst (IsLine kept' over') (sym (last_piece-line text run)) line;
       }
@@ -126,7 +127,8 @@ module _ (answer : List ℕ → List ℕ) where
   -- one more line was ended
   pub IsFeeding-line : {waiting kept waiting' kept' waiting'' kept'' bytes : List ℕ} {over over' over'' : Bool} (rest run others : List ℕ) (at : ℕ)
       → IsFeeding waiting kept over waiting' kept' over' bytes rest → position (λ byte. byte == 10) rest ≡ Some at → run ≡ take at rest → others ≡ drop at rest
-      → ((text written : List ℕ) → IsAfter answer text written waiting' kept' over' → IsOnePiece run → IsAfter answer (text ++ run ++ 10 ∷ []) written waiting'' kept'' over'')
+      → ((text written : List ℕ) → IsAfter answer text written waiting' kept' over' → IsOnePiece run
+      → IsAfter answer (text ++ run ++ 10 ∷ []) written waiting'' kept'' over'')
       → IsFeeding waiting kept over waiting'' kept'' over'' bytes (take (length others - 1) (drop 1 others))
   IsFeeding-line {waiting'' = waiting''} {kept'' = kept''} {over'' = over''} rest run others at before e front back step = rw take_rest (record {
     done = before.done ++ run ++ 10 ∷ [];
@@ -218,12 +220,15 @@ module _ (answer : List ℕ → List ℕ) where
       (ap (λ w. (front ++ w) ++ rest) all ∙ ap (λ w. w ++ rest) after.answered ∙ sym (replies_to-append answer (ended_lines text') (unended_line text')))
 
   -- the replies to some first lines begin those to all
-  replies_to-take : (count : ℕ) (text : List ℕ) → replies_to answer (take count (lines text)) ++ replies_to answer (drop count (lines text)) ≡ replies answer text
-  replies_to-take count text = sym (replies_to-append answer (take count (lines text)) (drop count (lines text))) ∙ ap (replies_to answer) (take-append-drop count (lines text))
+  replies_to-take : (count : ℕ) (text : List ℕ) → replies_to answer (take count (lines text)) ++ replies_to answer (drop count (lines text)) ≡ replies
+      answer text
+  replies_to-take count text = sym (replies_to-append answer (take count (lines text)) (drop count (lines text)))
+      ∙ ap (replies_to answer) (take-append-drop count (lines text))
 
   -- memory was refused, and what waited before was written, or the writer failed then
   pub IsStop-some : (start old new : Option (List ℕ)) (failed : Bool) (text' bytes waiting : List ℕ) {text kept : List ℕ} {over : Bool}
-      (result : Result (Unit {0}) RunFault) → IsServed answer start old text kept over → AreRepliesBefore answer text text' (replies_to answer (ended_lines text) ++ waiting)
+      (result : Result (Unit {0}) RunFault) → IsServed answer start old text kept over → AreRepliesBefore answer text text'
+      (replies_to answer (ended_lines text) ++ waiting)
       → bytes ≡ waiting
       → OnErr result (AppendsPart old new bytes) → OnErr result (failed ≡ true) → IfErr result (λ fault. fault ≡ Write)
       → IfErr result (λ fault. IsStop answer fault start new text text' failed)
@@ -260,7 +265,8 @@ module _ (answer : List ℕ → List ℕ) where
 
   -- the replies to a text are those to its ended lines and then that to its last line
   replies-parts : (text bytes : List ℕ) → bytes ≡ replies_to answer (unended_line text) → replies_to answer (ended_lines text) ++ bytes ≡ replies answer text
-  replies-parts text bytes last = ap (λ w. replies_to answer (ended_lines text) ++ w) last ∙ sym (replies_to-append answer (ended_lines text) (unended_line text))
+  replies-parts text bytes last = ap (λ w. replies_to answer (ended_lines text) ++ w) last
+      ∙ sym (replies_to-append answer (ended_lines text) (unended_line text))
 
   -- the writer failed in the reply to the last line
   pub IsStop-last : (result : Result (Unit {0}) RunFault) (new : Option (List ℕ)) (failed : Bool) (bytes : List ℕ) {start old : Option (List ℕ)}

@@ -1,4 +1,5 @@
--- What a run leaves. `answer` is the answer to each line. in0 and in1 are the bytes that the reader had left before and after the run. out0 and out1 are the bytes that the writer held.
+-- What a run leaves. `answer` is the answer to each line. in0 and in1 are the bytes that the reader had left before and after the run.
+-- out0 and out1 are the bytes that the writer held.
 use Rattle.std.specs.Prelude.{ℕ, ◌≡◌, ◌<◌, ◌≤◌, List, ◌++◌, length, take, Option}
 use Rattle.std.specs.Io.KnownBytes.{Consumes, Appends, IsAtEnd}
 use Rattle.rlp_tool.specs.Lines.{lines, ended_lines}

@@ -7,11 +7,13 @@ use Rattle.rlp_tool.proofs.serving.answer_lines.Goals as goal
 
 -- the answers to a chunk of the input stopped
 stopped : (g : given.Over) (c : goal.After-drop-line-in-Err-serve-2 g)
-    → StopLeaves (answer_by g.A.LineAnswers.answer_within) (Err c.in-Err-serve.fault) (g.R.Read.remaining c.args.input.now.inner) (g.R.Read.remaining c.read.new.self.inner)
+    → StopLeaves (answer_by g.A.LineAnswers.answer_within) (Err c.in-Err-serve.fault) (g.R.Read.remaining c.args.input.now.inner)
+    (g.R.Read.remaining c.read.new.self.inner)
     (g.W.Write.contents c.args.output.now.inner) (g.W.Write.contents c.serve.new.output.inner) c.serve.new.output.failed
 stopped g c =
     let running = c.reading.invariant.running in
-    StopLeaves-IsStop (answer_by g.A.LineAnswers.answer_within) (Err c.in-Err-serve.fault) (g.R.Read.remaining c.read.new.self.inner) (g.W.Write.contents c.serve.new.output.inner)
+    StopLeaves-IsStop (answer_by g.A.LineAnswers.answer_within) (Err c.in-Err-serve.fault) (g.R.Read.remaining c.read.new.self.inner)
+    (g.W.Write.contents c.serve.new.output.inner)
     c.serve.new.output.failed (running.took ++ take c.in-Ok.count c.read.new.buf) (take c.in-Ok.count c.read.new.buf) running
     c.in-Ok.ensures.bytes.0 (omega (arith, length-take c.in-Ok.count c.read.new.buf)) refl
     (c.in-Err-serve.ensures.stop (g.W.Write.contents c.args.output.now.inner) running.took running.served)
@@ -25,17 +27,20 @@ none_left g c =
 
 -- the answer to the last line stopped
 stopped_at_end : (g : given.Over) (c : goal.After-drop-line-then-count-eq0-2 g)
-    → StopLeaves (answer_by g.A.LineAnswers.answer_within) c.finish.result (g.R.Read.remaining c.args.input.now.inner) (g.R.Read.remaining c.read.new.self.inner)
+    → StopLeaves (answer_by g.A.LineAnswers.answer_within) c.finish.result (g.R.Read.remaining c.args.input.now.inner)
+    (g.R.Read.remaining c.read.new.self.inner)
     (g.W.Write.contents c.args.output.now.inner) (g.W.Write.contents c.finish.new.output.inner) c.finish.new.output.failed
 stopped_at_end g c =
     let running = c.reading.invariant.running in
-    StopLeaves-IsStop (answer_by g.A.LineAnswers.answer_within) c.finish.result (g.R.Read.remaining c.read.new.self.inner) (g.W.Write.contents c.finish.new.output.inner)
+    StopLeaves-IsStop (answer_by g.A.LineAnswers.answer_within) c.finish.result (g.R.Read.remaining c.read.new.self.inner)
+    (g.W.Write.contents c.finish.new.output.inner)
     c.finish.new.output.failed running.took [] running (none_left g c) (omega arith) (sym (append-nil running.took))
     (c.finish.ensures.stop (g.W.Write.contents c.args.output.now.inner) running.took running.served)
 
 pub reading-init : goal.reading-init
 reading-init g c = record {
-  running = IsRunning-begin (answer_by g.A.LineAnswers.answer_within) (g.R.Read.remaining c.args.input.now.inner) (g.W.Write.contents c.args.output.now.inner) c.new-line.result.bytes.items
+  running = IsRunning-begin (answer_by g.A.LineAnswers.answer_within) (g.R.Read.remaining c.args.input.now.inner)
+      (g.W.Write.contents c.args.output.now.inner) c.new-line.result.bytes.items
       c.new-line.result.over c.new-line.ensures;
   input = c.requires.input;
   output = c.requires.output;
@@ -45,7 +50,8 @@ pub reading-preserved : goal.reading-preserved
 reading-preserved g c =
     let running = c.reading.invariant.running in
     record {
-      running = IsRunning-more (answer_by g.A.LineAnswers.answer_within) (g.R.Read.remaining c.read.new.self.inner) (g.W.Write.contents c.serve.new.output.inner)
+      running = IsRunning-more (answer_by g.A.LineAnswers.answer_within) (g.R.Read.remaining c.read.new.self.inner)
+          (g.W.Write.contents c.serve.new.output.inner)
           (take c.in-Ok.count c.read.new.buf) running c.in-Ok.ensures.bytes.0
           (c.in_default.ensures.ok (g.W.Write.contents c.args.output.now.inner) running.took running.served);
       input = c.in-Ok.ensures.ok ∙ c.reading.invariant.input;
@@ -55,7 +61,8 @@ reading-preserved g c =
 pub returns-then-count-eq0-clause-ok : goal.returns-then-count-eq0-clause-ok
 returns-then-count-eq0-clause-ok g c =
     let running = c.reading.invariant.running in
-    AnswersAll-end (answer_by g.A.LineAnswers.answer_within) c.finish.result (g.R.Read.remaining c.read.new.self.inner) (g.W.Write.contents c.finish.new.output.inner) running (none_left g c)
+    AnswersAll-end (answer_by g.A.LineAnswers.answer_within) c.finish.result (g.R.Read.remaining c.read.new.self.inner)
+    (g.W.Write.contents c.finish.new.output.inner) running (none_left g c)
     (c.in-Ok.ensures.bytes.1 c.if-count-eq0.true (search rules))
     (c.finish.ensures.ok (g.W.Write.contents c.args.output.now.inner) running.took running.served)
 

@@ -5,7 +5,8 @@ use Rattle.rlp_tool.proofs.serving.answer_lines.Given as goal
 
 abbrev pub invariant-reading : goal.invariant-reading
 invariant-reading g l = record {
-  running : IsRunning (answer_by g.A.LineAnswers.answer_within) (g.R.Read.remaining l.fn.input.inner) (g.R.Read.remaining l.input.inner) (g.W.Write.contents l.fn.output.inner)
+  running : IsRunning (answer_by g.A.LineAnswers.answer_within) (g.R.Read.remaining l.fn.input.inner) (g.R.Read.remaining l.input.inner)
+      (g.W.Write.contents l.fn.output.inner)
       (g.W.Write.contents l.output.inner) l.line.bytes.items l.line.over;
   input : l.input.failed ≡ false;
   output : l.output.failed ≡ false;

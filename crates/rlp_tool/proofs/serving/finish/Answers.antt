@@ -11,10 +11,15 @@ returns-in-Ok-clause-ok g c start text served =
 
 pub returns-in-Ok-clause-stop : goal.returns-in-Ok-clause-stop
 returns-in-Ok-clause-stop g c start text served =
-    IsStop-last (answer_by g.A.LineAnswers.answer_within) c.write_last.result (g.W.Write.contents c.write_last.new.output.inner) c.write_last.new.output.failed c.as_bytes.result.now served
+    IsStop-last (answer_by g.A.LineAnswers.answer_within) c.write_last.result (g.W.Write.contents c.write_last.new.output.inner)
+    c.write_last.new.output.failed c.as_bytes.result.now served
     (c.as_bytes.ensures.value ∙ after_empty c.clear.ensures.bytes (c.in-Ok.ensures.ok text served.line)) c.write_last.ensures.part
     c.write_last.ensures.failed c.write_last.ensures.fault
 
 pub returns-in-Err-clause-stop : goal.returns-in-Err-clause-stop
 returns-in-Err-clause-stop g c start text served =
-    inl (refl, AppendsBefore-served (answer_by g.A.LineAnswers.answer_within) start (g.W.Write.contents c.args.output.now.inner) text served (c.in-Err.ensures.refused (last_piece text) served.line))
+    inl (
+      refl,
+      AppendsBefore-served (answer_by g.A.LineAnswers.answer_within) start (g.W.Write.contents c.args.output.now.inner) text served
+          (c.in-Err.ensures.refused (last_piece text) served.line),
+    )

@@ -1,5 +1,6 @@
 -- What the types of `rlp` give and fault, and what is shown of them.
-use Rattle.std.proofs.Common.{◌≡◌, ◌==◌, ◌&&◌, Bool, true, false, codes, ◌*◌, ℕ, zero, suc, ⊎_elim, ◌^◌, ◌<◌, ◌≤◌, List, [], ◌∷◌, length, refl, sym, ap, ◌∙◌, subst, arith, Ok, Err, nat_lt}
+use Rattle.std.proofs.Common.{◌≡◌, ◌==◌, ◌&&◌, Bool, true, false, codes, ◌*◌, ℕ, zero, suc, ⊎_elim, ◌^◌, ◌<◌, ◌≤◌, List, [], ◌∷◌, length, refl, sym, ap, ◌∙◌}
+use Rattle.std.proofs.Common.{subst, arith, Ok, Err, nat_lt}
 use Rattle.std.proofs.Common.{le-ltb, lt-ltb}
 use Rattle.std.specs.Int.Digits.{number_from_digits}
 use Rattle.std.proofs.lemmas.Bool.{cases_lt, cond-true, cond-false}
@@ -21,7 +22,7 @@ use Rattle.rlp.specs.Lemmas.Digits.{big_endian_value}
 use Rattle.rlp.specs.Lemmas.OneReading.{sound_digits}
 use Rattle.rlp.specs.Lemmas.StringsHeld.{held_only}
 use Rattle.rlp_show.specs.Lines.{Shown, line, wrong, named, in_string, string_shape, number, number_in, fixed_bytes, fixed_bytes_in, begins_with_zero}
-use Rattle.rlp_show.specs.Lines.{recipient, recipient_in, truth_value, truth_value_in}
+use Rattle.rlp_show.specs.Lines.{byte_string, recipient, recipient_in, truth_value, truth_value_in}
 use Rattle.rlp_show.specs.Text.{bytes_text, number_text}
 
 -- what is shown of the string that a view holds
@@ -36,7 +37,8 @@ shown_fault text_in name v e is = ap (λ r. named name (in_string text_in r)) is
 -- ---- strings of n bytes
 
 fixed_right : (n : ℕ) (d : List ℕ) → length d ≡ n → fixed_bytes_in n d ≡ Ok (bytes_text d)
-fixed_right n d many = cond-false (nat_lt (length d) n) _ _ (le-ltb _ _ (omega (arith, many))) ∙ cond-false (nat_lt n (length d)) _ _ (le-ltb _ _ (omega (arith, many)))
+fixed_right n d many = cond-false (nat_lt (length d) n) _ _ (le-ltb _ _ (omega (arith, many)))
+    ∙ cond-false (nat_lt n (length d)) _ _ (le-ltb _ _ (omega (arith, many)))
 
 fixed_wrong : (n : ℕ) (d : List ℕ) (e : DecoderError) → IsLengthFault n d e → fixed_bytes_in n d ≡ Err (error_name e)
 fixed_wrong n d e (shorter few) = cond-true (nat_lt (length d) n) _ _ (lt-ltb _ _ few)
@@ -169,3 +171,8 @@ truth_faulty name v e few (other_number n f given above custom) =
     shown_string truth_value_in name v (big_endian n) few given.begins ∙ ap (named name) (other_in n (big_endian n) f refl given.fits above custom)
 
 pub ruleset truth_strings = (truth_given, truth_faulty)
+
+-- ---- byte strings
+
+pub bytes_given : (name : List ℕ) (v : View) (d : List ℕ) → length v.bytes < 2 ^ 64 → HoldsString v d → byte_string name v ≡ Ok (line name (bytes_text d))
+bytes_given name v d few holds = shown_string (λ string. Ok (bytes_text string)) name v d few holds
