@@ -30,16 +30,14 @@ pub use impls::RawItem;
 pub use rlp_format::{DecoderError, PayloadInfo, Prototype};
 pub use rlp_streams::{
     AppendFields, BasicEncoder, Chain, EMPTY_LIST_RLP, Each, Encodable, Flattened, ListOf,
-    NULL_RLP, RlpStream, Uint, append_envelope, append_struct,
-    NULL_RLP, Optional, OptionalListOf, RlpStream, Uint, append_struct,
+    NULL_RLP, Optional, OptionalListOf, RlpStream, Uint, append_envelope, append_struct,
 };
 pub use rlpin::{BasicDecoder, Envelope, Fields, Rlp, RlpIterator};
 use std::alloc::{AllocError, Global};
 pub use structs::{
-    DecodeField, DecodeFields, DecodeGroup, DecodeGrouped, Field, Groups, ListField, decode_struct,
+    DecodeField, DecodeFields, DecodeGroup, DecodeGrouped, DecodeOptional, DecodeTailed, Field,
+    Groups, ListField, OptionalField, OptionalListField, decode_struct, decode_tailed,
     decode_with_groups,
-    DecodeField, DecodeFields, DecodeOptional, DecodeTailed, Field, ListField, OptionalField,
-    OptionalListField, decode_struct, decode_tailed,
 };
 pub use traits::{Decodable, RoundTrip, Scalar, StrictRead};
 

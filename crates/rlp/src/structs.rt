@@ -12,16 +12,13 @@ ghost use Rattle.rlp.specs.Values.FieldReading.{FaultsInFields, GivesFields, May
 ghost use Rattle.rlp.specs.Values.ListReading.{FaultsAsList, FaultsAt, GivesAt, GivesList, GivesSomeAt, MayLackAsList, MayLackAsStruct, MayLackAt};
 
 mod groups;
-
-use crate::rlpin::{Fields, Rlp};
-use crate::traits::Decodable;
-pub use groups::{DecodeGroup, DecodeGrouped, Groups, decode_with_groups};
 mod optional;
 mod optional_list;
 mod tails;
 
 use crate::rlpin::{Fields, Rlp};
 use crate::traits::Decodable;
+pub use groups::{DecodeGroup, DecodeGrouped, Groups, decode_with_groups};
 pub use optional::OptionalField;
 pub use optional_list::OptionalListField;
 use rlp_format::error::DecoderError;

@@ -6,6 +6,7 @@ pub mod Authorization
 pub mod BlobTransaction
 pub mod Block
 pub mod Bloom
+pub mod Body
 pub mod FeeMarketTransaction
 pub mod Hash
 pub mod Header

@@ -12,6 +12,7 @@ mod authorization;
 mod blob_transaction;
 mod block;
 mod bloom;
+mod body;
 mod envelope;
 mod fee_market_transaction;
 mod hash;
@@ -33,8 +34,9 @@ pub use account::Account;
 pub use address::Address;
 pub use authorization::Authorization;
 pub use blob_transaction::BlobTransaction;
-pub use block::{Block, Body};
+pub use block::Block;
 pub use bloom::Bloom;
+pub use body::Body;
 pub use envelope::{
     ACCESS_LIST_TYPE, BLOB_TYPE, FEE_MARKET_TYPE, SET_CODE_TYPE, from_envelope, to_envelope,
 };

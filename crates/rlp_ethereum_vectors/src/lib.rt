@@ -4,8 +4,9 @@
 #[cfg(test)]
 mod access_lists;
 #[cfg(test)]
-mod every_type;
 mod blocks;
+#[cfg(test)]
+mod every_type;
 #[cfg(test)]
 mod headers;
 #[cfg(test)]

@@ -1,15 +1,7 @@
-pub mod Access
-pub mod Body
 pub mod Child
 pub mod Entry
-pub mod Hash
-pub mod Header
-pub mod Log
 pub mod Message
 pub mod Nest
 pub mod Ordered
-pub mod Recipient
 pub mod Row
-pub mod ShortHeader
-pub mod Transaction
 pub mod Trie

@@ -3,41 +3,31 @@
 #![tactic(auto)]
 
 mod appends;
-mod body;
 mod branch;
 mod child;
 mod couple;
 mod entry;
 mod leaf;
-mod log;
 mod message;
 mod nest;
 mod nonce;
 mod ordered;
 mod pair;
-mod recipient;
 mod row;
-mod short_header;
-mod transaction;
 mod trio;
 mod uses;
 
 pub use appends::{append_one, append_three, bytes_of_three};
-pub use body::Body;
 pub use branch::Branch;
 pub use child::Child;
 pub use couple::{Alone, Couple, append_list_in_list, write_list_in_list};
 pub use entry::{Entry, entry_back};
 pub use leaf::Leaf;
-pub use log::Log;
 pub use message::Message;
 pub use nest::{Inner, Nest};
 pub use nonce::Nonce;
 pub use ordered::Ordered;
 pub use pair::Pair;
-pub use recipient::Recipient;
 pub use row::Row;
-pub use short_header::ShortHeader;
-pub use transaction::Transaction;
 pub use trio::{Refusing, Trio};
 pub use uses::{append_by_stream, append_each, chain_and_encoder, drained, first_and_text, nested};

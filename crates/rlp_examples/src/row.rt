@@ -1,6 +1,5 @@
 //! A row of a table: the list of its thirty-two columns.
 
-use crate::Hash;
 use rlp::{Decodable, DecoderError, Encodable, Rlp, RlpStream, RoundTrip, StrictRead};
 use std::alloc::{AllocError, Global};
 
@@ -10,7 +9,7 @@ pub struct Row {
     /// Column 1.
     pub column_1: u64,
     /// Column 2.
-    pub column_2: Hash,
+    pub column_2: [u8; 32],
     /// Column 3.
     pub column_3: Vec<u8>,
     /// Column 4.
@@ -18,7 +17,7 @@ pub struct Row {
     /// Column 5.
     pub column_5: u64,
     /// Column 6.
-    pub column_6: Hash,
+    pub column_6: [u8; 32],
     /// Column 7.
     pub column_7: Vec<u8>,
     /// Column 8.
@@ -26,7 +25,7 @@ pub struct Row {
     /// Column 9.
     pub column_9: u64,
     /// Column 10.
-    pub column_10: Hash,
+    pub column_10: [u8; 32],
     /// Column 11.
     pub column_11: Vec<u8>,
     /// Column 12.
@@ -34,7 +33,7 @@ pub struct Row {
     /// Column 13.
     pub column_13: u64,
     /// Column 14.
-    pub column_14: Hash,
+    pub column_14: [u8; 32],
     /// Column 15.
     pub column_15: Vec<u8>,
     /// Column 16.
@@ -42,7 +41,7 @@ pub struct Row {
     /// Column 17.
     pub column_17: u64,
     /// Column 18.
-    pub column_18: Hash,
+    pub column_18: [u8; 32],
     /// Column 19.
     pub column_19: Vec<u8>,
     /// Column 20.
@@ -50,7 +49,7 @@ pub struct Row {
     /// Column 21.
     pub column_21: u64,
     /// Column 22.
-    pub column_22: Hash,
+    pub column_22: [u8; 32],
     /// Column 23.
     pub column_23: Vec<u8>,
     /// Column 24.
@@ -58,7 +57,7 @@ pub struct Row {
     /// Column 25.
     pub column_25: u64,
     /// Column 26.
-    pub column_26: Hash,
+    pub column_26: [u8; 32],
     /// Column 27.
     pub column_27: Vec<u8>,
     /// Column 28.
@@ -66,7 +65,7 @@ pub struct Row {
     /// Column 29.
     pub column_29: u64,
     /// Column 30.
-    pub column_30: Hash,
+    pub column_30: [u8; 32],
     /// Column 31.
     pub column_31: Vec<u8>,
     /// Column 32.

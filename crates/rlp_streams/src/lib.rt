@@ -12,8 +12,6 @@ mod traits;
 pub use envelope::append_envelope;
 pub use impls::Uint;
 pub use stream::{BasicEncoder, Chain, RlpStream, append_list_encoding};
-pub use structs::{AppendFields, Each, Flattened, ListOf, append_struct};
-pub use stream::{BasicEncoder, Chain, RlpStream};
 pub use structs::{AppendFields, Each, Flattened, ListOf, Optional, OptionalListOf, append_struct};
 pub use traits::Encodable;
 

@@ -7,5 +7,6 @@ mod messages;
 mod nodes;
 mod once_refused;
 mod raw_items;
+mod rows;
 mod structs;
 mod uses;

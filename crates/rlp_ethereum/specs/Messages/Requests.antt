@@ -5,7 +5,7 @@ use Rattle.rlp_ethereum.specs.declared.messages.requests.GetBlockHeaders.{GetBlo
 use Rattle.rlp_ethereum.specs.declared.messages.requests.BlockHeaders.{BlockHeaders}
 use Rattle.rlp_ethereum.specs.declared.messages.requests.GetBlockBodies.{GetBlockBodies}
 use Rattle.rlp_ethereum.specs.declared.messages.requests.BlockBodies.{BlockBodies}
-use Rattle.rlp_ethereum.specs.Block.{body}
+use Rattle.rlp_ethereum.specs.Body.{body}
 use Rattle.rlp_ethereum.specs.Hash.{hash}
 use Rattle.rlp_ethereum.specs.Header.{header}
 use Rattle.rlp_ethereum.specs.Messages.HashOrNumber.{hash_or_number}

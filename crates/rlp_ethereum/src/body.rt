@@ -1,20 +1,24 @@
-//! The body of a block, whose last list may be missing.
+//! Bodies of blocks.
 
-use crate::{Hash, Transaction};
-use rlp::{Decodable, DecoderError, Encodable, ListOf, Rlp, RlpStream, RoundTrip, StrictRead};
+use crate::{Header, Transaction, Withdrawals};
+use rlp::{
+    Decodable, DecoderError, Encodable, ListOf, Optional, Rlp, RlpStream, RoundTrip, StrictRead,
+};
 use std::alloc::{AllocError, Global};
 
-/// The transactions of a block, and the hashes of its withdrawals, which older blocks don't have.
+/// The body of a block: the list of two fields, and of one more since Shanghai, EIP-4895.
 #[derive(Drop)]
 pub struct Body {
-    /// The transactions.
+    /// The transactions, in order.
     pub transactions: Vec<Transaction>,
-    /// The hashes of the withdrawals.
-    pub withdrawals: Option<Vec<Hash>>,
+    /// The headers of the ommers. There are none since EIP-3675.
+    pub ommers: Vec<Header>,
+    /// The withdrawals from the beacon chain, in order, or `None` in blocks before Shanghai.
+    pub withdrawals: Option<Withdrawals>,
 }
 
 impl Encodable for Body {
-    ghost use Rattle.rlp_examples.specs.Body.{body};
+    ghost use Rattle.rlp_ethereum.specs.Body.{body};
 
     ghost item = { body.item };
 
@@ -24,13 +28,14 @@ impl Encodable for Body {
         rlp::append_fields!(
             s,
             ListOf(&self.transactions),
-            OptionalListOf(&self.withdrawals)
+            ListOf(&self.ommers),
+            Optional(&self.withdrawals)
         )
     }
 }
 
 impl Decodable for Body {
-    ghost use Rattle.rlp_examples.specs.Body.{body};
+    ghost use Rattle.rlp_ethereum.specs.Body.{body};
 
     ghost gives = { body.gives };
 
@@ -44,20 +49,21 @@ impl Decodable for Body {
             rlp,
             Body {
                 transactions: [..],
-                withdrawals: [..]?
+                ommers: [..],
+                withdrawals: ?
             }
         )
     }
 }
 
 impl RoundTrip for Body {
-    ghost use Rattle.rlp_examples.specs.Body.{body};
+    ghost use Rattle.rlp_ethereum.specs.Body.{body};
 
     ghost round_trip = { body.reads_back };
 }
 
 impl StrictRead for Body {
-    ghost use Rattle.rlp_examples.specs.Body.{body};
+    ghost use Rattle.rlp_ethereum.specs.Body.{body};
 
     ghost strict = { body.reads_strictly };
 }
