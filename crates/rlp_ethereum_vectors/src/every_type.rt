@@ -4,8 +4,8 @@
 
 use crate::support::bytes_of;
 use bytes::BytesMut;
-use rlp::DecoderError;
-use rlp_ethereum::Transaction;
+use rlp::{DecoderError, Uint};
+use rlp_ethereum::{BlobTransaction, SetCodeTransaction, Transaction};
 use std::alloc::Global;
 use std::test::Fail;
 
@@ -139,6 +139,68 @@ fn goes_in_block(alloc: Global, index: usize) -> Result<bool, Fail> {
     let is_refused = rlp::decode_strict::<Transaction>(alloc, bytes.as_slice()).is_err();
     let lenient = rlp::decode::<Transaction>(alloc, bytes.as_slice())?;
     Ok(is_same && is_refused && type_of(&lenient) == index)
+}
+
+/// Returns whether a number of 256 bits is this one.
+fn is_number(wide: &Uint<32>, number: u64) -> bool {
+    wide.bytes.ends_with(&number.to_be_bytes()) && wide.bytes.starts_with(&[0; 24])
+}
+
+/// Returns whether the fields are those of the transaction of type 3.
+fn has_fields_of_blob(blob: &BlobTransaction) -> bool {
+    blob.chain_id == 1
+        && blob.nonce == 9
+        && is_number(&blob.max_priority_fee_per_gas, 1_000_000_000)
+        && is_number(&blob.max_fee_per_gas, 30_000_000_000)
+        && blob.gas_limit == 60_000
+        && is_number(&blob.value, 7)
+        && blob.data.as_slice() == [0xbe, 0xef].as_slice()
+        && blob.access_list.0.len() == 1
+        && is_number(&blob.max_fee_per_blob_gas, 1_000_000)
+        && blob.blob_versioned_hashes.len() == 2
+        && blob.y_parity
+        && is_number(&blob.r, 0x5555)
+        && is_number(&blob.s, 0x6666)
+}
+
+/// Returns whether the fields are those of the transaction of type 4.
+fn has_fields_of_set_code(code: &SetCodeTransaction) -> bool {
+    let has_second = match code.authorization_list.get(1) {
+        Some(second) => {
+            is_number(&second.chain_id, 1)
+                && second.nonce == 300
+                && second.y_parity == 255
+                && is_number(&second.r, 0x9999)
+                && is_number(&second.s, 0xaaaa)
+        }
+        None => false,
+    };
+    has_second
+        && code.nonce == 10
+        && is_number(&code.max_priority_fee_per_gas, 1_000_000_000)
+        && is_number(&code.max_fee_per_gas, 40_000_000_000)
+        && code.gas_limit == 70_000
+        && is_number(&code.value, 0)
+        && code.data.as_slice() == [1, 2, 3].as_slice()
+        && code.y_parity
+        && is_number(&code.r, 0xbbbb)
+        && is_number(&code.s, 0xcccc)
+}
+
+#[test]
+fn fields_of_types_3_and_4(rt: HostRuntime) -> Result<(), Fail> {
+    let alloc = rt.alloc();
+    for index in 3..5 {
+        let bytes = transaction_bytes(alloc, index)?;
+        let transaction = Transaction::from_bytes(alloc, bytes.as_slice())?;
+        let has_fields = match &transaction {
+            Transaction::Blob(blob) => has_fields_of_blob(blob),
+            Transaction::SetCode(code) => has_fields_of_set_code(code),
+            _ => false,
+        };
+        assert!(rt; has_fields, "row {index}");
+    }
+    Ok(())
 }
 
 /// Returns what is signed of the transaction with this number, by its fields and by the row above.
