@@ -2,5 +2,7 @@
 pub mod Exact
 -- an item that is kept as the bytes of its encoding
 pub mod RawItem
+-- lemmas for a struct with several fields of one type
+pub mod EachField
 -- a struct whose last fields are groups of fields
 pub mod Groups

@@ -3,6 +3,8 @@ pub mod AccessListTransaction
 pub mod Account
 pub mod Address
 pub mod Bloom
+pub mod Child
+pub mod ChildLaws
 pub mod FeeMarketTransaction
 pub mod Hash
 pub mod Header
@@ -13,4 +15,5 @@ pub mod NodeLaws
 pub mod NodeRecord
 pub mod Receipt
 pub mod Recipient
+pub mod Trie
 pub mod Withdrawal

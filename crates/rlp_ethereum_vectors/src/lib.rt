@@ -6,6 +6,8 @@ mod headers;
 #[cfg(test)]
 mod node_records;
 #[cfg(test)]
+mod nodes;
+#[cfg(test)]
 mod records;
 #[cfg(test)]
 mod support;
