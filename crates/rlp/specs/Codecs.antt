@@ -4,5 +4,7 @@ pub mod Exact
 pub mod RawItem
 -- types whose values are of several types: sums, envelopes and tagged lists
 pub mod Sums
+-- lemmas for a struct with several fields of one type
+pub mod EachField
 -- a struct whose last fields are groups of fields
 pub mod Groups

@@ -7,6 +7,8 @@ pub mod BlobTransaction
 pub mod Block
 pub mod Bloom
 pub mod Body
+pub mod Child
+pub mod ChildLaws
 pub mod FeeMarketTransaction
 pub mod Hash
 pub mod Header
@@ -20,4 +22,5 @@ pub mod Receipt
 pub mod Recipient
 pub mod SetCodeTransaction
 pub mod Transaction
+pub mod Trie
 pub mod Withdrawal

@@ -119,7 +119,7 @@ fn record_fields(alloc: Global, bytes: &[u8]) -> Result<NodeFields, DecoderError
     ensures fault { IfErr result (λ e. IsRecordFault bytes.now e
         ⊎ ((e ≡ OutOfMemory) × node_fields.may_lack (strict_view_of bytes.now))) }
 {
-    if bytes.len() > NodeRecord::MAX_LEN {
+    if NodeRecord::MAX_LEN < bytes.len() {
         return Err(DecoderError::RlpIsTooBig);
     }
     let fields = match rlp::decode_strict::<NodeFields>(alloc, bytes) {

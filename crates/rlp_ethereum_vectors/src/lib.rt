@@ -16,6 +16,8 @@ mod messages;
 #[cfg(test)]
 mod node_records;
 #[cfg(test)]
+mod nodes;
+#[cfg(test)]
 mod records;
 #[cfg(test)]
 mod requests;

@@ -112,6 +112,11 @@ raw_told f x e sized is deep (too_deep deeper custom) =
     let same : depth f ≡ item_depth x = depth_of_item x f sized ([], is ∙ sym (append-nil (encoding x))) in omega (arith, deep, deeper, same)
 raw_told f x e sized is deep (not_canonical low other custom) = other (x, is)
 
+-- a raw item has no fault
+pub raw_has_no_fault : (b : List ℕ) (e : DecoderError) → length b < 2 ^ 64 → IsRawItem b → ¬ IsRawFault b e
+raw_has_no_fault b e fits raw =
+    let (x, is, deep) = raw_is b raw in raw_told b x e (front_sized x b [] fits (is ∙ sym (append-nil (encoding x)))) is deep
+
 -- a view that holds the encoding of a raw item has no fault
 pub raw_sound : (v : View) (b : List ℕ) → length v.bytes < 2 ^ 64 → IsRawItem b → HoldsItem v (raw_item_of b) → (e : DecoderError) → ¬ FaultsAsRaw v e
 raw_sound v b fits fit holds e (not_framed none) = let is = view_frame-held v (raw_item_of b) fits holds in cc
@@ -145,6 +150,10 @@ list_by (list ys) b fits is =
     let same : list_of (listed ys) ≡ list ys = ap list (items_from-listed ys) in
     let whole : b ≡ encoding (list_of (listed ys)) ++ [] = is ∙ ap encoding (sym same) ∙ sym (append-nil (encoding (list_of (listed ys)))) in
     (list_shape (listed ys) b (front_sized (list_of (listed ys)) b [] fits whole) ([], whole)).0
+
+-- the encoding of a string doesn't begin as a list
+pub string_kind : (b d : List ℕ) → length b < 2 ^ 64 → b ≡ encoding (string d) → begins_as_list b ≡ false
+string_kind b d fits is = list_by (string d) b fits is
 
 put_list : (x : Item) (s : State) → is_list x ≡ true → with_mark true (count 1 (put (encoding x) s)) ≡ put_item x s
 put_list (string d) s is = absurd (let no : ⊥ = cc in no)

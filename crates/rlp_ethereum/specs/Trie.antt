@@ -1,0 +1,38 @@
+-- How nodes of the trie are written and read.
+use Rattle.std.specs.Prelude.{ℕ, get_or}
+use Rattle.std.specs.Vec.{vec_items}
+use Rattle.rlp.specs.Codec.{Codec, Fields, and_each, and_field, byte_string, last_field, struct_of}
+use Rattle.rlp_ethereum.specs.declared.branch.Branch.{Branch}
+use Rattle.rlp_ethereum.specs.declared.child.Child.{Child}
+use Rattle.rlp_ethereum.specs.declared.child.Child.TheVariants.{Nothing}
+use Rattle.rlp_ethereum.specs.declared.extension.Extension.{Extension}
+use Rattle.rlp_ethereum.specs.declared.leaf.Leaf.{Leaf}
+use Rattle.rlp_ethereum.specs.ChildLaws.{child}
+
+-- a path and a value
+abbrev pub leaf_fields : Fields Leaf
+leaf_fields = and_field (λ (l : Leaf). l.path) (byte_string vec_items) (last_field (λ (l : Leaf). l.value) (byte_string vec_items))
+
+-- the list of the fields
+abbrev pub leaf : Codec Leaf
+leaf = struct_of leaf_fields
+
+-- a path and a child
+abbrev pub extension_fields : Fields Extension
+extension_fields = and_field (λ (e : Extension). e.path) (byte_string vec_items) (last_field (λ (e : Extension). e.child) child)
+
+-- the list of the fields
+abbrev pub extension : Codec Extension
+extension = struct_of extension_fields
+
+-- the child at place k
+abbrev pub child_at : ℕ → Branch → Child
+child_at k b = get_or b.children k Nothing
+
+-- sixteen children, and the value
+abbrev pub branch_fields : Fields Branch
+branch_fields = and_each child_at child (last_field (λ (b : Branch). b.value) (byte_string vec_items)) 0 16
+
+-- the list of the fields
+abbrev pub branch : Codec Branch
+branch = struct_of branch_fields

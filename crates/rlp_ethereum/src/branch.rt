@@ -1,0 +1,85 @@
+//! Branches of the trie: the list of sixteen children and a value.
+
+use crate::Child;
+use rlp::{Decodable, DecoderError, Each, Encodable, Rlp, RlpStream, RoundTrip, StrictRead};
+use std::alloc::{AllocError, Global};
+
+/// A node of the trie with a child for each next digit of the path to the base 16: the list of the
+/// children and a value.
+///
+/// See appendix D of the yellow paper.
+#[derive(Drop)]
+pub struct Branch {
+    /// The child for each next digit of the path.
+    pub children: [Child; 16],
+    /// The value of the path that ends here, or no bytes if there is none.
+    pub value: Vec<u8>,
+}
+
+impl Encodable for Branch {
+    ghost use Rattle.rlp_ethereum.specs.Trie.{branch};
+
+    ghost item = { branch.item };
+
+    ghost fits = { branch.Fits };
+
+    #[tactic(auto, using(rlp::proofs::Writing::writing))]
+    fn rlp_append(&self, s: &mut RlpStream) -> Result<(), AllocError> {
+        let children = self.children.as_slice();
+        // This is always so. The test tells the proof the length of the array.
+        if children.len() != 16 {
+            return Err(AllocError);
+        }
+        rlp::append_fields!(s, Each(children), &self.value)
+    }
+}
+
+impl Decodable for Branch {
+    ghost use Rattle.rlp_ethereum.specs.Trie.{branch};
+
+    ghost gives = { branch.gives };
+
+    ghost faults = { branch.faults };
+
+    ghost may_lack_memory = { branch.may_lack };
+
+    #[tactic(auto, using(rlp::specs::Lemmas::Structs::struct_fields))]
+    fn decode(alloc: Global, rlp: &Rlp<'_>) -> Result<Branch, DecoderError> {
+        if rlp.item_count()? != 17 {
+            return Err(DecoderError::RlpIncorrectListLen);
+        }
+        Ok(Branch {
+            children: [
+                rlp.val_at(alloc, 0)?,
+                rlp.val_at(alloc, 1)?,
+                rlp.val_at(alloc, 2)?,
+                rlp.val_at(alloc, 3)?,
+                rlp.val_at(alloc, 4)?,
+                rlp.val_at(alloc, 5)?,
+                rlp.val_at(alloc, 6)?,
+                rlp.val_at(alloc, 7)?,
+                rlp.val_at(alloc, 8)?,
+                rlp.val_at(alloc, 9)?,
+                rlp.val_at(alloc, 10)?,
+                rlp.val_at(alloc, 11)?,
+                rlp.val_at(alloc, 12)?,
+                rlp.val_at(alloc, 13)?,
+                rlp.val_at(alloc, 14)?,
+                rlp.val_at(alloc, 15)?,
+            ],
+            value: rlp.val_at(alloc, 16)?,
+        })
+    }
+}
+
+impl RoundTrip for Branch {
+    ghost use Rattle.rlp_ethereum.specs.Trie.{branch};
+
+    ghost round_trip = { branch.reads_back };
+}
+
+impl StrictRead for Branch {
+    ghost use Rattle.rlp_ethereum.specs.Trie.{branch};
+
+    ghost strict = { branch.reads_strictly };
+}

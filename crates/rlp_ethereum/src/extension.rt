@@ -1,0 +1,55 @@
+//! Extensions of the trie: the list of a part of the path and a child.
+
+use crate::Child;
+use rlp::{Decodable, DecoderError, Encodable, Rlp, RlpStream, RoundTrip, StrictRead};
+use std::alloc::{AllocError, Global};
+
+/// A node of the trie with one child: the list of a part of the path and the child.
+///
+/// See appendix D of the yellow paper.
+#[derive(Debug, PartialEq, Eq, Drop)]
+pub struct Extension {
+    /// A part of the path, hex-prefix encoded: two digits in each byte, after the mark of an
+    /// extension in the first byte. It may be any bytes: the mark isn't tested.
+    pub path: Vec<u8>,
+    /// The node at the end of this part, which is a branch.
+    pub child: Child,
+}
+
+impl Encodable for Extension {
+    ghost use Rattle.rlp_ethereum.specs.Trie.{extension};
+
+    ghost item = { extension.item };
+
+    ghost fits = { extension.Fits };
+
+    fn rlp_append(&self, s: &mut RlpStream) -> Result<(), AllocError> {
+        rlp::append_fields!(s, &self.path, &self.child)
+    }
+}
+
+impl Decodable for Extension {
+    ghost use Rattle.rlp_ethereum.specs.Trie.{extension};
+
+    ghost gives = { extension.gives };
+
+    ghost faults = { extension.faults };
+
+    ghost may_lack_memory = { extension.may_lack };
+
+    fn decode(alloc: Global, rlp: &Rlp<'_>) -> Result<Extension, DecoderError> {
+        rlp::decode_fields!(alloc, rlp, Extension { path, child })
+    }
+}
+
+impl RoundTrip for Extension {
+    ghost use Rattle.rlp_ethereum.specs.Trie.{extension};
+
+    ghost round_trip = { extension.reads_back };
+}
+
+impl StrictRead for Extension {
+    ghost use Rattle.rlp_ethereum.specs.Trie.{extension};
+
+    ghost strict = { extension.reads_strictly };
+}

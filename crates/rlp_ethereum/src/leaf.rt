@@ -1,0 +1,54 @@
+//! Leaves of the trie: the list of the rest of the path and the value.
+
+use rlp::{Decodable, DecoderError, Encodable, Rlp, RlpStream, RoundTrip, StrictRead};
+use std::alloc::{AllocError, Global};
+
+/// A node of the trie that ends a path: the list of the rest of the path and the value.
+///
+/// See appendix D of the yellow paper.
+#[derive(Debug, PartialEq, Eq, Drop)]
+pub struct Leaf {
+    /// The rest of the path, hex-prefix encoded: two digits in each byte, after the mark of a leaf
+    /// in the first byte. It may be any bytes: the mark isn't tested.
+    pub path: Vec<u8>,
+    /// The value.
+    pub value: Vec<u8>,
+}
+
+impl Encodable for Leaf {
+    ghost use Rattle.rlp_ethereum.specs.Trie.{leaf};
+
+    ghost item = { leaf.item };
+
+    ghost fits = { leaf.Fits };
+
+    fn rlp_append(&self, s: &mut RlpStream) -> Result<(), AllocError> {
+        rlp::append_fields!(s, &self.path, &self.value)
+    }
+}
+
+impl Decodable for Leaf {
+    ghost use Rattle.rlp_ethereum.specs.Trie.{leaf};
+
+    ghost gives = { leaf.gives };
+
+    ghost faults = { leaf.faults };
+
+    ghost may_lack_memory = { leaf.may_lack };
+
+    fn decode(alloc: Global, rlp: &Rlp<'_>) -> Result<Leaf, DecoderError> {
+        rlp::decode_fields!(alloc, rlp, Leaf { path, value })
+    }
+}
+
+impl RoundTrip for Leaf {
+    ghost use Rattle.rlp_ethereum.specs.Trie.{leaf};
+
+    ghost round_trip = { leaf.reads_back };
+}
+
+impl StrictRead for Leaf {
+    ghost use Rattle.rlp_ethereum.specs.Trie.{leaf};
+
+    ghost strict = { leaf.reads_strictly };
+}
