@@ -41,12 +41,11 @@ pub use blob_transaction::BlobTransaction;
 pub use block::Block;
 pub use bloom::Bloom;
 pub use body::Body;
+pub use branch::Branch;
+pub use child::Child;
 pub use envelope::{
     ACCESS_LIST_TYPE, BLOB_TYPE, FEE_MARKET_TYPE, SET_CODE_TYPE, from_envelope, to_envelope,
 };
-pub use branch::Branch;
-pub use child::Child;
-pub use envelope::{ACCESS_LIST_TYPE, FEE_MARKET_TYPE, from_envelope, to_envelope};
 pub use extension::Extension;
 pub use fee_market_transaction::FeeMarketTransaction;
 pub use hash::Hash;
