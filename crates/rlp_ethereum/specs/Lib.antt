@@ -14,7 +14,6 @@ pub mod Hash
 pub mod Header
 pub mod LegacyTransaction
 pub mod Log
-pub mod Messages
 pub mod NodeFields
 pub mod NodeLaws
 pub mod NodeRecord

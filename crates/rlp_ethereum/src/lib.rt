@@ -23,7 +23,6 @@ mod header;
 mod leaf;
 mod legacy_transaction;
 mod log;
-pub mod messages;
 mod node_fields;
 mod node_record;
 mod receipt;

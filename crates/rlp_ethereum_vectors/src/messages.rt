@@ -4,7 +4,7 @@
 use crate::support::{bytes_of, is_fault, is_written_as};
 use rlp::{DecoderError, Uint};
 use rlp_ethereum::Hash;
-use rlp_ethereum::messages::{
+use rlp_messages::{
     BlockRangeUpdate, Capability, Disconnect, ForkHash, ForkId, Hello, NewBlockHash,
     NewBlockHashes, NewPooledTransactionHashes, NodeId, Ping, Pong, Status68, Status69,
 };

@@ -3,7 +3,7 @@
 
 use crate::support::{bytes_of, is_fault, is_written_as, wide};
 use rlp::DecoderError;
-use rlp_ethereum::messages::{
+use rlp_messages::{
     BlockHeaders, GetBlockBodies, GetBlockHeaders, HashOrNumber, WithRequestId,
 };
 use rlp_ethereum::{Address, Bloom, Hash, Header};

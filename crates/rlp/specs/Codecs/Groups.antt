@@ -68,12 +68,12 @@ and_before field c more = record {
   counted = λ p. ap suc (more.counted p);
   right = λ p. one_more_right more.IsCount (more.number p) (more.right p);
   alike = λ i view p fit holds q many. first_tail_alike c.Fits c.item c.gives c.faults c.reads_back i view (Some (field p)) (Some (field q)) (more.items p)
-      (more.items q) (more.Fits p) (more.Fits q) (more.gives (suc i) view q)
+      (more.items q) (more.number q) (more.Fits p) (more.Fits q) (more.gives (suc i) view q) (more.counted q)
       (λ fits others same. more.alike (suc i) view p fits others q same) fit holds many;
   sound = λ i view p fit holds. first_tail_sound c.Fits c.item c.gives c.faults c.reads_back more.faults i view (Some (field p)) (more.items p) (more.Fits p)
       (λ fits others. more.sound (suc i) view p fits others) fit holds;
   exact = λ i view parts p held many. first_tail_exact c.Fits c.item c.gives c.faults c.reads_strictly i view parts (Some (field p)) (more.items p)
-      (more.Fits p) (more.gives (suc i) view p)
+      (more.number p) (more.Fits p) (more.gives (suc i) view p) (more.counted p)
       (λ others held same. more.exact (suc i) view others p held same) held many;
   exactly_sound = λ i view parts p held fit same. first_tail_exactly_sound c.Fits c.item c.gives c.faults c.reads_strictly more.faults i view parts
       (Some (field p)) (more.items p) (more.Fits p)

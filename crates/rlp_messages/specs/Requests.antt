@@ -1,0 +1,35 @@
+-- How requests and their answers are written and read.
+use Rattle.std.specs.Vec.{vec_items}
+use Rattle.rlp.specs.Codec.{Codec, Fields, and_field, last_field, list_type, number, struct_of, truth_value}
+use Rattle.rlp_messages.specs.declared.requests.GetBlockHeaders.{GetBlockHeaders}
+use Rattle.rlp_messages.specs.declared.requests.BlockHeaders.{BlockHeaders}
+use Rattle.rlp_messages.specs.declared.requests.GetBlockBodies.{GetBlockBodies}
+use Rattle.rlp_messages.specs.declared.requests.BlockBodies.{BlockBodies}
+use Rattle.rlp_ethereum.specs.Body.{body}
+use Rattle.rlp_ethereum.specs.Hash.{hash}
+use Rattle.rlp_ethereum.specs.Header.{header}
+use Rattle.rlp_messages.specs.HashOrNumber.{hash_or_number}
+
+-- the fields, in order
+abbrev pub get_block_headers_fields : Fields GetBlockHeaders
+get_block_headers_fields =
+    and_field (λ (g : GetBlockHeaders). g.start_block) hash_or_number (
+    and_field (λ (g : GetBlockHeaders). g.limit) (number 8) (
+    and_field (λ (g : GetBlockHeaders). g.skip) (number 8) (
+    last_field (λ (g : GetBlockHeaders). g.reverse) truth_value)))
+
+-- the list of the fields
+abbrev pub get_block_headers : Codec GetBlockHeaders
+get_block_headers = struct_of get_block_headers_fields
+
+-- the list of the headers
+abbrev pub block_headers : Codec BlockHeaders
+block_headers = list_type (λ (b : BlockHeaders). vec_items b.0) header
+
+-- the list of the hashes
+abbrev pub get_block_bodies : Codec GetBlockBodies
+get_block_bodies = list_type (λ (g : GetBlockBodies). vec_items g.0) hash
+
+-- the list of the bodies
+abbrev pub block_bodies : Codec BlockBodies
+block_bodies = list_type (λ (b : BlockBodies). vec_items b.0) body

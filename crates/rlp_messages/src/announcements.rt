@@ -1,0 +1,275 @@
+//! Announcements of the protocol `eth`: new blocks and transactions, and the blocks that a client
+//! has.
+
+use rlp_ethereum::{Block, Hash};
+use rlp::{
+    Decodable, DecoderError, Encodable, ListOf, Rlp, RlpStream, RoundTrip, StrictRead, Uint,
+};
+use std::alloc::{AllocError, Global};
+
+/// A block that a client announces: the list of both fields.
+#[derive(Debug, PartialEq, Eq, Drop)]
+pub struct NewBlockHash {
+    /// The hash of the block.
+    pub hash: Hash,
+    /// The number of the block.
+    pub number: u64,
+}
+
+impl Encodable for NewBlockHash {
+    ghost use Rattle.rlp_messages.specs.Announcements.{new_block_hash};
+
+    ghost item = { new_block_hash.item };
+
+    ghost fits = { new_block_hash.Fits };
+
+    fn rlp_append(&self, s: &mut RlpStream) -> Result<(), AllocError> {
+        rlp::append_fields!(s, &self.hash, &self.number)
+    }
+}
+
+impl Decodable for NewBlockHash {
+    ghost use Rattle.rlp_messages.specs.Announcements.{new_block_hash};
+
+    ghost gives = { new_block_hash.gives };
+
+    ghost faults = { new_block_hash.faults };
+
+    ghost may_lack_memory = { new_block_hash.may_lack };
+
+    fn decode(alloc: Global, rlp: &Rlp<'_>) -> Result<NewBlockHash, DecoderError> {
+        rlp::decode_fields!(alloc, rlp, NewBlockHash { hash, number })
+    }
+}
+
+impl RoundTrip for NewBlockHash {
+    ghost use Rattle.rlp_messages.specs.Announcements.{new_block_hash};
+
+    ghost round_trip = { new_block_hash.reads_back };
+}
+
+impl StrictRead for NewBlockHash {
+    ghost use Rattle.rlp_messages.specs.Announcements.{new_block_hash};
+
+    ghost strict = { new_block_hash.reads_strictly };
+}
+
+/// The blocks that a client announces, message 0x01 of `eth`: the list of them.
+#[derive(Debug, PartialEq, Eq, Drop)]
+pub struct NewBlockHashes(pub Vec<NewBlockHash>);
+
+impl Encodable for NewBlockHashes {
+    ghost use Rattle.rlp_messages.specs.Announcements.{new_block_hashes};
+
+    ghost item = { new_block_hashes.item };
+
+    ghost fits = { new_block_hashes.Fits };
+
+    #[tactic(auto, using(rlp::proofs::Writing::writing))]
+    fn rlp_append(&self, s: &mut RlpStream) -> Result<(), AllocError> {
+        s.append_list(self.0.as_slice())?;
+        Ok(())
+    }
+}
+
+impl Decodable for NewBlockHashes {
+    ghost use Rattle.rlp_messages.specs.Announcements.{new_block_hashes};
+
+    ghost gives = { new_block_hashes.gives };
+
+    ghost faults = { new_block_hashes.faults };
+
+    ghost may_lack_memory = { new_block_hashes.may_lack };
+
+    fn decode(alloc: Global, rlp: &Rlp<'_>) -> Result<NewBlockHashes, DecoderError> {
+        let blocks = rlp.as_list(alloc)?;
+        Ok(NewBlockHashes(blocks))
+    }
+}
+
+impl RoundTrip for NewBlockHashes {
+    ghost use Rattle.rlp_messages.specs.Announcements.{new_block_hashes};
+
+    ghost round_trip = { new_block_hashes.reads_back };
+}
+
+impl StrictRead for NewBlockHashes {
+    ghost use Rattle.rlp_messages.specs.Announcements.{new_block_hashes};
+
+    ghost strict = { new_block_hashes.reads_strictly };
+}
+
+/// The transactions that a client announces, message 0x08 since `eth/68`: the list of its three
+/// fields. The protocol asks for as many types as sizes and hashes; this type doesn't check that.
+#[derive(Debug, PartialEq, Eq, Drop)]
+pub struct NewPooledTransactionHashes {
+    /// The types of the transactions, a byte each, and 0 for legacy ones.
+    pub types: Vec<u8>,
+    /// The lengths of their encodings, in bytes.
+    pub sizes: Vec<u64>,
+    /// Their hashes.
+    pub hashes: Vec<Hash>,
+}
+
+impl Encodable for NewPooledTransactionHashes {
+    ghost use Rattle.rlp_messages.specs.Announcements.{new_pooled_transaction_hashes};
+
+    ghost item = { new_pooled_transaction_hashes.item };
+
+    ghost fits = { new_pooled_transaction_hashes.Fits };
+
+    fn rlp_append(&self, s: &mut RlpStream) -> Result<(), AllocError> {
+        rlp::append_fields!(s, &self.types, ListOf(&self.sizes), ListOf(&self.hashes))
+    }
+}
+
+impl Decodable for NewPooledTransactionHashes {
+    ghost use Rattle.rlp_messages.specs.Announcements.{new_pooled_transaction_hashes};
+
+    ghost gives = { new_pooled_transaction_hashes.gives };
+
+    ghost faults = { new_pooled_transaction_hashes.faults };
+
+    ghost may_lack_memory = { new_pooled_transaction_hashes.may_lack };
+
+    fn decode(alloc: Global, rlp: &Rlp<'_>) -> Result<NewPooledTransactionHashes, DecoderError> {
+        rlp::decode_fields!(
+            alloc,
+            rlp,
+            NewPooledTransactionHashes {
+                types,
+                sizes: [..],
+                hashes: [..]
+            }
+        )
+    }
+}
+
+impl RoundTrip for NewPooledTransactionHashes {
+    ghost use Rattle.rlp_messages.specs.Announcements.{new_pooled_transaction_hashes};
+
+    ghost round_trip = { new_pooled_transaction_hashes.reads_back };
+}
+
+impl StrictRead for NewPooledTransactionHashes {
+    ghost use Rattle.rlp_messages.specs.Announcements.{new_pooled_transaction_hashes};
+
+    ghost strict = { new_pooled_transaction_hashes.reads_strictly };
+}
+
+/// The blocks that a client has, message 0x11 of `eth/69`: the list of its three fields, as in
+/// EIP-7642.
+#[derive(Debug, PartialEq, Eq, Drop)]
+pub struct BlockRangeUpdate {
+    /// The number of the earliest block that the client has whole.
+    pub earliest_block: u64,
+    /// The number of the latest block.
+    pub latest_block: u64,
+    /// The hash of the latest block.
+    pub latest_block_hash: Hash,
+}
+
+impl Encodable for BlockRangeUpdate {
+    ghost use Rattle.rlp_messages.specs.Announcements.{block_range_update};
+
+    ghost item = { block_range_update.item };
+
+    ghost fits = { block_range_update.Fits };
+
+    fn rlp_append(&self, s: &mut RlpStream) -> Result<(), AllocError> {
+        rlp::append_fields!(
+            s,
+            &self.earliest_block,
+            &self.latest_block,
+            &self.latest_block_hash
+        )
+    }
+}
+
+impl Decodable for BlockRangeUpdate {
+    ghost use Rattle.rlp_messages.specs.Announcements.{block_range_update};
+
+    ghost gives = { block_range_update.gives };
+
+    ghost faults = { block_range_update.faults };
+
+    ghost may_lack_memory = { block_range_update.may_lack };
+
+    fn decode(alloc: Global, rlp: &Rlp<'_>) -> Result<BlockRangeUpdate, DecoderError> {
+        rlp::decode_fields!(
+            alloc,
+            rlp,
+            BlockRangeUpdate {
+                earliest_block,
+                latest_block,
+                latest_block_hash
+            }
+        )
+    }
+}
+
+impl RoundTrip for BlockRangeUpdate {
+    ghost use Rattle.rlp_messages.specs.Announcements.{block_range_update};
+
+    ghost round_trip = { block_range_update.reads_back };
+}
+
+impl StrictRead for BlockRangeUpdate {
+    ghost use Rattle.rlp_messages.specs.Announcements.{block_range_update};
+
+    ghost strict = { block_range_update.reads_strictly };
+}
+
+/// A whole block that a client announces, message 0x07 of `eth/68`: the list of both fields.
+#[derive(Drop)]
+pub struct NewBlock {
+    /// The block.
+    pub block: Block,
+    /// The sum of the difficulties up to this block.
+    pub total_difficulty: Uint<32>,
+}
+
+impl Encodable for NewBlock {
+    ghost use Rattle.rlp_messages.specs.Announcements.{new_block};
+
+    ghost item = { new_block.item };
+
+    ghost fits = { new_block.Fits };
+
+    fn rlp_append(&self, s: &mut RlpStream) -> Result<(), AllocError> {
+        rlp::append_fields!(s, &self.block, &self.total_difficulty)
+    }
+}
+
+impl Decodable for NewBlock {
+    ghost use Rattle.rlp_messages.specs.Announcements.{new_block};
+
+    ghost gives = { new_block.gives };
+
+    ghost faults = { new_block.faults };
+
+    ghost may_lack_memory = { new_block.may_lack };
+
+    fn decode(alloc: Global, rlp: &Rlp<'_>) -> Result<NewBlock, DecoderError> {
+        rlp::decode_fields!(
+            alloc,
+            rlp,
+            NewBlock {
+                block,
+                total_difficulty
+            }
+        )
+    }
+}
+
+impl RoundTrip for NewBlock {
+    ghost use Rattle.rlp_messages.specs.Announcements.{new_block};
+
+    ghost round_trip = { new_block.reads_back };
+}
+
+impl StrictRead for NewBlock {
+    ghost use Rattle.rlp_messages.specs.Announcements.{new_block};
+
+    ghost strict = { new_block.reads_strictly };
+}

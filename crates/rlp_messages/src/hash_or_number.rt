@@ -1,0 +1,67 @@
+//! Names of blocks: a hash, or a number.
+
+use rlp_ethereum::Hash;
+use rlp::{Decodable, DecoderError, Encodable, Rlp, RlpStream, RoundTrip, StrictRead};
+use std::alloc::{AllocError, Global};
+
+/// A block, by its hash or its number. A string of 32 bytes is a hash, and one of at most eight is
+/// a number.
+#[derive(Debug, Clone, Copy, PartialEq, Eq)]
+pub enum HashOrNumber {
+    /// The block with this hash.
+    Hash(Hash),
+    /// The block with this number.
+    Number(u64),
+}
+
+impl Encodable for HashOrNumber {
+    ghost use Rattle.rlp_messages.specs.HashOrNumber.{hash_or_number};
+
+    ghost item = { hash_or_number.item };
+
+    ghost fits = { hash_or_number.Fits };
+
+    #[tactic(auto, using(rlp::proofs::Writing::writing))]
+    fn rlp_append(&self, s: &mut RlpStream) -> Result<(), AllocError> {
+        match self {
+            HashOrNumber::Hash(hash) => hash.rlp_append(s),
+            HashOrNumber::Number(number) => number.rlp_append(s),
+        }
+    }
+}
+
+/// Reading fails as reading a number does: with `RlpIsTooBig` if the string has more than eight
+/// bytes and not 32, and with `RlpInvalidIndirection` if it is shorter and begins with a zero. It
+/// takes no memory.
+impl Decodable for HashOrNumber {
+    ghost use Rattle.rlp_messages.specs.HashOrNumber.{hash_or_number};
+
+    ghost gives = { hash_or_number.gives };
+
+    ghost faults = { hash_or_number.faults };
+
+    ghost may_lack_memory = { hash_or_number.may_lack };
+
+    #[tactic(auto, using(crate::specs::Messages::HashOrNumber::hash_or_number_found))]
+    fn decode(alloc: Global, rlp: &Rlp<'_>) -> Result<HashOrNumber, DecoderError> {
+        match rlp.as_val(alloc) {
+            Ok(hash) => Ok(HashOrNumber::Hash(hash)),
+            Err(_) => match rlp.as_val(alloc) {
+                Ok(number) => Ok(HashOrNumber::Number(number)),
+                Err(fault) => Err(fault),
+            },
+        }
+    }
+}
+
+impl RoundTrip for HashOrNumber {
+    ghost use Rattle.rlp_messages.specs.HashOrNumber.{hash_or_number};
+
+    ghost round_trip = { hash_or_number.reads_back };
+}
+
+impl StrictRead for HashOrNumber {
+    ghost use Rattle.rlp_messages.specs.HashOrNumber.{hash_or_number};
+
+    ghost strict = { hash_or_number.reads_strictly };
+}

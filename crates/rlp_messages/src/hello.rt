@@ -1,0 +1,170 @@
+//! Greetings of the capability `p2p` of RLPx.
+
+use rlp::{Decodable, DecoderError, Encodable, ListOf, Rlp, RlpStream, RoundTrip, StrictRead};
+use std::alloc::{AllocError, Global};
+
+/// The public key of a client: 64 bytes.
+#[derive(Debug, Clone, Copy, PartialEq, Eq)]
+pub struct NodeId(pub [u8; 64]);
+
+/// Written as the array of the bytes is.
+impl Encodable for NodeId {
+    ghost use Rattle.rlp_messages.specs.Hello.{node_id};
+
+    ghost item = { node_id.item };
+
+    ghost fits = { node_id.Fits };
+
+    fn rlp_append(&self, s: &mut RlpStream) -> Result<(), AllocError> {
+        self.0.rlp_append(s)
+    }
+}
+
+/// Read as the array of the bytes is. Fails with `RlpIsTooShort` if the string is shorter, and with
+/// `RlpIsTooBig` if it is longer. It takes no memory.
+impl Decodable for NodeId {
+    ghost use Rattle.rlp_messages.specs.Hello.{node_id};
+
+    ghost gives = { node_id.gives };
+
+    ghost faults = { node_id.faults };
+
+    ghost may_lack_memory = { node_id.may_lack };
+
+    fn decode(alloc: Global, rlp: &Rlp<'_>) -> Result<NodeId, DecoderError> {
+        let bytes = rlp.as_val(alloc)?;
+        Ok(NodeId(bytes))
+    }
+}
+
+impl RoundTrip for NodeId {
+    ghost use Rattle.rlp_messages.specs.Hello.{node_id};
+
+    ghost round_trip = { node_id.reads_back };
+}
+
+impl StrictRead for NodeId {
+    ghost use Rattle.rlp_messages.specs.Hello.{node_id};
+
+    ghost strict = { node_id.reads_strictly };
+}
+
+/// A protocol that a client speaks, and its version: the list of both.
+#[derive(Debug, PartialEq, Eq, Drop)]
+pub struct Capability {
+    /// The name, such as `eth`. The protocol allows at most 8 characters of ASCII; this type allows
+    /// any bytes.
+    pub name: Vec<u8>,
+    /// The version.
+    pub version: u64,
+}
+
+impl Encodable for Capability {
+    ghost use Rattle.rlp_messages.specs.Hello.{capability};
+
+    ghost item = { capability.item };
+
+    ghost fits = { capability.Fits };
+
+    fn rlp_append(&self, s: &mut RlpStream) -> Result<(), AllocError> {
+        rlp::append_fields!(s, &self.name, &self.version)
+    }
+}
+
+impl Decodable for Capability {
+    ghost use Rattle.rlp_messages.specs.Hello.{capability};
+
+    ghost gives = { capability.gives };
+
+    ghost faults = { capability.faults };
+
+    ghost may_lack_memory = { capability.may_lack };
+
+    fn decode(alloc: Global, rlp: &Rlp<'_>) -> Result<Capability, DecoderError> {
+        rlp::decode_fields!(alloc, rlp, Capability { name, version })
+    }
+}
+
+impl RoundTrip for Capability {
+    ghost use Rattle.rlp_messages.specs.Hello.{capability};
+
+    ghost round_trip = { capability.reads_back };
+}
+
+impl StrictRead for Capability {
+    ghost use Rattle.rlp_messages.specs.Hello.{capability};
+
+    ghost strict = { capability.reads_strictly };
+}
+
+/// The first message of a connection, 0x00 of `p2p`: the list of its five fields.
+///
+/// The protocol asks a reader to ignore items after these. This type reads lists of exactly five.
+#[derive(Debug, PartialEq, Eq, Drop)]
+pub struct Hello {
+    /// The version of the capability `p2p`.
+    pub protocol_version: u64,
+    /// The name of the client's software, as text. This type allows any bytes.
+    pub client_id: Vec<u8>,
+    /// The protocols that the client speaks, in order.
+    pub capabilities: Vec<Capability>,
+    /// The port that the client listens on, or 0.
+    pub listen_port: u16,
+    /// The client's public key.
+    pub node_id: NodeId,
+}
+
+impl Encodable for Hello {
+    ghost use Rattle.rlp_messages.specs.Hello.{hello};
+
+    ghost item = { hello.item };
+
+    ghost fits = { hello.Fits };
+
+    fn rlp_append(&self, s: &mut RlpStream) -> Result<(), AllocError> {
+        rlp::append_fields!(
+            s,
+            &self.protocol_version,
+            &self.client_id,
+            ListOf(&self.capabilities),
+            &self.listen_port,
+            &self.node_id
+        )
+    }
+}
+
+impl Decodable for Hello {
+    ghost use Rattle.rlp_messages.specs.Hello.{hello};
+
+    ghost gives = { hello.gives };
+
+    ghost faults = { hello.faults };
+
+    ghost may_lack_memory = { hello.may_lack };
+
+    fn decode(alloc: Global, rlp: &Rlp<'_>) -> Result<Hello, DecoderError> {
+        rlp::decode_fields!(
+            alloc,
+            rlp,
+            Hello {
+                protocol_version,
+                client_id,
+                capabilities: [..],
+                listen_port,
+                node_id
+            }
+        )
+    }
+}
+
+impl RoundTrip for Hello {
+    ghost use Rattle.rlp_messages.specs.Hello.{hello};
+
+    ghost round_trip = { hello.reads_back };
+}
+
+impl StrictRead for Hello {
+    ghost use Rattle.rlp_messages.specs.Hello.{hello};
+
+    ghost strict = { hello.reads_strictly };
+}

@@ -1,0 +1,201 @@
+//! Requests of the protocol `eth`, and their answers, without the number of the request.
+
+use crate::HashOrNumber;
+use rlp_ethereum::{Body, Hash, Header};
+use rlp::{Decodable, DecoderError, Encodable, Rlp, RlpStream, RoundTrip, StrictRead};
+use std::alloc::{AllocError, Global};
+
+/// Asks for headers, in message 0x03 of `eth`: the list of its four fields.
+#[derive(Debug, PartialEq, Eq, Drop)]
+pub struct GetBlockHeaders {
+    /// The first block.
+    pub start_block: HashOrNumber,
+    /// The number of headers that are asked for, at most.
+    pub limit: u64,
+    /// The number of blocks between two of them.
+    pub skip: u64,
+    /// Whether the headers lead back from the first block.
+    pub reverse: bool,
+}
+
+impl Encodable for GetBlockHeaders {
+    ghost use Rattle.rlp_messages.specs.Requests.{get_block_headers};
+
+    ghost item = { get_block_headers.item };
+
+    ghost fits = { get_block_headers.Fits };
+
+    fn rlp_append(&self, s: &mut RlpStream) -> Result<(), AllocError> {
+        rlp::append_fields!(s, &self.start_block, &self.limit, &self.skip, &self.reverse)
+    }
+}
+
+impl Decodable for GetBlockHeaders {
+    ghost use Rattle.rlp_messages.specs.Requests.{get_block_headers};
+
+    ghost gives = { get_block_headers.gives };
+
+    ghost faults = { get_block_headers.faults };
+
+    ghost may_lack_memory = { get_block_headers.may_lack };
+
+    fn decode(alloc: Global, rlp: &Rlp<'_>) -> Result<GetBlockHeaders, DecoderError> {
+        rlp::decode_fields!(
+            alloc,
+            rlp,
+            GetBlockHeaders {
+                start_block,
+                limit,
+                skip,
+                reverse
+            }
+        )
+    }
+}
+
+impl RoundTrip for GetBlockHeaders {
+    ghost use Rattle.rlp_messages.specs.Requests.{get_block_headers};
+
+    ghost round_trip = { get_block_headers.reads_back };
+}
+
+impl StrictRead for GetBlockHeaders {
+    ghost use Rattle.rlp_messages.specs.Requests.{get_block_headers};
+
+    ghost strict = { get_block_headers.reads_strictly };
+}
+
+/// The answer to [`GetBlockHeaders`], in message 0x04 of `eth`: the list of the headers.
+#[derive(Drop)]
+pub struct BlockHeaders(pub Vec<Header>);
+
+impl Encodable for BlockHeaders {
+    ghost use Rattle.rlp_messages.specs.Requests.{block_headers};
+
+    ghost item = { block_headers.item };
+
+    ghost fits = { block_headers.Fits };
+
+    #[tactic(auto, using(rlp::proofs::Writing::writing))]
+    fn rlp_append(&self, s: &mut RlpStream) -> Result<(), AllocError> {
+        s.append_list(self.0.as_slice())?;
+        Ok(())
+    }
+}
+
+impl Decodable for BlockHeaders {
+    ghost use Rattle.rlp_messages.specs.Requests.{block_headers};
+
+    ghost gives = { block_headers.gives };
+
+    ghost faults = { block_headers.faults };
+
+    ghost may_lack_memory = { block_headers.may_lack };
+
+    fn decode(alloc: Global, rlp: &Rlp<'_>) -> Result<BlockHeaders, DecoderError> {
+        let headers = rlp.as_list(alloc)?;
+        Ok(BlockHeaders(headers))
+    }
+}
+
+impl RoundTrip for BlockHeaders {
+    ghost use Rattle.rlp_messages.specs.Requests.{block_headers};
+
+    ghost round_trip = { block_headers.reads_back };
+}
+
+impl StrictRead for BlockHeaders {
+    ghost use Rattle.rlp_messages.specs.Requests.{block_headers};
+
+    ghost strict = { block_headers.reads_strictly };
+}
+
+/// Asks for the bodies of blocks, in message 0x05 of `eth`: the list of their hashes.
+#[derive(Debug, PartialEq, Eq, Drop)]
+pub struct GetBlockBodies(pub Vec<Hash>);
+
+impl Encodable for GetBlockBodies {
+    ghost use Rattle.rlp_messages.specs.Requests.{get_block_bodies};
+
+    ghost item = { get_block_bodies.item };
+
+    ghost fits = { get_block_bodies.Fits };
+
+    #[tactic(auto, using(rlp::proofs::Writing::writing))]
+    fn rlp_append(&self, s: &mut RlpStream) -> Result<(), AllocError> {
+        s.append_list(self.0.as_slice())?;
+        Ok(())
+    }
+}
+
+impl Decodable for GetBlockBodies {
+    ghost use Rattle.rlp_messages.specs.Requests.{get_block_bodies};
+
+    ghost gives = { get_block_bodies.gives };
+
+    ghost faults = { get_block_bodies.faults };
+
+    ghost may_lack_memory = { get_block_bodies.may_lack };
+
+    fn decode(alloc: Global, rlp: &Rlp<'_>) -> Result<GetBlockBodies, DecoderError> {
+        let hashes = rlp.as_list(alloc)?;
+        Ok(GetBlockBodies(hashes))
+    }
+}
+
+impl RoundTrip for GetBlockBodies {
+    ghost use Rattle.rlp_messages.specs.Requests.{get_block_bodies};
+
+    ghost round_trip = { get_block_bodies.reads_back };
+}
+
+impl StrictRead for GetBlockBodies {
+    ghost use Rattle.rlp_messages.specs.Requests.{get_block_bodies};
+
+    ghost strict = { get_block_bodies.reads_strictly };
+}
+
+/// The answer to [`GetBlockBodies`], in message 0x06 of `eth`: the list of the bodies.
+#[derive(Drop)]
+pub struct BlockBodies(pub Vec<Body>);
+
+impl Encodable for BlockBodies {
+    ghost use Rattle.rlp_messages.specs.Requests.{block_bodies};
+
+    ghost item = { block_bodies.item };
+
+    ghost fits = { block_bodies.Fits };
+
+    #[tactic(auto, using(rlp::proofs::Writing::writing))]
+    fn rlp_append(&self, s: &mut RlpStream) -> Result<(), AllocError> {
+        s.append_list(self.0.as_slice())?;
+        Ok(())
+    }
+}
+
+impl Decodable for BlockBodies {
+    ghost use Rattle.rlp_messages.specs.Requests.{block_bodies};
+
+    ghost gives = { block_bodies.gives };
+
+    ghost faults = { block_bodies.faults };
+
+    ghost may_lack_memory = { block_bodies.may_lack };
+
+    fn decode(alloc: Global, rlp: &Rlp<'_>) -> Result<BlockBodies, DecoderError> {
+        let bodies = rlp.as_list(alloc)?;
+        Ok(BlockBodies(bodies))
+    }
+}
+
+impl RoundTrip for BlockBodies {
+    ghost use Rattle.rlp_messages.specs.Requests.{block_bodies};
+
+    ghost round_trip = { block_bodies.reads_back };
+}
+
+impl StrictRead for BlockBodies {
+    ghost use Rattle.rlp_messages.specs.Requests.{block_bodies};
+
+    ghost strict = { block_bodies.reads_strictly };
+}

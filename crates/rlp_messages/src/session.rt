@@ -1,0 +1,148 @@
+//! Messages of the capability `p2p` of RLPx that keep a connection or end it.
+
+use rlp::{Decodable, DecoderError, Encodable, Rlp, RlpStream, RoundTrip, StrictRead};
+use std::alloc::{AllocError, Global};
+
+/// The last message of a connection, 0x01 of `p2p`: the list of its one field.
+#[derive(Debug, PartialEq, Eq, Drop)]
+pub struct Disconnect {
+    /// Why the client ends the connection, such as 0x04 for too many peers. This type allows any
+    /// number of one byte.
+    pub reason: u8,
+}
+
+impl Encodable for Disconnect {
+    ghost use Rattle.rlp_messages.specs.Session.{disconnect};
+
+    ghost item = { disconnect.item };
+
+    ghost fits = { disconnect.Fits };
+
+    fn rlp_append(&self, s: &mut RlpStream) -> Result<(), AllocError> {
+        rlp::append_fields!(s, &self.reason)
+    }
+}
+
+impl Decodable for Disconnect {
+    ghost use Rattle.rlp_messages.specs.Session.{disconnect};
+
+    ghost gives = { disconnect.gives };
+
+    ghost faults = { disconnect.faults };
+
+    ghost may_lack_memory = { disconnect.may_lack };
+
+    fn decode(alloc: Global, rlp: &Rlp<'_>) -> Result<Disconnect, DecoderError> {
+        rlp::decode_fields!(alloc, rlp, Disconnect { reason })
+    }
+}
+
+impl RoundTrip for Disconnect {
+    ghost use Rattle.rlp_messages.specs.Session.{disconnect};
+
+    ghost round_trip = { disconnect.reads_back };
+}
+
+impl StrictRead for Disconnect {
+    ghost use Rattle.rlp_messages.specs.Session.{disconnect};
+
+    ghost strict = { disconnect.reads_strictly };
+}
+
+/// Asks for a [`Pong`], message 0x02 of `p2p`: the list of no items.
+#[derive(Debug, Clone, Copy, PartialEq, Eq)]
+pub struct Ping;
+
+impl Encodable for Ping {
+    ghost use Rattle.rlp_messages.specs.Session.{ping};
+
+    ghost item = { ping.item };
+
+    ghost fits = { ping.Fits };
+
+    #[tactic(auto, using(rlp::proofs::Writing::writing))]
+    fn rlp_append(&self, s: &mut RlpStream) -> Result<(), AllocError> {
+        s.begin_list(0)?;
+        Ok(())
+    }
+}
+
+impl Decodable for Ping {
+    ghost use Rattle.rlp_messages.specs.Session.{ping};
+
+    ghost gives = { ping.gives };
+
+    ghost faults = { ping.faults };
+
+    ghost may_lack_memory = { ping.may_lack };
+
+    #[tactic(auto, using(crate::specs::Messages::Session::empty_list_faults))]
+    fn decode(_alloc: Global, rlp: &Rlp<'_>) -> Result<Ping, DecoderError> {
+        match rlp.item_count() {
+            Ok(0) => Ok(Ping),
+            Ok(_) => Err(DecoderError::RlpIncorrectListLen),
+            Err(fault) => Err(fault),
+        }
+    }
+}
+
+impl RoundTrip for Ping {
+    ghost use Rattle.rlp_messages.specs.Session.{ping};
+
+    ghost round_trip = { ping.reads_back };
+}
+
+impl StrictRead for Ping {
+    ghost use Rattle.rlp_messages.specs.Session.{ping};
+
+    ghost strict = { ping.reads_strictly };
+}
+
+/// The answer to a [`Ping`], message 0x03 of `p2p`: the list of no items.
+#[derive(Debug, Clone, Copy, PartialEq, Eq)]
+pub struct Pong;
+
+impl Encodable for Pong {
+    ghost use Rattle.rlp_messages.specs.Session.{pong};
+
+    ghost item = { pong.item };
+
+    ghost fits = { pong.Fits };
+
+    #[tactic(auto, using(rlp::proofs::Writing::writing))]
+    fn rlp_append(&self, s: &mut RlpStream) -> Result<(), AllocError> {
+        s.begin_list(0)?;
+        Ok(())
+    }
+}
+
+impl Decodable for Pong {
+    ghost use Rattle.rlp_messages.specs.Session.{pong};
+
+    ghost gives = { pong.gives };
+
+    ghost faults = { pong.faults };
+
+    ghost may_lack_memory = { pong.may_lack };
+
+    #[tactic(auto, using(crate::specs::Messages::Session::empty_list_faults))]
+    fn decode(_alloc: Global, rlp: &Rlp<'_>) -> Result<Pong, DecoderError> {
+        match rlp.item_count() {
+            Ok(0) => Ok(Pong),
+            Ok(_) => Err(DecoderError::RlpIncorrectListLen),
+            Err(fault) => Err(fault),
+        }
+    }
+}
+
+impl RoundTrip for Pong {
+    ghost use Rattle.rlp_messages.specs.Session.{pong};
+
+    ghost round_trip = { pong.reads_back };
+}
+
+impl StrictRead for Pong {
+    ghost use Rattle.rlp_messages.specs.Session.{pong};
+
+    ghost strict = { pong.reads_strictly };
+}
