@@ -91,7 +91,7 @@ const BODIES: [(&[u8], Option<usize>); 2] = [(&[0xc1, 0xc0], None), (&[0xc2, 0xc
 const NO_BODIES: [(&[u8], DecoderError); 3] = [
     (&[0xc0], DecoderError::RlpIncorrectListLen),
     (&[0xc3, 0xc0, 0xc0, 0xc0], DecoderError::RlpIncorrectListLen),
-    (&[0xc2, 0xc0, 0x80], DecoderError::RlpExpectedToBeList),
+    (&[0xc3, 0xc0, 0xc1, 0x05], DecoderError::RlpIsTooShort),
 ];
 
 fn bodies_go_both_ways(alloc: Global) -> Result<bool, Fail> {
