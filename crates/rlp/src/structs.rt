@@ -312,8 +312,9 @@ macro_rules! fields {
 }
 
 /// Reads a struct from the list of its fields. The arguments are the allocator, the view, and the
-/// struct with its fields in order. A field that is a list is written `keys: [..]`. The macro is
-/// the whole body of a `decode`. Fails as [`decode_struct`] does.
+/// struct with its fields in order. A field that is a list is written `keys: [..]`. An array whose
+/// values are items of their own is written `sides: [_, _]`, with a `_` for each value. The macro
+/// is the whole body of a `decode`. Fails as [`decode_struct`] does.
 ///
 /// The last fields may be missing. Such a field is an `Option`, and is written `nonce: ?`. Then the
 /// macro fails as [`decode_tailed`] does.
@@ -355,6 +356,29 @@ macro_rules! decode_fields {
         $crate::decode_fields!(
             @always $head $left
             [$($moves)* let ($crate::ListField($field), $left) = $left;] [$($names)* $field] $($others)+
+        )
+    };
+    (@always $head:tt $left:ident $moves:tt $names:tt $field:ident: [$($mark:tt),+ $(,)?] $(, $($others:tt)*)?) => {
+        $crate::decode_fields!(@each $head $left $moves $names $field [] [$($mark)+] $($($others)*)?)
+    };
+    // Each value of an array has a name of its own, since the name of a macro's body is new in each
+    // step.
+    (@each $head:tt $left:ident [$($moves:tt)*] [$($names:ident)*] $last:ident [$($values:ident)*] [_]) => {
+        $crate::decode_fields!(
+            @call decode_struct $head $left
+            [$($moves)* let ($crate::Field(value),) = $left; let $last = [$($values,)* value];] [$($names)* $last]
+        )
+    };
+    (@each $head:tt $left:ident [$($moves:tt)*] [$($names:ident)*] $field:ident [$($values:ident)*] [] $($others:tt)+) => {
+        $crate::decode_fields!(
+            @always $head $left
+            [$($moves)* let $field = [$($values),*];] [$($names)* $field] $($others)+
+        )
+    };
+    (@each $head:tt $left:ident [$($moves:tt)*] $names:tt $field:ident [$($values:ident)*] [_ $($more:tt)*] $($others:tt)*) => {
+        $crate::decode_fields!(
+            @each $head $left
+            [$($moves)* let ($crate::Field(value), $left) = $left;] $names $field [$($values)* value] [$($more)*] $($others)*
         )
     };
     (@optional $head:tt $left:ident [$($moves:tt)*] [$($names:ident)*] $last:ident: ? $(,)?) => {
