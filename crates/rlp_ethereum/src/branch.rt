@@ -43,32 +43,15 @@ impl Decodable for Branch {
 
     ghost may_lack_memory = { branch.may_lack };
 
-    #[tactic(auto, using(rlp::specs::Lemmas::Structs::struct_fields))]
     fn decode(alloc: Global, rlp: &Rlp<'_>) -> Result<Branch, DecoderError> {
-        if rlp.item_count()? != 17 {
-            return Err(DecoderError::RlpIncorrectListLen);
-        }
-        Ok(Branch {
-            children: [
-                rlp.val_at(alloc, 0)?,
-                rlp.val_at(alloc, 1)?,
-                rlp.val_at(alloc, 2)?,
-                rlp.val_at(alloc, 3)?,
-                rlp.val_at(alloc, 4)?,
-                rlp.val_at(alloc, 5)?,
-                rlp.val_at(alloc, 6)?,
-                rlp.val_at(alloc, 7)?,
-                rlp.val_at(alloc, 8)?,
-                rlp.val_at(alloc, 9)?,
-                rlp.val_at(alloc, 10)?,
-                rlp.val_at(alloc, 11)?,
-                rlp.val_at(alloc, 12)?,
-                rlp.val_at(alloc, 13)?,
-                rlp.val_at(alloc, 14)?,
-                rlp.val_at(alloc, 15)?,
-            ],
-            value: rlp.val_at(alloc, 16)?,
-        })
+        rlp::decode_fields!(
+            alloc,
+            rlp,
+            Branch {
+                children: [_, _, _, _, _, _, _, _, _, _, _, _, _, _, _, _],
+                value
+            }
+        )
     }
 }
 

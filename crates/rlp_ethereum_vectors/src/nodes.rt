@@ -3,7 +3,7 @@
 use crate::support::goes_both_ways;
 use rlp::{DecoderError, RawItem};
 use rlp_ethereum::{Branch, Child, Extension, Hash, Leaf};
-use std::alloc::Global;
+use std::alloc::{AllocError, Global};
 use std::test::Fail;
 
 /// A hash, and its encoding.
@@ -150,4 +150,107 @@ fn branches(rt: HostRuntime) -> Result<(), Fail> {
     let alloc = rt.alloc();
     assert!(rt; branch_goes_both_ways(alloc)?);
     Ok(())
+}
+
+/// The bytes of a leaf, its path, and its value.
+type LeafRow = (&'static [u8], &'static [u8], &'static [u8]);
+
+const LEAVES: [LeafRow; 2] = [
+    (
+        &[0xc6, 0x35, 0x84, b'c', b'o', b'i', b'n'],
+        &[0x35],
+        b"coin",
+    ),
+    (
+        &[
+            0xcf, 0x85, 0x20, 0x6f, 0x72, 0x73, 0x65, 0x88, b's', b't', b'a', b'l', b'l', b'i',
+            b'o', b'n',
+        ],
+        &[0x20, 0x6f, 0x72, 0x73, 0x65],
+        b"stallion",
+    ),
+];
+
+/// Returns whether each leaf is written as its bytes, and read back from them.
+fn leaves_go_both_ways(alloc: Global) -> Result<bool, Fail> {
+    for (bytes, path, value) in &LEAVES {
+        let leaf = Leaf {
+            path: Vec::from_slice(alloc, path)?,
+            value: Vec::from_slice(alloc, value)?,
+        };
+        let back = rlp::decode::<Leaf>(alloc, bytes)?;
+        if rlp::encode(alloc, &leaf)?.as_slice() != *bytes
+            || back.path.as_slice() != *path
+            || back.value.as_slice() != *value
+        {
+            return Ok(false);
+        }
+    }
+    Ok(true)
+}
+
+#[test]
+fn leaves(rt: HostRuntime) -> Result<(), Fail> {
+    assert!(rt; leaves_go_both_ways(rt.alloc())?);
+    Ok(())
+}
+
+/// Returns a branch with children at places 1 and 15, and a value.
+fn branch(alloc: Global) -> Result<Branch, AllocError> {
+    Ok(Branch {
+        children: [
+            Child::Nothing,
+            Child::Node(Hash([0x11; 32])),
+            Child::Nothing,
+            Child::Nothing,
+            Child::Nothing,
+            Child::Nothing,
+            Child::Nothing,
+            Child::Nothing,
+            Child::Nothing,
+            Child::Nothing,
+            Child::Nothing,
+            Child::Nothing,
+            Child::Nothing,
+            Child::Nothing,
+            Child::Nothing,
+            Child::Node(Hash([0xff; 32])),
+        ],
+        value: Vec::from_slice(alloc, b"verb")?,
+    })
+}
+
+/// Returns the bytes of the branch.
+fn branch_bytes(alloc: Global) -> Result<Vec<u8>, AllocError> {
+    let mut bytes = Vec::from_slice(alloc, &[0xf8, 0x55, 0x80, 0xa0])?;
+    bytes.extend_from_slice(&[0x11; 32])?;
+    bytes.extend_from_slice(&[0x80; 13])?;
+    bytes.extend_from_slice(&[0xa0])?;
+    bytes.extend_from_slice(&[0xff; 32])?;
+    bytes.extend_from_slice(&[0x84, b'v', b'e', b'r', b'b'])?;
+    Ok(bytes)
+}
+
+/// Returns whether the branch is written as its bytes, and read back from them.
+fn whole_branch_goes_both_ways(alloc: Global) -> Result<bool, Fail> {
+    let branch = branch(alloc)?;
+    let bytes = branch_bytes(alloc)?;
+    let back = rlp::decode::<Branch>(alloc, bytes.as_slice())?;
+    Ok(
+        rlp::encode(alloc, &branch)?.as_slice() == bytes.as_slice()
+            && back.children == branch.children
+            && back.value.as_slice() == b"verb".as_slice(),
+    )
+}
+
+#[test]
+fn whole_branches(rt: HostRuntime) -> Result<(), Fail> {
+    assert!(rt; whole_branch_goes_both_ways(rt.alloc())?);
+    Ok(())
+}
+
+#[test]
+fn short_branches(rt: HostRuntime) {
+    let read = rlp::decode::<Branch>(rt.alloc(), &[0xc1, 0x80]);
+    assert!(rt; matches!(read, Err(DecoderError::RlpIncorrectListLen)));
 }

@@ -1,7 +1,5 @@
-pub mod Child
 pub mod Entry
 pub mod Message
 pub mod Nest
 pub mod Ordered
 pub mod Row
-pub mod Trie

@@ -3,11 +3,8 @@
 #![tactic(auto)]
 
 mod appends;
-mod branch;
-mod child;
 mod couple;
 mod entry;
-mod leaf;
 mod message;
 mod nest;
 mod nonce;
@@ -18,11 +15,8 @@ mod trio;
 mod uses;
 
 pub use appends::{append_one, append_three, bytes_of_three};
-pub use branch::Branch;
-pub use child::Child;
 pub use couple::{Alone, Couple, append_list_in_list, write_list_in_list};
 pub use entry::{Entry, entry_back};
-pub use leaf::Leaf;
 pub use message::Message;
 pub use nest::{Inner, Nest};
 pub use nonce::Nonce;

@@ -4,7 +4,7 @@ mod arrays;
 mod careless;
 mod codecs;
 mod messages;
-mod nodes;
+mod nests;
 mod once_refused;
 mod raw_items;
 mod rows;
