@@ -1,10 +1,10 @@
 //! Announcements of the protocol `eth`: new blocks and transactions, and the blocks that a client
 //! has.
 
-use rlp_ethereum::{Block, Hash};
 use rlp::{
     Decodable, DecoderError, Encodable, ListOf, Rlp, RlpStream, RoundTrip, StrictRead, Uint,
 };
+use rlp_ethereum::{Block, Hash};
 use std::alloc::{AllocError, Global};
 
 /// A block that a client announces: the list of both fields.

@@ -1,7 +1,7 @@
 //! Names of blocks: a hash, or a number.
 
-use rlp_ethereum::Hash;
 use rlp::{Decodable, DecoderError, Encodable, Rlp, RlpStream, RoundTrip, StrictRead};
+use rlp_ethereum::Hash;
 use std::alloc::{AllocError, Global};
 
 /// A block, by its hash or its number. A string of 32 bytes is a hash, and one of at most eight is
@@ -42,7 +42,7 @@ impl Decodable for HashOrNumber {
 
     ghost may_lack_memory = { hash_or_number.may_lack };
 
-    #[tactic(auto, using(crate::specs::Messages::HashOrNumber::hash_or_number_found))]
+    #[tactic(auto, using(crate::specs::HashOrNumber::hash_or_number_found))]
     fn decode(alloc: Global, rlp: &Rlp<'_>) -> Result<HashOrNumber, DecoderError> {
         match rlp.as_val(alloc) {
             Ok(hash) => Ok(HashOrNumber::Hash(hash)),

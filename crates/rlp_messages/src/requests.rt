@@ -1,8 +1,8 @@
 //! Requests of the protocol `eth`, and their answers, without the number of the request.
 
 use crate::HashOrNumber;
-use rlp_ethereum::{Body, Hash, Header};
 use rlp::{Decodable, DecoderError, Encodable, Rlp, RlpStream, RoundTrip, StrictRead};
+use rlp_ethereum::{Body, Hash, Header};
 use std::alloc::{AllocError, Global};
 
 /// Asks for headers, in message 0x03 of `eth`: the list of its four fields.

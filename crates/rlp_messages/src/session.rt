@@ -76,7 +76,7 @@ impl Decodable for Ping {
 
     ghost may_lack_memory = { ping.may_lack };
 
-    #[tactic(auto, using(crate::specs::Messages::Session::empty_list_faults))]
+    #[tactic(auto, using(crate::specs::Session::empty_list_faults))]
     fn decode(_alloc: Global, rlp: &Rlp<'_>) -> Result<Ping, DecoderError> {
         match rlp.item_count() {
             Ok(0) => Ok(Ping),
@@ -125,7 +125,7 @@ impl Decodable for Pong {
 
     ghost may_lack_memory = { pong.may_lack };
 
-    #[tactic(auto, using(crate::specs::Messages::Session::empty_list_faults))]
+    #[tactic(auto, using(crate::specs::Session::empty_list_faults))]
     fn decode(_alloc: Global, rlp: &Rlp<'_>) -> Result<Pong, DecoderError> {
         match rlp.item_count() {
             Ok(0) => Ok(Pong),

@@ -1,7 +1,7 @@
 //! Messages of the protocol `eth` that say what a client knows of the chain.
 
-use rlp_ethereum::Hash;
 use rlp::{Decodable, DecoderError, Encodable, Rlp, RlpStream, RoundTrip, StrictRead, Uint};
+use rlp_ethereum::Hash;
 use std::alloc::{AllocError, Global};
 
 /// The checksum of the forks that a client knows, as in EIP-2124: 4 bytes.
