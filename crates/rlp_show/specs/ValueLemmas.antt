@@ -16,7 +16,7 @@ use Rattle.rlp_tool.specs.Digits.{bytes_in}
 use Rattle.rlp_show.specs.Answer.{bytes_answer, record_answer, shown_answer}
 use Rattle.rlp_show.specs.Lines.{Field, Shape, Shown, fields_lines, items_lines, list_lines, place, prefix, record_lines, record_of, then_lines, wrong}
 use Rattle.rlp_show.specs.Lines.{list_of as list_shape_of, list_value_lines, optional_lines, value_lines}
-use Rattle.rlp.specs.Values.Tails.{FitsFirst, items_first}
+use Rattle.rlp.specs.Streams.Fields.{FitsFirst, items_first}
 
 -- the strict views of the encodings of items
 abbrev pub views_of : List Item → List View
