@@ -4,8 +4,8 @@
 use crate::headers::{BLOCK_1, GENESIS};
 use crate::support::{bytes_of, goes_both_ways, is_fault, is_written_as, wide};
 use rlp::DecoderError;
-use rlp_messages::{BlockBodies, NewBlock, WithRequestId};
 use rlp_ethereum::{Block, Body, Transaction, Withdrawals};
+use rlp_messages::{BlockBodies, NewBlock, WithRequestId};
 use std::alloc::Global;
 use std::test::Fail;
 

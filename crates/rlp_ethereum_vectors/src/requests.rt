@@ -3,10 +3,8 @@
 
 use crate::support::{bytes_of, is_fault, is_written_as, wide};
 use rlp::DecoderError;
-use rlp_messages::{
-    BlockHeaders, GetBlockBodies, GetBlockHeaders, HashOrNumber, WithRequestId,
-};
 use rlp_ethereum::{Address, Bloom, Hash, Header};
+use rlp_messages::{BlockHeaders, GetBlockBodies, GetBlockHeaders, HashOrNumber, WithRequestId};
 use std::alloc::{AllocError, Global};
 use std::test::Fail;
 

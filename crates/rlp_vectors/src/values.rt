@@ -2,7 +2,6 @@
 
 mod arrays;
 mod careless;
-mod codecs;
 mod messages;
 mod nests;
 mod once_refused;
