@@ -34,7 +34,7 @@ const NO_NUMBERS: [(&[u8], DecoderError); 4] = [
 ];
 
 /// Returns whether this fault was found.
-fn is_fault(found: Option<DecoderError>, want: &DecoderError) -> bool {
+pub(crate) fn is_fault(found: Option<DecoderError>, want: &DecoderError) -> bool {
     match found {
         Some(fault) => fault == *want,
         None => false,
