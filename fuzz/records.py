@@ -1,0 +1,270 @@
+"""Records of Ethereum: lines with their encodings, well formed and spoiled, and a plain second implementation of the
+answers of `rlp_show`, after crates/rlp_show/CALLING.md. It shares no code with the program.
+"""
+
+from answers import Answered, LONGEST_LINE, bytes_of, encoded_string, framing, written_header
+from lines import digits, spoiled
+
+# ---- strict reading
+
+
+def strict_string(data):
+    """The string that is all of data, or its fault."""
+    if not data:
+        raise Answered("RlpIsTooShort")
+    first = data[0]
+    if first >= 0xC0:
+        raise Answered("RlpExpectedToBeData")
+    if first < 0x80:
+        begin, size = 0, 1
+    elif first < 0xB8:
+        begin, size = 1, first - 0x80
+        if len(data) < begin + size:
+            raise Answered("RlpInconsistentLengthAndData")
+        if size == 1 and data[1] < 0x80:
+            raise Answered("RlpInvalidIndirection")
+    else:
+        begin = first - 0xB6
+        if len(data) < begin:
+            raise Answered("RlpInconsistentLengthAndData")
+        size = int.from_bytes(data[1:begin], "big")
+        if data[1] == 0 or size <= 55:
+            raise Answered("RlpInvalidIndirection")
+        if begin + size >= 1 << 64:
+            raise Answered("RlpInvalidLength")
+        if len(data) < begin + size:
+            raise Answered("RlpInconsistentLengthAndData")
+    if len(data) > begin + size:
+        raise Answered("RlpIsTooBig")
+    return data[begin : begin + size]
+
+
+def strict_items(data):
+    """The items of the list that is all of data, or its fault."""
+    if not data or data[0] < 0xC0:
+        raise Answered("RlpExpectedToBeList")
+    place, end = framing(data, 0, len(data))
+    if end < len(data):
+        raise Answered("RlpIsTooBig")
+    items = []
+    while place < end:
+        _, stop = framing(data, place, end)
+        items.append(data[place:stop])
+        place = stop
+    return items
+
+
+# ---- types: how an item is shown under a name, and how a random one is written
+
+
+class Wrong(Exception):
+    """What is wrong with an item, with its name."""
+
+
+def faulty(name, fault):
+    """The fault of an item under its name."""
+    return Wrong(f"{name}: {fault}" if name else str(fault))
+
+
+class Text:
+    """A type that is read from one string, by what makes a text of the string, and by what makes a random string."""
+
+    def __init__(self, text, some):
+        self.text, self.some = text, some
+
+    def lines(self, name, data):
+        try:
+            return [f"{name}: {self.text(strict_string(data))}"]
+        except Answered as answered:
+            raise faulty(name, answered) from None
+
+    def written(self, dice):
+        return encoded_string(self.some(dice))
+
+
+def number_text(width):
+    """The text of numbers of at most so many bytes."""
+
+    def text(string):
+        if len(string) > width:
+            raise Answered("RlpIsTooBig")
+        if string[:1] == b"\0":
+            raise Answered("RlpInvalidIndirection")
+        return str(int.from_bytes(string, "big"))
+
+    return text
+
+
+def fixed_text(size):
+    """The text of strings of so many bytes."""
+
+    def text(string):
+        if len(string) != size:
+            raise Answered("RlpIsTooShort" if len(string) < size else "RlpIsTooBig")
+        return "0x" + string.hex()
+
+    return text
+
+
+def truth_text(string):
+    if len(string) == 1 and string[0] > 1:
+        raise Answered('Custom("invalid boolean value")')
+    return number_text(1)(string)
+
+
+def number(width):
+    def some(dice):
+        value = dice.getrandbits(8 * dice.choice((0, 1, 1, 2, width, width)))
+        return value.to_bytes((value.bit_length() + 7) // 8, "big")
+
+    return Text(number_text(width), some)
+
+
+def fixed(size):
+    return Text(fixed_text(size), lambda dice: dice.randbytes(size))
+
+
+HASH, ADDRESS, BLOOM = fixed(32), fixed(20), fixed(256)
+STRING = Text(lambda string: "0x" + string.hex(), lambda dice: dice.randbytes(dice.choice((0, 1, 4, 32, 60))))
+TRUTH = Text(truth_text, lambda dice: dice.choice((b"", b"\1")))
+RECIPIENT = Text(lambda s: fixed_text(20)(s) if s else "0x", lambda dice: dice.randbytes(dice.choice((0, 20))))
+
+
+def written_list(dice, items):
+    """The list of these items, sometimes with one of them spoiled."""
+    if items and dice.random() < 0.15:
+        place = dice.randrange(len(items))
+        items = items[:place] + [spoiled(dice, items[place])] + items[place + 1 :]
+    payload = b"".join(items)
+    return written_header(0xC0, len(payload)) + payload
+
+
+class ListOf:
+    """A list of items of one type."""
+
+    def __init__(self, one):
+        self.one = one
+
+    def lines(self, name, data):
+        try:
+            items = strict_items(data)
+        except Answered as answered:
+            raise faulty(name, answered) from None
+        if not items:
+            return [f"{name}: []"]
+        return [line for place, item in enumerate(items) for line in self.one.lines(f"{name}[{place}]", item)]
+
+    def written(self, dice):
+        return written_list(dice, [self.one.written(dice) for _ in range(dice.choice((0, 1, 1, 2, 3)))])
+
+
+class Record:
+    """A list of named fields. Those after the first `least` may be missing at the end."""
+
+    def __init__(self, fields, least=None):
+        self.fields, self.least = fields, len(fields) if least is None else least
+
+    def lines(self, name, data):
+        try:
+            items = strict_items(data)
+            if not self.least <= len(items) <= len(self.fields):
+                raise Answered("RlpIncorrectListLen")
+        except Answered as answered:
+            raise faulty(name, answered) from None
+        before = name + "." if name else ""
+        return [line for (field, one), item in zip(self.fields, items) for line in one.lines(before + field, item)]
+
+    def written(self, dice):
+        count = dice.randint(self.least, len(self.fields))
+        if dice.random() < 0.05:
+            count = max(0, count + dice.choice((-1, 1)))
+        return written_list(dice, [(self.fields + self.fields)[place][1].written(dice) for place in range(count)])
+
+
+class Typed:
+    """An envelope of EIP-2718 by its first byte, or else a record without a type."""
+
+    def __init__(self, types, other):
+        self.types, self.other = types, other
+
+    def lines(self, name, data):
+        if data and data[0] in self.types:
+            return [f"type: {data[0]}"] + self.types[data[0]].lines(name, data[1:])
+        return self.other.lines(name, data)
+
+    def written(self, dice):
+        kind = dice.choice([None, *self.types])
+        if kind is None:
+            return self.other.written(dice)
+        return bytes([kind if dice.random() < 0.97 else dice.randint(0, 255)]) + self.types[kind].written(dice)
+
+
+# ---- the records
+
+
+def fields(text, types):
+    """Fields by their names, each before a colon, and the name of its type."""
+    return [(pair.split(":")[0], types[pair.split(":")[1]]) for pair in text.split()]
+
+
+TYPES = {"u64": number(8), "u256": number(32), "hash": HASH, "address": ADDRESS, "bloom": BLOOM, "string": STRING}
+TYPES |= {"truth": TRUTH, "recipient": RECIPIENT, "nonce": fixed(8), "hashes": ListOf(HASH)}
+TYPES["log"] = Record(fields("address:address topics:hashes data:string", TYPES))
+TYPES["access"] = Record(fields("address:address storage_keys:hashes", TYPES))
+TYPES |= {"logs": ListOf(TYPES["log"]), "access_list": ListOf(TYPES["access"])}
+
+HEADER = """parent_hash:hash ommers_hash:hash beneficiary:address state_root:hash transactions_root:hash
+    receipts_root:hash logs_bloom:bloom difficulty:u256 number:u64 gas_limit:u64 gas_used:u64 timestamp:u64
+    extra_data:string mix_hash:hash nonce:nonce base_fee_per_gas:u256 withdrawals_root:hash blob_gas_used:u64
+    excess_blob_gas:u64 parent_beacon_block_root:hash requests_hash:hash"""
+CALL = "gas_limit:u64 to:recipient value:u256 data:string"
+SIGNED = "access_list:access_list y_parity:truth r:u256 s:u256"
+LEGACY = f"nonce:u64 gas_price:u256 {CALL} v:u256 r:u256 s:u256"
+TYPE_1 = f"chain_id:u64 nonce:u64 gas_price:u256 {CALL} {SIGNED}"
+TYPE_2 = f"chain_id:u64 nonce:u64 max_priority_fee_per_gas:u256 max_fee_per_gas:u256 {CALL} {SIGNED}"
+RECEIPT = Record(fields("status_or_state_root:string cumulative_gas_used:u64 logs_bloom:bloom logs:logs", TYPES))
+
+KINDS = {
+    "account": Record(fields("nonce:u64 balance:u256 storage_root:hash code_hash:hash", TYPES)),
+    "header": Record(fields(HEADER, TYPES), least=15),
+    "receipt": Typed({1: RECEIPT, 2: RECEIPT}, RECEIPT),
+    "transaction": Typed(
+        {1: Record(fields(TYPE_1, TYPES)), 2: Record(fields(TYPE_2, TYPES))}, Record(fields(LEGACY, TYPES))
+    ),
+    "withdrawal": Record(fields("index:u64 validator_index:u64 address:address amount:u64", TYPES)),
+}
+
+
+def line(dice, kind):
+    """A line for a kind, without its newline."""
+    data = KINDS[kind].written(dice)
+    for _ in range(dice.choice((0, 0, 0, 0, 1))):
+        data = spoiled(dice, data)
+    text = digits(dice, data)
+    if dice.random() < 0.03:
+        text += dice.choice(("\r", "\r\r", " ", "0", "g"))
+    return text
+
+
+def answer(kind, text):
+    """What is answered to a line, as one text: the lines of the record and an empty line, or the fault."""
+    if len(text) > LONGEST_LINE:
+        return "error long line\n"
+    data = bytes_of(text[:-1] if text.endswith("\r") else text)
+    if data is None:
+        return "error hex\n"
+    try:
+        return "\n".join(KINDS[kind].lines("", data)) + "\n\n"
+    except Wrong as wrong:
+        return f"error {wrong}\n"
+
+
+def answers_in(output):
+    """The answers that an output joins, each as one text."""
+    found, lines = [], []
+    for one in output.split("\n")[:-1]:
+        lines.append(one)
+        if not one or (len(lines) == 1 and one.startswith("error ")):
+            found.append("\n".join(lines) + "\n")
+            lines = []
+    return found + (["\n".join(lines)] if lines else [])
