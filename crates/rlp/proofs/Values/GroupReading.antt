@@ -1,5 +1,5 @@
 -- Groups of fields, read from items one after another.
-use Rattle.std.proofs.Common.{◌≡◌, ◌↔◌, ℕ, zero, suc, ◌+◌, ◌-◌, ◌*◌, ◌/◌, ◌%◌, ◌^◌, ◌<◌, ◌≤◌, ◌⊎◌, inl, inr, ⊎_elim, List, [], ◌∷◌, ◌++◌, length}
+use Rattle.std.proofs.Common.{◌≡◌, ◌≢◌, ◌↔◌, ℕ, zero, suc, ◌+◌, ◌-◌, ◌*◌, ◌/◌, ◌%◌, ◌^◌, ◌<◌, ◌≤◌, ◌⊎◌, inl, inr, ⊎_elim, List, [], ◌∷◌, ◌++◌, length}
 use Rattle.std.proofs.Common.{Ok, refl, sym, ap, ◌∙◌, subst, arith, Bool, true, false, IsTrue}
 use Rattle.std.proofs.Math.Nat.{mod-eq_of_lt, mul-add-mod_self_right, suc-mul}
 use Rattle.std.proofs.Math.Nat.{mul-le-mul_right}
@@ -11,7 +11,8 @@ use Rattle.rlp_format.specs.Views.View.{View, item_count}
 use Rattle.rlp.specs.Lemmas.Structs.{by_place}
 use Rattle.rlp.specs.Values.FieldPlace.{FieldPlace, field_place}
 use Rattle.rlp.specs.Values.FieldReading.{FaultsInFields, GivesFields}
-use Rattle.rlp.specs.Values.Groups.{AreGroups, FaultsAsGrouped, GivesGroups, IsOneMore, MayLackAsGrouped, faulty_in_group, in_group, other_size, ungrouped}
+use Rattle.rlp.specs.Values.Groups.{AreGroups, FaultsAsGrouped, FaultsInGrouped, GivesGroups, IsOneMore, MayLackAsGrouped, faulty_group, faulty_in_group}
+use Rattle.rlp.specs.Values.Groups.{in_group, lacks_memory, other_number, other_size, ungrouped}
 use Rattle.rlp.specs.Values.ListReading.{FaultsAt, GivesBefore, MayLackAt, in_field}
 
 -- a fault of the fields from place i on, or `OutOfMemory`
@@ -89,6 +90,39 @@ others_next f g h n next after =
     ∙ ap (λ m. record { view = f.view; place = m }) (let sum : f.place + 1 + n ≡ f.place + suc n = omega arith in sum)
 
 pub ruleset groups_in_order = (first_some, others_some, first_group_fails, others_group_fail, others_give, others_next)
+
+-- ---- fields of which the last are groups
+
+-- a fault of the fields, or refused memory
+pub in_grouped : (IsCount : ℕ → Type 0) (n : ℕ) (some : ℕ → ℕ → View → Type 0) (faults : ℕ → View → DecoderError → Type 0) (v : View) (i : ℕ)
+    (e : DecoderError) → GroupFails n some faults v i e → FaultsInGrouped IsCount n some faults v i e
+in_grouped IsCount n some faults v i e (inl bad) = faulty_group e bad
+in_grouped IsCount n some faults v i e (inr lacks) = subst (λ e. FaultsInGrouped IsCount n some faults v i e) (sym lacks) lacks_memory
+
+module _ (some1 : ℕ → View → Type 0) (faults1 : View → DecoderError → Type 0) (may_lack1 : View → Type 0)
+    (IsCount : ℕ → Type 0) (some : ℕ → ℕ → View → Type 0) (faults : ℕ → View → DecoderError → Type 0) where
+  -- the first field fails
+  pub first_grouped_fails : (n : ℕ) (v : View) (i : ℕ) (e : DecoderError) → 1 ≤ n → FaultsAt faults1 v i e ⊎ ((e ≡ OutOfMemory) × MayLackAt may_lack1 v i)
+      → FaultsInGrouped (IsOneMore IsCount) n (by_place some1 some) (by_place faults1 faults) v i e
+  first_grouped_fails n v i e some_item fails =
+      in_grouped (IsOneMore IsCount) n (by_place some1 some) (by_place faults1 faults) v i e
+      (first_group_fails some1 faults1 may_lack1 n some faults v i e (omega (arith, some_item)) fails)
+
+  -- the first field is given, and the others fail
+  pub others_grouped_fail : (f g : FieldPlace) (n : ℕ) (e : DecoderError) → g ≡ record f { place = f.place + 1 } → 1 ≤ n → some1 f.place f.view
+      → FaultsInGrouped IsCount (n - 1) some faults g.view g.place e
+      → FaultsInGrouped (IsOneMore IsCount) n (by_place some1 some) (by_place faults1 faults) f.view f.place e
+  others_grouped_fail f g n e next some_item given (other_number wrong) = other_number (λ right. wrong right.1)
+  others_grouped_fail f g n e next some_item given lacks_memory = lacks_memory
+  others_grouped_fail f g n fault next some_item given (faulty_group e bad) =
+      in_grouped (IsOneMore IsCount) n (by_place some1 some) (by_place faults1 faults) f.view f.place e
+      (others_group_fail some1 faults1 may_lack1 (n - 1) some faults f g n e next (let same : n ≡ suc (n - 1) = omega (arith, some_item) in same) given
+      (inl bad))
+
+  -- no item is no field
+  pub none_grouped : (n : ℕ) (v : View) (i : ℕ) → n ≡ 0 → FaultsInGrouped (IsOneMore IsCount) n (by_place some1 some) (by_place faults1 faults) v i
+      RlpIncorrectListLen
+  none_grouped n v i none = other_number (λ right. let some : 1 ≤ n = right.0 in absurd (omega (arith, some, none)))
 
 -- ---- groups one after another
 
@@ -188,15 +222,23 @@ module _ {G : Type 0} (width : ℕ) (give : ℕ → View → G → Type 0) (some
 pub whole_groups : (width len : ℕ) → len % width ≡ 0 → len / width * width ≡ len
 whole_groups width len none = let sum : len / width * width + len % width ≡ len = div-add-mod' len width in omega (arith, sum, none)
 
--- all groups were read
-pub all_read : (width len count n : ℕ) → count * width ≡ len → n ≡ count → n * width ≡ len
-all_read width len count n all same = ap (λ m. m * width) same ∙ all
-
 -- fewer items than one group are no groups
 pub few_items : (width len : ℕ) → 2 ^ 64 ≤ width → len < 2 ^ 64 → len % width ≡ len
 few_items width len many few = let less : len < width = omega arith in mod-eq_of_lt less
 
-pub ruleset group_numbers = (few_items, whole_groups, all_read)
+-- a part of a group is no groups
+pub part_of_group : (width len n : ℕ) → n ≡ width → len % n ≢ 0 → ¬ AreGroups width len
+part_of_group width len n is part whole = part (subst (λ w. len % w ≡ 0) (sym is) whole)
+
+-- some items that are fewer than one group are no groups
+pub less_than_group : (width len : ℕ) → 2 ^ 64 ≤ width → len < 2 ^ 64 → len ≢ 0 → ¬ AreGroups width len
+less_than_group width len many few some whole = some (sym (few_items width len many few) ∙ whole)
+
+-- all groups were read
+pub all_read : (width len count n : ℕ) → count * width ≡ len → n ≡ count → n * width ≡ len
+all_read width len count n all same = ap (λ m. m * width) same ∙ all
+
+pub ruleset group_numbers = (few_items, whole_groups, all_read, part_of_group, less_than_group, other_number, lacks_memory)
 
 -- ---- the whole struct
 
@@ -215,14 +257,16 @@ module _ (IsCount : ℕ → Type 0) (some : ℕ → ℕ → View → Type 0) (fa
 
   -- if a view has a right number of items and its fields fail, the struct fails
   pub grouped_fails : (m : ℕ) (f : FieldPlace) (e : DecoderError) → Ok m ≡ item_count v → IsCount m → f ≡ field_place v 0
-      → GroupFails m some faults f.view f.place e
+      → FaultsInGrouped IsCount m some faults f.view f.place e
       → FaultsAsGrouped IsCount some faults v e ⊎ ((e ≡ OutOfMemory) × MayLackAsGrouped IsCount v)
   grouped_fails m f e counted right begun fails =
-      by (subst (λ (p : FieldPlace). GroupFails m some faults p.view p.place e) begun fails)
+      by (subst (λ (p : FieldPlace). FaultsInGrouped IsCount m some faults p.view p.place e) begun fails)
     where
-      by : GroupFails m some faults v 0 e → FaultsAsGrouped IsCount some faults v e ⊎ ((e ≡ OutOfMemory) × MayLackAsGrouped IsCount v)
-      by (inl bad) = inl (faulty_in_group m e (sym counted) (in_field bad.number bad.few (given_before some v bad.number bad.before)
+      by : {e : DecoderError} → FaultsInGrouped IsCount m some faults v 0 e → FaultsAsGrouped IsCount some faults v e
+          ⊎ ((e ≡ OutOfMemory) × MayLackAsGrouped IsCount v)
+      by (other_number wrong) = absurd (wrong right)
+      by (faulty_group e bad) = inl (faulty_in_group m e (sym counted) (in_field bad.number bad.few (given_before some v bad.number bad.before)
           (subst (λ i. FaultsAt (faults bad.number) v i e) (let place : 0 + bad.number ≡ bad.number = omega arith in place) bad.fault)))
-      by (inr lacks) = inr (lacks, record { count = m; many = sym counted; right = right })
+      by lacks_memory = inr (refl, record { count = m; many = sym counted; right = right })
 
 pub ruleset whole_grouped = (count_wrong, grouped_fails, ungrouped)

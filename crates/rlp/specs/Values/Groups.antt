@@ -1,8 +1,9 @@
 -- Structs whose last fields are groups of fields, one group after another in the same list.
 use Rattle.std.specs.Prelude.{◌≡◌, ◌≤◌, ◌+◌, ◌-◌, ◌%◌, ℕ, List, [], ◌∷◌, Ok, Err}
 use Rattle.rlp_format.specs.declared.error.DecoderError.{DecoderError}
-use Rattle.rlp_format.specs.declared.error.DecoderError.TheVariants.{RlpIncorrectListLen}
+use Rattle.rlp_format.specs.declared.error.DecoderError.TheVariants.{OutOfMemory, RlpIncorrectListLen}
 use Rattle.rlp_format.specs.Views.View.{View, item_count}
+use Rattle.rlp.specs.Values.FieldReading.{FaultsInFields}
 use Rattle.rlp.specs.Values.ListReading.{FaultsInField}
 
 -- the items from place i on give the groups in order, each by this number of items
@@ -35,3 +36,11 @@ pub record MayLackAsGrouped (IsCount : ℕ → Type 0) (v : View) : Type 0 where
   pub count : ℕ
   pub many : item_count v ≡ Ok count
   pub right : IsCount count
+
+-- Why n items from place i on give no fields of which the last are groups: n isn't a right number, or an item has a fault of its field's type and each before it
+-- gives a value of its field. Or memory was refused.
+pub data FaultsInGrouped (IsCount : ℕ → Type 0) (n : ℕ) (some : ℕ → ℕ → View → Type 0) (faults : ℕ → View → DecoderError → Type 0) (v : View) (i : ℕ)
+    : DecoderError → Type 0 where
+  other_number : ¬ IsCount n → FaultsInGrouped IsCount n some faults v i RlpIncorrectListLen
+  faulty_group : (e : DecoderError) → FaultsInFields n some faults v i e → FaultsInGrouped IsCount n some faults v i e
+  lacks_memory : FaultsInGrouped IsCount n some faults v i OutOfMemory

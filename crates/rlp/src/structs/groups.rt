@@ -3,11 +3,11 @@
 ghost use Rattle.std.specs.Prelude.{◌≡◌, ◌≤◌, ◌<◌, ◌+◌, ◌*◌, ◌^◌, ◌⊎◌, ◌↔◌, ℕ, suc, Ok, IfOk, IfErr, IsTrue, OnOk, MatchOption, length};
 ghost use Rattle.std.specs.Vec.{vec_items};
 ghost use Rattle.rlp_format.specs.declared.error.DecoderError.{DecoderError};
-ghost use Rattle.rlp_format.specs.declared.error.DecoderError.TheVariants.{OutOfMemory};
+ghost use Rattle.rlp_format.specs.declared.error.DecoderError.TheVariants.{OutOfMemory, RlpIncorrectListLen};
 ghost use Rattle.rlp_format.specs.Views.View.{View, item_count};
 ghost use Rattle.rlp.specs.Lemmas.Structs.{by_place};
 ghost use Rattle.rlp.specs.Values.FieldReading.{FaultsInFields, GivesFields};
-ghost use Rattle.rlp.specs.Values.Groups.{AreGroups, FaultsAsGrouped, GivesGroups, IsOneMore, MayLackAsGrouped, in_group};
+ghost use Rattle.rlp.specs.Values.Groups.{AreGroups, FaultsAsGrouped, FaultsInGrouped, GivesGroups, IsOneMore, MayLackAsGrouped, in_group};
 ghost use Rattle.rlp.specs.Values.ListReading.{GivesAt};
 
 use crate::rlpin::{Fields, Rlp};
@@ -123,18 +123,17 @@ pub trait DecodeGrouped: Sized + Drop {
         ensures { IsTrue result ↔ is_count len };
 
     /// Reads the fields from the next `len` items. If a field fails, returns the error of
-    /// [`DecodeField::decode_field`] for the first field that fails.
+    /// [`DecodeField::decode_field`] for the first field that fails. Also fails with
+    /// `RlpIncorrectListLen` if the fields can't be `len` items.
     fn decode_grouped(
         alloc: Global,
         len: usize,
         fields: &mut Fields<'_>,
     ) -> Result<Self, DecoderError>
-        requires { is_count len }
         ensures value { IfOk result
             (λ x. (number x ≡ len) × give fields.old.place fields.old.view x) }
-        ensures fault { IfErr result (λ e.
-            (FaultsInFields len gives_some faults fields.old.view fields.old.place e)
-            ⊎ (e ≡ OutOfMemory)) };
+        ensures fault { IfErr result (λ e. FaultsInGrouped is_count len gives_some faults
+            fields.old.view fields.old.place e) };
 }
 
 /// The groups at the end of a struct.
@@ -152,12 +151,8 @@ impl<G: DecodeGroup> DecodeGrouped for Groups<G> {
 
     ghost faults = { in_group G.count G.faults };
 
-    #[tactic(auto, using(crate::proofs::Values::GroupReading::group_numbers))]
     fn may_have_len(len: usize) -> bool {
-        match G::group_len() {
-            Some(width) => len % width == 0,
-            None => len == 0,
-        }
+        group_count::<G>(len).is_some()
     }
 
     #[tactic(auto, using(crate::proofs::Values::GroupReading::group_numbers))]
@@ -166,8 +161,12 @@ impl<G: DecodeGroup> DecodeGrouped for Groups<G> {
         len: usize,
         fields: &mut Fields<'_>,
     ) -> Result<Groups<G>, DecoderError> {
+        let count = match group_count::<G>(len) {
+            Some(count) => count,
+            None => return Err(DecoderError::RlpIncorrectListLen),
+        };
         let mut groups = Vec::new(alloc);
-        for read in 0..group_count::<G>(len) {
+        for read in 0..count {
             let group = match G::decode_group(alloc, fields) {
                 Ok(group) => group,
                 Err(fault) => return Err(fault),
@@ -181,15 +180,25 @@ impl<G: DecodeGroup> DecodeGrouped for Groups<G> {
     }
 }
 
-/// Returns the number of groups that `len` items are.
+/// Returns the number of groups that `len` items are, or `None` if they aren't whole groups.
 #[tactic(auto, using(crate::proofs::Values::GroupReading::group_numbers))]
-fn group_count<G: DecodeGroup>(len: usize) -> usize
-    requires { AreGroups G.count len }
-    ensures { result * G.count ≡ len }
+fn group_count<G: DecodeGroup>(len: usize) -> Option<usize>
+    ensures { MatchOption result (¬ AreGroups G.count len)
+        (λ n. AreGroups G.count len × (n * G.count ≡ len)) }
 {
     match G::group_len() {
-        Some(width) => len / width,
-        None => 0,
+        Some(width) => {
+            if len % width != 0 {
+                return None;
+            }
+            Some(len / width)
+        }
+        None => {
+            if len != 0 {
+                return None;
+            }
+            Some(0)
+        }
     }
 }
 
@@ -214,6 +223,9 @@ impl<F: DecodeField, Q: DecodeGrouped> DecodeGrouped for (F, Q) {
         len: usize,
         fields: &mut Fields<'_>,
     ) -> Result<(F, Q), DecoderError> {
+        if len == 0 {
+            return Err(DecoderError::RlpIncorrectListLen);
+        }
         match F::decode_field(alloc, fields) {
             Ok(field) => match Q::decode_grouped(alloc, len - 1, fields) {
                 Ok(others) => Ok((field, others)),
