@@ -1,10 +1,10 @@
 //! Numbers: written as the string of their digits to the base 256, the most significant first.
 
-ghost use Rattle.std.specs.Prelude.{◌≡◌, ◌≤◌, ◌<◌, length, Ok, Err, IfOk, IfErr};
+ghost use Rattle.std.specs.Prelude.{◌≡◌, ◌≤◌, ◌<◌, length, Ok, Err, IfOk, IfErr, IfSome, IsTrue};
 ghost use Rattle.std.specs.Int.Digits.{number_from_digits};
 ghost use Rattle.rlp_format.specs.Format.WrittenHeader.{big_endian};
 ghost use Rattle.rlp_format.specs.Values.Value.{FitsBytes};
-ghost use Rattle.rlp.specs.Values.ValueReading.{IsDigitsFault, GivesNumber, FaultsAsNumber};
+ghost use Rattle.rlp.specs.Values.ValueReading.{AreShortest, IsDigitsFault, GivesNumber, FaultsAsNumber};
 
 use crate::rlpin::Rlp;
 use crate::traits::{Decodable, RoundTrip, Scalar, StrictRead};
@@ -23,8 +23,8 @@ impl Decodable for u8 {
     ghost may_lack_memory = { λ v. ⊥ };
 
     fn decode(_alloc: Global, rlp: &Rlp<'_>) -> Result<u8, DecoderError> {
-        match number_digits(rlp, 1) {
-            Ok(digits) => Ok(number_of(digits) as u8),
+        match number_within(rlp, 1) {
+            Ok(number) => Ok(number as u8),
             Err(fault) => Err(fault),
         }
     }
@@ -41,8 +41,8 @@ impl Decodable for u16 {
     ghost may_lack_memory = { λ v. ⊥ };
 
     fn decode(_alloc: Global, rlp: &Rlp<'_>) -> Result<u16, DecoderError> {
-        match number_digits(rlp, 2) {
-            Ok(digits) => Ok(number_of(digits) as u16),
+        match number_within(rlp, 2) {
+            Ok(number) => Ok(number as u16),
             Err(fault) => Err(fault),
         }
     }
@@ -59,8 +59,8 @@ impl Decodable for u32 {
     ghost may_lack_memory = { λ v. ⊥ };
 
     fn decode(_alloc: Global, rlp: &Rlp<'_>) -> Result<u32, DecoderError> {
-        match number_digits(rlp, 4) {
-            Ok(digits) => Ok(number_of(digits) as u32),
+        match number_within(rlp, 4) {
+            Ok(number) => Ok(number as u32),
             Err(fault) => Err(fault),
         }
     }
@@ -80,8 +80,8 @@ impl Decodable for u64 {
     ghost may_lack_memory = { λ v. ⊥ };
 
     fn decode(_alloc: Global, rlp: &Rlp<'_>) -> Result<u64, DecoderError> {
-        match number_digits(rlp, 8) {
-            Ok(digits) => Ok(number_of(digits) as u64),
+        match number_within(rlp, 8) {
+            Ok(number) => Ok(number as u64),
             Err(fault) => Err(fault),
         }
     }
@@ -98,8 +98,8 @@ impl Decodable for usize {
     ghost may_lack_memory = { λ v. ⊥ };
 
     fn decode(_alloc: Global, rlp: &Rlp<'_>) -> Result<usize, DecoderError> {
-        match number_digits(rlp, 8) {
-            Ok(digits) => Ok(number_of(digits)),
+        match number_within(rlp, 8) {
+            Ok(number) => Ok(number),
             Err(fault) => Err(fault),
         }
     }
@@ -123,9 +123,93 @@ impl Decodable for u128 {
     }
 }
 
+/// Reads a number of at most `width` bytes, from 1 to 8. A number that is its own encoding is read
+/// at once.
+#[inline(always)]
+fn number_within(rlp: &Rlp<'_>, width: usize) -> Result<usize, DecoderError>
+    requires some { 1 ≤ width }
+    requires few { width ≤ 8 }
+    ensures value { IfOk result (λ n. GivesNumber width rlp.now n) }
+    ensures fault { IfErr result (λ e. FaultsAsNumber width rlp.now e) }
+{
+    match rlp.as_raw() {
+        [digit @ 0x01..=0x7f, ..] if may_end_at(rlp, 1) => Ok(*digit as usize),
+        _ => number_of_string(rlp, width),
+    }
+}
+
+/// Whether the view's item may end at `len`: nothing follows the item in a strict view.
+#[inline(always)]
+fn may_end_at(rlp: &Rlp<'_>, len: usize) -> bool
+    ensures { IsTrue result → IsTrue rlp.now.is_strict → length rlp.now.bytes ≡ len }
+{
+    !rlp.is_strict() || rlp.as_raw().len() == len
+}
+
+/// Reads a number of at most `width` bytes, at most 8, from its digits.
+#[inline(never)]
+fn number_of_string(rlp: &Rlp<'_>, width: usize) -> Result<usize, DecoderError>
+    requires { width ≤ 8 }
+    ensures value { IfOk result (λ n. GivesNumber width rlp.now n) }
+    ensures fault { IfErr result (λ e. FaultsAsNumber width rlp.now e) }
+{
+    match number_digits(rlp, width) {
+        Ok(digits) => Ok(number_of(digits)),
+        Err(fault) => Err(fault),
+    }
+}
+
 /// Returns the digits of the number of at most `width` bytes that the view begins with.
-#[tactic(auto, using(crate::specs::Lemmas::Numbers::number_answers))]
 pub(crate) fn number_digits<'a>(rlp: &Rlp<'a>, width: usize) -> Result<&'a [u8], DecoderError>
+    ensures few { IfOk result (λ d. length d.now ≤ width) }
+    ensures value { IfOk result (λ d. GivesNumber width rlp.now (number_from_digits 256 d.now)) }
+    ensures fault { IfErr result (λ e. FaultsAsNumber width rlp.now e) }
+{
+    match short_digits(rlp, width) {
+        Some(digits) => Ok(digits),
+        None => digits_of_string(rlp, width),
+    }
+}
+
+/// The digits after a header of one byte, if they are those of a number of at most `width` bytes.
+/// The canonical encodings of zero and of all numbers from 0x80 to 2^440 - 1 have such a header.
+#[inline(always)]
+fn short_digits<'a>(rlp: &Rlp<'a>, width: usize) -> Option<&'a [u8]>
+    ensures few { IfSome result (λ d. length d.now ≤ width) }
+    ensures value { IfSome result (λ d. GivesNumber width rlp.now (number_from_digits 256 d.now)) }
+{
+    match rlp.as_raw() {
+        [header @ 0x80..=0xb7, rest @ ..] => {
+            let len = (*header - 0x80) as usize;
+            if len > width || len > rest.len() || !may_end_at(rlp, 1 + len) {
+                return None;
+            }
+            let digits = &rest[..len];
+            if are_shortest(digits) { Some(digits) } else { None }
+        }
+        _ => None,
+    }
+}
+
+/// Whether these are the digits of a number whose encoding has a header: not one digit below 0x80,
+/// and no zero first.
+#[inline(always)]
+#[tactic(auto, using(crate::specs::Lemmas::Numbers::shortest_tests))]
+fn are_shortest(digits: &[u8]) -> bool
+    ensures { IsTrue result → AreShortest digits.now }
+{
+    match digits {
+        [] => true,
+        [digit] => *digit >= 0x80,
+        [first, ..] => *first != 0,
+    }
+}
+
+/// Returns the digits of the number of at most `width` bytes that the view begins with, by the
+/// string of any length that it begins with.
+#[inline(never)]
+#[tactic(auto, using(crate::specs::Lemmas::Numbers::number_answers))]
+fn digits_of_string<'a>(rlp: &Rlp<'a>, width: usize) -> Result<&'a [u8], DecoderError>
     ensures few { IfOk result (λ d. length d.now ≤ width) }
     ensures value { IfOk result (λ d. GivesNumber width rlp.now (number_from_digits 256 d.now)) }
     ensures fault { IfErr result (λ e. FaultsAsNumber width rlp.now e) }
