@@ -10,6 +10,8 @@ mod every_type;
 #[cfg(test)]
 mod headers;
 #[cfg(test)]
+mod laws;
+#[cfg(test)]
 mod logs;
 #[cfg(test)]
 mod messages;

@@ -7,6 +7,7 @@
 mod announcements;
 mod hash_or_number;
 mod hello;
+mod record;
 mod requests;
 mod session;
 mod status;

@@ -1,0 +1,52 @@
+//! The messages of this crate are records, so the laws of `rlp_ethereum` hold for each.
+
+use crate::announcements::{BlockRangeUpdate, NewBlock, NewBlockHash, NewBlockHashes, NewPooledTransactionHashes};
+use crate::hash_or_number::HashOrNumber;
+use crate::hello::{Capability, Hello, NodeId};
+use crate::requests::{BlockBodies, BlockHeaders, GetBlockBodies, GetBlockHeaders};
+use crate::session::{Disconnect, Ping, Pong};
+use crate::status::{ForkHash, ForkId, Status68, Status69};
+use crate::with_request_id::WithRequestId;
+use rlp_ethereum::Record;
+
+impl Record for BlockRangeUpdate {}
+
+impl Record for NewBlock {}
+
+impl Record for NewBlockHash {}
+
+impl Record for NewBlockHashes {}
+
+impl Record for NewPooledTransactionHashes {}
+
+impl Record for HashOrNumber {}
+
+impl Record for Capability {}
+
+impl Record for Hello {}
+
+impl Record for NodeId {}
+
+impl Record for BlockBodies {}
+
+impl Record for BlockHeaders {}
+
+impl Record for GetBlockBodies {}
+
+impl Record for GetBlockHeaders {}
+
+impl Record for Disconnect {}
+
+impl Record for Ping {}
+
+impl Record for Pong {}
+
+impl Record for ForkHash {}
+
+impl Record for ForkId {}
+
+impl Record for Status68 {}
+
+impl Record for Status69 {}
+
+impl<T: Record> Record for WithRequestId<T> {}
