@@ -129,10 +129,62 @@ fee_market_transaction = record_of 12 (
     ∷ field (codes "s") (number 32)
     ∷ [])
 
--- transactions by their first byte: an envelope of type 1 or 2, or else a transaction without a type
-abbrev pub any_transaction : Shape
-any_transaction = typed 1 access_list_transaction (typed 2 fee_market_transaction legacy_transaction)
+-- transactions of type 3, without the byte of the type
+abbrev pub blob_transaction : Shape
+blob_transaction = record_of 14 (
+    field (codes "chain_id") (number 8)
+    ∷ field (codes "nonce") (number 8)
+    ∷ field (codes "max_priority_fee_per_gas") (number 32)
+    ∷ field (codes "max_fee_per_gas") (number 32)
+    ∷ field (codes "gas_limit") (number 8)
+    ∷ field (codes "to") address
+    ∷ field (codes "value") (number 32)
+    ∷ field (codes "data") byte_string
+    ∷ field (codes "access_list") (list_of access_list_item)
+    ∷ field (codes "max_fee_per_blob_gas") (number 32)
+    ∷ field (codes "blob_versioned_hashes") (list_of hash)
+    ∷ field (codes "y_parity") truth_value
+    ∷ field (codes "r") (number 32)
+    ∷ field (codes "s") (number 32)
+    ∷ [])
 
--- receipts by their first byte: an envelope of type 1 or 2, or else a receipt without a type
+-- authorizations of transactions of type 4
+abbrev pub authorization : Shape
+authorization = record_of 6 (
+    field (codes "chain_id") (number 32)
+    ∷ field (codes "address") address
+    ∷ field (codes "nonce") (number 8)
+    ∷ field (codes "y_parity") (number 1)
+    ∷ field (codes "r") (number 32)
+    ∷ field (codes "s") (number 32)
+    ∷ [])
+
+-- transactions of type 4, without the byte of the type
+abbrev pub set_code_transaction : Shape
+set_code_transaction = record_of 13 (
+    field (codes "chain_id") (number 8)
+    ∷ field (codes "nonce") (number 8)
+    ∷ field (codes "max_priority_fee_per_gas") (number 32)
+    ∷ field (codes "max_fee_per_gas") (number 32)
+    ∷ field (codes "gas_limit") (number 8)
+    ∷ field (codes "destination") address
+    ∷ field (codes "value") (number 32)
+    ∷ field (codes "data") byte_string
+    ∷ field (codes "access_list") (list_of access_list_item)
+    ∷ field (codes "authorization_list") (list_of authorization)
+    ∷ field (codes "y_parity") truth_value
+    ∷ field (codes "r") (number 32)
+    ∷ field (codes "s") (number 32)
+    ∷ [])
+
+-- the envelope of a transaction by its first byte, which is its type, or else another shape
+abbrev pub typed_transaction : Shape → Shape
+typed_transaction other = typed 1 access_list_transaction (typed 2 fee_market_transaction (typed 3 blob_transaction (typed 4 set_code_transaction other)))
+
+-- transactions by their first byte: an envelope of type 1 to 4, or else a transaction without a type
+abbrev pub any_transaction : Shape
+any_transaction = typed_transaction legacy_transaction
+
+-- receipts by their first byte: an envelope of type 1 to 4, or else a receipt without a type
 abbrev pub any_receipt : Shape
-any_receipt = typed 1 receipt (typed 2 receipt receipt)
+any_receipt = typed 1 receipt (typed 2 receipt (typed 3 receipt (typed 4 receipt receipt)))

@@ -12,8 +12,8 @@ use crate::numbers::put_number_line;
 use crate::show::Show;
 use rlp::Rlp;
 use rlp_ethereum::{
-    ACCESS_LIST_TYPE, AccessListTransaction, FEE_MARKET_TYPE, FeeMarketTransaction,
-    LegacyTransaction, Receipt,
+    ACCESS_LIST_TYPE, AccessListTransaction, BLOB_TYPE, BlobTransaction, FEE_MARKET_TYPE,
+    FeeMarketTransaction, LegacyTransaction, Receipt, SET_CODE_TYPE, SetCodeTransaction,
 };
 use std::alloc::{AllocError, Global};
 use std::marker::PhantomData;
@@ -25,15 +25,30 @@ pub struct Typed<const KIND: u8, T, Q> {
     other: PhantomData<Q>,
 }
 
-/// A transaction of any type that `rlp_ethereum` knows, for [`Show`].
-pub type AnyTransaction = Typed<
+/// The envelope of a transaction of any type that `rlp_ethereum` knows, or else a `Q`, for [`Show`].
+pub type TypedTransaction<Q> = Typed<
     ACCESS_LIST_TYPE,
     AccessListTransaction,
-    Typed<FEE_MARKET_TYPE, FeeMarketTransaction, LegacyTransaction>,
+    Typed<
+        FEE_MARKET_TYPE,
+        FeeMarketTransaction,
+        Typed<BLOB_TYPE, BlobTransaction, Typed<SET_CODE_TYPE, SetCodeTransaction, Q>>,
+    >,
 >;
 
-/// The receipt of a transaction of any type that `rlp_ethereum` knows, for [`Show`].
-pub type AnyReceipt = Typed<ACCESS_LIST_TYPE, Receipt, Typed<FEE_MARKET_TYPE, Receipt, Receipt>>;
+/// A transaction of any type that `rlp_ethereum` knows, for [`Show`].
+pub type AnyTransaction = TypedTransaction<LegacyTransaction>;
+
+/// The receipt of a transaction of any of these types, for [`Show`].
+pub type AnyReceipt = Typed<
+    ACCESS_LIST_TYPE,
+    Receipt,
+    Typed<
+        FEE_MARKET_TYPE,
+        Receipt,
+        Typed<BLOB_TYPE, Receipt, Typed<SET_CODE_TYPE, Receipt, Receipt>>,
+    >,
+>;
 
 /// The bytes after the first byte, if that is `kind`.
 fn payload_of(kind: u8, bytes: &[u8]) -> Option<&[u8]>

@@ -16,9 +16,9 @@ pub enum Kind {
     Account,
     /// Headers of blocks.
     Header,
-    /// Receipts, also in the envelopes of types 1 and 2.
+    /// Receipts, also in the envelopes of types 1 to 4.
     Receipt,
-    /// Transactions, also in the envelopes of types 1 and 2.
+    /// Transactions, also in the envelopes of types 1 to 4.
     Transaction,
     /// Withdrawals.
     Withdrawal,

@@ -15,8 +15,8 @@ mod show;
 mod strings;
 mod values;
 
-pub use envelopes::{AnyReceipt, AnyTransaction, Typed};
-pub use fault::ShowFault;
+pub use envelopes::{AnyReceipt, AnyTransaction, Typed, TypedTransaction};
+pub use fault::{ItemFault, ShowFault};
 pub use fields::{Named, ShowFields, show_record};
 pub use kind::{Kind, UNKNOWN_KIND, USAGE};
 pub use lists::Items;

@@ -44,9 +44,9 @@ fn put_record<T: Show>(alloc: Global, bytes: &[u8], out: &mut String) -> Result<
     let mut lines = String::new(alloc);
     match T::show(alloc, "", &Rlp::new_strict(bytes), &mut lines) {
         Ok(()) => out.push_str(lines.as_str()),
-        Err(ShowFault::Wrong(text)) => {
+        Err(ShowFault::Wrong(fault)) => {
             out.push_str("error ")?;
-            out.push_str(text.as_str())
+            fault.put(out)
         }
         Err(ShowFault::OutOfMemory) => Err(AllocError),
     }
