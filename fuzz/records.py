@@ -198,7 +198,7 @@ class Typed:
 
     def lines(self, name, data):
         if data and data[0] in self.types:
-            return [f"type: {data[0]}"] + self.types[data[0]].lines(name, data[1:])
+            return [f"{name + '.' if name else ''}type: {data[0]}"] + self.types[data[0]].lines(name, data[1:])
         return self.other.lines(name, data)
 
     def written(self, dice):
@@ -206,6 +206,37 @@ class Typed:
         if kind is None:
             return self.other.written(dice)
         return bytes([kind if dice.random() < 0.97 else dice.randint(0, 255)]) + self.types[kind].written(dice)
+
+
+class Unknown:
+    """The envelope of a transaction whose type isn't known, which is always at fault."""
+
+    def lines(self, name, data):
+        raise Wrong(name, 'Custom("unknown transaction type")' if data else "RlpIsTooShort")
+
+    def written(self, dice):
+        return dice.randbytes(dice.choice((0, 1, 40)))
+
+
+class Held:
+    """An item of a block's list: a list is a record without a type, and a string holds an envelope."""
+
+    def __init__(self, types, other):
+        self.alone, self.typed = Typed(types, other), Typed(types, Unknown())
+
+    def lines(self, name, data):
+        if data and data[0] >= 0xC0:
+            return self.alone.other.lines(name, data)
+        try:
+            held = strict_string(data)
+        except Answered as answered:
+            raise Wrong(name, answered) from None
+        return self.typed.lines(name, held)
+
+    def written(self, dice):
+        if dice.random() < 0.3:
+            return self.alone.other.written(dice)
+        return encoded_string(self.typed.written(dice))
 
 
 # ---- the records
@@ -239,17 +270,22 @@ TYPE_3 = f"""{FEES} gas_limit:u64 to:address value:u256 data:string access_list:
     blob_versioned_hashes:hashes {POINT}"""
 TYPE_4 = f"""{FEES} gas_limit:u64 destination:address value:u256 data:string access_list:access_list
     authorization_list:authorizations {POINT}"""
+TYPES["header"] = Record(fields(HEADER, TYPES), least=15)
+TYPES["withdrawal"] = Record(fields("index:u64 validator_index:u64 address:address amount:u64", TYPES))
+PAYLOADS = {kind: Record(fields(text, TYPES)) for kind, text in enumerate((TYPE_1, TYPE_2, TYPE_3, TYPE_4), 1)}
+TRANSACTION = Typed(PAYLOADS, Record(fields(LEGACY, TYPES)))
+TYPES["transactions"] = ListOf(Held(PAYLOADS, TRANSACTION.other))
+TYPES |= {"headers": ListOf(TYPES["header"]), "withdrawals": ListOf(TYPES["withdrawal"])}
+BLOCK = "header:header transactions:transactions ommers:headers withdrawals:withdrawals"
 RECEIPT = Record(fields("status_or_state_root:string cumulative_gas_used:u64 logs_bloom:bloom logs:logs", TYPES))
 
 KINDS = {
     "account": Record(fields("nonce:u64 balance:u256 storage_root:hash code_hash:hash", TYPES)),
-    "header": Record(fields(HEADER, TYPES), least=15),
+    "block": Record(fields(BLOCK, TYPES), least=3),
+    "header": TYPES["header"],
     "receipt": Typed(dict.fromkeys((1, 2, 3, 4), RECEIPT), RECEIPT),
-    "transaction": Typed(
-        {kind: Record(fields(text, TYPES)) for kind, text in enumerate((TYPE_1, TYPE_2, TYPE_3, TYPE_4), 1)},
-        Record(fields(LEGACY, TYPES)),
-    ),
-    "withdrawal": Record(fields("index:u64 validator_index:u64 address:address amount:u64", TYPES)),
+    "transaction": TRANSACTION,
+    "withdrawal": TYPES["withdrawal"],
 }
 
 

@@ -4,6 +4,7 @@ use Rattle.std.specs.Prelude.{Option, Some, None, Result, Ok, Err}
 use Rattle.std.specs.Int.Digits.{number_from_digits}
 use Rattle.rlp.specs.DecoderError.{DecoderError}
 use Rattle.rlp.specs.DecoderError.TheVariants.{RlpIsTooBig, RlpIsTooShort, RlpInvalidIndirection, RlpIncorrectListLen}
+use Rattle.rlp.specs.Format.Split.{begins_as_list}
 use Rattle.rlp.specs.Views.Text.{error_name}
 use Rattle.rlp.specs.Views.View.{View, item_count, item_views, strict_view_of, view_string}
 use Rattle.rlp_show.specs.Text.{bytes_text, number_text}
@@ -184,6 +185,17 @@ typed_lines kind shape name other v (first ∷ payload) =
 -- bytes that begin with this byte are the envelope (EIP-2718) of a record of a shape; other bytes are of another shape
 abbrev pub typed : ℕ → Shape → Shape → Shape
 typed kind shape other name v = typed_lines kind shape name other v v.bytes
+
+-- ---- strings that hold records
+
+-- the lines of what the bytes of a string are, read strictly, or the fault of an item that is no string
+abbrev pub held_lines : Shape → List ℕ → Result (List ℕ) DecoderError → Shown
+held_lines shape name (Ok string) = shape name (strict_view_of string)
+held_lines shape name (Err e) = Err (wrong name (error_name e))
+
+-- an item that begins as a list is of one shape, and the bytes of a string are of another
+abbrev pub list_or_string : Shape → Shape → Shape
+list_or_string of_list of_string name v = if begins_as_list v.bytes then of_list name v else held_lines of_string name (view_string v)
 
 -- ---- the lines of values; the fields of a record have them one after another
 

@@ -1,6 +1,8 @@
 -- The fields of each record, by their names in `rlp_ethereum`.
-use Rattle.std.specs.Prelude.{[], ◌∷◌, codes}
-use Rattle.rlp_show.specs.Lines.{Shape, byte_string, field, fixed_bytes, list_of, number, recipient, record_of, truth_value, typed}
+use Rattle.std.specs.Prelude.{ℕ, List, [], ◌∷◌, codes, Err}
+use Rattle.rlp.specs.DecoderError.TheVariants.{RlpIsTooShort}
+use Rattle.rlp.specs.Views.Text.{error_name}
+use Rattle.rlp_show.specs.Lines.{Shape, byte_string, field, fixed_bytes, list_of, list_or_string, number, recipient, record_of, truth_value, typed, wrong}
 
 -- addresses
 abbrev pub address : Shape
@@ -188,3 +190,25 @@ any_transaction = typed_transaction legacy_transaction
 -- receipts by their first byte: an envelope of type 1 to 4, or else a receipt without a type
 abbrev pub any_receipt : Shape
 any_receipt = typed 1 receipt (typed 2 receipt (typed 3 receipt (typed 4 receipt receipt)))
+
+-- the fault of an envelope of a transaction whose type isn't known
+abbrev pub unknown_type : List ℕ → List ℕ
+unknown_type [] = error_name RlpIsTooShort
+unknown_type (kind ∷ payload) = codes "Custom(\"unknown transaction type\")"
+
+-- the envelope of a transaction whose type isn't known, which is always at fault
+abbrev pub unknown_transaction : Shape
+unknown_transaction name v = Err (wrong name (unknown_type v.bytes))
+
+-- transactions in the list of a block: a list is a transaction without a type, and a string holds the envelope of one of type 1 to 4
+abbrev pub transaction : Shape
+transaction = list_or_string legacy_transaction (typed_transaction unknown_transaction)
+
+-- blocks: the withdrawals may be missing
+abbrev pub block : Shape
+block = record_of 3 (
+    field (codes "header") header
+    ∷ field (codes "transactions") (list_of transaction)
+    ∷ field (codes "ommers") (list_of header)
+    ∷ field (codes "withdrawals") (list_of withdrawal)
+    ∷ [])

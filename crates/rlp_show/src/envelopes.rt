@@ -11,10 +11,7 @@ use crate::fields::{joined, prefix_of};
 use crate::numbers::put_number_line;
 use crate::show::Show;
 use rlp::Rlp;
-use rlp_ethereum::{
-    ACCESS_LIST_TYPE, AccessListTransaction, BLOB_TYPE, BlobTransaction, FEE_MARKET_TYPE,
-    FeeMarketTransaction, LegacyTransaction, Receipt, SET_CODE_TYPE, SetCodeTransaction,
-};
+use rlp_ethereum::{ACCESS_LIST_TYPE, BLOB_TYPE, FEE_MARKET_TYPE, Receipt, SET_CODE_TYPE};
 use std::alloc::{AllocError, Global};
 use std::marker::PhantomData;
 
@@ -25,21 +22,7 @@ pub struct Typed<const KIND: u8, T, Q> {
     other: PhantomData<Q>,
 }
 
-/// The envelope of a transaction of any type that `rlp_ethereum` knows, or else a `Q`, for [`Show`].
-pub type TypedTransaction<Q> = Typed<
-    ACCESS_LIST_TYPE,
-    AccessListTransaction,
-    Typed<
-        FEE_MARKET_TYPE,
-        FeeMarketTransaction,
-        Typed<BLOB_TYPE, BlobTransaction, Typed<SET_CODE_TYPE, SetCodeTransaction, Q>>,
-    >,
->;
-
-/// A transaction of any type that `rlp_ethereum` knows, for [`Show`].
-pub type AnyTransaction = TypedTransaction<LegacyTransaction>;
-
-/// The receipt of a transaction of any of these types, for [`Show`].
+/// The receipt of a transaction of any type that `rlp_ethereum` knows, for [`Show`].
 pub type AnyReceipt = Typed<
     ACCESS_LIST_TYPE,
     Receipt,

@@ -6,9 +6,9 @@ use crate::lists::Items;
 use crate::show::Show;
 use rlp::{Rlp, Uint};
 use rlp_ethereum::{
-    AccessListItem, AccessListTransaction, Account, Address, Authorization, BlobTransaction, Bloom,
-    FeeMarketTransaction, Hash, Header, LegacyTransaction, Log, Receipt, Recipient,
-    SetCodeTransaction, Withdrawal,
+    AccessListItem, AccessListTransaction, Account, Address, Authorization, BlobTransaction, Block,
+    Bloom, FeeMarketTransaction, Hash, Header, LegacyTransaction, Log, Receipt, Recipient,
+    SetCodeTransaction, Transaction, Withdrawal,
 };
 use std::alloc::Global;
 use std::marker::PhantomData;
@@ -304,6 +304,26 @@ impl Show for SetCodeTransaction {
             "y_parity": bool,
             "r": Uint<32>,
             "s": Uint<32>
+        )
+    }
+}
+
+impl Show for Block {
+    ghost use Rattle.rlp_show.specs.Records.{block};
+
+    ghost shape = { block };
+
+    fn show(alloc: Global, name: &str, item: &Rlp<'_>, out: &mut String) -> Result<(), ShowFault> {
+        show_fields!(
+            alloc,
+            name,
+            item,
+            out,
+            3,
+            "header": Header,
+            "transactions": Items<Transaction>,
+            "ommers": Items<Header>,
+            "withdrawals": Items<Withdrawal>
         )
     }
 }

@@ -7,8 +7,9 @@ ghost use Rattle.rlp.specs.Views.View.{strict_view_of};
 use crate::show::Show;
 use rlp::Encodable;
 use rlp_ethereum::{
-    AccessListItem, AccessListTransaction, Account, Authorization, BlobTransaction,
-    FeeMarketTransaction, Header, LegacyTransaction, Log, Receipt, SetCodeTransaction, Withdrawal,
+    AccessListItem, AccessListTransaction, Account, Authorization, BlobTransaction, Block,
+    FeeMarketTransaction, Header, LegacyTransaction, Log, Receipt, SetCodeTransaction, Transaction,
+    Withdrawal,
 };
 
 /// A type of which the encoding of each value that fits is shown as the lines of the value. It has
@@ -116,4 +117,20 @@ impl ShowValues for SetCodeTransaction {
     ghost lines = { set_code_transaction_display.lines };
 
     ghost shown = { set_code_transaction_display.shown };
+}
+
+impl ShowValues for Transaction {
+    ghost use Rattle.rlp_show.specs.TransactionValues.{transaction_display};
+
+    ghost lines = { transaction_display.lines };
+
+    ghost shown = { transaction_display.shown };
+}
+
+impl ShowValues for Block {
+    ghost use Rattle.rlp_show.specs.TransactionValues.{block_display};
+
+    ghost lines = { block_display.lines };
+
+    ghost shown = { block_display.shown };
 }
