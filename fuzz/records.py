@@ -58,12 +58,15 @@ def strict_items(data):
 
 
 class Wrong(Exception):
-    """What is wrong with an item, with its name."""
+    """What is wrong with an item: the place of the field of the outermost record, the item's name, and the fault."""
 
+    def __init__(self, name, fault):
+        self.place, self.name, self.fault = None, name, fault
 
-def faulty(name, fault):
-    """The fault of an item under its name."""
-    return Wrong(f"{name}: {fault}" if name else str(fault))
+    def __str__(self):
+        if self.place is not None:
+            return f"field {self.place} ({self.name}): {self.fault}"
+        return f"{self.name}: {self.fault}" if self.name else str(self.fault)
 
 
 class Text:
@@ -76,7 +79,7 @@ class Text:
         try:
             return [f"{name}: {self.text(strict_string(data))}"]
         except Answered as answered:
-            raise faulty(name, answered) from None
+            raise Wrong(name, answered) from None
 
     def written(self, dice):
         return encoded_string(self.some(dice))
@@ -149,7 +152,7 @@ class ListOf:
         try:
             items = strict_items(data)
         except Answered as answered:
-            raise faulty(name, answered) from None
+            raise Wrong(name, answered) from None
         if not items:
             return [f"{name}: []"]
         return [line for place, item in enumerate(items) for line in self.one.lines(f"{name}[{place}]", item)]
@@ -170,9 +173,15 @@ class Record:
             if not self.least <= len(items) <= len(self.fields):
                 raise Answered("RlpIncorrectListLen")
         except Answered as answered:
-            raise faulty(name, answered) from None
-        before = name + "." if name else ""
-        return [line for (field, one), item in zip(self.fields, items) for line in one.lines(before + field, item)]
+            raise Wrong(name, answered) from None
+        before, lines = name + "." if name else "", []
+        for place, ((field, one), item) in enumerate(zip(self.fields, items)):
+            try:
+                lines += one.lines(before + field, item)
+            except Wrong as wrong:
+                wrong.place = place
+                raise
+        return lines
 
     def written(self, dice):
         count = dice.randint(self.least, len(self.fields))
@@ -189,7 +198,7 @@ class Typed:
 
     def lines(self, name, data):
         if data and data[0] in self.types:
-            return [f"type: {data[0]}"] + self.types[data[0]].lines(name, data[1:])
+            return [f"{name + '.' if name else ''}type: {data[0]}"] + self.types[data[0]].lines(name, data[1:])
         return self.other.lines(name, data)
 
     def written(self, dice):
@@ -197,6 +206,37 @@ class Typed:
         if kind is None:
             return self.other.written(dice)
         return bytes([kind if dice.random() < 0.97 else dice.randint(0, 255)]) + self.types[kind].written(dice)
+
+
+class Unknown:
+    """The envelope of a transaction whose type isn't known, which is always at fault."""
+
+    def lines(self, name, data):
+        raise Wrong(name, 'Custom("unknown transaction type")' if data else "RlpIsTooShort")
+
+    def written(self, dice):
+        return dice.randbytes(dice.choice((0, 1, 40)))
+
+
+class Held:
+    """An item of a block's list: a list is a record without a type, and a string holds an envelope."""
+
+    def __init__(self, types, other):
+        self.alone, self.typed = Typed(types, other), Typed(types, Unknown())
+
+    def lines(self, name, data):
+        if data and data[0] >= 0xC0:
+            return self.alone.other.lines(name, data)
+        try:
+            held = strict_string(data)
+        except Answered as answered:
+            raise Wrong(name, answered) from None
+        return self.typed.lines(name, held)
+
+    def written(self, dice):
+        if dice.random() < 0.3:
+            return self.alone.other.written(dice)
+        return encoded_string(self.typed.written(dice))
 
 
 # ---- the records
@@ -207,31 +247,45 @@ def fields(text, types):
     return [(pair.split(":")[0], types[pair.split(":")[1]]) for pair in text.split()]
 
 
-TYPES = {"u64": number(8), "u256": number(32), "hash": HASH, "address": ADDRESS, "bloom": BLOOM, "string": STRING}
+TYPES = {"u8": number(1), "u64": number(8), "u256": number(32), "hash": HASH, "address": ADDRESS, "bloom": BLOOM, "string": STRING}
 TYPES |= {"truth": TRUTH, "recipient": RECIPIENT, "nonce": fixed(8), "hashes": ListOf(HASH)}
 TYPES["log"] = Record(fields("address:address topics:hashes data:string", TYPES))
 TYPES["access"] = Record(fields("address:address storage_keys:hashes", TYPES))
+TYPES["authorization"] = Record(fields("chain_id:u256 address:address nonce:u64 y_parity:u8 r:u256 s:u256", TYPES))
 TYPES |= {"logs": ListOf(TYPES["log"]), "access_list": ListOf(TYPES["access"])}
+TYPES["authorizations"] = ListOf(TYPES["authorization"])
 
 HEADER = """parent_hash:hash ommers_hash:hash beneficiary:address state_root:hash transactions_root:hash
     receipts_root:hash logs_bloom:bloom difficulty:u256 number:u64 gas_limit:u64 gas_used:u64 timestamp:u64
     extra_data:string mix_hash:hash nonce:nonce base_fee_per_gas:u256 withdrawals_root:hash blob_gas_used:u64
     excess_blob_gas:u64 parent_beacon_block_root:hash requests_hash:hash"""
 CALL = "gas_limit:u64 to:recipient value:u256 data:string"
-SIGNED = "access_list:access_list y_parity:truth r:u256 s:u256"
+POINT = "y_parity:truth r:u256 s:u256"
+SIGNED = f"access_list:access_list {POINT}"
 LEGACY = f"nonce:u64 gas_price:u256 {CALL} v:u256 r:u256 s:u256"
 TYPE_1 = f"chain_id:u64 nonce:u64 gas_price:u256 {CALL} {SIGNED}"
-TYPE_2 = f"chain_id:u64 nonce:u64 max_priority_fee_per_gas:u256 max_fee_per_gas:u256 {CALL} {SIGNED}"
+FEES = "chain_id:u64 nonce:u64 max_priority_fee_per_gas:u256 max_fee_per_gas:u256"
+TYPE_2 = f"{FEES} {CALL} {SIGNED}"
+TYPE_3 = f"""{FEES} gas_limit:u64 to:address value:u256 data:string access_list:access_list max_fee_per_blob_gas:u256
+    blob_versioned_hashes:hashes {POINT}"""
+TYPE_4 = f"""{FEES} gas_limit:u64 destination:address value:u256 data:string access_list:access_list
+    authorization_list:authorizations {POINT}"""
+TYPES["header"] = Record(fields(HEADER, TYPES), least=15)
+TYPES["withdrawal"] = Record(fields("index:u64 validator_index:u64 address:address amount:u64", TYPES))
+PAYLOADS = {kind: Record(fields(text, TYPES)) for kind, text in enumerate((TYPE_1, TYPE_2, TYPE_3, TYPE_4), 1)}
+TRANSACTION = Typed(PAYLOADS, Record(fields(LEGACY, TYPES)))
+TYPES["transactions"] = ListOf(Held(PAYLOADS, TRANSACTION.other))
+TYPES |= {"headers": ListOf(TYPES["header"]), "withdrawals": ListOf(TYPES["withdrawal"])}
+BLOCK = "header:header transactions:transactions ommers:headers withdrawals:withdrawals"
 RECEIPT = Record(fields("status_or_state_root:string cumulative_gas_used:u64 logs_bloom:bloom logs:logs", TYPES))
 
 KINDS = {
     "account": Record(fields("nonce:u64 balance:u256 storage_root:hash code_hash:hash", TYPES)),
-    "header": Record(fields(HEADER, TYPES), least=15),
-    "receipt": Typed({1: RECEIPT, 2: RECEIPT}, RECEIPT),
-    "transaction": Typed(
-        {1: Record(fields(TYPE_1, TYPES)), 2: Record(fields(TYPE_2, TYPES))}, Record(fields(LEGACY, TYPES))
-    ),
-    "withdrawal": Record(fields("index:u64 validator_index:u64 address:address amount:u64", TYPES)),
+    "block": Record(fields(BLOCK, TYPES), least=3),
+    "header": TYPES["header"],
+    "receipt": Typed(dict.fromkeys((1, 2, 3, 4), RECEIPT), RECEIPT),
+    "transaction": TRANSACTION,
+    "withdrawal": TYPES["withdrawal"],
 }
 
 

@@ -4,7 +4,7 @@ use Rattle.std.proofs.lemmas.Bool.{cond-true, cond-false}
 use Rattle.std.proofs.lemmas.Bool.Decides.{nat_tests}
 use Rattle.rlp.specs.Views.View.{View, strict_view_of}
 use Rattle.rlp_show.specs.Text.{number_text}
-use Rattle.rlp_show.specs.Lines.{Shape, Shown, line, prefix, then_lines, typed, typed_lines}
+use Rattle.rlp_show.specs.Lines.{Fault, Shape, Shown, line, prefix, then_lines, typed, typed_lines}
 use Rattle.rlp_show.specs.Answer.{after_text}
 
 -- the lines of a first part and then of the others
@@ -20,7 +20,7 @@ then_none (Ok lines) = ap (λ t. Ok t) (append-nil lines)
 then_none (Err fault) = refl
 
 -- the first part is wrong
-pub then_wrong : (first more : Shown) (fault : List ℕ) → first ≡ Err fault → then_lines first more ≡ Err fault
+pub then_wrong : (first more : Shown) (fault : Fault) → first ≡ Err fault → then_lines first more ≡ Err fault
 then_wrong (Ok lines) more fault is = absurd (cc)
 then_wrong (Err found) more fault is = is
 

@@ -3,17 +3,18 @@ use Rattle.std.specs.Prelude.{ℕ, ◌≡◌, ⊤, List, [], ◌++◌, codes, by
 use Rattle.std.specs.Str.Lines.{strip_carriage_return}
 use Rattle.rlp.specs.Views.View.{strict_view_of}
 use Rattle.rlp_tool.specs.Digits.{bytes_in}
-use Rattle.rlp_show.specs.Lines.{Shape, Shown}
-use Rattle.rlp_show.specs.Records.{account, any_receipt, any_transaction, header, withdrawal}
+use Rattle.rlp_show.specs.Lines.{Fault, Shape, Shown, fault_text}
+use Rattle.rlp_show.specs.Records.{account, any_receipt, any_transaction, block, header, withdrawal}
 use Rattle.rlp_show.specs.declared.kind.Kind.{Kind}
-use Rattle.rlp_show.specs.declared.kind.Kind.TheVariants.{Account, Header, Receipt, Transaction, Withdrawal}
+use Rattle.rlp_show.specs.declared.kind.Kind.TheVariants.{Account, Block, Header, Receipt, Transaction, Withdrawal}
+use Rattle.rlp_show.specs.declared.fault.ItemFault.{ItemFault}
 use Rattle.rlp_show.specs.declared.fault.ShowFault.{ShowFault}
 use Rattle.rlp_show.specs.declared.fault.ShowFault.TheVariants.{Wrong, OutOfMemory}
 
 -- the lines, or `error` and what is wrong
 abbrev pub shown_answer : Shown → List ℕ
 shown_answer (Ok lines) = lines
-shown_answer (Err fault) = codes "error " ++ fault
+shown_answer (Err fault) = codes "error " ++ fault_text fault.field fault.name fault.what
 
 -- the answer for bytes that are read strictly as a whole record, or `error hex` if the line has no digits
 abbrev pub bytes_answer : Shape → Option (List ℕ) → List ℕ
@@ -30,6 +31,7 @@ record_answer shape line = bytes_answer shape (bytes_in (strip_carriage_return l
 abbrev pub kind_named : List ℕ → Option Kind
 kind_named name =
     if bytes_eq name (codes "account") then Some Account
+    else if bytes_eq name (codes "block") then Some Block
     else if bytes_eq name (codes "header") then Some Header
     else if bytes_eq name (codes "receipt") then Some Receipt
     else if bytes_eq name (codes "transaction") then Some Transaction
@@ -39,6 +41,7 @@ kind_named name =
 -- the shape of the records of a kind
 abbrev pub kind_shape : Kind → Shape
 kind_shape Account = account
+kind_shape Block = block
 kind_shape Header = header
 kind_shape Receipt = any_receipt
 kind_shape Transaction = any_transaction
@@ -50,6 +53,10 @@ kind_answer kind = record_answer (kind_shape kind)
 
 -- ---- what only clauses of private functions and of `Show` cite
 
+-- what a fault says
+abbrev pub fault_of : ItemFault → Fault
+fault_of f = record { field = f.field; name = string_bytes f.name; what = string_bytes f.fault }
+
 -- the lines after an earlier text
 abbrev pub after_text : List ℕ → Shown → Shown
 after_text old (Ok lines) = Ok (old ++ lines)
@@ -58,10 +65,10 @@ after_text old (Err fault) = Err fault
 -- a text became the text with the lines, or the result says what is wrong; memory may be refused
 abbrev pub Shows : Shown → List ℕ → List ℕ → Result (Unit {0}) ShowFault → Type 0
 Shows shown old new (Ok done) = after_text old shown ≡ Ok new
-Shows shown old new (Err (Wrong text)) = shown ≡ Err (string_bytes text)
+Shows shown old new (Err (Wrong fault)) = shown ≡ Err (fault_of fault)
 Shows shown old new (Err OutOfMemory) = ⊤
 
--- the fault says this, or memory was refused
-abbrev pub Says : List ℕ → ShowFault → Type 0
-Says text (Wrong said) = string_bytes said ≡ text
-Says text OutOfMemory = ⊤
+-- the fault is this one, or memory was refused
+abbrev pub Says : Fault → ShowFault → Type 0
+Says fault (Wrong told) = fault_of told ≡ fault
+Says fault OutOfMemory = ⊤

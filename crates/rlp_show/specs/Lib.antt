@@ -12,3 +12,7 @@ pub mod StringLemmas
 pub mod ValueLemmas
 -- the lines of values
 pub mod Values
+-- lemmas on envelopes, and on strings that hold records
+pub mod EnvelopeLemmas
+-- the lines of transactions of every type, and of blocks
+pub mod TransactionValues

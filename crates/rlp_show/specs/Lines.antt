@@ -1,16 +1,24 @@
 -- The lines of an item, or what is wrong with it. A name says which item it is, as `gas_limit` or `access_list[0].address`. A whole record has no name.
-use Rattle.std.specs.Prelude.{ℕ, zero, suc, ◌+◌, ◌||◌, ◌&&◌, ◌==◌, nat_lt, Bool, false, if◌then◌else◌, List, [], ◌∷◌, ◌++◌, length, drop, codes, decimal}
+use Rattle.std.specs.Prelude.{ℕ, zero, suc, ◌+◌, ◌||◌, ◌&&◌, ◌==◌, nat_lt, Bool, false, if◌then◌else◌, List, [], ◌∷◌, ◌++◌, length, codes, decimal}
 use Rattle.std.specs.Prelude.{Option, Some, None, Result, Ok, Err}
 use Rattle.std.specs.Int.Digits.{number_from_digits}
 use Rattle.rlp.specs.DecoderError.{DecoderError}
 use Rattle.rlp.specs.DecoderError.TheVariants.{RlpIsTooBig, RlpIsTooShort, RlpInvalidIndirection, RlpIncorrectListLen}
+use Rattle.rlp.specs.Format.Split.{begins_as_list}
 use Rattle.rlp.specs.Views.Text.{error_name}
 use Rattle.rlp.specs.Views.View.{View, item_count, item_views, strict_view_of, view_string}
 use Rattle.rlp_show.specs.Text.{bytes_text, number_text}
 
+-- What is wrong with an item: the place of the field that has the item, counted from 0 in the outermost record; the name of the item; and the name of the
+-- fault. A whole record has no field and no name.
+pub record Fault : Type 0 where
+  pub field : Option ℕ
+  pub name : List ℕ
+  pub what : List ℕ
+
 -- `Ok` has the text of all lines, and `Err` says what is wrong
 abbrev pub Shown : Type 0
-Shown = Result (List ℕ) (List ℕ)
+Shown = Result (List ℕ) Fault
 
 -- how the items of a type are shown, by the name and the view of an item
 abbrev pub Shape : Type 0
@@ -20,10 +28,20 @@ Shape = List ℕ → View → Shown
 abbrev pub line : List ℕ → List ℕ → List ℕ
 line name text = name ++ codes ": " ++ text ++ 10 ∷ []
 
--- what is wrong: the name, a colon and a space, and the fault; for a whole record only the fault
-abbrev pub wrong : List ℕ → List ℕ → List ℕ
-wrong [] fault = fault
-wrong (c ∷ name) fault = (c ∷ name) ++ codes ": " ++ fault
+-- the fault of an item that is in no field so far
+abbrev pub wrong : List ℕ → List ℕ → Fault
+wrong name what = record { field = None; name = name; what = what }
+
+-- the lines of the field with this place, or what is wrong in it; a record around it gives the place of its own field
+abbrev pub in_field : ℕ → Shown → Shown
+in_field place (Ok lines) = Ok lines
+in_field place (Err fault) = Err (record { field = Some place; name = fault.name; what = fault.what })
+
+-- what is wrong, as a text: `field`, the place, the name in parentheses, and the fault; outside a field the name and the fault; for a whole record only the fault
+abbrev pub fault_text : Option ℕ → List ℕ → List ℕ → List ℕ
+fault_text (Some place) name what = codes "field " ++ decimal place ++ codes " (" ++ name ++ codes "): " ++ what
+fault_text None [] what = what
+fault_text None (c ∷ name) what = (c ∷ name) ++ codes ": " ++ what
 
 -- the lines of two parts, or what is wrong with the first that is wrong
 abbrev pub then_lines : Shown → Shown → Shown
@@ -33,18 +51,22 @@ then_lines (Err fault) more = Err fault
 
 -- ---- items that are one string
 
+-- `Ok` has a text, and `Err` the name of a fault
+abbrev pub Worded : Type 0
+Worded = Result (List ℕ) (List ℕ)
+
 -- the line of a text under a name, or what is wrong under that name
-abbrev pub named : List ℕ → Shown → Shown
+abbrev pub named : List ℕ → Worded → Shown
 named name (Ok text) = Ok (line name text)
-named name (Err fault) = Err (wrong name fault)
+named name (Err what) = Err (wrong name what)
 
 -- the text of a string, or the fault of an item that is no string
-abbrev pub in_string : (List ℕ → Shown) → Result (List ℕ) DecoderError → Shown
+abbrev pub in_string : (List ℕ → Worded) → Result (List ℕ) DecoderError → Worded
 in_string text_in (Ok string) = text_in string
 in_string text_in (Err e) = Err (error_name e)
 
 -- a type that is read from one string: `text_in` is the text of a string, or the name of its fault
-abbrev pub string_shape : (List ℕ → Shown) → Shape
+abbrev pub string_shape : (List ℕ → Worded) → Shape
 string_shape text_in name v = named name (in_string text_in (view_string v))
 
 -- whether a string begins with a zero byte
@@ -53,7 +75,7 @@ begins_with_zero [] = false
 begins_with_zero (d ∷ ds) = d == 0
 
 -- the number of a string of at most `width` bytes, in decimal; it has no leading zero
-abbrev pub number_in : ℕ → List ℕ → Shown
+abbrev pub number_in : ℕ → List ℕ → Worded
 number_in width string =
     if nat_lt width (length string) then Err (error_name RlpIsTooBig)
     else if begins_with_zero string then Err (error_name RlpInvalidIndirection)
@@ -64,7 +86,7 @@ abbrev pub number : ℕ → Shape
 number width = string_shape (number_in width)
 
 -- the bytes of a string of exactly n bytes
-abbrev pub fixed_bytes_in : ℕ → List ℕ → Shown
+abbrev pub fixed_bytes_in : ℕ → List ℕ → Worded
 fixed_bytes_in n string =
     if nat_lt (length string) n then Err (error_name RlpIsTooShort)
     else if nat_lt n (length string) then Err (error_name RlpIsTooBig)
@@ -79,7 +101,7 @@ abbrev pub byte_string : Shape
 byte_string = string_shape (λ string. Ok (bytes_text string))
 
 -- the recipient of a transaction: the bytes of an address, or no bytes
-abbrev pub recipient_in : List ℕ → Shown
+abbrev pub recipient_in : List ℕ → Worded
 recipient_in [] = Ok (bytes_text [])
 recipient_in (d ∷ ds) = fixed_bytes_in 20 (d ∷ ds)
 
@@ -88,7 +110,7 @@ abbrev pub recipient : Shape
 recipient = string_shape recipient_in
 
 -- a truth value is the number 0 or 1
-abbrev pub truth_value_in : List ℕ → Shown
+abbrev pub truth_value_in : List ℕ → Worded
 truth_value_in string =
     if nat_lt 1 (number_from_digits 256 string) && nat_lt (length string) 2 then Err (codes "Custom(\"invalid boolean value\")")
     else number_in 1 string
@@ -134,22 +156,18 @@ abbrev pub prefix : List ℕ → List ℕ
 prefix [] = []
 prefix (c ∷ name) = (c ∷ name) ++ codes "."
 
--- the lines of a field that is the first of some items; no lines if there is no item
-abbrev pub first_lines : List ℕ → Field → List View → Shown
-first_lines before f [] = Ok []
-first_lines before f (v ∷ vs) = f.shape (before ++ f.name) v
-
--- the lines of fields that are the items in order; fields without an item have no lines
-abbrev pub fields_lines : List ℕ → List Field → List View → Shown
-fields_lines before [] vs = Ok []
-fields_lines before (f ∷ fs) vs = then_lines (first_lines before f vs) (fields_lines before fs (drop 1 vs))
+-- the lines of fields that are the items in order, the first of which has place i; fields without an item have no lines
+abbrev pub fields_lines : List ℕ → ℕ → List Field → List View → Shown
+fields_lines before i [] vs = Ok []
+fields_lines before i (f ∷ fs) [] = Ok []
+fields_lines before i (f ∷ fs) (v ∷ vs) = then_lines (in_field i (f.shape (before ++ f.name) v)) (fields_lines before (i + 1) fs vs)
 
 -- the lines of a record by its number of items: at least `least`, and at most one for each field
 abbrev pub record_lines : ℕ → List Field → List ℕ → List View → Result ℕ DecoderError → Shown
 record_lines least fields name vs (Err e) = Err (wrong name (error_name e))
 record_lines least fields name vs (Ok n) =
     if nat_lt n least || nat_lt (length fields) n then Err (wrong name (error_name RlpIncorrectListLen))
-    else fields_lines (prefix name) fields vs
+    else fields_lines (prefix name) 0 fields vs
 
 -- a list of these fields, of which those after the first `least` may be missing at the end
 abbrev pub record_of : ℕ → List Field → Shape
@@ -167,6 +185,17 @@ typed_lines kind shape name other v (first ∷ payload) =
 -- bytes that begin with this byte are the envelope (EIP-2718) of a record of a shape; other bytes are of another shape
 abbrev pub typed : ℕ → Shape → Shape → Shape
 typed kind shape other name v = typed_lines kind shape name other v v.bytes
+
+-- ---- strings that hold records
+
+-- the lines of what the bytes of a string are, read strictly, or the fault of an item that is no string
+abbrev pub held_lines : Shape → List ℕ → Result (List ℕ) DecoderError → Shown
+held_lines shape name (Ok string) = shape name (strict_view_of string)
+held_lines shape name (Err e) = Err (wrong name (error_name e))
+
+-- an item that begins as a list is of one shape, and the bytes of a string are of another
+abbrev pub list_or_string : Shape → Shape → Shape
+list_or_string of_list of_string name v = if begins_as_list v.bytes then of_list name v else held_lines of_string name (view_string v)
 
 -- ---- the lines of values; the fields of a record have them one after another
 

@@ -1,6 +1,8 @@
 -- The fields of each record, by their names in `rlp_ethereum`.
-use Rattle.std.specs.Prelude.{[], ◌∷◌, codes}
-use Rattle.rlp_show.specs.Lines.{Shape, byte_string, field, fixed_bytes, list_of, number, recipient, record_of, truth_value, typed}
+use Rattle.std.specs.Prelude.{ℕ, List, [], ◌∷◌, codes, Err}
+use Rattle.rlp.specs.DecoderError.TheVariants.{RlpIsTooShort}
+use Rattle.rlp.specs.Views.Text.{error_name}
+use Rattle.rlp_show.specs.Lines.{Shape, byte_string, field, fixed_bytes, list_of, list_or_string, number, recipient, record_of, truth_value, typed, wrong}
 
 -- addresses
 abbrev pub address : Shape
@@ -129,10 +131,84 @@ fee_market_transaction = record_of 12 (
     ∷ field (codes "s") (number 32)
     ∷ [])
 
--- transactions by their first byte: an envelope of type 1 or 2, or else a transaction without a type
-abbrev pub any_transaction : Shape
-any_transaction = typed 1 access_list_transaction (typed 2 fee_market_transaction legacy_transaction)
+-- transactions of type 3, without the byte of the type
+abbrev pub blob_transaction : Shape
+blob_transaction = record_of 14 (
+    field (codes "chain_id") (number 8)
+    ∷ field (codes "nonce") (number 8)
+    ∷ field (codes "max_priority_fee_per_gas") (number 32)
+    ∷ field (codes "max_fee_per_gas") (number 32)
+    ∷ field (codes "gas_limit") (number 8)
+    ∷ field (codes "to") address
+    ∷ field (codes "value") (number 32)
+    ∷ field (codes "data") byte_string
+    ∷ field (codes "access_list") (list_of access_list_item)
+    ∷ field (codes "max_fee_per_blob_gas") (number 32)
+    ∷ field (codes "blob_versioned_hashes") (list_of hash)
+    ∷ field (codes "y_parity") truth_value
+    ∷ field (codes "r") (number 32)
+    ∷ field (codes "s") (number 32)
+    ∷ [])
 
--- receipts by their first byte: an envelope of type 1 or 2, or else a receipt without a type
+-- authorizations of transactions of type 4
+abbrev pub authorization : Shape
+authorization = record_of 6 (
+    field (codes "chain_id") (number 32)
+    ∷ field (codes "address") address
+    ∷ field (codes "nonce") (number 8)
+    ∷ field (codes "y_parity") (number 1)
+    ∷ field (codes "r") (number 32)
+    ∷ field (codes "s") (number 32)
+    ∷ [])
+
+-- transactions of type 4, without the byte of the type
+abbrev pub set_code_transaction : Shape
+set_code_transaction = record_of 13 (
+    field (codes "chain_id") (number 8)
+    ∷ field (codes "nonce") (number 8)
+    ∷ field (codes "max_priority_fee_per_gas") (number 32)
+    ∷ field (codes "max_fee_per_gas") (number 32)
+    ∷ field (codes "gas_limit") (number 8)
+    ∷ field (codes "destination") address
+    ∷ field (codes "value") (number 32)
+    ∷ field (codes "data") byte_string
+    ∷ field (codes "access_list") (list_of access_list_item)
+    ∷ field (codes "authorization_list") (list_of authorization)
+    ∷ field (codes "y_parity") truth_value
+    ∷ field (codes "r") (number 32)
+    ∷ field (codes "s") (number 32)
+    ∷ [])
+
+-- the envelope of a transaction by its first byte, which is its type, or else another shape
+abbrev pub typed_transaction : Shape → Shape
+typed_transaction other = typed 1 access_list_transaction (typed 2 fee_market_transaction (typed 3 blob_transaction (typed 4 set_code_transaction other)))
+
+-- transactions by their first byte: an envelope of type 1 to 4, or else a transaction without a type
+abbrev pub any_transaction : Shape
+any_transaction = typed_transaction legacy_transaction
+
+-- receipts by their first byte: an envelope of type 1 to 4, or else a receipt without a type
 abbrev pub any_receipt : Shape
-any_receipt = typed 1 receipt (typed 2 receipt receipt)
+any_receipt = typed 1 receipt (typed 2 receipt (typed 3 receipt (typed 4 receipt receipt)))
+
+-- the fault of an envelope of a transaction whose type isn't known
+abbrev pub unknown_type : List ℕ → List ℕ
+unknown_type [] = error_name RlpIsTooShort
+unknown_type (kind ∷ payload) = codes "Custom(\"unknown transaction type\")"
+
+-- the envelope of a transaction whose type isn't known, which is always at fault
+abbrev pub unknown_transaction : Shape
+unknown_transaction name v = Err (wrong name (unknown_type v.bytes))
+
+-- transactions in the list of a block: a list is a transaction without a type, and a string holds the envelope of one of type 1 to 4
+abbrev pub transaction : Shape
+transaction = list_or_string legacy_transaction (typed_transaction unknown_transaction)
+
+-- blocks: the withdrawals may be missing
+abbrev pub block : Shape
+block = record_of 3 (
+    field (codes "header") header
+    ∷ field (codes "transactions") (list_of transaction)
+    ∷ field (codes "ommers") (list_of header)
+    ∷ field (codes "withdrawals") (list_of withdrawal)
+    ∷ [])

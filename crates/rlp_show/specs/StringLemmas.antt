@@ -21,16 +21,16 @@ use Rattle.rlp.specs.Views.View.{View, HoldsString, view_string}
 use Rattle.rlp.specs.Lemmas.Digits.{big_endian_value}
 use Rattle.rlp.specs.Lemmas.OneReading.{sound_digits}
 use Rattle.rlp.specs.Lemmas.StringsHeld.{held_only}
-use Rattle.rlp_show.specs.Lines.{Shown, line, wrong, named, in_string, string_shape, number, number_in, fixed_bytes, fixed_bytes_in, begins_with_zero}
+use Rattle.rlp_show.specs.Lines.{Worded, line, wrong, named, in_string, string_shape, number, number_in, fixed_bytes, fixed_bytes_in, begins_with_zero}
 use Rattle.rlp_show.specs.Lines.{byte_string, recipient, recipient_in, truth_value, truth_value_in}
 use Rattle.rlp_show.specs.Text.{bytes_text, number_text}
 
 -- what is shown of the string that a view holds
-shown_string : (text_in : List ℕ → Shown) (name : List ℕ) (v : View) (d : List ℕ) → length v.bytes < 2 ^ 64 → HoldsString v d
+shown_string : (text_in : List ℕ → Worded) (name : List ℕ) (v : View) (d : List ℕ) → length v.bytes < 2 ^ 64 → HoldsString v d
     → string_shape text_in name v ≡ named name (text_in d)
 shown_string text_in name v d few holds = ap (λ r. named name (in_string text_in r)) (held_only v d few holds)
 
-shown_fault : (text_in : List ℕ → Shown) (name : List ℕ) (v : View) (e : DecoderError) → view_string v ≡ Err e
+shown_fault : (text_in : List ℕ → Worded) (name : List ℕ) (v : View) (e : DecoderError) → view_string v ≡ Err e
     → string_shape text_in name v ≡ Err (wrong name (error_name e))
 shown_fault text_in name v e is = ap (λ r. named name (in_string text_in r)) is
 

@@ -14,7 +14,7 @@ use Rattle.rlp.specs.Views.View.{View, item_views, strict_view_of}
 use Rattle.std.specs.Str.Lines.{strip_carriage_return}
 use Rattle.rlp_tool.specs.Digits.{bytes_in}
 use Rattle.rlp_show.specs.Answer.{bytes_answer, record_answer, shown_answer}
-use Rattle.rlp_show.specs.Lines.{Field, Shape, Shown, fields_lines, items_lines, list_lines, place, prefix, record_lines, record_of, then_lines, wrong}
+use Rattle.rlp_show.specs.Lines.{Field, Shape, Shown, fields_lines, in_field, items_lines, list_lines, place, prefix, record_lines, record_of, then_lines, wrong}
 use Rattle.rlp_show.specs.Lines.{list_of as list_shape_of, list_value_lines, optional_lines, value_lines}
 use Rattle.rlp.specs.Streams.Fields.{FitsFirst, items_first}
 
@@ -49,22 +49,17 @@ within least most n fault lines enough few = cond-false (nat_lt n least || nat_l
 
 -- the encoding of the list of the items of a record is shown as the lines of the fields
 pub record_shown : (least : ℕ) (fields : List Field) (name : List ℕ) (xs : List Item) (lines : List ℕ) → IsSized (list_of xs) → least ≤ length xs
-    → length xs ≤ length fields → fields_lines (prefix name) fields (views_of xs) ≡ Ok lines
+    → length xs ≤ length fields → fields_lines (prefix name) 0 fields (views_of xs) ≡ Ok lines
     → record_of least fields name (strict_view_of (encoding (list_of xs))) ≡ Ok lines
 record_shown least fields name xs lines sized enough few are =
     let v = strict_view_of (encoding (list_of xs)) in
     ap (record_lines least fields name (item_views v)) (strict_item_count xs (encoding (list_of xs)) sized refl)
-    ∙ within least (length fields) (length xs) (Err (wrong name (error_name RlpIncorrectListLen))) (fields_lines (prefix name) fields (item_views v)) enough few
-    ∙ ap (fields_lines (prefix name) fields) (views-encoding xs sized) ∙ are
+    ∙ within least (length fields) (length xs) (Err (wrong name (error_name RlpIncorrectListLen))) (fields_lines (prefix name) 0 fields (item_views v)) enough few
+    ∙ ap (fields_lines (prefix name) 0 fields) (views-encoding xs sized) ∙ are
 
 -- the lines of a first part and of others
 pub both_shown : (first more : Shown) (lines others : List ℕ) → first ≡ Ok lines → more ≡ Ok others → then_lines first more ≡ Ok (lines ++ others)
 both_shown first more lines others is are = ap (λ s. then_lines s more) is ∙ ap (then_lines (Ok lines)) are
-
--- fields without items have no lines
-pub none_shown : (before : List ℕ) (fields : List Field) → fields_lines before fields [] ≡ Ok []
-none_shown before [] = refl
-none_shown before (f ∷ fs) = ap (then_lines (Ok [])) (none_shown before fs)
 
 -- ---- lists
 
@@ -92,15 +87,16 @@ module _ {A : Type 0} (Fits : A → Type 0) (item : A → Item) (shape : Shape) 
 
 pub optional_shown : {A : Type 0} (Fits : A → Type 0) (item : A → Item) (shape : Shape) (lines : List ℕ → A → List ℕ)
     → ((name : List ℕ) (x : A) → Fits x → IsSized (item x) → shape name (strict_view_of (encoding (item x))) ≡ Ok (lines name x))
-    → (before : List ℕ) (f : Field) → f.shape ≡ shape → (fields : List Field) (o : Option A) (MoreFit : Type 0) (xs : List Item) (others : List ℕ)
+    → (before : List ℕ) (i : ℕ) (f : Field) → f.shape ≡ shape → (fields : List Field) (o : Option A) (MoreFit : Type 0) (xs : List Item) (others : List ℕ)
     → FitsFirst Fits o MoreFit xs → length (join (items_first item o xs)) < 2 ^ 64
-    → (MoreFit → length (join xs) < 2 ^ 64 → fields_lines before fields (views_of xs) ≡ Ok others)
-    → fields_lines before (f ∷ fields) (views_of (items_first item o xs)) ≡ Ok (optional_lines lines (before ++ f.name) o others)
-optional_shown Fits item shape lines shown before f same fields None MoreFit xs others fit small more =
-    ap (λ ys. fields_lines before (f ∷ fields) (views_of ys)) fit ∙ none_shown before (f ∷ fields)
-optional_shown Fits item shape lines shown before f same fields (Some x) MoreFit xs others fit small more =
+    → (MoreFit → length (join xs) < 2 ^ 64 → fields_lines before (i + 1) fields (views_of xs) ≡ Ok others)
+    → fields_lines before i (f ∷ fields) (views_of (items_first item o xs)) ≡ Ok (optional_lines lines (before ++ f.name) o others)
+optional_shown Fits item shape lines shown before i f same fields None MoreFit xs others fit small more =
+    ap (λ ys. fields_lines before i (f ∷ fields) (views_of ys)) fit
+optional_shown Fits item shape lines shown before i f same fields (Some x) MoreFit xs others fit small more =
     both_shown _ _ (lines (before ++ f.name) x) others
-    (ap (λ s. s (before ++ f.name) (strict_view_of (encoding (item x)))) same ∙ shown (before ++ f.name) x fit.0 (first_sized (item x) xs small))
+    (ap (in_field i) (ap (λ s. s (before ++ f.name) (strict_view_of (encoding (item x)))) same
+    ∙ shown (before ++ f.name) x fit.0 (first_sized (item x) xs small)))
     (more fit.1 (others_small (item x) xs small))
 
 -- ---- the answer to a line

@@ -1,5 +1,5 @@
 -- The lines of values. The encoding of each value that fits its type is shown as its lines.
-use Rattle.std.specs.Prelude.{ℕ, ◌≡◌, ◌<◌, ◌^◌, List, [], ◌∷◌, ◌++◌, length, codes, Option, Some, Ok}
+use Rattle.std.specs.Prelude.{ℕ, ◌≡◌, ◌<◌, ◌+◌, ◌^◌, List, [], ◌∷◌, ◌++◌, length, codes, Option, Some, Ok}
 use Rattle.std.specs.Vec.{vec_items}
 use Rattle.std.specs.Int.Digits.{number_from_digits}
 use Rattle.std.proofs.Common.{refl, sym, ap, ◌∙◌, append-nil}
@@ -26,6 +26,12 @@ use Rattle.rlp_ethereum.specs.declared.access_list_transaction.AccessListTransac
 use Rattle.rlp_ethereum.specs.AccessListTransaction.{access_list_transaction as access_list_transaction_codec}
 use Rattle.rlp_ethereum.specs.declared.fee_market_transaction.FeeMarketTransaction.{FeeMarketTransaction}
 use Rattle.rlp_ethereum.specs.FeeMarketTransaction.{fee_market_transaction as fee_market_transaction_codec}
+use Rattle.rlp_ethereum.specs.declared.blob_transaction.BlobTransaction.{BlobTransaction}
+use Rattle.rlp_ethereum.specs.BlobTransaction.{blob_transaction as blob_transaction_codec}
+use Rattle.rlp_ethereum.specs.declared.authorization.Authorization.{Authorization}
+use Rattle.rlp_ethereum.specs.Authorization.{authorization as authorization_codec}
+use Rattle.rlp_ethereum.specs.declared.set_code_transaction.SetCodeTransaction.{SetCodeTransaction}
+use Rattle.rlp_ethereum.specs.SetCodeTransaction.{set_code_transaction as set_code_transaction_codec}
 use Rattle.rlp_ethereum.specs.declared.access.AccessList.{AccessList}
 use Rattle.rlp_ethereum.specs.declared.header.Header.{Header}
 use Rattle.rlp_ethereum.specs.Header.{header as header_codec}
@@ -36,10 +42,10 @@ use Rattle.rlp_ethereum.specs.Address.{address as address_codec}
 use Rattle.rlp_ethereum.specs.Bloom.{bloom as bloom_codec}
 use Rattle.rlp_ethereum.specs.Hash.{hash as hash_codec}
 use Rattle.rlp_ethereum.specs.Recipient.{recipient as recipient_codec, recipient_bytes}
-use Rattle.rlp_show.specs.Lines.{Field, Shape, byte_string, field, fields_lines, fixed_bytes, line, list_of, list_value_lines, number, optional_lines, prefix}
-use Rattle.rlp_show.specs.Lines.{recipient, record_of, truth_value}
+use Rattle.rlp_show.specs.Lines.{Field, Shape, byte_string, field, fields_lines, fixed_bytes, in_field, line, list_of, list_value_lines, number, optional_lines}
+use Rattle.rlp_show.specs.Lines.{prefix, recipient, record_of, truth_value}
 use Rattle.rlp_show.specs.Records.{access_list_item, access_list_transaction, account, address, bloom, fee_market_transaction, hash, header, legacy_transaction}
-use Rattle.rlp_show.specs.Records.{log, receipt, withdrawal}
+use Rattle.rlp_show.specs.Records.{authorization, blob_transaction, log, receipt, set_code_transaction, withdrawal}
 use Rattle.rlp_show.specs.Text.{bytes_text, number_text}
 use Rattle.rlp_show.specs.StringLemmas.{bytes_given, fixed_given, number_given, recipient_given, truth_given}
 use Rattle.rlp_show.specs.ValueLemmas.{at_least, at_most, both_shown, first_sized, joined_small, list_shown, optional_shown, others_small, record_shown}
@@ -119,16 +125,16 @@ list_display {c = c} {s = s} values d = record {
 -- How the fields of a struct are shown, from some field on, by what comes before their names.
 pub record FieldsDisplay {P : Type 0} (codec : Fields P) (fields : List Field) : Type 0 where
   pub lines : List ℕ → P → List ℕ
-  pub shown : (before : List ℕ) (p : P) → codec.Fits p → length (join (codec.items p)) < 2 ^ 64
-      → fields_lines before fields (views_of (codec.items p)) ≡ Ok (lines before p)
+  pub shown : (before : List ℕ) (i : ℕ) (p : P) → codec.Fits p → length (join (codec.items p)) < 2 ^ 64
+      → fields_lines before i fields (views_of (codec.items p)) ≡ Ok (lines before p)
 
 -- the last field
 abbrev pub last_display : {A P : Type 0} {c : Codec A} {s : Shape} (name : List ℕ) (f : P → A) → Display c s
     → FieldsDisplay (last_field f c) (field name s ∷ [])
 last_display {c = c} name f d = record {
   lines = λ before p. d.lines (before ++ name) (f p);
-  shown = λ before p fit small. both_shown _ _ (d.lines (before ++ name) (f p)) []
-      (d.shown (before ++ name) (f p) fit (first_sized (c.item (f p)) [] small)) refl
+  shown = λ before i p fit small. both_shown _ _ (d.lines (before ++ name) (f p)) []
+      (ap (in_field i) (d.shown (before ++ name) (f p) fit (first_sized (c.item (f p)) [] small))) refl
       ∙ ap Ok (append-nil (d.lines (before ++ name) (f p)));
 }
 
@@ -137,9 +143,9 @@ abbrev pub and_display : {A P : Type 0} {c : Codec A} {s : Shape} {more : Fields
     → FieldsDisplay more fields → FieldsDisplay (and_field f c more) (field name s ∷ fields)
 and_display {c = c} {more = more} name f d others = record {
   lines = λ before p. d.lines (before ++ name) (f p) ++ others.lines before p;
-  shown = λ before p fit small. both_shown _ _ (d.lines (before ++ name) (f p)) (others.lines before p)
-      (d.shown (before ++ name) (f p) fit.0 (first_sized (c.item (f p)) (more.items p) small))
-      (others.shown before p fit.1 (others_small (c.item (f p)) (more.items p) small));
+  shown = λ before i p fit small. both_shown _ _ (d.lines (before ++ name) (f p)) (others.lines before p)
+      (ap (in_field i) (d.shown (before ++ name) (f p) fit.0 (first_sized (c.item (f p)) (more.items p) small)))
+      (others.shown before (i + 1) p fit.1 (others_small (c.item (f p)) (more.items p) small));
 }
 
 -- a struct that is written as the list of its fields
@@ -148,7 +154,7 @@ abbrev pub record_display : {P : Type 0} {f : Fields P} {fields : List Field} �
 record_display {f = f} {fields = fields} all d = record {
   lines = λ name p. d.lines (prefix name) p;
   shown = λ name p fit sized. record_shown f.count fields name (f.items p) (d.lines (prefix name) p) sized (at_least (f.counted p))
-      (at_least (all ∙ sym (f.counted p))) (d.shown (prefix name) p fit (joined_small (f.items p) sized));
+      (at_least (all ∙ sym (f.counted p))) (d.shown (prefix name) 0 p fit (joined_small (f.items p) sized));
 }
 
 abbrev pub withdrawal_display : Display withdrawal_codec withdrawal
@@ -227,25 +233,67 @@ fee_market_transaction_display = record_display refl (
     and_display (codes "r") (λ (f : FeeMarketTransaction). f.r) (uint_display 32) (
     last_display (codes "s") (λ (f : FeeMarketTransaction). f.s) (uint_display 32)))))))))))))
 
+abbrev pub blob_transaction_display : Display blob_transaction_codec blob_transaction
+blob_transaction_display = record_display refl (
+    and_display (codes "chain_id") (λ (b : BlobTransaction). b.chain_id) (number_display 8) (
+    and_display (codes "nonce") (λ (b : BlobTransaction). b.nonce) (number_display 8) (
+    and_display (codes "max_priority_fee_per_gas") (λ (b : BlobTransaction). b.max_priority_fee_per_gas) (uint_display 32) (
+    and_display (codes "max_fee_per_gas") (λ (b : BlobTransaction). b.max_fee_per_gas) (uint_display 32) (
+    and_display (codes "gas_limit") (λ (b : BlobTransaction). b.gas_limit) (number_display 8) (
+    and_display (codes "to") (λ (b : BlobTransaction). b.to) address_display (
+    and_display (codes "value") (λ (b : BlobTransaction). b.value) (uint_display 32) (
+    and_display (codes "data") (λ (b : BlobTransaction). b.data) (bytes_display vec_items) (
+    and_display (codes "access_list") (λ (b : BlobTransaction). b.access_list) access_list_display (
+    and_display (codes "max_fee_per_blob_gas") (λ (b : BlobTransaction). b.max_fee_per_blob_gas) (uint_display 32) (
+    and_display (codes "blob_versioned_hashes") (λ (b : BlobTransaction). b.blob_versioned_hashes) (list_display vec_items hash_display) (
+    and_display (codes "y_parity") (λ (b : BlobTransaction). b.y_parity) truth_display (
+    and_display (codes "r") (λ (b : BlobTransaction). b.r) (uint_display 32) (
+    last_display (codes "s") (λ (b : BlobTransaction). b.s) (uint_display 32)))))))))))))))
+
+abbrev pub authorization_display : Display authorization_codec authorization
+authorization_display = record_display refl (
+    and_display (codes "chain_id") (λ (a : Authorization). a.chain_id) (uint_display 32) (
+    and_display (codes "address") (λ (a : Authorization). a.address) address_display (
+    and_display (codes "nonce") (λ (a : Authorization). a.nonce) (number_display 8) (
+    and_display (codes "y_parity") (λ (a : Authorization). a.y_parity) (number_display 1) (
+    and_display (codes "r") (λ (a : Authorization). a.r) (uint_display 32) (
+    last_display (codes "s") (λ (a : Authorization). a.s) (uint_display 32)))))))
+
+abbrev pub set_code_transaction_display : Display set_code_transaction_codec set_code_transaction
+set_code_transaction_display = record_display refl (
+    and_display (codes "chain_id") (λ (s : SetCodeTransaction). s.chain_id) (number_display 8) (
+    and_display (codes "nonce") (λ (s : SetCodeTransaction). s.nonce) (number_display 8) (
+    and_display (codes "max_priority_fee_per_gas") (λ (s : SetCodeTransaction). s.max_priority_fee_per_gas) (uint_display 32) (
+    and_display (codes "max_fee_per_gas") (λ (s : SetCodeTransaction). s.max_fee_per_gas) (uint_display 32) (
+    and_display (codes "gas_limit") (λ (s : SetCodeTransaction). s.gas_limit) (number_display 8) (
+    and_display (codes "destination") (λ (s : SetCodeTransaction). s.destination) address_display (
+    and_display (codes "value") (λ (s : SetCodeTransaction). s.value) (uint_display 32) (
+    and_display (codes "data") (λ (s : SetCodeTransaction). s.data) (bytes_display vec_items) (
+    and_display (codes "access_list") (λ (s : SetCodeTransaction). s.access_list) access_list_display (
+    and_display (codes "authorization_list") (λ (s : SetCodeTransaction). s.authorization_list) (list_display vec_items authorization_display) (
+    and_display (codes "y_parity") (λ (s : SetCodeTransaction). s.y_parity) truth_display (
+    and_display (codes "r") (λ (s : SetCodeTransaction). s.r) (uint_display 32) (
+    last_display (codes "s") (λ (s : SetCodeTransaction). s.s) (uint_display 32))))))))))))))
+
 -- ---- structs whose last fields may be missing
 
 -- The same for fields of which the last may be missing.
 pub record TailedDisplay {P : Type 0} (codec : Tailed P) (fields : List Field) : Type 0 where
   pub lines : List ℕ → P → List ℕ
-  pub shown : (before : List ℕ) (p : P) → codec.Fits p → length (join (codec.items p)) < 2 ^ 64
-      → fields_lines before fields (views_of (codec.items p)) ≡ Ok (lines before p)
+  pub shown : (before : List ℕ) (i : ℕ) (p : P) → codec.Fits p → length (join (codec.items p)) < 2 ^ 64
+      → fields_lines before i fields (views_of (codec.items p)) ≡ Ok (lines before p)
 
 -- no more fields
 abbrev pub no_tail_display : {P : Type 0} → TailedDisplay {P = P} no_tail []
-no_tail_display = record { lines = λ before p. []; shown = λ before p fit small. refl }
+no_tail_display = record { lines = λ before p. []; shown = λ before i p fit small. refl }
 
 -- a field that may be missing
 abbrev pub optional_display : {A P : Type 0} {c : Codec A} {s : Shape} {more : Tailed P} {fields : List Field} (name : List ℕ) (f : P → Option A)
     → Display c s → TailedDisplay more fields → TailedDisplay (and_optional f c more) (field name s ∷ fields)
 optional_display {c = c} {s = s} {more = more} {fields = fields} name f d others = record {
   lines = λ before p. optional_lines d.lines (before ++ name) (f p) (others.lines before p);
-  shown = λ before p fit small. optional_shown c.Fits c.item s d.lines d.shown before (field name s) refl fields (f p) (more.Fits p) (more.items p)
-      (others.lines before p) fit small (λ fits few. others.shown before p fits few);
+  shown = λ before i p fit small. optional_shown c.Fits c.item s d.lines d.shown before i (field name s) refl fields (f p) (more.Fits p) (more.items p)
+      (others.lines before p) fit small (λ fits few. others.shown before (i + 1) p fits few);
 }
 
 -- a field that is always present
@@ -261,7 +309,7 @@ abbrev pub tailed_display : {P : Type 0} {t : Tailed P} {fields : List Field} �
 tailed_display {t = t} {fields = fields} all d = record {
   lines = λ name p. d.lines (prefix name) p;
   shown = λ name p fit sized. record_shown t.least fields name (t.items p) (d.lines (prefix name) p) sized (t.enough p) (at_most all (t.few p))
-      (d.shown (prefix name) p fit (joined_small (t.items p) sized));
+      (d.shown (prefix name) 0 p fit (joined_small (t.items p) sized));
 }
 
 abbrev pub header_display : Display header_codec header

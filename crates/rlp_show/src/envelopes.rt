@@ -11,10 +11,7 @@ use crate::fields::{joined, prefix_of};
 use crate::numbers::put_number_line;
 use crate::show::Show;
 use rlp::Rlp;
-use rlp_ethereum::{
-    ACCESS_LIST_TYPE, AccessListTransaction, FEE_MARKET_TYPE, FeeMarketTransaction,
-    LegacyTransaction, Receipt,
-};
+use rlp_ethereum::{ACCESS_LIST_TYPE, BLOB_TYPE, FEE_MARKET_TYPE, Receipt, SET_CODE_TYPE};
 use std::alloc::{AllocError, Global};
 use std::marker::PhantomData;
 
@@ -25,15 +22,16 @@ pub struct Typed<const KIND: u8, T, Q> {
     other: PhantomData<Q>,
 }
 
-/// A transaction of any type that `rlp_ethereum` knows, for [`Show`].
-pub type AnyTransaction = Typed<
-    ACCESS_LIST_TYPE,
-    AccessListTransaction,
-    Typed<FEE_MARKET_TYPE, FeeMarketTransaction, LegacyTransaction>,
->;
-
 /// The receipt of a transaction of any type that `rlp_ethereum` knows, for [`Show`].
-pub type AnyReceipt = Typed<ACCESS_LIST_TYPE, Receipt, Typed<FEE_MARKET_TYPE, Receipt, Receipt>>;
+pub type AnyReceipt = Typed<
+    ACCESS_LIST_TYPE,
+    Receipt,
+    Typed<
+        FEE_MARKET_TYPE,
+        Receipt,
+        Typed<BLOB_TYPE, Receipt, Typed<SET_CODE_TYPE, Receipt, Receipt>>,
+    >,
+>;
 
 /// The bytes after the first byte, if that is `kind`.
 fn payload_of(kind: u8, bytes: &[u8]) -> Option<&[u8]>

@@ -1,10 +1,10 @@
 //! Records that are lists of fields.
 
-ghost use Rattle.std.specs.Prelude.{◌≡◌, ◌≤◌, ◌↔◌, ◌++◌, List, ◌∷◌, drop, length, string_bytes, IsTrue, IfOk};
+ghost use Rattle.std.specs.Prelude.{◌≡◌, ◌≤◌, ◌<◌, ◌^◌, ◌+◌, ◌↔◌, ◌++◌, List, length, string_bytes, IsTrue, IfOk};
 ghost use Rattle.rlp_show.specs.Answer.{Shows};
-ghost use Rattle.rlp_show.specs.Lines.{Field, field, fields_lines, first_lines, prefix, record_of};
+ghost use Rattle.rlp_show.specs.Lines.{Field, fields_lines, in_field, prefix, record_of};
 
-use crate::fault::ShowFault;
+use crate::fault::{ShowFault, in_field};
 use crate::show::Show;
 use rlp::{DecoderError, Rlp, RlpIterator};
 use std::alloc::{AllocError, Global};
@@ -28,40 +28,38 @@ pub trait ShowFields {
         ensures { IsTrue result ↔ (count ≤ length (fields self.now)) };
 
     /// Appends the lines of the fields that are the next items. Fields without an item have none.
-    /// Fails as [`Show::show`] does for the first field that fails.
+    /// `place` is that of the first field in its record. No record has more than 2^64 - 1 items.
+    /// Fails as [`Show::show`] does for the first field that fails, with the place of that field.
     fn show_fields(
         &self,
         alloc: Global,
         before: &str,
+        place: usize,
         items: &mut RlpIterator<'_, '_>,
         out: &mut String,
     ) -> Result<(), ShowFault>
-        ensures { Shows (fields_lines before.now (fields self.now) items.old.left)
+        ensures { place + length items.old.left < 2 ^ 64
+            → Shows (fields_lines before.now place (fields self.now) items.old.left)
             (string_bytes out.old) (string_bytes out.new) result };
 }
 
-/// Appends the lines of one field, if there is an item for it.
-fn show_first<T: Show>(
+/// Appends the lines of the field with this place.
+fn show_field<T: Show>(
     alloc: Global,
     before: &str,
+    place: usize,
     name: &str,
-    items: &mut RlpIterator<'_, '_>,
+    item: &Rlp<'_>,
     out: &mut String,
 ) -> Result<(), ShowFault>
-    ensures shown { Shows (first_lines before.now (field name.now T.shape) items.old.left)
+    ensures { Shows (in_field place (T.shape (before.now ++ name.now) item.now))
         (string_bytes out.old) (string_bytes out.new) result }
-    ensures left { items.new.left ≡ drop 1 items.old.left }
 {
-    match items.next() {
-        Some(item) => {
-            let name = match joined(alloc, before, name) {
-                Ok(name) => name,
-                Err(_) => return Err(ShowFault::OutOfMemory),
-            };
-            T::show(alloc, name.as_str(), &item, out)
-        }
-        None => Ok(()),
-    }
+    let name = match joined(alloc, before, name) {
+        Ok(name) => name,
+        Err(_) => return Err(ShowFault::OutOfMemory),
+    };
+    in_field(T::show(alloc, name.as_str(), item, out), place)
 }
 
 /// One text and then another.
@@ -88,10 +86,14 @@ impl<T: Show> ShowFields for (Named<T>,) {
         &self,
         alloc: Global,
         before: &str,
+        place: usize,
         items: &mut RlpIterator<'_, '_>,
         out: &mut String,
     ) -> Result<(), ShowFault> {
-        show_first::<T>(alloc, before, self.0.name, items, out)
+        match items.next() {
+            Some(item) => show_field::<T>(alloc, before, place, self.0.name, &item, out),
+            None => Ok(()),
+        }
     }
 }
 
@@ -110,11 +112,18 @@ impl<T: Show, Q: ShowFields> ShowFields for (Named<T>, Q) {
         &self,
         alloc: Global,
         before: &str,
+        place: usize,
         items: &mut RlpIterator<'_, '_>,
         out: &mut String,
     ) -> Result<(), ShowFault> {
-        match show_first::<T>(alloc, before, self.0.name, items, out) {
-            Ok(()) => self.1.show_fields(alloc, before, items, out),
+        let item = match items.next() {
+            Some(item) => item,
+            None => return Ok(()),
+        };
+        match show_field::<T>(alloc, before, place, self.0.name, &item, out) {
+            Ok(()) => self
+                .1
+                .show_fields(alloc, before, place.saturating_add(1), items, out),
             Err(fault) => Err(fault),
         }
     }
@@ -159,7 +168,7 @@ pub fn show_record<F: ShowFields>(
         Err(_) => return Err(ShowFault::OutOfMemory),
     };
     let mut items = item.iter();
-    fields.show_fields(alloc, before.as_str(), &mut items, out)
+    fields.show_fields(alloc, before.as_str(), 0, &mut items, out)
 }
 
 /// Shows a record whose fields have these names and types. The arguments are the allocator, the

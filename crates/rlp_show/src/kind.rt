@@ -4,7 +4,7 @@ ghost use Rattle.std.specs.Prelude.{◌≡◌};
 
 /// What the program prints for arguments that aren't one known kind.
 pub const USAGE: &str =
-    "usage: rlp_show KIND, where KIND is account, header, receipt, transaction or withdrawal";
+    "usage: rlp_show KIND, where KIND is account, block, header, receipt, transaction or withdrawal";
 
 /// The exit status of the program for such arguments.
 pub const UNKNOWN_KIND: u8 = 4;
@@ -14,11 +14,13 @@ pub const UNKNOWN_KIND: u8 = 4;
 pub enum Kind {
     /// Accounts of the trie of the state.
     Account,
+    /// Blocks.
+    Block,
     /// Headers of blocks.
     Header,
-    /// Receipts, also in the envelopes of types 1 and 2.
+    /// Receipts, also in the envelopes of types 1 to 4.
     Receipt,
-    /// Transactions, also in the envelopes of types 1 and 2.
+    /// Transactions, also in the envelopes of types 1 to 4.
     Transaction,
     /// Withdrawals.
     Withdrawal,
@@ -33,6 +35,7 @@ impl Kind {
     {
         match name {
             "account" => Some(Kind::Account),
+            "block" => Some(Kind::Block),
             "header" => Some(Kind::Header),
             "receipt" => Some(Kind::Receipt),
             "transaction" => Some(Kind::Transaction),

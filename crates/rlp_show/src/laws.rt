@@ -1,11 +1,15 @@
-//! A law about the answers to lines, as a public function. Its contract is the law, and it has no
-//! effect.
+//! Laws about the answers to lines, as public functions. Their contracts are the laws, and they have
+//! no effect.
 
-ghost use Rattle.std.specs.Prelude.{◌≡◌, [], Some};
+ghost use Rattle.std.specs.Prelude.{◌≡◌, ◌<◌, ◌^◌, [], Some, length};
 ghost use Rattle.std.specs.Str.Lines.{strip_carriage_return};
 ghost use Rattle.rlp.specs.Format.Encoding.{IsSized, encoding};
 ghost use Rattle.rlp_tool.specs.Digits.{bytes_in};
-ghost use Rattle.rlp_show.specs.Answer.{record_answer};
+ghost use Rattle.rlp_ethereum.specs.Transaction.{bytes_alone, transaction};
+ghost use Rattle.rlp_ethereum.specs.declared.transaction.Transaction.{Transaction};
+ghost use Rattle.rlp_show.specs.Answer.{kind_answer, record_answer};
+ghost use Rattle.rlp_show.specs.TransactionValues.{transaction_lines};
+ghost use Rattle.rlp_show.specs.declared.kind.Kind.TheVariants as kind;
 
 use crate::values::ShowValues;
 
@@ -16,4 +20,13 @@ pub fn encodings_are_shown<T: ShowValues>(line: &[u8])
     ensures { (x : T) → T.fits x → IsSized (T.item x)
         → bytes_in (strip_carriage_return line.now) ≡ Some (encoding (T.item x))
         → record_answer T.shape line.now ≡ T.lines [] x }
+{}
+
+/// If the digits of a line are the bytes of a transaction by itself, as `Transaction::to_bytes` of
+/// `rlp_ethereum` returns them, the answer is the lines of the transaction.
+pub fn transactions_are_shown(line: &[u8])
+    ensures { (t : Transaction) → transaction.Fits t
+        → length (bytes_alone (transaction.item t)) < 2 ^ 64
+        → bytes_in (strip_carriage_return line.now) ≡ Some (bytes_alone (transaction.item t))
+        → kind_answer kind.Transaction line.now ≡ transaction_lines [] t }
 {}

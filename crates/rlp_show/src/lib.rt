@@ -13,13 +13,15 @@ mod records;
 mod serving;
 mod show;
 mod strings;
+mod transactions;
 mod values;
 
-pub use envelopes::{AnyReceipt, AnyTransaction, Typed};
-pub use fault::ShowFault;
+pub use envelopes::{AnyReceipt, Typed};
+pub use fault::{ItemFault, ShowFault};
 pub use fields::{Named, ShowFields, show_record};
 pub use kind::{Kind, UNKNOWN_KIND, USAGE};
 pub use lists::Items;
 pub use serving::run;
 pub use show::Show;
+pub use transactions::{AnyTransaction, TypedTransaction, UnknownTransaction};
 pub use values::ShowValues;

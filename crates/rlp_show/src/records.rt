@@ -6,8 +6,9 @@ use crate::lists::Items;
 use crate::show::Show;
 use rlp::{Rlp, Uint};
 use rlp_ethereum::{
-    AccessListItem, AccessListTransaction, Account, Address, Bloom, FeeMarketTransaction, Hash,
-    Header, LegacyTransaction, Log, Receipt, Recipient, Withdrawal,
+    AccessListItem, AccessListTransaction, Account, Address, Authorization, BlobTransaction, Block,
+    Bloom, FeeMarketTransaction, Hash, Header, LegacyTransaction, Log, Receipt, Recipient,
+    SetCodeTransaction, Transaction, Withdrawal,
 };
 use std::alloc::Global;
 use std::marker::PhantomData;
@@ -222,6 +223,107 @@ impl Show for FeeMarketTransaction {
             "y_parity": bool,
             "r": Uint<32>,
             "s": Uint<32>
+        )
+    }
+}
+
+impl Show for BlobTransaction {
+    ghost use Rattle.rlp_show.specs.Records.{blob_transaction};
+
+    ghost shape = { blob_transaction };
+
+    fn show(alloc: Global, name: &str, item: &Rlp<'_>, out: &mut String) -> Result<(), ShowFault> {
+        show_fields!(
+            alloc,
+            name,
+            item,
+            out,
+            14,
+            "chain_id": u64,
+            "nonce": u64,
+            "max_priority_fee_per_gas": Uint<32>,
+            "max_fee_per_gas": Uint<32>,
+            "gas_limit": u64,
+            "to": Address,
+            "value": Uint<32>,
+            "data": Vec<u8>,
+            "access_list": Items<AccessListItem>,
+            "max_fee_per_blob_gas": Uint<32>,
+            "blob_versioned_hashes": Items<Hash>,
+            "y_parity": bool,
+            "r": Uint<32>,
+            "s": Uint<32>
+        )
+    }
+}
+
+impl Show for Authorization {
+    ghost use Rattle.rlp_show.specs.Records.{authorization};
+
+    ghost shape = { authorization };
+
+    fn show(alloc: Global, name: &str, item: &Rlp<'_>, out: &mut String) -> Result<(), ShowFault> {
+        show_fields!(
+            alloc,
+            name,
+            item,
+            out,
+            6,
+            "chain_id": Uint<32>,
+            "address": Address,
+            "nonce": u64,
+            "y_parity": u8,
+            "r": Uint<32>,
+            "s": Uint<32>
+        )
+    }
+}
+
+impl Show for SetCodeTransaction {
+    ghost use Rattle.rlp_show.specs.Records.{set_code_transaction};
+
+    ghost shape = { set_code_transaction };
+
+    fn show(alloc: Global, name: &str, item: &Rlp<'_>, out: &mut String) -> Result<(), ShowFault> {
+        show_fields!(
+            alloc,
+            name,
+            item,
+            out,
+            13,
+            "chain_id": u64,
+            "nonce": u64,
+            "max_priority_fee_per_gas": Uint<32>,
+            "max_fee_per_gas": Uint<32>,
+            "gas_limit": u64,
+            "destination": Address,
+            "value": Uint<32>,
+            "data": Vec<u8>,
+            "access_list": Items<AccessListItem>,
+            "authorization_list": Items<Authorization>,
+            "y_parity": bool,
+            "r": Uint<32>,
+            "s": Uint<32>
+        )
+    }
+}
+
+impl Show for Block {
+    ghost use Rattle.rlp_show.specs.Records.{block};
+
+    ghost shape = { block };
+
+    fn show(alloc: Global, name: &str, item: &Rlp<'_>, out: &mut String) -> Result<(), ShowFault> {
+        show_fields!(
+            alloc,
+            name,
+            item,
+            out,
+            3,
+            "header": Header,
+            "transactions": Items<Transaction>,
+            "ommers": Items<Header>,
+            "withdrawals": Items<Withdrawal>
         )
     }
 }

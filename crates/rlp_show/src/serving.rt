@@ -7,12 +7,13 @@ ghost use Rattle.rlp_tool.specs.Run.{AnswersAll, AnswersBefore, AnswersEnded, An
 ghost use Rattle.rlp_tool.specs.declared.serving.RunFault.TheVariants as run_fault;
 ghost use Rattle.rlp_show.specs.Answer.{kind_answer, shown_answer};
 
-use crate::envelopes::{AnyReceipt, AnyTransaction};
+use crate::envelopes::AnyReceipt;
 use crate::fault::ShowFault;
 use crate::kind::Kind;
 use crate::show::Show;
+use crate::transactions::AnyTransaction;
 use rlp::Rlp;
-use rlp_ethereum::{Account, Header, Withdrawal};
+use rlp_ethereum::{Account, Block, Header, Withdrawal};
 use rlp_tool::{LineAnswers, Noted, RunFault, answer_lines, read_bytes, without_carriage_return};
 use std::alloc::{AllocError, Global};
 use std::io::{Read, Write};
@@ -44,9 +45,9 @@ fn put_record<T: Show>(alloc: Global, bytes: &[u8], out: &mut String) -> Result<
     let mut lines = String::new(alloc);
     match T::show(alloc, "", &Rlp::new_strict(bytes), &mut lines) {
         Ok(()) => out.push_str(lines.as_str()),
-        Err(ShowFault::Wrong(text)) => {
+        Err(ShowFault::Wrong(fault)) => {
             out.push_str("error ")?;
-            out.push_str(text.as_str())
+            fault.put(out)
         }
         Err(ShowFault::OutOfMemory) => Err(AllocError),
     }
@@ -87,6 +88,7 @@ pub fn run<R: Read, W: Write>(
 {
     match kind {
         Kind::Account => answer_lines::<RecordAnswers<Account>, R, W>(alloc, input, output),
+        Kind::Block => answer_lines::<RecordAnswers<Block>, R, W>(alloc, input, output),
         Kind::Header => answer_lines::<RecordAnswers<Header>, R, W>(alloc, input, output),
         Kind::Receipt => answer_lines::<RecordAnswers<AnyReceipt>, R, W>(alloc, input, output),
         Kind::Transaction => {

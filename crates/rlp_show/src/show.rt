@@ -1,8 +1,8 @@
 //! Types whose items are shown.
 
-ghost use Rattle.std.specs.Prelude.{ℕ, List, Result, string_bytes};
-ghost use Rattle.rlp.specs.Views.View.{View};
+ghost use Rattle.std.specs.Prelude.{string_bytes};
 ghost use Rattle.rlp_show.specs.Answer.{Shows};
+ghost use Rattle.rlp_show.specs.Lines.{Shape};
 
 use crate::fault::ShowFault;
 use rlp::Rlp;
@@ -11,7 +11,7 @@ use std::alloc::Global;
 /// A type whose items are shown as lines, one for each field.
 pub trait Show {
     /// By the name and the view of an item: the text of its lines, or what is wrong with it.
-    ghost shape: { List ℕ → View → Result (List ℕ) (List ℕ) };
+    ghost shape: { Shape };
 
     /// Appends the lines of the item with this name. A whole record has the name `""`.
     ///

@@ -7,8 +7,9 @@ ghost use Rattle.rlp.specs.Views.View.{strict_view_of};
 use crate::show::Show;
 use rlp::Encodable;
 use rlp_ethereum::{
-    AccessListItem, AccessListTransaction, Account, FeeMarketTransaction, Header,
-    LegacyTransaction, Log, Receipt, Withdrawal,
+    AccessListItem, AccessListTransaction, Account, Authorization, BlobTransaction, Block,
+    FeeMarketTransaction, Header, LegacyTransaction, Log, Receipt, SetCodeTransaction, Transaction,
+    Withdrawal,
 };
 
 /// A type of which the encoding of each value that fits is shown as the lines of the value. It has
@@ -92,4 +93,44 @@ impl ShowValues for FeeMarketTransaction {
     ghost lines = { fee_market_transaction_display.lines };
 
     ghost shown = { fee_market_transaction_display.shown };
+}
+
+impl ShowValues for BlobTransaction {
+    ghost use Rattle.rlp_show.specs.Values.{blob_transaction_display};
+
+    ghost lines = { blob_transaction_display.lines };
+
+    ghost shown = { blob_transaction_display.shown };
+}
+
+impl ShowValues for Authorization {
+    ghost use Rattle.rlp_show.specs.Values.{authorization_display};
+
+    ghost lines = { authorization_display.lines };
+
+    ghost shown = { authorization_display.shown };
+}
+
+impl ShowValues for SetCodeTransaction {
+    ghost use Rattle.rlp_show.specs.Values.{set_code_transaction_display};
+
+    ghost lines = { set_code_transaction_display.lines };
+
+    ghost shown = { set_code_transaction_display.shown };
+}
+
+impl ShowValues for Transaction {
+    ghost use Rattle.rlp_show.specs.TransactionValues.{transaction_display};
+
+    ghost lines = { transaction_display.lines };
+
+    ghost shown = { transaction_display.shown };
+}
+
+impl ShowValues for Block {
+    ghost use Rattle.rlp_show.specs.TransactionValues.{block_display};
+
+    ghost lines = { block_display.lines };
+
+    ghost shown = { block_display.shown };
 }

@@ -1,11 +1,13 @@
-//! The law of `rlp_show`, called once.
+//! The laws of `rlp_show`, each called once.
 
-use rlp_ethereum::Header;
-use rlp_show::laws::encodings_are_shown;
+use rlp_ethereum::{Block, Header};
+use rlp_show::laws::{encodings_are_shown, transactions_are_shown};
 use std::test::Fail;
 
 #[test]
-fn encodings_of_headers_are_shown(_rt: HostRuntime) -> Result<(), Fail> {
+fn encodings_are_shown_as_lines(_rt: HostRuntime) -> Result<(), Fail> {
     encodings_are_shown::<Header>(b"c0");
+    encodings_are_shown::<Block>(b"c0");
+    transactions_are_shown(b"c0");
     Ok(())
 }
