@@ -6,12 +6,12 @@ use Rattle.std.specs.List.{list_all}
 use Rattle.std.specs.Char.{digit_value, is_ascii_digit}
 use Rattle.std.specs.Str.Parse.{digits_value, digits_value_after}
 use Rattle.std.proofs.lemmas.Bool.Decides.{nat_tests}
-use Rattle.std.specs.List.{AllPass}
 use Rattle.std.specs.Option.{IsSomeAnd}
 use Rattle.std.specs.Result.{result_ok}
-use Rattle.hex.specs.Hex.{encode_with, encode_lower, lower_digits, decode_of, decode_pairs, is_hex_digit}
+use Rattle.hex.specs.Hex.{encode_with, encode_lower, lower_digits, decode_of, decode_pairs, digit_or_error, hex_digit_value, is_hex_digit, pair_value}
 use Rattle.hex.specs.declared.error.FromHexError.{FromHexError}
-use Rattle.hex.proofs.HexLemmas.{decode_of-ok, decode_of-digits}
+use Rattle.std.proofs.lemmas.List.Sums.{AllPass-from_list_all, list_all-from_AllPass}
+use Rattle.hex.proofs.HexLemmas.{decode_of-ok, decode_of-digits, decode_of-odd}
 use Rattle.rlp_tool.specs.Digits.{number_in, with_digit}
 
 -- the number that digits write when they follow those of n
@@ -83,6 +83,10 @@ small_digit n c m e = small (is_ascii_digit c) (nat_lt (n * 10 + digit_value c) 
 
 -- ---- bytes
 
+-- the byte of two digits
+pub pair_read : (high low x y i : ℕ) → hex_digit_value high ≡ Some x → hex_digit_value low ≡ Some y → pair_value high low i ≡ Ok (x * 16 + y)
+pair_read high low x y i h l = rw (ap (digit_or_error high i) h, ap (digit_or_error low (i + 1)) l) refl
+
 -- the result of reading no digits
 pub read-nothing : (digits : List ℕ) → true ≡ nat_eq (length digits) 0 → result_ok (decode_of digits) ≡ Some []
 unfolding decode_pairs
@@ -90,21 +94,26 @@ read-nothing [] none = refl
 read-nothing (c ∷ digits) none = absurd (let no : ⊥ = grind (arith, nat_tests) in no)
 
 -- digits of which two write a byte write some bytes
-pub read-some : (digits : List ℕ) → (length digits % 2 ≡ 1 → ⊥) → false ≡ nat_eq (length digits) 0 → AllPass is_hex_digit digits
+pub read-some : (digits : List ℕ) → length digits % 2 ≡ 0 → false ≡ nat_eq (length digits) 0 → IsTrue (list_all is_hex_digit digits)
     → IsSomeAnd (result_ok (decode_of digits)) (λ bytes. bytes ≢ [])
 read-some digits even test all =
     let some : 0 < length digits = grind (arith, nat_tests) in
-    let (bytes, is) = decode_of-digits digits (omega arith) all in
+    let (bytes, is) = decode_of-digits digits even (AllPass-from_list_all is_hex_digit digits all) in
     let long = (decode_of-ok digits bytes is).2 in
     let P : Result (List ℕ) FromHexError → Type 0 = λ r. IsSomeAnd (result_ok r) (λ bytes. bytes ≢ []) in
     subst P (sym is) (λ none. absurd (omega (arith, long, ap length none)))
 
-refused_by : (digits : List ℕ) (r : Result (List ℕ) FromHexError) → decode_of digits ≡ r → (AllPass is_hex_digit digits → IsTrue false) → result_ok r ≡ None
-refused_by digits (Ok bytes) is other = absurd (let no : false ≡ true = other (decode_of-ok digits bytes is).1 in let never : ⊥ = cc in never)
+-- the result of reading an odd number of digits
+pub read-odd : (digits : List ℕ) → (length digits % 2 ≡ 0 → ⊥) → result_ok (decode_of digits) ≡ None
+read-odd digits odd = ap result_ok (decode_of-odd digits (omega arith))
+
+refused_by : (digits : List ℕ) (r : Result (List ℕ) FromHexError) → decode_of digits ≡ r → list_all is_hex_digit digits ≡ false → result_ok r ≡ None
+refused_by digits (Ok bytes) is other =
+    let all : list_all is_hex_digit digits ≡ true = list_all-from_AllPass is_hex_digit digits (decode_of-ok digits bytes is).1 in absurd (let no : ⊥ = cc in no)
 refused_by digits (Err e) is other = refl
 
 -- the result of reading a text that isn't all digits
-pub read-no_digits : (digits : List ℕ) → (AllPass is_hex_digit digits → IsTrue false) → result_ok (decode_of digits) ≡ None
+pub read-no_digits : (digits : List ℕ) → list_all is_hex_digit digits ≡ false → result_ok (decode_of digits) ≡ None
 read-no_digits digits other = refused_by digits (decode_of digits) refl other
 
 -- ---- printing

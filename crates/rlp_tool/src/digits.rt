@@ -5,7 +5,7 @@ ghost use Rattle.std.specs.Option.{IsSomeAnd};
 ghost use Rattle.hex.specs.Hex.{encode_lower, is_hex_digit};
 ghost use Rattle.rlp_tool.specs.Digits.{digits_of, bytes_in, number_in, with_digit};
 
-use hex::FromHexError;
+use crate::decoding::{are_pairs, put_bytes};
 use std::alloc::{AllocError, Global};
 use std::str::from_utf8;
 
@@ -22,13 +22,6 @@ pub(crate) fn without_prefix(text: &[u8]) -> &[u8]
     }
 }
 
-/// Whether all bytes are hexadecimal digits.
-fn are_digits(text: &[u8]) -> bool
-    ensures { IsTrue result ↔ AllPass is_hex_digit text.now }
-{
-    text.iter().all(|byte| byte.is_ascii_hexdigit())
-}
-
 /// The bytes of a text of hexadecimal digits of either case, two for each byte, after an optional
 /// `0x`. Returns `None` if the text isn't digits. Fails with `AllocError` if memory is refused.
 pub fn read_bytes(alloc: Global, text: &[u8]) -> Result<Option<Vec<u8>>, AllocError>
@@ -36,20 +29,15 @@ pub fn read_bytes(alloc: Global, text: &[u8]) -> Result<Option<Vec<u8>>, AllocEr
     ensures refused { OnErr result (IsSomeAnd (bytes_in text.now) (λ bytes. bytes ≢ [])) }
 {
     let digits = without_prefix(text);
+    if !are_pairs(digits) {
+        return Ok(None);
+    }
     if digits.is_empty() {
         return Ok(Some(Vec::new(alloc)));
     }
-    match hex::decode(alloc, digits) {
-        Ok(bytes) => Ok(Some(bytes)),
-        Err(FromHexError::OutOfMemory) => {
-            if are_digits(digits) {
-                Err(AllocError)
-            } else {
-                Ok(None)
-            }
-        }
-        Err(_) => Ok(None),
-    }
+    let mut bytes = vec![in alloc; 0u8; digits.len() / 2]?;
+    put_bytes(digits, bytes.as_mut_slice());
+    Ok(Some(bytes))
 }
 
 /// The number with one more digit at its end. Returns `None` if the byte isn't a digit, or if the

@@ -5,6 +5,7 @@ mod answer;
 mod answering;
 mod building;
 mod calls;
+mod decoding;
 mod digits;
 pub mod laws;
 mod line;
