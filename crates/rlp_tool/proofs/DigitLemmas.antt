@@ -11,6 +11,8 @@ use Rattle.std.specs.Result.{result_ok}
 use Rattle.hex.specs.Hex.{encode_with, encode_lower, lower_digits, decode_of, decode_pairs, digit_or_error, hex_digit_value, is_hex_digit, pair_value}
 use Rattle.hex.specs.declared.error.FromHexError.{FromHexError}
 use Rattle.std.proofs.lemmas.List.Sums.{AllPass-from_list_all, list_all-from_AllPass}
+use Rattle.std.proofs.lemmas.List.{append-nil, drop_all}
+use Rattle.hex.proofs.Pairs.{prepend}
 use Rattle.hex.proofs.HexLemmas.{decode_of-ok, decode_of-digits, decode_of-odd}
 use Rattle.rlp_tool.specs.Digits.{number_in, with_digit}
 
@@ -86,6 +88,14 @@ small_digit n c m e = small (is_ascii_digit c) (nat_lt (n * 10 + digit_value c) 
 -- the byte of two digits
 pub pair_read : (high low x y i : ℕ) → hex_digit_value high ≡ Some x → hex_digit_value low ≡ Some y → pair_value high low i ≡ Ok (x * 16 + y)
 pair_read high low x y i h l = rw (ap (digit_or_error high i) h, ap (digit_or_error low (i + 1)) l) refl
+
+-- all pairs of digits are decoded
+pub decoded : (digits out : List ℕ) (i n : ℕ) → length digits ≤ 2 * i → i ≡ n
+    → decode_pairs 0 digits ≡ prepend (take i out) (decode_pairs (2 * i) (drop (2 * i) digits)) → decode_pairs 0 digits ≡ Ok (take n out)
+unfolding decode_pairs
+decoded digits out i n none is so_far =
+    so_far ∙ ap (prepend (take i out)) (ap (decode_pairs (2 * i)) (drop_all (2 * i) digits none)) ∙ ap Ok (append-nil (take i out))
+    ∙ ap (λ (k : ℕ). Ok (take k out)) is
 
 -- the result of reading no digits
 pub read-nothing : (digits : List ℕ) → true ≡ nat_eq (length digits) 0 → result_ok (decode_of digits) ≡ Some []

@@ -1,6 +1,6 @@
 //! Hexadecimal digits, tested and decoded without a branch for each.
 
-ghost use Rattle.std.specs.Prelude.{◌≡◌, ◌*◌, ◌%◌, ◌<◌, length, IsTrue, Some, None, Ok, false};
+ghost use Rattle.std.specs.Prelude.{◌≡◌, ◌*◌, ◌/◌, ◌%◌, ◌<◌, ◌≤◌, length, take, IsTrue, Some, None, Ok, false};
 ghost use Rattle.std.specs.List.{list_all};
 ghost use Rattle.std.specs.Result.{result_ok};
 ghost use Rattle.hex.specs.Hex.{decode_of, hex_digit_value, is_hex_digit};
@@ -44,13 +44,14 @@ fn value_of(digit: u8) -> u8
     digit % 16 + digit / 64 * 9
 }
 
-/// Writes the bytes of digits, two for each byte.
+/// Writes the bytes of digits, two for each byte, to the front of a buffer.
 pub(crate) fn put_bytes(digits: &[u8], out: &mut [u8])
-    requires two { length digits.now ≡ 2 * length out.old }
+    requires two { length digits.now % 2 ≡ 0 }
+    requires room { length digits.now ≤ 2 * length out.old }
     requires digits { IsTrue (list_all is_hex_digit digits.now) }
-    ensures { decode_of digits.now ≡ Ok out.new }
+    ensures { decode_of digits.now ≡ Ok (take (length digits.now / 2) out.new) }
 {
-    for i in 0..out.len() {
+    for i in 0..digits.len() / 2 {
         out[i] = value_of(digits[2 * i]) * 16 + value_of(digits[2 * i + 1]);
     }
 }

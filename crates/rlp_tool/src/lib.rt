@@ -9,6 +9,7 @@ mod decoding;
 mod digits;
 pub mod laws;
 mod line;
+mod making;
 mod noted;
 mod script;
 mod serving;

@@ -1,7 +1,7 @@
-use Rattle.std.proofs.Common.{◌∙◌, ◌*◌, ◌+◌, arith, slice_index}
+use Rattle.std.proofs.Common.{◌∙◌, ◌*◌, ◌+◌, ◌/◌, arith, length, slice_index}
 use Rattle.hex.proofs.HexLemmas.{decode_of-even}
-use Rattle.hex.proofs.Pairs.{decode_done, decode_step}
-use Rattle.rlp_tool.proofs.DigitLemmas.{pair_read}
+use Rattle.hex.proofs.Pairs.{decode_step}
+use Rattle.rlp_tool.proofs.DigitLemmas.{decoded, pair_read}
 use Rattle.rlp_tool.proofs.decoding.put_bytes.Goals as goal
 
 pub loop-i-preserved : goal.loop-i-preserved
@@ -12,5 +12,5 @@ loop-i-preserved c =
 
 pub returns : goal.returns
 returns c =
-    decode_of-even c.args.digits.now (omega arith)
-    ∙ decode_done c.args.digits.now c.loop-i.out c.loop-i.i (omega arith) (omega arith) c.loop-i.invariant
+    decode_of-even c.args.digits.now c.requires.two
+    ∙ decoded c.args.digits.now c.loop-i.out c.loop-i.i (length c.args.digits.now / 2) (omega arith) (omega arith) c.loop-i.invariant

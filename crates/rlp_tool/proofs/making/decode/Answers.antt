@@ -1,0 +1,11 @@
+use Rattle.std.proofs.Common.{◌∙◌, ◌/◌, List, Some, ap, arith, drop, length, sym, take, ℕ}
+use Rattle.std.proofs.lemmas.List.{take_at}
+use Rattle.std.specs.Result.{result_ok}
+use Rattle.hex.specs.Hex.{decode_of}
+use Rattle.rlp_tool.proofs.making.decode.Goals as goal
+
+pub returns-clause-gives : goal.returns-clause-gives
+returns-clause-gives c =
+    ap (λ (bytes : List ℕ). Some (take (length c.without_prefix-digits.result.now / 2) bytes)) (take_at c.put_bytes.new.out
+    (drop (length c.put_bytes.new.out) c.grow.new.room.items) c.grow.new.room.len (omega arith))
+    ∙ sym (ap (λ (digits : List ℕ). result_ok (decode_of digits)) (sym c.without_prefix-digits.ensures) ∙ ap result_ok c.put_bytes.ensures)
