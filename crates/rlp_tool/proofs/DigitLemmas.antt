@@ -1,10 +1,11 @@
 -- Numbers and bytes as digits.
-use Rattle.std.proofs.Common.{◌≡◌, ◌≢◌, ℕ, ◌+◌, ◌*◌, ◌/◌, ◌%◌, slice_index, ◌^◌, ◌<◌, ◌≤◌, ◌&&◌, Bool, true, false, cond, nat_eq, nat_lt, IsTrue}
+use Rattle.std.proofs.Common.{◌≡◌, ◌≢◌, ℕ, zero, suc, inl, inr, ◌+◌, ◌*◌, ◌/◌, ◌%◌, slice_index, ◌^◌, ◌<◌, ◌≤◌, ◌&&◌, Bool, true, false, cond, nat_eq, nat_lt, IsTrue}
 use Rattle.std.proofs.Common.{List, [], ◌∷◌, ◌++◌, length, take, drop, Option, Some, None, Result, Ok, Err, refl, subst, sym, ap, ◌∙◌, append_assoc}
 use Rattle.std.proofs.Common.{arith, take-append-drop}
 use Rattle.std.specs.List.{list_all}
 use Rattle.std.specs.Char.{digit_value, is_ascii_digit}
 use Rattle.std.specs.Str.Parse.{digits_value, digits_value_after}
+use Rattle.std.proofs.lemmas.Bool.{and_parts, cases_lt, eqb-true}
 use Rattle.std.proofs.lemmas.Bool.Decides.{nat_tests}
 use Rattle.std.specs.Option.{IsSomeAnd}
 use Rattle.std.specs.Result.{result_ok}
@@ -126,7 +127,49 @@ refused_by digits (Err e) is other = refl
 pub read-no_digits : (digits : List ℕ) → list_all is_hex_digit digits ≡ false → result_ok (decode_of digits) ≡ None
 read-no_digits digits other = refused_by digits (decode_of digits) refl other
 
+-- a byte that isn't a digit
+pub stray_digit : (text : List ℕ) (at : ℕ) → at < length text → is_hex_digit (slice_index text at) ≡ false → result_ok (decode_of text) ≡ None
+stray_digit text at inside stray = read-no_digits text (not_all (list_all is_hex_digit text) refl)
+  where
+    not_all : (b : Bool) → list_all is_hex_digit text ≡ b → list_all is_hex_digit text ≡ false
+    not_all true all =
+        let digit : is_hex_digit (slice_index text at) ≡ true = AllPass-from_list_all is_hex_digit text all at 0 inside in
+        absurd (let no : ⊥ = cc in no)
+    not_all false some = some
+
 -- ---- printing
+
+-- the digit of a number
+abbrev digit_at : ℕ → ℕ
+digit_at d = cond (nat_lt d 10) (48 + d) (87 + d)
+
+-- whether the first numbers have these digits
+abbrev are_digits_of : ℕ → Bool
+are_digits_of zero = true
+are_digits_of (suc n) = nat_eq (slice_index lower_digits n) (digit_at n) && are_digits_of n
+
+digit_below : (n d : ℕ) → are_digits_of n ≡ true → d < n → slice_index lower_digits d ≡ digit_at d
+digit_below zero d all inside = absurd (omega arith)
+digit_below (suc n) d all inside =
+    let parts = and_parts (nat_eq (slice_index lower_digits n) (digit_at n)) (are_digits_of n) all in
+    elim (cases_lt d n) [
+      | inl below ↦ digit_below n d parts.1 below
+      | inr top ↦
+          let here : slice_index lower_digits n ≡ digit_at n = eqb-true (slice_index lower_digits n) (digit_at n) parts.0 in
+          let last : d ≡ n = omega arith in
+          subst (λ (k : ℕ). slice_index lower_digits k ≡ digit_at k) (sym last) here
+    ]
+
+-- the digits of the numbers below 16
+pub digit_small : (d : ℕ) → d < 10 → 48 + d ≡ slice_index lower_digits d
+digit_small d small =
+    let test : nat_lt d 10 ≡ true = grind (arith, nat_tests) in
+    sym (digit_below 16 d refl (omega arith) ∙ ap (λ (b : Bool). cond b (48 + d) (87 + d)) test)
+
+pub digit_large : (d : ℕ) → 10 ≤ d → d < 16 → 87 + d ≡ slice_index lower_digits d
+digit_large d large small =
+    let test : nat_lt d 10 ≡ false = grind (arith, nat_tests) in
+    sym (digit_below 16 d refl small ∙ ap (λ (b : Bool). cond b (48 + d) (87 + d)) test)
 
 encode_with-append : (t xs ys : List ℕ) → encode_with t (xs ++ ys) ≡ encode_with t xs ++ encode_with t ys
 unfolding encode_with

@@ -1,8 +1,7 @@
 //! Bytes and numbers as digits, read and printed.
-ghost use Rattle.std.specs.Prelude.{◌≡◌, ◌≢◌, ◌++◌, ◌<◌, ◌≤◌, ◌↔◌, [], length, string_bytes, option_map, IfOk, IsTrue, OnErr, OnOk};
-ghost use Rattle.std.specs.List.{AllPass};
+ghost use Rattle.std.specs.Prelude.{◌≡◌, ◌≢◌, ◌++◌, ◌*◌, ◌<◌, ◌≤◌, slice_index, [], length, string_bytes, option_map, IfOk, OnErr, OnOk};
 ghost use Rattle.std.specs.Option.{IsSomeAnd};
-ghost use Rattle.hex.specs.Hex.{encode_lower, is_hex_digit};
+ghost use Rattle.hex.specs.Hex.{encode_lower, lower_digits};
 ghost use Rattle.rlp_tool.specs.Digits.{digits_of, bytes_in, number_in, with_digit};
 
 use crate::decoding::{are_pairs, put_bytes};
@@ -74,6 +73,30 @@ pub(crate) fn read_number(text: &[u8]) -> Option<usize>
     Some(value)
 }
 
+/// The lower-case digit of a number below 16.
+#[tactic(auto, using(crate::proofs::DigitLemmas::digit_small, crate::proofs::DigitLemmas::digit_large))]
+fn digit_of(number: u8) -> u8
+    requires { number < 16 }
+    ensures { result ≡ slice_index lower_digits number }
+{
+    if number < 10 {
+        b'0' + number
+    } else {
+        b'a' - 10 + number
+    }
+}
+
+/// Writes each byte as two digits, without a branch for each digit.
+fn put_digits(bytes: &[u8], out: &mut [u8])
+    requires { length out.old ≡ 2 * length bytes.now }
+    ensures { out.new ≡ encode_lower bytes.now }
+{
+    for i in 0..bytes.len() {
+        out[2 * i] = digit_of(bytes[i] / 16);
+        out[2 * i + 1] = digit_of(bytes[i] % 16);
+    }
+}
+
 /// Appends a few bytes in one piece, each as two digits.
 fn push_few(bytes: &[u8], out: &mut String) -> Result<(), AllocError>
     requires { length bytes.now ≤ 64 }
@@ -82,9 +105,7 @@ fn push_few(bytes: &[u8], out: &mut String) -> Result<(), AllocError>
 {
     let mut room = [0u8; 2 * AT_ONCE];
     let digits = &mut room[..2 * bytes.len()];
-    if hex::encode_to_slice(bytes, digits).is_err() {
-        return Err(AllocError);
-    }
+    put_digits(bytes, digits);
     match from_utf8(digits) {
         Ok(digits) => out.push_str(digits),
         Err(_) => Err(AllocError),

@@ -8,7 +8,7 @@ ghost use Rattle.rlp_tool.specs.Making.{MakesCall, MakesScript};
 ghost use Rattle.rlp_tool.specs.Script.{call_in, labelled_call, letter_call, raw_parts};
 
 use crate::building::{has_room, raw_items_are_canonical};
-use crate::decoding::{are_pairs, put_bytes};
+use crate::decoding::decode;
 use crate::digits::{read_number, without_prefix};
 use crate::script::place_of;
 use rlp::RlpStream;
@@ -27,19 +27,19 @@ fn grow(room: &mut Vec<u8>, len: usize) -> Result<(), AllocError>
 
 /// Decodes a text of digits to the front of the room, which grows if it must. Returns the number
 /// of bytes, or `None` if the text isn't digits.
-fn decode(text: &[u8], room: &mut Vec<u8>) -> Result<Option<usize>, AllocError>
+fn decode_text(text: &[u8], room: &mut Vec<u8>) -> Result<Option<usize>, AllocError>
     ensures gives { IfOk result
         (λ read. option_map (λ count. take count room.new.items) read ≡ bytes_in text.now) }
     ensures within { IfOk result (λ read. IfSome read (λ count. count ≤ vec_len room.new)) }
 {
     let digits = without_prefix(text);
-    if !are_pairs(digits) {
-        return Ok(None);
-    }
     let count = digits.len() / 2;
     grow(room, count)?;
-    put_bytes(digits, room.as_mut_slice());
-    Ok(Some(count))
+    if decode(digits, room.as_mut_slice()) {
+        Ok(Some(count))
+    } else {
+        Ok(None)
+    }
 }
 
 /// Makes the call of a single letter. Returns `false` if it isn't a call, or if the call fails.
@@ -73,7 +73,7 @@ fn make_value(
         → MakesCall (option_map (λ bytes. append (string bytes)) (bytes_in text.now))
         stream.old.state stream.new.state) }
 {
-    let Some(count) = decode(text, room)? else {
+    let Some(count) = decode_text(text, room)? else {
         return Ok(false);
     };
     let bytes = &room[..count];
@@ -107,7 +107,7 @@ fn make_raw(stream: &mut RlpStream, text: &[u8], room: &mut Vec<u8>) -> Result<b
     let Some(items) = read_number(number) else {
         return Ok(false);
     };
-    let Some(count) = decode(&rest[1..], room)? else {
+    let Some(count) = decode_text(&rest[1..], room)? else {
         return Ok(false);
     };
     put_raw(stream, &room[..count], items)
