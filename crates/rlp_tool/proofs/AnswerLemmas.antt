@@ -17,6 +17,7 @@ use Rattle.rlp_tool.specs.declared.building.BuildFault.{BuildFault}
 use Rattle.rlp_tool.specs.declared.building.BuildFault.TheVariants.{TooManyItems, NothingToFinish, RawNotItems, OutOfMemory}
 use Rattle.rlp_tool.specs.Building.{AreRefused, AreTaken, BringsItems, BringsNoItems, BringsTooMany, HasNothingToFinish, StayOpen, is_raw, is_finish}
 use Rattle.rlp_tool.specs.Building.{IsBuilt, IsRefusal}
+use Rattle.rlp_tool.specs.Making.{MakesScript}
 use Rattle.rlp_tool.specs.RawItems.{IsShallow, are_raw_items}
 use Rattle.rlp_tool.specs.Script.{script}
 use Rattle.rlp_tool.specs.Answer.{SaysCalls, answer, answer_by, answer_within, brings_items, longest_line, text_answer, finished_answer, open_answer}
@@ -89,7 +90,7 @@ answer-finished calls bytes taken f =
     let s = f.last in
     ap finished_answer f.buffer ∙ ap (λ (ls : List (OpenList ℕ)). state_answer ls s) (sym f.closed) ∙ sym (outcome-all calls s taken f.admitted)
 
-state_answer-open : (ls : List (OpenList ℕ)) (s : State) → (ls ≡ [] → ⊥) → state_answer ls s ≡ open_answer (closed_size s) (raw_text s)
+pub state_answer-open : (ls : List (OpenList ℕ)) (s : State) → (ls ≡ [] → ⊥) → state_answer ls s ≡ open_answer (closed_size s) (raw_text s)
 state_answer-open [] s some = absurd (some refl)
 state_answer-open (l ∷ ls) s some = refl
 
@@ -100,6 +101,15 @@ answer-open calls size raw taken o =
     let s = o.last in
     ap (λ (n : ℕ). open_answer n raw) o.closed ∙ ap (open_answer (closed_size s)) o.text ∙ sym (state_answer-open s.stack.lists s o.unfinished)
     ∙ sym (outcome-all calls s taken o.admitted)
+
+-- the same, for a finished stream without a front
+pub state_answer-closed : (s : State) → s.stack.lists ≡ [] → s.front ≡ [] → finished_answer (s.front ++ s.stack.inner) ≡ state_answer s.stack.lists s
+state_answer-closed s closed none =
+    ap (λ (f : List ℕ). finished_answer (f ++ s.stack.inner)) none ∙ ap (λ (ls : List (OpenList ℕ)). state_answer ls s) (sym closed)
+
+-- a script whose calls are made has the answer of the state that they lead to
+pub answer-made : (text : List ℕ) (s : State) → MakesScript text s → state_answer s.stack.lists s ≡ calls_answer (script text)
+answer-made text s m = sym (outcome-all m.calls s m.taken m.admitted) ∙ ap calls_answer (sym m.says)
 
 -- ---- calls that are refused
 

@@ -118,7 +118,8 @@ pub made_none : (front : List ℕ) (calls : List Call) (s : State) → s ≡ ini
 made_none front calls s is =
     record { taken = record { steps = []; described = tt }; admitted = ap (λ (u : State). Ok u) (sym is); same_front = ap (λ (u : State). u.front) is }
 
-made_more : (front : List ℕ) (calls : List Call) (c : Call) (s t : State) → AreMade front calls s → IsTrue (is_admitted c s) → IsSomeStep c s
+-- one more call
+pub made_more : (front : List ℕ) (calls : List Call) (c : Call) (s t : State) → AreMade front calls s → IsTrue (is_admitted c s) → IsSomeStep c s
     → t ≡ effect c s → AreMade front (calls ++ c ∷ []) t
 made_more front calls c s t made admitted (m, step) moved = record {
   taken = record {

@@ -7,6 +7,7 @@ use Rattle.std.proofs.lemmas.List.{drop-drop, take_all, length-drop}
 use Rattle.std.proofs.lemmas.List.Splits.{slice_split_first, slice_split_none}
 use Rattle.std.proofs.lemmas.List.Elements.{All-from_get_or}
 use Rattle.std.proofs.lemmas.List.Sums.{fails_before_first, position_or_len_is}
+use Rattle.std.proofs.lemmas.Bool.{eqb-true}
 use Rattle.std.proofs.lemmas.Bool.Decides.{nat_tests}
 use Rattle.std.specs.Option.{IsSomeAnd}
 use Rattle.memchr.specs.Find.{IsFirstByte, is_byte}
@@ -33,6 +34,14 @@ first_byte a bytes (Some at) h =
     let found : position_or_len (λ b. b == a) bytes ≡ at = position_or_len_is (λ b. b == a) bytes at 0 (omega (arith, first.high))
     (λ k lt. is-false (get_or bytes k 0 == a) (first.before k (omega arith) lt)) (λ lt. h.1) in
     let inside : at < length bytes = first.high in
+    grind (arith, found, inside)
+
+-- the first such byte that a loop finds
+pub first_near : (a : ℕ) (bytes : List ℕ) (at : ℕ) → at < length bytes → ((k : ℕ) → k < at → get_or bytes k 0 ≢ a) → get_or bytes at 0 ≡ a
+    → Some at ≡ position (λ b. b == a) bytes
+first_near a bytes at inside before here =
+    let found : position_or_len (λ b. b == a) bytes ≡ at = position_or_len_is (λ b. b == a) bytes at 0 (omega arith)
+    (λ k lt. is-false (get_or bytes k 0 == a) (λ e. before k lt (eqb-true (get_or bytes k 0) a e))) (λ lt. grind (arith, here, nat_tests)) in
     grind (arith, found, inside)
 
 found_is : (test : Bool) (end at : ℕ) → cond test (Some end) None ≡ Some at → (test ≡ true) × (end ≡ at)

@@ -8,6 +8,8 @@ pub mod CutLemmas
 pub mod RawLemmas
 -- calls of a stream, one after another
 pub mod CallsLemmas
+-- calls of a script that are made as they are read
+pub mod MakingLemmas
 -- the calls of a line whose answer is `out`
 pub mod SaidLemmas
 -- the answers to lines of calls

@@ -6,6 +6,8 @@ pub mod Building
 pub mod Digits
 -- the lines of a text
 pub mod Lines
+-- calls that are made as they are read, for private functions
+pub mod Making
 -- the loop over the input, for private functions
 pub mod Progress
 -- raw bytes that are items

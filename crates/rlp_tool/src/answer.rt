@@ -1,17 +1,18 @@
 //! The answer to one line.
 
-ghost use Rattle.std.specs.Prelude.{◌≡◌, ◌++◌, decimal, string_bytes, OnOk};
+ghost use Rattle.std.specs.Prelude.{◌≡◌, ◌++◌, [], decimal, string_bytes, OnOk};
 ghost use Rattle.std.specs.Str.Lines.{strip_carriage_return};
-ghost use Rattle.rlp_tool.specs.Answer.{answer_within, calls_answer, digits_answer, finished_answer, open_answer, view_answer, AppendsOutcome};
+ghost use Rattle.rlp_tool.specs.Answer.{answer_within, calls_answer, digits_answer, finished_answer, open_answer, state_answer, view_answer, AppendsOutcome};
 ghost use Rattle.rlp_tool.specs.Digits.{bytes_in};
 ghost use Rattle.rlp_tool.specs.Script.{script, AppendsScriptFault};
 
 use crate::building::{BuildFault, Built, build};
 use crate::digits::{push_bytes, read_bytes};
+use crate::making::make_script;
 use crate::script::{ScriptFault, read_script};
 use crate::strings::StringValue;
 use bytes::BytesMut;
-use rlp::Rlp;
+use rlp::{Rlp, RlpStream};
 use std::alloc::{AllocError, Global};
 use std::fmt::Write;
 
@@ -136,8 +137,20 @@ fn put_script_fault(fault: &ScriptFault, out: &mut String) -> Result<(), AllocEr
     }
 }
 
-/// Appends the answer to a script.
-fn script_answer(alloc: Global, text: &[u8], out: &mut String) -> Result<(), AllocError>
+/// Appends the result of the calls on a stream without a front.
+fn put_result(stream: RlpStream, out: &mut String) -> Result<(), AllocError>
+    requires { stream.state.front ≡ [] }
+    ensures { OnOk result (string_bytes out.new
+        ≡ string_bytes out.old ++ state_answer stream.state.stack.lists stream.state) }
+{
+    if stream.is_finished() {
+        return put_finished(stream.out().as_slice(), out);
+    }
+    put_open(stream.len(), stream.as_raw(), out)
+}
+
+/// Appends the answer to a script that is read to its end before a call is made.
+fn whole_script_answer(alloc: Global, text: &[u8], out: &mut String) -> Result<(), AllocError>
     ensures { OnOk result
         (string_bytes out.new ≡ string_bytes out.old ++ calls_answer (script text.now)) }
 {
@@ -148,4 +161,17 @@ fn script_answer(alloc: Global, text: &[u8], out: &mut String) -> Result<(), All
         }
         Err(fault) => put_script_fault(&fault, out),
     }
+}
+
+/// Appends the answer to a script. It makes each call as it is read. If that fails, it reads the
+/// script again, since its first piece that isn't a call comes before any call that fails.
+fn script_answer(alloc: Global, text: &[u8], out: &mut String) -> Result<(), AllocError>
+    ensures { OnOk result
+        (string_bytes out.new ≡ string_bytes out.old ++ calls_answer (script text.now)) }
+{
+    let mut stream = RlpStream::new(alloc)?;
+    if make_script(alloc, text, &mut stream)? {
+        return put_result(stream, out);
+    }
+    whole_script_answer(alloc, text, out)
 }

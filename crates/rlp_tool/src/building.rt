@@ -54,7 +54,7 @@ pub enum BuildFault {
 
 /// Whether the innermost list awaits at least `count` items, is unbounded, or no list is open.
 #[tactic(auto, using(crate::proofs::CallsLemmas::room))]
-fn has_room(stream: &RlpStream, count: usize) -> bool
+pub(crate) fn has_room(stream: &RlpStream, count: usize) -> bool
     ensures { result ≡ has_room count stream.now.state.stack.lists }
 {
     match stream.items_awaited() {
@@ -76,7 +76,7 @@ fn first_item<'a>(bytes: &'a [u8]) -> Option<(&'a [u8], &'a [u8])>
 }
 
 /// Whether raw bytes are the joined canonical encodings of `item_count` items, none too deep.
-fn raw_items_are_canonical(bytes: &[u8], item_count: usize) -> bool
+pub(crate) fn raw_items_are_canonical(bytes: &[u8], item_count: usize) -> bool
     ensures { IsTrue result ↔ AreRawItems bytes.now item_count }
 {
     parts_of_sized_are_sized();

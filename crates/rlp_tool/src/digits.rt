@@ -1,11 +1,10 @@
 //! Bytes and numbers as digits, read and printed.
-ghost use Rattle.std.specs.Prelude.{◌≡◌, ◌≢◌, ◌++◌, ◌<◌, ◌≤◌, ◌↔◌, [], length, string_bytes, option_map, IfOk, IsTrue, OnErr, OnOk};
-ghost use Rattle.std.specs.List.{AllPass};
+ghost use Rattle.std.specs.Prelude.{◌≡◌, ◌≢◌, ◌++◌, ◌*◌, ◌<◌, ◌≤◌, slice_index, [], length, string_bytes, option_map, IfOk, OnErr, OnOk};
 ghost use Rattle.std.specs.Option.{IsSomeAnd};
-ghost use Rattle.hex.specs.Hex.{encode_lower, is_hex_digit};
+ghost use Rattle.hex.specs.Hex.{encode_lower, lower_digits};
 ghost use Rattle.rlp_tool.specs.Digits.{digits_of, bytes_in, number_in, with_digit};
 
-use hex::FromHexError;
+use crate::decoding::{are_pairs, put_bytes};
 use std::alloc::{AllocError, Global};
 use std::str::from_utf8;
 
@@ -22,13 +21,6 @@ pub(crate) fn without_prefix(text: &[u8]) -> &[u8]
     }
 }
 
-/// Whether all bytes are hexadecimal digits.
-fn are_digits(text: &[u8]) -> bool
-    ensures { IsTrue result ↔ AllPass is_hex_digit text.now }
-{
-    text.iter().all(|byte| byte.is_ascii_hexdigit())
-}
-
 /// The bytes of a text of hexadecimal digits of either case, two for each byte, after an optional
 /// `0x`. Returns `None` if the text isn't digits. Fails with `AllocError` if memory is refused.
 pub fn read_bytes(alloc: Global, text: &[u8]) -> Result<Option<Vec<u8>>, AllocError>
@@ -36,20 +28,15 @@ pub fn read_bytes(alloc: Global, text: &[u8]) -> Result<Option<Vec<u8>>, AllocEr
     ensures refused { OnErr result (IsSomeAnd (bytes_in text.now) (λ bytes. bytes ≢ [])) }
 {
     let digits = without_prefix(text);
+    if !are_pairs(digits) {
+        return Ok(None);
+    }
     if digits.is_empty() {
         return Ok(Some(Vec::new(alloc)));
     }
-    match hex::decode(alloc, digits) {
-        Ok(bytes) => Ok(Some(bytes)),
-        Err(FromHexError::OutOfMemory) => {
-            if are_digits(digits) {
-                Err(AllocError)
-            } else {
-                Ok(None)
-            }
-        }
-        Err(_) => Ok(None),
-    }
+    let mut bytes = vec![in alloc; 0u8; digits.len() / 2]?;
+    put_bytes(digits, bytes.as_mut_slice());
+    Ok(Some(bytes))
 }
 
 /// The number with one more digit at its end. Returns `None` if the byte isn't a digit, or if the
@@ -86,6 +73,30 @@ pub(crate) fn read_number(text: &[u8]) -> Option<usize>
     Some(value)
 }
 
+/// The lower-case digit of a number below 16.
+#[tactic(auto, using(crate::proofs::DigitLemmas::digit_small, crate::proofs::DigitLemmas::digit_large))]
+fn digit_of(number: u8) -> u8
+    requires { number < 16 }
+    ensures { result ≡ slice_index lower_digits number }
+{
+    if number < 10 {
+        b'0' + number
+    } else {
+        b'a' - 10 + number
+    }
+}
+
+/// Writes each byte as two digits, without a branch for each digit.
+fn put_digits(bytes: &[u8], out: &mut [u8])
+    requires { length out.old ≡ 2 * length bytes.now }
+    ensures { out.new ≡ encode_lower bytes.now }
+{
+    for i in 0..bytes.len() {
+        out[2 * i] = digit_of(bytes[i] / 16);
+        out[2 * i + 1] = digit_of(bytes[i] % 16);
+    }
+}
+
 /// Appends a few bytes in one piece, each as two digits.
 fn push_few(bytes: &[u8], out: &mut String) -> Result<(), AllocError>
     requires { length bytes.now ≤ 64 }
@@ -94,9 +105,7 @@ fn push_few(bytes: &[u8], out: &mut String) -> Result<(), AllocError>
 {
     let mut room = [0u8; 2 * AT_ONCE];
     let digits = &mut room[..2 * bytes.len()];
-    if hex::encode_to_slice(bytes, digits).is_err() {
-        return Err(AllocError);
-    }
+    put_digits(bytes, digits);
     match from_utf8(digits) {
         Ok(digits) => out.push_str(digits),
         Err(_) => Err(AllocError),

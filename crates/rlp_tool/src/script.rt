@@ -21,11 +21,19 @@ pub enum ScriptFault {
     OutOfMemory,
 }
 
+/// The number of bytes that are looked at one by one. A call of `memchr` takes longer.
+const NEAR: usize = 16;
+
 /// The place of the first such byte.
 #[tactic(auto, using(crate::proofs::CutLemmas::first_byte))]
-fn place_of(byte: u8, text: &[u8]) -> Option<usize>
+pub(crate) fn place_of(byte: u8, text: &[u8]) -> Option<usize>
     ensures { result ≡ position (λ b. b == byte) text.now }
 {
+    for at in 0..text.len().min(NEAR) {
+        if text[at] == byte {
+            return Some(at);
+        }
+    }
     memchr(byte, text)
 }
 
