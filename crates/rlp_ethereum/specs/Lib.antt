@@ -22,4 +22,6 @@ pub mod Recipient
 pub mod SetCodeTransaction
 pub mod Transaction
 pub mod Trie
+pub mod TrieNode
+pub mod TrieNodeLaws
 pub mod Withdrawal

@@ -29,6 +29,7 @@ mod receipt;
 mod recipient;
 mod set_code_transaction;
 mod transaction;
+mod trie_node;
 mod withdrawal;
 
 pub use access::{AccessList, AccessListItem};
@@ -58,4 +59,5 @@ pub use receipt::Receipt;
 pub use recipient::Recipient;
 pub use set_code_transaction::SetCodeTransaction;
 pub use transaction::Transaction;
+pub use trie_node::TrieNode;
 pub use withdrawal::{Withdrawal, Withdrawals};

@@ -27,3 +27,7 @@ mod support;
 mod tails;
 #[cfg(test)]
 mod transactions;
+#[cfg(test)]
+mod transfers;
+#[cfg(test)]
+mod trie_nodes;

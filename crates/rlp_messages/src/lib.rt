@@ -14,10 +14,13 @@ mod with_request_id;
 
 pub use announcements::{
     BlockRangeUpdate, NewBlock, NewBlockHash, NewBlockHashes, NewPooledTransactionHashes,
+    Transactions,
 };
 pub use hash_or_number::HashOrNumber;
 pub use hello::{Capability, Hello, NodeId};
-pub use requests::{BlockBodies, BlockHeaders, GetBlockBodies, GetBlockHeaders};
+pub use requests::{
+    BlockBodies, BlockHeaders, GetBlockBodies, GetBlockHeaders, GetPooledTransactions, GetReceipts,
+};
 pub use session::{Disconnect, Ping, Pong};
 pub use status::{ForkHash, ForkId, Status68, Status69};
 pub use with_request_id::WithRequestId;
