@@ -2,6 +2,7 @@ pub mod Access
 pub mod AccessListTransaction
 pub mod Account
 pub mod Address
+pub mod Alone
 pub mod Authorization
 pub mod BlobTransaction
 pub mod Block
