@@ -25,4 +25,5 @@ pub mod Transaction
 pub mod Trie
 pub mod TrieNode
 pub mod TrieNodeLaws
+pub mod TypedReceipt
 pub mod Withdrawal

@@ -30,6 +30,7 @@ mod recipient;
 mod set_code_transaction;
 mod transaction;
 mod trie_node;
+mod typed_receipt;
 mod withdrawal;
 
 pub use access::{AccessList, AccessListItem};
@@ -60,4 +61,5 @@ pub use recipient::Recipient;
 pub use set_code_transaction::SetCodeTransaction;
 pub use transaction::Transaction;
 pub use trie_node::TrieNode;
+pub use typed_receipt::TypedReceipt;
 pub use withdrawal::{Withdrawal, Withdrawals};

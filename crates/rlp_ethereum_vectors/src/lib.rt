@@ -18,6 +18,8 @@ mod node_records;
 #[cfg(test)]
 mod nodes;
 #[cfg(test)]
+mod receipts;
+#[cfg(test)]
 mod records;
 #[cfg(test)]
 mod requests;

@@ -7,6 +7,7 @@
 mod announcements;
 mod hash_or_number;
 mod hello;
+mod receipts;
 mod requests;
 mod session;
 mod status;
@@ -18,6 +19,7 @@ pub use announcements::{
 };
 pub use hash_or_number::HashOrNumber;
 pub use hello::{Capability, Hello, NodeId};
+pub use receipts::{BlockReceipts, Receipts};
 pub use requests::{
     BlockBodies, BlockHeaders, GetBlockBodies, GetBlockHeaders, GetPooledTransactions, GetReceipts,
 };
