@@ -1,48 +1,98 @@
--- The bytes of a transaction by itself have no fault.
-use Rattle.std.proofs.Common.{◌≡◌, ℕ, ◌^◌, ◌<◌, ◌⊎◌, inl, inr, ⊎_elim, true, false, List, [], length, refl, sym, ap, ◌∙◌, subst, arith, append-nil}
+-- Values of several types by themselves, as in EIP-2718: what a body that reads one has to know, and that the bytes of a value have no fault.
+use Rattle.std.specs.Prelude.{⊤}
+use Rattle.std.proofs.Common.{◌≡◌, ℕ, ◌^◌, ◌<◌, ◌≤◌, ◌⊎◌, inl, inr, ⊎_elim, true, false, List, [], ◌∷◌, length, refl, sym, ap, ◌∙◌, subst, arith, append-nil}
 use Rattle.std.proofs.Common.{Result, Ok, Err, IfErr}
+use Rattle.std.proofs.lemmas.Bool.{cases_lt, lt-leb}
 use Rattle.rlp.specs.DecoderError.{DecoderError}
 use Rattle.rlp.specs.DecoderError.TheVariants.{OutOfMemory}
+use Rattle.rlp.specs.Format.Item.{Item, list, string}
 use Rattle.rlp.specs.Format.Encoding.{encoding}
 use Rattle.rlp.specs.Format.Split.{begins_as_list}
 use Rattle.rlp.specs.Format.WrittenHeader.{AreBytes}
-use Rattle.rlp.specs.Codecs.Sums.{FitsCase, envelope}
+use Rattle.rlp.specs.Streams.Stream.{is_list}
+use Rattle.rlp.specs.Views.View.{View, HoldsString, strict_view_of}
+use Rattle.rlp.specs.Codec.{Codec}
+use Rattle.rlp.specs.Codecs.Sums.{Cases, FitsCase, envelope}
 use Rattle.rlp.specs.Lemmas.Sums.{envelope_sound, list_first}
-use Rattle.rlp.specs.Values.Sums.{IsEnvelopeFault}
-use Rattle.rlp_ethereum.specs.declared.access_list_transaction.AccessListTransaction.{AccessListTransaction}
-use Rattle.rlp_ethereum.specs.declared.blob_transaction.BlobTransaction.{BlobTransaction}
-use Rattle.rlp_ethereum.specs.declared.fee_market_transaction.FeeMarketTransaction.{FeeMarketTransaction}
-use Rattle.rlp_ethereum.specs.declared.set_code_transaction.SetCodeTransaction.{SetCodeTransaction}
-use Rattle.rlp_ethereum.specs.declared.transaction.Transaction.{Transaction}
-use Rattle.rlp_ethereum.specs.declared.transaction.Transaction.TheVariants.{AccessList, Blob, FeeMarket, Legacy, SetCode}
-use Rattle.rlp_ethereum.specs.LegacyTransaction.{legacy_transaction}
-use Rattle.rlp_ethereum.specs.Transaction.{FaultsAlone, bytes_alone, transaction, typed_transactions, unknown_type}
+use Rattle.rlp.specs.Values.Sums.{ByFirstByte, IsEnvelopeFault, IsOtherTag, MayLackInEnvelope, OnSum, faulty_payload, other_tag, sum_item}
+use Rattle.rlp.specs.Values.ValueReading.{FaultsAs, IsCustom, no_value}
+use Rattle.rlp_ethereum.specs.Alone.{FaultsAlone, PayloadFails, bytes_alone}
 
-module _ (d : List ℕ) (bytes : AreBytes d) (fits : length d < 2 ^ 64) where
-  -- the bytes of a typed transaction
-  typed_sound : (s : AccessListTransaction ⊎ (FeeMarketTransaction ⊎ (BlobTransaction ⊎ SetCodeTransaction))) → FitsCase typed_transactions s
-      → d ≡ envelope typed_transactions s → begins_as_list d ≡ false → (e : DecoderError) → ¬ FaultsAlone d e
-  typed_sound s fit is kind e bad =
+-- a list by itself is its encoding
+list_alone : (x : Item) → is_list x ≡ true → bytes_alone x ≡ encoding x
+list_alone (string d) kind = cc
+list_alone (list xs) kind = refl
+
+-- each number is below the first byte of every list
+abbrev pub AreBelowLists : List ℕ → Type 0
+AreBelowLists [] = ⊤
+AreBelowLists (tag ∷ tags) = (tag < 0xc0) × AreBelowLists tags
+
+above_other : (tags : List ℕ) (k : ℕ) → 0xc0 ≤ k → AreBelowLists tags → IsOtherTag tags k
+above_other [] k above low = tt
+above_other (tag ∷ tags) k above low = (λ same. let small : tag < 0xc0 = low.0 in omega (arith, same, above, small), above_other tags k above low.1)
+
+-- bytes that begin with one of these numbers don't begin as a list
+not_as_list : (tags : List ℕ) (k : ℕ) (rest : List ℕ) → AreBelowLists tags → ¬ IsOtherTag tags k → begins_as_list (k ∷ rest) ≡ false
+not_as_list tags k rest low known =
+    ⊎_elim (λ small. lt-leb 0xc0 k small) (λ above. absurd (known (above_other tags k above low))) (cases_lt k 0xc0)
+
+-- ---- what is read after a number
+
+module _ {B : Type 0} (unknown : List ℕ) (cases : Cases B) (tag : ℕ) (payload : List ℕ) (e : DecoderError) where
+  -- the payload of the type with this number fails
+  pub payload_of_fails : (n : ℕ) → tag ≡ n
+      → (AreBytes payload × (cases.case n).faults (strict_view_of payload) e) ⊎ ((e ≡ OutOfMemory) × (cases.case n).may_lack (strict_view_of payload))
+      → PayloadFails unknown cases tag payload e
+  payload_of_fails n same h =
       ⊎_elim
-      (λ h. let other = h.0 in let no : ⊥ = cc in no)
-      (λ h. envelope_sound unknown_type typed_transactions.tags typed_transactions.tag typed_transactions.case typed_transactions.known s fit
-      (omega (arith, ap length is)) e
-      (subst (λ d. IsEnvelopeFault typed_transactions.tags unknown_type (λ k. (typed_transactions.case k).faults) d e) is h.1))
-      bad
+      (λ fault. inl (faulty_payload tag payload e refl fault.0 (subst (λ n. (cases.case n).faults (strict_view_of payload) e) (sym same) fault.1)))
+      (λ memory. inr (memory.0, subst (λ n. (cases.case n).may_lack (strict_view_of payload)) (sym same) memory.1))
+      h
 
-  sound_alone : (t : Transaction) → transaction.Fits t → d ≡ bytes_alone (transaction.item t) → (e : DecoderError) → ¬ FaultsAlone d e
-  sound_alone (Legacy t) fit is e bad =
-      let kind : begins_as_list d ≡ true =
-      list_first (legacy_transaction.item t) d fits ([], is ∙ sym (append-nil (encoding (legacy_transaction.item t)))) refl in
-      ⊎_elim (λ h. (legacy_transaction.reads_strictly d t bytes fits).sound fit is e h.1.1) (λ h. let other = h.0 in let no : ⊥ = cc in no) bad
-  sound_alone (AccessList t) fit is e bad = typed_sound (inl t) fit is (ap begins_as_list is) e bad
-  sound_alone (FeeMarket t) fit is e bad = typed_sound (inr (inl t)) fit is (ap begins_as_list is) e bad
-  sound_alone (Blob t) fit is e bad = typed_sound (inr (inr (inl t))) fit is (ap begins_as_list is) e bad
-  sound_alone (SetCode t) fit is e bad = typed_sound (inr (inr (inr t))) fit is (ap begins_as_list is) e bad
+  -- the number is none of the types'
+  pub unknown_type_fails : IsOtherTag cases.tags tag → IsCustom unknown e → PayloadFails unknown cases tag payload e
+  unknown_type_fails other custom = inl (other_tag tag payload e refl other custom)
 
--- reading the bytes of a transaction fails only if memory runs out
-pub memory_alone : (t : Transaction) (d : List ℕ) → AreBytes d → length d < 2 ^ 64 → transaction.Fits t → d ≡ bytes_alone (transaction.item t)
-    → (r : Result Transaction DecoderError) (M : Type 0) → IfErr r (λ e. FaultsAlone d e ⊎ ((e ≡ OutOfMemory) × M)) → IfErr r (λ e. e ≡ OutOfMemory)
-memory_alone t d bytes fits fit is (Ok x) M h = tt
-memory_alone t d bytes fits fit is (Err e) M (inl fault) = absurd (sound_alone d bytes fits t fit is e fault)
-memory_alone t d bytes fits fit is (Err e) M (inr memory) = memory.0
+-- ---- values of the sum
+
+module _ {A B : Type 0} (bare : Codec A) (unknown : List ℕ) (cases : Cases B) (lists : (x : A) → is_list (bare.item x) ≡ true) where
+  abbrev SumFits : A ⊎ B → Type 0
+  SumFits s = OnSum bare.Fits (FitsCase cases) s
+
+  abbrev item_of_sum : A ⊎ B → Item
+  item_of_sum s = sum_item bare.item (λ y. string (envelope cases y)) s
+
+  -- a view that holds a number and a payload as a string fails as the payload does
+  pub typed_view_fails : {R : Type 0} (v : View) (tag : ℕ) (payload : List ℕ) (r : Result R DecoderError) → begins_as_list v.bytes ≡ false
+      → HoldsString v (tag ∷ payload) → IfErr r (λ e. PayloadFails unknown cases tag payload e)
+      → IfErr r (λ e. ByFirstByte v (bare.faults v e) (FaultsAs (IsEnvelopeFault cases.tags unknown (λ k. (cases.case k).faults)) v e)
+      ⊎ ((e ≡ OutOfMemory) × ByFirstByte v (bare.may_lack v) (MayLackInEnvelope (λ k. (cases.case k).may_lack) v)))
+  typed_view_fails v tag payload (Ok x) kind holds h = tt
+  typed_view_fails v tag payload (Err e) kind holds h =
+      ⊎_elim
+      (λ fault. inl (inr (kind, no_value (tag ∷ payload) e holds fault)))
+      (λ memory. inr (memory.0, inr (kind, record { tag = tag; payload = payload; holds = holds; may = memory.1 })))
+      h
+
+  module _ (low : AreBelowLists cases.tags) (d : List ℕ) (bytes : AreBytes d) (fits : length d < 2 ^ 64) where
+    sound_alone : (s : A ⊎ B) → SumFits s → d ≡ bytes_alone (item_of_sum s) → (e : DecoderError) → ¬ FaultsAlone bare unknown cases d e
+    sound_alone (inl x) fit is e bad =
+        let whole : d ≡ encoding (bare.item x) = is ∙ list_alone (bare.item x) (lists x) in
+        let kind : begins_as_list d ≡ true = list_first (bare.item x) d fits ([], whole ∙ sym (append-nil (encoding (bare.item x)))) (lists x) in
+        ⊎_elim (λ h. (bare.reads_strictly d x bytes fits).sound fit whole e h.1.1) (λ h. let other = h.0 in let no : ⊥ = cc in no) bad
+    sound_alone (inr y) fit is e bad =
+        let kind : begins_as_list d ≡ false =
+        ap begins_as_list is ∙ not_as_list cases.tags (cases.tag y) (encoding ((cases.case (cases.tag y)).item y)) low (cases.known y) in
+        ⊎_elim
+        (λ h. let other = h.0 in let no : ⊥ = cc in no)
+        (λ h. envelope_sound unknown cases.tags cases.tag cases.case cases.known y fit (omega (arith, ap length is)) e
+        (subst (λ d. IsEnvelopeFault cases.tags unknown (λ k. (cases.case k).faults) d e) is h.1))
+        bad
+
+    -- reading the bytes of a value fails only if memory runs out
+    pub memory_alone : {R : Type 0} (s : A ⊎ B) → SumFits s → d ≡ bytes_alone (item_of_sum s) → (r : Result R DecoderError) (M : Type 0)
+        → IfErr r (λ e. FaultsAlone bare unknown cases d e ⊎ ((e ≡ OutOfMemory) × M)) → IfErr r (λ e. e ≡ OutOfMemory)
+    memory_alone s fit is (Ok x) M h = tt
+    memory_alone s fit is (Err e) M (inl fault) = absurd (sound_alone s fit is e fault)
+    memory_alone s fit is (Err e) M (inr memory) = memory.0

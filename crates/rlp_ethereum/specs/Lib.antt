@@ -2,6 +2,7 @@ pub mod Access
 pub mod AccessListTransaction
 pub mod Account
 pub mod Address
+pub mod Alone
 pub mod Authorization
 pub mod BlobTransaction
 pub mod Block
@@ -22,4 +23,7 @@ pub mod Recipient
 pub mod SetCodeTransaction
 pub mod Transaction
 pub mod Trie
+pub mod TrieNode
+pub mod TrieNodeLaws
+pub mod TypedReceipt
 pub mod Withdrawal

@@ -31,6 +31,8 @@ mod recipient;
 mod record;
 mod set_code_transaction;
 mod transaction;
+mod trie_node;
+mod typed_receipt;
 mod withdrawal;
 
 pub use access::{AccessList, AccessListItem};
@@ -61,4 +63,6 @@ pub use recipient::Recipient;
 pub use record::Record;
 pub use set_code_transaction::SetCodeTransaction;
 pub use transaction::Transaction;
+pub use trie_node::TrieNode;
+pub use typed_receipt::TypedReceipt;
 pub use withdrawal::{Withdrawal, Withdrawals};

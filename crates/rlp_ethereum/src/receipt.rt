@@ -8,7 +8,7 @@ use std::alloc::{AllocError, Global};
 ///
 /// See section 4.4.1 of the yellow paper, and EIP-658. For types other than legacy, EIP-2718 puts
 /// the byte of the transaction's type before the receipt. This type neither writes nor reads that
-/// byte.
+/// byte; [`TypedReceipt`](crate::TypedReceipt) does.
 #[derive(Drop)]
 pub struct Receipt {
     /// Since Byzantium the status, as in EIP-658: the byte 1 for success, and no bytes for failure.

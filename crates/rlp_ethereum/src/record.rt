@@ -24,6 +24,8 @@ use crate::receipt::Receipt;
 use crate::recipient::Recipient;
 use crate::set_code_transaction::SetCodeTransaction;
 use crate::transaction::Transaction;
+use crate::trie_node::TrieNode;
+use crate::typed_receipt::TypedReceipt;
 use crate::withdrawal::{Withdrawal, Withdrawals};
 use rlp::StrictRead;
 
@@ -84,3 +86,7 @@ impl Record for Branch {}
 impl Record for NodeFields {}
 
 impl Record for NodeRecord {}
+
+impl Record for TrieNode {}
+
+impl Record for TypedReceipt {}

@@ -1,10 +1,15 @@
 //! Transactions of every type.
 
-ghost use Rattle.std.specs.Prelude.{◌≡◌, ◌⊎◌, IfErr, IfOk, OnOk};
+ghost use Rattle.std.specs.Prelude.{◌≡◌, ◌∷◌, ◌⊎◌, IfErr, IfOk, OnOk};
 ghost use Rattle.rlp.specs.DecoderError.TheVariants.{OutOfMemory};
-ghost use Rattle.rlp_ethereum.specs.Transaction.{FaultsAlone, MayLackAlone, bytes_alone, transaction};
+ghost use Rattle.rlp.specs.Format.Item.{string};
+ghost use Rattle.rlp_ethereum.specs.Alone.{FaultsAlone, MayLackAlone, PayloadFails, bytes_alone};
+ghost use Rattle.rlp_ethereum.specs.LegacyTransaction.{legacy_transaction};
+ghost use Rattle.rlp_ethereum.specs.Transaction.{transaction, typed_transactions, unknown_type};
 
-use crate::envelope::{ACCESS_LIST_TYPE, BLOB_TYPE, FEE_MARKET_TYPE, SET_CODE_TYPE, to_envelope};
+use crate::envelope::{
+    ACCESS_LIST_TYPE, BLOB_TYPE, FEE_MARKET_TYPE, SET_CODE_TYPE, decode_typed, to_envelope,
+};
 use crate::{
     AccessListTransaction, BlobTransaction, FeeMarketTransaction, LegacyTransaction,
     SetCodeTransaction,
@@ -57,8 +62,10 @@ impl Transaction {
     pub fn from_bytes(alloc: Global, bytes: &[u8]) -> Result<Transaction, DecoderError>
         ensures value { IfOk result (λ t. transaction.Fits t
             × (bytes.now ≡ bytes_alone (transaction.item t))) }
-        ensures fault { IfErr result (λ e. (FaultsAlone bytes.now e) ⊎ ((e ≡ OutOfMemory)
-            × MayLackAlone bytes.now)) }
+        ensures fault { IfErr result (λ e.
+            (FaultsAlone legacy_transaction unknown_type typed_transactions bytes.now e)
+            ⊎ ((e ≡ OutOfMemory)
+            × MayLackAlone legacy_transaction typed_transactions bytes.now)) }
         ensures memory { (t : Transaction) → transaction.Fits t
             → bytes.now ≡ bytes_alone (transaction.item t) → IfErr result (λ e. e ≡ OutOfMemory) }
     {
@@ -71,8 +78,10 @@ impl Transaction {
 fn read_alone(alloc: Global, bytes: &[u8]) -> Result<Transaction, DecoderError>
     ensures value { IfOk result (λ t. transaction.Fits t
         × (bytes.now ≡ bytes_alone (transaction.item t))) }
-    ensures fault { IfErr result (λ e. (FaultsAlone bytes.now e) ⊎ ((e ≡ OutOfMemory)
-        × MayLackAlone bytes.now)) }
+    ensures fault { IfErr result (λ e.
+        (FaultsAlone legacy_transaction unknown_type typed_transactions bytes.now e)
+        ⊎ ((e ≡ OutOfMemory)
+        × MayLackAlone legacy_transaction typed_transactions bytes.now)) }
 {
     if Rlp::new(bytes).is_list() {
         return match laws::strictly_decoded(alloc, bytes) {
@@ -81,25 +90,25 @@ fn read_alone(alloc: Global, bytes: &[u8]) -> Result<Transaction, DecoderError>
         };
     }
     let envelope = Envelope::split(bytes)?;
-    match envelope.tag {
-        ACCESS_LIST_TYPE => match envelope.decode(alloc) {
-            Ok(payload) => Ok(Transaction::AccessList(payload)),
-            Err(fault) => Err(fault),
-        },
-        FEE_MARKET_TYPE => match envelope.decode(alloc) {
-            Ok(payload) => Ok(Transaction::FeeMarket(payload)),
-            Err(fault) => Err(fault),
-        },
-        BLOB_TYPE => match envelope.decode(alloc) {
-            Ok(payload) => Ok(Transaction::Blob(payload)),
-            Err(fault) => Err(fault),
-        },
-        SET_CODE_TYPE => match envelope.decode(alloc) {
-            Ok(payload) => Ok(Transaction::SetCode(payload)),
-            Err(fault) => Err(fault),
-        },
-        _ => Err(DecoderError::Custom("unknown transaction type")),
-    }
+    decode_payload(alloc, &envelope)
+}
+
+// Reads a transaction of one of the types.
+fn decode_payload(alloc: Global, envelope: &Envelope<'_>) -> Result<Transaction, DecoderError>
+    ensures value { IfOk result (λ t. transaction.Fits t
+        × (transaction.item t ≡ string (envelope.now.tag ∷ envelope.now.payload.now))) }
+    ensures fault { IfErr result (λ e. PayloadFails unknown_type typed_transactions
+        envelope.now.tag envelope.now.payload.now e) }
+{
+    decode_typed!(
+        alloc,
+        envelope,
+        "unknown transaction type",
+        ACCESS_LIST_TYPE => Transaction::AccessList,
+        FEE_MARKET_TYPE => Transaction::FeeMarket,
+        BLOB_TYPE => Transaction::Blob,
+        SET_CODE_TYPE => Transaction::SetCode
+    )
 }
 
 impl Encodable for Transaction {
@@ -136,25 +145,7 @@ impl Decodable for Transaction {
             return Ok(Transaction::Legacy(legacy));
         }
         let envelope = Envelope::of(rlp)?;
-        match envelope.tag {
-            ACCESS_LIST_TYPE => match envelope.decode(alloc) {
-                Ok(payload) => Ok(Transaction::AccessList(payload)),
-                Err(fault) => Err(fault),
-            },
-            FEE_MARKET_TYPE => match envelope.decode(alloc) {
-                Ok(payload) => Ok(Transaction::FeeMarket(payload)),
-                Err(fault) => Err(fault),
-            },
-            BLOB_TYPE => match envelope.decode(alloc) {
-                Ok(payload) => Ok(Transaction::Blob(payload)),
-                Err(fault) => Err(fault),
-            },
-            SET_CODE_TYPE => match envelope.decode(alloc) {
-                Ok(payload) => Ok(Transaction::SetCode(payload)),
-                Err(fault) => Err(fault),
-            },
-            _ => Err(DecoderError::Custom("unknown transaction type")),
-        }
+        decode_payload(alloc, &envelope)
     }
 }
 

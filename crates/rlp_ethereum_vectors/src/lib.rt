@@ -20,6 +20,8 @@ mod node_records;
 #[cfg(test)]
 mod nodes;
 #[cfg(test)]
+mod receipts;
+#[cfg(test)]
 mod records;
 #[cfg(test)]
 mod requests;
@@ -29,3 +31,7 @@ mod support;
 mod tails;
 #[cfg(test)]
 mod transactions;
+#[cfg(test)]
+mod transfers;
+#[cfg(test)]
+mod trie_nodes;

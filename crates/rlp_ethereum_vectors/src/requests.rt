@@ -4,7 +4,10 @@
 use crate::support::{bytes_of, is_fault, is_written_as, wide};
 use rlp::DecoderError;
 use rlp_ethereum::{Address, Bloom, Hash, Header};
-use rlp_messages::{BlockHeaders, GetBlockBodies, GetBlockHeaders, HashOrNumber, WithRequestId};
+use rlp_messages::{
+    BlockHeaders, GetBlockBodies, GetBlockHeaders, GetPooledTransactions, GetReceipts,
+    HashOrNumber, WithRequestId,
+};
 use std::alloc::{AllocError, Global};
 use std::test::Fail;
 
@@ -37,7 +40,8 @@ const HEADERS: [&str; 13] = [
 /// The answer with no header, worked out by hand.
 const NO_HEADERS: [&str; 1] = ["c4820457c0"];
 
-/// A request for the bodies of two blocks.
+/// A request for the bodies of two blocks, for their receipts, or for the transactions with these
+/// hashes.
 const BODIES: [&str; 2] = [
     "f847820457f842a000000000000000000000000000000000000000000000000000000000deadc0de",
     "a000000000000000000000000000000000000000000000000000000000feedbeef",
@@ -150,7 +154,7 @@ fn answers_with_headers(rt: HostRuntime) -> Result<(), Fail> {
 }
 
 #[test]
-fn requests_for_bodies(rt: HostRuntime) -> Result<(), Fail> {
+fn requests_by_hashes(rt: HostRuntime) -> Result<(), Fail> {
     let alloc = rt.alloc();
     let hashes = [
         hash([0xde, 0xad, 0xc0, 0xde]),
@@ -161,6 +165,16 @@ fn requests_for_bodies(rt: HostRuntime) -> Result<(), Fail> {
         content: GetBlockBodies(Vec::from_array(alloc, hashes)?),
     };
     assert!(rt; is_written_as(alloc, &bodies, &BODIES)?);
+    let receipts = WithRequestId {
+        request_id: 1111,
+        content: GetReceipts(Vec::from_array(alloc, hashes)?),
+    };
+    assert!(rt; is_written_as(alloc, &receipts, &BODIES)?);
+    let transactions = WithRequestId {
+        request_id: 1111,
+        content: GetPooledTransactions(Vec::from_array(alloc, hashes)?),
+    };
+    assert!(rt; is_written_as(alloc, &transactions, &BODIES)?);
     Ok(())
 }
 

@@ -6,8 +6,10 @@ use Rattle.rlp_messages.specs.declared.announcements.NewBlockHashes.{NewBlockHas
 use Rattle.rlp_messages.specs.declared.announcements.NewPooledTransactionHashes.{NewPooledTransactionHashes}
 use Rattle.rlp_messages.specs.declared.announcements.BlockRangeUpdate.{BlockRangeUpdate}
 use Rattle.rlp_messages.specs.declared.announcements.NewBlock.{NewBlock}
+use Rattle.rlp_messages.specs.declared.announcements.Transactions.{Transactions}
 use Rattle.rlp_ethereum.specs.Block.{block}
 use Rattle.rlp_ethereum.specs.Hash.{hash}
+use Rattle.rlp_ethereum.specs.Transaction.{transaction}
 
 -- the fields, in order
 abbrev pub new_block_hash_fields : Fields NewBlockHash
@@ -54,3 +56,7 @@ new_block_fields =
 -- the list of the fields
 abbrev pub new_block : Codec NewBlock
 new_block = struct_of new_block_fields
+
+-- the list of the transactions
+abbrev pub transactions : Codec Transactions
+transactions = list_type (λ (t : Transactions). vec_items t.0) transaction

@@ -12,5 +12,7 @@ pub mod Announcements
 pub mod HashOrNumber
 -- requests and their answers
 pub mod Requests
+-- answers with receipts
+pub mod Receipts
 -- the number of a request
 pub mod WithRequestId

@@ -5,6 +5,8 @@ use Rattle.rlp_messages.specs.declared.requests.GetBlockHeaders.{GetBlockHeaders
 use Rattle.rlp_messages.specs.declared.requests.BlockHeaders.{BlockHeaders}
 use Rattle.rlp_messages.specs.declared.requests.GetBlockBodies.{GetBlockBodies}
 use Rattle.rlp_messages.specs.declared.requests.BlockBodies.{BlockBodies}
+use Rattle.rlp_messages.specs.declared.requests.GetPooledTransactions.{GetPooledTransactions}
+use Rattle.rlp_messages.specs.declared.requests.GetReceipts.{GetReceipts}
 use Rattle.rlp_ethereum.specs.Body.{body}
 use Rattle.rlp_ethereum.specs.Hash.{hash}
 use Rattle.rlp_ethereum.specs.Header.{header}
@@ -33,3 +35,11 @@ get_block_bodies = list_type (λ (g : GetBlockBodies). vec_items g.0) hash
 -- the list of the bodies
 abbrev pub block_bodies : Codec BlockBodies
 block_bodies = list_type (λ (b : BlockBodies). vec_items b.0) body
+
+-- the list of the hashes
+abbrev pub get_pooled_transactions : Codec GetPooledTransactions
+get_pooled_transactions = list_type (λ (g : GetPooledTransactions). vec_items g.0) hash
+
+-- the list of the hashes
+abbrev pub get_receipts : Codec GetReceipts
+get_receipts = list_type (λ (g : GetReceipts). vec_items g.0) hash

@@ -4,7 +4,7 @@
 use rlp::{
     Decodable, DecoderError, Encodable, ListOf, Rlp, RlpStream, RoundTrip, StrictRead, Uint,
 };
-use rlp_ethereum::{Block, Hash};
+use rlp_ethereum::{Block, Hash, Transaction};
 use std::alloc::{AllocError, Global};
 
 /// A block that a client announces: the list of both fields.
@@ -272,4 +272,50 @@ impl StrictRead for NewBlock {
     ghost use Rattle.rlp_messages.specs.Announcements.{new_block};
 
     ghost strict = { new_block.reads_strictly };
+}
+
+/// Transactions that a client sends to others, message 0x02 of `eth`: the list of them, each as in a
+/// block. EIP-4844 forbids to send blob transactions in this message; this type doesn't check that.
+#[derive(Drop)]
+pub struct Transactions(pub Vec<Transaction>);
+
+impl Encodable for Transactions {
+    ghost use Rattle.rlp_messages.specs.Announcements.{transactions};
+
+    ghost item = { transactions.item };
+
+    ghost fits = { transactions.Fits };
+
+    #[tactic(auto, using(rlp::proofs::Writing::writing))]
+    fn rlp_append(&self, s: &mut RlpStream) -> Result<(), AllocError> {
+        s.append_list(self.0.as_slice())?;
+        Ok(())
+    }
+}
+
+impl Decodable for Transactions {
+    ghost use Rattle.rlp_messages.specs.Announcements.{transactions};
+
+    ghost gives = { transactions.gives };
+
+    ghost faults = { transactions.faults };
+
+    ghost may_lack_memory = { transactions.may_lack };
+
+    fn decode(alloc: Global, rlp: &Rlp<'_>) -> Result<Transactions, DecoderError> {
+        let transactions = rlp.as_list(alloc)?;
+        Ok(Transactions(transactions))
+    }
+}
+
+impl RoundTrip for Transactions {
+    ghost use Rattle.rlp_messages.specs.Announcements.{transactions};
+
+    ghost round_trip = { transactions.reads_back };
+}
+
+impl StrictRead for Transactions {
+    ghost use Rattle.rlp_messages.specs.Announcements.{transactions};
+
+    ghost strict = { transactions.reads_strictly };
 }

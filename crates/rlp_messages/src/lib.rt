@@ -8,6 +8,7 @@ mod announcements;
 mod hash_or_number;
 mod hello;
 mod record;
+mod receipts;
 mod requests;
 mod session;
 mod status;
@@ -15,10 +16,14 @@ mod with_request_id;
 
 pub use announcements::{
     BlockRangeUpdate, NewBlock, NewBlockHash, NewBlockHashes, NewPooledTransactionHashes,
+    Transactions,
 };
 pub use hash_or_number::HashOrNumber;
 pub use hello::{Capability, Hello, NodeId};
-pub use requests::{BlockBodies, BlockHeaders, GetBlockBodies, GetBlockHeaders};
+pub use receipts::{BlockReceipts, Receipts};
+pub use requests::{
+    BlockBodies, BlockHeaders, GetBlockBodies, GetBlockHeaders, GetPooledTransactions, GetReceipts,
+};
 pub use session::{Disconnect, Ping, Pong};
 pub use status::{ForkHash, ForkId, Status68, Status69};
 pub use with_request_id::WithRequestId;

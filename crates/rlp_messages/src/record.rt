@@ -1,9 +1,12 @@
 //! The messages of this crate are records, so the laws of `rlp_ethereum` hold for each.
 
-use crate::announcements::{BlockRangeUpdate, NewBlock, NewBlockHash, NewBlockHashes, NewPooledTransactionHashes};
+use crate::announcements::{BlockRangeUpdate, NewBlock, NewBlockHash, NewBlockHashes, NewPooledTransactionHashes, Transactions};
 use crate::hash_or_number::HashOrNumber;
 use crate::hello::{Capability, Hello, NodeId};
-use crate::requests::{BlockBodies, BlockHeaders, GetBlockBodies, GetBlockHeaders};
+use crate::receipts::{BlockReceipts, Receipts};
+use crate::requests::{
+    BlockBodies, BlockHeaders, GetBlockBodies, GetBlockHeaders, GetPooledTransactions, GetReceipts,
+};
 use crate::session::{Disconnect, Ping, Pong};
 use crate::status::{ForkHash, ForkId, Status68, Status69};
 use crate::with_request_id::WithRequestId;
@@ -48,5 +51,15 @@ impl Record for ForkId {}
 impl Record for Status68 {}
 
 impl Record for Status69 {}
+
+impl Record for Transactions {}
+
+impl Record for BlockReceipts {}
+
+impl Record for Receipts {}
+
+impl Record for GetPooledTransactions {}
+
+impl Record for GetReceipts {}
 
 impl<T: Record> Record for WithRequestId<T> {}

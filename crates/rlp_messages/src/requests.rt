@@ -199,3 +199,94 @@ impl StrictRead for BlockBodies {
 
     ghost strict = { block_bodies.reads_strictly };
 }
+
+/// Asks for transactions that aren't in a block yet, in message 0x09 of `eth`: the list of their
+/// hashes.
+#[derive(Debug, PartialEq, Eq, Drop)]
+pub struct GetPooledTransactions(pub Vec<Hash>);
+
+impl Encodable for GetPooledTransactions {
+    ghost use Rattle.rlp_messages.specs.Requests.{get_pooled_transactions};
+
+    ghost item = { get_pooled_transactions.item };
+
+    ghost fits = { get_pooled_transactions.Fits };
+
+    #[tactic(auto, using(rlp::proofs::Writing::writing))]
+    fn rlp_append(&self, s: &mut RlpStream) -> Result<(), AllocError> {
+        s.append_list(self.0.as_slice())?;
+        Ok(())
+    }
+}
+
+impl Decodable for GetPooledTransactions {
+    ghost use Rattle.rlp_messages.specs.Requests.{get_pooled_transactions};
+
+    ghost gives = { get_pooled_transactions.gives };
+
+    ghost faults = { get_pooled_transactions.faults };
+
+    ghost may_lack_memory = { get_pooled_transactions.may_lack };
+
+    fn decode(alloc: Global, rlp: &Rlp<'_>) -> Result<GetPooledTransactions, DecoderError> {
+        let transactions = rlp.as_list(alloc)?;
+        Ok(GetPooledTransactions(transactions))
+    }
+}
+
+impl RoundTrip for GetPooledTransactions {
+    ghost use Rattle.rlp_messages.specs.Requests.{get_pooled_transactions};
+
+    ghost round_trip = { get_pooled_transactions.reads_back };
+}
+
+impl StrictRead for GetPooledTransactions {
+    ghost use Rattle.rlp_messages.specs.Requests.{get_pooled_transactions};
+
+    ghost strict = { get_pooled_transactions.reads_strictly };
+}
+
+/// Asks for the receipts of blocks, in message 0x0f of `eth`: the list of the hashes of the blocks.
+#[derive(Debug, PartialEq, Eq, Drop)]
+pub struct GetReceipts(pub Vec<Hash>);
+
+impl Encodable for GetReceipts {
+    ghost use Rattle.rlp_messages.specs.Requests.{get_receipts};
+
+    ghost item = { get_receipts.item };
+
+    ghost fits = { get_receipts.Fits };
+
+    #[tactic(auto, using(rlp::proofs::Writing::writing))]
+    fn rlp_append(&self, s: &mut RlpStream) -> Result<(), AllocError> {
+        s.append_list(self.0.as_slice())?;
+        Ok(())
+    }
+}
+
+impl Decodable for GetReceipts {
+    ghost use Rattle.rlp_messages.specs.Requests.{get_receipts};
+
+    ghost gives = { get_receipts.gives };
+
+    ghost faults = { get_receipts.faults };
+
+    ghost may_lack_memory = { get_receipts.may_lack };
+
+    fn decode(alloc: Global, rlp: &Rlp<'_>) -> Result<GetReceipts, DecoderError> {
+        let blocks = rlp.as_list(alloc)?;
+        Ok(GetReceipts(blocks))
+    }
+}
+
+impl RoundTrip for GetReceipts {
+    ghost use Rattle.rlp_messages.specs.Requests.{get_receipts};
+
+    ghost round_trip = { get_receipts.reads_back };
+}
+
+impl StrictRead for GetReceipts {
+    ghost use Rattle.rlp_messages.specs.Requests.{get_receipts};
+
+    ghost strict = { get_receipts.reads_strictly };
+}

@@ -1,24 +1,12 @@
-use Rattle.std.proofs.Common.{◌≡◌, false, sym, ◌∙◌}
+use Rattle.std.proofs.Common.{◌≡◌, false, refl, sym, ◌∙◌}
 use Rattle.rlp.specs.Format.Split.{begins_as_list}
-use Rattle.rlp.proofs.Envelopes.{payload_fails, string_fails}
+use Rattle.rlp_ethereum.proofs.Alone.{typed_view_fails}
+use Rattle.rlp_ethereum.specs.LegacyTransaction.{legacy_transaction}
+use Rattle.rlp_ethereum.specs.Transaction.{typed_transactions, unknown_type}
 use Rattle.rlp_ethereum.proofs.transaction.TransactionDecodable.decode.Goals as goal
 
-pub returns-in-Err-clause-fault : goal.returns-in-Err-clause-fault
-returns-in-Err-clause-fault c =
+pub returns-clause-fault : goal.returns-clause-fault
+returns-clause-fault c =
     let kind : begins_as_list c.args.rlp.now.bytes ≡ false = sym c.is_list.ensures ∙ c.if-is_list.false in
-    string_fails _ kind (payload_fails _ _ _ _ _ _ _ _ _ c.in_ok-envelope.ensures.value c.in-1.is c.in-Err.ensures.fault)
-
-pub returns-in-Err-decode-clause-fault : goal.returns-in-Err-decode-clause-fault
-returns-in-Err-decode-clause-fault c =
-    let kind : begins_as_list c.args.rlp.now.bytes ≡ false = sym c.is_list.ensures ∙ c.if-is_list.false in
-    string_fails _ kind (payload_fails _ _ _ _ _ _ _ _ _ c.in_ok-envelope.ensures.value c.in-2.is c.in-Err-decode.ensures.fault)
-
-pub returns-in-Err-decode-2-clause-fault : goal.returns-in-Err-decode-2-clause-fault
-returns-in-Err-decode-2-clause-fault c =
-    let kind : begins_as_list c.args.rlp.now.bytes ≡ false = sym c.is_list.ensures ∙ c.if-is_list.false in
-    string_fails _ kind (payload_fails _ _ _ _ _ _ _ _ _ c.in_ok-envelope.ensures.value c.in-3.is c.in-Err-decode-2.ensures.fault)
-
-pub returns-in-Err-decode-3-clause-fault : goal.returns-in-Err-decode-3-clause-fault
-returns-in-Err-decode-3-clause-fault c =
-    let kind : begins_as_list c.args.rlp.now.bytes ≡ false = sym c.is_list.ensures ∙ c.if-is_list.false in
-    string_fails _ kind (payload_fails _ _ _ _ _ _ _ _ _ c.in_ok-envelope.ensures.value c.in-4.is c.in-Err-decode-3.ensures.fault)
+    typed_view_fails legacy_transaction unknown_type typed_transactions (λ x. refl) c.args.rlp.now _ _ c.decode_payload.result kind
+    c.in_ok-envelope.ensures.value c.decode_payload.ensures.fault

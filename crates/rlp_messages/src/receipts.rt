@@ -1,0 +1,96 @@
+//! Receipts of blocks, as clients send them to each other.
+
+use rlp::{Decodable, DecoderError, Encodable, Rlp, RlpStream, RoundTrip, StrictRead};
+use rlp_ethereum::TypedReceipt;
+use std::alloc::{AllocError, Global};
+
+/// The receipts of the transactions of a block, in their order: the list of them.
+#[derive(Drop)]
+pub struct BlockReceipts(pub Vec<TypedReceipt>);
+
+impl Encodable for BlockReceipts {
+    ghost use Rattle.rlp_messages.specs.Receipts.{block_receipts};
+
+    ghost item = { block_receipts.item };
+
+    ghost fits = { block_receipts.Fits };
+
+    #[tactic(auto, using(rlp::proofs::Writing::writing))]
+    fn rlp_append(&self, s: &mut RlpStream) -> Result<(), AllocError> {
+        s.append_list(self.0.as_slice())?;
+        Ok(())
+    }
+}
+
+impl Decodable for BlockReceipts {
+    ghost use Rattle.rlp_messages.specs.Receipts.{block_receipts};
+
+    ghost gives = { block_receipts.gives };
+
+    ghost faults = { block_receipts.faults };
+
+    ghost may_lack_memory = { block_receipts.may_lack };
+
+    fn decode(alloc: Global, rlp: &Rlp<'_>) -> Result<BlockReceipts, DecoderError> {
+        let receipts = rlp.as_list(alloc)?;
+        Ok(BlockReceipts(receipts))
+    }
+}
+
+impl RoundTrip for BlockReceipts {
+    ghost use Rattle.rlp_messages.specs.Receipts.{block_receipts};
+
+    ghost round_trip = { block_receipts.reads_back };
+}
+
+impl StrictRead for BlockReceipts {
+    ghost use Rattle.rlp_messages.specs.Receipts.{block_receipts};
+
+    ghost strict = { block_receipts.reads_strictly };
+}
+
+/// The answer to [`GetReceipts`](crate::GetReceipts), in message 0x10 of `eth/68`: the list of the
+/// receipts of each block. Since `eth/69` the receipts are other lists, without filters of logs.
+#[derive(Drop)]
+pub struct Receipts(pub Vec<BlockReceipts>);
+
+impl Encodable for Receipts {
+    ghost use Rattle.rlp_messages.specs.Receipts.{receipts};
+
+    ghost item = { receipts.item };
+
+    ghost fits = { receipts.Fits };
+
+    #[tactic(auto, using(rlp::proofs::Writing::writing))]
+    fn rlp_append(&self, s: &mut RlpStream) -> Result<(), AllocError> {
+        s.append_list(self.0.as_slice())?;
+        Ok(())
+    }
+}
+
+impl Decodable for Receipts {
+    ghost use Rattle.rlp_messages.specs.Receipts.{receipts};
+
+    ghost gives = { receipts.gives };
+
+    ghost faults = { receipts.faults };
+
+    ghost may_lack_memory = { receipts.may_lack };
+
+    fn decode(alloc: Global, rlp: &Rlp<'_>) -> Result<Receipts, DecoderError> {
+        let blocks = rlp.as_list(alloc)?;
+        Ok(Receipts(blocks))
+    }
+}
+
+impl RoundTrip for Receipts {
+    ghost use Rattle.rlp_messages.specs.Receipts.{receipts};
+
+    ghost round_trip = { receipts.reads_back };
+}
+
+impl StrictRead for Receipts {
+    ghost use Rattle.rlp_messages.specs.Receipts.{receipts};
+
+    ghost strict = { receipts.reads_strictly };
+}
