@@ -23,4 +23,5 @@ pub mod Recipient
 pub mod SetCodeTransaction
 pub mod Transaction
 pub mod Trie
+pub mod Unsigned
 pub mod Withdrawal

@@ -29,6 +29,7 @@ mod receipt;
 mod recipient;
 mod set_code_transaction;
 mod transaction;
+mod unsigned;
 mod withdrawal;
 
 pub use access::{AccessList, AccessListItem};
@@ -58,4 +59,9 @@ pub use receipt::Receipt;
 pub use recipient::Recipient;
 pub use set_code_transaction::SetCodeTransaction;
 pub use transaction::Transaction;
+pub use unsigned::{
+    AUTHORIZATION_MAGIC, UnsignedAccessListTransaction, UnsignedAuthorization,
+    UnsignedBlobTransaction, UnsignedFeeMarketTransaction, UnsignedLegacyTransaction,
+    UnsignedSetCodeTransaction, UnsignedTransaction,
+};
 pub use withdrawal::{Withdrawal, Withdrawals};

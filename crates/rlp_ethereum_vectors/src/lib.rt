@@ -27,3 +27,5 @@ mod support;
 mod tails;
 #[cfg(test)]
 mod transactions;
+#[cfg(test)]
+mod unsigned;
