@@ -4,6 +4,8 @@ pub mod Exact
 pub mod RawItem
 -- types whose values are of several types: sums, envelopes and tagged lists
 pub mod Sums
+-- types whose values are lists of two lengths
+pub mod Counted
 -- lemmas for a struct with several fields of one type
 pub mod EachField
 -- a struct whose last fields are groups of fields

@@ -52,3 +52,5 @@ pub mod Sums
 pub mod Groups
 -- lists of a tag and a payload
 pub mod Tagged
+-- values of two types of structs, told apart by their numbers of fields
+pub mod Counted

@@ -18,3 +18,5 @@ pub mod Groups
 pub mod RawItem
 -- values of several types, and why there is none
 pub mod Sums
+-- values of two types, told apart by a number of items
+pub mod Counted

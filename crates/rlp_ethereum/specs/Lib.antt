@@ -26,4 +26,5 @@ pub mod Trie
 pub mod TrieNode
 pub mod TrieNodeLaws
 pub mod TypedReceipt
+pub mod Unsigned
 pub mod Withdrawal

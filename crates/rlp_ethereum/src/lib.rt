@@ -33,6 +33,7 @@ mod set_code_transaction;
 mod transaction;
 mod trie_node;
 mod typed_receipt;
+mod unsigned;
 mod withdrawal;
 
 pub use access::{AccessList, AccessListItem};
@@ -65,4 +66,9 @@ pub use set_code_transaction::SetCodeTransaction;
 pub use transaction::Transaction;
 pub use trie_node::TrieNode;
 pub use typed_receipt::TypedReceipt;
+pub use unsigned::{
+    AUTHORIZATION_MAGIC, UnsignedAccessListTransaction, UnsignedAuthorization,
+    UnsignedBlobTransaction, UnsignedFeeMarketTransaction, UnsignedLegacyTransaction,
+    UnsignedSetCodeTransaction, UnsignedTransaction,
+};
 pub use withdrawal::{Withdrawal, Withdrawals};

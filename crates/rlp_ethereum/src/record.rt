@@ -26,6 +26,11 @@ use crate::set_code_transaction::SetCodeTransaction;
 use crate::transaction::Transaction;
 use crate::trie_node::TrieNode;
 use crate::typed_receipt::TypedReceipt;
+use crate::unsigned::{
+    UnsignedAccessListTransaction, UnsignedAuthorization, UnsignedBlobTransaction,
+    UnsignedFeeMarketTransaction, UnsignedLegacyTransaction, UnsignedSetCodeTransaction,
+    UnsignedTransaction,
+};
 use crate::withdrawal::{Withdrawal, Withdrawals};
 use rlp::StrictRead;
 
@@ -90,3 +95,17 @@ impl Record for NodeRecord {}
 impl Record for TrieNode {}
 
 impl Record for TypedReceipt {}
+
+impl Record for UnsignedLegacyTransaction {}
+
+impl Record for UnsignedAccessListTransaction {}
+
+impl Record for UnsignedFeeMarketTransaction {}
+
+impl Record for UnsignedBlobTransaction {}
+
+impl Record for UnsignedAuthorization {}
+
+impl Record for UnsignedSetCodeTransaction {}
+
+impl Record for UnsignedTransaction {}

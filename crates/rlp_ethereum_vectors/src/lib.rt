@@ -35,3 +35,5 @@ mod transactions;
 mod transfers;
 #[cfg(test)]
 mod trie_nodes;
+#[cfg(test)]
+mod unsigned;

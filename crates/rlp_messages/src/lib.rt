@@ -7,8 +7,8 @@
 mod announcements;
 mod hash_or_number;
 mod hello;
-mod record;
 mod receipts;
+mod record;
 mod requests;
 mod session;
 mod status;

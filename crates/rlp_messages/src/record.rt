@@ -1,6 +1,9 @@
 //! The messages of this crate are records, so the laws of `rlp_ethereum` hold for each.
 
-use crate::announcements::{BlockRangeUpdate, NewBlock, NewBlockHash, NewBlockHashes, NewPooledTransactionHashes, Transactions};
+use crate::announcements::{
+    BlockRangeUpdate, NewBlock, NewBlockHash, NewBlockHashes, NewPooledTransactionHashes,
+    Transactions,
+};
 use crate::hash_or_number::HashOrNumber;
 use crate::hello::{Capability, Hello, NodeId};
 use crate::receipts::{BlockReceipts, Receipts};
