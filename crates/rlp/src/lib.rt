@@ -33,6 +33,7 @@ pub use rlp_streams::{
     NULL_RLP, Optional, OptionalListOf, RlpStream, Uint, append_envelope, append_struct,
 };
 pub use rlpin::{BasicDecoder, Envelope, Fields, Rlp, RlpIterator};
+use rlp_streams::encoded_list;
 use std::alloc::{AllocError, Global};
 pub use structs::{
     DecodeField, DecodeFields, DecodeGroup, DecodeGrouped, DecodeOptional, DecodeTailed, Field,
@@ -55,7 +56,8 @@ pub fn encode<E: Encodable>(alloc: Global, object: &E) -> Result<BytesMut, Alloc
     object.rlp_bytes(alloc)
 }
 
-/// The encoding of the list of the values. Fails as [`encode`] does.
+/// The encoding of the list of the values. Fails as [`encode`] does. It makes room once, for the sum
+/// of [`Encodable::max_len`] of the values, if each has a bound.
 ///
 /// ```rust
 /// assert_eq!(rt; rlp::encode_list(alloc, &["cat", "dog"])?.len(), 9);
@@ -65,9 +67,7 @@ pub fn encode_list<E: Encodable>(alloc: Global, object: &[E]) -> Result<BytesMut
     ensures bytes { IfOk result
         (λ b. b.items ≡ encoding (list_of (map E.item object.now))) }
 {
-    let mut s = RlpStream::new(alloc)?;
-    s.append_list(object)?;
-    Ok(s.out())
+    encoded_list(alloc, object)
 }
 
 /// The value that the bytes begin with, read by [`Decodable::decode`] of its type from a lenient

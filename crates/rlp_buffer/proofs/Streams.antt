@@ -14,3 +14,7 @@ pub mod FlatBuffer
 pub mod ClosedSize
 -- room in the buffer and in the open lists
 pub mod Rooms
+-- the encoding of a list, alone in a buffer
+pub mod Alone
+-- how many bytes encodings have at most
+pub mod Bounds

@@ -14,3 +14,5 @@ pub mod Retained
 pub mod Fields
 -- last fields that may be missing
 pub mod Tails
+-- values put one after another with no list open
+pub mod Joined

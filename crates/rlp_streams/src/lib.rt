@@ -8,12 +8,14 @@ pub mod laws;
 mod stream;
 mod structs;
 mod traits;
+mod whole_list;
 
 pub use envelope::append_envelope;
 pub use impls::Uint;
 pub use stream::{BasicEncoder, Chain, RlpStream, append_list_encoding};
 pub use structs::{AppendFields, Each, Flattened, ListOf, Optional, OptionalListOf, append_struct};
 pub use traits::Encodable;
+pub use whole_list::encoded_list;
 
 /// The encoding of the empty string.
 pub const NULL_RLP: [u8; 1] = [0x80];

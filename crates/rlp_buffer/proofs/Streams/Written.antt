@@ -15,7 +15,7 @@ unfolding encoding
 encoding_low s e = cond-true (is_low_byte s) s (written_header 0x80 (length s) ++ s) e
 
 -- any other string
-encoding_other : (s : List ℕ) → is_low_byte s ≡ false → encoding (string s) ≡ written_header 0x80 (length s) ++ s
+pub encoding_other : (s : List ℕ) → is_low_byte s ≡ false → encoding (string s) ≡ written_header 0x80 (length s) ++ s
 unfolding encoding
 encoding_other s e = cond-false (is_low_byte s) s (written_header 0x80 (length s) ++ s) e
 

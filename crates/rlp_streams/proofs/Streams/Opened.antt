@@ -6,7 +6,8 @@ use Rattle.rlp_format.specs.Format.Encoding.{encoding, join_items}
 use Rattle.rlp_buffer.specs.Streams.Stream.{State, Seen, HasRoomFor, raw_text, put, count, with_list, with_mark}
 use Rattle.rlp_buffer.specs.Streams.Calls.{with_list_of}
 
-empty_list : encoding (list_of []) ≡ 0xc0 ∷ []
+-- the encoding of the list of no items
+pub empty_list : encoding (list_of []) ≡ 0xc0 ∷ []
 unfolding encoding join_items written_header big_endian
 empty_list = refl
 

@@ -2,7 +2,9 @@
 
 use crate::stream::RlpStream;
 use crate::traits::Encodable;
-use std::alloc::AllocError;
+use bytes::BytesMut;
+use rlp_buffer::buffer::strings::{encoded_string, max_string_len};
+use std::alloc::{AllocError, Global};
 
 /// Writes the string of all `N` bytes.
 impl<const N: usize> Encodable for [u8; N] {
@@ -18,5 +20,13 @@ impl<const N: usize> Encodable for [u8; N] {
     #[tactic(auto, using(crate::proofs::Streams::Growth::growth))]
     fn rlp_append(&self, s: &mut RlpStream) -> Result<(), AllocError> {
         s.encoder().encode_value(self)
+    }
+
+    fn max_len(&self) -> Option<usize> {
+        max_string_len(self)
+    }
+
+    fn rlp_bytes(&self, alloc: Global) -> Result<BytesMut, AllocError> {
+        encoded_string(alloc, self)
     }
 }

@@ -24,6 +24,12 @@ impl Encodable for u8 {
         (*self as u64).rlp_append(s)
     }
 
+    #[tactic(auto, using(crate::proofs::Values::Bounds::number_bounds))]
+    fn max_len(&self) -> Option<usize> {
+        let _number = *self;
+        Some(2)
+    }
+
     fn rlp_bytes(&self, alloc: Global) -> Result<BytesMut, AllocError> {
         (*self as u64).rlp_bytes(alloc)
     }
@@ -43,6 +49,12 @@ impl Encodable for u16 {
         (*self as u64).rlp_append(s)
     }
 
+    #[tactic(auto, using(crate::proofs::Values::Bounds::number_bounds))]
+    fn max_len(&self) -> Option<usize> {
+        let _number = *self;
+        Some(3)
+    }
+
     fn rlp_bytes(&self, alloc: Global) -> Result<BytesMut, AllocError> {
         (*self as u64).rlp_bytes(alloc)
     }
@@ -60,6 +72,12 @@ impl Encodable for u32 {
 
     fn rlp_append(&self, s: &mut RlpStream) -> Result<(), AllocError> {
         (*self as u64).rlp_append(s)
+    }
+
+    #[tactic(auto, using(crate::proofs::Values::Bounds::number_bounds))]
+    fn max_len(&self) -> Option<usize> {
+        let _number = *self;
+        Some(5)
     }
 
     fn rlp_bytes(&self, alloc: Global) -> Result<BytesMut, AllocError> {
@@ -82,6 +100,12 @@ impl Encodable for u64 {
         s.encoder().encode_value(Digits::of(*self).as_slice())
     }
 
+    #[tactic(auto, using(crate::proofs::Values::Bounds::number_bounds))]
+    fn max_len(&self) -> Option<usize> {
+        let _number = *self;
+        Some(9)
+    }
+
     fn rlp_bytes(&self, alloc: Global) -> Result<BytesMut, AllocError> {
         encoded_string(alloc, Digits::of(*self).as_slice())
     }
@@ -99,6 +123,12 @@ impl Encodable for usize {
 
     fn rlp_append(&self, s: &mut RlpStream) -> Result<(), AllocError> {
         (*self as u64).rlp_append(s)
+    }
+
+    #[tactic(auto, using(crate::proofs::Values::Bounds::number_bounds))]
+    fn max_len(&self) -> Option<usize> {
+        let _number = *self;
+        Some(9)
     }
 
     fn rlp_bytes(&self, alloc: Global) -> Result<BytesMut, AllocError> {
@@ -119,6 +149,12 @@ impl Encodable for u128 {
     #[tactic(auto, using(crate::proofs::Streams::Growth::growth))]
     fn rlp_append(&self, s: &mut RlpStream) -> Result<(), AllocError> {
         s.encoder().encode_value(Digits::of_wide(*self).as_slice())
+    }
+
+    #[tactic(auto, using(crate::proofs::Values::Bounds::number_bounds))]
+    fn max_len(&self) -> Option<usize> {
+        let _number = *self;
+        Some(17)
     }
 
     fn rlp_bytes(&self, alloc: Global) -> Result<BytesMut, AllocError> {
