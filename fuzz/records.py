@@ -239,6 +239,66 @@ class Held:
         return encoded_string(self.typed.written(dice))
 
 
+class AnyItem:
+    """An item of any kind, through so many nested lists."""
+
+    def __init__(self, lists_left):
+        self.lists_left = lists_left
+
+    def lines(self, name, data):
+        if not data or data[0] < 0xC0:
+            return STRING.lines(name, data)
+        if self.lists_left == 0:
+            raise Wrong(name, 'Custom("item nests too deep")')
+        return ListOf(AnyItem(self.lists_left - 1)).lines(name, data)
+
+    def written(self, dice):
+        if dice.random() < 0.01:
+            data = b""
+            for _ in range(dice.choice((255, 256, 256, 257))):
+                data = written_header(0xC0, len(data)) + data
+            return data
+        if dice.random() < 0.6:
+            return STRING.written(dice)
+        return written_list(dice, [self.written(dice) for _ in range(dice.choice((0, 1, 1, 2)))])
+
+
+class NodeRecord:
+    """A list of a signature, a number, and then keys and values."""
+
+    first = Record([("signature", STRING), ("sequence", number(8))])
+
+    def lines(self, name, data):
+        try:
+            items = strict_items(data)
+            if len(items) < 2 or len(items) % 2 == 1:
+                raise Answered("RlpIncorrectListLen")
+        except Answered as answered:
+            raise Wrong(name, answered) from None
+        before, lines = name + "." if name else "", []
+        for place, item in enumerate(items):
+            pair = f"pairs[{place // 2 - 1}]."
+            field, one = (
+                self.first.fields[place]
+                if place < 2
+                else (pair + "key", STRING) if place % 2 == 0 else (pair + "value", AnyItem(256))
+            )
+            try:
+                lines += one.lines(before + field, item)
+            except Wrong as wrong:
+                wrong.place = place
+                raise
+        return lines
+
+    def written(self, dice):
+        items = [one.written(dice) for _, one in self.first.fields]
+        for _ in range(dice.choice((0, 1, 2, 3))):
+            items += [STRING.written(dice), AnyItem(256).written(dice)]
+        if dice.random() < 0.05:
+            items = items[: dice.randint(0, len(items))]
+        return written_list(dice, items)
+
+
 # ---- the records
 
 
@@ -284,6 +344,7 @@ KINDS = {
     "block": Record(fields(BLOCK, TYPES), least=3),
     "header": TYPES["header"],
     "receipt": Typed(dict.fromkeys((1, 2, 3, 4), RECEIPT), RECEIPT),
+    "record": NodeRecord(),
     "transaction": TRANSACTION,
     "withdrawal": TYPES["withdrawal"],
 }

@@ -4,3 +4,7 @@
 pub mod DigitLemmas
 -- fields in order
 pub mod FieldLemmas
+-- items of any kind
+pub mod ItemLemmas
+-- node records and their pairs
+pub mod PairLemmas

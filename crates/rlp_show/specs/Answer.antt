@@ -4,9 +4,9 @@ use Rattle.std.specs.Str.Lines.{strip_carriage_return}
 use Rattle.rlp.specs.Views.View.{strict_view_of}
 use Rattle.rlp_tool.specs.Digits.{bytes_in}
 use Rattle.rlp_show.specs.Lines.{Fault, Shape, Shown, fault_text}
-use Rattle.rlp_show.specs.Records.{account, any_receipt, any_transaction, block, header, withdrawal}
+use Rattle.rlp_show.specs.Records.{account, any_receipt, any_transaction, block, header, node_record, withdrawal}
 use Rattle.rlp_show.specs.declared.kind.Kind.{Kind}
-use Rattle.rlp_show.specs.declared.kind.Kind.TheVariants.{Account, Block, Header, Receipt, Transaction, Withdrawal}
+use Rattle.rlp_show.specs.declared.kind.Kind.TheVariants.{Account, Block, Header, Receipt, Record, Transaction, Withdrawal}
 use Rattle.rlp_show.specs.declared.fault.ItemFault.{ItemFault}
 use Rattle.rlp_show.specs.declared.fault.ShowFault.{ShowFault}
 use Rattle.rlp_show.specs.declared.fault.ShowFault.TheVariants.{Wrong, OutOfMemory}
@@ -34,6 +34,7 @@ kind_named name =
     else if bytes_eq name (codes "block") then Some Block
     else if bytes_eq name (codes "header") then Some Header
     else if bytes_eq name (codes "receipt") then Some Receipt
+    else if bytes_eq name (codes "record") then Some Record
     else if bytes_eq name (codes "transaction") then Some Transaction
     else if bytes_eq name (codes "withdrawal") then Some Withdrawal
     else None
@@ -44,6 +45,7 @@ kind_shape Account = account
 kind_shape Block = block
 kind_shape Header = header
 kind_shape Receipt = any_receipt
+kind_shape Record = node_record
 kind_shape Transaction = any_transaction
 kind_shape Withdrawal = withdrawal
 

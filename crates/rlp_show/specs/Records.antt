@@ -1,8 +1,11 @@
 -- The fields of each record, by their names in `rlp_ethereum`.
-use Rattle.std.specs.Prelude.{ℕ, List, [], ◌∷◌, codes, Err}
-use Rattle.rlp.specs.DecoderError.TheVariants.{RlpIsTooShort}
+use Rattle.std.specs.Prelude.{ℕ, ◌%◌, ◌==◌, ◌||◌, nat_lt, if◌then◌else◌, List, [], ◌∷◌, ◌++◌, drop, codes, Result, Ok, Err}
+use Rattle.rlp.specs.DecoderError.{DecoderError}
+use Rattle.rlp.specs.DecoderError.TheVariants.{RlpIncorrectListLen, RlpIsTooShort}
 use Rattle.rlp.specs.Views.Text.{error_name}
-use Rattle.rlp_show.specs.Lines.{Shape, byte_string, field, fixed_bytes, list_of, list_or_string, number, recipient, record_of, truth_value, typed, wrong}
+use Rattle.rlp.specs.Views.View.{View, item_count, item_views}
+use Rattle.rlp_show.specs.Lines.{Field, Shape, Shown, byte_string, field, fields_lines, fixed_bytes, item_within, list_of, list_or_string, number, pairs_lines}
+use Rattle.rlp_show.specs.Lines.{prefix, recipient, record_of, then_lines, truth_value, typed, wrong}
 
 -- addresses
 abbrev pub address : Shape
@@ -212,3 +215,24 @@ block = record_of 3 (
     ∷ field (codes "ommers") (list_of header)
     ∷ field (codes "withdrawals") (list_of withdrawal)
     ∷ [])
+
+-- ---- node records
+
+-- an item of any kind, through at most 256 nested lists
+unfoldable pub any_item : Shape
+any_item = item_within 256
+
+-- the fields of a node record before its pairs
+abbrev pub first_fields : List Field
+first_fields = field (codes "signature") byte_string ∷ field (codes "sequence") (number 8) ∷ []
+
+-- the lines of a node record by its number of items: two, and two for each pair
+abbrev pub node_record_lines : List ℕ → List View → Result ℕ DecoderError → Shown
+node_record_lines name vs (Err e) = Err (wrong name (error_name e))
+node_record_lines name vs (Ok n) =
+    if nat_lt n 2 || (n % 2 == 1) then Err (wrong name (error_name RlpIncorrectListLen))
+    else then_lines (fields_lines (prefix name) 0 first_fields vs) (pairs_lines any_item (prefix name ++ codes "pairs") 0 2 (drop 2 vs))
+
+-- node records: the signature, the number of the record, and then each key and its value
+abbrev pub node_record : Shape
+node_record name v = node_record_lines name (item_views v) (item_count v)

@@ -44,7 +44,7 @@ pub trait ShowFields {
 }
 
 /// Appends the lines of the field with this place.
-fn show_field<T: Show>(
+pub(crate) fn show_field<T: Show>(
     alloc: Global,
     before: &str,
     place: usize,

@@ -4,7 +4,7 @@ ghost use Rattle.std.specs.Prelude.{◌≡◌};
 
 /// What the program prints for arguments that aren't one known kind.
 pub const USAGE: &str =
-    "usage: rlp_show KIND, where KIND is account, block, header, receipt, transaction or withdrawal";
+    "usage: rlp_show KIND, where KIND is account, block, header, receipt, record, transaction or withdrawal";
 
 /// The exit status of the program for such arguments.
 pub const UNKNOWN_KIND: u8 = 4;
@@ -20,6 +20,8 @@ pub enum Kind {
     Header,
     /// Receipts, also in the envelopes of types 1 to 4.
     Receipt,
+    /// Node records.
+    Record,
     /// Transactions, also in the envelopes of types 1 to 4.
     Transaction,
     /// Withdrawals.
@@ -38,6 +40,7 @@ impl Kind {
             "block" => Some(Kind::Block),
             "header" => Some(Kind::Header),
             "receipt" => Some(Kind::Receipt),
+            "record" => Some(Kind::Record),
             "transaction" => Some(Kind::Transaction),
             "withdrawal" => Some(Kind::Withdrawal),
             _ => None,

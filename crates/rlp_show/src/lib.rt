@@ -1,6 +1,7 @@
 //! Shows Ethereum's records by the names of their fields.
 #![tactic(auto)]
 
+mod any_item;
 mod envelopes;
 mod fault;
 mod fields;
@@ -8,6 +9,7 @@ mod kind;
 pub mod laws;
 mod line;
 mod lists;
+mod node_records;
 mod numbers;
 mod records;
 mod serving;
@@ -16,6 +18,7 @@ mod strings;
 mod transactions;
 mod values;
 
+pub use any_item::AnyItem;
 pub use envelopes::{AnyReceipt, Typed};
 pub use fault::{ItemFault, ShowFault};
 pub use fields::{Named, ShowFields, show_record};

@@ -1,8 +1,8 @@
 //! Lists of items of one type.
 
-ghost use Rattle.std.specs.Prelude.{◌≡◌, ◌++◌, codes, decimal, string_bytes, IfOk};
+ghost use Rattle.std.specs.Prelude.{◌≡◌, ◌++◌, codes, decimal, string_bytes, IfOk, Ok};
 ghost use Rattle.rlp_show.specs.Answer.{Shows};
-ghost use Rattle.rlp_show.specs.Lines.{items_lines, list_of, place};
+ghost use Rattle.rlp_show.specs.Lines.{items_lines, line, list_of, place};
 ghost use Rattle.rlp.specs.Views.View.{item_views};
 
 use crate::fault::ShowFault;
@@ -29,7 +29,7 @@ impl<T: Show> Show for Items<T> {
 }
 
 /// The name of the item at this place of the list with this name.
-fn place_in(alloc: Global, name: &str, index: usize) -> Result<String, AllocError>
+pub(crate) fn place_in(alloc: Global, name: &str, index: usize) -> Result<String, AllocError>
     ensures { IfOk result (λ text. string_bytes text ≡ place name.now index) }
 {
     let mut text = String::from_str(alloc, name)?;
@@ -54,12 +54,20 @@ pub(crate) fn show_list<T: Show>(
         Err(fault) => return Err(ShowFault::of(alloc, name, &fault)),
     };
     if count == 0 {
-        return match put_line(name, "[]", out) {
-            Ok(()) => Ok(()),
-            Err(_) => Err(ShowFault::OutOfMemory),
-        };
+        return put_empty(name, out);
     }
     show_items::<T>(alloc, name, item, out)
+}
+
+/// Appends the line of a list without items.
+pub(crate) fn put_empty(name: &str, out: &mut String) -> Result<(), ShowFault>
+    ensures { Shows (Ok (line name.now (codes "[]"))) (string_bytes out.old)
+        (string_bytes out.new) result }
+{
+    match put_line(name, "[]", out) {
+        Ok(()) => Ok(()),
+        Err(_) => Err(ShowFault::OutOfMemory),
+    }
 }
 
 /// Appends the lines of the items of a list that isn't empty.

@@ -13,7 +13,7 @@ use crate::kind::Kind;
 use crate::show::Show;
 use crate::transactions::AnyTransaction;
 use rlp::Rlp;
-use rlp_ethereum::{Account, Block, Header, Withdrawal};
+use rlp_ethereum::{Account, Block, Header, NodeFields, Withdrawal};
 use rlp_tool::{LineAnswers, Noted, RunFault, answer_lines, read_bytes, without_carriage_return};
 use std::alloc::{AllocError, Global};
 use std::io::{Read, Write};
@@ -91,6 +91,7 @@ pub fn run<R: Read, W: Write>(
         Kind::Block => answer_lines::<RecordAnswers<Block>, R, W>(alloc, input, output),
         Kind::Header => answer_lines::<RecordAnswers<Header>, R, W>(alloc, input, output),
         Kind::Receipt => answer_lines::<RecordAnswers<AnyReceipt>, R, W>(alloc, input, output),
+        Kind::Record => answer_lines::<RecordAnswers<NodeFields>, R, W>(alloc, input, output),
         Kind::Transaction => {
             answer_lines::<RecordAnswers<AnyTransaction>, R, W>(alloc, input, output)
         }
