@@ -28,12 +28,12 @@ mod traits;
 use bytes::BytesMut;
 pub use impls::RawItem;
 pub use rlp_format::{DecoderError, PayloadInfo, Prototype};
+use rlp_streams::encoded_list;
 pub use rlp_streams::{
     AppendFields, BasicEncoder, Chain, EMPTY_LIST_RLP, Each, Encodable, Flattened, ListOf,
     NULL_RLP, Optional, OptionalListOf, RlpStream, Uint, append_envelope, append_struct,
 };
 pub use rlpin::{BasicDecoder, Envelope, Fields, Rlp, RlpIterator};
-use rlp_streams::encoded_list;
 use std::alloc::{AllocError, Global};
 pub use structs::{
     DecodeField, DecodeFields, DecodeGroup, DecodeGrouped, DecodeOptional, DecodeTailed, Field,
