@@ -299,6 +299,66 @@ class NodeRecord:
         return written_list(dice, items)
 
 
+def path_text(string):
+    if not string or string[0] not in (0x00, *range(0x10, 0x21), *range(0x30, 0x40)):
+        raise Answered('Custom("path is not hex-prefix encoded")')
+    return "0x" + string.hex()
+
+
+def some_path(dice):
+    """A random path, mostly with a right flag."""
+    first = dice.choice((0x00, 0x13, 0x20, 0x3F, 0x20, dice.randrange(256)))
+    return bytes([first]) + dice.randbytes(dice.choice((0, 1, 31)))
+
+
+PATH = Text(path_text, some_path)
+
+
+class Child:
+    """A child of a node of the trie: a list of fewer than 32 bytes, no bytes, or a hash."""
+
+    hash = Text(lambda s: fixed_text(32)(s) if s else "0x", lambda dice: dice.randbytes(dice.choice((0, 32))))
+
+    def lines(self, name, data):
+        if not data or data[0] < 0xC0:
+            return self.hash.lines(name, data)
+        if len(data) >= 32:
+            raise Wrong(name, "RlpIsTooBig")
+        return AnyItem(256).lines(name, data)
+
+    def written(self, dice):
+        if dice.random() < 0.7:
+            return self.hash.written(dice)
+        value = encoded_string(dice.randbytes(dice.choice((1, 20, 28, 29, 30, 40))))
+        return written_list(dice, [encoded_string(b"\x20"), value])
+
+
+class Node:
+    """A node of the trie: a branch of 17 items, or a leaf or an extension, which the path tells apart."""
+
+    branch = Record([(f"children[{digit}]", Child()) for digit in range(16)] + [("value", STRING)])
+    leaf = Record([("path", PATH), ("value", STRING)])
+    extension = Record([("path", PATH), ("child", Child())])
+
+    def lines(self, name, data):
+        try:
+            items = strict_items(data)
+            if len(items) not in (2, 17):
+                raise Answered("RlpIncorrectListLen")
+        except Answered as answered:
+            raise Wrong(name, answered) from None
+        kind = "branch"
+        if len(items) == 2:
+            try:
+                kind = "leaf" if strict_string(items[0])[:1] >= b"\x20" else "extension"
+            except Answered:
+                kind = "extension"
+        return [f"{name + '.' if name else ''}node: {kind}"] + getattr(self, kind).lines(name, data)
+
+    def written(self, dice):
+        return dice.choice((self.branch, self.leaf, self.extension)).written(dice)
+
+
 # ---- the records
 
 
@@ -343,6 +403,7 @@ KINDS = {
     "account": Record(fields("nonce:u64 balance:u256 storage_root:hash code_hash:hash", TYPES)),
     "block": Record(fields(BLOCK, TYPES), least=3),
     "header": TYPES["header"],
+    "node": Node(),
     "receipt": Typed(dict.fromkeys((1, 2, 3, 4), RECEIPT), RECEIPT),
     "record": NodeRecord(),
     "transaction": TRANSACTION,

@@ -4,9 +4,9 @@ use Rattle.std.specs.Str.Lines.{strip_carriage_return}
 use Rattle.rlp.specs.Views.View.{strict_view_of}
 use Rattle.rlp_tool.specs.Digits.{bytes_in}
 use Rattle.rlp_show.specs.Lines.{Fault, Shape, Shown, fault_text}
-use Rattle.rlp_show.specs.Records.{account, any_receipt, any_transaction, block, header, node_record, withdrawal}
+use Rattle.rlp_show.specs.Records.{account, any_receipt, any_transaction, block, header, node, node_record, withdrawal}
 use Rattle.rlp_show.specs.declared.kind.Kind.{Kind}
-use Rattle.rlp_show.specs.declared.kind.Kind.TheVariants.{Account, Block, Header, Receipt, Record, Transaction, Withdrawal}
+use Rattle.rlp_show.specs.declared.kind.Kind.TheVariants.{Account, Block, Header, Node, Receipt, Record, Transaction, Withdrawal}
 use Rattle.rlp_show.specs.declared.fault.ItemFault.{ItemFault}
 use Rattle.rlp_show.specs.declared.fault.ShowFault.{ShowFault}
 use Rattle.rlp_show.specs.declared.fault.ShowFault.TheVariants.{Wrong, OutOfMemory}
@@ -33,6 +33,7 @@ kind_named name =
     if bytes_eq name (codes "account") then Some Account
     else if bytes_eq name (codes "block") then Some Block
     else if bytes_eq name (codes "header") then Some Header
+    else if bytes_eq name (codes "node") then Some Node
     else if bytes_eq name (codes "receipt") then Some Receipt
     else if bytes_eq name (codes "record") then Some Record
     else if bytes_eq name (codes "transaction") then Some Transaction
@@ -44,6 +45,7 @@ abbrev pub kind_shape : Kind → Shape
 kind_shape Account = account
 kind_shape Block = block
 kind_shape Header = header
+kind_shape Node = node
 kind_shape Receipt = any_receipt
 kind_shape Record = node_record
 kind_shape Transaction = any_transaction

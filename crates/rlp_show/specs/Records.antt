@@ -1,11 +1,13 @@
 -- The fields of each record, by their names in `rlp_ethereum`.
-use Rattle.std.specs.Prelude.{ℕ, ◌%◌, ◌==◌, ◌||◌, nat_lt, if◌then◌else◌, List, [], ◌∷◌, ◌++◌, drop, codes, Result, Ok, Err}
+use Rattle.std.specs.Prelude.{ℕ, ◌/◌, ◌%◌, ◌==◌, ◌||◌, ◌&&◌, nat_lt, if◌then◌else◌, Bool, false, List, [], ◌∷◌, ◌++◌, drop, length, codes, Result, Ok, Err}
 use Rattle.rlp.specs.DecoderError.{DecoderError}
-use Rattle.rlp.specs.DecoderError.TheVariants.{RlpIncorrectListLen, RlpIsTooShort}
+use Rattle.rlp.specs.DecoderError.TheVariants.{RlpIncorrectListLen, RlpIsTooBig, RlpIsTooShort}
+use Rattle.rlp.specs.Format.Split.{begins_as_list}
 use Rattle.rlp.specs.Views.Text.{error_name}
-use Rattle.rlp.specs.Views.View.{View, item_count, item_views}
-use Rattle.rlp_show.specs.Lines.{Field, Shape, Shown, byte_string, field, fields_lines, fixed_bytes, item_within, list_of, list_or_string, number, pairs_lines}
-use Rattle.rlp_show.specs.Lines.{prefix, recipient, record_of, then_lines, truth_value, typed, wrong}
+use Rattle.rlp.specs.Views.View.{View, item_count, item_views, view_string}
+use Rattle.rlp_show.specs.Lines.{Field, Shape, Shown, Worded, byte_string, field, fields_lines, fixed_bytes, fixed_bytes_in, item_within, line, list_of}
+use Rattle.rlp_show.specs.Lines.{list_or_string, number, pairs_lines, prefix, recipient, record_of, string_shape, then_lines, truth_value, typed, wrong}
+use Rattle.rlp_show.specs.Text.{bytes_text}
 
 -- addresses
 abbrev pub address : Shape
@@ -236,3 +238,90 @@ node_record_lines name vs (Ok n) =
 -- node records: the signature, the number of the record, and then each key and its value
 abbrev pub node_record : Shape
 node_record name v = node_record_lines name (item_views v) (item_count v)
+
+-- ---- nodes of the trie
+
+-- whether a first byte begins a hex-prefix encoded path: its first four bits are a flag from 0 to 3, and after an even flag the other four are zero
+abbrev pub begins_path : ℕ → Bool
+begins_path first = nat_lt first 0x40 && ((first / 16 % 2 == 1) || (first % 16 == 0))
+
+-- a hex-prefix encoded path
+abbrev pub path_in : List ℕ → Worded
+path_in [] = Err (codes "Custom(\"path is not hex-prefix encoded\")")
+path_in (first ∷ more) =
+    if begins_path first then Ok (bytes_text (first ∷ more))
+    else Err (codes "Custom(\"path is not hex-prefix encoded\")")
+
+-- paths
+abbrev pub path : Shape
+path = string_shape path_in
+
+-- the hash of a child, or no bytes
+abbrev pub child_hash_in : List ℕ → Worded
+child_hash_in [] = Ok (bytes_text [])
+child_hash_in (d ∷ ds) = fixed_bytes_in 32 (d ∷ ds)
+
+-- a node that is kept in its parent has fewer than 32 bytes
+abbrev pub inline_node : Shape
+inline_node name v = if nat_lt (length v.bytes) 32 then any_item name v else Err (wrong name (error_name RlpIsTooBig))
+
+-- children: a list is a node that is kept in its parent, and a string is the hash of a node, or empty if there is none
+abbrev pub child : Shape
+child name v = if begins_as_list v.bytes then inline_node name v else string_shape child_hash_in name v
+
+-- leaves
+abbrev pub leaf : Shape
+leaf = record_of 2 (field (codes "path") path ∷ field (codes "value") byte_string ∷ [])
+
+-- extensions
+abbrev pub extension : Shape
+extension = record_of 2 (field (codes "path") path ∷ field (codes "child") child ∷ [])
+
+-- branches
+abbrev pub branch : Shape
+branch = record_of 17 (
+    field (codes "children[0]") child
+    ∷ field (codes "children[1]") child
+    ∷ field (codes "children[2]") child
+    ∷ field (codes "children[3]") child
+    ∷ field (codes "children[4]") child
+    ∷ field (codes "children[5]") child
+    ∷ field (codes "children[6]") child
+    ∷ field (codes "children[7]") child
+    ∷ field (codes "children[8]") child
+    ∷ field (codes "children[9]") child
+    ∷ field (codes "children[10]") child
+    ∷ field (codes "children[11]") child
+    ∷ field (codes "children[12]") child
+    ∷ field (codes "children[13]") child
+    ∷ field (codes "children[14]") child
+    ∷ field (codes "children[15]") child
+    ∷ field (codes "value") byte_string
+    ∷ [])
+
+-- whether a path is that of a leaf: the flag is 2 or 3, so that the first byte is at least 32
+abbrev pub flags_leaf : Result (List ℕ) DecoderError → Bool
+flags_leaf (Ok (first ∷ more)) = nat_lt 0x1f first
+flags_leaf (Ok []) = false
+flags_leaf (Err e) = false
+
+-- the same for the items of a node, of which the path is the first
+abbrev pub are_leaf : List View → Bool
+are_leaf [] = false
+are_leaf (first ∷ more) = flags_leaf (view_string first)
+
+-- the line of the kind of a node, and then the lines of the node
+abbrev pub node_of : List ℕ → Shape → Shape
+node_of kind shape name v = then_lines (Ok (line (prefix name ++ codes "node") kind)) (shape name v)
+
+-- a node by its number of items: 17 for a branch, and 2 for a leaf or an extension, which the path tells apart
+abbrev pub node_lines : List ℕ → View → Result ℕ DecoderError → Shown
+node_lines name v (Err e) = Err (wrong name (error_name e))
+node_lines name v (Ok n) =
+    if n == 17 then node_of (codes "branch") branch name v
+    else if n == 2 then (if are_leaf (item_views v) then node_of (codes "leaf") leaf name v else node_of (codes "extension") extension name v)
+    else Err (wrong name (error_name RlpIncorrectListLen))
+
+-- nodes of the trie
+abbrev pub node : Shape
+node name v = node_lines name v (item_count v)

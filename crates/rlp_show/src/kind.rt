@@ -4,7 +4,7 @@ ghost use Rattle.std.specs.Prelude.{◌≡◌};
 
 /// What the program prints for arguments that aren't one known kind.
 pub const USAGE: &str =
-    "usage: rlp_show KIND, where KIND is account, block, header, receipt, record, transaction or withdrawal";
+    "usage: rlp_show KIND, where KIND is account, block, header, node, receipt, record, transaction or withdrawal";
 
 /// The exit status of the program for such arguments.
 pub const UNKNOWN_KIND: u8 = 4;
@@ -18,6 +18,8 @@ pub enum Kind {
     Block,
     /// Headers of blocks.
     Header,
+    /// Nodes of the trie.
+    Node,
     /// Receipts, also in the envelopes of types 1 to 4.
     Receipt,
     /// Node records.
@@ -39,6 +41,7 @@ impl Kind {
             "account" => Some(Kind::Account),
             "block" => Some(Kind::Block),
             "header" => Some(Kind::Header),
+            "node" => Some(Kind::Node),
             "receipt" => Some(Kind::Receipt),
             "record" => Some(Kind::Record),
             "transaction" => Some(Kind::Transaction),

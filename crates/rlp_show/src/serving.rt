@@ -10,6 +10,7 @@ ghost use Rattle.rlp_show.specs.Answer.{kind_answer, shown_answer};
 use crate::envelopes::AnyReceipt;
 use crate::fault::ShowFault;
 use crate::kind::Kind;
+use crate::nodes::Node;
 use crate::show::Show;
 use crate::transactions::AnyTransaction;
 use rlp::Rlp;
@@ -90,6 +91,7 @@ pub fn run<R: Read, W: Write>(
         Kind::Account => answer_lines::<RecordAnswers<Account>, R, W>(alloc, input, output),
         Kind::Block => answer_lines::<RecordAnswers<Block>, R, W>(alloc, input, output),
         Kind::Header => answer_lines::<RecordAnswers<Header>, R, W>(alloc, input, output),
+        Kind::Node => answer_lines::<RecordAnswers<Node>, R, W>(alloc, input, output),
         Kind::Receipt => answer_lines::<RecordAnswers<AnyReceipt>, R, W>(alloc, input, output),
         Kind::Record => answer_lines::<RecordAnswers<NodeFields>, R, W>(alloc, input, output),
         Kind::Transaction => {

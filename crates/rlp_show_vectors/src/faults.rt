@@ -8,7 +8,7 @@ use rlp_show::Kind;
 use std::test::Fail;
 
 /// The kind, the digits, and what is wrong.
-const FAULTS: [Row; 21] = [
+const FAULTS: [Row; 26] = [
     (
         Kind::Transaction,
         &[
@@ -308,6 +308,49 @@ const FAULTS: [Row; 21] = [
         ],
         &["error field 10 (blob_versioned_hashes[1]): RlpIsTooShort\n"],
     ),
+    (
+        Kind::Record,
+        &[
+            "f846b8407098ad865b00a582051940cb9cf36836572411a47278783077011599ed5cd16b",
+            "76f2635f4e234738f30813a89eb9137e3e3df5266e3a1f11df72ecf1145ccb9c01826964",
+        ],
+        &["error RlpIncorrectListLen\n"],
+    ),
+    (
+        Kind::Record,
+        &[
+            "f842b8407098ad865b00a582051940cb9cf36836572411a47278783077011599ed5cd16b",
+            "76f2635f4e234738f30813a89eb9137e3e3df5266e3a1f11df72ecf1145ccb9c",
+        ],
+        &["error RlpIncorrectListLen\n"],
+    ),
+    (
+        Kind::Record,
+        &[
+            "f84db8407098ad865b00a582051940cb9cf36836572411a47278783077011599ed5cd16b",
+            "76f2635f4e234738f30813a89eb9137e3e3df5266e3a1f11df72ecf1145ccb9c01826964",
+            "827634c0827634",
+        ],
+        &["error field 4 (pairs[1].key): RlpExpectedToBeData\n"],
+    ),
+    (
+        Kind::Record,
+        &[
+            "f84bb8407098ad865b00a582051940cb9cf36836572411a47278783077011599ed5cd16b",
+            "76f2635f4e234738f30813a89eb9137e3e3df5266e3a1f11df72ecf1145ccb9c82000182",
+            "6964827634",
+        ],
+        &["error field 1 (sequence): RlpInvalidIndirection\n"],
+    ),
+    (
+        Kind::Record,
+        &[
+            "f84bb8407098ad865b00a582051940cb9cf36836572411a47278783077011599ed5cd16b",
+            "76f2635f4e234738f30813a89eb9137e3e3df5266e3a1f11df72ecf1145ccb9c01836574",
+            "68c3018105",
+        ],
+        &["error field 3 (pairs[0].value[1]): RlpInvalidIndirection\n"],
+    ),
     (Kind::Withdrawal, &[""], &["error RlpExpectedToBeList\n"]),
 ];
 
@@ -321,6 +364,9 @@ fn faults_are_named(rt: HostRuntime) -> Result<(), Fail> {
 fn kinds_have_names(rt: HostRuntime) -> Result<(), Fail> {
     assert_eq!(rt; Kind::named("header"), Some(Kind::Header));
     assert_eq!(rt; Kind::named("transaction"), Some(Kind::Transaction));
+    assert_eq!(rt; Kind::named("block"), Some(Kind::Block));
+    assert_eq!(rt; Kind::named("node"), Some(Kind::Node));
+    assert_eq!(rt; Kind::named("record"), Some(Kind::Record));
     assert_eq!(rt; Kind::named("Header"), None);
     assert_eq!(rt; Kind::named(""), None);
     Ok(())

@@ -8,6 +8,10 @@ mod faults;
 #[cfg(test)]
 mod laws;
 #[cfg(test)]
+mod node_records;
+#[cfg(test)]
+mod nodes;
+#[cfg(test)]
 mod records;
 #[cfg(test)]
 mod support;
