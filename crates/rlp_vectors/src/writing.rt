@@ -1,5 +1,6 @@
 //! Tests of what is written: strings, lists, values, and streams of calls.
 
+mod bounds;
 mod chains;
 mod closing;
 mod encoding;

@@ -4,7 +4,7 @@
 //! nothing else was lost.
 
 use bytes::BytesMut;
-use rlp::{Encodable, RlpStream};
+use rlp::{Encodable, RlpStream, Uint};
 use rlp_examples::Pair;
 use std::alloc::{AllocError, Global};
 use std::test::Fail;
@@ -47,5 +47,29 @@ fn are_made(alloc: Global) -> Result<bool, AllocError> {
 #[test]
 fn what_is_made(rt: HostRuntime) -> Result<(), Fail> {
     assert!(rt; are_made(rt.alloc())?);
+    Ok(())
+}
+
+/// Returns whether values whose bound is known are encoded. Each call but the last makes one request
+/// for memory, and the last makes two: the option is a list, which the stream opens.
+fn are_encoded_at_once(alloc: Global) -> Result<bool, AllocError> {
+    let numbers = [u64::MAX; 500];
+    let list = rlp::encode_list(alloc, numbers.as_slice())?;
+    let texts = rlp::encode_list(alloc, &["cat", "dog"])?;
+    let array = rlp::encode(alloc, &[0x61u8; 32])?;
+    let wide = rlp::encode(alloc, &Uint { bytes: [1; 32] })?;
+    let option = rlp::encode(alloc, &Some(5u64))?;
+    Ok(
+        list.len() == 4_503
+            && texts.as_slice() == b"\xc8\x83cat\x83dog".as_slice()
+            && array.len() == 33
+            && wide.len() == 33
+            && option.as_slice() == [0xc1, 0x05].as_slice(),
+    )
+}
+
+#[test]
+fn what_is_encoded_at_once(rt: HostRuntime) -> Result<(), Fail> {
+    assert!(rt; are_encoded_at_once(rt.alloc())?);
     Ok(())
 }
