@@ -1,6 +1,6 @@
 -- Calls of a script that are made as they are read.
-use Rattle.std.proofs.Common.{◌≡◌, ℕ, ◌-◌, ◌<◌, ◌≤◌, ◌==◌, true, false, nat_eq, List, [], ◌∷◌, ◌++◌, length, take, drop, Option, Some, None, Ok, refl}
-use Rattle.std.proofs.Common.{◌∙◌, sym, ap, arith, position}
+use Rattle.std.proofs.Common.{◌≡◌, ℕ, ◌-◌, ◌<◌, ◌==◌, true, false, nat_eq, List, [], ◌∷◌, ◌++◌, length, take, drop, Option, Some, None, refl}
+use Rattle.std.proofs.Common.{arith, position}
 use Rattle.std.proofs.lemmas.Bool.Decides.{nat_tests}
 use Rattle.rlp.specs.Format.Item.{Item}
 use Rattle.rlp.specs.Streams.Stream.{State, initial_state}

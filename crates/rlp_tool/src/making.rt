@@ -64,11 +64,7 @@ fn make_letter(stream: &mut RlpStream, letter: u8) -> Result<bool, AllocError>
 }
 
 /// Appends the string of `d:HEX`, from behind the colon. Returns `false` if it isn't digits.
-fn make_value(
-    stream: &mut RlpStream,
-    text: &[u8],
-    room: &mut Vec<u8>,
-) -> Result<bool, AllocError>
+fn make_value(stream: &mut RlpStream, text: &[u8], room: &mut Vec<u8>) -> Result<bool, AllocError>
     ensures { IfOk result (λ made. IsTrue made
         → MakesCall (option_map (λ bytes. append (string bytes)) (bytes_in text.now))
         stream.old.state stream.new.state) }

@@ -1,4 +1,4 @@
-use Rattle.std.proofs.Common.{◌∙◌, refl, rules, sym}
+use Rattle.std.proofs.Common.{◌∙◌, sym}
 use Rattle.rlp_tool.proofs.CallsLemmas.{IfOk-map}
 use Rattle.rlp_tool.proofs.MakingLemmas.{making_begin, making_last, making_next, making_none}
 use Rattle.rlp_tool.proofs.making.make_script.Goals as goal

@@ -1,4 +1,4 @@
-use Rattle.std.proofs.Common.{arith, refl, rules}
+use Rattle.std.proofs.Common.{arith, rules}
 use Rattle.rlp_tool.proofs.CallsLemmas.{step_raw}
 use Rattle.rlp_tool.proofs.making.put_raw.Goals as goal
 
