@@ -34,9 +34,7 @@ const NODE_RECORDS: [Row; 3] = [
     ),
     (
         Kind::Record,
-        &[
-            "e282010288ffffffffffffffff83657468c7c6849f3d22548080c078c68180c280c061",
-        ],
+        &["e282010288ffffffffffffffff83657468c7c6849f3d22548080c078c68180c280c061"],
         &[
             "signature: 0x0102\n",
             "sequence: 18446744073709551615\n",
@@ -55,14 +53,8 @@ const NODE_RECORDS: [Row; 3] = [
     ),
     (
         Kind::Record,
-        &[
-            "c28080",
-        ],
-        &[
-            "signature: 0x\n",
-            "sequence: 0\n",
-            "\n",
-        ],
+        &["c28080"],
+        &["signature: 0x\n", "sequence: 0\n", "\n"],
     ),
 ];
 

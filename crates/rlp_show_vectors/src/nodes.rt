@@ -11,9 +11,7 @@ use std::test::Fail;
 const NODES: [Row; 5] = [
     (
         Kind::Node,
-        &[
-            "cb84200001028576616c7565",
-        ],
+        &["cb84200001028576616c7565"],
         &[
             "node: leaf\n",
             "path: 0x20000102\n",
@@ -23,15 +21,8 @@ const NODES: [Row; 5] = [
     ),
     (
         Kind::Node,
-        &[
-            "c23f80",
-        ],
-        &[
-            "node: leaf\n",
-            "path: 0x3f\n",
-            "value: 0x\n",
-            "\n",
-        ],
+        &["c23f80"],
+        &["node: leaf\n", "path: 0x3f\n", "value: 0x\n", "\n"],
     ),
     (
         Kind::Node,
@@ -49,9 +40,7 @@ const NODES: [Row; 5] = [
     ),
     (
         Kind::Node,
-        &[
-            "c91ac782201183646f67",
-        ],
+        &["c91ac782201183646f67"],
         &[
             "node: extension\n",
             "path: 0x1a\n",
@@ -94,11 +83,7 @@ const NODES: [Row; 5] = [
 
 /// The kind, the digits, and what is wrong.
 const FAULTS: [Row; 10] = [
-    (
-        Kind::Node,
-        &["c3206162"],
-        &["error RlpIncorrectListLen\n"],
-    ),
+    (Kind::Node, &["c3206162"], &["error RlpIncorrectListLen\n"]),
     (
         Kind::Node,
         &["c24061"],
