@@ -185,7 +185,11 @@ fn short_digits<'a>(rlp: &Rlp<'a>, width: usize) -> Option<&'a [u8]>
                 return None;
             }
             let digits = &rest[..len];
-            if are_shortest(digits) { Some(digits) } else { None }
+            if are_shortest(digits) {
+                Some(digits)
+            } else {
+                None
+            }
         }
         _ => None,
     }
