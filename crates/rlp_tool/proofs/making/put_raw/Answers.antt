@@ -6,6 +6,6 @@ pub returns : goal.returns
 returns c = λ yes. (
   search rules,
   step_raw c.args.bytes.now c.args.count c.args.stream.now.state c.parts_of_sized_are_sized.ensures.join (omega arith)
-      (c.if-not-raw_items_are_canonical.ensures.0 (search rules)),
+      (search rules),
   search rules,
 )
