@@ -20,7 +20,8 @@ use Rattle.rlp_ethereum.specs.Block.{block as block_codec}
 use Rattle.rlp_ethereum.specs.FeeMarketTransaction.{fee_market_transaction as fee_market_transaction_codec}
 use Rattle.rlp_ethereum.specs.LegacyTransaction.{legacy_transaction_fields}
 use Rattle.rlp_ethereum.specs.SetCodeTransaction.{set_code_transaction as set_code_transaction_codec}
-use Rattle.rlp_ethereum.specs.Transaction.{bytes_alone, transaction as transaction_codec}
+use Rattle.rlp_ethereum.specs.Alone.{bytes_alone}
+use Rattle.rlp_ethereum.specs.Transaction.{transaction as transaction_codec}
 use Rattle.rlp_ethereum.specs.Withdrawal.{withdrawals as withdrawals_codec}
 use Rattle.std.specs.Str.Lines.{strip_carriage_return}
 use Rattle.rlp_tool.specs.Digits.{bytes_in}

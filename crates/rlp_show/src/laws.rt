@@ -5,7 +5,8 @@ ghost use Rattle.std.specs.Prelude.{◌≡◌, ◌<◌, ◌^◌, [], Some, lengt
 ghost use Rattle.std.specs.Str.Lines.{strip_carriage_return};
 ghost use Rattle.rlp.specs.Format.Encoding.{IsSized, encoding};
 ghost use Rattle.rlp_tool.specs.Digits.{bytes_in};
-ghost use Rattle.rlp_ethereum.specs.Transaction.{bytes_alone, transaction};
+ghost use Rattle.rlp_ethereum.specs.Alone.{bytes_alone};
+ghost use Rattle.rlp_ethereum.specs.Transaction.{transaction};
 ghost use Rattle.rlp_ethereum.specs.declared.transaction.Transaction.{Transaction};
 ghost use Rattle.rlp_show.specs.Answer.{kind_answer, record_answer};
 ghost use Rattle.rlp_show.specs.TransactionValues.{transaction_lines};
