@@ -5,7 +5,7 @@ use Rattle.rlp_format.specs.declared.error.DecoderError.TheVariants.{OutOfMemory
 use Rattle.rlp_format.specs.Views.View.{View, item_count}
 use Rattle.rlp.specs.Values.Counted.{ByCount}
 
--- a view of this number of items fails as the struct of so many fields does
+-- a view of this number of items fails as the struct with that number of fields does
 pub same_count_fails : (count m : ℕ) (v : View) (e : DecoderError) {F G M N : Type 0} → item_count v ≡ Ok m → m ≡ count → F ⊎ ((e ≡ OutOfMemory) × M)
     → ByCount count v F G ⊎ ((e ≡ OutOfMemory) × ByCount count v M N)
 same_count_fails count m v e many same h =

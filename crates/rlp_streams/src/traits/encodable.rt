@@ -64,7 +64,7 @@ pub trait Encodable {
 
     /// An upper bound of the number of bytes of the value's encoding, if the type knows one. By
     /// default it is `None`. A call that encodes the value alone, or in a list alone, first takes
-    /// memory for so many bytes, so the bound is best near the number.
+    /// memory for this number of bytes, so the bound should be close to the length.
     fn max_len(&self) -> Option<usize>
         ensures { IfSome result (λ n. length (encoding (item self.now)) ≤ n) }
     {

@@ -157,9 +157,9 @@ const HEADERS: [(usize, &[u8]); 9] = [
     (65_536, &[0xfa, 0x01, 0x00, 0x00]),
 ];
 
-/// Returns whether a list of so many empty strings is the header and as many bytes 80. The values
-/// are written as numbers, whose bound is greater than their length, and as texts, whose bound is
-/// their length.
+/// Returns whether a list of `count` empty strings is written as the header and `count` bytes 80.
+/// The values are written as numbers, whose bound is greater than their length, and as texts, whose
+/// bound is their length.
 fn is_listed(alloc: Global, count: usize, header: &[u8]) -> Result<bool, AllocError> {
     let mut want = Vec::from_slice(alloc, header)?;
     for _ in 0..count {
