@@ -25,7 +25,7 @@ pub use rlp_streams::laws::{
     bytes_go_to_the_end, closed_size_goes_by_length, closing_keeps_what_is_closed,
     constants_are_encodings, finished_streams_gain_encodings,
     finished_streams_have_their_closed_size, growth_is_an_order, growth_of_moves,
-    open_lists_await_items,
+    open_lists_await_items, unbounded_lists_are_finalized_in_turn,
 };
 pub use round_trip::{encoding_is_decoded, list_is_decoded, list_is_read_back, scalar_is_decoded};
 pub use strict::{

@@ -1,8 +1,8 @@
 //! The open lists of a stream, in the order in which they were opened.
 
-ghost use Rattle.std.specs.Prelude.{◌≡◌, reverse, take, vec_capacity};
+ghost use Rattle.std.specs.Prelude.{◌≡◌, ◌≤◌, length, min, reverse, take, vec_capacity};
 ghost use Rattle.rlp_buffer.specs.Streams.Stack.{awaits_after};
-ghost use Rattle.rlp_buffer.specs.Streams.Placeholders.{with_innermost, innermost_awaits, is_innermost_unbounded};
+ghost use Rattle.rlp_buffer.specs.Streams.Placeholders.{with_innermost, innermost_awaits, is_innermost_unbounded, unbounded_innermost, with_awaits};
 
 /// What a stream keeps for an open list.
 #[derive(Clone, Copy)]
@@ -39,6 +39,34 @@ pub fn set_innermost(lists: &mut Vec<Placeholder>, awaits: Option<usize>)
 {
     if let Some(list) = lists.last_mut() {
         list.awaits = awaits;
+    }
+}
+
+/// Returns the number of innermost lists that are unbounded, or `most` if there are more.
+pub fn count_unbounded(lists: &[Placeholder], most: usize) -> usize
+    ensures { result ≡ min most (unbounded_innermost (reverse lists.now)) }
+{
+    let mut rest = lists;
+    let mut count = 0;
+    while count < most
+        && let Some((list, outer)) = rest.split_last()
+        && list.awaits.is_none()
+    {
+        count += 1;
+        rest = outer;
+    }
+    count
+}
+
+/// Sets the number of items that each of the `count` innermost lists awaits.
+pub fn set_awaits(lists: &mut Vec<Placeholder>, count: usize, awaits: Option<usize>)
+    requires { count ≤ length lists.old.items }
+    ensures lists { reverse lists.new.items ≡ with_awaits count awaits (reverse lists.old.items) }
+    ensures list_room { vec_capacity lists.new ≡ vec_capacity lists.old }
+{
+    let last = lists.len();
+    for inside in 0..count {
+        lists[last - 1 - inside].awaits = awaits;
     }
 }
 

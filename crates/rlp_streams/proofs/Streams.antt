@@ -8,6 +8,8 @@ pub mod Opened
 pub mod Listed
 -- a list that is filled item by item
 pub mod Filling
+-- unbounded lists that are finalized in turn
+pub mod InTurn
 -- what a stream retains
 pub mod Retained
 -- fields that are appended one after another

@@ -1,11 +1,11 @@
 //! Laws over the state of a stream. `rlp::laws` re-exports them.
 
-ghost use Rattle.std.specs.Prelude.{◌≡◌, ℕ, List, [], ◌∷◌, ◌++◌, ◌+◌, length, Option};
+ghost use Rattle.std.specs.Prelude.{◌≡◌, ◌<◌, ◌≤◌, ℕ, List, [], ◌∷◌, ◌++◌, ◌+◌, length, replicate, IsTrue, Ok, Option};
 ghost use Rattle.rlp_format.specs.Format.Item.{Item, string, list_of};
 ghost use Rattle.rlp_format.specs.Format.Encoding.{encoding};
 ghost use Rattle.rlp_buffer.specs.Streams.Stream.{State, IsFinished, put, shut, count, with_list, add, put_item, is_list, raw_text, closed_text, closed_size, closed_size_with};
-ghost use Rattle.rlp_buffer.specs.Streams.Stack.{AllAwait};
-ghost use Rattle.rlp_buffer.specs.Streams.Calls.{Call, effect};
+ghost use Rattle.rlp_buffer.specs.Streams.Stack.{AllAwait, unbounded_count};
+ghost use Rattle.rlp_buffer.specs.Streams.Calls.{Call, after_from, effect, finalize_unbounded_list, finalized, is_admitted};
 ghost use Rattle.rlp_streams.specs.Streams.Growth.{GrowsTo};
 
 use crate::{EMPTY_LIST_RLP, NULL_RLP};
@@ -68,4 +68,14 @@ pub fn growth_of_moves()
 /// A bounded list is open only while it awaits an item. No call leaves one open that awaits none.
 pub fn open_lists_await_items()
     ensures { (c : Call) (s : State) → AllAwait s.stack.lists → AllAwait (effect c s).stack.lists }
+{}
+
+/// To finalize innermost lists that are unbounded at once is to finalize them in turn: each call is
+/// admitted, and after all of them the state is the same.
+pub fn unbounded_lists_are_finalized_in_turn()
+    ensures admitted { (n : ℕ) (s : State) → n < unbounded_count s.stack.lists
+        → IsTrue (is_admitted finalize_unbounded_list s)
+        × (n ≤ unbounded_count (effect finalize_unbounded_list s).stack.lists) }
+    ensures in_turn { (n place : ℕ) (s : State) → n ≤ unbounded_count s.stack.lists
+        → after_from place s (replicate n finalize_unbounded_list) ≡ Ok (finalized n s) }
 {}

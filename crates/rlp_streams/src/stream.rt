@@ -1,12 +1,12 @@
 //! Writing: a stream of encodings.
 
-ghost use Rattle.std.specs.Prelude.{◌≡◌, ◌≤◌, ◌<◌, ◌+◌, ◌^◌, ◌↔◌, ℕ, List, IsTrue, IsOk, IfOk, IfErr, OnOk, OnErr, ◌++◌, [], ◌∷◌, length, map, All, false};
+ghost use Rattle.std.specs.Prelude.{◌≡◌, ◌≤◌, ◌<◌, ◌+◌, ◌^◌, ◌↔◌, ℕ, List, IsTrue, IsOk, IfOk, IfErr, OnOk, OnErr, ◌++◌, [], ◌∷◌, length, map, min, All, false};
 ghost use Rattle.std.specs.Borrow.{sem};
 ghost use Rattle.std.specs.Iterator.{IsFiniteIterable};
 ghost use Rattle.std.specs.Option.{SomeIff};
 ghost use Rattle.rlp_format.specs.Format.Item.{string, list_of};
-ghost use Rattle.rlp_buffer.specs.Streams.Stack.{awaited, is_unbounded};
-ghost use Rattle.rlp_buffer.specs.Streams.Calls.{append, append_empty_data, append_raw, append_raw_checked, begin_list, begin_unbounded_list, finalize_unbounded_list, append_internal, clear, effect, is_admitted, is_within_size};
+ghost use Rattle.rlp_buffer.specs.Streams.Stack.{awaited, is_unbounded, unbounded_count};
+ghost use Rattle.rlp_buffer.specs.Streams.Calls.{append, append_empty_data, append_raw, append_raw_checked, begin_list, begin_unbounded_list, finalize_unbounded_list, append_internal, clear, effect, finalized, is_admitted, is_within_size};
 ghost use Rattle.rlp_buffer.specs.Streams.Stream.{initial_state, IsFinished, IsAsBefore, Retains, HasRoomFor, room, raw_text, closed_size, closed_size_with};
 ghost use Rattle.rlp_buffer.specs.Streams.Iterated.{GivesAll};
 ghost use Rattle.rlp_streams.specs.Streams.Chain.{stays_if_refused, rests_if_refused, HoldsStream, LeavesState, MovesWithin, RetainsInChain};
@@ -333,8 +333,41 @@ impl RlpStream {
         ensures retains { Retains self.old self.new }
         ensures moved { self.new.moved ≤ self.old.moved + closed_size self.new.state }
     {
-        self.try_finalize()?;
+        self.try_finalize(1)?;
         Ok(())
+    }
+
+    /// Closes the innermost open lists that are unbounded, at most `most` of them, from the inside
+    /// out, and returns their number. It does the same as that number of calls of
+    /// [`RlpStream::finalize_unbounded_list`], but moves each byte of payload at most once.
+    ///
+    /// A list around them that awaits one item is closed by the last of them. Lists outside it stay
+    /// open.
+    ///
+    /// ```rust
+    /// let mut s = rlp::RlpStream::new(alloc)?;
+    /// s.begin_unbounded_list()?.begin_unbounded_list()?.append(&1u64)?;
+    /// assert!(rt; s.finalize_unbounded_lists(9)? == 2);
+    /// assert_eq!(rt; s.out().as_slice(), [0xc2, 0xc1, 0x01]);
+    /// ```
+    #[tactic(auto, using(rlp_buffer::proofs::Streams::States::size_kept), unfolding(rlp_buffer::specs::Streams::Stream::Retains))]
+    pub fn finalize_unbounded_lists(&mut self, most: usize) -> Result<usize, AllocError>
+        ensures number { IfOk result
+            (λ n. n ≡ min most (unbounded_count self.old.state.stack.lists)) }
+        ensures ok { IfOk result (λ n. self.new.state ≡ finalized n self.old.state) }
+        ensures refused { OnErr result (IsAsBefore self.old self.new) }
+        ensures room { HasRoomFor self.old
+            (finalized (min most (unbounded_count self.old.state.stack.lists)) self.old.state)
+            → IsOk result }
+        ensures size { closed_size self.new.state ≡ closed_size self.old.state }
+        ensures retains { Retains self.old self.new }
+        ensures moved { self.new.moved ≤ self.old.moved + closed_size self.new.state }
+    {
+        let count = self.unbounded_lists(most);
+        if count > 0 {
+            self.try_finalize(count)?;
+        }
+        Ok(count)
     }
 
     /// Drops everything that was written and every open list. The front and the mark stay.

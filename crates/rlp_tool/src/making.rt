@@ -1,10 +1,11 @@
 //! Makes the calls of a script as they are read.
-ghost use Rattle.std.specs.Prelude.{◌≡◌, ◌==◌, ◌≤◌, [], position, option_map, take, vec_len, IfOk, IfSome, IsTrue, OnOk, Some};
+ghost use Rattle.std.specs.Prelude.{◌≡◌, ◌==◌, ◌≤◌, ◌*◌, [], ◌∷◌, length, position, option_map, take, vec_len, IfOk, IfSome, IsTrue, OnOk, Some};
+ghost use Rattle.std.specs.Str.{byte};
 ghost use Rattle.rlp.specs.Format.Item.{string};
 ghost use Rattle.rlp.specs.Streams.Stream.{initial_state};
 ghost use Rattle.rlp.specs.Streams.Calls.{append, append_raw, begin_list};
 ghost use Rattle.rlp_tool.specs.Digits.{bytes_in, number_in};
-ghost use Rattle.rlp_tool.specs.Making.{MakesCall, MakesScript};
+ghost use Rattle.rlp_tool.specs.Making.{BeginsWithEnds, MakesCall, MakesEnds, MakesScript};
 ghost use Rattle.rlp_tool.specs.Script.{call_in, labelled_call, letter_call, raw_parts};
 
 use crate::building::{has_room, raw_items_are_canonical};
@@ -12,7 +13,7 @@ use crate::decoding::decode;
 use crate::digits::{read_number, without_prefix};
 use crate::script::place_of;
 use rlp::RlpStream;
-use rlp::laws::parts_of_sized_are_sized;
+use rlp::laws::{parts_of_sized_are_sized, unbounded_lists_are_finalized_in_turn};
 use std::alloc::{AllocError, Global};
 
 /// Makes the room at least this long.
@@ -152,8 +153,49 @@ fn make_piece(stream: &mut RlpStream, piece: &[u8], room: &mut Vec<u8>) -> Resul
     }
 }
 
+/// The text after the piece `e` and the space that it begins with, if it begins so.
+#[inline(always)]
+fn after_end<'a>(text: &'a [u8]) -> Option<&'a [u8]>
+    ensures { IfSome result (λ rest. text.now ≡ byte "e" ∷ byte " " ∷ rest.now) }
+{
+    match text {
+        [b'e', b' ', others @ ..] => Some(others),
+        _ => None,
+    }
+}
+
+/// The number of pieces `e` that a text begins with, each with the space after it.
+fn leading_ends(text: &[u8]) -> usize
+    ensures pieces { BeginsWithEnds result text.now }
+    ensures within { 2 * result ≤ length text.now }
+{
+    let mut rest = text;
+    let mut count = 0;
+    while let Some(others) = after_end(rest) {
+        count += 1;
+        rest = others;
+    }
+    count
+}
+
+/// Makes the calls of pieces `e` that a text begins with, all at once, as long as they close
+/// unbounded lists of which one is in the other. Returns the rest of the text.
+fn make_ends<'a>(stream: &mut RlpStream, text: &'a [u8]) -> Result<&'a [u8], AllocError>
+    ensures { IfOk result
+        (λ rest. MakesEnds text.now rest.now stream.old.state stream.new.state) }
+{
+    let count = leading_ends(text);
+    if count == 0 {
+        return Ok(text);
+    }
+    let closed = stream.finalize_unbounded_lists(count)?;
+    Ok(&text[2 * closed..])
+}
+
 /// Makes the calls of a script on an empty stream, each as soon as its piece is read. Returns
 /// `false` at the first piece that isn't a call, or whose call fails.
+///
+/// The calls that close lists one after another are made at once, so that each byte moves only once.
 pub(crate) fn make_script(
     alloc: Global,
     text: &[u8],
@@ -162,6 +204,7 @@ pub(crate) fn make_script(
     requires { stream.old.state ≡ initial_state [] }
     ensures { IfOk result (λ made. IsTrue made → MakesScript text.now stream.new.state) }
 {
+    unbounded_lists_are_finalized_in_turn();
     if text.is_empty() {
         return Ok(true);
     }
@@ -172,7 +215,7 @@ pub(crate) fn make_script(
         if !make_piece(stream, piece, &mut room)? {
             return Ok(false);
         }
-        rest = &others[1..];
+        rest = make_ends(stream, &others[1..])?;
     }
     make_piece(stream, rest, &mut room)
 }

@@ -1,13 +1,19 @@
 -- The encoding of a list, alone in a buffer.
-use Rattle.std.proofs.Common.{◌≡◌, ℕ, ◌+◌, ◌-◌, ◌≤◌, List, [], ◌++◌, length, take, drop, length-append, length-drop, append-nil, sym, ap, ◌∙◌, arith}
+use Rattle.std.proofs.Common.{◌≡◌, ℕ, ◌+◌, ◌-◌, ◌≤◌, List, [], ◌∷◌, ◌++◌, length, take, drop, length-append, length-drop, append-nil, sym, ap, ◌∙◌, arith}
 use Rattle.std.proofs.lemmas.List.{drop_at, drop_all, drop-take, length-take-le}
 use Rattle.rlp_format.specs.Format.WrittenHeader.{written_header}
 use Rattle.rlp_buffer.specs.Streams.Stream.{list_encoding}
 
+payload_behind : (b grown : List ℕ) (len : ℕ) → len ≡ length b - 1 → take (length b) grown ≡ b → take len (drop 1 grown) ≡ drop 1 b
+payload_behind [] grown len size front = ap (λ n. take n (drop 1 grown)) size
+payload_behind (byte ∷ b) grown len size front =
+    let whole : 1 + len ≡ length (byte ∷ b) = omega arith in
+    sym (drop-take 1 len grown) ∙ ap (λ n. drop 1 (take n grown)) whole ∙ ap (drop 1) front
+
 -- The payload stands behind the first byte of b. The buffer grows by the header but for a byte, the payload is moved behind the header, and the header is
 -- written.
-pub alone_written : (b grown moved final : List ℕ) (len h at : ℕ) → len + 1 ≡ length b → 1 ≤ h → h ≡ length (written_header 0xc0 len)
-    → take (length b) grown ≡ b → length grown ≡ length b + (h - 1)
+pub alone_written : (b grown moved final : List ℕ) (len h at : ℕ) → len ≡ length b - 1 → 1 ≤ h → h ≡ length (written_header 0xc0 len)
+    → take (length b) grown ≡ b → length grown ≡ h + len
     → moved ≡ take h grown ++ (take len (drop 1 grown) ++ drop (h + len) grown)
     → at + length (written_header 0xc0 (length moved - h)) ≡ h
     → final ≡ take at moved ++ (written_header 0xc0 (length moved - h) ++ drop h moved)
@@ -16,8 +22,7 @@ alone_written b grown moved final len h at many some header front all is begin w
     let rest : List ℕ = take len (drop 1 grown) ++ drop (h + len) grown in
     let first : length (take h grown) ≡ h = length-take-le h grown (omega arith) in
     let none : drop (h + len) grown ≡ [] = drop_all (h + len) grown (omega arith) in
-    let whole : 1 + len ≡ length b = omega arith in
-    let payload : take len (drop 1 grown) ≡ drop 1 b = sym (drop-take 1 len grown) ∙ ap (λ n. drop 1 (take n grown)) whole ∙ ap (drop 1) front in
+    let payload : take len (drop 1 grown) ≡ drop 1 b = payload_behind b grown len many front in
     let stays : rest ≡ drop 1 b = ap (λ z. take len (drop 1 grown) ++ z) none ∙ append-nil (take len (drop 1 grown)) ∙ payload in
     let behind : drop h moved ≡ drop 1 b = ap (drop h) is ∙ drop_at (take h grown) rest h first ∙ stays in
     let size : length moved - h ≡ length (drop 1 b) =

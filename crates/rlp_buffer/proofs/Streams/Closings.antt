@@ -1,14 +1,14 @@
 -- What closing does, step by step, and the state after counting.
-use Rattle.std.proofs.Common.{◌≡◌, ℕ, zero, suc, ◌+◌, ◌-◌, ◌*◌, ◌<◌, ◌≤◌, Bool, true, false, cond, List, [], ◌∷◌, ◌++◌, length, take, drop, reverse}
+use Rattle.std.proofs.Common.{◌≡◌, ℕ, zero, suc, ◌+◌, ◌-◌, ◌*◌, ◌<◌, ◌≤◌, Bool, true, false, cond, min, is_none, None, Some, List, [], ◌∷◌, ◌++◌, length, take, drop, reverse}
 use Rattle.std.proofs.Common.{get_or, set, Option, refl, sym, ◌∙◌, ap, subst, arith, length-append, length-drop, ⊎_elim}
-use Rattle.std.proofs.lemmas.Bool.{cases_lt}
+use Rattle.std.proofs.lemmas.Bool.{cases_lt, cond_both}
 use Rattle.std.proofs.lemmas.List.{take-take, take-append-le, drop_at, drop-drop, drop-take, length-take-le, length_push, set_at, get_or_at}
-use Rattle.std.proofs.lemmas.List.{take-append-drop, reverse-append, reverse-reverse}
+use Rattle.std.proofs.lemmas.List.{take-append-drop, reverse-append, reverse-reverse, length-reverse, get_or-reverse, set-append_left}
 use Rattle.rlp_buffer.specs.declared.open_lists.Placeholder.{Placeholder}
 use Rattle.rlp_format.specs.Format.WrittenHeader.{big_endian, written_header}
 use Rattle.rlp_buffer.specs.Streams.Stack.{is_last, awaits_after}
 use Rattle.rlp_buffer.specs.Streams.Stream.{list_encoding}
-use Rattle.rlp_buffer.specs.Streams.Placeholders.{Descends, with_innermost}
+use Rattle.rlp_buffer.specs.Streams.Placeholders.{Descends, with_innermost, with_awaits, unbounded_innermost}
 use Rattle.rlp_buffer.specs.Streams.Closing.{filled, counted, closed_bytes, header_len, growth, left_of}
 use Rattle.rlp_format.specs.Lemmas.Headers.{written_header_short, written_header_long}
 
@@ -260,6 +260,70 @@ set_last change n lists p q some last is new =
     let same : reverse (reverse lists) ≡ lists = reverse-reverse lists in
     subst (λ ls. reverse (set ls n q) ≡ with_innermost change (reverse lists)) same
     (set_last_reversed change n (reverse lists) p q (rw same some) (rw same last) (rw same is) new)
+
+-- ---- what the innermost lists await
+
+-- an element that is set, in the reversed list
+reverse_set : (xs : List Placeholder) (i k : ℕ) (q : Placeholder) → i + k + 1 ≡ length xs → reverse (set xs i q) ≡ set (reverse xs) k q
+reverse_set [] i k q e = absurd (omega (arith, e))
+reverse_set (x ∷ xs) zero k q e =
+    reverse-append (q ∷ []) xs ∙ sym (ap (λ z. set z k q) (reverse-append (x ∷ []) xs)
+    ∙ set_at (reverse xs) x [] q k (omega (arith, e, length-reverse xs)))
+reverse_set (x ∷ xs) (suc i) k q e =
+    reverse-append (x ∷ []) (set xs i q) ∙ ap (λ z. z ++ x ∷ []) (reverse_set xs i k q (omega (arith, e)))
+    ∙ sym (ap (λ z. set z k q) (reverse-append (x ∷ []) xs) ∙ set-append_left (reverse xs) (x ∷ []) k q (omega (arith, e, length-reverse xs)))
+
+-- one more list awaits that number of items
+awaits_next : (k : ℕ) (w : Option ℕ) (ps : List Placeholder) (d : Placeholder) → k < length ps
+    → set (with_awaits k w ps) k (record (get_or (with_awaits k w ps) k d) { awaits = w }) ≡ with_awaits (suc k) w ps
+awaits_next k w [] d within = absurd (omega (arith, within))
+awaits_next zero w (p ∷ ps) d within = refl
+awaits_next (suc k) w (p ∷ ps) d within = ap (λ qs. record p { awaits = w } ∷ qs) (awaits_next k w ps d (omega (arith, within)))
+
+pub length-with_awaits : (n : ℕ) (w : Option ℕ) (ps : List Placeholder) → length (with_awaits n w ps) ≡ length ps
+length-with_awaits zero w ps = refl
+length-with_awaits (suc n) w [] = refl
+length-with_awaits (suc n) w (p ∷ ps) = ap suc (length-with_awaits n w ps)
+
+-- the same in the order in which the lists were opened
+pub awaits_set : (k i : ℕ) (w : Option ℕ) (old lists : List Placeholder) (p : Placeholder) → i + k + 1 ≡ length lists
+    → reverse lists ≡ with_awaits k w (reverse old) → p ≡ get_or lists i p
+    → reverse (set lists i (record p { awaits = w })) ≡ with_awaits (suc k) w (reverse old)
+awaits_set k i w old lists p place so_far is =
+    let size : k < length (reverse old) = omega (arith, place, length-reverse lists, ap length so_far, length-with_awaits k w (reverse old)) in
+    let mirrored : get_or (reverse lists) k p ≡ get_or lists (length lists - 1 - k) p = get_or-reverse lists k p (omega arith) in
+    let here : length lists - 1 - k ≡ i = omega (arith, place) in
+    let item : p ≡ get_or (with_awaits k w (reverse old)) k p =
+    is ∙ ap (λ n. get_or lists n p) (sym here) ∙ sym mirrored ∙ ap (λ qs. get_or qs k p) so_far in
+    let change : Placeholder → Placeholder = λ q. record q { awaits = w } in
+    reverse_set lists i k (change p) place ∙ ap (λ qs. set qs k (change p)) so_far
+    ∙ ap (λ q. set (with_awaits k w (reverse old)) k (change q)) item ∙ awaits_next k w (reverse old) p size
+
+restored_by : (n position : ℕ) (v w : Option ℕ) (ps : List Placeholder) → suc n ≤ unbounded_innermost (record { position = position; awaits = v } ∷ ps)
+    → (n ≤ unbounded_innermost ps → with_awaits n None (with_awaits n w ps) ≡ ps)
+    → with_awaits (suc n) None (with_awaits (suc n) w (record { position = position; awaits = v } ∷ ps)) ≡ record { position = position; awaits = v } ∷ ps
+restored_by n position None w ps few rest = ap (λ qs. record { position = position; awaits = None } ∷ qs) (rest (omega (arith, few)))
+restored_by n position (Some v) w ps few rest = absurd (omega (arith, few))
+
+-- unbounded lists that are made unbounded again are as before
+pub awaits_restored : (n : ℕ) (w : Option ℕ) (ps : List Placeholder) → n ≤ unbounded_innermost ps → with_awaits n None (with_awaits n w ps) ≡ ps
+awaits_restored zero w ps few = refl
+awaits_restored (suc n) w [] few = refl
+awaits_restored (suc n) w (p ∷ ps) few = restored_by n p.position p.awaits w ps few (awaits_restored n w ps)
+
+-- only open lists are unbounded
+pub unbounded_le : (ps : List Placeholder) → unbounded_innermost ps ≤ length ps
+unbounded_le [] = omega arith
+unbounded_le (p ∷ ps) =
+    let rest = unbounded_le ps in
+    cond_both (is_none p.awaits) (suc (unbounded_innermost ps)) 0 (λ n. n ≤ suc (length ps)) (λ _. omega (arith, rest)) (λ _. omega arith)
+
+-- ---- the search for unbounded lists
+
+-- the progress of the search: this number of lists is found, and the next are `ps`
+pub record Found (most : ℕ) (whole : List Placeholder) (count : ℕ) (ps : List Placeholder) : Type 0 where
+  pub within : count ≤ most
+  pub all : min most (unbounded_innermost whole) ≡ count + min (most - count) (unbounded_innermost ps)
 
 -- bytes that are already at their place
 pub shifted_none : (bytes : List ℕ) (from len to : ℕ) → from ≡ to → bytes ≡ take to bytes ++ (take len (drop from bytes) ++ drop (to + len) bytes)

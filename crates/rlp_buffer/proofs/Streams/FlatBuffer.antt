@@ -1,14 +1,15 @@
 -- How putting, opening and counting change the state that a stream's bytes represent.
-use Rattle.std.proofs.Common.{◌≡◌, ℕ, zero, suc, nat_eq, nat_lt, ◌+◌, ◌<◌, ◌≤◌, Bool, true, false, IsTrue, cond, List, [], ◌∷◌, ◌++◌, length, take}
-use Rattle.std.proofs.Common.{drop, Some, refl, sym, ◌∙◌, ap, arith, append_assoc, append-nil, length-append, length-drop, subst}
+use Rattle.std.proofs.Common.{◌≡◌, ℕ, zero, suc, nat_eq, nat_lt, ◌+◌, ◌<◌, ◌≤◌, Bool, true, false, cond, List, [], ◌∷◌, ◌++◌, Option, length, take}
+use Rattle.std.proofs.Common.{drop, None, Some, is_none, refl, sym, ◌∙◌, ap, arith, append_assoc, append-nil, length-append, length-drop, subst}
 use Rattle.std.proofs.lemmas.Bool.{cond_both}
 use Rattle.std.proofs.lemmas.Bool.Decides.{nat_tests}
 use Rattle.std.proofs.lemmas.List.{take-take, take-append-le, drop-append-le, take_at, drop_all, length-take-le, length_push, take-append-drop}
 use Rattle.rlp_buffer.specs.declared.open_lists.Placeholder.{Placeholder}
-use Rattle.rlp_buffer.specs.Streams.Stack.{OpenList, is_last, awaits_after, count_around, mark_after, is_unbounded, closed_payload_around}
+use Rattle.rlp_buffer.specs.Streams.Stack.{OpenList, Stack, is_last, awaits_after, count_around, mark_after, unbounded_count, closed_payload_around}
 use Rattle.rlp_format.specs.Format.WrittenHeader.{written_header}
-use Rattle.rlp_buffer.specs.Streams.Stream.{list_encoding, put, shut, with_list, with_mark, count, raw_text, closed_size}
-use Rattle.rlp_buffer.specs.Streams.Placeholders.{begin_of, lists_of, Placed, IsLaid, Descends, with_innermost}
+use Rattle.rlp_buffer.specs.Streams.Stream.{State, list_encoding, put, with_list, count, raw_text, closed_size}
+use Rattle.rlp_buffer.specs.Streams.Calls.{finalized}
+use Rattle.rlp_buffer.specs.Streams.Placeholders.{begin_of, lists_of, Placed, IsLaid, Descends, with_awaits, unbounded_innermost}
 use Rattle.rlp_buffer.specs.Streams.Closing.{filled, counted, closed_bytes, left_of}
 use Rattle.rlp_buffer.specs.Streams.Layout.{stack_of, state_of}
 use Rattle.rlp_buffer.proofs.Streams.States.{raw_text-put, raw_text-with_list}
@@ -249,21 +250,85 @@ state_put_counted k start b x ps m n h e =
 pub not_empty : (n : ℕ) → false ≡ nat_eq n 0 → 0 < n
 not_empty n e = grind (arith, nat_tests)
 
--- ---- an unbounded list is finalized: it is closed like a list that awaits its last item
+-- ---- unbounded lists are finalized: they are closed like lists that each await their last item
 
--- the lists, with one item awaited by the innermost
-abbrev pub with_last : List Placeholder → List Placeholder
-with_last ps = with_innermost (λ _. Some 1) ps
+-- the lists, of which each of the n innermost awaits one item
+abbrev pub with_last : ℕ → List Placeholder → List Placeholder
+with_last n ps = with_awaits n (Some 1) ps
 
--- a list that awaits one item has the same layout
-pub laid_last : (start : ℕ) (b : List ℕ) (ps : List Placeholder) → IsLaid start b ps → IsLaid start b (with_last ps)
-laid_last start b [] h = h
-laid_last start b (p ∷ ps) h = (record { within = h.0.within; placeholder = h.0.placeholder; awaits_some = omega arith }, h.1)
+-- lists that await one item have the same layout
+pub laid_last : (n start : ℕ) (b : List ℕ) (ps : List Placeholder) → IsLaid start b ps → IsLaid start b (with_last n ps)
+laid_last zero start b ps h = h
+laid_last (suc n) start b [] h = h
+laid_last (suc n) start b (p ∷ ps) h =
+    (record { within = h.0.within; placeholder = h.0.placeholder; awaits_some = omega arith }, laid_last n start (take p.position b) ps h.1)
 
--- to finalize the innermost list is to count the one item that it awaits
-pub state_finalized : (start : ℕ) (b : List ℕ) (ps : List Placeholder) (m : Bool) → IsLaid start b ps → IsTrue (is_unbounded (lists_of start b ps))
-    → state_of start (closed_bytes (filled 1 (with_last ps)) b [] (with_last ps)) (counted 1 (with_last ps)) true
-    ≡ with_mark true (count 1 (shut (state_of start b ps m)))
-state_finalized start b [] m h unbounded = absurd (let no : ⊥ = cc in no)
-state_finalized start b (p ∷ ps) m h unbounded =
-    state_counted 1 start b (with_last (p ∷ ps)) m true (laid_last start b (p ∷ ps) h) refl
+-- the same open lists, of which each of the n innermost awaits one item
+abbrev each_last : ℕ → List (OpenList ℕ) → List (OpenList ℕ)
+each_last zero ls = ls
+each_last (suc n) [] = []
+each_last (suc n) (l ∷ ls) = record l { awaits = Some 1 } ∷ each_last n ls
+
+begin_last : (n start : ℕ) (ps : List Placeholder) → begin_of start (with_last n ps) ≡ begin_of start ps
+begin_last zero start ps = refl
+begin_last (suc n) start [] = refl
+begin_last (suc n) start (p ∷ ps) = refl
+
+lists_last : (n start : ℕ) (b : List ℕ) (ps : List Placeholder) → lists_of start b (with_last n ps) ≡ each_last n (lists_of start b ps)
+lists_last zero start b ps = refl
+lists_last (suc n) start b [] = refl
+lists_last (suc n) start b (p ∷ ps) =
+    let rest = take p.position b in
+    let first : List (OpenList ℕ) → ℕ → List (OpenList ℕ) = λ ls begin. record { awaits = Some 1; outer = drop begin rest } ∷ ls in
+    ap (λ ls. first ls (begin_of start (with_last n ps))) (lists_last n start rest ps)
+    ∙ ap (λ begin. first (each_last n (lists_of start rest ps)) begin) (begin_last n start ps)
+
+-- the open lists that are unbounded are those with such a placeholder
+pub unbounded_lists : (start : ℕ) (b : List ℕ) (ps : List Placeholder) → unbounded_count (lists_of start b ps) ≡ unbounded_innermost ps
+unbounded_lists start b [] = refl
+unbounded_lists start b (p ∷ ps) = ap (λ n. cond (is_none p.awaits) (suc n) 0) (unbounded_lists start (take p.position b) ps)
+
+abbrev state_with : List ℕ → Stack ℕ → Bool → State
+state_with f s m = record { front = f; stack = s; mark = m }
+
+-- a count in an unbounded list changes nothing
+pub count_unbounded : (p : List ℕ) (ls : List (OpenList ℕ)) → 0 < unbounded_count ls
+    → count_around list_encoding 1 p ls ≡ record { inner = p; lists = ls }
+count_unbounded p [] some = absurd (let no : 0 < 0 = some in omega arith)
+count_unbounded p (l ∷ ls) some = by_awaits l.awaits l.outer some
+  where
+    by_awaits : (awaits : Option ℕ) (outer : List ℕ) → 0 < unbounded_count (record { awaits = awaits; outer = outer } ∷ ls)
+        → count_around list_encoding 1 p (record { awaits = awaits; outer = outer } ∷ ls)
+        ≡ record { inner = p; lists = record { awaits = awaits; outer = outer } ∷ ls }
+    by_awaits None outer some = refl
+    by_awaits (Some n) outer some = absurd (let no : 0 < 0 = some in omega arith)
+
+pub unbounded_around : (l : OpenList ℕ) (ls : List (OpenList ℕ)) (n : ℕ) → suc n ≤ unbounded_count (l ∷ ls) → n ≤ unbounded_count ls
+unbounded_around l ls n many = by_awaits l.awaits many
+  where
+    by_awaits : (awaits : Option ℕ) → suc n ≤ cond (is_none awaits) (suc (unbounded_count ls)) 0 → n ≤ unbounded_count ls
+    by_awaits None many = omega (arith, many)
+    by_awaits (Some k) many = absurd (omega (arith, many))
+
+-- to finalize the innermost lists, one after another, is to count the one item that the innermost of them awaits, if the others await one too
+finalized_by_count : (n : ℕ) (f p : List ℕ) (ls : List (OpenList ℕ)) (m : Bool) → suc n ≤ unbounded_count ls
+    → state_with f (count_around list_encoding 1 p (each_last (suc n) ls)) true ≡ finalized (suc n) (state_with f (record { inner = p; lists = ls }) m)
+finalized_by_count n f p [] m many = absurd (let no : suc n ≤ 0 = many in omega arith)
+finalized_by_count zero f p (l ∷ ls) m many = refl
+finalized_by_count (suc n) f p (l ∷ ls) m many =
+    let payload = l.outer ++ list_encoding p in
+    let more = unbounded_around l ls (suc n) many in
+    finalized_by_count n f payload ls true more
+    ∙ ap (λ s. finalized (suc n) (state_with f s true)) (sym (count_unbounded payload ls (omega (arith, more))))
+
+-- to finalize the innermost lists is to count the items that they await
+pub state_finalized : (n start : ℕ) (b : List ℕ) (ps : List Placeholder) (m : Bool) → IsLaid start b ps → 0 < n
+    → n ≤ unbounded_count (lists_of start b ps)
+    → state_of start (closed_bytes (filled 1 (with_last n ps)) b [] (with_last n ps)) (counted 1 (with_last n ps)) true
+    ≡ finalized n (state_of start b ps m)
+state_finalized zero start b ps m h some many = absurd (let no : 0 < 0 = some in omega arith)
+state_finalized (suc n) start b [] m h some many = absurd (let no : suc n ≤ 0 = many in omega arith)
+state_finalized (suc n) start b (p ∷ ps) m h some many =
+    state_counted 1 start b (with_last (suc n) (p ∷ ps)) m true (laid_last (suc n) start b (p ∷ ps) h) refl
+    ∙ ap (λ ls. state_with (take start b) (count_around list_encoding 1 (drop (p.position + 1) b) ls) true) (lists_last (suc n) start b (p ∷ ps))
+    ∙ finalized_by_count n (take start b) (drop (p.position + 1) b) (lists_of start b (p ∷ ps)) m many

@@ -1,15 +1,16 @@
 -- The room of a stream, by that of its buffer and of its open lists.
 use Rattle.std.proofs.Common.{◌≡◌, ℕ, ◌+◌, ◌-◌, ◌^◌, ◌<◌, ◌≤◌, ◌⊎◌, Bool, List, [], ◌∷◌, ◌++◌, Option, length, sym, ◌∙◌, ap, arith, append-nil}
-use Rattle.std.proofs.Common.{length-append, ⊎_elim, inl, inr, refl, true, IsTrue}
+use Rattle.std.proofs.Common.{length-append, ⊎_elim, inl, inr, refl, true}
 use Rattle.std.proofs.lemmas.Bool.{cond_both}
 use Rattle.std.proofs.lemmas.List.{take-append-drop}
 use Rattle.rlp_format.specs.Format.Item.{Item, string, list}
 use Rattle.rlp_format.specs.Format.Encoding.{encoding}
 use Rattle.rlp_format.specs.Format.WrittenHeader.{written_header}
 use Rattle.rlp_buffer.specs.declared.open_lists.Placeholder.{Placeholder}
-use Rattle.rlp_buffer.specs.Streams.Stack.{OpenList, Stack, mark_after, is_unbounded, is_last, awaits_after, count_around}
-use Rattle.rlp_buffer.specs.Streams.Stream.{State, Seen, Retains, HasRoomFor, IsFinished, raw_text, list_encoding, put, put_item, add, shut}
-use Rattle.rlp_buffer.specs.Streams.Stream.{with_list, with_mark, count}
+use Rattle.rlp_buffer.specs.Streams.Stack.{OpenList, Stack, mark_after, unbounded_count, is_last, awaits_after, count_around}
+use Rattle.rlp_buffer.specs.Streams.Stream.{State, Seen, Retains, HasRoomFor, IsFinished, raw_text, list_encoding, put, put_item, add}
+use Rattle.rlp_buffer.specs.Streams.Stream.{with_list, count}
+use Rattle.rlp_buffer.specs.Streams.Calls.{finalized}
 use Rattle.rlp_buffer.specs.Streams.Placeholders.{lists_of, IsLaid}
 use Rattle.rlp_buffer.specs.Streams.Closing.{filled, counted, closed_bytes, growth}
 use Rattle.rlp_buffer.specs.Streams.Layout.{state_of}
@@ -69,20 +70,20 @@ short_to_count k start b x ps m v laid is short has =
     short_of k start (b ++ x) ps n v (length x) (count k (put x v.state)) (laid_append start b x ps laid) (omega (arith, before, now, length-append b x))
     (state_put_counted k start b x ps m n laid refl ∙ ap (λ s. count k (put x s)) (sym is)) short has
 
--- a refused count that finalizes a list had no room either
-pub short_to_finalize : (start : ℕ) (b : List ℕ) (ps qs : List Placeholder) (m : Bool) (spare : ℕ) (v : Seen) → IsLaid start b ps
-    → IsTrue (is_unbounded (lists_of start b ps)) → qs ≡ with_last ps → v.state ≡ state_of start b ps m → v.spare ≡ spare
-    → (2 ^ 63 ≤ length (b ++ [])) ⊎ (spare < 0 + growth (filled 1 qs) (length (b ++ [])) 0 qs) → HasRoomFor v (with_mark true (count 1 (shut v.state))) → ⊥
-short_to_finalize start b ps qs m spare v laid unbounded last is room short has =
+-- a refused count that finalizes lists had no room either
+pub short_to_finalize : (n start : ℕ) (b : List ℕ) (ps qs : List Placeholder) (m : Bool) (spare : ℕ) (v : Seen) → IsLaid start b ps → 0 < n
+    → n ≤ unbounded_count (lists_of start b ps) → qs ≡ with_last n ps → v.state ≡ state_of start b ps m → v.spare ≡ spare
+    → (2 ^ 63 ≤ length (b ++ [])) ⊎ (spare < 0 + growth (filled 1 qs) (length (b ++ [])) 0 qs) → HasRoomFor v (finalized n v.state) → ⊥
+short_to_finalize n start b ps qs m spare v laid some many last is room short has =
     let before = ap length (raw_state start b ps m laid) in
     let now = ap (λ s. length (raw_text s)) is in
     let none = ap length (append-nil b) in
-    let grows : growth (filled 1 qs) (length (b ++ [])) 0 qs ≡ growth (filled 1 (with_last ps)) (length b) 0 (with_last ps) =
-    ap (λ n. growth (filled 1 qs) n 0 qs) none ∙ ap (λ rs. growth (filled 1 rs) (length b) 0 rs) last in
-    let lacks : (2 ^ 63 ≤ length b) ⊎ (v.spare < 0 + growth (filled 1 (with_last ps)) (length b) 0 (with_last ps)) =
+    let grows : growth (filled 1 qs) (length (b ++ [])) 0 qs ≡ growth (filled 1 (with_last n ps)) (length b) 0 (with_last n ps) =
+    ap (λ k. growth (filled 1 qs) k 0 qs) none ∙ ap (λ rs. growth (filled 1 rs) (length b) 0 rs) last in
+    let lacks : (2 ^ 63 ≤ length b) ⊎ (v.spare < 0 + growth (filled 1 (with_last n ps)) (length b) 0 (with_last n ps)) =
     ⊎_elim (λ many. inl (omega (arith, many, none))) (λ few. inr (omega (arith, few, room, grows))) short in
-    short_of 1 start b (with_last ps) true v 0 (with_mark true (count 1 (shut v.state))) (laid_last start b ps laid) (omega (arith, before, now))
-    (state_finalized start b ps m laid unbounded ∙ ap (λ s. with_mark true (count 1 (shut s))) (sym is)) lacks has
+    short_of 1 start b (with_last n ps) true v 0 (finalized n v.state) (laid_last n start b ps laid) (omega (arith, before, now))
+    (state_finalized n start b ps m laid some many ∙ ap (finalized n) (sym is)) lacks has
 
 -- a refused string had no room in the stream
 pub short_to_put : (x : List ℕ) (v : Seen) → v.spare < length x → HasRoomFor v (put x v.state) → ⊥

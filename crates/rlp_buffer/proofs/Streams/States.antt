@@ -1,5 +1,5 @@
 -- How the steps of a stream change the texts of its state.
-use Rattle.std.proofs.Common.{◌≡◌, ℕ, ◌+◌, ◌<◌, ◌≤◌, ◌^◌, nat_le, arith, Bool, true, false, cond, List, [], ◌∷◌, ◌++◌, length, replicate, flat_map}
+use Rattle.std.proofs.Common.{◌≡◌, ℕ, zero, suc, ◌+◌, ◌<◌, ◌≤◌, ◌^◌, nat_le, arith, Bool, true, false, cond, List, [], ◌∷◌, ◌++◌, length, replicate, flat_map}
 use Rattle.std.proofs.Common.{Option, refl, sym, ap, ◌∙◌, append-nil, append_assoc, length-append}
 use Rattle.std.proofs.lemmas.Bool.Decides.{nat_tests}
 use Rattle.std.proofs.lemmas.List.{length-replicate}
@@ -8,7 +8,7 @@ use Rattle.rlp_format.specs.Format.Item.{Item, string, list}
 use Rattle.rlp_format.specs.Format.WrittenHeader.{written_header}
 use Rattle.rlp_format.specs.Format.Encoding.{encoding}
 use Rattle.rlp_buffer.specs.Streams.Stack.{OpenList, Level, Stack, top_around, levels_around, closed_payload_around, count_around, is_last}
-use Rattle.rlp_buffer.specs.Streams.Calls.{effect, finalize_unbounded_list, is_within_size}
+use Rattle.rlp_buffer.specs.Streams.Calls.{effect, finalize_unbounded_list, finalized, is_within_size}
 use Rattle.rlp_buffer.specs.Streams.Stream.{State, IsFinished, list_encoding, put, shut, count, with_list, add, put_item, is_list, raw_text}
 use Rattle.rlp_buffer.specs.Streams.Stream.{closed_text, closed_size, closed_size_with}
 
@@ -61,8 +61,17 @@ closed_size-put x s =
     ∙ sym (length-append s.stack.inner (replicate (length x) 0)))
 
 -- finalizing a list closes it, and counts it in the list around
-pub size_kept : (s t : State) → t ≡ effect finalize_unbounded_list s → closed_size t ≡ closed_size s
-size_kept s t e = ap closed_size e ∙ ap length (closed_text-count 1 (shut s) ∙ closed_text-shut s)
+size-finalized : (n : ℕ) (s : State) → closed_size (finalized n s) ≡ closed_size s
+size-finalized zero s = refl
+size-finalized (suc n) s = size-finalized n (effect finalize_unbounded_list s) ∙ ap length (closed_text-count 1 (shut s) ∙ closed_text-shut s)
+
+pub size_kept-one : (s t : State) → t ≡ effect finalize_unbounded_list s → closed_size t ≡ closed_size s
+size_kept-one s t e = ap closed_size e ∙ size-finalized 1 s
+
+pub size_kept-each : (n : ℕ) (s t : State) → t ≡ finalized n s → closed_size t ≡ closed_size s
+size_kept-each n s t e = ap closed_size e ∙ size-finalized n s
+
+pub ruleset size_kept = (size_kept-one, size_kept-each)
 
 -- the test of a size that was found, and of one that is too large to be found
 pub within_size-found : (bytes : List ℕ) (limit size : ℕ) (s : State) → size ≡ closed_size_with (length bytes) s

@@ -41,6 +41,11 @@ effect (append_internal x) s = put_item x s
 effect (encode_value t) s = put (encoding (string t)) s
 effect clear s = record s { stack = empty_stack }
 
+-- the state after n lists were finalized, one after another
+abbrev pub finalized : ℕ → State → State
+finalized zero s = s
+finalized (suc n) s = finalized n (effect finalize_unbounded_list s)
+
 -- Whether a call may be made. Raw bytes may count at most the number of items that the innermost list awaits. Only an unbounded list is finalized. All other
 -- calls may always be made.
 abbrev pub is_admitted : Call → State → Bool

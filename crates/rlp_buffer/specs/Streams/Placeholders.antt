@@ -1,5 +1,5 @@
 -- The places of the open lists in a stream's bytes. The placeholders go from the inside out.
-use Rattle.std.specs.Prelude.{ℕ, ◌≡◌, ◌+◌, ◌<◌, ◌≤◌, List, [], ◌∷◌, ◌++◌, length, take, drop, Option, None, Bool, false, is_none}
+use Rattle.std.specs.Prelude.{ℕ, zero, suc, if◌then◌else◌, ◌≡◌, ◌+◌, ◌<◌, ◌≤◌, List, [], ◌∷◌, ◌++◌, length, take, drop, Option, None, Bool, false, is_none}
 use Rattle.rlp_buffer.specs.declared.open_lists.Placeholder.{Placeholder}
 use Rattle.rlp_buffer.specs.Streams.Stack.{OpenList, AwaitsSome}
 
@@ -33,6 +33,17 @@ Descends end (p ∷ ps) = (p.position < end) × Descends p.position ps
 abbrev pub with_innermost : (Option ℕ → Option ℕ) → List Placeholder → List Placeholder
 with_innermost change [] = []
 with_innermost change (p ∷ ps) = record p { awaits = change p.awaits } ∷ ps
+
+-- the lists, of which each of the n innermost awaits this number of items
+abbrev pub with_awaits : ℕ → Option ℕ → List Placeholder → List Placeholder
+with_awaits zero awaits ps = ps
+with_awaits (suc n) awaits [] = []
+with_awaits (suc n) awaits (p ∷ ps) = record p { awaits = awaits } ∷ with_awaits n awaits ps
+
+-- the number of innermost lists that are unbounded
+abbrev pub unbounded_innermost : List Placeholder → ℕ
+unbounded_innermost [] = 0
+unbounded_innermost (p ∷ ps) = if is_none p.awaits then suc (unbounded_innermost ps) else 0
 
 -- the number of items that the innermost list awaits, if a list is open and it is bounded
 abbrev pub innermost_awaits : List Placeholder → Option ℕ

@@ -1,5 +1,5 @@
 -- Open lists, one inside the other, and the payload of each. In a stream payloads are bytes. Over items the same moves say what the bytes mean.
-use Rattle.std.specs.Prelude.{ℕ, ◌-◌, ◌<◌, Bool, true, false, if◌then◌else◌, nat_le, List, [], ◌∷◌, ◌++◌, Option, Some, None, All}
+use Rattle.std.specs.Prelude.{ℕ, suc, ◌-◌, ◌<◌, Bool, true, false, if◌then◌else◌, nat_le, List, [], ◌∷◌, ◌++◌, Option, Some, None, is_none, All}
 
 -- An open list, seen from inside: the number of items that it still awaits, which is 1 or more, or `None` if it is unbounded; and the payload before it in the
 -- list around it.
@@ -122,6 +122,11 @@ is_unbounded (l ∷ ls) = none_in l.awaits
     none_in : Option ℕ → Bool
     none_in None = true
     none_in (Some n) = false
+
+-- the number of innermost open lists that are unbounded: those inside the innermost bounded list, or all if none is bounded
+abbrev pub unbounded_count : {A : Type 0} → List (OpenList A) → ℕ
+unbounded_count [] = 0
+unbounded_count (l ∷ ls) = if is_none l.awaits then suc (unbounded_count ls) else 0
 
 -- the number of items that the innermost open list awaits, if a list is open and it is bounded
 abbrev pub awaited : {A : Type 0} → List (OpenList A) → Option ℕ

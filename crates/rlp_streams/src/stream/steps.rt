@@ -1,11 +1,11 @@
 //! The steps of a stream's public calls.
 
-ghost use Rattle.std.specs.Prelude.{◌≡◌, ◌≤◌, ◌<◌, ◌+◌, ◌*◌, ◌++◌, ℕ, List, [], IsTrue, IsOk, OnOk, OnErr, length, false};
+ghost use Rattle.std.specs.Prelude.{◌≡◌, ◌≤◌, ◌<◌, ◌+◌, ◌*◌, ◌++◌, ℕ, List, [], IsTrue, IsOk, OnOk, OnErr, length, min, false};
 ghost use Rattle.std.specs.Iterator.{IsFiniteIterable};
 ghost use Rattle.rlp_format.specs.Format.Item.{string};
 ghost use Rattle.rlp_format.specs.Format.Encoding.{encoding};
-ghost use Rattle.rlp_buffer.specs.Streams.Stack.{AwaitsSome, is_unbounded};
-ghost use Rattle.rlp_buffer.specs.Streams.Calls.{append, effect, finalize_unbounded_list, is_within_size, with_list_of};
+ghost use Rattle.rlp_buffer.specs.Streams.Stack.{AwaitsSome, unbounded_count};
+ghost use Rattle.rlp_buffer.specs.Streams.Calls.{append, effect, finalized, is_within_size, with_list_of};
 ghost use Rattle.rlp_buffer.specs.Streams.Stream.{HasRoomFor, State, IsAsBefore, IsFinished, Retains, put, with_list, count, add, put_item, closed_size, closed_size_with};
 ghost use Rattle.rlp_streams.specs.Streams.Growth.{GrowsTo};
 ghost use Rattle.rlp_streams.specs.Streams.Places.{IsPlaceOf};
@@ -16,7 +16,7 @@ use crate::stream::RlpStream;
 use crate::traits::Encodable;
 use rlp_buffer::buffer::strings::{write_string, write_string_of};
 use rlp_buffer::closing::put_counted;
-use rlp_buffer::open_lists::{Placeholder, set_innermost};
+use rlp_buffer::open_lists::{Placeholder, count_unbounded, set_awaits};
 use rlp_buffer::rewinding::{Place, place_of, rewind};
 use std::alloc::AllocError;
 
@@ -150,27 +150,34 @@ impl RlpStream {
         Ok(())
     }
 
-    /// Closes the innermost list, which is unbounded, and counts it in the list around it. It does
-    /// what the last item does in a list that awaits one.
+    /// The number of innermost open lists that are unbounded, or `most` if there are more.
+    #[tactic(auto, using(rlp_buffer::proofs::Streams::FlatBuffer::unbounded_lists))]
+    pub(super) fn unbounded_lists(&self, most: usize) -> usize
+        ensures { result ≡ min most (unbounded_count self.now.state.stack.lists) }
+    {
+        count_unbounded(&self.lists, most)
+    }
+
+    /// Closes the `count` innermost lists, which are unbounded, one after another, and counts each
+    /// in the list around it. It does what the last item does in lists that each await one.
     #[tactic(auto, unfolding(rlp_buffer::specs::Streams::Stream::Retains))]
-    pub(super) fn try_finalize(&mut self) -> Result<(), AllocError>
-        requires { IsTrue (is_unbounded self.old.state.stack.lists) }
-        ensures ok { OnOk result
-            (self.new.state ≡ effect finalize_unbounded_list self.old.state) }
+    pub(super) fn try_finalize(&mut self, count: usize) -> Result<(), AllocError>
+        requires some { 0 < count }
+        requires open { count ≤ unbounded_count self.old.state.stack.lists }
+        ensures ok { OnOk result (self.new.state ≡ finalized count self.old.state) }
         ensures refused { OnErr result (IsAsBefore self.old self.new) }
-        ensures room { HasRoomFor self.old (effect finalize_unbounded_list self.old.state)
-            → IsOk result }
+        ensures room { HasRoomFor self.old (finalized count self.old.state) → IsOk result }
         ensures moved { self.new.moved ≤ self.old.moved + closed_size self.new.state }
         ensures retains { Retains self.old self.new }
     {
-        set_innermost(&mut self.lists, Some(1));
+        set_awaits(&mut self.lists, count, Some(1));
         match put_counted(&mut self.buffer, &mut self.lists, &[], 1) {
             Ok(_) => {
                 self.mark = true;
                 Ok(())
             }
             Err(e) => {
-                set_innermost(&mut self.lists, None);
+                set_awaits(&mut self.lists, count, None);
                 Err(e)
             }
         }

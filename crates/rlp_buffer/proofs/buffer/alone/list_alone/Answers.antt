@@ -10,6 +10,6 @@ returns c =
     let front : take (length b) c.advance_mut.new.self.items ≡ b =
     ap (λ z. take (length z) c.advance_mut.new.self.items) (sym same) ∙ c.advance_mut.ensures.front ∙ same in
     c.into_bytes.ensures.items
-    ∙ alone_written b c.advance_mut.new.self.items _ _ _ _ _ (omega (arith, c.requires, c.len-len.ensures.value, ap length c.new-buffer.ensures.items))
-    c.list_header_len-header.ensures.some c.list_header_len-header.ensures.value front (omega (arith, c.advance_mut.ensures.len, size))
+    ∙ alone_written b c.advance_mut.new.self.items _ _ _ _ _ (omega (arith, c.saturating_sub-len.ensures, c.len.ensures.value, ap length c.new-buffer.ensures.items))
+    c.list_header_len-header.ensures.some c.list_header_len-header.ensures.value front (omega (arith, c.advance_mut.ensures.len, size, c.len-2.ensures.value, ap length c.new-buffer.ensures.items))
     c.shift.ensures.items c.write_list_header.ensures.begin c.write_list_header.ensures.items
