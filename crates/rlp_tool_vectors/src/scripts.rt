@@ -6,7 +6,7 @@ use rlp_tool::{ScriptFault, StreamCall, read_calls};
 use std::alloc::{AllocError, Global};
 
 /// Lines, and their answers.
-const LINES: [(&[u8], &[u8]); 17] = [
+const LINES: [(&[u8], &[u8]); 21] = [
     (
         b"+l:2 l:2 d:636174 d:646f67 d:",
         b"out cac88363617483646f6780\n",
@@ -25,16 +25,25 @@ const LINES: [(&[u8], &[u8]); 17] = [
     (b"+l:1 r:0: d:06", b"out c106\n"),
     (b"+u d:61 e d:62", b"out c16162\n"),
     (b"+u c", b"out\n"),
+    (b"+u u e u u e e u u e u u e e e e", b"out c7c0c1c0c3c0c1c0\n"),
+    (b"+u l:1 u e e", b"out c2c1c0\n"),
+    (b"+l:1 u u e e", b"out c2c1c0\n"),
+    (b"+u u u e e", b"open 3 00c1c0\n"),
     (b"0g\n0\n0xC0", b"error hex\nerror hex\n[]\n"),
     (b"+u\nc0\n+d:61 d:62\n", b"open 1 00\n[]\nout 6162\n"),
 ];
 
 /// Lines with an error, and their answers.
-const REFUSED: [(&[u8], &[u8]); 31] = [
+const REFUSED: [(&[u8], &[u8]); 36] = [
     (b"+l:1 d:01 e", b"error nothing to finish at 3\n"),
     (b"+u l:1 e", b"error nothing to finish at 3\n"),
     (b"+l:1 r:2:0102", b"error too many items at 2\n"),
     (b"+l:1 c e", b"error nothing to finish at 3\n"),
+    (b"+u u e e e", b"error nothing to finish at 5\n"),
+    (b"+u u e e e e", b"error nothing to finish at 5\n"),
+    (b"+u l:2 u e e e", b"error nothing to finish at 5\n"),
+    (b"+u u e e x", b"error syntax at 5\n"),
+    (b"+u u e e ", b"error syntax at 5\n"),
     (b"+e l:1 r:2:0102", b"error nothing to finish at 1\n"),
     (b"+l:1 r:0:05 d:06", b"error raw not items at 2\n"),
     (b"+l:1 r:1:", b"error raw not items at 2\n"),

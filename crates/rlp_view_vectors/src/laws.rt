@@ -63,6 +63,7 @@ fn laws_of_streams() {
     laws::growth_is_an_order();
     laws::growth_of_moves();
     laws::open_lists_await_items();
+    laws::unbounded_lists_are_finalized_in_turn();
     laws::stream_joins_what_is_described();
     laws::finished_buffers_tell_items(&LIST, &LIST);
 }

@@ -204,6 +204,32 @@ fn a_raw_item_in_two_lists(rt: HostRuntime) -> Result<(), Fail> {
     Ok(())
 }
 
+/// The same two lists, closed by one call.
+struct ClosedTogether;
+
+impl Calls for ClosedTogether {
+    fn count(&self) -> usize {
+        4
+    }
+
+    fn make(&self, s: &mut RlpStream, place: usize) -> Result<bool, AllocError> {
+        if place == 3 {
+            return make(s, Step::FinalizeUpTo(2));
+        }
+        RawItem.make(s, place)
+    }
+
+    fn stands(&self, s: &RlpStream, done: usize) -> bool {
+        RawItem.stands(s, if done == 4 { 5 } else { done })
+    }
+}
+
+#[test]
+fn a_raw_item_in_two_lists_closed_together(rt: HostRuntime) -> Result<(), Fail> {
+    assert!(rt; go_again_twice(rt.alloc(), &ClosedTogether)?);
+    Ok(())
+}
+
 /// Sixty lists of one item, one inside another. An empty string in the innermost closes all.
 struct Sixty;
 

@@ -14,6 +14,8 @@ pub(crate) enum Step {
     BeginUnbounded,
     /// `finalize_unbounded_list`.
     Finalize,
+    /// `finalize_unbounded_lists`. It isn't admitted if it closes no list.
+    FinalizeUpTo(usize),
     /// `append` of a number.
     Number(u64),
     /// `append` of a number of one byte.
@@ -52,6 +54,7 @@ pub(crate) fn make(s: &mut RlpStream, step: Step) -> Result<bool, AllocError> {
             s.begin_unbounded_list()?;
         }
         Step::Finalize => return finalize(s),
+        Step::FinalizeUpTo(most) => return Ok(s.finalize_unbounded_lists(most)? > 0),
         Step::Raw(bytes, items) => return put_raw(s, bytes, items),
         Step::Encoded(value) => s.encoder().encode_value(value)?,
         Step::Empty => {

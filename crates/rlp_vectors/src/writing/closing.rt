@@ -127,6 +127,89 @@ fn finalizes_unbounded_lists(rt: HostRuntime) -> Result<(), Fail> {
     Ok(())
 }
 
+/// Begins unbounded lists, one inside another.
+fn begin_unbounded(s: &mut RlpStream, lists: usize) -> Result<(), AllocError> {
+    for _ in 0..lists {
+        s.begin_unbounded_list()?;
+    }
+    Ok(())
+}
+
+fn sixty_unbounded_close_together(alloc: Global) -> Result<bool, AllocError> {
+    let mut s = RlpStream::new(alloc)?;
+    begin_unbounded(&mut s, 60)?;
+    s.append_empty_data()?;
+    let closed = s.finalize_unbounded_lists(61)?;
+    Ok(closed == 60 && finishes_as(s, sixty_lists(alloc)?.as_slice()))
+}
+
+#[test]
+fn finalizes_sixty_lists_at_once(rt: HostRuntime) -> Result<(), Fail> {
+    assert!(rt; sixty_unbounded_close_together(rt.alloc())?);
+    Ok(())
+}
+
+/// The greatest number of lists that a call may close, the number that it closes, and the bytes
+/// after it. Before the first call three unbounded lists are open in a list of two, and the number 1
+/// is in the innermost.
+const SOME_AT_ONCE: [(usize, usize, &[u8]); 4] = [
+    (0, 0, &[0x00, 0x00, 0x00, 0x00, 0x01]),
+    (1, 1, &[0x00, 0x00, 0x00, 0xc1, 0x01]),
+    (9, 2, &[0x00, 0xc3, 0xc2, 0xc1, 0x01]),
+    (9, 0, &[0x00, 0xc3, 0xc2, 0xc1, 0x01]),
+];
+
+/// Returns the place of the first row that isn't met, or `None`.
+fn first_wrong_close(alloc: Global) -> Result<Option<usize>, AllocError> {
+    let mut s = RlpStream::new_list(alloc, 2)?;
+    begin_unbounded(&mut s, 3)?;
+    s.append(&1u64)?;
+    for (place, (most, closed, raw)) in SOME_AT_ONCE.iter().enumerate() {
+        if s.finalize_unbounded_lists(*most)? != *closed || s.as_raw() != *raw {
+            return Ok(Some(place));
+        }
+    }
+    s.append(&2u64)?;
+    let done = finishes_as(s, &[0xc5, 0xc3, 0xc2, 0xc1, 0x01, 0x02]);
+    Ok(if done { None } else { Some(SOME_AT_ONCE.len()) })
+}
+
+#[test]
+fn finalizes_only_unbounded_lists(rt: HostRuntime) -> Result<(), Fail> {
+    assert_eq!(rt; first_wrong_close(rt.alloc())?, None);
+    Ok(())
+}
+
+fn list_around_is_filled(alloc: Global) -> Result<bool, AllocError> {
+    let mut s = RlpStream::new(alloc)?;
+    begin_unbounded(&mut s, 1)?;
+    s.begin_list(1)?;
+    begin_unbounded(&mut s, 2)?;
+    let inside = s.finalize_unbounded_lists(9)? == 2
+        && s.as_raw() == [0x00, 0xc2, 0xc1, 0xc0].as_slice();
+    let outside = s.finalize_unbounded_lists(9)? == 1;
+    Ok(inside && outside && finishes_as(s, &[0xc3, 0xc2, 0xc1, 0xc0]))
+}
+
+#[test]
+fn the_last_list_fills_the_list_around(rt: HostRuntime) -> Result<(), Fail> {
+    assert!(rt; list_around_is_filled(rt.alloc())?);
+    Ok(())
+}
+
+fn thousands_close_together(alloc: Global) -> Result<bool, AllocError> {
+    let mut s = RlpStream::new(alloc)?;
+    begin_unbounded(&mut s, 5_000)?;
+    let closed = s.finalize_unbounded_lists(5_000)?;
+    Ok(closed == 5_000 && is_long(s, 14_788, [0xf9, 0x39, 0xc1]))
+}
+
+#[test]
+fn finalizes_five_thousand_lists_at_once(rt: HostRuntime) -> Result<(), Fail> {
+    assert!(rt; thousands_close_together(rt.alloc())?);
+    Ok(())
+}
+
 /// Returns whether the finished bytes have this length and begin with this header.
 fn is_long(s: RlpStream, len: usize, header: [u8; 3]) -> bool {
     match finished(s) {
@@ -157,9 +240,7 @@ fn closes_five_thousand_lists_at_once(rt: HostRuntime) -> Result<(), Fail> {
 
 fn thousands_close_one_by_one(alloc: Global) -> Result<bool, AllocError> {
     let mut s = RlpStream::new(alloc)?;
-    for _ in 0..5_000 {
-        s.begin_unbounded_list()?;
-    }
+    begin_unbounded(&mut s, 5_000)?;
     let open = s.len() == 14_788;
     for _ in 0..5_000 {
         if !finalize(&mut s)? {
