@@ -10,6 +10,7 @@ pub mod Bloom
 pub mod Body
 pub mod Child
 pub mod ChildLaws
+pub mod Envelope
 pub mod FeeMarketTransaction
 pub mod Hash
 pub mod Header

@@ -1,4 +1,5 @@
 -- How authorizations of transactions of type 4 are written and read before they are signed.
+use Rattle.std.specs.Prelude.{ℕ, List, codes}
 use Rattle.rlp.specs.Codec.{Codec, Fields, and_field, last_field, number, struct_of, uint}
 use Rattle.rlp_ethereum.specs.declared.unsigned.authorization.UnsignedAuthorization.{UnsignedAuthorization}
 use Rattle.rlp_ethereum.specs.Address.{address}
@@ -13,3 +14,7 @@ unsigned_authorization_fields =
 -- the list of the fields
 abbrev pub unsigned_authorization : Codec UnsignedAuthorization
 unsigned_authorization = struct_of unsigned_authorization_fields
+
+-- the text of the fault of bytes that are empty or don't begin with the byte 5
+abbrev pub no_authorization : List ℕ
+no_authorization = codes "no authorization"

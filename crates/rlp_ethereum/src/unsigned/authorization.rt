@@ -1,11 +1,12 @@
 //! Authorizations of transactions of type 4, before they are signed.
 
-ghost use Rattle.std.specs.Prelude.{◌≡◌, ◌∷◌, IfErr, IfOk, OnOk, take};
+ghost use Rattle.std.specs.Prelude.{◌≡◌, ◌∷◌, ◌⊎◌, IfErr, IfOk, OnOk, take};
 ghost use Rattle.rlp.specs.DecoderError.TheVariants.{OutOfMemory};
 ghost use Rattle.rlp.specs.Format.Encoding.{encoding};
 ghost use Rattle.rlp.specs.Format.Item.{list_of};
 ghost use Rattle.rlp_ethereum.specs.Authorization.{authorization_fields};
-ghost use Rattle.rlp_ethereum.specs.Unsigned.Authorization.{unsigned_authorization};
+ghost use Rattle.rlp_ethereum.specs.Envelope.{FaultsAfter, MayLackAfter};
+ghost use Rattle.rlp_ethereum.specs.Unsigned.Authorization.{no_authorization, unsigned_authorization};
 ghost use Rattle.rlp_ethereum.specs.declared.unsigned.authorization.UnsignedAuthorization.{UnsignedAuthorization};
 
 use crate::envelope::to_envelope;
@@ -62,15 +63,22 @@ impl UnsignedAuthorization {
     ///
     /// Fails with `Custom("no authorization")` if the bytes are empty or begin with another byte
     /// than 5, and else with the strict fault of the list.
+    #[tactic(auto, using(crate::proofs::AfterByte::other_first_fails))]
     pub fn from_bytes(alloc: Global, bytes: &[u8]) -> Result<UnsignedAuthorization, DecoderError>
         ensures value { IfOk result (λ a. unsigned_authorization.Fits a
             × (bytes.now ≡ 5 ∷ encoding (unsigned_authorization.item a))) }
+        ensures fault { IfErr result (λ e.
+            (FaultsAfter 5 no_authorization unsigned_authorization.faults bytes.now e)
+            ⊎ ((e ≡ OutOfMemory)
+            × MayLackAfter 5 unsigned_authorization.may_lack bytes.now)) }
         ensures memory { (a : UnsignedAuthorization) → unsigned_authorization.Fits a
             → bytes.now ≡ 5 ∷ encoding (unsigned_authorization.item a)
             → IfErr result (λ e. e ≡ OutOfMemory) }
     {
         match bytes {
-            [AUTHORIZATION_MAGIC, payload @ ..] => laws::strictly_decoded(alloc, payload),
+            [first, payload @ ..] if *first == AUTHORIZATION_MAGIC => {
+                laws::strictly_decoded(alloc, payload)
+            }
             _ => Err(DecoderError::Custom("no authorization")),
         }
     }

@@ -1,0 +1,10 @@
+use Rattle.std.proofs.Common.{arith}
+use Rattle.std.proofs.lemmas.Grind.{common_steps}
+use Rattle.rlp_ethereum.proofs.AfterByte.{rest_fails}
+use Rattle.rlp_ethereum.specs.Envelope.{another_type}
+use Rattle.rlp_ethereum.proofs.envelope.from_envelope.Goals as goal
+
+pub returns-in-len1-up-clause-fault : goal.returns-in-len1-up-clause-fault
+returns-in-len1-up-clause-fault g c =
+    rest_fails c.args.kind another_type g.T.Decodable.faults g.T.Decodable.may_lack_memory c.args.bytes.now _ c.strictly_decoded.result (grind (arith, common_steps))
+    c.strictly_decoded.ensures.fault
