@@ -131,7 +131,7 @@ made_more front calls c s t made admitted (m, step) moved = record {
   same_front = ap (λ (u : State). u.front) moved ∙ effect-front c s ∙ made.same_front;
 }
 
-take-next : {E : Type 0} (f : E → Call) (xs : List E) (i : ℕ) (x : E) → i < length xs → x ≡ get_or xs i x
+pub take-next : {E : Type 0} (f : E → Call) (xs : List E) (i : ℕ) (x : E) → i < length xs → x ≡ get_or xs i x
     → take (i + 1) (map f xs) ≡ take i (map f xs) ++ f x ∷ []
 take-next f [] i x h e = absurd (omega arith)
 take-next f (y ∷ ys) zero x h e = ap (λ z. f z ∷ []) (sym e)

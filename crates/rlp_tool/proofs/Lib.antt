@@ -10,6 +10,8 @@ pub mod RawLemmas
 pub mod CallsLemmas
 -- calls of a script that are made as they are read
 pub mod MakingLemmas
+-- calls that close lists, made at once
+pub mod FinishLemmas
 -- the calls of a line whose answer is `out`
 pub mod SaidLemmas
 -- the answers to lines of calls

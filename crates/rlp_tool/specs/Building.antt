@@ -1,8 +1,9 @@
 -- The result of calls over a front.
-use Rattle.std.specs.Prelude.{ℕ, suc, ◌≡◌, Bool, true, false, IsTrue, List, [], ◌∷◌, ◌++◌, length, Ok}
+use Rattle.std.specs.Prelude.{ℕ, suc, ◌≡◌, ◌≤◌, Bool, true, false, IsTrue, List, [], ◌∷◌, ◌++◌, length, take, drop, replicate, Ok}
 use Rattle.rlp.specs.Format.Item.{Item}
 use Rattle.rlp.specs.Format.Encoding.{join}
-use Rattle.rlp.specs.Streams.Calls.{Call, append_raw, append_raw_checked, clear, finalize_unbounded_list, is_admitted, after}
+use Rattle.rlp.specs.Streams.Calls.{Call, append_raw, append_raw_checked, clear, finalize_unbounded_list, finalized, is_admitted, after}
+use Rattle.rlp.specs.Streams.Stack.{is_unbounded, unbounded_count}
 use Rattle.rlp.specs.Streams.Stream.{State, initial_state, IsFinished, closed_size, raw_text}
 use Rattle.rlp.specs.Streams.Described.{Step, DescribesWhere, AreDescribedWhere, IsDescribed, IsDescribedWhere, FinishAs}
 use Rattle.rlp_tool.specs.declared.building.Built.{Built}
@@ -124,3 +125,14 @@ IsUnfit call s place OutOfMemory = IsTrue (is_admitted call s) × IsSomeStep cal
 abbrev pub IsHeld : State → Built → Type 0
 IsHeld s (Finished bytes) = IsFinished s × (bytes.items ≡ s.front ++ s.stack.inner)
 IsHeld s (Open size raw) = ¬ IsFinished s × (size ≡ closed_size s) × (raw.items ≡ raw_text s)
+
+-- this number of calls from a place on close unbounded lists, and lead from one state to the other
+pub record AreFinished (calls : List Call) (place count : ℕ) (old new : State) : Type 0 where
+  pub are_finishes : take count (drop place calls) ≡ replicate count finalize_unbounded_list
+  pub are_unbounded : count ≤ unbounded_count old.stack.lists
+  pub closes : new ≡ finalized count old
+
+-- the call at a place closes the innermost list, which is unbounded
+pub record CanFinish (calls : List Call) (place : ℕ) (s : State) : Type 0 where
+  pub is_finish : take 1 (drop place calls) ≡ finalize_unbounded_list ∷ []
+  pub is_open : IsTrue (is_unbounded s.stack.lists)

@@ -1,13 +1,13 @@
 //! Makes calls of a stream over a front.
-ghost use Rattle.std.specs.Prelude.{◌≡◌, ◌≢◌, ◌++◌, ◌↔◌, List, MatchOption, OnOk, OnErr, IfOk, IfErr, IsTrue, Ok};
+ghost use Rattle.std.specs.Prelude.{◌≡◌, ◌≢◌, ◌++◌, ◌+◌, ◌≤◌, ◌↔◌, List, length, replicate, take, MatchOption, OnOk, OnErr, IfOk, IfErr, IsTrue, Ok};
 ghost use Rattle.rlp.specs.Format.Item.{Item};
 ghost use Rattle.rlp.specs.Format.Encoding.{join};
 ghost use Rattle.rlp.specs.Format.Framing.{IsFramed, frame};
 ghost use Rattle.rlp.specs.Streams.Stack.{has_room};
 ghost use Rattle.rlp.specs.Streams.Stream.{IsFinished};
-ghost use Rattle.rlp.specs.Streams.Calls.{append_raw, effect, is_admitted};
+ghost use Rattle.rlp.specs.Streams.Calls.{append_raw, effect, finalize_unbounded_list, is_admitted};
 ghost use Rattle.rlp.specs.Streams.Described.{IsDescribed, IsDescribedWhere};
-ghost use Rattle.rlp_tool.specs.Building.{AreTaken, IsBuilt, IsRefusal, IsJoined, IsFinishedAs, IsSomeStep, IsUnfit, IsHeld, takes_memory};
+ghost use Rattle.rlp_tool.specs.Building.{AreTaken, IsBuilt, IsRefusal, IsJoined, IsFinishedAs, IsSomeStep, IsUnfit, IsHeld, AreFinished, CanFinish, takes_memory};
 ghost use Rattle.rlp_tool.specs.RawItems.{AreRawItems, IsShallow};
 ghost use Rattle.rlp_tool.specs.declared.building.BuildFault.{BuildFault};
 ghost use Rattle.rlp_tool.specs.StreamCalls.{call_of, calls_of};
@@ -16,7 +16,7 @@ use crate::calls::StreamCall;
 use bytes::BytesMut;
 use rlp::laws::{
     encoding_is_framed, frame_is_of_framed, join_is_injective, parts_of_sized_are_sized,
-    stream_joins_what_is_described,
+    stream_joins_what_is_described, unbounded_lists_are_finalized_in_turn,
 };
 use rlp::{Encodable, Rlp, RlpStream};
 use std::alloc::{AllocError, Global};
@@ -187,6 +187,50 @@ fn take_call<E: Encodable>(
     }
 }
 
+/// Whether a call is `Finish`.
+fn is_finish<E: Encodable>(call: &StreamCall<E>) -> bool
+    ensures { IsTrue result → call_of E.item call.now ≡ finalize_unbounded_list }
+{
+    matches!(call, StreamCall::Finish)
+}
+
+/// The number of calls `Finish` that the calls begin with.
+fn leading_finishes<E: Encodable>(calls: &[StreamCall<E>]) -> usize
+    ensures are_finishes { take result (calls_of E.item calls.now)
+        ≡ replicate result finalize_unbounded_list }
+    ensures within { result ≤ length calls.now }
+{
+    let mut count = 0;
+    while count < calls.len() && is_finish(&calls[count]) {
+        count += 1;
+    }
+    count
+}
+
+/// Makes the calls `Finish` from a place on, at most as many as there are innermost lists that are
+/// unbounded. They are made at once, so that each byte moves only once. Returns their number.
+fn finish_lists<E: Encodable>(
+    stream: &mut RlpStream,
+    calls: &[StreamCall<E>],
+    from: usize,
+) -> Result<usize, BuildFault>
+    requires { from ≤ length calls.now }
+    ensures within { IfOk result (λ count. from + count ≤ length calls.now) }
+    ensures ok { IfOk result (λ count. AreFinished (calls_of E.item calls.now) from count
+        stream.old.state stream.new.state) }
+    ensures refused { IfErr result (λ fault. (fault ≡ BuildFault.OutOfMemory)
+        × CanFinish (calls_of E.item calls.now) from stream.old.state) }
+{
+    let count = leading_finishes(&calls[from..]);
+    if count == 0 || !stream.can_finalize() {
+        return Ok(0);
+    }
+    match stream.finalize_unbounded_lists(count) {
+        Ok(finished) => Ok(finished),
+        Err(_) => Err(BuildFault::OutOfMemory),
+    }
+}
+
 /// The result of a stream after all calls.
 fn held(alloc: Global, stream: RlpStream) -> Result<Built, BuildFault>
     ensures ok { IfOk result (IsHeld stream.state) }
@@ -247,10 +291,17 @@ pub fn build<E: Encodable>(
         → IfErr result (λ fault. fault ≡ BuildFault.OutOfMemory) }
 {
     stream_joins_what_is_described();
+    unbounded_lists_are_finalized_in_turn();
     let mut stream = RlpStream::new_with_buffer(alloc, front);
-    for i in 0..calls.len() {
-        if let Err(fault) = take_call(&mut stream, &calls[i], i + 1) {
+    let mut made = 0;
+    while made < calls.len() {
+        if let Err(fault) = take_call(&mut stream, &calls[made], made + 1) {
             return Err(fault);
+        }
+        made += 1;
+        match finish_lists(&mut stream, calls, made) {
+            Ok(finished) => made += finished,
+            Err(fault) => return Err(fault),
         }
     }
     held(alloc, stream)
