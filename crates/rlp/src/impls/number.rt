@@ -124,7 +124,7 @@ impl Decodable for u128 {
 }
 
 /// Reads a number of at most `width` bytes, from 1 to 8. A number that is its own encoding is read
-/// at once.
+/// at once. Others are read out of line.
 #[inline(always)]
 fn number_within(rlp: &Rlp<'_>, width: usize) -> Result<usize, DecoderError>
     requires some { 1 ≤ width }
@@ -134,7 +134,41 @@ fn number_within(rlp: &Rlp<'_>, width: usize) -> Result<usize, DecoderError>
 {
     match rlp.as_raw() {
         [digit @ 0x01..=0x7f, ..] if may_end_at(rlp, 1) => Ok(*digit as usize),
-        _ => number_of_string(rlp, width),
+        _ => match short_number(rlp, width) {
+            Some(number) => Ok(number),
+            None => number_of_string(rlp, width),
+        },
+    }
+}
+
+/// Reads a number of at most `width` bytes, at most 8, if its header is one byte and nothing is
+/// wrong with it. `None` says nothing about the bytes.
+#[inline(never)]
+fn short_number(rlp: &Rlp<'_>, width: usize) -> Option<usize>
+    requires { width ≤ 8 }
+    ensures { IfSome result (λ n. GivesNumber width rlp.now n) }
+{
+    match short_digits(rlp, width) {
+        Some(digits) => Some(few_digits(digits)),
+        None => None,
+    }
+}
+
+/// The number of up to eight digits, without a loop for up to seven.
+#[inline(always)]
+fn few_digits(digits: &[u8]) -> usize
+    requires { length digits.now ≤ 8 }
+    ensures { result ≡ number_from_digits 256 digits.now }
+{
+    match digits {
+        [a] => *a as usize,
+        [a, b] => u16::from_be_bytes([*a, *b]) as usize,
+        [a, b, c] => u32::from_be_bytes([0, *a, *b, *c]) as usize,
+        [a, b, c, d] => u32::from_be_bytes([*a, *b, *c, *d]) as usize,
+        [a, b, c, d, e] => u64::from_be_bytes([0, 0, 0, *a, *b, *c, *d, *e]) as usize,
+        [a, b, c, d, e, f] => u64::from_be_bytes([0, 0, *a, *b, *c, *d, *e, *f]) as usize,
+        [a, b, c, d, e, f, g] => u64::from_be_bytes([0, *a, *b, *c, *d, *e, *f, *g]) as usize,
+        _ => number_of(digits),
     }
 }
 
@@ -146,14 +180,15 @@ fn may_end_at(rlp: &Rlp<'_>, len: usize) -> bool
     !rlp.is_strict() || rlp.as_raw().len() == len
 }
 
-/// Reads a number of at most `width` bytes, at most 8, from its digits.
+/// Reads a number of at most `width` bytes, at most 8, by the string of any length that the view
+/// begins with.
 #[inline(never)]
 fn number_of_string(rlp: &Rlp<'_>, width: usize) -> Result<usize, DecoderError>
     requires { width ≤ 8 }
     ensures value { IfOk result (λ n. GivesNumber width rlp.now n) }
     ensures fault { IfErr result (λ e. FaultsAsNumber width rlp.now e) }
 {
-    match number_digits(rlp, width) {
+    match digits_of_string(rlp, width) {
         Ok(digits) => Ok(number_of(digits)),
         Err(fault) => Err(fault),
     }
