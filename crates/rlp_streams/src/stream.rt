@@ -341,8 +341,8 @@ impl RlpStream {
     /// out, and returns their number. It does the same as that number of calls of
     /// [`RlpStream::finalize_unbounded_list`], but moves each byte of payload at most once.
     ///
-    /// A list around them that awaits one item is closed by the last of them. Lists outside it stay
-    /// open.
+    /// The last of them counts as an item of the list around it, and may fill that list. Then that
+    /// list is closed too, as by any last item.
     ///
     /// ```rust
     /// let mut s = rlp::RlpStream::new(alloc)?;

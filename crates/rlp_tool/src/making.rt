@@ -178,8 +178,8 @@ fn leading_ends(text: &[u8]) -> usize
     count
 }
 
-/// Makes the calls of pieces `e` that a text begins with, all at once, as long as they close
-/// unbounded lists of which one is in the other. Returns the rest of the text.
+/// Makes the calls of the pieces `e` that a text begins with, at most as many as there are innermost
+/// lists that are unbounded. They are made at once. Returns the rest of the text.
 fn make_ends<'a>(stream: &mut RlpStream, text: &'a [u8]) -> Result<&'a [u8], AllocError>
     ensures { IfOk result
         (λ rest. MakesEnds text.now rest.now stream.old.state stream.new.state) }
@@ -195,7 +195,7 @@ fn make_ends<'a>(stream: &mut RlpStream, text: &'a [u8]) -> Result<&'a [u8], All
 /// Makes the calls of a script on an empty stream, each as soon as its piece is read. Returns
 /// `false` at the first piece that isn't a call, or whose call fails.
 ///
-/// The calls that close lists one after another are made at once, so that each byte moves only once.
+/// Calls in a row that close lists are made at once, so that each byte moves only once.
 pub(crate) fn make_script(
     alloc: Global,
     text: &[u8],

@@ -25,7 +25,10 @@ const LINES: [(&[u8], &[u8]); 21] = [
     (b"+l:1 r:0: d:06", b"out c106\n"),
     (b"+u d:61 e d:62", b"out c16162\n"),
     (b"+u c", b"out\n"),
-    (b"+u u e u u e e u u e u u e e e e", b"out c7c0c1c0c3c0c1c0\n"),
+    (
+        b"+u u e u u e e u u e u u e e e e",
+        b"out c7c0c1c0c3c0c1c0\n",
+    ),
     (b"+u l:1 u e e", b"out c2c1c0\n"),
     (b"+l:1 u u e e", b"out c2c1c0\n"),
     (b"+u u u e e", b"open 3 00c1c0\n"),

@@ -24,11 +24,10 @@ next_by : (n : ℕ) (f p : List ℕ) (ls : List (OpenList ℕ)) (m : Bool) → n
     → IsTrue (is_unbounded ls)
     × (n ≤ unbounded_count (effect finalize_unbounded_list (record { front = f; stack = record { inner = p; lists = ls }; mark = m })).stack.lists)
 next_by n f p [] m many = absurd (let no : n < 0 = many in omega arith)
-next_by n f p (l ∷ ls) m many =
-    (
-      unbounded l ls (omega (arith, many)),
-      counts_left n (l.outer ++ list_encoding p) ls _ (unbounded_around l ls n many) (count_unbounded (l.outer ++ list_encoding p) ls),
-    )
+next_by n f p (l ∷ ls) m many = (
+  unbounded l ls (omega (arith, many)),
+  counts_left n (l.outer ++ list_encoding p) ls _ (unbounded_around l ls n many) (count_unbounded (l.outer ++ list_encoding p) ls),
+)
 
 pub finalized-next : (n : ℕ) (s : State) → n < unbounded_count s.stack.lists
     → IsTrue (is_admitted finalize_unbounded_list s) × (n ≤ unbounded_count (effect finalize_unbounded_list s).stack.lists)

@@ -17,8 +17,7 @@ returns-in-Ok-clause-ok g c =
 
 pub returns-in-Err-clause-refused : goal.returns-in-Err-clause-refused
 returns-in-Err-clause-refused g c =
-    let xs = c.args.calls.now in
-    (
+    let xs = c.args.calls.now in (
       refl,
       record {
         is_finish = fewer_from (call_of g.E.Encodable.item) xs _ c.args.from 1 c.leading_finishes-count.result

@@ -76,8 +76,15 @@ set_awaits-requires-in-Err c =
     let ps = reverse i.lists.items in
     let many = few c.args.count i.start i.buffer.items ps c.args.self.now i.mark (ap (λ (v : Seen). v.state) c.self.view_is) c.requires.open in
     let marked = ap length (ap reverse c.in-Err.ensures.refused.1 ∙ c.set_awaits.ensures.lists) in
-    omega (arith, many, unbounded_le ps, marked, length-with_awaits c.args.count (Some 1) ps, length-reverse i.lists.items,
-    length-reverse c.put_counted.new.lists.items)
+    omega (
+      arith,
+      many,
+      unbounded_le ps,
+      marked,
+      length-with_awaits c.args.count (Some 1) ps,
+      length-reverse i.lists.items,
+      length-reverse c.put_counted.new.lists.items,
+    )
 
 -- the lists are unbounded again
 lists_back : (c : goal.After-set_awaits-in-Err) → reverse c.set_awaits-in-Err.new.lists.items ≡ reverse c.self.inside.lists.items
@@ -93,8 +100,7 @@ invariant_of-self-in-Err c = rw (lists_back c, c.in-Err.ensures.refused.0) c.sel
 
 pub returns-in-Err-clause-refused : goal.returns-in-Err-clause-refused
 returns-in-Err-clause-refused c =
-    let i = c.self.inside in
-    (
+    let i = c.self.inside in (
       rw (lists_back c, c.in-Err.ensures.refused.0) (ap (λ (v : Seen). v.state) c.self.view_is),
       c.in-Err.ensures.refused.2 ∙ ap (λ (v : Seen). v.moved) c.self.view_is,
     )
