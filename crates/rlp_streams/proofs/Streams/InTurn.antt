@@ -1,6 +1,7 @@
 -- Unbounded lists that are finalized in turn.
-use Rattle.std.proofs.Common.{◌≡◌, ℕ, zero, suc, ◌+◌, ◌<◌, ◌≤◌, Bool, true, false, cond, IsTrue, List, [], ◌∷◌, ◌++◌, Option, None, Some, Ok}
+use Rattle.std.proofs.Common.{◌≡◌, ℕ, zero, suc, ◌+◌, ◌<◌, ◌≤◌, Bool, cond, IsTrue, List, [], ◌∷◌, ◌++◌, Option, None, Some, Ok}
 use Rattle.std.proofs.Common.{is_none, replicate, refl, ◌∙◌, arith}
+use Rattle.std.proofs.lemmas.Bool.{cond-true}
 use Rattle.rlp_buffer.specs.Streams.Stack.{OpenList, Stack, is_unbounded, unbounded_count}
 use Rattle.rlp_buffer.specs.Streams.Stream.{State, list_encoding}
 use Rattle.rlp_buffer.specs.Streams.Calls.{after_from, effect, finalize_unbounded_list, finalized, is_admitted}
@@ -33,15 +34,11 @@ pub finalized-next : (n : ℕ) (s : State) → n < unbounded_count s.stack.lists
     → IsTrue (is_admitted finalize_unbounded_list s) × (n ≤ unbounded_count (effect finalize_unbounded_list s).stack.lists)
 finalized-next n s many = next_by n s.front s.stack.inner s.stack.lists s.mark many
 
-cond_yes : {A : Type 0} (b : Bool) (x y : A) → IsTrue b → cond b x y ≡ x
-cond_yes true x y h = refl
-cond_yes false x y h = absurd (let no : ⊥ = cc in no)
-
 -- all calls are admitted, and they lead to the same state
 pub finalized-in_turn : (n place : ℕ) (s : State) → n ≤ unbounded_count s.stack.lists
     → after_from place s (replicate n finalize_unbounded_list) ≡ Ok (finalized n s)
 finalized-in_turn zero place s many = refl
 finalized-in_turn (suc n) place s many =
     let next = finalized-next n s (omega (arith, many)) in
-    cond_yes (is_admitted finalize_unbounded_list s) _ _ next.0
+    cond-true (is_admitted finalize_unbounded_list s) _ _ next.0
     ∙ finalized-in_turn n (place + 1) (effect finalize_unbounded_list s) next.1
