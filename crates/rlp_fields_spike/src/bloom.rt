@@ -1,0 +1,52 @@
+//! Filters of logs: strings of 256 bytes.
+
+use rlp::{Decodable, DecoderError, Encodable, Rlp, RlpStream, RoundTrip, StrictRead};
+use std::alloc::{AllocError, Global};
+
+/// The Bloom filter of logs: 256 bytes.
+///
+/// See section 4.4.1 of the yellow paper. The library computes no filter.
+#[derive(Drop)]
+pub struct Bloom(pub [u8; 256]);
+
+/// Written as the array of the bytes is.
+impl Encodable for Bloom {
+    ghost use Rattle.rlp_fields_spike.specs.Bloom.{bloom};
+
+    ghost item = { bloom.item };
+
+    ghost fits = { bloom.Fits };
+
+    fn rlp_append(&self, s: &mut RlpStream) -> Result<(), AllocError> {
+        self.0.rlp_append(s)
+    }
+}
+
+/// Read as the array of the bytes is. Fails with `RlpIsTooShort` if the string is shorter, and with
+/// `RlpIsTooBig` if it is longer. It takes no memory.
+impl Decodable for Bloom {
+    ghost use Rattle.rlp_fields_spike.specs.Bloom.{bloom};
+
+    ghost gives = { bloom.gives };
+
+    ghost faults = { bloom.faults };
+
+    ghost may_lack_memory = { bloom.may_lack };
+
+    fn decode(alloc: Global, rlp: &Rlp<'_>) -> Result<Bloom, DecoderError> {
+        let bytes = rlp.as_val(alloc)?;
+        Ok(Bloom(bytes))
+    }
+}
+
+impl RoundTrip for Bloom {
+    ghost use Rattle.rlp_fields_spike.specs.Bloom.{bloom};
+
+    ghost round_trip = { bloom.reads_back };
+}
+
+impl StrictRead for Bloom {
+    ghost use Rattle.rlp_fields_spike.specs.Bloom.{bloom};
+
+    ghost strict = { bloom.reads_strictly };
+}
