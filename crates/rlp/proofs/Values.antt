@@ -12,5 +12,3 @@ pub mod StrictDecoding
 pub mod FieldReading
 -- groups of fields that are read one after another
 pub mod GroupReading
--- fields of which some may be missing, read one after another
-pub mod TailReading

@@ -1,7 +1,8 @@
 -- Codecs of types, and of structs that are lists of their fields.
-use Rattle.std.specs.Prelude.{ℕ, zero, suc, ◌≡◌, ◌^◌, ◌<◌, ◌≤◌, ◌↔◌, ⊤, ◌⊎◌, All, IsUtf8, IfSome, Bool, List, [], ◌∷◌, length, map, Ok, Option, Some, refl, ◌+◌}
+use Rattle.std.specs.Prelude.{ℕ, zero, suc, ◌≡◌, ◌^◌, ◌<◌, ◌≤◌, ◌*◌, ◌==◌, ◌↔◌, ⊤, ◌⊎◌, All, IsUtf8, IfSome, Bool, false, List, [], ◌∷◌, length, map, Ok, Option, Some, refl, ◌+◌}
 use Rattle.std.specs.Int.Digits.{number_from_digits}
-use Rattle.std.proofs.Common.{ap}
+use Rattle.std.proofs.Common.{ap, sym, ◌∙◌}
+use Rattle.std.proofs.lemmas.List.{nil_from_length}
 use Rattle.rlp_streams.specs.declared.impls.uint.Uint.{Uint}
 use Rattle.rlp_format.specs.declared.error.DecoderError.{DecoderError}
 use Rattle.rlp_format.specs.Format.Item.{Item, string, list_of}
@@ -9,23 +10,24 @@ use Rattle.rlp_format.specs.Format.Encoding.{encoding}
 use Rattle.rlp_format.specs.Format.WrittenHeader.{AreBytes}
 use Rattle.rlp_format.specs.Views.View.{View, HoldsItem, item_count, view_of}
 use Rattle.rlp_format.specs.Values.Value.{FitsBytes, bit, number_item, option_item}
+use Rattle.rlp_streams.specs.Streams.Fields.{FitsFirst, all_items, items_first}
 use Rattle.rlp.specs.Values.ValueReading.{FaultsAs, FaultsAsBool, FaultsAsBytes, FaultsAsNumber, FaultsAsText, GivesBool, GivesBytes, GivesNumber}
 use Rattle.rlp.specs.Values.ValueReading.{GivesSome, GivesText, GivesValue, IsLengthFault}
-use Rattle.rlp.specs.Values.ListReading.{FaultsAsFields, FaultsAsList, FaultsAsOption, FaultsAt, FaultsInField, GivesAt, GivesList, GivesOption}
-use Rattle.rlp.specs.Values.ListReading.{GivesSomeAt, MayLackAsList, MayLackAsOption, MayLackAsStruct}
-use Rattle.std.proofs.lemmas.List.{nil_from_length}
-use Rattle.rlp_streams.specs.Streams.Fields.{FitsFirst, items_first}
-use Rattle.rlp.specs.Values.Tails.{FaultsAsTailed, GivesFirst, MayLackAsTailed, count_first}
-use Rattle.rlp.specs.Lemmas.Tails.{any_enough, first_counted, first_few, first_tail_alike, first_tail_exact, first_tail_exactly_sound, first_tail_sound}
-use Rattle.rlp.specs.Lemmas.Tails.{no_tail_enough, no_tail_few, one_more_enough, tailed_reads_back, tailed_strict}
+use Rattle.rlp.specs.Values.ListReading.{FaultsAsList, FaultsAsOption, FaultsAt, GivesAt, GivesList, GivesOption, GivesSomeAt}
+use Rattle.rlp.specs.Values.ListReading.{MayLackAsList, MayLackAsOption, MayLackAt}
+use Rattle.rlp.specs.Values.FieldReading.{AreGroups, FaultsAsStruct, GivesFirst, GivesGroups, IsCount, MayLackAsStruct, MayLackInGroups, NoMore, NoneOrOne}
+use Rattle.rlp.specs.Values.FieldReading.{by_place, count_first, in_group}
 use Rattle.rlp.specs.Values.RoundTrip.{ReadsBack, ReadsStrictly}
 use Rattle.rlp.specs.Lemmas.RoundTrips.{bool_reads_back, bytes_in, number_reads_back, reads_back, reads_back_through, sound_length, text_in}
 use Rattle.rlp.specs.Lemmas.ListRoundTrips.{option_reads_back}
 use Rattle.rlp.specs.Lemmas.ValueLists.{list_reads_back}
-use Rattle.rlp.specs.Lemmas.Structs.{HoldsFrom, by_place, first_alike, first_sound, more_alike, more_sound, struct_reads_back}
+use Rattle.rlp.specs.Lemmas.Structs.{HoldsFrom}
 use Rattle.rlp.specs.Lemmas.StrictReads.{bool_strict, bytes_strict, number_strict, option_strict, strict_through, strings_strict, text_strict}
 use Rattle.rlp.specs.Lemmas.StrictLists.{list_strict}
-use Rattle.rlp.specs.Lemmas.StrictStructs.{PartsFrom, first_exact, first_exactly_sound, more_exact, more_exactly_sound, struct_strict}
+use Rattle.rlp.specs.Lemmas.StrictStructs.{PartsFrom}
+use Rattle.rlp.specs.Lemmas.Tails.{first_counted, first_right, first_tail_alike, first_tail_exact, first_tail_exactly_sound, first_tail_sound}
+use Rattle.rlp.specs.Lemmas.Groups.{below_same, groups_alike, groups_counted, groups_exact, groups_exactly_sound, groups_right, groups_sound, not_none}
+use Rattle.rlp.specs.Lemmas.WholeStructs.{none_below, none_right, one_more_right, only_more, struct_reads_back, struct_strict}
 
 -- How the values of a type are written and read. The record holds the members of its `Encodable`, `Decodable`, `RoundTrip` and `StrictRead`.
 pub record Codec (A : Type 0) : Type 1 where
@@ -170,97 +172,21 @@ list_type values c = record {
 
 -- ---- structs
 
--- The fields of a struct from some field on, in order. `gives i` says what the items from place i on give. `some k i` says that item i gives some value of
--- field k. `faults k` and `may_lack k` are those of the type of field k.
+-- The fields of a struct from some field on, in order. They may be `least` items, and then a number that `IsMore` allows; those of a value are `count` items.
+-- `gives i` says what the items from place i on give. `some k i` says that item i gives some value of field k, `faults k` is that of the type of field k, and
+-- `may_lack k i` says that memory may be short for field k at item i.
 pub record Fields (P : Type 0) : Type 1 where
-  pub count : ℕ
-  pub Fits : P → Type 0
-  pub items : P → List Item
-  pub gives : ℕ → View → P → Type 0
-  pub some : ℕ → ℕ → View → Type 0
-  pub faults : ℕ → View → DecoderError → Type 0
-  pub may_lack : ℕ → View → Type 0
-  pub counted : (p : P) → length (items p) ≡ count
-  pub alike : (i : ℕ) (view : View) (p : P) → Fits p → HoldsFrom view i (items p) → (q : P) → gives i view q ↔ (Fits q × (items q ≡ items p))
-  pub sound : (i : ℕ) (view : View) (p : P) → Fits p → HoldsFrom view i (items p) → (k : ℕ) (e : DecoderError) → k < count
-      → ¬ FaultsAt (faults k) view (i + k) e
-  pub exact : (i : ℕ) (view : View) (parts : List (List ℕ)) (p : P) → PartsFrom view i parts → length parts ≡ count → gives i view p
-      ↔ (Fits p × (parts ≡ map encoding (items p)))
-  pub exactly_sound : (i : ℕ) (view : View) (parts : List (List ℕ)) (p : P) → PartsFrom view i parts → Fits p → parts ≡ map encoding (items p)
-      → (k : ℕ) (e : DecoderError) → k < count → ¬ FaultsAt (faults k) view (i + k) e
-
--- the last field
-abbrev pub last_field : {A P : Type 0} → (P → A) → Codec A → Fields P
-last_field field c = record {
-  count = 1;
-  Fits = λ p. c.Fits (field p);
-  items = λ p. c.item (field p) ∷ [];
-  gives = λ i v p. GivesAt c.gives v i (field p);
-  some = by_place (λ i v. GivesSomeAt c.gives v i) (λ k i v. ⊥);
-  faults = by_place c.faults (λ k v e. ⊥);
-  may_lack = by_place c.may_lack (λ k v. ⊥);
-  counted = λ p. refl;
-  alike = first_alike field c.Fits c.item c.gives c.faults c.reads_back;
-  sound = first_sound field c.Fits c.item c.gives c.faults c.reads_back;
-  exact = first_exact field c.Fits c.item c.gives c.faults c.reads_strictly;
-  exactly_sound = first_exactly_sound field c.Fits c.item c.gives c.faults c.reads_strictly;
-}
-
--- a field before others
-abbrev pub and_field : {A P : Type 0} → (P → A) → Codec A → Fields P → Fields P
-and_field field c more = record {
-  count = suc more.count;
-  Fits = λ p. c.Fits (field p) × more.Fits p;
-  items = λ p. c.item (field p) ∷ more.items p;
-  gives = λ i v p. GivesAt c.gives v i (field p) × more.gives (suc i) v p;
-  some = by_place (λ i v. GivesSomeAt c.gives v i) more.some;
-  faults = by_place c.faults more.faults;
-  may_lack = by_place c.may_lack more.may_lack;
-  counted = λ p. ap suc (more.counted p);
-  alike = more_alike field c.Fits c.item c.gives c.faults c.reads_back more.Fits more.items more.gives more.alike;
-  sound = more_sound field c.Fits c.item c.gives c.faults c.reads_back more.Fits more.items more.count more.faults more.sound;
-  exact = more_exact field c.Fits c.item c.gives c.faults c.reads_strictly more.Fits more.items more.count more.gives more.exact;
-  exactly_sound = more_exactly_sound field c.Fits c.item c.gives c.faults c.reads_strictly more.Fits more.items more.count more.faults more.exactly_sound;
-}
-
--- n fields of one type before others; `field k` is the first of the n
-abbrev pub and_each : {A P : Type 0} → (ℕ → P → A) → Codec A → Fields P → ℕ → ℕ → Fields P
-and_each field c more k zero = more
-and_each field c more k (suc n) = and_field (field k) c (and_each field c more (suc k) n)
-
--- The fault of a view that gives no struct: it isn't a list, it has another number of items, or an item has a fault and each item before it gives a value.
-abbrev pub FaultsAsStruct : ℕ → (ℕ → ℕ → View → Type 0) → (ℕ → View → DecoderError → Type 0) → View → DecoderError → Type 0
-FaultsAsStruct count some faults v e = FaultsAsFields count (λ v e. FaultsInField count some faults v e) v e
-
--- a struct that is written as the list of its fields
-abbrev pub struct_of : {P : Type 0} → Fields P → Codec P
-struct_of f = record {
-  Fits = f.Fits;
-  item = λ p. list_of (f.items p);
-  gives = λ v p. (item_count v ≡ Ok f.count) × f.gives 0 v p;
-  faults = FaultsAsStruct f.count f.some f.faults;
-  may_lack = λ v. MayLackAsStruct f.count f.some f.may_lack v;
-  reads_back = struct_reads_back f.count f.Fits f.items f.gives f.some f.faults f.counted f.alike f.sound;
-  reads_strictly = struct_strict f.count f.Fits f.items f.gives f.some f.faults f.counted f.exact f.exactly_sound;
-}
-
--- ---- structs whose last fields may be missing
-
--- The fields of a struct from some field on. The last fields may be missing: the number of items of a value is `count`, which is at least `least` and at most
--- `most`. The other members are as in `Fields`.
-pub record Tailed (P : Type 0) : Type 1 where
   pub least : ℕ
-  pub most : ℕ
+  pub IsMore : ℕ → Type 0
   pub count : P → ℕ
   pub Fits : P → Type 0
   pub items : P → List Item
   pub gives : ℕ → View → P → Type 0
   pub some : ℕ → ℕ → View → Type 0
   pub faults : ℕ → View → DecoderError → Type 0
-  pub may_lack : ℕ → View → Type 0
+  pub may_lack : ℕ → ℕ → View → Type 0
   pub counted : (p : P) → length (items p) ≡ count p
-  pub enough : (p : P) → least ≤ length (items p)
-  pub few : (p : P) → length (items p) ≤ most
+  pub right : (p : P) → Fits p → IsCount least IsMore (count p)
   pub alike : (i : ℕ) (view : View) (p : P) → Fits p → HoldsFrom view i (items p) → (q : P) → length (items q) ≡ length (items p) → gives i view q
       ↔ (Fits q × (items q ≡ items p))
   pub sound : (i : ℕ) (view : View) (p : P) → Fits p → HoldsFrom view i (items p) → (k : ℕ) (e : DecoderError) → k < length (items p)
@@ -271,66 +197,125 @@ pub record Tailed (P : Type 0) : Type 1 where
       → (k : ℕ) (e : DecoderError) → k < length (items p) → ¬ FaultsAt (faults k) view (i + k) e
 
 -- no more fields
-abbrev pub no_tail : {P : Type 0} → Tailed P
-no_tail = record {
+abbrev pub end : {P : Type 0} → Fields P
+end = record {
   least = 0;
-  most = 0;
+  IsMore = NoMore;
   count = λ p. 0;
   Fits = λ p. ⊤;
   items = λ p. [];
   gives = λ i v p. ⊤;
   some = λ k i v. ⊥;
   faults = λ k v e. ⊥;
-  may_lack = λ k v. ⊥;
+  may_lack = λ k i v. ⊥;
   counted = λ p. refl;
-  enough = λ p. no_tail_enough;
-  few = λ p. no_tail_enough;
+  right = λ p fit. none_right;
   alike = λ i view p fit holds q many. (λ g. (tt, refl), λ h. tt);
-  sound = λ i view p fit holds k e few at. no_tail_few k few;
+  sound = λ i view p fit holds k e few at. none_below k few;
   exact = λ i view parts p held many. (λ g. (tt, nil_from_length parts many), λ h. tt);
-  exactly_sound = λ i view parts p held fit same k e few at. no_tail_few k few;
+  exactly_sound = λ i view parts p held fit same k e few at. none_below k few;
 }
 
--- a field that may be missing; if it is, the fields after it are missing too
-abbrev pub and_optional : {A P : Type 0} → (P → Option A) → Codec A → Tailed P → Tailed P
-and_optional field c more = record {
-  least = 0;
-  most = suc more.most;
-  count = λ p. count_first (field p) (more.count p);
-  Fits = λ p. FitsFirst c.Fits (field p) (more.Fits p) (more.items p);
-  items = λ p. items_first c.item (field p) (more.items p);
-  gives = λ i v p. GivesFirst c.gives v i (field p) (more.gives (suc i) v p) (more.count p);
+-- a field before others
+abbrev pub field : {A P : Type 0} → (P → A) → Codec A → Fields P → Fields P
+field value c more = record {
+  least = suc more.least;
+  IsMore = more.IsMore;
+  count = λ p. suc (more.count p);
+  Fits = λ p. c.Fits (value p) × more.Fits p;
+  items = λ p. c.item (value p) ∷ more.items p;
+  gives = λ i v p. GivesAt c.gives v i (value p) × more.gives (suc i) v p;
   some = by_place (λ i v. GivesSomeAt c.gives v i) more.some;
   faults = by_place c.faults more.faults;
-  may_lack = by_place c.may_lack more.may_lack;
-  counted = λ p. first_counted c.item (field p) (more.items p) (more.count p) (more.counted p);
-  enough = λ p. any_enough (length (items_first c.item (field p) (more.items p)));
-  few = λ p. first_few c.item (field p) (more.items p) more.most (more.few p);
-  alike = λ i view p fit holds q many. first_tail_alike c.Fits c.item c.gives c.faults c.reads_back i view (field p) (field q) (more.items p)
+  may_lack = by_place (λ i v. MayLackAt c.may_lack v i) more.may_lack;
+  counted = λ p. ap suc (more.counted p);
+  right = λ p fit. one_more_right (more.right p fit.1);
+  alike = λ i view p fit holds q many. first_tail_alike c.Fits c.item c.gives c.faults c.reads_back i view (Some (value p)) (Some (value q)) (more.items p)
       (more.items q) (more.count q) (more.Fits p) (more.Fits q) (more.gives (suc i) view q) (more.counted q)
       (λ fits others same. more.alike (suc i) view p fits others q same) fit holds many;
-  sound = λ i view p fit holds. first_tail_sound c.Fits c.item c.gives c.faults c.reads_back more.faults i view (field p) (more.items p) (more.Fits p)
+  sound = λ i view p fit holds. first_tail_sound c.Fits c.item c.gives c.faults c.reads_back more.faults i view (Some (value p)) (more.items p) (more.Fits p)
       (λ fits others. more.sound (suc i) view p fits others) fit holds;
-  exact = λ i view parts p held many. first_tail_exact c.Fits c.item c.gives c.faults c.reads_strictly i view parts (field p) (more.items p)
+  exact = λ i view parts p held many. first_tail_exact c.Fits c.item c.gives c.faults c.reads_strictly i view parts (Some (value p)) (more.items p)
       (more.count p) (more.Fits p) (more.gives (suc i) view p) (more.counted p)
       (λ others held same. more.exact (suc i) view others p held same) held many;
   exactly_sound = λ i view parts p held fit same. first_tail_exactly_sound c.Fits c.item c.gives c.faults c.reads_strictly more.faults i view parts
-      (field p) (more.items p) (more.Fits p)
+      (Some (value p)) (more.items p) (more.Fits p)
       (λ others held fits same. more.exactly_sound (suc i) view others p held fits same) held fit same;
 }
 
--- a field that is always present, before fields whose last may be missing
-abbrev pub and_always : {A P : Type 0} → (P → A) → Codec A → Tailed P → Tailed P
-and_always field c more = record (and_optional (λ p. Some (field p)) c more) { least = suc more.least; enough = λ p. one_more_enough (more.enough p) }
+-- n fields of one type before others; `value k` is the first of the n
+abbrev pub each : {A P : Type 0} → (ℕ → P → A) → Codec A → Fields P → ℕ → ℕ → Fields P
+each value c more k zero = more
+each value c more k (suc n) = field (value k) c (each value c more (suc k) n)
 
--- a struct that is written as the list of its fields, whose last may be missing
-abbrev pub tailed : {P : Type 0} → Tailed P → Codec P
-tailed t = record {
-  Fits = t.Fits;
-  item = λ p. list_of (t.items p);
-  gives = λ v p. (item_count v ≡ Ok (t.count p)) × t.gives 0 v p;
-  faults = λ v e. FaultsAsTailed t.least t.most t.some t.faults v e;
-  may_lack = λ v. MayLackAsTailed t.some t.may_lack v;
-  reads_back = tailed_reads_back t.least t.most t.Fits t.items t.gives t.some t.faults t.enough t.few t.count t.counted t.alike t.sound;
-  reads_strictly = tailed_strict t.least t.most t.Fits t.items t.gives t.some t.faults t.enough t.few t.count t.counted t.exact t.exactly_sound;
+-- a field that may be missing; if it is, the fields after it are missing too
+abbrev pub optional : {A P : Type 0} → (P → Option A) → Codec A → Fields P → Fields P
+optional value c more = record {
+  least = 0;
+  IsMore = NoneOrOne (IsCount more.least more.IsMore);
+  count = λ p. count_first (value p) (more.count p);
+  Fits = λ p. FitsFirst c.Fits (value p) (more.Fits p) (more.items p);
+  items = λ p. items_first c.item (value p) (more.items p);
+  gives = λ i v p. GivesFirst c.gives v i (value p) (more.gives (suc i) v p) (more.count p);
+  some = by_place (λ i v. GivesSomeAt c.gives v i) more.some;
+  faults = by_place c.faults more.faults;
+  may_lack = by_place (λ i v. MayLackAt c.may_lack v i) more.may_lack;
+  counted = λ p. first_counted c.item (value p) (more.items p) (more.count p) (more.counted p);
+  right = λ p fit. first_right c.Fits more.least more.IsMore (value p) (more.items p) (more.count p) (more.Fits p) (more.counted p) (more.right p) fit;
+  alike = λ i view p fit holds q many. first_tail_alike c.Fits c.item c.gives c.faults c.reads_back i view (value p) (value q) (more.items p)
+      (more.items q) (more.count q) (more.Fits p) (more.Fits q) (more.gives (suc i) view q) (more.counted q)
+      (λ fits others same. more.alike (suc i) view p fits others q same) fit holds many;
+  sound = λ i view p fit holds. first_tail_sound c.Fits c.item c.gives c.faults c.reads_back more.faults i view (value p) (more.items p) (more.Fits p)
+      (λ fits others. more.sound (suc i) view p fits others) fit holds;
+  exact = λ i view parts p held many. first_tail_exact c.Fits c.item c.gives c.faults c.reads_strictly i view parts (value p) (more.items p)
+      (more.count p) (more.Fits p) (more.gives (suc i) view p) (more.counted p)
+      (λ others held same. more.exact (suc i) view others p held same) held many;
+  exactly_sound = λ i view parts p held fit same. first_tail_exactly_sound c.Fits c.item c.gives c.faults c.reads_strictly more.faults i view parts
+      (value p) (more.items p) (more.Fits p)
+      (λ others held fits same. more.exactly_sound (suc i) view others p held fits same) held fit same;
+}
+
+-- each value is the same number of items
+abbrev pub IsFixed : {P : Type 0} → Fields P → Type 0
+IsFixed {P} f = (p : P) → f.count p ≡ f.least
+
+-- The groups, each of these fields, at the end. `IsFixed` is proved by `λ g. refl`, and that there is a field by `refl`.
+abbrev pub groups : {G P : Type 0} → (P → List G) → (f : Fields G) → IsFixed f → (0 == f.least) ≡ false → Fields P
+groups values f fixed some_field = record {
+  least = 0;
+  IsMore = AreGroups f.least;
+  count = λ p. length (values p) * f.least;
+  Fits = λ p. All f.Fits (values p);
+  items = λ p. all_items f.items (values p);
+  gives = λ i v p. GivesGroups f.least f.gives i v (values p);
+  some = in_group f.least f.some;
+  faults = in_group f.least f.faults;
+  may_lack = MayLackInGroups f.least f.some f.may_lack;
+  counted = λ p. groups_counted f.least f.items (λ g. f.counted g ∙ fixed g) (values p);
+  right = λ p fit. only_more (groups_right f.least (length (values p)) (not_none f.least some_field));
+  alike = λ i view p fit holds q many. groups_alike f.least f.Fits f.items f.gives (λ g. f.counted g ∙ fixed g) (not_none f.least some_field)
+      (λ i view g fit holds h. f.alike i view g fit holds h (f.counted h ∙ fixed h ∙ sym (f.counted g ∙ fixed g)))
+      i view (values p) (values q) fit holds many;
+  sound = λ i view p fit holds. groups_sound f.least f.Fits f.items f.faults (λ g. f.counted g ∙ fixed g)
+      (λ i view g fit holds k e few. f.sound i view g fit holds k e (below_same k f.least (length (f.items g)) few (f.counted g ∙ fixed g)))
+      i view (values p) fit holds;
+  exact = λ i view parts p held many. groups_exact f.least f.Fits f.items f.gives (λ g. f.counted g ∙ fixed g)
+      (λ i view parts g held many. f.exact i view parts g held (many ∙ sym (f.counted g ∙ fixed g)))
+      i view parts (values p) held many;
+  exactly_sound = λ i view parts p held fit same. groups_exactly_sound f.least f.Fits f.items f.faults (λ g. f.counted g ∙ fixed g)
+      (λ i view parts g held fit same k e few. f.exactly_sound i view parts g held fit same k e
+      (below_same k f.least (length (f.items g)) few (f.counted g ∙ fixed g)))
+      i view parts (values p) held fit same;
+}
+
+-- a struct that is written as the list of its fields
+abbrev pub struct_of : {P : Type 0} → Fields P → Codec P
+struct_of f = record {
+  Fits = f.Fits;
+  item = λ p. list_of (f.items p);
+  gives = λ v p. (item_count v ≡ Ok (f.count p)) × f.gives 0 v p;
+  faults = λ v e. FaultsAsStruct f.least f.IsMore f.some f.faults v e;
+  may_lack = λ v. MayLackAsStruct f.least f.IsMore f.some f.may_lack v;
+  reads_back = struct_reads_back f.least f.IsMore f.count f.Fits f.items f.gives f.some f.faults f.counted f.right f.alike f.sound;
+  reads_strictly = struct_strict f.least f.IsMore f.count f.Fits f.items f.gives f.some f.faults f.counted f.right f.exact f.exactly_sound;
 }

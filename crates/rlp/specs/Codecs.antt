@@ -8,5 +8,3 @@ pub mod Sums
 pub mod Counted
 -- lemmas for a struct with several fields of one type
 pub mod EachField
--- a struct whose last fields are groups of fields
-pub mod Groups

@@ -40,7 +40,7 @@ pub mod StrictReads
 pub mod StrictLists
 -- structs that are read strictly
 pub mod StrictStructs
--- structs whose last fields may be missing
+-- a field that may be missing, and those after it
 pub mod Tails
 -- types whose values a view gives exactly if it holds their encodings
 pub mod ExactReads
@@ -48,8 +48,10 @@ pub mod ExactReads
 pub mod RawItems
 -- values of several types that are read back and read strictly
 pub mod Sums
--- structs whose last fields are groups of fields
+-- groups of fields
 pub mod Groups
+-- whole structs, read back and read strictly
+pub mod WholeStructs
 -- lists of a tag and a payload
 pub mod Tagged
 -- values of two types of structs, told apart by their numbers of fields

@@ -4,16 +4,12 @@ pub use Rattle.rlp_format.specs.Values.Value
 pub mod ValueReading
 -- the same for lists of values
 pub mod ListReading
--- the same of structs whose last fields may be missing
-pub mod Tails
 -- what it means that decoding undoes encoding
 pub mod RoundTrip
 -- the place of a reader of fields
 pub mod FieldPlace
--- what items from some place on give as fields
+-- the fields of a struct: how many items they may be, what items give them, and why there are none
 pub mod FieldReading
--- structs whose last fields are groups of fields
-pub mod Groups
 -- items that are kept as the bytes of their encodings
 pub mod RawItem
 -- values of several types, and why there is none

@@ -36,9 +36,8 @@ pub use rlp_streams::{
 pub use rlpin::{BasicDecoder, Envelope, Fields, Rlp, RlpIterator};
 use std::alloc::{AllocError, Global};
 pub use structs::{
-    DecodeField, DecodeFields, DecodeGroup, DecodeGrouped, DecodeOptional, DecodeTailed, Field,
-    Groups, ListField, OptionalField, OptionalListField, decode_struct, decode_tailed,
-    decode_with_groups,
+    DecodeField, DecodeFields, Field, FixedFields, Groups, ListField, MayBeMissing, OptionalField,
+    OptionalListField, decode_struct,
 };
 pub use traits::{Decodable, RoundTrip, Scalar, StrictRead};
 

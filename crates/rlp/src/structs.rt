@@ -1,29 +1,25 @@
 //! Structs that are read as the list of their fields.
 
-ghost use Rattle.std.specs.Prelude.{◌≡◌, ◌+◌, ◌⊎◌, ◌↔◌, ℕ, suc, Ok, IfOk, IfErr, IsTrue, OnOk};
+ghost use Rattle.std.specs.Prelude.{◌≡◌, ◌+◌, ◌⊎◌, ◌↔◌, ℕ, suc, Ok, IfOk, IfErr, IsTrue, OnOk, ⊤};
 ghost use Rattle.std.specs.Vec.{vec_items};
 ghost use Rattle.std.specs.declared.alloc.Global.{Global};
 ghost use Rattle.rlp_format.specs.declared.error.DecoderError.{DecoderError};
 ghost use Rattle.rlp_format.specs.declared.error.DecoderError.TheVariants.{OutOfMemory};
 ghost use Rattle.rlp_format.specs.Views.View.{View, item_count};
-ghost use Rattle.rlp.specs.Codec.{FaultsAsStruct};
-ghost use Rattle.rlp.specs.Lemmas.Structs.{by_place};
-ghost use Rattle.rlp.specs.Values.FieldReading.{FaultsInFields, GivesFields, MayLackInFields};
-ghost use Rattle.rlp.specs.Values.ListReading.{FaultsAsList, FaultsAt, GivesAt, GivesList, GivesSomeAt, MayLackAsList, MayLackAsStruct, MayLackAt};
+ghost use Rattle.rlp.specs.Values.FieldReading.{FaultsAsStruct, FaultsInFields, GivesFields, IsCount, MayLackAsStruct, MayLackInFields, NoMore, by_place};
+ghost use Rattle.rlp.specs.Values.ListReading.{FaultsAsList, FaultsAt, GivesAt, GivesList, GivesSomeAt, MayLackAsList, MayLackAt};
 
 mod groups;
 mod optional;
 mod optional_list;
-mod tails;
 
 use crate::rlpin::{Fields, Rlp};
 use crate::traits::Decodable;
-pub use groups::{DecodeGroup, DecodeGrouped, Groups, decode_with_groups};
-pub use optional::OptionalField;
+pub use groups::{FixedFields, Groups};
+pub use optional::{MayBeMissing, OptionalField};
 pub use optional_list::OptionalListField;
 use rlp_format::error::DecoderError;
 use std::alloc::Global;
-pub use tails::{DecodeOptional, DecodeTailed, decode_tailed};
 
 /// One field of a struct, read from one item.
 pub trait DecodeField: Sized + Drop {
@@ -93,10 +89,19 @@ impl<T: Decodable> DecodeField for ListField<T> {
     }
 }
 
-/// The fields of a struct that is read from a list. They are nested pairs: `(a, (b, (c,)))`.
-pub trait DecodeFields: Sized {
-    /// The number of fields.
-    ghost count: { ℕ };
+/// The fields of a struct, read from the items of a list.
+///
+/// Pairs that end with `()` are fields one after another, as in `(a, (b, ()))`. The last fields may
+/// be [`OptionalField`](crate::OptionalField)s, or [`Groups`](crate::Groups).
+pub trait DecodeFields: Sized + Drop {
+    /// The number of items that are always present.
+    ghost least: { ℕ };
+
+    /// After those there may be this number of items.
+    ghost is_more: { ℕ → Type 0 };
+
+    /// The number of items of a value.
+    ghost count: { Self → ℕ };
 
     /// The items from this place on give the fields.
     ghost give: { ℕ → View → Self → Type 0 };
@@ -107,49 +112,71 @@ pub trait DecodeFields: Sized {
     /// An item gives no value of the field with this number, and this is the error.
     ghost faults: { ℕ → View → DecoderError → Type 0 };
 
-    /// Reading the field with this number can fail with `OutOfMemory`, if memory is refused.
-    ghost may_lack_memory: { ℕ → View → Type 0 };
+    /// `may_lack_memory k i v`: reading field `k` from item `i` of the view `v` can fail with
+    /// `OutOfMemory`, if memory is refused.
+    ghost may_lack_memory: { ℕ → ℕ → View → Type 0 };
 
-    /// Returns whether the number of fields is `len`.
-    fn has_len(len: usize) -> bool
-        ensures { IsTrue result ↔ (len ≡ count) };
+    /// Returns whether the fields may be `len` items.
+    fn accepts(len: usize) -> bool
+        ensures { IsTrue result ↔ IsCount least is_more len };
 
-    /// Reads the fields from the next items. If a field fails, returns the error of
+    /// Reads the fields from the next `len` items. If a field fails, returns the error of
     /// [`DecodeField::decode_field`] for the first field that fails.
-    fn decode_fields(alloc: Global, fields: &mut Fields<'_>) -> Result<Self, DecoderError>
+    fn decode_fields(
+        alloc: Global,
+        fields: &mut Fields<'_>,
+        len: usize,
+    ) -> Result<Self, DecoderError>
+        requires { IsCount least is_more len }
         ensures value { IfOk result (λ x. give fields.old.place fields.old.view x) }
+        ensures count { IfOk result (λ x. count x ≡ len) }
+        ensures some { OnOk result (GivesFields len gives_some fields.old.view fields.old.place) }
         ensures fault { IfErr result (λ e.
-            (FaultsInFields count gives_some faults fields.old.view fields.old.place e)
+            (FaultsInFields len gives_some faults fields.old.view fields.old.place e)
             ⊎ ((e ≡ OutOfMemory)
-            × MayLackInFields count gives_some may_lack_memory fields.old.view fields.old.place)) };
+            × MayLackInFields len gives_some may_lack_memory fields.old.view fields.old.place)) }
+        ensures next { OnOk result
+            (fields.new ≡ record fields.old { place = fields.old.place + len }) };
 }
 
-impl<F: DecodeField> DecodeFields for (F,) {
-    ghost count = { 1 };
+/// No more fields.
+impl DecodeFields for () {
+    ghost least = { 0 };
 
-    ghost give = { λ i v x. GivesAt F.gives v i x.0 };
+    ghost is_more = { NoMore };
 
-    ghost gives_some = { by_place F.gives_some (λ k i v. ⊥) };
+    ghost count = { λ x. 0 };
 
-    ghost faults = { by_place F.faults (λ k v e. ⊥) };
+    ghost give = { λ i v x. ⊤ };
 
-    ghost may_lack_memory = { by_place F.may_lack_memory (λ k v. ⊥) };
+    ghost gives_some = { λ k i v. ⊥ };
 
-    fn has_len(len: usize) -> bool {
-        len == 1
+    ghost faults = { λ k v e. ⊥ };
+
+    ghost may_lack_memory = { λ k i v. ⊥ };
+
+    #[tactic(auto, using(crate::proofs::Values::FieldReading::numbers_of_items))]
+    fn accepts(len: usize) -> bool {
+        len == 0
     }
 
     #[tactic(auto, using(crate::proofs::Values::FieldReading::fields_in_order))]
-    fn decode_fields(alloc: Global, fields: &mut Fields<'_>) -> Result<(F,), DecoderError> {
-        match F::decode_field(alloc, fields) {
-            Ok(field) => Ok((field,)),
-            Err(fault) => Err(fault),
-        }
+    fn decode_fields(
+        alloc: Global,
+        fields: &mut Fields<'_>,
+        len: usize,
+    ) -> Result<(), DecoderError> {
+        Ok(())
     }
 }
 
+/// A field, and those after it.
 impl<F: DecodeField, Q: DecodeFields> DecodeFields for (F, Q) {
-    ghost count = { suc Q.count };
+    ghost least = { suc Q.least };
+
+    ghost is_more = { Q.is_more };
+
+    ghost count = { λ x. suc (Q.count x.1) };
 
     ghost give = { λ i v x. GivesAt F.gives v i x.0 × Q.give (suc i) v x.1 };
 
@@ -157,16 +184,21 @@ impl<F: DecodeField, Q: DecodeFields> DecodeFields for (F, Q) {
 
     ghost faults = { by_place F.faults Q.faults };
 
-    ghost may_lack_memory = { by_place F.may_lack_memory Q.may_lack_memory };
+    ghost may_lack_memory = { by_place (λ i v. MayLackAt F.may_lack_memory v i) Q.may_lack_memory };
 
-    fn has_len(len: usize) -> bool {
-        len > 0 && Q::has_len(len - 1)
+    #[tactic(auto, using(crate::proofs::Values::FieldReading::numbers_of_items))]
+    fn accepts(len: usize) -> bool {
+        len > 0 && Q::accepts(len - 1)
     }
 
     #[tactic(auto, using(crate::proofs::Values::FieldReading::fields_in_order))]
-    fn decode_fields(alloc: Global, fields: &mut Fields<'_>) -> Result<(F, Q), DecoderError> {
+    fn decode_fields(
+        alloc: Global,
+        fields: &mut Fields<'_>,
+        len: usize,
+    ) -> Result<(F, Q), DecoderError> {
         match F::decode_field(alloc, fields) {
-            Ok(field) => match Q::decode_fields(alloc, fields) {
+            Ok(field) => match Q::decode_fields(alloc, fields, len - 1) {
                 Ok(others) => Ok((field, others)),
                 Err(fault) => Err(fault),
             },
@@ -178,25 +210,26 @@ impl<F: DecodeField, Q: DecodeFields> DecodeFields for (F, Q) {
 /// Reads the fields of a struct from the list that the view begins with. `rlp::decode_fields!`
 /// calls it.
 ///
-/// Fails with `RlpIncorrectListLen` if the number of items isn't the number of fields. It then
-/// reads no field. Also fails as [`Rlp::item_count`] does, and with the error of the first field
-/// that fails.
+/// Fails with `RlpIncorrectListLen` if the fields can't be the number of items, and only then. It
+/// then reads no field. Also fails as [`Rlp::item_count`] does, and with the error of the first
+/// field that fails.
 #[tactic(auto, using(crate::proofs::Values::FieldReading::whole_struct, crate::proofs::Views::InOrder::counted_fields))]
 pub fn decode_struct<F: DecodeFields>(alloc: Global, rlp: &Rlp<'_>) -> Result<F, DecoderError>
-    ensures value { IfOk result (λ x. (item_count rlp.now ≡ Ok F.count) × F.give 0 rlp.now x) }
+    ensures value { IfOk result (λ x. (item_count rlp.now ≡ Ok (F.count x)) × F.give 0 rlp.now x) }
     ensures fault { IfErr result (λ e.
-        (FaultsAsStruct F.count F.gives_some F.faults rlp.now e)
-        ⊎ ((e ≡ OutOfMemory) × MayLackAsStruct F.count F.gives_some F.may_lack_memory rlp.now)) }
+        (FaultsAsStruct F.least F.is_more F.gives_some F.faults rlp.now e)
+        ⊎ ((e ≡ OutOfMemory)
+        × MayLackAsStruct F.least F.is_more F.gives_some F.may_lack_memory rlp.now)) }
 {
     let count = match rlp.item_count() {
         Ok(count) => count,
         Err(fault) => return Err(fault),
     };
-    if !F::has_len(count) {
+    if !F::accepts(count) {
         return Err(DecoderError::RlpIncorrectListLen);
     }
     let mut fields = Fields::over(rlp);
-    match F::decode_fields(alloc, &mut fields) {
+    match F::decode_fields(alloc, &mut fields, count) {
         Ok(values) => Ok(values),
         Err(fault) => Err(fault),
     }
@@ -312,67 +345,75 @@ macro_rules! fields {
 }
 
 /// Reads a struct from the list of its fields. The arguments are the allocator, the view, and the
-/// struct with its fields in order. A field that is a list is written `keys: [..]`. An array whose
-/// values are items of their own is written `sides: [_, _]`, with a `_` for each value. The macro
-/// is the whole body of a `decode`. Fails as [`decode_struct`] does.
+/// struct with its fields in order. The macro is the whole body of a `decode`. Fails as
+/// [`decode_struct`] does.
 ///
-/// The last fields may be missing. Such a field is an `Option`, and is written `nonce: ?`. Then the
-/// macro fails as [`decode_tailed`] does.
+/// A field that is a list is written `keys: [..]`. An array whose values are items of their own is
+/// written `sides: [_, _]`, with a `_` for each value.
+///
+/// The last fields may be missing. Such a field is an `Option`, and is written `nonce: ?`, or
+/// `keys: [..]?` if it is a list. Instead the last field may be groups of fields, such as keys and
+/// values one after another, in a vector of [`FixedFields`]: it is written `pairs: [(..)]`.
 ///
 /// ```rust
 /// fn decode(alloc: Global, rlp: &Rlp<'_>) -> Result<Access, DecoderError> {
 ///     rlp::decode_fields!(alloc, rlp, Access { address, keys: [..], nonce: ? })
 /// }
 /// ```
+///
+/// With a reader of fields and a number of items in the place of the view, it is the whole body of a
+/// [`DecodeFields::decode_fields`].
+///
+/// ```rust
+/// fn decode_fields(alloc: Global, fields: &mut Fields<'_>, len: usize) -> Result<Pair, DecoderError> {
+///     rlp::decode_fields!(alloc, fields, len, Pair { key, value })
+/// }
+/// ```
 #[macro_export]
 macro_rules! decode_fields {
     // Each field is moved out of the values, and the others are left: a pattern of all fields at
     // once takes long to check.
-    (@always $head:tt $left:ident [$($moves:tt)*] [$($names:ident)*] $last:ident $(,)?) => {
+    (@next $head:tt $left:ident [$($moves:tt)*] $names:tt) => {
+        $crate::decode_fields!(@call $head $left [$($moves)* let () = $left;] $names)
+    };
+    (@next $head:tt $left:ident [$($moves:tt)*] [$($names:ident)*] $field:ident $(, $($others:tt)*)?) => {
         $crate::decode_fields!(
-            @call decode_struct $head $left
-            [$($moves)* let ($crate::Field($last),) = $left;] [$($names)* $last]
+            @next $head $left
+            [$($moves)* let ($crate::Field($field), $left) = $left;] [$($names)* $field] $($($others)*)?
         )
     };
-    (@always $head:tt $left:ident [$($moves:tt)*] [$($names:ident)*] $last:ident: [..] $(,)?) => {
+    (@next $head:tt $left:ident [$($moves:tt)*] [$($names:ident)*] $field:ident: [..] $(, $($others:tt)*)?) => {
         $crate::decode_fields!(
-            @call decode_struct $head $left
-            [$($moves)* let ($crate::ListField($last),) = $left;] [$($names)* $last]
+            @next $head $left
+            [$($moves)* let ($crate::ListField($field), $left) = $left;] [$($names)* $field] $($($others)*)?
         )
     };
-    (@always $head:tt $left:ident $moves:tt $names:tt $field:ident: ? $($others:tt)*) => {
-        $crate::decode_fields!(@optional $head $left $moves $names $field: ? $($others)*)
-    };
-    (@always $head:tt $left:ident $moves:tt $names:tt $field:ident: [..]? $($others:tt)*) => {
-        $crate::decode_fields!(@optional $head $left $moves $names $field: [..]? $($others)*)
-    };
-    (@always $head:tt $left:ident [$($moves:tt)*] [$($names:ident)*] $field:ident, $($others:tt)+) => {
+    (@next $head:tt $left:ident [$($moves:tt)*] [$($names:ident)*] $field:ident: ? $(, $($others:tt)*)?) => {
         $crate::decode_fields!(
-            @always $head $left
-            [$($moves)* let ($crate::Field($field), $left) = $left;] [$($names)* $field] $($others)+
+            @next $head $left
+            [$($moves)* let $crate::OptionalField($field, $left) = $left;] [$($names)* $field] $($($others)*)?
         )
     };
-    (@always $head:tt $left:ident [$($moves:tt)*] [$($names:ident)*] $field:ident: [..], $($others:tt)+) => {
+    (@next $head:tt $left:ident [$($moves:tt)*] [$($names:ident)*] $field:ident: [..]? $(, $($others:tt)*)?) => {
         $crate::decode_fields!(
-            @always $head $left
-            [$($moves)* let ($crate::ListField($field), $left) = $left;] [$($names)* $field] $($others)+
+            @next $head $left
+            [$($moves)* let $crate::OptionalListField($field, $left) = $left;] [$($names)* $field] $($($others)*)?
         )
     };
-    (@always $head:tt $left:ident $moves:tt $names:tt $field:ident: [$($mark:tt),+ $(,)?] $(, $($others:tt)*)?) => {
+    (@next $head:tt $left:ident [$($moves:tt)*] [$($names:ident)*] $field:ident: [(..)] $(,)?) => {
+        $crate::decode_fields!(
+            @call $head $left [$($moves)* let $crate::Groups($field) = $left;] [$($names)* $field]
+        )
+    };
+    (@next $head:tt $left:ident $moves:tt $names:tt $field:ident: [$($mark:tt),+ $(,)?] $(, $($others:tt)*)?) => {
         $crate::decode_fields!(@each $head $left $moves $names $field [] [$($mark)+] $($($others)*)?)
     };
     // Each value of an array has a name of its own, since the name of a macro's body is new in each
     // step.
-    (@each $head:tt $left:ident [$($moves:tt)*] [$($names:ident)*] $last:ident [$($values:ident)*] [_]) => {
+    (@each $head:tt $left:ident [$($moves:tt)*] [$($names:ident)*] $field:ident [$($values:ident)*] [] $($others:tt)*) => {
         $crate::decode_fields!(
-            @call decode_struct $head $left
-            [$($moves)* let ($crate::Field(value),) = $left; let $last = [$($values,)* value];] [$($names)* $last]
-        )
-    };
-    (@each $head:tt $left:ident [$($moves:tt)*] [$($names:ident)*] $field:ident [$($values:ident)*] [] $($others:tt)+) => {
-        $crate::decode_fields!(
-            @always $head $left
-            [$($moves)* let $field = [$($values),*];] [$($names)* $field] $($others)+
+            @next $head $left
+            [$($moves)* let $field = [$($values),*];] [$($names)* $field] $($others)*
         )
     };
     (@each $head:tt $left:ident [$($moves:tt)*] $names:tt $field:ident [$($values:ident)*] [_ $($more:tt)*] $($others:tt)*) => {
@@ -381,32 +422,8 @@ macro_rules! decode_fields {
             [$($moves)* let ($crate::Field(value), $left) = $left;] $names $field [$($values)* value] [$($more)*] $($others)*
         )
     };
-    (@optional $head:tt $left:ident [$($moves:tt)*] [$($names:ident)*] $last:ident: ? $(,)?) => {
-        $crate::decode_fields!(
-            @call decode_tailed $head $left
-            [$($moves)* let $crate::OptionalField($last, ()) = $left;] [$($names)* $last]
-        )
-    };
-    (@optional $head:tt $left:ident [$($moves:tt)*] [$($names:ident)*] $field:ident: ?, $($others:tt)+) => {
-        $crate::decode_fields!(
-            @optional $head $left
-            [$($moves)* let $crate::OptionalField($field, $left) = $left;] [$($names)* $field] $($others)+
-        )
-    };
-    (@optional $head:tt $left:ident [$($moves:tt)*] [$($names:ident)*] $last:ident: [..]? $(,)?) => {
-        $crate::decode_fields!(
-            @call decode_tailed $head $left
-            [$($moves)* let $crate::OptionalListField($last, ()) = $left;] [$($names)* $last]
-        )
-    };
-    (@optional $head:tt $left:ident [$($moves:tt)*] [$($names:ident)*] $field:ident: [..]?, $($others:tt)+) => {
-        $crate::decode_fields!(
-            @optional $head $left
-            [$($moves)* let $crate::OptionalListField($field, $left) = $left;] [$($names)* $field] $($others)+
-        )
-    };
-    (@call $read:ident ($alloc:expr, $rlp:expr, $name:ident {}) $left:ident [$($moves:tt)*] [$($field:ident)*]) => {
-        match $crate::$read($alloc, $rlp) {
+    (@call ($read:expr, $name:ident {}) $left:ident [$($moves:tt)*] [$($field:ident)*]) => {
+        match $read {
             Ok($left) => {
                 $($moves)*
                 Ok($name { $($field),* })
@@ -414,8 +431,8 @@ macro_rules! decode_fields {
             Err(fault) => Err(fault),
         }
     };
-    (@call $read:ident ($alloc:expr, $rlp:expr, $name:ident ()) $left:ident [$($moves:tt)*] [$($field:ident)*]) => {
-        match $crate::$read($alloc, $rlp) {
+    (@call ($read:expr, $name:ident ()) $left:ident [$($moves:tt)*] [$($field:ident)*]) => {
+        match $read {
             Ok($left) => {
                 $($moves)*
                 Ok($name($($field),*))
@@ -424,9 +441,19 @@ macro_rules! decode_fields {
         }
     };
     ($alloc:expr, $rlp:expr, $name:ident { $($fields:tt)+ }) => {
-        $crate::decode_fields!(@always ($alloc, $rlp, $name {}) fields [] [] $($fields)+)
+        $crate::decode_fields!(@next ($crate::decode_struct($alloc, $rlp), $name {}) fields [] [] $($fields)+)
     };
     ($alloc:expr, $rlp:expr, $name:ident ( $($fields:tt)+ )) => {
-        $crate::decode_fields!(@always ($alloc, $rlp, $name ()) fields [] [] $($fields)+)
+        $crate::decode_fields!(@next ($crate::decode_struct($alloc, $rlp), $name ()) fields [] [] $($fields)+)
+    };
+    ($alloc:expr, $from:expr, $len:expr, $name:ident { $($fields:tt)+ }) => {
+        $crate::decode_fields!(
+            @next ($crate::DecodeFields::decode_fields($alloc, $from, $len), $name {}) fields [] [] $($fields)+
+        )
+    };
+    ($alloc:expr, $from:expr, $len:expr, $name:ident ( $($fields:tt)+ )) => {
+        $crate::decode_fields!(
+            @next ($crate::DecodeFields::decode_fields($alloc, $from, $len), $name ()) fields [] [] $($fields)+
+        )
     };
 }

@@ -1,79 +1,146 @@
 -- The fields of a struct, read from items one after another.
-use Rattle.std.proofs.Common.{◌≡◌, ℕ, zero, suc, ◌+◌, ◌⊎◌, inl, inr, Ok, ap, ◌∙◌, subst, arith}
+use Rattle.std.proofs.Common.{◌≡◌, ℕ, zero, suc, ◌+◌, ◌-◌, ◌<◌, ◌≤◌, ◌⊎◌, inl, inr, Ok, refl, ap, ◌∙◌, sym, subst, arith}
 use Rattle.rlp_format.specs.declared.error.DecoderError.{DecoderError}
 use Rattle.rlp_format.specs.declared.error.DecoderError.TheVariants.{OutOfMemory}
 use Rattle.rlp_format.specs.Views.View.{View, item_count}
-use Rattle.rlp.specs.Codec.{FaultsAsStruct}
-use Rattle.rlp.specs.Lemmas.Structs.{by_place, count_off}
+use Rattle.rlp.specs.Lemmas.WholeStructs.{none_right, only_more}
 use Rattle.rlp.specs.Values.FieldPlace.{FieldPlace, field_place}
-use Rattle.rlp.specs.Values.FieldReading.{FaultsInFields, GivesFields, MayLackInFields}
-use Rattle.rlp.specs.Values.ListReading.{FaultsAsFields, FaultsAt, FaultsInField, GivesBefore, MayLackAsStruct, MayLackAt, faulty_field, in_field}
-use Rattle.rlp.specs.Values.ListReading.{no_fields, other_count}
+use Rattle.rlp.specs.Values.FieldReading.{FaultsAsStruct, FaultsInFields, GivesFields, IsCount, MayLackAsStruct, MayLackInFields, NoMore, NoneOrOne}
+use Rattle.rlp.specs.Values.FieldReading.{by_place, faulty_item, no_items, other_number}
+use Rattle.rlp.specs.Values.ListReading.{FaultsAt, GivesBefore, in_field}
+
+-- ---- numbers of items
+
+-- no fields are no items
+pub none_counted : (n : ℕ) → IsCount 0 NoMore n → n ≡ 0
+none_counted n right = let sum = right.sum in let none : right.more ≡ 0 = right.right in omega (arith, sum, none)
+
+pub no_items_right : (n : ℕ) → n ≡ 0 → IsCount 0 NoMore n
+no_items_right n none = only_more none
+
+module _ (least : ℕ) (IsMore : ℕ → Type 0) (n : ℕ) where
+  -- a field is an item
+  pub some_items : IsCount (suc least) IsMore n → 1 ≤ n
+  some_items right = let sum = right.sum in omega (arith, sum)
+
+  -- and the others are the other items
+  pub other_items : IsCount (suc least) IsMore n → IsCount least IsMore (n - 1)
+  other_items right = record { more = right.more; sum = let sum = right.sum in omega (arith, sum); right = right.right }
+
+  pub one_more_item : 1 ≤ n → IsCount least IsMore (n - 1) → IsCount (suc least) IsMore n
+  one_more_item some right = record { more = right.more; sum = let sum = right.sum in omega (arith, sum, some); right = right.right }
+
+-- numbers of items after no field
+pub only_right : (IsMore : ℕ → Type 0) (n : ℕ) → IsCount 0 IsMore n → IsMore n
+only_right IsMore n right = subst IsMore (let sum = right.sum in let same : right.more ≡ n = omega (arith, sum) in same) right.right
+
+-- if a field that may be missing is present, the others are the other items
+pub others_after : (IsOthers : ℕ → Type 0) (n : ℕ) → 1 ≤ n → IsCount 0 (NoneOrOne IsOthers) n → IsOthers (n - 1)
+others_after IsOthers n some right = by (only_right (NoneOrOne IsOthers) n right)
+  where
+    by : NoneOrOne IsOthers n → IsOthers (n - 1)
+    by (inl none) = absurd (omega (arith, some, none))
+    by (inr (one, others)) = others
+
+pub ruleset numbers_of_items = (none_counted, no_items_right, some_items, other_items, one_more_item, only_right, others_after, only_more)
+
+-- ---- fields in order
 
 -- a fault of the fields from place i on, or `OutOfMemory` for them
-abbrev pub FieldsFail : ℕ → (ℕ → ℕ → View → Type 0) → (ℕ → View → DecoderError → Type 0) → (ℕ → View → Type 0) → View → ℕ → DecoderError → Type 0
+abbrev pub FieldsFail : ℕ → (ℕ → ℕ → View → Type 0) → (ℕ → View → DecoderError → Type 0) → (ℕ → ℕ → View → Type 0) → View → ℕ → DecoderError → Type 0
 FieldsFail count some faults may_lack v i e = FaultsInFields count some faults v i e ⊎ ((e ≡ OutOfMemory) × MayLackInFields count some may_lack v i)
 
-module _ (some1 : ℕ → View → Type 0) (faults1 : View → DecoderError → Type 0) (may_lack1 : View → Type 0)
-    (n : ℕ) (some : ℕ → ℕ → View → Type 0) (faults : ℕ → View → DecoderError → Type 0) (may_lack : ℕ → View → Type 0) where
-  none_before : (v : View) (i : ℕ) → GivesFields 0 (by_place some1 some) v i
-  none_before v i j few = absurd (omega (arith, few))
+same_place : (i : ℕ) → i ≡ i + 0
+same_place i = omega arith
 
-  same_place : (i : ℕ) → i ≡ i + 0
-  same_place i = omega arith
+-- a reader took one more item
+pub view_after : (f g : FieldPlace) → g ≡ record f { place = f.place + 1 } → g.view ≡ f.view
+view_after f g next = ap (λ (p : FieldPlace). p.view) next
 
+pub place_after : (f g : FieldPlace) → g ≡ record f { place = f.place + 1 } → g.place ≡ suc f.place
+place_after f g next = ap (λ (p : FieldPlace). p.place) next ∙ (let more : f.place + 1 ≡ suc f.place = omega arith in more)
+
+-- no items give no fields
+pub none_given : (n : ℕ) (some : ℕ → ℕ → View → Type 0) (v : View) (i : ℕ) → n ≡ 0 → GivesFields n some v i
+none_given n some v i none j few = absurd (omega (arith, few, none))
+
+-- a reader that takes no items stays
+pub none_next : (f : FieldPlace) (n : ℕ) → n ≡ 0 → f ≡ record f { place = f.place + n }
+none_next f n none = ap (λ i. record { view = f.view; place = i }) (let same : f.place ≡ f.place + n = omega (arith, none) in same)
+
+module _ (some1 : ℕ → View → Type 0) (some : ℕ → ℕ → View → Type 0) (len : ℕ) (one : 1 ≤ len) where
+  one_before : (v : View) (i : ℕ) → some1 i v → GivesFields (len - 1) some v (suc i) → GivesFields len (by_place some1 some) v i
+  one_before v i given before zero few = subst (λ j. some1 j v) (same_place i) given
+  one_before v i given before (suc j) few =
+      subst (λ m. some j m v) (let place : suc i + j ≡ i + suc j = omega arith in place) (before j (omega (arith, few)))
+
+  -- the first field was given, and the others were
+  pub others_some : (f g : FieldPlace) → g ≡ record f { place = f.place + 1 } → some1 f.place f.view → GivesFields (len - 1) some g.view g.place
+      → GivesFields len (by_place some1 some) f.view f.place
+  others_some f g next given more = one_before f.view f.place given
+      (subst (λ i. GivesFields (len - 1) some f.view i) (place_after f g next)
+      (subst (λ v. GivesFields (len - 1) some v g.place) (view_after f g next) more))
+
+module _ (some1 : ℕ → View → Type 0) (faults1 : View → DecoderError → Type 0) (may_lack1 : ℕ → View → Type 0)
+    (some : ℕ → ℕ → View → Type 0) (faults : ℕ → View → DecoderError → Type 0) (may_lack : ℕ → ℕ → View → Type 0) (len : ℕ) (one : 1 ≤ len) where
   -- the first field fails
-  pub first_fails : (v : View) (i : ℕ) (e : DecoderError) → FaultsAt faults1 v i e ⊎ ((e ≡ OutOfMemory) × MayLackAt may_lack1 v i)
-      → FieldsFail (suc n) (by_place some1 some) (by_place faults1 faults) (by_place may_lack1 may_lack) v i e
-  first_fails v i e (inl fault) =
-      inl (record { number = 0; few = omega arith; before = none_before v i; fault = subst (λ j. FaultsAt faults1 v j e) (same_place i) fault })
-  first_fails v i e (inr (lacks, may)) =
-      inr (lacks, record { number = 0; few = omega arith; before = none_before v i; may = subst (λ j. MayLackAt may_lack1 v j) (same_place i) may })
+  pub first_fails : (v : View) (i : ℕ) (e : DecoderError) → FaultsAt faults1 v i e ⊎ ((e ≡ OutOfMemory) × may_lack1 i v)
+      → FieldsFail len (by_place some1 some) (by_place faults1 faults) (by_place may_lack1 may_lack) v i e
+  first_fails v i e (inl fault) = inl (record {
+    number = 0;
+    few = omega (arith, one);
+    before = none_given 0 (by_place some1 some) v i refl;
+    fault = subst (λ j. FaultsAt faults1 v j e) (same_place i) fault;
+  })
+  first_fails v i e (inr (lacks, may)) = inr (lacks, record {
+    number = 0;
+    few = omega (arith, one);
+    before = none_given 0 (by_place some1 some) v i refl;
+    may = subst (λ j. may_lack1 j v) (same_place i) may;
+  })
 
-  one_before : (v : View) (i k : ℕ) → some1 i v → GivesFields k some v (suc i) → GivesFields (suc k) (by_place some1 some) v i
-  one_before v i k given before zero few = subst (λ j. some1 j v) (same_place i) given
-  one_before v i k given before (suc j) few = subst (λ m. some j m v) (let place : suc i + j ≡ i + suc j = omega arith in place) (before j (omega (arith, few)))
+  before_later : (v : View) (i k : ℕ) → some1 i v → GivesFields k some v (suc i) → GivesFields (suc k) (by_place some1 some) v i
+  before_later v i k given before =
+      one_before some1 some (suc k) (let more : 1 ≤ suc k = omega arith in more) v i given
+      (subst (λ m. GivesFields m some v (suc i)) (let same : k ≡ suc k - 1 = omega arith in same) before)
 
-  later_fails : (v : View) (i : ℕ) (e : DecoderError) → some1 i v → FieldsFail n some faults may_lack v (suc i) e
-      → FieldsFail (suc n) (by_place some1 some) (by_place faults1 faults) (by_place may_lack1 may_lack) v i e
-  later_fails v i e given (inl f) =
-      inl (record {
-        number = suc f.number;
-        few = let few = f.few in omega (arith, few);
-        before = one_before v i f.number given f.before;
-        fault =
-            subst (λ j. FaultsAt (faults f.number) v j e) (let place : suc i + f.number ≡ i + suc f.number = omega arith in place) f.fault;
-      })
-  later_fails v i e given (inr (lacks, m)) =
-      inr (
-        lacks,
-        record {
-          number = suc m.number;
-          few = let few = m.few in omega (arith, few);
-          before = one_before v i m.number given m.before;
-          may =
-              subst (λ j. MayLackAt (may_lack m.number) v j) (let place : suc i + m.number ≡ i + suc m.number = omega arith in place) m.may;
-        },
-      )
+  later_fails : (v : View) (i : ℕ) (e : DecoderError) → some1 i v → FieldsFail (len - 1) some faults may_lack v (suc i) e
+      → FieldsFail len (by_place some1 some) (by_place faults1 faults) (by_place may_lack1 may_lack) v i e
+  later_fails v i e given (inl f) = inl (record {
+    number = suc f.number;
+    few = let few = f.few in omega (arith, few);
+    before = before_later v i f.number given f.before;
+    fault = subst (λ j. FaultsAt (faults f.number) v j e) (let place : suc i + f.number ≡ i + suc f.number = omega arith in place) f.fault;
+  })
+  later_fails v i e given (inr (lacks, m)) = inr (lacks, record {
+    number = suc m.number;
+    few = let few = m.few in omega (arith, few);
+    before = before_later v i m.number given m.before;
+    may = subst (λ j. may_lack m.number j v) (let place : suc i + m.number ≡ i + suc m.number = omega arith in place) m.may;
+  })
 
   -- the first field is given, and one of the others fails
   pub others_fail : (f g : FieldPlace) (e : DecoderError) → g ≡ record f { place = f.place + 1 } → some1 f.place f.view
-      → FieldsFail n some faults may_lack g.view g.place e
-      → FieldsFail (suc n) (by_place some1 some) (by_place faults1 faults) (by_place may_lack1 may_lack) f.view f.place e
+      → FieldsFail (len - 1) some faults may_lack g.view g.place e
+      → FieldsFail len (by_place some1 some) (by_place faults1 faults) (by_place may_lack1 may_lack) f.view f.place e
   others_fail f g e next given fails =
-      let view_is : g.view ≡ f.view = ap (λ (p : FieldPlace). p.view) next in
-      let place_is : g.place ≡ suc f.place = ap (λ (p : FieldPlace). p.place) next ∙ (let more : f.place + 1 ≡ suc f.place = omega arith in more) in
       later_fails f.view f.place e given
-      (subst (λ i. FieldsFail n some faults may_lack f.view i e) place_is (subst (λ v. FieldsFail n some faults may_lack v g.place e) view_is fails))
+      (subst (λ i. FieldsFail (len - 1) some faults may_lack f.view i e) (place_after f g next)
+      (subst (λ v. FieldsFail (len - 1) some faults may_lack v g.place e) (view_after f g next) fails))
 
 -- the values of the others, from the next place on
 pub others_given : (f g : FieldPlace) (Give : ℕ → View → Type 0) → g ≡ record f { place = f.place + 1 } → Give g.place g.view → Give (suc f.place) f.view
 others_given f g Give next given =
-    let view_is : g.view ≡ f.view = ap (λ (p : FieldPlace). p.view) next in
-    let place_is : g.place ≡ suc f.place = ap (λ (p : FieldPlace). p.place) next ∙ (let more : f.place + 1 ≡ suc f.place = omega arith in more) in
-    subst (λ i. Give i f.view) place_is (subst (λ v. Give g.place v) view_is given)
+    subst (λ i. Give i f.view) (place_after f g next) (subst (λ v. Give g.place v) (view_after f g next) given)
 
-pub ruleset fields_in_order = (first_fails, others_fail, others_given)
+-- the place after the first field and the others
+pub others_next : (f g h : FieldPlace) (n : ℕ) → 1 ≤ n → g ≡ record f { place = f.place + 1 } → h ≡ record g { place = g.place + (n - 1) }
+    → h ≡ record f { place = f.place + n }
+others_next f g h n some next after =
+    after ∙ ap (λ (p : FieldPlace). record p { place = p.place + (n - 1) }) next
+    ∙ ap (λ m. record { view = f.view; place = m }) (let sum : f.place + 1 + (n - 1) ≡ f.place + n = omega (arith, some) in sum)
+
+pub ruleset fields_in_order = (none_counted, none_given, none_next, some_items, other_items, others_after, others_given, others_next, others_some)
 
 -- ---- the whole struct
 
@@ -85,29 +152,31 @@ given_before some v (suc k) given = (
       (given k (omega arith)),
 )
 
--- if a view has the right number of items and its fields fail, the struct fails
-pub struct_fails : (n m : ℕ) (some : ℕ → ℕ → View → Type 0) (faults : ℕ → View → DecoderError → Type 0) (may_lack : ℕ → View → Type 0)
-    (f : FieldPlace) (v : View) (e : DecoderError)
-    → item_count v ≡ Ok m → m ≡ n → f ≡ field_place v 0 → FieldsFail n some faults may_lack f.view f.place e
-    → FaultsAsStruct n some faults v e ⊎ ((e ≡ OutOfMemory) × MayLackAsStruct n some may_lack v)
-struct_fails n m some faults may_lack f v e counted same begun fails =
-    let at_start : FieldsFail n some faults may_lack v 0 e = subst (λ (p : FieldPlace). FieldsFail n some faults may_lack p.view p.place e) begun fails in
-    by at_start
-  where
-    by : FieldsFail n some faults may_lack v 0 e → FaultsAsStruct n some faults v e ⊎ ((e ≡ OutOfMemory) × MayLackAsStruct n some may_lack v)
-    by (inl f) = inl (faulty_field e (counted ∙ ap Ok same)
-        (in_field f.number f.few (given_before some v f.number f.before)
-        (subst (λ i. FaultsAt (faults f.number) v i e) (let place : 0 + f.number ≡ f.number = omega arith in place) f.fault)))
-    by (inr (lacks, m)) = inr (
-      lacks,
-      record {
-        many = counted ∙ ap Ok same;
-        place = m.number;
-        few = m.few;
-        before = given_before some v m.number m.before;
-        may =
-            subst (λ i. MayLackAt (may_lack m.number) v i) (let place : 0 + m.number ≡ m.number = omega arith in place) m.may;
-      },
-    )
+module _ (least : ℕ) (IsMore : ℕ → Type 0) (some : ℕ → ℕ → View → Type 0) (faults : ℕ → View → DecoderError → Type 0)
+    (may_lack : ℕ → ℕ → View → Type 0) (v : View) where
+  -- if a view has a right number of items and its fields fail, the struct fails
+  pub struct_fails : (m : ℕ) (f : FieldPlace) (e : DecoderError) → item_count v ≡ Ok m → IsCount least IsMore m → f ≡ field_place v 0
+      → FieldsFail m some faults may_lack f.view f.place e
+      → FaultsAsStruct least IsMore some faults v e ⊎ ((e ≡ OutOfMemory) × MayLackAsStruct least IsMore some may_lack v)
+  struct_fails m f e counted right begun fails =
+      by (subst (λ (p : FieldPlace). FieldsFail m some faults may_lack p.view p.place e) begun fails)
+    where
+      by : FieldsFail m some faults may_lack v 0 e
+          → FaultsAsStruct least IsMore some faults v e ⊎ ((e ≡ OutOfMemory) × MayLackAsStruct least IsMore some may_lack v)
+      by (inl f) = inl (faulty_item m e counted right
+          (in_field f.number f.few (given_before some v f.number f.before)
+          (subst (λ i. FaultsAt (faults f.number) v i e) (let place : 0 + f.number ≡ f.number = omega arith in place) f.fault)))
+      by (inr (lacks, l)) = inr (
+        lacks,
+        record {
+          count = m;
+          many = counted;
+          right = right;
+          place = l.number;
+          few = l.few;
+          before = given_before some v l.number l.before;
+          may = subst (λ i. may_lack l.number i v) (let place : 0 + l.number ≡ l.number = omega arith in place) l.may;
+        },
+      )
 
-pub ruleset whole_struct = (struct_fails, count_off, no_fields)
+pub ruleset whole_struct = (other_number, struct_fails, no_items)

@@ -1,35 +1,34 @@
--- Structs whose last fields are groups of fields: their encodings are read back, and they are read strictly.
-use Rattle.std.proofs.Common.{◌≡◌, ◌↔◌, ℕ, suc, ◌+◌, ◌-◌, ◌*◌, ◌%◌, ◌^◌, ◌<◌, ◌⊎◌, inl, inr, ⊎_elim, List, [], ◌∷◌, ◌++◌, length, map}
+-- Groups of fields: their encodings are read back, and they are read strictly.
+use Rattle.std.proofs.Common.{◌≡◌, ◌↔◌, ℕ, suc, ◌+◌, ◌-◌, ◌*◌, ◌%◌, ◌^◌, ◌<◌, ◌≤◌, ◌⊎◌, inl, inr, ⊎_elim, List, [], ◌∷◌, ◌++◌, length, map, false}
+use Rattle.std.specs.Prelude.{◌==◌}
 use Rattle.std.proofs.Common.{refl, sym, ap, ◌∙◌, subst, arith, length-append, take, drop, Ok, All}
-use Rattle.std.proofs.lemmas.Bool.{cases_lt}
+use Rattle.std.proofs.lemmas.Bool.{cases_lt, eqb-false}
 use Rattle.std.proofs.Math.Nat.{add-mod_left, mod-eq_of_lt, mul-add-mod_self_right, suc-mul}
 use Rattle.std.proofs.lemmas.List.{length-drop, length-map, length-take-le, map-append, nil_from_length, take-append-drop}
 use Rattle.std.proofs.lemmas.List.Elements.{All-cons, All-head, All-nil, All-tail}
 use Rattle.rlp_format.specs.declared.error.DecoderError.{DecoderError}
-use Rattle.rlp_format.specs.Format.Item.{Item, list_of}
-use Rattle.rlp_format.specs.Format.WrittenHeader.{AreBytes}
-use Rattle.rlp_format.specs.Format.Encoding.{encoding, IsSized}
-use Rattle.rlp_format.specs.Format.Split.{items}
-use Rattle.rlp_format.specs.Views.View.{View, view_of, strict_view_of, item_count}
+use Rattle.rlp_format.specs.Format.Item.{Item}
+use Rattle.rlp_format.specs.Format.Encoding.{encoding}
+use Rattle.rlp_format.specs.Views.View.{View}
 use Rattle.rlp_streams.specs.Streams.Fields.{all_items}
-use Rattle.rlp.specs.Values.ListReading.{FaultsAt, in_field}
-use Rattle.rlp.specs.Values.Groups.{AreGroups, FaultsAsGrouped, GivesGroups, IsOneMore, faulty_in_group, in_group, other_size, ungrouped}
-use Rattle.rlp_format.specs.Lemmas.Encodings.{front_sized}
-use Rattle.rlp_format.specs.Lemmas.Numbered.{item_count-list}
-use Rattle.rlp.specs.Lemmas.ListRoundTrips.{AlwaysReadsBack}
-use Rattle.rlp.specs.Lemmas.StrictReads.{AlwaysReadsStrictly, counted_items, counted_told, told_whole}
-use Rattle.rlp.specs.Lemmas.StrictStructs.{PartsFrom, parts_of_strict}
-use Rattle.rlp.specs.Lemmas.Structs.{HoldsFrom, holds_items, list_same}
-use Rattle.rlp.specs.Lemmas.WholeLists.{strict_item_count, strict_items, strict_list_told, whole_list, whole_sized}
+use Rattle.rlp.specs.Values.ListReading.{FaultsAt}
+use Rattle.rlp.specs.Values.FieldReading.{GivesGroups, in_group}
+use Rattle.rlp.specs.Lemmas.StrictStructs.{PartsFrom}
+use Rattle.rlp.specs.Lemmas.Structs.{HoldsFrom}
 
--- ---- numbers of items
+-- a number that isn't 0
+pub not_none : (n : ℕ) → (0 == n) ≡ false → 0 < n
+not_none n other = by (cases_lt 0 n)
+  where
+    by : (0 < n) ⊎ (n ≤ 0) → 0 < n
+    by (inl some) = some
+    by (inr none) = absurd (eqb-false 0 n other (omega (arith, none)))
 
--- one more field
-pub one_more_right : (IsCount : ℕ → Type 0) (n : ℕ) → IsCount n → IsOneMore IsCount (suc n)
-one_more_right IsCount n right = (omega arith, subst IsCount (let same : n ≡ suc n - 1 = omega arith in same) right)
+pub below_same : (k n m : ℕ) → k < n → m ≡ n → k < m
+below_same k n m few same = omega (arith, few, same)
 
 -- some groups are a whole number of groups
-pub groups_right : (width n : ℕ) → 0 < width → AreGroups width (n * width)
+pub groups_right : (width n : ℕ) → 0 < width → (n * width) % width ≡ 0
 groups_right width n some =
     let plain : n * width ≡ n * width + 0 = omega arith in
     ap (λ m. m % width) plain ∙ mul-add-mod_self_right n width 0 ∙ mod-eq_of_lt some
@@ -182,79 +181,3 @@ module _ {G : Type 0} (width : ℕ) (Fits : G → Type 0) (items_of : G → List
         (subst (λ n. FaultsAt (faults n) view (i + width + j) e) (ap (λ n. n % width) is ∙ add-mod_left width j)
         (subst (λ n. FaultsAt (faults (k % width)) view n e) (let place : i + k ≡ i + width + j = omega (arith, is) in place) at)))
         (group_cases width k)
-
--- ---- the struct
-
-module _ {P : Type 0} (IsCount : ℕ → Type 0) (number : P → ℕ) (Fits : P → Type 0) (items_of : P → List Item) (gives : ℕ → View → P → Type 0)
-    (some : ℕ → ℕ → View → Type 0) (faults : ℕ → View → DecoderError → Type 0)
-    (counted : (p : P) → length (items_of p) ≡ number p) (right : (p : P) → IsCount (number p)) where
-  -- a view whose number of items is that of a value, and whose items have no fault, has no fault
-  no_grouped_fault : (view : View) (p : P) → item_count view ≡ Ok (number p)
-      → ((k : ℕ) (e : DecoderError) → k < length (items_of p) → ¬ FaultsAt (faults k) view (0 + k) e) → (e : DecoderError)
-      → ¬ FaultsAsGrouped IsCount some faults view e
-  no_grouped_fault view p many sound e (ungrouped g none) = cc
-  no_grouped_fault view p many sound e (other_size m same wrong) = let equal : m ≡ number p = cc in wrong (subst IsCount (sym equal) (right p))
-  no_grouped_fault view p many sound e (faulty_in_group m g same (in_field k within before at)) =
-      let equal : m ≡ number p = cc in
-      sound k g (omega (arith, equal, counted p)) (subst (λ j. FaultsAt (faults k) view j g) (let zero_add : k ≡ 0 + k = omega arith in zero_add) at)
-
-  -- such a struct is read back if its fields are
-  pub grouped_reads_back : ((i : ℕ) (view : View) (p : P) → Fits p → HoldsFrom view i (items_of p) → (q : P)
-      → length (items_of q) ≡ length (items_of p) → gives i view q ↔ (Fits q × (items_of q ≡ items_of p)))
-      → ((i : ℕ) (view : View) (p : P) → Fits p → HoldsFrom view i (items_of p) → (k : ℕ) (e : DecoderError) → k < length (items_of p)
-      → ¬ FaultsAt (faults k) view (i + k) e)
-      → AlwaysReadsBack Fits (λ p. list_of (items_of p)) (λ v p. (item_count v ≡ Ok (number p)) × gives 0 v p)
-      (λ v e. FaultsAsGrouped IsCount some faults v e)
-  grouped_reads_back alike sound b p fits fit (more, is) =
-      let sized : IsSized (list_of (items_of p)) = front_sized (list_of (items_of p)) b more fits is in
-      let holds : HoldsFrom (view_of b) 0 (items_of p) = holds_items (items_of p) b sized (more, is) in
-      let many : item_count (view_of b) ≡ Ok (number p) = item_count-list (items_of p) b sized (more, is) ∙ ap Ok (counted p) in
-      record {
-        alike = λ q. (
-          λ (n, g). let same : number q ≡ number p = cc in
-              let h = (alike 0 (view_of b) p fit holds q (counted q ∙ same ∙ sym (counted p))).0 g in (h.0, ap list_of h.1),
-          λ (fit', same). let equal = list_same (items_of q) (items_of p) same in
-              let numbers : number p ≡ number q = sym (counted p) ∙ ap length (sym equal) ∙ counted q in
-              (many ∙ ap Ok numbers, (alike 0 (view_of b) p fit holds q (ap length equal)).1 (fit', equal)),
-        );
-        no_fault = no_grouped_fault (view_of b) p many (sound 0 (view_of b) p fit holds);
-      }
-
-  module _ (exact : (i : ℕ) (view : View) (parts : List (List ℕ)) (p : P) → PartsFrom view i parts → length parts ≡ length (items_of p)
-      → gives i view p ↔ (Fits p × (parts ≡ map encoding (items_of p))))
-      (sound : (i : ℕ) (view : View) (parts : List (List ℕ)) (p : P) → PartsFrom view i parts → Fits p → parts ≡ map encoding (items_of p)
-      → (k : ℕ) (e : DecoderError) → k < length (items_of p) → ¬ FaultsAt (faults k) view (i + k) e) where
-    module _ (b : List ℕ) (p : P) (bytes : AreBytes b) (fits : length b < 2 ^ 64) where
-      grouped_whole : item_count (strict_view_of b) ≡ Ok (number p) → gives 0 (strict_view_of b) p → Fits p × (b ≡ encoding (list_of (items_of p)))
-      grouped_whole many given =
-          let told = counted_told (strict_view_of b) (number p) many in
-          let h = (exact 0 (strict_view_of b) (items b) p (parts_of_strict b bytes fits told)
-          (counted_items (strict_view_of b) (number p) many ∙ sym (counted p))).0 given in
-          (h.0, whole_list b (items_of p) bytes (told_whole b told) h.1)
-
-      grouped_count : b ≡ encoding (list_of (items_of p)) → item_count (strict_view_of b) ≡ Ok (number p)
-      grouped_count is = strict_item_count (items_of p) b (whole_sized (list_of (items_of p)) b fits is) is ∙ ap Ok (counted p)
-
-      grouped_parts : b ≡ encoding (list_of (items_of p)) → PartsFrom (strict_view_of b) 0 (items b)
-      grouped_parts is = parts_of_strict b bytes fits (strict_list_told (items_of p) b (whole_sized (list_of (items_of p)) b fits is) is)
-
-      grouped_given : Fits p → b ≡ encoding (list_of (items_of p)) → (item_count (strict_view_of b) ≡ Ok (number p)) × gives 0 (strict_view_of b) p
-      grouped_given fit is = (
-        grouped_count is,
-        (exact 0 (strict_view_of b) (items b) p (grouped_parts is)
-            (counted_items (strict_view_of b) (number p) (grouped_count is) ∙ sym (counted p))).1
-            (fit, strict_items (items_of p) b (whole_sized (list_of (items_of p)) b fits is) is),
-      )
-
-      grouped_sound : Fits p → b ≡ encoding (list_of (items_of p)) → (e : DecoderError) → ¬ FaultsAsGrouped IsCount some faults (strict_view_of b) e
-      grouped_sound fit is = no_grouped_fault (strict_view_of b) p (grouped_count is)
-          (sound 0 (strict_view_of b) (items b) p (grouped_parts is) fit
-          (strict_items (items_of p) b (whole_sized (list_of (items_of p)) b fits is) is))
-
-    -- and is read strictly if they are
-    pub grouped_strict : AlwaysReadsStrictly Fits (λ p. list_of (items_of p)) (λ v p. (item_count v ≡ Ok (number p)) × gives 0 v p)
-        (λ v e. FaultsAsGrouped IsCount some faults v e)
-    grouped_strict b p bytes fits = record {
-      exact = (λ (many, given). grouped_whole b p bytes fits many given, λ (fit, is). grouped_given b p bytes fits fit is);
-      sound = grouped_sound b p bytes fits;
-    }

@@ -1,13 +1,13 @@
 -- Structs that are lists of their fields: their encodings are read back. Rules for bodies that read them.
-use Rattle.std.proofs.Common.{◌≡◌, ◌↔◌, ℕ, zero, suc, ◌+◌, ◌^◌, ◌<◌, ◌⊎◌, inl, inr, List, [], ◌∷◌, ◌++◌, length, sym, ap, ◌∙◌, subst, arith}
+use Rattle.std.proofs.Common.{◌≡◌, ◌↔◌, ℕ, zero, suc, ◌+◌, ◌^◌, ◌<◌, ◌⊎◌, inl, inr, List, [], ◌∷◌, ◌++◌, length, refl, sym, ap, ◌∙◌, subst, arith}
 use Rattle.std.proofs.Common.{append_assoc, length-append, Ok, ◌≢◌}
 use Rattle.rlp_format.specs.declared.error.DecoderError.{DecoderError}
 use Rattle.rlp_format.specs.declared.error.DecoderError.TheVariants.{OutOfMemory, RlpIncorrectListLen}
 use Rattle.rlp_format.specs.Format.Item.{Item, list_of, items_from, listed}
 use Rattle.rlp_format.specs.Format.Encoding.{BeginsWith, encoding, join, IsSized}
 use Rattle.rlp_format.specs.Views.View.{View, view_of, item_at, item_count}
-use Rattle.rlp.specs.Values.ListReading.{FaultsAsFields, no_fields, other_count, faulty_field, FaultsAt, FaultsInField, in_field, GivesAt}
-use Rattle.rlp.specs.Values.ListReading.{GivesBefore, MayLackAsStruct, MayLackAt}
+use Rattle.rlp.specs.Values.ListReading.{FaultsAsFields, no_fields, other_count, faulty_field, FaultsAt, in_field, GivesAt, GivesBefore}
+use Rattle.rlp.specs.Values.FieldReading.{FaultsAsStruct, IsCount, MayLackAsStruct, NoMore, faulty_item, no_items, other_number}
 use Rattle.rlp.specs.Values.FieldPlace.{FieldPlace, field_place}
 use Rattle.rlp.specs.Values.RoundTrip.{ReadsBack}
 use Rattle.rlp_format.specs.Lemmas.Encodings.{encoding_list, small_payload, front_sized, listed_from}
@@ -21,11 +21,6 @@ cons_same x y xs ys e = (let h : x ≡ y = cc in h, let t : xs ≡ ys = cc in t)
 -- if two lists are the same item, they have the same items
 pub list_same : (xs ys : List Item) → list_of xs ≡ list_of ys → xs ≡ ys
 list_same xs ys e = let inner : items_from xs ≡ items_from ys = cc in sym (listed_from xs) ∙ ap listed inner ∙ listed_from ys
-
--- `first` for place 0, and `others` for the places after it
-abbrev pub by_place : {A : Type 1} → A → (ℕ → A) → ℕ → A
-by_place first others zero = first
-by_place first others (suc k) = others k
 
 -- from place i on, the items of the view are the encodings of these
 abbrev pub HoldsFrom : View → ℕ → List Item → Type 0
@@ -57,91 +52,28 @@ module _ {A P : Type 0} (field : P → A) (Fits : A → Type 0) (item : A → It
       → ReadsBack Fits item (λ v w. GivesAt gives v i w) (λ v e. FaultsAt faults v i e) view (field p)
   first_back i view p fit is sized = item_reads_back Fits item gives faults view i (field p) law fit sized is
 
-  -- the first field is read back
-  pub first_alike : (i : ℕ) (view : View) (p : P) → Fits (field p) → HoldsFrom view i (item (field p) ∷ []) → (q : P)
-      → GivesAt gives view i (field q) ↔ (Fits (field q) × (item (field q) ∷ [] ≡ item (field p) ∷ []))
-  first_alike i view p fit (is, (sized, none)) q =
-      let one = (first_back i view p fit is sized).alike (field q) in
-      (λ g. let h = one.0 g in (h.0, ap (λ x. x ∷ []) h.1), λ (fit', same). one.1 (fit', (cons_same (item (field q)) (item (field p)) [] [] same).0))
-
   pub sound_by : (i : ℕ) (view : View) (p : P) (j : ℕ) (e : DecoderError) → Fits (field p) → item_at view i ≡ Ok (view_of (encoding (item (field p))))
       → IsSized (item (field p)) → j ≡ i → ¬ FaultsAt faults view j e
   sound_by i view p j e fit is sized same at = (first_back i view p fit is sized).no_fault e (subst (λ j. FaultsAt faults view j e) same at)
 
-  -- the first field has no fault
-  pub first_sound : (i : ℕ) (view : View) (p : P) → Fits (field p) → HoldsFrom view i (item (field p) ∷ []) → (k : ℕ) (e : DecoderError) → k < 1
-      → ¬ FaultsAt (by_place faults (λ k v e. ⊥) k) view (i + k) e
-  first_sound i view p fit (is, (sized, none)) zero e few at = sound_by i view p (i + 0) e fit is sized (omega arith) at
-  first_sound i view p fit (is, (sized, none)) (suc k) e few at = omega arith
-
-  module _ (FitMore : P → Type 0) (more : P → List Item) where
-    -- a field is read back, and so are the fields after it
-    pub more_alike : (giveMore : ℕ → View → P → Type 0)
-        → ((i : ℕ) (view : View) (p : P) → FitMore p → HoldsFrom view i (more p) → (q : P) → giveMore i view q ↔ (FitMore q × (more q ≡ more p)))
-        → (i : ℕ) (view : View) (p : P) → Fits (field p) × FitMore p → HoldsFrom view i (item (field p) ∷ more p) → (q : P)
-        → (GivesAt gives view i (field q) × giveMore (suc i) view q) ↔ ((Fits (field q) × FitMore q) × (item (field q) ∷ more q ≡ item (field p) ∷ more p))
-    more_alike giveMore later i view p (fit, fits) (is, (sized, others)) q =
-        let one = (first_back i view p fit is sized).alike (field q) in
-        let rest = later (suc i) view p fits others q in (
-          λ (g, gs). let h = one.0 g in let hs = rest.0 gs in ((h.0, hs.0), ap (λ x. x ∷ more q) h.1 ∙ ap (λ xs. item (field p) ∷ xs) hs.1),
-          λ ((fit', fits'), same). let parts = cons_same (item (field q)) (item (field p)) (more q) (more p) same in
-              (one.1 (fit', parts.0), rest.1 (fits', parts.1)),
-        )
-
-    -- a field has no fault, and neither have the fields after it
-    pub more_sound : (count : ℕ) (faultMore : ℕ → View → DecoderError → Type 0)
-        → ((i : ℕ) (view : View) (p : P) → FitMore p → HoldsFrom view i (more p) → (k : ℕ) (e : DecoderError) → k < count
-        → ¬ FaultsAt (faultMore k) view (i + k) e)
-        → (i : ℕ) (view : View) (p : P) → Fits (field p) × FitMore p → HoldsFrom view i (item (field p) ∷ more p) → (k : ℕ) (e : DecoderError)
-        → k < suc count → ¬ FaultsAt (by_place faults faultMore k) view (i + k) e
-    more_sound count faultMore later i view p (fit, fits) (is, (sized, others)) zero e few at = sound_by i view p (i + 0) e fit is sized (omega arith) at
-    more_sound count faultMore later i view p (fit, fits) (is, (sized, others)) (suc k) e few at =
-        let place : i + suc k ≡ suc i + k = omega arith in
-        later (suc i) view p fits others k e (omega arith) (subst (λ j. FaultsAt (faultMore k) view j e) place at)
-
--- ---- the struct
-
-module _ {P : Type 0} (count : ℕ) (Fits : P → Type 0) (items : P → List Item) (gives : ℕ → View → P → Type 0) (some : ℕ → ℕ → View → Type 0)
-    (faults : ℕ → View → DecoderError → Type 0)
-    (counted : (p : P) → length (items p) ≡ count)
-    (alike : (i : ℕ) (view : View) (p : P) → Fits p → HoldsFrom view i (items p) → (q : P) → gives i view q ↔ (Fits q × (items q ≡ items p)))
-    (sound : (i : ℕ) (view : View) (p : P) → Fits p → HoldsFrom view i (items p) → (k : ℕ) (e : DecoderError) → k < count
-    → ¬ FaultsAt (faults k) view (i + k) e) where
-  no_struct_fault : (view : View) (p : P) → Fits p → HoldsFrom view 0 (items p) → item_count view ≡ Ok count → (e : DecoderError)
-      → ¬ FaultsAsFields count (λ v e. FaultsInField count some faults v e) view e
-  no_struct_fault view p fit holds is e (no_fields g none) = cc
-  no_struct_fault view p fit holds is e (other_count m same other) = let equal : m ≡ count = cc in other equal
-  no_struct_fault view p fit holds is e (faulty_field g same (in_field k few before at)) =
-      sound 0 view p fit holds k g few (subst (λ j. FaultsAt (faults k) view j g) (let zero_add : k ≡ 0 + k = omega arith in zero_add) at)
-
-  -- a struct is read back if its fields are
-  pub struct_reads_back : AlwaysReadsBack Fits (λ p. list_of (items p)) (λ v p. (item_count v ≡ Ok count) × gives 0 v p)
-      (λ v e. FaultsAsFields count (λ v e. FaultsInField count some faults v e) v e)
-  struct_reads_back b p fits fit (more, is) =
-      let sized : IsSized (list_of (items p)) = front_sized (list_of (items p)) b more fits is in
-      let holds : HoldsFrom (view_of b) 0 (items p) = holds_from [] (items p) b sized (more, is) in
-      let many : item_count (view_of b) ≡ Ok count = item_count-list (items p) b sized (more, is) ∙ ap Ok (counted p) in
-      record {
-        alike = λ q. let whole = alike 0 (view_of b) p fit holds q in (
-          λ (n, g). let h = whole.0 g in (h.0, ap list_of h.1),
-          λ (fit', same). (many, whole.1 (fit', list_same (items q) (items p) same)),
-        );
-        no_fault = no_struct_fault (view_of b) p fit holds many;
-      }
-
 -- ---- rules for bodies that read a struct
 
-module _ (count : ℕ) (some : ℕ → ℕ → View → Type 0) (faults : ℕ → View → DecoderError → Type 0) (may_lack : ℕ → View → Type 0) (v : View)
+-- exactly this number of items
+pub all_items_right : (n : ℕ) → IsCount n NoMore n
+all_items_right n = record { more = 0; sum = omega arith; right = refl }
+
+module _ (count : ℕ) (some : ℕ → ℕ → View → Type 0) (faults : ℕ → View → DecoderError → Type 0) (may_lack : ℕ → ℕ → View → Type 0) (v : View)
     (e : DecoderError) where
   -- the fault is one of the struct, or memory may be short
   abbrev pub StructFails : Type 0
-  StructFails = FaultsAsFields count (λ v e. FaultsInField count some faults v e) v e ⊎ ((e ≡ OutOfMemory) × MayLackAsStruct count some may_lack v)
+  StructFails = FaultsAsStruct count NoMore some faults v e ⊎ ((e ≡ OutOfMemory) × MayLackAsStruct count NoMore some may_lack v)
 
   -- a fault of a field is one of the struct
-  pub field_fails : (k : ℕ) → FaultsAt (faults k) v k e ⊎ ((e ≡ OutOfMemory) × MayLackAt (may_lack k) v k) → item_count v ≡ Ok count → k < count
+  pub field_fails : (k : ℕ) → FaultsAt (faults k) v k e ⊎ ((e ≡ OutOfMemory) × may_lack k k v) → item_count v ≡ Ok count → k < count
       → GivesBefore some v k → StructFails
-  field_fails k (inl fault) many few before = inl (faulty_field e many (in_field k few before fault))
-  field_fails k (inr (lacks, may)) many few before = inr (lacks, record { many = many; place = k; few = few; before = before; may = may })
+  field_fails k (inl fault) many few before = inl (faulty_item count e many (all_items_right count) (in_field k few before fault))
+  field_fails k (inr (lacks, may)) many few before =
+      inr (lacks, record { count = count; many = many; right = all_items_right count; place = k; few = few; before = before; may = may })
 
   -- the fact, if each of the first k fields is given
   abbrev pub WhereGiven : ℕ → Type 0 → Type 0
@@ -155,7 +87,7 @@ module _ (count : ℕ) (some : ℕ → ℕ → View → Type 0) (faults : ℕ �
 
   -- the same for the field with this number, if the fields before it gave values
   abbrev pub FieldFails : ℕ → Type 0
-  FieldFails k = FaultsAt (faults k) v k e ⊎ ((e ≡ OutOfMemory) × MayLackAt (may_lack k) v k) → item_count v ≡ Ok count → k < count → WhereGiven k StructFails
+  FieldFails k = FaultsAt (faults k) v k e ⊎ ((e ≡ OutOfMemory) × may_lack k k v) → item_count v ≡ Ok count → k < count → WhereGiven k StructFails
 
   -- the same as a fact about the field with any number
   pub field_by : (k : ℕ) → FieldFails k
@@ -214,12 +146,14 @@ module _ (count : ℕ) (some : ℕ → ℕ → View → Type 0) (faults : ℕ �
   field_16 = field_by 16
 
 -- a list with another number of items has a fault
-pub count_off : (n m : ℕ) (IsFaulty : View → DecoderError → Type 0) (v : View) → Ok m ≡ item_count v → m ≢ n → FaultsAsFields n IsFaulty v RlpIncorrectListLen
-count_off n m IsFaulty v is other = other_count m (sym is) other
+pub count_off : (n m : ℕ) (some : ℕ → ℕ → View → Type 0) (faults : ℕ → View → DecoderError → Type 0) (v : View) → Ok m ≡ item_count v → m ≢ n
+    → FaultsAsStruct n NoMore some faults v RlpIncorrectListLen
+count_off n m some faults v is other =
+    other_number m (sym is) (λ right. other (let sum = right.sum in let none : right.more ≡ 0 = right.right in omega (arith, sum, none)))
 
 -- for bodies that read the fields of a struct, up to seventeen
 pub ruleset struct_fields = (
-  no_fields,
+  no_items,
   count_off,
   field_0,
   field_1,
@@ -241,14 +175,14 @@ pub ruleset struct_fields = (
 )
 
 -- a view that isn't a list of that number of items has a fault
-pub fields_off : (n : ℕ) (IsFaulty : View → DecoderError → Type 0) (v : View) (e : DecoderError) → FaultsAsFields n (λ _ _. ⊥) v e
-    → FaultsAsFields n IsFaulty v e
-fields_off n IsFaulty v e (no_fields f none) = no_fields f none
-fields_off n IsFaulty v e (other_count m is other) = other_count m is other
-fields_off n IsFaulty v e (faulty_field f is bad) = absurd bad
+pub fields_off : (n : ℕ) (some : ℕ → ℕ → View → Type 0) (faults : ℕ → View → DecoderError → Type 0) (v : View) (e : DecoderError)
+    → FaultsAsFields n (λ _ _. ⊥) v e → FaultsAsStruct n NoMore some faults v e
+fields_off n some faults v e (no_fields f none) = no_items f none
+fields_off n some faults v e (other_count m is other) = count_off n m some faults v (sym is) other
+fields_off n some faults v e (faulty_field f is bad) = absurd bad
 
 -- a reader's places, one after another: each of the first k was read, and gave a value of its field
-module _ (count : ℕ) (some : ℕ → ℕ → View → Type 0) (faults : ℕ → View → DecoderError → Type 0) (may_lack : ℕ → View → Type 0) (v : View)
+module _ (count : ℕ) (some : ℕ → ℕ → View → Type 0) (faults : ℕ → View → DecoderError → Type 0) (may_lack : ℕ → ℕ → View → Type 0) (v : View)
     (e : DecoderError) where
   -- the fact, if each of the first k places was read by a reader that is now at (w, i)
   abbrev pub WhereRead : ℕ → View → ℕ → Type 0 → Type 0
@@ -265,15 +199,15 @@ module _ (count : ℕ) (some : ℕ → ℕ → View → Type 0) (faults : ℕ �
 
   -- the fault of the next field is one of the struct
   abbrev pub NextFails : ℕ → Type 0
-  NextFails k = (w : View) (i : ℕ) → FaultsAt (faults k) w i e ⊎ ((e ≡ OutOfMemory) × MayLackAt (may_lack k) w i) → item_count v ≡ Ok count → k < count
+  NextFails k = (w : View) (i : ℕ) → FaultsAt (faults k) w i e ⊎ ((e ≡ OutOfMemory) × may_lack k i w) → item_count v ≡ Ok count → k < count
       → WhereRead k w i (StructFails count some faults may_lack v e)
 
   -- the same as a fact about the place with any number
   pub next_by : (k : ℕ) → NextFails k
   next_by k w i fails many few = where_read k w i (StructFails count some faults may_lack v e) (λ same here before.
       field_fails count some faults may_lack v e k
-      (subst (λ n. FaultsAt (faults k) v n e ⊎ ((e ≡ OutOfMemory) × MayLackAt (may_lack k) v n)) here
-      (subst (λ u. FaultsAt (faults k) u i e ⊎ ((e ≡ OutOfMemory) × MayLackAt (may_lack k) u i)) same fails))
+      (subst (λ n. FaultsAt (faults k) v n e ⊎ ((e ≡ OutOfMemory) × may_lack k n v)) here
+      (subst (λ u. FaultsAt (faults k) u i e ⊎ ((e ≡ OutOfMemory) × may_lack k i u)) same fails))
       many few before)
 
   -- a separate rule for each of the first seventeen fields

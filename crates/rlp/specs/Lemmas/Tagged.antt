@@ -10,10 +10,37 @@ use Rattle.rlp_format.specs.Values.Value.{FitsBytes, number_item}
 use Rattle.rlp_format.specs.Views.View.{View, HoldsItem, item_count, strict_view_of, view_of}
 use Rattle.rlp.specs.Values.RoundTrip.{ReadsBack, ReadsStrictly}
 use Rattle.rlp.specs.Values.ValueReading.{GivesNumber}
-use Rattle.rlp.specs.Values.ListReading.{FaultsAt, GivesAt, faulty_field, in_field, no_fields, other_count}
+use Rattle.rlp.specs.Values.ListReading.{FaultsAt, GivesAt, in_field}
+use Rattle.rlp.specs.Values.FieldReading.{faulty_item, no_items, other_number}
+use Rattle.rlp.specs.Lemmas.Structs.{all_items_right}
 use Rattle.rlp.specs.Values.Sums.{FaultsAsTagged, IsOtherTag, faulty_second, faulty_tag, no_pair, other_pair, unknown_tag}
 use Rattle.rlp.specs.Lemmas.WholeLists.{whole_sized}
-use Rattle.rlp.specs.Codec.{Codec, and_field, last_field, number, struct_of}
+use Rattle.rlp.specs.Codec.{Codec, end, field, number, struct_of}
+
+-- a codec of two fields, without what is said of no more fields
+abbrev two_fields : {A B P : Type 0} → (P → A) → Codec A → (P → B) → Codec B → Codec P
+two_fields x c y d =
+    let both = struct_of (field x c (field y d end)) in record {
+      Fits = λ p. c.Fits (x p) × d.Fits (y p);
+      item = both.item;
+      gives = λ v p. (item_count v ≡ Ok 2) × (GivesAt c.gives v 0 (x p) × GivesAt d.gives v 1 (y p));
+      faults = both.faults;
+      may_lack = both.may_lack;
+      reads_back = λ b p fits fit begins. let back = both.reads_back b p fits (fit.0, (fit.1, tt)) begins in record {
+        alike = λ q. (
+          λ g. let h = (back.alike q).0 (g.0, (g.1.0, (g.1.1, tt))) in ((h.0.0, h.0.1.0), h.1),
+          λ h. let g = (back.alike q).1 ((h.0.0, (h.0.1, tt)), h.1) in (g.0, (g.1.0, g.1.1.0)),
+        );
+        no_fault = back.no_fault;
+      };
+      reads_strictly = λ b p bytes fits. let strict = both.reads_strictly b p bytes fits in record {
+        exact = (
+          λ g. let h = strict.exact.0 (g.0, (g.1.0, (g.1.1, tt))) in ((h.0.0, h.0.1.0), h.1),
+          λ h. let g = strict.exact.1 ((h.0.0, (h.0.1, tt)), h.1) in (g.0, (g.1.0, g.1.1.0)),
+        );
+        sound = λ fit. strict.sound (fit.0, (fit.1, tt));
+      };
+    }
 
 -- equal lists of a number and an item have equal numbers
 first_same : (n m : ℕ) (x y : Item) → list_of (number_item n ∷ x ∷ []) ≡ list_of (number_item m ∷ y ∷ []) → n ≡ m
@@ -34,23 +61,23 @@ module _ {A : Type 0} (width : ℕ) (unknown tags : List ℕ) (tag : A → ℕ) 
 
   -- the values with one tag, as a struct
   abbrev with_tag : ℕ → Codec A
-  with_tag k = struct_of (and_field tag (number width) (last_field (λ x. x) (case k)))
+  with_tag k = two_fields tag (number width) (λ x. x) (case k)
 
   -- the numbers in front of the payload of one value, as a struct
   abbrev tag_before : A → Codec ℕ
-  tag_before x = struct_of (and_field (λ n. n) (number width) (last_field (λ n. x) (case (tag x))))
+  tag_before x = two_fields (λ n. n) (number width) (λ n. x) (case (tag x))
 
   -- a view whose first item gives only the tag of x, and which has no fault as a struct, has none with its tag
   tagged_sound : (v : View) (x : A) → (with_tag (tag x)).gives v x → ((n : ℕ) → (tag_before x).gives v n → n ≡ tag x)
       → ((e : DecoderError) → ¬ (with_tag (tag x)).faults v e) → (e : DecoderError) → ¬ TaggedFaults v e
-  tagged_sound v x given only sound e (no_pair f is) = sound f (no_fields f is)
-  tagged_sound v x given only sound e (other_pair m is other) = sound e (other_count m is other)
-  tagged_sound v x given only sound e (faulty_tag f is at) = sound f (faulty_field f is (in_field 0 (omega arith) tt at))
+  tagged_sound v x given only sound e (no_pair f is) = sound f (no_items f is)
+  tagged_sound v x given only sound e (other_pair m is other) = sound e (other_number m is (λ right. other (let sum = right.sum in let none : right.more ≡ 0 = right.right in omega (arith, sum, none))))
+  tagged_sound v x given only sound e (faulty_tag f is at) = sound f (faulty_item 2 f is (all_items_right 2) (in_field 0 (omega arith) tt at))
   tagged_sound v x given only sound e (unknown_tag n f is at other custom) =
       known x (subst (IsOtherTag tags) (only n (is, (at, given.1.1))) other)
   tagged_sound v x given only sound e (faulty_second n f is at fault) =
       let same : n ≡ tag x = only n (is, (at, given.1.1)) in
-      sound f (faulty_field f is (in_field 1 (omega arith) (tt, record { given = tag x; at = given.1.0 })
+      sound f (faulty_item 2 f is (all_items_right 2) (in_field 1 (omega arith) (tt, record { given = tag x; at = given.1.0 })
       (subst (λ k. FaultsAt (case k).faults v 1 f) same fault)))
 
   module _ (b : List ℕ) (x : A) (fits : length b < 2 ^ 64) (fit : TaggedFits x) (begins : HoldsItem (view_of b) (tagged_item x)) where

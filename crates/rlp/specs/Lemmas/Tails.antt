@@ -1,4 +1,4 @@
--- Structs whose last fields may be missing: their encodings are read back, and they are read strictly.
+-- A field that may be missing, and those after it: their encodings are read back, and they are read strictly.
 use Rattle.std.proofs.Common.{◌≡◌, ◌↔◌, ℕ, zero, suc, ◌+◌, ◌^◌, ◌<◌, ◌≤◌, inl, inr, List, [], ◌∷◌, length, map, sym, ap, ◌∙◌, subst, arith}
 use Rattle.std.proofs.Common.{Option, Some, None, Ok}
 use Rattle.std.proofs.lemmas.List.{nil_from_length}
@@ -9,38 +9,28 @@ use Rattle.rlp_format.specs.Format.Encoding.{encoding, IsSized}
 use Rattle.rlp_format.specs.Format.Split.{items}
 use Rattle.rlp_format.specs.Views.View.{View, view_of, strict_view_of, item_count}
 use Rattle.rlp_streams.specs.Streams.Fields.{FitsFirst, items_first}
-use Rattle.rlp.specs.Values.ListReading.{FaultsAt, in_field}
-use Rattle.rlp.specs.Values.Tails.{FaultsAsTailed, no_items, other_number, faulty_item, GivesFirst, count_first}
+use Rattle.rlp.specs.Values.ListReading.{FaultsAt}
+use Rattle.rlp.specs.Values.FieldReading.{GivesFirst, IsCount, NoneOrOne, by_place, count_first}
+use Rattle.rlp.specs.Lemmas.WholeStructs.{none_or_none, none_or_one}
 use Rattle.rlp_format.specs.Lemmas.Encodings.{front_sized}
 use Rattle.rlp_format.specs.Lemmas.Numbered.{item_count-list}
 use Rattle.rlp.specs.Lemmas.ListRoundTrips.{AlwaysReadsBack}
-use Rattle.rlp.specs.Lemmas.StrictReads.{AlwaysReadsStrictly, counted_items, counted_told, told_whole}
-use Rattle.rlp.specs.Lemmas.StrictStructs.{PartsFrom, exact_at, parts_of_strict, sound_at}
-use Rattle.rlp.specs.Lemmas.Structs.{HoldsFrom, by_place, cons_same, first_back, holds_items, list_same, sound_by}
-use Rattle.rlp.specs.Lemmas.WholeLists.{parts_same, strict_item_count, strict_items, strict_list_told, whole_list, whole_sized}
+use Rattle.rlp.specs.Lemmas.StrictReads.{AlwaysReadsStrictly}
+use Rattle.rlp.specs.Lemmas.StrictStructs.{PartsFrom, exact_at, sound_at}
+use Rattle.rlp.specs.Lemmas.Structs.{HoldsFrom, cons_same, first_back, sound_by}
+use Rattle.rlp.specs.Lemmas.WholeLists.{parts_same}
 
--- ---- the number of items
-
-pub no_tail_enough : 0 ≤ 0
-no_tail_enough = omega arith
-
-pub no_tail_few : (k : ℕ) → ¬ (k < 0)
-no_tail_few k few = omega arith
-
-pub any_enough : (n : ℕ) → 0 ≤ n
-any_enough n = omega arith
-
-pub one_more_enough : {least n : ℕ} → least ≤ n → suc least ≤ suc n
-one_more_enough enough = omega arith
-
-pub first_few : {A : Type 0} (item : A → Item) (o : Option A) (xs : List Item) (most : ℕ) → length xs ≤ most → length (items_first item o xs) ≤ suc most
-first_few item None xs most few = omega arith
-first_few item (Some x) xs most few = omega arith
-
+-- the number of items
 pub first_counted : {A : Type 0} (item : A → Item) (o : Option A) (xs : List Item) (n : ℕ) → length xs ≡ n
     → length (items_first item o xs) ≡ count_first o n
 first_counted item None xs n counted = counted
 first_counted item (Some x) xs n counted = ap suc counted
+
+-- the number of items of a value that fits is allowed
+pub first_right : {A : Type 0} (Fits : A → Type 0) (least : ℕ) (IsMore : ℕ → Type 0) (o : Option A) (xs : List Item) (n : ℕ) (FitsMore : Type 0)
+    → length xs ≡ n → (FitsMore → IsCount least IsMore n) → FitsFirst Fits o FitsMore xs → IsCount 0 (NoneOrOne (IsCount least IsMore)) (count_first o n)
+first_right Fits least IsMore None xs n FitsMore counted right fit = none_or_none (IsCount least IsMore) (sym counted ∙ ap length fit)
+first_right Fits least IsMore (Some x) xs n FitsMore counted right (fit, fits) = none_or_one (IsCount least IsMore) n (right fits)
 
 -- ---- a field that may be missing, and those after it
 
@@ -116,83 +106,3 @@ module _ {A : Type 0} (Fits : A → Type 0) (item : A → Item) (gives : View �
       let place : i + suc k ≡ suc i + k = omega arith in
       later parts others fits (parts_same part (encoding (item x)) parts (map encoding xs) same).1 k e (omega arith)
       (subst (λ j. FaultsAt (faultMore k) view j e) place at)
-
--- ---- the struct
-
-module _ {P : Type 0} (least most : ℕ) (Fits : P → Type 0) (items_of : P → List Item) (gives : ℕ → View → P → Type 0) (some : ℕ → ℕ → View → Type 0)
-    (faults : ℕ → View → DecoderError → Type 0)
-    (enough : (p : P) → least ≤ length (items_of p)) (few : (p : P) → length (items_of p) ≤ most)
-    (count : P → ℕ) (counted : (p : P) → length (items_of p) ≡ count p) where
-  -- a view whose number of items is that of a value, and whose items have no fault, has no fault
-  no_tailed_fault : (view : View) (p : P) → item_count view ≡ Ok (length (items_of p))
-      → ((k : ℕ) (e : DecoderError) → k < length (items_of p) → ¬ FaultsAt (faults k) view k e) → (e : DecoderError)
-      → ¬ FaultsAsTailed least most some faults view e
-  no_tailed_fault view p many sound e (no_items g none) = cc
-  no_tailed_fault view p many sound e (other_number m same (inl fewer)) = let equal : m ≡ length (items_of p) = cc in let h = enough p in
-      omega (arith, equal, h)
-  no_tailed_fault view p many sound e (other_number m same (inr more)) = let equal : m ≡ length (items_of p) = cc in let h = few p in omega (arith, equal, h)
-  no_tailed_fault view p many sound e (faulty_item m g same (in_field k within before at)) = let equal : m ≡ length (items_of p) = cc in
-      sound k g (omega (arith, equal)) at
-
-  zero_place : (k : ℕ) (view : View) (e : DecoderError) → FaultsAt (faults k) view k e → FaultsAt (faults k) view (0 + k) e
-  zero_place k view e at = subst (λ j. FaultsAt (faults k) view j e) (let zero_add : k ≡ 0 + k = omega arith in zero_add) at
-
-  -- such a struct is read back if its fields are
-  pub tailed_reads_back : ((i : ℕ) (view : View) (p : P) → Fits p → HoldsFrom view i (items_of p) → (q : P)
-      → length (items_of q) ≡ length (items_of p) → gives i view q ↔ (Fits q × (items_of q ≡ items_of p)))
-      → ((i : ℕ) (view : View) (p : P) → Fits p → HoldsFrom view i (items_of p) → (k : ℕ) (e : DecoderError) → k < length (items_of p)
-      → ¬ FaultsAt (faults k) view (i + k) e)
-      → AlwaysReadsBack Fits (λ p. list_of (items_of p)) (λ v p. (item_count v ≡ Ok (count p)) × gives 0 v p)
-      (λ v e. FaultsAsTailed least most some faults v e)
-  tailed_reads_back alike sound b p fits fit (more, is) =
-      let sized : IsSized (list_of (items_of p)) = front_sized (list_of (items_of p)) b more fits is in
-      let holds : HoldsFrom (view_of b) 0 (items_of p) = holds_items (items_of p) b sized (more, is) in
-      let many : item_count (view_of b) ≡ Ok (length (items_of p)) = item_count-list (items_of p) b sized (more, is) in
-      record {
-        alike = λ q. (
-          λ (n, g). let same : length (items_of q) ≡ length (items_of p) = let told = counted q in cc in
-              let h = (alike 0 (view_of b) p fit holds q same).0 g in (h.0, ap list_of h.1),
-          λ (fit', same). let equal = list_same (items_of q) (items_of p) same in
-              (many ∙ ap (λ xs. Ok (length xs)) (sym equal) ∙ ap Ok (counted q), (alike 0 (view_of b) p fit holds q (ap length equal)).1 (fit', equal)),
-        );
-        no_fault = no_tailed_fault (view_of b) p many (λ k e within at. sound 0 (view_of b) p fit holds k e within (zero_place k (view_of b) e at));
-      }
-
-  module _ (exact : (i : ℕ) (view : View) (parts : List (List ℕ)) (p : P) → PartsFrom view i parts → length parts ≡ length (items_of p)
-      → gives i view p ↔ (Fits p × (parts ≡ map encoding (items_of p))))
-      (sound : (i : ℕ) (view : View) (parts : List (List ℕ)) (p : P) → PartsFrom view i parts → Fits p → parts ≡ map encoding (items_of p)
-      → (k : ℕ) (e : DecoderError) → k < length (items_of p) → ¬ FaultsAt (faults k) view (i + k) e) where
-    module _ (b : List ℕ) (p : P) (bytes : AreBytes b) (fits : length b < 2 ^ 64) where
-      tailed_whole : item_count (strict_view_of b) ≡ Ok (count p) → gives 0 (strict_view_of b) p → Fits p × (b ≡ encoding (list_of (items_of p)))
-      tailed_whole numbered given =
-          let many = numbered ∙ ap Ok (sym (counted p)) in
-          let told = counted_told (strict_view_of b) (length (items_of p)) many in
-          let h = (exact 0 (strict_view_of b) (items b) p (parts_of_strict b bytes fits told)
-          (counted_items (strict_view_of b) (length (items_of p)) many)).0 given in
-          (h.0, whole_list b (items_of p) bytes (told_whole b told) h.1)
-
-      tailed_count : b ≡ encoding (list_of (items_of p)) → item_count (strict_view_of b) ≡ Ok (length (items_of p))
-      tailed_count is = strict_item_count (items_of p) b (whole_sized (list_of (items_of p)) b fits is) is
-
-      tailed_parts : b ≡ encoding (list_of (items_of p)) → PartsFrom (strict_view_of b) 0 (items b)
-      tailed_parts is = parts_of_strict b bytes fits (strict_list_told (items_of p) b (whole_sized (list_of (items_of p)) b fits is) is)
-
-      tailed_given : Fits p → b ≡ encoding (list_of (items_of p)) → (item_count (strict_view_of b) ≡ Ok (count p)) × gives 0 (strict_view_of b) p
-      tailed_given fit is = (
-        tailed_count is ∙ ap Ok (counted p),
-        (exact 0 (strict_view_of b) (items b) p (tailed_parts is) (counted_items (strict_view_of b) (length (items_of p)) (tailed_count is))).1
-            (fit, strict_items (items_of p) b (whole_sized (list_of (items_of p)) b fits is) is),
-      )
-
-      tailed_sound : Fits p → b ≡ encoding (list_of (items_of p)) → (e : DecoderError) → ¬ FaultsAsTailed least most some faults (strict_view_of b) e
-      tailed_sound fit is = no_tailed_fault (strict_view_of b) p (tailed_count is)
-          (λ k e within at. sound 0 (strict_view_of b) (items b) p (tailed_parts is) fit
-          (strict_items (items_of p) b (whole_sized (list_of (items_of p)) b fits is) is) k e within (zero_place k (strict_view_of b) e at))
-
-    -- and is read strictly if they are
-    pub tailed_strict : AlwaysReadsStrictly Fits (λ p. list_of (items_of p)) (λ v p. (item_count v ≡ Ok (count p)) × gives 0 v p)
-        (λ v e. FaultsAsTailed least most some faults v e)
-    tailed_strict b p bytes fits = record {
-      exact = (λ (many, given). tailed_whole b p bytes fits many given, λ (fit, is). tailed_given b p bytes fits fit is);
-      sound = tailed_sound b p bytes fits;
-    }

@@ -98,12 +98,3 @@ GivesBefore some v (suc k) = GivesBefore some v k × some k k v
 -- One of the first items has the fault, by the type of its field, and each before it gives a value of its field.
 pub data FaultsInField (count : ℕ) (some : ℕ → ℕ → View → Type 0) (faults : ℕ → View → DecoderError → Type 0) (v : View) (e : DecoderError) : Type 0 where
   in_field : (k : ℕ) → k < count → GivesBefore some v k → FaultsAt (faults k) v k e → FaultsInField count some faults v e
-
--- Memory may be short for a struct of this number of fields. The view has the same number of items. Memory may be short for the value of one, and each before
--- it gives a value.
-pub record MayLackAsStruct (count : ℕ) (some : ℕ → ℕ → View → Type 0) (may_lack : ℕ → View → Type 0) (v : View) : Type 0 where
-  pub many : item_count v ≡ Ok count
-  pub place : ℕ
-  pub few : place < count
-  pub before : GivesBefore some v place
-  pub may : MayLackAt (may_lack place) v place

@@ -1,25 +1,26 @@
 //! A last field that may be missing, and is a list of values, read from one item.
 
-ghost use Rattle.std.specs.Prelude.{suc, refl};
+ghost use Rattle.std.specs.Prelude.{suc};
 ghost use Rattle.std.specs.Vec.{vec_items};
 ghost use Rattle.std.specs.declared.alloc.Global.{Global};
-ghost use Rattle.rlp.specs.Lemmas.Structs.{by_place};
-ghost use Rattle.rlp.specs.Values.ListReading.{FaultsAsList, GivesList, GivesSomeAt, MayLackAsList};
-ghost use Rattle.rlp.specs.Values.Tails.{GivesFirst, count_first};
+ghost use Rattle.rlp.specs.Values.FieldReading.{GivesFirst, IsCount, NoneOrOne, by_place, count_first};
+ghost use Rattle.rlp.specs.Values.ListReading.{FaultsAsList, GivesList, GivesSomeAt, MayLackAsList, MayLackAt};
 
 use crate::rlpin::Fields;
-use crate::structs::tails::{DecodeOptional, DecodeTailed};
+use crate::structs::optional::MayBeMissing;
+use crate::structs::DecodeFields;
 use crate::traits::Decodable;
 use rlp_format::error::DecoderError;
 use std::alloc::Global;
 
 /// A list of values that may be missing, and the fields after it. If it is missing, so are those.
+#[derive(Drop)]
 pub struct OptionalListField<T, Q>(pub Option<Vec<T>>, pub Q);
 
-impl<T: Decodable, Q: DecodeOptional> DecodeTailed for OptionalListField<T, Q> {
+impl<T: Decodable, Q: MayBeMissing> DecodeFields for OptionalListField<T, Q> {
     ghost least = { 0 };
 
-    ghost most = { suc Q.most };
+    ghost is_more = { NoneOrOne (IsCount Q.least Q.is_more) };
 
     ghost count = { λ x. count_first x.0 (Q.count x.1) };
 
@@ -32,24 +33,25 @@ impl<T: Decodable, Q: DecodeOptional> DecodeTailed for OptionalListField<T, Q> {
 
     ghost faults = { by_place (λ v e. FaultsAsList T.gives T.faults v e) Q.faults };
 
-    ghost may_lack_memory = { by_place (λ v. MayLackAsList T.gives T.may_lack_memory v)
-        Q.may_lack_memory };
+    ghost may_lack_memory = { by_place (λ i v. MayLackAt
+        (λ v. MayLackAsList T.gives T.may_lack_memory v) v i) Q.may_lack_memory };
 
-    fn allows(len: usize) -> bool {
-        len == 0 || Q::allows(len - 1)
+    #[tactic(auto, using(crate::proofs::Values::FieldReading::numbers_of_items))]
+    fn accepts(len: usize) -> bool {
+        len == 0 || Q::accepts(len - 1)
     }
 
-    #[tactic(auto, using(crate::proofs::Values::FieldReading::fields_in_order, crate::proofs::Values::TailReading::tail_in_order))]
-    fn decode_tailed(
+    #[tactic(auto, using(crate::proofs::Values::FieldReading::fields_in_order))]
+    fn decode_fields(
         alloc: Global,
         fields: &mut Fields<'_>,
-        left: usize,
+        len: usize,
     ) -> Result<OptionalListField<T, Q>, DecoderError> {
-        if left == 0 {
+        if len == 0 {
             return Ok(OptionalListField(None, Q::missing()));
         }
         match fields.next_list(alloc) {
-            Ok(values) => match Q::decode_tailed(alloc, fields, left - 1) {
+            Ok(values) => match Q::decode_fields(alloc, fields, len - 1) {
                 Ok(others) => Ok(OptionalListField(Some(values), others)),
                 Err(fault) => Err(fault),
             },
@@ -58,10 +60,8 @@ impl<T: Decodable, Q: DecodeOptional> DecodeTailed for OptionalListField<T, Q> {
     }
 }
 
-impl<T: Decodable, Q: DecodeOptional> DecodeOptional for OptionalListField<T, Q> {
+impl<T: Decodable, Q: MayBeMissing> MayBeMissing for OptionalListField<T, Q> {
     fn missing() -> OptionalListField<T, Q> {
         OptionalListField(None, Q::missing())
     }
-
-    ghost none_needed = { refl };
 }
