@@ -93,7 +93,7 @@ impl<T: Decodable> DecodeField for ListField<T> {
 ///
 /// Pairs that end with `()` are fields one after another, as in `(a, (b, ()))`. The last fields may
 /// be [`OptionalField`](crate::OptionalField)s, or [`Groups`](crate::Groups).
-pub trait DecodeFields: Sized + Drop {
+pub trait DecodeFields: Sized {
     /// The number of items that are always present.
     ghost least: { ℕ };
 

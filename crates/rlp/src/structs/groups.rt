@@ -10,7 +10,7 @@ use rlp_format::error::DecoderError;
 use std::alloc::Global;
 
 /// Fields that may be a fixed number of items, such as a key and a value.
-pub trait FixedFields: DecodeFields {
+pub trait FixedFields: DecodeFields + Drop {
     /// Returns the number of items, or `None` if it is 2^64 or more.
     fn width() -> Option<usize>
         ensures { MatchOption result (2 ^ 64 ≤ Self.least) (λ n. n ≡ Self.least) };

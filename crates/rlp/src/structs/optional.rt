@@ -18,7 +18,6 @@ pub trait MayBeMissing: DecodeFields {
 }
 
 /// A field that may be missing, and the fields after it. If it is missing, so are those.
-#[derive(Drop)]
 pub struct OptionalField<T, Q>(pub Option<T>, pub Q);
 
 impl MayBeMissing for () {

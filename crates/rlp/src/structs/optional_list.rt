@@ -14,7 +14,6 @@ use rlp_format::error::DecoderError;
 use std::alloc::Global;
 
 /// A list of values that may be missing, and the fields after it. If it is missing, so are those.
-#[derive(Drop)]
 pub struct OptionalListField<T, Q>(pub Option<Vec<T>>, pub Q);
 
 impl<T: Decodable, Q: MayBeMissing> DecodeFields for OptionalListField<T, Q> {
