@@ -61,13 +61,13 @@ impl StrictRead for Inner {
 }
 
 impl<T: Encodable> Encodable for Nest<T> {
-    ghost use Rattle.std.specs.Prelude.{All, map, [], ◌∷◌};
+    ghost use Rattle.std.specs.Prelude.{All, map, [], ◌∷◌, ⊤};
     ghost use Rattle.std.specs.Vec.{vec_items};
     ghost use Rattle.rlp.specs.Format.Item.{list_of};
 
     ghost item = { λ n. list_of (list_of (map T.item (vec_items n.0)) ∷ []) };
 
-    ghost fits = { λ n. All T.fits (vec_items n.0) };
+    ghost fits = { λ n. All T.fits (vec_items n.0) × ⊤ };
 
     #[tactic(auto, using(rlp::proofs::Writing::writing))]
     fn rlp_append(&self, s: &mut RlpStream) -> Result<(), AllocError> {
