@@ -15,8 +15,8 @@ use Rattle.rlp.specs.Values.ValueReading.{FaultsAs, FaultsAsBool, FaultsAsBytes,
 use Rattle.rlp.specs.Values.ValueReading.{GivesSome, GivesText, GivesValue, IsLengthFault}
 use Rattle.rlp.specs.Values.ListReading.{FaultsAsList, FaultsAsOption, FaultsAt, GivesAt, GivesList, GivesOption, GivesSomeAt}
 use Rattle.rlp.specs.Values.ListReading.{MayLackAsList, MayLackAsOption, MayLackAt}
-use Rattle.rlp.specs.Values.FieldReading.{AreGroups, FaultsAsStruct, GivesFirst, GivesGroups, IsCount, MayLackAsStruct, MayLackInGroups, NoMore, NoneOrOne}
-use Rattle.rlp.specs.Values.FieldReading.{by_place, count_first, in_group}
+use Rattle.rlp.specs.Values.FieldReading.{AreGroups, FaultsAsStruct, GivesFirst, GivesGroups, IsCount, MayLackAsStruct, MayLackInGroups, NoMore}
+use Rattle.rlp.specs.Values.FieldReading.{NoneOr, NoneOrOne, by_place, count_first, count_if, in_group, items_if}
 use Rattle.rlp.specs.Values.RoundTrip.{ReadsBack, ReadsStrictly}
 use Rattle.rlp.specs.Lemmas.RoundTrips.{bool_reads_back, bytes_in, number_reads_back, reads_back, reads_back_through, sound_length, text_in}
 use Rattle.rlp.specs.Lemmas.ListRoundTrips.{option_reads_back}
@@ -27,6 +27,7 @@ use Rattle.rlp.specs.Lemmas.StrictLists.{list_strict}
 use Rattle.rlp.specs.Lemmas.StrictStructs.{PartsFrom}
 use Rattle.rlp.specs.Lemmas.Tails.{first_counted, first_right, first_tail_alike, first_tail_exact, first_tail_exactly_sound, first_tail_sound}
 use Rattle.rlp.specs.Lemmas.Groups.{below_same, groups_alike, groups_counted, groups_exact, groups_exactly_sound, groups_right, groups_sound, not_none}
+use Rattle.rlp.specs.Lemmas.Together.{if_alike, if_counted, if_exact, if_exactly_sound, if_right, if_sound}
 use Rattle.rlp.specs.Lemmas.WholeStructs.{none_below, none_right, one_more_right, only_more, struct_reads_back, struct_strict}
 
 -- How the values of a type are written and read. The record holds the members of its `Encodable`, `Decodable`, `RoundTrip` and `StrictRead`.
@@ -273,6 +274,26 @@ optional value c more = record {
   exactly_sound = λ i view parts p held fit same. first_tail_exactly_sound c.Fits c.item c.gives c.faults c.reads_strictly more.faults i view parts
       (value p) (more.items p) (more.Fits p)
       (λ others held fits same. more.exactly_sound (suc i) view others p held fits same) held fit same;
+}
+
+-- The fields of `f` at the end, which may be missing together. That each value is an item or more is proved by `λ s. refl`.
+abbrev pub together : {A P : Type 0} → (P → Option A) → (f : Fields A) → ((x : A) → (0 == f.count x) ≡ false) → Fields P
+together value f some = record {
+  least = 0;
+  IsMore = NoneOr (IsCount f.least f.IsMore);
+  count = λ p. count_if f.count (value p);
+  Fits = λ p. IfSome (value p) f.Fits;
+  items = λ p. items_if f.items (value p);
+  gives = λ i v p. IfSome (value p) (f.gives i v);
+  some = f.some;
+  faults = f.faults;
+  may_lack = f.may_lack;
+  counted = λ p. if_counted f.Fits f.items f.count f.counted (value p);
+  right = λ p. if_right f.Fits f.items f.count f.counted f.least f.IsMore f.right (value p);
+  alike = λ i view p fit holds q. if_alike f.Fits f.items f.count f.counted some f.gives f.alike i view (value p) (value q) fit holds;
+  sound = λ i view p. if_sound f.Fits f.items f.faults f.sound i view (value p);
+  exact = λ i view parts p. if_exact f.Fits f.items f.count f.counted f.gives f.exact i view parts (value p);
+  exactly_sound = λ i view parts p. if_exactly_sound f.Fits f.items f.faults f.exactly_sound i view parts (value p);
 }
 
 -- each value is the same number of items

@@ -12,6 +12,7 @@ ghost use Rattle.rlp.specs.Values.ListReading.{FaultsAsList, FaultsAt, GivesAt, 
 mod groups;
 mod optional;
 mod optional_list;
+mod together;
 
 use crate::rlpin::{Fields, Rlp};
 use crate::traits::Decodable;
@@ -20,6 +21,7 @@ pub use optional::{MayBeMissing, OptionalField};
 pub use optional_list::OptionalListField;
 use rlp_format::error::DecoderError;
 use std::alloc::Global;
+pub use together::{Together, TogetherOf};
 
 /// One field of a struct, read from one item.
 pub trait DecodeField: Sized + Drop {
@@ -352,7 +354,8 @@ macro_rules! fields {
 /// written `sides: [_, _]`, with a `_` for each value.
 ///
 /// The last fields may be missing. Such a field is an `Option`, and is written `nonce: ?`, or
-/// `keys: [..]?` if it is a list. Instead the last field may be groups of fields, such as keys and
+/// `keys: [..]?` if it is a list. Fields that are missing together are a struct of their own with
+/// this trait, in an `Option` that is written `later: (..)?`. Instead the last field may be groups of fields, such as keys and
 /// values one after another, in a vector of [`FixedFields`]: it is written `pairs: [(..)]`.
 ///
 /// ```rust
@@ -398,6 +401,11 @@ macro_rules! decode_fields {
         $crate::decode_fields!(
             @next $head $left
             [$($moves)* let $crate::OptionalListField($field, $left) = $left;] [$($names)* $field] $($($others)*)?
+        )
+    };
+    (@next $head:tt $left:ident [$($moves:tt)*] [$($names:ident)*] $field:ident: (..)? $(,)?) => {
+        $crate::decode_fields!(
+            @call $head $left [$($moves)* let $crate::Together($field) = $left;] [$($names)* $field]
         )
     };
     (@next $head:tt $left:ident [$($moves:tt)*] [$($names:ident)*] $field:ident: [(..)] $(,)?) => {

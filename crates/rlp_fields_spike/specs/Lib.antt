@@ -5,3 +5,4 @@ pub mod Header
 pub mod Log
 pub mod NodeFields
 pub mod Row
+pub mod ForkHeader

@@ -3,6 +3,7 @@
 
 mod address;
 mod bloom;
+mod fork_header;
 mod hash;
 mod header;
 mod log;
@@ -11,6 +12,7 @@ mod row;
 
 pub use address::Address;
 pub use bloom::Bloom;
+pub use fork_header::{Cancun, ForkHeader, London, Prague, Shanghai};
 pub use hash::Hash;
 pub use header::Header;
 pub use log::Log;

@@ -5,7 +5,7 @@ use Rattle.rlp_format.specs.declared.error.DecoderError.TheVariants.{OutOfMemory
 use Rattle.rlp_format.specs.Views.View.{View, item_count}
 use Rattle.rlp.specs.Lemmas.WholeStructs.{none_right, only_more}
 use Rattle.rlp.specs.Values.FieldPlace.{FieldPlace, field_place}
-use Rattle.rlp.specs.Values.FieldReading.{FaultsAsStruct, FaultsInFields, GivesFields, IsCount, MayLackAsStruct, MayLackInFields, NoMore, NoneOrOne}
+use Rattle.rlp.specs.Values.FieldReading.{FaultsAsStruct, FaultsInFields, GivesFields, IsCount, MayLackAsStruct, MayLackInFields, NoMore, NoneOr, NoneOrOne}
 use Rattle.rlp.specs.Values.FieldReading.{by_place, faulty_item, no_items, other_number}
 use Rattle.rlp.specs.Values.ListReading.{FaultsAt, GivesBefore, in_field}
 
@@ -41,6 +41,14 @@ others_after IsOthers n some right = by (only_right (NoneOrOne IsOthers) n right
     by : NoneOrOne IsOthers n → IsOthers (n - 1)
     by (inl none) = absurd (omega (arith, some, none))
     by (inr (one, others)) = others
+
+-- if fields that may be missing together are some items, they are present
+pub all_after : (IsOthers : ℕ → Type 0) (n : ℕ) → 1 ≤ n → IsCount 0 (NoneOr IsOthers) n → IsOthers n
+all_after IsOthers n some right = by (only_right (NoneOr IsOthers) n right)
+  where
+    by : NoneOr IsOthers n → IsOthers n
+    by (inl none) = absurd (omega (arith, some, none))
+    by (inr others) = others
 
 pub ruleset numbers_of_items = (none_counted, no_items_right, some_items, other_items, one_more_item, only_right, others_after, only_more)
 
@@ -141,6 +149,8 @@ others_next f g h n some next after =
     ∙ ap (λ m. record { view = f.view; place = m }) (let sum : f.place + 1 + (n - 1) ≡ f.place + n = omega (arith, some) in sum)
 
 pub ruleset fields_in_order = (none_counted, none_given, none_next, some_items, other_items, others_after, others_given, others_next, others_some)
+
+pub ruleset fields_together = (none_given, none_next, all_after)
 
 -- ---- the whole struct
 

@@ -2,6 +2,7 @@
 use Rattle.std.specs.Prelude.{◌≡◌, ◌<◌, ◌≤◌, ◌+◌, ◌-◌, ◌%◌, ◌⊎◌, ℕ, zero, suc, List, [], ◌∷◌, Option, Some, None, Ok, Err}
 use Rattle.rlp_format.specs.declared.error.DecoderError.{DecoderError}
 use Rattle.rlp_format.specs.declared.error.DecoderError.TheVariants.{RlpIncorrectListLen}
+use Rattle.rlp_format.specs.Format.Item.{Item}
 use Rattle.rlp_format.specs.Views.View.{View, item_count}
 use Rattle.rlp.specs.Values.ListReading.{FaultsAt, FaultsInField, GivesAt, GivesBefore}
 
@@ -25,6 +26,10 @@ NoMore n = n ≡ 0
 -- no items, or one and then a number that `IsOthers` allows
 abbrev pub NoneOrOne : (ℕ → Type 0) → ℕ → Type 0
 NoneOrOne IsOthers n = (n ≡ 0) ⊎ ((1 ≤ n) × IsOthers (n - 1))
+
+-- no items, or a number that `IsOthers` allows
+abbrev pub NoneOr : (ℕ → Type 0) → ℕ → Type 0
+NoneOr IsOthers n = (n ≡ 0) ⊎ IsOthers n
 
 -- n items are some whole groups
 abbrev pub AreGroups : ℕ → ℕ → Type 0
@@ -62,6 +67,18 @@ count_first (Some x) n = suc n
 abbrev pub GivesFirst : {A : Type 0} → (View → A → Type 0) → View → ℕ → Option A → Type 0 → ℕ → Type 0
 GivesFirst gives v i None givesMore n = n ≡ 0
 GivesFirst gives v i (Some x) givesMore n = GivesAt gives v i x × givesMore
+
+-- ---- fields that may be missing together
+
+-- the number of items of fields, if they are present
+abbrev pub count_if : {A : Type 0} → (A → ℕ) → Option A → ℕ
+count_if count None = 0
+count_if count (Some x) = count x
+
+-- the items of fields, if they are present
+abbrev pub items_if : {A : Type 0} → (A → List Item) → Option A → List Item
+items_if items None = []
+items_if items (Some x) = items x
 
 -- ---- groups of fields
 
