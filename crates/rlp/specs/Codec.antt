@@ -28,7 +28,7 @@ use Rattle.rlp.specs.Lemmas.StrictStructs.{PartsFrom}
 use Rattle.rlp.specs.Lemmas.Tails.{first_counted, first_right, first_tail_alike, first_tail_exact, first_tail_exactly_sound, first_tail_sound}
 use Rattle.rlp.specs.Lemmas.Groups.{below_same, groups_alike, groups_counted, groups_exact, groups_exactly_sound, groups_right, groups_sound, not_none}
 use Rattle.rlp.specs.Lemmas.Together.{if_alike, if_counted, if_exact, if_exactly_sound, if_right, if_sound}
-use Rattle.rlp.specs.Lemmas.WholeStructs.{none_below, none_right, one_more_right, only_more, struct_reads_back, struct_strict}
+use Rattle.rlp.specs.Lemmas.WholeStructs.{none_below, none_enough, none_right, one_more_enough, one_more_right, only_more, struct_reads_back, struct_strict}
 
 -- How the values of a type are written and read. The record holds the members of its `Encodable`, `Decodable`, `RoundTrip` and `StrictRead`.
 pub record Codec (A : Type 0) : Type 1 where
@@ -187,6 +187,7 @@ pub record Fields (P : Type 0) : Type 1 where
   pub faults : ℕ → View → DecoderError → Type 0
   pub may_lack : ℕ → ℕ → View → Type 0
   pub counted : (p : P) → length (items p) ≡ count p
+  pub enough : (p : P) → least ≤ count p
   pub right : (p : P) → Fits p → IsCount least IsMore (count p)
   pub alike : (i : ℕ) (view : View) (p : P) → Fits p → HoldsFrom view i (items p) → (q : P) → length (items q) ≡ length (items p) → gives i view q
       ↔ (Fits q × (items q ≡ items p))
@@ -210,6 +211,7 @@ end = record {
   faults = λ k v e. ⊥;
   may_lack = λ k i v. ⊥;
   counted = λ p. refl;
+  enough = λ p. none_enough 0;
   right = λ p fit. none_right;
   alike = λ i view p fit holds q many. (λ g. (tt, refl), λ h. tt);
   sound = λ i view p fit holds k e few at. none_below k few;
@@ -230,6 +232,7 @@ field value c more = record {
   faults = by_place c.faults more.faults;
   may_lack = by_place (λ i v. MayLackAt c.may_lack v i) more.may_lack;
   counted = λ p. ap suc (more.counted p);
+  enough = λ p. one_more_enough (more.enough p);
   right = λ p fit. one_more_right (more.right p fit.1);
   alike = λ i view p fit holds q many. first_tail_alike c.Fits c.item c.gives c.faults c.reads_back i view (Some (value p)) (Some (value q)) (more.items p)
       (more.items q) (more.count q) (more.Fits p) (more.Fits q) (more.gives (suc i) view q) (more.counted q)
@@ -262,6 +265,7 @@ optional value c more = record {
   faults = by_place c.faults more.faults;
   may_lack = by_place (λ i v. MayLackAt c.may_lack v i) more.may_lack;
   counted = λ p. first_counted c.item (value p) (more.items p) (more.count p) (more.counted p);
+  enough = λ p. none_enough (count_first (value p) (more.count p));
   right = λ p fit. first_right c.Fits more.least more.IsMore (value p) (more.items p) (more.count p) (more.Fits p) (more.counted p) (more.right p) fit;
   alike = λ i view p fit holds q many. first_tail_alike c.Fits c.item c.gives c.faults c.reads_back i view (value p) (value q) (more.items p)
       (more.items q) (more.count q) (more.Fits p) (more.Fits q) (more.gives (suc i) view q) (more.counted q)
@@ -276,8 +280,8 @@ optional value c more = record {
       (λ others held fits same. more.exactly_sound (suc i) view others p held fits same) held fit same;
 }
 
--- The fields of `f` at the end, which may be missing together. That each value is an item or more is proved by `λ s. refl`.
-abbrev pub together : {A P : Type 0} → (P → Option A) → (f : Fields A) → ((x : A) → (0 == f.count x) ≡ false) → Fields P
+-- The fields of `f` at the end, which may be missing together. That one of them is always present is proved by `refl`.
+abbrev pub together : {A P : Type 0} → (P → Option A) → (f : Fields A) → (0 == f.least) ≡ false → Fields P
 together value f some = record {
   least = 0;
   IsMore = NoneOr (IsCount f.least f.IsMore);
@@ -289,8 +293,9 @@ together value f some = record {
   faults = f.faults;
   may_lack = f.may_lack;
   counted = λ p. if_counted f.Fits f.items f.count f.counted (value p);
+  enough = λ p. none_enough (count_if f.count (value p));
   right = λ p. if_right f.Fits f.items f.count f.counted f.least f.IsMore f.right (value p);
-  alike = λ i view p fit holds q. if_alike f.Fits f.items f.count f.counted some f.gives f.alike i view (value p) (value q) fit holds;
+  alike = λ i view p fit holds q. if_alike f.Fits f.items f.count f.counted f.least some f.enough f.gives f.alike i view (value p) (value q) fit holds;
   sound = λ i view p. if_sound f.Fits f.items f.faults f.sound i view (value p);
   exact = λ i view parts p. if_exact f.Fits f.items f.count f.counted f.gives f.exact i view parts (value p);
   exactly_sound = λ i view parts p. if_exactly_sound f.Fits f.items f.faults f.exactly_sound i view parts (value p);
@@ -313,6 +318,7 @@ groups values f fixed some_field = record {
   faults = in_group f.least f.faults;
   may_lack = MayLackInGroups f.least f.some f.may_lack;
   counted = λ p. groups_counted f.least f.items (λ g. f.counted g ∙ fixed g) (values p);
+  enough = λ p. none_enough (length (values p) * f.least);
   right = λ p fit. only_more (groups_right f.least (length (values p)) (not_none f.least some_field));
   alike = λ i view p fit holds q many. groups_alike f.least f.Fits f.items f.gives (λ g. f.counted g ∙ fixed g) (not_none f.least some_field)
       (λ i view g fit holds h. f.alike i view g fit holds h (f.counted h ∙ fixed h ∙ sym (f.counted g ∙ fixed g)))

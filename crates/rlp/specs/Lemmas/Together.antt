@@ -1,6 +1,6 @@
 -- Fields that may be missing together: their encodings are read back, and they are read strictly, if the fields are.
 use Rattle.std.specs.Prelude.{◌==◌, IfSome}
-use Rattle.std.proofs.Common.{◌≡◌, ◌↔◌, ℕ, ◌+◌, ◌<◌, inl, inr, List, [], ◌∷◌, length, map, refl, sym, ◌∙◌, arith, Option, Some, None, false}
+use Rattle.std.proofs.Common.{◌≡◌, ◌↔◌, ℕ, ◌+◌, ◌<◌, ◌≤◌, inl, inr, List, [], ◌∷◌, length, map, refl, sym, ◌∙◌, arith, Option, Some, None, false}
 use Rattle.std.proofs.lemmas.List.{nil_from_length}
 use Rattle.rlp_format.specs.declared.error.DecoderError.{DecoderError}
 use Rattle.rlp_format.specs.Format.Item.{Item}
@@ -24,20 +24,20 @@ module _ {A : Type 0} (Fits : A → Type 0) (items_of : A → List Item) (count 
   if_right least IsMore right (Some x) fit = only_more (inr (right x fit))
 
   -- values are some items
-  some_here : ((x : A) → (0 == count x) ≡ false) → (x : A) → length (items_of x) ≡ 0 → ⊥
-  some_here some x none = let here : 0 < count x = not_none (count x) (some x) in omega (arith, here, none, counted x)
+  some_here : (least : ℕ) → (0 == least) ≡ false → ((x : A) → least ≤ count x) → (x : A) → length (items_of x) ≡ 0 → ⊥
+  some_here least some enough x none = let here : 0 < least = not_none least some in omega (arith, here, none, counted x, enough x)
 
   -- the fields give exactly their values
-  pub if_alike : ((x : A) → (0 == count x) ≡ false) → (gives : ℕ → View → A → Type 0)
+  pub if_alike : (least : ℕ) → (0 == least) ≡ false → ((x : A) → least ≤ count x) → (gives : ℕ → View → A → Type 0)
       → ((i : ℕ) (view : View) (x : A) → Fits x → HoldsFrom view i (items_of x) → (y : A) → length (items_of y) ≡ length (items_of x)
       → gives i view y ↔ (Fits y × (items_of y ≡ items_of x)))
       → (i : ℕ) (view : View) (o u : Option A) → IfSome o Fits → HoldsFrom view i (items_if items_of o)
       → length (items_if items_of u) ≡ length (items_if items_of o)
       → IfSome u (gives i view) ↔ (IfSome u Fits × (items_if items_of u ≡ items_if items_of o))
-  if_alike some gives alike i view None None fit holds many = (λ g. (tt, refl), λ h. tt)
-  if_alike some gives alike i view None (Some y) fit holds many = absurd (some_here some y many)
-  if_alike some gives alike i view (Some x) None fit holds many = absurd (some_here some x (sym many))
-  if_alike some gives alike i view (Some x) (Some y) fit holds many = alike i view x fit holds y many
+  if_alike least some enough gives alike i view None None fit holds many = (λ g. (tt, refl), λ h. tt)
+  if_alike least some enough gives alike i view None (Some y) fit holds many = absurd (some_here least some enough y many)
+  if_alike least some enough gives alike i view (Some x) None fit holds many = absurd (some_here least some enough x (sym many))
+  if_alike least some enough gives alike i view (Some x) (Some y) fit holds many = alike i view x fit holds y many
 
   -- if read strictly, they are given exactly if the items are their whole encodings
   pub if_exact : (gives : ℕ → View → A → Type 0)

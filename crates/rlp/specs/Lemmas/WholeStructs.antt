@@ -25,6 +25,12 @@ none_right = record { more = 0; sum = omega arith; right = refl }
 pub none_below : (k : ℕ) → ¬ (k < 0)
 none_below k few = omega arith
 
+pub none_enough : (n : ℕ) → 0 ≤ n
+none_enough n = omega arith
+
+pub one_more_enough : {least n : ℕ} → least ≤ n → suc least ≤ suc n
+one_more_enough enough = omega (arith, enough)
+
 -- one more field
 pub one_more_right : {least : ℕ} {IsMore : ℕ → Type 0} {n : ℕ} → IsCount least IsMore n → IsCount (suc least) IsMore (suc n)
 one_more_right right = record { more = right.more; sum = let sum = right.sum in omega (arith, sum); right = right.right }
