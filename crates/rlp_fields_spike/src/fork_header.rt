@@ -60,7 +60,15 @@ impl DecodeFields for London {
         fields: &mut Fields<'_>,
         len: usize,
     ) -> Result<London, DecoderError> {
-        rlp::decode_fields!(alloc, fields, len, London { base_fee_per_gas, since_shanghai: (..)? })
+        rlp::decode_fields!(
+            alloc,
+            fields,
+            len,
+            London {
+                base_fee_per_gas,
+                since_shanghai: (..)?
+            }
+        )
     }
 }
 
@@ -115,7 +123,15 @@ impl DecodeFields for Shanghai {
         fields: &mut Fields<'_>,
         len: usize,
     ) -> Result<Shanghai, DecoderError> {
-        rlp::decode_fields!(alloc, fields, len, Shanghai { withdrawals_root, since_cancun: (..)? })
+        rlp::decode_fields!(
+            alloc,
+            fields,
+            len,
+            Shanghai {
+                withdrawals_root,
+                since_cancun: (..)?
+            }
+        )
     }
 }
 
@@ -140,11 +156,31 @@ impl AppendFields for Cancun {
     ghost fit = { cancun_fields.Fits };
 
     fn field_count(&self) -> Option<usize> {
-        (&self.blob_gas_used, (&self.excess_blob_gas, (&self.parent_beacon_block_root, TogetherOf(&self.since_prague)))).field_count()
+        (
+            &self.blob_gas_used,
+            (
+                &self.excess_blob_gas,
+                (
+                    &self.parent_beacon_block_root,
+                    TogetherOf(&self.since_prague),
+                ),
+            ),
+        )
+            .field_count()
     }
 
     fn append_fields(&self, s: &mut RlpStream) -> Result<(), AllocError> {
-        (&self.blob_gas_used, (&self.excess_blob_gas, (&self.parent_beacon_block_root, TogetherOf(&self.since_prague)))).append_fields(s)
+        (
+            &self.blob_gas_used,
+            (
+                &self.excess_blob_gas,
+                (
+                    &self.parent_beacon_block_root,
+                    TogetherOf(&self.since_prague),
+                ),
+            ),
+        )
+            .append_fields(s)
     }
 }
 
@@ -166,7 +202,10 @@ impl DecodeFields for Cancun {
     ghost may_lack_memory = { cancun_fields.may_lack };
 
     fn accepts(len: usize) -> bool {
-        <(rlp::Field<u64>, (rlp::Field<u64>, (rlp::Field<Hash>, rlp::Together<Prague>))) as DecodeFields>::accepts(len)
+        <(
+            rlp::Field<u64>,
+            (rlp::Field<u64>, (rlp::Field<Hash>, rlp::Together<Prague>)),
+        ) as DecodeFields>::accepts(len)
     }
 
     fn decode_fields(
@@ -174,7 +213,17 @@ impl DecodeFields for Cancun {
         fields: &mut Fields<'_>,
         len: usize,
     ) -> Result<Cancun, DecoderError> {
-        rlp::decode_fields!(alloc, fields, len, Cancun { blob_gas_used, excess_blob_gas, parent_beacon_block_root, since_prague: (..)? })
+        rlp::decode_fields!(
+            alloc,
+            fields,
+            len,
+            Cancun {
+                blob_gas_used,
+                excess_blob_gas,
+                parent_beacon_block_root,
+                since_prague: (..)?
+            }
+        )
     }
 }
 

@@ -9,6 +9,8 @@ mod header;
 mod log;
 mod node_fields;
 mod row;
+#[cfg(test)]
+mod tests;
 
 pub use address::Address;
 pub use bloom::Bloom;

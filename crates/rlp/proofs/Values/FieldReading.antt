@@ -100,12 +100,15 @@ module _ (some1 : ℕ → View → Type 0) (faults1 : View → DecoderError → 
     before = none_given 0 (by_place some1 some) v i refl;
     fault = subst (λ j. FaultsAt faults1 v j e) (same_place i) fault;
   })
-  first_fails v i e (inr (lacks, may)) = inr (lacks, record {
-    number = 0;
-    few = omega (arith, one);
-    before = none_given 0 (by_place some1 some) v i refl;
-    may = subst (λ j. may_lack1 j v) (same_place i) may;
-  })
+  first_fails v i e (inr (lacks, may)) = inr (
+    lacks,
+    record {
+      number = 0;
+      few = omega (arith, one);
+      before = none_given 0 (by_place some1 some) v i refl;
+      may = subst (λ j. may_lack1 j v) (same_place i) may;
+    },
+  )
 
   before_later : (v : View) (i k : ℕ) → some1 i v → GivesFields k some v (suc i) → GivesFields (suc k) (by_place some1 some) v i
   before_later v i k given before =
@@ -120,12 +123,15 @@ module _ (some1 : ℕ → View → Type 0) (faults1 : View → DecoderError → 
     before = before_later v i f.number given f.before;
     fault = subst (λ j. FaultsAt (faults f.number) v j e) (let place : suc i + f.number ≡ i + suc f.number = omega arith in place) f.fault;
   })
-  later_fails v i e given (inr (lacks, m)) = inr (lacks, record {
-    number = suc m.number;
-    few = let few = m.few in omega (arith, few);
-    before = before_later v i m.number given m.before;
-    may = subst (λ j. may_lack m.number j v) (let place : suc i + m.number ≡ i + suc m.number = omega arith in place) m.may;
-  })
+  later_fails v i e given (inr (lacks, m)) = inr (
+    lacks,
+    record {
+      number = suc m.number;
+      few = let few = m.few in omega (arith, few);
+      before = before_later v i m.number given m.before;
+      may = subst (λ j. may_lack m.number j v) (let place : suc i + m.number ≡ i + suc m.number = omega arith in place) m.may;
+    },
+  )
 
   -- the first field is given, and one of the others fails
   pub others_fail : (f g : FieldPlace) (e : DecoderError) → g ≡ record f { place = f.place + 1 } → some1 f.place f.view

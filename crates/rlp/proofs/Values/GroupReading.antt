@@ -99,15 +99,18 @@ module _ {G : Type 0} (width : ℕ) (give : ℕ → View → G → Type 0) (some
       let before : GivesFields l.number some begun.view (begun.place + length gs * width) =
       subst (λ n. GivesFields l.number some begun.view n) place_is (subst (λ v. GivesFields l.number some v f.place) view_is l.before) in
       let low : l.number ≤ width = omega (arith, within) in
-      inr (lacks, record {
-        number = length gs * width + l.number;
-        few = below_all len count all (length gs) l.number few within;
-        before = given_more begun.view begun.place (length gs) l.number low is.given before;
-        may = inl (subst (λ n. may_lack n (begun.place + (length gs * width + l.number)) begun.view) (sym field)
-            (subst (λ n. may_lack l.number n begun.view)
-            (let sum : f.place + l.number ≡ begun.place + (length gs * width + l.number) = omega (arith, place_is) in sum)
-            (subst (λ v. may_lack l.number (f.place + l.number) v) view_is l.may)));
-      })
+      inr (
+        lacks,
+        record {
+          number = length gs * width + l.number;
+          few = below_all len count all (length gs) l.number few within;
+          before = given_more begun.view begun.place (length gs) l.number low is.given before;
+          may = inl (subst (λ n. may_lack n (begun.place + (length gs * width + l.number)) begun.view) (sym field)
+              (subst (λ n. may_lack l.number n begun.view)
+              (let sum : f.place + l.number ≡ begun.place + (length gs * width + l.number) = omega (arith, place_is) in sum)
+              (subst (λ v. may_lack l.number (f.place + l.number) v) view_is l.may)));
+        },
+      )
   group_after_fails faults may_lack begun f gs len count e is few all (inl bad) =
       let view_is : f.view ≡ begun.view = ap (λ (p : FieldPlace). p.view) is.at in
       let place_is : f.place ≡ begun.place + length gs * width = ap (λ (p : FieldPlace). p.place) is.at in
@@ -140,18 +143,21 @@ module _ {G : Type 0} (width : ℕ) (give : ℕ → View → G → Type 0) (some
       let given : GivesFields width some begun.view (begun.place + length gs * width) =
       subst (λ n. GivesFields width some begun.view n) place_is (subst (λ v. GivesFields width some v f.place) view_is read) in
       let whole : suc (length gs * width + (width - 1)) ≡ suc (length gs) * width = omega (arith, wide, suc-mul (length gs) width) in
-      inr (lacks, record {
-        number = length gs * width + (width - 1);
-        few = below_all len count all (length gs) (width - 1) few within;
-        before = given_more begun.view begun.place (length gs) (width - 1) low is.given (λ j before. given j (omega (arith, before)));
-        may = inr (
-          ap (λ n. n % width) whole ∙ groups_right width (suc (length gs)) wide,
-          subst (λ n. some n (begun.place + (length gs * width + (width - 1))) begun.view) (sym field)
-              (subst (λ n. some (width - 1) n begun.view)
-              (let sum : begun.place + length gs * width + (width - 1) ≡ begun.place + (length gs * width + (width - 1)) = omega arith in sum)
-              (given (width - 1) within)),
-        );
-      })
+      inr (
+        lacks,
+        record {
+          number = length gs * width + (width - 1);
+          few = below_all len count all (length gs) (width - 1) few within;
+          before = given_more begun.view begun.place (length gs) (width - 1) low is.given (λ j before. given j (omega (arith, before)));
+          may = inr (
+            ap (λ n. n % width) whole ∙ groups_right width (suc (length gs)) wide,
+            subst (λ n. some n (begun.place + (length gs * width + (width - 1))) begun.view) (sym field)
+                (subst (λ n. some (width - 1) n begun.view)
+                (let sum : begun.place + length gs * width + (width - 1) ≡ begun.place + (length gs * width + (width - 1)) = omega arith in sum)
+                (given (width - 1) within)),
+          );
+        },
+      )
 
 -- whole groups
 pub whole_groups : (width len : ℕ) → len % width ≡ 0 → len / width * width ≡ len

@@ -95,7 +95,7 @@ impl<G: FixedFields> DecodeFields for Groups<G> {
 fn group_count<G: FixedFields>(len: usize) -> Option<(usize, usize)>
     ensures { MatchOption result (¬ AreGroups G.least len)
         (λ n. AreGroups G.least len × (n.0 * G.least ≡ len)
-            × (0 < n.0 → (n.1 ≡ G.least) × (0 < G.least))) }
+        × (0 < n.0 → (n.1 ≡ G.least) × (0 < G.least))) }
 {
     match G::width() {
         Some(width) => {

@@ -7,8 +7,8 @@ ghost use Rattle.rlp.specs.Values.FieldReading.{GivesFirst, IsCount, NoneOrOne, 
 ghost use Rattle.rlp.specs.Values.ListReading.{FaultsAsList, GivesList, GivesSomeAt, MayLackAsList, MayLackAt};
 
 use crate::rlpin::Fields;
-use crate::structs::optional::MayBeMissing;
 use crate::structs::DecodeFields;
+use crate::structs::optional::MayBeMissing;
 use crate::traits::Decodable;
 use rlp_format::error::DecoderError;
 use std::alloc::Global;
