@@ -1,6 +1,6 @@
 -- How access lists are written and read.
 use Rattle.std.specs.Vec.{vec_items}
-use Rattle.rlp.specs.Codec.{Codec, Fields, and_field, last_field, list_type, struct_of}
+use Rattle.rlp.specs.Codec.{Codec, Fields, end, field, list_type, struct_of}
 use Rattle.rlp_ethereum.specs.declared.access.AccessList.{AccessList}
 use Rattle.rlp_ethereum.specs.declared.access.AccessListItem.{AccessListItem}
 use Rattle.rlp_ethereum.specs.Address.{address}
@@ -9,8 +9,8 @@ use Rattle.rlp_ethereum.specs.Hash.{hash}
 -- the fields, in order
 abbrev pub access_list_item_fields : Fields AccessListItem
 access_list_item_fields =
-    and_field (λ (a : AccessListItem). a.address) address (
-    last_field (λ (a : AccessListItem). a.storage_keys) (list_type vec_items hash))
+    field (λ (a : AccessListItem). a.address) address (
+    field (λ (a : AccessListItem). a.storage_keys) (list_type vec_items hash) end)
 
 -- the list of the fields
 abbrev pub access_list_item : Codec AccessListItem

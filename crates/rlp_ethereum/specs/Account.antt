@@ -1,15 +1,15 @@
 -- How accounts are written and read.
-use Rattle.rlp.specs.Codec.{Codec, Fields, and_field, last_field, number, struct_of, uint}
+use Rattle.rlp.specs.Codec.{Codec, Fields, end, field, number, struct_of, uint}
 use Rattle.rlp_ethereum.specs.declared.account.Account.{Account}
 use Rattle.rlp_ethereum.specs.Hash.{hash}
 
 -- the fields, in order
 abbrev pub account_fields : Fields Account
 account_fields =
-    and_field (λ (a : Account). a.nonce) (number 8) (
-    and_field (λ (a : Account). a.balance) (uint 32) (
-    and_field (λ (a : Account). a.storage_root) hash (
-    last_field (λ (a : Account). a.code_hash) hash)))
+    field (λ (a : Account). a.nonce) (number 8) (
+    field (λ (a : Account). a.balance) (uint 32) (
+    field (λ (a : Account). a.storage_root) hash (
+    field (λ (a : Account). a.code_hash) hash end)))
 
 -- the list of the fields
 abbrev pub account : Codec Account

@@ -1,18 +1,18 @@
 -- How bodies of blocks are written and read.
 use Rattle.std.specs.Vec.{vec_items}
-use Rattle.rlp.specs.Codec.{Codec, Tailed, and_always, and_optional, list_type, no_tail, tailed}
+use Rattle.rlp.specs.Codec.{Codec, Fields, end, field, list_type, optional, struct_of}
 use Rattle.rlp_ethereum.specs.declared.body.Body.{Body}
 use Rattle.rlp_ethereum.specs.Header.{header}
 use Rattle.rlp_ethereum.specs.Transaction.{transaction}
 use Rattle.rlp_ethereum.specs.Withdrawal.{withdrawals}
 
 -- the transactions and the ommers, and the withdrawals, which may be missing
-abbrev pub body_fields : Tailed Body
+abbrev pub body_fields : Fields Body
 body_fields =
-    and_always (λ (b : Body). b.transactions) (list_type vec_items transaction) (
-    and_always (λ (b : Body). b.ommers) (list_type vec_items header) (
-    and_optional (λ (b : Body). b.withdrawals) withdrawals no_tail))
+    field (λ (b : Body). b.transactions) (list_type vec_items transaction) (
+    field (λ (b : Body). b.ommers) (list_type vec_items header) (
+    optional (λ (b : Body). b.withdrawals) withdrawals end))
 
 -- the list of the fields
 abbrev pub body : Codec Body
-body = tailed body_fields
+body = struct_of body_fields

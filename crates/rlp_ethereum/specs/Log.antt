@@ -1,6 +1,6 @@
 -- How logs are written and read.
 use Rattle.std.specs.Vec.{vec_items}
-use Rattle.rlp.specs.Codec.{Codec, Fields, and_field, byte_string, last_field, list_type, struct_of}
+use Rattle.rlp.specs.Codec.{Codec, Fields, byte_string, end, field, list_type, struct_of}
 use Rattle.rlp_ethereum.specs.declared.log.Log.{Log}
 use Rattle.rlp_ethereum.specs.Address.{address}
 use Rattle.rlp_ethereum.specs.Hash.{hash}
@@ -8,9 +8,9 @@ use Rattle.rlp_ethereum.specs.Hash.{hash}
 -- the fields, in order
 abbrev pub log_fields : Fields Log
 log_fields =
-    and_field (λ (l : Log). l.address) address (
-    and_field (λ (l : Log). l.topics) (list_type vec_items hash) (
-    last_field (λ (l : Log). l.data) (byte_string vec_items)))
+    field (λ (l : Log). l.address) address (
+    field (λ (l : Log). l.topics) (list_type vec_items hash) (
+    field (λ (l : Log). l.data) (byte_string vec_items) end))
 
 -- the list of the fields
 abbrev pub log : Codec Log

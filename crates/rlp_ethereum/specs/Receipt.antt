@@ -1,6 +1,6 @@
 -- How receipts are written and read.
 use Rattle.std.specs.Vec.{vec_items}
-use Rattle.rlp.specs.Codec.{Codec, Fields, and_field, byte_string, last_field, list_type, number, struct_of}
+use Rattle.rlp.specs.Codec.{Codec, Fields, byte_string, end, field, list_type, number, struct_of}
 use Rattle.rlp_ethereum.specs.declared.receipt.Receipt.{Receipt}
 use Rattle.rlp_ethereum.specs.Bloom.{bloom}
 use Rattle.rlp_ethereum.specs.Log.{log}
@@ -8,10 +8,10 @@ use Rattle.rlp_ethereum.specs.Log.{log}
 -- the fields, in order
 abbrev pub receipt_fields : Fields Receipt
 receipt_fields =
-    and_field (λ (r : Receipt). r.status_or_state_root) (byte_string vec_items) (
-    and_field (λ (r : Receipt). r.cumulative_gas_used) (number 8) (
-    and_field (λ (r : Receipt). r.logs_bloom) bloom (
-    last_field (λ (r : Receipt). r.logs) (list_type vec_items log))))
+    field (λ (r : Receipt). r.status_or_state_root) (byte_string vec_items) (
+    field (λ (r : Receipt). r.cumulative_gas_used) (number 8) (
+    field (λ (r : Receipt). r.logs_bloom) bloom (
+    field (λ (r : Receipt). r.logs) (list_type vec_items log) end)))
 
 -- the list of the fields
 abbrev pub receipt : Codec Receipt

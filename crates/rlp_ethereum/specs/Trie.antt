@@ -1,7 +1,7 @@
 -- How nodes of the trie are written and read.
 use Rattle.std.specs.Prelude.{ℕ, get_or}
 use Rattle.std.specs.Vec.{vec_items}
-use Rattle.rlp.specs.Codec.{Codec, Fields, and_each, and_field, byte_string, last_field, struct_of}
+use Rattle.rlp.specs.Codec.{Codec, Fields, byte_string, each, end, field, struct_of}
 use Rattle.rlp_ethereum.specs.declared.branch.Branch.{Branch}
 use Rattle.rlp_ethereum.specs.declared.child.Child.{Child}
 use Rattle.rlp_ethereum.specs.declared.child.Child.TheVariants.{Nothing}
@@ -11,7 +11,7 @@ use Rattle.rlp_ethereum.specs.ChildLaws.{child}
 
 -- a path and a value
 abbrev pub leaf_fields : Fields Leaf
-leaf_fields = and_field (λ (l : Leaf). l.path) (byte_string vec_items) (last_field (λ (l : Leaf). l.value) (byte_string vec_items))
+leaf_fields = field (λ (l : Leaf). l.path) (byte_string vec_items) (field (λ (l : Leaf). l.value) (byte_string vec_items) end)
 
 -- the list of the fields
 abbrev pub leaf : Codec Leaf
@@ -19,7 +19,7 @@ leaf = struct_of leaf_fields
 
 -- a path and a child
 abbrev pub extension_fields : Fields Extension
-extension_fields = and_field (λ (e : Extension). e.path) (byte_string vec_items) (last_field (λ (e : Extension). e.child) child)
+extension_fields = field (λ (e : Extension). e.path) (byte_string vec_items) (field (λ (e : Extension). e.child) child end)
 
 -- the list of the fields
 abbrev pub extension : Codec Extension
@@ -31,7 +31,7 @@ child_at k b = get_or b.children k Nothing
 
 -- sixteen children, and the value
 abbrev pub branch_fields : Fields Branch
-branch_fields = and_each child_at child (last_field (λ (b : Branch). b.value) (byte_string vec_items)) 0 16
+branch_fields = each child_at child (field (λ (b : Branch). b.value) (byte_string vec_items) end) 0 16
 
 -- the list of the fields
 abbrev pub branch : Codec Branch

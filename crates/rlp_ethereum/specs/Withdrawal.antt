@@ -1,6 +1,6 @@
 -- How withdrawals are written and read.
 use Rattle.std.specs.Vec.{vec_items}
-use Rattle.rlp.specs.Codec.{Codec, Fields, and_field, last_field, list_type, number, struct_of}
+use Rattle.rlp.specs.Codec.{Codec, Fields, end, field, list_type, number, struct_of}
 use Rattle.rlp_ethereum.specs.declared.withdrawal.Withdrawal.{Withdrawal}
 use Rattle.rlp_ethereum.specs.declared.withdrawal.Withdrawals.{Withdrawals}
 use Rattle.rlp_ethereum.specs.Address.{address}
@@ -8,10 +8,10 @@ use Rattle.rlp_ethereum.specs.Address.{address}
 -- the fields, in order
 abbrev pub withdrawal_fields : Fields Withdrawal
 withdrawal_fields =
-    and_field (λ (w : Withdrawal). w.index) (number 8) (
-    and_field (λ (w : Withdrawal). w.validator_index) (number 8) (
-    and_field (λ (w : Withdrawal). w.address) address (
-    last_field (λ (w : Withdrawal). w.amount) (number 8))))
+    field (λ (w : Withdrawal). w.index) (number 8) (
+    field (λ (w : Withdrawal). w.validator_index) (number 8) (
+    field (λ (w : Withdrawal). w.address) address (
+    field (λ (w : Withdrawal). w.amount) (number 8) end)))
 
 -- the list of the fields
 abbrev pub withdrawal : Codec Withdrawal

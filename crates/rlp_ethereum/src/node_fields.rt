@@ -5,8 +5,8 @@ ghost use Rattle.rlp.specs.Format.Encoding.{encoding};
 
 use bytes::BytesMut;
 use rlp::{
-    AppendFields, Decodable, DecodeGroup, DecoderError, Encodable, Fields, Flattened, RawItem, Rlp,
-    RlpStream, RoundTrip, StrictRead,
+    AppendFields, Decodable, DecodeFields, DecoderError, Encodable, Fields, FixedFields, Flattened,
+    RawItem, Rlp, RlpStream, RoundTrip, StrictRead,
 };
 use std::alloc::{AllocError, Global};
 
@@ -50,8 +50,12 @@ impl AppendFields for NodePair {
     }
 }
 
-impl DecodeGroup for NodePair {
+impl DecodeFields for NodePair {
     ghost use Rattle.rlp_ethereum.specs.NodeFields.{pair_fields};
+
+    ghost least = { pair_fields.least };
+
+    ghost is_more = { pair_fields.IsMore };
 
     ghost count = { pair_fields.count };
 
@@ -61,13 +65,29 @@ impl DecodeGroup for NodePair {
 
     ghost faults = { pair_fields.faults };
 
-    fn group_len() -> Option<usize> {
+    ghost may_lack_memory = { pair_fields.may_lack };
+
+    fn accepts(len: usize) -> bool {
+        len == 2
+    }
+
+    fn decode_fields(
+        alloc: Global,
+        fields: &mut Fields<'_>,
+        len: usize,
+    ) -> Result<NodePair, DecoderError> {
+        rlp::decode_fields!(alloc, fields, len, NodePair { key, value })
+    }
+}
+
+impl FixedFields for NodePair {
+    ghost use Rattle.std.specs.Prelude.{refl};
+
+    fn width() -> Option<usize> {
         Some(2)
     }
 
-    fn decode_group(alloc: Global, fields: &mut Fields<'_>) -> Result<NodePair, DecoderError> {
-        rlp::decode_group!(alloc, fields, NodePair { key, value })
-    }
+    ghost none_more = { refl };
 }
 
 impl Encodable for NodeFields {
@@ -97,7 +117,7 @@ impl Decodable for NodeFields {
     ghost may_lack_memory = { node_fields.may_lack };
 
     fn decode(alloc: Global, rlp: &Rlp<'_>) -> Result<NodeFields, DecoderError> {
-        rlp::decode_groups!(
+        rlp::decode_fields!(
             alloc,
             rlp,
             NodeFields {

@@ -2,7 +2,7 @@
 use Rattle.std.specs.Prelude.{◌≡◌, ◌⊎◌, refl, true}
 use Rattle.std.proofs.Common.{inl, inr}
 use Rattle.rlp.specs.Streams.Stream.{is_list}
-use Rattle.rlp.specs.Codec.{Codec, newtype}
+use Rattle.rlp.specs.Codec.{Codec, each, newtype}
 use Rattle.rlp.specs.Codecs.Sums.{Cases, and_case, enveloped, last_case, list_or_string}
 use Rattle.rlp.specs.Lemmas.Counted.{counted_lists}
 use Rattle.rlp_ethereum.specs.Transaction.{unknown_type}
@@ -37,7 +37,7 @@ unsigned_sum (Blob t) = inr (inr (inr (inl t)))
 unsigned_sum (SetCode t) = inr (inr (inr (inr t)))
 
 pub unsigned_legacy_is_list : (t : UnsignedLegacyTransaction) → is_list (unsigned_legacy_transaction.item t) ≡ true
-unsigned_legacy_is_list t = counted_lists fields_before_eip_155 fields_since_eip_155 refl (signed_fields t)
+unsigned_legacy_is_list t = counted_lists fields_before_eip_155 fields_since_eip_155 (λ x. refl) (λ x. refl) refl (signed_fields t)
 
 -- a legacy transaction is a list, and a typed one the string of its type and its payload
 abbrev pub unsigned_transaction : Codec UnsignedTransaction

@@ -1,6 +1,6 @@
 use Rattle.std.proofs.Common.{◌≡◌, List, ◌++◌, length, map, ap, sym, ◌∙◌, rules}
 use Rattle.std.specs.Vec.{vec_items}
-use Rattle.rlp.specs.Codec.{byte_string, last_field}
+use Rattle.rlp.specs.Codec.{byte_string, end, field}
 use Rattle.rlp.specs.Format.Item.{Item, list_of}
 use Rattle.rlp.specs.Streams.Stream.{put_item}
 use Rattle.rlp_ethereum.specs.declared.branch.Branch.{Branch}
@@ -13,7 +13,7 @@ use Rattle.rlp_ethereum.proofs.branch.BranchEncodable.rlp_append.Goals as goal
 pub returns-in-Ok-append_fields-clause-ok : goal.returns-in-Ok-append_fields-clause-ok
 returns-in-Ok-append_fields-clause-ok c =
     let branch = c.args.self.now in
-    let last = last_field (λ (b : Branch). b.value) (byte_string vec_items) in
+    let last = field (λ (b : Branch). b.value) (byte_string vec_items) end in
     let same : c.as_slice-children.result.now ≡ c.args.self.now.children = search rules in
     let many : length c.args.self.now.children ≡ 16 = ap length (sym same) ∙ c.if-children-ne16.false in
     let written : c.append_fields-append_struct.new.s.state ≡ put_item
