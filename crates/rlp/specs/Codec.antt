@@ -27,7 +27,7 @@ use Rattle.rlp.specs.Lemmas.StrictLists.{list_strict}
 use Rattle.rlp.specs.Lemmas.StrictStructs.{PartsFrom}
 use Rattle.rlp.specs.Lemmas.Tails.{first_counted, first_right, first_tail_alike, first_tail_exact, first_tail_exactly_sound, first_tail_sound}
 use Rattle.rlp.specs.Lemmas.Groups.{below_same, groups_alike, groups_counted, groups_exact, groups_exactly_sound, groups_right, groups_sound, not_none}
-use Rattle.rlp.specs.Lemmas.Together.{if_alike, if_counted, if_exact, if_exactly_sound, if_right, if_sound}
+use Rattle.rlp.specs.Lemmas.OptionalGroups.{if_alike, if_counted, if_exact, if_exactly_sound, if_right, if_sound}
 use Rattle.rlp.specs.Lemmas.WholeStructs.{none_below, none_enough, none_right, one_more_enough, one_more_right, only_more, struct_reads_back, struct_strict}
 
 -- How the values of a type are written and read. The record holds the members of its `Encodable`, `Decodable`, `RoundTrip` and `StrictRead`.
@@ -281,8 +281,8 @@ optional value c more = record {
 }
 
 -- The fields of `f` at the end, which may be missing together. That one of them is always present is proved by `refl`.
-abbrev pub together : {A P : Type 0} → (P → Option A) → (f : Fields A) → (0 == f.least) ≡ false → Fields P
-together value f some = record {
+abbrev pub optional_group : {A P : Type 0} → (P → Option A) → (f : Fields A) → (0 == f.least) ≡ false → Fields P
+optional_group value f some = record {
   least = 0;
   IsMore = NoneOr (IsCount f.least f.IsMore);
   count = λ p. count_if f.count (value p);

@@ -53,7 +53,7 @@ pub mod Groups
 -- whole structs, read back and read strictly
 pub mod WholeStructs
 -- fields that may be missing together
-pub mod Together
+pub mod OptionalGroups
 -- lists of a tag and a payload
 pub mod Tagged
 -- values of two types of structs, told apart by their numbers of fields

@@ -37,7 +37,7 @@ pub use rlpin::{BasicDecoder, Envelope, Fields, Rlp, RlpIterator};
 use std::alloc::{AllocError, Global};
 pub use structs::{
     DecodeField, DecodeFields, Field, FixedFields, Groups, ListField, MayBeMissing, OptionalField,
-    OptionalListField, Together, TogetherOf, decode_struct,
+    OptionalListField, OptionalGroup, OptionalGroupOf, decode_struct,
 };
 pub use traits::{Decodable, RoundTrip, Scalar, StrictRead};
 

@@ -12,7 +12,7 @@ ghost use Rattle.rlp.specs.Values.ListReading.{FaultsAsList, FaultsAt, GivesAt, 
 mod groups;
 mod optional;
 mod optional_list;
-mod together;
+mod optional_group;
 
 use crate::rlpin::{Fields, Rlp};
 use crate::traits::Decodable;
@@ -21,7 +21,7 @@ pub use optional::{MayBeMissing, OptionalField};
 pub use optional_list::OptionalListField;
 use rlp_format::error::DecoderError;
 use std::alloc::Global;
-pub use together::{Together, TogetherOf};
+pub use optional_group::{OptionalGroup, OptionalGroupOf};
 
 /// One field of a struct, read from one item.
 pub trait DecodeField: Sized + Drop {
@@ -405,7 +405,7 @@ macro_rules! decode_fields {
     };
     (@next $head:tt $left:ident [$($moves:tt)*] [$($names:ident)*] $field:ident: (..)? $(,)?) => {
         $crate::decode_fields!(
-            @call $head $left [$($moves)* let $crate::Together($field) = $left;] [$($names)* $field]
+            @call $head $left [$($moves)* let $crate::OptionalGroup($field) = $left;] [$($names)* $field]
         )
     };
     (@next $head:tt $left:ident [$($moves:tt)*] [$($names:ident)*] $field:ident: [(..)] $(,)?) => {

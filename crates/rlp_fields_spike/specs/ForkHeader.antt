@@ -1,7 +1,7 @@
 -- How headers with the fields of each fork are written and read.
 use Rattle.std.specs.Prelude.{refl}
 use Rattle.std.specs.Vec.{vec_items}
-use Rattle.rlp.specs.Codec.{Codec, Fields, byte_array, byte_string, end, field, number, struct_of, together, uint}
+use Rattle.rlp.specs.Codec.{Codec, Fields, byte_array, byte_string, end, field, number, struct_of, optional_group, uint}
 use Rattle.rlp_fields_spike.specs.declared.fork_header.ForkHeader.{ForkHeader}
 use Rattle.rlp_fields_spike.specs.declared.fork_header.London.{London}
 use Rattle.rlp_fields_spike.specs.declared.fork_header.Shanghai.{Shanghai}
@@ -22,19 +22,19 @@ cancun_fields =
     field (λ (x : Cancun). x.blob_gas_used) (number 8) (
     field (λ (x : Cancun). x.excess_blob_gas) (number 8) (
     field (λ (x : Cancun). x.parent_beacon_block_root) hash (
-    together (λ (x : Cancun). x.since_prague) prague_fields refl)))
+    optional_group (λ (x : Cancun). x.since_prague) prague_fields refl)))
 
 -- the fields since Shanghai
 abbrev pub shanghai_fields : Fields Shanghai
 shanghai_fields =
     field (λ (x : Shanghai). x.withdrawals_root) hash (
-    together (λ (x : Shanghai). x.since_cancun) cancun_fields refl)
+    optional_group (λ (x : Shanghai). x.since_cancun) cancun_fields refl)
 
 -- the fields since London
 abbrev pub london_fields : Fields London
 london_fields =
     field (λ (x : London). x.base_fee_per_gas) (uint 32) (
-    together (λ (x : London). x.since_shanghai) shanghai_fields refl)
+    optional_group (λ (x : London). x.since_shanghai) shanghai_fields refl)
 
 -- fifteen fields that are always present, and those of the forks
 abbrev pub fork_header_fields : Fields ForkHeader
@@ -54,7 +54,7 @@ fork_header_fields =
     field (λ (h : ForkHeader). h.extra_data) (byte_string vec_items) (
     field (λ (h : ForkHeader). h.mix_hash) hash (
     field (λ (h : ForkHeader). h.nonce) (byte_array 8) (
-    together (λ (h : ForkHeader). h.since_london) london_fields refl)))))))))))))))
+    optional_group (λ (h : ForkHeader). h.since_london) london_fields refl)))))))))))))))
 
 -- the list of the fields
 abbrev pub fork_header : Codec ForkHeader

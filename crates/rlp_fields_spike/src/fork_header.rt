@@ -5,7 +5,7 @@ ghost use Rattle.std.specs.Prelude.{◌≡◌};
 use crate::{Address, Bloom, Hash};
 use rlp::{
     AppendFields, Decodable, DecodeFields, DecoderError, Encodable, Fields, Rlp, RlpStream,
-    RoundTrip, StrictRead, TogetherOf, Uint,
+    RoundTrip, StrictRead, OptionalGroupOf, Uint,
 };
 use std::alloc::{AllocError, Global};
 
@@ -26,11 +26,11 @@ impl AppendFields for London {
     ghost fit = { london_fields.Fits };
 
     fn field_count(&self) -> Option<usize> {
-        (&self.base_fee_per_gas, TogetherOf(&self.since_shanghai)).field_count()
+        (&self.base_fee_per_gas, OptionalGroupOf(&self.since_shanghai)).field_count()
     }
 
     fn append_fields(&self, s: &mut RlpStream) -> Result<(), AllocError> {
-        (&self.base_fee_per_gas, TogetherOf(&self.since_shanghai)).append_fields(s)
+        (&self.base_fee_per_gas, OptionalGroupOf(&self.since_shanghai)).append_fields(s)
     }
 }
 
@@ -52,7 +52,7 @@ impl DecodeFields for London {
     ghost may_lack_memory = { london_fields.may_lack };
 
     fn accepts(len: usize) -> bool {
-        <(rlp::Field<Uint<32>>, rlp::Together<Shanghai>) as DecodeFields>::accepts(len)
+        <(rlp::Field<Uint<32>>, rlp::OptionalGroup<Shanghai>) as DecodeFields>::accepts(len)
     }
 
     fn decode_fields(
@@ -89,11 +89,11 @@ impl AppendFields for Shanghai {
     ghost fit = { shanghai_fields.Fits };
 
     fn field_count(&self) -> Option<usize> {
-        (&self.withdrawals_root, TogetherOf(&self.since_cancun)).field_count()
+        (&self.withdrawals_root, OptionalGroupOf(&self.since_cancun)).field_count()
     }
 
     fn append_fields(&self, s: &mut RlpStream) -> Result<(), AllocError> {
-        (&self.withdrawals_root, TogetherOf(&self.since_cancun)).append_fields(s)
+        (&self.withdrawals_root, OptionalGroupOf(&self.since_cancun)).append_fields(s)
     }
 }
 
@@ -115,7 +115,7 @@ impl DecodeFields for Shanghai {
     ghost may_lack_memory = { shanghai_fields.may_lack };
 
     fn accepts(len: usize) -> bool {
-        <(rlp::Field<Hash>, rlp::Together<Cancun>) as DecodeFields>::accepts(len)
+        <(rlp::Field<Hash>, rlp::OptionalGroup<Cancun>) as DecodeFields>::accepts(len)
     }
 
     fn decode_fields(
@@ -162,7 +162,7 @@ impl AppendFields for Cancun {
                 &self.excess_blob_gas,
                 (
                     &self.parent_beacon_block_root,
-                    TogetherOf(&self.since_prague),
+                    OptionalGroupOf(&self.since_prague),
                 ),
             ),
         )
@@ -176,7 +176,7 @@ impl AppendFields for Cancun {
                 &self.excess_blob_gas,
                 (
                     &self.parent_beacon_block_root,
-                    TogetherOf(&self.since_prague),
+                    OptionalGroupOf(&self.since_prague),
                 ),
             ),
         )
@@ -204,7 +204,7 @@ impl DecodeFields for Cancun {
     fn accepts(len: usize) -> bool {
         <(
             rlp::Field<u64>,
-            (rlp::Field<u64>, (rlp::Field<Hash>, rlp::Together<Prague>)),
+            (rlp::Field<u64>, (rlp::Field<Hash>, rlp::OptionalGroup<Prague>)),
         ) as DecodeFields>::accepts(len)
     }
 
@@ -344,7 +344,7 @@ impl Encodable for ForkHeader {
             &self.extra_data,
             &self.mix_hash,
             &self.nonce,
-            TogetherOf(&self.since_london)
+            OptionalGroupOf(&self.since_london)
         )
     }
 }

@@ -156,7 +156,7 @@ others_next f g h n some next after =
 
 pub ruleset fields_in_order = (none_counted, none_given, none_next, some_items, other_items, others_after, others_given, others_next, others_some)
 
-pub ruleset fields_together = (none_given, none_next, all_after)
+pub ruleset optional_groups = (none_given, none_next, all_after)
 
 -- ---- the whole struct
 

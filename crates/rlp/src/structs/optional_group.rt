@@ -10,13 +10,13 @@ use rlp_streams::{AppendFields, RlpStream};
 use std::alloc::{AllocError, Global};
 
 /// Fields that may be missing together, read from the last items of a list.
-pub struct Together<S>(pub Option<S>);
+pub struct OptionalGroup<S>(pub Option<S>);
 
 /// Fields that may be missing together, written as the last items of a list.
 #[derive(Clone, Copy)]
-pub struct TogetherOf<'a, S>(pub &'a Option<S>);
+pub struct OptionalGroupOf<'a, S>(pub &'a Option<S>);
 
-impl<S: AppendFields> AppendFields for TogetherOf<'_, S> {
+impl<S: AppendFields> AppendFields for OptionalGroupOf<'_, S> {
     ghost items = { λ v. items_if S.items v.0.now };
 
     ghost fit = { λ v. IfSome v.0.now S.fit };
@@ -37,7 +37,7 @@ impl<S: AppendFields> AppendFields for TogetherOf<'_, S> {
     }
 }
 
-impl<S: DecodeFields> DecodeFields for Together<S> {
+impl<S: DecodeFields> DecodeFields for OptionalGroup<S> {
     ghost least = { 0 };
 
     ghost is_more = { NoneOr (IsCount S.least S.is_more) };
@@ -57,17 +57,17 @@ impl<S: DecodeFields> DecodeFields for Together<S> {
         len == 0 || S::accepts(len)
     }
 
-    #[tactic(auto, using(crate::proofs::Values::FieldReading::fields_together))]
+    #[tactic(auto, using(crate::proofs::Values::FieldReading::optional_groups))]
     fn decode_fields(
         alloc: Global,
         fields: &mut Fields<'_>,
         len: usize,
-    ) -> Result<Together<S>, DecoderError> {
+    ) -> Result<OptionalGroup<S>, DecoderError> {
         if len == 0 {
-            return Ok(Together(None));
+            return Ok(OptionalGroup(None));
         }
         match S::decode_fields(alloc, fields, len) {
-            Ok(values) => Ok(Together(Some(values))),
+            Ok(values) => Ok(OptionalGroup(Some(values))),
             Err(fault) => Err(fault),
         }
     }
