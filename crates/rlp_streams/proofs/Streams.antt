@@ -14,7 +14,5 @@ pub mod InTurn
 pub mod Retained
 -- fields that are appended one after another
 pub mod Fields
--- last fields that may be missing
-pub mod Tails
 -- values put one after another with no list open
 pub mod Joined

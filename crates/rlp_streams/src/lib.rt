@@ -13,7 +13,9 @@ mod whole_list;
 pub use envelope::append_envelope;
 pub use impls::Uint;
 pub use stream::{BasicEncoder, Chain, RlpStream, append_list_encoding};
-pub use structs::{AppendFields, Each, Flattened, ListOf, Optional, OptionalListOf, append_struct};
+pub use structs::{
+    AppendFields, Each, Flattened, ListOf, Optional, OptionalGroupOf, OptionalListOf, append_struct,
+};
 pub use traits::Encodable;
 pub use whole_list::encoded_list;
 

@@ -7,13 +7,11 @@ ghost use Rattle.rlp_streams.specs.Streams.Growth.{GrowsTo};
 ghost use Rattle.rlp_streams.specs.Streams.Fields.{AppendsSome};
 
 mod optional;
-mod optional_list;
 mod slices;
 
 use crate::stream::RlpStream;
 use crate::traits::Encodable;
-pub use optional::Optional;
-pub use optional_list::OptionalListOf;
+pub use optional::{Optional, OptionalGroupOf, OptionalListOf};
 pub use slices::{Each, Flattened, ListOf};
 use std::alloc::AllocError;
 
@@ -80,7 +78,7 @@ impl<P: AppendFields, Q: AppendFields> AppendFields for (P, Q) {
     }
 }
 
-/// No fields. It ends the fields that may be missing.
+/// No fields.
 impl AppendFields for () {
     ghost items = { λ v. [] };
 

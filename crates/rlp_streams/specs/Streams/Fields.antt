@@ -16,14 +16,7 @@ abbrev pub all_items : {A : Type 0} → (A → List Item) → List A → List It
 all_items items [] = []
 all_items items (x ∷ xs) = items x ++ all_items items xs
 
--- ---- last fields that may be missing
-
--- the item of a field, if it is present, and the items of the fields after it
-abbrev pub items_first : {A : Type 0} → (A → Item) → Option A → List Item → List Item
-items_first item None more = more
-items_first item (Some x) more = item x ∷ more
-
--- a field fits, and so do the fields after it; after a missing field there is none
-abbrev pub FitsFirst : {A : Type 0} → (A → Type 0) → Option A → Type 0 → List Item → Type 0
-FitsFirst Fits None FitsMore more = more ≡ []
-FitsFirst Fits (Some x) FitsMore more = Fits x × FitsMore
+-- the items of a value, if it is present
+abbrev pub items_if : {A : Type 0} → (A → List Item) → Option A → List Item
+items_if items None = []
+items_if items (Some x) = items x

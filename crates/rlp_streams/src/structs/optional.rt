@@ -1,47 +1,95 @@
-//! A last field that may be missing.
+//! Last fields that may be missing.
 
-ghost use Rattle.rlp_streams.specs.Streams.Fields.{FitsFirst, items_first};
+ghost use Rattle.std.specs.Prelude.{◌∷◌, [], All, IfSome, map};
+ghost use Rattle.std.specs.Vec.{vec_items};
+ghost use Rattle.std.specs.declared.alloc.Global.{Global};
+ghost use Rattle.rlp_format.specs.Format.Item.{list_of};
+ghost use Rattle.rlp_streams.specs.Streams.Fields.{items_if};
 
 use crate::stream::RlpStream;
 use crate::structs::AppendFields;
 use crate::traits::Encodable;
 use std::alloc::AllocError;
 
-/// A field that may be missing, and the fields after it.
-///
-/// If the field is missing, none of the fields after it may be present: then
-/// [`AppendFields::append_fields`] fails with `AllocError`.
+/// A last field that may be missing: one item, or none.
 #[derive(Clone, Copy)]
-pub struct Optional<'a, T, Q>(pub &'a Option<T>, pub Q);
+pub struct Optional<'a, T>(pub &'a Option<T>);
 
-impl<T: Encodable, Q: AppendFields> AppendFields for Optional<'_, T, Q> {
-    ghost items = { λ v. items_first T.item v.0.now (Q.items v.1) };
+/// A last field that may be missing, and is a list of values: one item, or none.
+#[derive(Clone, Copy)]
+pub struct OptionalListOf<'a, T>(pub &'a Option<Vec<T>>);
 
-    ghost fit = { λ v. FitsFirst T.fits v.0.now (Q.fit v.1) (Q.items v.1) };
+/// Last fields that are missing together, such as those that a later version of a format added.
+#[derive(Clone, Copy)]
+pub struct OptionalGroupOf<'a, S>(pub &'a Option<S>);
 
-    #[tactic(auto, using(crate::proofs::Streams::Tails::tail_counts))]
+impl<T: Encodable> AppendFields for Optional<'_, T> {
+    ghost items = { λ v. items_if (λ x. T.item x ∷ []) v.0.now };
+
+    ghost fit = { λ v. IfSome v.0.now T.fits };
+
     fn field_count(&self) -> Option<usize> {
-        let others = self.1.field_count()?;
         match self.0 {
-            Some(_) => others.checked_add(1),
-            None => Some(others),
+            Some(_) => Some(1),
+            None => Some(0),
         }
     }
 
-    #[tactic(auto, using(crate::proofs::Streams::Fields::fields, crate::proofs::Streams::Tails::tail_writing))]
+    #[tactic(auto, using(crate::proofs::Streams::Fields::fields))]
     fn append_fields(&self, s: &mut RlpStream) -> Result<(), AllocError> {
         match self.0 {
             Some(value) => {
                 s.append(value)?;
-                match self.1.append_fields(s) {
-                    Ok(()) => Ok(()),
-                    Err(refused) => Err(refused),
-                }
+                Ok(())
             }
-            None => match self.1.field_count() {
-                Some(0) => Ok(()),
-                _ => Err(AllocError),
-            },
+            None => Ok(()),
+        }
+    }
+}
+
+impl<T: Encodable> AppendFields for OptionalListOf<'_, T> {
+    ghost items = { λ v. items_if (λ values. list_of (map T.item
+        (vec_items {X = T} {Z = Global} values)) ∷ []) v.0.now };
+
+    ghost fit = { λ v. IfSome v.0.now
+        (λ values. All T.fits (vec_items {X = T} {Z = Global} values)) };
+
+    fn field_count(&self) -> Option<usize> {
+        match self.0 {
+            Some(_) => Some(1),
+            None => Some(0),
+        }
+    }
+
+    #[tactic(auto, using(crate::proofs::Streams::Fields::fields))]
+    fn append_fields(&self, s: &mut RlpStream) -> Result<(), AllocError> {
+        match self.0 {
+            Some(values) => {
+                s.append_list(values.as_slice())?;
+                Ok(())
+            }
+            None => Ok(()),
+        }
+    }
+}
+
+impl<S: AppendFields> AppendFields for OptionalGroupOf<'_, S> {
+    ghost items = { λ v. items_if S.items v.0.now };
+
+    ghost fit = { λ v. IfSome v.0.now S.fit };
+
+    fn field_count(&self) -> Option<usize> {
+        match self.0 {
+            Some(fields) => fields.field_count(),
+            None => Some(0),
+        }
+    }
+
+    #[tactic(auto, using(crate::proofs::Streams::Fields::fields))]
+    fn append_fields(&self, s: &mut RlpStream) -> Result<(), AllocError> {
+        match self.0 {
+            Some(fields) => fields.append_fields(s),
+            None => Ok(()),
         }
     }
 }
