@@ -10,13 +10,12 @@ use Rattle.rlp_format.specs.Format.Encoding.{encoding}
 use Rattle.rlp_format.specs.Format.WrittenHeader.{AreBytes}
 use Rattle.rlp_format.specs.Views.View.{View, HoldsItem, item_count, view_of}
 use Rattle.rlp_format.specs.Values.Value.{FitsBytes, bit, number_item, option_item}
-use Rattle.rlp_streams.specs.Streams.Fields.{FitsFirst, all_items, items_first}
+use Rattle.rlp_streams.specs.Streams.Fields.{all_items, items_if}
 use Rattle.rlp.specs.Values.ValueReading.{FaultsAs, FaultsAsBool, FaultsAsBytes, FaultsAsNumber, FaultsAsText, GivesBool, GivesBytes, GivesNumber}
 use Rattle.rlp.specs.Values.ValueReading.{GivesSome, GivesText, GivesValue, IsLengthFault}
 use Rattle.rlp.specs.Values.ListReading.{FaultsAsList, FaultsAsOption, FaultsAt, GivesAt, GivesList, GivesOption, GivesSomeAt}
 use Rattle.rlp.specs.Values.ListReading.{MayLackAsList, MayLackAsOption, MayLackAt}
-use Rattle.rlp.specs.Values.FieldReading.{AreGroups, FaultsAsStruct, GivesFirst, GivesGroups, IsCount, MayLackAsStruct, MayLackInGroups, NoMore}
-use Rattle.rlp.specs.Values.FieldReading.{NoneOr, NoneOrOne, by_place, count_first, count_if, in_group, items_if}
+use Rattle.rlp.specs.Values.FieldReading.{FaultsAsStruct, FieldsReading, IsCount, MayLackAsStruct, count_if, field_before, group_fields, no_fields, optional_fields}
 use Rattle.rlp.specs.Values.RoundTrip.{ReadsBack, ReadsStrictly}
 use Rattle.rlp.specs.Lemmas.RoundTrips.{bool_reads_back, bytes_in, number_reads_back, reads_back, reads_back_through, sound_length, text_in}
 use Rattle.rlp.specs.Lemmas.ListRoundTrips.{option_reads_back}
@@ -25,9 +24,9 @@ use Rattle.rlp.specs.Lemmas.Structs.{HoldsFrom}
 use Rattle.rlp.specs.Lemmas.StrictReads.{bool_strict, bytes_strict, number_strict, option_strict, strict_through, strings_strict, text_strict}
 use Rattle.rlp.specs.Lemmas.StrictLists.{list_strict}
 use Rattle.rlp.specs.Lemmas.StrictStructs.{PartsFrom}
-use Rattle.rlp.specs.Lemmas.Tails.{first_counted, first_right, first_tail_alike, first_tail_exact, first_tail_exactly_sound, first_tail_sound}
+use Rattle.rlp.specs.Lemmas.Fields.{field_alike, field_exact, field_exactly_sound, field_sound}
 use Rattle.rlp.specs.Lemmas.Groups.{below_same, groups_alike, groups_counted, groups_exact, groups_exactly_sound, groups_right, groups_sound, not_none}
-use Rattle.rlp.specs.Lemmas.OptionalGroups.{if_alike, if_counted, if_exact, if_exactly_sound, if_right, if_sound}
+use Rattle.rlp.specs.Lemmas.OptionalGroups.{if_alike, if_counted, if_exact, if_exactly_sound, if_right, if_sound, with_end, without_end}
 use Rattle.rlp.specs.Lemmas.WholeStructs.{none_below, none_enough, none_right, one_more_enough, one_more_right, only_more, struct_reads_back, struct_strict}
 
 -- How the values of a type are written and read. The record holds the members of its `Encodable`, `Decodable`, `RoundTrip` and `StrictRead`.
@@ -173,43 +172,29 @@ list_type values c = record {
 
 -- ---- structs
 
--- The fields of a struct from some field on, in order. They may be `least` items, and then a number that `IsMore` allows; those of a value are `count` items.
--- `gives i` says what the items from place i on give. `some k i` says that item i gives some value of field k, `faults k` is that of the type of field k, and
--- `may_lack k i` says that memory may be short for field k at item i.
+-- The fields of a struct from some field on, in order: how they are written and read, each field by the codec of its type.
 pub record Fields (P : Type 0) : Type 1 where
-  pub least : ℕ
-  pub IsMore : ℕ → Type 0
-  pub count : P → ℕ
+  pub reading : FieldsReading P
   pub Fits : P → Type 0
   pub items : P → List Item
-  pub gives : ℕ → View → P → Type 0
-  pub some : ℕ → ℕ → View → Type 0
-  pub faults : ℕ → View → DecoderError → Type 0
-  pub may_lack : ℕ → ℕ → View → Type 0
-  pub counted : (p : P) → length (items p) ≡ count p
-  pub enough : (p : P) → least ≤ count p
-  pub right : (p : P) → Fits p → IsCount least IsMore (count p)
-  pub alike : (i : ℕ) (view : View) (p : P) → Fits p → HoldsFrom view i (items p) → (q : P) → length (items q) ≡ length (items p) → gives i view q
-      ↔ (Fits q × (items q ≡ items p))
+  pub counted : (p : P) → length (items p) ≡ reading.count p
+  pub enough : (p : P) → reading.least ≤ reading.count p
+  pub right : (p : P) → Fits p → IsCount reading.least reading.IsMore (reading.count p)
+  pub alike : (i : ℕ) (view : View) (p : P) → Fits p → HoldsFrom view i (items p) → (q : P) → length (items q) ≡ length (items p)
+      → reading.gives i view q ↔ (Fits q × (items q ≡ items p))
   pub sound : (i : ℕ) (view : View) (p : P) → Fits p → HoldsFrom view i (items p) → (k : ℕ) (e : DecoderError) → k < length (items p)
-      → ¬ FaultsAt (faults k) view (i + k) e
-  pub exact : (i : ℕ) (view : View) (parts : List (List ℕ)) (p : P) → PartsFrom view i parts → length parts ≡ length (items p) → gives i view p
-      ↔ (Fits p × (parts ≡ map encoding (items p)))
+      → ¬ FaultsAt (reading.faults k) view (i + k) e
+  pub exact : (i : ℕ) (view : View) (parts : List (List ℕ)) (p : P) → PartsFrom view i parts → length parts ≡ length (items p)
+      → reading.gives i view p ↔ (Fits p × (parts ≡ map encoding (items p)))
   pub exactly_sound : (i : ℕ) (view : View) (parts : List (List ℕ)) (p : P) → PartsFrom view i parts → Fits p → parts ≡ map encoding (items p)
-      → (k : ℕ) (e : DecoderError) → k < length (items p) → ¬ FaultsAt (faults k) view (i + k) e
+      → (k : ℕ) (e : DecoderError) → k < length (items p) → ¬ FaultsAt (reading.faults k) view (i + k) e
 
 -- no more fields
 abbrev pub end : {P : Type 0} → Fields P
 end = record {
-  least = 0;
-  IsMore = NoMore;
-  count = λ p. 0;
+  reading = no_fields;
   Fits = λ p. ⊤;
   items = λ p. [];
-  gives = λ i v p. ⊤;
-  some = λ k i v. ⊥;
-  faults = λ k v e. ⊥;
-  may_lack = λ k i v. ⊥;
   counted = λ p. refl;
   enough = λ p. none_enough 0;
   right = λ p fit. none_right;
@@ -222,28 +207,21 @@ end = record {
 -- a field before others
 abbrev pub field : {A P : Type 0} → (P → A) → Codec A → Fields P → Fields P
 field value c more = record {
-  least = suc more.least;
-  IsMore = more.IsMore;
-  count = λ p. suc (more.count p);
+  reading = field_before (λ i v p. GivesAt c.gives v i (value p)) (λ i v. GivesSomeAt c.gives v i) c.faults (λ i v. MayLackAt c.may_lack v i) more.reading;
   Fits = λ p. c.Fits (value p) × more.Fits p;
   items = λ p. c.item (value p) ∷ more.items p;
-  gives = λ i v p. GivesAt c.gives v i (value p) × more.gives (suc i) v p;
-  some = by_place (λ i v. GivesSomeAt c.gives v i) more.some;
-  faults = by_place c.faults more.faults;
-  may_lack = by_place (λ i v. MayLackAt c.may_lack v i) more.may_lack;
   counted = λ p. ap suc (more.counted p);
   enough = λ p. one_more_enough (more.enough p);
   right = λ p fit. one_more_right (more.right p fit.1);
-  alike = λ i view p fit holds q many. first_tail_alike c.Fits c.item c.gives c.faults c.reads_back i view (Some (value p)) (Some (value q)) (more.items p)
-      (more.items q) (more.count q) (more.Fits p) (more.Fits q) (more.gives (suc i) view q) (more.counted q)
+  alike = λ i view p fit holds q many. field_alike c.Fits c.item c.gives c.faults c.reads_back i view (value p) (value q) (more.items p)
+      (more.items q) (more.Fits p) (more.Fits q) (more.reading.gives (suc i) view q)
       (λ fits others same. more.alike (suc i) view p fits others q same) fit holds many;
-  sound = λ i view p fit holds. first_tail_sound c.Fits c.item c.gives c.faults c.reads_back more.faults i view (Some (value p)) (more.items p) (more.Fits p)
+  sound = λ i view p fit holds. field_sound c.Fits c.item c.gives c.faults c.reads_back more.reading.faults i view (value p) (more.items p) (more.Fits p)
       (λ fits others. more.sound (suc i) view p fits others) fit holds;
-  exact = λ i view parts p held many. first_tail_exact c.Fits c.item c.gives c.faults c.reads_strictly i view parts (Some (value p)) (more.items p)
-      (more.count p) (more.Fits p) (more.gives (suc i) view p) (more.counted p)
-      (λ others held same. more.exact (suc i) view others p held same) held many;
-  exactly_sound = λ i view parts p held fit same. first_tail_exactly_sound c.Fits c.item c.gives c.faults c.reads_strictly more.faults i view parts
-      (Some (value p)) (more.items p) (more.Fits p)
+  exact = λ i view parts p held many. field_exact c.Fits c.item c.gives c.faults c.reads_strictly i view parts (value p) (more.items p)
+      (more.Fits p) (more.reading.gives (suc i) view p) (λ others held same. more.exact (suc i) view others p held same) held many;
+  exactly_sound = λ i view parts p held fit same. field_exactly_sound c.Fits c.item c.gives c.faults c.reads_strictly more.reading.faults i view parts
+      (value p) (more.items p) (more.Fits p)
       (λ others held fits same. more.exactly_sound (suc i) view others p held fits same) held fit same;
 }
 
@@ -252,86 +230,66 @@ abbrev pub each : {A P : Type 0} → (ℕ → P → A) → Codec A → Fields P 
 each value c more k zero = more
 each value c more k (suc n) = field (value k) c (each value c more (suc k) n)
 
--- a field that may be missing; if it is, the fields after it are missing too
-abbrev pub optional : {A P : Type 0} → (P → Option A) → Codec A → Fields P → Fields P
-optional value c more = record {
-  least = 0;
-  IsMore = NoneOrOne (IsCount more.least more.IsMore);
-  count = λ p. count_first (value p) (more.count p);
-  Fits = λ p. FitsFirst c.Fits (value p) (more.Fits p) (more.items p);
-  items = λ p. items_first c.item (value p) (more.items p);
-  gives = λ i v p. GivesFirst c.gives v i (value p) (more.gives (suc i) v p) (more.count p);
-  some = by_place (λ i v. GivesSomeAt c.gives v i) more.some;
-  faults = by_place c.faults more.faults;
-  may_lack = by_place (λ i v. MayLackAt c.may_lack v i) more.may_lack;
-  counted = λ p. first_counted c.item (value p) (more.items p) (more.count p) (more.counted p);
-  enough = λ p. none_enough (count_first (value p) (more.count p));
-  right = λ p fit. first_right c.Fits more.least more.IsMore (value p) (more.items p) (more.count p) (more.Fits p) (more.counted p) (more.right p) fit;
-  alike = λ i view p fit holds q many. first_tail_alike c.Fits c.item c.gives c.faults c.reads_back i view (value p) (value q) (more.items p)
-      (more.items q) (more.count q) (more.Fits p) (more.Fits q) (more.gives (suc i) view q) (more.counted q)
-      (λ fits others same. more.alike (suc i) view p fits others q same) fit holds many;
-  sound = λ i view p fit holds. first_tail_sound c.Fits c.item c.gives c.faults c.reads_back more.faults i view (value p) (more.items p) (more.Fits p)
-      (λ fits others. more.sound (suc i) view p fits others) fit holds;
-  exact = λ i view parts p held many. first_tail_exact c.Fits c.item c.gives c.faults c.reads_strictly i view parts (value p) (more.items p)
-      (more.count p) (more.Fits p) (more.gives (suc i) view p) (more.counted p)
-      (λ others held same. more.exact (suc i) view others p held same) held many;
-  exactly_sound = λ i view parts p held fit same. first_tail_exactly_sound c.Fits c.item c.gives c.faults c.reads_strictly more.faults i view parts
-      (value p) (more.items p) (more.Fits p)
-      (λ others held fits same. more.exactly_sound (suc i) view others p held fits same) held fit same;
-}
-
 -- The fields of `f` at the end, which may be missing together. That one of them is always present is proved by `refl`.
-abbrev pub optional_group : {A P : Type 0} → (P → Option A) → (f : Fields A) → (0 == f.least) ≡ false → Fields P
+abbrev pub optional_group : {A P : Type 0} → (P → Option A) → (f : Fields A) → (0 == f.reading.least) ≡ false → Fields P
 optional_group value f some = record {
-  least = 0;
-  IsMore = NoneOr (IsCount f.least f.IsMore);
-  count = λ p. count_if f.count (value p);
+  reading = optional_fields value f.reading;
   Fits = λ p. IfSome (value p) f.Fits;
   items = λ p. items_if f.items (value p);
-  gives = λ i v p. IfSome (value p) (f.gives i v);
-  some = f.some;
-  faults = f.faults;
-  may_lack = f.may_lack;
-  counted = λ p. if_counted f.Fits f.items f.count f.counted (value p);
-  enough = λ p. none_enough (count_if f.count (value p));
-  right = λ p. if_right f.Fits f.items f.count f.counted f.least f.IsMore f.right (value p);
-  alike = λ i view p fit holds q. if_alike f.Fits f.items f.count f.counted f.least some f.enough f.gives f.alike i view (value p) (value q) fit holds;
-  sound = λ i view p. if_sound f.Fits f.items f.faults f.sound i view (value p);
-  exact = λ i view parts p. if_exact f.Fits f.items f.count f.counted f.gives f.exact i view parts (value p);
-  exactly_sound = λ i view parts p. if_exactly_sound f.Fits f.items f.faults f.exactly_sound i view parts (value p);
+  counted = λ p. if_counted f.Fits f.items f.reading.count f.counted (value p);
+  enough = λ p. none_enough (count_if f.reading.count (value p));
+  right = λ p. if_right f.Fits f.items f.reading.count f.counted f.reading.least f.reading.IsMore f.right (value p);
+  alike = λ i view p fit holds q. if_alike f.Fits f.items f.reading.count f.counted f.reading.least some f.enough f.reading.gives f.alike i view (value p)
+      (value q) fit holds;
+  sound = λ i view p. if_sound f.Fits f.items f.reading.faults f.sound i view (value p);
+  exact = λ i view parts p. if_exact f.Fits f.items f.reading.count f.counted f.reading.gives f.exact i view parts (value p);
+  exactly_sound = λ i view parts p. if_exactly_sound f.Fits f.items f.reading.faults f.exactly_sound i view parts (value p);
 }
+
+-- a last field that may be missing
+abbrev pub optional : {A P : Type 0} → (P → Option A) → Codec A → Fields P
+optional value c =
+    let f = optional_group value (field (λ x. x) c end) refl in
+    record {
+      reading = f.reading;
+      Fits = λ p. IfSome (value p) c.Fits;
+      items = f.items;
+      counted = f.counted;
+      enough = f.enough;
+      right = λ p fit. f.right p (with_end c.Fits (value p) fit);
+      alike = λ i view p fit holds q many. let is = f.alike i view p (with_end c.Fits (value p) fit) holds q many in
+          (λ g. let h = is.0 g in (without_end c.Fits (value q) h.0, h.1), λ h. is.1 (with_end c.Fits (value q) h.0, h.1));
+      sound = λ i view p fit. f.sound i view p (with_end c.Fits (value p) fit);
+      exact = λ i view parts p held many. let is = f.exact i view parts p held many in
+          (λ g. let h = is.0 g in (without_end c.Fits (value p) h.0, h.1), λ h. is.1 (with_end c.Fits (value p) h.0, h.1));
+      exactly_sound = λ i view parts p held fit. f.exactly_sound i view parts p held (with_end c.Fits (value p) fit);
+    }
 
 -- each value is the same number of items
 abbrev pub IsFixed : {P : Type 0} → Fields P → Type 0
-IsFixed {P} f = (p : P) → f.count p ≡ f.least
+IsFixed {P} f = (p : P) → f.reading.count p ≡ f.reading.least
 
 -- The groups, each of these fields, at the end. `IsFixed` is proved by `λ g. refl`, and that there is a field by `refl`.
-abbrev pub groups : {G P : Type 0} → (P → List G) → (f : Fields G) → IsFixed f → (0 == f.least) ≡ false → Fields P
+abbrev pub groups : {G P : Type 0} → (P → List G) → (f : Fields G) → IsFixed f → (0 == f.reading.least) ≡ false → Fields P
 groups values f fixed some_field = record {
-  least = 0;
-  IsMore = AreGroups f.least;
-  count = λ p. length (values p) * f.least;
+  reading = group_fields values f.reading;
   Fits = λ p. All f.Fits (values p);
   items = λ p. all_items f.items (values p);
-  gives = λ i v p. GivesGroups f.least f.gives i v (values p);
-  some = in_group f.least f.some;
-  faults = in_group f.least f.faults;
-  may_lack = MayLackInGroups f.least f.some f.may_lack;
-  counted = λ p. groups_counted f.least f.items (λ g. f.counted g ∙ fixed g) (values p);
-  enough = λ p. none_enough (length (values p) * f.least);
-  right = λ p fit. only_more (groups_right f.least (length (values p)) (not_none f.least some_field));
-  alike = λ i view p fit holds q many. groups_alike f.least f.Fits f.items f.gives (λ g. f.counted g ∙ fixed g) (not_none f.least some_field)
+  counted = λ p. groups_counted f.reading.least f.items (λ g. f.counted g ∙ fixed g) (values p);
+  enough = λ p. none_enough (length (values p) * f.reading.least);
+  right = λ p fit. only_more (groups_right f.reading.least (length (values p)) (not_none f.reading.least some_field));
+  alike = λ i view p fit holds q many. groups_alike f.reading.least f.Fits f.items f.reading.gives (λ g. f.counted g ∙ fixed g) (not_none f.reading.least some_field)
       (λ i view g fit holds h. f.alike i view g fit holds h (f.counted h ∙ fixed h ∙ sym (f.counted g ∙ fixed g)))
       i view (values p) (values q) fit holds many;
-  sound = λ i view p fit holds. groups_sound f.least f.Fits f.items f.faults (λ g. f.counted g ∙ fixed g)
-      (λ i view g fit holds k e few. f.sound i view g fit holds k e (below_same k f.least (length (f.items g)) few (f.counted g ∙ fixed g)))
+  sound = λ i view p fit holds. groups_sound f.reading.least f.Fits f.items f.reading.faults (λ g. f.counted g ∙ fixed g)
+      (λ i view g fit holds k e few. f.sound i view g fit holds k e (below_same k f.reading.least (length (f.items g)) few (f.counted g ∙ fixed g)))
       i view (values p) fit holds;
-  exact = λ i view parts p held many. groups_exact f.least f.Fits f.items f.gives (λ g. f.counted g ∙ fixed g)
+  exact = λ i view parts p held many. groups_exact f.reading.least f.Fits f.items f.reading.gives (λ g. f.counted g ∙ fixed g)
       (λ i view parts g held many. f.exact i view parts g held (many ∙ sym (f.counted g ∙ fixed g)))
       i view parts (values p) held many;
-  exactly_sound = λ i view parts p held fit same. groups_exactly_sound f.least f.Fits f.items f.faults (λ g. f.counted g ∙ fixed g)
+  exactly_sound = λ i view parts p held fit same. groups_exactly_sound f.reading.least f.Fits f.items f.reading.faults (λ g. f.counted g ∙ fixed g)
       (λ i view parts g held fit same k e few. f.exactly_sound i view parts g held fit same k e
-      (below_same k f.least (length (f.items g)) few (f.counted g ∙ fixed g)))
+      (below_same k f.reading.least (length (f.items g)) few (f.counted g ∙ fixed g)))
       i view parts (values p) held fit same;
 }
 
@@ -340,9 +298,9 @@ abbrev pub struct_of : {P : Type 0} → Fields P → Codec P
 struct_of f = record {
   Fits = f.Fits;
   item = λ p. list_of (f.items p);
-  gives = λ v p. (item_count v ≡ Ok (f.count p)) × f.gives 0 v p;
-  faults = λ v e. FaultsAsStruct f.least f.IsMore f.some f.faults v e;
-  may_lack = λ v. MayLackAsStruct f.least f.IsMore f.some f.may_lack v;
-  reads_back = struct_reads_back f.least f.IsMore f.count f.Fits f.items f.gives f.some f.faults f.counted f.right f.alike f.sound;
-  reads_strictly = struct_strict f.least f.IsMore f.count f.Fits f.items f.gives f.some f.faults f.counted f.right f.exact f.exactly_sound;
+  gives = λ v p. (item_count v ≡ Ok (f.reading.count p)) × f.reading.gives 0 v p;
+  faults = λ v e. FaultsAsStruct f.reading.least f.reading.IsMore f.reading.some f.reading.faults v e;
+  may_lack = λ v. MayLackAsStruct f.reading.least f.reading.IsMore f.reading.some f.reading.may_lack v;
+  reads_back = struct_reads_back f.reading.least f.reading.IsMore f.reading.count f.Fits f.items f.reading.gives f.reading.some f.reading.faults f.counted f.right f.alike f.sound;
+  reads_strictly = struct_strict f.reading.least f.reading.IsMore f.reading.count f.Fits f.items f.reading.gives f.reading.some f.reading.faults f.counted f.right f.exact f.exactly_sound;
 }

@@ -40,8 +40,8 @@ pub mod StrictReads
 pub mod StrictLists
 -- structs that are read strictly
 pub mod StrictStructs
--- a field that may be missing, and those after it
-pub mod Tails
+-- a field and those after it
+pub mod Fields
 -- types whose values a view gives exactly if it holds their encodings
 pub mod ExactReads
 -- raw items and their encodings

@@ -31,13 +31,14 @@ pub use rlp_format::{DecoderError, PayloadInfo, Prototype};
 use rlp_streams::encoded_list;
 pub use rlp_streams::{
     AppendFields, BasicEncoder, Chain, EMPTY_LIST_RLP, Each, Encodable, Flattened, ListOf,
-    NULL_RLP, Optional, OptionalListOf, RlpStream, Uint, append_envelope, append_struct,
+    NULL_RLP, Optional, OptionalGroupOf, OptionalListOf, RlpStream, Uint, append_envelope,
+    append_struct,
 };
 pub use rlpin::{BasicDecoder, Envelope, Fields, Rlp, RlpIterator};
 use std::alloc::{AllocError, Global};
 pub use structs::{
-    DecodeField, DecodeFields, Field, FixedFields, Groups, ListField, MayBeMissing, OptionalField,
-    OptionalListField, OptionalGroup, OptionalGroupOf, decode_struct,
+    DecodeField, DecodeFields, Field, FieldFault, FixedFields, Groups, ListField, OptionalGroup,
+    decode_struct,
 };
 pub use traits::{Decodable, RoundTrip, Scalar, StrictRead};
 

@@ -1,27 +1,23 @@
 //! Structs that are read as the list of their fields.
 
-ghost use Rattle.std.specs.Prelude.{◌≡◌, ◌+◌, ◌⊎◌, ◌↔◌, ℕ, suc, Ok, IfOk, IfErr, IsTrue, OnOk, ⊤};
+ghost use Rattle.std.specs.Prelude.{◌≡◌, ◌+◌, ◌⊎◌, ◌↔◌, ◌^◌, ◌<◌, ℕ, None, Some, Ok, IfOk, IfErr, IsSomeAnd, IsTrue, MatchOption, OnOk};
 ghost use Rattle.std.specs.Vec.{vec_items};
 ghost use Rattle.std.specs.declared.alloc.Global.{Global};
 ghost use Rattle.rlp_format.specs.declared.error.DecoderError.{DecoderError};
 ghost use Rattle.rlp_format.specs.declared.error.DecoderError.TheVariants.{OutOfMemory};
 ghost use Rattle.rlp_format.specs.Views.View.{View, item_count};
-ghost use Rattle.rlp.specs.Values.FieldReading.{FaultsAsStruct, FaultsInFields, GivesFields, IsCount, MayLackAsStruct, MayLackInFields, NoMore, by_place};
+ghost use Rattle.rlp.specs.Values.FieldReading.{FaultsAsStruct, FieldsFail, FieldsReading, GivesFields, IsCount, MayLackAsStruct, StructFails, field_before, no_fields, part_fields};
 ghost use Rattle.rlp.specs.Values.ListReading.{FaultsAsList, FaultsAt, GivesAt, GivesList, GivesSomeAt, MayLackAsList, MayLackAt};
 
 mod groups;
 mod optional;
-mod optional_list;
-mod optional_group;
 
 use crate::rlpin::{Fields, Rlp};
 use crate::traits::Decodable;
 pub use groups::{FixedFields, Groups};
-pub use optional::{MayBeMissing, OptionalField};
-pub use optional_list::OptionalListField;
+pub use optional::OptionalGroup;
 use rlp_format::error::DecoderError;
 use std::alloc::Global;
-pub use optional_group::{OptionalGroup, OptionalGroupOf};
 
 /// One field of a struct, read from one item.
 pub trait DecodeField: Sized + Drop {
@@ -45,7 +41,8 @@ pub trait DecodeField: Sized + Drop {
         ensures fault { IfErr result (λ e. (FaultsAt faults fields.old.view fields.old.place e)
             ⊎ ((e ≡ OutOfMemory) × MayLackAt may_lack_memory fields.old.view fields.old.place)) }
         ensures next { OnOk result
-            (fields.new ≡ record fields.old { place = fields.old.place + 1 }) };
+            (fields.new ≡ record fields.old { place = fields.old.place + 1 }) }
+        ensures same_view { fields.new.view ≡ fields.old.view };
 }
 
 /// A field that is a value.
@@ -91,71 +88,67 @@ impl<T: Decodable> DecodeField for ListField<T> {
     }
 }
 
+/// Why a struct can't be read.
+#[derive(Debug, PartialEq, Eq, Drop)]
+pub struct FieldFault {
+    /// The place in the list of the item that isn't read, counted from 0. `None` if the bytes aren't
+    /// a list, or are a list with a wrong number of items.
+    pub place: Option<usize>,
+    /// The fault.
+    pub fault: DecoderError,
+}
+
+impl FieldFault {
+    /// The same fault, if this number of items comes before the fields.
+    pub(crate) fn after(self, items: usize) -> FieldFault
+        ensures fault { result.fault ≡ self.fault }
+        ensures place { MatchOption self.place (result.place ≡ None)
+            (λ k. k + items < 2 ^ 64 → result.place ≡ Some (k + items)) }
+    {
+        let place = match self.place {
+            Some(place) => Some(place.saturating_add(items)),
+            None => None,
+        };
+        FieldFault {
+            place,
+            fault: self.fault,
+        }
+    }
+}
+
 /// The fields of a struct, read from the items of a list.
 ///
 /// Pairs that end with `()` are fields one after another, as in `(a, (b, ()))`. The last fields may
-/// be [`OptionalField`](crate::OptionalField)s, or [`Groups`](crate::Groups).
+/// be an [`OptionalGroup`](crate::OptionalGroup) or [`Groups`](crate::Groups) in the place of `()`.
+/// A struct has this trait if its fields stand in the list of another struct.
 pub trait DecodeFields: Sized {
-    /// The number of items that are always present.
-    ghost least: { ℕ };
-
-    /// After those there may be this number of items.
-    ghost is_more: { ℕ → Type 0 };
-
-    /// The number of items of a value.
-    ghost count: { Self → ℕ };
-
-    /// The items from this place on give the fields.
-    ghost give: { ℕ → View → Self → Type 0 };
-
-    /// `gives_some k i v`: item `i` of the view `v` gives some value of field `k`.
-    ghost gives_some: { ℕ → ℕ → View → Type 0 };
-
-    /// An item gives no value of the field with this number, and this is the error.
-    ghost faults: { ℕ → View → DecoderError → Type 0 };
-
-    /// `may_lack_memory k i v`: reading field `k` from item `i` of the view `v` can fail with
-    /// `OutOfMemory`, if memory is refused.
-    ghost may_lack_memory: { ℕ → ℕ → View → Type 0 };
+    /// How the fields are read.
+    ghost reading: { FieldsReading Self };
 
     /// Returns whether the fields may be `len` items.
     fn accepts(len: usize) -> bool
-        ensures { IsTrue result ↔ IsCount least is_more len };
+        ensures { IsTrue result ↔ IsCount reading.least reading.IsMore len };
 
     /// Reads the fields from the next `len` items. If a field fails, returns the error of
-    /// [`DecodeField::decode_field`] for the first field that fails.
-    fn decode_fields(
-        alloc: Global,
-        fields: &mut Fields<'_>,
-        len: usize,
-    ) -> Result<Self, DecoderError>
-        requires { IsCount least is_more len }
-        ensures value { IfOk result (λ x. give fields.old.place fields.old.view x) }
-        ensures count { IfOk result (λ x. count x ≡ len) }
-        ensures some { OnOk result (GivesFields len gives_some fields.old.view fields.old.place) }
-        ensures fault { IfErr result (λ e.
-            (FaultsInFields len gives_some faults fields.old.view fields.old.place e)
-            ⊎ ((e ≡ OutOfMemory)
-            × MayLackInFields len gives_some may_lack_memory fields.old.view fields.old.place)) }
+    /// [`DecodeField::decode_field`] for the first field that fails, and the place of its item among
+    /// these.
+    fn decode_fields(alloc: Global, fields: &mut Fields<'_>, len: usize) -> Result<Self, FieldFault>
+        requires { IsCount reading.least reading.IsMore len }
+        ensures value { IfOk result (λ x. reading.gives fields.old.place fields.old.view x) }
+        ensures count { IfOk result (λ x. reading.count x ≡ len) }
+        ensures some { OnOk result
+            (GivesFields len reading.some fields.old.view fields.old.place) }
+        ensures fault { IfErr result (λ e. IsSomeAnd e.place (λ k.
+            FieldsFail len reading.some reading.faults reading.may_lack
+            fields.old.view fields.old.place k e.fault)) }
         ensures next { OnOk result
-            (fields.new ≡ record fields.old { place = fields.old.place + len }) };
+            (fields.new ≡ record fields.old { place = fields.old.place + len }) }
+        ensures same_view { fields.new.view ≡ fields.old.view };
 }
 
 /// No more fields.
 impl DecodeFields for () {
-    ghost least = { 0 };
-
-    ghost is_more = { NoMore };
-
-    ghost count = { λ x. 0 };
-
-    ghost give = { λ i v x. ⊤ };
-
-    ghost gives_some = { λ k i v. ⊥ };
-
-    ghost faults = { λ k v e. ⊥ };
-
-    ghost may_lack_memory = { λ k i v. ⊥ };
+    ghost reading = { no_fields };
 
     #[tactic(auto, using(crate::proofs::Values::FieldReading::numbers_of_items))]
     fn accepts(len: usize) -> bool {
@@ -163,30 +156,15 @@ impl DecodeFields for () {
     }
 
     #[tactic(auto, using(crate::proofs::Values::FieldReading::fields_in_order))]
-    fn decode_fields(
-        alloc: Global,
-        fields: &mut Fields<'_>,
-        len: usize,
-    ) -> Result<(), DecoderError> {
+    fn decode_fields(alloc: Global, fields: &mut Fields<'_>, len: usize) -> Result<(), FieldFault> {
         Ok(())
     }
 }
 
 /// A field, and those after it.
 impl<F: DecodeField, Q: DecodeFields> DecodeFields for (F, Q) {
-    ghost least = { suc Q.least };
-
-    ghost is_more = { Q.is_more };
-
-    ghost count = { λ x. suc (Q.count x.1) };
-
-    ghost give = { λ i v x. GivesAt F.gives v i x.0 × Q.give (suc i) v x.1 };
-
-    ghost gives_some = { by_place F.gives_some Q.gives_some };
-
-    ghost faults = { by_place F.faults Q.faults };
-
-    ghost may_lack_memory = { by_place (λ i v. MayLackAt F.may_lack_memory v i) Q.may_lack_memory };
+    ghost reading = { field_before (λ i v x. GivesAt F.gives v i x.0) F.gives_some F.faults
+        (λ i v. MayLackAt F.may_lack_memory v i) (part_fields (λ x. x.1) Q.reading) };
 
     #[tactic(auto, using(crate::proofs::Values::FieldReading::numbers_of_items))]
     fn accepts(len: usize) -> bool {
@@ -198,37 +176,46 @@ impl<F: DecodeField, Q: DecodeFields> DecodeFields for (F, Q) {
         alloc: Global,
         fields: &mut Fields<'_>,
         len: usize,
-    ) -> Result<(F, Q), DecoderError> {
+    ) -> Result<(F, Q), FieldFault> {
         match F::decode_field(alloc, fields) {
             Ok(field) => match Q::decode_fields(alloc, fields, len - 1) {
                 Ok(others) => Ok((field, others)),
-                Err(fault) => Err(fault),
+                Err(fault) => Err(fault.after(1)),
             },
-            Err(fault) => Err(fault),
+            Err(fault) => Err(FieldFault {
+                place: Some(0),
+                fault,
+            }),
         }
     }
 }
 
-/// Reads the fields of a struct from the list that the view begins with. `rlp::decode_fields!`
-/// calls it.
+/// Reads the fields of a struct from the list that the view begins with, and says which field
+/// fails. `rlp::decode_fields!` calls it.
 ///
-/// Fails with `RlpIncorrectListLen` if the fields can't be the number of items, and only then. It
-/// then reads no field. Also fails as [`Rlp::item_count`] does, and with the error of the first
-/// field that fails.
+/// Fails with `RlpIncorrectListLen` and no place if the fields can't be the number of items. It then
+/// reads no field. Also fails as [`Rlp::item_count`] does, with no place, and with the error of the
+/// first field that fails and its place.
 #[tactic(auto, using(crate::proofs::Values::FieldReading::whole_struct, crate::proofs::Views::InOrder::counted_fields))]
-pub fn decode_struct<F: DecodeFields>(alloc: Global, rlp: &Rlp<'_>) -> Result<F, DecoderError>
-    ensures value { IfOk result (λ x. (item_count rlp.now ≡ Ok (F.count x)) × F.give 0 rlp.now x) }
+pub fn decode_struct<F: DecodeFields>(alloc: Global, rlp: &Rlp<'_>) -> Result<F, FieldFault>
+    ensures value { IfOk result (λ x. (item_count rlp.now ≡ Ok (F.reading.count x))
+        × F.reading.gives 0 rlp.now x) }
     ensures fault { IfErr result (λ e.
-        (FaultsAsStruct F.least F.is_more F.gives_some F.faults rlp.now e)
-        ⊎ ((e ≡ OutOfMemory)
-        × MayLackAsStruct F.least F.is_more F.gives_some F.may_lack_memory rlp.now)) }
+        (FaultsAsStruct F.reading.least F.reading.IsMore F.reading.some F.reading.faults rlp.now e.fault)
+        ⊎ ((e.fault ≡ OutOfMemory) × MayLackAsStruct F.reading.least F.reading.IsMore F.reading.some
+        F.reading.may_lack rlp.now)) }
+    ensures place { IfErr result (λ e. StructFails F.reading.least F.reading.IsMore F.reading.some
+        F.reading.faults F.reading.may_lack rlp.now e.place e.fault) }
 {
     let count = match rlp.item_count() {
         Ok(count) => count,
-        Err(fault) => return Err(fault),
+        Err(fault) => return Err(FieldFault { place: None, fault }),
     };
     if !F::accepts(count) {
-        return Err(DecoderError::RlpIncorrectListLen);
+        return Err(FieldFault {
+            place: None,
+            fault: DecoderError::RlpIncorrectListLen,
+        });
     }
     let mut fields = Fields::over(rlp);
     match F::decode_fields(alloc, &mut fields, count) {
@@ -244,8 +231,9 @@ pub fn decode_struct<F: DecodeFields>(alloc: Global, rlp: &Rlp<'_>) -> Result<F,
 /// `Each(&self.children)` is one item for each value. `Flattened(&self.pairs)` is the fields of
 /// each value. Fails as [`append_struct`] does.
 ///
-/// The last fields may be missing: `Optional(&self.base_fee)` is an item if the option is `Some`.
-/// Fails with `AllocError` if such a field is `Some` and one before it is `None`.
+/// What stands last may be missing: `Optional(&self.base_fee)` is one item if the option is `Some`,
+/// and `OptionalListOf(&self.withdrawals)` is one that is a list. `OptionalGroupOf(&self.since_london)`
+/// is the fields of a struct if the option is `Some`.
 ///
 /// ```rust
 /// fn rlp_append(&self, s: &mut RlpStream) -> Result<(), AllocError> {
@@ -275,74 +263,14 @@ macro_rules! append_fields {
     (@nested $first:expr, $($others:expr),+) => {
         ($first, $crate::append_fields!(@nested $($others),+))
     };
-    (@optional Optional($field:expr) $(,)?) => {
-        $crate::Optional($field, ())
-    };
-    (@optional Optional($field:expr), $($others:tt)+) => {
-        $crate::Optional($field, $crate::append_fields!(@optional $($others)+))
-    };
-    (@optional OptionalListOf($field:expr) $(,)?) => {
-        $crate::OptionalListOf($field, ())
-    };
-    (@optional OptionalListOf($field:expr), $($others:tt)+) => {
-        $crate::OptionalListOf($field, $crate::append_fields!(@optional $($others)+))
-    };
-    // The fields are taken one by one, up to the first that may be missing.
-    (@from ($s:expr) [$($field:expr,)+]) => {
-        $crate::append_fields!(@call $s, $crate::append_fields!(@nested $($field),+))
-    };
-    (@from ($s:expr) [] Optional $($others:tt)+) => {
-        $crate::append_fields!(@call $s, $crate::append_fields!(@optional Optional $($others)+))
-    };
-    (@from ($s:expr) [$($field:expr,)+] Optional $($others:tt)+) => {
-        $crate::append_fields!(
-            @call $s,
-            (
-                $crate::append_fields!(@nested $($field),+),
-                $crate::append_fields!(@optional Optional $($others)+),
-            )
-        )
-    };
-    (@from ($s:expr) [] OptionalListOf $($others:tt)+) => {
-        $crate::append_fields!(@call $s, $crate::append_fields!(@optional OptionalListOf $($others)+))
-    };
-    (@from ($s:expr) [$($field:expr,)+] OptionalListOf $($others:tt)+) => {
-        $crate::append_fields!(
-            @call $s,
-            (
-                $crate::append_fields!(@nested $($field),+),
-                $crate::append_fields!(@optional OptionalListOf $($others)+),
-            )
-        )
-    };
-    (@from $s:tt [$($field:expr,)*] $next:expr) => {
-        $crate::append_fields!(@from $s [$($field,)* $next,])
-    };
-    (@from $s:tt [$($field:expr,)*] $next:expr, $($others:tt)*) => {
-        $crate::append_fields!(@from $s [$($field,)* $next,] $($others)*)
-    };
     (@call $s:expr, $fields:expr) => {
         match $crate::append_struct($s, &$fields) {
             Ok(()) => Ok(()),
             Err(refused) => Err(refused),
         }
     };
-    ($s:expr, $($fields:tt)+) => {
-        $crate::append_fields!(@from ($s) [] $($fields)+)
-    };
-}
-
-/// The fields of a struct as pairs, as [`append_fields!`](crate::append_fields) nests them. They
-/// have [`AppendFields`](crate::AppendFields), so [`append_struct`](crate::append_struct) and
-/// functions of your own can write them.
-///
-/// ```rust
-/// rlp::append_struct(s, &rlp::fields!(&self.address, ListOf(&self.keys)))?;
-/// ```
-#[macro_export]
-macro_rules! fields {
-    ($($field:expr),+ $(,)?) => {
-        $crate::append_fields!(@nested $($field),+)
+    ($s:expr, $($field:expr),+ $(,)?) => {
+        $crate::append_fields!(@call $s, $crate::append_fields!(@nested $($field),+))
     };
 }
 
@@ -353,10 +281,11 @@ macro_rules! fields {
 /// A field that is a list is written `keys: [..]`. An array whose values are items of their own is
 /// written `sides: [_, _]`, with a `_` for each value.
 ///
-/// The last fields may be missing. Such a field is an `Option`, and is written `nonce: ?`, or
-/// `keys: [..]?` if it is a list. Fields that are missing together are a struct of their own with
-/// this trait, in an `Option` that is written `later: (..)?`. Instead the last field may be groups of fields, such as keys and
-/// values one after another, in a vector of [`FixedFields`]: it is written `pairs: [(..)]`.
+/// The last field may be missing. It is an `Option`, and is written `nonce: ?`, or `keys: [..]?` if
+/// it is a list. Fields that are missing together are a struct of their own with [`DecodeFields`], in
+/// an `Option` that is written `since_london: (..)?`. Instead the last field may be groups of fields,
+/// such as keys and values one after another, in a vector of [`FixedFields`]: it is written
+/// `pairs: [(..)]`.
 ///
 /// ```rust
 /// fn decode(alloc: Global, rlp: &Rlp<'_>) -> Result<Access, DecoderError> {
@@ -368,7 +297,7 @@ macro_rules! fields {
 /// [`DecodeFields::decode_fields`].
 ///
 /// ```rust
-/// fn decode_fields(alloc: Global, fields: &mut Fields<'_>, len: usize) -> Result<Pair, DecoderError> {
+/// fn decode_fields(alloc: Global, fields: &mut Fields<'_>, len: usize) -> Result<Pair, FieldFault> {
 ///     rlp::decode_fields!(alloc, fields, len, Pair { key, value })
 /// }
 /// ```
@@ -391,16 +320,24 @@ macro_rules! decode_fields {
             [$($moves)* let ($crate::ListField($field), $left) = $left;] [$($names)* $field] $($($others)*)?
         )
     };
-    (@next $head:tt $left:ident [$($moves:tt)*] [$($names:ident)*] $field:ident: ? $(, $($others:tt)*)?) => {
+    (@next $head:tt $left:ident [$($moves:tt)*] [$($names:ident)*] $field:ident: ? $(,)?) => {
         $crate::decode_fields!(
-            @next $head $left
-            [$($moves)* let $crate::OptionalField($field, $left) = $left;] [$($names)* $field] $($($others)*)?
+            @call $head $left
+            [$($moves)* let $field = match $left.0 {
+                Some(($crate::Field(value), ())) => Some(value),
+                None => None,
+            };]
+            [$($names)* $field]
         )
     };
-    (@next $head:tt $left:ident [$($moves:tt)*] [$($names:ident)*] $field:ident: [..]? $(, $($others:tt)*)?) => {
+    (@next $head:tt $left:ident [$($moves:tt)*] [$($names:ident)*] $field:ident: [..]? $(,)?) => {
         $crate::decode_fields!(
-            @next $head $left
-            [$($moves)* let $crate::OptionalListField($field, $left) = $left;] [$($names)* $field] $($($others)*)?
+            @call $head $left
+            [$($moves)* let $field = match $left.0 {
+                Some(($crate::ListField(values), ())) => Some(values),
+                None => None,
+            };]
+            [$($names)* $field]
         )
     };
     (@next $head:tt $left:ident [$($moves:tt)*] [$($names:ident)*] $field:ident: (..)? $(,)?) => {
@@ -430,38 +367,38 @@ macro_rules! decode_fields {
             [$($moves)* let ($crate::Field(value), $left) = $left;] $names $field [$($values)* value] [$($more)*] $($others)*
         )
     };
-    (@call ($read:expr, $name:ident {}) $left:ident [$($moves:tt)*] [$($field:ident)*]) => {
+    (@call ($read:expr, [$($part:tt)*] $name:ident {}) $left:ident [$($moves:tt)*] [$($field:ident)*]) => {
         match $read {
             Ok($left) => {
                 $($moves)*
                 Ok($name { $($field),* })
             }
-            Err(fault) => Err(fault),
+            Err(fault) => Err(fault $($part)*),
         }
     };
-    (@call ($read:expr, $name:ident ()) $left:ident [$($moves:tt)*] [$($field:ident)*]) => {
+    (@call ($read:expr, [$($part:tt)*] $name:ident ()) $left:ident [$($moves:tt)*] [$($field:ident)*]) => {
         match $read {
             Ok($left) => {
                 $($moves)*
                 Ok($name($($field),*))
             }
-            Err(fault) => Err(fault),
+            Err(fault) => Err(fault $($part)*),
         }
     };
     ($alloc:expr, $rlp:expr, $name:ident { $($fields:tt)+ }) => {
-        $crate::decode_fields!(@next ($crate::decode_struct($alloc, $rlp), $name {}) fields [] [] $($fields)+)
+        $crate::decode_fields!(@next ($crate::decode_struct($alloc, $rlp), [.fault] $name {}) fields [] [] $($fields)+)
     };
     ($alloc:expr, $rlp:expr, $name:ident ( $($fields:tt)+ )) => {
-        $crate::decode_fields!(@next ($crate::decode_struct($alloc, $rlp), $name ()) fields [] [] $($fields)+)
+        $crate::decode_fields!(@next ($crate::decode_struct($alloc, $rlp), [.fault] $name ()) fields [] [] $($fields)+)
     };
     ($alloc:expr, $from:expr, $len:expr, $name:ident { $($fields:tt)+ }) => {
         $crate::decode_fields!(
-            @next ($crate::DecodeFields::decode_fields($alloc, $from, $len), $name {}) fields [] [] $($fields)+
+            @next ($crate::DecodeFields::decode_fields($alloc, $from, $len), [] $name {}) fields [] [] $($fields)+
         )
     };
     ($alloc:expr, $from:expr, $len:expr, $name:ident ( $($fields:tt)+ )) => {
         $crate::decode_fields!(
-            @next ($crate::DecodeFields::decode_fields($alloc, $from, $len), $name ()) fields [] [] $($fields)+
+            @next ($crate::DecodeFields::decode_fields($alloc, $from, $len), [] $name ()) fields [] [] $($fields)+
         )
     };
 }

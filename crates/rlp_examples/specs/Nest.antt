@@ -1,5 +1,5 @@
 -- How nests are written and read.
-use Rattle.std.specs.Prelude.{◌≡◌, ℕ, All, List, [], ◌∷◌, map, refl, Ok, Some, Vec, ⊤}
+use Rattle.std.specs.Prelude.{◌≡◌, ℕ, All, List, [], ◌∷◌, map, refl, Ok, Vec, ⊤}
 use Rattle.std.specs.Vec.{vec_items}
 use Rattle.std.specs.declared.alloc.Global.{Global}
 use Rattle.rlp.specs.DecoderError.{DecoderError}
@@ -8,7 +8,7 @@ use Rattle.rlp.specs.Views.View.{View, item_count}
 use Rattle.rlp.specs.Values.ListReading.{FaultsAsList, GivesAt, GivesList, GivesSomeAt, MayLackAsList, MayLackAt}
 use Rattle.rlp.specs.Values.FieldReading.{FaultsAsStruct, MayLackAsStruct, NoMore, by_place}
 use Rattle.rlp.specs.Lemmas.ListRoundTrips.{AlwaysReadsBack}
-use Rattle.rlp.specs.Lemmas.Tails.{first_tail_alike, first_tail_sound}
+use Rattle.rlp.specs.Lemmas.Fields.{field_alike, field_sound}
 use Rattle.rlp.specs.Lemmas.WholeStructs.{none_below, none_right, one_more_right, struct_reads_back}
 use Rattle.rlp.specs.Lemmas.ValueLists.{list_reads_back}
 use Rattle.rlp.specs.Codec.{Codec, end, field, list_type, number, struct_of}
@@ -56,7 +56,7 @@ nest_reads_back {A} Fits item gives faults law =
     (λ i v (n : Nest A). GivesAt (λ v xs. GivesList gives v (vec_items xs)) v i n.0 × ⊤)
     (GivesSomeValues (vec_items {X = A} {Z = Global}) gives) (by_place (λ v e. FaultsAsList gives faults v e) (λ k v e. ⊥)) (λ n. refl)
     (λ n fit. one_more_right none_right)
-    (λ i view p fit holds q many. first_tail_alike FitsAll item_of GivesAll FaultsAll back i view (Some p.0) (Some q.0) [] [] 0 ⊤ ⊤ ⊤ refl
+    (λ i view p fit holds q many. field_alike FitsAll item_of GivesAll FaultsAll back i view p.0 q.0 [] [] ⊤ ⊤ ⊤
     (λ fits others same. (λ g. (tt, refl), λ h. tt)) fit holds many)
-    (λ i view p fit holds. first_tail_sound FitsAll item_of GivesAll FaultsAll back (λ k v e. ⊥) i view (Some p.0) [] ⊤
+    (λ i view p fit holds. field_sound FitsAll item_of GivesAll FaultsAll back (λ k v e. ⊥) i view p.0 [] ⊤
     (λ fits others k e few at. none_below k few) fit holds)

@@ -1,12 +1,13 @@
 -- The fields of a struct, read from items one after another.
-use Rattle.std.proofs.Common.{◌≡◌, ℕ, zero, suc, ◌+◌, ◌-◌, ◌<◌, ◌≤◌, ◌⊎◌, inl, inr, Ok, refl, ap, ◌∙◌, sym, subst, arith}
+use Rattle.std.specs.Prelude.{IsSomeAnd, MatchOption}
+use Rattle.std.proofs.Common.{◌≡◌, ℕ, zero, suc, ◌+◌, ◌-◌, ◌^◌, ◌<◌, ◌≤◌, ◌⊎◌, inl, inr, Option, Some, None, Ok, Err, refl, ap, ◌∙◌, sym, subst, arith}
 use Rattle.rlp_format.specs.declared.error.DecoderError.{DecoderError}
-use Rattle.rlp_format.specs.declared.error.DecoderError.TheVariants.{OutOfMemory}
+use Rattle.rlp_format.specs.declared.error.DecoderError.TheVariants.{OutOfMemory, RlpIncorrectListLen}
 use Rattle.rlp_format.specs.Views.View.{View, item_count}
 use Rattle.rlp.specs.Lemmas.WholeStructs.{none_right, only_more}
 use Rattle.rlp.specs.Values.FieldPlace.{FieldPlace, field_place}
-use Rattle.rlp.specs.Values.FieldReading.{FaultsAsStruct, FaultsInFields, GivesFields, IsCount, MayLackAsStruct, MayLackInFields, NoMore, NoneOr, NoneOrOne}
-use Rattle.rlp.specs.Values.FieldReading.{by_place, faulty_item, no_items, other_number}
+use Rattle.rlp.specs.Values.FieldReading.{FaultsAsStruct, FieldsFail, GivesFields, IsCount, MayLackAsStruct, NoMore, NoneOr, StructFails}
+use Rattle.rlp.specs.Values.FieldReading.{by_place, fails_at, faulty_item, has_other_number, is_no_list, no_items, other_number}
 use Rattle.rlp.specs.Values.ListReading.{FaultsAt, GivesBefore, in_field}
 
 -- ---- numbers of items
@@ -34,14 +35,6 @@ module _ (least : ℕ) (IsMore : ℕ → Type 0) (n : ℕ) where
 pub only_right : (IsMore : ℕ → Type 0) (n : ℕ) → IsCount 0 IsMore n → IsMore n
 only_right IsMore n right = subst IsMore (let sum = right.sum in let same : right.more ≡ n = omega (arith, sum) in same) right.right
 
--- if a field that may be missing is present, the others are the other items
-pub others_after : (IsOthers : ℕ → Type 0) (n : ℕ) → 1 ≤ n → IsCount 0 (NoneOrOne IsOthers) n → IsOthers (n - 1)
-others_after IsOthers n some right = by (only_right (NoneOrOne IsOthers) n right)
-  where
-    by : NoneOrOne IsOthers n → IsOthers (n - 1)
-    by (inl none) = absurd (omega (arith, some, none))
-    by (inr (one, others)) = others
-
 -- if fields that may be missing together are some items, they are present
 pub all_after : (IsOthers : ℕ → Type 0) (n : ℕ) → 1 ≤ n → IsCount 0 (NoneOr IsOthers) n → IsOthers n
 all_after IsOthers n some right = by (only_right (NoneOr IsOthers) n right)
@@ -50,13 +43,9 @@ all_after IsOthers n some right = by (only_right (NoneOr IsOthers) n right)
     by (inl none) = absurd (omega (arith, some, none))
     by (inr others) = others
 
-pub ruleset numbers_of_items = (none_counted, no_items_right, some_items, other_items, one_more_item, only_right, others_after, only_more)
+pub ruleset numbers_of_items = (none_counted, no_items_right, some_items, other_items, one_more_item, only_right, only_more)
 
 -- ---- fields in order
-
--- a fault of the fields from place i on, or `OutOfMemory` for them
-abbrev pub FieldsFail : ℕ → (ℕ → ℕ → View → Type 0) → (ℕ → View → DecoderError → Type 0) → (ℕ → ℕ → View → Type 0) → View → ℕ → DecoderError → Type 0
-FieldsFail count some faults may_lack v i e = FaultsInFields count some faults v i e ⊎ ((e ≡ OutOfMemory) × MayLackInFields count some may_lack v i)
 
 same_place : (i : ℕ) → i ≡ i + 0
 same_place i = omega arith
@@ -93,9 +82,8 @@ module _ (some1 : ℕ → View → Type 0) (faults1 : View → DecoderError → 
     (some : ℕ → ℕ → View → Type 0) (faults : ℕ → View → DecoderError → Type 0) (may_lack : ℕ → ℕ → View → Type 0) (len : ℕ) (one : 1 ≤ len) where
   -- the first field fails
   pub first_fails : (v : View) (i : ℕ) (e : DecoderError) → FaultsAt faults1 v i e ⊎ ((e ≡ OutOfMemory) × may_lack1 i v)
-      → FieldsFail len (by_place some1 some) (by_place faults1 faults) (by_place may_lack1 may_lack) v i e
+      → FieldsFail len (by_place some1 some) (by_place faults1 faults) (by_place may_lack1 may_lack) v i 0 e
   first_fails v i e (inl fault) = inl (record {
-    number = 0;
     few = omega (arith, one);
     before = none_given 0 (by_place some1 some) v i refl;
     fault = subst (λ j. FaultsAt faults1 v j e) (same_place i) fault;
@@ -103,7 +91,6 @@ module _ (some1 : ℕ → View → Type 0) (faults1 : View → DecoderError → 
   first_fails v i e (inr (lacks, may)) = inr (
     lacks,
     record {
-      number = 0;
       few = omega (arith, one);
       before = none_given 0 (by_place some1 some) v i refl;
       may = subst (λ j. may_lack1 j v) (same_place i) may;
@@ -115,32 +102,38 @@ module _ (some1 : ℕ → View → Type 0) (faults1 : View → DecoderError → 
       one_before some1 some (suc k) (let more : 1 ≤ suc k = omega arith in more) v i given
       (subst (λ m. GivesFields m some v (suc i)) (let same : k ≡ suc k - 1 = omega arith in same) before)
 
-  later_fails : (v : View) (i : ℕ) (e : DecoderError) → some1 i v → FieldsFail (len - 1) some faults may_lack v (suc i) e
-      → FieldsFail len (by_place some1 some) (by_place faults1 faults) (by_place may_lack1 may_lack) v i e
-  later_fails v i e given (inl f) = inl (record {
-    number = suc f.number;
+  later_fails : (v : View) (i k : ℕ) (e : DecoderError) → some1 i v → FieldsFail (len - 1) some faults may_lack v (suc i) k e
+      → FieldsFail len (by_place some1 some) (by_place faults1 faults) (by_place may_lack1 may_lack) v i (suc k) e
+  later_fails v i k e given (inl f) = inl (record {
     few = let few = f.few in omega (arith, few);
-    before = before_later v i f.number given f.before;
-    fault = subst (λ j. FaultsAt (faults f.number) v j e) (let place : suc i + f.number ≡ i + suc f.number = omega arith in place) f.fault;
+    before = before_later v i k given f.before;
+    fault = subst (λ j. FaultsAt (faults k) v j e) (let place : suc i + k ≡ i + suc k = omega arith in place) f.fault;
   })
-  later_fails v i e given (inr (lacks, m)) = inr (
+  later_fails v i k e given (inr (lacks, m)) = inr (
     lacks,
     record {
-      number = suc m.number;
       few = let few = m.few in omega (arith, few);
-      before = before_later v i m.number given m.before;
-      may = subst (λ j. may_lack m.number j v) (let place : suc i + m.number ≡ i + suc m.number = omega arith in place) m.may;
+      before = before_later v i k given m.before;
+      may = subst (λ j. may_lack k j v) (let place : suc i + k ≡ i + suc k = omega arith in place) m.may;
     },
   )
 
-  -- the first field is given, and one of the others fails
-  pub others_fail : (f g : FieldPlace) (e : DecoderError) → g ≡ record f { place = f.place + 1 } → some1 f.place f.view
-      → FieldsFail (len - 1) some faults may_lack g.view g.place e
-      → FieldsFail len (by_place some1 some) (by_place faults1 faults) (by_place may_lack1 may_lack) f.view f.place e
-  others_fail f g e next given fails =
-      later_fails f.view f.place e given
-      (subst (λ i. FieldsFail (len - 1) some faults may_lack f.view i e) (place_after f g next)
-      (subst (λ v. FieldsFail (len - 1) some faults may_lack v g.place e) (view_after f g next) fails))
+  -- the first field is given, and one of the others fails, so this one fails after it
+  pub others_fail : (f g : FieldPlace) (place after : Option ℕ) (e : DecoderError) → g ≡ record f { place = f.place + 1 } → some1 f.place f.view
+      → len < 2 ^ 64 → MatchOption place (after ≡ None) (λ k. k + 1 < 2 ^ 64 → after ≡ Some (k + 1))
+      → IsSomeAnd place (λ k. FieldsFail (len - 1) some faults may_lack g.view g.place k e)
+      → IsSomeAnd after (λ k. FieldsFail len (by_place some1 some) (by_place faults1 faults) (by_place may_lack1 may_lack) f.view f.place k e)
+  others_fail f g None after e next given low same fails = absurd fails
+  others_fail f g (Some k) after e next given low same fails =
+      subst (λ (o : Option ℕ). IsSomeAnd o (λ k. FieldsFail len (by_place some1 some) (by_place faults1 faults) (by_place may_lack1 may_lack) f.view f.place k e))
+      (sym (same (let within : k < len - 1 = below fails in omega (arith, within, low)) ∙ ap Some (let more : k + 1 ≡ suc k = omega arith in more)))
+      (later_fails f.view f.place k e given
+      (subst (λ i. FieldsFail (len - 1) some faults may_lack f.view i k e) (place_after f g next)
+      (subst (λ v. FieldsFail (len - 1) some faults may_lack v g.place k e) (view_after f g next) fails)))
+    where
+      below : FieldsFail (len - 1) some faults may_lack g.view g.place k e → k < len - 1
+      below (inl bad) = bad.few
+      below (inr (lacks, may)) = may.few
 
 -- the values of the others, from the next place on
 pub others_given : (f g : FieldPlace) (Give : ℕ → View → Type 0) → g ≡ record f { place = f.place + 1 } → Give g.place g.view → Give (suc f.place) f.view
@@ -154,7 +147,11 @@ others_next f g h n some next after =
     after ∙ ap (λ (p : FieldPlace). record p { place = p.place + (n - 1) }) next
     ∙ ap (λ m. record { view = f.view; place = m }) (let sum : f.place + 1 + (n - 1) ≡ f.place + n = omega (arith, some) in sum)
 
-pub ruleset fields_in_order = (none_counted, none_given, none_next, some_items, other_items, others_after, others_given, others_next, others_some)
+-- the view of a reader that took fields, or failed
+pub others_view : (f g h : FieldPlace) → g.view ≡ f.view → h.view ≡ g.view → h.view ≡ f.view
+others_view f g h first others = others ∙ first
+
+pub ruleset fields_in_order = (none_counted, none_given, none_next, some_items, other_items, others_given, others_next, others_some, others_view)
 
 pub ruleset optional_groups = (none_given, none_next, all_after)
 
@@ -170,29 +167,38 @@ given_before some v (suc k) given = (
 
 module _ (least : ℕ) (IsMore : ℕ → Type 0) (some : ℕ → ℕ → View → Type 0) (faults : ℕ → View → DecoderError → Type 0)
     (may_lack : ℕ → ℕ → View → Type 0) (v : View) where
-  -- if a view has a right number of items and its fields fail, the struct fails
-  pub struct_fails : (m : ℕ) (f : FieldPlace) (e : DecoderError) → item_count v ≡ Ok m → IsCount least IsMore m → f ≡ field_place v 0
-      → FieldsFail m some faults may_lack f.view f.place e
+  -- a struct whose fields fail has a fault, or memory may be short for it
+  pub struct_faults : (place : Option ℕ) (e : DecoderError) → StructFails least IsMore some faults may_lack v place e
       → FaultsAsStruct least IsMore some faults v e ⊎ ((e ≡ OutOfMemory) × MayLackAsStruct least IsMore some may_lack v)
-  struct_fails m f e counted right begun fails =
-      by (subst (λ (p : FieldPlace). FieldsFail m some faults may_lack p.view p.place e) begun fails)
-    where
-      by : FieldsFail m some faults may_lack v 0 e
-          → FaultsAsStruct least IsMore some faults v e ⊎ ((e ≡ OutOfMemory) × MayLackAsStruct least IsMore some may_lack v)
-      by (inl f) = inl (faulty_item m e counted right
-          (in_field f.number f.few (given_before some v f.number f.before)
-          (subst (λ i. FaultsAt (faults f.number) v i e) (let place : 0 + f.number ≡ f.number = omega arith in place) f.fault)))
-      by (inr (lacks, l)) = inr (
-        lacks,
-        record {
-          count = m;
-          many = counted;
-          right = right;
-          place = l.number;
-          few = l.few;
-          before = given_before some v l.number l.before;
-          may = subst (λ i. may_lack l.number i v) (let place : 0 + l.number ≡ l.number = omega arith in place) l.may;
-        },
-      )
+  struct_faults place e (is_no_list f none) = inl (no_items f none)
+  struct_faults place e (has_other_number m many wrong) = inl (other_number m many wrong)
+  struct_faults place e (fails_at m k f many right (inl bad)) = inl (faulty_item m f many right
+      (in_field k bad.few (given_before some v k bad.before)
+      (subst (λ i. FaultsAt (faults k) v i f) (let place : 0 + k ≡ k = omega arith in place) bad.fault)))
+  struct_faults place e (fails_at m k f many right (inr (lacks, l))) = inr (
+    lacks,
+    record {
+      count = m;
+      many = many;
+      right = right;
+      place = k;
+      few = l.few;
+      before = given_before some v k l.before;
+      may = subst (λ i. may_lack k i v) (let place : 0 + k ≡ k = omega arith in place) l.may;
+    },
+  )
 
-pub ruleset whole_struct = (other_number, struct_fails, no_items)
+  -- if a view has a right number of items and its fields fail, the struct fails there
+  pub struct_fails : (m : ℕ) (f : FieldPlace) (place : Option ℕ) (e : DecoderError) → item_count v ≡ Ok m → IsCount least IsMore m → f ≡ field_place v 0
+      → IsSomeAnd place (λ k. FieldsFail m some faults may_lack f.view f.place k e)
+      → StructFails least IsMore some faults may_lack v place e
+  struct_fails m f None e counted right begun fails = absurd fails
+  struct_fails m f (Some k) e counted right begun fails =
+      fails_at m k e counted right (subst (λ (p : FieldPlace). FieldsFail m some faults may_lack p.view p.place k e) begun fails)
+
+  pub struct_faulty : (m : ℕ) (f : FieldPlace) (place : Option ℕ) (e : DecoderError) → item_count v ≡ Ok m → IsCount least IsMore m → f ≡ field_place v 0
+      → IsSomeAnd place (λ k. FieldsFail m some faults may_lack f.view f.place k e)
+      → FaultsAsStruct least IsMore some faults v e ⊎ ((e ≡ OutOfMemory) × MayLackAsStruct least IsMore some may_lack v)
+  struct_faulty m f place e counted right begun fails = struct_faults place e (struct_fails m f place e counted right begun fails)
+
+pub ruleset whole_struct = (is_no_list, has_other_number, struct_fails, no_items, other_number, struct_faulty)

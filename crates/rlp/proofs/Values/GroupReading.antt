@@ -1,6 +1,7 @@
 -- Groups of fields, read from items one after another.
 use Rattle.std.proofs.Common.{◌≡◌, ◌≢◌, ◌↔◌, ℕ, zero, suc, ◌+◌, ◌-◌, ◌*◌, ◌/◌, ◌%◌, ◌^◌, ◌<◌, ◌≤◌, ◌⊎◌, inl, inr, ⊎_elim, List, [], ◌∷◌, ◌++◌, length}
-use Rattle.std.proofs.Common.{Ok, refl, sym, ap, ◌∙◌, subst, arith}
+use Rattle.std.proofs.Common.{Option, Some, None, Ok, refl, sym, ap, ◌∙◌, subst, arith}
+use Rattle.std.specs.Prelude.{IsSomeAnd, MatchOption}
 use Rattle.std.proofs.Math.Nat.{mod-eq_of_lt, mul-add-mod_self_right, suc-mul}
 use Rattle.std.proofs.Math.Nat.{mul-le-mul_right}
 use Rattle.std.proofs.lemmas.Nat.{div-add-mod'}
@@ -11,9 +12,9 @@ use Rattle.rlp_format.specs.Views.View.{View}
 use Rattle.rlp.specs.Lemmas.Groups.{groups_right}
 use Rattle.rlp.specs.Lemmas.WholeStructs.{only_more}
 use Rattle.rlp.specs.Values.FieldPlace.{FieldPlace}
-use Rattle.rlp.specs.Values.FieldReading.{AreGroups, GivesFields, GivesGroups, IsCount, MayLackInGroups, in_group}
+use Rattle.rlp.specs.Values.FieldReading.{AreGroups, FieldsFail, GivesFields, GivesGroups, IsCount, MayLackInGroups, in_group}
 use Rattle.rlp.specs.Values.ListReading.{FaultsAt}
-use Rattle.rlp.proofs.Values.FieldReading.{FieldsFail, only_right}
+use Rattle.rlp.proofs.Values.FieldReading.{only_right}
 
 -- ---- groups one after another
 
@@ -86,55 +87,70 @@ module _ {G : Type 0} (width : ℕ) (give : ℕ → View → G → Type 0) (some
       let whole : suc n * width ≤ count * width = mul-le-mul_right width few in
       omega (arith, within, whole, suc-mul n width, all)
 
-  -- a group fails after these
-  pub group_after_fails : (faults : ℕ → View → DecoderError → Type 0) (may_lack : ℕ → ℕ → View → Type 0) (begun f : FieldPlace) (gs : List G)
-      (len count : ℕ) (e : DecoderError) → IsReadTo width give some begun f gs → length gs < count → count * width ≡ len
-      → FieldsFail width some faults may_lack f.view f.place e
-      → FieldsFail len (in_group width some) (in_group width faults) (MayLackInGroups width some may_lack) begun.view begun.place e
-  group_after_fails faults may_lack begun f gs len count e is few all (inr (lacks, l)) =
+  -- field k of a group fails after these
+  group_fails_at : (faults : ℕ → View → DecoderError → Type 0) (may_lack : ℕ → ℕ → View → Type 0) (begun f : FieldPlace) (gs : List G)
+      (len count k : ℕ) (e : DecoderError) → IsReadTo width give some begun f gs → length gs < count → count * width ≡ len
+      → FieldsFail width some faults may_lack f.view f.place k e
+      → FieldsFail len (in_group width some) (in_group width faults) (MayLackInGroups width some may_lack) begun.view begun.place (length gs * width + k) e
+  group_fails_at faults may_lack begun f gs len count k e is few all (inr (lacks, l)) =
       let view_is : f.view ≡ begun.view = ap (λ (p : FieldPlace). p.view) is.at in
       let place_is : f.place ≡ begun.place + length gs * width = ap (λ (p : FieldPlace). p.place) is.at in
-      let within : l.number < width = l.few in
-      let field : (length gs * width + l.number) % width ≡ l.number = in_next (length gs) l.number within in
-      let before : GivesFields l.number some begun.view (begun.place + length gs * width) =
-      subst (λ n. GivesFields l.number some begun.view n) place_is (subst (λ v. GivesFields l.number some v f.place) view_is l.before) in
-      let low : l.number ≤ width = omega (arith, within) in
+      let within : k < width = l.few in
+      let field : (length gs * width + k) % width ≡ k = in_next (length gs) k within in
+      let before : GivesFields k some begun.view (begun.place + length gs * width) =
+      subst (λ n. GivesFields k some begun.view n) place_is (subst (λ v. GivesFields k some v f.place) view_is l.before) in
+      let low : k ≤ width = omega (arith, within) in
       inr (
         lacks,
         record {
-          number = length gs * width + l.number;
-          few = below_all len count all (length gs) l.number few within;
-          before = given_more begun.view begun.place (length gs) l.number low is.given before;
-          may = inl (subst (λ n. may_lack n (begun.place + (length gs * width + l.number)) begun.view) (sym field)
-              (subst (λ n. may_lack l.number n begun.view)
-              (let sum : f.place + l.number ≡ begun.place + (length gs * width + l.number) = omega (arith, place_is) in sum)
-              (subst (λ v. may_lack l.number (f.place + l.number) v) view_is l.may)));
+          few = below_all len count all (length gs) k few within;
+          before = given_more begun.view begun.place (length gs) k low is.given before;
+          may = inl (subst (λ n. may_lack n (begun.place + (length gs * width + k)) begun.view) (sym field)
+              (subst (λ n. may_lack k n begun.view)
+              (let sum : f.place + k ≡ begun.place + (length gs * width + k) = omega (arith, place_is) in sum)
+              (subst (λ v. may_lack k (f.place + k) v) view_is l.may)));
         },
       )
-  group_after_fails faults may_lack begun f gs len count e is few all (inl bad) =
+  group_fails_at faults may_lack begun f gs len count k e is few all (inl bad) =
       let view_is : f.view ≡ begun.view = ap (λ (p : FieldPlace). p.view) is.at in
       let place_is : f.place ≡ begun.place + length gs * width = ap (λ (p : FieldPlace). p.place) is.at in
-      let within : bad.number < width = bad.few in
-      let field : (length gs * width + bad.number) % width ≡ bad.number = in_next (length gs) bad.number within in
-      let before : GivesFields bad.number some begun.view (begun.place + length gs * width) =
-      subst (λ n. GivesFields bad.number some begun.view n) place_is (subst (λ v. GivesFields bad.number some v f.place) view_is bad.before) in
-      let low : bad.number ≤ width = omega (arith, within) in
+      let within : k < width = bad.few in
+      let field : (length gs * width + k) % width ≡ k = in_next (length gs) k within in
+      let before : GivesFields k some begun.view (begun.place + length gs * width) =
+      subst (λ n. GivesFields k some begun.view n) place_is (subst (λ v. GivesFields k some v f.place) view_is bad.before) in
+      let low : k ≤ width = omega (arith, within) in
       inl (record {
-        number = length gs * width + bad.number;
-        few = below_all len count all (length gs) bad.number few within;
-        before = given_more begun.view begun.place (length gs) bad.number low is.given before;
-        fault = subst (λ n. FaultsAt (faults n) begun.view (begun.place + (length gs * width + bad.number)) e) (sym field)
-            (subst (λ n. FaultsAt (faults bad.number) begun.view n e)
-            (let sum : f.place + bad.number ≡ begun.place + (length gs * width + bad.number) = omega (arith, place_is) in sum)
-            (subst (λ v. FaultsAt (faults bad.number) v (f.place + bad.number) e) view_is bad.fault));
+        few = below_all len count all (length gs) k few within;
+        before = given_more begun.view begun.place (length gs) k low is.given before;
+        fault = subst (λ n. FaultsAt (faults n) begun.view (begun.place + (length gs * width + k)) e) (sym field)
+            (subst (λ n. FaultsAt (faults k) begun.view n e)
+            (let sum : f.place + k ≡ begun.place + (length gs * width + k) = omega (arith, place_is) in sum)
+            (subst (λ v. FaultsAt (faults k) v (f.place + k) e) view_is bad.fault));
       })
+
+  -- a group fails after these
+  pub group_after_fails : (faults : ℕ → View → DecoderError → Type 0) (may_lack : ℕ → ℕ → View → Type 0) (begun f : FieldPlace) (gs : List G)
+      (len count items : ℕ) (place after : Option ℕ) (e : DecoderError) → IsReadTo width give some begun f gs → length gs < count → count * width ≡ len
+      → len < 2 ^ 64 → items ≡ length gs * width → MatchOption place (after ≡ None) (λ k. k + items < 2 ^ 64 → after ≡ Some (k + items))
+      → IsSomeAnd place (λ k. FieldsFail width some faults may_lack f.view f.place k e)
+      → IsSomeAnd after (λ k. FieldsFail len (in_group width some) (in_group width faults) (MayLackInGroups width some may_lack) begun.view begun.place k e)
+  group_after_fails faults may_lack begun f gs len count items None after e is few all low before same fails = absurd fails
+  group_after_fails faults may_lack begun f gs len count items (Some k) after e is few all low before same fails =
+      let within : length gs * width + k < len = below_all len count all (length gs) k few (below fails) in
+      subst (λ (o : Option ℕ). IsSomeAnd o (λ j. FieldsFail len (in_group width some) (in_group width faults) (MayLackInGroups width some may_lack) begun.view begun.place j e))
+      (sym (same (omega (arith, within, low, before)) ∙ ap Some (let sum : k + items ≡ length gs * width + k = omega (arith, before) in sum)))
+      (group_fails_at faults may_lack begun f gs len count k e is few all fails)
+    where
+      below : FieldsFail width some faults may_lack f.view f.place k e → k < width
+      below (inl bad) = bad.few
+      below (inr (lacks, may)) = may.few
 
   -- there is no room for a group that was read after these
   pub no_room_after : (faults : ℕ → View → DecoderError → Type 0) (may_lack : ℕ → ℕ → View → Type 0) (begun f : FieldPlace) (gs : List G)
-      (len count : ℕ) (e : DecoderError) → IsReadTo width give some begun f gs → length gs < count → count * width ≡ len → 0 < width
-      → GivesFields width some f.view f.place → e ≡ OutOfMemory
-      → FieldsFail len (in_group width some) (in_group width faults) (MayLackInGroups width some may_lack) begun.view begun.place e
-  no_room_after faults may_lack begun f gs len count e is few all wide read lacks =
+      (len count place : ℕ) (e : DecoderError) → IsReadTo width give some begun f gs → length gs < count → count * width ≡ len → 0 < width
+      → place ≡ length gs * width + (width - 1) → GivesFields width some f.view f.place → e ≡ OutOfMemory
+      → FieldsFail len (in_group width some) (in_group width faults) (MayLackInGroups width some may_lack) begun.view begun.place place e
+  no_room_after faults may_lack begun f gs len count place e is few all wide last read lacks =
       let view_is : f.view ≡ begun.view = ap (λ (p : FieldPlace). p.view) is.at in
       let place_is : f.place ≡ begun.place + length gs * width = ap (λ (p : FieldPlace). p.place) is.at in
       let within : width - 1 < width = omega (arith, wide) in
@@ -143,10 +159,9 @@ module _ {G : Type 0} (width : ℕ) (give : ℕ → View → G → Type 0) (some
       let given : GivesFields width some begun.view (begun.place + length gs * width) =
       subst (λ n. GivesFields width some begun.view n) place_is (subst (λ v. GivesFields width some v f.place) view_is read) in
       let whole : suc (length gs * width + (width - 1)) ≡ suc (length gs) * width = omega (arith, wide, suc-mul (length gs) width) in
-      inr (
+      subst (λ n. FieldsFail len (in_group width some) (in_group width faults) (MayLackInGroups width some may_lack) begun.view begun.place n e) (sym last) (inr (
         lacks,
         record {
-          number = length gs * width + (width - 1);
           few = below_all len count all (length gs) (width - 1) few within;
           before = given_more begun.view begun.place (length gs) (width - 1) low is.given (λ j before. given j (omega (arith, before)));
           may = inr (
@@ -157,7 +172,7 @@ module _ {G : Type 0} (width : ℕ) (give : ℕ → View → G → Type 0) (some
                 (given (width - 1) within)),
           );
         },
-      )
+      ))
 
 -- whole groups
 pub whole_groups : (width len : ℕ) → len % width ≡ 0 → len / width * width ≡ len

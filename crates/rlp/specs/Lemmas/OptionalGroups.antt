@@ -1,5 +1,5 @@
 -- Fields that may be missing together: their encodings are read back, and they are read strictly, if the fields are.
-use Rattle.std.specs.Prelude.{◌==◌, IfSome}
+use Rattle.std.specs.Prelude.{◌==◌, IfSome, ⊤}
 use Rattle.std.proofs.Common.{◌≡◌, ◌↔◌, ℕ, ◌+◌, ◌<◌, ◌≤◌, inl, inr, List, [], ◌∷◌, length, map, refl, sym, ◌∙◌, arith, Option, Some, None, false}
 use Rattle.std.proofs.lemmas.List.{nil_from_length}
 use Rattle.rlp_format.specs.declared.error.DecoderError.{DecoderError}
@@ -7,7 +7,8 @@ use Rattle.rlp_format.specs.Format.Item.{Item}
 use Rattle.rlp_format.specs.Format.Encoding.{encoding}
 use Rattle.rlp_format.specs.Views.View.{View}
 use Rattle.rlp.specs.Values.ListReading.{FaultsAt}
-use Rattle.rlp.specs.Values.FieldReading.{IsCount, NoneOr, count_if, items_if}
+use Rattle.rlp_streams.specs.Streams.Fields.{items_if}
+use Rattle.rlp.specs.Values.FieldReading.{IsCount, NoneOr, count_if}
 use Rattle.rlp.specs.Lemmas.Groups.{not_none}
 use Rattle.rlp.specs.Lemmas.StrictStructs.{PartsFrom}
 use Rattle.rlp.specs.Lemmas.Structs.{HoldsFrom}
@@ -65,3 +66,12 @@ module _ {A : Type 0} (Fits : A → Type 0) (items_of : A → List Item) (faults
       → (k : ℕ) (e : DecoderError) → k < length (items_if items_of o) → ¬ FaultsAt (faults k) view (i + k) e
   if_exactly_sound sound i view parts None held fit same k e few at = none_below k few
   if_exactly_sound sound i view parts (Some x) held fit same k e few at = sound i view parts x held fit same k e few at
+
+-- a value that fits as one field before no others
+pub with_end : {A : Type 0} (Fits : A → Type 0) (o : Option A) → IfSome o Fits → IfSome o (λ x. Fits x × ⊤)
+with_end Fits None fit = tt
+with_end Fits (Some x) fit = (fit, tt)
+
+pub without_end : {A : Type 0} (Fits : A → Type 0) (o : Option A) → IfSome o (λ x. Fits x × ⊤) → IfSome o Fits
+without_end Fits None fit = tt
+without_end Fits (Some x) fit = fit.0

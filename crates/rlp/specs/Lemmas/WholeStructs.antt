@@ -7,7 +7,7 @@ use Rattle.rlp_format.specs.Format.Encoding.{encoding, IsSized}
 use Rattle.rlp_format.specs.Format.Split.{items}
 use Rattle.rlp_format.specs.Views.View.{View, view_of, strict_view_of, item_count}
 use Rattle.rlp.specs.Values.ListReading.{FaultsAt, in_field}
-use Rattle.rlp.specs.Values.FieldReading.{FaultsAsStruct, IsCount, NoMore, NoneOrOne, faulty_item, no_items, other_number}
+use Rattle.rlp.specs.Values.FieldReading.{FaultsAsStruct, IsCount, NoMore, faulty_item, no_items, other_number}
 use Rattle.rlp_format.specs.Lemmas.Encodings.{front_sized}
 use Rattle.rlp_format.specs.Lemmas.Numbered.{item_count-list}
 use Rattle.rlp.specs.Lemmas.ListRoundTrips.{AlwaysReadsBack}
@@ -38,30 +38,6 @@ one_more_right right = record { more = right.more; sum = let sum = right.sum in 
 -- a number of items after no field
 pub only_more : {IsMore : ℕ → Type 0} {n : ℕ} → IsMore n → IsCount 0 IsMore n
 only_more {n = n} right = record { more = n; sum = omega arith; right = right }
-
--- some number of items is at most one and some others
-pub none_or_none : (IsOthers : ℕ → Type 0) {n : ℕ} → n ≡ 0 → IsCount 0 (NoneOrOne IsOthers) n
-none_or_none IsOthers none = only_more (inl none)
-
-pub none_or_one : (IsOthers : ℕ → Type 0) (n : ℕ) → IsOthers n → IsCount 0 (NoneOrOne IsOthers) (suc n)
-none_or_one IsOthers n others =
-    only_more (inr (omega arith, subst IsOthers (let same : n ≡ suc n - 1 = omega arith in same) others))
-
--- if the others are at most m, so is one with them
-pub none_or_up_to : {IsOthers : ℕ → Type 0} (m : ℕ) → ((n : ℕ) → IsOthers n ↔ (n ≤ m)) → (n : ℕ) → NoneOrOne IsOthers n ↔ (n ≤ suc m)
-none_or_up_to {IsOthers = IsOthers} m others n = (to, from (cases_zero n))
-  where
-    to : NoneOrOne IsOthers n → n ≤ suc m
-    to (inl none) = omega (arith, none)
-    to (inr (some, right)) = let few : n - 1 ≤ m = (others (n - 1)).0 right in omega (arith, some, few)
-
-    cases_zero : (n : ℕ) → (n ≡ 0) ⊎ (1 ≤ n)
-    cases_zero zero = inl refl
-    cases_zero (suc n) = inr (omega arith)
-
-    from : (n ≡ 0) ⊎ (1 ≤ n) → n ≤ suc m → NoneOrOne IsOthers n
-    from (inl none) few = inl none
-    from (inr some) few = inr (some, (others (n - 1)).1 (omega (arith, some, few)))
 
 -- ---- the struct
 

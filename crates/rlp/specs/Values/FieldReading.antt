@@ -1,8 +1,7 @@
 -- The fields of a struct, read from the items of a list.
-use Rattle.std.specs.Prelude.{◌≡◌, ◌<◌, ◌≤◌, ◌+◌, ◌-◌, ◌%◌, ◌⊎◌, ℕ, zero, suc, List, [], ◌∷◌, Option, Some, None, Ok, Err}
+use Rattle.std.specs.Prelude.{◌≡◌, ◌<◌, ◌+◌, ◌*◌, ◌%◌, ◌⊎◌, ℕ, zero, suc, List, [], ◌∷◌, length, Option, Some, None, Ok, Err, IfSome, ⊤}
 use Rattle.rlp_format.specs.declared.error.DecoderError.{DecoderError}
-use Rattle.rlp_format.specs.declared.error.DecoderError.TheVariants.{RlpIncorrectListLen}
-use Rattle.rlp_format.specs.Format.Item.{Item}
+use Rattle.rlp_format.specs.declared.error.DecoderError.TheVariants.{OutOfMemory, RlpIncorrectListLen}
 use Rattle.rlp_format.specs.Views.View.{View, item_count}
 use Rattle.rlp.specs.Values.ListReading.{FaultsAt, FaultsInField, GivesAt, GivesBefore}
 
@@ -23,10 +22,6 @@ pub record IsCount (least : ℕ) (IsMore : ℕ → Type 0) (n : ℕ) : Type 0 wh
 abbrev pub NoMore : ℕ → Type 0
 NoMore n = n ≡ 0
 
--- no items, or one and then a number that `IsOthers` allows
-abbrev pub NoneOrOne : (ℕ → Type 0) → ℕ → Type 0
-NoneOrOne IsOthers n = (n ≡ 0) ⊎ ((1 ≤ n) × IsOthers (n - 1))
-
 -- no items, or a number that `IsOthers` allows
 abbrev pub NoneOr : (ℕ → Type 0) → ℕ → Type 0
 NoneOr IsOthers n = (n ≡ 0) ⊎ IsOthers n
@@ -41,44 +36,90 @@ AreGroups width n = n % width ≡ 0
 abbrev pub GivesFields : ℕ → (ℕ → ℕ → View → Type 0) → View → ℕ → Type 0
 GivesFields k some v i = (j : ℕ) → j < k → some j (i + j) v
 
--- One of the items from place i on has a fault of its field's type, and each item before it gives a value of its field.
-pub record FaultsInFields (count : ℕ) (some : ℕ → ℕ → View → Type 0) (faults : ℕ → View → DecoderError → Type 0) (v : View) (i : ℕ)
+-- The item of field k has a fault of the field's type, and each item before it gives a value of its field. The items are those from place i on.
+pub record FaultsInFields (count : ℕ) (some : ℕ → ℕ → View → Type 0) (faults : ℕ → View → DecoderError → Type 0) (v : View) (i k : ℕ)
     (e : DecoderError) : Type 0 where
-  pub number : ℕ
-  pub few : number < count
-  pub before : GivesFields number some v i
-  pub fault : FaultsAt (faults number) v (i + number) e
+  pub few : k < count
+  pub before : GivesFields k some v i
+  pub fault : FaultsAt (faults k) v (i + k) e
 
--- memory may be short at an item from place i on, and each item before it gives a value of its field
-pub record MayLackInFields (count : ℕ) (some may_lack : ℕ → ℕ → View → Type 0) (v : View) (i : ℕ) : Type 0 where
-  pub number : ℕ
-  pub few : number < count
-  pub before : GivesFields number some v i
-  pub may : may_lack number (i + number) v
+-- memory may be short for field k, and each item before its item gives a value of its field
+pub record MayLackInFields (count : ℕ) (some may_lack : ℕ → ℕ → View → Type 0) (v : View) (i k : ℕ) : Type 0 where
+  pub few : k < count
+  pub before : GivesFields k some v i
+  pub may : may_lack k (i + k) v
 
--- ---- a field that may be missing, and those after it
+-- why reading fields from place i on ends at field k: its item has this fault, or memory was refused for it
+abbrev pub FieldsFail : ℕ → (ℕ → ℕ → View → Type 0) → (ℕ → View → DecoderError → Type 0) → (ℕ → ℕ → View → Type 0) → View → ℕ → ℕ → DecoderError → Type 0
+FieldsFail count some faults may_lack v i k e = FaultsInFields count some faults v i k e ⊎ ((e ≡ OutOfMemory) × MayLackInFields count some may_lack v i k)
 
--- the number of items of a field, if it is present, and of the fields after it, which have n items
-abbrev pub count_first : {A : Type 0} → Option A → ℕ → ℕ
-count_first None n = n
-count_first (Some x) n = suc n
+-- ---- how fields are read
 
--- item i of a view gives a field, and the next items give the fields after it, which have n items; after a missing field there are no items
-abbrev pub GivesFirst : {A : Type 0} → (View → A → Type 0) → View → ℕ → Option A → Type 0 → ℕ → Type 0
-GivesFirst gives v i None givesMore n = n ≡ 0
-GivesFirst gives v i (Some x) givesMore n = GivesAt gives v i x × givesMore
+-- How fields are read from the items of a list. They may be `least` items, and then a number that `IsMore` allows; those of a value are `count` items.
+-- `gives i v p` says that the items of the view from place i on give the value p. `some k i v` says that item i gives some value of field k, `faults k` is
+-- that of the type of field k, and `may_lack k i v` says that memory may be short for field k at item i.
+pub record FieldsReading (P : Type 0) : Type 1 where
+  pub least : ℕ
+  pub IsMore : ℕ → Type 0
+  pub count : P → ℕ
+  pub gives : ℕ → View → P → Type 0
+  pub some : ℕ → ℕ → View → Type 0
+  pub faults : ℕ → View → DecoderError → Type 0
+  pub may_lack : ℕ → ℕ → View → Type 0
 
--- ---- fields that may be missing together
+-- no more fields
+abbrev pub no_fields : {P : Type 0} → FieldsReading P
+no_fields = record {
+  least = 0;
+  IsMore = NoMore;
+  count = λ p. 0;
+  gives = λ i v p. ⊤;
+  some = λ k i v. ⊥;
+  faults = λ k v e. ⊥;
+  may_lack = λ k i v. ⊥;
+}
 
--- the number of items of fields, if they are present
+-- a field, read as is said first, before others
+abbrev pub field_before : {P : Type 0} → (ℕ → View → P → Type 0) → (ℕ → View → Type 0) → (View → DecoderError → Type 0) → (ℕ → View → Type 0)
+    → FieldsReading P → FieldsReading P
+field_before gives some faults may_lack more = record {
+  least = suc more.least;
+  IsMore = more.IsMore;
+  count = λ p. suc (more.count p);
+  gives = λ i v p. gives i v p × more.gives (suc i) v p;
+  some = by_place some more.some;
+  faults = by_place faults more.faults;
+  may_lack = by_place may_lack more.may_lack;
+}
+
+-- the fields of a part of a value
+abbrev pub part_fields : {P Q : Type 0} → (P → Q) → FieldsReading Q → FieldsReading P
+part_fields part r = record {
+  least = r.least;
+  IsMore = r.IsMore;
+  count = λ p. r.count (part p);
+  gives = λ i v p. r.gives i v (part p);
+  some = r.some;
+  faults = r.faults;
+  may_lack = r.may_lack;
+}
+
+-- the number of items of a value, if it is present
 abbrev pub count_if : {A : Type 0} → (A → ℕ) → Option A → ℕ
 count_if count None = 0
 count_if count (Some x) = count x
 
--- the items of fields, if they are present
-abbrev pub items_if : {A : Type 0} → (A → List Item) → Option A → List Item
-items_if items None = []
-items_if items (Some x) = items x
+-- last fields that may be missing together
+abbrev pub optional_fields : {P Q : Type 0} → (P → Option Q) → FieldsReading Q → FieldsReading P
+optional_fields part r = record {
+  least = 0;
+  IsMore = NoneOr (IsCount r.least r.IsMore);
+  count = λ p. count_if r.count (part p);
+  gives = λ i v p. IfSome (part p) (r.gives i v);
+  some = r.some;
+  faults = r.faults;
+  may_lack = r.may_lack;
+}
 
 -- ---- groups of fields
 
@@ -94,6 +135,18 @@ in_group width of_field k = of_field (k % width)
 -- Memory may be short at field k, counted over all groups: for the field, or if it is the last of its group and is given, for the group.
 abbrev pub MayLackInGroups : ℕ → (ℕ → ℕ → View → Type 0) → (ℕ → ℕ → View → Type 0) → ℕ → ℕ → View → Type 0
 MayLackInGroups width some may_lack k i v = in_group width may_lack k i v ⊎ ((suc k % width ≡ 0) × in_group width some k i v)
+
+-- groups at the end, one after another
+abbrev pub group_fields : {P G : Type 0} → (P → List G) → FieldsReading G → FieldsReading P
+group_fields values r = record {
+  least = 0;
+  IsMore = AreGroups r.least;
+  count = λ p. length (values p) * r.least;
+  gives = λ i v p. GivesGroups r.least r.gives i v (values p);
+  some = in_group r.least r.some;
+  faults = in_group r.least r.faults;
+  may_lack = MayLackInGroups r.least r.some r.may_lack;
+}
 
 -- ---- the whole struct
 
@@ -115,3 +168,12 @@ pub record MayLackAsStruct (least : ℕ) (IsMore : ℕ → Type 0) (some may_lac
   pub few : place < count
   pub before : GivesBefore some v place
   pub may : may_lack place place v
+
+-- Why reading a struct ends, with the place of the field: none if the view isn't a list or has a number of items that isn't right; else field k, whose item has a
+-- fault, or for which memory was refused.
+pub data StructFails (least : ℕ) (IsMore : ℕ → Type 0) (some : ℕ → ℕ → View → Type 0) (faults : ℕ → View → DecoderError → Type 0)
+    (may_lack : ℕ → ℕ → View → Type 0) (v : View) : Option ℕ → DecoderError → Type 0 where
+  is_no_list : (e : DecoderError) → item_count v ≡ Err e → StructFails least IsMore some faults may_lack v None e
+  has_other_number : (m : ℕ) → item_count v ≡ Ok m → ¬ IsCount least IsMore m → StructFails least IsMore some faults may_lack v None RlpIncorrectListLen
+  fails_at : (m k : ℕ) (e : DecoderError) → item_count v ≡ Ok m → IsCount least IsMore m → FieldsFail m some faults may_lack v 0 k e
+      → StructFails least IsMore some faults may_lack v (Some k) e

@@ -141,6 +141,7 @@ impl<'a> Fields<'a> {
         ensures taken { MatchResult (item_at self.old.view self.old.place)
             (λ _. self.new ≡ record self.old { place = self.old.place + 1 })
             (λ _. self.new ≡ self.old) }
+        ensures same_view { self.new.view ≡ self.old.view }
     {
         match self.next_view() {
             Ok(item) => item.as_val(alloc),
@@ -169,6 +170,7 @@ impl<'a> Fields<'a> {
         ensures taken { MatchResult (item_at self.old.view self.old.place)
             (λ _. self.new ≡ record self.old { place = self.old.place + 1 })
             (λ _. self.new ≡ self.old) }
+        ensures same_view { self.new.view ≡ self.old.view }
     {
         match self.next_view() {
             Ok(item) => item.as_list(alloc),

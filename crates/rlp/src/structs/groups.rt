@@ -1,11 +1,11 @@
 //! Groups of fields at the end of a struct, one group after another in the same list.
 
-ghost use Rattle.std.specs.Prelude.{◌≡◌, ◌<◌, ◌≤◌, ◌*◌, ◌^◌, suc, MatchOption, length};
+ghost use Rattle.std.specs.Prelude.{◌≡◌, ◌<◌, ◌≤◌, ◌*◌, ◌^◌, MatchOption};
 ghost use Rattle.std.specs.Vec.{vec_items};
-ghost use Rattle.rlp.specs.Values.FieldReading.{AreGroups, GivesGroups, IsCount, MayLackInGroups, in_group};
+ghost use Rattle.rlp.specs.Values.FieldReading.{AreGroups, IsCount, group_fields};
 
 use crate::rlpin::Fields;
-use crate::structs::{DecodeField, DecodeFields};
+use crate::structs::{DecodeField, DecodeFields, FieldFault};
 use rlp_format::error::DecoderError;
 use std::alloc::Global;
 
@@ -13,10 +13,11 @@ use std::alloc::Global;
 pub trait FixedFields: DecodeFields + Drop {
     /// Returns the number of items, or `None` if it is 2^64 or more.
     fn width() -> Option<usize>
-        ensures { MatchOption result (2 ^ 64 ≤ Self.least) (λ n. n ≡ Self.least) };
+        ensures { MatchOption result (2 ^ 64 ≤ Self.reading.least)
+            (λ n. n ≡ Self.reading.least) };
 
     /// No item after those is needed.
-    ghost none_more: { Self.is_more 0 };
+    ghost none_more: { Self.reading.IsMore 0 };
 }
 
 /// The groups at the end of a struct.
@@ -45,19 +46,7 @@ impl<F: DecodeField, Q: FixedFields> FixedFields for (F, Q) {
 }
 
 impl<G: FixedFields> DecodeFields for Groups<G> {
-    ghost least = { 0 };
-
-    ghost is_more = { AreGroups G.least };
-
-    ghost count = { λ x. length (vec_items x.0) * G.least };
-
-    ghost give = { λ i v x. GivesGroups G.least G.give i v (vec_items x.0) };
-
-    ghost gives_some = { in_group G.least G.gives_some };
-
-    ghost faults = { in_group G.least G.faults };
-
-    ghost may_lack_memory = { MayLackInGroups G.least G.gives_some G.may_lack_memory };
+    ghost reading = { group_fields (λ x. vec_items x.0) G.reading };
 
     #[tactic(auto, using(crate::proofs::Values::FieldReading::numbers_of_items))]
     fn accepts(len: usize) -> bool {
@@ -69,7 +58,7 @@ impl<G: FixedFields> DecodeFields for Groups<G> {
         alloc: Global,
         fields: &mut Fields<'_>,
         len: usize,
-    ) -> Result<Groups<G>, DecoderError> {
+    ) -> Result<Groups<G>, FieldFault> {
         let mut groups = Vec::new(alloc);
         let (count, width) = match group_count::<G>(len) {
             Some(counted) => counted,
@@ -78,11 +67,16 @@ impl<G: FixedFields> DecodeFields for Groups<G> {
         for read in 0..count {
             let group = match G::decode_fields(alloc, fields, width) {
                 Ok(group) => group,
-                Err(fault) => return Err(fault),
+                Err(fault) => return Err(fault.after(read * width)),
             };
             match groups.push(group) {
                 Ok(()) => {}
-                Err(_) => return Err(DecoderError::OutOfMemory),
+                Err(_) => {
+                    return Err(FieldFault {
+                        place: Some(read * width + (width - 1)),
+                        fault: DecoderError::OutOfMemory,
+                    });
+                }
             }
         }
         Ok(Groups(groups))
@@ -93,9 +87,9 @@ impl<G: FixedFields> DecodeFields for Groups<G> {
 /// they aren't whole groups.
 #[tactic(auto, using(crate::proofs::Values::GroupReading::group_numbers))]
 fn group_count<G: FixedFields>(len: usize) -> Option<(usize, usize)>
-    ensures { MatchOption result (¬ AreGroups G.least len)
-        (λ n. AreGroups G.least len × (n.0 * G.least ≡ len)
-        × (0 < n.0 → (n.1 ≡ G.least) × (0 < G.least))) }
+    ensures { MatchOption result (¬ AreGroups G.reading.least len)
+        (λ n. AreGroups G.reading.least len × (n.0 * G.reading.least ≡ len)
+        × (0 < n.0 → (n.1 ≡ G.reading.least) × (0 < G.reading.least))) }
 {
     match G::width() {
         Some(width) => {

@@ -6,23 +6,25 @@ use Rattle.rlp.proofs.structs.Tuple2DecodeFields.decode_fields.Goals as goal
 
 pub returns-in-Ok-decode_fields-clause-some : goal.returns-in-Ok-decode_fields-clause-some
 returns-in-Ok-decode_fields-clause-some g c =
-    let Q = g.Q.DecodeFields in
-    let one : 1 ≤ c.args.len = some_items Q.least Q.is_more c.args.len c.requires in
-    others_some g.F.DecodeField.gives_some Q.gives_some c.args.len one c.args.fields.now _ c.in-Ok.ensures.next c.in-Ok.ensures.some
+    let Q = g.Q.DecodeFields.reading in
+    let one : 1 ≤ c.args.len = some_items Q.least Q.IsMore c.args.len c.requires in
+    others_some g.F.DecodeField.gives_some Q.some c.args.len one c.args.fields.now _ c.in-Ok.ensures.next c.in-Ok.ensures.some
     c.in-Ok-decode_fields.ensures.some
 
 pub returns-in-Err-decode_fields-clause-fault : goal.returns-in-Err-decode_fields-clause-fault
 returns-in-Err-decode_fields-clause-fault g c =
     let F = g.F.DecodeField in
-    let Q = g.Q.DecodeFields in
-    let one : 1 ≤ c.args.len = some_items Q.least Q.is_more c.args.len c.requires in
-    others_fail F.gives_some F.faults (λ (i : ℕ) (v : View). MayLackAt F.may_lack_memory v i) Q.gives_some Q.faults Q.may_lack_memory c.args.len one
-    c.args.fields.now _ c.in-Err-decode_fields.fault c.in-Ok.ensures.next c.in-Ok.ensures.some c.in-Err-decode_fields.ensures.fault
+    let Q = g.Q.DecodeFields.reading in
+    let one : 1 ≤ c.args.len = some_items Q.least Q.IsMore c.args.len c.requires in
+    let low = c.ranges.len.fits in
+    rw c.after.ensures.fault (others_fail F.gives_some F.faults (λ (i : ℕ) (v : View). MayLackAt F.may_lack_memory v i) Q.some Q.faults Q.may_lack c.args.len one
+    c.args.fields.now _ c.in-Err-decode_fields.fault.place c.after.result.place c.in-Err-decode_fields.fault.fault c.in-Ok.ensures.next c.in-Ok.ensures.some
+    low c.after.ensures.place c.in-Err-decode_fields.ensures.fault)
 
 pub returns-in-Err-clause-fault : goal.returns-in-Err-clause-fault
 returns-in-Err-clause-fault g c =
     let F = g.F.DecodeField in
-    let Q = g.Q.DecodeFields in
-    let one : 1 ≤ c.args.len = some_items Q.least Q.is_more c.args.len c.requires in
-    first_fails F.gives_some F.faults (λ (i : ℕ) (v : View). MayLackAt F.may_lack_memory v i) Q.gives_some Q.faults Q.may_lack_memory c.args.len one
+    let Q = g.Q.DecodeFields.reading in
+    let one : 1 ≤ c.args.len = some_items Q.least Q.IsMore c.args.len c.requires in
+    first_fails F.gives_some F.faults (λ (i : ℕ) (v : View). MayLackAt F.may_lack_memory v i) Q.some Q.faults Q.may_lack c.args.len one
     c.args.fields.now.view c.args.fields.now.place c.in-Err.fault c.in-Err.ensures.fault
