@@ -8,7 +8,7 @@ use rlp_show::Kind;
 use std::test::Fail;
 
 /// The kind, the digits, and what is wrong.
-const FAULTS: [Row; 26] = [
+const FAULTS: [Row; 28] = [
     (
         Kind::Transaction,
         &[
@@ -352,6 +352,16 @@ const FAULTS: [Row; 26] = [
         &["error field 3 (pairs[0].value[1]): RlpInvalidIndirection\n"],
     ),
     (Kind::Withdrawal, &[""], &["error RlpExpectedToBeList\n"]),
+    (
+        Kind::Header,
+        &["d2808080808080808080808080808080808080"],
+        &["error RlpIncorrectListLen\n"],
+    ),
+    (
+        Kind::Header,
+        &["d380808080808080808080808080808080808080"],
+        &["error RlpIncorrectListLen\n"],
+    ),
 ];
 
 #[test]
