@@ -1,5 +1,5 @@
 -- Codecs of types, and of structs that are lists of their fields.
-use Rattle.std.specs.Prelude.{ℕ, zero, suc, ◌≡◌, ◌^◌, ◌<◌, ◌≤◌, ◌*◌, ◌==◌, ◌↔◌, ⊤, ◌⊎◌, All, IsUtf8, IfSome, Bool, false, List, [], ◌∷◌, length, map, Ok, Option, Some, refl, ◌+◌}
+use Rattle.std.specs.Prelude.{ℕ, zero, suc, ◌≡◌, ◌^◌, ◌<◌, ◌≤◌, ◌*◌, ◌==◌, ◌↔◌, ⊤, ◌⊎◌, All, IsUtf8, IfSome, Bool, false, List, [], ◌∷◌, length, map, Ok, Option, refl, ◌+◌}
 use Rattle.std.specs.Int.Digits.{number_from_digits}
 use Rattle.std.proofs.Common.{ap, sym, ◌∙◌}
 use Rattle.std.proofs.lemmas.List.{nil_from_length}

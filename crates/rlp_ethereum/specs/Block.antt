@@ -1,6 +1,6 @@
 -- How blocks are written and read.
 use Rattle.std.specs.Vec.{vec_items}
-use Rattle.rlp.specs.Codec.{Codec, Fields, end, field, list_type, optional, struct_of}
+use Rattle.rlp.specs.Codec.{Codec, Fields, field, list_type, optional, struct_of}
 use Rattle.rlp_ethereum.specs.declared.block.Block.{Block}
 use Rattle.rlp_ethereum.specs.Header.{header}
 use Rattle.rlp_ethereum.specs.Transaction.{transaction}
@@ -12,7 +12,7 @@ block_fields =
     field (λ (b : Block). b.header) header (
     field (λ (b : Block). b.transactions) (list_type vec_items transaction) (
     field (λ (b : Block). b.ommers) (list_type vec_items header) (
-    optional (λ (b : Block). b.withdrawals) withdrawals end)))
+    optional (λ (b : Block). b.withdrawals) withdrawals)))
 
 -- the list of the fields
 abbrev pub block : Codec Block

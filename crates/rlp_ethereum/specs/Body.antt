@@ -1,6 +1,6 @@
 -- How bodies of blocks are written and read.
 use Rattle.std.specs.Vec.{vec_items}
-use Rattle.rlp.specs.Codec.{Codec, Fields, end, field, list_type, optional, struct_of}
+use Rattle.rlp.specs.Codec.{Codec, Fields, field, list_type, optional, struct_of}
 use Rattle.rlp_ethereum.specs.declared.body.Body.{Body}
 use Rattle.rlp_ethereum.specs.Header.{header}
 use Rattle.rlp_ethereum.specs.Transaction.{transaction}
@@ -11,7 +11,7 @@ abbrev pub body_fields : Fields Body
 body_fields =
     field (λ (b : Body). b.transactions) (list_type vec_items transaction) (
     field (λ (b : Body). b.ommers) (list_type vec_items header) (
-    optional (λ (b : Body). b.withdrawals) withdrawals end))
+    optional (λ (b : Body). b.withdrawals) withdrawals))
 
 -- the list of the fields
 abbrev pub body : Codec Body

@@ -5,8 +5,8 @@ ghost use Rattle.rlp.specs.Format.Encoding.{encoding};
 
 use bytes::BytesMut;
 use rlp::{
-    AppendFields, Decodable, DecodeFields, DecoderError, Encodable, Fields, FixedFields, Flattened,
-    RawItem, Rlp, RlpStream, RoundTrip, StrictRead,
+    AppendFields, Decodable, DecodeFields, DecoderError, Encodable, FieldFault, Fields, FixedFields,
+    Flattened, RawItem, Rlp, RlpStream, RoundTrip, StrictRead,
 };
 use std::alloc::{AllocError, Global};
 
@@ -53,19 +53,7 @@ impl AppendFields for NodePair {
 impl DecodeFields for NodePair {
     ghost use Rattle.rlp_ethereum.specs.NodeFields.{pair_fields};
 
-    ghost least = { pair_fields.least };
-
-    ghost is_more = { pair_fields.IsMore };
-
-    ghost count = { pair_fields.count };
-
-    ghost give = { pair_fields.gives };
-
-    ghost gives_some = { pair_fields.some };
-
-    ghost faults = { pair_fields.faults };
-
-    ghost may_lack_memory = { pair_fields.may_lack };
+    ghost reading = { pair_fields.reading };
 
     fn accepts(len: usize) -> bool {
         len == 2
@@ -75,7 +63,7 @@ impl DecodeFields for NodePair {
         alloc: Global,
         fields: &mut Fields<'_>,
         len: usize,
-    ) -> Result<NodePair, DecoderError> {
+    ) -> Result<NodePair, FieldFault> {
         rlp::decode_fields!(alloc, fields, len, NodePair { key, value })
     }
 }

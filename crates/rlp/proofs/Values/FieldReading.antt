@@ -1,8 +1,8 @@
 -- The fields of a struct, read from items one after another.
 use Rattle.std.specs.Prelude.{IsSomeAnd, MatchOption}
-use Rattle.std.proofs.Common.{◌≡◌, ℕ, zero, suc, ◌+◌, ◌-◌, ◌^◌, ◌<◌, ◌≤◌, ◌⊎◌, inl, inr, Option, Some, None, Ok, Err, refl, ap, ◌∙◌, sym, subst, arith}
+use Rattle.std.proofs.Common.{◌≡◌, ℕ, zero, suc, ◌+◌, ◌-◌, ◌^◌, ◌<◌, ◌≤◌, ◌⊎◌, inl, inr, Option, Some, None, Ok, refl, ap, ◌∙◌, sym, subst, arith}
 use Rattle.rlp_format.specs.declared.error.DecoderError.{DecoderError}
-use Rattle.rlp_format.specs.declared.error.DecoderError.TheVariants.{OutOfMemory, RlpIncorrectListLen}
+use Rattle.rlp_format.specs.declared.error.DecoderError.TheVariants.{OutOfMemory}
 use Rattle.rlp_format.specs.Views.View.{View, item_count}
 use Rattle.rlp.specs.Lemmas.WholeStructs.{none_right, only_more}
 use Rattle.rlp.specs.Values.FieldPlace.{FieldPlace, field_place}

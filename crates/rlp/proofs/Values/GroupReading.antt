@@ -1,6 +1,6 @@
 -- Groups of fields, read from items one after another.
-use Rattle.std.proofs.Common.{◌≡◌, ◌≢◌, ◌↔◌, ℕ, zero, suc, ◌+◌, ◌-◌, ◌*◌, ◌/◌, ◌%◌, ◌^◌, ◌<◌, ◌≤◌, ◌⊎◌, inl, inr, ⊎_elim, List, [], ◌∷◌, ◌++◌, length}
-use Rattle.std.proofs.Common.{Option, Some, None, Ok, refl, sym, ap, ◌∙◌, subst, arith}
+use Rattle.std.proofs.Common.{◌≡◌, ◌≢◌, ℕ, suc, ◌+◌, ◌-◌, ◌*◌, ◌/◌, ◌%◌, ◌^◌, ◌<◌, ◌≤◌, inl, inr, ⊎_elim, List, [], ◌∷◌, ◌++◌, length}
+use Rattle.std.proofs.Common.{Option, Some, None, refl, sym, ap, ◌∙◌, subst, arith}
 use Rattle.std.specs.Prelude.{IsSomeAnd, MatchOption}
 use Rattle.std.proofs.Math.Nat.{mod-eq_of_lt, mul-add-mod_self_right, suc-mul}
 use Rattle.std.proofs.Math.Nat.{mul-le-mul_right}
@@ -12,7 +12,7 @@ use Rattle.rlp_format.specs.Views.View.{View}
 use Rattle.rlp.specs.Lemmas.Groups.{groups_right}
 use Rattle.rlp.specs.Lemmas.WholeStructs.{only_more}
 use Rattle.rlp.specs.Values.FieldPlace.{FieldPlace}
-use Rattle.rlp.specs.Values.FieldReading.{AreGroups, FieldsFail, GivesFields, GivesGroups, IsCount, MayLackInGroups, in_group}
+use Rattle.rlp.specs.Values.FieldReading.{AreGroups, FieldsFail, GivesFields, GivesGroups, MayLackInGroups, in_group}
 use Rattle.rlp.specs.Values.ListReading.{FaultsAt}
 use Rattle.rlp.proofs.Values.FieldReading.{only_right}
 

@@ -7,13 +7,13 @@ use Rattle.rlp.specs.Lemmas.Counted.{counted_reads_back, counted_strict}
 
 -- A value of the first type is the list of the fields `f`, and one of the second the list of the fields `g`, whose number is another. A view of as many items
 -- as `g` has fields is read as the second type, and any other as the first. `IsFixed` is proved by `λ x. refl`.
-abbrev pub by_count : {A B : Type 0} (f : Fields A) (g : Fields B) → IsFixed f → IsFixed g → (f.least == g.least) ≡ false → Codec (A ⊎ B)
+abbrev pub by_count : {A B : Type 0} (f : Fields A) (g : Fields B) → IsFixed f → IsFixed g → (f.reading.least == g.reading.least) ≡ false → Codec (A ⊎ B)
 by_count f g fixed_f fixed_g other = record {
   Fits = OnSum f.Fits g.Fits;
   item = sum_item (struct_of f).item (struct_of g).item;
   gives = λ v s. OnSum ((struct_of f).gives v) ((struct_of g).gives v) s;
-  faults = λ v e. ByCount g.least v ((struct_of g).faults v e) ((struct_of f).faults v e);
-  may_lack = λ v. ByCount g.least v ((struct_of g).may_lack v) ((struct_of f).may_lack v);
+  faults = λ v e. ByCount g.reading.least v ((struct_of g).faults v e) ((struct_of f).faults v e);
+  may_lack = λ v. ByCount g.reading.least v ((struct_of g).may_lack v) ((struct_of f).may_lack v);
   reads_back = counted_reads_back f g fixed_f fixed_g other;
   reads_strictly = counted_strict f g fixed_f fixed_g other;
 }

@@ -1,6 +1,6 @@
 -- Fields that may be missing together: their encodings are read back, and they are read strictly, if the fields are.
 use Rattle.std.specs.Prelude.{◌==◌, IfSome, ⊤}
-use Rattle.std.proofs.Common.{◌≡◌, ◌↔◌, ℕ, ◌+◌, ◌<◌, ◌≤◌, inl, inr, List, [], ◌∷◌, length, map, refl, sym, ◌∙◌, arith, Option, Some, None, false}
+use Rattle.std.proofs.Common.{◌≡◌, ◌↔◌, ℕ, ◌+◌, ◌<◌, ◌≤◌, inl, inr, List, length, map, refl, sym, arith, Option, Some, None, false}
 use Rattle.std.proofs.lemmas.List.{nil_from_length}
 use Rattle.rlp_format.specs.declared.error.DecoderError.{DecoderError}
 use Rattle.rlp_format.specs.Format.Item.{Item}

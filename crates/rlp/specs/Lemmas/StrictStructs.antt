@@ -1,18 +1,17 @@
 -- Structs that are lists of their fields are read strictly if the types of the fields are.
-use Rattle.std.proofs.Common.{◌≡◌, ◌↔◌, ℕ, zero, suc, ◌+◌, ◌^◌, ◌<◌, List, [], ◌∷◌, ◌++◌, length, map, refl, sym, ap, ◌∙◌, subst, arith, append_assoc}
+use Rattle.std.proofs.Common.{◌≡◌, ◌↔◌, ℕ, suc, ◌^◌, ◌<◌, List, [], ◌∷◌, ◌++◌, length, map, refl, sym, ap, ◌∙◌, subst, arith, append_assoc}
 use Rattle.std.proofs.Common.{length-append, IsOkAnd, MatchResult, Some, None, Ok}
 use Rattle.std.specs.List.{slice_get}
 use Rattle.rlp_format.specs.declared.error.DecoderError.{DecoderError}
-use Rattle.rlp_format.specs.Format.Item.{Item, list_of}
+use Rattle.rlp_format.specs.Format.Item.{Item}
 use Rattle.rlp_format.specs.Format.WrittenHeader.{AreBytes}
 use Rattle.rlp_format.specs.Format.Encoding.{encoding}
 use Rattle.rlp_format.specs.Format.Split.{items}
-use Rattle.rlp_format.specs.Views.View.{View, item_at, item_count, item_views, items_fault, strict_view_of}
-use Rattle.rlp.specs.Values.ListReading.{FaultsAsFields, no_fields, other_count, faulty_field, FaultsAt, FaultsInField, in_field, GivesAt}
+use Rattle.rlp_format.specs.Views.View.{View, item_at, item_views, items_fault, strict_view_of}
+use Rattle.rlp.specs.Values.ListReading.{FaultsAt, GivesAt}
 use Rattle.rlp_format.specs.Lemmas.Numbered.{slice_get-item_at}
 use Rattle.rlp.specs.Lemmas.Slices.{part_of_items}
-use Rattle.rlp.specs.Lemmas.StrictReads.{AlwaysReadsStrictly, counted_items, counted_told, told_whole}
-use Rattle.rlp.specs.Lemmas.WholeLists.{parts_same, strict_item_count, strict_items, strict_list_told, whole_list, whole_sized}
+use Rattle.rlp.specs.Lemmas.StrictReads.{AlwaysReadsStrictly}
 
 -- from place i on, the items of the view are these bytes, read strictly
 abbrev pub PartsFrom : View → ℕ → List (List ℕ) → Type 0

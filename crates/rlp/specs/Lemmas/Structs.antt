@@ -1,5 +1,5 @@
 -- Structs that are lists of their fields: their encodings are read back. Rules for bodies that read them.
-use Rattle.std.proofs.Common.{◌≡◌, ◌↔◌, ℕ, zero, suc, ◌+◌, ◌^◌, ◌<◌, ◌⊎◌, inl, inr, List, [], ◌∷◌, ◌++◌, length, refl, sym, ap, ◌∙◌, subst, arith}
+use Rattle.std.proofs.Common.{◌≡◌, ℕ, zero, suc, ◌+◌, ◌^◌, ◌<◌, ◌⊎◌, inl, inr, List, [], ◌∷◌, ◌++◌, length, refl, sym, ap, ◌∙◌, subst, arith}
 use Rattle.std.proofs.Common.{append_assoc, length-append, Ok, ◌≢◌}
 use Rattle.rlp_format.specs.declared.error.DecoderError.{DecoderError}
 use Rattle.rlp_format.specs.declared.error.DecoderError.TheVariants.{OutOfMemory, RlpIncorrectListLen}
@@ -10,8 +10,8 @@ use Rattle.rlp.specs.Values.ListReading.{FaultsAsFields, no_fields, other_count,
 use Rattle.rlp.specs.Values.FieldReading.{FaultsAsStruct, IsCount, MayLackAsStruct, NoMore, faulty_item, no_items, other_number}
 use Rattle.rlp.specs.Values.FieldPlace.{FieldPlace, field_place}
 use Rattle.rlp.specs.Values.RoundTrip.{ReadsBack}
-use Rattle.rlp_format.specs.Lemmas.Encodings.{encoding_list, small_payload, front_sized, listed_from}
-use Rattle.rlp_format.specs.Lemmas.Numbered.{item_count-list, item_at-list_item}
+use Rattle.rlp_format.specs.Lemmas.Encodings.{encoding_list, small_payload, listed_from}
+use Rattle.rlp_format.specs.Lemmas.Numbered.{item_at-list_item}
 use Rattle.rlp.specs.Lemmas.ListRoundTrips.{AlwaysReadsBack, item_reads_back, middle_sized}
 
 -- equal lists have the same first item, and the same others

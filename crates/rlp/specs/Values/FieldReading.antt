@@ -3,7 +3,7 @@ use Rattle.std.specs.Prelude.{◌≡◌, ◌<◌, ◌+◌, ◌*◌, ◌%◌, ◌
 use Rattle.rlp_format.specs.declared.error.DecoderError.{DecoderError}
 use Rattle.rlp_format.specs.declared.error.DecoderError.TheVariants.{OutOfMemory, RlpIncorrectListLen}
 use Rattle.rlp_format.specs.Views.View.{View, item_count}
-use Rattle.rlp.specs.Values.ListReading.{FaultsAt, FaultsInField, GivesAt, GivesBefore}
+use Rattle.rlp.specs.Values.ListReading.{FaultsAt, FaultsInField, GivesBefore}
 
 -- `first` for place 0, and `others` for the places after it
 abbrev pub by_place : {A : Type 1} → A → (ℕ → A) → ℕ → A

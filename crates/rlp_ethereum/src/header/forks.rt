@@ -5,7 +5,7 @@
 
 use crate::Hash;
 use rlp::{
-    AppendFields, DecodeFields, DecoderError, Field, Fields, OptionalGroup, OptionalGroupOf,
+    AppendFields, DecodeFields, Field, FieldFault, Fields, OptionalGroup, OptionalGroupOf,
     RlpStream, Uint,
 };
 use std::alloc::{AllocError, Global};
@@ -46,19 +46,7 @@ impl AppendFields for London {
 impl DecodeFields for London {
     ghost use Rattle.rlp_ethereum.specs.Forks.{london_fields};
 
-    ghost least = { london_fields.least };
-
-    ghost is_more = { london_fields.IsMore };
-
-    ghost count = { london_fields.count };
-
-    ghost give = { london_fields.gives };
-
-    ghost gives_some = { london_fields.some };
-
-    ghost faults = { london_fields.faults };
-
-    ghost may_lack_memory = { london_fields.may_lack };
+    ghost reading = { london_fields.reading };
 
     fn accepts(len: usize) -> bool {
         <(Field<Uint<32>>, OptionalGroup<Shanghai>) as DecodeFields>::accepts(len)
@@ -68,7 +56,7 @@ impl DecodeFields for London {
         alloc: Global,
         fields: &mut Fields<'_>,
         len: usize,
-    ) -> Result<London, DecoderError> {
+    ) -> Result<London, FieldFault> {
         rlp::decode_fields!(
             alloc,
             fields,
@@ -109,19 +97,7 @@ impl AppendFields for Shanghai {
 impl DecodeFields for Shanghai {
     ghost use Rattle.rlp_ethereum.specs.Forks.{shanghai_fields};
 
-    ghost least = { shanghai_fields.least };
-
-    ghost is_more = { shanghai_fields.IsMore };
-
-    ghost count = { shanghai_fields.count };
-
-    ghost give = { shanghai_fields.gives };
-
-    ghost gives_some = { shanghai_fields.some };
-
-    ghost faults = { shanghai_fields.faults };
-
-    ghost may_lack_memory = { shanghai_fields.may_lack };
+    ghost reading = { shanghai_fields.reading };
 
     fn accepts(len: usize) -> bool {
         <(Field<Hash>, OptionalGroup<Cancun>) as DecodeFields>::accepts(len)
@@ -131,7 +107,7 @@ impl DecodeFields for Shanghai {
         alloc: Global,
         fields: &mut Fields<'_>,
         len: usize,
-    ) -> Result<Shanghai, DecoderError> {
+    ) -> Result<Shanghai, FieldFault> {
         rlp::decode_fields!(
             alloc,
             fields,
@@ -196,19 +172,7 @@ impl AppendFields for Cancun {
 impl DecodeFields for Cancun {
     ghost use Rattle.rlp_ethereum.specs.Forks.{cancun_fields};
 
-    ghost least = { cancun_fields.least };
-
-    ghost is_more = { cancun_fields.IsMore };
-
-    ghost count = { cancun_fields.count };
-
-    ghost give = { cancun_fields.gives };
-
-    ghost gives_some = { cancun_fields.some };
-
-    ghost faults = { cancun_fields.faults };
-
-    ghost may_lack_memory = { cancun_fields.may_lack };
+    ghost reading = { cancun_fields.reading };
 
     fn accepts(len: usize) -> bool {
         <(
@@ -221,7 +185,7 @@ impl DecodeFields for Cancun {
         alloc: Global,
         fields: &mut Fields<'_>,
         len: usize,
-    ) -> Result<Cancun, DecoderError> {
+    ) -> Result<Cancun, FieldFault> {
         rlp::decode_fields!(
             alloc,
             fields,
@@ -262,19 +226,7 @@ impl AppendFields for Prague {
 impl DecodeFields for Prague {
     ghost use Rattle.rlp_ethereum.specs.Forks.{prague_fields};
 
-    ghost least = { prague_fields.least };
-
-    ghost is_more = { prague_fields.IsMore };
-
-    ghost count = { prague_fields.count };
-
-    ghost give = { prague_fields.gives };
-
-    ghost gives_some = { prague_fields.some };
-
-    ghost faults = { prague_fields.faults };
-
-    ghost may_lack_memory = { prague_fields.may_lack };
+    ghost reading = { prague_fields.reading };
 
     fn accepts(len: usize) -> bool {
         <(Field<Hash>, ()) as DecodeFields>::accepts(len)
@@ -284,7 +236,7 @@ impl DecodeFields for Prague {
         alloc: Global,
         fields: &mut Fields<'_>,
         len: usize,
-    ) -> Result<Prague, DecoderError> {
+    ) -> Result<Prague, FieldFault> {
         rlp::decode_fields!(alloc, fields, len, Prague { requests_hash })
     }
 }

@@ -1,4 +1,4 @@
-use Rattle.std.proofs.Common.{◌≡◌, ◌<◌, ◌∙◌, ap, arith, length, refl, subst, sym, ◌+◌, ◌-◌, ◌*◌}
+use Rattle.std.proofs.Common.{◌<◌, ◌∙◌, ap, arith, length, refl, subst, sym, ◌+◌, ◌-◌, ◌*◌}
 use Rattle.std.proofs.lemmas.List.{length_push}
 use Rattle.rlp.specs.Values.FieldPlace.{FieldPlace}
 use Rattle.rlp.specs.Values.FieldReading.{FieldsFail, GivesFields}
