@@ -54,7 +54,8 @@ def functions_of(text):
         kind, trait, of_trait = next((block[2:] for block in blocks if block[0] <= m.start() < block[1]), ("", "", False))
         last = re.compile(rf"^{m[1]}\}}$", re.M).search(text, m.end(), later.start() if later else len(text))
         end = last.end() if last else text.find("\n", m.end())
-        found.append(Function(m["name"], kind, trait, bool(m["public"] or trait or of_trait), m.start(), end))
+        has_body = bool(last) or text[:end].endswith("}")
+        found.append(Function(m["name"], kind, trait, has_body and bool(m["public"] or trait or of_trait), m.start(), end))
     return found
 
 
