@@ -1,5 +1,5 @@
 -- The encoding of a value, shown.
-use Rattle.std.specs.Prelude.{IfSome, ⊤}
+use Rattle.std.specs.Prelude.{IfSome}
 use Rattle.std.proofs.Common.{◌≡◌, ◌^◌, ◌<◌, ◌+◌, ℕ, zero, suc, true, Option, Some, None, List, [], ◌∷◌, ◌++◌, length, map, refl, ap, ◌∙◌, arith}
 use Rattle.std.proofs.Common.{append-nil, length-append, Ok}
 use Rattle.std.specs.List.{AllByRecursion}
@@ -14,8 +14,8 @@ use Rattle.rlp_tool.specs.Digits.{bytes_in}
 use Rattle.rlp_show.specs.Answer.{bytes_answer, record_answer, shown_answer}
 use Rattle.rlp_show.specs.Lines.{Field, Shape, Shown, field, fields_lines, in_field, items_lines, lines_if, list_lines, may_have, optional, place, prefix, record_lines}
 use Rattle.rlp_show.specs.Lines.{list_of as list_shape_of, list_value_lines, record_of, then_lines, value_lines}
-use Rattle.rlp.specs.Values.FieldReading.{count_first, count_if, items_if}
-use Rattle.rlp.specs.Streams.Fields.{FitsFirst, items_first}
+use Rattle.rlp.specs.Values.FieldReading.{count_if}
+use Rattle.rlp.specs.Streams.Fields.{items_if}
 
 -- the strict views of the encodings of items
 abbrev pub views_of : List Item → List View
@@ -102,15 +102,16 @@ module _ {A : Type 0} (Fits : A → Type 0) (first : Field) (fields : List Field
 
 module _ {A : Type 0} (Fits : A → Type 0) (item : A → Item) (shape : Shape) (lines : List ℕ → A → List ℕ)
     (shown : (name : List ℕ) (x : A) → Fits x → IsSized (item x) → shape name (strict_view_of (encoding (item x))) ≡ Ok (lines name x)) where
-  pub optional_right : (name : List ℕ) (o : Option A) → FitsFirst Fits o ⊤ [] → may_have (optional (field name shape) ∷ []) (count_first o 0) ≡ true
+  pub optional_right : (name : List ℕ) (o : Option A) → IfSome o Fits → may_have (optional (field name shape) ∷ []) (count_if (λ x. suc 0) o) ≡ true
   optional_right name None fit = refl
   optional_right name (Some x) fit = refl
 
-  pub optional_shown : (name before : List ℕ) (i : ℕ) (o : Option A) → FitsFirst Fits o ⊤ [] → length (join (items_first item o [])) < 2 ^ 64
-      → fields_lines before i (optional (field name shape) ∷ []) (views_of (items_first item o [])) ≡ Ok (lines_if (lines (before ++ name)) o)
+  pub optional_shown : (name before : List ℕ) (i : ℕ) (o : Option A) → IfSome o Fits
+      → length (join (items_if (λ x. item x ∷ []) o)) < 2 ^ 64
+      → fields_lines before i (optional (field name shape) ∷ []) (views_of (items_if (λ x. item x ∷ []) o)) ≡ Ok (lines_if (lines (before ++ name)) o)
   optional_shown name before i None fit small = refl
   optional_shown name before i (Some x) fit small =
-      both_shown _ _ (lines (before ++ name) x) [] (ap (in_field i) (shown (before ++ name) x fit.0 (first_sized (item x) [] small))) refl
+      both_shown _ _ (lines (before ++ name) x) [] (ap (in_field i) (shown (before ++ name) x fit (first_sized (item x) [] small))) refl
       ∙ ap Ok (append-nil (lines (before ++ name) x))
 
 -- ---- the answer to a line

@@ -129,7 +129,7 @@ list_display {c = c} {s = s} values d = record {
 -- How the fields of a struct are shown, from some field on, by what comes before their names. A record may have the number of items of each value that fits.
 pub record FieldsDisplay {P : Type 0} (codec : Fields P) (fields : List Field) : Type 0 where
   pub lines : List ℕ → P → List ℕ
-  pub right : (p : P) → codec.Fits p → may_have fields (codec.count p) ≡ true
+  pub right : (p : P) → codec.Fits p → may_have fields (codec.reading.count p) ≡ true
   pub shown : (before : List ℕ) (i : ℕ) (p : P) → codec.Fits p → length (join (codec.items p)) < 2 ^ 64
       → fields_lines before i fields (views_of (codec.items p)) ≡ Ok (lines before p)
 
@@ -159,7 +159,7 @@ optional_group_display {g = g} {first = first} {fields = fields} f d some = reco
 
 -- the last field, which may be missing
 abbrev pub optional_display : {A P : Type 0} {c : Codec A} {s : Shape} (name : List ℕ) (f : P → Option A) → Display c s
-    → FieldsDisplay (optional_codec f c end) (optional (field name s) ∷ [])
+    → FieldsDisplay (optional_codec f c) (optional (field name s) ∷ [])
 optional_display {c = c} {s = s} name f d = record {
   lines = λ before p. lines_if (d.lines (before ++ name)) (f p);
   right = λ p. optional_right c.Fits c.item s d.lines d.shown name (f p);
