@@ -162,15 +162,15 @@ class ListOf:
 
 
 class Record:
-    """A list of named fields. Those after the first `least` may be missing at the end."""
+    """A list of named fields. Where `counts` is given, only the first of them are there, as many as one of its numbers."""
 
-    def __init__(self, fields, least=None):
-        self.fields, self.least = fields, len(fields) if least is None else least
+    def __init__(self, fields, counts=None):
+        self.fields, self.counts = fields, (len(fields),) if counts is None else counts
 
     def lines(self, name, data):
         try:
             items = strict_items(data)
-            if not self.least <= len(items) <= len(self.fields):
+            if len(items) not in self.counts:
                 raise Answered("RlpIncorrectListLen")
         except Answered as answered:
             raise Wrong(name, answered) from None
@@ -184,7 +184,7 @@ class Record:
         return lines
 
     def written(self, dice):
-        count = dice.randint(self.least, len(self.fields))
+        count = dice.choice(self.counts)
         if dice.random() < 0.05:
             count = max(0, count + dice.choice((-1, 1)))
         return written_list(dice, [(self.fields + self.fields)[place][1].written(dice) for place in range(count)])
@@ -390,7 +390,7 @@ TYPE_3 = f"""{FEES} gas_limit:u64 to:address value:u256 data:string access_list:
     blob_versioned_hashes:hashes {POINT}"""
 TYPE_4 = f"""{FEES} gas_limit:u64 destination:address value:u256 data:string access_list:access_list
     authorization_list:authorizations {POINT}"""
-TYPES["header"] = Record(fields(HEADER, TYPES), least=15)
+TYPES["header"] = Record(fields(HEADER, TYPES), counts=(15, 16, 17, 20, 21))
 TYPES["withdrawal"] = Record(fields("index:u64 validator_index:u64 address:address amount:u64", TYPES))
 PAYLOADS = {kind: Record(fields(text, TYPES)) for kind, text in enumerate((TYPE_1, TYPE_2, TYPE_3, TYPE_4), 1)}
 TRANSACTION = Typed(PAYLOADS, Record(fields(LEGACY, TYPES)))
@@ -401,7 +401,7 @@ RECEIPT = Record(fields("status_or_state_root:string cumulative_gas_used:u64 log
 
 KINDS = {
     "account": Record(fields("nonce:u64 balance:u256 storage_root:hash code_hash:hash", TYPES)),
-    "block": Record(fields(BLOCK, TYPES), least=3),
+    "block": Record(fields(BLOCK, TYPES), counts=(3, 4)),
     "header": TYPES["header"],
     "node": Node(),
     "receipt": Typed(dict.fromkeys((1, 2, 3, 4), RECEIPT), RECEIPT),

@@ -1,12 +1,18 @@
 -- How headers of blocks are written and read.
+use Rattle.std.specs.Option.{option_and_then}
+use Rattle.std.specs.Prelude.{Option, refl}
 use Rattle.std.specs.Vec.{vec_items}
-use Rattle.rlp.specs.Codec.{Codec, Fields, byte_array, byte_string, end, field, number, optional, struct_of, uint}
+use Rattle.rlp.specs.Codec.{Codec, Fields, byte_array, byte_string, field, number, optional_group, struct_of, uint}
 use Rattle.rlp_ethereum.specs.declared.header.Header.{Header}
+use Rattle.rlp_ethereum.specs.declared.header.forks.Cancun.{Cancun}
+use Rattle.rlp_ethereum.specs.declared.header.forks.Prague.{Prague}
+use Rattle.rlp_ethereum.specs.declared.header.forks.Shanghai.{Shanghai}
 use Rattle.rlp_ethereum.specs.Address.{address}
 use Rattle.rlp_ethereum.specs.Bloom.{bloom}
+use Rattle.rlp_ethereum.specs.Forks.{london_fields}
 use Rattle.rlp_ethereum.specs.Hash.{hash}
 
--- fifteen fields that are always present, and six fields whose last may be missing
+-- fifteen fields that are always present, and those of the forks
 abbrev pub header_fields : Fields Header
 header_fields =
     field (λ (h : Header). h.parent_hash) hash (
@@ -24,13 +30,20 @@ header_fields =
     field (λ (h : Header). h.extra_data) (byte_string vec_items) (
     field (λ (h : Header). h.mix_hash) hash (
     field (λ (h : Header). h.nonce) (byte_array 8) (
-    optional (λ (h : Header). h.base_fee_per_gas) (uint 32) (
-    optional (λ (h : Header). h.withdrawals_root) hash (
-    optional (λ (h : Header). h.blob_gas_used) (number 8) (
-    optional (λ (h : Header). h.excess_blob_gas) (number 8) (
-    optional (λ (h : Header). h.parent_beacon_block_root) hash (
-    optional (λ (h : Header). h.requests_hash) hash end))))))))))))))))))))
+    optional_group (λ (h : Header). h.since_london) london_fields refl)))))))))))))))
 
 -- the list of the fields
 abbrev pub header : Codec Header
 header = struct_of header_fields
+
+-- what a header has since Shanghai
+abbrev pub since_shanghai : Header → Option Shanghai
+since_shanghai h = option_and_then (λ l. l.since_shanghai) h.since_london
+
+-- what a header has since Cancun
+abbrev pub since_cancun : Header → Option Cancun
+since_cancun h = option_and_then (λ s. s.since_cancun) (since_shanghai h)
+
+-- what a header has since Prague
+abbrev pub since_prague : Header → Option Prague
+since_prague h = option_and_then (λ c. c.since_prague) (since_cancun h)

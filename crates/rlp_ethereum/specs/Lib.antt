@@ -12,6 +12,7 @@ pub mod Child
 pub mod ChildLaws
 pub mod Envelope
 pub mod FeeMarketTransaction
+pub mod Forks
 pub mod Hash
 pub mod Header
 pub mod LegacyTransaction

@@ -1,14 +1,27 @@
 //! Headers of the blocks of all forks up to Prague.
 
+ghost use Rattle.std.specs.Option.{option_copied};
+ghost use Rattle.std.specs.Prelude.{◌≡◌, option_map};
+ghost use Rattle.rlp_ethereum.specs.Header.{since_cancun, since_prague, since_shanghai};
+
+mod forks;
+
 use crate::{Address, Bloom, Hash};
-use rlp::{Decodable, DecoderError, Encodable, Rlp, RlpStream, RoundTrip, StrictRead, Uint};
+pub use forks::{Cancun, London, Prague, Shanghai};
+use rlp::{
+    Decodable, DecoderError, Encodable, OptionalGroupOf, Rlp, RlpStream, RoundTrip, StrictRead,
+    Uint,
+};
 use std::alloc::{AllocError, Global};
 
-/// The header of a block: the list of fifteen fields, and of up to six more that later forks added.
+/// The header of a block: the list of fifteen fields, and of those that later forks added.
 ///
-/// See section 4.4 of the yellow paper, and the EIPs of the fields. Each of the last six fields is
-/// `None` in blocks of earlier forks, and is `Some` only if all of the six before it are. Reading
-/// accepts lists of 15 to 21 items. This includes 18 and 19 items, which no fork has.
+/// See section 4.4 of the yellow paper, and the EIPs of the fields. A list of 15 items is a header
+/// of the first forks, and one of 16, 17, 20 or 21 items is a header since [`London`], [`Shanghai`],
+/// [`Cancun`] or [`Prague`]. A list of another number of items is
+/// `RlpIncorrectListLen`. No header has the fields of a fork without those of an earlier one.
+///
+/// The methods give the fields of forks, which stand in one another.
 #[derive(Drop)]
 pub struct Header {
     /// The hash of the parent's header.
@@ -41,22 +54,103 @@ pub struct Header {
     pub mix_hash: Hash,
     /// The nonce of the proof of work: 8 bytes.
     pub nonce: [u8; 8],
-    /// The base fee of a unit of gas, in Wei. Since London, EIP-1559.
-    pub base_fee_per_gas: Option<Uint<32>>,
-    /// The root of the trie of the block's withdrawals. Since Shanghai, EIP-4895.
-    pub withdrawals_root: Option<Hash>,
-    /// The blob gas that the block's transactions used. Since Cancun, EIP-4844.
-    pub blob_gas_used: Option<u64>,
-    /// The blob gas above the target, summed over the blocks so far. Since Cancun, EIP-4844.
-    pub excess_blob_gas: Option<u64>,
-    /// The root of the parent's block of the beacon chain. Since Cancun, EIP-4788.
-    pub parent_beacon_block_root: Option<Hash>,
-    /// The hash of the block's requests. Since Prague, EIP-7685.
-    pub requests_hash: Option<Hash>,
+    /// What came with London and later, or `None` in blocks before London.
+    pub since_london: Option<London>,
 }
 
-/// Writing also fails with `AllocError` if one of the last six fields is `Some` and one before it
-/// is `None`.
+impl Header {
+    /// What came with Shanghai and later.
+    fn shanghai(&self) -> Option<&Shanghai>
+        ensures { option_copied result ≡ since_shanghai self.now }
+    {
+        match &self.since_london {
+            Some(london) => london.since_shanghai.as_ref(),
+            None => None,
+        }
+    }
+
+    /// What came with Cancun and later.
+    fn cancun(&self) -> Option<&Cancun>
+        ensures { option_copied result ≡ since_cancun self.now }
+    {
+        match self.shanghai() {
+            Some(shanghai) => shanghai.since_cancun.as_ref(),
+            None => None,
+        }
+    }
+
+    /// What came with Prague.
+    fn prague(&self) -> Option<&Prague>
+        ensures { option_copied result ≡ since_prague self.now }
+    {
+        match self.cancun() {
+            Some(cancun) => cancun.since_prague.as_ref(),
+            None => None,
+        }
+    }
+
+    /// The base fee of a unit of gas, in Wei. Since London, EIP-1559.
+    pub fn base_fee_per_gas(&self) -> Option<&Uint<32>>
+        ensures { option_copied result ≡ option_map (λ l. l.base_fee_per_gas) self.now.since_london }
+    {
+        match &self.since_london {
+            Some(london) => Some(&london.base_fee_per_gas),
+            None => None,
+        }
+    }
+
+    /// The root of the trie of the block's withdrawals. Since Shanghai, EIP-4895.
+    pub fn withdrawals_root(&self) -> Option<&Hash>
+        ensures { option_copied result ≡ option_map (λ s. s.withdrawals_root) (since_shanghai self.now) }
+    {
+        match self.shanghai() {
+            Some(shanghai) => Some(&shanghai.withdrawals_root),
+            None => None,
+        }
+    }
+
+    /// The blob gas that the block's transactions used. Since Cancun, EIP-4844.
+    pub fn blob_gas_used(&self) -> Option<&u64>
+        ensures { option_copied result ≡ option_map (λ c. c.blob_gas_used) (since_cancun self.now) }
+    {
+        match self.cancun() {
+            Some(cancun) => Some(&cancun.blob_gas_used),
+            None => None,
+        }
+    }
+
+    /// The blob gas above the target, summed over the blocks so far. Since Cancun, EIP-4844.
+    pub fn excess_blob_gas(&self) -> Option<&u64>
+        ensures { option_copied result ≡ option_map (λ c. c.excess_blob_gas) (since_cancun self.now) }
+    {
+        match self.cancun() {
+            Some(cancun) => Some(&cancun.excess_blob_gas),
+            None => None,
+        }
+    }
+
+    /// The root of the parent's block of the beacon chain. Since Cancun, EIP-4788.
+    pub fn parent_beacon_block_root(&self) -> Option<&Hash>
+        ensures { option_copied result
+            ≡ option_map (λ c. c.parent_beacon_block_root) (since_cancun self.now) }
+    {
+        match self.cancun() {
+            Some(cancun) => Some(&cancun.parent_beacon_block_root),
+            None => None,
+        }
+    }
+
+    /// The hash of the block's requests. Since Prague, EIP-7685.
+    pub fn requests_hash(&self) -> Option<&Hash>
+        ensures { option_copied result ≡ option_map (λ p. p.requests_hash) (since_prague self.now) }
+    {
+        match self.prague() {
+            Some(prague) => Some(&prague.requests_hash),
+            None => None,
+        }
+    }
+}
+
 impl Encodable for Header {
     ghost use Rattle.rlp_ethereum.specs.Header.{header};
 
@@ -82,12 +176,7 @@ impl Encodable for Header {
             &self.extra_data,
             &self.mix_hash,
             &self.nonce,
-            Optional(&self.base_fee_per_gas),
-            Optional(&self.withdrawals_root),
-            Optional(&self.blob_gas_used),
-            Optional(&self.excess_blob_gas),
-            Optional(&self.parent_beacon_block_root),
-            Optional(&self.requests_hash)
+            OptionalGroupOf(&self.since_london)
         )
     }
 }
@@ -121,12 +210,7 @@ impl Decodable for Header {
                 extra_data,
                 mix_hash,
                 nonce,
-                base_fee_per_gas: ?,
-                withdrawals_root: ?,
-                blob_gas_used: ?,
-                excess_blob_gas: ?,
-                parent_beacon_block_root: ?,
-                requests_hash: ?
+                since_london: (..)?
             }
         )
     }

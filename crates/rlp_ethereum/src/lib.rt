@@ -53,7 +53,7 @@ pub use envelope::{
 pub use extension::Extension;
 pub use fee_market_transaction::FeeMarketTransaction;
 pub use hash::Hash;
-pub use header::Header;
+pub use header::{Cancun, Header, London, Prague, Shanghai};
 pub use leaf::Leaf;
 pub use legacy_transaction::LegacyTransaction;
 pub use log::Log;

@@ -97,7 +97,7 @@ fn has_fields_of_genesis(alloc: Global, header: &Header) -> Result<bool, Fail> {
             && header.gas_limit == 0x1388
             && header.gas_used == 0
             && header.timestamp == 0
-            && header.base_fee_per_gas.is_none(),
+            && header.since_london.is_none(),
     )
 }
 
@@ -155,7 +155,7 @@ fn has_fields_of_block_1(alloc: Global, header: &Header) -> Result<bool, Fail> {
             && header.gas_limit == 0x1388
             && header.gas_used == 0
             && header.timestamp == 0x55ba4224
-            && header.base_fee_per_gas.is_none(),
+            && header.since_london.is_none(),
     )
 }
 

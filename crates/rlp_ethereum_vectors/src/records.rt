@@ -3,8 +3,9 @@
 use crate::support::{bytes_of, goes_both_ways, wide};
 use rlp::DecoderError;
 use rlp_ethereum::{
-    ACCESS_LIST_TYPE, AccessList, AccessListItem, AccessListTransaction, Account, Address, Bloom,
-    FEE_MARKET_TYPE, FeeMarketTransaction, Hash, Header, Log, Receipt, Recipient, Withdrawal,
+    ACCESS_LIST_TYPE, AccessList, AccessListItem, AccessListTransaction, Account, Address, Bloom, Cancun,
+    FEE_MARKET_TYPE, FeeMarketTransaction, Hash, Header, Log, London, Prague, Receipt, Recipient, Shanghai,
+    Withdrawal,
     from_envelope, to_envelope,
 };
 use std::alloc::{AllocError, Global};
@@ -95,7 +96,7 @@ fn receipt(alloc: Global) -> Result<Receipt, AllocError> {
 /// Shanghai.
 fn has_withdrawals(alloc: Global, bytes: &[u8]) -> Result<bool, DecoderError> {
     let header = rlp::decode_strict::<Header>(alloc, bytes)?;
-    Ok(header.withdrawals_root.is_some())
+    Ok(header.withdrawals_root().is_some())
 }
 
 /// Returns a header with chosen values, without the fields of later forks.
@@ -116,12 +117,33 @@ fn header(alloc: Global) -> Header {
         extra_data: Vec::new(alloc),
         mix_hash: Hash([7; 32]),
         nonce: [0; 8],
-        base_fee_per_gas: None,
-        withdrawals_root: None,
-        blob_gas_used: None,
-        excess_blob_gas: None,
-        parent_beacon_block_root: None,
-        requests_hash: None,
+        since_london: None,
+    }
+}
+
+/// Returns what a header has since London, with a chosen base fee.
+fn london(since_shanghai: Option<Shanghai>) -> London {
+    London {
+        base_fee_per_gas: wide(7),
+        since_shanghai,
+    }
+}
+
+/// Returns what a header has since Shanghai, with a chosen root.
+fn shanghai(since_cancun: Option<Cancun>) -> Shanghai {
+    Shanghai {
+        withdrawals_root: Hash([8; 32]),
+        since_cancun,
+    }
+}
+
+/// Returns what a header has since Cancun, with chosen values.
+fn cancun(since_prague: Option<Prague>) -> Cancun {
+    Cancun {
+        blob_gas_used: 0,
+        excess_blob_gas: 0,
+        parent_beacon_block_root: Hash([9; 32]),
+        since_prague,
     }
 }
 
@@ -141,25 +163,30 @@ fn headers_of_all_forks(rt: HostRuntime) -> Result<(), Fail> {
     let alloc = rt.alloc();
     let mut header = header(alloc);
     assert!(rt; is_written(alloc, &header, 496, false)?);
-    header.base_fee_per_gas = Some(wide(7));
+    header.since_london = Some(london(None));
     assert!(rt; is_written(alloc, &header, 497, false)?);
-    header.withdrawals_root = Some(Hash([8; 32]));
+    header.since_london = Some(london(Some(shanghai(None))));
     assert!(rt; is_written(alloc, &header, 530, true)?);
-    header.blob_gas_used = Some(0);
-    header.excess_blob_gas = Some(0);
-    header.parent_beacon_block_root = Some(Hash([9; 32]));
+    header.since_london = Some(london(Some(shanghai(Some(cancun(None))))));
     assert!(rt; is_written(alloc, &header, 565, true)?);
-    header.requests_hash = Some(Hash([10; 32]));
+    let prague = Prague {
+        requests_hash: Hash([10; 32]),
+    };
+    header.since_london = Some(london(Some(shanghai(Some(cancun(Some(prague)))))));
     assert!(rt; is_written(alloc, &header, 598, true)?);
-    header.base_fee_per_gas = None;
-    assert!(rt; rlp::encode(alloc, &header).err() == Some(AllocError));
     Ok(())
 }
 
-/// The number of empty strings in a list, and the fault of the list as a header.
-const NO_HEADERS: [(u8, DecoderError); 4] = [
+/// The number of empty strings in a list, and the fault of the list as a header. Headers of forks
+/// have 15, 16, 17, 20 and 21 fields, and an empty string is no hash.
+const NO_HEADERS: [(u8, DecoderError); 9] = [
     (14, DecoderError::RlpIncorrectListLen),
     (15, DecoderError::RlpIsTooShort),
+    (16, DecoderError::RlpIsTooShort),
+    (17, DecoderError::RlpIsTooShort),
+    (18, DecoderError::RlpIncorrectListLen),
+    (19, DecoderError::RlpIncorrectListLen),
+    (20, DecoderError::RlpIsTooShort),
     (21, DecoderError::RlpIsTooShort),
     (22, DecoderError::RlpIncorrectListLen),
 ];

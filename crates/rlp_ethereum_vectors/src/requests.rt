@@ -126,12 +126,7 @@ fn header(alloc: Global) -> Result<Header, AllocError> {
         extra_data: Vec::from_slice(alloc, &[0x77, 0x88])?,
         mix_hash: Hash([0; 32]),
         nonce: [0; 8],
-        base_fee_per_gas: None,
-        withdrawals_root: None,
-        blob_gas_used: None,
-        excess_blob_gas: None,
-        parent_beacon_block_root: None,
-        requests_hash: None,
+        since_london: None,
     })
 }
 

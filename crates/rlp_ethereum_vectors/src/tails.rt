@@ -3,8 +3,8 @@
 
 use crate::support::{bytes_of, goes_both_ways, is_fault, wide};
 use rlp::{DecoderError, Uint};
-use rlp_ethereum::{Hash, Header};
-use std::alloc::{AllocError, Global};
+use rlp_ethereum::{Cancun, Hash, Header, London, Prague, Shanghai};
+use std::alloc::Global;
 use std::test::Fail;
 
 /// The fields that every header has.
@@ -33,11 +33,22 @@ const FIVE: &str =
 const SHORT: [(&str, &str, Option<u64>); 2] = [("f901ed", "", None), ("f901ee", "07", Some(7))];
 
 /// Bytes before the fifteen fields and after them that make no header, and the faults. The rows
-/// have too many fields, a base fee that begins with a zero, and a list in the place of a hash.
-const NO_HEADERS: [(&str, &str, DecoderError); 3] = [
+/// have too many fields, part of the fields of Cancun, one or two of three, a base fee that begins
+/// with a zero, and a list in the place of a hash.
+const NO_HEADERS: [(&str, &str, DecoderError); 5] = [
     (
         "f901f4",
         "07070707070707",
+        DecoderError::RlpIncorrectListLen,
+    ),
+    (
+        "f90210",
+        "05a0080808080808080808080808080808080808080808080808080808080808080806",
+        DecoderError::RlpIncorrectListLen,
+    ),
+    (
+        "f90211",
+        "05a008080808080808080808080808080808080808080808080808080808080808080607",
         DecoderError::RlpIncorrectListLen,
     ),
     ("f901ee", "00", DecoderError::RlpInvalidIndirection),
@@ -59,7 +70,7 @@ fn list(alloc: Global, header: &str, tail: &str) -> Result<Vec<u8>, Fail> {
 }
 
 /// Returns whether a fee is this number, or missing if there is none.
-fn is_fee(fee: &Option<Uint<32>>, wanted: &Option<u64>) -> bool {
+fn is_fee(fee: Option<&Uint<32>>, wanted: &Option<u64>) -> bool {
     match (fee, wanted) {
         (None, None) => true,
         (Some(fee), Some(wanted)) => *fee == wide(*wanted),
@@ -73,8 +84,8 @@ fn short_ones_fail_at(alloc: Global) -> Result<Option<usize>, Fail> {
         let bytes = list(alloc, list_header, tail)?;
         let header = rlp::decode_strict::<Header>(alloc, bytes.as_slice())?;
         if header.number != 1
-            || !is_fee(&header.base_fee_per_gas, fee)
-            || header.withdrawals_root.is_some()
+            || !is_fee(header.base_fee_per_gas(), fee)
+            || header.withdrawals_root().is_some()
             || !goes_both_ways::<Header>(alloc, bytes.as_slice())?
         {
             return Ok(Some(row));
@@ -83,15 +94,24 @@ fn short_ones_fail_at(alloc: Global) -> Result<Option<usize>, Fail> {
     Ok(None)
 }
 
-/// Returns the header of twenty fields.
-fn whole(alloc: Global) -> Result<Header, Fail> {
+/// Returns the header of twenty fields, or of more since Prague.
+fn whole(alloc: Global, since_prague: Option<Prague>) -> Result<Header, Fail> {
     let bytes = list(alloc, SHORT[0].0, "")?;
     let mut header = rlp::decode_strict::<Header>(alloc, bytes.as_slice())?;
-    header.base_fee_per_gas = Some(wide(5));
-    header.withdrawals_root = Some(Hash([8; 32]));
-    header.blob_gas_used = Some(6);
-    header.excess_blob_gas = Some(7);
-    header.parent_beacon_block_root = Some(Hash([9; 32]));
+    let cancun = Cancun {
+        blob_gas_used: 6,
+        excess_blob_gas: 7,
+        parent_beacon_block_root: Hash([9; 32]),
+        since_prague,
+    };
+    let shanghai = Shanghai {
+        withdrawals_root: Hash([8; 32]),
+        since_cancun: Some(cancun),
+    };
+    header.since_london = Some(London {
+        base_fee_per_gas: wide(5),
+        since_shanghai: Some(shanghai),
+    });
     Ok(header)
 }
 
@@ -99,12 +119,38 @@ fn whole(alloc: Global) -> Result<Header, Fail> {
 fn headers_go_both_ways(rt: HostRuntime) -> Result<(), Fail> {
     let alloc = rt.alloc();
     let bytes = list(alloc, "f90232", FIVE)?;
-    let written = rlp::encode(alloc, &whole(alloc)?)?;
+    let written = rlp::encode(alloc, &whole(alloc, None)?)?;
     assert_eq!(rt; written.as_slice(), bytes.as_slice());
     assert!(rt; goes_both_ways::<Header>(alloc, bytes.as_slice())?);
     let back = rlp::decode_strict::<Header>(alloc, bytes.as_slice())?;
-    assert!(rt; back.blob_gas_used == Some(6) && back.withdrawals_root == Some(Hash([8; 32])));
+    assert!(rt; has_fields_since_london(&back) && back.requests_hash().is_none());
     Ok(())
+}
+
+#[test]
+fn fields_of_forks_are_given(rt: HostRuntime) -> Result<(), Fail> {
+    let alloc = rt.alloc();
+    let prague = Prague {
+        requests_hash: Hash([10; 32]),
+    };
+    let header = whole(alloc, Some(prague))?;
+    assert!(rt; has_fields_since_london(&header));
+    assert!(rt; matches!(header.requests_hash(), Some(hash) if *hash == Hash([10; 32])));
+    let bytes = list(alloc, SHORT[0].0, "")?;
+    let first = rlp::decode_strict::<Header>(alloc, bytes.as_slice())?;
+    assert!(rt; first.base_fee_per_gas().is_none() && first.withdrawals_root().is_none());
+    assert!(rt; first.blob_gas_used().is_none() && first.excess_blob_gas().is_none());
+    assert!(rt; first.parent_beacon_block_root().is_none() && first.requests_hash().is_none());
+    Ok(())
+}
+
+/// Returns whether a header has the five fields since London that were chosen.
+fn has_fields_since_london(header: &Header) -> bool {
+    is_fee(header.base_fee_per_gas(), &Some(5))
+        && matches!(header.withdrawals_root(), Some(root) if *root == Hash([8; 32]))
+        && matches!(header.blob_gas_used(), Some(6))
+        && matches!(header.excess_blob_gas(), Some(7))
+        && matches!(header.parent_beacon_block_root(), Some(root) if *root == Hash([9; 32]))
 }
 
 /// Returns the number of the first row of bytes that aren't refused with their fault.
@@ -118,16 +164,6 @@ fn no_headers_fail_at(alloc: Global) -> Result<Option<usize>, Fail> {
     Ok(None)
 }
 
-/// Returns whether writing fails for a header with a field but without the one before it.
-fn gap_is_refused(alloc: Global) -> Result<bool, Fail> {
-    let mut header = whole(alloc)?;
-    header.base_fee_per_gas = None;
-    header.withdrawals_root = None;
-    header.excess_blob_gas = None;
-    header.parent_beacon_block_root = None;
-    Ok(rlp::encode(alloc, &header).err() == Some(AllocError))
-}
-
 #[test]
 fn headers_with_tails(rt: HostRuntime) -> Result<(), Fail> {
     let alloc = rt.alloc();
@@ -136,6 +172,5 @@ fn headers_with_tails(rt: HostRuntime) -> Result<(), Fail> {
     for (bytes, fault) in NO_LISTS {
         assert!(rt; is_fault(rlp::decode::<Header>(alloc, bytes).err(), &fault));
     }
-    assert!(rt; gap_is_refused(alloc)?);
     Ok(())
 }

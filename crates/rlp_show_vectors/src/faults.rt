@@ -396,6 +396,16 @@ const FAULTS: [Row; 28] = [
         &["error RlpIncorrectListLen\n"],
     ),
     (Kind::Withdrawal, &[""], &["error RlpExpectedToBeList\n"]),
+    (
+        Kind::Header,
+        &["d2808080808080808080808080808080808080"],
+        &["error RlpIncorrectListLen\n"],
+    ),
+    (
+        Kind::Header,
+        &["d380808080808080808080808080808080808080"],
+        &["error RlpIncorrectListLen\n"],
+    ),
 ];
 
 #[test]

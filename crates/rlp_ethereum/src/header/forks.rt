@@ -1,0 +1,290 @@
+//! The fields that forks added to headers of blocks.
+//!
+//! A fork's struct has its fields and, as an `Option`, the struct of the next fork. So a header has
+//! the fields of a fork only with those of each fork before it.
+
+use crate::Hash;
+use rlp::{
+    AppendFields, DecodeFields, DecoderError, Field, Fields, OptionalGroup, OptionalGroupOf,
+    RlpStream, Uint,
+};
+use std::alloc::{AllocError, Global};
+
+/// What a header has since London: one field, and those of later forks.
+#[derive(Drop)]
+pub struct London {
+    /// The base fee of a unit of gas, in Wei. EIP-1559.
+    pub base_fee_per_gas: Uint<32>,
+    /// What came with Shanghai and later, or `None` in blocks before Shanghai.
+    pub since_shanghai: Option<Shanghai>,
+}
+
+impl AppendFields for London {
+    ghost use Rattle.rlp_ethereum.specs.Forks.{london_fields};
+
+    ghost items = { london_fields.items };
+
+    ghost fit = { london_fields.Fits };
+
+    fn field_count(&self) -> Option<usize> {
+        (
+            &self.base_fee_per_gas,
+            OptionalGroupOf(&self.since_shanghai),
+        )
+            .field_count()
+    }
+
+    fn append_fields(&self, s: &mut RlpStream) -> Result<(), AllocError> {
+        (
+            &self.base_fee_per_gas,
+            OptionalGroupOf(&self.since_shanghai),
+        )
+            .append_fields(s)
+    }
+}
+
+impl DecodeFields for London {
+    ghost use Rattle.rlp_ethereum.specs.Forks.{london_fields};
+
+    ghost least = { london_fields.least };
+
+    ghost is_more = { london_fields.IsMore };
+
+    ghost count = { london_fields.count };
+
+    ghost give = { london_fields.gives };
+
+    ghost gives_some = { london_fields.some };
+
+    ghost faults = { london_fields.faults };
+
+    ghost may_lack_memory = { london_fields.may_lack };
+
+    fn accepts(len: usize) -> bool {
+        <(Field<Uint<32>>, OptionalGroup<Shanghai>) as DecodeFields>::accepts(len)
+    }
+
+    fn decode_fields(
+        alloc: Global,
+        fields: &mut Fields<'_>,
+        len: usize,
+    ) -> Result<London, DecoderError> {
+        rlp::decode_fields!(
+            alloc,
+            fields,
+            len,
+            London {
+                base_fee_per_gas,
+                since_shanghai: (..)?
+            }
+        )
+    }
+}
+
+/// What a header has since Shanghai: one field, and those of later forks.
+#[derive(Drop)]
+pub struct Shanghai {
+    /// The root of the trie of the block's withdrawals. EIP-4895.
+    pub withdrawals_root: Hash,
+    /// What came with Cancun and later, or `None` in blocks before Cancun.
+    pub since_cancun: Option<Cancun>,
+}
+
+impl AppendFields for Shanghai {
+    ghost use Rattle.rlp_ethereum.specs.Forks.{shanghai_fields};
+
+    ghost items = { shanghai_fields.items };
+
+    ghost fit = { shanghai_fields.Fits };
+
+    fn field_count(&self) -> Option<usize> {
+        (&self.withdrawals_root, OptionalGroupOf(&self.since_cancun)).field_count()
+    }
+
+    fn append_fields(&self, s: &mut RlpStream) -> Result<(), AllocError> {
+        (&self.withdrawals_root, OptionalGroupOf(&self.since_cancun)).append_fields(s)
+    }
+}
+
+impl DecodeFields for Shanghai {
+    ghost use Rattle.rlp_ethereum.specs.Forks.{shanghai_fields};
+
+    ghost least = { shanghai_fields.least };
+
+    ghost is_more = { shanghai_fields.IsMore };
+
+    ghost count = { shanghai_fields.count };
+
+    ghost give = { shanghai_fields.gives };
+
+    ghost gives_some = { shanghai_fields.some };
+
+    ghost faults = { shanghai_fields.faults };
+
+    ghost may_lack_memory = { shanghai_fields.may_lack };
+
+    fn accepts(len: usize) -> bool {
+        <(Field<Hash>, OptionalGroup<Cancun>) as DecodeFields>::accepts(len)
+    }
+
+    fn decode_fields(
+        alloc: Global,
+        fields: &mut Fields<'_>,
+        len: usize,
+    ) -> Result<Shanghai, DecoderError> {
+        rlp::decode_fields!(
+            alloc,
+            fields,
+            len,
+            Shanghai {
+                withdrawals_root,
+                since_cancun: (..)?
+            }
+        )
+    }
+}
+
+/// What a header has since Cancun: three fields, and those of later forks.
+#[derive(Drop)]
+pub struct Cancun {
+    /// The blob gas that the block's transactions used. EIP-4844.
+    pub blob_gas_used: u64,
+    /// The blob gas above the target, summed over the blocks so far. EIP-4844.
+    pub excess_blob_gas: u64,
+    /// The root of the parent's block of the beacon chain. EIP-4788.
+    pub parent_beacon_block_root: Hash,
+    /// What came with Prague and later, or `None` in blocks before Prague.
+    pub since_prague: Option<Prague>,
+}
+
+impl AppendFields for Cancun {
+    ghost use Rattle.rlp_ethereum.specs.Forks.{cancun_fields};
+
+    ghost items = { cancun_fields.items };
+
+    ghost fit = { cancun_fields.Fits };
+
+    fn field_count(&self) -> Option<usize> {
+        (
+            &self.blob_gas_used,
+            (
+                &self.excess_blob_gas,
+                (
+                    &self.parent_beacon_block_root,
+                    OptionalGroupOf(&self.since_prague),
+                ),
+            ),
+        )
+            .field_count()
+    }
+
+    fn append_fields(&self, s: &mut RlpStream) -> Result<(), AllocError> {
+        (
+            &self.blob_gas_used,
+            (
+                &self.excess_blob_gas,
+                (
+                    &self.parent_beacon_block_root,
+                    OptionalGroupOf(&self.since_prague),
+                ),
+            ),
+        )
+            .append_fields(s)
+    }
+}
+
+impl DecodeFields for Cancun {
+    ghost use Rattle.rlp_ethereum.specs.Forks.{cancun_fields};
+
+    ghost least = { cancun_fields.least };
+
+    ghost is_more = { cancun_fields.IsMore };
+
+    ghost count = { cancun_fields.count };
+
+    ghost give = { cancun_fields.gives };
+
+    ghost gives_some = { cancun_fields.some };
+
+    ghost faults = { cancun_fields.faults };
+
+    ghost may_lack_memory = { cancun_fields.may_lack };
+
+    fn accepts(len: usize) -> bool {
+        <(
+            Field<u64>,
+            (Field<u64>, (Field<Hash>, OptionalGroup<Prague>)),
+        ) as DecodeFields>::accepts(len)
+    }
+
+    fn decode_fields(
+        alloc: Global,
+        fields: &mut Fields<'_>,
+        len: usize,
+    ) -> Result<Cancun, DecoderError> {
+        rlp::decode_fields!(
+            alloc,
+            fields,
+            len,
+            Cancun {
+                blob_gas_used,
+                excess_blob_gas,
+                parent_beacon_block_root,
+                since_prague: (..)?
+            }
+        )
+    }
+}
+
+/// What a header has since Prague: one field.
+#[derive(Drop)]
+pub struct Prague {
+    /// The hash of the block's requests. EIP-7685.
+    pub requests_hash: Hash,
+}
+
+impl AppendFields for Prague {
+    ghost use Rattle.rlp_ethereum.specs.Forks.{prague_fields};
+
+    ghost items = { prague_fields.items };
+
+    ghost fit = { prague_fields.Fits };
+
+    fn field_count(&self) -> Option<usize> {
+        (&self.requests_hash, ()).field_count()
+    }
+
+    fn append_fields(&self, s: &mut RlpStream) -> Result<(), AllocError> {
+        (&self.requests_hash, ()).append_fields(s)
+    }
+}
+
+impl DecodeFields for Prague {
+    ghost use Rattle.rlp_ethereum.specs.Forks.{prague_fields};
+
+    ghost least = { prague_fields.least };
+
+    ghost is_more = { prague_fields.IsMore };
+
+    ghost count = { prague_fields.count };
+
+    ghost give = { prague_fields.gives };
+
+    ghost gives_some = { prague_fields.some };
+
+    ghost faults = { prague_fields.faults };
+
+    ghost may_lack_memory = { prague_fields.may_lack };
+
+    fn accepts(len: usize) -> bool {
+        <(Field<Hash>, ()) as DecodeFields>::accepts(len)
+    }
+
+    fn decode_fields(
+        alloc: Global,
+        fields: &mut Fields<'_>,
+        len: usize,
+    ) -> Result<Prague, DecoderError> {
+        rlp::decode_fields!(alloc, fields, len, Prague { requests_hash })
+    }
+}
