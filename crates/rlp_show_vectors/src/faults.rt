@@ -8,7 +8,7 @@ use rlp_show::Kind;
 use std::test::Fail;
 
 /// The kind, the digits, and what is wrong.
-const FAULTS: [Row; 28] = [
+const FAULTS: [Row; 30] = [
     (
         Kind::Transaction,
         &[
