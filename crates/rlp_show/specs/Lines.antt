@@ -148,7 +148,7 @@ pub record Field : Type 0 where
   pub shape : Shape
   pub may_end : Bool
 
--- a field of this name and shape that is missing only if a field before it is
+-- a field of this name and shape; a record that has the fields before it has this one too
 abbrev pub field : List ℕ → Shape → Field
 field name shape = record { name = name; shape = shape; may_end = false }
 
@@ -156,7 +156,7 @@ field name shape = record { name = name; shape = shape; may_end = false }
 abbrev pub optional : Field → Field
 optional f = record { name = f.name; shape = f.shape; may_end = true }
 
--- whether a record of these fields may have n items: one for each field, or for each before one that it may end before
+-- whether a record of these fields may have n items, so that it ends after the last field or before one that it may end before
 abbrev pub may_have : List Field → ℕ → Bool
 may_have [] n = n == 0
 may_have (f ∷ fs) zero = f.may_end

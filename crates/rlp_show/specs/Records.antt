@@ -39,7 +39,7 @@ account = record_of (
     ∷ field (codes "code_hash") hash
     ∷ [])
 
--- headers of blocks: a fork added one field, or three fields together
+-- headers of blocks: fifteen fields, and those that forks added, of which Cancun added three together
 abbrev pub header : Shape
 header = record_of (
     field (codes "parent_hash") hash

@@ -34,10 +34,10 @@ use Rattle.rlp_ethereum.specs.declared.set_code_transaction.SetCodeTransaction.{
 use Rattle.rlp_ethereum.specs.SetCodeTransaction.{set_code_transaction as set_code_transaction_codec}
 use Rattle.rlp_ethereum.specs.declared.access.AccessList.{AccessList}
 use Rattle.rlp_ethereum.specs.declared.header.Header.{Header}
-use Rattle.rlp_ethereum.specs.declared.header.London.{London}
-use Rattle.rlp_ethereum.specs.declared.header.Shanghai.{Shanghai}
-use Rattle.rlp_ethereum.specs.declared.header.Cancun.{Cancun}
-use Rattle.rlp_ethereum.specs.declared.header.Prague.{Prague}
+use Rattle.rlp_ethereum.specs.declared.header.forks.London.{London}
+use Rattle.rlp_ethereum.specs.declared.header.forks.Shanghai.{Shanghai}
+use Rattle.rlp_ethereum.specs.declared.header.forks.Cancun.{Cancun}
+use Rattle.rlp_ethereum.specs.declared.header.forks.Prague.{Prague}
 use Rattle.rlp_ethereum.specs.Header.{header as header_codec}
 use Rattle.rlp_ethereum.specs.declared.address.Address.{Address}
 use Rattle.rlp_ethereum.specs.declared.bloom.Bloom.{Bloom}
