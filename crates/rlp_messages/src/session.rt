@@ -79,7 +79,7 @@ impl Decodable for Ping {
     fn decode(alloc: Global, rlp: &Rlp<'_>) -> Result<Ping, DecoderError> {
         match rlp::decode_struct(alloc, rlp) {
             Ok(()) => Ok(Ping),
-            Err(fault) => Err(fault),
+            Err(fault) => Err(fault.fault),
         }
     }
 }
@@ -126,7 +126,7 @@ impl Decodable for Pong {
     fn decode(alloc: Global, rlp: &Rlp<'_>) -> Result<Pong, DecoderError> {
         match rlp::decode_struct(alloc, rlp) {
             Ok(()) => Ok(Pong),
-            Err(fault) => Err(fault),
+            Err(fault) => Err(fault.fault),
         }
     }
 }
