@@ -329,8 +329,13 @@ macro_rules! decode_fields {
     (@next $head:tt $left:ident [$($moves:tt)*] [$($names:ident)*] $field:ident: ? $(,)?) => {
         $crate::decode_fields!(
             @call $head $left
-            [$($moves)* let $field = match $left.0 {
-                Some(($crate::Field(value), ())) => Some(value),
+            [$($moves)*
+            let $crate::OptionalGroup(group) = $left;
+            let $field = match group {
+                Some(($crate::Field(value), rest)) => {
+                    let () = rest;
+                    Some(value)
+                }
                 None => None,
             };]
             [$($names)* $field]
@@ -339,8 +344,13 @@ macro_rules! decode_fields {
     (@next $head:tt $left:ident [$($moves:tt)*] [$($names:ident)*] $field:ident: [..]? $(,)?) => {
         $crate::decode_fields!(
             @call $head $left
-            [$($moves)* let $field = match $left.0 {
-                Some(($crate::ListField(values), ())) => Some(values),
+            [$($moves)*
+            let $crate::OptionalGroup(group) = $left;
+            let $field = match group {
+                Some(($crate::ListField(values), rest)) => {
+                    let () = rest;
+                    Some(values)
+                }
                 None => None,
             };]
             [$($names)* $field]

@@ -59,7 +59,8 @@ impl AccessListTransaction {
                 &self.to,
                 &self.value,
                 &self.data,
-                &self.access_list]),
+                &self.access_list
+            ]),
         )
     }
 }

@@ -71,7 +71,8 @@ impl BlobTransaction {
                 &self.data,
                 &self.access_list,
                 &self.max_fee_per_blob_gas,
-                ListOf(&self.blob_versioned_hashes)]),
+                ListOf(&self.blob_versioned_hashes)
+            ]),
         )
     }
 }

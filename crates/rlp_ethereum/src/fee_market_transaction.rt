@@ -62,7 +62,8 @@ impl FeeMarketTransaction {
                 &self.to,
                 &self.value,
                 &self.data,
-                &self.access_list]),
+                &self.access_list
+            ]),
         )
     }
 }

@@ -54,7 +54,8 @@ impl LegacyTransaction {
                 &self.gas_limit,
                 &self.to,
                 &self.value,
-                &self.data]),
+                &self.data
+            ]),
         )
     }
 
@@ -80,7 +81,8 @@ impl LegacyTransaction {
                 &self.data,
                 &chain_id,
                 &0u8,
-                &0u8]),
+                &0u8
+            ]),
         )
     }
 }

@@ -5,8 +5,8 @@ ghost use Rattle.rlp.specs.Format.Encoding.{encoding};
 
 use bytes::BytesMut;
 use rlp::{
-    AppendFields, Decodable, DecodeFields, DecoderError, Encodable, FieldFault, Fields, FixedFields,
-    Flattened, RawItem, Rlp, RlpStream, RoundTrip, StrictRead,
+    AppendFields, Decodable, DecodeFields, DecoderError, Encodable, FieldFault, Fields,
+    FixedFields, Flattened, RawItem, Rlp, RlpStream, RoundTrip, StrictRead,
 };
 use std::alloc::{AllocError, Global};
 

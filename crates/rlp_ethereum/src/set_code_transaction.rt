@@ -69,7 +69,8 @@ impl SetCodeTransaction {
                 &self.value,
                 &self.data,
                 &self.access_list,
-                ListOf(&self.authorization_list)]),
+                ListOf(&self.authorization_list)
+            ]),
         )
     }
 }
