@@ -17,8 +17,10 @@ class Body:
         self.crate, self.page, self.line = crate, page, line
         self.function, _, self.what = heading.partition(": ")
         self.pairs = []
-        # Answers taken out of the proof files, since they don't fit the body; whether one named what the body took away.
-        self.cuts, self.lost = set(), False
+        # What the check calls the function.
+        self.verdict = None
+        # The written answers that don't fit the body, by file; whether one names what the body took away; how often some were found.
+        self.cuts, self.lost, self.rounds = set(), False, 0
 
     @property
     def source(self):

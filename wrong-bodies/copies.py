@@ -2,7 +2,6 @@
 
 import shutil
 import subprocess
-import threading
 from pathlib import Path
 
 LEFT_OUT = ("out", "must-fail", "wrong-bodies")
@@ -78,17 +77,10 @@ class Copy:
 
 
 def check_in_order(base, crates, names, jobs, say):
-    """Checks crates and all below them, those side by side that rest on no other. It returns what each check printed."""
-    order, printed = with_lower(crates, names), {}
-    for crate in order:
+    """Checks crates and all below them, one after another. It returns what each check printed."""
+    printed = {}
+    for crate in with_lower(crates, names):
         base.fetch(crate, True)
-    while len(printed) < len(order):
-        ready = [crate for crate in order if crate not in printed and all(lower in printed for lower in crates[crate])]
-        each = max(1, jobs // len(ready))
-        gates = [threading.Thread(target=lambda crate=crate: printed.update({crate: base.check(crate, jobs=each)})) for crate in ready[:jobs]]
-        for gate in gates:
-            gate.start()
-        for gate in gates:
-            gate.join()
-        say(f"checked {', '.join(ready[:jobs])}")
+        printed[crate] = base.check(crate, jobs=jobs)
+        say(f"checked {crate}")
     return printed

@@ -9,10 +9,11 @@ IMPL = re.compile(r"^(?P<sort>impl|(?:pub )?trait)\b(?P<head>[^{]*?)\s*\{\n(?P<i
 
 
 class Function:
-    """A function: its name, the type and the trait of the block around it, and where it stands in the text."""
+    """A function: its name, the type, the trait and the parameters of the block around it, and where it stands in the text."""
 
-    def __init__(self, name, kind, trait, is_public, begin, end):
-        self.name, self.kind, self.trait = name, kind, trait
+    def __init__(self, name, block, is_public, begin, end):
+        self.name = name
+        self.kind, self.trait, self.parameters = block
         self.is_public, self.begin, self.end = is_public, begin, end
 
     @property
@@ -35,27 +36,29 @@ def without_brackets(text):
 
 
 def block_of(head):
-    """The type and the trait that the head of an `impl` or a `trait` names."""
-    text = re.split(r"\bwhere\b", without_brackets(head.strip()))[0].strip()
+    """The type, the trait and the parameters that the head of an `impl` or a `trait` names."""
+    rest = without_brackets(head.strip())
+    parameters = re.findall(r"(\w+)(?=[:,>])", head.strip()[: len(head.strip()) - len(rest)])
+    text = re.split(r"\bwhere\b", rest)[0].strip()
     trait, has_trait, kind = text.partition(" for ")
     if not has_trait:
         trait, kind = "", re.split(r":(?!:)", text)[0]
     kind = re.sub(r"'\w+,? ?", "", kind.strip())
     trait = re.sub(r"<.*", "", trait).strip().split("::")[-1]
-    return kind.replace("<>", ""), trait
+    return kind.replace("<>", ""), trait, parameters
 
 
 def functions_of(text):
     """The functions of a source file, in order."""
-    blocks = [(m.start(), m.end(), *block_of(m["head"]), m["sort"] == "pub trait") for m in IMPL.finditer(text)]
+    blocks = [(m.start(), m.end(), block_of(m["head"]), m["sort"] == "pub trait") for m in IMPL.finditer(text)]
     heads = list(FUNCTION.finditer(text))
     found = []
     for m, later in zip(heads, [*heads[1:], None]):
-        kind, trait, of_trait = next((block[2:] for block in blocks if block[0] <= m.start() < block[1]), ("", "", False))
+        block, of_trait = next((block[2:] for block in blocks if block[0] <= m.start() < block[1]), (("", "", []), False))
         last = re.compile(rf"^{m[1]}\}}$", re.M).search(text, m.end(), later.start() if later else len(text))
         end = last.end() if last else text.find("\n", m.end())
         has_body = bool(last) or text[:end].endswith("}")
-        found.append(Function(m["name"], kind, trait, has_body and bool(m["public"] or trait or of_trait), m.start(), end))
+        found.append(Function(m["name"], block, has_body and bool(m["public"] or block[1] or of_trait), m.start(), end))
     return found
 
 
@@ -81,15 +84,15 @@ def function_of(body, text):
     return near[0], bool(around)
 
 
-def camel(kind):
-    """How the check writes a type in front of a trait: its words, with their first letters in upper case."""
+def camel(kind, parameters):
+    """How the check writes a type in front of a trait: its words but the parameters, with their first letters in upper case."""
     if kind == "()":
         return "Unit"
     if kind.startswith("("):
         inside = re.sub("<.*?>", "", kind[1:-1])
         return f"Tuple{len([part for part in inside.split(',') if part.strip()])}"
-    signs = kind.replace("&", " Ref ").replace("[u8;", " Array u8 ").replace("[", " Slice ")
-    words = re.findall(r"\w+", re.sub(r"\w+::", "", signs))
+    signs = re.sub(r"\[(\w+);", r" Array \1 ", kind.replace("&", " Ref ")).replace("[", " Slice ")
+    words = [word for word in re.findall(r"\w+", re.sub(r"\w+::", "", signs)) if word not in parameters]
     return "".join(word[0].upper() + word[1:] for word in words)
 
 
@@ -112,7 +115,8 @@ def methods_of(function, crate, verdicts):
     """The verdicts that may be on a method."""
     ends = [name for name in verdicts if name.startswith(f"{crate}::") and name.split("::")[-1] == function.name and "::fn::" not in name]
     blocks = [(name, name.split("::")[-2]) for name in ends]
-    whole, first = camel(function.kind), camel(re.sub("<.*", "", function.kind) or function.kind)
+    whole = camel(function.kind, function.parameters)
+    first = camel(re.sub("<.*", "", function.kind), function.parameters)
     return (
         [name for name, block in blocks if block == whole + function.trait]
         or [name for name, block in blocks if block == first + function.trait]

@@ -6,7 +6,7 @@ import time
 from bodies import Unfit
 from copies import Copy
 from functions import function_of, verdict_of
-from verdicts import Report, cut, judge
+from verdicts import Report, declarations, judge, without
 
 TOGETHER = 16
 ROUNDS = 4
@@ -53,22 +53,20 @@ class Queue:
     def texts_of(self, body, texts):
         """The texts of the files that a body changes, over those that others have changed."""
 
-        def text_of(file):
-            return texts.get(file) or changed.get(file) or self.base.text(self.crate, file)
-
         changed = {}
-        changed[str(body.source)] = body.apply(text_of(str(body.source)))
+
+        def text_of(file):
+            return next((known[file] for known in (changed, texts) if file in known), None) or self.base.text(self.crate, file)
+
+        source = str(body.source)
+        changed[source] = body.apply(text_of(source))
         for file, name in sorted(body.cuts):
-            text = text_of(file)
-            at = next((i for i, line in enumerate(text.split("\n")) if name in line.split(" : ")[0].split() and " : " in line), None)
-            if at is not None:
-                changed[file] = cut(text, at)[0]
+            changed[file] = without(text_of(file), name)
         return changed
 
     def settle(self, pack, report):
         """Takes over what a check said of its bodies. It returns how many were refused."""
-        self.running -= 1
-        told = {body: judge(body, body.verdict, report) for body in pack}
+        told = {body: judge(body, report) for body in pack}
         if len(pack) > 1 and all(word == "unread" for word, _ in told.values()):
             self.part(pack, report)
             return 0
@@ -91,19 +89,15 @@ class Queue:
 
     def drop_answers(self, body, report):
         """Notes the written answers that don't fit a body, for a try without them. It tells whether there are new ones."""
-        before = len(body.cuts)
+        before, texts = len(body.cuts), self.texts_of(body, {})
         for fault in report.faults_of(body.verdict):
-            _, name = cut(self.shown(body, fault.file), fault.line - 1)
-            if name:
-                body.cuts.add((fault.file, name))
-        body.lost = body.lost or judge_lost(report, body)
-        body.rounds = getattr(body, "rounds", 0) + 1
+            text = texts.get(fault.file) or self.base.text(self.crate, fault.file)
+            body.cuts.update((fault.file, name) for name, begin, end in declarations(text) if begin < fault.line <= end)
+        # Without an invariant or a proof by hand each goal is open, so only one that can be false tells something.
+        taken = [file for file, _ in body.cuts if not file.endswith("Answers.antt")]
+        body.lost = body.lost or bool(taken) or report.names_gone(body.verdict)
+        body.rounds += 1
         return len(body.cuts) > before and body.rounds <= ROUNDS
-
-    def shown(self, body, file):
-        """A proof file as the check saw it."""
-        texts = self.texts_of(body, {})
-        return texts.get(file) or self.base.text(self.crate, file)
 
     def part(self, pack, report):
         """Parts bodies one of which makes the crate unreadable: those near the error, or else the halves."""
@@ -117,12 +111,6 @@ class Queue:
         self.todo += pack
 
 
-def judge_lost(report, body):
-    from verdicts import NAMES
-
-    return any(NAMES.search(fault.text) for fault in report.faults_of(body.verdict))
-
-
 class Tries:
     """All queues, and the workers that empty them, each in a copy of its own."""
 
@@ -131,7 +119,7 @@ class Tries:
         self.lock, self.count = threading.Condition(), 0
 
     def run(self):
-        workers = [threading.Thread(target=self.work, args=(number,)) for number in range(self.jobs)]
+        workers = [threading.Thread(target=self.work, args=(number,), daemon=True) for number in range(self.jobs)]
         for worker in workers:
             worker.start()
         for worker in workers:
@@ -153,14 +141,29 @@ class Tries:
         copy = Copy(self.folder / f"copy-{number}", self.base.root, self.base.crates)
         queue, pack, texts = self.next(None)
         while queue:
-            begin = time.time()
-            copy.prepare(queue.crate)
-            out = copy.check(queue.crate, texts)
-            with self.lock:
-                self.count += 1
-                if self.keep:
-                    (self.keep / f"{queue.crate}.{self.count}.log").write_text("\n".join([*map(str, pack), out]), encoding="utf-8")
-                refused = queue.settle(pack, Report(out))
-                self.say(f"{queue.crate}: {refused} of {len(pack)} refused in {time.time() - begin:.0f} s, {len(queue.todo)} to go")
-                self.lock.notify_all()
+            try:
+                self.try_together(copy, queue, pack, texts)
+            except Exception as fault:
+                with self.lock:
+                    queue.running -= 1
+                    queue.results.update((body, ("unclear", repr(fault))) for body in pack)
+                    self.lock.notify_all()
             queue, pack, texts = self.next(queue)
+
+    def try_together(self, copy, queue, pack, texts):
+        """Checks a crate with some bodies, and takes over what the check says of them."""
+        begin = time.time()
+        copy.prepare(queue.crate)
+        out = copy.check(queue.crate, texts)
+        with self.lock:
+            self.count += 1
+            if self.keep:
+                (self.keep / f"{queue.crate}.{self.count}.log").write_text("\n".join([*map(str, pack), out]), encoding="utf-8")
+            refused = queue.settle(pack, Report(out))
+            queue.running -= 1
+            self.say(f"{queue.crate}: {refused} of {len(pack)} refused in {time.time() - begin:.0f} s, {len(queue.todo)} to go")
+            for body in pack:
+                word, why = queue.results.get(body, ("refused", ""))
+                if word != "refused":
+                    self.say(f"{word}: {body}: {why[:200]}")
+            self.lock.notify_all()

@@ -11,6 +11,7 @@ OPEN = re.compile(r"`search` did not prove ((?:`[^`]+`(?:, | and )?)+)")
 BELOW = re.compile(r"(?:no proof:|not proved;) it (?:calls|passes|uses) ")
 # A proof names what is no longer there.
 NAMES = re.compile(r"has no field|not in scope|has no `|was not admitted|is not a field|no such|does not have|is unknown")
+DECLARED = re.compile(r"(?:abbrev )?(?:pub )?(\S+) : ")
 
 Goal = namedtuple("Goal", "name is_false")
 Fault = namedtuple("Fault", "file line text")
@@ -41,7 +42,8 @@ class Report:
         """The verdicts on a function: its own, and those on the closures that it holds."""
         crate, _, path = name.partition("::")
         around = [part for part in self.verdicts if "::fn::" in part and part.startswith(crate + "::")]
-        return [name, *(part for part in around if part.replace("::fn::", "::").startswith(f"{crate}::{path}::") or part.replace("::fn::", "::") == name)]
+        inside = [part for part in around if f"{part.replace('::fn::', '::')}::".startswith(f"{crate}::{path}::")]
+        return [name, *inside]
 
     def goals_of(self, name):
         return [goal for part in self.names_of(name) for goal in self.goals.get(part, ())]
@@ -49,6 +51,10 @@ class Report:
     def faults_of(self, name):
         folder = "proofs/" + name.partition("::")[2].replace("::", "/") + "/"
         return [fault for fault in self.faults if fault.file.replace("/+", "/").startswith(folder)]
+
+    def names_gone(self, name):
+        """Whether a proof of a function names what is no longer there."""
+        return any(NAMES.search(fault.text) for fault in self.faults_of(name))
 
     def first_error(self):
         """The first line that names an error."""
@@ -63,38 +69,51 @@ def unnamed(verdict, goals):
     return [Goal(name, False) for name in re.findall("`([^`]+)`", m[1]) if name not in named] if m else []
 
 
-def judge(body, name, report):
+def clause_of(goal):
+    """What a goal is on: the name of its clause, or else the first word."""
+    return goal.rpartition("-clause-")[2] if "-clause-" in goal else goal.partition("-")[0]
+
+
+def judge(body, report):
     """What a check says of a body: a word for it, and why.
 
     `refused`; `passed`; `masked` by a callee; `answers` that don't fit; `names`, refused only since a proof names what is gone;
     `unread`; `unclear`.
     """
-    verdict = report.verdicts.get(name)
+    name, verdict = body.verdict, report.verdicts.get(body.verdict)
     if verdict is None:
         return "unread", report.first_error()
     goals, faults = report.goals_of(name), report.faults_of(name)
-    lost = body.lost or any(NAMES.search(fault.text) for fault in faults)
+    lost = body.lost or report.names_gone(name)
+    cuts = {declared for _, declared in body.cuts}
     false = [goal for goal in goals if goal.is_false]
-    fresh = [goal for goal in goals if goal.name not in body.cuts and not lost]
+    # A body that takes a name away may give its goals other names too, so then only the goals of other clauses count.
+    told = {clause_of(declared) for declared in cuts}
+    fresh = [goal for goal in goals if goal.name not in cuts and not (lost and (faults or clause_of(goal.name) in told))]
     if false or fresh:
         return "refused", f"`{(false or fresh)[0].name}`" + (" can be false" if false else "")
     if faults:
         return "answers", faults[0].text
     if goals:
         why = f"`{goals[0].name}`, whose written answer doesn't fit"
-        return ("names", f"{why}: it names what is gone") if lost else ("refused", f"{why}, and search finds no other")
+        return ("names", f"{why}, since it names what is gone") if lost else ("refused", f"{why}, and search finds no other")
     if verdict.startswith("proved"):
         return "passed", "it is proved" + (", by another answer" if body.cuts else "")
     return ("masked", verdict) if BELOW.match(verdict) else ("unclear", verdict)
 
 
-def cut(text, line):
-    """A proof file without the declaration that a line stands in, and the name of what it declares."""
+def declarations(text):
+    """The declarations of a proof file: their names, and the lines that each begins and ends at."""
     lines = text.split("\n")
-    heads = [at for at, row in enumerate(lines) if re.match(r"(?:abbrev )?(?:pub )?[\w◌+-][\w◌+-]* :", row)]
-    begin = max((at for at in heads if at < line), default=None)
-    if begin is None:
-        return None, None
-    end = min((at for at in heads if at > begin), default=len(lines))
-    name = re.match(r"(?:abbrev )?(?:pub )?(\S+) :", lines[begin])[1]
-    return "\n".join(lines[:begin] + lines[end:]), name
+    heads = [(at, m[1]) for at, line in enumerate(lines) if (m := DECLARED.match(line))]
+    ends = [at for at, _ in heads[1:]] + [len(lines)]
+    return [(name, begin, end) for (begin, name), end in zip(heads, ends)]
+
+
+def without(text, name):
+    """A proof file without a declaration."""
+    lines = text.split("\n")
+    for declared, begin, end in declarations(text):
+        if declared == name:
+            return "\n".join(lines[:begin] + lines[end:])
+    return text
