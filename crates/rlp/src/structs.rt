@@ -240,6 +240,9 @@ pub fn decode_struct<F: DecodeFields>(alloc: Global, rlp: &Rlp<'_>) -> Result<F,
 ///     rlp::append_fields!(s, &self.address, ListOf(&self.keys), Optional(&self.nonce))
 /// }
 /// ```
+///
+/// Without a stream, `append_fields!([&self.address, &self.nonce])` is the fields themselves, for a
+/// function of your own that takes [`AppendFields`](crate::AppendFields).
 #[macro_export]
 macro_rules! append_fields {
     // The pairs hold groups of sixteen and of four fields, so that no field is deep in pairs.
@@ -268,6 +271,9 @@ macro_rules! append_fields {
             Ok(()) => Ok(()),
             Err(refused) => Err(refused),
         }
+    };
+    ([$($field:expr),+ $(,)?]) => {
+        $crate::append_fields!(@nested $($field),+)
     };
     ($s:expr, $($field:expr),+ $(,)?) => {
         $crate::append_fields!(@call $s, $crate::append_fields!(@nested $($field),+))

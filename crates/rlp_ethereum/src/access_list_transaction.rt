@@ -51,7 +51,7 @@ impl AccessListTransaction {
         typed_list(
             alloc,
             ACCESS_LIST_TYPE,
-            &rlp::fields!(
+            &rlp::append_fields!([
                 &self.chain_id,
                 &self.nonce,
                 &self.gas_price,
@@ -59,8 +59,7 @@ impl AccessListTransaction {
                 &self.to,
                 &self.value,
                 &self.data,
-                &self.access_list
-            ),
+                &self.access_list]),
         )
     }
 }

@@ -39,7 +39,7 @@ impl Authorization {
         typed_list(
             alloc,
             5,
-            &rlp::fields!(&self.chain_id, &self.address, &self.nonce),
+            &rlp::append_fields!([&self.chain_id, &self.address, &self.nonce]),
         )
     }
 }

@@ -60,7 +60,7 @@ impl BlobTransaction {
         typed_list(
             alloc,
             BLOB_TYPE,
-            &rlp::fields!(
+            &rlp::append_fields!([
                 &self.chain_id,
                 &self.nonce,
                 &self.max_priority_fee_per_gas,
@@ -71,8 +71,7 @@ impl BlobTransaction {
                 &self.data,
                 &self.access_list,
                 &self.max_fee_per_blob_gas,
-                ListOf(&self.blob_versioned_hashes)
-            ),
+                ListOf(&self.blob_versioned_hashes)]),
         )
     }
 }

@@ -53,7 +53,7 @@ impl FeeMarketTransaction {
         typed_list(
             alloc,
             FEE_MARKET_TYPE,
-            &rlp::fields!(
+            &rlp::append_fields!([
                 &self.chain_id,
                 &self.nonce,
                 &self.max_priority_fee_per_gas,
@@ -62,8 +62,7 @@ impl FeeMarketTransaction {
                 &self.to,
                 &self.value,
                 &self.data,
-                &self.access_list
-            ),
+                &self.access_list]),
         )
     }
 }

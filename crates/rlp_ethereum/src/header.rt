@@ -79,6 +79,16 @@ impl Header {
         }
     }
 
+    /// What came with Prague.
+    fn prague(&self) -> Option<&Prague>
+        ensures { option_copied result ≡ since_prague self.now }
+    {
+        match self.cancun() {
+            Some(cancun) => cancun.since_prague.as_ref(),
+            None => None,
+        }
+    }
+
     /// The base fee of a unit of gas, in Wei. Since London, EIP-1559.
     pub fn base_fee_per_gas(&self) -> Option<&Uint<32>>
         ensures { option_copied result ≡ option_map (λ l. l.base_fee_per_gas) self.now.since_london }
@@ -134,14 +144,9 @@ impl Header {
     pub fn requests_hash(&self) -> Option<&Hash>
         ensures { option_copied result ≡ option_map (λ p. p.requests_hash) (since_prague self.now) }
     {
-        match self.cancun() {
-            Some(
-                Cancun {
-                    since_prague: Some(prague),
-                    ..
-                },
-            ) => Some(&prague.requests_hash),
-            _ => None,
+        match self.prague() {
+            Some(prague) => Some(&prague.requests_hash),
+            None => None,
         }
     }
 }

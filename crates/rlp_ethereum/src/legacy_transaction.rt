@@ -48,14 +48,13 @@ impl LegacyTransaction {
     {
         list_of_fields(
             alloc,
-            &rlp::fields!(
+            &rlp::append_fields!([
                 &self.nonce,
                 &self.gas_price,
                 &self.gas_limit,
                 &self.to,
                 &self.value,
-                &self.data
-            ),
+                &self.data]),
         )
     }
 
@@ -72,7 +71,7 @@ impl LegacyTransaction {
     {
         list_of_fields(
             alloc,
-            &rlp::fields!(
+            &rlp::append_fields!([
                 &self.nonce,
                 &self.gas_price,
                 &self.gas_limit,
@@ -81,8 +80,7 @@ impl LegacyTransaction {
                 &self.data,
                 &chain_id,
                 &0u8,
-                &0u8
-            ),
+                &0u8]),
         )
     }
 }

@@ -59,7 +59,7 @@ impl SetCodeTransaction {
         typed_list(
             alloc,
             SET_CODE_TYPE,
-            &rlp::fields!(
+            &rlp::append_fields!([
                 &self.chain_id,
                 &self.nonce,
                 &self.max_priority_fee_per_gas,
@@ -69,8 +69,7 @@ impl SetCodeTransaction {
                 &self.value,
                 &self.data,
                 &self.access_list,
-                ListOf(&self.authorization_list)
-            ),
+                ListOf(&self.authorization_list)]),
         )
     }
 }

@@ -1,6 +1,6 @@
 -- How announcements are written and read.
 use Rattle.std.specs.Vec.{vec_items}
-use Rattle.rlp.specs.Codec.{Codec, Fields, and_field, byte_string, last_field, list_type, number, struct_of, uint}
+use Rattle.rlp.specs.Codec.{Codec, Fields, byte_string, end, field, list_type, number, struct_of, uint}
 use Rattle.rlp_messages.specs.declared.announcements.NewBlockHash.{NewBlockHash}
 use Rattle.rlp_messages.specs.declared.announcements.NewBlockHashes.{NewBlockHashes}
 use Rattle.rlp_messages.specs.declared.announcements.NewPooledTransactionHashes.{NewPooledTransactionHashes}
@@ -14,8 +14,8 @@ use Rattle.rlp_ethereum.specs.Transaction.{transaction}
 -- the fields, in order
 abbrev pub new_block_hash_fields : Fields NewBlockHash
 new_block_hash_fields =
-    and_field (λ (n : NewBlockHash). n.hash) hash (
-    last_field (λ (n : NewBlockHash). n.number) (number 8))
+    field (λ (n : NewBlockHash). n.hash) hash (
+    field (λ (n : NewBlockHash). n.number) (number 8) end)
 
 -- the list of the fields
 abbrev pub new_block_hash : Codec NewBlockHash
@@ -28,9 +28,9 @@ new_block_hashes = list_type (λ (n : NewBlockHashes). vec_items n.0) new_block_
 -- the fields, in order
 abbrev pub new_pooled_transaction_hashes_fields : Fields NewPooledTransactionHashes
 new_pooled_transaction_hashes_fields =
-    and_field (λ (n : NewPooledTransactionHashes). n.types) (byte_string vec_items) (
-    and_field (λ (n : NewPooledTransactionHashes). n.sizes) (list_type vec_items (number 8)) (
-    last_field (λ (n : NewPooledTransactionHashes). n.hashes) (list_type vec_items hash)))
+    field (λ (n : NewPooledTransactionHashes). n.types) (byte_string vec_items) (
+    field (λ (n : NewPooledTransactionHashes). n.sizes) (list_type vec_items (number 8)) (
+    field (λ (n : NewPooledTransactionHashes). n.hashes) (list_type vec_items hash) end))
 
 -- the list of the fields
 abbrev pub new_pooled_transaction_hashes : Codec NewPooledTransactionHashes
@@ -39,9 +39,9 @@ new_pooled_transaction_hashes = struct_of new_pooled_transaction_hashes_fields
 -- the fields, in order
 abbrev pub block_range_update_fields : Fields BlockRangeUpdate
 block_range_update_fields =
-    and_field (λ (b : BlockRangeUpdate). b.earliest_block) (number 8) (
-    and_field (λ (b : BlockRangeUpdate). b.latest_block) (number 8) (
-    last_field (λ (b : BlockRangeUpdate). b.latest_block_hash) hash))
+    field (λ (b : BlockRangeUpdate). b.earliest_block) (number 8) (
+    field (λ (b : BlockRangeUpdate). b.latest_block) (number 8) (
+    field (λ (b : BlockRangeUpdate). b.latest_block_hash) hash end))
 
 -- the list of the fields
 abbrev pub block_range_update : Codec BlockRangeUpdate
@@ -50,8 +50,8 @@ block_range_update = struct_of block_range_update_fields
 -- the fields, in order
 abbrev pub new_block_fields : Fields NewBlock
 new_block_fields =
-    and_field (λ (n : NewBlock). n.block) block (
-    last_field (λ (n : NewBlock). n.total_difficulty) (uint 32))
+    field (λ (n : NewBlock). n.block) block (
+    field (λ (n : NewBlock). n.total_difficulty) (uint 32) end)
 
 -- the list of the fields
 abbrev pub new_block : Codec NewBlock

@@ -1,6 +1,6 @@
 -- How requests and their answers are written and read.
 use Rattle.std.specs.Vec.{vec_items}
-use Rattle.rlp.specs.Codec.{Codec, Fields, and_field, last_field, list_type, number, struct_of, truth_value}
+use Rattle.rlp.specs.Codec.{Codec, Fields, end, field, list_type, number, struct_of, truth_value}
 use Rattle.rlp_messages.specs.declared.requests.GetBlockHeaders.{GetBlockHeaders}
 use Rattle.rlp_messages.specs.declared.requests.BlockHeaders.{BlockHeaders}
 use Rattle.rlp_messages.specs.declared.requests.GetBlockBodies.{GetBlockBodies}
@@ -15,10 +15,10 @@ use Rattle.rlp_messages.specs.HashOrNumber.{hash_or_number}
 -- the fields, in order
 abbrev pub get_block_headers_fields : Fields GetBlockHeaders
 get_block_headers_fields =
-    and_field (λ (g : GetBlockHeaders). g.start_block) hash_or_number (
-    and_field (λ (g : GetBlockHeaders). g.limit) (number 8) (
-    and_field (λ (g : GetBlockHeaders). g.skip) (number 8) (
-    last_field (λ (g : GetBlockHeaders). g.reverse) truth_value)))
+    field (λ (g : GetBlockHeaders). g.start_block) hash_or_number (
+    field (λ (g : GetBlockHeaders). g.limit) (number 8) (
+    field (λ (g : GetBlockHeaders). g.skip) (number 8) (
+    field (λ (g : GetBlockHeaders). g.reverse) truth_value end)))
 
 -- the list of the fields
 abbrev pub get_block_headers : Codec GetBlockHeaders

@@ -1,5 +1,5 @@
 -- How messages that say what a client knows are written and read.
-use Rattle.rlp.specs.Codec.{Codec, Fields, and_field, byte_array, last_field, newtype, number, struct_of, uint}
+use Rattle.rlp.specs.Codec.{Codec, Fields, byte_array, end, field, newtype, number, struct_of, uint}
 use Rattle.rlp_messages.specs.declared.status.ForkHash.{ForkHash}
 use Rattle.rlp_messages.specs.declared.status.ForkId.{ForkId}
 use Rattle.rlp_messages.specs.declared.status.Status68.{Status68}
@@ -13,8 +13,8 @@ fork_hash = newtype (λ (f : ForkHash). f.0) (byte_array 4)
 -- the fields, in order
 abbrev pub fork_id_fields : Fields ForkId
 fork_id_fields =
-    and_field (λ (f : ForkId). f.fork_hash) fork_hash (
-    last_field (λ (f : ForkId). f.fork_next) (number 8))
+    field (λ (f : ForkId). f.fork_hash) fork_hash (
+    field (λ (f : ForkId). f.fork_next) (number 8) end)
 
 -- the list of the fields
 abbrev pub fork_id : Codec ForkId
@@ -23,12 +23,12 @@ fork_id = struct_of fork_id_fields
 -- the fields, in order
 abbrev pub status68_fields : Fields Status68
 status68_fields =
-    and_field (λ (s : Status68). s.version) (number 8) (
-    and_field (λ (s : Status68). s.network_id) (number 8) (
-    and_field (λ (s : Status68). s.total_difficulty) (uint 32) (
-    and_field (λ (s : Status68). s.block_hash) hash (
-    and_field (λ (s : Status68). s.genesis_hash) hash (
-    last_field (λ (s : Status68). s.fork_id) fork_id)))))
+    field (λ (s : Status68). s.version) (number 8) (
+    field (λ (s : Status68). s.network_id) (number 8) (
+    field (λ (s : Status68). s.total_difficulty) (uint 32) (
+    field (λ (s : Status68). s.block_hash) hash (
+    field (λ (s : Status68). s.genesis_hash) hash (
+    field (λ (s : Status68). s.fork_id) fork_id end)))))
 
 -- the list of the fields
 abbrev pub status68 : Codec Status68
@@ -37,13 +37,13 @@ status68 = struct_of status68_fields
 -- the fields, in order
 abbrev pub status69_fields : Fields Status69
 status69_fields =
-    and_field (λ (s : Status69). s.version) (number 8) (
-    and_field (λ (s : Status69). s.network_id) (number 8) (
-    and_field (λ (s : Status69). s.genesis_hash) hash (
-    and_field (λ (s : Status69). s.fork_id) fork_id (
-    and_field (λ (s : Status69). s.earliest_block) (number 8) (
-    and_field (λ (s : Status69). s.latest_block) (number 8) (
-    last_field (λ (s : Status69). s.latest_block_hash) hash))))))
+    field (λ (s : Status69). s.version) (number 8) (
+    field (λ (s : Status69). s.network_id) (number 8) (
+    field (λ (s : Status69). s.genesis_hash) hash (
+    field (λ (s : Status69). s.fork_id) fork_id (
+    field (λ (s : Status69). s.earliest_block) (number 8) (
+    field (λ (s : Status69). s.latest_block) (number 8) (
+    field (λ (s : Status69). s.latest_block_hash) hash end))))))
 
 -- the list of the fields
 abbrev pub status69 : Codec Status69

@@ -76,12 +76,10 @@ impl Decodable for Ping {
 
     ghost may_lack_memory = { ping.may_lack };
 
-    #[tactic(auto, using(crate::specs::Session::empty_list_faults))]
-    fn decode(_alloc: Global, rlp: &Rlp<'_>) -> Result<Ping, DecoderError> {
-        match rlp.item_count() {
-            Ok(0) => Ok(Ping),
-            Ok(_) => Err(DecoderError::RlpIncorrectListLen),
-            Err(fault) => Err(fault),
+    fn decode(alloc: Global, rlp: &Rlp<'_>) -> Result<Ping, DecoderError> {
+        match rlp::decode_struct(alloc, rlp) {
+            Ok(()) => Ok(Ping),
+            Err(fault) => Err(fault.fault),
         }
     }
 }
@@ -125,12 +123,10 @@ impl Decodable for Pong {
 
     ghost may_lack_memory = { pong.may_lack };
 
-    #[tactic(auto, using(crate::specs::Session::empty_list_faults))]
-    fn decode(_alloc: Global, rlp: &Rlp<'_>) -> Result<Pong, DecoderError> {
-        match rlp.item_count() {
-            Ok(0) => Ok(Pong),
-            Ok(_) => Err(DecoderError::RlpIncorrectListLen),
-            Err(fault) => Err(fault),
+    fn decode(alloc: Global, rlp: &Rlp<'_>) -> Result<Pong, DecoderError> {
+        match rlp::decode_struct(alloc, rlp) {
+            Ok(()) => Ok(Pong),
+            Err(fault) => Err(fault.fault),
         }
     }
 }

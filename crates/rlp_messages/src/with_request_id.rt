@@ -15,13 +15,13 @@ pub struct WithRequestId<T> {
 }
 
 impl<T: Encodable> Encodable for WithRequestId<T> {
-    ghost use Rattle.std.specs.Prelude.{[], ◌∷◌};
+    ghost use Rattle.std.specs.Prelude.{[], ◌∷◌, ⊤};
     ghost use Rattle.rlp.specs.Format.Item.{list_of};
     ghost use Rattle.rlp.specs.Values.Value.{FitsBytes, number_item};
 
     ghost item = { λ w. list_of (number_item w.request_id ∷ T.item w.content ∷ []) };
 
-    ghost fits = { λ w. FitsBytes 8 w.request_id × T.fits w.content };
+    ghost fits = { λ w. FitsBytes 8 w.request_id × (T.fits w.content × ⊤) };
 
     fn rlp_append(&self, s: &mut RlpStream) -> Result<(), AllocError> {
         rlp::append_fields!(s, &self.request_id, &self.content)

@@ -1,10 +1,10 @@
 -- The lines of fields in order.
-use Rattle.std.proofs.Common.{◌≡◌, ◌≢◌, ◌==◌, ◌∙◌, ℕ, List, [], ◌∷◌, ◌++◌, codes, arith, refl, ap, sym, append_assoc, append-nil, Ok, Err}
+use Rattle.std.proofs.Common.{◌≡◌, ◌≢◌, ◌==◌, ◌∙◌, ℕ, List, [], ◌∷◌, ◌++◌, codes, arith, refl, ap, sym, append_assoc, Ok, Err, zero, suc, ◌-◌}
 use Rattle.std.proofs.lemmas.Bool.{cond-true, cond-false}
 use Rattle.std.proofs.lemmas.Bool.Decides.{nat_tests}
 use Rattle.rlp.specs.Views.View.{View, strict_view_of}
 use Rattle.rlp_show.specs.Text.{number_text}
-use Rattle.rlp_show.specs.Lines.{Fault, Shape, Shown, line, prefix, then_lines, typed, typed_lines}
+use Rattle.rlp_show.specs.Lines.{Fault, Field, Shape, Shown, line, may_have, prefix, then_lines, typed, typed_lines}
 use Rattle.rlp_show.specs.Answer.{after_text}
 
 -- the lines of a first part and then of the others
@@ -14,17 +14,26 @@ after_both old mid (Ok lines) (Ok others) is = let same : old ++ lines ≡ mid =
 after_both old mid (Ok lines) (Err fault) is = refl
 after_both old mid (Err fault) more is = absurd (cc)
 
--- the lines of a first part alone
-pub then_none : (first : Shown) → then_lines first (Ok []) ≡ first
-then_none (Ok lines) = ap (λ t. Ok t) (append-nil lines)
-then_none (Err fault) = refl
-
 -- the first part is wrong
 pub then_wrong : (first more : Shown) (fault : Fault) → first ≡ Err fault → then_lines first more ≡ Err fault
 then_wrong (Ok lines) more fault is = absurd (cc)
 then_wrong (Err found) more fault is = is
 
-pub ruleset fields_in_order = (after_both, then_none, then_wrong)
+pub ruleset fields_in_order = (after_both, then_wrong)
+
+-- ---- how many items a record may have
+
+pub none_left : (f : Field) (fs : List Field) (n : ℕ) → n ≡ 0 → may_have (f ∷ fs) n ≡ f.may_end
+none_left f fs zero is = refl
+none_left f fs (suc n) is = absurd (omega arith)
+
+pub one_more : (f : Field) (fs : List Field) (n : ℕ) → n ≢ 0 → may_have (f ∷ fs) n ≡ may_have fs (n - 1)
+one_more f fs zero some = absurd (some refl)
+one_more f fs (suc n) some = let same : n ≡ suc n - 1 = omega arith in ap (may_have fs) same
+
+pub ruleset numbers_of_items = (none_left, one_more)
+
+-- ---- envelopes
 
 -- bytes that begin with a type
 pub typed_given : (kind : ℕ) (shape other : Shape) (name : List ℕ) (v : View) (payload : List ℕ) → v.bytes ≡ kind ∷ payload

@@ -1,5 +1,5 @@
 -- The lines of an item, or what is wrong with it. A name says which item it is, as `gas_limit` or `access_list[0].address`. A whole record has no name.
-use Rattle.std.specs.Prelude.{ℕ, zero, suc, ◌+◌, ◌||◌, ◌&&◌, ◌==◌, nat_lt, Bool, false, if◌then◌else◌, List, [], ◌∷◌, ◌++◌, length, codes, decimal}
+use Rattle.std.specs.Prelude.{ℕ, zero, suc, ◌+◌, ◌&&◌, ◌==◌, nat_lt, Bool, false, true, if◌then◌else◌, List, [], ◌∷◌, ◌++◌, length, codes, decimal}
 use Rattle.std.specs.Prelude.{Option, Some, None, Result, Ok, Err}
 use Rattle.std.specs.Int.Digits.{number_from_digits}
 use Rattle.rlp.specs.DecoderError.{DecoderError}
@@ -142,14 +142,25 @@ list_of shape name v = list_lines shape name (item_views v) (item_count v)
 
 -- ---- records
 
--- A field of a record: its name, and how it is shown.
+-- A field of a record: its name, how it is shown, and whether a record may end before it.
 pub record Field : Type 0 where
   pub name : List ℕ
   pub shape : Shape
+  pub may_end : Bool
 
--- a field of this name and shape
+-- a field of this name and shape; a record that has the fields before it has this one too
 abbrev pub field : List ℕ → Shape → Field
-field name shape = record { name = name; shape = shape }
+field name shape = record { name = name; shape = shape; may_end = false }
+
+-- the same field, but a record may end before it
+abbrev pub optional : Field → Field
+optional f = record { name = f.name; shape = f.shape; may_end = true }
+
+-- whether a record of these fields may have n items, so that it ends after the last field or before one that it may end before
+abbrev pub may_have : List Field → ℕ → Bool
+may_have [] n = n == 0
+may_have (f ∷ fs) zero = f.may_end
+may_have (f ∷ fs) (suc n) = may_have fs n
 
 -- what comes before the names of a record's fields: for a record with a name the name and a dot
 abbrev pub prefix : List ℕ → List ℕ
@@ -162,16 +173,16 @@ fields_lines before i [] vs = Ok []
 fields_lines before i (f ∷ fs) [] = Ok []
 fields_lines before i (f ∷ fs) (v ∷ vs) = then_lines (in_field i (f.shape (before ++ f.name) v)) (fields_lines before (i + 1) fs vs)
 
--- the lines of a record by its number of items: at least `least`, and at most one for each field
-abbrev pub record_lines : ℕ → List Field → List ℕ → List View → Result ℕ DecoderError → Shown
-record_lines least fields name vs (Err e) = Err (wrong name (error_name e))
-record_lines least fields name vs (Ok n) =
-    if nat_lt n least || nat_lt (length fields) n then Err (wrong name (error_name RlpIncorrectListLen))
-    else fields_lines (prefix name) 0 fields vs
+-- the lines of a record by its number of items
+abbrev pub record_lines : List Field → List ℕ → List View → Result ℕ DecoderError → Shown
+record_lines fields name vs (Err e) = Err (wrong name (error_name e))
+record_lines fields name vs (Ok n) =
+    if may_have fields n then fields_lines (prefix name) 0 fields vs
+    else Err (wrong name (error_name RlpIncorrectListLen))
 
--- a list of these fields, of which those after the first `least` may be missing at the end
-abbrev pub record_of : ℕ → List Field → Shape
-record_of least fields name v = record_lines least fields name (item_views v) (item_count v)
+-- a list of these fields
+abbrev pub record_of : List Field → Shape
+record_of fields name v = record_lines fields name (item_views v) (item_count v)
 
 -- ---- items of any kind
 
@@ -229,7 +240,7 @@ abbrev pub list_value_lines : {A : Type 0} → (List ℕ → A → List ℕ) →
 list_value_lines lines name [] = line name (codes "[]")
 list_value_lines lines name (x ∷ xs) = value_lines lines name 0 (x ∷ xs)
 
--- the lines of a value that may be missing, and then others; after a missing value there are none
-abbrev pub optional_lines : {A : Type 0} → (List ℕ → A → List ℕ) → List ℕ → Option A → List ℕ → List ℕ
-optional_lines lines name None others = []
-optional_lines lines name (Some x) others = lines name x ++ others
+-- the lines of what may be missing; if it is, there are none
+abbrev pub lines_if : {A : Type 0} → (A → List ℕ) → Option A → List ℕ
+lines_if lines None = []
+lines_if lines (Some x) = lines x

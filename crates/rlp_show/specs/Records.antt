@@ -6,7 +6,7 @@ use Rattle.rlp.specs.Format.Split.{begins_as_list}
 use Rattle.rlp.specs.Views.Text.{error_name}
 use Rattle.rlp.specs.Views.View.{View, item_count, item_views, view_string}
 use Rattle.rlp_show.specs.Lines.{Field, Shape, Shown, Worded, byte_string, field, fields_lines, fixed_bytes, fixed_bytes_in, item_within, line, list_of}
-use Rattle.rlp_show.specs.Lines.{list_or_string, number, pairs_lines, prefix, recipient, record_of, string_shape, then_lines, truth_value, typed, wrong}
+use Rattle.rlp_show.specs.Lines.{list_or_string, number, optional, pairs_lines, prefix, recipient, record_of, string_shape, then_lines, truth_value, typed, wrong}
 use Rattle.rlp_show.specs.Text.{bytes_text}
 
 -- addresses
@@ -23,7 +23,7 @@ bloom = fixed_bytes 256
 
 -- withdrawals
 abbrev pub withdrawal : Shape
-withdrawal = record_of 4 (
+withdrawal = record_of (
     field (codes "index") (number 8)
     ∷ field (codes "validator_index") (number 8)
     ∷ field (codes "address") address
@@ -32,16 +32,16 @@ withdrawal = record_of 4 (
 
 -- accounts
 abbrev pub account : Shape
-account = record_of 4 (
+account = record_of (
     field (codes "nonce") (number 8)
     ∷ field (codes "balance") (number 32)
     ∷ field (codes "storage_root") hash
     ∷ field (codes "code_hash") hash
     ∷ [])
 
--- headers of blocks: the last six fields may be missing
+-- headers of blocks: fifteen fields, and those that forks added, of which Cancun added three together
 abbrev pub header : Shape
-header = record_of 15 (
+header = record_of (
     field (codes "parent_hash") hash
     ∷ field (codes "ommers_hash") hash
     ∷ field (codes "beneficiary") address
@@ -57,17 +57,17 @@ header = record_of 15 (
     ∷ field (codes "extra_data") byte_string
     ∷ field (codes "mix_hash") hash
     ∷ field (codes "nonce") (fixed_bytes 8)
-    ∷ field (codes "base_fee_per_gas") (number 32)
-    ∷ field (codes "withdrawals_root") hash
-    ∷ field (codes "blob_gas_used") (number 8)
+    ∷ optional (field (codes "base_fee_per_gas") (number 32))
+    ∷ optional (field (codes "withdrawals_root") hash)
+    ∷ optional (field (codes "blob_gas_used") (number 8))
     ∷ field (codes "excess_blob_gas") (number 8)
     ∷ field (codes "parent_beacon_block_root") hash
-    ∷ field (codes "requests_hash") hash
+    ∷ optional (field (codes "requests_hash") hash)
     ∷ [])
 
 -- logs
 abbrev pub log : Shape
-log = record_of 3 (
+log = record_of (
     field (codes "address") address
     ∷ field (codes "topics") (list_of hash)
     ∷ field (codes "data") byte_string
@@ -75,7 +75,7 @@ log = record_of 3 (
 
 -- receipts, without the byte of a type
 abbrev pub receipt : Shape
-receipt = record_of 4 (
+receipt = record_of (
     field (codes "status_or_state_root") byte_string
     ∷ field (codes "cumulative_gas_used") (number 8)
     ∷ field (codes "logs_bloom") bloom
@@ -84,14 +84,14 @@ receipt = record_of 4 (
 
 -- items of access lists
 abbrev pub access_list_item : Shape
-access_list_item = record_of 2 (
+access_list_item = record_of (
     field (codes "address") address
     ∷ field (codes "storage_keys") (list_of hash)
     ∷ [])
 
 -- transactions without a type
 abbrev pub legacy_transaction : Shape
-legacy_transaction = record_of 9 (
+legacy_transaction = record_of (
     field (codes "nonce") (number 8)
     ∷ field (codes "gas_price") (number 32)
     ∷ field (codes "gas_limit") (number 8)
@@ -105,7 +105,7 @@ legacy_transaction = record_of 9 (
 
 -- transactions of type 1, without the byte of the type
 abbrev pub access_list_transaction : Shape
-access_list_transaction = record_of 11 (
+access_list_transaction = record_of (
     field (codes "chain_id") (number 8)
     ∷ field (codes "nonce") (number 8)
     ∷ field (codes "gas_price") (number 32)
@@ -121,7 +121,7 @@ access_list_transaction = record_of 11 (
 
 -- transactions of type 2, without the byte of the type
 abbrev pub fee_market_transaction : Shape
-fee_market_transaction = record_of 12 (
+fee_market_transaction = record_of (
     field (codes "chain_id") (number 8)
     ∷ field (codes "nonce") (number 8)
     ∷ field (codes "max_priority_fee_per_gas") (number 32)
@@ -138,7 +138,7 @@ fee_market_transaction = record_of 12 (
 
 -- transactions of type 3, without the byte of the type
 abbrev pub blob_transaction : Shape
-blob_transaction = record_of 14 (
+blob_transaction = record_of (
     field (codes "chain_id") (number 8)
     ∷ field (codes "nonce") (number 8)
     ∷ field (codes "max_priority_fee_per_gas") (number 32)
@@ -157,7 +157,7 @@ blob_transaction = record_of 14 (
 
 -- authorizations of transactions of type 4
 abbrev pub authorization : Shape
-authorization = record_of 6 (
+authorization = record_of (
     field (codes "chain_id") (number 32)
     ∷ field (codes "address") address
     ∷ field (codes "nonce") (number 8)
@@ -168,7 +168,7 @@ authorization = record_of 6 (
 
 -- transactions of type 4, without the byte of the type
 abbrev pub set_code_transaction : Shape
-set_code_transaction = record_of 13 (
+set_code_transaction = record_of (
     field (codes "chain_id") (number 8)
     ∷ field (codes "nonce") (number 8)
     ∷ field (codes "max_priority_fee_per_gas") (number 32)
@@ -211,11 +211,11 @@ transaction = list_or_string legacy_transaction (typed_transaction unknown_trans
 
 -- blocks: the withdrawals may be missing
 abbrev pub block : Shape
-block = record_of 3 (
+block = record_of (
     field (codes "header") header
     ∷ field (codes "transactions") (list_of transaction)
     ∷ field (codes "ommers") (list_of header)
-    ∷ field (codes "withdrawals") (list_of withdrawal)
+    ∷ optional (field (codes "withdrawals") (list_of withdrawal))
     ∷ [])
 
 -- ---- node records
@@ -271,15 +271,15 @@ child name v = if begins_as_list v.bytes then inline_node name v else string_sha
 
 -- leaves
 abbrev pub leaf : Shape
-leaf = record_of 2 (field (codes "path") path ∷ field (codes "value") byte_string ∷ [])
+leaf = record_of (field (codes "path") path ∷ field (codes "value") byte_string ∷ [])
 
 -- extensions
 abbrev pub extension : Shape
-extension = record_of 2 (field (codes "path") path ∷ field (codes "child") child ∷ [])
+extension = record_of (field (codes "path") path ∷ field (codes "child") child ∷ [])
 
 -- branches
 abbrev pub branch : Shape
-branch = record_of 17 (
+branch = record_of (
     field (codes "children[0]") child
     ∷ field (codes "children[1]") child
     ∷ field (codes "children[2]") child

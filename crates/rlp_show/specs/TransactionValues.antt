@@ -1,7 +1,7 @@
 -- The lines of transactions of every type, and of blocks.
 use Rattle.std.specs.Prelude.{ℕ, ◌≡◌, ◌<◌, ◌^◌, List, ◌∷◌, ◌++◌, [], length, codes, true, Some, Ok}
 use Rattle.std.specs.Vec.{vec_items}
-use Rattle.std.proofs.Common.{refl, ap, ◌∙◌, arith}
+use Rattle.std.proofs.Common.{ap, ◌∙◌, arith}
 use Rattle.rlp.specs.Format.Encoding.{IsSized, encoding}
 use Rattle.rlp.specs.Format.Item.{list_of as list_item}
 use Rattle.rlp.specs.Format.Split.{begins_as_list}
@@ -32,9 +32,9 @@ use Rattle.rlp_show.specs.Records.{access_list_transaction, any_transaction, blo
 use Rattle.rlp_show.specs.Records.{transaction, typed_transaction, unknown_transaction, withdrawal}
 use Rattle.rlp_show.specs.Text.{number_text}
 use Rattle.rlp_show.specs.EnvelopeLemmas.{after_type, list_held, list_kind, not_of_type, string_held, string_sized}
-use Rattle.rlp_show.specs.Values.{Display, access_list_transaction_display, always_display, blob_transaction_display, fee_market_transaction_display}
-use Rattle.rlp_show.specs.Values.{header_display, legacy_transaction_display, list_display, no_tail_display, optional_display, set_code_transaction_display}
-use Rattle.rlp_show.specs.Values.{tailed_display, withdrawal_display}
+use Rattle.rlp_show.specs.Values.{Display, access_list_transaction_display, blob_transaction_display, fee_market_transaction_display, field_display}
+use Rattle.rlp_show.specs.Values.{header_display, legacy_transaction_display, list_display, optional_display, record_display}
+use Rattle.rlp_show.specs.Values.{set_code_transaction_display, withdrawal_display}
 
 -- the line of a type, and the lines of the payload
 abbrev pub typed_value : ℕ → List ℕ → List ℕ → List ℕ
@@ -136,8 +136,8 @@ abbrev pub withdrawals_display : Display withdrawals_codec (list_of withdrawal)
 withdrawals_display = list_display (λ (w : Withdrawals). vec_items w.0) withdrawal_display
 
 abbrev pub block_display : Display block_codec block
-block_display = tailed_display refl (
-    always_display (codes "header") (λ (b : Block). b.header) header_display (
-    always_display (codes "transactions") (λ (b : Block). b.transactions) (list_display vec_items transaction_display) (
-    always_display (codes "ommers") (λ (b : Block). b.ommers) (list_display vec_items header_display) (
-    optional_display (codes "withdrawals") (λ (b : Block). b.withdrawals) withdrawals_display no_tail_display))))
+block_display = record_display (
+    field_display (codes "header") (λ (b : Block). b.header) header_display (
+    field_display (codes "transactions") (λ (b : Block). b.transactions) (list_display vec_items transaction_display) (
+    field_display (codes "ommers") (λ (b : Block). b.ommers) (list_display vec_items header_display) (
+    optional_display (codes "withdrawals") (λ (b : Block). b.withdrawals) withdrawals_display))))

@@ -1,22 +1,21 @@
 -- The encoding of a value, shown.
-use Rattle.std.proofs.Common.{◌≡◌, ◌||◌, ◌^◌, ◌<◌, ◌≤◌, ◌+◌, ℕ, if◌then◌else◌, Option, Some, None, List, [], ◌∷◌, ◌++◌, length, map, nat_lt, refl, ap, ◌∙◌}
-use Rattle.std.proofs.Common.{arith, length-append, Ok, Err}
+use Rattle.std.specs.Prelude.{IfSome}
+use Rattle.std.proofs.Common.{◌≡◌, ◌^◌, ◌<◌, ◌+◌, ℕ, zero, suc, true, Option, Some, None, List, [], ◌∷◌, ◌++◌, length, map, refl, ap, ◌∙◌, arith}
+use Rattle.std.proofs.Common.{append-nil, length-append, Ok}
 use Rattle.std.specs.List.{AllByRecursion}
-use Rattle.std.proofs.lemmas.Bool.{cond-false}
-use Rattle.std.proofs.lemmas.Bool.Decides.{nat_tests}
-use Rattle.rlp.specs.DecoderError.TheVariants.{RlpIncorrectListLen}
+use Rattle.std.proofs.lemmas.Bool.{cond-true}
 use Rattle.rlp.specs.Format.Encoding.{IsSized, encoding, join}
 use Rattle.rlp.specs.Format.Item.{Item, list_of}
 use Rattle.rlp.specs.Lemmas.Encodings.{encoding_list, small_payload}
 use Rattle.rlp.specs.Lemmas.WholeLists.{strict_item_count, strict_items}
-use Rattle.rlp.specs.Views.Text.{error_name}
 use Rattle.rlp.specs.Views.View.{View, item_views, strict_view_of}
 use Rattle.std.specs.Str.Lines.{strip_carriage_return}
 use Rattle.rlp_tool.specs.Digits.{bytes_in}
 use Rattle.rlp_show.specs.Answer.{bytes_answer, record_answer, shown_answer}
-use Rattle.rlp_show.specs.Lines.{Field, Shape, Shown, fields_lines, in_field, items_lines, list_lines, place, prefix, record_lines, record_of, then_lines, wrong}
-use Rattle.rlp_show.specs.Lines.{list_of as list_shape_of, list_value_lines, optional_lines, value_lines}
-use Rattle.rlp.specs.Streams.Fields.{FitsFirst, items_first}
+use Rattle.rlp_show.specs.Lines.{Field, Shape, Shown, field, fields_lines, in_field, items_lines, lines_if, list_lines, may_have, optional, place, prefix, record_lines}
+use Rattle.rlp_show.specs.Lines.{list_of as list_shape_of, list_value_lines, record_of, then_lines, value_lines}
+use Rattle.rlp.specs.Values.FieldReading.{count_if}
+use Rattle.rlp.specs.Streams.Fields.{items_if}
 
 -- the strict views of the encodings of items
 abbrev pub views_of : List Item → List View
@@ -38,23 +37,13 @@ views-encoding xs sized = ap (map strict_view_of) (strict_items xs (encoding (li
 
 -- ---- records
 
-pub at_least : {m n : ℕ} → m ≡ n → n ≤ m
-at_least {m} {n} is = omega (arith, is)
-
-pub at_most : {m n k : ℕ} → m ≡ n → k ≤ n → k ≤ m
-at_most {m} {n} {k} is few = omega (arith, is, few)
-
-within : (least most n : ℕ) (fault lines : Shown) → least ≤ n → n ≤ most → (if nat_lt n least || nat_lt most n then fault else lines) ≡ lines
-within least most n fault lines enough few = cond-false (nat_lt n least || nat_lt most n) fault lines (grind (arith, nat_tests))
-
--- the encoding of the list of the items of a record is shown as the lines of the fields
-pub record_shown : (least : ℕ) (fields : List Field) (name : List ℕ) (xs : List Item) (lines : List ℕ) → IsSized (list_of xs) → least ≤ length xs
-    → length xs ≤ length fields → fields_lines (prefix name) 0 fields (views_of xs) ≡ Ok lines
-    → record_of least fields name (strict_view_of (encoding (list_of xs))) ≡ Ok lines
-record_shown least fields name xs lines sized enough few are =
+-- the encoding of the list of the items of a record is shown as the lines of the fields, if a record may have that number of items
+pub record_shown : (fields : List Field) (name : List ℕ) (xs : List Item) (lines : List ℕ) → IsSized (list_of xs) → may_have fields (length xs) ≡ true
+    → fields_lines (prefix name) 0 fields (views_of xs) ≡ Ok lines → record_of fields name (strict_view_of (encoding (list_of xs))) ≡ Ok lines
+record_shown fields name xs lines sized right are =
     let v = strict_view_of (encoding (list_of xs)) in
-    ap (record_lines least fields name (item_views v)) (strict_item_count xs (encoding (list_of xs)) sized refl)
-    ∙ within least (length fields) (length xs) (Err (wrong name (error_name RlpIncorrectListLen))) (fields_lines (prefix name) 0 fields (item_views v)) enough few
+    ap (record_lines fields name (item_views v)) (strict_item_count xs (encoding (list_of xs)) sized refl)
+    ∙ cond-true (may_have fields (length xs)) _ _ right
     ∙ ap (fields_lines (prefix name) 0 fields) (views-encoding xs sized) ∙ are
 
 -- the lines of a first part and of others
@@ -83,21 +72,47 @@ module _ {A : Type 0} (Fits : A → Type 0) (item : A → Item) (shape : Shape) 
       ∙ ap (items_lines shape name 0) (views-encoding (map item (x ∷ xs)) sized)
       ∙ values_shown name 0 (x ∷ xs) fit (joined_small (map item (x ∷ xs)) sized)
 
--- ---- a field that may be missing
+-- ---- fields that may be missing together
 
-pub optional_shown : {A : Type 0} (Fits : A → Type 0) (item : A → Item) (shape : Shape) (lines : List ℕ → A → List ℕ)
-    → ((name : List ℕ) (x : A) → Fits x → IsSized (item x) → shape name (strict_view_of (encoding (item x))) ≡ Ok (lines name x))
-    → (before : List ℕ) (i : ℕ) (f : Field) → f.shape ≡ shape → (fields : List Field) (o : Option A) (MoreFit : Type 0) (xs : List Item) (others : List ℕ)
-    → FitsFirst Fits o MoreFit xs → length (join (items_first item o xs)) < 2 ^ 64
-    → (MoreFit → length (join xs) < 2 ^ 64 → fields_lines before (i + 1) fields (views_of xs) ≡ Ok others)
-    → fields_lines before i (f ∷ fields) (views_of (items_first item o xs)) ≡ Ok (optional_lines lines (before ++ f.name) o others)
-optional_shown Fits item shape lines shown before i f same fields None MoreFit xs others fit small more =
-    ap (λ ys. fields_lines before i (f ∷ fields) (views_of ys)) fit
-optional_shown Fits item shape lines shown before i f same fields (Some x) MoreFit xs others fit small more =
-    both_shown _ _ (lines (before ++ f.name) x) others
-    (ap (in_field i) (ap (λ s. s (before ++ f.name) (strict_view_of (encoding (item x)))) same
-    ∙ shown (before ++ f.name) x fit.0 (first_sized (item x) xs small)))
-    (more fit.1 (others_small (item x) xs small))
+-- a record that may end before a field may have the same numbers of items as one that may not
+more_may_have : (first : Field) (fields : List Field) (n : ℕ) → may_have (first ∷ fields) n ≡ true → may_have (optional first ∷ fields) n ≡ true
+more_may_have first fields zero may = refl
+more_may_have first fields (suc n) may = may
+
+-- and its lines are the same
+same_lines : (before : List ℕ) (i : ℕ) (first : Field) (fields : List Field) (vs : List View) → fields_lines before i (optional first ∷ fields) vs
+    ≡ fields_lines before i (first ∷ fields) vs
+same_lines before i first fields [] = refl
+same_lines before i first fields (v ∷ vs) = refl
+
+module _ {A : Type 0} (Fits : A → Type 0) (first : Field) (fields : List Field) where
+  pub group_right : (count : A → ℕ) → ((x : A) → Fits x → may_have (first ∷ fields) (count x) ≡ true) → (o : Option A) → IfSome o Fits
+      → may_have (optional first ∷ fields) (count_if count o) ≡ true
+  group_right count right None fit = refl
+  group_right count right (Some x) fit = more_may_have first fields (count x) (right x fit)
+
+  pub group_shown : (items : A → List Item) (before : List ℕ) (i : ℕ) (lines : A → List ℕ)
+      → ((x : A) → Fits x → length (join (items x)) < 2 ^ 64 → fields_lines before i (first ∷ fields) (views_of (items x)) ≡ Ok (lines x))
+      → (o : Option A) → IfSome o Fits → length (join (items_if items o)) < 2 ^ 64
+      → fields_lines before i (optional first ∷ fields) (views_of (items_if items o)) ≡ Ok (lines_if lines o)
+  group_shown items before i lines shown None fit small = refl
+  group_shown items before i lines shown (Some x) fit small = same_lines before i first fields (views_of (items x)) ∙ shown x fit small
+
+-- ---- a last field that may be missing
+
+module _ {A : Type 0} (Fits : A → Type 0) (item : A → Item) (shape : Shape) (lines : List ℕ → A → List ℕ)
+    (shown : (name : List ℕ) (x : A) → Fits x → IsSized (item x) → shape name (strict_view_of (encoding (item x))) ≡ Ok (lines name x)) where
+  pub optional_right : (name : List ℕ) (o : Option A) → IfSome o Fits → may_have (optional (field name shape) ∷ []) (count_if (λ x. suc 0) o) ≡ true
+  optional_right name None fit = refl
+  optional_right name (Some x) fit = refl
+
+  pub optional_shown : (name before : List ℕ) (i : ℕ) (o : Option A) → IfSome o Fits
+      → length (join (items_if (λ x. item x ∷ []) o)) < 2 ^ 64
+      → fields_lines before i (optional (field name shape) ∷ []) (views_of (items_if (λ x. item x ∷ []) o)) ≡ Ok (lines_if (lines (before ++ name)) o)
+  optional_shown name before i None fit small = refl
+  optional_shown name before i (Some x) fit small =
+      both_shown _ _ (lines (before ++ name) x) [] (ap (in_field i) (shown (before ++ name) x fit (first_sized (item x) [] small))) refl
+      ∙ ap Ok (append-nil (lines (before ++ name) x))
 
 -- ---- the answer to a line
 

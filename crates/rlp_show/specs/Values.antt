@@ -1,11 +1,11 @@
 -- The lines of values. The encoding of each value that fits its type is shown as its lines.
-use Rattle.std.specs.Prelude.{ℕ, ◌≡◌, ◌<◌, ◌+◌, ◌^◌, List, [], ◌∷◌, ◌++◌, length, codes, Option, Some, Ok}
+use Rattle.std.specs.Prelude.{ℕ, ◌≡◌, ◌==◌, ◌<◌, ◌+◌, ◌^◌, false, true, List, [], ◌∷◌, ◌++◌, length, codes, Option, Ok}
 use Rattle.std.specs.Vec.{vec_items}
 use Rattle.std.specs.Int.Digits.{number_from_digits}
-use Rattle.std.proofs.Common.{refl, sym, ap, ◌∙◌, append-nil}
+use Rattle.std.proofs.Common.{refl, ap, ◌∙◌}
 use Rattle.std.proofs.lemmas.List.Elements.{recursion_from_All}
-use Rattle.rlp.specs.Codec.{Codec, Fields, Tailed, and_always, and_field, and_optional, byte_array, byte_string as byte_string_codec, last_field, list_type}
-use Rattle.rlp.specs.Codec.{newtype, no_tail, number as number_codec, struct_of, tailed, truth_value as truth_codec, uint}
+use Rattle.rlp.specs.Codec.{Codec, Fields, byte_array, byte_string as byte_string_codec, end, field as field_codec, list_type, newtype}
+use Rattle.rlp.specs.Codec.{number as number_codec, optional as optional_codec, optional_group, struct_of, truth_value as truth_codec, uint}
 use Rattle.rlp.specs.Format.Encoding.{IsSized, encoding, join}
 use Rattle.rlp.specs.Lemmas.RoundTrips.{bit_below}
 use Rattle.rlp.specs.Values.Value.{bit}
@@ -34,6 +34,10 @@ use Rattle.rlp_ethereum.specs.declared.set_code_transaction.SetCodeTransaction.{
 use Rattle.rlp_ethereum.specs.SetCodeTransaction.{set_code_transaction as set_code_transaction_codec}
 use Rattle.rlp_ethereum.specs.declared.access.AccessList.{AccessList}
 use Rattle.rlp_ethereum.specs.declared.header.Header.{Header}
+use Rattle.rlp_ethereum.specs.declared.header.forks.London.{London}
+use Rattle.rlp_ethereum.specs.declared.header.forks.Shanghai.{Shanghai}
+use Rattle.rlp_ethereum.specs.declared.header.forks.Cancun.{Cancun}
+use Rattle.rlp_ethereum.specs.declared.header.forks.Prague.{Prague}
 use Rattle.rlp_ethereum.specs.Header.{header as header_codec}
 use Rattle.rlp_ethereum.specs.declared.address.Address.{Address}
 use Rattle.rlp_ethereum.specs.declared.bloom.Bloom.{Bloom}
@@ -42,14 +46,14 @@ use Rattle.rlp_ethereum.specs.Address.{address as address_codec}
 use Rattle.rlp_ethereum.specs.Bloom.{bloom as bloom_codec}
 use Rattle.rlp_ethereum.specs.Hash.{hash as hash_codec}
 use Rattle.rlp_ethereum.specs.Recipient.{recipient as recipient_codec, recipient_bytes}
-use Rattle.rlp_show.specs.Lines.{Field, Shape, byte_string, field, fields_lines, fixed_bytes, in_field, line, list_of, list_value_lines, number, optional_lines}
-use Rattle.rlp_show.specs.Lines.{prefix, recipient, record_of, truth_value}
+use Rattle.rlp_show.specs.Lines.{Field, Shape, byte_string, field, fields_lines, fixed_bytes, in_field, line, lines_if, list_of, list_value_lines, may_have}
+use Rattle.rlp_show.specs.Lines.{number, optional, prefix, recipient, record_of, truth_value}
 use Rattle.rlp_show.specs.Records.{access_list_item, access_list_transaction, account, address, bloom, fee_market_transaction, hash, header, legacy_transaction}
 use Rattle.rlp_show.specs.Records.{authorization, blob_transaction, log, receipt, set_code_transaction, withdrawal}
 use Rattle.rlp_show.specs.Text.{bytes_text, number_text}
 use Rattle.rlp_show.specs.StringLemmas.{bytes_given, fixed_given, number_given, recipient_given, truth_given}
-use Rattle.rlp_show.specs.ValueLemmas.{at_least, at_most, both_shown, first_sized, joined_small, list_shown, optional_shown, others_small, record_shown}
-use Rattle.rlp_show.specs.ValueLemmas.{views_of}
+use Rattle.rlp_show.specs.ValueLemmas.{both_shown, first_sized, group_right, group_shown, joined_small, list_shown, optional_right, optional_shown}
+use Rattle.rlp_show.specs.ValueLemmas.{others_small, record_shown, views_of}
 
 -- How the values of a type are shown. `lines` has the lines of a value under a name. The encoding of each value that fits is shown as these lines.
 pub record Display {A : Type 0} (codec : Codec A) (shape : Shape) : Type 0 where
@@ -122,216 +126,196 @@ list_display {c = c} {s = s} values d = record {
   shown = λ name b fit sized. list_shown c.Fits c.item s d.lines d.shown name (values b) (recursion_from_All c.Fits (values b) fit) sized;
 }
 
--- How the fields of a struct are shown, from some field on, by what comes before their names.
+-- How the fields of a struct are shown, from some field on, by what comes before their names. A record may have the number of items of each value that fits.
 pub record FieldsDisplay {P : Type 0} (codec : Fields P) (fields : List Field) : Type 0 where
   pub lines : List ℕ → P → List ℕ
+  pub right : (p : P) → codec.Fits p → may_have fields (codec.reading.count p) ≡ true
   pub shown : (before : List ℕ) (i : ℕ) (p : P) → codec.Fits p → length (join (codec.items p)) < 2 ^ 64
       → fields_lines before i fields (views_of (codec.items p)) ≡ Ok (lines before p)
 
--- the last field
-abbrev pub last_display : {A P : Type 0} {c : Codec A} {s : Shape} (name : List ℕ) (f : P → A) → Display c s
-    → FieldsDisplay (last_field f c) (field name s ∷ [])
-last_display {c = c} name f d = record {
-  lines = λ before p. d.lines (before ++ name) (f p);
-  shown = λ before i p fit small. both_shown _ _ (d.lines (before ++ name) (f p)) []
-      (ap (in_field i) (d.shown (before ++ name) (f p) fit (first_sized (c.item (f p)) [] small))) refl
-      ∙ ap Ok (append-nil (d.lines (before ++ name) (f p)));
-}
+-- no more fields
+abbrev pub end_display : {P : Type 0} → FieldsDisplay {P = P} end []
+end_display = record { lines = λ before p. []; right = λ p fit. refl; shown = λ before i p fit small. refl }
 
 -- a field before others
-abbrev pub and_display : {A P : Type 0} {c : Codec A} {s : Shape} {more : Fields P} {fields : List Field} (name : List ℕ) (f : P → A) → Display c s
-    → FieldsDisplay more fields → FieldsDisplay (and_field f c more) (field name s ∷ fields)
-and_display {c = c} {more = more} name f d others = record {
+abbrev pub field_display : {A P : Type 0} {c : Codec A} {s : Shape} {more : Fields P} {fields : List Field} (name : List ℕ) (f : P → A) → Display c s
+    → FieldsDisplay more fields → FieldsDisplay (field_codec f c more) (field name s ∷ fields)
+field_display {c = c} {more = more} name f d others = record {
   lines = λ before p. d.lines (before ++ name) (f p) ++ others.lines before p;
+  right = λ p fit. others.right p fit.1;
   shown = λ before i p fit small. both_shown _ _ (d.lines (before ++ name) (f p)) (others.lines before p)
       (ap (in_field i) (d.shown (before ++ name) (f p) fit.0 (first_sized (c.item (f p)) (more.items p) small)))
       (others.shown before (i + 1) p fit.1 (others_small (c.item (f p)) (more.items p) small));
 }
 
+-- the last fields, which may be missing together
+abbrev pub optional_group_display : {A P : Type 0} {g : Fields A} {first : Field} {fields : List Field} (f : P → Option A)
+    → FieldsDisplay g (first ∷ fields) → (some : (0 == g.reading.least) ≡ false) → FieldsDisplay (optional_group f g some) (optional first ∷ fields)
+optional_group_display {g = g} {first = first} {fields = fields} f d some = record {
+  lines = λ before p. lines_if (d.lines before) (f p);
+  right = λ p. group_right g.Fits first fields g.reading.count d.right (f p);
+  shown = λ before i p. group_shown g.Fits first fields g.items before i (d.lines before) (d.shown before i) (f p);
+}
+
+-- the last field, which may be missing
+abbrev pub optional_display : {A P : Type 0} {c : Codec A} {s : Shape} (name : List ℕ) (f : P → Option A) → Display c s
+    → FieldsDisplay (optional_codec f c) (optional (field name s) ∷ [])
+optional_display {c = c} {s = s} name f d = record {
+  lines = λ before p. lines_if (d.lines (before ++ name)) (f p);
+  right = λ p. optional_right c.Fits c.item s d.lines d.shown name (f p);
+  shown = λ before i p. optional_shown c.Fits c.item s d.lines d.shown name before i (f p);
+}
+
 -- a struct that is written as the list of its fields
-abbrev pub record_display : {P : Type 0} {f : Fields P} {fields : List Field} → length fields ≡ f.count → FieldsDisplay f fields
-    → Display (struct_of f) (record_of f.count fields)
-record_display {f = f} {fields = fields} all d = record {
+abbrev pub record_display : {P : Type 0} {f : Fields P} {fields : List Field} → FieldsDisplay f fields → Display (struct_of f) (record_of fields)
+record_display {f = f} {fields = fields} d = record {
   lines = λ name p. d.lines (prefix name) p;
-  shown = λ name p fit sized. record_shown f.count fields name (f.items p) (d.lines (prefix name) p) sized (at_least (f.counted p))
-      (at_least (all ∙ sym (f.counted p))) (d.shown (prefix name) 0 p fit (joined_small (f.items p) sized));
+  shown = λ name p fit sized. record_shown fields name (f.items p) (d.lines (prefix name) p) sized (ap (may_have fields) (f.counted p) ∙ d.right p fit)
+      (d.shown (prefix name) 0 p fit (joined_small (f.items p) sized));
 }
 
 abbrev pub withdrawal_display : Display withdrawal_codec withdrawal
-withdrawal_display = record_display refl (
-    and_display (codes "index") (λ (w : Withdrawal). w.index) (number_display 8) (
-    and_display (codes "validator_index") (λ (w : Withdrawal). w.validator_index) (number_display 8) (
-    and_display (codes "address") (λ (w : Withdrawal). w.address) address_display (
-    last_display (codes "amount") (λ (w : Withdrawal). w.amount) (number_display 8)))))
+withdrawal_display = record_display (
+    field_display (codes "index") (λ (w : Withdrawal). w.index) (number_display 8) (
+    field_display (codes "validator_index") (λ (w : Withdrawal). w.validator_index) (number_display 8) (
+    field_display (codes "address") (λ (w : Withdrawal). w.address) address_display (
+    field_display (codes "amount") (λ (w : Withdrawal). w.amount) (number_display 8) end_display))))
 
 abbrev pub account_display : Display account_codec account
-account_display = record_display refl (
-    and_display (codes "nonce") (λ (a : Account). a.nonce) (number_display 8) (
-    and_display (codes "balance") (λ (a : Account). a.balance) (uint_display 32) (
-    and_display (codes "storage_root") (λ (a : Account). a.storage_root) hash_display (
-    last_display (codes "code_hash") (λ (a : Account). a.code_hash) hash_display))))
+account_display = record_display (
+    field_display (codes "nonce") (λ (a : Account). a.nonce) (number_display 8) (
+    field_display (codes "balance") (λ (a : Account). a.balance) (uint_display 32) (
+    field_display (codes "storage_root") (λ (a : Account). a.storage_root) hash_display (
+    field_display (codes "code_hash") (λ (a : Account). a.code_hash) hash_display end_display))))
 
 abbrev pub log_display : Display log_codec log
-log_display = record_display refl (
-    and_display (codes "address") (λ (l : Log). l.address) address_display (
-    and_display (codes "topics") (λ (l : Log). l.topics) (list_display vec_items hash_display) (
-    last_display (codes "data") (λ (l : Log). l.data) (bytes_display vec_items))))
+log_display = record_display (
+    field_display (codes "address") (λ (l : Log). l.address) address_display (
+    field_display (codes "topics") (λ (l : Log). l.topics) (list_display vec_items hash_display) (
+    field_display (codes "data") (λ (l : Log). l.data) (bytes_display vec_items) end_display)))
 
 abbrev pub receipt_display : Display receipt_codec receipt
-receipt_display = record_display refl (
-    and_display (codes "status_or_state_root") (λ (r : Receipt). r.status_or_state_root) (bytes_display vec_items) (
-    and_display (codes "cumulative_gas_used") (λ (r : Receipt). r.cumulative_gas_used) (number_display 8) (
-    and_display (codes "logs_bloom") (λ (r : Receipt). r.logs_bloom) bloom_display (
-    last_display (codes "logs") (λ (r : Receipt). r.logs) (list_display vec_items log_display)))))
+receipt_display = record_display (
+    field_display (codes "status_or_state_root") (λ (r : Receipt). r.status_or_state_root) (bytes_display vec_items) (
+    field_display (codes "cumulative_gas_used") (λ (r : Receipt). r.cumulative_gas_used) (number_display 8) (
+    field_display (codes "logs_bloom") (λ (r : Receipt). r.logs_bloom) bloom_display (
+    field_display (codes "logs") (λ (r : Receipt). r.logs) (list_display vec_items log_display) end_display))))
 
 abbrev pub access_list_item_display : Display access_list_item_codec access_list_item
-access_list_item_display = record_display refl (
-    and_display (codes "address") (λ (a : AccessListItem). a.address) address_display (
-    last_display (codes "storage_keys") (λ (a : AccessListItem). a.storage_keys) (list_display vec_items hash_display)))
+access_list_item_display = record_display (
+    field_display (codes "address") (λ (a : AccessListItem). a.address) address_display (
+    field_display (codes "storage_keys") (λ (a : AccessListItem). a.storage_keys) (list_display vec_items hash_display) end_display))
 
 abbrev pub access_list_display : Display access_list_codec (list_of access_list_item)
 access_list_display = list_display (λ (a : AccessList). vec_items a.0) access_list_item_display
 
 abbrev pub legacy_transaction_display : Display legacy_transaction_codec legacy_transaction
-legacy_transaction_display = record_display refl (
-    and_display (codes "nonce") (λ (l : LegacyTransaction). l.nonce) (number_display 8) (
-    and_display (codes "gas_price") (λ (l : LegacyTransaction). l.gas_price) (uint_display 32) (
-    and_display (codes "gas_limit") (λ (l : LegacyTransaction). l.gas_limit) (number_display 8) (
-    and_display (codes "to") (λ (l : LegacyTransaction). l.to) recipient_display (
-    and_display (codes "value") (λ (l : LegacyTransaction). l.value) (uint_display 32) (
-    and_display (codes "data") (λ (l : LegacyTransaction). l.data) (bytes_display vec_items) (
-    and_display (codes "v") (λ (l : LegacyTransaction). l.v) (uint_display 32) (
-    and_display (codes "r") (λ (l : LegacyTransaction). l.r) (uint_display 32) (
-    last_display (codes "s") (λ (l : LegacyTransaction). l.s) (uint_display 32))))))))))
+legacy_transaction_display = record_display (
+    field_display (codes "nonce") (λ (l : LegacyTransaction). l.nonce) (number_display 8) (
+    field_display (codes "gas_price") (λ (l : LegacyTransaction). l.gas_price) (uint_display 32) (
+    field_display (codes "gas_limit") (λ (l : LegacyTransaction). l.gas_limit) (number_display 8) (
+    field_display (codes "to") (λ (l : LegacyTransaction). l.to) recipient_display (
+    field_display (codes "value") (λ (l : LegacyTransaction). l.value) (uint_display 32) (
+    field_display (codes "data") (λ (l : LegacyTransaction). l.data) (bytes_display vec_items) (
+    field_display (codes "v") (λ (l : LegacyTransaction). l.v) (uint_display 32) (
+    field_display (codes "r") (λ (l : LegacyTransaction). l.r) (uint_display 32) (
+    field_display (codes "s") (λ (l : LegacyTransaction). l.s) (uint_display 32) end_display)))))))))
 
 abbrev pub access_list_transaction_display : Display access_list_transaction_codec access_list_transaction
-access_list_transaction_display = record_display refl (
-    and_display (codes "chain_id") (λ (a : AccessListTransaction). a.chain_id) (number_display 8) (
-    and_display (codes "nonce") (λ (a : AccessListTransaction). a.nonce) (number_display 8) (
-    and_display (codes "gas_price") (λ (a : AccessListTransaction). a.gas_price) (uint_display 32) (
-    and_display (codes "gas_limit") (λ (a : AccessListTransaction). a.gas_limit) (number_display 8) (
-    and_display (codes "to") (λ (a : AccessListTransaction). a.to) recipient_display (
-    and_display (codes "value") (λ (a : AccessListTransaction). a.value) (uint_display 32) (
-    and_display (codes "data") (λ (a : AccessListTransaction). a.data) (bytes_display vec_items) (
-    and_display (codes "access_list") (λ (a : AccessListTransaction). a.access_list) access_list_display (
-    and_display (codes "y_parity") (λ (a : AccessListTransaction). a.y_parity) truth_display (
-    and_display (codes "r") (λ (a : AccessListTransaction). a.r) (uint_display 32) (
-    last_display (codes "s") (λ (a : AccessListTransaction). a.s) (uint_display 32))))))))))))
+access_list_transaction_display = record_display (
+    field_display (codes "chain_id") (λ (a : AccessListTransaction). a.chain_id) (number_display 8) (
+    field_display (codes "nonce") (λ (a : AccessListTransaction). a.nonce) (number_display 8) (
+    field_display (codes "gas_price") (λ (a : AccessListTransaction). a.gas_price) (uint_display 32) (
+    field_display (codes "gas_limit") (λ (a : AccessListTransaction). a.gas_limit) (number_display 8) (
+    field_display (codes "to") (λ (a : AccessListTransaction). a.to) recipient_display (
+    field_display (codes "value") (λ (a : AccessListTransaction). a.value) (uint_display 32) (
+    field_display (codes "data") (λ (a : AccessListTransaction). a.data) (bytes_display vec_items) (
+    field_display (codes "access_list") (λ (a : AccessListTransaction). a.access_list) access_list_display (
+    field_display (codes "y_parity") (λ (a : AccessListTransaction). a.y_parity) truth_display (
+    field_display (codes "r") (λ (a : AccessListTransaction). a.r) (uint_display 32) (
+    field_display (codes "s") (λ (a : AccessListTransaction). a.s) (uint_display 32) end_display)))))))))))
 
 abbrev pub fee_market_transaction_display : Display fee_market_transaction_codec fee_market_transaction
-fee_market_transaction_display = record_display refl (
-    and_display (codes "chain_id") (λ (f : FeeMarketTransaction). f.chain_id) (number_display 8) (
-    and_display (codes "nonce") (λ (f : FeeMarketTransaction). f.nonce) (number_display 8) (
-    and_display (codes "max_priority_fee_per_gas") (λ (f : FeeMarketTransaction). f.max_priority_fee_per_gas) (uint_display 32) (
-    and_display (codes "max_fee_per_gas") (λ (f : FeeMarketTransaction). f.max_fee_per_gas) (uint_display 32) (
-    and_display (codes "gas_limit") (λ (f : FeeMarketTransaction). f.gas_limit) (number_display 8) (
-    and_display (codes "to") (λ (f : FeeMarketTransaction). f.to) recipient_display (
-    and_display (codes "value") (λ (f : FeeMarketTransaction). f.value) (uint_display 32) (
-    and_display (codes "data") (λ (f : FeeMarketTransaction). f.data) (bytes_display vec_items) (
-    and_display (codes "access_list") (λ (f : FeeMarketTransaction). f.access_list) access_list_display (
-    and_display (codes "y_parity") (λ (f : FeeMarketTransaction). f.y_parity) truth_display (
-    and_display (codes "r") (λ (f : FeeMarketTransaction). f.r) (uint_display 32) (
-    last_display (codes "s") (λ (f : FeeMarketTransaction). f.s) (uint_display 32)))))))))))))
+fee_market_transaction_display = record_display (
+    field_display (codes "chain_id") (λ (f : FeeMarketTransaction). f.chain_id) (number_display 8) (
+    field_display (codes "nonce") (λ (f : FeeMarketTransaction). f.nonce) (number_display 8) (
+    field_display (codes "max_priority_fee_per_gas") (λ (f : FeeMarketTransaction). f.max_priority_fee_per_gas) (uint_display 32) (
+    field_display (codes "max_fee_per_gas") (λ (f : FeeMarketTransaction). f.max_fee_per_gas) (uint_display 32) (
+    field_display (codes "gas_limit") (λ (f : FeeMarketTransaction). f.gas_limit) (number_display 8) (
+    field_display (codes "to") (λ (f : FeeMarketTransaction). f.to) recipient_display (
+    field_display (codes "value") (λ (f : FeeMarketTransaction). f.value) (uint_display 32) (
+    field_display (codes "data") (λ (f : FeeMarketTransaction). f.data) (bytes_display vec_items) (
+    field_display (codes "access_list") (λ (f : FeeMarketTransaction). f.access_list) access_list_display (
+    field_display (codes "y_parity") (λ (f : FeeMarketTransaction). f.y_parity) truth_display (
+    field_display (codes "r") (λ (f : FeeMarketTransaction). f.r) (uint_display 32) (
+    field_display (codes "s") (λ (f : FeeMarketTransaction). f.s) (uint_display 32) end_display))))))))))))
 
 abbrev pub blob_transaction_display : Display blob_transaction_codec blob_transaction
-blob_transaction_display = record_display refl (
-    and_display (codes "chain_id") (λ (b : BlobTransaction). b.chain_id) (number_display 8) (
-    and_display (codes "nonce") (λ (b : BlobTransaction). b.nonce) (number_display 8) (
-    and_display (codes "max_priority_fee_per_gas") (λ (b : BlobTransaction). b.max_priority_fee_per_gas) (uint_display 32) (
-    and_display (codes "max_fee_per_gas") (λ (b : BlobTransaction). b.max_fee_per_gas) (uint_display 32) (
-    and_display (codes "gas_limit") (λ (b : BlobTransaction). b.gas_limit) (number_display 8) (
-    and_display (codes "to") (λ (b : BlobTransaction). b.to) address_display (
-    and_display (codes "value") (λ (b : BlobTransaction). b.value) (uint_display 32) (
-    and_display (codes "data") (λ (b : BlobTransaction). b.data) (bytes_display vec_items) (
-    and_display (codes "access_list") (λ (b : BlobTransaction). b.access_list) access_list_display (
-    and_display (codes "max_fee_per_blob_gas") (λ (b : BlobTransaction). b.max_fee_per_blob_gas) (uint_display 32) (
-    and_display (codes "blob_versioned_hashes") (λ (b : BlobTransaction). b.blob_versioned_hashes) (list_display vec_items hash_display) (
-    and_display (codes "y_parity") (λ (b : BlobTransaction). b.y_parity) truth_display (
-    and_display (codes "r") (λ (b : BlobTransaction). b.r) (uint_display 32) (
-    last_display (codes "s") (λ (b : BlobTransaction). b.s) (uint_display 32)))))))))))))))
+blob_transaction_display = record_display (
+    field_display (codes "chain_id") (λ (b : BlobTransaction). b.chain_id) (number_display 8) (
+    field_display (codes "nonce") (λ (b : BlobTransaction). b.nonce) (number_display 8) (
+    field_display (codes "max_priority_fee_per_gas") (λ (b : BlobTransaction). b.max_priority_fee_per_gas) (uint_display 32) (
+    field_display (codes "max_fee_per_gas") (λ (b : BlobTransaction). b.max_fee_per_gas) (uint_display 32) (
+    field_display (codes "gas_limit") (λ (b : BlobTransaction). b.gas_limit) (number_display 8) (
+    field_display (codes "to") (λ (b : BlobTransaction). b.to) address_display (
+    field_display (codes "value") (λ (b : BlobTransaction). b.value) (uint_display 32) (
+    field_display (codes "data") (λ (b : BlobTransaction). b.data) (bytes_display vec_items) (
+    field_display (codes "access_list") (λ (b : BlobTransaction). b.access_list) access_list_display (
+    field_display (codes "max_fee_per_blob_gas") (λ (b : BlobTransaction). b.max_fee_per_blob_gas) (uint_display 32) (
+    field_display (codes "blob_versioned_hashes") (λ (b : BlobTransaction). b.blob_versioned_hashes) (list_display vec_items hash_display) (
+    field_display (codes "y_parity") (λ (b : BlobTransaction). b.y_parity) truth_display (
+    field_display (codes "r") (λ (b : BlobTransaction). b.r) (uint_display 32) (
+    field_display (codes "s") (λ (b : BlobTransaction). b.s) (uint_display 32) end_display))))))))))))))
 
 abbrev pub authorization_display : Display authorization_codec authorization
-authorization_display = record_display refl (
-    and_display (codes "chain_id") (λ (a : Authorization). a.chain_id) (uint_display 32) (
-    and_display (codes "address") (λ (a : Authorization). a.address) address_display (
-    and_display (codes "nonce") (λ (a : Authorization). a.nonce) (number_display 8) (
-    and_display (codes "y_parity") (λ (a : Authorization). a.y_parity) (number_display 1) (
-    and_display (codes "r") (λ (a : Authorization). a.r) (uint_display 32) (
-    last_display (codes "s") (λ (a : Authorization). a.s) (uint_display 32)))))))
+authorization_display = record_display (
+    field_display (codes "chain_id") (λ (a : Authorization). a.chain_id) (uint_display 32) (
+    field_display (codes "address") (λ (a : Authorization). a.address) address_display (
+    field_display (codes "nonce") (λ (a : Authorization). a.nonce) (number_display 8) (
+    field_display (codes "y_parity") (λ (a : Authorization). a.y_parity) (number_display 1) (
+    field_display (codes "r") (λ (a : Authorization). a.r) (uint_display 32) (
+    field_display (codes "s") (λ (a : Authorization). a.s) (uint_display 32) end_display))))))
 
 abbrev pub set_code_transaction_display : Display set_code_transaction_codec set_code_transaction
-set_code_transaction_display = record_display refl (
-    and_display (codes "chain_id") (λ (s : SetCodeTransaction). s.chain_id) (number_display 8) (
-    and_display (codes "nonce") (λ (s : SetCodeTransaction). s.nonce) (number_display 8) (
-    and_display (codes "max_priority_fee_per_gas") (λ (s : SetCodeTransaction). s.max_priority_fee_per_gas) (uint_display 32) (
-    and_display (codes "max_fee_per_gas") (λ (s : SetCodeTransaction). s.max_fee_per_gas) (uint_display 32) (
-    and_display (codes "gas_limit") (λ (s : SetCodeTransaction). s.gas_limit) (number_display 8) (
-    and_display (codes "destination") (λ (s : SetCodeTransaction). s.destination) address_display (
-    and_display (codes "value") (λ (s : SetCodeTransaction). s.value) (uint_display 32) (
-    and_display (codes "data") (λ (s : SetCodeTransaction). s.data) (bytes_display vec_items) (
-    and_display (codes "access_list") (λ (s : SetCodeTransaction). s.access_list) access_list_display (
-    and_display (codes "authorization_list") (λ (s : SetCodeTransaction). s.authorization_list) (list_display vec_items authorization_display) (
-    and_display (codes "y_parity") (λ (s : SetCodeTransaction). s.y_parity) truth_display (
-    and_display (codes "r") (λ (s : SetCodeTransaction). s.r) (uint_display 32) (
-    last_display (codes "s") (λ (s : SetCodeTransaction). s.s) (uint_display 32))))))))))))))
-
--- ---- structs whose last fields may be missing
-
--- The same for fields of which the last may be missing.
-pub record TailedDisplay {P : Type 0} (codec : Tailed P) (fields : List Field) : Type 0 where
-  pub lines : List ℕ → P → List ℕ
-  pub shown : (before : List ℕ) (i : ℕ) (p : P) → codec.Fits p → length (join (codec.items p)) < 2 ^ 64
-      → fields_lines before i fields (views_of (codec.items p)) ≡ Ok (lines before p)
-
--- no more fields
-abbrev pub no_tail_display : {P : Type 0} → TailedDisplay {P = P} no_tail []
-no_tail_display = record { lines = λ before p. []; shown = λ before i p fit small. refl }
-
--- a field that may be missing
-abbrev pub optional_display : {A P : Type 0} {c : Codec A} {s : Shape} {more : Tailed P} {fields : List Field} (name : List ℕ) (f : P → Option A)
-    → Display c s → TailedDisplay more fields → TailedDisplay (and_optional f c more) (field name s ∷ fields)
-optional_display {c = c} {s = s} {more = more} {fields = fields} name f d others = record {
-  lines = λ before p. optional_lines d.lines (before ++ name) (f p) (others.lines before p);
-  shown = λ before i p fit small. optional_shown c.Fits c.item s d.lines d.shown before i (field name s) refl fields (f p) (more.Fits p) (more.items p)
-      (others.lines before p) fit small (λ fits few. others.shown before (i + 1) p fits few);
-}
-
--- a field that is always present
-abbrev pub always_display : {A P : Type 0} {c : Codec A} {s : Shape} {more : Tailed P} {fields : List Field} (name : List ℕ) (f : P → A)
-    → Display c s → TailedDisplay more fields → TailedDisplay (and_always f c more) (field name s ∷ fields)
-always_display name f d others =
-    let optional = optional_display name (λ p. Some (f p)) d others in
-    record { lines = optional.lines; shown = optional.shown }
-
--- a struct that is written as the list of its fields, whose last may be missing
-abbrev pub tailed_display : {P : Type 0} {t : Tailed P} {fields : List Field} → length fields ≡ t.most → TailedDisplay t fields
-    → Display (tailed t) (record_of t.least fields)
-tailed_display {t = t} {fields = fields} all d = record {
-  lines = λ name p. d.lines (prefix name) p;
-  shown = λ name p fit sized. record_shown t.least fields name (t.items p) (d.lines (prefix name) p) sized (t.enough p) (at_most all (t.few p))
-      (d.shown (prefix name) 0 p fit (joined_small (t.items p) sized));
-}
+set_code_transaction_display = record_display (
+    field_display (codes "chain_id") (λ (s : SetCodeTransaction). s.chain_id) (number_display 8) (
+    field_display (codes "nonce") (λ (s : SetCodeTransaction). s.nonce) (number_display 8) (
+    field_display (codes "max_priority_fee_per_gas") (λ (s : SetCodeTransaction). s.max_priority_fee_per_gas) (uint_display 32) (
+    field_display (codes "max_fee_per_gas") (λ (s : SetCodeTransaction). s.max_fee_per_gas) (uint_display 32) (
+    field_display (codes "gas_limit") (λ (s : SetCodeTransaction). s.gas_limit) (number_display 8) (
+    field_display (codes "destination") (λ (s : SetCodeTransaction). s.destination) address_display (
+    field_display (codes "value") (λ (s : SetCodeTransaction). s.value) (uint_display 32) (
+    field_display (codes "data") (λ (s : SetCodeTransaction). s.data) (bytes_display vec_items) (
+    field_display (codes "access_list") (λ (s : SetCodeTransaction). s.access_list) access_list_display (
+    field_display (codes "authorization_list") (λ (s : SetCodeTransaction). s.authorization_list) (list_display vec_items authorization_display) (
+    field_display (codes "y_parity") (λ (s : SetCodeTransaction). s.y_parity) truth_display (
+    field_display (codes "r") (λ (s : SetCodeTransaction). s.r) (uint_display 32) (
+    field_display (codes "s") (λ (s : SetCodeTransaction). s.s) (uint_display 32) end_display)))))))))))))
 
 abbrev pub header_display : Display header_codec header
-header_display = tailed_display refl (
-    always_display (codes "parent_hash") (λ (h : Header). h.parent_hash) hash_display (
-    always_display (codes "ommers_hash") (λ (h : Header). h.ommers_hash) hash_display (
-    always_display (codes "beneficiary") (λ (h : Header). h.beneficiary) address_display (
-    always_display (codes "state_root") (λ (h : Header). h.state_root) hash_display (
-    always_display (codes "transactions_root") (λ (h : Header). h.transactions_root) hash_display (
-    always_display (codes "receipts_root") (λ (h : Header). h.receipts_root) hash_display (
-    always_display (codes "logs_bloom") (λ (h : Header). h.logs_bloom) bloom_display (
-    always_display (codes "difficulty") (λ (h : Header). h.difficulty) (uint_display 32) (
-    always_display (codes "number") (λ (h : Header). h.number) (number_display 8) (
-    always_display (codes "gas_limit") (λ (h : Header). h.gas_limit) (number_display 8) (
-    always_display (codes "gas_used") (λ (h : Header). h.gas_used) (number_display 8) (
-    always_display (codes "timestamp") (λ (h : Header). h.timestamp) (number_display 8) (
-    always_display (codes "extra_data") (λ (h : Header). h.extra_data) (bytes_display vec_items) (
-    always_display (codes "mix_hash") (λ (h : Header). h.mix_hash) hash_display (
-    always_display (codes "nonce") (λ (h : Header). h.nonce) (fixed_display 8) (
-    optional_display (codes "base_fee_per_gas") (λ (h : Header). h.base_fee_per_gas) (uint_display 32) (
-    optional_display (codes "withdrawals_root") (λ (h : Header). h.withdrawals_root) hash_display (
-    optional_display (codes "blob_gas_used") (λ (h : Header). h.blob_gas_used) (number_display 8) (
-    optional_display (codes "excess_blob_gas") (λ (h : Header). h.excess_blob_gas) (number_display 8) (
-    optional_display (codes "parent_beacon_block_root") (λ (h : Header). h.parent_beacon_block_root) hash_display (
-    optional_display (codes "requests_hash") (λ (h : Header). h.requests_hash) hash_display no_tail_display)))))))))))))))))))))
+header_display = record_display (
+    field_display (codes "parent_hash") (λ (h : Header). h.parent_hash) hash_display (
+    field_display (codes "ommers_hash") (λ (h : Header). h.ommers_hash) hash_display (
+    field_display (codes "beneficiary") (λ (h : Header). h.beneficiary) address_display (
+    field_display (codes "state_root") (λ (h : Header). h.state_root) hash_display (
+    field_display (codes "transactions_root") (λ (h : Header). h.transactions_root) hash_display (
+    field_display (codes "receipts_root") (λ (h : Header). h.receipts_root) hash_display (
+    field_display (codes "logs_bloom") (λ (h : Header). h.logs_bloom) bloom_display (
+    field_display (codes "difficulty") (λ (h : Header). h.difficulty) (uint_display 32) (
+    field_display (codes "number") (λ (h : Header). h.number) (number_display 8) (
+    field_display (codes "gas_limit") (λ (h : Header). h.gas_limit) (number_display 8) (
+    field_display (codes "gas_used") (λ (h : Header). h.gas_used) (number_display 8) (
+    field_display (codes "timestamp") (λ (h : Header). h.timestamp) (number_display 8) (
+    field_display (codes "extra_data") (λ (h : Header). h.extra_data) (bytes_display vec_items) (
+    field_display (codes "mix_hash") (λ (h : Header). h.mix_hash) hash_display (
+    field_display (codes "nonce") (λ (h : Header). h.nonce) (fixed_display 8) (
+    optional_group_display (λ (h : Header). h.since_london) (
+    field_display (codes "base_fee_per_gas") (λ (l : London). l.base_fee_per_gas) (uint_display 32) (
+    optional_group_display (λ (l : London). l.since_shanghai) (
+    field_display (codes "withdrawals_root") (λ (s : Shanghai). s.withdrawals_root) hash_display (
+    optional_group_display (λ (s : Shanghai). s.since_cancun) (
+    field_display (codes "blob_gas_used") (λ (c : Cancun). c.blob_gas_used) (number_display 8) (
+    field_display (codes "excess_blob_gas") (λ (c : Cancun). c.excess_blob_gas) (number_display 8) (
+    field_display (codes "parent_beacon_block_root") (λ (c : Cancun). c.parent_beacon_block_root) hash_display (
+    optional_group_display (λ (c : Cancun). c.since_prague) (
+    field_display (codes "requests_hash") (λ (p : Prague). p.requests_hash) hash_display end_display) refl)))) refl)) refl)) refl))))))))))))))))

@@ -1,8 +1,8 @@
 //! Records that are lists of fields.
 
-ghost use Rattle.std.specs.Prelude.{◌≡◌, ◌≤◌, ◌<◌, ◌^◌, ◌+◌, ◌↔◌, ◌++◌, List, length, string_bytes, IsTrue, IfOk};
+ghost use Rattle.std.specs.Prelude.{◌≡◌, ◌<◌, ◌^◌, ◌+◌, ◌++◌, List, length, string_bytes, IfOk};
 ghost use Rattle.rlp_show.specs.Answer.{Shows};
-ghost use Rattle.rlp_show.specs.Lines.{Field, fields_lines, in_field, prefix, record_of};
+ghost use Rattle.rlp_show.specs.Lines.{Field, fields_lines, in_field, may_have, prefix, record_of};
 
 use crate::fault::{ShowFault, in_field};
 use crate::show::Show;
@@ -14,18 +14,20 @@ use std::marker::PhantomData;
 pub struct Named<T> {
     /// The name.
     pub name: &'static str,
+    /// Whether a record may end before the field.
+    pub may_end: bool,
     /// The type, which has no value here.
     pub shown_as: PhantomData<T>,
 }
 
-/// The fields of a record, in order. They are nested pairs: `(a, (b, (c,)))`.
+/// The fields of a record, in order. They are nested pairs that end with `()`: `(a, (b, ()))`.
 pub trait ShowFields {
     /// The fields with their names and shapes.
     ghost fields: { Self → List Field };
 
-    /// Whether there are at least this many fields.
-    fn has_room_for(&self, count: usize) -> bool
-        ensures { IsTrue result ↔ (count ≤ length (fields self.now)) };
+    /// Returns whether a record of the fields may have this number of items.
+    fn accepts(&self, count: usize) -> bool
+        ensures { result ≡ may_have (fields self.now) count };
 
     /// Appends the lines of the fields that are the next items. Fields without an item have none.
     /// `place` is that of the first field in its record. No record has more than 2^64 - 1 items.
@@ -71,40 +73,41 @@ pub(crate) fn joined(alloc: Global, front: &str, back: &str) -> Result<String, A
     Ok(text)
 }
 
-impl<T: Show> ShowFields for (Named<T>,) {
-    ghost use Rattle.std.specs.Prelude.{[], ◌∷◌};
-    ghost use Rattle.rlp_show.specs.Lines.{field};
+/// No more fields.
+impl ShowFields for () {
+    ghost use Rattle.std.specs.Prelude.{[]};
 
-    ghost fields = { λ f. field f.0.name.now T.shape ∷ [] };
+    ghost fields = { λ f. [] };
 
-    fn has_room_for(&self, count: usize) -> bool {
-        count <= 1
+    fn accepts(&self, count: usize) -> bool {
+        count == 0
     }
 
-    #[tactic(auto, using(crate::proofs::FieldLemmas::fields_in_order))]
     fn show_fields(
         &self,
-        alloc: Global,
-        before: &str,
-        place: usize,
-        items: &mut RlpIterator<'_, '_>,
-        out: &mut String,
+        _alloc: Global,
+        _before: &str,
+        _place: usize,
+        _items: &mut RlpIterator<'_, '_>,
+        _out: &mut String,
     ) -> Result<(), ShowFault> {
-        match items.next() {
-            Some(item) => show_field::<T>(alloc, before, place, self.0.name, &item, out),
-            None => Ok(()),
-        }
+        Ok(())
     }
 }
 
+/// A field, and those after it.
 impl<T: Show, Q: ShowFields> ShowFields for (Named<T>, Q) {
     ghost use Rattle.std.specs.Prelude.{◌∷◌};
-    ghost use Rattle.rlp_show.specs.Lines.{field};
 
-    ghost fields = { λ f. field f.0.name.now T.shape ∷ Q.fields f.1 };
+    ghost fields = { λ f.
+        record { name = f.0.name.now; shape = T.shape; may_end = f.0.may_end } ∷ Q.fields f.1 };
 
-    fn has_room_for(&self, count: usize) -> bool {
-        count == 0 || self.1.has_room_for(count - 1)
+    #[tactic(auto, using(crate::proofs::FieldLemmas::numbers_of_items))]
+    fn accepts(&self, count: usize) -> bool {
+        if count == 0 {
+            return self.0.may_end;
+        }
+        self.1.accepts(count - 1)
     }
 
     #[tactic(auto, using(crate::proofs::FieldLemmas::fields_in_order))]
@@ -139,28 +142,26 @@ pub(crate) fn prefix_of(alloc: Global, name: &str) -> Result<String, AllocError>
     joined(alloc, name, ".")
 }
 
-/// Appends the lines of a record of these fields, of which those after the first `least` may be
-/// missing at the end.
+/// Appends the lines of a record of these fields.
 ///
-/// Fails with `Wrong` if the item isn't a list, if it has fewer items than `least` or more than
-/// fields, or if an item isn't one of its field. Fails with `OutOfMemory` if memory is refused.
+/// Fails with `Wrong` if the item isn't a list, if a record may not have its number of items, or if
+/// an item isn't one of its field. Fails with `OutOfMemory` if memory is refused.
 #[tactic(auto, using(crate::proofs::FieldLemmas::fields_in_order))]
 pub fn show_record<F: ShowFields>(
     alloc: Global,
     name: &str,
     item: &Rlp<'_>,
-    least: usize,
     fields: &F,
     out: &mut String,
 ) -> Result<(), ShowFault>
-    ensures { Shows (record_of least (F.fields fields.now) name.now item.now)
+    ensures { Shows (record_of (F.fields fields.now) name.now item.now)
         (string_bytes out.old) (string_bytes out.new) result }
 {
     let count = match item.item_count() {
         Ok(count) => count,
         Err(fault) => return Err(ShowFault::of(alloc, name, &fault)),
     };
-    if count < least || !fields.has_room_for(count) {
+    if !fields.accepts(count) {
         return Err(ShowFault::of(alloc, name, &DecoderError::RlpIncorrectListLen));
     }
     let before = match prefix_of(alloc, name) {
@@ -172,19 +173,25 @@ pub fn show_record<F: ShowFields>(
 }
 
 /// Shows a record whose fields have these names and types. The arguments are the allocator, the
-/// name, the view, the text, the number of fields that are always present, and the fields.
+/// name, the view, the text, and the fields. A record may end before a field whose type has a `?`.
 macro_rules! show_fields {
-    (@nested $name:literal : $type:ty) => {
-        (Named::<$type> { name: $name, shown_as: PhantomData },)
+    (@nested) => {
+        ()
     };
-    (@nested $name:literal : $type:ty, $($others:tt)+) => {
+    (@nested $name:literal : ? $type:ty $(, $($others:tt)*)?) => {
         (
-            Named::<$type> { name: $name, shown_as: PhantomData },
-            show_fields!(@nested $($others)+),
+            Named::<$type> { name: $name, may_end: true, shown_as: PhantomData },
+            show_fields!(@nested $($($others)*)?),
         )
     };
-    ($alloc:expr, $name:expr, $item:expr, $out:expr, $least:expr, $($fields:tt)+) => {
-        show_record($alloc, $name, $item, $least, &show_fields!(@nested $($fields)+), $out)
+    (@nested $name:literal : $type:ty $(, $($others:tt)*)?) => {
+        (
+            Named::<$type> { name: $name, may_end: false, shown_as: PhantomData },
+            show_fields!(@nested $($($others)*)?),
+        )
+    };
+    ($alloc:expr, $name:expr, $item:expr, $out:expr, $($fields:tt)+) => {
+        show_record($alloc, $name, $item, &show_fields!(@nested $($fields)+), $out)
     };
 }
 

@@ -104,7 +104,7 @@ impl Show for Leaf {
     ghost shape = { leaf };
 
     fn show(alloc: Global, name: &str, item: &Rlp<'_>, out: &mut String) -> Result<(), ShowFault> {
-        show_fields!(alloc, name, item, out, 2, "path": Path, "value": Vec<u8>)
+        show_fields!(alloc, name, item, out, "path": Path, "value": Vec<u8>)
     }
 }
 
@@ -114,7 +114,7 @@ impl Show for Extension {
     ghost shape = { extension };
 
     fn show(alloc: Global, name: &str, item: &Rlp<'_>, out: &mut String) -> Result<(), ShowFault> {
-        show_fields!(alloc, name, item, out, 2, "path": Path, "child": Child)
+        show_fields!(alloc, name, item, out, "path": Path, "child": Child)
     }
 }
 
@@ -129,7 +129,6 @@ impl Show for Branch {
             name,
             item,
             out,
-            17,
             "children[0]": Child,
             "children[1]": Child,
             "children[2]": Child,

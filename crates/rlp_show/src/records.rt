@@ -24,7 +24,6 @@ impl Show for Withdrawal {
             name,
             item,
             out,
-            4,
             "index": u64,
             "validator_index": u64,
             "address": Address,
@@ -44,7 +43,6 @@ impl Show for Account {
             name,
             item,
             out,
-            4,
             "nonce": u64,
             "balance": Uint<32>,
             "storage_root": Hash,
@@ -64,7 +62,6 @@ impl Show for Header {
             name,
             item,
             out,
-            15,
             "parent_hash": Hash,
             "ommers_hash": Hash,
             "beneficiary": Address,
@@ -80,12 +77,12 @@ impl Show for Header {
             "extra_data": Vec<u8>,
             "mix_hash": Hash,
             "nonce": [u8; 8],
-            "base_fee_per_gas": Uint<32>,
-            "withdrawals_root": Hash,
-            "blob_gas_used": u64,
+            "base_fee_per_gas": ?Uint<32>,
+            "withdrawals_root": ?Hash,
+            "blob_gas_used": ?u64,
             "excess_blob_gas": u64,
             "parent_beacon_block_root": Hash,
-            "requests_hash": Hash
+            "requests_hash": ?Hash
         )
     }
 }
@@ -101,7 +98,6 @@ impl Show for Log {
             name,
             item,
             out,
-            3,
             "address": Address,
             "topics": Items<Hash>,
             "data": Vec<u8>
@@ -120,7 +116,6 @@ impl Show for Receipt {
             name,
             item,
             out,
-            4,
             "status_or_state_root": Vec<u8>,
             "cumulative_gas_used": u64,
             "logs_bloom": Bloom,
@@ -140,7 +135,6 @@ impl Show for AccessListItem {
             name,
             item,
             out,
-            2,
             "address": Address,
             "storage_keys": Items<Hash>
         )
@@ -158,7 +152,6 @@ impl Show for LegacyTransaction {
             name,
             item,
             out,
-            9,
             "nonce": u64,
             "gas_price": Uint<32>,
             "gas_limit": u64,
@@ -183,7 +176,6 @@ impl Show for AccessListTransaction {
             name,
             item,
             out,
-            11,
             "chain_id": u64,
             "nonce": u64,
             "gas_price": Uint<32>,
@@ -210,7 +202,6 @@ impl Show for FeeMarketTransaction {
             name,
             item,
             out,
-            12,
             "chain_id": u64,
             "nonce": u64,
             "max_priority_fee_per_gas": Uint<32>,
@@ -238,7 +229,6 @@ impl Show for BlobTransaction {
             name,
             item,
             out,
-            14,
             "chain_id": u64,
             "nonce": u64,
             "max_priority_fee_per_gas": Uint<32>,
@@ -268,7 +258,6 @@ impl Show for Authorization {
             name,
             item,
             out,
-            6,
             "chain_id": Uint<32>,
             "address": Address,
             "nonce": u64,
@@ -290,7 +279,6 @@ impl Show for SetCodeTransaction {
             name,
             item,
             out,
-            13,
             "chain_id": u64,
             "nonce": u64,
             "max_priority_fee_per_gas": Uint<32>,
@@ -319,11 +307,10 @@ impl Show for Block {
             name,
             item,
             out,
-            3,
             "header": Header,
             "transactions": Items<Transaction>,
             "ommers": Items<Header>,
-            "withdrawals": Items<Withdrawal>
+            "withdrawals": ?Items<Withdrawal>
         )
     }
 }

@@ -1,4 +1,4 @@
-//! Blocks, and transactions of types 3 and 4.
+//! Blocks, a header of 21 fields, and transactions of types 3 and 4.
 //!
 //! The bytes and all expected lines were written by a Python script from the fields of the records,
 //! in the order of the EIPs and the yellow paper.
@@ -8,7 +8,7 @@ use rlp_show::Kind;
 use std::test::Fail;
 
 /// The kind, the digits of a record, and its lines.
-const BLOCKS: [Row; 5] = [
+const BLOCKS: [Row; 6] = [
     (
         Kind::Transaction,
         &[
@@ -353,6 +353,69 @@ const BLOCKS: [Row; 5] = [
             "transactions: []\n",
             "ommers: []\n",
             "withdrawals: []\n",
+            "\n",
+        ],
+    ),
+    (
+        Kind::Header,
+        &[
+            "f90267a0000102030405060708090a0b0c0d0e0f101112131415161718191a1b1c1d1e1f",
+            "a0ffffffffffffffffffffffffffffffffffffffffffffffffffffffffffffffff945df9",
+            "b87991262f6ba471f09758cde1c0fc1de734a0000102030405060708090a0b0c0d0e0f10",
+            "1112131415161718191a1b1c1d1e1fa0ffffffffffffffffffffffffffffffffffffffff",
+            "ffffffffffffffffffffffffa0000102030405060708090a0b0c0d0e0f10111213141516",
+            "1718191a1b1c1d1e1fb90100010000000000000000000000000000000000000000000000",
+            "000000000000000000000000000000000000000000000000000000000000000000000000",
+            "000000000000000000000000000000000000000000000000000000000000000000000000",
+            "000000000000000000000000000000000000000000000000000000000000000000000000",
+            "000000000000000000000000000000000000000000000000000000000000000000000000",
+            "000000000000000000000000000000000000000000000000000000000000000000000000",
+            "000000000000000000000000000000000000000000000000000000000000000000000000",
+            "000000000000000000000000000000808083c5d4888401ca35428084610bdaa6826869a0",
+            "ffffffffffffffffffffffffffffffffffffffffffffffffffffffffffffffff88000000",
+            "0000000000843b9aca00a0000102030405060708090a0b0c0d0e0f101112131415161718",
+            "191a1b1c1d1e1f8302000080a0000102030405060708090a0b0c0d0e0f10111213141516",
+            "1718191a1b1c1d1e1fa0e3b0c44298fc1c149afbf4c8996fb92427ae41e4649b934ca495",
+            "991b7852b855",
+        ],
+        &[
+            "parent_hash: 0x000102030405060708090a0b0c0d0e0f101112131415161718191a1b1",
+            "c1d1e1f\n",
+            "ommers_hash: 0xfffffffffffffffffffffffffffffffffffffffffffffffffffffffff",
+            "fffffff\n",
+            "beneficiary: 0x5df9b87991262f6ba471f09758cde1c0fc1de734\n",
+            "state_root: 0x000102030405060708090a0b0c0d0e0f101112131415161718191a1b1c",
+            "1d1e1f\n",
+            "transactions_root: 0xfffffffffffffffffffffffffffffffffffffffffffffffffff",
+            "fffffffffffff\n",
+            "receipts_root: 0x000102030405060708090a0b0c0d0e0f101112131415161718191a1",
+            "b1c1d1e1f\n",
+            "logs_bloom: 0x0100000000000000000000000000000000000000000000000000000000",
+            "000000000000000000000000000000000000000000000000000000000000000000000000",
+            "000000000000000000000000000000000000000000000000000000000000000000000000",
+            "000000000000000000000000000000000000000000000000000000000000000000000000",
+            "000000000000000000000000000000000000000000000000000000000000000000000000",
+            "000000000000000000000000000000000000000000000000000000000000000000000000",
+            "000000000000000000000000000000000000000000000000000000000000000000000000",
+            "0000000000000000000080\n",
+            "difficulty: 0\n",
+            "number: 12965000\n",
+            "gas_limit: 30029122\n",
+            "gas_used: 0\n",
+            "timestamp: 1628166822\n",
+            "extra_data: 0x6869\n",
+            "mix_hash: 0xffffffffffffffffffffffffffffffffffffffffffffffffffffffffffff",
+            "ffff\n",
+            "nonce: 0x0000000000000000\n",
+            "base_fee_per_gas: 1000000000\n",
+            "withdrawals_root: 0x000102030405060708090a0b0c0d0e0f10111213141516171819",
+            "1a1b1c1d1e1f\n",
+            "blob_gas_used: 131072\n",
+            "excess_blob_gas: 0\n",
+            "parent_beacon_block_root: 0x000102030405060708090a0b0c0d0e0f101112131415",
+            "161718191a1b1c1d1e1f\n",
+            "requests_hash: 0xe3b0c44298fc1c149afbf4c8996fb92427ae41e4649b934ca495991",
+            "b7852b855\n",
             "\n",
         ],
     ),

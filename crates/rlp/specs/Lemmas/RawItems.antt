@@ -93,6 +93,14 @@ raw_if b is = is
 pub raw_encoding : (b : List ℕ) → length b < 2 ^ 64 → IsRawItem b → encoding (raw_item_of b) ≡ b
 raw_encoding b fits is = encoding-item_within deepest_raw_item b fits (raw_is b is)
 
+-- an encoding is read as its item, if it is no deeper than a raw item
+pub raw_item_of-encoding : (b : List ℕ) (x : Item) → length b < 2 ^ 64 → b ≡ encoding x → item_depth x ≤ deepest_raw_item → raw_item_of b ≡ x
+raw_item_of-encoding b x fits is deep =
+    ap (item_within deepest_raw_item) is
+    ∙ item_within-encoding deepest_raw_item x (front_sized x b [] fits (is ∙ sym (append-nil (encoding x)))) deep
+
+pub ruleset raw_bytes = (raw_is, raw_encoding, raw_item_of-encoding)
+
 -- ---- what a view holds
 
 framed_by : (strict : Bool) (b : List ℕ) (x : Item) → length b < 2 ^ 64 → Holds strict b (encoding x) → BeginsWith b (encoding x)

@@ -3,7 +3,9 @@
 ghost use Rattle.std.specs.Prelude.{◌≡◌, ◌⊎◌, IfOk, IfErr};
 ghost use Rattle.rlp_format.specs.declared.error.DecoderError.TheVariants.{OutOfMemory};
 ghost use Rattle.rlp_format.specs.Views.View.{strict_view_of};
-ghost use Rattle.rlp.specs.Values.RawItem.{IsRawFault, IsRawItem};
+ghost use Rattle.rlp_format.specs.Format.Encoding.{encoding};
+ghost use Rattle.rlp_format.specs.Format.Strict.{IsCanonicalWithin};
+ghost use Rattle.rlp.specs.Values.RawItem.{IsRawFault, IsRawItem, deepest_raw_item, raw_item_of};
 
 use crate::rlpin::Rlp;
 use crate::traits::{Decodable, RoundTrip, Scalar, StrictRead};
@@ -74,9 +76,11 @@ impl RawItem {
     }
 
     /// The bytes: the encoding of the item.
+    #[tactic(auto, using(crate::specs::Lemmas::RawItems::raw_bytes))]
     pub fn as_bytes(&self) -> &[u8]
         ensures bytes { result.now ≡ self.now }
-        ensures canonical { IsRawItem self.now }
+        ensures canonical { IsRawItem self.now × IsCanonicalWithin deepest_raw_item self.now }
+        ensures written { encoding (raw_item_of self.now) ≡ self.now }
     {
         self.bytes.as_slice()
     }

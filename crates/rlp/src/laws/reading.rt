@@ -1,7 +1,9 @@
 //! What is read from the beginning of bytes: strings, numbers, byte strings and text.
 
-ghost use Rattle.std.specs.Prelude.{◌≡◌, ◌<◌, ◌^◌, ℕ, List, Ok, length};
-ghost use Rattle.rlp_format.specs.Format.Item.{string};
+ghost use Rattle.std.specs.Prelude.{◌≡◌, ◌<◌, ◌≤◌, ◌^◌, ℕ, List, Ok, length};
+ghost use Rattle.rlp_format.specs.Format.Encoding.{encoding};
+ghost use Rattle.rlp_format.specs.Format.Item.{Item, item_depth, string};
+ghost use Rattle.rlp.specs.Values.RawItem.{deepest_raw_item, raw_item_of};
 ghost use Rattle.rlp_format.specs.Format.StringReading.{IsString, ReadsString, read_string};
 ghost use Rattle.rlp.specs.Values.ValueReading.{GivesNumber, FaultsAsNumber, GivesBytes, FaultsAsBytes, GivesText, FaultsAsText, GivesBool, FaultsAsBool, HasOneReading};
 ghost use Rattle.rlp_format.specs.Values.Value.{bit, number_item, option_item};
@@ -79,4 +81,11 @@ pub fn option_of_option_is_read<T: Encodable + Decodable>(bytes: &[u8])
 pub fn bool_is_read(bytes: &[u8])
     ensures { HasOneReading (λ b. number_item (bit b)) (λ b. GivesBool (view_of bytes.now) b)
         (λ e. FaultsAsBool (view_of bytes.now) e) }
+{}
+
+/// Bytes that are the encoding of an item of depth at most 256 are a raw item of that item.
+#[tactic(auto, using(crate::specs::Lemmas::RawItems::raw_bytes))]
+pub fn encodings_are_raw_items(bytes: &[u8])
+    ensures { (x : Item) → bytes.now ≡ encoding x → item_depth x ≤ deepest_raw_item
+        → raw_item_of bytes.now ≡ x }
 {}

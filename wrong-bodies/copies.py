@@ -1,0 +1,94 @@
+"""Copies of the tree, in which bodies are checked."""
+
+import shutil
+import subprocess
+import threading
+from pathlib import Path
+
+LEFT_OUT = ("out", "must-fail", "wrong-bodies")
+
+
+def crates_of(root):
+    """The crates of the repository, each with those of the repository that it depends on."""
+    lines = [line.partition("#")[0] for line in (root / "crates.txt").read_text(encoding="utf-8").splitlines()]
+    rows = {line.partition(":")[0].split()[0]: line.partition(":")[2].split() for line in lines if ":" in line}
+    return {name: [crate for crate in below if crate in rows] for name, below in rows.items()}
+
+
+def with_lower(crates, names):
+    """The named crates and all that they rest on, lowest first."""
+    found = []
+    for name in names:
+        for crate in [*with_lower(crates, crates[name]), name]:
+            if crate not in found:
+                found.append(crate)
+    return found
+
+
+class Copy:
+    """A copy of the tree. It takes over the work that was kept of a crate when it is first checked."""
+
+    def __init__(self, root, origin, crates):
+        self.root, self.origin, self.crates = Path(root), Path(origin), crates
+        self.held = set()
+        self.root.mkdir(parents=True)
+        for name in ("crates.txt", "HANDLES"):
+            if (self.origin / name).exists():
+                shutil.copy2(self.origin / name, self.root / name)
+        for part in sorted((self.origin / "crates").glob("*/*")):
+            if part.name not in LEFT_OUT:
+                self.take(part.relative_to(self.origin))
+
+    def take(self, path):
+        """Copies a file or a folder of the tree."""
+        place = self.root / path
+        place.parent.mkdir(parents=True, exist_ok=True)
+        subprocess.run(["cp", "-a", "--reflink=auto", "-T", self.origin / path, place], check=True)
+
+    def fetch(self, crate, whole):
+        """Takes over the work that was kept of a crate; if not whole, only its built library."""
+        out = Path("crates") / crate / "out"
+        path = out if whole else out / "rlib"
+        if path not in self.held and out not in self.held and (self.origin / path).exists():
+            if whole and out / "rlib" in self.held:
+                shutil.rmtree(self.root / out)
+            self.take(path)
+        self.held.add(path)
+
+    def prepare(self, crate):
+        """Takes over the work that was kept of a crate, and the libraries that it rests on."""
+        for lower in with_lower(self.crates, [crate]):
+            self.fetch(lower, lower == crate)
+
+    def check(self, crate, texts=None, jobs=1):
+        """Checks a crate with other texts in some of its files, which are as before afterwards."""
+        folder, kept = self.root / "crates" / crate, {}
+        try:
+            for file, text in (texts or {}).items():
+                kept[file] = (folder / file).read_bytes()
+                (folder / file).write_text(text, encoding="utf-8")
+            ran = subprocess.run(["rt", "check", "--jobs", str(jobs)], cwd=folder, stdin=subprocess.DEVNULL, capture_output=True, text=True, errors="replace")
+        finally:
+            for file, data in kept.items():
+                (folder / file).write_bytes(data)
+        return ran.stdout + ran.stderr
+
+    def text(self, crate, file):
+        return (self.root / "crates" / crate / file).read_text(encoding="utf-8")
+
+
+def check_in_order(base, crates, names, jobs, say):
+    """Checks crates and all below them, those side by side that rest on no other. It returns what each check printed."""
+    order, printed = with_lower(crates, names), {}
+    for crate in order:
+        base.fetch(crate, True)
+    while len(printed) < len(order):
+        ready = [crate for crate in order if crate not in printed and all(lower in printed for lower in crates[crate])]
+        each = max(1, jobs // len(ready))
+        gates = [threading.Thread(target=lambda crate=crate: printed.update({crate: base.check(crate, jobs=each)})) for crate in ready[:jobs]]
+        for gate in gates:
+            gate.start()
+        for gate in gates:
+            gate.join()
+        say(f"checked {', '.join(ready[:jobs])}")
+    return printed
