@@ -332,9 +332,9 @@ macro_rules! decode_fields {
             [$($moves)*
             let $crate::OptionalGroup(group) = $left;
             let $field = match group {
-                Some(($crate::Field(value), rest)) => {
-                    let () = rest;
-                    Some(value)
+                Some(($crate::Field($field), $left)) => {
+                    let () = $left;
+                    Some($field)
                 }
                 None => None,
             };]
@@ -347,9 +347,9 @@ macro_rules! decode_fields {
             [$($moves)*
             let $crate::OptionalGroup(group) = $left;
             let $field = match group {
-                Some(($crate::ListField(values), rest)) => {
-                    let () = rest;
-                    Some(values)
+                Some(($crate::ListField($field), $left)) => {
+                    let () = $left;
+                    Some($field)
                 }
                 None => None,
             };]

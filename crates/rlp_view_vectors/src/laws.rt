@@ -50,6 +50,7 @@ fn laws_of_views_and_values() {
     laws::strict_values_are_read(&LIST);
     laws::strict_option_is_read::<u64>(&LIST);
     laws::list_is_read_back::<u64>(&LIST);
+    laws::encodings_are_raw_items(&LIST);
 }
 
 #[test]
