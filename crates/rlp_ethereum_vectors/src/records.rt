@@ -3,10 +3,9 @@
 use crate::support::{bytes_of, goes_both_ways, wide};
 use rlp::DecoderError;
 use rlp_ethereum::{
-    ACCESS_LIST_TYPE, AccessList, AccessListItem, AccessListTransaction, Account, Address, Bloom, Cancun,
-    FEE_MARKET_TYPE, FeeMarketTransaction, Hash, Header, Log, London, Prague, Receipt, Recipient, Shanghai,
-    Withdrawal,
-    from_envelope, to_envelope,
+    ACCESS_LIST_TYPE, AccessList, AccessListItem, AccessListTransaction, Account, Address, Bloom,
+    Cancun, FEE_MARKET_TYPE, FeeMarketTransaction, Hash, Header, Log, London, Prague, Receipt,
+    Recipient, Shanghai, Withdrawal, from_envelope, to_envelope,
 };
 use std::alloc::{AllocError, Global};
 use std::test::Fail;
