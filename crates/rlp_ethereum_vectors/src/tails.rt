@@ -2,7 +2,7 @@
 //! program.
 
 use crate::support::{bytes_of, goes_both_ways, is_fault, wide};
-use rlp::{DecoderError, Uint};
+use rlp::{DecoderError, FieldFault, Rlp, Uint};
 use rlp_ethereum::{Cancun, Hash, Header, London, Prague, Shanghai};
 use std::alloc::Global;
 use std::test::Fail;
@@ -172,5 +172,46 @@ fn headers_with_tails(rt: HostRuntime) -> Result<(), Fail> {
     for (bytes, fault) in NO_LISTS {
         assert!(rt; is_fault(rlp::decode::<Header>(alloc, bytes).err(), &fault));
     }
+    Ok(())
+}
+
+/// Lists that aren't the fields since London, with the place of the item that isn't read and the
+/// fault: a string, no items, a fee that begins with a zero, and a list in the place of the root of
+/// the withdrawals and of the root of the beacon block.
+const PLACES: [(&str, Option<usize>, DecoderError); 5] = [
+    ("05", None, DecoderError::RlpExpectedToBeList),
+    ("c0", None, DecoderError::RlpIncorrectListLen),
+    ("c100", Some(0), DecoderError::RlpInvalidIndirection),
+    ("c205c0", Some(1), DecoderError::RlpExpectedToBeData),
+    (
+        "e505a008080808080808080808080808080808080808080808080808080808080808080607c0",
+        Some(4),
+        DecoderError::RlpExpectedToBeData,
+    ),
+];
+
+/// Returns the number of the first row of lists that don't have their fault in its place.
+fn places_fail_at(alloc: Global) -> Result<Option<usize>, Fail> {
+    for (row, (list, place, fault)) in PLACES.iter().enumerate() {
+        let bytes = bytes_of(alloc, &[*list])?;
+        let is_fault = match rlp::decode_struct::<London>(alloc, &Rlp::new(bytes.as_slice())) {
+            Ok(_) => false,
+            Err(
+                FieldFault {
+                    place: at,
+                    fault: found,
+                },
+            ) => at == *place && found == *fault,
+        };
+        if !is_fault {
+            return Ok(Some(row));
+        }
+    }
+    Ok(None)
+}
+
+#[test]
+fn faults_have_places(rt: HostRuntime) -> Result<(), Fail> {
+    assert_eq!(rt; places_fail_at(rt.alloc())?, None);
     Ok(())
 }
