@@ -17,7 +17,7 @@ use Rattle.rlp.specs.Values.Sums.{FaultsAsTagged, IsOtherTag, faulty_second, fau
 use Rattle.rlp.specs.Lemmas.WholeLists.{whole_sized}
 use Rattle.rlp.specs.Codec.{Codec, end, field, number, struct_of}
 
--- a codec of two fields, without what is said of no more fields
+-- the codec of two fields, whose `Fits` and `gives` have no `⊤` at the end
 abbrev two_fields : {A B P : Type 0} → (P → A) → Codec A → (P → B) → Codec B → Codec P
 two_fields x c y d =
     let both = struct_of (field x c (field y d end)) in record {

@@ -128,7 +128,7 @@ abbrev pub GivesGroups : {G : Type 0} → ℕ → (ℕ → View → G → Type 0
 GivesGroups width gives i v [] = Unit {0}
 GivesGroups width gives i v (g ∷ gs) = gives i v g × GivesGroups width gives (i + width) v gs
 
--- What is said of field k, if the fields are counted over all groups. Each group has `width` fields, so this is what is said of field k % width of a group.
+-- The property of field k, if the fields are counted over all groups. Each group has `width` fields, so it is the property of field k % width of a group.
 abbrev pub in_group : {A : Type 1} → ℕ → (ℕ → A) → ℕ → A
 in_group width of_field k = of_field (k % width)
 
