@@ -31,8 +31,8 @@ pub use rlp_format::{DecoderError, PayloadInfo, Prototype};
 use rlp_streams::encoded_list;
 pub use rlp_streams::{
     AppendFields, BasicEncoder, Chain, EMPTY_LIST_RLP, Each, Encodable, Flattened, ListOf,
-    NULL_RLP, Optional, OptionalGroupOf, OptionalListOf, RlpStream, Uint, append_envelope,
-    append_struct,
+    NULL_RLP, Optional, OptionalGroupOf, OptionalListOf, RlpStream, Uint, write_envelope,
+    write_struct,
 };
 pub use rlpin::{BasicDecoder, Envelope, Fields, Rlp, RlpIterator};
 use std::alloc::{AllocError, Global};

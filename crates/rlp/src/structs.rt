@@ -229,7 +229,7 @@ pub fn decode_struct<F: DecodeFields>(alloc: Global, rlp: &Rlp<'_>) -> Result<F,
 ///
 /// A reference to a value is one item. `ListOf(&self.keys)` is one item, which is a list.
 /// `Each(&self.children)` is one item for each value. `Flattened(&self.pairs)` is the fields of
-/// each value. Fails as [`append_struct`] does.
+/// each value. Fails as [`write_struct`] does.
 ///
 /// What stands last may be missing: `Optional(&self.base_fee)` is one item if the option is `Some`,
 /// and `OptionalListOf(&self.withdrawals)` is one that is a list. `OptionalGroupOf(&self.since_london)`
@@ -267,7 +267,7 @@ macro_rules! append_fields {
         ($first, $crate::append_fields!(@nested $($others),+))
     };
     (@call $s:expr, $fields:expr) => {
-        match $crate::append_struct($s, &$fields) {
+        match $crate::write_struct($s, &$fields) {
             Ok(()) => Ok(()),
             Err(refused) => Err(refused),
         }

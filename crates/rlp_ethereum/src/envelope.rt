@@ -10,7 +10,7 @@ ghost use Rattle.rlp.specs.Values.Value.{AreAlike};
 ghost use Rattle.rlp_ethereum.specs.Envelope.{FaultsAfter, MayLackAfter, another_type};
 
 use bytes::{BufMut, BytesMut};
-use rlp::{AppendFields, DecoderError, Encodable, RlpStream, StrictRead, append_struct, laws};
+use rlp::{AppendFields, DecoderError, Encodable, RlpStream, StrictRead, laws, write_struct};
 use std::alloc::{AllocError, Global};
 
 /// The type of an [`AccessListTransaction`](crate::AccessListTransaction): EIP-2930.
@@ -49,7 +49,7 @@ pub(crate) fn typed_list<F: AppendFields>(
     ensures { IfOk result (λ b. b.items ≡ kind ∷ encoding (list_of (F.items fields.now))) }
 {
     let mut s = typed_stream(alloc, kind)?;
-    append_struct(&mut s, fields)?;
+    write_struct(&mut s, fields)?;
     Ok(s.out())
 }
 
@@ -61,7 +61,7 @@ pub(crate) fn list_of_fields<F: AppendFields>(
     ensures { IfOk result (λ b. b.items ≡ encoding (list_of (F.items fields.now))) }
 {
     let mut s = RlpStream::new(alloc)?;
-    append_struct(&mut s, fields)?;
+    write_struct(&mut s, fields)?;
     Ok(s.out())
 }
 

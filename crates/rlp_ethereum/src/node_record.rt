@@ -11,7 +11,7 @@ use crate::node_fields::{NodeFields, NodePair};
 use bytes::BytesMut;
 use rlp::{
     Decodable, DecoderError, Encodable, Flattened, Rlp, RlpStream, RoundTrip, StrictRead,
-    append_struct,
+    write_struct,
 };
 use std::alloc::{AllocError, Global};
 use std::cmp::Ordering;
@@ -82,7 +82,7 @@ impl NodeRecord {
     {
         let mut s = RlpStream::new(alloc)?;
         let pairs = self.fields.pairs.as_slice();
-        append_struct(&mut s, &(&self.fields.sequence, Flattened(pairs)))?;
+        write_struct(&mut s, &(&self.fields.sequence, Flattened(pairs)))?;
         Ok(s.out())
     }
 }

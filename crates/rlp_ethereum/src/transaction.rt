@@ -16,8 +16,8 @@ use crate::{
 };
 use bytes::BytesMut;
 use rlp::{
-    Decodable, DecoderError, Encodable, Envelope, Rlp, RlpStream, RoundTrip, StrictRead,
-    append_envelope, laws,
+    Decodable, DecoderError, Encodable, Envelope, Rlp, RlpStream, RoundTrip, StrictRead, laws,
+    write_envelope,
 };
 use std::alloc::{AllocError, Global};
 
@@ -121,10 +121,10 @@ impl Encodable for Transaction {
     fn rlp_append(&self, s: &mut RlpStream) -> Result<(), AllocError> {
         match self {
             Transaction::Legacy(payload) => payload.rlp_append(s),
-            Transaction::AccessList(payload) => append_envelope(s, ACCESS_LIST_TYPE, payload),
-            Transaction::FeeMarket(payload) => append_envelope(s, FEE_MARKET_TYPE, payload),
-            Transaction::Blob(payload) => append_envelope(s, BLOB_TYPE, payload),
-            Transaction::SetCode(payload) => append_envelope(s, SET_CODE_TYPE, payload),
+            Transaction::AccessList(payload) => write_envelope(s, ACCESS_LIST_TYPE, payload),
+            Transaction::FeeMarket(payload) => write_envelope(s, FEE_MARKET_TYPE, payload),
+            Transaction::Blob(payload) => write_envelope(s, BLOB_TYPE, payload),
+            Transaction::SetCode(payload) => write_envelope(s, SET_CODE_TYPE, payload),
         }
     }
 }

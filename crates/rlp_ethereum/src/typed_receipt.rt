@@ -14,8 +14,8 @@ use crate::envelope::{
 };
 use bytes::BytesMut;
 use rlp::{
-    Decodable, DecoderError, Encodable, Envelope, Rlp, RlpStream, RoundTrip, StrictRead,
-    append_envelope, laws,
+    Decodable, DecoderError, Encodable, Envelope, Rlp, RlpStream, RoundTrip, StrictRead, laws,
+    write_envelope,
 };
 use std::alloc::{AllocError, Global};
 
@@ -120,10 +120,10 @@ impl Encodable for TypedReceipt {
     fn rlp_append(&self, s: &mut RlpStream) -> Result<(), AllocError> {
         match self {
             TypedReceipt::Legacy(receipt) => receipt.rlp_append(s),
-            TypedReceipt::AccessList(receipt) => append_envelope(s, ACCESS_LIST_TYPE, receipt),
-            TypedReceipt::FeeMarket(receipt) => append_envelope(s, FEE_MARKET_TYPE, receipt),
-            TypedReceipt::Blob(receipt) => append_envelope(s, BLOB_TYPE, receipt),
-            TypedReceipt::SetCode(receipt) => append_envelope(s, SET_CODE_TYPE, receipt),
+            TypedReceipt::AccessList(receipt) => write_envelope(s, ACCESS_LIST_TYPE, receipt),
+            TypedReceipt::FeeMarket(receipt) => write_envelope(s, FEE_MARKET_TYPE, receipt),
+            TypedReceipt::Blob(receipt) => write_envelope(s, BLOB_TYPE, receipt),
+            TypedReceipt::SetCode(receipt) => write_envelope(s, SET_CODE_TYPE, receipt),
         }
     }
 }

@@ -12,12 +12,12 @@ use bytes::{BufMut, BytesMut};
 use std::alloc::AllocError;
 
 /// Writes the string of the byte `tag` and the encoding of `payload`, as in EIP-2718. Use it in
-/// [`Encodable::rlp_append`] of a type whose values are such strings.
+/// [`Encodable::rlp_append`] of a type whose values are such strings. It counts no item.
 ///
 /// The payload is written into a buffer of its own first. Fails with `AllocError` if memory is
 /// refused, or if the [`Encodable::rlp_append`] of the payload fails.
 #[tactic(auto, using(crate::proofs::Streams::Filling::filling))]
-pub fn append_envelope<T: Encodable>(
+pub fn write_envelope<T: Encodable>(
     s: &mut RlpStream,
     tag: u8,
     payload: &T,

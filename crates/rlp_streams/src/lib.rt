@@ -10,11 +10,11 @@ mod structs;
 mod traits;
 mod whole_list;
 
-pub use envelope::append_envelope;
+pub use envelope::write_envelope;
 pub use impls::Uint;
 pub use stream::{BasicEncoder, Chain, RlpStream, append_list_encoding};
 pub use structs::{
-    AppendFields, Each, Flattened, ListOf, Optional, OptionalGroupOf, OptionalListOf, append_struct,
+    AppendFields, Each, Flattened, ListOf, Optional, OptionalGroupOf, OptionalListOf, write_struct,
 };
 pub use traits::Encodable;
 pub use whole_list::encoded_list;

@@ -94,12 +94,13 @@ impl AppendFields for () {
     }
 }
 
-/// Writes a struct as the list of its fields. `rlp::append_fields!` calls it.
+/// Writes a struct as the list of its fields. Use it in [`Encodable::rlp_append`];
+/// `rlp::append_fields!` calls it.
 ///
 /// Fails with `AllocError` if memory is refused, if the [`Encodable::rlp_append`] of a value fails,
 /// or if the number of items is 2^64 or more.
 #[tactic(auto, using(crate::proofs::Streams::Fields::fields))]
-pub fn append_struct<F: AppendFields>(s: &mut RlpStream, fields: &F) -> Result<(), AllocError>
+pub fn write_struct<F: AppendFields>(s: &mut RlpStream, fields: &F) -> Result<(), AllocError>
     ensures fits { OnOk result (F.fit fields.now) }
     ensures ok { OnOk result (s.new.state ≡ put_item (list_of (F.items fields.now)) s.old.state) }
     ensures refused { OnErr result (GrowsTo s.old.state s.new.state) }

@@ -17,8 +17,8 @@ use crate::unsigned::{
 };
 use bytes::BytesMut;
 use rlp::{
-    Decodable, DecoderError, Encodable, Envelope, Rlp, RlpStream, RoundTrip, StrictRead,
-    append_envelope, laws,
+    Decodable, DecoderError, Encodable, Envelope, Rlp, RlpStream, RoundTrip, StrictRead, laws,
+    write_envelope,
 };
 use std::alloc::{AllocError, Global};
 
@@ -135,14 +135,14 @@ impl Encodable for UnsignedTransaction {
     fn rlp_append(&self, s: &mut RlpStream) -> Result<(), AllocError> {
         match self {
             UnsignedTransaction::Legacy(payload) => payload.rlp_append(s),
-            UnsignedTransaction::AccessList(payload) => append_envelope(
+            UnsignedTransaction::AccessList(payload) => write_envelope(
                 s,
                 ACCESS_LIST_TYPE,
                 payload,
             ),
-            UnsignedTransaction::FeeMarket(payload) => append_envelope(s, FEE_MARKET_TYPE, payload),
-            UnsignedTransaction::Blob(payload) => append_envelope(s, BLOB_TYPE, payload),
-            UnsignedTransaction::SetCode(payload) => append_envelope(s, SET_CODE_TYPE, payload),
+            UnsignedTransaction::FeeMarket(payload) => write_envelope(s, FEE_MARKET_TYPE, payload),
+            UnsignedTransaction::Blob(payload) => write_envelope(s, BLOB_TYPE, payload),
+            UnsignedTransaction::SetCode(payload) => write_envelope(s, SET_CODE_TYPE, payload),
         }
     }
 }

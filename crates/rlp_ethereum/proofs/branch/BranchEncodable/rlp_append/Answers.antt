@@ -16,7 +16,7 @@ returns-in-Ok-append_fields-clause-ok c =
     let last = field (λ (b : Branch). b.value) (byte_string vec_items) end in
     let same : c.as_slice-children.result.now ≡ c.args.self.now.children = search rules in
     let many : length c.args.self.now.children ≡ 16 = ap length (sym same) ∙ c.if-children-ne16.false in
-    let written : c.append_fields-append_struct.new.s.state ≡ put_item
+    let written : c.append_fields-write_struct.new.s.state ≡ put_item
     (list_of (map child.item c.as_slice-children.result.now ++ last.items branch)) c.args.s.now.state = search rules in
     written
     ∙ ap (λ (xs : List Child). put_item (list_of (map child.item xs ++ last.items branch)) c.args.s.now.state) same
