@@ -1,5 +1,7 @@
 //! Access lists: the accounts and the storage that a transaction declares.
 
+ghost use Rattle.rlp_ethereum.specs.Access.{access_list_item, access_list};
+
 use crate::{Address, Hash};
 use rlp::{Decodable, DecoderError, Encodable, ListOf, Rlp, RlpStream, RoundTrip, StrictRead};
 use std::alloc::{AllocError, Global};
@@ -15,8 +17,6 @@ pub struct AccessListItem {
 }
 
 impl Encodable for AccessListItem {
-    ghost use Rattle.rlp_ethereum.specs.Access.{access_list_item};
-
     ghost item = { access_list_item.item };
 
     ghost fits = { access_list_item.Fits };
@@ -27,8 +27,6 @@ impl Encodable for AccessListItem {
 }
 
 impl Decodable for AccessListItem {
-    ghost use Rattle.rlp_ethereum.specs.Access.{access_list_item};
-
     ghost gives = { access_list_item.gives };
 
     ghost faults = { access_list_item.faults };
@@ -48,14 +46,10 @@ impl Decodable for AccessListItem {
 }
 
 impl RoundTrip for AccessListItem {
-    ghost use Rattle.rlp_ethereum.specs.Access.{access_list_item};
-
     ghost round_trip = { access_list_item.reads_back };
 }
 
 impl StrictRead for AccessListItem {
-    ghost use Rattle.rlp_ethereum.specs.Access.{access_list_item};
-
     ghost strict = { access_list_item.reads_strictly };
 }
 
@@ -65,8 +59,6 @@ impl StrictRead for AccessListItem {
 pub struct AccessList(pub Vec<AccessListItem>);
 
 impl Encodable for AccessList {
-    ghost use Rattle.rlp_ethereum.specs.Access.{access_list};
-
     ghost item = { access_list.item };
 
     ghost fits = { access_list.Fits };
@@ -79,8 +71,6 @@ impl Encodable for AccessList {
 }
 
 impl Decodable for AccessList {
-    ghost use Rattle.rlp_ethereum.specs.Access.{access_list};
-
     ghost gives = { access_list.gives };
 
     ghost faults = { access_list.faults };
@@ -94,13 +84,9 @@ impl Decodable for AccessList {
 }
 
 impl RoundTrip for AccessList {
-    ghost use Rattle.rlp_ethereum.specs.Access.{access_list};
-
     ghost round_trip = { access_list.reads_back };
 }
 
 impl StrictRead for AccessList {
-    ghost use Rattle.rlp_ethereum.specs.Access.{access_list};
-
     ghost strict = { access_list.reads_strictly };
 }

@@ -3,7 +3,7 @@
 ghost use Rattle.std.specs.Prelude.{◌≡◌, ◌∷◌, IfOk, take};
 ghost use Rattle.rlp.specs.Format.Encoding.{encoding};
 ghost use Rattle.rlp.specs.Format.Item.{list_of};
-ghost use Rattle.rlp_ethereum.specs.AccessListTransaction.{access_list_transaction_fields};
+ghost use Rattle.rlp_ethereum.specs.AccessListTransaction.{access_list_transaction_fields, access_list_transaction};
 
 use crate::envelope::{ACCESS_LIST_TYPE, typed_list};
 use crate::{AccessList, Recipient};
@@ -66,8 +66,6 @@ impl AccessListTransaction {
 }
 
 impl Encodable for AccessListTransaction {
-    ghost use Rattle.rlp_ethereum.specs.AccessListTransaction.{access_list_transaction};
-
     ghost item = { access_list_transaction.item };
 
     ghost fits = { access_list_transaction.Fits };
@@ -91,8 +89,6 @@ impl Encodable for AccessListTransaction {
 }
 
 impl Decodable for AccessListTransaction {
-    ghost use Rattle.rlp_ethereum.specs.AccessListTransaction.{access_list_transaction};
-
     ghost gives = { access_list_transaction.gives };
 
     ghost faults = { access_list_transaction.faults };
@@ -121,13 +117,9 @@ impl Decodable for AccessListTransaction {
 }
 
 impl RoundTrip for AccessListTransaction {
-    ghost use Rattle.rlp_ethereum.specs.AccessListTransaction.{access_list_transaction};
-
     ghost round_trip = { access_list_transaction.reads_back };
 }
 
 impl StrictRead for AccessListTransaction {
-    ghost use Rattle.rlp_ethereum.specs.AccessListTransaction.{access_list_transaction};
-
     ghost strict = { access_list_transaction.reads_strictly };
 }

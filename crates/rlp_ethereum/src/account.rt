@@ -1,5 +1,7 @@
 //! Accounts of the trie of the state.
 
+ghost use Rattle.rlp_ethereum.specs.Account.{account};
+
 use crate::Hash;
 use rlp::{Decodable, DecoderError, Encodable, Rlp, RlpStream, RoundTrip, StrictRead, Uint};
 use std::alloc::{AllocError, Global};
@@ -21,8 +23,6 @@ pub struct Account {
 }
 
 impl Encodable for Account {
-    ghost use Rattle.rlp_ethereum.specs.Account.{account};
-
     ghost item = { account.item };
 
     ghost fits = { account.Fits };
@@ -39,8 +39,6 @@ impl Encodable for Account {
 }
 
 impl Decodable for Account {
-    ghost use Rattle.rlp_ethereum.specs.Account.{account};
-
     ghost gives = { account.gives };
 
     ghost faults = { account.faults };
@@ -62,13 +60,9 @@ impl Decodable for Account {
 }
 
 impl RoundTrip for Account {
-    ghost use Rattle.rlp_ethereum.specs.Account.{account};
-
     ghost round_trip = { account.reads_back };
 }
 
 impl StrictRead for Account {
-    ghost use Rattle.rlp_ethereum.specs.Account.{account};
-
     ghost strict = { account.reads_strictly };
 }

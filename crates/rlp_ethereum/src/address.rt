@@ -1,5 +1,7 @@
 //! Addresses of accounts: strings of 20 bytes.
 
+ghost use Rattle.rlp_ethereum.specs.Address.{address};
+
 use rlp::{Decodable, DecoderError, Encodable, Rlp, RlpStream, RoundTrip, StrictRead};
 use std::alloc::{AllocError, Global};
 
@@ -11,8 +13,6 @@ pub struct Address(pub [u8; 20]);
 
 /// Written as the array of the bytes is.
 impl Encodable for Address {
-    ghost use Rattle.rlp_ethereum.specs.Address.{address};
-
     ghost item = { address.item };
 
     ghost fits = { address.Fits };
@@ -25,8 +25,6 @@ impl Encodable for Address {
 /// Read as the array of the bytes is. Fails with `RlpIsTooShort` if the string is shorter, and with
 /// `RlpIsTooBig` if it is longer. It takes no memory.
 impl Decodable for Address {
-    ghost use Rattle.rlp_ethereum.specs.Address.{address};
-
     ghost gives = { address.gives };
 
     ghost faults = { address.faults };
@@ -40,13 +38,9 @@ impl Decodable for Address {
 }
 
 impl RoundTrip for Address {
-    ghost use Rattle.rlp_ethereum.specs.Address.{address};
-
     ghost round_trip = { address.reads_back };
 }
 
 impl StrictRead for Address {
-    ghost use Rattle.rlp_ethereum.specs.Address.{address};
-
     ghost strict = { address.reads_strictly };
 }

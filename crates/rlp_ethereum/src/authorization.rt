@@ -3,7 +3,7 @@
 ghost use Rattle.std.specs.Prelude.{◌≡◌, ◌∷◌, IfOk, take};
 ghost use Rattle.rlp.specs.Format.Encoding.{encoding};
 ghost use Rattle.rlp.specs.Format.Item.{list_of};
-ghost use Rattle.rlp_ethereum.specs.Authorization.{authorization_fields};
+ghost use Rattle.rlp_ethereum.specs.Authorization.{authorization_fields, authorization};
 
 use crate::Address;
 use crate::envelope::typed_list;
@@ -45,8 +45,6 @@ impl Authorization {
 }
 
 impl Encodable for Authorization {
-    ghost use Rattle.rlp_ethereum.specs.Authorization.{authorization};
-
     ghost item = { authorization.item };
 
     ghost fits = { authorization.Fits };
@@ -65,8 +63,6 @@ impl Encodable for Authorization {
 }
 
 impl Decodable for Authorization {
-    ghost use Rattle.rlp_ethereum.specs.Authorization.{authorization};
-
     ghost gives = { authorization.gives };
 
     ghost faults = { authorization.faults };
@@ -90,13 +86,9 @@ impl Decodable for Authorization {
 }
 
 impl RoundTrip for Authorization {
-    ghost use Rattle.rlp_ethereum.specs.Authorization.{authorization};
-
     ghost round_trip = { authorization.reads_back };
 }
 
 impl StrictRead for Authorization {
-    ghost use Rattle.rlp_ethereum.specs.Authorization.{authorization};
-
     ghost strict = { authorization.reads_strictly };
 }

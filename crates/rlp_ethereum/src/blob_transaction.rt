@@ -3,7 +3,7 @@
 ghost use Rattle.std.specs.Prelude.{◌≡◌, ◌∷◌, IfOk, take};
 ghost use Rattle.rlp.specs.Format.Encoding.{encoding};
 ghost use Rattle.rlp.specs.Format.Item.{list_of};
-ghost use Rattle.rlp_ethereum.specs.BlobTransaction.{blob_transaction_fields};
+ghost use Rattle.rlp_ethereum.specs.BlobTransaction.{blob_transaction_fields, blob_transaction};
 
 use crate::envelope::{BLOB_TYPE, typed_list};
 use crate::{AccessList, Address, Hash};
@@ -78,8 +78,6 @@ impl BlobTransaction {
 }
 
 impl Encodable for BlobTransaction {
-    ghost use Rattle.rlp_ethereum.specs.BlobTransaction.{blob_transaction};
-
     ghost item = { blob_transaction.item };
 
     ghost fits = { blob_transaction.Fits };
@@ -106,8 +104,6 @@ impl Encodable for BlobTransaction {
 }
 
 impl Decodable for BlobTransaction {
-    ghost use Rattle.rlp_ethereum.specs.BlobTransaction.{blob_transaction};
-
     ghost gives = { blob_transaction.gives };
 
     ghost faults = { blob_transaction.faults };
@@ -139,13 +135,9 @@ impl Decodable for BlobTransaction {
 }
 
 impl RoundTrip for BlobTransaction {
-    ghost use Rattle.rlp_ethereum.specs.BlobTransaction.{blob_transaction};
-
     ghost round_trip = { blob_transaction.reads_back };
 }
 
 impl StrictRead for BlobTransaction {
-    ghost use Rattle.rlp_ethereum.specs.BlobTransaction.{blob_transaction};
-
     ghost strict = { blob_transaction.reads_strictly };
 }

@@ -1,5 +1,7 @@
 //! Blocks.
 
+ghost use Rattle.rlp_ethereum.specs.Block.{block};
+
 use crate::{Header, Transaction, Withdrawals};
 use rlp::{
     Decodable, DecoderError, Encodable, ListOf, Optional, Rlp, RlpStream, RoundTrip, StrictRead,
@@ -20,8 +22,6 @@ pub struct Block {
 }
 
 impl Encodable for Block {
-    ghost use Rattle.rlp_ethereum.specs.Block.{block};
-
     ghost item = { block.item };
 
     ghost fits = { block.Fits };
@@ -38,8 +38,6 @@ impl Encodable for Block {
 }
 
 impl Decodable for Block {
-    ghost use Rattle.rlp_ethereum.specs.Block.{block};
-
     ghost gives = { block.gives };
 
     ghost faults = { block.faults };
@@ -61,13 +59,9 @@ impl Decodable for Block {
 }
 
 impl RoundTrip for Block {
-    ghost use Rattle.rlp_ethereum.specs.Block.{block};
-
     ghost round_trip = { block.reads_back };
 }
 
 impl StrictRead for Block {
-    ghost use Rattle.rlp_ethereum.specs.Block.{block};
-
     ghost strict = { block.reads_strictly };
 }

@@ -1,5 +1,7 @@
 //! Filters of logs: strings of 256 bytes.
 
+ghost use Rattle.rlp_ethereum.specs.Bloom.{bloom};
+
 use rlp::{Decodable, DecoderError, Encodable, Rlp, RlpStream, RoundTrip, StrictRead};
 use std::alloc::{AllocError, Global};
 
@@ -11,8 +13,6 @@ pub struct Bloom(pub [u8; 256]);
 
 /// Written as the array of the bytes is.
 impl Encodable for Bloom {
-    ghost use Rattle.rlp_ethereum.specs.Bloom.{bloom};
-
     ghost item = { bloom.item };
 
     ghost fits = { bloom.Fits };
@@ -25,8 +25,6 @@ impl Encodable for Bloom {
 /// Read as the array of the bytes is. Fails with `RlpIsTooShort` if the string is shorter, and with
 /// `RlpIsTooBig` if it is longer. It takes no memory.
 impl Decodable for Bloom {
-    ghost use Rattle.rlp_ethereum.specs.Bloom.{bloom};
-
     ghost gives = { bloom.gives };
 
     ghost faults = { bloom.faults };
@@ -40,13 +38,9 @@ impl Decodable for Bloom {
 }
 
 impl RoundTrip for Bloom {
-    ghost use Rattle.rlp_ethereum.specs.Bloom.{bloom};
-
     ghost round_trip = { bloom.reads_back };
 }
 
 impl StrictRead for Bloom {
-    ghost use Rattle.rlp_ethereum.specs.Bloom.{bloom};
-
     ghost strict = { bloom.reads_strictly };
 }

@@ -1,5 +1,7 @@
 //! Bodies of blocks.
 
+ghost use Rattle.rlp_ethereum.specs.Body.{body};
+
 use crate::{Header, Transaction, Withdrawals};
 use rlp::{
     Decodable, DecoderError, Encodable, ListOf, Optional, Rlp, RlpStream, RoundTrip, StrictRead,
@@ -18,8 +20,6 @@ pub struct Body {
 }
 
 impl Encodable for Body {
-    ghost use Rattle.rlp_ethereum.specs.Body.{body};
-
     ghost item = { body.item };
 
     ghost fits = { body.Fits };
@@ -35,8 +35,6 @@ impl Encodable for Body {
 }
 
 impl Decodable for Body {
-    ghost use Rattle.rlp_ethereum.specs.Body.{body};
-
     ghost gives = { body.gives };
 
     ghost faults = { body.faults };
@@ -57,13 +55,9 @@ impl Decodable for Body {
 }
 
 impl RoundTrip for Body {
-    ghost use Rattle.rlp_ethereum.specs.Body.{body};
-
     ghost round_trip = { body.reads_back };
 }
 
 impl StrictRead for Body {
-    ghost use Rattle.rlp_ethereum.specs.Body.{body};
-
     ghost strict = { body.reads_strictly };
 }

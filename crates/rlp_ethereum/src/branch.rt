@@ -1,5 +1,7 @@
 //! Branches of the trie: the list of sixteen children and a value.
 
+ghost use Rattle.rlp_ethereum.specs.Trie.{branch};
+
 use crate::Child;
 use rlp::{Decodable, DecoderError, Each, Encodable, Rlp, RlpStream, RoundTrip, StrictRead};
 use std::alloc::{AllocError, Global};
@@ -17,8 +19,6 @@ pub struct Branch {
 }
 
 impl Encodable for Branch {
-    ghost use Rattle.rlp_ethereum.specs.Trie.{branch};
-
     ghost item = { branch.item };
 
     ghost fits = { branch.Fits };
@@ -35,8 +35,6 @@ impl Encodable for Branch {
 }
 
 impl Decodable for Branch {
-    ghost use Rattle.rlp_ethereum.specs.Trie.{branch};
-
     ghost gives = { branch.gives };
 
     ghost faults = { branch.faults };
@@ -56,13 +54,9 @@ impl Decodable for Branch {
 }
 
 impl RoundTrip for Branch {
-    ghost use Rattle.rlp_ethereum.specs.Trie.{branch};
-
     ghost round_trip = { branch.reads_back };
 }
 
 impl StrictRead for Branch {
-    ghost use Rattle.rlp_ethereum.specs.Trie.{branch};
-
     ghost strict = { branch.reads_strictly };
 }

@@ -5,6 +5,7 @@ ghost use Rattle.rlp.specs.DecoderError.TheVariants.{OutOfMemory};
 ghost use Rattle.rlp.specs.Format.Encoding.{encoding};
 ghost use Rattle.rlp.specs.Values.RawItem.{IsRawItem};
 ghost use Rattle.rlp_ethereum.specs.Child.{IsChild, IsChildFault, IsInlineNode, child_item};
+ghost use Rattle.rlp_ethereum.specs.ChildLaws.{child};
 
 use crate::Hash;
 use rlp::{Decodable, DecoderError, Encodable, RawItem, Rlp, RlpStream, RoundTrip, StrictRead};
@@ -25,8 +26,6 @@ pub enum Child {
 }
 
 impl Encodable for Child {
-    ghost use Rattle.rlp_ethereum.specs.ChildLaws.{child};
-
     ghost item = { child.item };
 
     ghost fits = { child.Fits };
@@ -53,8 +52,6 @@ impl Encodable for Child {
 /// `RlpIsTooBig` for a string of more than 32 bytes or a list of 32 bytes or more, and as
 /// [`RawItem::new`] does.
 impl Decodable for Child {
-    ghost use Rattle.rlp_ethereum.specs.ChildLaws.{child};
-
     ghost gives = { child.gives };
 
     ghost faults = { child.faults };
@@ -75,14 +72,10 @@ impl Decodable for Child {
 }
 
 impl RoundTrip for Child {
-    ghost use Rattle.rlp_ethereum.specs.ChildLaws.{child};
-
     ghost round_trip = { child.reads_back };
 }
 
 impl StrictRead for Child {
-    ghost use Rattle.rlp_ethereum.specs.ChildLaws.{child};
-
     ghost strict = { child.reads_strictly };
 }
 

@@ -1,5 +1,7 @@
 //! Extensions of the trie: the list of a part of the path and a child.
 
+ghost use Rattle.rlp_ethereum.specs.Trie.{extension};
+
 use crate::Child;
 use rlp::{Decodable, DecoderError, Encodable, Rlp, RlpStream, RoundTrip, StrictRead};
 use std::alloc::{AllocError, Global};
@@ -17,8 +19,6 @@ pub struct Extension {
 }
 
 impl Encodable for Extension {
-    ghost use Rattle.rlp_ethereum.specs.Trie.{extension};
-
     ghost item = { extension.item };
 
     ghost fits = { extension.Fits };
@@ -29,8 +29,6 @@ impl Encodable for Extension {
 }
 
 impl Decodable for Extension {
-    ghost use Rattle.rlp_ethereum.specs.Trie.{extension};
-
     ghost gives = { extension.gives };
 
     ghost faults = { extension.faults };
@@ -43,13 +41,9 @@ impl Decodable for Extension {
 }
 
 impl RoundTrip for Extension {
-    ghost use Rattle.rlp_ethereum.specs.Trie.{extension};
-
     ghost round_trip = { extension.reads_back };
 }
 
 impl StrictRead for Extension {
-    ghost use Rattle.rlp_ethereum.specs.Trie.{extension};
-
     ghost strict = { extension.reads_strictly };
 }

@@ -3,7 +3,7 @@
 ghost use Rattle.std.specs.Prelude.{◌≡◌, ◌∷◌, IfOk, take};
 ghost use Rattle.rlp.specs.Format.Encoding.{encoding};
 ghost use Rattle.rlp.specs.Format.Item.{list_of};
-ghost use Rattle.rlp_ethereum.specs.FeeMarketTransaction.{fee_market_transaction_fields};
+ghost use Rattle.rlp_ethereum.specs.FeeMarketTransaction.{fee_market_transaction_fields, fee_market_transaction};
 
 use crate::envelope::{FEE_MARKET_TYPE, typed_list};
 use crate::{AccessList, Recipient};
@@ -69,8 +69,6 @@ impl FeeMarketTransaction {
 }
 
 impl Encodable for FeeMarketTransaction {
-    ghost use Rattle.rlp_ethereum.specs.FeeMarketTransaction.{fee_market_transaction};
-
     ghost item = { fee_market_transaction.item };
 
     ghost fits = { fee_market_transaction.Fits };
@@ -95,8 +93,6 @@ impl Encodable for FeeMarketTransaction {
 }
 
 impl Decodable for FeeMarketTransaction {
-    ghost use Rattle.rlp_ethereum.specs.FeeMarketTransaction.{fee_market_transaction};
-
     ghost gives = { fee_market_transaction.gives };
 
     ghost faults = { fee_market_transaction.faults };
@@ -126,13 +122,9 @@ impl Decodable for FeeMarketTransaction {
 }
 
 impl RoundTrip for FeeMarketTransaction {
-    ghost use Rattle.rlp_ethereum.specs.FeeMarketTransaction.{fee_market_transaction};
-
     ghost round_trip = { fee_market_transaction.reads_back };
 }
 
 impl StrictRead for FeeMarketTransaction {
-    ghost use Rattle.rlp_ethereum.specs.FeeMarketTransaction.{fee_market_transaction};
-
     ghost strict = { fee_market_transaction.reads_strictly };
 }

@@ -1,5 +1,7 @@
 //! Hashes: strings of 32 bytes.
 
+ghost use Rattle.rlp_ethereum.specs.Hash.{hash};
+
 use rlp::{Decodable, DecoderError, Encodable, Rlp, RlpStream, RoundTrip, StrictRead};
 use std::alloc::{AllocError, Global};
 
@@ -11,8 +13,6 @@ pub struct Hash(pub [u8; 32]);
 
 /// Written as the array of the bytes is.
 impl Encodable for Hash {
-    ghost use Rattle.rlp_ethereum.specs.Hash.{hash};
-
     ghost item = { hash.item };
 
     ghost fits = { hash.Fits };
@@ -25,8 +25,6 @@ impl Encodable for Hash {
 /// Read as the array of the bytes is. Fails with `RlpIsTooShort` if the string is shorter, and with
 /// `RlpIsTooBig` if it is longer. It takes no memory.
 impl Decodable for Hash {
-    ghost use Rattle.rlp_ethereum.specs.Hash.{hash};
-
     ghost gives = { hash.gives };
 
     ghost faults = { hash.faults };
@@ -40,13 +38,9 @@ impl Decodable for Hash {
 }
 
 impl RoundTrip for Hash {
-    ghost use Rattle.rlp_ethereum.specs.Hash.{hash};
-
     ghost round_trip = { hash.reads_back };
 }
 
 impl StrictRead for Hash {
-    ghost use Rattle.rlp_ethereum.specs.Hash.{hash};
-
     ghost strict = { hash.reads_strictly };
 }

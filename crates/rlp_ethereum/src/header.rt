@@ -2,7 +2,7 @@
 
 ghost use Rattle.std.specs.Option.{option_copied};
 ghost use Rattle.std.specs.Prelude.{◌≡◌, option_map};
-ghost use Rattle.rlp_ethereum.specs.Header.{since_cancun, since_prague, since_shanghai};
+ghost use Rattle.rlp_ethereum.specs.Header.{since_cancun, since_prague, since_shanghai, header};
 
 mod forks;
 
@@ -152,8 +152,6 @@ impl Header {
 }
 
 impl Encodable for Header {
-    ghost use Rattle.rlp_ethereum.specs.Header.{header};
-
     ghost item = { header.item };
 
     ghost fits = { header.Fits };
@@ -182,8 +180,6 @@ impl Encodable for Header {
 }
 
 impl Decodable for Header {
-    ghost use Rattle.rlp_ethereum.specs.Header.{header};
-
     ghost gives = { header.gives };
 
     ghost faults = { header.faults };
@@ -217,13 +213,9 @@ impl Decodable for Header {
 }
 
 impl RoundTrip for Header {
-    ghost use Rattle.rlp_ethereum.specs.Header.{header};
-
     ghost round_trip = { header.reads_back };
 }
 
 impl StrictRead for Header {
-    ghost use Rattle.rlp_ethereum.specs.Header.{header};
-
     ghost strict = { header.reads_strictly };
 }

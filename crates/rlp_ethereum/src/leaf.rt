@@ -1,5 +1,7 @@
 //! Leaves of the trie: the list of the rest of the path and the value.
 
+ghost use Rattle.rlp_ethereum.specs.Trie.{leaf};
+
 use rlp::{Decodable, DecoderError, Encodable, Rlp, RlpStream, RoundTrip, StrictRead};
 use std::alloc::{AllocError, Global};
 
@@ -16,8 +18,6 @@ pub struct Leaf {
 }
 
 impl Encodable for Leaf {
-    ghost use Rattle.rlp_ethereum.specs.Trie.{leaf};
-
     ghost item = { leaf.item };
 
     ghost fits = { leaf.Fits };
@@ -28,8 +28,6 @@ impl Encodable for Leaf {
 }
 
 impl Decodable for Leaf {
-    ghost use Rattle.rlp_ethereum.specs.Trie.{leaf};
-
     ghost gives = { leaf.gives };
 
     ghost faults = { leaf.faults };
@@ -42,13 +40,9 @@ impl Decodable for Leaf {
 }
 
 impl RoundTrip for Leaf {
-    ghost use Rattle.rlp_ethereum.specs.Trie.{leaf};
-
     ghost round_trip = { leaf.reads_back };
 }
 
 impl StrictRead for Leaf {
-    ghost use Rattle.rlp_ethereum.specs.Trie.{leaf};
-
     ghost strict = { leaf.reads_strictly };
 }

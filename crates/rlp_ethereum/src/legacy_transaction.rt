@@ -4,7 +4,7 @@ ghost use Rattle.std.specs.Prelude.{◌≡◌, ◌++◌, ◌∷◌, [], IfOk, ta
 ghost use Rattle.rlp.specs.Format.Encoding.{encoding};
 ghost use Rattle.rlp.specs.Format.Item.{list_of};
 ghost use Rattle.rlp.specs.Values.Value.{number_item};
-ghost use Rattle.rlp_ethereum.specs.LegacyTransaction.{legacy_transaction_fields};
+ghost use Rattle.rlp_ethereum.specs.LegacyTransaction.{legacy_transaction_fields, legacy_transaction};
 
 use crate::Recipient;
 use crate::envelope::list_of_fields;
@@ -88,8 +88,6 @@ impl LegacyTransaction {
 }
 
 impl Encodable for LegacyTransaction {
-    ghost use Rattle.rlp_ethereum.specs.LegacyTransaction.{legacy_transaction};
-
     ghost item = { legacy_transaction.item };
 
     ghost fits = { legacy_transaction.Fits };
@@ -111,8 +109,6 @@ impl Encodable for LegacyTransaction {
 }
 
 impl Decodable for LegacyTransaction {
-    ghost use Rattle.rlp_ethereum.specs.LegacyTransaction.{legacy_transaction};
-
     ghost gives = { legacy_transaction.gives };
 
     ghost faults = { legacy_transaction.faults };
@@ -139,13 +135,9 @@ impl Decodable for LegacyTransaction {
 }
 
 impl RoundTrip for LegacyTransaction {
-    ghost use Rattle.rlp_ethereum.specs.LegacyTransaction.{legacy_transaction};
-
     ghost round_trip = { legacy_transaction.reads_back };
 }
 
 impl StrictRead for LegacyTransaction {
-    ghost use Rattle.rlp_ethereum.specs.LegacyTransaction.{legacy_transaction};
-
     ghost strict = { legacy_transaction.reads_strictly };
 }

@@ -1,5 +1,7 @@
 //! Logs that contracts emit.
 
+ghost use Rattle.rlp_ethereum.specs.Log.{log};
+
 use crate::{Address, Hash};
 use rlp::{Decodable, DecoderError, Encodable, ListOf, Rlp, RlpStream, RoundTrip, StrictRead};
 use std::alloc::{AllocError, Global};
@@ -19,8 +21,6 @@ pub struct Log {
 }
 
 impl Encodable for Log {
-    ghost use Rattle.rlp_ethereum.specs.Log.{log};
-
     ghost item = { log.item };
 
     ghost fits = { log.Fits };
@@ -31,8 +31,6 @@ impl Encodable for Log {
 }
 
 impl Decodable for Log {
-    ghost use Rattle.rlp_ethereum.specs.Log.{log};
-
     ghost gives = { log.gives };
 
     ghost faults = { log.faults };
@@ -53,13 +51,9 @@ impl Decodable for Log {
 }
 
 impl RoundTrip for Log {
-    ghost use Rattle.rlp_ethereum.specs.Log.{log};
-
     ghost round_trip = { log.reads_back };
 }
 
 impl StrictRead for Log {
-    ghost use Rattle.rlp_ethereum.specs.Log.{log};
-
     ghost strict = { log.reads_strictly };
 }

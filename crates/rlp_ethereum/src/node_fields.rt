@@ -1,7 +1,8 @@
 //! The fields of a node record.
 
-ghost use Rattle.std.specs.Prelude.{◌≡◌, OnOk, IfOk};
+ghost use Rattle.std.specs.Prelude.{◌≡◌, OnOk, IfOk, refl};
 ghost use Rattle.rlp.specs.Format.Encoding.{encoding};
+ghost use Rattle.rlp_ethereum.specs.NodeFields.{pair_fields, node_fields};
 
 use bytes::BytesMut;
 use rlp::{
@@ -35,8 +36,6 @@ pub struct NodeFields {
 }
 
 impl AppendFields for NodePair {
-    ghost use Rattle.rlp_ethereum.specs.NodeFields.{pair_fields};
-
     ghost items = { pair_fields.items };
 
     ghost fit = { pair_fields.Fits };
@@ -51,8 +50,6 @@ impl AppendFields for NodePair {
 }
 
 impl DecodeFields for NodePair {
-    ghost use Rattle.rlp_ethereum.specs.NodeFields.{pair_fields};
-
     ghost reading = { pair_fields.reading };
 
     fn accepts(len: usize) -> bool {
@@ -69,8 +66,6 @@ impl DecodeFields for NodePair {
 }
 
 impl FixedFields for NodePair {
-    ghost use Rattle.std.specs.Prelude.{refl};
-
     fn width() -> Option<usize> {
         Some(2)
     }
@@ -79,8 +74,6 @@ impl FixedFields for NodePair {
 }
 
 impl Encodable for NodeFields {
-    ghost use Rattle.rlp_ethereum.specs.NodeFields.{node_fields};
-
     ghost item = { node_fields.item };
 
     ghost fits = { node_fields.Fits };
@@ -96,8 +89,6 @@ impl Encodable for NodeFields {
 }
 
 impl Decodable for NodeFields {
-    ghost use Rattle.rlp_ethereum.specs.NodeFields.{node_fields};
-
     ghost gives = { node_fields.gives };
 
     ghost faults = { node_fields.faults };
@@ -118,13 +109,9 @@ impl Decodable for NodeFields {
 }
 
 impl RoundTrip for NodeFields {
-    ghost use Rattle.rlp_ethereum.specs.NodeFields.{node_fields};
-
     ghost round_trip = { node_fields.reads_back };
 }
 
 impl StrictRead for NodeFields {
-    ghost use Rattle.rlp_ethereum.specs.NodeFields.{node_fields};
-
     ghost strict = { node_fields.reads_strictly };
 }

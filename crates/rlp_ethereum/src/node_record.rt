@@ -6,6 +6,7 @@ ghost use Rattle.rlp.specs.Format.Encoding.{encoding};
 ghost use Rattle.rlp.specs.Views.View.{strict_view_of};
 ghost use Rattle.rlp_ethereum.specs.NodeFields.{node_fields, signed_item};
 ghost use Rattle.rlp_ethereum.specs.NodeRecord.{AreInOrder, IsFieldsFault, IsNodeRecord, IsRecordFault, keys_of, keys_rise};
+ghost use Rattle.rlp_ethereum.specs.NodeLaws.{node_record};
 
 use crate::node_fields::{NodeFields, NodePair};
 use bytes::BytesMut;
@@ -133,8 +134,6 @@ fn record_fields(alloc: Global, bytes: &[u8]) -> Result<NodeFields, DecoderError
 }
 
 impl Encodable for NodeRecord {
-    ghost use Rattle.rlp_ethereum.specs.NodeLaws.{node_record};
-
     ghost item = { node_record.item };
 
     ghost fits = { node_record.Fits };
@@ -151,8 +150,6 @@ impl Encodable for NodeRecord {
 /// [`NodeRecord::MAX_LEN`] bytes, with a fault of its fields, and with
 /// `Custom("keys are not in order")`.
 impl Decodable for NodeRecord {
-    ghost use Rattle.rlp_ethereum.specs.NodeLaws.{node_record};
-
     ghost gives = { node_record.gives };
 
     ghost faults = { node_record.faults };
@@ -173,13 +170,9 @@ impl Decodable for NodeRecord {
 }
 
 impl RoundTrip for NodeRecord {
-    ghost use Rattle.rlp_ethereum.specs.NodeLaws.{node_record};
-
     ghost round_trip = { node_record.reads_back };
 }
 
 impl StrictRead for NodeRecord {
-    ghost use Rattle.rlp_ethereum.specs.NodeLaws.{node_record};
-
     ghost strict = { node_record.reads_strictly };
 }

@@ -1,5 +1,7 @@
 //! Receipts of transactions.
 
+ghost use Rattle.rlp_ethereum.specs.Receipt.{receipt};
+
 use crate::{Bloom, Log};
 use rlp::{Decodable, DecoderError, Encodable, ListOf, Rlp, RlpStream, RoundTrip, StrictRead};
 use std::alloc::{AllocError, Global};
@@ -24,8 +26,6 @@ pub struct Receipt {
 }
 
 impl Encodable for Receipt {
-    ghost use Rattle.rlp_ethereum.specs.Receipt.{receipt};
-
     ghost item = { receipt.item };
 
     ghost fits = { receipt.Fits };
@@ -42,8 +42,6 @@ impl Encodable for Receipt {
 }
 
 impl Decodable for Receipt {
-    ghost use Rattle.rlp_ethereum.specs.Receipt.{receipt};
-
     ghost gives = { receipt.gives };
 
     ghost faults = { receipt.faults };
@@ -65,13 +63,9 @@ impl Decodable for Receipt {
 }
 
 impl RoundTrip for Receipt {
-    ghost use Rattle.rlp_ethereum.specs.Receipt.{receipt};
-
     ghost round_trip = { receipt.reads_back };
 }
 
 impl StrictRead for Receipt {
-    ghost use Rattle.rlp_ethereum.specs.Receipt.{receipt};
-
     ghost strict = { receipt.reads_strictly };
 }

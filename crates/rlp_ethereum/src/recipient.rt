@@ -1,7 +1,7 @@
 //! Recipients of transactions: a string of 20 bytes, or the empty string.
 
 ghost use Rattle.std.specs.Prelude.{◌≡◌, IfErr, IfOk};
-ghost use Rattle.rlp_ethereum.specs.Recipient.{IsRecipient, IsRecipientFault, recipient_bytes};
+ghost use Rattle.rlp_ethereum.specs.Recipient.{IsRecipient, IsRecipientFault, recipient_bytes, recipient};
 
 use crate::Address;
 use rlp::{Decodable, DecoderError, Encodable, Rlp, RlpStream, RoundTrip, StrictRead};
@@ -20,8 +20,6 @@ pub enum Recipient {
 }
 
 impl Encodable for Recipient {
-    ghost use Rattle.rlp_ethereum.specs.Recipient.{recipient};
-
     ghost item = { recipient.item };
 
     ghost fits = { recipient.Fits };
@@ -38,8 +36,6 @@ impl Encodable for Recipient {
 /// Reading fails with `RlpIsTooShort` if the string has 1 to 19 bytes, and with `RlpIsTooBig` if
 /// it has more than 20. It takes no memory.
 impl Decodable for Recipient {
-    ghost use Rattle.rlp_ethereum.specs.Recipient.{recipient};
-
     ghost gives = { recipient.gives };
 
     ghost faults = { recipient.faults };
@@ -56,14 +52,10 @@ impl Decodable for Recipient {
 }
 
 impl RoundTrip for Recipient {
-    ghost use Rattle.rlp_ethereum.specs.Recipient.{recipient};
-
     ghost round_trip = { recipient.reads_back };
 }
 
 impl StrictRead for Recipient {
-    ghost use Rattle.rlp_ethereum.specs.Recipient.{recipient};
-
     ghost strict = { recipient.reads_strictly };
 }
 

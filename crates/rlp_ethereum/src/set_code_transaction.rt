@@ -3,7 +3,7 @@
 ghost use Rattle.std.specs.Prelude.{◌≡◌, ◌∷◌, IfOk, take};
 ghost use Rattle.rlp.specs.Format.Encoding.{encoding};
 ghost use Rattle.rlp.specs.Format.Item.{list_of};
-ghost use Rattle.rlp_ethereum.specs.SetCodeTransaction.{set_code_transaction_fields};
+ghost use Rattle.rlp_ethereum.specs.SetCodeTransaction.{set_code_transaction_fields, set_code_transaction};
 
 use crate::envelope::{SET_CODE_TYPE, typed_list};
 use crate::{AccessList, Address, Authorization};
@@ -76,8 +76,6 @@ impl SetCodeTransaction {
 }
 
 impl Encodable for SetCodeTransaction {
-    ghost use Rattle.rlp_ethereum.specs.SetCodeTransaction.{set_code_transaction};
-
     ghost item = { set_code_transaction.item };
 
     ghost fits = { set_code_transaction.Fits };
@@ -103,8 +101,6 @@ impl Encodable for SetCodeTransaction {
 }
 
 impl Decodable for SetCodeTransaction {
-    ghost use Rattle.rlp_ethereum.specs.SetCodeTransaction.{set_code_transaction};
-
     ghost gives = { set_code_transaction.gives };
 
     ghost faults = { set_code_transaction.faults };
@@ -135,13 +131,9 @@ impl Decodable for SetCodeTransaction {
 }
 
 impl RoundTrip for SetCodeTransaction {
-    ghost use Rattle.rlp_ethereum.specs.SetCodeTransaction.{set_code_transaction};
-
     ghost round_trip = { set_code_transaction.reads_back };
 }
 
 impl StrictRead for SetCodeTransaction {
-    ghost use Rattle.rlp_ethereum.specs.SetCodeTransaction.{set_code_transaction};
-
     ghost strict = { set_code_transaction.reads_strictly };
 }

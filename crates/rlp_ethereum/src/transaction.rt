@@ -112,8 +112,6 @@ fn decode_payload(alloc: Global, envelope: &Envelope<'_>) -> Result<Transaction,
 }
 
 impl Encodable for Transaction {
-    ghost use Rattle.rlp_ethereum.specs.Transaction.{transaction};
-
     ghost item = { transaction.item };
 
     ghost fits = { transaction.Fits };
@@ -130,8 +128,6 @@ impl Encodable for Transaction {
 }
 
 impl Decodable for Transaction {
-    ghost use Rattle.rlp_ethereum.specs.Transaction.{transaction};
-
     ghost gives = { transaction.gives };
 
     ghost faults = { transaction.faults };
@@ -150,13 +146,9 @@ impl Decodable for Transaction {
 }
 
 impl RoundTrip for Transaction {
-    ghost use Rattle.rlp_ethereum.specs.Transaction.{transaction};
-
     ghost round_trip = { transaction.reads_back };
 }
 
 impl StrictRead for Transaction {
-    ghost use Rattle.rlp_ethereum.specs.Transaction.{transaction};
-
     ghost strict = { transaction.reads_strictly };
 }

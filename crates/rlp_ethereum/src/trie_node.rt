@@ -8,6 +8,7 @@ ghost use Rattle.rlp.specs.Values.ListReading.{FaultsAt, GivesAt};
 ghost use Rattle.rlp.specs.Values.ValueReading.{FaultsAsBytes, GivesBytes};
 ghost use Rattle.rlp.specs.Views.View.{item_count, strict_view_of};
 ghost use Rattle.rlp_ethereum.specs.TrieNode.{IsNodeFault, IsTrieNode, MayLackInNode, node_item, path_mark};
+ghost use Rattle.rlp_ethereum.specs.TrieNodeLaws.{trie_node};
 
 use crate::{Branch, Extension, Leaf};
 use rlp::{Decodable, DecoderError, Encodable, Rlp, RlpStream, RoundTrip, StrictRead, laws};
@@ -39,8 +40,6 @@ enum Mark {
 
 /// Writing fails with `AllocError` if the path of a leaf or of an extension doesn't have its mark.
 impl Encodable for TrieNode {
-    ghost use Rattle.rlp_ethereum.specs.TrieNodeLaws.{trie_node};
-
     ghost item = { trie_node.item };
 
     ghost fits = { trie_node.Fits };
@@ -73,8 +72,6 @@ impl Encodable for TrieNode {
 /// `Custom("path is not hex-prefix encoded")` for a path without a mark, and with the strict fault
 /// of the branch, the leaf or the extension.
 impl Decodable for TrieNode {
-    ghost use Rattle.rlp_ethereum.specs.TrieNodeLaws.{trie_node};
-
     ghost gives = { trie_node.gives };
 
     ghost faults = { trie_node.faults };
@@ -95,14 +92,10 @@ impl Decodable for TrieNode {
 }
 
 impl RoundTrip for TrieNode {
-    ghost use Rattle.rlp_ethereum.specs.TrieNodeLaws.{trie_node};
-
     ghost round_trip = { trie_node.reads_back };
 }
 
 impl StrictRead for TrieNode {
-    ghost use Rattle.rlp_ethereum.specs.TrieNodeLaws.{trie_node};
-
     ghost strict = { trie_node.reads_strictly };
 }
 

@@ -111,8 +111,6 @@ fn decode_payload(alloc: Global, envelope: &Envelope<'_>) -> Result<TypedReceipt
 }
 
 impl Encodable for TypedReceipt {
-    ghost use Rattle.rlp_ethereum.specs.TypedReceipt.{typed_receipt};
-
     ghost item = { typed_receipt.item };
 
     ghost fits = { typed_receipt.Fits };
@@ -129,8 +127,6 @@ impl Encodable for TypedReceipt {
 }
 
 impl Decodable for TypedReceipt {
-    ghost use Rattle.rlp_ethereum.specs.TypedReceipt.{typed_receipt};
-
     ghost gives = { typed_receipt.gives };
 
     ghost faults = { typed_receipt.faults };
@@ -149,13 +145,9 @@ impl Decodable for TypedReceipt {
 }
 
 impl RoundTrip for TypedReceipt {
-    ghost use Rattle.rlp_ethereum.specs.TypedReceipt.{typed_receipt};
-
     ghost round_trip = { typed_receipt.reads_back };
 }
 
 impl StrictRead for TypedReceipt {
-    ghost use Rattle.rlp_ethereum.specs.TypedReceipt.{typed_receipt};
-
     ghost strict = { typed_receipt.reads_strictly };
 }

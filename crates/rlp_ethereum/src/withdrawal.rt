@@ -1,5 +1,7 @@
 //! Withdrawals from the beacon chain.
 
+ghost use Rattle.rlp_ethereum.specs.Withdrawal.{withdrawal, withdrawals};
+
 use crate::Address;
 use rlp::{Decodable, DecoderError, Encodable, Rlp, RlpStream, RoundTrip, StrictRead};
 use std::alloc::{AllocError, Global};
@@ -18,8 +20,6 @@ pub struct Withdrawal {
 }
 
 impl Encodable for Withdrawal {
-    ghost use Rattle.rlp_ethereum.specs.Withdrawal.{withdrawal};
-
     ghost item = { withdrawal.item };
 
     ghost fits = { withdrawal.Fits };
@@ -36,8 +36,6 @@ impl Encodable for Withdrawal {
 }
 
 impl Decodable for Withdrawal {
-    ghost use Rattle.rlp_ethereum.specs.Withdrawal.{withdrawal};
-
     ghost gives = { withdrawal.gives };
 
     ghost faults = { withdrawal.faults };
@@ -59,14 +57,10 @@ impl Decodable for Withdrawal {
 }
 
 impl RoundTrip for Withdrawal {
-    ghost use Rattle.rlp_ethereum.specs.Withdrawal.{withdrawal};
-
     ghost round_trip = { withdrawal.reads_back };
 }
 
 impl StrictRead for Withdrawal {
-    ghost use Rattle.rlp_ethereum.specs.Withdrawal.{withdrawal};
-
     ghost strict = { withdrawal.reads_strictly };
 }
 
@@ -75,8 +69,6 @@ impl StrictRead for Withdrawal {
 pub struct Withdrawals(pub Vec<Withdrawal>);
 
 impl Encodable for Withdrawals {
-    ghost use Rattle.rlp_ethereum.specs.Withdrawal.{withdrawals};
-
     ghost item = { withdrawals.item };
 
     ghost fits = { withdrawals.Fits };
@@ -89,8 +81,6 @@ impl Encodable for Withdrawals {
 }
 
 impl Decodable for Withdrawals {
-    ghost use Rattle.rlp_ethereum.specs.Withdrawal.{withdrawals};
-
     ghost gives = { withdrawals.gives };
 
     ghost faults = { withdrawals.faults };
@@ -104,13 +94,9 @@ impl Decodable for Withdrawals {
 }
 
 impl RoundTrip for Withdrawals {
-    ghost use Rattle.rlp_ethereum.specs.Withdrawal.{withdrawals};
-
     ghost round_trip = { withdrawals.reads_back };
 }
 
 impl StrictRead for Withdrawals {
-    ghost use Rattle.rlp_ethereum.specs.Withdrawal.{withdrawals};
-
     ghost strict = { withdrawals.reads_strictly };
 }

@@ -18,8 +18,6 @@ pub struct Entry {
 }
 
 impl Encodable for Entry {
-    ghost use Rattle.rlp_examples.specs.Entry.{entry};
-
     ghost item = { entry.item };
 
     ghost fits = { entry.Fits };
@@ -32,8 +30,6 @@ impl Encodable for Entry {
 }
 
 impl Decodable for Entry {
-    ghost use Rattle.rlp_examples.specs.Entry.{entry};
-
     ghost gives = { entry.gives };
 
     ghost faults = { entry.faults };
@@ -52,14 +48,10 @@ impl Decodable for Entry {
 }
 
 impl RoundTrip for Entry {
-    ghost use Rattle.rlp_examples.specs.Entry.{entry};
-
     ghost round_trip = { entry.reads_back };
 }
 
 impl StrictRead for Entry {
-    ghost use Rattle.rlp_examples.specs.Entry.{entry};
-
     ghost strict = { entry.reads_strictly };
 }
 

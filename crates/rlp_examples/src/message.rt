@@ -1,5 +1,7 @@
 //! A sum that is written as a list: the number of a kind, and a payload.
 
+ghost use Rattle.rlp_examples.specs.Message.{message};
+
 use rlp::{Decodable, DecoderError, Encodable, Rlp, RlpStream, RoundTrip, StrictRead};
 use std::alloc::{AllocError, Global};
 
@@ -13,8 +15,6 @@ pub enum Message {
 }
 
 impl Encodable for Message {
-    ghost use Rattle.rlp_examples.specs.Message.{message};
-
     ghost item = { message.item };
 
     ghost fits = { message.Fits };
@@ -29,8 +29,6 @@ impl Encodable for Message {
 
 /// Reading fails with `Custom("unknown message")` for another number.
 impl Decodable for Message {
-    ghost use Rattle.rlp_examples.specs.Message.{message};
-
     ghost gives = { message.gives };
 
     ghost faults = { message.faults };
@@ -58,13 +56,9 @@ impl Decodable for Message {
 }
 
 impl RoundTrip for Message {
-    ghost use Rattle.rlp_examples.specs.Message.{message};
-
     ghost round_trip = { message.reads_back };
 }
 
 impl StrictRead for Message {
-    ghost use Rattle.rlp_examples.specs.Message.{message};
-
     ghost strict = { message.reads_strictly };
 }

@@ -1,5 +1,11 @@
 //! A generic list type, written as unbounded lists.
 
+ghost use Rattle.std.specs.Prelude.{[], ◌∷◌, ⊤, All, map};
+ghost use Rattle.std.specs.Vec.{vec_items};
+ghost use Rattle.rlp.specs.Format.Item.{list_of};
+ghost use Rattle.rlp.specs.Codec.{codec_of};
+ghost use Rattle.rlp_examples.specs.Nest.{inner, FaultsAsNest, GivesNest, MayLackAsNest, nest_reads_back, nest};
+
 use rlp::{Decodable, DecoderError, Encodable, Rlp, RlpStream, RoundTrip, StrictRead};
 use std::alloc::{AllocError, Global};
 
@@ -12,8 +18,6 @@ pub struct Inner(pub u64, pub u64);
 pub struct Nest<T>(pub Vec<T>);
 
 impl Encodable for Inner {
-    ghost use Rattle.rlp_examples.specs.Nest.{inner};
-
     ghost item = { inner.item };
 
     ghost fits = { inner.Fits };
@@ -29,8 +33,6 @@ impl Encodable for Inner {
 }
 
 impl Decodable for Inner {
-    ghost use Rattle.rlp_examples.specs.Nest.{inner};
-
     ghost gives = { inner.gives };
 
     ghost faults = { inner.faults };
@@ -49,22 +51,14 @@ impl Decodable for Inner {
 }
 
 impl RoundTrip for Inner {
-    ghost use Rattle.rlp_examples.specs.Nest.{inner};
-
     ghost round_trip = { inner.reads_back };
 }
 
 impl StrictRead for Inner {
-    ghost use Rattle.rlp_examples.specs.Nest.{inner};
-
     ghost strict = { inner.reads_strictly };
 }
 
 impl<T: Encodable> Encodable for Nest<T> {
-    ghost use Rattle.std.specs.Prelude.{All, map, [], ◌∷◌, ⊤};
-    ghost use Rattle.std.specs.Vec.{vec_items};
-    ghost use Rattle.rlp.specs.Format.Item.{list_of};
-
     ghost item = { λ n. list_of (list_of (map T.item (vec_items n.0)) ∷ []) };
 
     ghost fits = { λ n. All T.fits (vec_items n.0) × ⊤ };
@@ -78,8 +72,6 @@ impl<T: Encodable> Encodable for Nest<T> {
 }
 
 impl<T: Decodable> Decodable for Nest<T> {
-    ghost use Rattle.rlp_examples.specs.Nest.{FaultsAsNest, GivesNest, MayLackAsNest};
-
     ghost gives = { GivesNest T.gives };
 
     ghost faults = { FaultsAsNest T.gives T.faults };
@@ -92,15 +84,10 @@ impl<T: Decodable> Decodable for Nest<T> {
 }
 
 impl<T: RoundTrip> RoundTrip for Nest<T> {
-    ghost use Rattle.rlp_examples.specs.Nest.{nest_reads_back};
-
     ghost round_trip = { nest_reads_back T.fits T.item T.gives T.faults T.round_trip };
 }
 
 impl<T: StrictRead> StrictRead for Nest<T> {
-    ghost use Rattle.rlp.specs.Codec.{codec_of};
-    ghost use Rattle.rlp_examples.specs.Nest.{nest};
-
     ghost strict = { (nest (codec_of T.fits T.item T.gives T.faults T.may_lack_memory
         T.round_trip T.strict)).reads_strictly };
 }

@@ -1,5 +1,9 @@
 //! A custom type that is written and read as a number.
 
+ghost use Rattle.rlp.specs.Values.Value.{FitsBytes, number_item};
+ghost use Rattle.rlp.specs.Values.ValueReading.{FaultsAsNumber, GivesNumber};
+ghost use Rattle.rlp.specs.Codec.{newtype, number};
+
 use rlp::{Decodable, DecoderError, Encodable, Rlp, RlpStream, RoundTrip, StrictRead};
 use std::alloc::{AllocError, Global};
 
@@ -9,8 +13,6 @@ pub struct Nonce(pub u64);
 
 /// Written as a `u64` is.
 impl Encodable for Nonce {
-    ghost use Rattle.rlp.specs.Values.Value.{FitsBytes, number_item};
-
     ghost item = { λ n. number_item n.0 };
 
     ghost fits = { λ n. FitsBytes 8 n.0 };
@@ -22,8 +24,6 @@ impl Encodable for Nonce {
 
 /// Read as a `u64` is.
 impl Decodable for Nonce {
-    ghost use Rattle.rlp.specs.Values.ValueReading.{FaultsAsNumber, GivesNumber};
-
     ghost gives = { λ v n. GivesNumber 8 v n.0 };
 
     ghost faults = { λ v e. FaultsAsNumber 8 v e };
@@ -37,13 +37,9 @@ impl Decodable for Nonce {
 }
 
 impl RoundTrip for Nonce {
-    ghost use Rattle.rlp.specs.Codec.{newtype, number};
-
     ghost round_trip = { (newtype (λ (n : Self). n.0) (number 8)).reads_back };
 }
 
 impl StrictRead for Nonce {
-    ghost use Rattle.rlp.specs.Codec.{newtype, number};
-
     ghost strict = { (newtype (λ (n : Self). n.0) (number 8)).reads_strictly };
 }

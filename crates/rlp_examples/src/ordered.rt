@@ -1,5 +1,7 @@
 //! A list of nine fields, read in order.
 
+ghost use Rattle.rlp_examples.specs.Ordered.{ordered};
+
 use rlp::{Decodable, DecoderError, Encodable, Rlp, RlpStream, RoundTrip, StrictRead};
 use std::alloc::{AllocError, Global};
 
@@ -27,8 +29,6 @@ pub struct Ordered {
 }
 
 impl Encodable for Ordered {
-    ghost use Rattle.rlp_examples.specs.Ordered.{ordered};
-
     ghost item = { ordered.item };
 
     ghost fits = { ordered.Fits };
@@ -50,8 +50,6 @@ impl Encodable for Ordered {
 }
 
 impl Decodable for Ordered {
-    ghost use Rattle.rlp_examples.specs.Ordered.{ordered};
-
     ghost gives = { ordered.gives };
 
     ghost faults = { ordered.faults };
@@ -76,13 +74,9 @@ impl Decodable for Ordered {
 }
 
 impl RoundTrip for Ordered {
-    ghost use Rattle.rlp_examples.specs.Ordered.{ordered};
-
     ghost round_trip = { ordered.reads_back };
 }
 
 impl StrictRead for Ordered {
-    ghost use Rattle.rlp_examples.specs.Ordered.{ordered};
-
     ghost strict = { ordered.reads_strictly };
 }

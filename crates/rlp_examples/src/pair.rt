@@ -1,5 +1,9 @@
 //! A custom type that is written as a list.
 
+ghost use Rattle.std.specs.Prelude.{[], ◌∷◌};
+ghost use Rattle.rlp.specs.Format.Item.{list_of};
+ghost use Rattle.rlp.specs.Values.Value.{FitsBytes, number_item};
+
 use rlp::{Encodable, RlpStream};
 use std::alloc::AllocError;
 
@@ -8,10 +12,6 @@ use std::alloc::AllocError;
 pub struct Pair(pub u64, pub u64);
 
 impl Encodable for Pair {
-    ghost use Rattle.std.specs.Prelude.{[], ◌∷◌};
-    ghost use Rattle.rlp.specs.Format.Item.{list_of};
-    ghost use Rattle.rlp.specs.Values.Value.{FitsBytes, number_item};
-
     ghost item = { λ p. list_of (number_item p.0 ∷ number_item p.1 ∷ []) };
 
     ghost fits = { λ p. FitsBytes 8 p.0 × FitsBytes 8 p.1 };

@@ -1,5 +1,7 @@
 //! A row of a table: the list of its thirty-two columns.
 
+ghost use Rattle.rlp_examples.specs.Row.{row};
+
 use rlp::{Decodable, DecoderError, Encodable, Rlp, RlpStream, RoundTrip, StrictRead};
 use std::alloc::{AllocError, Global};
 
@@ -73,8 +75,6 @@ pub struct Row {
 }
 
 impl Encodable for Row {
-    ghost use Rattle.rlp_examples.specs.Row.{row};
-
     ghost item = { row.item };
 
     ghost fits = { row.Fits };
@@ -119,8 +119,6 @@ impl Encodable for Row {
 }
 
 impl Decodable for Row {
-    ghost use Rattle.rlp_examples.specs.Row.{row};
-
     ghost gives = { row.gives };
 
     ghost faults = { row.faults };
@@ -170,13 +168,9 @@ impl Decodable for Row {
 }
 
 impl RoundTrip for Row {
-    ghost use Rattle.rlp_examples.specs.Row.{row};
-
     ghost round_trip = { row.reads_back };
 }
 
 impl StrictRead for Row {
-    ghost use Rattle.rlp_examples.specs.Row.{row};
-
     ghost strict = { row.reads_strictly };
 }

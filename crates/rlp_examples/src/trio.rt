@@ -1,5 +1,9 @@
 //! A list of two numbers and a value of any type, and a type that is never written.
 
+ghost use Rattle.std.specs.Prelude.{⊤, [], ◌∷◌};
+ghost use Rattle.rlp.specs.Format.Item.{string, list_of};
+ghost use Rattle.rlp.specs.Values.Value.{FitsBytes, number_item};
+
 use rlp::{Encodable, RlpStream};
 use std::alloc::AllocError;
 
@@ -8,9 +12,6 @@ use std::alloc::AllocError;
 pub struct Refusing;
 
 impl Encodable for Refusing {
-    ghost use Rattle.std.specs.Prelude.{⊤, []};
-    ghost use Rattle.rlp.specs.Format.Item.{string};
-
     ghost item = { λ v. string [] };
 
     ghost fits = { λ v. ⊤ };
@@ -26,10 +27,6 @@ impl Encodable for Refusing {
 pub struct Trio<M>(pub u64, pub M, pub u64);
 
 impl<M: Encodable> Encodable for Trio<M> {
-    ghost use Rattle.std.specs.Prelude.{[], ◌∷◌};
-    ghost use Rattle.rlp.specs.Format.Item.{list_of};
-    ghost use Rattle.rlp.specs.Values.Value.{FitsBytes, number_item};
-
     ghost item = { λ t. list_of (number_item t.0 ∷ M.item t.1 ∷ number_item t.2 ∷ []) };
 
     ghost fits = { λ t. FitsBytes 8 t.0 × M.fits t.1 × FitsBytes 8 t.2 };

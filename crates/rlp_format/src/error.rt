@@ -1,6 +1,7 @@
 //! The faults of decoding.
 
-ghost use Rattle.std.specs.Prelude.{◌≡◌};
+ghost use Rattle.std.specs.Prelude.{◌≡◌, Some};
+ghost use Rattle.rlp_format.specs.Views.Text.{error_name};
 
 use std::error::Error;
 use std::fmt;
@@ -61,9 +62,6 @@ impl DecoderError {
 /// Prints the variant's name, and for `Custom` also the text, as in `Custom("text")`. The
 /// formatter's flags change nothing.
 impl fmt::Display for DecoderError {
-    ghost use Rattle.std.specs.Prelude.{Some};
-    ghost use Rattle.rlp_format.specs.Views.Text.{error_name};
-
     ghost output = { λ e. Some (error_name e) };
 
     ghost styled_output = { λ e _. Some (error_name e) };

@@ -4,6 +4,7 @@ ghost use Rattle.std.specs.Prelude.{◌≡◌, ◌∷◌, ◌++◌, [], ◌+◌,
 ghost use Rattle.rlp_format.specs.Format.Framing.{fault, framing, value};
 ghost use Rattle.rlp_format.specs.Format.Split.{begins_as_list, payload, split};
 ghost use Rattle.rlp_format.specs.Format.Strict.{after_items, fault_of_some};
+ghost use Rattle.rlp_format.specs.Views.View.{Reading};
 
 use crate::count::Count;
 use crate::error::DecoderError;
@@ -20,8 +21,6 @@ pub struct ItemReader<'a> {
 }
 
 impl<'a> Model for ItemReader<'a> {
-    ghost use Rattle.rlp_format.specs.Views.View.{Reading};
-
     ghost Value = { Reading };
 
     ghost view = { λ r. record { rest = r.rest.now; headers = r.headers.total } };

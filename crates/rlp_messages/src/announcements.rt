@@ -1,6 +1,8 @@
 //! Announcements of the protocol `eth`: new blocks and transactions, and the blocks that a client
 //! has.
 
+ghost use Rattle.rlp_messages.specs.Announcements.{new_block_hash, new_block_hashes, new_pooled_transaction_hashes, block_range_update, new_block, transactions};
+
 use rlp::{
     Decodable, DecoderError, Encodable, ListOf, Rlp, RlpStream, RoundTrip, StrictRead, Uint,
 };
@@ -17,8 +19,6 @@ pub struct NewBlockHash {
 }
 
 impl Encodable for NewBlockHash {
-    ghost use Rattle.rlp_messages.specs.Announcements.{new_block_hash};
-
     ghost item = { new_block_hash.item };
 
     ghost fits = { new_block_hash.Fits };
@@ -29,8 +29,6 @@ impl Encodable for NewBlockHash {
 }
 
 impl Decodable for NewBlockHash {
-    ghost use Rattle.rlp_messages.specs.Announcements.{new_block_hash};
-
     ghost gives = { new_block_hash.gives };
 
     ghost faults = { new_block_hash.faults };
@@ -43,14 +41,10 @@ impl Decodable for NewBlockHash {
 }
 
 impl RoundTrip for NewBlockHash {
-    ghost use Rattle.rlp_messages.specs.Announcements.{new_block_hash};
-
     ghost round_trip = { new_block_hash.reads_back };
 }
 
 impl StrictRead for NewBlockHash {
-    ghost use Rattle.rlp_messages.specs.Announcements.{new_block_hash};
-
     ghost strict = { new_block_hash.reads_strictly };
 }
 
@@ -59,8 +53,6 @@ impl StrictRead for NewBlockHash {
 pub struct NewBlockHashes(pub Vec<NewBlockHash>);
 
 impl Encodable for NewBlockHashes {
-    ghost use Rattle.rlp_messages.specs.Announcements.{new_block_hashes};
-
     ghost item = { new_block_hashes.item };
 
     ghost fits = { new_block_hashes.Fits };
@@ -73,8 +65,6 @@ impl Encodable for NewBlockHashes {
 }
 
 impl Decodable for NewBlockHashes {
-    ghost use Rattle.rlp_messages.specs.Announcements.{new_block_hashes};
-
     ghost gives = { new_block_hashes.gives };
 
     ghost faults = { new_block_hashes.faults };
@@ -88,14 +78,10 @@ impl Decodable for NewBlockHashes {
 }
 
 impl RoundTrip for NewBlockHashes {
-    ghost use Rattle.rlp_messages.specs.Announcements.{new_block_hashes};
-
     ghost round_trip = { new_block_hashes.reads_back };
 }
 
 impl StrictRead for NewBlockHashes {
-    ghost use Rattle.rlp_messages.specs.Announcements.{new_block_hashes};
-
     ghost strict = { new_block_hashes.reads_strictly };
 }
 
@@ -112,8 +98,6 @@ pub struct NewPooledTransactionHashes {
 }
 
 impl Encodable for NewPooledTransactionHashes {
-    ghost use Rattle.rlp_messages.specs.Announcements.{new_pooled_transaction_hashes};
-
     ghost item = { new_pooled_transaction_hashes.item };
 
     ghost fits = { new_pooled_transaction_hashes.Fits };
@@ -124,8 +108,6 @@ impl Encodable for NewPooledTransactionHashes {
 }
 
 impl Decodable for NewPooledTransactionHashes {
-    ghost use Rattle.rlp_messages.specs.Announcements.{new_pooled_transaction_hashes};
-
     ghost gives = { new_pooled_transaction_hashes.gives };
 
     ghost faults = { new_pooled_transaction_hashes.faults };
@@ -146,14 +128,10 @@ impl Decodable for NewPooledTransactionHashes {
 }
 
 impl RoundTrip for NewPooledTransactionHashes {
-    ghost use Rattle.rlp_messages.specs.Announcements.{new_pooled_transaction_hashes};
-
     ghost round_trip = { new_pooled_transaction_hashes.reads_back };
 }
 
 impl StrictRead for NewPooledTransactionHashes {
-    ghost use Rattle.rlp_messages.specs.Announcements.{new_pooled_transaction_hashes};
-
     ghost strict = { new_pooled_transaction_hashes.reads_strictly };
 }
 
@@ -170,8 +148,6 @@ pub struct BlockRangeUpdate {
 }
 
 impl Encodable for BlockRangeUpdate {
-    ghost use Rattle.rlp_messages.specs.Announcements.{block_range_update};
-
     ghost item = { block_range_update.item };
 
     ghost fits = { block_range_update.Fits };
@@ -187,8 +163,6 @@ impl Encodable for BlockRangeUpdate {
 }
 
 impl Decodable for BlockRangeUpdate {
-    ghost use Rattle.rlp_messages.specs.Announcements.{block_range_update};
-
     ghost gives = { block_range_update.gives };
 
     ghost faults = { block_range_update.faults };
@@ -209,14 +183,10 @@ impl Decodable for BlockRangeUpdate {
 }
 
 impl RoundTrip for BlockRangeUpdate {
-    ghost use Rattle.rlp_messages.specs.Announcements.{block_range_update};
-
     ghost round_trip = { block_range_update.reads_back };
 }
 
 impl StrictRead for BlockRangeUpdate {
-    ghost use Rattle.rlp_messages.specs.Announcements.{block_range_update};
-
     ghost strict = { block_range_update.reads_strictly };
 }
 
@@ -230,8 +200,6 @@ pub struct NewBlock {
 }
 
 impl Encodable for NewBlock {
-    ghost use Rattle.rlp_messages.specs.Announcements.{new_block};
-
     ghost item = { new_block.item };
 
     ghost fits = { new_block.Fits };
@@ -242,8 +210,6 @@ impl Encodable for NewBlock {
 }
 
 impl Decodable for NewBlock {
-    ghost use Rattle.rlp_messages.specs.Announcements.{new_block};
-
     ghost gives = { new_block.gives };
 
     ghost faults = { new_block.faults };
@@ -263,14 +229,10 @@ impl Decodable for NewBlock {
 }
 
 impl RoundTrip for NewBlock {
-    ghost use Rattle.rlp_messages.specs.Announcements.{new_block};
-
     ghost round_trip = { new_block.reads_back };
 }
 
 impl StrictRead for NewBlock {
-    ghost use Rattle.rlp_messages.specs.Announcements.{new_block};
-
     ghost strict = { new_block.reads_strictly };
 }
 
@@ -280,8 +242,6 @@ impl StrictRead for NewBlock {
 pub struct Transactions(pub Vec<Transaction>);
 
 impl Encodable for Transactions {
-    ghost use Rattle.rlp_messages.specs.Announcements.{transactions};
-
     ghost item = { transactions.item };
 
     ghost fits = { transactions.Fits };
@@ -294,8 +254,6 @@ impl Encodable for Transactions {
 }
 
 impl Decodable for Transactions {
-    ghost use Rattle.rlp_messages.specs.Announcements.{transactions};
-
     ghost gives = { transactions.gives };
 
     ghost faults = { transactions.faults };
@@ -309,13 +267,9 @@ impl Decodable for Transactions {
 }
 
 impl RoundTrip for Transactions {
-    ghost use Rattle.rlp_messages.specs.Announcements.{transactions};
-
     ghost round_trip = { transactions.reads_back };
 }
 
 impl StrictRead for Transactions {
-    ghost use Rattle.rlp_messages.specs.Announcements.{transactions};
-
     ghost strict = { transactions.reads_strictly };
 }

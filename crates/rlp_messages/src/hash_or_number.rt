@@ -1,5 +1,7 @@
 //! Names of blocks: a hash, or a number.
 
+ghost use Rattle.rlp_messages.specs.HashOrNumber.{hash_or_number};
+
 use rlp::{Decodable, DecoderError, Encodable, Rlp, RlpStream, RoundTrip, StrictRead};
 use rlp_ethereum::Hash;
 use std::alloc::{AllocError, Global};
@@ -15,8 +17,6 @@ pub enum HashOrNumber {
 }
 
 impl Encodable for HashOrNumber {
-    ghost use Rattle.rlp_messages.specs.HashOrNumber.{hash_or_number};
-
     ghost item = { hash_or_number.item };
 
     ghost fits = { hash_or_number.Fits };
@@ -34,8 +34,6 @@ impl Encodable for HashOrNumber {
 /// bytes and not 32, and with `RlpInvalidIndirection` if it is shorter and begins with a zero. It
 /// takes no memory.
 impl Decodable for HashOrNumber {
-    ghost use Rattle.rlp_messages.specs.HashOrNumber.{hash_or_number};
-
     ghost gives = { hash_or_number.gives };
 
     ghost faults = { hash_or_number.faults };
@@ -55,13 +53,9 @@ impl Decodable for HashOrNumber {
 }
 
 impl RoundTrip for HashOrNumber {
-    ghost use Rattle.rlp_messages.specs.HashOrNumber.{hash_or_number};
-
     ghost round_trip = { hash_or_number.reads_back };
 }
 
 impl StrictRead for HashOrNumber {
-    ghost use Rattle.rlp_messages.specs.HashOrNumber.{hash_or_number};
-
     ghost strict = { hash_or_number.reads_strictly };
 }

@@ -1,5 +1,7 @@
 //! Greetings of the capability `p2p` of RLPx.
 
+ghost use Rattle.rlp_messages.specs.Hello.{node_id, capability, hello};
+
 use rlp::{Decodable, DecoderError, Encodable, ListOf, Rlp, RlpStream, RoundTrip, StrictRead};
 use std::alloc::{AllocError, Global};
 
@@ -9,8 +11,6 @@ pub struct NodeId(pub [u8; 64]);
 
 /// Written as the array of the bytes is.
 impl Encodable for NodeId {
-    ghost use Rattle.rlp_messages.specs.Hello.{node_id};
-
     ghost item = { node_id.item };
 
     ghost fits = { node_id.Fits };
@@ -23,8 +23,6 @@ impl Encodable for NodeId {
 /// Read as the array of the bytes is. Fails with `RlpIsTooShort` if the string is shorter, and with
 /// `RlpIsTooBig` if it is longer. It takes no memory.
 impl Decodable for NodeId {
-    ghost use Rattle.rlp_messages.specs.Hello.{node_id};
-
     ghost gives = { node_id.gives };
 
     ghost faults = { node_id.faults };
@@ -38,14 +36,10 @@ impl Decodable for NodeId {
 }
 
 impl RoundTrip for NodeId {
-    ghost use Rattle.rlp_messages.specs.Hello.{node_id};
-
     ghost round_trip = { node_id.reads_back };
 }
 
 impl StrictRead for NodeId {
-    ghost use Rattle.rlp_messages.specs.Hello.{node_id};
-
     ghost strict = { node_id.reads_strictly };
 }
 
@@ -60,8 +54,6 @@ pub struct Capability {
 }
 
 impl Encodable for Capability {
-    ghost use Rattle.rlp_messages.specs.Hello.{capability};
-
     ghost item = { capability.item };
 
     ghost fits = { capability.Fits };
@@ -72,8 +64,6 @@ impl Encodable for Capability {
 }
 
 impl Decodable for Capability {
-    ghost use Rattle.rlp_messages.specs.Hello.{capability};
-
     ghost gives = { capability.gives };
 
     ghost faults = { capability.faults };
@@ -86,14 +76,10 @@ impl Decodable for Capability {
 }
 
 impl RoundTrip for Capability {
-    ghost use Rattle.rlp_messages.specs.Hello.{capability};
-
     ghost round_trip = { capability.reads_back };
 }
 
 impl StrictRead for Capability {
-    ghost use Rattle.rlp_messages.specs.Hello.{capability};
-
     ghost strict = { capability.reads_strictly };
 }
 
@@ -115,8 +101,6 @@ pub struct Hello {
 }
 
 impl Encodable for Hello {
-    ghost use Rattle.rlp_messages.specs.Hello.{hello};
-
     ghost item = { hello.item };
 
     ghost fits = { hello.Fits };
@@ -134,8 +118,6 @@ impl Encodable for Hello {
 }
 
 impl Decodable for Hello {
-    ghost use Rattle.rlp_messages.specs.Hello.{hello};
-
     ghost gives = { hello.gives };
 
     ghost faults = { hello.faults };
@@ -158,13 +140,9 @@ impl Decodable for Hello {
 }
 
 impl RoundTrip for Hello {
-    ghost use Rattle.rlp_messages.specs.Hello.{hello};
-
     ghost round_trip = { hello.reads_back };
 }
 
 impl StrictRead for Hello {
-    ghost use Rattle.rlp_messages.specs.Hello.{hello};
-
     ghost strict = { hello.reads_strictly };
 }

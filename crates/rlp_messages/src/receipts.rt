@@ -1,5 +1,7 @@
 //! Receipts of blocks, as clients send them to each other.
 
+ghost use Rattle.rlp_messages.specs.Receipts.{block_receipts, receipts};
+
 use rlp::{Decodable, DecoderError, Encodable, Rlp, RlpStream, RoundTrip, StrictRead};
 use rlp_ethereum::TypedReceipt;
 use std::alloc::{AllocError, Global};
@@ -9,8 +11,6 @@ use std::alloc::{AllocError, Global};
 pub struct BlockReceipts(pub Vec<TypedReceipt>);
 
 impl Encodable for BlockReceipts {
-    ghost use Rattle.rlp_messages.specs.Receipts.{block_receipts};
-
     ghost item = { block_receipts.item };
 
     ghost fits = { block_receipts.Fits };
@@ -23,8 +23,6 @@ impl Encodable for BlockReceipts {
 }
 
 impl Decodable for BlockReceipts {
-    ghost use Rattle.rlp_messages.specs.Receipts.{block_receipts};
-
     ghost gives = { block_receipts.gives };
 
     ghost faults = { block_receipts.faults };
@@ -38,14 +36,10 @@ impl Decodable for BlockReceipts {
 }
 
 impl RoundTrip for BlockReceipts {
-    ghost use Rattle.rlp_messages.specs.Receipts.{block_receipts};
-
     ghost round_trip = { block_receipts.reads_back };
 }
 
 impl StrictRead for BlockReceipts {
-    ghost use Rattle.rlp_messages.specs.Receipts.{block_receipts};
-
     ghost strict = { block_receipts.reads_strictly };
 }
 
@@ -55,8 +49,6 @@ impl StrictRead for BlockReceipts {
 pub struct Receipts(pub Vec<BlockReceipts>);
 
 impl Encodable for Receipts {
-    ghost use Rattle.rlp_messages.specs.Receipts.{receipts};
-
     ghost item = { receipts.item };
 
     ghost fits = { receipts.Fits };
@@ -69,8 +61,6 @@ impl Encodable for Receipts {
 }
 
 impl Decodable for Receipts {
-    ghost use Rattle.rlp_messages.specs.Receipts.{receipts};
-
     ghost gives = { receipts.gives };
 
     ghost faults = { receipts.faults };
@@ -84,13 +74,9 @@ impl Decodable for Receipts {
 }
 
 impl RoundTrip for Receipts {
-    ghost use Rattle.rlp_messages.specs.Receipts.{receipts};
-
     ghost round_trip = { receipts.reads_back };
 }
 
 impl StrictRead for Receipts {
-    ghost use Rattle.rlp_messages.specs.Receipts.{receipts};
-
     ghost strict = { receipts.reads_strictly };
 }

@@ -1,5 +1,7 @@
 //! Requests of the protocol `eth`, and their answers, without the number of the request.
 
+ghost use Rattle.rlp_messages.specs.Requests.{get_block_headers, block_headers, get_block_bodies, block_bodies, get_pooled_transactions, get_receipts};
+
 use crate::HashOrNumber;
 use rlp::{Decodable, DecoderError, Encodable, Rlp, RlpStream, RoundTrip, StrictRead};
 use rlp_ethereum::{Body, Hash, Header};
@@ -19,8 +21,6 @@ pub struct GetBlockHeaders {
 }
 
 impl Encodable for GetBlockHeaders {
-    ghost use Rattle.rlp_messages.specs.Requests.{get_block_headers};
-
     ghost item = { get_block_headers.item };
 
     ghost fits = { get_block_headers.Fits };
@@ -31,8 +31,6 @@ impl Encodable for GetBlockHeaders {
 }
 
 impl Decodable for GetBlockHeaders {
-    ghost use Rattle.rlp_messages.specs.Requests.{get_block_headers};
-
     ghost gives = { get_block_headers.gives };
 
     ghost faults = { get_block_headers.faults };
@@ -54,14 +52,10 @@ impl Decodable for GetBlockHeaders {
 }
 
 impl RoundTrip for GetBlockHeaders {
-    ghost use Rattle.rlp_messages.specs.Requests.{get_block_headers};
-
     ghost round_trip = { get_block_headers.reads_back };
 }
 
 impl StrictRead for GetBlockHeaders {
-    ghost use Rattle.rlp_messages.specs.Requests.{get_block_headers};
-
     ghost strict = { get_block_headers.reads_strictly };
 }
 
@@ -70,8 +64,6 @@ impl StrictRead for GetBlockHeaders {
 pub struct BlockHeaders(pub Vec<Header>);
 
 impl Encodable for BlockHeaders {
-    ghost use Rattle.rlp_messages.specs.Requests.{block_headers};
-
     ghost item = { block_headers.item };
 
     ghost fits = { block_headers.Fits };
@@ -84,8 +76,6 @@ impl Encodable for BlockHeaders {
 }
 
 impl Decodable for BlockHeaders {
-    ghost use Rattle.rlp_messages.specs.Requests.{block_headers};
-
     ghost gives = { block_headers.gives };
 
     ghost faults = { block_headers.faults };
@@ -99,14 +89,10 @@ impl Decodable for BlockHeaders {
 }
 
 impl RoundTrip for BlockHeaders {
-    ghost use Rattle.rlp_messages.specs.Requests.{block_headers};
-
     ghost round_trip = { block_headers.reads_back };
 }
 
 impl StrictRead for BlockHeaders {
-    ghost use Rattle.rlp_messages.specs.Requests.{block_headers};
-
     ghost strict = { block_headers.reads_strictly };
 }
 
@@ -115,8 +101,6 @@ impl StrictRead for BlockHeaders {
 pub struct GetBlockBodies(pub Vec<Hash>);
 
 impl Encodable for GetBlockBodies {
-    ghost use Rattle.rlp_messages.specs.Requests.{get_block_bodies};
-
     ghost item = { get_block_bodies.item };
 
     ghost fits = { get_block_bodies.Fits };
@@ -129,8 +113,6 @@ impl Encodable for GetBlockBodies {
 }
 
 impl Decodable for GetBlockBodies {
-    ghost use Rattle.rlp_messages.specs.Requests.{get_block_bodies};
-
     ghost gives = { get_block_bodies.gives };
 
     ghost faults = { get_block_bodies.faults };
@@ -144,14 +126,10 @@ impl Decodable for GetBlockBodies {
 }
 
 impl RoundTrip for GetBlockBodies {
-    ghost use Rattle.rlp_messages.specs.Requests.{get_block_bodies};
-
     ghost round_trip = { get_block_bodies.reads_back };
 }
 
 impl StrictRead for GetBlockBodies {
-    ghost use Rattle.rlp_messages.specs.Requests.{get_block_bodies};
-
     ghost strict = { get_block_bodies.reads_strictly };
 }
 
@@ -160,8 +138,6 @@ impl StrictRead for GetBlockBodies {
 pub struct BlockBodies(pub Vec<Body>);
 
 impl Encodable for BlockBodies {
-    ghost use Rattle.rlp_messages.specs.Requests.{block_bodies};
-
     ghost item = { block_bodies.item };
 
     ghost fits = { block_bodies.Fits };
@@ -174,8 +150,6 @@ impl Encodable for BlockBodies {
 }
 
 impl Decodable for BlockBodies {
-    ghost use Rattle.rlp_messages.specs.Requests.{block_bodies};
-
     ghost gives = { block_bodies.gives };
 
     ghost faults = { block_bodies.faults };
@@ -189,14 +163,10 @@ impl Decodable for BlockBodies {
 }
 
 impl RoundTrip for BlockBodies {
-    ghost use Rattle.rlp_messages.specs.Requests.{block_bodies};
-
     ghost round_trip = { block_bodies.reads_back };
 }
 
 impl StrictRead for BlockBodies {
-    ghost use Rattle.rlp_messages.specs.Requests.{block_bodies};
-
     ghost strict = { block_bodies.reads_strictly };
 }
 
@@ -206,8 +176,6 @@ impl StrictRead for BlockBodies {
 pub struct GetPooledTransactions(pub Vec<Hash>);
 
 impl Encodable for GetPooledTransactions {
-    ghost use Rattle.rlp_messages.specs.Requests.{get_pooled_transactions};
-
     ghost item = { get_pooled_transactions.item };
 
     ghost fits = { get_pooled_transactions.Fits };
@@ -220,8 +188,6 @@ impl Encodable for GetPooledTransactions {
 }
 
 impl Decodable for GetPooledTransactions {
-    ghost use Rattle.rlp_messages.specs.Requests.{get_pooled_transactions};
-
     ghost gives = { get_pooled_transactions.gives };
 
     ghost faults = { get_pooled_transactions.faults };
@@ -235,14 +201,10 @@ impl Decodable for GetPooledTransactions {
 }
 
 impl RoundTrip for GetPooledTransactions {
-    ghost use Rattle.rlp_messages.specs.Requests.{get_pooled_transactions};
-
     ghost round_trip = { get_pooled_transactions.reads_back };
 }
 
 impl StrictRead for GetPooledTransactions {
-    ghost use Rattle.rlp_messages.specs.Requests.{get_pooled_transactions};
-
     ghost strict = { get_pooled_transactions.reads_strictly };
 }
 
@@ -251,8 +213,6 @@ impl StrictRead for GetPooledTransactions {
 pub struct GetReceipts(pub Vec<Hash>);
 
 impl Encodable for GetReceipts {
-    ghost use Rattle.rlp_messages.specs.Requests.{get_receipts};
-
     ghost item = { get_receipts.item };
 
     ghost fits = { get_receipts.Fits };
@@ -265,8 +225,6 @@ impl Encodable for GetReceipts {
 }
 
 impl Decodable for GetReceipts {
-    ghost use Rattle.rlp_messages.specs.Requests.{get_receipts};
-
     ghost gives = { get_receipts.gives };
 
     ghost faults = { get_receipts.faults };
@@ -280,13 +238,9 @@ impl Decodable for GetReceipts {
 }
 
 impl RoundTrip for GetReceipts {
-    ghost use Rattle.rlp_messages.specs.Requests.{get_receipts};
-
     ghost round_trip = { get_receipts.reads_back };
 }
 
 impl StrictRead for GetReceipts {
-    ghost use Rattle.rlp_messages.specs.Requests.{get_receipts};
-
     ghost strict = { get_receipts.reads_strictly };
 }

@@ -1,5 +1,7 @@
 //! Messages of the capability `p2p` of RLPx that keep a connection or end it.
 
+ghost use Rattle.rlp_messages.specs.Session.{disconnect, ping, pong};
+
 use rlp::{Decodable, DecoderError, Encodable, Rlp, RlpStream, RoundTrip, StrictRead};
 use std::alloc::{AllocError, Global};
 
@@ -12,8 +14,6 @@ pub struct Disconnect {
 }
 
 impl Encodable for Disconnect {
-    ghost use Rattle.rlp_messages.specs.Session.{disconnect};
-
     ghost item = { disconnect.item };
 
     ghost fits = { disconnect.Fits };
@@ -24,8 +24,6 @@ impl Encodable for Disconnect {
 }
 
 impl Decodable for Disconnect {
-    ghost use Rattle.rlp_messages.specs.Session.{disconnect};
-
     ghost gives = { disconnect.gives };
 
     ghost faults = { disconnect.faults };
@@ -38,14 +36,10 @@ impl Decodable for Disconnect {
 }
 
 impl RoundTrip for Disconnect {
-    ghost use Rattle.rlp_messages.specs.Session.{disconnect};
-
     ghost round_trip = { disconnect.reads_back };
 }
 
 impl StrictRead for Disconnect {
-    ghost use Rattle.rlp_messages.specs.Session.{disconnect};
-
     ghost strict = { disconnect.reads_strictly };
 }
 
@@ -54,8 +48,6 @@ impl StrictRead for Disconnect {
 pub struct Ping;
 
 impl Encodable for Ping {
-    ghost use Rattle.rlp_messages.specs.Session.{ping};
-
     ghost item = { ping.item };
 
     ghost fits = { ping.Fits };
@@ -68,8 +60,6 @@ impl Encodable for Ping {
 }
 
 impl Decodable for Ping {
-    ghost use Rattle.rlp_messages.specs.Session.{ping};
-
     ghost gives = { ping.gives };
 
     ghost faults = { ping.faults };
@@ -85,14 +75,10 @@ impl Decodable for Ping {
 }
 
 impl RoundTrip for Ping {
-    ghost use Rattle.rlp_messages.specs.Session.{ping};
-
     ghost round_trip = { ping.reads_back };
 }
 
 impl StrictRead for Ping {
-    ghost use Rattle.rlp_messages.specs.Session.{ping};
-
     ghost strict = { ping.reads_strictly };
 }
 
@@ -101,8 +87,6 @@ impl StrictRead for Ping {
 pub struct Pong;
 
 impl Encodable for Pong {
-    ghost use Rattle.rlp_messages.specs.Session.{pong};
-
     ghost item = { pong.item };
 
     ghost fits = { pong.Fits };
@@ -115,8 +99,6 @@ impl Encodable for Pong {
 }
 
 impl Decodable for Pong {
-    ghost use Rattle.rlp_messages.specs.Session.{pong};
-
     ghost gives = { pong.gives };
 
     ghost faults = { pong.faults };
@@ -132,13 +114,9 @@ impl Decodable for Pong {
 }
 
 impl RoundTrip for Pong {
-    ghost use Rattle.rlp_messages.specs.Session.{pong};
-
     ghost round_trip = { pong.reads_back };
 }
 
 impl StrictRead for Pong {
-    ghost use Rattle.rlp_messages.specs.Session.{pong};
-
     ghost strict = { pong.reads_strictly };
 }

@@ -1,5 +1,7 @@
 //! Messages of the protocol `eth` that say what a client knows of the chain.
 
+ghost use Rattle.rlp_messages.specs.Status.{fork_hash, fork_id, status68, status69};
+
 use rlp::{Decodable, DecoderError, Encodable, Rlp, RlpStream, RoundTrip, StrictRead, Uint};
 use rlp_ethereum::Hash;
 use std::alloc::{AllocError, Global};
@@ -10,8 +12,6 @@ pub struct ForkHash(pub [u8; 4]);
 
 /// Written as the array of the bytes is.
 impl Encodable for ForkHash {
-    ghost use Rattle.rlp_messages.specs.Status.{fork_hash};
-
     ghost item = { fork_hash.item };
 
     ghost fits = { fork_hash.Fits };
@@ -24,8 +24,6 @@ impl Encodable for ForkHash {
 /// Read as the array of the bytes is. Fails with `RlpIsTooShort` if the string is shorter, and with
 /// `RlpIsTooBig` if it is longer. It takes no memory.
 impl Decodable for ForkHash {
-    ghost use Rattle.rlp_messages.specs.Status.{fork_hash};
-
     ghost gives = { fork_hash.gives };
 
     ghost faults = { fork_hash.faults };
@@ -39,14 +37,10 @@ impl Decodable for ForkHash {
 }
 
 impl RoundTrip for ForkHash {
-    ghost use Rattle.rlp_messages.specs.Status.{fork_hash};
-
     ghost round_trip = { fork_hash.reads_back };
 }
 
 impl StrictRead for ForkHash {
-    ghost use Rattle.rlp_messages.specs.Status.{fork_hash};
-
     ghost strict = { fork_hash.reads_strictly };
 }
 
@@ -60,8 +54,6 @@ pub struct ForkId {
 }
 
 impl Encodable for ForkId {
-    ghost use Rattle.rlp_messages.specs.Status.{fork_id};
-
     ghost item = { fork_id.item };
 
     ghost fits = { fork_id.Fits };
@@ -72,8 +64,6 @@ impl Encodable for ForkId {
 }
 
 impl Decodable for ForkId {
-    ghost use Rattle.rlp_messages.specs.Status.{fork_id};
-
     ghost gives = { fork_id.gives };
 
     ghost faults = { fork_id.faults };
@@ -93,14 +83,10 @@ impl Decodable for ForkId {
 }
 
 impl RoundTrip for ForkId {
-    ghost use Rattle.rlp_messages.specs.Status.{fork_id};
-
     ghost round_trip = { fork_id.reads_back };
 }
 
 impl StrictRead for ForkId {
-    ghost use Rattle.rlp_messages.specs.Status.{fork_id};
-
     ghost strict = { fork_id.reads_strictly };
 }
 
@@ -122,8 +108,6 @@ pub struct Status68 {
 }
 
 impl Encodable for Status68 {
-    ghost use Rattle.rlp_messages.specs.Status.{status68};
-
     ghost item = { status68.item };
 
     ghost fits = { status68.Fits };
@@ -142,8 +126,6 @@ impl Encodable for Status68 {
 }
 
 impl Decodable for Status68 {
-    ghost use Rattle.rlp_messages.specs.Status.{status68};
-
     ghost gives = { status68.gives };
 
     ghost faults = { status68.faults };
@@ -167,14 +149,10 @@ impl Decodable for Status68 {
 }
 
 impl RoundTrip for Status68 {
-    ghost use Rattle.rlp_messages.specs.Status.{status68};
-
     ghost round_trip = { status68.reads_back };
 }
 
 impl StrictRead for Status68 {
-    ghost use Rattle.rlp_messages.specs.Status.{status68};
-
     ghost strict = { status68.reads_strictly };
 }
 
@@ -198,8 +176,6 @@ pub struct Status69 {
 }
 
 impl Encodable for Status69 {
-    ghost use Rattle.rlp_messages.specs.Status.{status69};
-
     ghost item = { status69.item };
 
     ghost fits = { status69.Fits };
@@ -219,8 +195,6 @@ impl Encodable for Status69 {
 }
 
 impl Decodable for Status69 {
-    ghost use Rattle.rlp_messages.specs.Status.{status69};
-
     ghost gives = { status69.gives };
 
     ghost faults = { status69.faults };
@@ -245,13 +219,9 @@ impl Decodable for Status69 {
 }
 
 impl RoundTrip for Status69 {
-    ghost use Rattle.rlp_messages.specs.Status.{status69};
-
     ghost round_trip = { status69.reads_back };
 }
 
 impl StrictRead for Status69 {
-    ghost use Rattle.rlp_messages.specs.Status.{status69};
-
     ghost strict = { status69.reads_strictly };
 }

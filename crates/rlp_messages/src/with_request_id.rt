@@ -1,5 +1,11 @@
 //! Messages with the number of a request.
 
+ghost use Rattle.std.specs.Prelude.{[], ◌∷◌, ⊤};
+ghost use Rattle.rlp.specs.Format.Item.{list_of};
+ghost use Rattle.rlp.specs.Values.Value.{FitsBytes, number_item};
+ghost use Rattle.rlp.specs.Codec.{codec_of};
+ghost use Rattle.rlp_messages.specs.WithRequestId.{FaultsWithRequestId, GivesWithRequestId, MayLackWithRequestId, with_request_id};
+
 use rlp::{Decodable, DecoderError, Encodable, Rlp, RlpStream, RoundTrip, StrictRead};
 use std::alloc::{AllocError, Global};
 
@@ -15,10 +21,6 @@ pub struct WithRequestId<T> {
 }
 
 impl<T: Encodable> Encodable for WithRequestId<T> {
-    ghost use Rattle.std.specs.Prelude.{[], ◌∷◌, ⊤};
-    ghost use Rattle.rlp.specs.Format.Item.{list_of};
-    ghost use Rattle.rlp.specs.Values.Value.{FitsBytes, number_item};
-
     ghost item = { λ w. list_of (number_item w.request_id ∷ T.item w.content ∷ []) };
 
     ghost fits = { λ w. FitsBytes 8 w.request_id × (T.fits w.content × ⊤) };
@@ -29,8 +31,6 @@ impl<T: Encodable> Encodable for WithRequestId<T> {
 }
 
 impl<T: Decodable> Decodable for WithRequestId<T> {
-    ghost use Rattle.rlp_messages.specs.WithRequestId.{FaultsWithRequestId, GivesWithRequestId, MayLackWithRequestId};
-
     ghost gives = { GivesWithRequestId T.gives };
 
     ghost faults = { FaultsWithRequestId T.gives T.faults };
@@ -50,17 +50,11 @@ impl<T: Decodable> Decodable for WithRequestId<T> {
 }
 
 impl<T: StrictRead> RoundTrip for WithRequestId<T> {
-    ghost use Rattle.rlp.specs.Codec.{codec_of};
-    ghost use Rattle.rlp_messages.specs.WithRequestId.{with_request_id};
-
     ghost round_trip = { (with_request_id (codec_of T.fits T.item T.gives T.faults
         T.may_lack_memory T.round_trip T.strict)).reads_back };
 }
 
 impl<T: StrictRead> StrictRead for WithRequestId<T> {
-    ghost use Rattle.rlp.specs.Codec.{codec_of};
-    ghost use Rattle.rlp_messages.specs.WithRequestId.{with_request_id};
-
     ghost strict = { (with_request_id (codec_of T.fits T.item T.gives T.faults
         T.may_lack_memory T.round_trip T.strict)).reads_strictly };
 }

@@ -1,5 +1,9 @@
 //! Truth values: written as the numbers 0 and 1.
 
+ghost use Rattle.rlp.specs.Values.ValueReading.{GivesBool, FaultsAsBool};
+ghost use Rattle.rlp.specs.Lemmas.RoundTrips.{bool_reads_back, bool_exact};
+ghost use Rattle.rlp.specs.Lemmas.StrictReads.{bool_strict};
+
 use crate::rlpin::Rlp;
 use crate::traits::{Decodable, RoundTrip, Scalar, StrictRead};
 use rlp_format::error::DecoderError;
@@ -8,8 +12,6 @@ use std::alloc::Global;
 /// Reads a number as `u8` does: 0 is `false` and 1 is `true`. Fails with
 /// `Custom("invalid boolean value")` for other numbers. It takes no memory.
 impl Decodable for bool {
-    ghost use Rattle.rlp.specs.Values.ValueReading.{GivesBool, FaultsAsBool};
-
     ghost gives = { GivesBool };
 
     ghost faults = { FaultsAsBool };
@@ -28,19 +30,13 @@ impl Decodable for bool {
 }
 
 impl RoundTrip for bool {
-    ghost use Rattle.rlp.specs.Lemmas.RoundTrips.{bool_reads_back};
-
     ghost round_trip = { λ bytes b fits fit begins. bool_reads_back bytes b fits begins };
 }
 
 impl Scalar for bool {
-    ghost use Rattle.rlp.specs.Lemmas.RoundTrips.{bool_exact};
-
     ghost exact = { bool_exact };
 }
 
 impl StrictRead for bool {
-    ghost use Rattle.rlp.specs.Lemmas.StrictReads.{bool_strict};
-
     ghost strict = { bool_strict };
 }

@@ -1,5 +1,11 @@
 //! Boxes: written as the value that they hold.
 
+ghost use Rattle.std.specs.Prelude.{◌⊎◌};
+ghost use Rattle.std.specs.Box.{box_value};
+ghost use Rattle.rlp.specs.Values.ValueReading.{GivesSome};
+ghost use Rattle.rlp.specs.Lemmas.RoundTrips.{reads_back_through, exact_through};
+ghost use Rattle.rlp.specs.Lemmas.StrictReads.{strict_through};
+
 use crate::rlpin::Rlp;
 use crate::traits::{Decodable, RoundTrip, Scalar, StrictRead};
 use rlp_format::error::DecoderError;
@@ -7,9 +13,6 @@ use std::alloc::Global;
 
 /// Reads a value of type `T`, and puts it into a box.
 impl<T: Decodable> Decodable for Box<T> {
-    ghost use Rattle.std.specs.Prelude.{◌⊎◌};
-    ghost use Rattle.rlp.specs.Values.ValueReading.{GivesSome};
-
     ghost gives = { λ v b. T.gives v b.value };
 
     ghost faults = { T.faults };
@@ -25,25 +28,16 @@ impl<T: Decodable> Decodable for Box<T> {
 }
 
 impl<T: RoundTrip> RoundTrip for Box<T> {
-    ghost use Rattle.std.specs.Box.{box_value};
-    ghost use Rattle.rlp.specs.Lemmas.RoundTrips.{reads_back_through};
-
     ghost round_trip = { λ bytes b fits fit begins. reads_back_through box_value
         (T.round_trip bytes (box_value b) fits fit begins) };
 }
 
 impl<T: Scalar> Scalar for Box<T> {
-    ghost use Rattle.std.specs.Box.{box_value};
-    ghost use Rattle.rlp.specs.Lemmas.RoundTrips.{exact_through};
-
     ghost exact = { λ bytes b. exact_through T.fits T.item box_value bytes b
         (T.exact bytes (box_value b)) };
 }
 
 impl<T: StrictRead> StrictRead for Box<T> {
-    ghost use Rattle.std.specs.Box.{box_value};
-    ghost use Rattle.rlp.specs.Lemmas.StrictReads.{strict_through};
-
     ghost strict = { λ bytes b held fits. strict_through box_value
         (T.strict bytes (box_value b) held fits) };
 }

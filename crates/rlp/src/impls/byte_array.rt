@@ -1,5 +1,11 @@
 //! Byte arrays: written as the string of the bytes.
 
+ghost use Rattle.std.specs.Prelude.{◌≡◌, length};
+ghost use Rattle.rlp_format.specs.Format.Item.{string};
+ghost use Rattle.rlp.specs.Values.ValueReading.{FaultsAs, GivesValue, IsLengthFault};
+ghost use Rattle.rlp.specs.Codec.{byte_array};
+ghost use Rattle.rlp.specs.Lemmas.RoundTrips.{itself};
+
 use crate::rlpin::Rlp;
 use crate::traits::{Decodable, RoundTrip, Scalar, StrictRead};
 use rlp_format::error::DecoderError;
@@ -9,10 +15,6 @@ use std::alloc::Global;
 ///
 /// Fails with `RlpIsTooShort` if the string is shorter, and with `RlpIsTooBig` if it is longer.
 impl<const N: usize> Decodable for [u8; N] {
-    ghost use Rattle.std.specs.Prelude.{◌≡◌, length};
-    ghost use Rattle.rlp_format.specs.Format.Item.{string};
-    ghost use Rattle.rlp.specs.Values.ValueReading.{FaultsAs, GivesValue, IsLengthFault};
-
     ghost gives = { λ v a. GivesValue (λ a. length a ≡ N) string v a };
 
     ghost faults = { λ v e. FaultsAs (IsLengthFault N) v e };
@@ -34,19 +36,13 @@ impl<const N: usize> Decodable for [u8; N] {
 }
 
 impl<const N: usize> RoundTrip for [u8; N] {
-    ghost use Rattle.rlp.specs.Codec.{byte_array};
-
     ghost round_trip = { (byte_array N).reads_back };
 }
 
 impl<const N: usize> Scalar for [u8; N] {
-    ghost use Rattle.rlp.specs.Lemmas.RoundTrips.{itself};
-
     ghost exact = { λ b v. itself };
 }
 
 impl<const N: usize> StrictRead for [u8; N] {
-    ghost use Rattle.rlp.specs.Codec.{byte_array};
-
     ghost strict = { (byte_array N).reads_strictly };
 }

@@ -1,5 +1,12 @@
 //! Byte strings: written as the string of the bytes.
 
+ghost use Rattle.std.specs.Prelude.{⊤};
+ghost use Rattle.std.specs.Vec.{vec_items};
+ghost use Rattle.rlp_format.specs.Format.Item.{string};
+ghost use Rattle.rlp.specs.Values.ValueReading.{GivesBytes, FaultsAsBytes, GivesSome};
+ghost use Rattle.rlp.specs.Lemmas.RoundTrips.{bytes_in, given_through};
+ghost use Rattle.rlp.specs.Lemmas.StrictReads.{bytes_strict};
+
 use crate::rlpin::Rlp;
 use crate::traits::{Decodable, RoundTrip, Scalar, StrictRead};
 use rlp_format::error::DecoderError;
@@ -7,8 +14,6 @@ use std::alloc::Global;
 
 /// Reads the bytes of a string, with one copy.
 impl Decodable for Vec<u8> {
-    ghost use Rattle.rlp.specs.Values.ValueReading.{GivesBytes, FaultsAsBytes, GivesSome};
-
     ghost gives = { λ v x. GivesBytes v x.items };
 
     ghost faults = { λ v e. FaultsAsBytes v e };
@@ -25,24 +30,13 @@ impl Decodable for Vec<u8> {
 }
 
 impl RoundTrip for Vec<u8> {
-    ghost use Rattle.std.specs.Vec.{vec_items};
-    ghost use Rattle.rlp.specs.Lemmas.RoundTrips.{bytes_in};
-
     ghost round_trip = { bytes_in vec_items };
 }
 
 impl Scalar for Vec<u8> {
-    ghost use Rattle.std.specs.Prelude.{⊤};
-    ghost use Rattle.std.specs.Vec.{vec_items};
-    ghost use Rattle.rlp_format.specs.Format.Item.{string};
-    ghost use Rattle.rlp.specs.Lemmas.RoundTrips.{given_through};
-
     ghost exact = { given_through (λ d. ⊤) string vec_items };
 }
 
 impl StrictRead for Vec<u8> {
-    ghost use Rattle.std.specs.Vec.{vec_items};
-    ghost use Rattle.rlp.specs.Lemmas.StrictReads.{bytes_strict};
-
     ghost strict = { bytes_strict vec_items };
 }

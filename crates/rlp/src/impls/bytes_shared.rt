@@ -1,5 +1,11 @@
 //! Buffers that are shared without a copy: written as the string of the bytes.
 
+ghost use Rattle.std.specs.Prelude.{⊤};
+ghost use Rattle.rlp_format.specs.Format.Item.{string};
+ghost use Rattle.rlp.specs.Values.ValueReading.{GivesBytes, FaultsAsBytes, GivesSome};
+ghost use Rattle.rlp.specs.Lemmas.RoundTrips.{bytes_in, given_through};
+ghost use Rattle.rlp.specs.Lemmas.StrictReads.{bytes_strict};
+
 use crate::rlpin::Rlp;
 use crate::traits::{Decodable, RoundTrip, Scalar, StrictRead};
 use bytes::Bytes;
@@ -8,8 +14,6 @@ use std::alloc::Global;
 
 /// Reads the bytes of a string, with one copy, as a buffer that is shared without a copy.
 impl Decodable for Bytes {
-    ghost use Rattle.rlp.specs.Values.ValueReading.{GivesBytes, FaultsAsBytes, GivesSome};
-
     ghost gives = { λ v x. GivesBytes v x };
 
     ghost faults = { λ v e. FaultsAsBytes v e };
@@ -26,21 +30,13 @@ impl Decodable for Bytes {
 }
 
 impl RoundTrip for Bytes {
-    ghost use Rattle.rlp.specs.Lemmas.RoundTrips.{bytes_in};
-
     ghost round_trip = { bytes_in (λ (b : Self). b) };
 }
 
 impl Scalar for Bytes {
-    ghost use Rattle.std.specs.Prelude.{⊤};
-    ghost use Rattle.rlp_format.specs.Format.Item.{string};
-    ghost use Rattle.rlp.specs.Lemmas.RoundTrips.{given_through};
-
     ghost exact = { given_through (λ d. ⊤) string (λ (b : Self). b) };
 }
 
 impl StrictRead for Bytes {
-    ghost use Rattle.rlp.specs.Lemmas.StrictReads.{bytes_strict};
-
     ghost strict = { bytes_strict (λ (b : Self). b) };
 }

@@ -5,6 +5,8 @@ ghost use Rattle.std.specs.Int.Digits.{number_from_digits};
 ghost use Rattle.rlp_format.specs.Format.WrittenHeader.{big_endian};
 ghost use Rattle.rlp_format.specs.Values.Value.{FitsBytes};
 ghost use Rattle.rlp.specs.Values.ValueReading.{AreShortest, IsDigitsFault, GivesNumber, FaultsAsNumber};
+ghost use Rattle.rlp.specs.Lemmas.RoundTrips.{number_reads_back, itself};
+ghost use Rattle.rlp.specs.Lemmas.StrictReads.{number_strict};
 
 use crate::rlpin::Rlp;
 use crate::traits::{Decodable, RoundTrip, Scalar, StrictRead};
@@ -14,8 +16,6 @@ use std::alloc::Global;
 
 /// Reads a number of at most one byte. Fails with the same errors as for `u64`.
 impl Decodable for u8 {
-    ghost use Rattle.rlp.specs.Values.ValueReading.{GivesNumber, FaultsAsNumber};
-
     ghost gives = { λ v n. GivesNumber 1 v n };
 
     ghost faults = { λ v e. FaultsAsNumber 1 v e };
@@ -32,8 +32,6 @@ impl Decodable for u8 {
 
 /// Reads a number of at most two bytes. Fails with the same errors as for `u64`.
 impl Decodable for u16 {
-    ghost use Rattle.rlp.specs.Values.ValueReading.{GivesNumber, FaultsAsNumber};
-
     ghost gives = { λ v n. GivesNumber 2 v n };
 
     ghost faults = { λ v e. FaultsAsNumber 2 v e };
@@ -50,8 +48,6 @@ impl Decodable for u16 {
 
 /// Reads a number of at most four bytes. Fails with the same errors as for `u64`.
 impl Decodable for u32 {
-    ghost use Rattle.rlp.specs.Values.ValueReading.{GivesNumber, FaultsAsNumber};
-
     ghost gives = { λ v n. GivesNumber 4 v n };
 
     ghost faults = { λ v e. FaultsAsNumber 4 v e };
@@ -71,8 +67,6 @@ impl Decodable for u32 {
 /// Fails with `RlpIsTooBig` if the string has more bytes, and with `RlpInvalidIndirection` if it
 /// begins with a zero byte. The number zero is the empty string.
 impl Decodable for u64 {
-    ghost use Rattle.rlp.specs.Values.ValueReading.{GivesNumber, FaultsAsNumber};
-
     ghost gives = { λ v n. GivesNumber 8 v n };
 
     ghost faults = { λ v e. FaultsAsNumber 8 v e };
@@ -89,8 +83,6 @@ impl Decodable for u64 {
 
 /// Reads a number as `u64` does.
 impl Decodable for usize {
-    ghost use Rattle.rlp.specs.Values.ValueReading.{GivesNumber, FaultsAsNumber};
-
     ghost gives = { λ v n. GivesNumber 8 v n };
 
     ghost faults = { λ v e. FaultsAsNumber 8 v e };
@@ -107,8 +99,6 @@ impl Decodable for usize {
 
 /// Reads a number of at most sixteen bytes. Fails with the same errors as for `u64`.
 impl Decodable for u128 {
-    ghost use Rattle.rlp.specs.Values.ValueReading.{GivesNumber, FaultsAsNumber};
-
     ghost gives = { λ v n. GivesNumber 16 v n };
 
     ghost faults = { λ v e. FaultsAsNumber 16 v e };
@@ -287,109 +277,73 @@ fn check_digits(digits: &[u8], width: usize) -> Result<(), DecoderError>
 }
 
 impl RoundTrip for u8 {
-    ghost use Rattle.rlp.specs.Lemmas.RoundTrips.{number_reads_back};
-
     ghost round_trip = { number_reads_back 1 };
 }
 
 impl Scalar for u8 {
-    ghost use Rattle.rlp.specs.Lemmas.RoundTrips.{itself};
-
     ghost exact = { λ b v. itself };
 }
 
 impl StrictRead for u8 {
-    ghost use Rattle.rlp.specs.Lemmas.StrictReads.{number_strict};
-
     ghost strict = { number_strict 1 };
 }
 
 impl RoundTrip for u16 {
-    ghost use Rattle.rlp.specs.Lemmas.RoundTrips.{number_reads_back};
-
     ghost round_trip = { number_reads_back 2 };
 }
 
 impl Scalar for u16 {
-    ghost use Rattle.rlp.specs.Lemmas.RoundTrips.{itself};
-
     ghost exact = { λ b v. itself };
 }
 
 impl StrictRead for u16 {
-    ghost use Rattle.rlp.specs.Lemmas.StrictReads.{number_strict};
-
     ghost strict = { number_strict 2 };
 }
 
 impl RoundTrip for u32 {
-    ghost use Rattle.rlp.specs.Lemmas.RoundTrips.{number_reads_back};
-
     ghost round_trip = { number_reads_back 4 };
 }
 
 impl Scalar for u32 {
-    ghost use Rattle.rlp.specs.Lemmas.RoundTrips.{itself};
-
     ghost exact = { λ b v. itself };
 }
 
 impl StrictRead for u32 {
-    ghost use Rattle.rlp.specs.Lemmas.StrictReads.{number_strict};
-
     ghost strict = { number_strict 4 };
 }
 
 impl RoundTrip for u64 {
-    ghost use Rattle.rlp.specs.Lemmas.RoundTrips.{number_reads_back};
-
     ghost round_trip = { number_reads_back 8 };
 }
 
 impl Scalar for u64 {
-    ghost use Rattle.rlp.specs.Lemmas.RoundTrips.{itself};
-
     ghost exact = { λ b v. itself };
 }
 
 impl StrictRead for u64 {
-    ghost use Rattle.rlp.specs.Lemmas.StrictReads.{number_strict};
-
     ghost strict = { number_strict 8 };
 }
 
 impl RoundTrip for usize {
-    ghost use Rattle.rlp.specs.Lemmas.RoundTrips.{number_reads_back};
-
     ghost round_trip = { number_reads_back 8 };
 }
 
 impl Scalar for usize {
-    ghost use Rattle.rlp.specs.Lemmas.RoundTrips.{itself};
-
     ghost exact = { λ b v. itself };
 }
 
 impl StrictRead for usize {
-    ghost use Rattle.rlp.specs.Lemmas.StrictReads.{number_strict};
-
     ghost strict = { number_strict 8 };
 }
 
 impl RoundTrip for u128 {
-    ghost use Rattle.rlp.specs.Lemmas.RoundTrips.{number_reads_back};
-
     ghost round_trip = { number_reads_back 16 };
 }
 
 impl Scalar for u128 {
-    ghost use Rattle.rlp.specs.Lemmas.RoundTrips.{itself};
-
     ghost exact = { λ b v. itself };
 }
 
 impl StrictRead for u128 {
-    ghost use Rattle.rlp.specs.Lemmas.StrictReads.{number_strict};
-
     ghost strict = { number_strict 16 };
 }

@@ -1,6 +1,8 @@
 //! Options: written as a list of no items or of one item.
 
 ghost use Rattle.rlp.specs.Values.ListReading.{GivesOption, FaultsAsOption, MayLackAsOption};
+ghost use Rattle.rlp.specs.Lemmas.ListRoundTrips.{option_reads_back};
+ghost use Rattle.rlp.specs.Lemmas.StrictReads.{option_strict};
 
 use crate::rlpin::Rlp;
 use crate::traits::{Decodable, RoundTrip, StrictRead};
@@ -37,13 +39,9 @@ impl<T: Decodable> Decodable for Option<T> {
 }
 
 impl<T: RoundTrip> RoundTrip for Option<T> {
-    ghost use Rattle.rlp.specs.Lemmas.ListRoundTrips.{option_reads_back};
-
     ghost round_trip = { option_reads_back T.fits T.item T.gives T.faults T.round_trip };
 }
 
 impl<T: StrictRead> StrictRead for Option<T> {
-    ghost use Rattle.rlp.specs.Lemmas.StrictReads.{option_strict};
-
     ghost strict = { option_strict T.fits T.item T.gives T.faults T.strict };
 }

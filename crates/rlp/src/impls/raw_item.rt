@@ -1,11 +1,15 @@
 //! Items of any kind, kept as the bytes of their encodings.
 
-ghost use Rattle.std.specs.Prelude.{◌≡◌, ◌⊎◌, IfOk, IfErr};
+ghost use Rattle.std.specs.Prelude.{◌≡◌, ◌⊎◌, ⊤, IfOk, IfErr, nat_eq};
+ghost use Rattle.std.specs.Cmp.{partial_equiv_from_equiv};
+ghost use Rattle.std.specs.Cmp.Lexicographic.{nat_list_eq_equiv, pointwise};
 ghost use Rattle.rlp_format.specs.declared.error.DecoderError.TheVariants.{OutOfMemory};
 ghost use Rattle.rlp_format.specs.Views.View.{strict_view_of};
 ghost use Rattle.rlp_format.specs.Format.Encoding.{encoding};
 ghost use Rattle.rlp_format.specs.Format.Strict.{IsCanonicalWithin};
 ghost use Rattle.rlp.specs.Values.RawItem.{IsRawFault, IsRawItem, deepest_raw_item, raw_item_of};
+ghost use Rattle.rlp.specs.Codecs.RawItem.{raw_item};
+ghost use Rattle.rlp.specs.Lemmas.RoundTrips.{itself};
 
 use crate::rlpin::Rlp;
 use crate::traits::{Decodable, RoundTrip, Scalar, StrictRead};
@@ -96,10 +100,6 @@ impl RawItem {
 
 /// Two raw items are equal if their bytes are.
 impl PartialEq for RawItem {
-    ghost use Rattle.std.specs.Prelude.{nat_eq};
-    ghost use Rattle.std.specs.Cmp.{partial_equiv_from_equiv};
-    ghost use Rattle.std.specs.Cmp.Lexicographic.{nat_list_eq_equiv, pointwise};
-
     ghost eq = { pointwise nat_eq };
 
     ghost laws = { partial_equiv_from_equiv nat_list_eq_equiv };
@@ -110,16 +110,11 @@ impl PartialEq for RawItem {
 }
 
 impl Eq for RawItem {
-    ghost use Rattle.std.specs.Cmp.Lexicographic.{nat_list_eq_equiv};
-
     ghost laws = { nat_list_eq_equiv };
 }
 
 /// Writes the bytes as they are.
 impl Encodable for RawItem {
-    ghost use Rattle.std.specs.Prelude.{⊤};
-    ghost use Rattle.rlp.specs.Codecs.RawItem.{raw_item};
-
     ghost item = { raw_item.item };
 
     ghost fits = { raw_item.Fits };
@@ -151,8 +146,6 @@ impl Encodable for RawItem {
 /// as [`RawItem::new`] does if that isn't canonical or nests too deep. This holds for a lenient
 /// view too, which ignores only the bytes that follow the item.
 impl Decodable for RawItem {
-    ghost use Rattle.rlp.specs.Codecs.RawItem.{raw_item};
-
     ghost gives = { raw_item.gives };
 
     ghost faults = { raw_item.faults };
@@ -173,19 +166,13 @@ impl Decodable for RawItem {
 }
 
 impl RoundTrip for RawItem {
-    ghost use Rattle.rlp.specs.Codecs.RawItem.{raw_item};
-
     ghost round_trip = { raw_item.reads_back };
 }
 
 impl Scalar for RawItem {
-    ghost use Rattle.rlp.specs.Lemmas.RoundTrips.{itself};
-
     ghost exact = { λ b v. itself };
 }
 
 impl StrictRead for RawItem {
-    ghost use Rattle.rlp.specs.Codecs.RawItem.{raw_item};
-
     ghost strict = { raw_item.reads_strictly };
 }

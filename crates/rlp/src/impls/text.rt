@@ -1,5 +1,12 @@
 //! Text: written as the string of its bytes in UTF-8.
 
+ghost use Rattle.std.specs.Prelude.{IsUtf8};
+ghost use Rattle.std.specs.String.{string_bytes};
+ghost use Rattle.rlp_format.specs.Format.Item.{string};
+ghost use Rattle.rlp.specs.Values.ValueReading.{GivesText, FaultsAsText, GivesSome};
+ghost use Rattle.rlp.specs.Lemmas.RoundTrips.{text_in, given_through};
+ghost use Rattle.rlp.specs.Lemmas.StrictReads.{text_strict};
+
 use crate::rlpin::Rlp;
 use crate::traits::{Decodable, RoundTrip, Scalar, StrictRead};
 use rlp_format::error::DecoderError;
@@ -8,9 +15,6 @@ use std::alloc::Global;
 /// Reads a string as text, with one copy. Fails with `RlpExpectedToBeData` if the bytes aren't
 /// UTF-8.
 impl Decodable for String {
-    ghost use Rattle.std.specs.String.{string_bytes};
-    ghost use Rattle.rlp.specs.Values.ValueReading.{GivesText, FaultsAsText, GivesSome};
-
     ghost gives = { λ v x. GivesText v (string_bytes x) };
 
     ghost faults = { λ v e. FaultsAsText v e };
@@ -31,24 +35,13 @@ impl Decodable for String {
 }
 
 impl RoundTrip for String {
-    ghost use Rattle.std.specs.String.{string_bytes};
-    ghost use Rattle.rlp.specs.Lemmas.RoundTrips.{text_in};
-
     ghost round_trip = { text_in string_bytes };
 }
 
 impl Scalar for String {
-    ghost use Rattle.std.specs.Prelude.{IsUtf8};
-    ghost use Rattle.std.specs.String.{string_bytes};
-    ghost use Rattle.rlp_format.specs.Format.Item.{string};
-    ghost use Rattle.rlp.specs.Lemmas.RoundTrips.{given_through};
-
     ghost exact = { given_through IsUtf8 string string_bytes };
 }
 
 impl StrictRead for String {
-    ghost use Rattle.std.specs.String.{string_bytes};
-    ghost use Rattle.rlp.specs.Lemmas.StrictReads.{text_strict};
-
     ghost strict = { text_strict string_bytes };
 }

@@ -2,6 +2,10 @@
 
 ghost use Rattle.std.specs.Prelude.{◌≡◌, ◌≤◌, length};
 ghost use Rattle.std.specs.Int.Digits.{number_from_digits};
+ghost use Rattle.rlp_format.specs.Values.Value.{FitsBytes, number_item};
+ghost use Rattle.rlp.specs.Values.ValueReading.{FaultsAsNumber, GivesNumber};
+ghost use Rattle.rlp.specs.Codec.{uint};
+ghost use Rattle.rlp.specs.Lemmas.RoundTrips.{given_through};
 
 use crate::impls::number::number_digits;
 use crate::rlpin::Rlp;
@@ -12,9 +16,6 @@ use std::alloc::Global;
 
 /// Reads a number of at most `N` bytes. Fails with the same errors as for `u64`.
 impl<const N: usize> Decodable for Uint<N> {
-    ghost use Rattle.std.specs.Int.Digits.{number_from_digits};
-    ghost use Rattle.rlp.specs.Values.ValueReading.{FaultsAsNumber, GivesNumber};
-
     ghost gives = { λ v n. GivesNumber N v (number_from_digits 256 n.bytes) };
 
     ghost faults = { λ v e. FaultsAsNumber N v e };
@@ -43,22 +44,14 @@ fn padded<const N: usize>(digits: &[u8]) -> [u8; N]
 }
 
 impl<const N: usize> RoundTrip for Uint<N> {
-    ghost use Rattle.rlp.specs.Codec.{uint};
-
     ghost round_trip = { (uint N).reads_back };
 }
 
 impl<const N: usize> Scalar for Uint<N> {
-    ghost use Rattle.std.specs.Int.Digits.{number_from_digits};
-    ghost use Rattle.rlp_format.specs.Values.Value.{FitsBytes, number_item};
-    ghost use Rattle.rlp.specs.Lemmas.RoundTrips.{given_through};
-
     ghost exact = { given_through (FitsBytes N) number_item
         (λ (n : Self). number_from_digits 256 n.bytes) };
 }
 
 impl<const N: usize> StrictRead for Uint<N> {
-    ghost use Rattle.rlp.specs.Codec.{uint};
-
     ghost strict = { (uint N).reads_strictly };
 }

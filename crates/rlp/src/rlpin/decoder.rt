@@ -4,7 +4,7 @@ ghost use Rattle.std.specs.Prelude.{◌≡◌, ◌≤◌, ◌↔◌, ℕ, List, 
 ghost use Rattle.std.specs.Fn.{FnReturnsAt};
 ghost use Rattle.rlp_format.specs.Format.Item.{string};
 ghost use Rattle.rlp_format.specs.Format.Encoding.{encoding};
-ghost use Rattle.rlp_format.specs.Views.View.{HoldsNoString, HoldsString, view_of, view_string};
+ghost use Rattle.rlp_format.specs.Views.View.{HoldsNoString, HoldsString, view_of, view_string, View};
 
 use rlp_format::error::DecoderError;
 use rlp_format::framed::is_followed;
@@ -20,8 +20,6 @@ pub struct BasicDecoder<'a> {
 }
 
 impl<'a> Model for BasicDecoder<'a> {
-    ghost use Rattle.rlp_format.specs.Views.View.{View};
-
     ghost Value = { View };
 
     ghost view = { λ d. record { bytes = d.rlp.now; is_strict = d.strict } };

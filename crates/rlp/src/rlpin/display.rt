@@ -1,5 +1,7 @@
 //! The printed text of a view.
 
+ghost use Rattle.std.specs.Prelude.{Some};
+
 use crate::rlpin::rlp::Rlp;
 use rlp_format::text::write_text;
 use std::fmt;
@@ -8,7 +10,6 @@ use std::fmt;
 /// framed print the name of their fault, the one of [`Rlp::payload_info`]. The formatter's flags
 /// change nothing.
 impl fmt::Display for Rlp<'_> {
-    ghost use Rattle.std.specs.Prelude.{Some};
     ghost use Rattle.rlp_format.specs.Views.Text.{text};
 
     ghost output = { λ v. Some (text v.bytes) };

@@ -5,7 +5,7 @@ ghost use Rattle.std.specs.declared.alloc.Global.{Global};
 ghost use Rattle.std.specs.Prelude.{◌≡◌, ◌+◌, ◌⊎◌, None, Some, Ok, Err, IfOk, IfErr, MatchResult, OnOk, OnErr};
 ghost use Rattle.rlp_format.specs.declared.error.DecoderError.TheVariants.{OutOfMemory};
 ghost use Rattle.rlp_format.specs.Views.View.{item_at, item_count, items_fault};
-ghost use Rattle.rlp.specs.Values.FieldPlace.{IsAtPlace};
+ghost use Rattle.rlp.specs.Values.FieldPlace.{IsAtPlace, FieldPlace};
 ghost use Rattle.rlp.specs.Values.ListReading.{FaultsAsFields, FaultsAsList, FaultsAt, GivesAt, GivesList, GivesSomeAt, MayLackAsList, MayLackAt, ReadsValue};
 
 use crate::rlpin::rlp::Rlp;
@@ -39,8 +39,6 @@ pub struct Fields<'a> {
 }
 
 impl<'a> Model for Fields<'a> {
-    ghost use Rattle.rlp.specs.Values.FieldPlace.{FieldPlace, IsAtPlace};
-
     ghost Value = { FieldPlace };
 
     ghost view = { λ f. record { view = f.rlp; place = f.taken.total } };

@@ -1,11 +1,11 @@
 //! The items of a view, one by one.
 
-ghost use Rattle.std.specs.Prelude.{◌≡◌, ◌≤◌, ◌^◌, ◌<◌, length, true, false, IfSome, IsOk, Some};
+ghost use Rattle.std.specs.Prelude.{◌≡◌, ◌≤◌, ◌^◌, ◌<◌, [], length, true, false, IfSome, IsOk, Some, map};
 ghost use Rattle.std.specs.Iterator.{item_count, UpTo, at_most};
 ghost use Rattle.std.specs.Iterator.SizeHint.{IsWithinCount};
 ghost use Rattle.rlp_format.specs.Format.Framing.{framing};
-ghost use Rattle.rlp_format.specs.Format.Split.{begins_as_list};
-ghost use Rattle.rlp_format.specs.Views.View.{IsStep, item_views};
+ghost use Rattle.rlp_format.specs.Format.Split.{begins_as_list, split};
+ghost use Rattle.rlp_format.specs.Views.View.{IsStep, item_views, Remaining};
 
 use crate::rlpin::rlp::Rlp;
 use rlp_format::items::{ItemReader, count_items};
@@ -26,10 +26,6 @@ pub struct RlpIterator<'a, 'view> {
 }
 
 impl<'a, 'view> Model for RlpIterator<'a, 'view> {
-    ghost use Rattle.std.specs.Prelude.{◌≡◌, [], map, true};
-    ghost use Rattle.rlp_format.specs.Format.Split.{split};
-    ghost use Rattle.rlp_format.specs.Views.View.{Remaining};
-
     ghost Value = { Remaining };
 
     ghost view = { λ i. record {

@@ -8,7 +8,7 @@ ghost use Rattle.rlp_format.specs.Format.Split.{begins_as_list, items};
 ghost use Rattle.rlp_format.specs.Format.Framing.{framing};
 ghost use Rattle.rlp_format.specs.Format.Strict.{IsCanonicalWithin, strict_list_fault};
 ghost use Rattle.rlp_format.specs.Views.Depth.{depth};
-ghost use Rattle.rlp_format.specs.Views.View.{begins_as_data, begins_as_empty, begins_as_int, data_size, has_nonzero_at, item_at, item_count, item_views, item_with_place, items_fault, list_fault, prototype_of, strict_view_of, view_header, view_of, view_value};
+ghost use Rattle.rlp_format.specs.Views.View.{begins_as_data, begins_as_empty, begins_as_int, data_size, has_nonzero_at, item_at, item_count, item_views, item_with_place, items_fault, list_fault, prototype_of, strict_view_of, view_header, view_of, view_value, View};
 ghost use Rattle.rlp.specs.Values.ListReading.{FaultsAsList, FaultsAt, GivesAt, GivesList, MayLackAsList, MayLackAt, ReadsValue, GivesSomeAt};
 
 use crate::rlpin::decoder::{BasicDecoder, is_string};
@@ -35,8 +35,6 @@ pub struct Rlp<'a> {
 }
 
 impl<'a> Model for Rlp<'a> {
-    ghost use Rattle.rlp_format.specs.Views.View.{View};
-
     ghost Value = { View };
 
     ghost view = { λ r. record { bytes = r.bytes.now; is_strict = r.strict } };

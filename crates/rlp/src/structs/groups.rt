@@ -1,6 +1,6 @@
 //! Groups of fields at the end of a struct, one group after another in the same list.
 
-ghost use Rattle.std.specs.Prelude.{◌≡◌, ◌<◌, ◌≤◌, ◌*◌, ◌^◌, MatchOption};
+ghost use Rattle.std.specs.Prelude.{◌≡◌, ◌<◌, ◌≤◌, ◌*◌, ◌^◌, MatchOption, refl};
 ghost use Rattle.std.specs.Vec.{vec_items};
 ghost use Rattle.rlp.specs.Values.FieldReading.{AreGroups, IsCount, group_fields};
 
@@ -25,8 +25,6 @@ pub trait FixedFields: DecodeFields + Drop {
 pub struct Groups<G>(pub Vec<G>);
 
 impl FixedFields for () {
-    ghost use Rattle.std.specs.Prelude.{refl};
-
     fn width() -> Option<usize> {
         Some(0)
     }

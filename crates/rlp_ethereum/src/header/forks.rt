@@ -3,6 +3,8 @@
 //! A fork's struct has its fields and, as an `Option`, the struct of the next fork. So a header has
 //! the fields of a fork only with those of each fork before it.
 
+ghost use Rattle.rlp_ethereum.specs.Forks.{london_fields, shanghai_fields, cancun_fields, prague_fields};
+
 use crate::Hash;
 use rlp::{
     AppendFields, DecodeFields, Field, FieldFault, Fields, OptionalGroup, OptionalGroupOf,
@@ -20,8 +22,6 @@ pub struct London {
 }
 
 impl AppendFields for London {
-    ghost use Rattle.rlp_ethereum.specs.Forks.{london_fields};
-
     ghost items = { london_fields.items };
 
     ghost fit = { london_fields.Fits };
@@ -44,8 +44,6 @@ impl AppendFields for London {
 }
 
 impl DecodeFields for London {
-    ghost use Rattle.rlp_ethereum.specs.Forks.{london_fields};
-
     ghost reading = { london_fields.reading };
 
     fn accepts(len: usize) -> bool {
@@ -79,8 +77,6 @@ pub struct Shanghai {
 }
 
 impl AppendFields for Shanghai {
-    ghost use Rattle.rlp_ethereum.specs.Forks.{shanghai_fields};
-
     ghost items = { shanghai_fields.items };
 
     ghost fit = { shanghai_fields.Fits };
@@ -95,8 +91,6 @@ impl AppendFields for Shanghai {
 }
 
 impl DecodeFields for Shanghai {
-    ghost use Rattle.rlp_ethereum.specs.Forks.{shanghai_fields};
-
     ghost reading = { shanghai_fields.reading };
 
     fn accepts(len: usize) -> bool {
@@ -134,8 +128,6 @@ pub struct Cancun {
 }
 
 impl AppendFields for Cancun {
-    ghost use Rattle.rlp_ethereum.specs.Forks.{cancun_fields};
-
     ghost items = { cancun_fields.items };
 
     ghost fit = { cancun_fields.Fits };
@@ -170,8 +162,6 @@ impl AppendFields for Cancun {
 }
 
 impl DecodeFields for Cancun {
-    ghost use Rattle.rlp_ethereum.specs.Forks.{cancun_fields};
-
     ghost reading = { cancun_fields.reading };
 
     fn accepts(len: usize) -> bool {
@@ -208,8 +198,6 @@ pub struct Prague {
 }
 
 impl AppendFields for Prague {
-    ghost use Rattle.rlp_ethereum.specs.Forks.{prague_fields};
-
     ghost items = { prague_fields.items };
 
     ghost fit = { prague_fields.Fits };
@@ -224,8 +212,6 @@ impl AppendFields for Prague {
 }
 
 impl DecodeFields for Prague {
-    ghost use Rattle.rlp_ethereum.specs.Forks.{prague_fields};
-
     ghost reading = { prague_fields.reading };
 
     fn accepts(len: usize) -> bool {

@@ -54,8 +54,6 @@ impl AccessListTransaction {
 }
 
 impl Encodable for UnsignedAccessListTransaction {
-    ghost use Rattle.rlp_ethereum.specs.Unsigned.AccessListTransaction.{unsigned_access_list_transaction};
-
     ghost item = { unsigned_access_list_transaction.item };
 
     ghost fits = { unsigned_access_list_transaction.Fits };
@@ -76,8 +74,6 @@ impl Encodable for UnsignedAccessListTransaction {
 }
 
 impl Decodable for UnsignedAccessListTransaction {
-    ghost use Rattle.rlp_ethereum.specs.Unsigned.AccessListTransaction.{unsigned_access_list_transaction};
-
     ghost gives = { unsigned_access_list_transaction.gives };
 
     ghost faults = { unsigned_access_list_transaction.faults };
@@ -103,13 +99,9 @@ impl Decodable for UnsignedAccessListTransaction {
 }
 
 impl RoundTrip for UnsignedAccessListTransaction {
-    ghost use Rattle.rlp_ethereum.specs.Unsigned.AccessListTransaction.{unsigned_access_list_transaction};
-
     ghost round_trip = { unsigned_access_list_transaction.reads_back };
 }
 
 impl StrictRead for UnsignedAccessListTransaction {
-    ghost use Rattle.rlp_ethereum.specs.Unsigned.AccessListTransaction.{unsigned_access_list_transaction};
-
     ghost strict = { unsigned_access_list_transaction.reads_strictly };
 }

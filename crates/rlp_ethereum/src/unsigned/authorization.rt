@@ -85,8 +85,6 @@ impl UnsignedAuthorization {
 }
 
 impl Encodable for UnsignedAuthorization {
-    ghost use Rattle.rlp_ethereum.specs.Unsigned.Authorization.{unsigned_authorization};
-
     ghost item = { unsigned_authorization.item };
 
     ghost fits = { unsigned_authorization.Fits };
@@ -97,8 +95,6 @@ impl Encodable for UnsignedAuthorization {
 }
 
 impl Decodable for UnsignedAuthorization {
-    ghost use Rattle.rlp_ethereum.specs.Unsigned.Authorization.{unsigned_authorization};
-
     ghost gives = { unsigned_authorization.gives };
 
     ghost faults = { unsigned_authorization.faults };
@@ -119,13 +115,9 @@ impl Decodable for UnsignedAuthorization {
 }
 
 impl RoundTrip for UnsignedAuthorization {
-    ghost use Rattle.rlp_ethereum.specs.Unsigned.Authorization.{unsigned_authorization};
-
     ghost round_trip = { unsigned_authorization.reads_back };
 }
 
 impl StrictRead for UnsignedAuthorization {
-    ghost use Rattle.rlp_ethereum.specs.Unsigned.Authorization.{unsigned_authorization};
-
     ghost strict = { unsigned_authorization.reads_strictly };
 }

@@ -65,8 +65,6 @@ impl BlobTransaction {
 }
 
 impl Encodable for UnsignedBlobTransaction {
-    ghost use Rattle.rlp_ethereum.specs.Unsigned.BlobTransaction.{unsigned_blob_transaction};
-
     ghost item = { unsigned_blob_transaction.item };
 
     ghost fits = { unsigned_blob_transaction.Fits };
@@ -90,8 +88,6 @@ impl Encodable for UnsignedBlobTransaction {
 }
 
 impl Decodable for UnsignedBlobTransaction {
-    ghost use Rattle.rlp_ethereum.specs.Unsigned.BlobTransaction.{unsigned_blob_transaction};
-
     ghost gives = { unsigned_blob_transaction.gives };
 
     ghost faults = { unsigned_blob_transaction.faults };
@@ -120,13 +116,9 @@ impl Decodable for UnsignedBlobTransaction {
 }
 
 impl RoundTrip for UnsignedBlobTransaction {
-    ghost use Rattle.rlp_ethereum.specs.Unsigned.BlobTransaction.{unsigned_blob_transaction};
-
     ghost round_trip = { unsigned_blob_transaction.reads_back };
 }
 
 impl StrictRead for UnsignedBlobTransaction {
-    ghost use Rattle.rlp_ethereum.specs.Unsigned.BlobTransaction.{unsigned_blob_transaction};
-
     ghost strict = { unsigned_blob_transaction.reads_strictly };
 }

@@ -57,8 +57,6 @@ impl FeeMarketTransaction {
 }
 
 impl Encodable for UnsignedFeeMarketTransaction {
-    ghost use Rattle.rlp_ethereum.specs.Unsigned.FeeMarketTransaction.{unsigned_fee_market_transaction};
-
     ghost item = { unsigned_fee_market_transaction.item };
 
     ghost fits = { unsigned_fee_market_transaction.Fits };
@@ -80,8 +78,6 @@ impl Encodable for UnsignedFeeMarketTransaction {
 }
 
 impl Decodable for UnsignedFeeMarketTransaction {
-    ghost use Rattle.rlp_ethereum.specs.Unsigned.FeeMarketTransaction.{unsigned_fee_market_transaction};
-
     ghost gives = { unsigned_fee_market_transaction.gives };
 
     ghost faults = { unsigned_fee_market_transaction.faults };
@@ -108,13 +104,9 @@ impl Decodable for UnsignedFeeMarketTransaction {
 }
 
 impl RoundTrip for UnsignedFeeMarketTransaction {
-    ghost use Rattle.rlp_ethereum.specs.Unsigned.FeeMarketTransaction.{unsigned_fee_market_transaction};
-
     ghost round_trip = { unsigned_fee_market_transaction.reads_back };
 }
 
 impl StrictRead for UnsignedFeeMarketTransaction {
-    ghost use Rattle.rlp_ethereum.specs.Unsigned.FeeMarketTransaction.{unsigned_fee_market_transaction};
-
     ghost strict = { unsigned_fee_market_transaction.reads_strictly };
 }

@@ -3,8 +3,9 @@
 ghost use Rattle.std.specs.Prelude.{◌≡◌, ◌++◌, take};
 ghost use Rattle.std.proofs.Common.{inl, inr};
 ghost use Rattle.rlp.specs.Format.Item.{list_of};
+ghost use Rattle.rlp.specs.Codec.{struct_of};
 ghost use Rattle.rlp_ethereum.specs.LegacyTransaction.{legacy_transaction_fields};
-ghost use Rattle.rlp_ethereum.specs.Unsigned.LegacyTransaction.{chain_items, signed_fields, unsigned_legacy_transaction};
+ghost use Rattle.rlp_ethereum.specs.Unsigned.LegacyTransaction.{chain_items, signed_fields, unsigned_legacy_transaction, fields_before_eip_155, fields_since_eip_155};
 
 use crate::unsigned::zero::Zero;
 use crate::{LegacyTransaction, Recipient};
@@ -79,8 +80,6 @@ impl LegacyTransaction {
 }
 
 impl Encodable for UnsignedLegacyTransaction {
-    ghost use Rattle.rlp_ethereum.specs.Unsigned.LegacyTransaction.{unsigned_legacy_transaction};
-
     ghost item = { unsigned_legacy_transaction.item };
 
     ghost fits = { unsigned_legacy_transaction.Fits };
@@ -116,8 +115,6 @@ impl Encodable for UnsignedLegacyTransaction {
 /// `RlpIncorrectListLen` for a list of another number of items than 6 or 9, and with `RlpIsTooBig`
 /// if one of the last two of nine is another string than the empty one.
 impl Decodable for UnsignedLegacyTransaction {
-    ghost use Rattle.rlp_ethereum.specs.Unsigned.LegacyTransaction.{unsigned_legacy_transaction};
-
     ghost gives = { unsigned_legacy_transaction.gives };
 
     ghost faults = { unsigned_legacy_transaction.faults };
@@ -143,14 +140,10 @@ impl Decodable for UnsignedLegacyTransaction {
 }
 
 impl RoundTrip for UnsignedLegacyTransaction {
-    ghost use Rattle.rlp_ethereum.specs.Unsigned.LegacyTransaction.{unsigned_legacy_transaction};
-
     ghost round_trip = { unsigned_legacy_transaction.reads_back };
 }
 
 impl StrictRead for UnsignedLegacyTransaction {
-    ghost use Rattle.rlp_ethereum.specs.Unsigned.LegacyTransaction.{unsigned_legacy_transaction};
-
     ghost strict = { unsigned_legacy_transaction.reads_strictly };
 }
 
@@ -185,9 +178,6 @@ fn since_eip_155(fields: FieldsSinceEip155) -> UnsignedLegacyTransaction
 }
 
 impl Decodable for FieldsBeforeEip155 {
-    ghost use Rattle.rlp.specs.Codec.{struct_of};
-    ghost use Rattle.rlp_ethereum.specs.Unsigned.LegacyTransaction.{fields_before_eip_155};
-
     ghost gives = { (struct_of fields_before_eip_155).gives };
 
     ghost faults = { (struct_of fields_before_eip_155).faults };
@@ -211,9 +201,6 @@ impl Decodable for FieldsBeforeEip155 {
 }
 
 impl Decodable for FieldsSinceEip155 {
-    ghost use Rattle.rlp.specs.Codec.{struct_of};
-    ghost use Rattle.rlp_ethereum.specs.Unsigned.LegacyTransaction.{fields_since_eip_155};
-
     ghost gives = { (struct_of fields_since_eip_155).gives };
 
     ghost faults = { (struct_of fields_since_eip_155).faults };

@@ -63,8 +63,6 @@ impl SetCodeTransaction {
 }
 
 impl Encodable for UnsignedSetCodeTransaction {
-    ghost use Rattle.rlp_ethereum.specs.Unsigned.SetCodeTransaction.{unsigned_set_code_transaction};
-
     ghost item = { unsigned_set_code_transaction.item };
 
     ghost fits = { unsigned_set_code_transaction.Fits };
@@ -87,8 +85,6 @@ impl Encodable for UnsignedSetCodeTransaction {
 }
 
 impl Decodable for UnsignedSetCodeTransaction {
-    ghost use Rattle.rlp_ethereum.specs.Unsigned.SetCodeTransaction.{unsigned_set_code_transaction};
-
     ghost gives = { unsigned_set_code_transaction.gives };
 
     ghost faults = { unsigned_set_code_transaction.faults };
@@ -116,13 +112,9 @@ impl Decodable for UnsignedSetCodeTransaction {
 }
 
 impl RoundTrip for UnsignedSetCodeTransaction {
-    ghost use Rattle.rlp_ethereum.specs.Unsigned.SetCodeTransaction.{unsigned_set_code_transaction};
-
     ghost round_trip = { unsigned_set_code_transaction.reads_back };
 }
 
 impl StrictRead for UnsignedSetCodeTransaction {
-    ghost use Rattle.rlp_ethereum.specs.Unsigned.SetCodeTransaction.{unsigned_set_code_transaction};
-
     ghost strict = { unsigned_set_code_transaction.reads_strictly };
 }

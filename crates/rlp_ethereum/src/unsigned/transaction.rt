@@ -126,8 +126,6 @@ fn decode_payload(
 }
 
 impl Encodable for UnsignedTransaction {
-    ghost use Rattle.rlp_ethereum.specs.Unsigned.Transaction.{unsigned_transaction};
-
     ghost item = { unsigned_transaction.item };
 
     ghost fits = { unsigned_transaction.Fits };
@@ -148,8 +146,6 @@ impl Encodable for UnsignedTransaction {
 }
 
 impl Decodable for UnsignedTransaction {
-    ghost use Rattle.rlp_ethereum.specs.Unsigned.Transaction.{unsigned_transaction};
-
     ghost gives = { unsigned_transaction.gives };
 
     ghost faults = { unsigned_transaction.faults };
@@ -168,13 +164,9 @@ impl Decodable for UnsignedTransaction {
 }
 
 impl RoundTrip for UnsignedTransaction {
-    ghost use Rattle.rlp_ethereum.specs.Unsigned.Transaction.{unsigned_transaction};
-
     ghost round_trip = { unsigned_transaction.reads_back };
 }
 
 impl StrictRead for UnsignedTransaction {
-    ghost use Rattle.rlp_ethereum.specs.Unsigned.Transaction.{unsigned_transaction};
-
     ghost strict = { unsigned_transaction.reads_strictly };
 }

@@ -1,5 +1,7 @@
 //! The number 0 in what is signed.
 
+ghost use Rattle.rlp_ethereum.specs.Unsigned.Zero.{zero_number};
+
 use rlp::{Decodable, DecoderError, Encodable, Rlp, RlpStream, RoundTrip, StrictRead};
 use std::alloc::{AllocError, Global};
 
@@ -9,8 +11,6 @@ pub(crate) struct Zero;
 
 /// Written as the empty string.
 impl Encodable for Zero {
-    ghost use Rattle.rlp_ethereum.specs.Unsigned.Zero.{zero_number};
-
     ghost item = { zero_number.item };
 
     ghost fits = { zero_number.Fits };
@@ -23,8 +23,6 @@ impl Encodable for Zero {
 
 /// Read from the empty string. Fails with `RlpIsTooBig` for any other string. It takes no memory.
 impl Decodable for Zero {
-    ghost use Rattle.rlp_ethereum.specs.Unsigned.Zero.{zero_number};
-
     ghost gives = { zero_number.gives };
 
     ghost faults = { zero_number.faults };
@@ -42,13 +40,9 @@ impl Decodable for Zero {
 }
 
 impl RoundTrip for Zero {
-    ghost use Rattle.rlp_ethereum.specs.Unsigned.Zero.{zero_number};
-
     ghost round_trip = { zero_number.reads_back };
 }
 
 impl StrictRead for Zero {
-    ghost use Rattle.rlp_ethereum.specs.Unsigned.Zero.{zero_number};
-
     ghost strict = { zero_number.reads_strictly };
 }

@@ -1,14 +1,14 @@
 //! Truth values: written as the numbers 0 and 1.
 
+ghost use Rattle.std.specs.Prelude.{⊤};
+ghost use Rattle.rlp_format.specs.Values.Value.{bit, number_item};
+
 use crate::stream::RlpStream;
 use crate::traits::Encodable;
 use bytes::BytesMut;
 use std::alloc::{AllocError, Global};
 
 impl Encodable for bool {
-    ghost use Rattle.std.specs.Prelude.{⊤};
-    ghost use Rattle.rlp_format.specs.Values.Value.{bit, number_item};
-
     ghost item = { λ b. number_item (bit b) };
 
     ghost fits = { λ b. ⊤ };

@@ -1,5 +1,8 @@
 //! Byte arrays: written as the string of the bytes.
 
+ghost use Rattle.std.specs.Prelude.{◌≡◌, ⊤, length};
+ghost use Rattle.rlp_format.specs.Format.Item.{string};
+
 use crate::stream::RlpStream;
 use crate::traits::Encodable;
 use bytes::BytesMut;
@@ -8,9 +11,6 @@ use std::alloc::{AllocError, Global};
 
 /// Writes the string of all `N` bytes.
 impl<const N: usize> Encodable for [u8; N] {
-    ghost use Rattle.std.specs.Prelude.{◌≡◌, ⊤, length};
-    ghost use Rattle.rlp_format.specs.Format.Item.{string};
-
     ghost item = { λ a. string a };
 
     ghost fits = { λ a. length a ≡ N };

@@ -1,5 +1,8 @@
 //! Byte strings: written as the string of the bytes.
 
+ghost use Rattle.std.specs.Prelude.{⊤};
+ghost use Rattle.rlp_format.specs.Format.Item.{string};
+
 use crate::stream::RlpStream;
 use crate::traits::Encodable;
 use bytes::BytesMut;
@@ -7,9 +10,6 @@ use rlp_buffer::buffer::strings::{encoded_string, max_string_len};
 use std::alloc::{AllocError, Global};
 
 impl Encodable for Vec<u8> {
-    ghost use Rattle.std.specs.Prelude.{⊤};
-    ghost use Rattle.rlp_format.specs.Format.Item.{string};
-
     ghost item = { λ v. string v.items };
 
     ghost fits = { λ v. ⊤ };
@@ -31,9 +31,6 @@ impl Encodable for Vec<u8> {
 }
 
 impl Encodable for &[u8] {
-    ghost use Rattle.std.specs.Prelude.{⊤};
-    ghost use Rattle.rlp_format.specs.Format.Item.{string};
-
     ghost item = { λ v. string v.now };
 
     ghost fits = { λ v. ⊤ };

@@ -1,5 +1,8 @@
 //! Buffers that grow: written as the string of the bytes.
 
+ghost use Rattle.std.specs.Prelude.{⊤};
+ghost use Rattle.rlp_format.specs.Format.Item.{string};
+
 use crate::stream::RlpStream;
 use crate::traits::Encodable;
 use bytes::BytesMut;
@@ -7,9 +10,6 @@ use rlp_buffer::buffer::strings::{encoded_string, max_string_len};
 use std::alloc::{AllocError, Global};
 
 impl Encodable for BytesMut {
-    ghost use Rattle.std.specs.Prelude.{⊤};
-    ghost use Rattle.rlp_format.specs.Format.Item.{string};
-
     ghost item = { λ v. string v.items };
 
     ghost fits = { λ v. ⊤ };

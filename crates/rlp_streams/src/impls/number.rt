@@ -1,7 +1,7 @@
 //! Numbers: written as the string of their digits to the base 256, the most significant first.
 
-ghost use Rattle.std.specs.Prelude.{◌<◌};
-ghost use Rattle.rlp_format.specs.Values.Value.{FitsBytes};
+ghost use Rattle.std.specs.Prelude.{◌<◌, ⊤};
+ghost use Rattle.rlp_format.specs.Values.Value.{FitsBytes, number_item};
 
 use crate::stream::RlpStream;
 use crate::traits::Encodable;
@@ -11,9 +11,6 @@ use rlp_format::digits::Digits;
 use std::alloc::{AllocError, Global};
 
 impl Encodable for u8 {
-    ghost use Rattle.std.specs.Prelude.{⊤};
-    ghost use Rattle.rlp_format.specs.Values.Value.{number_item, FitsBytes};
-
     ghost item = { λ v. number_item v };
 
     ghost fits = { λ v. FitsBytes 1 v };
@@ -36,9 +33,6 @@ impl Encodable for u8 {
 }
 
 impl Encodable for u16 {
-    ghost use Rattle.std.specs.Prelude.{⊤};
-    ghost use Rattle.rlp_format.specs.Values.Value.{number_item, FitsBytes};
-
     ghost item = { λ v. number_item v };
 
     ghost fits = { λ v. FitsBytes 2 v };
@@ -61,9 +55,6 @@ impl Encodable for u16 {
 }
 
 impl Encodable for u32 {
-    ghost use Rattle.std.specs.Prelude.{⊤};
-    ghost use Rattle.rlp_format.specs.Values.Value.{number_item, FitsBytes};
-
     ghost item = { λ v. number_item v };
 
     ghost fits = { λ v. FitsBytes 4 v };
@@ -86,9 +77,6 @@ impl Encodable for u32 {
 }
 
 impl Encodable for u64 {
-    ghost use Rattle.std.specs.Prelude.{⊤};
-    ghost use Rattle.rlp_format.specs.Values.Value.{number_item, FitsBytes};
-
     ghost item = { λ v. number_item v };
 
     ghost fits = { λ v. FitsBytes 8 v };
@@ -112,9 +100,6 @@ impl Encodable for u64 {
 }
 
 impl Encodable for usize {
-    ghost use Rattle.std.specs.Prelude.{⊤};
-    ghost use Rattle.rlp_format.specs.Values.Value.{number_item, FitsBytes};
-
     ghost item = { λ v. number_item v };
 
     ghost fits = { λ v. FitsBytes 8 v };
@@ -137,9 +122,6 @@ impl Encodable for usize {
 }
 
 impl Encodable for u128 {
-    ghost use Rattle.std.specs.Prelude.{⊤};
-    ghost use Rattle.rlp_format.specs.Values.Value.{number_item, FitsBytes};
-
     ghost item = { λ v. number_item v };
 
     ghost fits = { λ v. FitsBytes 16 v };

@@ -1,5 +1,9 @@
 //! Text: written as the string of its bytes in UTF-8.
 
+ghost use Rattle.std.specs.Prelude.{⊤, IsUtf8};
+ghost use Rattle.std.specs.String.{string_bytes};
+ghost use Rattle.rlp_format.specs.Format.Item.{string};
+
 use crate::stream::RlpStream;
 use crate::traits::Encodable;
 use bytes::BytesMut;
@@ -7,10 +11,6 @@ use rlp_buffer::buffer::strings::{encoded_string, max_string_len};
 use std::alloc::{AllocError, Global};
 
 impl Encodable for String {
-    ghost use Rattle.std.specs.Prelude.{⊤, IsUtf8};
-    ghost use Rattle.std.specs.String.{string_bytes};
-    ghost use Rattle.rlp_format.specs.Format.Item.{string};
-
     ghost item = { λ v. string (string_bytes v) };
 
     ghost fits = { λ v. IsUtf8 (string_bytes v) };
@@ -32,9 +32,6 @@ impl Encodable for String {
 }
 
 impl Encodable for &str {
-    ghost use Rattle.std.specs.Prelude.{⊤, IsUtf8};
-    ghost use Rattle.rlp_format.specs.Format.Item.{string};
-
     ghost item = { λ v. string v.now };
 
     ghost fits = { λ v. IsUtf8 v.now };
