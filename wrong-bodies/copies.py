@@ -66,21 +66,22 @@ class Copy:
             for file, text in (texts or {}).items():
                 kept[file] = (folder / file).read_bytes()
                 (folder / file).write_text(text, encoding="utf-8")
-            ran = subprocess.run(["rt", "check", "--jobs", str(jobs)], cwd=folder, stdin=subprocess.DEVNULL, capture_output=True, text=True, errors="replace")
+            return self.rt(crate, "check", "--jobs", str(jobs))
         finally:
             for file, data in kept.items():
                 (folder / file).write_bytes(data)
+
+    def build(self, crate):
+        """Builds the library of a crate that was checked, if others rest on it."""
+        if any(crate in below for below in self.crates.values()):
+            self.rt(crate, "lib")
+
+    def rt(self, crate, *words):
+        """Runs `rt` in the folder of a crate, and returns what it printed."""
+        folder = self.root / "crates" / crate
+        ran = subprocess.run(["rt", *words], cwd=folder, stdin=subprocess.DEVNULL, capture_output=True, text=True, errors="replace")
         return ran.stdout + ran.stderr
 
     def text(self, crate, file):
         return (self.root / "crates" / crate / file).read_text(encoding="utf-8")
 
-
-def check_in_order(base, crates, names, jobs, say):
-    """Checks crates and all below them, one after another. It returns what each check printed."""
-    printed = {}
-    for crate in with_lower(crates, names):
-        base.fetch(crate, True)
-        printed[crate] = base.check(crate, jobs=jobs)
-        say(f"checked {crate}")
-    return printed

@@ -1,10 +1,11 @@
 """The tries of bodies: which share a check, and what each check says of them."""
 
+import sys
 import threading
 import time
 
 from bodies import Unfit
-from copies import Copy
+from copies import Copy, with_lower
 from functions import function_of, verdict_of
 from verdicts import Report, declarations, judge, without
 
@@ -112,11 +113,12 @@ class Queue:
 
 
 class Tries:
-    """All queues, and the workers that empty them, each in a copy of its own."""
+    """All crates that are still to be checked, the queues of those that are, and the workers: each has a copy of its own."""
 
-    def __init__(self, queues, base, folder, jobs, say, keep=None):
-        self.queues, self.base, self.folder, self.jobs, self.say, self.keep = queues, base, folder, jobs, say, keep
-        self.lock, self.count = threading.Condition(), 0
+    def __init__(self, base, bodies, folder, jobs, say, keep=None):
+        self.base, self.bodies, self.folder, self.jobs, self.say, self.keep = base, bodies, folder, jobs, say, keep
+        self.todo, self.checked, self.queues = with_lower(base.crates, bodies), set(), []
+        self.lock, self.count, self.waiting, self.fault = threading.Condition(), 0, 0, None
 
     def run(self):
         workers = [threading.Thread(target=self.work, args=(number,), daemon=True) for number in range(self.jobs)]
@@ -124,43 +126,72 @@ class Tries:
             worker.start()
         for worker in workers:
             worker.join()
+        if self.fault:
+            sys.exit(f"wrong-bodies: {self.fault}")
+        return {body: result for queue in self.queues for body, result in queue.results.items()}
 
     def next(self, last):
-        """The next queue with bodies: the worker's last one if it has some, else the longest."""
+        """What a worker does next: a crate to check, else the queue that it was at, else the longest one, else nothing more."""
         with self.lock:
-            while True:
+            while not self.fault:
+                free = [crate for crate in self.todo if self.checked.issuperset(with_lower(self.base.crates, [crate])[:-1])]
+                if free:
+                    self.todo.remove(free[0])
+                    return self.check, (free[0], 1 + self.waiting // len(free))
                 full = [queue for queue in self.queues if queue.todo]
                 if full:
                     queue = last if last in full else max(full, key=lambda one: len(one.todo))
-                    return queue, *queue.take(self.jobs)
-                if not any(queue.running for queue in self.queues):
-                    return None, [], {}
+                    return self.try_together, (queue, *queue.take(self.jobs))
+                if not self.todo and not any(queue.running for queue in self.queues) and self.checked.issuperset(self.bodies):
+                    break
+                self.waiting += 1
                 self.lock.wait()
+                self.waiting -= 1
+            self.lock.notify_all()
+            return None, ()
 
     def work(self, number):
-        copy = Copy(self.folder / f"copy-{number}", self.base.root, self.base.crates)
-        queue, pack, texts = self.next(None)
-        while queue:
-            try:
-                self.try_together(copy, queue, pack, texts)
-            except Exception as fault:
-                with self.lock:
-                    queue.running -= 1
-                    queue.results.update((body, ("unclear", repr(fault))) for body in pack)
-                    self.lock.notify_all()
-            queue, pack, texts = self.next(queue)
+        copy, last = Copy(self.folder / f"copy-{number}", self.base.root, self.base.crates), None
+        while True:
+            step, given = self.next(last)
+            if not step:
+                return
+            step(copy, *given)
+            last = given[0]
+
+    def check(self, _, crate, jobs):
+        """Checks a crate as it stands, with this number of jobs."""
+        begin = time.time()
+        self.base.fetch(crate, True)
+        report = Report(self.base.check(crate, jobs=jobs))
+        self.base.build(crate)
+        with self.lock:
+            self.say(f"{crate}: checked in {time.time() - begin:.0f} s")
+            if "\nlogic=proved" not in report.out:
+                self.fault = self.fault or f"{crate} must be proved first: {report.first_error()}"
+            elif crate in self.bodies:
+                self.queues.append(Queue(crate, self.bodies[crate], self.base, report.verdicts))
+            self.checked.add(crate)
+            self.lock.notify_all()
 
     def try_together(self, copy, queue, pack, texts):
         """Checks a crate with some bodies, and takes over what the check says of them."""
         begin = time.time()
-        copy.prepare(queue.crate)
-        out = copy.check(queue.crate, texts)
+        try:
+            copy.prepare(queue.crate)
+            report = Report(copy.check(queue.crate, texts))
+        except Exception as fault:
+            report = fault
         with self.lock:
             self.count += 1
-            if self.keep:
-                (self.keep / f"{queue.crate}.{self.count}.log").write_text("\n".join([*map(str, pack), out]), encoding="utf-8")
-            refused = queue.settle(pack, Report(out))
             queue.running -= 1
+            if isinstance(report, Exception):
+                queue.results.update((body, ("unclear", repr(report))) for body in pack)
+                refused = 0
+            else:
+                if self.keep:
+                    (self.keep / f"{queue.crate}.{self.count}.log").write_text("\n".join([*map(str, pack), report.out]), encoding="utf-8")
+                refused = queue.settle(pack, report)
             self.say(f"{queue.crate}: {refused} of {len(pack)} refused in {time.time() - begin:.0f} s, {len(queue.todo)} to go")
             for body in pack:
                 word, why = queue.results.get(body, ("refused", ""))
