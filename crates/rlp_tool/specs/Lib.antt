@@ -22,7 +22,5 @@ pub mod Script
 pub mod Status
 -- calls of a stream as values
 pub mod StreamCalls
--- strings that are kept in place
-pub mod StringValue
 -- a reader or writer that is watched
 pub mod Watched

@@ -9,8 +9,7 @@ ghost use Rattle.rlp_tool.specs.Script.{script, AppendsScriptFault};
 use crate::building::{BuildFault, Built, build};
 use crate::digits::{push_bytes, read_bytes};
 use crate::making::make_script;
-use crate::script::{ScriptFault, read_script};
-use crate::strings::StringValue;
+use crate::script::{ScriptFault, read_calls};
 use bytes::BytesMut;
 use rlp::{Rlp, RlpStream};
 use std::alloc::{AllocError, Global};
@@ -154,7 +153,7 @@ fn whole_script_answer(alloc: Global, text: &[u8], out: &mut String) -> Result<(
     ensures { OnOk result
         (string_bytes out.new ≡ string_bytes out.old ++ calls_answer (script text.now)) }
 {
-    match read_script::<StringValue>(alloc, text) {
+    match read_calls(alloc, text) {
         Ok(calls) => {
             let buffer = BytesMut::with_capacity(alloc, STARTING_CAPACITY)?;
             put_outcome(&build(alloc, buffer, calls.as_slice()), out)

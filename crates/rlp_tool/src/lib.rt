@@ -14,7 +14,6 @@ mod noted;
 mod script;
 mod serving;
 mod status;
-mod strings;
 
 pub use answer::without_carriage_return;
 pub use answering::LineAnswers;

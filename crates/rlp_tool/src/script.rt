@@ -4,11 +4,10 @@ ghost use Rattle.rlp.specs.Format.Item.{string};
 ghost use Rattle.rlp.specs.Streams.Calls.{append, begin_list};
 ghost use Rattle.rlp_tool.specs.Script.{BringsBytes, call_in, labelled_call, letter_call, raw_parts, script, AddsCall, IsUnread, IsScriptFault};
 ghost use Rattle.rlp_tool.specs.Digits.{bytes_in, number_in};
-ghost use Rattle.rlp_tool.specs.StreamCalls.{call_of, calls_of, calls_of_bytes};
+ghost use Rattle.rlp_tool.specs.StreamCalls.{call_of_bytes, calls_of_bytes};
 
 use crate::calls::StreamCall;
 use crate::digits::{read_bytes, read_number};
-use crate::strings::FromDigits;
 use memchr::memchr;
 use std::alloc::{AllocError, Global};
 
@@ -38,8 +37,8 @@ pub(crate) fn place_of(byte: u8, text: &[u8]) -> Option<usize>
 }
 
 /// The call of a single letter.
-fn letter_call<E: FromDigits>(letter: u8) -> Option<StreamCall<E>>
-    ensures { option_map (call_of E.item) result ≡ letter_call letter }
+fn letter_call(letter: u8) -> Option<StreamCall<Vec<u8>>>
+    ensures { option_map call_of_bytes result ≡ letter_call letter }
 {
     match letter {
         b'u' => Some(StreamCall::BeginUnbounded),
@@ -50,24 +49,21 @@ fn letter_call<E: FromDigits>(letter: u8) -> Option<StreamCall<E>>
 }
 
 /// Reads the string of `d:HEX`, from behind the colon.
-fn read_value<E: FromDigits>(
-    alloc: Global,
-    text: &[u8],
-) -> Result<Option<StreamCall<E>>, AllocError>
-    ensures gives { IfOk result (λ read. option_map (call_of E.item) read
+fn read_value(alloc: Global, text: &[u8]) -> Result<Option<StreamCall<Vec<u8>>>, AllocError>
+    ensures gives { IfOk result (λ read. option_map call_of_bytes read
         ≡ option_map (λ bytes. append (string bytes)) (bytes_in text.now)) }
     ensures refused { OnErr result
         (BringsBytes (option_map (λ bytes. append (string bytes)) (bytes_in text.now))) }
 {
-    match E::from_digits(alloc, text)? {
-        Some(value) => Ok(Some(StreamCall::Value(value))),
+    match read_bytes(alloc, text)? {
+        Some(bytes) => Ok(Some(StreamCall::Value(bytes))),
         None => Ok(None),
     }
 }
 
 /// Reads the number of items and the raw bytes of `r:N:HEX`, from behind the first colon.
-fn read_raw<E: FromDigits>(alloc: Global, text: &[u8]) -> Result<Option<StreamCall<E>>, AllocError>
-    ensures gives { IfOk result (λ read. option_map (call_of E.item) read
+fn read_raw(alloc: Global, text: &[u8]) -> Result<Option<StreamCall<Vec<u8>>>, AllocError>
+    ensures gives { IfOk result (λ read. option_map call_of_bytes read
         ≡ raw_parts text.now (position (λ b. b == 58) text.now)) }
     ensures refused { OnErr result
         (BringsBytes (raw_parts text.now (position (λ b. b == 58) text.now))) }
@@ -86,8 +82,8 @@ fn read_raw<E: FromDigits>(alloc: Global, text: &[u8]) -> Result<Option<StreamCa
 }
 
 /// Reads `l:N`, a call that begins a list of N items, from behind the colon.
-fn read_list<E: FromDigits>(text: &[u8]) -> Option<StreamCall<E>>
-    ensures { option_map (call_of E.item) result ≡ option_map begin_list (number_in text.now) }
+fn read_list(text: &[u8]) -> Option<StreamCall<Vec<u8>>>
+    ensures { option_map call_of_bytes result ≡ option_map begin_list (number_in text.now) }
 {
     match read_number(text) {
         Some(count) => Some(StreamCall::Begin(count)),
@@ -96,13 +92,13 @@ fn read_list<E: FromDigits>(text: &[u8]) -> Option<StreamCall<E>>
 }
 
 /// Reads a call of a letter, a colon and the text that follows.
-fn read_labelled<E: FromDigits>(
+fn read_labelled(
     alloc: Global,
     letter: u8,
     text: &[u8],
-) -> Result<Option<StreamCall<E>>, AllocError>
+) -> Result<Option<StreamCall<Vec<u8>>>, AllocError>
     ensures gives { IfOk result
-        (λ read. option_map (call_of E.item) read ≡ labelled_call letter text.now) }
+        (λ read. option_map call_of_bytes read ≡ labelled_call letter text.now) }
     ensures refused { OnErr result (BringsBytes (labelled_call letter text.now)) }
 {
     match letter {
@@ -114,11 +110,8 @@ fn read_labelled<E: FromDigits>(
 }
 
 /// Reads the call of a piece, if it is one.
-fn read_call<E: FromDigits>(
-    alloc: Global,
-    piece: &[u8],
-) -> Result<Option<StreamCall<E>>, AllocError>
-    ensures gives { IfOk result (λ read. option_map (call_of E.item) read ≡ call_in piece.now) }
+fn read_call(alloc: Global, piece: &[u8]) -> Result<Option<StreamCall<Vec<u8>>>, AllocError>
+    ensures gives { IfOk result (λ read. option_map call_of_bytes read ≡ call_in piece.now) }
     ensures refused { OnErr result (BringsBytes (call_in piece.now)) }
 {
     match piece {
@@ -129,14 +122,14 @@ fn read_call<E: FromDigits>(
 }
 
 /// Reads a piece, and adds its call to the calls before it.
-fn take_piece<E: FromDigits>(
+fn take_piece(
     alloc: Global,
     piece: &[u8],
-    calls: &mut Vec<StreamCall<E>>,
+    calls: &mut Vec<StreamCall<Vec<u8>>>,
 ) -> Result<(), ScriptFault>
-    ensures ok { OnOk result (AddsCall (calls_of E.item calls.old.items)
-        (calls_of E.item calls.new.items) (call_in piece.now)) }
-    ensures refused { IfErr result (IsUnread (calls_of E.item calls.old.items)
+    ensures ok { OnOk result (AddsCall (calls_of_bytes calls.old.items)
+        (calls_of_bytes calls.new.items) (call_in piece.now)) }
+    ensures refused { IfErr result (IsUnread (calls_of_bytes calls.old.items)
         (call_in piece.now)) }
 {
     match read_call(alloc, piece) {
@@ -146,32 +139,6 @@ fn take_piece<E: FromDigits>(
         },
         Ok(None) => Err(ScriptFault::Syntax(calls.len() + 1)),
         Err(_) => Err(ScriptFault::OutOfMemory),
-    }
-}
-
-/// Reads the calls of a script, for any type of strings.
-pub(crate) fn read_script<E: FromDigits>(
-    alloc: Global,
-    text: &[u8],
-) -> Result<Vec<StreamCall<E>>, ScriptFault>
-    ensures ok { IfOk result (λ calls. script text.now ≡ Ok (calls_of E.item calls.items)) }
-    ensures refused { IfErr result (IsScriptFault text.now) }
-{
-    let mut calls = Vec::new(alloc);
-    if text.is_empty() {
-        return Ok(calls);
-    }
-    let mut rest = text;
-    while let Some(space) = place_of(b' ', rest) {
-        let (piece, others) = rest.split_at(space);
-        if let Err(fault) = take_piece(alloc, piece, &mut calls) {
-            return Err(fault);
-        }
-        rest = &others[1..];
-    }
-    match take_piece(alloc, rest, &mut calls) {
-        Ok(()) => Ok(calls),
-        Err(fault) => Err(fault),
     }
 }
 
@@ -193,5 +160,20 @@ pub fn read_calls(alloc: Global, text: &[u8]) -> Result<Vec<StreamCall<Vec<u8>>>
     ensures ok { IfOk result (λ calls. script text.now ≡ Ok (calls_of_bytes calls.items)) }
     ensures refused { IfErr result (IsScriptFault text.now) }
 {
-    read_script(alloc, text)
+    let mut calls = Vec::new(alloc);
+    if text.is_empty() {
+        return Ok(calls);
+    }
+    let mut rest = text;
+    while let Some(space) = place_of(b' ', rest) {
+        let (piece, others) = rest.split_at(space);
+        if let Err(fault) = take_piece(alloc, piece, &mut calls) {
+            return Err(fault);
+        }
+        rest = &others[1..];
+    }
+    match take_piece(alloc, rest, &mut calls) {
+        Ok(()) => Ok(calls),
+        Err(fault) => Err(fault),
+    }
 }

@@ -1,13 +1,12 @@
 use Rattle.std.proofs.Common.{string_bytes}
-use Rattle.rlp_tool.specs.StreamCalls.{calls_of}
-use Rattle.rlp_tool.specs.StringValue.{string_of}
+use Rattle.rlp_tool.specs.StreamCalls.{calls_of_bytes}
 use Rattle.rlp_tool.proofs.AnswerLemmas.{answer-script}
 use Rattle.rlp_tool.proofs.CutLemmas.{answer-unread}
 use Rattle.rlp_tool.proofs.answer.whole_script_answer.Goals as goal
 
 pub returns-in_ok-buffer-in-Ok : goal.returns-in_ok-buffer-in-Ok
 returns-in_ok-buffer-in-Ok c =
-    answer-script c.put_outcome.result c.build.result c.args.text.now (calls_of string_of c.in-Ok.calls.items) (string_bytes c.args.out.now)
+    answer-script c.put_outcome.result c.build.result c.args.text.now (calls_of_bytes c.in-Ok.calls.items) (string_bytes c.args.out.now)
     (string_bytes c.put_outcome.new.out) c.in-Ok.ensures.ok
     (rw (c.in_ok-buffer-in-Ok.ensures.items, c.as_slice.ensures.value) at c.build.ensures.taken)
     (rw (c.in_ok-buffer-in-Ok.ensures.items, c.as_slice.ensures.value) at c.build.ensures.ok)
