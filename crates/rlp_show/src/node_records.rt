@@ -4,7 +4,7 @@ ghost use Rattle.std.specs.Prelude.{◌≡◌, ◌+◌, ◌-◌, ◌<◌, ◌^�
 ghost use Rattle.rlp.specs.Views.View.{item_views};
 ghost use Rattle.rlp_show.specs.Answer.{Shows};
 ghost use Rattle.rlp_show.specs.Lines.{fields_lines, pair_lines, pairs_lines, place, prefix, then_lines};
-ghost use Rattle.rlp_show.specs.Records.{any_item, first_fields};
+ghost use Rattle.rlp_show.specs.Records.{any_item, first_fields, node_record};
 
 use crate::any_item::AnyItem;
 use crate::fault::ShowFault;
@@ -19,8 +19,6 @@ use std::marker::PhantomData;
 /// A node record is the list of its signature, its number, and then each key and its value. The
 /// order of the keys and the size aren't tested, as in [`NodeFields`].
 impl Show for NodeFields {
-    ghost use Rattle.rlp_show.specs.Records.{node_record};
-
     ghost shape = { node_record };
 
     #[tactic(auto, using(crate::proofs::PairLemmas::record_right))]

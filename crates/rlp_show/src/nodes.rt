@@ -4,7 +4,7 @@ ghost use Rattle.std.specs.Prelude.{◌≡◌, ◌++◌, codes, string_bytes, On
 ghost use Rattle.rlp.specs.Views.View.{item_views};
 ghost use Rattle.rlp_show.specs.Answer.{Shows};
 ghost use Rattle.rlp_show.specs.Lines.{line, prefix, string_shape};
-ghost use Rattle.rlp_show.specs.Records.{are_leaf, begins_path, child_hash_in, node_of};
+ghost use Rattle.rlp_show.specs.Records.{are_leaf, begins_path, child_hash_in, node_of, path, child, leaf, extension, branch, node};
 
 use crate::any_item::AnyItem;
 use crate::fault::ShowFault;
@@ -32,8 +32,6 @@ fn begins_path(first: u8) -> bool
 /// The bytes of the path, in hexadecimal. Fails with `Custom("path is not hex-prefix encoded")` for
 /// other strings.
 impl Show for Path {
-    ghost use Rattle.rlp_show.specs.Records.{path};
-
     ghost shape = { path };
 
     fn show(alloc: Global, name: &str, item: &Rlp<'_>, out: &mut String) -> Result<(), ShowFault> {
@@ -83,8 +81,6 @@ fn show_child_hash(
 /// The hash of the child in hexadecimal, `0x` if there is none, or the items of a node that is kept
 /// in its parent.
 impl Show for Child {
-    ghost use Rattle.rlp_show.specs.Records.{child};
-
     ghost shape = { child };
 
     fn show(alloc: Global, name: &str, item: &Rlp<'_>, out: &mut String) -> Result<(), ShowFault> {
@@ -99,8 +95,6 @@ impl Show for Child {
 }
 
 impl Show for Leaf {
-    ghost use Rattle.rlp_show.specs.Records.{leaf};
-
     ghost shape = { leaf };
 
     fn show(alloc: Global, name: &str, item: &Rlp<'_>, out: &mut String) -> Result<(), ShowFault> {
@@ -109,8 +103,6 @@ impl Show for Leaf {
 }
 
 impl Show for Extension {
-    ghost use Rattle.rlp_show.specs.Records.{extension};
-
     ghost shape = { extension };
 
     fn show(alloc: Global, name: &str, item: &Rlp<'_>, out: &mut String) -> Result<(), ShowFault> {
@@ -119,8 +111,6 @@ impl Show for Extension {
 }
 
 impl Show for Branch {
-    ghost use Rattle.rlp_show.specs.Records.{branch};
-
     ghost shape = { branch };
 
     fn show(alloc: Global, name: &str, item: &Rlp<'_>, out: &mut String) -> Result<(), ShowFault> {
@@ -194,8 +184,6 @@ fn show_node<T: Show>(
 /// A node of 17 items is a branch, and one of two is a leaf or an extension, as its path says. Fails
 /// with `RlpIncorrectListLen` for another number of items.
 impl Show for Node {
-    ghost use Rattle.rlp_show.specs.Records.{node};
-
     ghost shape = { node };
 
     fn show(alloc: Global, name: &str, item: &Rlp<'_>, out: &mut String) -> Result<(), ShowFault> {

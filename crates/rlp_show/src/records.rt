@@ -1,5 +1,7 @@
 //! Ethereum's records.
 
+ghost use Rattle.rlp_show.specs.Records.{withdrawal, account, header, log, receipt, access_list_item, legacy_transaction, access_list_transaction, fee_market_transaction, blob_transaction, authorization, set_code_transaction, block};
+
 use crate::fault::ShowFault;
 use crate::fields::{Named, show_fields, show_record};
 use crate::lists::Items;
@@ -14,8 +16,6 @@ use std::alloc::Global;
 use std::marker::PhantomData;
 
 impl Show for Withdrawal {
-    ghost use Rattle.rlp_show.specs.Records.{withdrawal};
-
     ghost shape = { withdrawal };
 
     fn show(alloc: Global, name: &str, item: &Rlp<'_>, out: &mut String) -> Result<(), ShowFault> {
@@ -33,8 +33,6 @@ impl Show for Withdrawal {
 }
 
 impl Show for Account {
-    ghost use Rattle.rlp_show.specs.Records.{account};
-
     ghost shape = { account };
 
     fn show(alloc: Global, name: &str, item: &Rlp<'_>, out: &mut String) -> Result<(), ShowFault> {
@@ -52,8 +50,6 @@ impl Show for Account {
 }
 
 impl Show for Header {
-    ghost use Rattle.rlp_show.specs.Records.{header};
-
     ghost shape = { header };
 
     fn show(alloc: Global, name: &str, item: &Rlp<'_>, out: &mut String) -> Result<(), ShowFault> {
@@ -88,8 +84,6 @@ impl Show for Header {
 }
 
 impl Show for Log {
-    ghost use Rattle.rlp_show.specs.Records.{log};
-
     ghost shape = { log };
 
     fn show(alloc: Global, name: &str, item: &Rlp<'_>, out: &mut String) -> Result<(), ShowFault> {
@@ -106,8 +100,6 @@ impl Show for Log {
 }
 
 impl Show for Receipt {
-    ghost use Rattle.rlp_show.specs.Records.{receipt};
-
     ghost shape = { receipt };
 
     fn show(alloc: Global, name: &str, item: &Rlp<'_>, out: &mut String) -> Result<(), ShowFault> {
@@ -125,8 +117,6 @@ impl Show for Receipt {
 }
 
 impl Show for AccessListItem {
-    ghost use Rattle.rlp_show.specs.Records.{access_list_item};
-
     ghost shape = { access_list_item };
 
     fn show(alloc: Global, name: &str, item: &Rlp<'_>, out: &mut String) -> Result<(), ShowFault> {
@@ -142,8 +132,6 @@ impl Show for AccessListItem {
 }
 
 impl Show for LegacyTransaction {
-    ghost use Rattle.rlp_show.specs.Records.{legacy_transaction};
-
     ghost shape = { legacy_transaction };
 
     fn show(alloc: Global, name: &str, item: &Rlp<'_>, out: &mut String) -> Result<(), ShowFault> {
@@ -166,8 +154,6 @@ impl Show for LegacyTransaction {
 }
 
 impl Show for AccessListTransaction {
-    ghost use Rattle.rlp_show.specs.Records.{access_list_transaction};
-
     ghost shape = { access_list_transaction };
 
     fn show(alloc: Global, name: &str, item: &Rlp<'_>, out: &mut String) -> Result<(), ShowFault> {
@@ -192,8 +178,6 @@ impl Show for AccessListTransaction {
 }
 
 impl Show for FeeMarketTransaction {
-    ghost use Rattle.rlp_show.specs.Records.{fee_market_transaction};
-
     ghost shape = { fee_market_transaction };
 
     fn show(alloc: Global, name: &str, item: &Rlp<'_>, out: &mut String) -> Result<(), ShowFault> {
@@ -219,8 +203,6 @@ impl Show for FeeMarketTransaction {
 }
 
 impl Show for BlobTransaction {
-    ghost use Rattle.rlp_show.specs.Records.{blob_transaction};
-
     ghost shape = { blob_transaction };
 
     fn show(alloc: Global, name: &str, item: &Rlp<'_>, out: &mut String) -> Result<(), ShowFault> {
@@ -248,8 +230,6 @@ impl Show for BlobTransaction {
 }
 
 impl Show for Authorization {
-    ghost use Rattle.rlp_show.specs.Records.{authorization};
-
     ghost shape = { authorization };
 
     fn show(alloc: Global, name: &str, item: &Rlp<'_>, out: &mut String) -> Result<(), ShowFault> {
@@ -269,8 +249,6 @@ impl Show for Authorization {
 }
 
 impl Show for SetCodeTransaction {
-    ghost use Rattle.rlp_show.specs.Records.{set_code_transaction};
-
     ghost shape = { set_code_transaction };
 
     fn show(alloc: Global, name: &str, item: &Rlp<'_>, out: &mut String) -> Result<(), ShowFault> {
@@ -297,8 +275,6 @@ impl Show for SetCodeTransaction {
 }
 
 impl Show for Block {
-    ghost use Rattle.rlp_show.specs.Records.{block};
-
     ghost shape = { block };
 
     fn show(alloc: Global, name: &str, item: &Rlp<'_>, out: &mut String) -> Result<(), ShowFault> {

@@ -2,7 +2,8 @@
 
 ghost use Rattle.std.specs.Prelude.{◌^◌, ◌<◌, string_bytes};
 ghost use Rattle.rlp_show.specs.Answer.{Shows};
-ghost use Rattle.rlp_show.specs.Lines.{fixed_bytes};
+ghost use Rattle.rlp_show.specs.Lines.{fixed_bytes, byte_string, recipient};
+ghost use Rattle.rlp_show.specs.Records.{address, hash, bloom};
 
 use crate::fault::ShowFault;
 use crate::line::put_bytes_line;
@@ -35,8 +36,6 @@ fn show_fixed<const N: usize>(
 }
 
 impl Show for Address {
-    ghost use Rattle.rlp_show.specs.Records.{address};
-
     ghost shape = { address };
 
     fn show(alloc: Global, name: &str, item: &Rlp<'_>, out: &mut String) -> Result<(), ShowFault> {
@@ -45,8 +44,6 @@ impl Show for Address {
 }
 
 impl Show for Hash {
-    ghost use Rattle.rlp_show.specs.Records.{hash};
-
     ghost shape = { hash };
 
     fn show(alloc: Global, name: &str, item: &Rlp<'_>, out: &mut String) -> Result<(), ShowFault> {
@@ -55,8 +52,6 @@ impl Show for Hash {
 }
 
 impl Show for Bloom {
-    ghost use Rattle.rlp_show.specs.Records.{bloom};
-
     ghost shape = { bloom };
 
     fn show(alloc: Global, name: &str, item: &Rlp<'_>, out: &mut String) -> Result<(), ShowFault> {
@@ -65,8 +60,6 @@ impl Show for Bloom {
 }
 
 impl Show for [u8; 8] {
-    ghost use Rattle.rlp_show.specs.Lines.{fixed_bytes};
-
     ghost shape = { fixed_bytes 8 };
 
     fn show(alloc: Global, name: &str, item: &Rlp<'_>, out: &mut String) -> Result<(), ShowFault> {
@@ -75,8 +68,6 @@ impl Show for [u8; 8] {
 }
 
 impl Show for Vec<u8> {
-    ghost use Rattle.rlp_show.specs.Lines.{byte_string};
-
     ghost shape = { byte_string };
 
     fn show(alloc: Global, name: &str, item: &Rlp<'_>, out: &mut String) -> Result<(), ShowFault> {
@@ -91,8 +82,6 @@ impl Show for Vec<u8> {
 }
 
 impl Show for Recipient {
-    ghost use Rattle.rlp_show.specs.Lines.{recipient};
-
     ghost shape = { recipient };
 
     #[tactic(auto, using(crate::specs::StringLemmas::recipient_strings))]

@@ -2,6 +2,7 @@
 
 ghost use Rattle.std.specs.Prelude.{codes, string_bytes};
 ghost use Rattle.rlp_show.specs.Answer.{Shows};
+ghost use Rattle.rlp_show.specs.Records.{unknown_transaction, transaction};
 
 use crate::envelopes::Typed;
 use crate::fault::ShowFault;
@@ -33,8 +34,6 @@ pub struct UnknownTransaction;
 /// Fails with `RlpIsTooShort` if there are no bytes, and with `Custom("unknown transaction type")`
 /// otherwise.
 impl Show for UnknownTransaction {
-    ghost use Rattle.rlp_show.specs.Records.{unknown_transaction};
-
     ghost shape = { unknown_transaction };
 
     fn show(alloc: Global, name: &str, item: &Rlp<'_>, _out: &mut String) -> Result<(), ShowFault> {
@@ -49,8 +48,6 @@ impl Show for UnknownTransaction {
 /// An item of the list of a block's transactions: a list is a transaction without a type, and a
 /// string holds an envelope.
 impl Show for Transaction {
-    ghost use Rattle.rlp_show.specs.Records.{transaction};
-
     ghost shape = { transaction };
 
     fn show(alloc: Global, name: &str, item: &Rlp<'_>, out: &mut String) -> Result<(), ShowFault> {
