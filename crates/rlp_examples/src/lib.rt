@@ -3,8 +3,10 @@
 #![tactic(auto)]
 
 mod appends;
+mod careless;
 mod couple;
 mod entry;
+mod half_written;
 mod message;
 mod nest;
 mod nonce;
@@ -15,8 +17,10 @@ mod trio;
 mod uses;
 
 pub use appends::{append_one, append_three, bytes_of_three};
+pub use careless::{InList, Odd, Wrapper};
 pub use couple::{Alone, Couple, append_list_in_list, write_list_in_list};
 pub use entry::{Entry, entry_back};
+pub use half_written::HalfWritten;
 pub use message::Message;
 pub use nest::{Inner, Nest};
 pub use nonce::Nonce;

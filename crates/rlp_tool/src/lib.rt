@@ -1,6 +1,7 @@
 //! A tool that answers lines, and makes calls of a stream from values or from text.
 #![tactic(auto)]
 
+mod alike;
 mod answer;
 mod answering;
 mod building;
@@ -15,6 +16,7 @@ mod script;
 mod serving;
 mod status;
 
+pub use alike::{finish_alike, finished_buffer};
 pub use answer::without_carriage_return;
 pub use answering::LineAnswers;
 pub use building::{BuildFault, Built, build};

@@ -2,7 +2,7 @@
 
 use crate::faults::is_fault;
 use rlp::DecoderError;
-use rlp_callers::Odd;
+use rlp_examples::Odd;
 use std::alloc::Global;
 use std::test::Fail;
 

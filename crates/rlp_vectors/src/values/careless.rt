@@ -2,8 +2,7 @@
 
 use crate::support::guarded::finishes_as;
 use rlp::{Encodable, RlpStream};
-use rlp_callers::Wrapper;
-use rlp_examples::{Refusing, Trio};
+use rlp_examples::{Refusing, Trio, Wrapper};
 use std::alloc::{AllocError, Global};
 use std::test::Fail;
 

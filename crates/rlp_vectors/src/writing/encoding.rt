@@ -3,8 +3,7 @@
 use crate::support::guarded::finishes_as;
 use crate::support::plain;
 use rlp::{EMPTY_LIST_RLP, Encodable, NULL_RLP, RlpStream};
-use rlp_callers::HalfWritten;
-use rlp_examples::{Nonce, Pair, append_one, append_three, bytes_of_three};
+use rlp_examples::{HalfWritten, Nonce, Pair, append_one, append_three, bytes_of_three};
 use std::alloc::{AllocError, Global};
 use std::io;
 use std::test::Fail;

@@ -1,7 +1,7 @@
 use Rattle.std.proofs.Common.{List, ℕ, subst, sym}
 use Rattle.rlp.specs.Streams.Described.{IsDescribed}
 use Rattle.rlp_tool.specs.StreamCalls.{calls_of}
-use Rattle.rlp_callers.proofs.builds.finished_buffer.Goals as goal
+use Rattle.rlp_tool.proofs.alike.finished_buffer.Goals as goal
 
 pub returns-in-Ok-clause-joined : goal.returns-in-Ok-clause-joined
 returns-in-Ok-clause-joined g c = rw c.in-Ok.ensures at c.finished_over.ensures.joined

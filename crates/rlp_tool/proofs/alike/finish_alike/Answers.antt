@@ -2,7 +2,7 @@ use Rattle.std.proofs.Common.{◌≡◌, Option, Some, None, IsSome, subst, sym}
 use Rattle.rlp.specs.Streams.Described.{FinishAs}
 use Rattle.rlp_tool.specs.Building.{AreJoined}
 use Rattle.rlp_tool.specs.StreamCalls.{calls_of}
-use Rattle.rlp_callers.proofs.builds.finish_alike.Goals as goal
+use Rattle.rlp_tool.proofs.alike.finish_alike.Goals as goal
 
 none_some : {T : Type 0} (o : Option T) → o ≡ None → IsSome o → ⊥
 none_some (Some x) e h = let never : ⊥ = cc in never

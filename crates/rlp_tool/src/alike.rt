@@ -1,4 +1,4 @@
-//! What the caller of two `build`s can prove.
+//! Whether calls finish as the same bytes.
 
 ghost use Rattle.std.specs.Prelude.{◌≡◌, ◌↔◌, List, IfOk, IfSome, IsSome, IsSomeAnd, IsTrue};
 ghost use Rattle.rlp.specs.Format.Item.{Item};
@@ -6,13 +6,14 @@ ghost use Rattle.rlp.specs.Streams.Described.{IsDescribed, FinishAs};
 ghost use Rattle.rlp_tool.specs.Building.{AreJoined};
 ghost use Rattle.rlp_tool.specs.StreamCalls.{calls_of};
 
+use crate::building::{BuildFault, Built, build};
+use crate::calls::StreamCall;
 use bytes::BytesMut;
 use rlp::Encodable;
 use rlp::laws::finished_buffers_tell_items;
-use rlp_tool::{BuildFault, Built, StreamCall, build};
 use std::alloc::{AllocError, Global};
 
-/// A buffer of these bytes.
+/// Returns a buffer of these bytes.
 fn buffer_of(alloc: Global, bytes: &[u8]) -> Result<BytesMut, AllocError>
     ensures { IfOk result (λ buffer. buffer.items ≡ bytes.now) }
 {
@@ -21,7 +22,7 @@ fn buffer_of(alloc: Global, bytes: &[u8]) -> Result<BytesMut, AllocError>
     Ok(buffer)
 }
 
-/// The finished buffer of calls over a front, or `None` if they leave a list open.
+/// Returns the finished buffer of calls over a front, or `None` if they leave a list open.
 fn finished_over<E: Encodable>(
     alloc: Global,
     front: BytesMut,
@@ -42,8 +43,9 @@ fn finished_over<E: Encodable>(
     }
 }
 
-/// The finished buffer of calls over a front, or `None` if they leave a list open. Whatever raw
-/// bytes the calls put, the buffer is the front and the encodings of the items that they describe.
+/// Returns the finished buffer of calls over a front, or `None` if they leave a list open. The buffer
+/// is the front and the encodings of the items that the calls describe, whatever raw bytes they put.
+/// Fails as [`build`] does, and with `OutOfMemory` if memory is refused for the front.
 pub fn finished_buffer<E: Encodable>(
     alloc: Global,
     front: &[u8],
@@ -63,15 +65,16 @@ pub fn finished_buffer<E: Encodable>(
     }
 }
 
-/// Whether two strings are equal.
+/// Returns whether two strings are equal.
 fn same_bytes(one: &[u8], other: &[u8]) -> bool
     ensures { IsTrue result ↔ (one.now ≡ other.now) }
 {
     one == other
 }
 
-/// Whether two lists of calls over one front finish as the same bytes. `Some(true)` exactly if both
-/// describe the same items, whatever raw bytes they put. `None` if either leaves a list open.
+/// Returns whether two lists of calls over one front finish as the same bytes: `Some(true)` exactly if
+/// both describe the same items, whatever raw bytes they put, and `None` if either leaves a list open.
+/// Fails as [`finished_buffer`] does, for the first list of calls that fails.
 pub fn finish_alike<A: Encodable, B: Encodable>(
     alloc: Global,
     front: &[u8],
