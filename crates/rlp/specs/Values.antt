@@ -6,6 +6,8 @@ pub mod ValueReading
 pub mod ListReading
 -- what it means that decoding undoes encoding
 pub mod RoundTrip
+-- what the fault of a struct prints
+pub mod FaultText
 -- the place of a reader of fields
 pub mod FieldPlace
 -- the fields of a struct: how many items they may be, what items give them, and why there are none

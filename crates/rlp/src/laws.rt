@@ -6,6 +6,7 @@ mod described;
 mod reading;
 mod round_trip;
 mod strict;
+mod uints;
 mod views;
 
 pub use described::{finished_buffers_tell_items, stream_joins_what_is_described};
@@ -33,6 +34,7 @@ pub use strict::{
     lenient_views_ignore_what_follows, list_strictly_decoded, strict_fault_is_read,
     strict_option_is_read, strict_values_are_read, strictly_decoded,
 };
+pub use uints::equal_numbers_are_equal_uints;
 pub use views::{
     items_by_number_are_in_order, iteration_reads_few_headers, joined_items_are_split_off,
     view_of_list_has_its_items,

@@ -6,6 +6,7 @@ ghost use Rattle.std.specs.declared.alloc.Global.{Global};
 ghost use Rattle.rlp_format.specs.declared.error.DecoderError.{DecoderError};
 ghost use Rattle.rlp_format.specs.declared.error.DecoderError.TheVariants.{OutOfMemory};
 ghost use Rattle.rlp_format.specs.Views.View.{View, item_count};
+ghost use Rattle.rlp.specs.Values.FaultText.{field_fault_text};
 ghost use Rattle.rlp.specs.Values.FieldReading.{FaultsAsStruct, FieldsFail, FieldsReading, GivesFields, IsCount, MayLackAsStruct, StructFails, field_before, no_fields, part_fields};
 ghost use Rattle.rlp.specs.Values.ListReading.{FaultsAsList, FaultsAt, GivesAt, GivesList, GivesSomeAt, MayLackAsList, MayLackAt};
 
@@ -18,6 +19,8 @@ pub use groups::{FixedFields, Groups};
 pub use optional::OptionalGroup;
 use rlp_format::error::DecoderError;
 use std::alloc::Global;
+use std::error::Error;
+use std::fmt;
 
 /// One field of a struct, read from one item.
 pub trait DecodeField: Sized + Drop {
@@ -97,6 +100,23 @@ pub struct FieldFault {
     /// The fault.
     pub fault: DecoderError,
 }
+
+/// Prints the fault's name, after the place and a colon if there is one, as in
+/// `field 2: RlpIsTooBig`.
+impl fmt::Display for FieldFault {
+    ghost output = { λ e. Some (field_fault_text e.place e.fault) };
+
+    fn fmt<W: fmt::Write>(&self, f: &mut fmt::Formatter<W>) -> fmt::Result {
+        if let Some(place) = self.place {
+            f.write_str("field ")?;
+            fmt::Display::fmt(&place, f)?;
+            f.write_str(": ")?;
+        }
+        fmt::Display::fmt(&self.fault, f)
+    }
+}
+
+impl Error for FieldFault {}
 
 impl FieldFault {
     /// The same fault, if this number of items comes before the fields.

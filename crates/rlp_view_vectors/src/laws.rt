@@ -1,6 +1,6 @@
 //! Calls each law of `rlp::laws` once, to show that it can be called. What a law says is proved.
 
-use rlp::{DecoderError, laws};
+use rlp::{DecoderError, Uint, laws};
 use std::alloc::Global;
 use std::test::Fail;
 
@@ -51,6 +51,7 @@ fn laws_of_views_and_values() {
     laws::strict_option_is_read::<u64>(&LIST);
     laws::list_is_read_back::<u64>(&LIST);
     laws::encodings_are_raw_items(&LIST);
+    laws::equal_numbers_are_equal_uints(&Uint { bytes: [0, 1] }, &Uint { bytes: [0, 1] });
 }
 
 #[test]

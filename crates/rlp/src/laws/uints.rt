@@ -1,0 +1,20 @@
+//! Numbers that are kept as their bytes.
+
+ghost use Rattle.std.specs.Prelude.{◌≡◌, length};
+ghost use Rattle.std.specs.Int.Digits.{number_from_digits};
+
+use rlp_streams::Uint;
+
+/// Two values of one `Uint` type that are the same number are equal.
+pub fn equal_numbers_are_equal_uints<const N: usize>(one: &Uint<N>, other: &Uint<N>)
+    ensures { number_from_digits 256 one.now.bytes ≡ number_from_digits 256 other.now.bytes
+        → one.now ≡ other.now }
+{
+    equal_numbers_are_equal_digits(&one.bytes, &other.bytes)
+}
+
+/// Two strings of one length that are the same number are equal.
+fn equal_numbers_are_equal_digits(one: &[u8], other: &[u8])
+    requires { length one.now ≡ length other.now }
+    ensures { number_from_digits 256 one.now ≡ number_from_digits 256 other.now → one.now ≡ other.now }
+{}
