@@ -16,3 +16,5 @@ pub mod RawItem
 pub mod Sums
 -- values of two types, told apart by a number of items
 pub mod Counted
+-- when two values agree, by when their parts do
+pub mod Same
