@@ -124,7 +124,8 @@ abbrev pub envelope : {A : Type 0} → Cases A → A → List ℕ
 envelope cases x = cases.tag x ∷ encoding (case_item cases x)
 
 -- A value is written as the string of its tag and the encoding of its payload, as in EIP-2718. The payload is read strictly, from a lenient view too. For a
--- string with another tag the fault is `Custom` with the text. Two values are said to agree if their encodings are shorter than 2^64 bytes.
+-- string with another tag the fault is `Custom` with the text. Whether two values agree is said only of encodings shorter than 2^64
+-- bytes.
 abbrev pub enveloped : {A : Type 0} → List ℕ → Cases A → Codec A
 enveloped unknown cases = record {
   Fits = FitsCase cases;

@@ -1,7 +1,7 @@
 -- Values that fit and have equal items agree.
 use Rattle.std.specs.Prelude.{All, IfSome}
 use Rattle.std.specs.List.{AllZip}
-use Rattle.std.proofs.Common.{◌≡◌, ℕ, ◌^◌, ◌<◌, ◌⊎◌, inl, inr, ⊎_elim, Bool, true, false, List, [], ◌∷◌, length, map, Option, Some, None}
+use Rattle.std.proofs.Common.{◌≡◌, ℕ, ◌^◌, ◌<◌, ◌⊎◌, inl, inr, ⊎_elim, Bool, true, false, List, [], ◌∷◌, length, map, Option, Some, None, option_map}
 use Rattle.std.proofs.Common.{refl, sym, ap, ◌∙◌, subst, arith, length-append}
 use Rattle.std.proofs.lemmas.List.Elements.{All-head, All-tail}
 use Rattle.rlp_format.specs.Format.Item.{Item, string, list_of}
@@ -66,6 +66,22 @@ module _ {A : Type 0} (Fits : A → Type 0) (item : A → Item) (Same : A → A 
   values_told (x ∷ xs) (y ∷ ys) fit other same =
       let both = cons_same (item x) (item y) (map item xs) (map item ys) same in
       (told x y (All-head Fits x xs fit) (All-head Fits y ys other) both.0, values_told xs ys (All-tail Fits x xs fit) (All-tail Fits y ys other) both.1)
+
+-- ---- when agreeing is being equal
+
+-- lists of the same values in their places are equal
+pub values_same : {A : Type 0} (xs ys : List A) → AllZip (λ x y. x ≡ y) xs ys → xs ≡ ys
+values_same [] [] same = refl
+values_same [] (y ∷ ys) same = absurd same
+values_same (x ∷ xs) [] same = absurd same
+values_same (x ∷ xs) (y ∷ ys) same = ap (λ z. z ∷ xs) same.0 ∙ ap (λ zs. y ∷ zs) (values_same xs ys same.1)
+
+-- options of values of which the same is seen
+pub option_same : {A B : Type 0} (seen : A → B) (o u : Option A) → SameOption (λ x y. seen x ≡ seen y) o u → option_map seen o ≡ option_map seen u
+option_same seen None None same = refl
+option_same seen None (Some y) same = absurd same
+option_same seen (Some x) None same = absurd same
+option_same seen (Some x) (Some y) same = ap Some same
 
 -- ---- fields
 
