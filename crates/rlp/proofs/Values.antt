@@ -12,3 +12,5 @@ pub mod StrictDecoding
 pub mod FieldReading
 -- groups of fields that are read one after another
 pub mod GroupReading
+-- one reading of structs
+pub mod StructReading

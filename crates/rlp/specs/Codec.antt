@@ -1,5 +1,6 @@
 -- Codecs of types, and of structs that are lists of their fields.
 use Rattle.std.specs.Prelude.{ℕ, zero, suc, ◌≡◌, ◌^◌, ◌<◌, ◌≤◌, ◌*◌, ◌==◌, ◌↔◌, ⊤, ◌⊎◌, All, IsUtf8, IfSome, Bool, false, List, [], ◌∷◌, length, map, Ok, Option, refl, ◌+◌}
+use Rattle.std.specs.List.{AllZip}
 use Rattle.std.specs.Int.Digits.{number_from_digits}
 use Rattle.std.proofs.Common.{ap, sym, ◌∙◌}
 use Rattle.std.proofs.lemmas.List.{nil_from_length}
@@ -17,19 +18,22 @@ use Rattle.rlp.specs.Values.ListReading.{FaultsAsList, FaultsAsOption, FaultsAt,
 use Rattle.rlp.specs.Values.ListReading.{MayLackAsList, MayLackAsOption, MayLackAt}
 use Rattle.rlp.specs.Values.FieldReading.{FaultsAsStruct, FieldsReading, IsCount, MayLackAsStruct, count_if, field_before, group_fields, no_fields, optional_fields}
 use Rattle.rlp.specs.Values.RoundTrip.{ReadsBack, ReadsStrictly}
+use Rattle.rlp.specs.Values.Same.{SameOption}
 use Rattle.rlp.specs.Lemmas.RoundTrips.{bool_reads_back, bytes_in, number_reads_back, reads_back, reads_back_through, sound_length, text_in}
 use Rattle.rlp.specs.Lemmas.ListRoundTrips.{option_reads_back}
 use Rattle.rlp.specs.Lemmas.ValueLists.{list_reads_back}
-use Rattle.rlp.specs.Lemmas.Structs.{HoldsFrom}
+use Rattle.rlp.specs.Lemmas.Structs.{HoldsFrom, list_same}
 use Rattle.rlp.specs.Lemmas.StrictReads.{bool_strict, bytes_strict, number_strict, option_strict, strict_through, strings_strict, text_strict}
 use Rattle.rlp.specs.Lemmas.StrictLists.{list_strict}
 use Rattle.rlp.specs.Lemmas.StrictStructs.{PartsFrom}
 use Rattle.rlp.specs.Lemmas.Fields.{field_alike, field_exact, field_exactly_sound, field_sound}
 use Rattle.rlp.specs.Lemmas.Groups.{below_same, groups_alike, groups_counted, groups_exact, groups_exactly_sound, groups_right, groups_sound, not_none}
-use Rattle.rlp.specs.Lemmas.OptionalGroups.{if_alike, if_counted, if_exact, if_exactly_sound, if_right, if_sound, with_end, without_end}
+use Rattle.rlp.specs.Lemmas.OptionalGroups.{if_alike, if_counted, if_exact, if_exactly_sound, if_right, if_sound, some_here, with_end, without_end}
+use Rattle.rlp.specs.Lemmas.Told.{bool_told, field_told, groups_told, if_told, last_told, number_told, option_told, string_told, values_told}
 use Rattle.rlp.specs.Lemmas.WholeStructs.{none_below, none_enough, none_right, one_more_enough, one_more_right, only_more, struct_reads_back, struct_strict}
 
--- How the values of a type are written and read. The record holds the members of its `Encodable`, `Decodable`, `RoundTrip` and `StrictRead`.
+-- How the values of a type are written and read. The record holds the members of its `Encodable`, `Decodable`, `RoundTrip` and `StrictRead`, and when two values
+-- agree: `told` says that values that fit agree if their items are equal.
 pub record Codec (A : Type 0) : Type 1 where
   pub Fits : A → Type 0
   pub item : A → Item
@@ -38,14 +42,26 @@ pub record Codec (A : Type 0) : Type 1 where
   pub may_lack : View → Type 0
   pub reads_back : (b : List ℕ) (v : A) → length b < 2 ^ 64 → Fits v → HoldsItem (view_of b) (item v) → ReadsBack Fits item gives faults (view_of b) v
   pub reads_strictly : (b : List ℕ) (v : A) → AreBytes b → length b < 2 ^ 64 → ReadsStrictly Fits item gives faults b v
+  pub Same : A → A → Type 0
+  pub told : (x y : A) → Fits x → Fits y → item x ≡ item y → Same x y
 
--- the codec of a type that implements these traits, made from their members; it is for a type with a parameter
+-- The codec of a type that implements these traits, made from their members; it is for a type with a parameter. Two values agree if their items are equal.
 abbrev pub codec_of : {A : Type 0} (Fits : A → Type 0) (item : A → Item) (gives : View → A → Type 0) (faults : View → DecoderError → Type 0)
     (may_lack : View → Type 0) → ((b : List ℕ) (v : A) → length b < 2 ^ 64 → Fits v → HoldsItem (view_of b) (item v)
     → ReadsBack Fits item gives faults (view_of b) v)
     → ((b : List ℕ) (v : A) → AreBytes b → length b < 2 ^ 64 → ReadsStrictly Fits item gives faults b v) → Codec A
 codec_of Fits item gives faults may_lack reads_back reads_strictly =
-    record { Fits = Fits; item = item; gives = gives; faults = faults; may_lack = may_lack; reads_back = reads_back; reads_strictly = reads_strictly }
+    record {
+      Fits = Fits;
+      item = item;
+      gives = gives;
+      faults = faults;
+      may_lack = may_lack;
+      reads_back = reads_back;
+      reads_strictly = reads_strictly;
+      Same = λ x y. item x ≡ item y;
+      told = λ x y fit other same. same;
+    }
 
 -- ---- the provided types
 
@@ -59,6 +75,8 @@ number width = record {
   may_lack = λ v. ⊥;
   reads_back = number_reads_back width;
   reads_strictly = number_strict width;
+  Same = λ m n. m ≡ n;
+  told = λ m n fit other same. number_told m n same;
 }
 
 -- truth values
@@ -71,6 +89,8 @@ truth_value = record {
   may_lack = λ v. ⊥;
   reads_back = λ bytes b fits fit begins. bool_reads_back bytes b fits begins;
   reads_strictly = bool_strict;
+  Same = λ b c. b ≡ c;
+  told = λ b c fit other same. bool_told b c same;
 }
 
 -- a type whose values contracts see as byte strings
@@ -83,6 +103,8 @@ byte_string bytes = record {
   may_lack = λ v. GivesSome GivesBytes v;
   reads_back = bytes_in bytes;
   reads_strictly = bytes_strict bytes;
+  Same = λ x y. bytes x ≡ bytes y;
+  told = λ x y fit other same. string_told (bytes x) (bytes y) same;
 }
 
 -- a type whose values contracts see as texts
@@ -95,6 +117,8 @@ text bytes = record {
   may_lack = λ v. GivesSome GivesText v;
   reads_back = text_in bytes;
   reads_strictly = text_strict bytes;
+  Same = λ x y. bytes x ≡ bytes y;
+  told = λ x y fit other same. string_told (bytes x) (bytes y) same;
 }
 
 -- A type that is read from one string. The strings of the values that fit are read; other strings have the faults of IsFaulty. Reading takes no memory.
@@ -108,6 +132,8 @@ string_type Fits bytes IsFaulty sound = record {
   may_lack = λ v. ⊥;
   reads_back = λ v b fits fit begins. reads_back Fits bytes v b fits begins IsFaulty (λ e. sound b e fit);
   reads_strictly = strings_strict Fits bytes IsFaulty sound;
+  Same = λ x y. bytes x ≡ bytes y;
+  told = λ x y fit other same. string_told (bytes x) (bytes y) same;
 }
 
 -- a type of exactly n bytes
@@ -128,6 +154,8 @@ option c = record {
   may_lack = λ v. MayLackAsOption c.may_lack v;
   reads_back = option_reads_back c.Fits c.item c.gives c.faults c.reads_back;
   reads_strictly = option_strict c.Fits c.item c.gives c.faults c.reads_strictly;
+  Same = λ o u. SameOption c.Same o u;
+  told = option_told c.Fits c.item c.Same c.told;
 }
 
 -- a type whose values contracts see as values of another type, such as a box
@@ -140,6 +168,8 @@ holding value c = record {
   may_lack = λ v. GivesSome c.gives v ⊎ c.may_lack v;
   reads_back = λ b x fits fit begins. reads_back_through value (c.reads_back b (value x) fits fit begins);
   reads_strictly = λ b x bytes fits. strict_through value (c.reads_strictly b (value x) bytes fits);
+  Same = λ x y. c.Same (value x) (value y);
+  told = λ x y. c.told (value x) (value y);
 }
 
 -- a custom type that holds a value of another type, and takes no memory for that
@@ -152,6 +182,8 @@ newtype value c = record {
   may_lack = c.may_lack;
   reads_back = λ b x fits fit begins. reads_back_through value (c.reads_back b (value x) fits fit begins);
   reads_strictly = λ b x bytes fits. strict_through value (c.reads_strictly b (value x) bytes fits);
+  Same = λ x y. c.Same (value x) (value y);
+  told = λ x y. c.told (value x) (value y);
 }
 
 -- numbers that are kept as n bytes
@@ -168,11 +200,14 @@ list_type values c = record {
   may_lack = λ v. MayLackAsList c.gives c.may_lack v;
   reads_back = list_reads_back c.Fits c.item c.gives c.faults c.reads_back values;
   reads_strictly = list_strict c.Fits c.item c.gives c.faults c.reads_strictly values;
+  Same = λ x y. AllZip c.Same (values x) (values y);
+  told = λ x y fit other same. values_told c.Fits c.item c.Same c.told (values x) (values y) fit other
+      (list_same (map c.item (values x)) (map c.item (values y)) same);
 }
 
 -- ---- structs
 
--- The fields of a struct from some field on, in order: how they are written and read, each field by the codec of its type.
+-- The fields of a struct from some field on, in order: how they are written and read, each field by the codec of its type. Two values agree if each field does.
 pub record Fields (P : Type 0) : Type 1 where
   pub reading : FieldsReading P
   pub Fits : P → Type 0
@@ -188,6 +223,8 @@ pub record Fields (P : Type 0) : Type 1 where
       → reading.gives i view p ↔ (Fits p × (parts ≡ map encoding (items p)))
   pub exactly_sound : (i : ℕ) (view : View) (parts : List (List ℕ)) (p : P) → PartsFrom view i parts → Fits p → parts ≡ map encoding (items p)
       → (k : ℕ) (e : DecoderError) → k < length (items p) → ¬ FaultsAt (reading.faults k) view (i + k) e
+  pub Same : P → P → Type 0
+  pub told : (p q : P) → Fits p → Fits q → items p ≡ items q → Same p q
 
 -- no more fields
 abbrev pub end : {P : Type 0} → Fields P
@@ -202,6 +239,8 @@ end = record {
   sound = λ i view p fit holds k e few at. none_below k few;
   exact = λ i view parts p held many. (λ g. (tt, nil_from_length parts many), λ h. tt);
   exactly_sound = λ i view parts p held fit same k e few at. none_below k few;
+  Same = λ p q. ⊤;
+  told = λ p q fit other same. tt;
 }
 
 -- a field before others
@@ -223,6 +262,8 @@ field value c more = record {
   exactly_sound = λ i view parts p held fit same. field_exactly_sound c.Fits c.item c.gives c.faults c.reads_strictly more.reading.faults i view parts
       (value p) (more.items p) (more.Fits p)
       (λ others held fits same. more.exactly_sound (suc i) view others p held fits same) held fit same;
+  Same = λ p q. c.Same (value p) (value q) × more.Same p q;
+  told = field_told value c.Fits c.item c.Same c.told more.Fits more.items more.Same more.told;
 }
 
 -- n fields of one type before others; `value k` is the first of the n
@@ -244,6 +285,8 @@ optional_group value f some = record {
   sound = λ i view p. if_sound f.Fits f.items f.reading.faults f.sound i view (value p);
   exact = λ i view parts p. if_exact f.Fits f.items f.reading.count f.counted f.reading.gives f.exact i view parts (value p);
   exactly_sound = λ i view parts p. if_exactly_sound f.Fits f.items f.reading.faults f.exactly_sound i view parts (value p);
+  Same = λ p q. SameOption f.Same (value p) (value q);
+  told = λ p q. if_told f.Fits f.items f.Same f.told (some_here f.Fits f.items f.reading.count f.counted f.reading.least some f.enough) (value p) (value q);
 }
 
 -- a last field that may be missing
@@ -263,6 +306,8 @@ optional value c =
       exact = λ i view parts p held many. let is = f.exact i view parts p held many in
           (λ g. let h = is.0 g in (without_end c.Fits (value p) h.0, h.1), λ h. is.1 (with_end c.Fits (value p) h.0, h.1));
       exactly_sound = λ i view parts p held fit. f.exactly_sound i view parts p held (with_end c.Fits (value p) fit);
+      Same = λ p q. SameOption c.Same (value p) (value q);
+      told = λ p q. last_told c.Fits c.item c.Same c.told (value p) (value q);
     }
 
 -- each value is the same number of items
@@ -291,6 +336,9 @@ groups values f fixed some_field = record {
       (λ i view parts g held fit same k e few. f.exactly_sound i view parts g held fit same k e
       (below_same k f.reading.least (length (f.items g)) few (f.counted g ∙ fixed g)))
       i view parts (values p) held fit same;
+  Same = λ p q. AllZip f.Same (values p) (values q);
+  told = λ p q. groups_told f.Fits f.items f.Same f.told f.reading.least (not_none f.reading.least some_field) (λ g. f.counted g ∙ fixed g)
+      (values p) (values q);
 }
 
 -- a struct that is written as the list of its fields
@@ -303,4 +351,6 @@ struct_of f = record {
   may_lack = λ v. MayLackAsStruct f.reading.least f.reading.IsMore f.reading.some f.reading.may_lack v;
   reads_back = struct_reads_back f.reading.least f.reading.IsMore f.reading.count f.Fits f.items f.reading.gives f.reading.some f.reading.faults f.counted f.right f.alike f.sound;
   reads_strictly = struct_strict f.reading.least f.reading.IsMore f.reading.count f.Fits f.items f.reading.gives f.reading.some f.reading.faults f.counted f.right f.exact f.exactly_sound;
+  Same = f.Same;
+  told = λ p q fit other same. f.told p q fit other (list_same (f.items p) (f.items q) same);
 }

@@ -50,6 +50,8 @@ pub mod RawItems
 pub mod Sums
 -- groups of fields
 pub mod Groups
+-- values with equal items: they agree
+pub mod Told
 -- whole structs, read back and read strictly
 pub mod WholeStructs
 -- fields that may be missing together

@@ -2,4 +2,5 @@ pub mod Entry
 pub mod Message
 pub mod Nest
 pub mod Ordered
+pub mod Parcel
 pub mod Row

@@ -1,8 +1,11 @@
 -- How a block's hash or number is written and read.
 use Rattle.std.specs.Prelude.{ℕ, ◌≡◌, ◌^◌, ◌<◌, List, length}
+use Rattle.std.proofs.Common.{ap, arith, sym}
 use Rattle.rlp.specs.DecoderError.{DecoderError}
 use Rattle.rlp.specs.Format.Item.{Item, string}
 use Rattle.rlp.specs.Format.WrittenHeader.{big_endian}
+use Rattle.rlp.specs.Lemmas.OneReading.{few_digits}
+use Rattle.rlp.specs.Lemmas.Told.{number_told, string_told}
 use Rattle.rlp.specs.Lemmas.RoundTrips.{held_back, number_held_back, sound_length}
 use Rattle.rlp.specs.Values.RoundTrip.{ReadsBack}
 use Rattle.rlp.specs.Values.Value.{FitsBytes}
@@ -34,6 +37,13 @@ pub record FaultsAsHashOrNumber (v : View) (e : DecoderError) : Type 0 where
   pub no_hash : hash.faults v other
   pub no_number : FaultsAsNumber 8 v e
 
+-- both are the same hash, or both are the same number
+abbrev pub SameHashOrNumber : HashOrNumber → HashOrNumber → Type 0
+SameHashOrNumber (Hash h) (Hash k) = h.0 ≡ k.0
+SameHashOrNumber (Hash h) (Number n) = ⊥
+SameHashOrNumber (Number n) (Hash h) = ⊥
+SameHashOrNumber (Number n) (Number m) = n ≡ m
+
 -- ---- laws
 
 pub found_hash : (v : View) (h : BlockHash) → hash.gives v h → GivesValue IsHashOrNumber hash_or_number_item v (Hash h)
@@ -64,6 +74,18 @@ hash_or_number_held_back view bound x fit holds = record {
   no_fault = sound_hash_or_number view bound x fit holds;
 }
 
+-- a hash has more bytes than a number
+apart_hash_or_number : (h : BlockHash) (n : ℕ) → length h.0 ≡ 32 → FitsBytes 8 n → hash_or_number_item (Hash h) ≡ hash_or_number_item (Number n) → ⊥
+apart_hash_or_number h n long fit same =
+    omega (arith, long, few_digits 8 n fit, ap length (string_told h.0 (big_endian n) same))
+
+-- values that fit and have equal items agree
+pub hash_or_number_told : (x y : HashOrNumber) → IsHashOrNumber x → IsHashOrNumber y → hash_or_number_item x ≡ hash_or_number_item y → SameHashOrNumber x y
+hash_or_number_told (Hash h) (Hash k) fit other same = string_told h.0 k.0 same
+hash_or_number_told (Hash h) (Number n) fit other same = absurd (apart_hash_or_number h n fit other same)
+hash_or_number_told (Number n) (Hash h) fit other same = absurd (apart_hash_or_number h n other fit (sym same))
+hash_or_number_told (Number n) (Number m) fit other same = number_told n m same
+
 -- ---- the codec
 
 -- the string of the hash or of the number
@@ -79,4 +101,6 @@ hash_or_number = record {
     exact = (λ g. (g.fits, g.begins), λ (fit, is). record { fits = fit; begins = is });
     sound = λ fit is. sound_hash_or_number (strict_view_of b) bound x fit is;
   };
+  Same = SameHashOrNumber;
+  told = hash_or_number_told;
 }

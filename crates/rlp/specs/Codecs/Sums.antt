@@ -1,7 +1,7 @@
 -- Codecs of types whose values are of several types.
 use Rattle.std.specs.Prelude.{ℕ, ◌≡◌, ◌⊎◌, ◌==◌, Bool, true, false, List, [], ◌∷◌, Ok}
 use Rattle.rlp_format.specs.Format.Item.{Item, list_of, string}
-use Rattle.rlp_format.specs.Format.Encoding.{encoding}
+use Rattle.rlp_format.specs.Format.Encoding.{IsSized, encoding}
 use Rattle.rlp_buffer.specs.Streams.Stream.{is_list}
 use Rattle.rlp.specs.Codec.{Codec}
 use Rattle.rlp.specs.Values.ValueReading.{FaultsAs, GivesNumber, GivesValue}
@@ -9,9 +9,11 @@ use Rattle.rlp.specs.Values.ListReading.{GivesAt}
 use Rattle.rlp_format.specs.Values.Value.{FitsBytes, number_item}
 use Rattle.rlp_format.specs.Views.View.{item_count}
 use Rattle.rlp.specs.Values.Sums.{ByFirstByte, FaultsAsTagged, IsEnvelopeFault, IsOtherTag, MayLackAsTagged, MayLackInEnvelope, OnSum, sum_item, sum_tag}
+use Rattle.rlp.specs.Values.Same.{HaveOneTag, SameSum}
 use Rattle.rlp.specs.Lemmas.Sums.{envelope_reads_back, envelope_strict, either_reads_back, either_strict, known_first, known_last, left_reads_back}
-use Rattle.rlp.specs.Lemmas.Sums.{left_strict, right_reads_back, right_strict}
+use Rattle.rlp.specs.Lemmas.Sums.{left_strict, other_items, right_reads_back, right_strict}
 use Rattle.rlp.specs.Lemmas.Tagged.{tagged_reads_back, tagged_strict}
+use Rattle.rlp.specs.Lemmas.Told.{envelope_told, sum_told, tagged_told}
 
 -- a type of which no value fits
 abbrev pub no_value : {A : Type 0} → Codec A
@@ -23,6 +25,8 @@ no_value = record {
   may_lack = λ v. ⊥;
   reads_back = λ b v fits fit begins. absurd fit;
   reads_strictly = λ b v bytes fits. record { exact = (λ g. absurd g, λ h. absurd h.0); sound = λ fit is e bad. bad };
+  Same = λ x y. ⊥;
+  told = λ x y fit other same. fit;
 }
 
 -- the values on the left of a sum
@@ -35,6 +39,8 @@ on_left c = record {
   may_lack = c.may_lack;
   reads_back = left_reads_back c.Fits c.item c.gives c.faults c.reads_back;
   reads_strictly = left_strict c.Fits c.item c.gives c.faults c.reads_strictly;
+  Same = λ s t. SameSum c.Same (λ x y. ⊥) s t;
+  told = sum_told c.Fits c.item c.Same (λ y. ⊥) (λ y. string []) (λ x y. ⊥) c.told (λ x y fit other same. fit) (λ x y fit none same. none);
 }
 
 -- the values on the right of a sum
@@ -47,6 +53,8 @@ on_right c = record {
   may_lack = c.may_lack;
   reads_back = right_reads_back c.Fits c.item c.gives c.faults c.reads_back;
   reads_strictly = right_strict c.Fits c.item c.gives c.faults c.reads_strictly;
+  Same = λ s t. SameSum (λ x y. ⊥) c.Same s t;
+  told = sum_told (λ x. ⊥) (λ x. string []) (λ x y. ⊥) c.Fits c.item c.Same (λ x y fit other same. fit) c.told (λ x y none fit same. none);
 }
 
 -- the first codec if the test holds, and else the second
@@ -67,6 +75,8 @@ list_or_string c d lists strings = record {
   may_lack = λ v. ByFirstByte v (c.may_lack v) (d.may_lack v);
   reads_back = either_reads_back c d lists strings;
   reads_strictly = either_strict c d lists strings;
+  Same = λ s t. SameSum c.Same d.Same s t;
+  told = sum_told c.Fits c.item c.Same d.Fits d.item d.Same c.told d.told (λ x y fit other same. other_items c d lists strings x y same);
 }
 
 -- ---- tags
@@ -105,12 +115,17 @@ FitsCase cases x = (cases.case (cases.tag x)).Fits x
 abbrev pub case_item : {A : Type 0} → Cases A → A → Item
 case_item cases x = (cases.case (cases.tag x)).item x
 
+-- the tags are equal, and the values agree as the type with their tag says
+abbrev pub SameCase : {A : Type 0} → Cases A → A → A → Type 0
+SameCase cases x y = HaveOneTag cases.tag (λ k. (cases.case k).Same) x y
+
 -- the tag, and then the encoding of the payload
 abbrev pub envelope : {A : Type 0} → Cases A → A → List ℕ
 envelope cases x = cases.tag x ∷ encoding (case_item cases x)
 
 -- A value is written as the string of its tag and the encoding of its payload, as in EIP-2718. The payload is read strictly, from a lenient view too. For a
--- string with another tag the fault is `Custom` with the text.
+-- string with another tag the fault is `Custom` with the text. Whether two values agree is said only of encodings shorter than 2^64
+-- bytes.
 abbrev pub enveloped : {A : Type 0} → List ℕ → Cases A → Codec A
 enveloped unknown cases = record {
   Fits = FitsCase cases;
@@ -120,6 +135,8 @@ enveloped unknown cases = record {
   may_lack = λ v. MayLackInEnvelope (λ k. (cases.case k).may_lack) v;
   reads_back = envelope_reads_back unknown cases.tags cases.tag cases.case cases.known;
   reads_strictly = envelope_strict unknown cases.tags cases.tag cases.case cases.known;
+  Same = λ x y. IsSized (string (envelope cases x)) → SameCase cases x y;
+  told = envelope_told cases.tag (λ k. (cases.case k).Fits) (λ k. (cases.case k).item) (λ k. (cases.case k).Same) (λ k. (cases.case k).told);
 }
 
 -- A value is written as the list of its tag, a number of at most `width` bytes, and its payload. For a list with another tag the fault is `Custom` with the
@@ -134,4 +151,7 @@ tagged_list width unknown cases = record {
   may_lack = λ v. MayLackAsTagged width (λ k. (cases.case k).may_lack) v;
   reads_back = tagged_reads_back width unknown cases.tags cases.tag cases.case cases.known;
   reads_strictly = tagged_strict width unknown cases.tags cases.tag cases.case cases.known;
+  Same = λ x y. SameCase cases x y;
+  told = λ x y fit other. tagged_told cases.tag (λ k. (cases.case k).Fits) (λ k. (cases.case k).item) (λ k. (cases.case k).Same)
+      (λ k. (cases.case k).told) x y fit.1 other.1;
 }

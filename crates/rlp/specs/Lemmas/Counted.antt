@@ -33,7 +33,7 @@ module _ {A B : Type 0} (f : Fields A) (g : Fields B) (fixed_f : IsFixed f) (fix
   one_count : (v : View) → item_count v ≡ Ok f.reading.least → item_count v ≡ Ok g.reading.least → ⊥
   one_count v first second = two_counts (let same : f.reading.least ≡ g.reading.least = cc in same)
 
-  other_lists : (x : A) (y : B) → list_of (f.items x) ≡ list_of (g.items y) → ⊥
+  pub other_lists : (x : A) (y : B) → list_of (f.items x) ≡ list_of (g.items y) → ⊥
   other_lists x y same =
       two_counts (sym (f.counted x ∙ fixed_f x) ∙ ap length (list_same (f.items x) (g.items y) same) ∙ g.counted y ∙ fixed_g y)
 

@@ -35,7 +35,7 @@ groups_right width n some =
 
 -- ---- lists that begin one list
 
-fronts_same : {A : Type 0} (a b x y : List A) → length a ≡ length b → a ++ x ≡ b ++ y → (a ≡ b) × (x ≡ y)
+pub fronts_same : {A : Type 0} (a b x y : List A) → length a ≡ length b → a ++ x ≡ b ++ y → (a ≡ b) × (x ≡ y)
 fronts_same [] [] x y l e = (refl, e)
 fronts_same [] (d ∷ b) x y l e = absurd (omega arith)
 fronts_same (c ∷ a) [] x y l e = absurd (omega arith)

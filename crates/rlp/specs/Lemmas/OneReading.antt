@@ -95,7 +95,8 @@ module _ {A : Type 0} (Fits : A → Type 0) (text : A → List ℕ) (IsFaulty : 
 
 -- ---- numbers
 
-few_digits : (width n : ℕ) → FitsBytes width n → length (big_endian n) ≤ width
+-- a number that fits has few digits
+pub few_digits : (width n : ℕ) → FitsBytes width n → length (big_endian n) ≤ width
 few_digits width n fit =
     let small : n < 256 ^ width = rw (pow-bytes width) fit in
     rw (big_endian_is) (length-digits_of-le 256 width n (omega arith) small)

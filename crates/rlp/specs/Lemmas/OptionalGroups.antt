@@ -25,7 +25,7 @@ module _ {A : Type 0} (Fits : A → Type 0) (items_of : A → List Item) (count 
   if_right least IsMore right (Some x) fit = only_more (inr (right x fit))
 
   -- values are some items
-  some_here : (least : ℕ) → (0 == least) ≡ false → ((x : A) → least ≤ count x) → (x : A) → length (items_of x) ≡ 0 → ⊥
+  pub some_here : (least : ℕ) → (0 == least) ≡ false → ((x : A) → least ≤ count x) → (x : A) → length (items_of x) ≡ 0 → ⊥
   some_here least some enough x none = let here : 0 < least = not_none least some in omega (arith, here, none, counted x, enough x)
 
   -- the fields give exactly their values

@@ -6,10 +6,10 @@ use Rattle.rlp_format.specs.declared.error.DecoderError.{DecoderError}
 use Rattle.rlp_format.specs.declared.error.DecoderError.TheVariants.{RlpExpectedToBeData}
 use Rattle.rlp_format.specs.Format.Item.{Item, list, list_of, listed, string}
 use Rattle.rlp_format.specs.Format.WrittenHeader.{AreBytes}
-use Rattle.rlp_format.specs.Format.Encoding.{BeginsWith, IsSized, encoding}
+use Rattle.rlp_format.specs.Format.Encoding.{BeginsWith, encoding}
 use Rattle.rlp_format.specs.Format.Split.{begins_as_list}
 use Rattle.rlp_format.specs.Format.StringReading.{IsString}
-use Rattle.rlp_format.specs.Lemmas.Encodings.{front_sized, items_from-listed, string_cases}
+use Rattle.rlp_format.specs.Lemmas.Encodings.{front_sized, items_from-listed}
 use Rattle.rlp_format.specs.Lemmas.Lists.{head_same, tail_same}
 use Rattle.rlp_format.specs.Lemmas.Strings.{string_list, string_only}
 use Rattle.rlp_format.specs.Lemmas.Views.{list_shape}
@@ -21,6 +21,7 @@ use Rattle.rlp.specs.Values.Sums.{ByFirstByte, IsEnvelopeFault, IsOtherTag, OnSu
 use Rattle.rlp.specs.Lemmas.ListRoundTrips.{AlwaysReadsBack}
 use Rattle.rlp.specs.Lemmas.RoundTrips.{held_back}
 use Rattle.rlp.specs.Lemmas.StringsHeld.{held_begins}
+use Rattle.rlp.specs.Lemmas.Told.{string_sized}
 use Rattle.rlp.specs.Lemmas.StrictReads.{AlwaysReadsStrictly}
 use Rattle.rlp.specs.Codec.{Codec}
 
@@ -92,7 +93,7 @@ module _ {A B : Type 0} (c : Codec A) (d : Codec B) (lists : (x : A) → is_list
   abbrev EitherFaults : View → DecoderError → Type 0
   EitherFaults v e = ByFirstByte v (c.faults v e) (d.faults v e)
 
-  other_items : (x : A) (y : B) → c.item x ≡ d.item y → ⊥
+  pub other_items : (x : A) (y : B) → c.item x ≡ d.item y → ⊥
   other_items x y same = let kinds : true ≡ false = sym (lists x) ∙ ap is_list same ∙ strings y in cc
 
   list_alike : (view : View) (x : A) → begins_as_list view.bytes ≡ true → ReadsBack c.Fits c.item c.gives c.faults view x → (w : A ⊎ B)
@@ -162,11 +163,6 @@ known_first tag tags more known (inl x) other = other.0 refl
 known_first tag tags more known (inr y) other = known y other.1
 
 -- ---- envelopes
-
--- a string is no longer than its encoding may be
-string_sized : (d : List ℕ) → IsSized (string d) → length d < 2 ^ 64
-unfolding encoding
-string_sized d sized = ⊎_elim (λ h. omega (arith, ap length h.0.is)) (λ w. w.small) (string_cases d sized)
 
 -- the bytes after the first byte of a string are fewer than those of the string's encoding
 after_tag_short : (v : View) (tag : ℕ) (payload : List ℕ) → length v.bytes < 2 ^ 64 → HoldsString v (tag ∷ payload) → length payload < 2 ^ 64

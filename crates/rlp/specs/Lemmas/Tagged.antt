@@ -40,6 +40,8 @@ two_fields x c y d =
         );
         sound = λ fit. strict.sound (fit.0, (fit.1, tt));
       };
+      Same = λ p q. c.Same (x p) (x q) × d.Same (y p) (y q);
+      told = λ p q fit other same. let h = both.told p q (fit.0, (fit.1, tt)) (other.0, (other.1, tt)) same in (h.0, h.1.0);
     }
 
 -- equal lists of a number and an item have equal numbers

@@ -1,16 +1,20 @@
 //! What is read from the beginning of bytes: strings, numbers, byte strings and text.
 
-ghost use Rattle.std.specs.Prelude.{◌≡◌, ◌<◌, ◌≤◌, ◌^◌, ℕ, List, Ok, length};
+ghost use Rattle.std.specs.Prelude.{◌≡◌, ◌<◌, ◌≤◌, ◌^◌, ◌↔◌, ℕ, IsTrue, List, Ok, length};
 ghost use Rattle.rlp_format.specs.Format.Encoding.{encoding};
 ghost use Rattle.rlp_format.specs.Format.Item.{Item, item_depth, string};
 ghost use Rattle.rlp.specs.Values.RawItem.{deepest_raw_item, raw_item_of};
 ghost use Rattle.rlp_format.specs.Format.StringReading.{IsString, ReadsString, read_string};
 ghost use Rattle.rlp.specs.Values.ValueReading.{GivesNumber, FaultsAsNumber, GivesBytes, FaultsAsBytes, GivesText, FaultsAsText, GivesBool, FaultsAsBool, HasOneReading};
 ghost use Rattle.rlp_format.specs.Values.Value.{bit, number_item, option_item};
-ghost use Rattle.rlp_format.specs.Views.View.{View, view_of};
-ghost use Rattle.rlp.specs.Values.ListReading.{GivesOption, FaultsAsOption};
+ghost use Rattle.rlp_format.specs.Views.View.{View, item_count, strict_view_of, view_of};
+ghost use Rattle.rlp.specs.Values.FieldReading.{FaultsAsStruct, IsCount};
+ghost use Rattle.rlp.specs.Values.ListReading.{GivesOption, GivesSomeAt, FaultsAsOption, FaultsAt};
+ghost use Rattle.rlp.specs.Values.StructReading.{FieldsHaveOneReading, GivesEachField, HoldsOrHasOneFault};
 ghost use Rattle.rlp_format.specs.Format.WrittenHeader.{AreBytes};
 
+use crate::rlpin::Rlp;
+use crate::structs::DecodeFields;
 use crate::traits::Decodable;
 use rlp_streams::Encodable;
 
@@ -82,6 +86,43 @@ pub fn bool_is_read(bytes: &[u8])
     ensures { HasOneReading (λ b. number_item (bit b)) (λ b. GivesBool (view_of bytes.now) b)
         (λ e. FaultsAsBool (view_of bytes.now) e) }
 {}
+
+/// If each item gives one value of a type or has one fault, the item in each place gives some value
+/// of it or has one fault. So a field of the type has one reading.
+pub fn field_is_read<T: Encodable + Decodable>(bytes: &[u8])
+    ensures lenient { ((item : View) → AreBytes item.bytes → length item.bytes < 2 ^ 64
+        → HasOneReading T.item (T.gives item) (T.faults item))
+        → (i : ℕ) → HoldsOrHasOneFault (GivesSomeAt T.gives (view_of bytes.now) i)
+        (λ e. FaultsAt T.faults (view_of bytes.now) i e) }
+    ensures strict { ((item : View) → AreBytes item.bytes → length item.bytes < 2 ^ 64
+        → HasOneReading T.item (T.gives item) (T.faults item))
+        → (i : ℕ) → HoldsOrHasOneFault (GivesSomeAt T.gives (strict_view_of bytes.now) i)
+        (λ e. FaultsAt T.faults (strict_view_of bytes.now) i e) }
+{}
+
+/// Whether the fields of a struct may be as many items as the view has.
+fn accepts_items<F: DecodeFields>(rlp: &Rlp<'_>) -> bool
+    ensures { (m : ℕ) → item_count rlp.now ≡ Ok m
+        → (IsTrue result ↔ IsCount F.reading.least F.reading.IsMore m) }
+{
+    match rlp.item_count() {
+        Ok(count) => F::accepts(count),
+        Err(_) => false,
+    }
+}
+
+/// If each item of a view gives some value of its field or has one fault, either the view has a
+/// right number of items and each gives some value of its field, or it has one fault as a struct.
+/// The body counts the items, and asks [`DecodeFields::accepts`] whether they are a right number.
+pub fn struct_is_read<F: DecodeFields>(rlp: &Rlp<'_>)
+    ensures { FieldsHaveOneReading F.reading.some F.reading.faults rlp.now
+        → HoldsOrHasOneFault
+        (GivesEachField F.reading.least F.reading.IsMore F.reading.some rlp.now)
+        (λ e. FaultsAsStruct F.reading.least F.reading.IsMore F.reading.some F.reading.faults
+        rlp.now e) }
+{
+    let _accepted = accepts_items::<F>(rlp);
+}
 
 /// Bytes that are the encoding of an item of depth at most 256 are a raw item of that item.
 #[tactic(auto, using(crate::specs::Lemmas::RawItems::raw_bytes))]

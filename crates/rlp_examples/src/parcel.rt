@@ -1,0 +1,79 @@
+//! A struct with a list and a last field that may be missing, and what equal items say of two.
+
+ghost use Rattle.std.specs.Option.{option_map};
+ghost use Rattle.std.specs.Prelude.{◌≡◌};
+ghost use Rattle.std.specs.Vec.{vec_items};
+ghost use Rattle.rlp_examples.specs.Parcel.{parcel};
+
+use rlp::{
+    Decodable, DecoderError, Encodable, ListOf, Optional, Rlp, RlpStream, RoundTrip, StrictRead,
+};
+use std::alloc::{AllocError, Global};
+
+/// A parcel: the list of three fields, and of one more if it has a note.
+#[derive(Drop)]
+pub struct Parcel {
+    /// The number of the parcel.
+    pub number: u64,
+    /// Where it goes.
+    pub address: Vec<u8>,
+    /// What each part weighs.
+    pub weights: Vec<u64>,
+    /// What is written on it.
+    pub note: Option<Vec<u8>>,
+}
+
+impl Encodable for Parcel {
+    ghost item = { parcel.item };
+
+    ghost fits = { parcel.Fits };
+
+    fn rlp_append(&self, s: &mut RlpStream) -> Result<(), AllocError> {
+        rlp::append_fields!(
+            s,
+            &self.number,
+            &self.address,
+            ListOf(&self.weights),
+            Optional(&self.note)
+        )
+    }
+}
+
+impl Decodable for Parcel {
+    ghost gives = { parcel.gives };
+
+    ghost faults = { parcel.faults };
+
+    ghost may_lack_memory = { parcel.may_lack };
+
+    fn decode(alloc: Global, rlp: &Rlp<'_>) -> Result<Parcel, DecoderError> {
+        rlp::decode_fields!(
+            alloc,
+            rlp,
+            Parcel {
+                number,
+                address,
+                weights: [..],
+                note: ?
+            }
+        )
+    }
+}
+
+impl RoundTrip for Parcel {
+    ghost round_trip = { parcel.reads_back };
+}
+
+impl StrictRead for Parcel {
+    ghost strict = { parcel.reads_strictly };
+}
+
+/// A law: two parcels that are written as the same item have equal fields. It is the member `told`
+/// of their codec.
+pub fn items_tell_parcels(a: &Parcel, b: &Parcel)
+    ensures { parcel.Fits a.now → parcel.Fits b.now → parcel.item a.now ≡ parcel.item b.now
+        → (a.now.number ≡ b.now.number)
+        × (vec_items a.now.address ≡ vec_items b.now.address)
+        × (vec_items a.now.weights ≡ vec_items b.now.weights)
+        × (option_map vec_items a.now.note ≡ option_map vec_items b.now.note) }
+{}
