@@ -1,303 +1,282 @@
 //! The items of a list, read in order as views and as values.
 
-use crate::faults::is_fault;
-use rlp::{DecoderError, Fields, Rlp};
+use crate::rows::{Call, first_wrong, raw, view_of};
+use rlp::Decodable;
 use std::alloc::Global;
+use std::fmt;
+use std::fmt::Write;
+use std::marker::PhantomData;
 use std::test::Fail;
 
-/// Returns a strict or a lenient view of the bytes.
-fn view_of<'a>(bytes: &'a [u8], strict: bool) -> Rlp<'a> {
-    if strict {
-        Rlp::new_strict(bytes)
-    } else {
-        Rlp::new(bytes)
+/// Reads the fields of a view in steps, and finishes. `v` reads a view, `n` a `T`, `t` a text and
+/// `l` a list of `T`. `COUNTED` says whether `fields_of` is called with the row's number of items,
+/// or `fields`.
+struct Steps<T, const STRICT: bool, const COUNTED: bool>(PhantomData<T>);
+
+impl<T: Decodable + fmt::Debug, const STRICT: bool, const COUNTED: bool> Call
+    for Steps<T, STRICT, COUNTED> {
+    type Input = (&'static [u8], usize, &'static str);
+
+    fn tell<W: fmt::Write>(
+        alloc: Global,
+        input: &(&'static [u8], usize, &'static str),
+        out: &mut W,
+    ) -> fmt::Result {
+        let view = view_of(input.0, STRICT);
+        let fields = if COUNTED {
+            view.fields_of(input.1)
+        } else {
+            view.fields()
+        };
+        let mut fields = match fields {
+            Ok(fields) => fields,
+            Err(fault) => return write!(out, "{fault}"),
+        };
+        for step in input.2.bytes() {
+            match step {
+                b'v' => write!(out, "{:?} ", raw(fields.next_view(), STRICT))?,
+                b'n' => write!(out, "{:?} ", fields.next_value::<T>(alloc))?,
+                b't' => write!(out, "{:?} ", fields.next_value::<String>(alloc))?,
+                _ => write!(out, "{:?} ", fields.next_list::<T>(alloc))?,
+            }
+        }
+        write!(out, "{:?}", fields.finish())
     }
 }
 
-/// A list, its items, and the fault of reading another item.
-type ItemsRow = (&'static [u8], &'static [&'static [u8]], DecoderError);
+/// A row of `Steps`: bytes, a number of items, the steps, and the answer.
+type Row = ((&'static [u8], usize, &'static str), &'static str);
 
-/// Lists for views of both kinds.
-const WHOLE: &[ItemsRow] = &[
-    (&[0xc0], &[], DecoderError::RlpIsTooShort),
+/// Lists for views of both kinds, by `fields` and by `fields_of`.
+const VIEWS: [Row; 3] = [
     (
-        &[0xc8, 0x05, 0x83, 0x63, 0x61, 0x74, 0xc2, 0x01, 0x02],
-        &[&[0x05], &[0x83, 0x63, 0x61, 0x74], &[0xc2, 0x01, 0x02]],
-        DecoderError::RlpIsTooShort,
+        (b"\xc0", 0, "vv"),
+        "Err(RlpIsTooShort) Err(RlpIsTooShort) Ok(())",
     ),
     (
-        &[0xc3, 0x81, 0x05, 0x80],
-        &[&[0x81, 0x05], &[0x80]],
-        DecoderError::RlpIsTooShort,
+        (b"\xc8\x05\x83cat\xc2\x01\x02", 3, "vvvvv"),
+        "Ok(05) Ok(83636174) Ok(c20102) Err(RlpIsTooShort) Err(RlpIsTooShort) Ok(())",
+    ),
+    (
+        (b"\xc3\x81\x05\x80", 2, "vvvv"),
+        "Ok(8105) Ok(80) Err(RlpIsTooShort) Err(RlpIsTooShort) Ok(())",
     ),
 ];
 
 /// Lists for lenient views only.
-const LENIENT: &[ItemsRow] = &[
-    (&[0xc5], &[], DecoderError::RlpIsTooShort),
-    (&[0xc1, 0x01, 0x02], &[&[0x01]], DecoderError::RlpIsTooShort),
+const LENIENT_VIEWS: [Row; 4] = [
     (
-        &[0xc3, 0x05, 0x82, 0x00],
-        &[&[0x05]],
-        DecoderError::RlpIsTooShort,
+        (b"\xc5", 0, "vv"),
+        "Err(RlpIsTooShort) Err(RlpIsTooShort) Ok(())",
     ),
     (
-        &[0xc3, 0x05, 0xb8, 0x00],
-        &[&[0x05]],
-        DecoderError::RlpDataLenWithZeroPrefix,
+        (b"\xc1\x01\x02", 1, "vvv"),
+        "Ok(01) Err(RlpIsTooShort) Err(RlpIsTooShort) Ok(())",
     ),
-];
-
-/// Returns whether the fields are these items, and each read after them fails with this fault.
-fn give_items(
-    fields: Result<Fields<'_>, DecoderError>,
-    strict: bool,
-    items: &[&[u8]],
-    fault: &DecoderError,
-) -> bool {
-    let Ok(mut fields) = fields else {
-        return false;
-    };
-    for item in items {
-        match fields.next_view() {
-            Ok(view) if view.as_raw() == *item && view.is_strict() == strict => {}
-            _ => return false,
-        }
-    }
-    is_fault(fields.next_view().err(), fault)
-        && is_fault(fields.next_view().err(), fault)
-        && fields.finish().is_ok()
-}
-
-/// Returns the place of the first row with other items, for `fields` or for `fields_of` with the
-/// number of items.
-fn first_wrong_items(rows: &[ItemsRow], strict: bool) -> Option<usize> {
-    for (row, (bytes, items, fault)) in rows.iter().enumerate() {
-        let view = view_of(bytes, strict);
-        if !give_items(view.fields(), strict, items, fault)
-            || !give_items(view.fields_of(items.len()), strict, items, fault)
-        {
-            return Some(row);
-        }
-    }
-    None
-}
-
-#[test]
-fn fields_as_views(rt: HostRuntime) {
-    assert_eq!(rt; first_wrong_items(WHOLE, false), None);
-    assert_eq!(rt; first_wrong_items(WHOLE, true), None);
-    assert_eq!(rt; first_wrong_items(LENIENT, false), None);
-}
-
-/// Bytes, whether their view is strict, and the fault of `fields`.
-const NO_FIELDS: [(&[u8], bool, DecoderError); 9] = [
-    (&[], false, DecoderError::RlpExpectedToBeList),
-    (&[], true, DecoderError::RlpExpectedToBeList),
-    (&[0x05], false, DecoderError::RlpExpectedToBeList),
-    (&[0x05], true, DecoderError::RlpExpectedToBeList),
     (
-        &[0x83, 0x63, 0x61, 0x74],
-        false,
-        DecoderError::RlpExpectedToBeList,
+        (b"\xc3\x05\x82\x00", 1, "vvv"),
+        "Ok(05) Err(RlpIsTooShort) Err(RlpIsTooShort) Ok(())",
     ),
-    (&[0xc5], true, DecoderError::RlpIsTooShort),
-    (&[0xc1, 0x01, 0x02], true, DecoderError::RlpIsTooBig),
-    (&[0xc3, 0x05, 0x82, 0x00], true, DecoderError::RlpIsTooShort),
     (
-        &[0xc3, 0x05, 0xb8, 0x00],
-        true,
-        DecoderError::RlpDataLenWithZeroPrefix,
+        (b"\xc3\x05\xb8\x00", 1, "vvv"),
+        "Ok(05) Err(RlpDataLenWithZeroPrefix) Err(RlpDataLenWithZeroPrefix) Ok(())",
     ),
 ];
 
-/// Returns the place of the first row with another fault, or with none.
-fn first_with_fields() -> Option<usize> {
-    for (row, (bytes, strict, fault)) in NO_FIELDS.iter().enumerate() {
-        let view = view_of(bytes, *strict);
-        if !is_fault(view.fields().err(), fault) || !is_fault(view.fields_of(1).err(), fault) {
-            return Some(row);
-        }
-    }
-    None
-}
-
-#[test]
-fn views_with_no_fields(rt: HostRuntime) {
-    assert_eq!(rt; first_with_fields(), None);
-}
-
-/// Bytes, whether their view is strict, and a number that isn't the number of items.
-const MISCOUNTED: [(&[u8], bool, usize); 10] = [
-    (&[0xc2, 0x05, 0x06], false, 0),
-    (&[0xc2, 0x05, 0x06], false, 1),
-    (&[0xc2, 0x05, 0x06], false, 3),
-    (&[0xc2, 0x05, 0x06], true, 1),
-    (&[0xc2, 0x05, 0x06], true, 3),
-    (&[0xc0], false, 1),
-    (&[0xc0], true, usize::MAX),
-    (&[0xc5], false, 1),
-    (&[0xc1, 0x01, 0x02], false, 2),
-    (&[0xc3, 0x05, 0x82, 0x00], false, 2),
+/// Views that have no fields.
+const NONE: [Row; 3] = [
+    ((b"", 1, ""), "RlpExpectedToBeList"),
+    ((b"\x05", 1, ""), "RlpExpectedToBeList"),
+    ((b"\x83cat", 1, ""), "RlpExpectedToBeList"),
 ];
 
-/// Returns the place of the first row that doesn't fail for its number of items.
-fn first_not_miscounted() -> Option<usize> {
-    for (row, (bytes, strict, len)) in MISCOUNTED.iter().enumerate() {
-        let fields = view_of(bytes, *strict).fields_of(*len);
-        if !is_fault(fields.err(), &DecoderError::RlpIncorrectListLen) {
-            return Some(row);
-        }
-    }
-    None
-}
+/// Strict views that have no fields.
+const STRICT_NONE: [Row; 6] = [
+    ((b"", 1, ""), "RlpExpectedToBeList"),
+    ((b"\x05", 1, ""), "RlpExpectedToBeList"),
+    ((b"\xc5", 1, ""), "RlpIsTooShort"),
+    ((b"\xc1\x01\x02", 1, ""), "RlpIsTooBig"),
+    ((b"\xc3\x05\x82\x00", 1, ""), "RlpIsTooShort"),
+    ((b"\xc3\x05\xb8\x00", 1, ""), "RlpDataLenWithZeroPrefix"),
+];
 
 #[test]
-fn fields_of_another_number(rt: HostRuntime) {
-    assert_eq!(rt; first_not_miscounted(), None);
-}
-
-/// A list of three numbers.
-const NUMBERS: &[u8] = &[0xc3, 0x05, 0x06, 0x07];
-
-/// Returns whether `finish` succeeds after `taken` of three numbers exactly if all were taken.
-fn is_finished_at_three(strict: bool, taken: u64) -> Result<bool, DecoderError> {
-    let mut fields = view_of(NUMBERS, strict).fields()?;
-    for _ in 0..taken {
-        fields.next_view()?;
-    }
-    match fields.finish() {
-        Ok(()) => Ok(taken == 3),
-        Err(fault) => Ok(taken < 3 && fault == DecoderError::RlpIncorrectListLen),
-    }
-}
-
-/// Returns the first number of taken items after which `finish` is wrong.
-fn first_wrong_finish(strict: bool) -> Result<Option<u64>, DecoderError> {
-    for taken in 0..4 {
-        if !is_finished_at_three(strict, taken)? {
-            return Ok(Some(taken));
-        }
-    }
-    Ok(None)
-}
-
-#[test]
-fn fields_that_are_finished(rt: HostRuntime) -> Result<(), Fail> {
-    assert_eq!(rt; first_wrong_finish(false)?, None);
-    assert_eq!(rt; first_wrong_finish(true)?, None);
+fn fields_as_views(rt: HostRuntime) -> Result<(), Fail> {
+    let alloc = rt.alloc();
+    assert_eq!(rt;
+        first_wrong::<Steps<u64, false, false>>(alloc, &VIEWS)?,
+        None
+    );
+    assert_eq!(rt;
+        first_wrong::<Steps<u64, false, true>>(alloc, &VIEWS)?,
+        None
+    );
+    assert_eq!(rt;
+        first_wrong::<Steps<u64, true, false>>(alloc, &VIEWS)?,
+        None
+    );
+    assert_eq!(rt; first_wrong::<Steps<u64, true, true>>(alloc, &VIEWS)?, None);
+    assert_eq!(rt;
+        first_wrong::<Steps<u64, false, false>>(alloc, &LENIENT_VIEWS)?,
+        None
+    );
+    assert_eq!(rt;
+        first_wrong::<Steps<u64, false, true>>(alloc, &LENIENT_VIEWS)?,
+        None
+    );
+    assert_eq!(rt;
+        first_wrong::<Steps<u64, false, false>>(alloc, &NONE)?,
+        None
+    );
+    assert_eq!(rt; first_wrong::<Steps<u64, false, true>>(alloc, &NONE)?, None);
+    assert_eq!(rt;
+        first_wrong::<Steps<u64, true, false>>(alloc, &STRICT_NONE)?,
+        None
+    );
+    assert_eq!(rt;
+        first_wrong::<Steps<u64, true, true>>(alloc, &STRICT_NONE)?,
+        None
+    );
     Ok(())
 }
 
-/// A list of 5, "cat", and a list of 1 and 2.
-const MIXED: &[u8] = &[0xc8, 0x05, 0x83, 0x63, 0x61, 0x74, 0xc2, 0x01, 0x02];
-
-/// Returns whether the whole list is read, and reading a value or a list after its end fails and
-/// takes no item.
-fn is_read_whole(alloc: Global, strict: bool) -> Result<bool, DecoderError> {
-    let mut fields = view_of(MIXED, strict).fields_of(3)?;
-    let number = fields.next_value::<u64>(alloc)?;
-    let text = fields.next_value::<String>(alloc)?;
-    let numbers = fields.next_list::<u64>(alloc)?;
-    let value = fields.next_value::<u64>(alloc).err();
-    let list = fields.next_list::<u64>(alloc).err();
-    fields.finish()?;
-    Ok(
-        number == 5
-            && text.as_str() == "cat"
-            && numbers.as_slice() == [1, 2].as_slice()
-            && is_fault(value, &DecoderError::RlpIsTooShort)
-            && is_fault(list, &DecoderError::RlpIsTooShort),
-    )
-}
-
-#[test]
-fn fields_as_values(rt: HostRuntime) -> Result<(), Fail> {
-    assert!(rt; is_read_whole(rt.alloc(), false)?);
-    assert!(rt; is_read_whole(rt.alloc(), true)?);
-    Ok(())
-}
-
-/// Lists of 5, an item and 7. Then the fault of the item, if it has one: as a number of one byte,
-/// and as a list of such numbers for a lenient and for a strict view.
-const MIDDLES: [(
-    &[u8],
-    Option<DecoderError>,
-    Option<DecoderError>,
-    Option<DecoderError>,
-); 4] = [
+/// A list of three numbers, of which some are taken.
+const FINISHED: [Row; 4] = [
+    ((b"\xc3\x05\x06\x07", 3, ""), "Err(RlpIncorrectListLen)"),
     (
-        &[0xc4, 0x05, 0x81, 0x05, 0x07],
-        Some(DecoderError::RlpInvalidIndirection),
-        None,
-        Some(DecoderError::RlpExpectedToBeList),
+        (b"\xc3\x05\x06\x07", 3, "v"),
+        "Ok(05) Err(RlpIncorrectListLen)",
     ),
     (
-        &[0xc3, 0x05, 0x06, 0x07],
-        None,
-        None,
-        Some(DecoderError::RlpExpectedToBeList),
+        (b"\xc3\x05\x06\x07", 3, "vv"),
+        "Ok(05) Ok(06) Err(RlpIncorrectListLen)",
     ),
     (
-        &[0xc4, 0x05, 0xc1, 0x06, 0x07],
-        Some(DecoderError::RlpExpectedToBeData),
-        None,
-        None,
-    ),
-    (
-        &[0xc6, 0x05, 0xc3, 0x01, 0x81, 0x05, 0x07],
-        Some(DecoderError::RlpExpectedToBeData),
-        Some(DecoderError::RlpInvalidIndirection),
-        Some(DecoderError::RlpInvalidIndirection),
+        (b"\xc3\x05\x06\x07", 3, "vvv"),
+        "Ok(05) Ok(06) Ok(07) Ok(())",
     ),
 ];
 
-/// Returns the faults of the second of three items, as a number and as a list of numbers, if the
-/// other items are read as 5 and 7 in both cases.
-fn middle_faults(
-    alloc: Global,
-    view: &Rlp<'_>,
-) -> Result<(Option<DecoderError>, Option<DecoderError>), DecoderError> {
-    let mut values = view.fields_of(3)?;
-    let mut lists = view.fields()?;
-    let firsts = (
-        values.next_value::<u8>(alloc)?,
-        lists.next_value::<u8>(alloc)?,
-    );
-    let faults = (
-        values.next_value::<u8>(alloc).err(),
-        lists.next_list::<u8>(alloc).err(),
-    );
-    let lasts = (
-        values.next_value::<u8>(alloc)?,
-        lists.next_value::<u8>(alloc)?,
-    );
-    values.finish()?;
-    lists.finish()?;
-    if firsts != (5, 5) || lasts != (7, 7) {
-        return Err(DecoderError::Custom("others"));
-    }
-    Ok(faults)
-}
+/// Numbers that aren't the number of items.
+const MISCOUNTED: [Row; 7] = [
+    ((b"\xc2\x05\x06", 0, ""), "RlpIncorrectListLen"),
+    ((b"\xc2\x05\x06", 1, ""), "RlpIncorrectListLen"),
+    ((b"\xc2\x05\x06", 3, ""), "RlpIncorrectListLen"),
+    ((b"\xc0", 1, ""), "RlpIncorrectListLen"),
+    ((b"\xc5", 1, ""), "RlpIncorrectListLen"),
+    ((b"\xc1\x01\x02", 2, ""), "RlpIncorrectListLen"),
+    ((b"\xc3\x05\x82\x00", 2, ""), "RlpIncorrectListLen"),
+];
 
-/// Returns the place of the first row whose item has other faults.
-fn first_wrong_middle(alloc: Global) -> Result<Option<usize>, DecoderError> {
-    for (row, (bytes, value, lenient, strict)) in MIDDLES.iter().enumerate() {
-        let (as_value, as_list) = middle_faults(alloc, &Rlp::new(bytes))?;
-        let (as_strict_value, as_strict_list) = middle_faults(alloc, &Rlp::new_strict(bytes))?;
-        if as_value != *value
-            || as_list != *lenient
-            || as_strict_value != *value
-            || as_strict_list != *strict
-        {
-            return Ok(Some(row));
-        }
-    }
-    Ok(None)
-}
+/// Numbers that aren't the number of items, for strict views.
+const STRICTLY_MISCOUNTED: [Row; 3] = [
+    ((b"\xc2\x05\x06", 1, ""), "RlpIncorrectListLen"),
+    ((b"\xc2\x05\x06", 3, ""), "RlpIncorrectListLen"),
+    ((b"\xc0", usize::MAX, ""), "RlpIncorrectListLen"),
+];
+
+/// A list of 5, "cat", and a list of 1 and 2. Reading a value or a list after its end takes no item.
+const VALUES: [Row; 1] = [(
+    (b"\xc8\x05\x83cat\xc2\x01\x02", 3, "ntlnl"),
+    "Ok(5) Ok(\"cat\") Ok([1, 2]) Err(RlpIsTooShort) Err(RlpIsTooShort) Ok(())",
+)];
+
+/// Lists of 5, an item that is read as a number of one byte, and 7.
+const NUMBERS: [Row; 4] = [
+    (
+        (b"\xc4\x05\x81\x05\x07", 3, "nnn"),
+        "Ok(5) Err(RlpInvalidIndirection) Ok(7) Ok(())",
+    ),
+    ((b"\xc3\x05\x06\x07", 3, "nnn"), "Ok(5) Ok(6) Ok(7) Ok(())"),
+    (
+        (b"\xc4\x05\xc1\x06\x07", 3, "nnn"),
+        "Ok(5) Err(RlpExpectedToBeData) Ok(7) Ok(())",
+    ),
+    (
+        (b"\xc6\x05\xc3\x01\x81\x05\x07", 3, "nnn"),
+        "Ok(5) Err(RlpExpectedToBeData) Ok(7) Ok(())",
+    ),
+];
+
+/// The same lists, whose item is read as a list of such numbers.
+const LISTS: [Row; 4] = [
+    (
+        (b"\xc4\x05\x81\x05\x07", 3, "nln"),
+        "Ok(5) Ok([]) Ok(7) Ok(())",
+    ),
+    ((b"\xc3\x05\x06\x07", 3, "nln"), "Ok(5) Ok([]) Ok(7) Ok(())"),
+    (
+        (b"\xc4\x05\xc1\x06\x07", 3, "nln"),
+        "Ok(5) Ok([6]) Ok(7) Ok(())",
+    ),
+    (
+        (b"\xc6\x05\xc3\x01\x81\x05\x07", 3, "nln"),
+        "Ok(5) Err(RlpInvalidIndirection) Ok(7) Ok(())",
+    ),
+];
+
+/// The same lists, whose item is read so from a strict view.
+const STRICT_LISTS: [Row; 4] = [
+    (
+        (b"\xc4\x05\x81\x05\x07", 3, "nln"),
+        "Ok(5) Err(RlpExpectedToBeList) Ok(7) Ok(())",
+    ),
+    (
+        (b"\xc3\x05\x06\x07", 3, "nln"),
+        "Ok(5) Err(RlpExpectedToBeList) Ok(7) Ok(())",
+    ),
+    (
+        (b"\xc4\x05\xc1\x06\x07", 3, "nln"),
+        "Ok(5) Ok([6]) Ok(7) Ok(())",
+    ),
+    (
+        (b"\xc6\x05\xc3\x01\x81\x05\x07", 3, "nln"),
+        "Ok(5) Err(RlpInvalidIndirection) Ok(7) Ok(())",
+    ),
+];
 
 #[test]
-fn fields_around_a_faulty_one(rt: HostRuntime) -> Result<(), Fail> {
-    assert_eq!(rt; first_wrong_middle(rt.alloc())?, None);
+fn fields_as_values_and_of_another_number(rt: HostRuntime) -> Result<(), Fail> {
+    let alloc = rt.alloc();
+    assert_eq!(rt;
+        first_wrong::<Steps<u64, false, false>>(alloc, &FINISHED)?,
+        None
+    );
+    assert_eq!(rt;
+        first_wrong::<Steps<u64, true, false>>(alloc, &FINISHED)?,
+        None
+    );
+    assert_eq!(rt;
+        first_wrong::<Steps<u64, false, true>>(alloc, &MISCOUNTED)?,
+        None
+    );
+    assert_eq!(rt;
+        first_wrong::<Steps<u64, true, true>>(alloc, &STRICTLY_MISCOUNTED)?,
+        None
+    );
+    assert_eq!(rt;
+        first_wrong::<Steps<u64, false, true>>(alloc, &VALUES)?,
+        None
+    );
+    assert_eq!(rt;
+        first_wrong::<Steps<u64, true, true>>(alloc, &VALUES)?,
+        None
+    );
+    assert_eq!(rt;
+        first_wrong::<Steps<u8, false, true>>(alloc, &NUMBERS)?,
+        None
+    );
+    assert_eq!(rt;
+        first_wrong::<Steps<u8, true, true>>(alloc, &NUMBERS)?,
+        None
+    );
+    assert_eq!(rt;
+        first_wrong::<Steps<u8, false, false>>(alloc, &LISTS)?,
+        None
+    );
+    assert_eq!(rt;
+        first_wrong::<Steps<u8, true, false>>(alloc, &STRICT_LISTS)?,
+        None
+    );
     Ok(())
 }

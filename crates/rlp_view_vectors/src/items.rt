@@ -1,249 +1,187 @@
-//! The items of a list, by the calls of a view.
+//! The items of a list and the value of an item, by the calls of a view.
 
-use crate::faults::is_fault;
-use rlp::{DecoderError, Rlp, RlpIterator};
+use crate::rows::{Call, Hex, first_wrong, raw, view_of};
+use rlp::{DecoderError, Rlp};
 use std::alloc::Global;
+use std::fmt;
+use std::fmt::Write;
 use std::test::Fail;
 
 /// A list of the strings "cat" and "dog".
-const CAT_DOG: &[u8] = &[0xc8, 0x83, 0x63, 0x61, 0x74, 0x83, 0x64, 0x6f, 0x67];
+const CAT_DOG: &[u8] = b"\xc8\x83cat\x83dog";
 
 /// The same list without its last byte.
-const CAT_DOG_CUT: &[u8] = &[0xc8, 0x83, 0x63, 0x61, 0x74, 0x83, 0x64, 0x6f];
+const CAT_DOG_CUT: &[u8] = b"\xc8\x83cat\x83do";
 
-/// The numbers of items, the items, their offsets and their texts.
-const ITEMS: [(usize, &[u8], usize, &str); 3] = [
-    (0, &[0x83, 0x63, 0x61, 0x74], 1, "cat"),
-    (1, &[0x83, 0x64, 0x6f, 0x67], 5, "dog"),
-    (0, &[0x83, 0x63, 0x61, 0x74], 1, "cat"),
-];
-
-fn is_text_at(alloc: Global, index: usize, text: &str) -> Result<bool, DecoderError> {
-    let view = Rlp::new(CAT_DOG);
-    let found = view.at(index)?.as_val::<String>(alloc)?;
-    let value = view.val_at::<String>(alloc, index)?;
-    Ok(found.as_str() == text && value.as_str() == text)
+/// What is asked of a view.
+enum Ask {
+    /// The item of a number, by `at`, and by `at_with_offset` with its place.
+    Item(usize),
+    /// The number of items, and how many an iterator gives.
+    Count,
+    /// What an iterator announces and gives, and twice what it announces once it has ended.
+    Iterated,
+    /// The lengths of the header and of the value, the value, and the bytes of the view.
+    Value,
 }
 
-/// Returns the place of the first row whose item isn't found.
-fn first_not_found(alloc: Global) -> Result<Option<usize>, DecoderError> {
-    let view = Rlp::new(CAT_DOG);
-    for (row, (index, item, _, text)) in ITEMS.iter().enumerate() {
-        if view.at(*index)?.as_raw() != *item || !is_text_at(alloc, *index, text)? {
-            return Ok(Some(row));
+use Ask::{Count, Item, Iterated, Value};
+
+/// Tells what the clone of a view answers.
+struct Items<const STRICT: bool>;
+
+impl<const STRICT: bool> Call for Items<STRICT> {
+    type Input = (&'static [u8], Ask);
+
+    fn tell<W: fmt::Write>(
+        _alloc: Global,
+        input: &(&'static [u8], Ask),
+        out: &mut W,
+    ) -> fmt::Result {
+        let view = view_of(input.0, STRICT).clone();
+        match &input.1 {
+            Ask::Item(index) => match (view.at(*index), view.at_with_offset(*index)) {
+                (item, Ok((same, place))) => {
+                    let (item, same) = (raw(item, STRICT), raw(Ok(same), STRICT));
+                    write!(out, "{item:?} {same:?} {place}")?;
+                }
+                (item, Err(fault)) => write!(out, "{:?} {fault}", raw(item, STRICT))?,
+            },
+            Ask::Count => match view.item_count() {
+                Ok(count) => write!(out, "{count} {}", view.iter().count())?,
+                Err(fault) => write!(out, "{fault}")?,
+            },
+            Ask::Iterated => {
+                let mut items = view.iter();
+                for _ in 0..items.len().saturating_add(2) {
+                    let (len, hint) = (items.len(), items.size_hint());
+                    match items.next() {
+                        Some(item) => write!(out, "{len} {hint:?} {:?}; ", raw(Ok(item), STRICT))?,
+                        None => write!(out, "{len} {hint:?}; ")?,
+                    }
+                }
+            }
+            Ask::Value => match (view.payload_info(), view.data()) {
+                (Ok(info), Ok(value)) => {
+                    let (header, len) = (info.header_len, info.value_len);
+                    write!(
+                        out,
+                        "{header} {len} {:?} of {:?}",
+                        Hex(value),
+                        raw(Ok(view), STRICT)
+                    )?;
+                }
+                (info, value) => write!(out, "{:?} {:?}", info.err(), value.err())?,
+            },
         }
+        Ok(())
     }
-    Ok(None)
 }
 
-#[test]
-fn rlp_at(rt: HostRuntime) -> Result<(), Fail> {
-    assert_eq!(rt; first_not_found(rt.alloc())?, None);
-    assert!(rt; Rlp::new(CAT_DOG).is_list());
-    Ok(())
-}
+/// A row of `Items`: bytes and what is asked of their view, and the answer.
+type Asked = ((&'static [u8], Ask), &'static str);
 
-/// Returns the place of the first row whose item has another offset.
-fn first_wrong_offset() -> Result<Option<usize>, DecoderError> {
-    for (row, (index, item, offset, _)) in ITEMS.iter().enumerate() {
-        let (found, place) = Rlp::new(CAT_DOG).at_with_offset(*index)?;
-        if found.as_raw() != *item || place != *offset {
-            return Ok(Some(row));
-        }
-    }
-    Ok(None)
-}
-
-#[test]
-fn rlp_at_with_offset(rt: HostRuntime) -> Result<(), Fail> {
-    assert_eq!(rt; first_wrong_offset()?, None);
-    Ok(())
-}
-
-/// Returns whether the item of this number has this fault, for each call.
-fn is_fault_at(bytes: &[u8], index: usize, want: &DecoderError) -> bool {
-    let view = Rlp::new(bytes);
-    is_fault(view.at(index).err(), want)
-        && is_fault(view.at(index).err(), want)
-        && is_fault(view.at_with_offset(index).err(), want)
-}
-
-/// Bytes, the number of an item, and the fault of the item.
-const FAULTS: [(&[u8], usize, DecoderError); 10] = [
-    (CAT_DOG_CUT, 0, DecoderError::RlpIsTooShort),
-    (CAT_DOG_CUT, 1, DecoderError::RlpIsTooShort),
-    (&[], 0, DecoderError::RlpExpectedToBeList),
-    (&[0x05], 0, DecoderError::RlpExpectedToBeList),
-    (&[0xc1, 0x01, 0x02], 1, DecoderError::RlpIsTooShort),
-    (&[0xc2, 0x05, 0x82], 1, DecoderError::RlpIsTooShort),
-    (&[0xc2, 0x05, 0x82], 7, DecoderError::RlpIsTooShort),
-    (&[0xc3, 0x05, 0x82, 0x00], 1, DecoderError::RlpIsTooShort),
+const ITEMS: [Asked; 29] = [
+    ((CAT_DOG, Item(0)), "Ok(83636174) Ok(83636174) 1"),
+    ((CAT_DOG, Item(1)), "Ok(83646f67) Ok(83646f67) 5"),
+    ((b"\xc1\x01\x02", Item(0)), "Ok(01) Ok(01) 1"),
+    ((CAT_DOG_CUT, Item(0)), "Err(RlpIsTooShort) RlpIsTooShort"),
+    ((CAT_DOG_CUT, Item(1)), "Err(RlpIsTooShort) RlpIsTooShort"),
     (
-        &[0xc3, 0x05, 0xb8, 0x00],
-        1,
-        DecoderError::RlpDataLenWithZeroPrefix,
+        (b"", Item(0)),
+        "Err(RlpExpectedToBeList) RlpExpectedToBeList",
     ),
     (
-        &[0xc3, 0x05, 0xb8, 0x00],
-        2,
-        DecoderError::RlpDataLenWithZeroPrefix,
+        (b"\x05", Item(0)),
+        "Err(RlpExpectedToBeList) RlpExpectedToBeList",
+    ),
+    (
+        (b"\xc1\x01\x02", Item(1)),
+        "Err(RlpIsTooShort) RlpIsTooShort",
+    ),
+    (
+        (b"\xc2\x05\x82", Item(1)),
+        "Err(RlpIsTooShort) RlpIsTooShort",
+    ),
+    (
+        (b"\xc2\x05\x82", Item(7)),
+        "Err(RlpIsTooShort) RlpIsTooShort",
+    ),
+    (
+        (b"\xc3\x05\x82\x00", Item(1)),
+        "Err(RlpIsTooShort) RlpIsTooShort",
+    ),
+    (
+        (b"\xc3\x05\xb8\x00", Item(1)),
+        "Err(RlpDataLenWithZeroPrefix) RlpDataLenWithZeroPrefix",
+    ),
+    (
+        (b"\xc3\x05\xb8\x00", Item(2)),
+        "Err(RlpDataLenWithZeroPrefix) RlpDataLenWithZeroPrefix",
+    ),
+    ((CAT_DOG, Count), "2 2"),
+    ((CAT_DOG_CUT, Count), "0 0"),
+    ((b"\xc1\x01\x02", Count), "1 1"),
+    ((b"\xc3\x05\x82\x00", Count), "1 1"),
+    ((b"\xc3\x05\xb8\x00", Count), "1 1"),
+    ((b"\xff\xff\xff\xff\xff\xff\xff\xff\xff", Count), "0 0"),
+    ((b"\xc5", Count), "0 0"),
+    ((b"", Count), "RlpExpectedToBeList"),
+    ((b"\x05", Count), "RlpExpectedToBeList"),
+    (
+        (CAT_DOG, Iterated),
+        "2 (2, Some(2)) Ok(83636174); 1 (1, Some(1)) Ok(83646f67); 0 (0, Some(0)); 0 (0, Some(0)); ",
+    ),
+    ((b"\xc5", Iterated), "0 (0, Some(0)); 0 (0, Some(0)); "),
+    ((b"\x05", Iterated), "0 (0, Some(0)); 0 (0, Some(0)); "),
+    (
+        (CAT_DOG, Value),
+        "1 8 8363617483646f67 of Ok(c88363617483646f67)",
+    ),
+    ((b"\xc3\x83\x01\x02", Value), "1 3 830102 of Ok(c3830102)"),
+    ((b"\x05\x06", Value), "0 1 05 of Ok(0506)"),
+    ((b"\x81\x05", Value), "1 1 05 of Ok(8105)"),
+];
+
+const STRICT_ITEMS: [Asked; 12] = [
+    ((b"\xc1\x01", Item(0)), "Ok(01) Ok(01) 1"),
+    ((b"\xc1\x01\x02", Item(0)), "Err(RlpIsTooBig) RlpIsTooBig"),
+    ((b"\xc1\x01\x02", Item(1)), "Err(RlpIsTooBig) RlpIsTooBig"),
+    (
+        (b"\xc3\x05\x82\x00", Item(0)),
+        "Err(RlpIsTooShort) RlpIsTooShort",
+    ),
+    (
+        (b"\xc3\x05\xb8\x00", Item(0)),
+        "Err(RlpDataLenWithZeroPrefix) RlpDataLenWithZeroPrefix",
+    ),
+    ((b"\xc1\x01", Item(1)), "Err(RlpIsTooShort) RlpIsTooShort"),
+    ((b"\xc1\x01\x02", Count), "RlpIsTooBig"),
+    ((b"\xc3\x05\x82\x00", Count), "RlpIsTooShort"),
+    ((b"\xc2\x81\x05", Count), "1 1"),
+    (
+        (b"\xc1\x01", Iterated),
+        "1 (1, Some(1)) Ok(01); 0 (0, Some(0)); 0 (0, Some(0)); ",
+    ),
+    ((b"\x81\x05", Value), "1 1 05 of Ok(8105)"),
+    (
+        (b"\x81\x05\x00", Value),
+        "Some(RlpIsTooBig) Some(RlpIsTooBig)",
     ),
 ];
 
-/// Returns the place of the first row with another fault, or with none.
-fn first_wrong_fault() -> Option<usize> {
-    for (row, (bytes, index, want)) in FAULTS.iter().enumerate() {
-        if !is_fault_at(bytes, *index, want) {
-            return Some(row);
-        }
-    }
-    None
-}
-
+// The view that an item is taken from is dropped before the item is read.
 #[test]
-fn what_views_answer_by_number(rt: HostRuntime) {
-    assert_eq!(rt; first_wrong_fault(), None);
-}
-
-fn is_cut_off() -> bool {
-    is_fault_at(CAT_DOG_CUT, 0, &DecoderError::RlpIsTooShort)
-        && is_fault_at(CAT_DOG_CUT, 1, &DecoderError::RlpIsTooShort)
-}
-
-#[test]
-fn rlp_at_err(rt: HostRuntime) {
-    assert!(rt; is_cut_off());
-}
-
-/// Bytes, and the number of items of their list.
-const COUNTS: [(&[u8], usize); 7] = [
-    (CAT_DOG, 2),
-    (CAT_DOG_CUT, 0),
-    (&[0xc1, 0x01, 0x02], 1),
-    (&[0xc3, 0x05, 0x82, 0x00], 1),
-    (&[0xc3, 0x05, 0xb8, 0x00], 1),
-    (&[0xff; 9], 0),
-    (&[0xc5], 0),
-];
-
-/// Returns the place of the first row with another count.
-fn first_wrong_count() -> Result<Option<usize>, DecoderError> {
-    for (row, (bytes, count)) in COUNTS.iter().enumerate() {
-        let view = Rlp::new(bytes);
-        if view.item_count()? != *count || view.iter().count() != *count {
-            return Ok(Some(row));
-        }
-    }
-    Ok(None)
-}
-
-fn strings_have_no_count() -> bool {
-    is_fault(
-        Rlp::new(&[]).item_count().err(),
-        &DecoderError::RlpExpectedToBeList,
-    ) && is_fault(
-        Rlp::new(&[0x05]).item_count().err(),
-        &DecoderError::RlpExpectedToBeList,
-    )
-}
-
-#[test]
-fn counts_of_items(rt: HostRuntime) -> Result<(), Fail> {
-    assert_eq!(rt; first_wrong_count()?, None);
-    assert!(rt; strings_have_no_count());
-    Ok(())
-}
-
-/// Returns whether an iterator announces `left` items, and the next one is `item`.
-fn gives_item(items: &mut RlpIterator<'_, '_>, left: usize, item: &[u8]) -> bool {
-    if items.len() != left || items.size_hint() != (left, Some(left)) {
-        return false;
-    }
-    match items.next() {
-        Some(found) => found.as_raw() == item,
-        None => false,
-    }
-}
-
-/// Returns whether an iterator has ended.
-fn is_ended(items: &mut RlpIterator<'_, '_>) -> bool {
-    items.len() == 0 && items.size_hint() == (0, Some(0)) && items.next().is_none()
-}
-
-fn items_come_in_order() -> bool {
-    let view = Rlp::new(CAT_DOG);
-    let mut items = view.iter();
-    gives_item(&mut items, 2, &[0x83, 0x63, 0x61, 0x74])
-        && gives_item(&mut items, 1, &[0x83, 0x64, 0x6f, 0x67])
-        && is_ended(&mut items)
-        && is_ended(&mut items)
-}
-
-#[test]
-fn rlp_iter(rt: HostRuntime) {
-    assert!(rt; items_come_in_order());
-}
-
-fn others_give_no_item() -> bool {
-    for bytes in [[0xc5], [0x05]] {
-        let view = Rlp::new(&bytes);
+fn items_and_values(rt: HostRuntime) -> Result<(), Fail> {
+    let alloc = rt.alloc();
+    assert_eq!(rt; first_wrong::<Items<false>>(alloc, &ITEMS)?, None);
+    assert_eq!(rt; first_wrong::<Items<true>>(alloc, &STRICT_ITEMS)?, None);
+    let item = {
+        let view = Rlp::new(CAT_DOG);
         let mut items = view.iter();
-        if !is_ended(&mut items) || !is_ended(&mut items) {
-            return false;
-        }
-    }
-    true
-}
-
-/// Returns the first item of the bytes. The view that it is taken from is dropped here.
-fn first_of<'a>(bytes: &'a [u8]) -> Option<Rlp<'a>> {
-    let view = Rlp::new(bytes);
-    let mut items = view.iter();
-    items.next()
-}
-
-fn item_outlives_its_view() -> bool {
-    match first_of(CAT_DOG) {
-        Some(item) => item.as_raw() == [0x83, 0x63, 0x61, 0x74].as_slice(),
-        None => false,
-    }
-}
-
-#[test]
-fn items_of_others_and_of_views_that_are_gone(rt: HostRuntime) {
-    assert!(rt; others_give_no_item() && item_outlives_its_view());
-}
-
-/// Returns whether the item of a view has a header of this length, and this value.
-fn is_value(view: &Rlp<'_>, header_len: usize, value: &[u8]) -> Result<bool, DecoderError> {
-    let info = view.payload_info()?;
-    Ok(info.header_len == header_len && info.value_len == value.len() && view.data()? == value)
-}
-
-fn values_agree() -> Result<bool, DecoderError> {
-    let view = Rlp::new(CAT_DOG);
-    let copy = view.clone();
-    let value = [0x83, 0x63, 0x61, 0x74, 0x83, 0x64, 0x6f, 0x67];
-    Ok(
-        copy.as_raw() == CAT_DOG
-            && is_value(&copy, 1, &value)?
-            && is_value(&Rlp::new(&[0xc3, 0x83, 0x01, 0x02]), 1, &[0x83, 0x01, 0x02])?
-            && is_value(&Rlp::new(&[0x05, 0x06]), 0, &[0x05])?,
-    )
-}
-
-/// Returns whether each item of a view is four bytes long.
-fn items_are_of_four() -> bool {
-    for item in &Rlp::new(CAT_DOG) {
-        if item.as_raw().len() != 4 {
-            return false;
-        }
-    }
-    true
-}
-
-#[test]
-fn values_and_items(rt: HostRuntime) -> Result<(), Fail> {
-    assert!(rt; values_agree()? && items_are_of_four());
+        items.next()
+    };
+    let item = raw(item.ok_or(DecoderError::Custom("no item")), false)?;
+    assert!(rt; item.0 == b"\x83cat".as_slice());
     Ok(())
 }

@@ -1,7 +1,6 @@
 //! Calls each law of `rlp::laws` once, to show that it can be called. What a law says is proved.
 
-use rlp::{DecoderError, Field, Rlp, Uint, laws};
-use std::alloc::Global;
+use rlp::{Field, Rlp, Uint, laws};
 use std::test::Fail;
 
 /// The encoding of the list of 1 and 2.
@@ -75,32 +74,19 @@ fn laws_of_streams() {
     laws::finished_buffers_tell_items(&LIST, &LIST);
 }
 
-/// Returns whether the law that splits off an item returns the item and the rest.
-fn split_off() -> Result<bool, DecoderError> {
+#[test]
+fn laws_that_read(rt: HostRuntime) -> Result<(), Fail> {
+    let alloc = rt.alloc();
     let (item, rest) = laws::joined_items_are_split_off(&LIST[1..], false)?;
-    Ok(item.as_raw() == [0x01].as_slice() && rest == [0x02].as_slice())
-}
-
-#[test]
-fn laws_that_split_items_off(rt: HostRuntime) -> Result<(), Fail> {
-    assert!(rt; split_off()?);
-    Ok(())
-}
-
-/// Returns whether the laws that decode return the values.
-fn decoded(alloc: Global) -> Result<bool, DecoderError> {
-    let items = [1, 2];
-    Ok(
-        laws::encoding_is_decoded::<u64>(alloc, &LIST[1..])? == 1
-            && laws::scalar_is_decoded::<u64>(alloc, &LIST[1..])? == 1
-            && laws::strictly_decoded::<u64>(alloc, &LIST[2..])? == 2
-            && laws::list_is_decoded::<u64>(alloc, &LIST)?.as_slice() == items.as_slice()
-            && laws::list_strictly_decoded::<u64>(alloc, &LIST)?.as_slice() == items.as_slice(),
-    )
-}
-
-#[test]
-fn laws_that_decode(rt: HostRuntime) -> Result<(), Fail> {
-    assert!(rt; decoded(rt.alloc())?);
+    assert!(rt; item.as_raw() == [0x01].as_slice() && rest == [0x02].as_slice());
+    let numbers = (
+        laws::encoding_is_decoded::<u64>(alloc, &LIST[1..])?,
+        laws::scalar_is_decoded::<u64>(alloc, &LIST[1..])?,
+        laws::strictly_decoded::<u64>(alloc, &LIST[2..])?,
+    );
+    assert_eq!(rt; numbers, (1, 1, 2));
+    let list = laws::list_is_decoded::<u64>(alloc, &LIST)?;
+    let strict = laws::list_strictly_decoded::<u64>(alloc, &LIST)?;
+    assert!(rt; list.as_slice() == [1, 2].as_slice() && strict.as_slice() == [1, 2].as_slice());
     Ok(())
 }

@@ -1,201 +1,135 @@
 //! Values that are read from the items of a list.
 
-use crate::faults::is_fault;
-use rlp::{DecoderError, Rlp, RlpIterator};
-use std::alloc::{AllocError, Global};
+use crate::rows::{Call, first_wrong, view_of};
+use rlp::{Decodable, Rlp};
+use rlp_examples::Odd;
+use std::alloc::Global;
+use std::fmt;
+use std::fmt::Write;
+use std::marker::PhantomData;
 use std::test::Fail;
 
-/// Bytes, and the numbers of their list.
-const NUMBERS: [(&[u8], &[u64]); 6] = [
-    (&[0xc0], &[]),
-    (&[0xc1, 0x0f], &[0x0f]),
+/// Tells what is read as a list of `T` from bytes and from a view of them, which is to be the same.
+pub(crate) struct ReadList<T, const STRICT: bool>(PhantomData<T>);
+
+impl<T: Decodable + fmt::Debug + PartialEq, const STRICT: bool> Call for ReadList<T, STRICT> {
+    type Input = &'static [u8];
+
+    fn tell<W: fmt::Write>(alloc: Global, bytes: &&'static [u8], out: &mut W) -> fmt::Result {
+        let viewed = view_of(bytes, STRICT).as_list::<T>(alloc);
+        let decoded = if STRICT {
+            rlp::decode_list_strict::<T>(alloc, bytes)
+        } else {
+            rlp::decode_list::<T>(alloc, bytes)
+        };
+        if decoded == viewed {
+            write!(out, "{decoded:?}")
+        } else {
+            write!(out, "{decoded:?}, of a view {viewed:?}")
+        }
+    }
+}
+
+const NUMBERS: [(&[u8], &str); 7] = [
+    (b"\xc0", "Ok([])"),
+    (b"\xc1\x0f", "Ok([15])"),
+    (b"\xc6\x01\x02\x03\x07\x81\xff", "Ok([1, 2, 3, 7, 255])"),
     (
-        &[0xc6, 0x01, 0x02, 0x03, 0x07, 0x81, 0xff],
-        &[1, 2, 3, 7, 0xff],
+        b"\xcb\x84\xff\xff\xff\xff\x01\x02\x03\x07\x81\xff",
+        "Ok([4294967295, 1, 2, 3, 7, 255])",
     ),
-    (
-        &[
-            0xcb, 0x84, 0xff, 0xff, 0xff, 0xff, 0x01, 0x02, 0x03, 0x07, 0x81, 0xff,
-        ],
-        &[0xffff_ffff, 1, 2, 3, 7, 0xff],
-    ),
-    (&[0xc5], &[]),
-    (&[0x05], &[]),
+    (b"\xc5", "Ok([])"),
+    (b"\x05", "Ok([])"),
+    (b"\xc3\x05\x81\x05", "Err(RlpInvalidIndirection)"),
 ];
 
-fn are_numbers(alloc: Global, bytes: &[u8], numbers: &[u64]) -> Result<bool, DecoderError> {
-    Ok(
-        rlp::decode_list::<u64>(alloc, bytes)?.as_slice() == numbers
-            && Rlp::new(bytes).as_list::<u64>(alloc)?.as_slice() == numbers,
-    )
-}
+const SMALL_NUMBERS: [(&[u8], &str); 3] = [
+    (b"\xc5", "Ok([])"),
+    (b"\x05", "Ok([])"),
+    (b"\xc3\x05\x81\x05", "Err(RlpInvalidIndirection)"),
+];
 
-fn numbers_are_read(alloc: Global) -> Result<bool, DecoderError> {
-    for (bytes, numbers) in NUMBERS {
-        if !are_numbers(alloc, bytes, numbers)? {
-            return Ok(false);
+const WORDS: [(&[u8], &str); 1] = [(b"\xc8\x83cat\x83dog", "Ok([\"cat\", \"dog\"])")];
+
+/// The first faulty item gives its fault, and a cut item ends the list.
+const ODD: [(&[u8], &str); 4] = [
+    (b"\xc4\x01\x03\x02\x05", "Err(Custom(\"even\"))"),
+    (b"\xc5\x01\x03\x02\x81\x05", "Err(Custom(\"even\"))"),
+    (b"\xc5\x01\x03\x81\x05\x02", "Err(RlpInvalidIndirection)"),
+    (b"\xc4\x01\x03\x82\x00", "Ok([Odd(1), Odd(3)])"),
+];
+
+/// Tells what is read as a `T` from the item of a number, by `val_at` and from the item's view,
+/// which is to be the same.
+struct ReadAt<T>(PhantomData<T>);
+
+impl<T: Decodable + fmt::Debug + PartialEq> Call for ReadAt<T> {
+    type Input = (&'static [u8], usize);
+
+    fn tell<W: fmt::Write>(
+        alloc: Global,
+        input: &(&'static [u8], usize),
+        out: &mut W,
+    ) -> fmt::Result {
+        let view = Rlp::new(input.0);
+        let value = view.val_at::<T>(alloc, input.1);
+        let viewed = match view.at(input.1) {
+            Ok(item) => item.as_val::<T>(alloc),
+            Err(fault) => Err(fault),
+        };
+        if value == viewed {
+            write!(out, "{value:?}")
+        } else {
+            write!(out, "{value:?}, of a view {viewed:?}")
         }
     }
-    Ok(true)
 }
 
-#[test]
-fn decode_untrusted_vector_u64(rt: HostRuntime) -> Result<(), Fail> {
-    assert!(rt; numbers_are_read(rt.alloc())?);
-    Ok(())
-}
+/// A list whose length overflows, strings and lists that aren't canonical, and short lists that end
+/// before or after their item.
+const TEXTS: [((&[u8], usize), &str); 10] = [
+    ((b"\xc8\x83cat\x83dog", 0), "Ok(\"cat\")"),
+    ((b"\xc8\x83cat\x83dog", 1), "Ok(\"dog\")"),
+    (
+        (b"\xff\xff\xff\xff\xff\xff\xff\xff\xff\x00\x00\x00", 0),
+        "Err(RlpIsTooShort)",
+    ),
+    ((b"\xc4\xb8\x02ab", 0), "Err(RlpInvalidIndirection)"),
+    ((b"\xf8\x03\x82ab", 0), "Err(RlpInvalidIndirection)"),
+    ((b"\xc0\x82ab", 0), "Err(RlpIsTooShort)"),
+    ((b"\xc1\x82ab", 0), "Err(RlpIsTooShort)"),
+    ((b"\xc2\x82ab", 0), "Err(RlpIsTooShort)"),
+    ((b"\xc3\x82ab", 0), "Ok(\"ab\")"),
+    ((b"\xc4\x82ab", 0), "Err(RlpIsTooShort)"),
+];
 
-fn words_are_read(alloc: Global) -> Result<bool, DecoderError> {
-    let bytes = [0xc8, 0x83, 0x63, 0x61, 0x74, 0x83, 0x64, 0x6f, 0x67];
-    let words = rlp::decode_list::<String>(alloc, &bytes)?;
-    match words.as_slice() {
-        [cat, dog] => Ok(cat.as_str() == "cat" && dog.as_str() == "dog"),
-        _ => Ok(false),
+/// Tells what is read as a list of `T` from the item of a number.
+pub(crate) struct ReadListAt<T, const STRICT: bool>(PhantomData<T>);
+
+impl<T: Decodable + fmt::Debug, const STRICT: bool> Call for ReadListAt<T, STRICT> {
+    type Input = (&'static [u8], usize);
+
+    fn tell<W: fmt::Write>(
+        alloc: Global,
+        input: &(&'static [u8], usize),
+        out: &mut W,
+    ) -> fmt::Result {
+        let values = view_of(input.0, STRICT).list_at::<T>(alloc, input.1);
+        write!(out, "{values:?}")
     }
 }
 
-#[test]
-fn decode_untrusted_vector_str(rt: HostRuntime) -> Result<(), Fail> {
-    assert!(rt; words_are_read(rt.alloc())?);
-    Ok(())
-}
+/// The items of a list of the list of 1 and 2, and 3, as lists and as numbers.
+const NESTED_LISTS: [((&[u8], usize), &str); 3] = [
+    ((b"\xc4\xc2\x01\x02\x03", 0), "Ok([1, 2])"),
+    ((b"\xc4\xc2\x01\x02\x03", 1), "Ok([])"),
+    ((b"\xc4\xc2\x01\x02\x03", 2), "Err(RlpIsTooShort)"),
+];
 
-/// A list of the list of 1 and 2, and 3.
-const NESTED: &[u8] = &[0xc4, 0xc2, 0x01, 0x02, 0x03];
+const NESTED_NUMBERS: [((&[u8], usize), &str); 1] = [((b"\xc4\xc2\x01\x02\x03", 1), "Ok(3)")];
 
-fn nested_lists_are_read(alloc: Global) -> Result<bool, DecoderError> {
-    let view = Rlp::new(NESTED);
-    Ok(
-        view.list_at::<u64>(alloc, 0)?.as_slice() == [1, 2].as_slice()
-            && view.list_at::<u64>(alloc, 1)?.is_empty()
-            && view.val_at::<u64>(alloc, 1)? == 3,
-    )
-}
-
-fn list_faults_are_told(alloc: Global) -> bool {
-    let beyond = Rlp::new(NESTED).list_at::<u64>(alloc, 2).err();
-    let indirect = Rlp::new(&[0xc3, 0x05, 0x81, 0x05])
-        .as_list::<u64>(alloc)
-        .err();
-    is_fault(beyond, &DecoderError::RlpIsTooShort)
-        && is_fault(indirect, &DecoderError::RlpInvalidIndirection)
-}
-
-#[test]
-fn lists_of_numbers(rt: HostRuntime) -> Result<(), Fail> {
-    assert!(rt; nested_lists_are_read(rt.alloc())? && list_faults_are_told(rt.alloc()));
-    Ok(())
-}
-
-/// Returns whether reading the first item of the list as a text fails with this fault.
-fn is_no_text(alloc: Global, bytes: &[u8], want: &DecoderError) -> bool {
-    is_fault(Rlp::new(bytes).val_at::<String>(alloc, 0).err(), want)
-}
-
-/// Returns whether the first item of the list is the text "ab".
-fn is_ab(alloc: Global, bytes: &[u8]) -> bool {
-    match Rlp::new(bytes).val_at::<String>(alloc, 0) {
-        Ok(text) => text.as_str() == "ab",
-        Err(_) => false,
-    }
-}
-
-#[test]
-fn test_rlp_list_length_overflow(rt: HostRuntime) {
-    let bytes = [
-        0xff, 0xff, 0xff, 0xff, 0xff, 0xff, 0xff, 0xff, 0xff, 0x00, 0x00, 0x00,
-    ];
-    assert!(rt; is_no_text(rt.alloc(), &bytes, &DecoderError::RlpIsTooShort));
-}
-
-#[test]
-fn test_canonical_string_encoding(rt: HostRuntime) {
-    let alloc = rt.alloc();
-    let long = [0xc4, 0xb8, 0x02, 0x61, 0x62];
-    assert!(rt;
-        is_no_text(alloc, &long, &DecoderError::RlpInvalidIndirection)
-            && is_ab(alloc, &[0xc3, 0x82, 0x61, 0x62])
-    );
-}
-
-#[test]
-fn test_canonical_list_encoding(rt: HostRuntime) {
-    let long = [0xf8, 0x03, 0x82, 0x61, 0x62];
-    assert!(rt; is_no_text(rt.alloc(), &long, &DecoderError::RlpInvalidIndirection));
-}
-
-fn short_lists_are_capped(alloc: Global) -> bool {
-    for first in [0xc0, 0xc1, 0xc2, 0xc4] {
-        if !is_no_text(
-            alloc,
-            &[first, 0x82, 0x61, 0x62],
-            &DecoderError::RlpIsTooShort,
-        ) {
-            return false;
-        }
-    }
-    is_ab(alloc, &[0xc3, 0x82, 0x61, 0x62])
-}
-
-#[test]
-fn test_inner_length_capping_for_short_lists(rt: HostRuntime) {
-    assert!(rt; short_lists_are_capped(rt.alloc()));
-}
-
-/// Returns the header of a list of 10,000 bytes, and 10,000 bytes 01.
-fn ten_thousand(alloc: Global) -> Result<Vec<u8>, AllocError> {
-    let mut bytes = Vec::from_slice(alloc, &[0xf9, 0x27, 0x10])?;
-    let ones = vec![in alloc; 1u8; 10_000]?;
-    bytes.extend_from_slice(ones.as_slice())?;
-    Ok(bytes)
-}
-
-/// Returns whether the last of 10,000 items is found, and none after it.
-fn last_is_found(view: &Rlp<'_>) -> Result<bool, DecoderError> {
-    let (last, place) = view.at_with_offset(9_999)?;
-    Ok(
-        last.as_raw() == [0x01].as_slice()
-            && place == 10_002
-            && view.item_count()? == 10_000
-            && is_fault(view.at(10_000).err(), &DecoderError::RlpIsTooShort),
-    )
-}
-
-/// Returns whether an iterator gives 10,000 items 01, and then `None` each time.
-fn all_are_given(view: &Rlp<'_>) -> bool {
-    let mut items = view.iter();
-    for _ in 0..9_999 {
-        if !gives_one(&mut items) {
-            return false;
-        }
-    }
-    items.len() == 1 && gives_one(&mut items) && items.next().is_none() && items.next().is_none()
-}
-
-/// Returns whether the next item is 01.
-fn gives_one(items: &mut RlpIterator<'_, '_>) -> bool {
-    match items.next() {
-        Some(item) => item.as_raw() == [0x01].as_slice(),
-        None => false,
-    }
-}
-
-fn all_are_read(alloc: Global, bytes: &[u8]) -> Result<bool, DecoderError> {
-    let values = rlp::decode_list::<u64>(alloc, bytes)?;
-    Ok(values.len() == 10_000 && values.iter().all(|value| *value == 1))
-}
-
-#[test]
-fn ten_thousand_items(rt: HostRuntime) -> Result<(), Fail> {
-    let bytes = ten_thousand(rt.alloc())?;
-    let view = Rlp::new(bytes.as_slice());
-    assert!(rt;
-        last_is_found(&view)? && all_are_given(&view) && all_are_read(rt.alloc(), bytes.as_slice())?
-    );
-    Ok(())
-}
-
-// A list, and then bytes that aren't part of it.
+// A list, and then bytes that aren't part of it. Its third item holds a number, and the number of
+// its items is the same before and after that is read.
 const LIST: [u8; 186] = [
     0xf8, 0x3e, 0x82, 0x02, 0x2b, 0xd7, 0x90, 0x20, 0x01, 0x0d, 0xb8, 0x3c, 0x4d, 0x00, 0x15, 0x00,
     0x00, 0x00, 0x00, 0xab, 0xcd, 0xef, 0x12, 0x82, 0x0c, 0xfa, 0x82, 0x15, 0xa8, 0xd7, 0x90, 0x20,
@@ -211,19 +145,32 @@ const LIST: [u8; 186] = [
     0xc4, 0x91, 0x98, 0x3c, 0x09, 0xc7, 0x6d, 0x92, 0x2d, 0xc3,
 ];
 
-/// Returns whether the third item of the list holds the expected number, and the number of items is
-/// five, before and after it is read.
-fn list_holds_its_number(alloc: Global) -> Result<bool, DecoderError> {
+#[test]
+fn lists(rt: HostRuntime) -> Result<(), Fail> {
+    let alloc = rt.alloc();
+    assert_eq!(rt; first_wrong::<ReadList<u64, false>>(alloc, &NUMBERS)?, None);
+    assert_eq!(rt;
+        first_wrong::<ReadList<u8, false>>(alloc, &SMALL_NUMBERS)?,
+        None
+    );
+    assert_eq!(rt;
+        first_wrong::<ReadList<String, false>>(alloc, &WORDS)?,
+        None
+    );
+    assert_eq!(rt; first_wrong::<ReadList<Odd, false>>(alloc, &ODD)?, None);
+    assert_eq!(rt; first_wrong::<ReadAt<String>>(alloc, &TEXTS)?, None);
+    assert_eq!(rt; first_wrong::<ReadAt<u64>>(alloc, &NESTED_NUMBERS)?, None);
+    assert_eq!(rt;
+        first_wrong::<ReadListAt<u64, false>>(alloc, &NESTED_LISTS)?,
+        None
+    );
     let view = Rlp::new(&LIST);
     let before = view.item_count()?;
-    let second = view.at(1)?;
-    let third = view.at(2)?;
-    let number: u16 = third.val_at(alloc, 2)?;
-    Ok(second.is_list() && number == 33338 && before == 5 && view.item_count()? == 5)
-}
-
-#[test]
-fn test_list_at(rt: HostRuntime) -> Result<(), DecoderError> {
-    assert!(rt; list_holds_its_number(rt.alloc())?);
+    let second = view.at(1)?.is_list();
+    let number = view.at(2)?.val_at::<u16>(alloc, 2)?;
+    assert_eq!(rt;
+        (before, second, number, view.item_count()?),
+        (5, true, 33_338, 5)
+    );
     Ok(())
 }

@@ -1,11 +1,14 @@
 //! Items that are split off the beginning of bytes.
 
-use crate::faults::is_fault;
+use crate::rows::{Call, Hex, first_wrong, raw};
 use rlp::{DecoderError, Rlp};
 use std::alloc::Global;
+use std::fmt;
+use std::fmt::Write;
+use std::test::Fail;
 
 /// Returns the first item as a strict or a lenient view, and the bytes that follow it.
-fn split<'a>(bytes: &'a [u8], strict: bool) -> Result<(Rlp<'a>, &'a [u8]), DecoderError> {
+fn split_first<'a>(bytes: &'a [u8], strict: bool) -> Result<(Rlp<'a>, &'a [u8]), DecoderError> {
     if strict {
         Rlp::split_first_strict(bytes)
     } else {
@@ -13,119 +16,93 @@ fn split<'a>(bytes: &'a [u8], strict: bool) -> Result<(Rlp<'a>, &'a [u8]), Decod
     }
 }
 
-/// Bytes, and the items that they consist of.
-const JOINED: [(&[u8], &[&[u8]]); 6] = [
-    (&[], &[]),
-    (&[0x05], &[&[0x05]]),
-    (&[0xc1, 0x06], &[&[0xc1, 0x06]]),
-    (&[0x05, 0xc1, 0x06], &[&[0x05], &[0xc1, 0x06]]),
+/// Tells the items that are split off one after another, and then the fault, and what is left.
+struct Split<const STRICT: bool>;
+
+impl<const STRICT: bool> Call for Split<STRICT> {
+    type Input = &'static [u8];
+
+    fn tell<W: fmt::Write>(_alloc: Global, bytes: &&'static [u8], out: &mut W) -> fmt::Result {
+        let mut left = *bytes;
+        for _ in 0..=bytes.len() {
+            match split_first(left, STRICT) {
+                Ok((item, rest)) => {
+                    write!(out, "{:?} ", raw(Ok(item), STRICT))?;
+                    left = rest;
+                }
+                Err(fault) => return write!(out, "{fault} {:?}", Hex(left)),
+            }
+        }
+        Ok(())
+    }
+}
+
+/// Bytes that consist of items, and bytes that don't begin with one.
+const ITEMS: [(&[u8], &str); 12] = [
+    (b"", "RlpIsTooShort "),
+    (b"\x05", "Ok(05) RlpIsTooShort "),
+    (b"\xc1\x06", "Ok(c106) RlpIsTooShort "),
+    (b"\x05\xc1\x06", "Ok(05) Ok(c106) RlpIsTooShort "),
     (
-        &[0x83, 0x63, 0x61, 0x74, 0x80, 0xc0, 0x00],
-        &[&[0x83, 0x63, 0x61, 0x74], &[0x80], &[0xc0], &[0x00]],
+        b"\x83cat\x80\xc0\x00",
+        "Ok(83636174) Ok(80) Ok(c0) Ok(00) RlpIsTooShort ",
     ),
-    (&[0x81, 0x05, 0x06], &[&[0x81, 0x05], &[0x06]]),
+    (b"\x81\x05\x06", "Ok(8105) Ok(06) RlpIsTooShort "),
+    (b"\x83ca", "RlpIsTooShort 836361"),
+    (b"\xc5\x05", "RlpIsTooShort c505"),
+    (b"\xb8", "RlpIsTooShort b8"),
+    (b"\xb8\x38\x00", "RlpIsTooShort b83800"),
+    (b"\xb8\x00\x05", "RlpDataLenWithZeroPrefix b80005"),
+    (b"\xf8\x00\x05", "RlpListLenWithZeroPrefix f80005"),
 ];
 
-/// Returns whether the bytes consist of these items, by strict or by lenient views.
-fn are_items(bytes: &[u8], strict: bool, items: &[&[u8]]) -> bool {
-    let mut left = bytes;
-    for item in items {
-        match split(left, strict) {
-            Ok((view, rest)) if view.as_raw() == *item && view.is_strict() == strict => left = rest,
-            _ => return false,
-        }
+/// Tells whether the first item is canonical, its fault as a number or as a list of numbers, and
+/// the bytes that follow it.
+struct FirstRead<const STRICT: bool>;
+
+impl<const STRICT: bool> Call for FirstRead<STRICT> {
+    type Input = &'static [u8];
+
+    fn tell<W: fmt::Write>(alloc: Global, bytes: &&'static [u8], out: &mut W) -> fmt::Result {
+        let (item, rest) = match split_first(bytes, STRICT) {
+            Ok(found) => found,
+            Err(fault) => return write!(out, "{fault}"),
+        };
+        let fault = if item.is_list() {
+            item.as_list::<u8>(alloc).err()
+        } else {
+            item.as_val::<u8>(alloc).err()
+        };
+        write!(out, "{} {fault:?} {:?}", item.is_canonical(9), Hex(rest))
     }
-    left.is_empty() && is_fault(split(left, strict).err(), &DecoderError::RlpIsTooShort)
 }
 
-/// Returns the place of the first row with other items.
-fn first_wrong_items(strict: bool) -> Option<usize> {
-    for (row, (bytes, items)) in JOINED.iter().enumerate() {
-        if !are_items(bytes, strict, items) {
-            return Some(row);
-        }
-    }
-    None
-}
-
-#[test]
-fn joined_items(rt: HostRuntime) {
-    assert_eq!(rt; first_wrong_items(false), None);
-    assert_eq!(rt; first_wrong_items(true), None);
-}
-
-/// Bytes that don't begin with an item, and the faults.
-const NO_ITEM: [(&[u8], DecoderError); 7] = [
-    (&[], DecoderError::RlpIsTooShort),
-    (&[0x83, 0x63, 0x61], DecoderError::RlpIsTooShort),
-    (&[0xc5, 0x05], DecoderError::RlpIsTooShort),
-    (&[0xb8], DecoderError::RlpIsTooShort),
-    (&[0xb8, 0x38, 0x00], DecoderError::RlpIsTooShort),
-    (&[0xb8, 0x00, 0x05], DecoderError::RlpDataLenWithZeroPrefix),
-    (&[0xf8, 0x00, 0x05], DecoderError::RlpListLenWithZeroPrefix),
+/// Items that are framed but not canonical, with an empty list after them.
+const NOT_CANONICAL: [(&[u8], &str); 3] = [
+    (b"\x81\x05\xc0", "false Some(RlpInvalidIndirection) c0"),
+    (b"\xc2\x81\x05\xc0", "false Some(RlpInvalidIndirection) c0"),
+    (b"\xc3\x05\x82\x00\xc0", "false None c0"),
 ];
 
-/// Returns the place of the first row with another fault or none, by strict or by lenient views.
-fn first_with_an_item(strict: bool) -> Option<usize> {
-    for (row, (bytes, fault)) in NO_ITEM.iter().enumerate() {
-        if !is_fault(split(bytes, strict).err(), fault) {
-            return Some(row);
-        }
-    }
-    None
-}
-
-#[test]
-fn bytes_that_begin_with_no_item(rt: HostRuntime) {
-    assert_eq!(rt; first_with_an_item(false), None);
-    assert_eq!(rt; first_with_an_item(true), None);
-}
-
-/// Items that are framed but not canonical, with an empty list after them, and their faults as a
-/// number or as a list of numbers: for the lenient view and for the strict one.
-const NOT_CANONICAL: [(&[u8], Option<DecoderError>, Option<DecoderError>); 3] = [
-    (
-        &[0x81, 0x05, 0xc0],
-        Some(DecoderError::RlpInvalidIndirection),
-        Some(DecoderError::RlpInvalidIndirection),
-    ),
-    (
-        &[0xc2, 0x81, 0x05, 0xc0],
-        Some(DecoderError::RlpInvalidIndirection),
-        Some(DecoderError::RlpInvalidIndirection),
-    ),
-    (
-        &[0xc3, 0x05, 0x82, 0x00, 0xc0],
-        None,
-        Some(DecoderError::RlpIsTooShort),
-    ),
+/// The same items, as strict views.
+const STRICTLY_READ: [(&[u8], &str); 3] = [
+    (b"\x81\x05\xc0", "false Some(RlpInvalidIndirection) c0"),
+    (b"\xc2\x81\x05\xc0", "false Some(RlpInvalidIndirection) c0"),
+    (b"\xc3\x05\x82\x00\xc0", "false Some(RlpIsTooShort) c0"),
 ];
 
-/// Returns whether the first item is split off and leaves the empty list, isn't canonical, and has
-/// this fault.
-fn is_read_as(alloc: Global, bytes: &[u8], strict: bool, want: &Option<DecoderError>) -> bool {
-    let Ok((item, rest)) = split(bytes, strict) else {
-        return false;
-    };
-    let fault = if item.is_list() {
-        item.as_list::<u8>(alloc).err()
-    } else {
-        item.as_val::<u8>(alloc).err()
-    };
-    rest == [0xc0].as_slice() && !item.is_canonical(9) && fault == *want
-}
-
-/// Returns the place of the first row that isn't read as expected.
-fn first_wrong_reading(alloc: Global) -> Option<usize> {
-    for (row, (bytes, lenient, strict)) in NOT_CANONICAL.iter().enumerate() {
-        if !is_read_as(alloc, bytes, false, lenient) || !is_read_as(alloc, bytes, true, strict) {
-            return Some(row);
-        }
-    }
-    None
-}
-
 #[test]
-fn first_items_that_are_not_canonical(rt: HostRuntime) {
-    assert_eq!(rt; first_wrong_reading(rt.alloc()), None);
+fn first_items(rt: HostRuntime) -> Result<(), Fail> {
+    let alloc = rt.alloc();
+    assert_eq!(rt; first_wrong::<Split<false>>(alloc, &ITEMS)?, None);
+    assert_eq!(rt; first_wrong::<Split<true>>(alloc, &ITEMS)?, None);
+    assert_eq!(rt;
+        first_wrong::<FirstRead<false>>(alloc, &NOT_CANONICAL)?,
+        None
+    );
+    assert_eq!(rt;
+        first_wrong::<FirstRead<true>>(alloc, &STRICTLY_READ)?,
+        None
+    );
+    Ok(())
 }

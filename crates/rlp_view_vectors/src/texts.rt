@@ -1,8 +1,28 @@
 //! The texts of views and of faults.
 
+use crate::rows::{Call, answers, first_wrong};
+use crate::views::Ask::Text;
+use crate::views::{Asked, View};
 use rlp::{DecoderError, Rlp};
-use std::alloc::{AllocError, Global};
+use std::alloc::Global;
+use std::fmt;
+use std::fmt::Write;
 use std::test::Fail;
+
+const TEXTS: [Asked; 12] = [
+    ((b"", Text), "null"),
+    ((b"\xc0", Text), "[]"),
+    ((b"\x80", Text), "\"0x\""),
+    ((b"\xc2\x05\x82", Text), "[\"0x05\"]"),
+    ((b"\xc4\x05\xc2\x01\x82", Text), "[\"0x05\", [\"0x01\"]]"),
+    ((b"\xc8\x83cat\x83do", Text), "RlpIsTooShort"),
+    ((b"\x84cat", Text), "RlpIsTooShort"),
+    ((b"\xc5", Text), "RlpIsTooShort"),
+    ((b"\xb8\x00", Text), "RlpDataLenWithZeroPrefix"),
+    ((b"\xf8\x00", Text), "RlpListLenWithZeroPrefix"),
+    ((b"\xc3\x83\x01\x02", Text), "[]"),
+    ((b"\x81\x05", Text), "\"0x05\""),
+];
 
 /// A list of two numbers and two hashes.
 const HASHES: &[u8] = &[
@@ -17,142 +37,93 @@ const HASHES: &[u8] = &[
 const HASHES_TEXT: &str =
     "[\"0x05\", \"0x010efbef67941f79b2\", \"0x56e81f171bcc55a6ff8345e692c0f86e5b48e01b996cadc001622fb5e363b421\", \"0xc5d2460186f7233c927e7db2dcc703c0e500b653ca82273b7bfad8045d85a470\"]";
 
-/// Bytes, and the text of a view of them.
-const TEXTS: [(&[u8], &str); 12] = [
-    (&[], "null"),
-    (&[0xc0], "[]"),
-    (&[0x80], "\"0x\""),
-    (&[0xc2, 0x05, 0x82], "[\"0x05\"]"),
-    (&[0xc4, 0x05, 0xc2, 0x01, 0x82], "[\"0x05\", [\"0x01\"]]"),
+/// Tells the text of a fault, and of its clone.
+struct Name;
+
+impl Call for Name {
+    type Input = DecoderError;
+
+    fn tell<W: fmt::Write>(alloc: Global, fault: &DecoderError, out: &mut W) -> fmt::Result {
+        let copy = fault.clone();
+        let text = copy.to_string(alloc)?;
+        write!(out, "{fault} {text} {}", copy == *fault)
+    }
+}
+
+/// The faults, with their texts, which are their names, of each and of its clone.
+const NAMES: [(DecoderError, &str); 12] = [
+    (DecoderError::RlpIsTooBig, "RlpIsTooBig RlpIsTooBig true"),
     (
-        &[0xc8, 0x83, 0x63, 0x61, 0x74, 0x83, 0x64, 0x6f],
-        "RlpIsTooShort",
+        DecoderError::RlpIsTooShort,
+        "RlpIsTooShort RlpIsTooShort true",
     ),
-    (&[0x84, 0x63, 0x61, 0x74], "RlpIsTooShort"),
-    (&[0xc5], "RlpIsTooShort"),
-    (&[0xb8, 0x00], "RlpDataLenWithZeroPrefix"),
-    (&[0xf8, 0x00], "RlpListLenWithZeroPrefix"),
-    (&[0xc3, 0x83, 0x01, 0x02], "[]"),
-    (&[0x81, 0x05], "\"0x05\""),
+    (
+        DecoderError::RlpExpectedToBeList,
+        "RlpExpectedToBeList RlpExpectedToBeList true",
+    ),
+    (
+        DecoderError::RlpExpectedToBeData,
+        "RlpExpectedToBeData RlpExpectedToBeData true",
+    ),
+    (
+        DecoderError::RlpIncorrectListLen,
+        "RlpIncorrectListLen RlpIncorrectListLen true",
+    ),
+    (
+        DecoderError::RlpDataLenWithZeroPrefix,
+        "RlpDataLenWithZeroPrefix RlpDataLenWithZeroPrefix true",
+    ),
+    (
+        DecoderError::RlpListLenWithZeroPrefix,
+        "RlpListLenWithZeroPrefix RlpListLenWithZeroPrefix true",
+    ),
+    (
+        DecoderError::RlpInvalidIndirection,
+        "RlpInvalidIndirection RlpInvalidIndirection true",
+    ),
+    (
+        DecoderError::RlpInconsistentLengthAndData,
+        "RlpInconsistentLengthAndData RlpInconsistentLengthAndData true",
+    ),
+    (
+        DecoderError::RlpInvalidLength,
+        "RlpInvalidLength RlpInvalidLength true",
+    ),
+    (
+        DecoderError::Custom("text"),
+        "Custom(\"text\") Custom(\"text\") true",
+    ),
+    (DecoderError::OutOfMemory, "OutOfMemory OutOfMemory true"),
 ];
 
-fn is_printed(alloc: Global, bytes: &[u8], text: &str) -> Result<bool, AllocError> {
-    let printed = format!(in alloc; "{}", Rlp::new(bytes))?;
-    Ok(printed.as_str() == text)
-}
-
-fn are_printed(alloc: Global) -> Result<bool, AllocError> {
-    for (bytes, text) in TEXTS {
-        if !is_printed(alloc, bytes, text)? {
-            return Ok(false);
-        }
-    }
-    Ok(true)
-}
-
+// The first bytes of the list of hashes print as `null` if there are none, as the list's text if
+// there are all, and else as `RlpIsTooShort`.
 #[test]
-fn prints_views(rt: HostRuntime) -> Result<(), Fail> {
-    assert!(rt; are_printed(rt.alloc())?);
-    Ok(())
-}
-
-#[test]
-fn test_rlp_display(rt: HostRuntime) -> Result<(), Fail> {
-    assert!(rt; is_printed(rt.alloc(), HASHES, HASHES_TEXT)?);
-    Ok(())
-}
-
-/// Returns whether the first `len` bytes of the list are printed as `RlpIsTooShort`, or as `null`
-/// for no bytes, or as the text for all bytes.
-fn cut_is_printed(alloc: Global, len: usize) -> Result<bool, AllocError> {
-    let text = match len {
-        0 => "null",
-        79 => HASHES_TEXT,
-        _ => "RlpIsTooShort",
-    };
-    match HASHES.get(..len) {
-        Some(bytes) => is_printed(alloc, bytes, text),
-        None => Ok(false),
-    }
-}
-
-fn all_cut_are_printed(alloc: Global) -> Result<bool, AllocError> {
+fn texts_of_views_and_faults(rt: HostRuntime) -> Result<(), Fail> {
+    let alloc = rt.alloc();
+    assert_eq!(rt; first_wrong::<View<false>>(alloc, &TEXTS)?, None);
     for len in 0..=79 {
-        if !cut_is_printed(alloc, len)? {
-            return Ok(false);
-        }
+        let text = match len {
+            0 => "null",
+            79 => HASHES_TEXT,
+            _ => "RlpIsTooShort",
+        };
+        let bytes = HASHES.get(..len).unwrap_or(b"");
+        assert!(rt;
+            answers::<View<false>>(alloc, &(bytes, Text), text),
+            "{len} bytes"
+        );
     }
-    Ok(true)
-}
-
-#[test]
-fn prints_cut_bytes(rt: HostRuntime) -> Result<(), Fail> {
-    assert!(rt; all_cut_are_printed(rt.alloc())?);
+    assert_eq!(rt; first_wrong::<Name>(alloc, &NAMES)?, None);
     Ok(())
-}
-
-fn flags_change_nothing(alloc: Global) -> Result<bool, AllocError> {
-    let view = Rlp::new(&[0xc2, 0x05, 0x06]);
-    let wide = format!(in alloc; "{view:>40}")?;
-    let fault = DecoderError::Custom("a \"b\"");
-    let twice = format!(in alloc; "{fault:#}|{fault:>40}")?;
-    Ok(
-        wide.as_str() == "[\"0x05\", \"0x06\"]"
-            && twice.as_str() == "Custom(\"a \"b\"\")|Custom(\"a \"b\"\")",
-    )
 }
 
 #[test]
 fn prints_whatever_the_flags(rt: HostRuntime) -> Result<(), Fail> {
-    assert!(rt; flags_change_nothing(rt.alloc())?);
-    Ok(())
-}
-
-/// The faults, and their names.
-const NAMES: [(DecoderError, &str); 12] = [
-    (DecoderError::RlpIsTooBig, "RlpIsTooBig"),
-    (DecoderError::RlpIsTooShort, "RlpIsTooShort"),
-    (DecoderError::RlpExpectedToBeList, "RlpExpectedToBeList"),
-    (DecoderError::RlpExpectedToBeData, "RlpExpectedToBeData"),
-    (DecoderError::RlpIncorrectListLen, "RlpIncorrectListLen"),
-    (
-        DecoderError::RlpDataLenWithZeroPrefix,
-        "RlpDataLenWithZeroPrefix",
-    ),
-    (
-        DecoderError::RlpListLenWithZeroPrefix,
-        "RlpListLenWithZeroPrefix",
-    ),
-    (DecoderError::RlpInvalidIndirection, "RlpInvalidIndirection"),
-    (
-        DecoderError::RlpInconsistentLengthAndData,
-        "RlpInconsistentLengthAndData",
-    ),
-    (DecoderError::RlpInvalidLength, "RlpInvalidLength"),
-    (DecoderError::Custom("text"), "Custom(\"text\")"),
-    (DecoderError::OutOfMemory, "OutOfMemory"),
-];
-
-fn has_name(alloc: Global, fault: &DecoderError, name: &str) -> Result<bool, AllocError> {
-    let printed = fault.to_string(alloc)?;
-    Ok(printed.as_str() == name)
-}
-
-fn is_cloned(fault: &DecoderError) -> bool {
-    fault.clone() == *fault
-}
-
-fn have_names(alloc: Global) -> Result<bool, AllocError> {
-    for (fault, name) in &NAMES {
-        if !has_name(alloc, fault, name)? || !is_cloned(fault) {
-            return Ok(false);
-        }
-    }
-    Ok(true)
-}
-
-#[test]
-fn names_of_faults(rt: HostRuntime) -> Result<(), Fail> {
-    assert!(rt; have_names(rt.alloc())?);
+    let view = Rlp::new(&[0xc2, 0x05, 0x06]);
+    let fault = DecoderError::Custom("a \"b\"");
+    let text = format!(in rt.alloc(); "{view:>40}|{fault:#}|{fault:>40}")?;
+    let want = "[\"0x05\", \"0x06\"]|Custom(\"a \"b\"\")|Custom(\"a \"b\"\")";
+    assert_eq!(rt; text.as_str(), want);
     Ok(())
 }

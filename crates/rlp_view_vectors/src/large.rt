@@ -1,0 +1,136 @@
+//! Long strings, lists of many items, and lists that nest deep.
+
+use rlp::{DecoderError, Rlp, RlpStream};
+use std::alloc::{AllocError, Global};
+use std::test::Fail;
+
+/// Returns a header, and then `len` times a byte.
+fn filled(alloc: Global, header: &[u8], len: usize, byte: u8) -> Result<Vec<u8>, AllocError> {
+    let mut bytes = Vec::from_slice(alloc, header)?;
+    bytes.resize(header.len().saturating_add(len), byte)?;
+    Ok(bytes)
+}
+
+/// Headers of strings, the numbers of bytes 63 after them, and the fault if these end before the
+/// string.
+const TEXTS: [(&[u8], usize, Option<DecoderError>); 3] = [
+    (
+        b"\xb8\xff",
+        253,
+        Some(DecoderError::RlpInconsistentLengthAndData),
+    ),
+    (b"\xb8\xff", 255, None),
+    (
+        b"\xb9\x02\xff",
+        700,
+        Some(DecoderError::RlpInconsistentLengthAndData),
+    ),
+];
+
+/// The headers of strings of 2 MiB and of 16,777,215 bytes, and their lengths.
+const LONG: [(&[u8], usize); 2] = [
+    (b"\xba\x20\x00\x00", 2_097_152),
+    (b"\xba\xff\xff\xff", 16_777_215),
+];
+
+#[test]
+fn long_strings(rt: HostRuntime) -> Result<(), Fail> {
+    let alloc = rt.alloc();
+    for (header, len, fault) in &TEXTS {
+        let bytes = filled(alloc, header, *len, 0x63)?;
+        let found = rlp::decode::<String>(alloc, bytes.as_slice()).err();
+        assert!(rt; found == *fault, "{len} bytes 63");
+    }
+    for (header, len) in LONG {
+        let bytes = filled(alloc, header, len, 0x07)?;
+        let string = rlp::decode_strict::<Vec<u8>>(alloc, bytes.as_slice())?;
+        let want = filled(alloc, b"", len, 0x07)?;
+        assert!(rt; string.as_slice() == want.as_slice(), "{len} bytes 07");
+    }
+    let bytes = filled(alloc, b"\xba\x01\x11\x70", 70_000, 0x5a)?;
+    let text = format!(in alloc; "{}", Rlp::new(bytes.as_slice()))?;
+    let digits = "5a".repeat(alloc, 70_000)?;
+    assert!(rt; text.as_str() == format!(in alloc; "\"0x{digits}\"")?.as_str());
+    Ok(())
+}
+
+/// Returns whether a list has `len` items 01, the last of them at this place, an iterator gives them
+/// and then `None` each time, and they are read as numbers. `RlpIterator::len` walks what is left.
+fn has_ones(alloc: Global, bytes: &[u8], len: usize, place: usize) -> Result<bool, Fail> {
+    let view = Rlp::new(bytes);
+    let mut count = 0usize;
+    for item in &view {
+        count = count.saturating_add(usize::from(item.as_raw() == [0x01].as_slice()));
+    }
+    let mut items = view.iter();
+    for _ in 1..len {
+        if items.next().is_none() {
+            return Ok(false);
+        }
+    }
+    let is_one_left = items.len() == 1 && items.next().is_some();
+    let (last, found) = view.at_with_offset(len.saturating_sub(1))?;
+    let large = rlp::decode_list::<u64>(alloc, bytes)?;
+    let small = view.as_list::<u8>(alloc)?;
+    Ok(
+        is_one_left
+            && items.next().is_none()
+            && items.next().is_none()
+            && count == len
+            && last.as_raw() == [0x01].as_slice()
+            && found == place
+            && view.item_count()? == len
+            && view.at(len).err() == Some(DecoderError::RlpIsTooShort)
+            && large.as_slice() == vec![in alloc; 1u64; len]?.as_slice()
+            && small.as_slice() == vec![in alloc; 1u8; len]?.as_slice(),
+    )
+}
+
+/// Returns lists, one inside another. If they have siblings, each but the outermost stands between
+/// the empty string and the empty list.
+fn nested(alloc: Global, levels: usize, siblings: bool) -> Result<RlpStream, AllocError> {
+    let mut s = RlpStream::new(alloc)?;
+    for _ in 1..levels {
+        if siblings {
+            s.begin_list(3)?.append_empty_data()?;
+        } else {
+            s.begin_list(1)?;
+        }
+    }
+    s.begin_list(0)?;
+    for _ in 1..levels {
+        if siblings {
+            s.begin_list(0)?;
+        }
+    }
+    Ok(s)
+}
+
+/// Returns whether the depth of a stream's lists is exactly `levels`.
+fn has_depth(s: &RlpStream, levels: usize) -> bool {
+    let (view, fewer) = (Rlp::new(s.as_raw()), levels.saturating_sub(1));
+    s.is_finished()
+        && view.is_nested_within(levels)
+        && !view.is_nested_within(fewer)
+        && view.is_canonical(levels)
+        && !view.is_canonical(fewer)
+}
+
+// With siblings at every level, a function that tests each item twice wouldn't end in time. The text
+// of a million items 01 has for each item four characters `0x01`, two quotes, and two
+// characters of comma and space or of brackets.
+#[test]
+fn lists_of_many_items_and_levels(rt: HostRuntime) -> Result<(), Fail> {
+    let alloc = rt.alloc();
+    let some = filled(alloc, b"\xf9\x27\x10", 10_000, 1)?;
+    assert!(rt; has_ones(alloc, some.as_slice(), 10_000, 10_002)?);
+    let many = filled(alloc, b"\xfa\x0f\x42\x40", 1_000_000, 1)?;
+    assert!(rt; has_ones(alloc, many.as_slice(), 1_000_000, 1_000_003)?);
+    let text = format!(in alloc; "{}", Rlp::new(many.as_slice()))?;
+    assert_eq!(rt; text.len(), 8_000_000);
+    assert!(rt; text.as_str().starts_with("[\"0x01\", \"0x01\", \"0x01\", "));
+    assert!(rt; text.as_str().ends_with(", \"0x01\", \"0x01\"]"));
+    assert!(rt; has_depth(&nested(alloc, 200, false)?, 200));
+    assert!(rt; has_depth(&nested(alloc, 256, true)?, 256));
+    Ok(())
+}
