@@ -3,7 +3,7 @@
 //! `refusals/run` refuses every request after a signal. The signal is a request for `SIGNAL` bytes.
 
 use crate::support::guarded::{estimates, finishes_as, put_raw, put_raw_within};
-use crate::support::iterators::{append_undotted, encode_undotted};
+use crate::support::iterators::put_undotted;
 use bytes::BytesMut;
 use rlp::RlpStream;
 use std::alloc::{AllocError, Global};
@@ -41,8 +41,9 @@ fn room_is_used(mut s: RlpStream) -> Result<bool, AllocError> {
     Ok(put && refused && s.len() == 1004 && s.as_raw().ends_with(b"rlp\x80"))
 }
 
-/// Returns whether calls that take no memory succeed while every request is refused.
-fn need_no_memory(alloc: Global) -> Result<bool, AllocError> {
+#[test]
+fn streams_that_need_no_memory(rt: HostRuntime) -> Result<(), Fail> {
+    let alloc = rt.alloc();
     let mut list = RlpStream::new_list(alloc, 3)?;
     list.append(&"cat")?;
     let roomy = RlpStream::new(alloc)?;
@@ -50,36 +51,22 @@ fn need_no_memory(alloc: Global) -> Result<bool, AllocError> {
     buffer.extend_from_slice(b"junk")?;
     refuse_from_here(alloc);
     let front = RlpStream::new_with_buffer(alloc, buffer);
-    Ok(
-        list_answers(list)
-            && room_is_used(roomy)?
-            && front.is_empty()
-            && finishes_as(front, b"junk"),
-    )
-}
-
-#[test]
-fn streams_that_need_no_memory(rt: HostRuntime) -> Result<(), Fail> {
-    assert!(rt; need_no_memory(rt.alloc())?);
+    assert!(rt; list_answers(list) && room_is_used(roomy)?);
+    assert!(rt; front.is_empty() && finishes_as(front, b"junk"));
     Ok(())
 }
 
 /// The encodings of two strings of three bytes.
 const TWO_STRINGS: &[u8] = b"\x83cat\x83dog";
 
-/// Returns whether the bytes of iterators are put into room of exactly their size, while every
-/// request is refused.
-fn iterators_need_no_memory(alloc: Global) -> Result<bool, AllocError> {
-    let buffer = BytesMut::with_capacity(alloc, TWO_STRINGS.len())?;
-    refuse_from_here(alloc);
-    let mut s = RlpStream::new_with_buffer(alloc, buffer);
-    append_undotted(&mut s, b"c.a.t")?;
-    encode_undotted(&mut s.encoder(), b"d.o.g")?;
-    Ok(finishes_as(s, TWO_STRINGS))
-}
-
+// The bytes of iterators are put into room of exactly their size.
 #[test]
 fn iterators_that_need_no_memory(rt: HostRuntime) -> Result<(), Fail> {
-    assert!(rt; iterators_need_no_memory(rt.alloc())?);
+    let buffer = BytesMut::with_capacity(rt.alloc(), TWO_STRINGS.len())?;
+    refuse_from_here(rt.alloc());
+    let mut s = RlpStream::new_with_buffer(rt.alloc(), buffer);
+    put_undotted(&mut s, b"c.a.t", true)?;
+    put_undotted(&mut s, b"d.o.g", false)?;
+    assert!(rt; finishes_as(s, TWO_STRINGS));
     Ok(())
 }

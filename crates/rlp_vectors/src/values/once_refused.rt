@@ -1,6 +1,7 @@
 //! A value that is refused the first time it is written, in the middle of its bytes. It counts how
 //! often it is written.
 
+use crate::support::script::is_as;
 use rlp::{Encodable, RlpStream};
 use std::alloc::{AllocError, Global};
 use std::cell::Cell;
@@ -32,70 +33,41 @@ impl<'a> Encodable for OnceRefused<'a> {
     }
 }
 
-/// A call that appends a value.
-#[derive(Clone, Copy)]
-enum Call {
-    /// `append`.
-    Append,
-    /// `append_internal`.
-    Internal,
-    /// `append_list` of this one value.
-    List,
-}
-
-/// Makes the call.
-fn make(s: &mut RlpStream, call: Call, values: &[OnceRefused<'_>; 1]) -> Result<(), AllocError> {
+/// Makes the call of this name.
+fn make(s: &mut RlpStream, call: &str, values: &[OnceRefused<'_>; 1]) -> Result<(), AllocError> {
     match call {
-        Call::Append => {
-            s.append(&values[0])?;
-        }
-        Call::Internal => {
-            s.append_internal(&values[0])?;
-        }
-        Call::List => {
-            s.append_list(values)?;
-        }
-    }
+        "append" => s.append(&values[0])?,
+        "append_internal" => s.append_internal(&values[0])?,
+        _ => s.append_list(values)?,
+    };
     Ok(())
 }
 
 /// Calls on a list of two items that holds the number 5. For each, the bytes after the call, and
 /// the number of items that are awaited.
-const CALLS: [(Call, &[u8], Option<usize>); 3] = [
-    (Call::Append, &[0xc2, 0x05, 0x06], None),
-    (Call::Internal, &[0x00, 0x05, 0x06], Some(1)),
-    (Call::List, &[0xc3, 0x05, 0xc1, 0x06], None),
+const CALLS: [(&str, &[u8], Option<usize>); 3] = [
+    ("append", &[0xc2, 0x05, 0x06], None),
+    ("append_internal", &[0x00, 0x05, 0x06], Some(1)),
+    ("append_list", &[0xc3, 0x05, 0xc1, 0x06], None),
 ];
 
-/// Returns whether a refused call has written the value once and leaves nothing in the stream, and
-/// the same call then writes the value once more.
-fn writes_once(
-    alloc: Global,
-    call: Call,
-    raw: &[u8],
-    awaited: Option<usize>,
-) -> Result<bool, AllocError> {
-    let calls = Cell::new(0usize);
-    let values = [OnceRefused {
-        number: 6,
-        calls: &calls,
-    }];
-    let mut s = RlpStream::new_list(alloc, 2)?;
-    s.append(&5u64)?;
-    let refused = make(&mut s, call, &values).is_err()
-        && calls.get() == 1
-        && s.as_raw() == [0x00, 0x05].as_slice()
-        && s.items_awaited() == Some(1)
-        && s.len() == 2;
-    make(&mut s, call, &values)?;
-    Ok(refused && calls.get() == 2 && s.as_raw() == raw && s.items_awaited() == awaited)
-}
-
-/// Returns the place of the first call for which [`writes_once`] returns `false`.
-fn first_wrong_call(alloc: Global) -> Result<Option<usize>, AllocError> {
-    for (row, (call, raw, awaited)) in CALLS.iter().enumerate() {
-        if !writes_once(alloc, *call, raw, *awaited)? {
-            return Ok(Some(row));
+/// Returns the first call that, refused, hasn't written the value once, or leaves something in the
+/// stream, or doesn't write the value once more when it is made again.
+fn first_wrong_call(alloc: Global) -> Result<Option<&'static str>, AllocError> {
+    for (call, raw, awaited) in CALLS {
+        let calls = Cell::new(0usize);
+        let values = [OnceRefused {
+            number: 6,
+            calls: &calls,
+        }];
+        let mut s = RlpStream::new_list(alloc, 2)?;
+        s.append(&5u64)?;
+        let refused = make(&mut s, call, &values).is_err()
+            && calls.get() == 1
+            && is_as(&s, &[0x00, 0x05], 2, Some(1), false);
+        make(&mut s, call, &values)?;
+        if !refused || calls.get() != 2 || !is_as(&s, raw, raw.len(), awaited, false) {
+            return Ok(Some(call));
         }
     }
     Ok(None)

@@ -1,257 +1,113 @@
-//! Lists that one call closes.
+//! Lists that one call closes, and lists that are open one inside another.
 
-use crate::support::guarded::{finalize, finished, finishes_as};
-use crate::support::steps::{Step, make_all};
+use crate::refused::streams::SIXTY;
+use crate::support::guarded::finalize;
+use crate::support::script::{Row, first_wrong, is_as};
 use rlp::RlpStream;
 use std::alloc::{AllocError, Global};
 use std::test::Fail;
 
-/// A text of 56 bytes, the shortest length whose header has more than one byte.
-const LONG_TEXT: &str = "Lorem ipsum dolor sit amet, consectetur adipisicing elit";
-
-/// The first bytes of 60 lists around an empty string: the headers of the lists whose payloads have
-/// more than 55 bytes.
-const LONG_HEADERS: &[u8] = &[0xf8, 0x40, 0xf8, 0x3e, 0xf8, 0x3c, 0xf8, 0x3a, 0xf8, 0x38];
-
-/// Begins lists of one item, one inside another.
-fn begin_singles(s: &mut RlpStream, lists: usize) -> Result<(), AllocError> {
-    for _ in 0..lists {
-        s.begin_list(1)?;
-    }
-    Ok(())
-}
-
-/// Returns the long headers, the headers of the lists of 55 bytes down to 1, and the empty string.
-fn sixty_lists(alloc: Global) -> Result<Vec<u8>, AllocError> {
-    let mut bytes = Vec::from_slice(alloc, LONG_HEADERS)?;
-    for header in (0xc1..=0xf7).rev() {
-        bytes.push(header)?;
-    }
-    bytes.push(0x80)?;
-    Ok(bytes)
-}
-
-fn sixty_close_at_once(alloc: Global) -> Result<bool, AllocError> {
-    let mut s = RlpStream::new(alloc)?;
-    begin_singles(&mut s, 60)?;
-    let open = s.len() == 64 && s.as_raw() == [0x00; 60].as_slice();
-    s.append_empty_data()?;
-    let want = sixty_lists(alloc)?;
-    Ok(open && want.len() == 66 && finishes_as(s, want.as_slice()))
-}
-
-#[test]
-fn closes_sixty_lists_at_once(rt: HostRuntime) -> Result<(), Fail> {
-    assert!(rt; sixty_close_at_once(rt.alloc())?);
-    Ok(())
-}
-
-/// Returns whether two lists around a string of `len` bytes 00 are finished as these headers and
-/// the bytes.
-fn string_closes_two(alloc: Global, len: usize, headers: &[u8]) -> Result<bool, AllocError> {
-    let zeros = vec![in alloc; 0u8; len]?;
-    let mut want = Vec::from_slice(alloc, headers)?;
-    want.extend_from_slice(zeros.as_slice())?;
-    let mut s = RlpStream::new_list(alloc, 1)?;
-    s.begin_list(1)?;
-    s.append(&zeros)?;
-    Ok(finishes_as(s, want.as_slice()))
-}
-
-#[test]
-fn inner_growth_pushes_outer_lengths(rt: HostRuntime) -> Result<(), Fail> {
-    let alloc = rt.alloc();
-    assert!(rt;
-        string_closes_two(alloc, 252, &[0xf9, 0x01, 0x00, 0xf8, 0xfe, 0xb8, 0xfc])?
-            && string_closes_two(alloc, 54, &[0xf8, 0x38, 0xf7, 0xb6])?
-    );
-    Ok(())
-}
-
-fn text_closes_two(alloc: Global) -> Result<bool, AllocError> {
-    let header = [0xf8, 0x40, 0x83, 0x63, 0x61, 0x74, 0xf8, 0x3a, 0xb8, 0x38];
-    let mut want = Vec::from_slice(alloc, &header)?;
-    want.extend_from_slice(LONG_TEXT.as_bytes())?;
-    let mut s = RlpStream::new_list(alloc, 2)?;
-    s.append(&"cat")?.begin_list(1)?;
-    let open = s.as_raw() == [0x00, 0x83, 0x63, 0x61, 0x74, 0x00].as_slice();
-    s.append(&LONG_TEXT)?;
-    Ok(open && want.len() == 66 && finishes_as(s, want.as_slice()))
-}
-
-#[test]
-fn stretches_of_two_lists_are_moved(rt: HostRuntime) -> Result<(), Fail> {
-    assert!(rt; text_closes_two(rt.alloc())?);
-    Ok(())
-}
-
-/// Returns whether the last of 56 numbers 1 closes their list.
-fn numbers_close_a_long_list(alloc: Global) -> Result<bool, AllocError> {
-    let mut want = Vec::from_slice(alloc, &[0xf8, 0x38])?;
-    let mut s = RlpStream::new_list(alloc, 56)?;
-    for _ in 0..56 {
-        s.append(&1u64)?;
-        want.push(0x01)?;
-    }
-    Ok(finishes_as(s, want.as_slice()))
-}
-
-#[test]
-fn closes_a_list_of_many_items(rt: HostRuntime) -> Result<(), Fail> {
-    assert!(rt; numbers_close_a_long_list(rt.alloc())?);
-    Ok(())
-}
-
-/// Calls that write a number and then an open unbounded list of three items, in a list of two.
-const MIXED: &[Step] = &[
-    Step::Begin(2),
-    Step::Number(1),
-    Step::BeginUnbounded,
-    Step::Begin(0),
-    Step::Raw(&[0x02, 0x03], 2),
+/// Lists that their last item closes. A text or a string of 56 bytes has a header of two bytes, and
+/// so has a list of 56 bytes.
+const FILLED: [Row; 5] = [
+    ("list 1; begin 1; string 00*252", "f90100f8feb8fc+00*252"),
+    ("list 1; begin 1; string 00*54", "f838f7b6+00*54"),
+    (
+        "list 2; text cat; begin 1; is 6 1 008363617400; \
+         text Lorem ipsum dolor sit amet, consectetur adipisicing elit",
+        "f84083636174f83ab838+'Lorem ipsum dolor sit amet, consectetur adipisicing elit",
+    ),
+    ("list 56; 56 times number 1", "f838+01*56"),
+    ("5000 times begin 1; empty", "14791 begins f939c4"),
 ];
 
-fn mixed_lists_close(alloc: Global) -> Result<bool, AllocError> {
-    let mut s = RlpStream::new(alloc)?;
-    Ok(
-        make_all(&mut s, MIXED)?
-            && s.as_raw() == [0x00, 0x01, 0x00, 0xc0, 0x02, 0x03].as_slice()
-            && finalize(&mut s)?
-            && finishes_as(s, &[0xc5, 0x01, 0xc3, 0xc0, 0x02, 0x03]),
-    )
-}
+/// Unbounded lists that are closed one by one or together, and lists around them that they fill.
+const FINALIZED: [Row; 7] = [
+    (
+        "begin 2; number 1; unbounded; begin 0; raw 2 0203; is 6 any 000100c00203; finalize",
+        "c501c3c00203",
+    ),
+    ("60 times unbounded; empty; finalize_up_to 61 60", SIXTY),
+    (
+        "list 2; 3 times unbounded; number 1; finalize_up_to 0 0; is 5 any 0000000001; \
+         finalize_up_to 1 1; is 5 any 000000c101; finalize_up_to 9 2; is 5 1 00c3c2c101; \
+         finalize_up_to 9 0; is 5 1 00c3c2c101; number 2",
+        "c5c3c2c10102",
+    ),
+    (
+        "unbounded; begin 1; 2 times unbounded; finalize_up_to 9 2; is 4 any 00c2c1c0; \
+         finalize_up_to 9 1",
+        "c3c2c1c0",
+    ),
+    (
+        "5000 times unbounded; finalize_up_to 5000 5000",
+        "14788 begins f939c1",
+    ),
+    (
+        "5000 times unbounded; size 14788; 5000 times finalize",
+        "14788 begins f939c1",
+    ),
+    // 56 headers of one byte, 100 of two bytes, and 944 of three bytes
+    (
+        "1100 times unbounded; 1100 times finalize; size 3088",
+        "3088 begins f90c0d",
+    ),
+];
 
 #[test]
-fn finalizes_unbounded_lists(rt: HostRuntime) -> Result<(), Fail> {
-    assert!(rt; mixed_lists_close(rt.alloc())?);
+fn lists_that_are_closed(rt: HostRuntime) -> Result<(), Fail> {
+    assert_eq!(rt; first_wrong(rt.alloc(), &FILLED)?, None);
+    assert_eq!(rt; first_wrong(rt.alloc(), &FINALIZED)?, None);
     Ok(())
 }
 
-/// Begins unbounded lists, one inside another.
-fn begin_unbounded(s: &mut RlpStream, lists: usize) -> Result<(), AllocError> {
-    for _ in 0..lists {
+/// Opens sixty lists, one inside another, that await this number of items or any. Returns the first
+/// number of open lists with which the stream isn't as wanted. Lists of more than 55 bytes have a
+/// header of two bytes.
+fn first_wrong_depth(alloc: Global, awaited: Option<usize>) -> Result<Option<usize>, AllocError> {
+    let mut s = RlpStream::new(alloc)?;
+    for depth in 1usize..=60 {
+        match awaited {
+            Some(len) => s.begin_list(len)?,
+            None => s.begin_unbounded_list()?,
+        };
+        let raw = vec![in alloc; 0u8; depth]?;
+        let size = depth.saturating_add(depth.saturating_sub(56));
+        if !is_as(&s, raw.as_slice(), size, awaited, awaited.is_none()) {
+            return Ok(Some(depth));
+        }
+    }
+    Ok(None)
+}
+
+/// The bytes of twenty unbounded lists, one inside another.
+const TWENTY: [u8; 20] = [
+    0xd3, 0xd2, 0xd1, 0xd0, 0xcf, 0xce, 0xcd, 0xcc, 0xcb, 0xca, 0xc9, 0xc8, 0xc7, 0xc6, 0xc5, 0xc4,
+    0xc3, 0xc2, 0xc1, 0xc0,
+];
+
+/// Closes the twenty lists one by one. Returns the first number of open lists with which the stream
+/// isn't as wanted. Each open list has a byte 00.
+fn first_wrong_close(alloc: Global) -> Result<Option<usize>, AllocError> {
+    let mut s = RlpStream::new(alloc)?;
+    for _ in TWENTY {
         s.begin_unbounded_list()?;
     }
-    Ok(())
-}
-
-fn sixty_unbounded_close_together(alloc: Global) -> Result<bool, AllocError> {
-    let mut s = RlpStream::new(alloc)?;
-    begin_unbounded(&mut s, 60)?;
-    s.append_empty_data()?;
-    let closed = s.finalize_unbounded_lists(61)?;
-    Ok(closed == 60 && finishes_as(s, sixty_lists(alloc)?.as_slice()))
-}
-
-#[test]
-fn finalizes_sixty_lists_at_once(rt: HostRuntime) -> Result<(), Fail> {
-    assert!(rt; sixty_unbounded_close_together(rt.alloc())?);
-    Ok(())
-}
-
-/// The greatest number of lists that a call may close, the number that it closes, and the bytes
-/// after it. Before the first call three unbounded lists are open in a list of two, and the number 1
-/// is in the innermost.
-const SOME_AT_ONCE: [(usize, usize, &[u8]); 4] = [
-    (0, 0, &[0x00, 0x00, 0x00, 0x00, 0x01]),
-    (1, 1, &[0x00, 0x00, 0x00, 0xc1, 0x01]),
-    (9, 2, &[0x00, 0xc3, 0xc2, 0xc1, 0x01]),
-    (9, 0, &[0x00, 0xc3, 0xc2, 0xc1, 0x01]),
-];
-
-/// Returns the place of the first row that isn't met, or `None`.
-fn first_wrong_close(alloc: Global) -> Result<Option<usize>, AllocError> {
-    let mut s = RlpStream::new_list(alloc, 2)?;
-    begin_unbounded(&mut s, 3)?;
-    s.append(&1u64)?;
-    for (place, (most, closed, raw)) in SOME_AT_ONCE.iter().enumerate() {
-        if s.finalize_unbounded_lists(*most)? != *closed || s.as_raw() != *raw {
-            return Ok(Some(place));
+    for closed in 1..=TWENTY.len() {
+        let open = TWENTY.len() - closed;
+        let mut raw = vec![in alloc; 0u8; open]?;
+        raw.extend_from_slice(&TWENTY[open..])?;
+        if !finalize(&mut s)? || !is_as(&s, raw.as_slice(), 20, None, open > 0) {
+            return Ok(Some(open));
         }
     }
-    s.append(&2u64)?;
-    let done = finishes_as(s, &[0xc5, 0xc3, 0xc2, 0xc1, 0x01, 0x02]);
-    Ok(if done { None } else { Some(SOME_AT_ONCE.len()) })
+    Ok(None)
 }
 
 #[test]
-fn finalizes_only_unbounded_lists(rt: HostRuntime) -> Result<(), Fail> {
+fn open_lists(rt: HostRuntime) -> Result<(), Fail> {
+    assert_eq!(rt; first_wrong_depth(rt.alloc(), Some(1))?, None);
+    assert_eq!(rt; first_wrong_depth(rt.alloc(), None)?, None);
     assert_eq!(rt; first_wrong_close(rt.alloc())?, None);
-    Ok(())
-}
-
-fn list_around_is_filled(alloc: Global) -> Result<bool, AllocError> {
-    let mut s = RlpStream::new(alloc)?;
-    begin_unbounded(&mut s, 1)?;
-    s.begin_list(1)?;
-    begin_unbounded(&mut s, 2)?;
-    let inside = s.finalize_unbounded_lists(9)? == 2
-        && s.as_raw() == [0x00, 0xc2, 0xc1, 0xc0].as_slice();
-    let outside = s.finalize_unbounded_lists(9)? == 1;
-    Ok(inside && outside && finishes_as(s, &[0xc3, 0xc2, 0xc1, 0xc0]))
-}
-
-#[test]
-fn the_last_list_fills_the_list_around(rt: HostRuntime) -> Result<(), Fail> {
-    assert!(rt; list_around_is_filled(rt.alloc())?);
-    Ok(())
-}
-
-fn thousands_close_together(alloc: Global) -> Result<bool, AllocError> {
-    let mut s = RlpStream::new(alloc)?;
-    begin_unbounded(&mut s, 5_000)?;
-    let closed = s.finalize_unbounded_lists(5_000)?;
-    Ok(closed == 5_000 && is_long(s, 14_788, [0xf9, 0x39, 0xc1]))
-}
-
-#[test]
-fn finalizes_five_thousand_lists_at_once(rt: HostRuntime) -> Result<(), Fail> {
-    assert!(rt; thousands_close_together(rt.alloc())?);
-    Ok(())
-}
-
-/// Returns whether the finished bytes have this length and begin with this header.
-fn is_long(s: RlpStream, len: usize, header: [u8; 3]) -> bool {
-    match finished(s) {
-        Some(bytes) => bytes.len() == len && begins_with(bytes.as_slice(), header),
-        None => false,
-    }
-}
-
-fn begins_with(bytes: &[u8], header: [u8; 3]) -> bool {
-    match bytes {
-        [first, second, third, ..] => [*first, *second, *third] == header,
-        _ => false,
-    }
-}
-
-fn thousands_close_at_once(alloc: Global) -> Result<bool, AllocError> {
-    let mut s = RlpStream::new(alloc)?;
-    begin_singles(&mut s, 5_000)?;
-    s.append_empty_data()?;
-    Ok(is_long(s, 14_791, [0xf9, 0x39, 0xc4]))
-}
-
-#[test]
-fn closes_five_thousand_lists_at_once(rt: HostRuntime) -> Result<(), Fail> {
-    assert!(rt; thousands_close_at_once(rt.alloc())?);
-    Ok(())
-}
-
-fn thousands_close_one_by_one(alloc: Global) -> Result<bool, AllocError> {
-    let mut s = RlpStream::new(alloc)?;
-    begin_unbounded(&mut s, 5_000)?;
-    let open = s.len() == 14_788;
-    for _ in 0..5_000 {
-        if !finalize(&mut s)? {
-            return Ok(false);
-        }
-    }
-    Ok(open && is_long(s, 14_788, [0xf9, 0x39, 0xc1]))
-}
-
-#[test]
-fn closes_five_thousand_lists_one_by_one(rt: HostRuntime) -> Result<(), Fail> {
-    assert!(rt; thousands_close_one_by_one(rt.alloc())?);
     Ok(())
 }

@@ -7,52 +7,27 @@ use rlp::RlpStream;
 use std::alloc::{AllocError, Global};
 use std::test::Fail;
 
-/// Ranges of lengths, each without its end.
-const STRETCHES: [(usize, usize); 6] = [
-    (0, 301),
-    (510, 515),
-    (1_020, 1_030),
-    (4_090, 4_100),
-    (65_530, 65_542),
-    (69_998, 70_001),
+/// Ranges of lengths, each without its end, and steps.
+const STRETCHES: [(usize, usize, usize); 7] = [
+    (0, 301, 1),
+    (510, 515, 1),
+    (1_020, 1_030, 1),
+    (4_090, 4_100, 1),
+    (65_530, 65_542, 1),
+    (69_998, 70_001, 1),
+    (0, 70_000, 1_000),
 ];
 
-/// Returns whether a string of bytes 00 is appended, with its header before it.
-fn is_appended(alloc: Global, len: usize) -> Result<bool, AllocError> {
-    let zeros = vec![in alloc; 0u8; len]?;
-    let mut want = Vec::new(alloc);
-    plain::put_string(&mut want, zeros.as_slice())?;
-    let mut s = RlpStream::new(alloc)?;
-    s.append(&zeros)?;
-    Ok(finishes_as(s, want.as_slice()))
-}
-
-/// Returns the first length of a range at which a string isn't appended with its header.
-fn first_wrong_between(alloc: Global, from: usize, to: usize) -> Result<Option<usize>, AllocError> {
-    for len in from..to {
-        if !is_appended(alloc, len)? {
-            return Ok(Some(len));
-        }
-    }
-    Ok(None)
-}
-
-/// Returns the first such length of all ranges.
-fn first_wrong_length(alloc: Global) -> Result<Option<usize>, AllocError> {
-    for (from, to) in STRETCHES {
-        let wrong = first_wrong_between(alloc, from, to)?;
-        if wrong.is_some() {
-            return Ok(wrong);
-        }
-    }
-    Ok(None)
-}
-
-/// Returns the first such length of the multiples of a thousand.
-fn first_wrong_thousand(alloc: Global) -> Result<Option<usize>, AllocError> {
-    for thousands in 0u32..70 {
-        let len = thousands as usize * 1_000;
-        if !is_appended(alloc, len)? {
+/// Returns the first length of a range at which a string of bytes 00 isn't appended with its header
+/// before it.
+fn first_wrong(alloc: Global, range: (usize, usize, usize)) -> Result<Option<usize>, AllocError> {
+    for len in (range.0..range.1).step_by(range.2) {
+        let zeros = vec![in alloc; 0u8; len]?;
+        let mut want = Vec::new(alloc);
+        plain::put(&mut want, plain::STRING, zeros.as_slice())?;
+        let mut s = RlpStream::new(alloc)?;
+        s.append(&zeros)?;
+        if !finishes_as(s, want.as_slice()) {
             return Ok(Some(len));
         }
     }
@@ -61,8 +36,8 @@ fn first_wrong_thousand(alloc: Global) -> Result<Option<usize>, AllocError> {
 
 #[test]
 fn strings_of_many_sizes_are_appended(rt: HostRuntime) -> Result<(), Fail> {
-    let alloc = rt.alloc();
-    assert_eq!(rt; first_wrong_length(alloc)?, None);
-    assert_eq!(rt; first_wrong_thousand(alloc)?, None);
+    for range in STRETCHES {
+        assert_eq!(rt; first_wrong(rt.alloc(), range)?, None);
+    }
     Ok(())
 }
