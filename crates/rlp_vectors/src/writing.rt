@@ -3,6 +3,7 @@
 mod bounds;
 mod closing;
 mod limits;
+mod long;
 mod nested_streams;
 mod sizes;
 mod streams;

@@ -81,17 +81,8 @@ const FRONTS: [Row; 3] = [
     ),
 ];
 
-/// Lists of strings of many bytes, lists behind such a string, and a list of many numbers. The
-/// payloads of the first two lists have 16,777,215 and 16,777,216 bytes.
-const LONG: [Row; 4] = [
-    (
-        "unbounded; string 07*16777211; finalize",
-        "faffffffbafffffb+07*16777211",
-    ),
-    (
-        "unbounded; string 07*16777212; finalize",
-        "fb01000000bafffffc+07*16777212",
-    ),
+/// Lists behind a string of 2 MiB, and a list of many numbers.
+const LONG: [Row; 2] = [
     (
         "string 07*2097152; begin 1; small 5; unbounded; small 6; finalize",
         "ba200000+07*2097152+c105c106",
