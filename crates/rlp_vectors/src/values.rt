@@ -1,7 +1,6 @@
 //! Custom types that are written and read, and examples of calls.
 
-mod careless;
-mod once_refused;
 mod raw_items;
+pub(crate) mod refused;
 mod types;
 mod uses;

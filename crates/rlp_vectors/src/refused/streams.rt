@@ -57,19 +57,35 @@ const LISTS: [Row; 4] = [
     ),
     ("60 times begin 1; is 64 1 00*60; empty; size 66", SIXTY),
     (
-        "20 times unbounded; is 20 any 00*20; 20 times finalize; size 20",
+        "unbounded; is 1 any 00*1; unbounded; is 2 any 00*2; unbounded; is 3 any 00*3; \
+         unbounded; is 4 any 00*4; unbounded; is 5 any 00*5; unbounded; is 6 any 00*6; \
+         unbounded; is 7 any 00*7; unbounded; is 8 any 00*8; unbounded; is 9 any 00*9; \
+         unbounded; is 10 any 00*10; unbounded; is 11 any 00*11; unbounded; is 12 any 00*12; \
+         unbounded; is 13 any 00*13; unbounded; is 14 any 00*14; unbounded; is 15 any 00*15; \
+         unbounded; is 16 any 00*16; unbounded; is 17 any 00*17; unbounded; is 18 any 00*18; \
+         unbounded; is 19 any 00*19; unbounded; is 20 any 00*20; finalize; is 20 any 00*19+c0; \
+         finalize; is 20 any 00*18+c1c0; finalize; is 20 any 00*17+c2c1c0; finalize; \
+         is 20 any 00*16+c3c2c1c0; finalize; is 20 any 00*15+c4c3c2c1c0; finalize; \
+         is 20 any 00*14+c5c4c3c2c1c0; finalize; is 20 any 00*13+c6c5c4c3c2c1c0; finalize; \
+         is 20 any 00*12+c7c6c5c4c3c2c1c0; finalize; is 20 any 00*11+c8c7c6c5c4c3c2c1c0; \
+         finalize; is 20 any 00*10+c9c8c7c6c5c4c3c2c1c0; finalize; \
+         is 20 any 00*9+cac9c8c7c6c5c4c3c2c1c0; finalize; \
+         is 20 any 00*8+cbcac9c8c7c6c5c4c3c2c1c0; finalize; \
+         is 20 any 00*7+cccbcac9c8c7c6c5c4c3c2c1c0; finalize; \
+         is 20 any 00*6+cdcccbcac9c8c7c6c5c4c3c2c1c0; finalize; \
+         is 20 any 00*5+cecdcccbcac9c8c7c6c5c4c3c2c1c0; finalize; \
+         is 20 any 00*4+cfcecdcccbcac9c8c7c6c5c4c3c2c1c0; finalize; \
+         is 20 any 00*3+d0cfcecdcccbcac9c8c7c6c5c4c3c2c1c0; finalize; \
+         is 20 any 00*2+d1d0cfcecdcccbcac9c8c7c6c5c4c3c2c1c0; finalize; \
+         is 20 any 00*1+d2d1d0cfcecdcccbcac9c8c7c6c5c4c3c2c1c0; finalize; \
+         is 20 done d3d2d1d0cfcecdcccbcac9c8c7c6c5c4c3c2c1c0",
         "d3d2d1d0cfcecdcccbcac9c8c7c6c5c4c3c2c1c0",
     ),
 ];
 
 #[test]
-fn items_are_put_again(rt: HostRuntime) -> Result<(), Fail> {
+fn calls_are_made_again(rt: HostRuntime) -> Result<(), Fail> {
     assert_eq!(rt; first_wrong(rt.alloc(), &ITEMS)?, None);
-    Ok(())
-}
-
-#[test]
-fn lists_are_closed_again(rt: HostRuntime) -> Result<(), Fail> {
     assert_eq!(rt; first_wrong(rt.alloc(), &LISTS)?, None);
     Ok(())
 }

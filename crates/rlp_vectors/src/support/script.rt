@@ -5,7 +5,7 @@ use crate::support::guarded::{estimates, finalize, finishes_as, put_raw, put_raw
 use crate::support::iterators::put_undotted;
 use crate::support::text::{bytes_of, number};
 use bytes::BytesMut;
-use rlp::RlpStream;
+use rlp::{RawItem, RlpStream};
 use rlp_examples::{Pair, Wrapper};
 use std::alloc::{AllocError, Global};
 
@@ -50,7 +50,10 @@ fn make(alloc: Global, s: &mut RlpStream, call: &str) -> Result<bool, AllocError
             let size = number(first)?;
             return Ok(s.len() == size && estimates(s, 0, size));
         }
-        "estimate" => return is_estimate(s, number(first)?, second),
+        "estimate" if second == "none" => {
+            return Ok(s.checked_estimate_size(number(first)?).is_none());
+        }
+        "estimate" => return Ok(estimates(s, number(first)?, number(second)?)),
         "text" => {
             s.append(&arguments)?;
         }
@@ -101,6 +104,12 @@ fn append(
         "pairs" => {
             s.append_list(&[Pair(1, 2), Pair(3, 4)])?;
         }
+        "raw_item" => match RawItem::new(alloc, bytes_of(alloc, first)?.as_slice()) {
+            Ok(item) => {
+                s.append(&item)?;
+            }
+            Err(_) => return Err(AllocError),
+        },
         "undotted" => put_undotted(s, bytes_of(alloc, first)?.as_slice(), true)?,
         "encode_undotted" => put_undotted(s, bytes_of(alloc, first)?.as_slice(), false)?,
         "string" => {
@@ -129,14 +138,6 @@ pub(crate) fn buffer_of(alloc: Global, text: &str) -> Result<BytesMut, AllocErro
     let mut buffer = BytesMut::new(alloc);
     buffer.extend_from_slice(bytes_of(alloc, text)?.as_slice())?;
     Ok(buffer)
-}
-
-/// Returns whether the closed size with `add` more bytes is the wanted one, or `none`.
-fn is_estimate(s: &RlpStream, add: usize, want: &str) -> Result<bool, AllocError> {
-    if want == "none" {
-        return Ok(s.checked_estimate_size(add).is_none());
-    }
-    Ok(estimates(s, add, number(want)?))
 }
 
 /// Returns whether a stream has this state: the size, and then the number of items that the

@@ -4,7 +4,7 @@ use crate::support::plain::{LIST, put};
 use crate::support::script::Row;
 use crate::support::text::bytes_of;
 use crate::support::values::first_unread;
-use rlp::{DecoderError, RawItem, Rlp, RlpStream};
+use rlp::{DecoderError, RawItem, Rlp};
 use std::alloc::{AllocError, Global};
 use std::test::Fail;
 
@@ -47,19 +47,6 @@ fn goes_both_ways(alloc: Global, bytes: &[u8]) -> Result<bool, Fail> {
     )
 }
 
-#[test]
-fn raw_items_go_both_ways(rt: HostRuntime) -> Result<(), Fail> {
-    let alloc = rt.alloc();
-    for text in ITEMS {
-        assert!(rt;
-            goes_both_ways(alloc, bytes_of(alloc, text)?.as_slice())?,
-            "{text}"
-        );
-    }
-    assert_eq!(rt; first_unread::<RawItem>(alloc, false, &NO_ITEMS)?, None);
-    Ok(())
-}
-
 /// Returns `depth` lists, each of which holds the next.
 fn nested(alloc: Global, depth: usize) -> Result<Vec<u8>, AllocError> {
     let mut bytes = Vec::new(alloc);
@@ -72,24 +59,18 @@ fn nested(alloc: Global, depth: usize) -> Result<Vec<u8>, AllocError> {
 }
 
 #[test]
-fn raw_items_nest_256_deep(rt: HostRuntime) -> Result<(), Fail> {
+fn raw_items_go_both_ways(rt: HostRuntime) -> Result<(), Fail> {
     let alloc = rt.alloc();
-    let deepest = nested(alloc, 256)?;
-    assert!(rt; goes_both_ways(alloc, deepest.as_slice())?);
-    let deeper = nested(alloc, 257)?;
-    let fault = rlp::decode::<RawItem>(alloc, deeper.as_slice()).err();
+    for text in ITEMS {
+        assert!(rt;
+            goes_both_ways(alloc, bytes_of(alloc, text)?.as_slice())?,
+            "{text}"
+        );
+    }
+    assert_eq!(rt; first_unread::<RawItem>(alloc, false, &NO_ITEMS)?, None);
+    assert!(rt; goes_both_ways(alloc, nested(alloc, 256)?.as_slice())?);
+    let fault = rlp::decode::<RawItem>(alloc, nested(alloc, 257)?.as_slice()).err();
     assert!(rt; fault == Some(DecoderError::Custom("item nests too deep")));
-    Ok(())
-}
-
-// The list `[cat, [], [cat]]`.
-#[test]
-fn raw_items_are_counted(rt: HostRuntime) -> Result<(), Fail> {
-    let cat = RawItem::new(rt.alloc(), &[0x83, 0x63, 0x61, 0x74])?;
-    let empty = RawItem::new(rt.alloc(), &[0xc0])?;
-    let mut s = RlpStream::new_list(rt.alloc(), 3)?;
-    s.append(&cat)?.append(&empty)?.begin_list(1)?.append(&cat)?;
-    assert!(rt; s.is_finished() && Rlp::new(s.as_raw()).is_canonical(2));
-    assert_eq!(rt; s.as_raw(), b"\xca\x83cat\xc0\xc4\x83cat".as_slice());
+    assert!(rt; Rlp::new(b"\xca\x83cat\xc0\xc4\x83cat").is_canonical(2));
     Ok(())
 }

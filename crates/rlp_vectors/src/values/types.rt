@@ -4,7 +4,7 @@
 use crate::support::script::Row as Line;
 use crate::support::text::bytes_of;
 use crate::support::values::{first_unread, first_unwritten};
-use rlp::{DecoderError, Each, Flattened, ListOf, RlpStream, Uint};
+use rlp::{Each, Flattened, ListOf, RlpStream, Uint};
 use rlp_examples::{Entry, Inner, Message, Nest, Row};
 use std::alloc::Global;
 use std::test::Fail;
@@ -95,48 +95,9 @@ const MESSAGES: [Line; 11] = [
     ("c2010500", "RlpIsTooBig"),
 ];
 
-#[test]
-fn strict_structs_and_messages(rt: HostRuntime) -> Result<(), Fail> {
-    assert_eq!(rt; first_unread::<Entry>(rt.alloc(), true, &ENTRIES)?, None);
-    assert_eq!(rt; first_unread::<Message>(rt.alloc(), true, &MESSAGES)?, None);
-    Ok(())
-}
-
-#[test]
-fn entries(rt: HostRuntime) -> Result<(), DecoderError> {
-    let entry: Entry = rlp::decode(rt.alloc(), &[0xc4, 0x05, 0x82, 0x80, 0x81, 0xff])?;
-    assert!(rt; entry.number == 5 && entry.bytes.as_slice() == [0x80, 0x81].as_slice());
-    let entry: Entry = rlp::decode_strict(rt.alloc(), &[0xc2, 0x05, 0x80])?;
-    assert!(rt; entry.number == 5 && entry.bytes.is_empty());
-    Ok(())
-}
-
-#[test]
-fn values_of_slices_are_fields(rt: HostRuntime) -> Result<(), Fail> {
-    let mut s = RlpStream::new(rt.alloc())?;
-    let pairs = [(&1u64, &2u64), (&3u64, &4u64)];
-    rlp::append_fields!(&mut s, Each(&[7u64, 8]), Flattened(&pairs), ListOf(&[5u64]))?;
-    let items = [0xc8, 0x07, 0x08, 0x01, 0x02, 0x03, 0x04, 0xc1, 0x05];
-    assert_eq!(rt; s.as_raw(), items.as_slice());
-    Ok(())
-}
-
 /// A struct of 32 fields: eight times the number 5, a hash, no bytes, and an array of eight bytes.
 const ROW: &str = "f90160+05a001010101010101010101010101010101010101010101010101010101010101018088\
                    0202020202020202*8";
-
-#[test]
-fn rows_of_many_columns(rt: HostRuntime) -> Result<(), Fail> {
-    let alloc = rt.alloc();
-    let row = rlp::decode_strict::<Row>(alloc, bytes_of(alloc, ROW)?.as_slice())?;
-    assert!(rt; row.column_29 == 5 && row.column_32 == [2; 8]);
-    assert_eq!(rt; first_unwritten(alloc, &[(row, ROW)])?, None);
-    assert_eq!(rt;
-        first_unread::<Row>(alloc, false, &[("c105", "RlpIncorrectListLen")])?,
-        None
-    );
-    Ok(())
-}
 
 /// The list of the list of four pairs.
 const PAIRS: &str = "cdccc28001c20102c20203c20304";
@@ -144,23 +105,40 @@ const PAIRS: &str = "cdccc28001c20102c20203c20304";
 /// The list of the list of two such nests.
 const NESTS: &str = "dddccdccc28001c20102c20203c20304cdccc28001c20102c20203c20304";
 
-/// Returns the nest of four pairs. Each pair is a number and the next one.
-fn pairs(alloc: Global) -> Result<Nest<Inner>, Fail> {
-    let pairs = [Inner(0, 1), Inner(1, 2), Inner(2, 3), Inner(3, 4)];
-    Ok(Nest(Vec::from_array(alloc, pairs)?))
+#[test]
+fn structs_messages_and_nests(rt: HostRuntime) -> Result<(), Fail> {
+    let alloc = rt.alloc();
+    assert_eq!(rt; first_unread::<Entry>(alloc, true, &ENTRIES)?, None);
+    assert_eq!(rt; first_unread::<Message>(alloc, true, &MESSAGES)?, None);
+    assert_eq!(rt;
+        first_unread::<Row>(alloc, false, &[("c105", "RlpIncorrectListLen")])?,
+        None
+    );
+    let pairs = Nest(Vec::from_array(alloc, [Inner(0, 1), Inner(1, 2), Inner(2, 3), Inner(3, 4)])?);
+    let nests = rlp::decode::<Nest<Nest<Inner>>>(alloc, bytes_of(alloc, NESTS)?.as_slice())?;
+    assert!(rt; nests.0.len() == 2 && nests.0[0] == pairs && nests.0[1] == pairs);
+    assert!(rt; rlp::decode::<Nest<Inner>>(alloc, bytes_of(alloc, PAIRS)?.as_slice())? == pairs);
+    assert_eq!(rt; first_unwritten(alloc, &[(nests, NESTS)])?, None);
+    assert_eq!(rt; first_unwritten(alloc, &[(pairs, PAIRS)])?, None);
+    Ok(())
 }
 
 #[test]
-fn test_nested_list_roundtrip(rt: HostRuntime) -> Result<(), Fail> {
+fn fields(rt: HostRuntime) -> Result<(), Fail> {
     let alloc = rt.alloc();
-    let nests = Nest(Vec::from_array(alloc, [pairs(alloc)?, pairs(alloc)?])?);
-    assert!(rt;
-        rlp::decode::<Nest<Inner>>(alloc, bytes_of(alloc, PAIRS)?.as_slice())? == pairs(alloc)?
+    let entry: Entry = rlp::decode(alloc, &[0xc4, 0x05, 0x82, 0x80, 0x81, 0xff])?;
+    assert!(rt; entry.number == 5 && entry.bytes.as_slice() == [0x80, 0x81].as_slice());
+    let entry: Entry = rlp::decode_strict(alloc, &[0xc2, 0x05, 0x80])?;
+    assert!(rt; entry.number == 5 && entry.bytes.is_empty());
+    let row = rlp::decode_strict::<Row>(alloc, bytes_of(alloc, ROW)?.as_slice())?;
+    assert!(rt; row.column_29 == 5 && row.column_32 == [2; 8]);
+    assert_eq!(rt; first_unwritten(alloc, &[(row, ROW)])?, None);
+    let mut s = RlpStream::new(alloc)?;
+    let pairs = [(&1u64, &2u64), (&3u64, &4u64)];
+    rlp::append_fields!(&mut s, Each(&[7u64, 8]), Flattened(&pairs), ListOf(&[5u64]))?;
+    assert_eq!(rt;
+        s.as_raw(),
+        b"\xc8\x07\x08\x01\x02\x03\x04\xc1\x05".as_slice()
     );
-    assert!(rt;
-        rlp::decode::<Nest<Nest<Inner>>>(alloc, bytes_of(alloc, NESTS)?.as_slice())? == nests
-    );
-    assert_eq!(rt; first_unwritten(alloc, &[(pairs(alloc)?, PAIRS)])?, None);
-    assert_eq!(rt; first_unwritten(alloc, &[(nests, NESTS)])?, None);
     Ok(())
 }

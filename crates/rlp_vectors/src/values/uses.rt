@@ -6,16 +6,6 @@ use rlp_examples::{append_by_stream, append_each, chain_and_encoder, first_and_t
 use std::alloc::Global;
 use std::test::Fail;
 
-#[test]
-fn chains_as_shown(rt: HostRuntime) -> Result<(), Fail> {
-    let mut s = chain_and_encoder(rt.alloc())?;
-    assert_eq!(rt; s.as_raw(), [1, 2, 3, 4].as_slice());
-    append_by_stream(&mut s)?;
-    append_each(&mut s, &[128, 0])?;
-    assert!(rt; finishes_as(s, &[1, 2, 3, 4, 1, 2, 0x81, 0x80, 0x80]));
-    Ok(())
-}
-
 fn views_agree(alloc: Global) -> Result<bool, DecoderError> {
     let view = Rlp::new(&[0xc4, 0xc2, 0x01, 0x02, 0x03]);
     let (first, text) = first_and_text(alloc, &view)?;
@@ -34,14 +24,6 @@ fn length(string: &[u8]) -> Result<usize, DecoderError> {
     Ok(string.len())
 }
 
-#[test]
-fn views_as_shown(rt: HostRuntime) -> Result<(), Fail> {
-    assert!(rt; views_agree(rt.alloc())?);
-    assert_eq!(rt; BasicDecoder::new(b"\x83cat").decode_value(length)?, 3);
-    assert_eq!(rt; rlp::decode::<u64>(rt.alloc(), &[0x82, 0x01, 0x00])?, 256);
-    Ok(())
-}
-
 fn list_is_read_back(alloc: Global, bytes: &[u8]) -> Result<bool, DecoderError> {
     let view = Rlp::new(bytes);
     Ok(
@@ -54,10 +36,18 @@ fn list_is_read_back(alloc: Global, bytes: &[u8]) -> Result<bool, DecoderError> 
 }
 
 #[test]
-fn nested_list_as_shown(rt: HostRuntime) -> Result<(), Fail> {
-    let list = nested(rt.alloc())?;
-    let is_right = match list {
-        Some(bytes) => list_is_read_back(rt.alloc(), bytes.as_slice())?,
+fn examples_as_shown(rt: HostRuntime) -> Result<(), Fail> {
+    let alloc = rt.alloc();
+    let mut s = chain_and_encoder(alloc)?;
+    assert_eq!(rt; s.as_raw(), [1, 2, 3, 4].as_slice());
+    append_by_stream(&mut s)?;
+    append_each(&mut s, &[128, 0])?;
+    assert!(rt; finishes_as(s, &[1, 2, 3, 4, 1, 2, 0x81, 0x80, 0x80]));
+    assert!(rt; views_agree(alloc)?);
+    assert_eq!(rt; BasicDecoder::new(b"\x83cat").decode_value(length)?, 3);
+    assert_eq!(rt; rlp::decode::<u64>(alloc, &[0x82, 0x01, 0x00])?, 256);
+    let is_right = match nested(alloc)? {
+        Some(bytes) => list_is_read_back(alloc, bytes.as_slice())?,
         None => false,
     };
     assert!(rt; is_right);

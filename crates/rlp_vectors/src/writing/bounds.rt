@@ -2,10 +2,12 @@
 
 use crate::support::script::buffer_of;
 use crate::support::text::bytes_of;
+use crate::values::refused::OnceRefused;
 use bytes::Bytes;
-use rlp::{Encodable, RlpStream, Uint};
+use rlp::{Encodable, Uint};
 use rlp_examples::Pair;
 use std::alloc::{AllocError, Global};
+use std::cell::Cell;
 use std::test::Fail;
 
 /// Returns the place of the first row whose value has another bound than the first number beside it,
@@ -23,26 +25,6 @@ fn first_unbounded<E: Encodable>(
     Ok(None)
 }
 
-/// A number under its own name, whose bound is that of the number.
-#[derive(Drop)]
-struct Height(u64);
-
-impl Encodable for Height {
-    ghost use Rattle.rlp.specs.Values.Value.{FitsBytes, number_item};
-
-    ghost item = { λ h. number_item h.0 };
-
-    ghost fits = { λ h. FitsBytes 8 h.0 };
-
-    fn rlp_append(&self, s: &mut RlpStream) -> Result<(), AllocError> {
-        self.0.rlp_append(s)
-    }
-
-    fn max_len(&self) -> Option<usize> {
-        self.0.max_len()
-    }
-}
-
 /// Numbers, and the lengths of their encodings.
 const NUMBERS: [(u64, usize); 7] = [
     (0, 1),
@@ -54,15 +36,43 @@ const NUMBERS: [(u64, usize); 7] = [
     (u64::MAX, 9),
 ];
 
+/// Strings of bytes 61, the bounds, and the lengths of the encodings.
+const STRINGS: [(&str, usize, usize); 7] = [
+    ("", 1, 1),
+    ("61", 2, 1),
+    ("61*2", 3, 3),
+    ("61*55", 56, 56),
+    ("61*56", 65, 58),
+    ("61*256", 265, 259),
+    ("61*65536", 65_545, 65_540),
+];
+
 #[test]
-fn bounds_of_numbers(rt: HostRuntime) -> Result<(), Fail> {
+fn bounds_of_numbers_and_strings(rt: HostRuntime) -> Result<(), Fail> {
     let alloc = rt.alloc();
+    let calls = Cell::new(1usize);
     for (number, len) in NUMBERS {
         let boxed = Box::new(alloc, number)?;
+        let custom = OnceRefused {
+            number,
+            calls: &calls,
+        };
         assert_eq!(rt; first_unbounded(alloc, &[(number, 9, len)])?, None);
         assert_eq!(rt; first_unbounded(alloc, &[(number as u128, 17, len)])?, None);
         assert_eq!(rt; first_unbounded(alloc, &[(boxed, 9, len)])?, None);
-        assert_eq!(rt; first_unbounded(alloc, &[(Height(number), 9, len)])?, None);
+        assert_eq!(rt; first_unbounded(alloc, &[(custom, 9, len)])?, None);
+    }
+    for (string, bound, len) in STRINGS {
+        let bytes = bytes_of(alloc, string)?;
+        let buffer = buffer_of(alloc, string)?;
+        let shared = Bytes::copy_from_slice(alloc, bytes.as_slice())?;
+        assert_eq!(rt;
+            first_unbounded(alloc, &[(bytes.as_slice(), bound, len)])?,
+            None
+        );
+        assert_eq!(rt; first_unbounded(alloc, &[(bytes, bound, len)])?, None);
+        assert_eq!(rt; first_unbounded(alloc, &[(buffer, bound, len)])?, None);
+        assert_eq!(rt; first_unbounded(alloc, &[(shared, bound, len)])?, None);
     }
     Ok(())
 }
@@ -98,35 +108,6 @@ fn bounds_of_narrow_and_wide_numbers(rt: HostRuntime) -> Result<(), Fail> {
     assert_eq!(rt; first_unbounded(alloc, &U128)?, None);
     assert_eq!(rt; first_unbounded(alloc, &WIDE)?, None);
     assert_eq!(rt; first_unbounded(alloc, &WIDEST)?, None);
-    Ok(())
-}
-
-/// Strings of bytes 61, the bounds, and the lengths of the encodings.
-const STRINGS: [(&str, usize, usize); 7] = [
-    ("", 1, 1),
-    ("61", 2, 1),
-    ("61*2", 3, 3),
-    ("61*55", 56, 56),
-    ("61*56", 65, 58),
-    ("61*256", 265, 259),
-    ("61*65536", 65_545, 65_540),
-];
-
-#[test]
-fn bounds_of_strings(rt: HostRuntime) -> Result<(), Fail> {
-    let alloc = rt.alloc();
-    for (string, bound, len) in STRINGS {
-        let bytes = bytes_of(alloc, string)?;
-        let buffer = buffer_of(alloc, string)?;
-        let shared = Bytes::copy_from_slice(alloc, bytes.as_slice())?;
-        assert_eq!(rt;
-            first_unbounded(alloc, &[(bytes.as_slice(), bound, len)])?,
-            None
-        );
-        assert_eq!(rt; first_unbounded(alloc, &[(bytes, bound, len)])?, None);
-        assert_eq!(rt; first_unbounded(alloc, &[(buffer, bound, len)])?, None);
-        assert_eq!(rt; first_unbounded(alloc, &[(shared, bound, len)])?, None);
-    }
     Ok(())
 }
 

@@ -1,15 +1,15 @@
 //! Streams that are written by scripts of calls. The finished bytes were worked out by hand.
 
-use crate::support::guarded::{finalize, finishes_as, takes_items};
-use crate::support::script::{Row, buffer_of, first_wrong};
-use bytes::BytesMut;
+use crate::refused::streams::SIXTY;
+use crate::support::guarded::{finalize, finishes_as, put_raw_within, takes_items};
+use crate::support::script::{Row, buffer_of, first_wrong, is_as};
 use rlp::RlpStream;
 use rlp_examples::Pair;
 use std::alloc::{AllocError, Global};
 use std::test::Fail;
 
 /// Lists that announce their items, unbounded lists, values of each kind, and `clear`.
-const ROWS: [Row; 22] = [
+const ROWS: [Row; 23] = [
     ("list 0", "c0"),
     ("list 1; begin 0", "c1c0"),
     ("list 2; pair 1 2; number 3", "c4c2010203"),
@@ -35,6 +35,11 @@ const ROWS: [Row; 22] = [
     // values that are put uncounted
     ("list 2; wrapper 7; number 8", "c20708"),
     ("list 1; none", "c1c0"),
+    // raw items
+    (
+        "list 3; raw_item 83636174; raw_item c0; begin 1; raw_item 83636174",
+        "ca83636174c0c483636174",
+    ),
     (
         "list 1; encode 'dog; encode_undotted 'dog; is 9 1 00+83+'dog+83+'dog; empty",
         "c983646f6783646f6780",
@@ -111,15 +116,179 @@ const AWAITED: [Row; 4] = [
     ),
 ];
 
+/// Lists that their last item closes. A text or a string of 56 bytes has a header of two bytes, and
+/// so has a list of 56 bytes.
+const FILLED: [Row; 5] = [
+    ("list 1; begin 1; string 00*252", "f90100f8feb8fc+00*252"),
+    ("list 1; begin 1; string 00*54", "f838f7b6+00*54"),
+    (
+        "list 2; text cat; begin 1; is 6 1 008363617400; \
+         text Lorem ipsum dolor sit amet, consectetur adipisicing elit",
+        "f84083636174f83ab838+'Lorem ipsum dolor sit amet, consectetur adipisicing elit",
+    ),
+    ("list 56; 56 times number 1", "f838+01*56"),
+    ("5000 times begin 1; empty", "14791 begins f939c4"),
+];
+
+/// Unbounded lists that are closed one by one or together, and lists around them that they fill.
+const FINALIZED: [Row; 7] = [
+    (
+        "begin 2; number 1; unbounded; begin 0; raw 2 0203; is 6 any 000100c00203; finalize",
+        "c501c3c00203",
+    ),
+    ("60 times unbounded; empty; finalize_up_to 61 60", SIXTY),
+    (
+        "list 2; 3 times unbounded; number 1; finalize_up_to 0 0; is 5 any 0000000001; \
+         finalize_up_to 1 1; is 5 any 000000c101; finalize_up_to 9 2; is 5 1 00c3c2c101; \
+         finalize_up_to 9 0; is 5 1 00c3c2c101; number 2",
+        "c5c3c2c10102",
+    ),
+    (
+        "unbounded; begin 1; 2 times unbounded; finalize_up_to 9 2; is 4 any 00c2c1c0; \
+         finalize_up_to 9 1",
+        "c3c2c1c0",
+    ),
+    (
+        "5000 times unbounded; finalize_up_to 5000 5000",
+        "14788 begins f939c1",
+    ),
+    (
+        "5000 times unbounded; size 14788; 5000 times finalize",
+        "14788 begins f939c1",
+    ),
+    // 56 headers of one byte, 100 of two bytes, and 944 of three bytes
+    (
+        "1100 times unbounded; 1100 times finalize; size 3088",
+        "3088 begins f90c0d",
+    ),
+];
+
+/// Unbounded lists, one inside another, around raw bytes. The size is the same before and after the
+/// lists are closed.
+const NESTED: [Row; 13] = [
+    (
+        "1 times unbounded; raw 1 00*55; size 56; 1 times finalize; size 56",
+        "f7+00*55",
+    ),
+    (
+        "1 times unbounded; raw 1 00*56; size 58; 1 times finalize; size 58",
+        "f838+00*56",
+    ),
+    (
+        "2 times unbounded; raw 1 00*54; size 56; 2 times finalize; size 56",
+        "f7f6+00*54",
+    ),
+    (
+        "2 times unbounded; raw 1 00*55; size 58; 2 times finalize; size 58",
+        "f838f7+00*55",
+    ),
+    (
+        "2 times unbounded; raw 1 00*253; size 257; 2 times finalize; size 257",
+        "f8fff8fd+00*253",
+    ),
+    (
+        "2 times unbounded; raw 1 00*254; size 259; 2 times finalize; size 259",
+        "f90100f8fe+00*254",
+    ),
+    (
+        "3 times unbounded; raw 1 00*251; size 257; 3 times finalize; size 257",
+        "f8fff8fdf8fb+00*251",
+    ),
+    (
+        "3 times unbounded; raw 1 00*252; size 259; 3 times finalize; size 259",
+        "f90100f8fef8fc+00*252",
+    ),
+    (
+        "2 times unbounded; raw 1 00*65532; size 65538; 2 times finalize; size 65538",
+        "f9fffff9fffc+00*65532",
+    ),
+    (
+        "2 times unbounded; raw 1 00*65533; size 65540; 2 times finalize; size 65540",
+        "fa010000f9fffd+00*65533",
+    ),
+    (
+        "2 times unbounded; raw 1 b8fc+00*252; size 259; 2 times finalize; size 259",
+        "f90100f8feb8fc+00*252",
+    ),
+    (
+        "2 times unbounded; raw 1 b9fff9+00*65529; size 65538; 2 times finalize; size 65538",
+        "f9fffff9fffcb9fff9+00*65529",
+    ),
+    (
+        "2 times unbounded; raw 1 b9fffa+00*65530; size 65540; 2 times finalize; size 65540",
+        "fa010000f9fffdb9fffa+00*65530",
+    ),
+];
+
+/// Sizes with bytes to come, up to the greatest; raw bytes below and above a limit, which is 1 for a
+/// list alone; and raw bytes of no item.
+const ESTIMATES: [Row; 4] = [
+    (
+        "2 times unbounded; raw 1 b8fc+00*252; size 259; estimate 1 260",
+        "open",
+    ),
+    (
+        "estimate 18446744073709551615 18446744073709551615; unbounded; \
+         estimate 18446744073709551606 18446744073709551615; estimate 18446744073709551607 none",
+        "open",
+    ),
+    (
+        "list 3; is 1 3 00; !within 1 01; is 1 3 00; within 2 01; is 2 2 0001",
+        "open",
+    ),
+    ("list 1; raw 0 05; is 2 1 0005", "open"),
+];
+
 #[test]
 fn streams_finish_as_worked_out(rt: HostRuntime) -> Result<(), Fail> {
-    assert_eq!(rt; first_wrong(rt.alloc(), &ROWS)?, None);
-    assert_eq!(rt; first_wrong(rt.alloc(), &NOT_ADMITTED)?, None);
-    assert_eq!(rt; first_wrong(rt.alloc(), &ITERATORS)?, None);
-    assert_eq!(rt; first_wrong(rt.alloc(), &FRONTS)?, None);
-    assert_eq!(rt; first_wrong(rt.alloc(), &LONG)?, None);
-    assert_eq!(rt; first_wrong(rt.alloc(), &AWAITED)?, None);
+    let alloc = rt.alloc();
+    assert_eq!(rt; first_wrong(alloc, &ROWS)?, None);
+    assert_eq!(rt; first_wrong(alloc, &NOT_ADMITTED)?, None);
+    assert_eq!(rt; first_wrong(alloc, &ITERATORS)?, None);
+    assert_eq!(rt; first_wrong(alloc, &FRONTS)?, None);
+    assert_eq!(rt; first_wrong(alloc, &LONG)?, None);
+    assert_eq!(rt; first_wrong(alloc, &AWAITED)?, None);
+    assert_eq!(rt; first_wrong(alloc, &FILLED)?, None);
+    assert_eq!(rt; first_wrong(alloc, &FINALIZED)?, None);
+    assert_eq!(rt; first_wrong(alloc, &NESTED)?, None);
+    assert_eq!(rt; first_wrong(alloc, &ESTIMATES)?, None);
     Ok(())
+}
+
+/// Opens sixty lists, one inside another, that await this number of items or any. Returns the first
+/// number of open lists with which the stream isn't as wanted. Lists of more than 55 bytes have a
+/// header of two bytes.
+fn first_wrong_depth(alloc: Global, awaited: Option<usize>) -> Result<Option<usize>, AllocError> {
+    let mut s = RlpStream::new(alloc)?;
+    for depth in 1usize..=60 {
+        match awaited {
+            Some(len) => s.begin_list(len)?,
+            None => s.begin_unbounded_list()?,
+        };
+        let raw = vec![in alloc; 0u8; depth]?;
+        let size = depth.saturating_add(depth.saturating_sub(56));
+        if !is_as(&s, raw.as_slice(), size, awaited, awaited.is_none()) {
+            return Ok(Some(depth));
+        }
+    }
+    Ok(None)
+}
+
+/// Appends single bytes 00 until one more would be over a limit. Returns the first limit at which
+/// the finished length isn't the limit.
+fn first_unfilled(alloc: Global) -> Result<Option<usize>, AllocError> {
+    for limit in 40..270 {
+        let mut s = RlpStream::new(alloc)?;
+        for _ in 0..limit {
+            if !put_raw_within(&mut s, &[0x00], 1, limit)? {
+                return Ok(Some(limit));
+            }
+        }
+        if put_raw_within(&mut s, &[0x00], 1, limit)? || s.as_raw().len() != limit {
+            return Ok(Some(limit));
+        }
+    }
+    Ok(None)
 }
 
 /// The bytes of a list of a list of six items. The last item is an unbounded list of two raw items.
@@ -148,33 +317,31 @@ fn six_finish(alloc: Global) -> Result<bool, AllocError> {
     Ok(finalize(&mut s)? && finalize(&mut s)? && finishes_as(s, &SIX))
 }
 
-#[test]
-fn each_call_of_a_chain(rt: HostRuntime) -> Result<(), Fail> {
-    assert!(rt; six_finish(rt.alloc())?);
-    Ok(())
-}
-
-/// Returns the finished bytes of a stream over the buffer after a text is appended.
-fn with_text(alloc: Global, buffer: BytesMut, text: &str) -> Result<BytesMut, AllocError> {
-    let mut s = RlpStream::new_with_buffer(alloc, buffer);
-    s.append(&text)?;
-    if s.is_finished() {
-        Ok(s.out())
-    } else {
-        Err(AllocError)
-    }
-}
-
-#[test]
-fn encode_into_existing_buffer(rt: HostRuntime) -> Result<(), Fail> {
-    let alloc = rt.alloc();
+/// Returns whether streams over the two parts of a split buffer write behind what is there, and the
+/// parts are joined again.
+fn buffers_are_joined(alloc: Global) -> Result<bool, AllocError> {
     let mut buffer = buffer_of(alloc, "'junk")?;
     let end = buffer.len();
     let mut split = buffer.split_off(end)?;
     split.extend_from_slice(b"!")?;
-    buffer.unsplit(with_text(alloc, split, "cat")?)?;
+    let mut s = RlpStream::new_with_buffer(alloc, split);
+    s.append(&"cat")?;
+    if !s.is_finished() {
+        return Ok(false);
+    }
+    buffer.unsplit(s.out())?;
     buffer.extend_from_slice(b" and ")?;
-    let bytes = with_text(alloc, buffer, "dog")?;
-    assert_eq!(rt; bytes.as_slice(), b"junk!\x83cat and \x83dog".as_slice());
+    let mut s = RlpStream::new_with_buffer(alloc, buffer);
+    s.append(&"dog")?;
+    Ok(finishes_as(s, b"junk!\x83cat and \x83dog"))
+}
+
+#[test]
+fn streams_in_calls(rt: HostRuntime) -> Result<(), Fail> {
+    let alloc = rt.alloc();
+    assert_eq!(rt; first_wrong_depth(alloc, Some(1))?, None);
+    assert_eq!(rt; first_wrong_depth(alloc, None)?, None);
+    assert_eq!(rt; first_unfilled(alloc)?, None);
+    assert!(rt; six_finish(alloc)? && buffers_are_joined(alloc)?);
     Ok(())
 }

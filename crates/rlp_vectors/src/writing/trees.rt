@@ -51,20 +51,10 @@ fn write(alloc: Global, tree: &Tree<'_>, bytes: &mut Vec<u8>) -> Result<(), Allo
     plain::put(bytes, plain::LIST, payload.as_slice())
 }
 
-/// Begins a list of `len` items, or an unbounded list.
-fn begin(s: &mut RlpStream, announced: bool, len: usize) -> Result<(), AllocError> {
-    if announced {
-        s.begin_list(len)?;
-    } else {
-        s.begin_unbounded_list()?;
-    }
-    Ok(())
-}
-
 /// Appends a tree with lists that announce their number of items, or with unbounded lists. Returns
 /// `false` if a list can't be closed.
 fn append(s: &mut RlpStream, announced: bool, tree: &Tree<'_>) -> Result<bool, AllocError> {
-    match tree {
+    let len = match tree {
         Tree::Empty => {
             s.append_empty_data()?;
             return Ok(true);
@@ -73,21 +63,27 @@ fn append(s: &mut RlpStream, announced: bool, tree: &Tree<'_>) -> Result<bool, A
             s.append(&[0x80].as_slice())?;
             return Ok(true);
         }
-        Tree::NoItems => begin(s, announced, 0)?,
-        Tree::OneItem(item) => {
-            begin(s, announced, 1)?;
-            if !append(s, announced, item)? {
-                return Ok(false);
-            }
-        }
-        Tree::TwoItems(first, second) => {
-            begin(s, announced, 2)?;
-            if !append(s, announced, first)? || !append(s, announced, second)? {
-                return Ok(false);
-            }
-        }
+        Tree::NoItems => 0,
+        Tree::OneItem(_) => 1,
+        Tree::TwoItems(..) => 2,
+    };
+    if announced {
+        s.begin_list(len)?;
+    } else {
+        s.begin_unbounded_list()?;
     }
-    if announced { Ok(true) } else { finalize(s) }
+    let done = match tree {
+        Tree::OneItem(item) => append(s, announced, item)?,
+        Tree::TwoItems(first, second) => {
+            append(s, announced, first)? && append(s, announced, second)?
+        }
+        _ => true,
+    };
+    if announced || !done {
+        Ok(done)
+    } else {
+        finalize(s)
+    }
 }
 
 /// Returns the number of trees before the first for which the streams and the simple writer write

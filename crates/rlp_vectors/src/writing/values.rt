@@ -1,7 +1,6 @@
 //! Values of each type, and the bytes that they are written as. The bytes were worked out by hand.
 
 use crate::support::guarded::finishes_as;
-use crate::support::plain;
 use crate::support::script::buffer_of;
 use crate::support::text::bytes_of;
 use crate::support::values::{first_unlisted, first_unwritten};
@@ -83,17 +82,6 @@ const TEXTS: [(&str, &str); 5] = [
     ),
 ];
 
-#[test]
-fn texts(rt: HostRuntime) -> Result<(), Fail> {
-    let alloc = rt.alloc();
-    assert_eq!(rt; first_unwritten(alloc, &TEXTS)?, None);
-    for (text, want) in TEXTS {
-        let owned = String::from_str(alloc, text)?;
-        assert_eq!(rt; first_unwritten(alloc, &[(owned, want)])?, None);
-    }
-    Ok(())
-}
-
 /// Strings of bytes, and their encodings: single bytes, and lengths at which the header gets longer.
 const STRINGS: [(&str, &str); 11] = [
     ("", "80"),
@@ -125,12 +113,6 @@ fn first_unwritten_string(alloc: Global) -> Result<Option<&'static str>, AllocEr
     Ok(None)
 }
 
-#[test]
-fn strings(rt: HostRuntime) -> Result<(), Fail> {
-    assert_eq!(rt; first_unwritten_string(rt.alloc())?, None);
-    Ok(())
-}
-
 /// Lists of numbers, texts and pairs.
 const NUMBERS: [(&[u64], &str); 4] = [
     (&[], "c0"),
@@ -146,8 +128,15 @@ const TEXT_LISTS: [(&[&str], &str); 1] = [(&["cat", "dog"], "c88363617483646f67"
 const PAIR_LISTS: [(&[Pair], &str); 1] = [(&[Pair(1, 2), Pair(3, 4)], "c6c20102c20304")];
 
 #[test]
-fn lists(rt: HostRuntime) -> Result<(), Fail> {
+fn texts_strings_and_lists(rt: HostRuntime) -> Result<(), Fail> {
     let alloc = rt.alloc();
+    assert!(rt; NULL_RLP == [0x80] && EMPTY_LIST_RLP == [0xc0]);
+    assert_eq!(rt; first_unwritten_string(alloc)?, None);
+    assert_eq!(rt; first_unwritten(alloc, &TEXTS)?, None);
+    for (text, want) in TEXTS {
+        let owned = String::from_str(alloc, text)?;
+        assert_eq!(rt; first_unwritten(alloc, &[(owned, want)])?, None);
+    }
     assert_eq!(rt; first_unlisted(alloc, &NUMBERS)?, None);
     assert_eq!(rt; first_unlisted(alloc, &NO_NUMBERS)?, None);
     assert_eq!(rt; first_unlisted(alloc, &TEXT_LISTS)?, None);
@@ -159,82 +148,29 @@ fn lists(rt: HostRuntime) -> Result<(), Fail> {
     Ok(())
 }
 
-/// Numbers of empty strings in a list, and the list. Written as numbers, their bound is greater than
-/// their length, and as texts it is their length.
-const EMPTY_STRINGS: [(usize, &str); 9] = [
-    (0, "c0"),
-    (1, "c1+80"),
-    (55, "f7+80*55"),
-    (56, "f838+80*56"),
-    (255, "f8ff+80*255"),
-    (256, "f90100+80*256"),
-    (1_025, "f90401+80*1025"),
-    (65_535, "f9ffff+80*65535"),
-    (65_536, "fa010000+80*65536"),
-];
-
-#[test]
-fn lists_of_many_values(rt: HostRuntime) -> Result<(), Fail> {
-    let alloc = rt.alloc();
-    for (count, want) in EMPTY_STRINGS {
-        let numbers = vec![in alloc; 0u64; count]?;
-        let texts = vec![in alloc; ""; count]?;
-        assert_eq!(rt; first_unlisted(alloc, &[(numbers.as_slice(), want)])?, None);
-        assert_eq!(rt; first_unlisted(alloc, &[(texts.as_slice(), want)])?, None);
-    }
-    let sevens = vec![in alloc; 7u8; 65_537]?;
-    assert_eq!(rt;
-        first_unlisted(alloc, &[(sevens.as_slice(), "fa010001+07*65537")])?,
-        None
-    );
-    // values without a bound
-    let pairs = vec![in alloc; Pair(1, 2); 600]?;
-    assert_eq!(rt;
-        first_unlisted(alloc, &[(pairs.as_slice(), "f90708+c20102*600")])?,
-        None
-    );
-    Ok(())
-}
-
-#[test]
-fn constants_are_encodings(rt: HostRuntime) -> Result<(), Fail> {
-    let mut list = Vec::new(rt.alloc());
-    plain::put(&mut list, plain::LIST, &[])?;
-    assert!(rt; NULL_RLP == [0x80] && EMPTY_LIST_RLP == [0xc0]);
-    assert_eq!(rt; list.as_slice(), EMPTY_LIST_RLP.as_slice());
-    Ok(())
-}
-
 /// The bytes of a stream of three values, two strings and two texts.
 const APPENDED: [u8; 16] = [
     0x01, 0x83, 0x63, 0x61, 0x74, 0x80, 0x81, 0x80, 0x82, 0x01, 0x00, 0x61, 0x83, 0x64, 0x6f, 0x67,
 ];
 
-/// Returns whether the examples of appends write these bytes.
-fn appended_is_held(alloc: Global) -> Result<bool, AllocError> {
+#[test]
+fn streams_hold_what_was_appended(rt: HostRuntime) -> Result<(), Fail> {
+    let alloc = rt.alloc();
     let mut s = RlpStream::new(alloc)?;
     append_three(&mut s, &1u64, &"cat", &0u64)?;
-    let begun = s.as_raw() == &APPENDED[..6];
+    assert_eq!(rt; s.as_raw(), &APPENDED[..6]);
     s.encoder().encode_value(&[0x80])?;
     append_one(&mut s, &Nonce(256))?;
     append_one(&mut s, &"a")?;
     append_one(&mut s, &"dog")?;
+    assert!(rt; finishes_as(s, &APPENDED));
     let three = bytes_of_three(alloc, &"cat", &128u64, &"")?;
-    Ok(begun && finishes_as(s, &APPENDED) && three.as_slice() == b"\x83cat\x81\x80\x80".as_slice())
-}
-
-/// Returns whether a value that is refused in the middle of its bytes leaves the stream, with the
-/// values before it.
-fn refused_leave_the_stream(alloc: Global) -> Result<bool, AllocError> {
+    assert_eq!(rt; three.as_slice(), b"\x83cat\x81\x80\x80".as_slice());
+    // A value that is refused in the middle of its bytes leaves the stream, with the values before it.
     let mut s = RlpStream::new(alloc)?;
     s.append(&"cat")?;
-    let same = s.append(&HalfWritten).is_err() && s.as_raw() == b"\x83cat".as_slice();
-    let three = append_three(&mut s, &1u64, &HalfWritten, &2u64).is_err();
-    Ok(same && three && finishes_as(s, b"\x83cat\x01") && rlp::encode(alloc, &HalfWritten).is_err())
-}
-
-#[test]
-fn streams_hold_what_was_appended(rt: HostRuntime) -> Result<(), Fail> {
-    assert!(rt; appended_is_held(rt.alloc())? && refused_leave_the_stream(rt.alloc())?);
+    assert!(rt; s.append(&HalfWritten).is_err() && s.as_raw() == b"\x83cat".as_slice());
+    assert!(rt; append_three(&mut s, &1u64, &HalfWritten, &2u64).is_err());
+    assert!(rt; finishes_as(s, b"\x83cat\x01") && rlp::encode(alloc, &HalfWritten).is_err());
     Ok(())
 }

@@ -1,17 +1,19 @@
-//! A value that is refused the first time it is written, in the middle of its bytes. It counts how
-//! often it is written.
+//! Values whose `rlp_append` fails in the middle of their bytes.
 
+use crate::support::guarded::finishes_as;
 use crate::support::script::is_as;
 use rlp::{Encodable, RlpStream};
+use rlp_examples::{Refusing, Trio};
 use std::alloc::{AllocError, Global};
 use std::cell::Cell;
 use std::test::Fail;
 
-/// A number, and the number of times that it was written.
+/// A number, and the number of times that it was written. It is refused the first time, in the
+/// middle of its bytes. Its bound is that of the number.
 #[derive(Drop)]
-struct OnceRefused<'a> {
-    number: u64,
-    calls: &'a Cell<usize>,
+pub(crate) struct OnceRefused<'a> {
+    pub(crate) number: u64,
+    pub(crate) calls: &'a Cell<usize>,
 }
 
 impl<'a> Encodable for OnceRefused<'a> {
@@ -30,6 +32,10 @@ impl<'a> Encodable for OnceRefused<'a> {
             return Err(AllocError);
         }
         self.number.rlp_append(s)
+    }
+
+    fn max_len(&self) -> Option<usize> {
+        self.number.max_len()
     }
 }
 
@@ -73,8 +79,39 @@ fn first_wrong_call(alloc: Global) -> Result<Option<&'static str>, AllocError> {
     Ok(None)
 }
 
+/// A value that is refused after its first number is written.
+const REFUSED: Trio<Refusing> = Trio(1, Refusing, 3);
+
+/// Returns whether the stream holds the number 5 alone, in an open list of two items.
+fn holds_five(s: &RlpStream) -> bool {
+    is_as(s, &[0x00, 0x05], 2, Some(1), false)
+}
+
+/// Returns whether a refused value leaves nothing in the stream, for each call that restores the old
+/// state; and whether a direct call of `rlp_append` leaves what the value wrote, and loses nothing
+/// that was in the stream before.
+fn leaves_nothing(alloc: Global) -> Result<bool, AllocError> {
+    let mut s = RlpStream::new_list(alloc, 2)?;
+    s.append(&5u64)?;
+    let one = s.append(&REFUSED).is_err() && holds_five(&s);
+    let uncounted = s.append_internal(&REFUSED).is_err() && holds_five(&s);
+    let all = s.append_list(&[REFUSED]).is_err() && holds_five(&s);
+    s.append(&6u64)?;
+    let mut direct = RlpStream::new_list(alloc, 2)?;
+    direct.append(&5u64)?;
+    let own = REFUSED.rlp_append(&mut direct).is_err();
+    Ok(
+        one && uncounted
+            && all
+            && own
+            && finishes_as(s, &[0xc2, 0x05, 0x06])
+            && is_as(&direct, &[0x00, 0x05, 0x00, 0x01], 4, Some(2), false),
+    )
+}
+
 #[test]
-fn a_value_is_written_once_a_call(rt: HostRuntime) -> Result<(), Fail> {
+fn refused_values_leave_nothing(rt: HostRuntime) -> Result<(), Fail> {
     assert_eq!(rt; first_wrong_call(rt.alloc())?, None);
+    assert!(rt; leaves_nothing(rt.alloc())? && rlp::encode(rt.alloc(), &REFUSED).is_err());
     Ok(())
 }
