@@ -1,5 +1,5 @@
 //! Tests for `refusals/run`, which refuses requests for memory.
 
 mod never;
-mod streams;
+pub(crate) mod streams;
 mod values;

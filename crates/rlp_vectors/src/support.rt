@@ -3,4 +3,6 @@
 pub(crate) mod guarded;
 pub(crate) mod iterators;
 pub(crate) mod plain;
-pub(crate) mod steps;
+pub(crate) mod script;
+pub(crate) mod text;
+pub(crate) mod values;

@@ -1,11 +1,6 @@
 //! Custom types that are written and read, and examples of calls.
 
-mod arrays;
-mod careless;
-mod messages;
-mod nests;
-mod once_refused;
 mod raw_items;
-mod rows;
-mod structs;
+pub(crate) mod refused;
+mod types;
 mod uses;

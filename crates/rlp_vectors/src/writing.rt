@@ -1,15 +1,8 @@
-//! Tests of what is written: strings, lists, values, and streams of calls.
+//! Tests of what is written: values, and streams of calls.
 
 mod bounds;
-mod chains;
-mod closing;
-mod encoding;
-mod handed_in;
-mod large;
 mod limits;
-mod lists;
-mod nested_streams;
-mod sizes;
+mod long;
 mod streams;
 mod trees;
-mod types;
+mod values;

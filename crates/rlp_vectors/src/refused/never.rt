@@ -3,19 +3,15 @@
 //! `refusals/run` refuses every request after a signal. The signal is a request for `SIGNAL` bytes.
 
 use crate::support::guarded::{estimates, finishes_as, put_raw, put_raw_within};
-use crate::support::iterators::{append_undotted, encode_undotted};
+use crate::support::iterators::put_undotted;
+use crate::support::script::buffer_of;
 use bytes::BytesMut;
 use rlp::RlpStream;
-use std::alloc::{AllocError, Global};
+use std::alloc::AllocError;
 use std::test::Fail;
 
 /// The number of bytes that is requested as the signal.
 const SIGNAL: usize = 77_777;
-
-/// Gives the signal. The result of the request makes no difference.
-fn refuse_from_here(alloc: Global) -> bool {
-    Vec::<u8>::with_capacity(alloc, SIGNAL).is_ok()
-}
 
 /// Returns whether a list of three items that holds "cat" has the right state, and is cleared.
 fn list_answers(mut s: RlpStream) -> bool {
@@ -41,45 +37,25 @@ fn room_is_used(mut s: RlpStream) -> Result<bool, AllocError> {
     Ok(put && refused && s.len() == 1004 && s.as_raw().ends_with(b"rlp\x80"))
 }
 
-/// Returns whether calls that take no memory succeed while every request is refused.
-fn need_no_memory(alloc: Global) -> Result<bool, AllocError> {
-    let mut list = RlpStream::new_list(alloc, 3)?;
-    list.append(&"cat")?;
-    let roomy = RlpStream::new(alloc)?;
-    let mut buffer = BytesMut::new(alloc);
-    buffer.extend_from_slice(b"junk")?;
-    refuse_from_here(alloc);
-    let front = RlpStream::new_with_buffer(alloc, buffer);
-    Ok(
-        list_answers(list)
-            && room_is_used(roomy)?
-            && front.is_empty()
-            && finishes_as(front, b"junk"),
-    )
-}
-
-#[test]
-fn streams_that_need_no_memory(rt: HostRuntime) -> Result<(), Fail> {
-    assert!(rt; need_no_memory(rt.alloc())?);
-    Ok(())
-}
-
 /// The encodings of two strings of three bytes.
 const TWO_STRINGS: &[u8] = b"\x83cat\x83dog";
 
-/// Returns whether the bytes of iterators are put into room of exactly their size, while every
-/// request is refused.
-fn iterators_need_no_memory(alloc: Global) -> Result<bool, AllocError> {
-    let buffer = BytesMut::with_capacity(alloc, TWO_STRINGS.len())?;
-    refuse_from_here(alloc);
-    let mut s = RlpStream::new_with_buffer(alloc, buffer);
-    append_undotted(&mut s, b"c.a.t")?;
-    encode_undotted(&mut s.encoder(), b"d.o.g")?;
-    Ok(finishes_as(s, TWO_STRINGS))
-}
-
+// The last stream puts the bytes of iterators into room of exactly their size.
 #[test]
-fn iterators_that_need_no_memory(rt: HostRuntime) -> Result<(), Fail> {
-    assert!(rt; iterators_need_no_memory(rt.alloc())?);
+fn streams_that_need_no_memory(rt: HostRuntime) -> Result<(), Fail> {
+    let alloc = rt.alloc();
+    let mut list = RlpStream::new_list(alloc, 3)?;
+    list.append(&"cat")?;
+    let roomy = RlpStream::new(alloc)?;
+    let front = buffer_of(alloc, "'junk")?;
+    let room = BytesMut::with_capacity(alloc, TWO_STRINGS.len())?;
+    // The result of the signal makes no difference.
+    drop(Vec::<u8>::with_capacity(alloc, SIGNAL));
+    let front = RlpStream::new_with_buffer(alloc, front);
+    let mut s = RlpStream::new_with_buffer(alloc, room);
+    put_undotted(&mut s, b"c.a.t", true)?;
+    put_undotted(&mut s, b"d.o.g", false)?;
+    assert!(rt; finishes_as(s, TWO_STRINGS) && list_answers(list) && room_is_used(roomy)?);
+    assert!(rt; front.is_empty() && finishes_as(front, b"junk"));
     Ok(())
 }

@@ -3,8 +3,7 @@
 ghost use Rattle.std.specs.Prelude.{IsTrue};
 ghost use Rattle.rlp.specs.Streams.Stack.{has_room};
 
-use bytes::BytesMut;
-use rlp::{Chain, RlpStream};
+use rlp::RlpStream;
 use std::alloc::AllocError;
 
 /// Returns whether the innermost open list awaits at least `items` items, or is unbounded.
@@ -23,19 +22,6 @@ pub(crate) fn put_raw(s: &mut RlpStream, bytes: &[u8], items: usize) -> Result<b
         return Ok(false);
     }
     s.append_raw(bytes, items)?;
-    Ok(true)
-}
-
-/// Appends raw bytes on a chain. Returns `false` if the innermost open list awaits fewer items.
-pub(crate) fn put_raw_chained(
-    chain: Chain<'_>,
-    bytes: &[u8],
-    items: usize,
-) -> Result<bool, AllocError> {
-    if !takes_items(chain.stream, items) {
-        return Ok(false);
-    }
-    chain.append_raw(bytes, items)?;
     Ok(true)
 }
 
@@ -62,17 +48,9 @@ pub(crate) fn finalize(s: &mut RlpStream) -> Result<bool, AllocError> {
     Ok(true)
 }
 
-/// Returns the bytes of the stream, if no list is open.
-pub(crate) fn finished(s: RlpStream) -> Option<BytesMut> {
-    if s.is_finished() { Some(s.out()) } else { None }
-}
-
 /// Returns whether no list is open, and these are the bytes.
 pub(crate) fn finishes_as(s: RlpStream, want: &[u8]) -> bool {
-    match finished(s) {
-        Some(bytes) => bytes.as_slice() == want,
-        None => false,
-    }
+    s.is_finished() && s.out().as_slice() == want
 }
 
 /// Returns whether the closed size with `add` more bytes is `want`.

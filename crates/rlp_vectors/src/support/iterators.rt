@@ -1,18 +1,19 @@
 //! Bytes of iterators that don't announce the number of bytes.
 
-use rlp::{BasicEncoder, RlpStream};
+use rlp::RlpStream;
 use std::alloc::AllocError;
 
-/// Appends a text without its dots, by an iterator.
-pub(crate) fn append_undotted(s: &mut RlpStream, dotted: &[u8]) -> Result<(), AllocError> {
-    s.append_iter(dotted.iter().copied().filter(|byte| *byte != b'.'))?;
-    Ok(())
-}
-
-/// Writes a text without its dots by an iterator, and counts no item.
-pub(crate) fn encode_undotted(
-    encoder: &mut BasicEncoder<'_>,
+/// Writes a text without its dots by an iterator: appends it as an item, or counts no item.
+pub(crate) fn put_undotted(
+    s: &mut RlpStream,
     dotted: &[u8],
+    is_item: bool,
 ) -> Result<(), AllocError> {
-    encoder.encode_iter(dotted.iter().copied().filter(|byte| *byte != b'.'))
+    let bytes = dotted.iter().copied().filter(|byte| *byte != b'.');
+    if is_item {
+        s.append_iter(bytes)?;
+        Ok(())
+    } else {
+        s.encoder().encode_iter(bytes)
+    }
 }

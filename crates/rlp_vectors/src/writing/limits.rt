@@ -2,7 +2,8 @@
 //! size.
 
 use crate::support::guarded::{put_raw, put_raw_within};
-use bytes::BytesMut;
+use crate::support::script::{buffer_of, is_as};
+use crate::support::text::bytes_of;
 use rlp::RlpStream;
 use std::alloc::{AllocError, Global};
 use std::test::Fail;
@@ -46,137 +47,95 @@ const ROWS: [Row; 32] = [
     (100, 65_238, 1, 65_540),
 ];
 
-/// The number of items that the open lists await.
-#[derive(Clone, Copy)]
-enum Awaited {
-    /// Any number: the lists are unbounded.
-    Any,
-    /// More items than are appended.
-    More,
-    /// Exactly the items that are appended. The last of them closes each list.
-    These,
-}
-
-/// Returns a stream over these bytes.
-fn stream_over(alloc: Global, front: &[u8]) -> Result<RlpStream, AllocError> {
-    let mut buffer = BytesMut::new(alloc);
-    buffer.extend_from_slice(front)?;
-    Ok(RlpStream::new_with_buffer(alloc, buffer))
-}
-
-/// Opens `lists` lists, one inside another. Two items are appended to the innermost later.
-fn open_lists(s: &mut RlpStream, lists: usize, awaited: Awaited) -> Result<(), AllocError> {
-    for list in 0..lists {
-        let outer = list + 1 < lists;
-        match awaited {
-            Awaited::Any => s.begin_unbounded_list()?,
-            Awaited::More => s.begin_list(3)?,
-            Awaited::These => s.begin_list(if outer { 1 } else { 2 })?,
-        };
-    }
-    Ok(())
-}
-
 /// Returns whether the bytes of a row are appended exactly if the resulting closed size is within
-/// the limit, and else leave the stream as it was.
+/// the limit, and else leave the stream as it was. The open lists are unbounded (`any`), await more
+/// items than are appended (`more`), or exactly these (`these`): the last of them closes each list.
 fn is_answered(
     alloc: Global,
-    front: &[u8],
+    front: &str,
     row: Row,
-    awaited: Awaited,
+    awaited: &str,
     limit: usize,
 ) -> Result<bool, AllocError> {
     let (lists, held, added, size) = row;
     let bytes = vec![in alloc; 0u8; added]?;
-    let mut s = stream_over(alloc, front)?;
-    open_lists(&mut s, lists, awaited)?;
+    let mut s = RlpStream::new_with_buffer(alloc, buffer_of(alloc, front)?);
+    let front = bytes_of(alloc, front)?;
+    for list in 0..lists {
+        match awaited {
+            "any" => s.begin_unbounded_list()?,
+            "more" => s.begin_list(3)?,
+            _ => s.begin_list(if list + 1 < lists { 1 } else { 2 })?,
+        };
+    }
     if !put_raw(&mut s, vec![in alloc; 0u8; held]?.as_slice(), 1)? {
         return Ok(false);
     }
     let raw = Vec::from_slice(alloc, s.as_raw())?;
-    let (len, items) = (s.len(), s.items_awaited());
+    let (len, items, any) = (s.len(), s.items_awaited(), s.can_finalize());
     if !put_raw_within(&mut s, bytes.as_slice(), 1, limit)? {
-        return Ok(
-            limit < size
-                && s.as_raw() == raw.as_slice()
-                && s.len() == len
-                && s.items_awaited() == items,
-        );
+        return Ok(limit < size && is_as(&s, raw.as_slice(), len, items, any));
     }
     let written = if s.is_finished() {
         front.len().saturating_add(size)
     } else {
         raw.len().saturating_add(added)
     };
-    let left = match awaited {
-        Awaited::More if lists > 0 => Some(1),
-        _ => None,
+    let left = if awaited == "more" && lists > 0 {
+        Some(1)
+    } else {
+        None
     };
     Ok(
         limit >= size
-            && s.as_raw().starts_with(front)
+            && s.as_raw().starts_with(front.as_slice())
             && s.as_raw().len() == written
             && s.len() == size
             && s.items_awaited() == left,
     )
 }
 
-/// Returns whether a row is right for each limit: 0, around the size, around the size with nine
-/// bytes for each header, and the greatest `usize`.
-fn is_answered_at_limits(
+/// Returns the first row that is wrong, with the limit: 0, around the size, around the size with
+/// nine bytes for each header, or the greatest `usize`.
+fn first_wrong(
     alloc: Global,
-    front: &[u8],
-    row: Row,
-    awaited: Awaited,
-) -> Result<bool, AllocError> {
-    let (lists, held, added, size) = row;
-    let most = lists
-        .saturating_mul(9)
-        .saturating_add(held)
-        .saturating_add(added);
-    let limits = [
-        0,
-        size.saturating_sub(1),
-        size,
-        size.saturating_add(1),
-        most.saturating_sub(1),
-        most,
-        usize::MAX,
-    ];
-    for limit in limits {
-        if !is_answered(alloc, front, row, awaited, limit)? {
-            return Ok(false);
-        }
-    }
-    Ok(true)
-}
-
-/// Returns whether all rows are right, without a front and with one.
-fn all_are_answered(alloc: Global, awaited: Awaited) -> Result<bool, AllocError> {
+    front: &str,
+    awaited: &str,
+) -> Result<Option<(Row, usize)>, AllocError> {
     for row in ROWS {
-        if !is_answered_at_limits(alloc, &[], row, awaited)?
-            || !is_answered_at_limits(alloc, b"what was handed in", row, awaited)?
-        {
-            return Ok(false);
+        let (lists, held, added, size) = row;
+        let most = lists
+            .saturating_mul(9)
+            .saturating_add(held)
+            .saturating_add(added);
+        let (below, above) = (size.saturating_sub(1), size.saturating_add(1));
+        for limit in [
+            0,
+            below,
+            size,
+            above,
+            most.saturating_sub(1),
+            most,
+            usize::MAX,
+        ] {
+            if !is_answered(alloc, front, row, awaited, limit)? {
+                return Ok(Some((row, limit)));
+            }
         }
     }
-    Ok(true)
+    Ok(None)
 }
 
 #[test]
-fn limits_in_unbounded_lists(rt: HostRuntime) -> Result<(), Fail> {
-    assert!(rt; all_are_answered(rt.alloc(), Awaited::Any)?);
-    Ok(())
-}
-
-#[test]
-fn limits_in_lists_that_await_more(rt: HostRuntime) -> Result<(), Fail> {
-    assert!(rt; all_are_answered(rt.alloc(), Awaited::More)?);
-    Ok(())
-}
-
-#[test]
-fn limits_in_lists_that_close(rt: HostRuntime) -> Result<(), Fail> {
-    assert!(rt; all_are_answered(rt.alloc(), Awaited::These)?);
+fn limits(rt: HostRuntime) -> Result<(), Fail> {
+    for front in ["", "'what was handed in"] {
+        for awaited in ["any", "more", "these"] {
+            assert_eq!(rt;
+                first_wrong(rt.alloc(), front, awaited)?,
+                None,
+                "{front} {awaited}"
+            );
+        }
+    }
     Ok(())
 }

@@ -39,8 +39,8 @@ fn trees_over<'a>(alloc: Global, items: &'a [Tree<'a>]) -> Result<Vec<Tree<'a>>,
 fn write(alloc: Global, tree: &Tree<'_>, bytes: &mut Vec<u8>) -> Result<(), AllocError> {
     let mut payload = Vec::new(alloc);
     match tree {
-        Tree::Empty => return plain::put_string(bytes, &[]),
-        Tree::Byte => return plain::put_string(bytes, &[0x80]),
+        Tree::Empty => return plain::put(bytes, plain::STRING, &[]),
+        Tree::Byte => return plain::put(bytes, plain::STRING, &[0x80]),
         Tree::NoItems => {}
         Tree::OneItem(item) => write(alloc, item, &mut payload)?,
         Tree::TwoItems(first, second) => {
@@ -48,78 +48,57 @@ fn write(alloc: Global, tree: &Tree<'_>, bytes: &mut Vec<u8>) -> Result<(), Allo
             write(alloc, second, &mut payload)?;
         }
     }
-    plain::put_list(bytes, payload.as_slice())
+    plain::put(bytes, plain::LIST, payload.as_slice())
 }
 
-/// Appends a tree with lists that announce their number of items.
-fn append_announced(s: &mut RlpStream, tree: &Tree<'_>) -> Result<(), AllocError> {
-    match tree {
+/// Appends a tree with lists that announce their number of items, or with unbounded lists. Returns
+/// `false` if a list can't be closed.
+fn append(s: &mut RlpStream, announced: bool, tree: &Tree<'_>) -> Result<bool, AllocError> {
+    let len = match tree {
         Tree::Empty => {
             s.append_empty_data()?;
+            return Ok(true);
         }
         Tree::Byte => {
             s.append(&[0x80].as_slice())?;
+            return Ok(true);
         }
-        Tree::NoItems => {
-            s.begin_list(0)?;
-        }
-        Tree::OneItem(item) => {
-            s.begin_list(1)?;
-            append_announced(s, item)?;
-        }
-        Tree::TwoItems(first, second) => {
-            s.begin_list(2)?;
-            append_announced(s, first)?;
-            append_announced(s, second)?;
-        }
+        Tree::NoItems => 0,
+        Tree::OneItem(_) => 1,
+        Tree::TwoItems(..) => 2,
+    };
+    if announced {
+        s.begin_list(len)?;
+    } else {
+        s.begin_unbounded_list()?;
     }
-    Ok(())
-}
-
-/// Appends a tree with unbounded lists. Returns `false` if a list can't be closed.
-fn append_unbounded(s: &mut RlpStream, tree: &Tree<'_>) -> Result<bool, AllocError> {
-    match tree {
-        Tree::Empty => {
-            s.append_empty_data()?;
-            Ok(true)
-        }
-        Tree::Byte => {
-            s.append(&[0x80].as_slice())?;
-            Ok(true)
-        }
-        Tree::NoItems => {
-            s.begin_unbounded_list()?;
-            finalize(s)
-        }
-        Tree::OneItem(item) => {
-            s.begin_unbounded_list()?;
-            Ok(append_unbounded(s, item)? && finalize(s)?)
-        }
+    let done = match tree {
+        Tree::OneItem(item) => append(s, announced, item)?,
         Tree::TwoItems(first, second) => {
-            s.begin_unbounded_list()?;
-            Ok(append_unbounded(s, first)? && append_unbounded(s, second)? && finalize(s)?)
+            append(s, announced, first)? && append(s, announced, second)?
         }
+        _ => true,
+    };
+    if announced || !done {
+        Ok(done)
+    } else {
+        finalize(s)
     }
 }
 
-/// Returns whether the stream and the simple writer write the same bytes for a tree.
-fn is_written_alike(alloc: Global, tree: &Tree<'_>) -> Result<bool, AllocError> {
-    let mut bytes = Vec::new(alloc);
-    write(alloc, tree, &mut bytes)?;
-    let mut announced = RlpStream::new(alloc)?;
-    append_announced(&mut announced, tree)?;
-    let mut unbounded = RlpStream::new(alloc)?;
-    Ok(
-        append_unbounded(&mut unbounded, tree)?
-            && finishes_as(announced, bytes.as_slice())
-            && finishes_as(unbounded, bytes.as_slice()),
-    )
-}
-
-/// Returns the number of trees before the first for which the bytes differ.
+/// Returns the number of trees before the first for which the streams and the simple writer write
+/// other bytes.
 fn count_alike(alloc: Global, trees: &[Tree<'_>]) -> Result<usize, AllocError> {
     for (count, tree) in trees.iter().enumerate() {
-        if !is_written_alike(alloc, tree)? {
+        let mut bytes = Vec::new(alloc);
+        write(alloc, tree, &mut bytes)?;
+        let mut announced = RlpStream::new(alloc)?;
+        let mut unbounded = RlpStream::new(alloc)?;
+        if !append(&mut announced, true, tree)?
+            || !append(&mut unbounded, false, tree)?
+            || !finishes_as(announced, bytes.as_slice())
+            || !finishes_as(unbounded, bytes.as_slice())
+        {
             return Ok(count);
         }
     }

@@ -1,0 +1,72 @@
+//! Rows of values and bytes. Each function returns the bytes of the first row that isn't met.
+
+use crate::support::guarded::finishes_as;
+use crate::support::text::bytes_of;
+use rlp::{Decodable, Encodable, RlpStream};
+use std::alloc::{AllocError, Global};
+use std::test::Fail;
+
+/// Writes each value alone, by both functions for it, and in a stream.
+pub(crate) fn first_unwritten<'a, E: Encodable>(
+    alloc: Global,
+    rows: &[(E, &'a str)],
+) -> Result<Option<&'a str>, AllocError> {
+    for row in rows {
+        let want = bytes_of(alloc, row.1)?;
+        let mut s = RlpStream::new(alloc)?;
+        s.append(&row.0)?;
+        if rlp::encode(alloc, &row.0)?.as_slice() != want.as_slice()
+            || row.0.rlp_bytes(alloc)?.as_slice() != want.as_slice()
+            || !finishes_as(s, want.as_slice())
+        {
+            return Ok(Some(row.1));
+        }
+    }
+    Ok(None)
+}
+
+/// Writes the list of the values alone and in a stream.
+pub(crate) fn first_unlisted<'a, E: Encodable>(
+    alloc: Global,
+    rows: &[(&[E], &'a str)],
+) -> Result<Option<&'a str>, AllocError> {
+    for row in rows {
+        let want = bytes_of(alloc, row.1)?;
+        let mut s = RlpStream::new(alloc)?;
+        s.append_list(row.0)?;
+        if rlp::encode_list(alloc, row.0)?.as_slice() != want.as_slice()
+            || !finishes_as(s, want.as_slice())
+        {
+            return Ok(Some(row.1));
+        }
+    }
+    Ok(None)
+}
+
+/// Reads the bytes of each row, by `decode_strict` or by `decode`. The text beside them is the
+/// fault, or the bytes as which the value is written again.
+pub(crate) fn first_unread<T: Decodable + Encodable>(
+    alloc: Global,
+    strict: bool,
+    rows: &[(&'static str, &'static str)],
+) -> Result<Option<&'static str>, Fail> {
+    for (text, want) in rows {
+        let bytes = bytes_of(alloc, text)?;
+        let read = if strict {
+            rlp::decode_strict::<T>(alloc, bytes.as_slice())
+        } else {
+            rlp::decode::<T>(alloc, bytes.as_slice())
+        };
+        let is_right = match read {
+            Ok(value) => match bytes_of(alloc, want) {
+                Ok(want) => rlp::encode(alloc, &value)?.as_slice() == want.as_slice(),
+                Err(_) => false,
+            },
+            Err(fault) => format!(in alloc; "{fault:?}")?.as_str() == *want,
+        };
+        if !is_right {
+            return Ok(Some(text));
+        }
+    }
+    Ok(None)
+}
