@@ -1,39 +1,36 @@
 //! Tests of the records of Ethereum, compared with public records. The crate has only tests.
+//!
+//! The tests are tables of text. A row of a table is a line with bars between its cells: the call,
+//! its bytes, and what it answers. A row with two cells answers `both ways`: the bytes are read as a
+//! value that is written as the same bytes, and they fail if the last byte is missing or another
+//! follows. A line with no bar is a comment.
 #![tactic(auto)]
 
 #[cfg(test)]
-mod access_lists;
+mod alone;
 #[cfg(test)]
-mod blocks;
+mod answers;
 #[cfg(test)]
-mod every_type;
-#[cfg(test)]
-mod headers;
+mod fields;
 #[cfg(test)]
 mod laws;
 #[cfg(test)]
-mod logs;
-#[cfg(test)]
 mod messages;
+#[cfg(test)]
+mod named;
 #[cfg(test)]
 mod node_records;
 #[cfg(test)]
 mod nodes;
 #[cfg(test)]
-mod receipts;
+mod reading;
 #[cfg(test)]
 mod records;
 #[cfg(test)]
 mod requests;
 #[cfg(test)]
-mod support;
+mod rows;
 #[cfg(test)]
-mod tails;
-#[cfg(test)]
-mod transactions;
-#[cfg(test)]
-mod transfers;
-#[cfg(test)]
-mod trie_nodes;
+mod text;
 #[cfg(test)]
 mod unsigned;

@@ -1,202 +1,143 @@
-//! Nodes of the trie. The expected bytes were worked out by the rules of the format.
+//! Nodes of the trie. Unless a comment says otherwise, the expected bytes were worked out by the
+//! rules of the format.
 
-use crate::support::goes_both_ways;
-use rlp::{DecoderError, RawItem};
-use rlp_ethereum::{Branch, Child, Extension, Hash, Leaf};
+use crate::reading::written;
+use rlp::{Encodable, RawItem};
+use rlp_ethereum::{Branch, Child, Extension, Hash, Leaf, TrieNode};
 use std::alloc::{AllocError, Global};
 use std::test::Fail;
 
-/// A hash, and its encoding.
-const HASH: [u8; 32] = [0x11; 32];
+/// Rows of nodes.
+pub(crate) const ROWS: &str = "
+    Children: nothing, a hash, and the longest node that is kept in its parent, of 31 bytes with its
+    header. A longer list and a string aren't written as a child.
+    node: nothing | 80
+    node: hash | a0+11*32
+    node: kept | de209c+22*28
+    node: kept of | df209d+22*29 | refused
+    node: kept of | 05 | refused
 
-/// The encoding of the hash.
-const HASH_BYTES: [u8; 33] = [
-    0xa0, 0x11, 0x11, 0x11, 0x11, 0x11, 0x11, 0x11, 0x11, 0x11, 0x11, 0x11, 0x11, 0x11, 0x11, 0x11,
-    0x11, 0x11, 0x11, 0x11, 0x11, 0x11, 0x11, 0x11, 0x11, 0x11, 0x11, 0x11, 0x11, 0x11, 0x11, 0x11,
-    0x11,
-];
+    Bytes that begin with no child: strings of 1 and 33 bytes, a long list, and a list with a longer
+    spelling.
+    Child |  | RlpIsTooShort
+    Child | 05 | RlpIsTooShort
+    Child | a1+11*33 | RlpIsTooBig
+    Child | df209d+22*29 | RlpIsTooBig
+    Child | c28105 | Custom(\"item is not canonical\")
 
-/// The longest node that is kept in its parent: 31 bytes with its header.
-const LONGEST: [u8; 31] = [
-    0xde, 0x20, 0x9c, 0x22, 0x22, 0x22, 0x22, 0x22, 0x22, 0x22, 0x22, 0x22, 0x22, 0x22, 0x22, 0x22,
-    0x22, 0x22, 0x22, 0x22, 0x22, 0x22, 0x22, 0x22, 0x22, 0x22, 0x22, 0x22, 0x22, 0x22, 0x22,
-];
+    Leaves with the paths 12, 5 and 6f727365, and an extension by the digit 1 to the first.
+    node: leaf of cat | c782201283+636174
+    node: leaf of coin | c63584636f696e
+    node: leaf of stallion | cf85206f727365887374616c6c696f6e
+    node: extension to the cat | c911c782201283636174
 
-/// A list of 32 bytes with its header.
-const LONGER: [u8; 32] = [
-    0xdf, 0x20, 0x9d, 0x22, 0x22, 0x22, 0x22, 0x22, 0x22, 0x22, 0x22, 0x22, 0x22, 0x22, 0x22, 0x22,
-    0x22, 0x22, 0x22, 0x22, 0x22, 0x22, 0x22, 0x22, 0x22, 0x22, 0x22, 0x22, 0x22, 0x22, 0x22, 0x22,
-];
+    A branch with a hash at place 1 and the value v, a branch with hashes at places 1 and 15 and the
+    value verb, and the list of one item.
+    node: branch of v | f180a0+11*32+80*14+76
+    node: branch of verb | f85580a0+11*32+80*13+a0+ff*32+8476657262
+    Branch | c180 | RlpIncorrectListLen
 
-/// Bytes that begin with no child, and the faults: strings of 1 and 33 bytes, a long list, and a
-/// list with a longer spelling.
-const NO_CHILDREN: [(&[u8], DecoderError); 5] = [
-    (&[], DecoderError::RlpIsTooShort),
-    (&[0x05], DecoderError::RlpIsTooShort),
-    (
-        &[
-            0xa1, 0x11, 0x11, 0x11, 0x11, 0x11, 0x11, 0x11, 0x11, 0x11, 0x11, 0x11, 0x11, 0x11,
-            0x11, 0x11, 0x11, 0x11, 0x11, 0x11, 0x11, 0x11, 0x11, 0x11, 0x11, 0x11, 0x11, 0x11,
-            0x11, 0x11, 0x11, 0x11, 0x11, 0x11,
-        ],
-        DecoderError::RlpIsTooBig,
-    ),
-    (&LONGER, DecoderError::RlpIsTooBig),
-    (
-        &[0xc2, 0x81, 0x05],
-        DecoderError::Custom("item is not canonical"),
-    ),
-];
+    The nodes of the example of Ethereum's documentation, a trie of the keys do, dog, doge and horse:
+    the root, the nodes that the documentation calls A to D, and those in A and D. An independent
+    program wrote them, and found the root's hash that is published with the example,
+    5991bb8c..e9ac84. Each is read as its kind, and bytes with a changed byte are read as no other
+    node.
+    TrieNode | e216a0bd3ee507e6c67cfefca98f84be47c1bbc009315fabc4405db4ba32190374572a
+    fields of TrieNode | e216a0bd3ee507e6c67cfefca98f84be47c1bbc009315fabc4405db4ba32190374572a | e\
+     xtension 16 bd3ee507e6c67cfefca98f84be47c1bbc009315fabc4405db4ba32190374572a
+    node: changed | e216a0bd3ee507e6c67cfefca98f84be47c1bbc009315fabc4405db4ba32190374572a | true
+    TrieNode | f84080808080a094a9f95bd89698e4da1812e0518053813b4d5b87caaf6b3c6fa57e9e50c0ff68808080\
+     cf85206f727365887374616c6c696f6e8080808080808080
+    fields of TrieNode | f84080808080a094a9f95bd89698e4da1812e0518053813b4d5b87caaf6b3c6fa57e9e50c0\
+     ff68808080cf85206f727365887374616c6c696f6e8080808080808080 | branch
+    node: changed | f84080808080a094a9f95bd89698e4da1812e0518053813b4d5b87caaf6b3c6fa57e9e50c0ff688\
+     08080cf85206f727365887374616c6c696f6e8080808080808080 | true
+    TrieNode | e482006fa0d43b87fdcd4217013ccc92d04662e12d36e4cc25dc690077cd821a1956fc3e36
+    fields of TrieNode | e482006fa0d43b87fdcd4217013ccc92d04662e12d36e4cc25dc690077cd821a1956fc3e3\
+     6 | extension 006f d43b87fdcd4217013ccc92d04662e12d36e4cc25dc690077cd821a1956fc3e36
+    node: changed | e482006fa0d43b87fdcd4217013ccc92d04662e12d36e4cc25dc690077cd821a1956fc3e36 | tr\
+     ue
+    TrieNode | f3808080808080de17dc808080808080c63584636f696e80808080808080808085707570707980808080\
+     80808080808476657262
+    fields of TrieNode | f3808080808080de17dc808080808080c63584636f696e8080808080808080808570757070\
+     798080808080808080808476657262 | branch
+    node: changed | f3808080808080de17dc808080808080c63584636f696e808080808080808080857075707079808\
+     0808080808080808476657262 | true
+    TrieNode | de17dc808080808080c63584636f696e808080808080808080857075707079
+    fields of TrieNode | de17dc808080808080c63584636f696e808080808080808080857075707079 | extensio\
+     n 17
+    node: changed | de17dc808080808080c63584636f696e808080808080808080857075707079 | true
+    TrieNode | dc808080808080c63584636f696e808080808080808080857075707079
+    fields of TrieNode | dc808080808080c63584636f696e808080808080808080857075707079 | branch
+    node: changed | dc808080808080c63584636f696e808080808080808080857075707079 | true
+    TrieNode | c63584636f696e
+    fields of TrieNode | c63584636f696e | leaf 35
+    node: changed | c63584636f696e | true
+    TrieNode | cf85206f727365887374616c6c696f6e
+    fields of TrieNode | cf85206f727365887374616c6c696f6e | leaf 206f727365
+    node: changed | cf85206f727365887374616c6c696f6e | true
+    node: branch again | dc808080808080c63584636f696e808080808080808080857075707079
 
-/// Returns the children of the rows above, each with its bytes.
-fn children(alloc: Global) -> Result<[(Child, &'static [u8]); 3], Fail> {
-    Ok([
-        (Child::Nothing, [0x80].as_slice()),
-        (Child::Node(Hash(HASH)), HASH_BYTES.as_slice()),
-        (
-            Child::Inline(RawItem::new(alloc, &LONGEST)?),
-            LONGEST.as_slice(),
-        ),
-    ])
+    Bytes that are no node: no list, lists of another number of items, paths of no bytes and with
+    other marks, a path that is a list, an extension with a child of one byte, a leaf whose value has
+    a longer spelling, and a branch with a child of one byte.
+    TrieNode |  | RlpIsTooShort
+    TrieNode | 80 | RlpExpectedToBeList
+    TrieNode | c0 | RlpIncorrectListLen
+    TrieNode | c135 | RlpIncorrectListLen
+    TrieNode | c3358080 | RlpIncorrectListLen
+    TrieNode | d2+80*18 | RlpIncorrectListLen
+    TrieNode | c28005 | Custom(\"path is not hex-prefix encoded\")
+    TrieNode | c20105 | Custom(\"path is not hex-prefix encoded\")
+    TrieNode | c20f05 | Custom(\"path is not hex-prefix encoded\")
+    TrieNode | c22105 | Custom(\"path is not hex-prefix encoded\")
+    TrieNode | c22f05 | Custom(\"path is not hex-prefix encoded\")
+    TrieNode | c24005 | Custom(\"path is not hex-prefix encoded\")
+    TrieNode | c3c10580 | RlpExpectedToBeData
+    TrieNode | c482006f05 | RlpIsTooShort
+    TrieNode | c3358105 | RlpInvalidIndirection
+    TrieNode | d105+80*16 | RlpIsTooShort
+
+    A leaf with a path and the value coin, and an extension with a path to nothing, are written if
+    the path has the mark of their kind.
+    node: leaf by | 00 | refused
+    node: leaf by | 10 | refused
+    node: leaf by | 1f | refused
+    node: leaf by | 20 | c62084636f696e
+    node: leaf by | 30 | c63084636f696e
+    node: leaf by | 3f | c63f84636f696e
+    node: leaf by | 35 | c63584636f696e
+    node: leaf by | 21 | refused
+    node: leaf by |  | refused
+    node: extension by | 00 | c20080
+    node: extension by | 10 | c21080
+    node: extension by | 1f | c21f80
+    node: extension by | 20 | refused
+    node: extension by | 30 | refused
+    node: extension by | 3f | refused
+    node: extension by | 40 | refused
+    node: extension by 17 to | dc808080808080c63584636f696e808080808080808080857075707079 | de17dc8\
+     08080808080c63584636f696e808080808080808080857075707079
+";
+
+/// Returns the leaf with this path and value.
+fn leaf(alloc: Global, path: &[u8], value: &[u8]) -> Result<Leaf, AllocError> {
+    Ok(Leaf {
+        path: Vec::from_slice(alloc, path)?,
+        value: Vec::from_slice(alloc, value)?,
+    })
 }
 
-/// Returns whether each child is written as its bytes and read from them.
-fn children_go_both_ways(alloc: Global) -> Result<bool, Fail> {
-    for (child, bytes) in children(alloc)? {
-        if rlp::encode(alloc, &child)?.as_slice() != bytes
-            || rlp::decode_strict::<Child>(alloc, bytes)? != child
-            || !goes_both_ways::<Child>(alloc, bytes)?
-        {
-            return Ok(false);
-        }
-    }
-    Ok(true)
+/// Returns the extension by a path to a child.
+fn extension(alloc: Global, path: &[u8], child: Child) -> Result<Extension, AllocError> {
+    Ok(Extension {
+        path: Vec::from_slice(alloc, path)?,
+        child,
+    })
 }
 
-/// Returns the first row whose bytes are read, or fail with another fault.
-fn first_read(alloc: Global) -> Option<&'static [u8]> {
-    for row in NO_CHILDREN {
-        match rlp::decode::<Child>(alloc, row.0) {
-            Err(fault) if fault == row.1 => {}
-            _ => return Some(row.0),
-        }
-    }
-    None
-}
-
-/// Returns whether a long list isn't written as a child.
-fn long_nodes_are_refused(alloc: Global) -> Result<bool, Fail> {
-    let long = Child::Inline(RawItem::new(alloc, &LONGER)?);
-    let string = Child::Inline(RawItem::new(alloc, &[0x05])?);
-    Ok(rlp::encode(alloc, &long).is_err() && rlp::encode(alloc, &string).is_err())
-}
-
-#[test]
-fn children_of_nodes(rt: HostRuntime) -> Result<(), Fail> {
-    let alloc = rt.alloc();
-    assert!(rt; children_go_both_ways(alloc)?);
-    assert_eq!(rt; first_read(alloc), None);
-    assert!(rt; long_nodes_are_refused(alloc)?);
-    Ok(())
-}
-
-/// Returns whether a leaf with the path `12` and the value `cat`, and an extension with the path
-/// `1` to that leaf, are written as they should and read back.
-fn short_nodes_go_both_ways(alloc: Global) -> Result<bool, Fail> {
-    let leaf = Leaf {
-        path: Vec::from_array(alloc, [0x20, 0x12])?,
-        value: Vec::from_array(alloc, *b"cat")?,
-    };
-    let bytes = rlp::encode(alloc, &leaf)?;
-    let extension = Extension {
-        path: Vec::from_array(alloc, [0x11])?,
-        child: Child::Inline(RawItem::new(alloc, bytes.as_slice())?),
-    };
-    let outer = rlp::encode(alloc, &extension)?;
-    Ok(
-        bytes.as_slice() == [0xc7, 0x82, 0x20, 0x12, 0x83, 0x63, 0x61, 0x74].as_slice()
-            && outer.as_slice()
-                == [0xc9, 0x11, 0xc7, 0x82, 0x20, 0x12, 0x83, 0x63, 0x61, 0x74].as_slice()
-            && goes_both_ways::<Leaf>(alloc, bytes.as_slice())?
-            && goes_both_ways::<Extension>(alloc, outer.as_slice())?,
-    )
-}
-
-#[test]
-fn leaves_and_extensions(rt: HostRuntime) -> Result<(), Fail> {
-    let alloc = rt.alloc();
-    assert!(rt; short_nodes_go_both_ways(alloc)?);
-    Ok(())
-}
-
-/// Returns whether a branch with a hash at place 1 and the value `v` is read, and goes both ways.
-fn branch_goes_both_ways(alloc: Global) -> Result<bool, Fail> {
-    let mut bytes = Vec::from_array(alloc, [0xf1, 0x80])?;
-    bytes.extend_from_slice(&HASH_BYTES)?;
-    bytes.extend_from_slice(&[0x80; 14])?;
-    bytes.push(0x76)?;
-    let branch = rlp::decode_strict::<Branch>(alloc, bytes.as_slice())?;
-    Ok(
-        branch.children[0] == Child::Nothing
-            && branch.children[1] == Child::Node(Hash(HASH))
-            && branch.children[15] == Child::Nothing
-            && branch.value.as_slice() == b"v".as_slice()
-            && goes_both_ways::<Branch>(alloc, bytes.as_slice())?,
-    )
-}
-
-#[test]
-fn branches(rt: HostRuntime) -> Result<(), Fail> {
-    let alloc = rt.alloc();
-    assert!(rt; branch_goes_both_ways(alloc)?);
-    Ok(())
-}
-
-/// The bytes of a leaf, its path, and its value.
-type LeafRow = (&'static [u8], &'static [u8], &'static [u8]);
-
-const LEAVES: [LeafRow; 2] = [
-    (
-        &[0xc6, 0x35, 0x84, b'c', b'o', b'i', b'n'],
-        &[0x35],
-        b"coin",
-    ),
-    (
-        &[
-            0xcf, 0x85, 0x20, 0x6f, 0x72, 0x73, 0x65, 0x88, b's', b't', b'a', b'l', b'l', b'i',
-            b'o', b'n',
-        ],
-        &[0x20, 0x6f, 0x72, 0x73, 0x65],
-        b"stallion",
-    ),
-];
-
-/// Returns whether each leaf is written as its bytes, and read back from them.
-fn leaves_go_both_ways(alloc: Global) -> Result<bool, Fail> {
-    for (bytes, path, value) in &LEAVES {
-        let leaf = Leaf {
-            path: Vec::from_slice(alloc, path)?,
-            value: Vec::from_slice(alloc, value)?,
-        };
-        let back = rlp::decode::<Leaf>(alloc, bytes)?;
-        if rlp::encode(alloc, &leaf)?.as_slice() != *bytes
-            || back.path.as_slice() != *path
-            || back.value.as_slice() != *value
-        {
-            return Ok(false);
-        }
-    }
-    Ok(true)
-}
-
-#[test]
-fn leaves(rt: HostRuntime) -> Result<(), Fail> {
-    assert!(rt; leaves_go_both_ways(rt.alloc())?);
-    Ok(())
-}
-
-/// Returns a branch with children at places 1 and 15, and a value.
-fn branch(alloc: Global) -> Result<Branch, AllocError> {
+/// Returns the branch with a hash at place 1, a child at place 15 and a value.
+fn branch(alloc: Global, last: Child, value: &[u8]) -> Result<Branch, AllocError> {
     Ok(Branch {
         children: [
             Child::Nothing,
@@ -214,43 +155,86 @@ fn branch(alloc: Global) -> Result<Branch, AllocError> {
             Child::Nothing,
             Child::Nothing,
             Child::Nothing,
-            Child::Node(Hash([0xff; 32])),
+            last,
         ],
-        value: Vec::from_slice(alloc, b"verb")?,
+        value: Vec::from_slice(alloc, value)?,
     })
 }
 
-/// Returns the bytes of the branch.
-fn branch_bytes(alloc: Global) -> Result<Vec<u8>, AllocError> {
-    let mut bytes = Vec::from_slice(alloc, &[0xf8, 0x55, 0x80, 0xa0])?;
-    bytes.extend_from_slice(&[0x11; 32])?;
-    bytes.extend_from_slice(&[0x80; 13])?;
-    bytes.extend_from_slice(&[0xa0])?;
-    bytes.extend_from_slice(&[0xff; 32])?;
-    bytes.extend_from_slice(&[0x84, b'v', b'e', b'r', b'b'])?;
-    Ok(bytes)
+/// Returns whether bytes with one byte changed are refused, or are read as the node that is written
+/// so.
+fn changes_are_noticed(alloc: Global, bytes: &[u8]) -> Result<bool, Fail> {
+    for place in 0..bytes.len() {
+        let mut changed = Vec::from_slice(alloc, bytes)?;
+        if let Some(byte) = changed.get_mut(place) {
+            *byte ^= 0x20;
+        }
+        if let Ok(node) = rlp::decode_strict::<TrieNode>(alloc, changed.as_slice()) {
+            if rlp::encode(alloc, &node)?.as_slice() != changed.as_slice() {
+                return Ok(false);
+            }
+        }
+    }
+    Ok(true)
 }
 
-/// Returns whether the branch is written as its bytes, and read back from them.
-fn whole_branch_goes_both_ways(alloc: Global) -> Result<bool, Fail> {
-    let branch = branch(alloc)?;
-    let bytes = branch_bytes(alloc)?;
-    let back = rlp::decode::<Branch>(alloc, bytes.as_slice())?;
-    Ok(
-        rlp::encode(alloc, &branch)?.as_slice() == bytes.as_slice()
-            && back.children == branch.children
-            && back.value.as_slice() == b"verb".as_slice(),
-    )
+/// Returns the digits that a value is written as, or `refused`.
+fn digits<T: Encodable>(alloc: Global, value: &T) -> Result<String, Fail> {
+    match rlp::encode(alloc, value) {
+        Ok(written) => Ok(hex::encode(alloc, written.as_slice())?),
+        Err(_) => Ok(String::from_str(alloc, "refused")?),
+    }
 }
 
-#[test]
-fn whole_branches(rt: HostRuntime) -> Result<(), Fail> {
-    assert!(rt; whole_branch_goes_both_ways(rt.alloc())?);
-    Ok(())
+/// Returns what a call about a node answers.
+pub(crate) fn answer(alloc: Global, name: &str, bytes: &[u8]) -> Result<String, Fail> {
+    match name {
+        "nothing" => written(alloc, &Child::Nothing, bytes),
+        "hash" => written(alloc, &Child::Node(Hash([0x11; 32])), bytes),
+        "kept" => written(alloc, &Child::Inline(RawItem::new(alloc, bytes)?), bytes),
+        "kept of" => digits(alloc, &Child::Inline(RawItem::new(alloc, bytes)?)),
+        "leaf of cat" => written(alloc, &leaf(alloc, &[0x20, 0x12], b"cat")?, bytes),
+        "leaf of coin" => written(alloc, &leaf(alloc, &[0x35], b"coin")?, bytes),
+        "leaf of stallion" => {
+            let path = [0x20, 0x6f, 0x72, 0x73, 0x65];
+            written(alloc, &leaf(alloc, &path, b"stallion")?, bytes)
+        }
+        "extension to the cat" => {
+            let cat = rlp::encode(alloc, &leaf(alloc, &[0x20, 0x12], b"cat")?)?;
+            let child = Child::Inline(RawItem::new(alloc, cat.as_slice())?);
+            written(alloc, &extension(alloc, &[0x11], child)?, bytes)
+        }
+        "branch of v" => written(alloc, &branch(alloc, Child::Nothing, b"v")?, bytes),
+        "branch of verb" => {
+            written(
+                alloc,
+                &branch(alloc, Child::Node(Hash([0xff; 32])), b"verb")?,
+                bytes,
+            )
+        }
+        "changed" => Ok(format!(in alloc; "{}", changes_are_noticed(alloc, bytes)?)?),
+        _ => marked(alloc, name, bytes),
+    }
 }
 
-#[test]
-fn short_branches(rt: HostRuntime) {
-    let read = rlp::decode::<Branch>(rt.alloc(), &[0xc1, 0x80]);
-    assert!(rt; matches!(read, Err(DecoderError::RlpIncorrectListLen)));
+/// Returns what a call about a node with a mark in its path answers.
+fn marked(alloc: Global, name: &str, bytes: &[u8]) -> Result<String, Fail> {
+    match name {
+        "leaf by" => digits(alloc, &TrieNode::Leaf(leaf(alloc, bytes, b"coin")?)),
+        "extension by" => {
+            let extension = extension(alloc, bytes, Child::Nothing)?;
+            digits(alloc, &TrieNode::Extension(extension))
+        }
+        "extension by 17 to" => {
+            let child = Child::Inline(RawItem::new(alloc, bytes)?);
+            digits(
+                alloc,
+                &TrieNode::Extension(extension(alloc, &[0x17], child)?),
+            )
+        }
+        _ => {
+            let branch = rlp::decode_strict::<Branch>(alloc, bytes)?;
+            written(alloc, &TrieNode::Branch(branch), bytes)
+        }
+    }
 }

@@ -1,41 +1,222 @@
-//! Records with chosen values. The expected bytes were worked out by the rules of the format.
+//! Records by themselves: headers, blocks, receipts, accounts and their parts.
 
-use crate::support::{bytes_of, goes_both_ways, wide};
+use crate::reading::written;
+use crate::text::wide;
 use rlp::DecoderError;
 use rlp_ethereum::{
-    ACCESS_LIST_TYPE, AccessList, AccessListItem, AccessListTransaction, Account, Address, Bloom,
-    Cancun, FEE_MARKET_TYPE, FeeMarketTransaction, Hash, Header, Log, London, Prague, Receipt,
-    Recipient, Shanghai, Withdrawal, from_envelope, to_envelope,
+    ACCESS_LIST_TYPE, AccessList, AccessListItem, AccessListTransaction, Address, Bloom,
+    FEE_MARKET_TYPE, FeeMarketTransaction, Hash, Header, Log, Receipt, Recipient, from_envelope,
+    to_envelope,
 };
 use std::alloc::{AllocError, Global};
 use std::test::Fail;
 
-/// The payload of a payment of 1 ether, of type 2.
-const PAYMENT: [&str; 2] = [
-    "f30180843b9aca008504a817c800825208943535353535353535353535353535353535353535880d",
-    "e0b6b3a764000080c0800102",
-];
+/// Rows of headers, blocks, receipts, accounts and their parts.
+pub(crate) const ROWS: &str = "
+    Hashes.
+    record: hash | a028ef61340bd939bc2195fe537567866003e1a15d3c71ff63e1590620aa636276
+    Hash | 8180 | RlpIsTooShort
 
-/// The payload of a transaction of type 1 that creates a contract, with an access list.
-const CREATION: [&str; 2] = [
-    "f84d0180843b9aca00825208808083636174f838f794111111111111111111111111111111111111",
-    "1111e1a02222222222222222222222222222222222222222222222222222222222222222010102",
-];
+    Logs: the list of an address, the list of one hash, and three bytes.
+    record: log | f83b941111111111111111111111111111111111111111e1a02222222222222222222222222222222\
+     22222222222222222222222222222222283636174
+    Log | 05 | RlpExpectedToBeList
+    Log | c0 | RlpIncorrectListLen
+    Log | c405c08080 | RlpIncorrectListLen
+    Log | c305c0c0 | RlpIsTooShort
 
-/// The end of a receipt: the list of one log.
-const RECEIPT_END: [&str; 2] = [
-    "f83df83b941111111111111111111111111111111111111111e1a022222222222222222222222222",
-    "2222222222222222222222222222222222222283636174",
-];
+    The example of an access list in EIP-2930, of 116 bytes: an account with two keys, and another
+    with none. An independent program wrote the bytes.
+    record: access list | f872f85994de0b295669a9fd93d5f28d9ec85e40f4cb697baef842a000000000000000000\
+     00000000000000000000000000000000000000000000003a0000000000000000000000000000000000000000000000\
+     0000000000000000007d694bb9bc244d798123fde783fcc1c72d3bb8c189413c0
 
-/// A withdrawal of 4 Gwei.
-const WITHDRAWAL: [&str; 1] = ["d8010294030303030303030303030303030303030303030304"];
+    A withdrawal of 4 Gwei, and an account with one transaction and 256 Wei.
+    Withdrawal | d8010294030303030303030303030303030303030303030304
+    Account | f84601820100a00404040404040404040404040404040404040404040404040404040404040404a005050\
+     50505050505050505050505050505050505050505050505050505050505
 
-/// An account with one transaction and 256 Wei.
-const ACCOUNT: [&str; 2] = [
-    "f84601820100a00404040404040404040404040404040404040404040404040404040404040404a0",
-    "0505050505050505050505050505050505050505050505050505050505050505",
-];
+    The receipt of a transaction that succeeded, with one log.
+    record: receipt | f9014601825208b90100+00*256+f83df83b94111111111111111111111111111111111111111\
+     1e1a0222222222222222222222222222222222222222222222222222222222222222283636174
+
+    A payment, the creation of a contract, and their envelopes.
+    record: payment | PAYMENT
+    record: creation | CREATION
+    record: envelope of the payment |  | 02f30180843b9aca008504a817c8008252089435353535353535353535\
+     35353535353535353535880de0b6b3a764000080c0800102
+    record: envelope of the creation |  | 01f84d0180843b9aca00825208808083636174f838f79411111111111\
+     11111111111111111111111111111e1a02222222222222222222222222222222222222222222222222222222222222\
+     222010102
+    FeeMarketTransaction alone | 02+PAYMENT
+    FeeMarketTransaction alone |  | refused
+    record: payment of type 1 | 02+PAYMENT | Custom(\"another type\")
+    record: gas of the payment | 02+PAYMENT | 21000
+
+    The first headers of the main network, with the values that block explorers show.
+    Header | GENESIS
+    Header | BLOCK_1
+    fields of Header | GENESIS | 0000000000000000000000000000000000000000000000000000000000000000 1\
+     dcc4de8dec75d7aab85b567b6ccd41ad312451b948a7413f0a142fd40d49347 000000000000000000000000000000\
+     0000000000 d7f8974fb5ac78d9ac099b9ad5018bedc2ce0a72dad1827a1709da30580f0544 56e81f171bcc55a6ff\
+     8345e692c0f86e5b48e01b996cadc001622fb5e363b421 56e81f171bcc55a6ff8345e692c0f86e5b48e01b996cadc\
+     001622fb5e363b421 0000000000000000000000000000000000000000000000000000000400000000 11bbe8db4e3\
+     47b4e8c937c1c8370e4b5ed33adb3db69cbdb7a38e1e50b1b82fa 0000000000000000000000000000000000000000\
+     000000000000000000000000 0000000000000042 0 5000 0 0 true
+    fields of Header | BLOCK_1 | d4e56740f876aef8c010b86a40d5f56745a118d0906a34e69aec8c0db1cb8fa3 1\
+     dcc4de8dec75d7aab85b567b6ccd41ad312451b948a7413f0a142fd40d49347 05a56e2d52c817161883f50c441c32\
+     28cfe54d9f d67e4d450343046425ae4271474353857ab860dbc0a1dde64b41b5cd3a532bf3 56e81f171bcc55a6ff\
+     8345e692c0f86e5b48e01b996cadc001622fb5e363b421 56e81f171bcc55a6ff8345e692c0f86e5b48e01b996cadc\
+     001622fb5e363b421 00000000000000000000000000000000000000000000000000000003ff800000 476574682f7\
+     6312e302e302f6c696e75782f676f312e342e32 969b900de27b6ac6a67742365dd65f55a0526c41fd18e1b16f1a12\
+     15c2e66f59 539bd4979fef1ec4 1 5000 0 1438269988 true
+    forks of Header | GENESIS | 535 false None None
+    forks of Header | BLOCK_1 | 532 false None None
+
+    Headers with chosen values, of the first forks and since London, Shanghai, Cancun and Prague:
+    the length, whether there is a root of withdrawals, the gas of blobs, the base fee and the
+    hashes. An independent program wrote those with the base fee 5.
+    Header | f901ed+FIFTEEN
+    fields of Header | f901ed+FIFTEEN | 01010101010101010101010101010101010101010101010101010101010\
+     10101 0202020202020202020202020202020202020202020202020202020202020202 03030303030303030303030\
+     30303030303030303 0404040404040404040404040404040404040404040404040404040404040404 05050505050\
+     50505050505050505050505050505050505050505050505050505 0606060606060606060606060606060606060606\
+     060606060606060606060606 0000000000000000000000000000000000000000000000000000000000000000  070\
+     7070707070707070707070707070707070707070707070707070707070707 0000000000000000 1 2 3 4 true
+    forks of Header | f901ed+FIFTEEN | 496 false None None
+    Header | f901ee+FIFTEEN+07
+    forks of Header | f901ee+FIFTEEN+07 | 497 false None None 0000000000000000000000000000000000000\
+     000000000000000000000000007
+    Header | f9020f+FIFTEEN+07a0+08*32
+    forks of Header | f9020f+FIFTEEN+07a0+08*32 | 530 true None None 000000000000000000000000000000\
+     0000000000000000000000000000000007 08080808080808080808080808080808080808080808080808080808080\
+     80808
+    Header | f90232+FIFTEEN+07a0+08*32+8080a0+09*32
+    forks of Header | f90232+FIFTEEN+07a0+08*32+8080a0+09*32 | 565 true Some(0) Some(0) 00000000000\
+     00000000000000000000000000000000000000000000000000007 0808080808080808080808080808080808080808\
+     080808080808080808080808 0909090909090909090909090909090909090909090909090909090909090909
+    Header | f90253+FIFTEEN+07a0+08*32+8080a0+09*32+a0+0a*32
+    forks of Header | f90253+FIFTEEN+07a0+08*32+8080a0+09*32+a0+0a*32 | 598 true Some(0) Some(0) 00\
+     00000000000000000000000000000000000000000000000000000000000007 0808080808080808080808080808080\
+     808080808080808080808080808080808 090909090909090909090909090909090909090909090909090909090909\
+     0909 0a0a0a0a0a0a0a0a0a0a0a0a0a0a0a0a0a0a0a0a0a0a0a0a0a0a0a0a0a0a0a0a
+    Header | f90232+FIFTEEN+05a0+08*32+0607a0+09*32
+    forks of Header | f90232+FIFTEEN+05a0+08*32+0607a0+09*32 | 565 true Some(6) Some(7) 00000000000\
+     00000000000000000000000000000000000000000000000000005 0808080808080808080808080808080808080808\
+     080808080808080808080808 0909090909090909090909090909090909090909090909090909090909090909
+    forks of Header | f90253+FIFTEEN+05a0+08*32+0607a0+09*32+a0+0a*32 | 598 true Some(6) Some(7) 00\
+     00000000000000000000000000000000000000000000000000000000000005 0808080808080808080808080808080\
+     808080808080808080808080808080808 090909090909090909090909090909090909090909090909090909090909\
+     0909 0a0a0a0a0a0a0a0a0a0a0a0a0a0a0a0a0a0a0a0a0a0a0a0a0a0a0a0a0a0a0a0a
+
+    Lists of 14 to 22 empty strings. Headers of forks have 15, 16, 17, 20 and 21 fields, and an empty
+    string is no hash.
+    Header | ce+80*14 | RlpIncorrectListLen
+    Header | cf+80*15 | RlpIsTooShort
+    Header | d0+80*16 | RlpIsTooShort
+    Header | d1+80*17 | RlpIsTooShort
+    Header | d2+80*18 | RlpIncorrectListLen
+    Header | d3+80*19 | RlpIncorrectListLen
+    Header | d4+80*20 | RlpIsTooShort
+    Header | d5+80*21 | RlpIsTooShort
+    Header | d6+80*22 | RlpIncorrectListLen
+
+    Too many fields, one or two of the three fields of Cancun, a base fee that begins with a zero, a
+    list in the place of a hash, a string, and a short list.
+    Header | f901f4+FIFTEEN+07070707070707 | RlpIncorrectListLen
+    Header | f90210+FIFTEEN+05a0+08*32+06 | RlpIncorrectListLen
+    Header | f90211+FIFTEEN+05a0+08*32+0607 | RlpIncorrectListLen
+    Header | f901ee+FIFTEEN+00 | RlpInvalidIndirection
+    Header | f901ef+FIFTEEN+07c0 | RlpExpectedToBeData
+    Header | 05 | RlpExpectedToBeList
+    Header | c105 | RlpIncorrectListLen
+
+    Lists that aren't the fields since London, with what the fault prints: a string, no items, a fee
+    that begins with a zero, and a list in the place of the root of the withdrawals and of the root
+    of the beacon block.
+    London | 05 | RlpExpectedToBeList
+    London | c0 | RlpIncorrectListLen
+    London | c100 | field 0: RlpInvalidIndirection
+    London | c205c0 | field 1: RlpExpectedToBeData
+    London | e505a0+08*32+0607c0 | field 4: RlpExpectedToBeData
+
+    Blocks 0 and 1 of the main network, with the lengths that block explorers show: the number,
+    whether there are withdrawals, and the length. Then block 1 as one since Shanghai, and as a new
+    block with the total difficulty 34351349760.
+    Block | f90219+GENESIS+c0c0
+    fields of Block | f90219+GENESIS+c0c0 | 0 false 540
+    Block | f90216+BLOCK_1+c0c0
+    fields of Block | f90216+BLOCK_1+c0c0 | 1 false 537
+    Block | f90217+BLOCK_1+c0c0c0
+    fields of Block | f90217+BLOCK_1+c0c0c0 | 1 true 538
+    NewBlock | f9021ff90216+BLOCK_1+c0c08507ff800000
+    fields of NewBlock | f9021ff90216+BLOCK_1+c0c08507ff800000 | 0000000000000000000000000000000000\
+     0000000000000000000007ff800000
+
+    A body of the first transaction of the main network, of a payment of type 2, and of a
+    withdrawal. Then the body of no items, before Shanghai and since, and bytes that are no body.
+    Body | f8bcf89ff86780862d79883d2000825208945df9b87991262f6ba471f09758cde1c0fc1de734827a69801ca0\
+     88ff6cf0fefd94db46111149ae4bfc179e9b94721fffd821d38d16464b3f71d0a045e0aff800961cfce805daef7016\
+     b9b675c137a6a41a548f7b60a3484c06a33ab502f30180843b9aca008504a817c80082520894353535353535353535\
+     3535353535353535353535880de0b6b3a764000080c0800102c0d9d801029403030303030303030303030303030303\
+     0303030304
+    fields of Body | f8bcf89ff86780862d79883d2000825208945df9b87991262f6ba471f09758cde1c0fc1de73482\
+     7a69801ca088ff6cf0fefd94db46111149ae4bfc179e9b94721fffd821d38d16464b3f71d0a045e0aff800961cfce8\
+     05daef7016b9b675c137a6a41a548f7b60a3484c06a33ab502f30180843b9aca008504a817c8008252089435353535\
+     35353535353535353535353535353535880de0b6b3a764000080c0800102c0d9d80102940303030303030303030303\
+     03030303030303030304 | type 0 0 21000, type 2 0 21000, 0 true
+    Body | c2c0c0
+    fields of Body | c2c0c0 | 0 false
+    Body | c3c0c0c0
+    fields of Body | c3c0c0c0 | 0 true
+    Body | 80 | RlpExpectedToBeList
+    Body | c1c0 | RlpIncorrectListLen
+    Body | c4c0c0c0c0 | RlpIncorrectListLen
+    Body | c4c180c0c0 | RlpIsTooShort
+    Body | c4c0c0c105 | RlpExpectedToBeList
+
+    Receipts of transactions of each type that succeeded and used 21,000 units of gas, as items and
+    by themselves. The byte before the list is the type. An independent program wrote the bytes.
+    TypedReceipt | f9010801825208b90100+00*256+c0
+    TypedReceipt | b9010c01f9010801825208b90100+00*256+c0
+    TypedReceipt | b9010c02f9010801825208b90100+00*256+c0
+    TypedReceipt | b9010c03f9010801825208b90100+00*256+c0
+    TypedReceipt | b9010c04f9010801825208b90100+00*256+c0
+    TypedReceipt alone | f9010801825208b90100+00*256+c0
+    TypedReceipt alone | 01f9010801825208b90100+00*256+c0
+    TypedReceipt alone | 02f9010801825208b90100+00*256+c0
+    TypedReceipt alone | 03f9010801825208b90100+00*256+c0
+    TypedReceipt alone | 04f9010801825208b90100+00*256+c0
+    kind of TypedReceipt | f9010801825208b90100+00*256+c0 | legacy
+    kind of TypedReceipt | b9010c01f9010801825208b90100+00*256+c0 | access list
+    kind of TypedReceipt | b9010c02f9010801825208b90100+00*256+c0 | fee market
+    kind of TypedReceipt | b9010c03f9010801825208b90100+00*256+c0 | blob
+    kind of TypedReceipt | b9010c04f9010801825208b90100+00*256+c0 | set code
+
+    Bytes that are no receipts, as items and by themselves.
+    TypedReceipt |  | RlpIsTooShort
+    TypedReceipt | 80 | RlpIsTooShort
+    TypedReceipt | 05 | Custom(\"unknown transaction type\")
+    TypedReceipt | 8205c0 | Custom(\"unknown transaction type\")
+    TypedReceipt | c0 | RlpIncorrectListLen
+    TypedReceipt | 8201c0 | RlpIncorrectListLen
+    TypedReceipt | 820180 | RlpExpectedToBeList
+    TypedReceipt | 8101 | RlpInvalidIndirection
+    TypedReceipt alone |  | RlpIsTooShort
+    TypedReceipt alone | 05c0 | Custom(\"unknown transaction type\")
+    TypedReceipt alone | 80c0 | Custom(\"unknown transaction type\")
+    TypedReceipt alone | c0 | RlpIncorrectListLen
+    TypedReceipt alone | 01c0 | RlpIncorrectListLen
+    TypedReceipt alone | 0180 | RlpExpectedToBeList
+    TypedReceipt alone | 01 | RlpExpectedToBeList
+";
+
+/// Returns whether the block with this header has a root of withdrawals, as blocks have since
+/// Shanghai.
+pub(crate) fn has_withdrawals(alloc: Global, bytes: &[u8]) -> Result<bool, DecoderError> {
+    let header = rlp::decode_strict::<Header>(alloc, bytes)?;
+    Ok(header.withdrawals_root().is_some())
+}
 
 /// Returns a payment of 1 ether, with a chosen signature.
 fn payment(alloc: Global) -> FeeMarketTransaction {
@@ -76,204 +257,89 @@ fn creation(alloc: Global) -> Result<AccessListTransaction, AllocError> {
     })
 }
 
-/// Returns the receipt of a transaction that succeeded, with one log.
-fn receipt(alloc: Global) -> Result<Receipt, AllocError> {
-    let log = Log {
+/// Returns a log of an address, a hash and three bytes.
+fn log(alloc: Global) -> Result<Log, AllocError> {
+    Ok(Log {
         address: Address([0x11; 20]),
         topics: Vec::from_array(alloc, [Hash([0x22; 32])])?,
         data: Vec::from_array(alloc, *b"cat")?,
-    };
+    })
+}
+
+/// Returns the receipt of a transaction that succeeded, with one log.
+fn receipt(alloc: Global) -> Result<Receipt, AllocError> {
     Ok(Receipt {
         status_or_state_root: Vec::from_array(alloc, [1])?,
         cumulative_gas_used: 21_000,
         logs_bloom: Bloom([0; 256]),
-        logs: Vec::from_array(alloc, [log])?,
+        logs: Vec::from_array(alloc, [log(alloc)?])?,
     })
 }
 
-/// Returns whether the block with this header has a root of withdrawals, as blocks have since
-/// Shanghai.
-fn has_withdrawals(alloc: Global, bytes: &[u8]) -> Result<bool, DecoderError> {
-    let header = rlp::decode_strict::<Header>(alloc, bytes)?;
-    Ok(header.withdrawals_root().is_some())
-}
+/// The hash whose digits stand in the row.
+const HASH: Hash = Hash([
+    0x28, 0xef, 0x61, 0x34, 0x0b, 0xd9, 0x39, 0xbc, 0x21, 0x95, 0xfe, 0x53, 0x75, 0x67, 0x86, 0x60,
+    0x03, 0xe1, 0xa1, 0x5d, 0x3c, 0x71, 0xff, 0x63, 0xe1, 0x59, 0x06, 0x20, 0xaa, 0x63, 0x62, 0x76,
+]);
 
-/// Returns a header with chosen values, without the fields of later forks.
-fn header(alloc: Global) -> Header {
-    Header {
-        parent_hash: Hash([1; 32]),
-        ommers_hash: Hash([2; 32]),
-        beneficiary: Address([3; 20]),
-        state_root: Hash([4; 32]),
-        transactions_root: Hash([5; 32]),
-        receipts_root: Hash([6; 32]),
-        logs_bloom: Bloom([0; 256]),
-        difficulty: wide(0),
-        number: 1,
-        gas_limit: 2,
-        gas_used: 3,
-        timestamp: 4,
-        extra_data: Vec::new(alloc),
-        mix_hash: Hash([7; 32]),
-        nonce: [0; 8],
-        since_london: None,
-    }
-}
-
-/// Returns what a header has since London, with a chosen base fee.
-fn london(since_shanghai: Option<Shanghai>) -> London {
-    London {
-        base_fee_per_gas: wide(7),
-        since_shanghai,
-    }
-}
-
-/// Returns what a header has since Shanghai, with a chosen root.
-fn shanghai(since_cancun: Option<Cancun>) -> Shanghai {
-    Shanghai {
-        withdrawals_root: Hash([8; 32]),
-        since_cancun,
-    }
-}
-
-/// Returns what a header has since Cancun, with chosen values.
-fn cancun(since_prague: Option<Prague>) -> Cancun {
-    Cancun {
-        blob_gas_used: 0,
-        excess_blob_gas: 0,
-        parent_beacon_block_root: Hash([9; 32]),
-        since_prague,
-    }
-}
-
-/// Returns whether a header is written in `len` bytes and read back, and has a root of withdrawals
-/// exactly if `has`.
-fn is_written(alloc: Global, header: &Header, len: usize, has: bool) -> Result<bool, Fail> {
-    let bytes = rlp::encode(alloc, header)?;
-    Ok(
-        bytes.len() == len
-            && has_withdrawals(alloc, bytes.as_slice())? == has
-            && goes_both_ways::<Header>(alloc, bytes.as_slice())?,
-    )
-}
-
-#[test]
-fn headers_of_all_forks(rt: HostRuntime) -> Result<(), Fail> {
-    let alloc = rt.alloc();
-    let mut header = header(alloc);
-    assert!(rt; is_written(alloc, &header, 496, false)?);
-    header.since_london = Some(london(None));
-    assert!(rt; is_written(alloc, &header, 497, false)?);
-    header.since_london = Some(london(Some(shanghai(None))));
-    assert!(rt; is_written(alloc, &header, 530, true)?);
-    header.since_london = Some(london(Some(shanghai(Some(cancun(None))))));
-    assert!(rt; is_written(alloc, &header, 565, true)?);
-    let prague = Prague {
-        requests_hash: Hash([10; 32]),
-    };
-    header.since_london = Some(london(Some(shanghai(Some(cancun(Some(prague)))))));
-    assert!(rt; is_written(alloc, &header, 598, true)?);
-    Ok(())
-}
-
-/// The number of empty strings in a list, and the fault of the list as a header. Headers of forks
-/// have 15, 16, 17, 20 and 21 fields, and an empty string is no hash.
-const NO_HEADERS: [(u8, DecoderError); 9] = [
-    (14, DecoderError::RlpIncorrectListLen),
-    (15, DecoderError::RlpIsTooShort),
-    (16, DecoderError::RlpIsTooShort),
-    (17, DecoderError::RlpIsTooShort),
-    (18, DecoderError::RlpIncorrectListLen),
-    (19, DecoderError::RlpIncorrectListLen),
-    (20, DecoderError::RlpIsTooShort),
-    (21, DecoderError::RlpIsTooShort),
-    (22, DecoderError::RlpIncorrectListLen),
+/// The addresses of the example of EIP-2930.
+const FIRST: [u8; 20] = [
+    0xde, 0x0b, 0x29, 0x56, 0x69, 0xa9, 0xfd, 0x93, 0xd5, 0xf2, 0x8d, 0x9e, 0xc8, 0x5e, 0x40, 0xf4,
+    0xcb, 0x69, 0x7b, 0xae,
 ];
 
-/// Returns the first of these numbers with another fault.
-fn other_fault(alloc: Global) -> Result<Option<u8>, Fail> {
-    for (count, fault) in NO_HEADERS {
-        let mut bytes = Vec::new(alloc);
-        bytes.push(0xc0 | count)?;
-        for _ in 0..count {
-            bytes.push(0x80)?;
+const SECOND: [u8; 20] = [
+    0xbb, 0x9b, 0xc2, 0x44, 0xd7, 0x98, 0x12, 0x3f, 0xde, 0x78, 0x3f, 0xcc, 0x1c, 0x72, 0xd3, 0xbb,
+    0x8c, 0x18, 0x94, 0x13,
+];
+
+/// Returns the example of EIP-2930: an account with the keys 3 and 7, and another with none.
+fn access_list(alloc: Global) -> Result<AccessList, AllocError> {
+    let first = AccessListItem {
+        address: Address(FIRST),
+        storage_keys: Vec::from_array(alloc, [Hash(wide(3).bytes), Hash(wide(7).bytes)])?,
+    };
+    let second = AccessListItem {
+        address: Address(SECOND),
+        storage_keys: Vec::new(alloc),
+    };
+    Ok(AccessList(Vec::from_array(alloc, [first, second])?))
+}
+
+/// Returns what a call of this page answers.
+pub(crate) fn answer(alloc: Global, name: &str, bytes: &[u8]) -> Result<String, Fail> {
+    match name {
+        "hash" => written(alloc, &HASH, bytes),
+        "log" => written(alloc, &log(alloc)?, bytes),
+        "receipt" => written(alloc, &receipt(alloc)?, bytes),
+        "access list" => written(alloc, &access_list(alloc)?, bytes),
+        "payment" => written(alloc, &payment(alloc), bytes),
+        "creation" => written(alloc, &creation(alloc)?, bytes),
+        _ => enveloped(alloc, name, bytes),
+    }
+}
+
+/// Returns what a call about an envelope answers.
+fn enveloped(alloc: Global, name: &str, bytes: &[u8]) -> Result<String, Fail> {
+    match name {
+        "envelope of the payment" => {
+            let envelope = to_envelope(alloc, FEE_MARKET_TYPE, &payment(alloc))?;
+            Ok(hex::encode(alloc, envelope.as_slice())?)
         }
-        if rlp::decode::<Header>(alloc, bytes.as_slice()).err() != Some(fault) {
-            return Ok(Some(count));
+        "envelope of the creation" => {
+            let envelope = to_envelope(alloc, ACCESS_LIST_TYPE, &creation(alloc)?)?;
+            Ok(hex::encode(alloc, envelope.as_slice())?)
+        }
+        "payment of type 1" => {
+            match from_envelope::<FeeMarketTransaction>(alloc, ACCESS_LIST_TYPE, bytes) {
+                Ok(_) => Ok(String::from_str(alloc, "no fault")?),
+                Err(fault) => Ok(format!(in alloc; "{fault:?}")?),
+            }
+        }
+        _ => {
+            let payment = from_envelope::<FeeMarketTransaction>(alloc, FEE_MARKET_TYPE, bytes)?;
+            let gas = payment.gas_limit;
+            Ok(format!(in alloc; "{gas}")?)
         }
     }
-    Ok(None)
-}
-
-#[test]
-fn headers_of_other_lengths(rt: HostRuntime) -> Result<(), Fail> {
-    assert_eq!(rt; other_fault(rt.alloc())?, None);
-    Ok(())
-}
-
-#[test]
-fn transactions_with_types(rt: HostRuntime) -> Result<(), Fail> {
-    let alloc = rt.alloc();
-    let bytes = rlp::encode(alloc, &payment(alloc))?;
-    assert_eq!(rt; bytes.as_slice(), bytes_of(alloc, &PAYMENT)?.as_slice());
-    assert!(rt; goes_both_ways::<FeeMarketTransaction>(alloc, bytes.as_slice())?);
-    let bytes = rlp::encode(alloc, &creation(alloc)?)?;
-    assert_eq!(rt; bytes.as_slice(), bytes_of(alloc, &CREATION)?.as_slice());
-    assert!(rt; goes_both_ways::<AccessListTransaction>(alloc, bytes.as_slice())?);
-    Ok(())
-}
-
-#[test]
-fn other_records(rt: HostRuntime) -> Result<(), Fail> {
-    let alloc = rt.alloc();
-    let bytes = rlp::encode(alloc, &receipt(alloc)?)?;
-    assert!(rt;
-        bytes.as_slice().starts_with(&[0xf9, 0x01, 0x46, 0x01, 0x82, 0x52, 0x08, 0xb9, 0x01, 0x00])
-    );
-    assert!(rt;
-        bytes
-            .as_slice()
-            .ends_with(bytes_of(alloc, &RECEIPT_END)?.as_slice())
-    );
-    assert!(rt; goes_both_ways::<Receipt>(alloc, bytes.as_slice())?);
-    assert!(rt; goes_both_ways::<Withdrawal>(alloc, bytes_of(alloc, &WITHDRAWAL)?.as_slice())?);
-    assert!(rt; goes_both_ways::<Account>(alloc, bytes_of(alloc, &ACCOUNT)?.as_slice())?);
-    Ok(())
-}
-
-/// The envelopes of the payment and of the creation: a byte, and the payload.
-const ENVELOPES: [u8; 2] = [0x02, 0x01];
-
-/// Returns whether the payment is read from its envelope and from no other bytes.
-fn payment_has_an_envelope(alloc: Global) -> Result<bool, Fail> {
-    let whole = to_envelope(alloc, FEE_MARKET_TYPE, &payment(alloc))?;
-    let mut bytes = Vec::from_array(alloc, [ENVELOPES[0]])?;
-    bytes.extend_from_slice(bytes_of(alloc, &PAYMENT)?.as_slice())?;
-    let back = from_envelope::<FeeMarketTransaction>(alloc, 0x02, bytes.as_slice())?;
-    let other = from_envelope::<FeeMarketTransaction>(alloc, 0x01, bytes.as_slice()).err()
-        == Some(DecoderError::Custom("another type"));
-    bytes.push(0)?;
-    let more = from_envelope::<FeeMarketTransaction>(alloc, 0x02, bytes.as_slice()).is_err();
-    let none = from_envelope::<FeeMarketTransaction>(alloc, 0x02, &[]).is_err();
-    let (written, read) = (
-        whole.as_slice().len() + 1 == bytes.len(),
-        back.gas_limit == 21_000,
-    );
-    Ok(written && bytes.as_slice().starts_with(whole.as_slice()) && read && other && more && none)
-}
-
-/// Returns whether the creation is written into its envelope.
-fn creation_has_an_envelope(alloc: Global) -> Result<bool, Fail> {
-    let whole = to_envelope(alloc, ACCESS_LIST_TYPE, &creation(alloc)?)?;
-    let mut bytes = Vec::from_array(alloc, [ENVELOPES[1]])?;
-    bytes.extend_from_slice(bytes_of(alloc, &CREATION)?.as_slice())?;
-    Ok(whole.as_slice() == bytes.as_slice())
-}
-
-#[test]
-fn typed_transactions_have_envelopes(rt: HostRuntime) -> Result<(), Fail> {
-    let alloc = rt.alloc();
-    assert!(rt; payment_has_an_envelope(alloc)?);
-    assert!(rt; creation_has_an_envelope(alloc)?);
-    Ok(())
 }

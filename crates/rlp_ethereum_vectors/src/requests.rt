@@ -1,90 +1,109 @@
 //! Requests between clients, and their answers. The expected bytes are the examples of EIP-2481,
 //! unless a comment says otherwise.
 
-use crate::support::{bytes_of, is_fault, is_written_as, wide};
-use rlp::DecoderError;
-use rlp_ethereum::{Address, Bloom, Hash, Header};
+use crate::reading::written;
+use rlp_ethereum::Hash;
 use rlp_messages::{
     BlockHeaders, GetBlockBodies, GetBlockHeaders, GetPooledTransactions, GetReceipts,
     HashOrNumber, WithRequestId,
 };
-use std::alloc::{AllocError, Global};
+use std::alloc::Global;
 use std::test::Fail;
 
-/// A request for five headers from the block with a hash on, every sixth.
-const BY_HASH: [&str; 2] = [
-    "e8820457e4a000000000000000000000000000000000000000000000000000000000deadc0de0505",
-    "80",
-];
+/// Rows of requests and answers.
+pub(crate) const ROWS: &str = "
+    Requests for five headers from a block on, every sixth: from the block with a hash, and from that
+    with the number 9999.
+    request: headers by hash | e8820457e4a000000000000000000000000000000000000000000000000000000000\
+     deadc0de050580
+    request: headers by number | ca820457c682270f050580
 
-/// The same from the block with the number 9999 on.
-const BY_NUMBER: [&str; 1] = ["ca820457c682270f050580"];
+    The answer 1111 with one header, the header, and the answer with none, which was worked out by
+    hand.
+    BlockHeaders | f90202820457f901fcf901f9a0000000000000000000000000000000000000000000000000000000\
+     0000000000a00000000000000000000000000000000000000000000000000000000000000000940000000000000000\
+     000000000000000000000000a00000000000000000000000000000000000000000000000000000000000000000a000\
+     00000000000000000000000000000000000000000000000000000000000000a0000000000000000000000000000000\
+     0000000000000000000000000000000000b90100+00*256+8208ae820d0582115c8215b3821a0a827788a000000000\
+     00000000000000000000000000000000000000000000000000000000880000000000000000
+    fields of BlockHeaders | f90202820457f901fcf901f9a000000000000000000000000000000000000000000000\
+     00000000000000000000a0000000000000000000000000000000000000000000000000000000000000000094000000\
+     0000000000000000000000000000000000a00000000000000000000000000000000000000000000000000000000000\
+     000000a00000000000000000000000000000000000000000000000000000000000000000a000000000000000000000\
+     00000000000000000000000000000000000000000000b90100+00*256+8208ae820d0582115c8215b3821a0a827788\
+     a00000000000000000000000000000000000000000000000000000000000000000880000000000000000 | 1111 1
+    fields of Header | f901f9a00000000000000000000000000000000000000000000000000000000000000000a000\
+     0000000000000000000000000000000000000000000000000000000000000094000000000000000000000000000000\
+     0000000000a00000000000000000000000000000000000000000000000000000000000000000a00000000000000000\
+     000000000000000000000000000000000000000000000000a000000000000000000000000000000000000000000000\
+     00000000000000000000b90100+00*256+8208ae820d0582115c8215b3821a0a827788a00000000000000000000000\
+     000000000000000000000000000000000000000000880000000000000000 | 0000000000000000000000000000000\
+     000000000000000000000000000000000 000000000000000000000000000000000000000000000000000000000000\
+     0000 0000000000000000000000000000000000000000 000000000000000000000000000000000000000000000000\
+     0000000000000000 0000000000000000000000000000000000000000000000000000000000000000 000000000000\
+     0000000000000000000000000000000000000000000000000000 00000000000000000000000000000000000000000\
+     000000000000000000008ae 7788 000000000000000000000000000000000000000000000000000000000000000\
+     0 0000000000000000 3333 4444 5555 6666 true
+    forks of Header | f901f9a00000000000000000000000000000000000000000000000000000000000000000a0000\
+     0000000000000000000000000000000000000000000000000000000000000940000000000000000000000000000000\
+     000000000a00000000000000000000000000000000000000000000000000000000000000000a000000000000000000\
+     00000000000000000000000000000000000000000000000a0000000000000000000000000000000000000000000000\
+     0000000000000000000b90100+00*256+8208ae820d0582115c8215b3821a0a827788a000000000000000000000000\
+     00000000000000000000000000000000000000000880000000000000000 | 508 false None None
+    request: no headers | c4820457c0
+    fields of BlockHeaders | c4820457c0 | 1111 0
 
-/// The answer with one header.
-const HEADERS: [&str; 13] = [
-    "f90202820457f901fcf901f9a0000000000000000000000000000000000000000000000000000000",
-    "0000000000a000000000000000000000000000000000000000000000000000000000000000009400",
-    "00000000000000000000000000000000000000a00000000000000000000000000000000000000000",
-    "000000000000000000000000a0000000000000000000000000000000000000000000000000000000",
-    "0000000000a00000000000000000000000000000000000000000000000000000000000000000b901",
-    "00000000000000000000000000000000000000000000000000000000000000000000000000000000",
-    "00000000000000000000000000000000000000000000000000000000000000000000000000000000",
-    "00000000000000000000000000000000000000000000000000000000000000000000000000000000",
-    "00000000000000000000000000000000000000000000000000000000000000000000000000000000",
-    "00000000000000000000000000000000000000000000000000000000000000000000000000000000",
-    "00000000000000000000000000000000000000000000000000000000000000000000000000000000",
-    "00000000000000000000000000000000008208ae820d0582115c8215b3821a0a827788a000000000",
-    "00000000000000000000000000000000000000000000000000000000880000000000000000",
-];
+    Requests for the bodies of two blocks, for their receipts, and for the transactions with these
+    hashes.
+    request: bodies | f847820457f842a000000000000000000000000000000000000000000000000000000000deadc\
+     0dea000000000000000000000000000000000000000000000000000000000feedbeef
+    request: receipts | f847820457f842a000000000000000000000000000000000000000000000000000000000dea\
+     dc0dea000000000000000000000000000000000000000000000000000000000feedbeef
+    request: transactions | f847820457f842a00000000000000000000000000000000000000000000000000000000\
+     0deadc0dea000000000000000000000000000000000000000000000000000000000feedbeef
 
-/// The answer with no header, worked out by hand.
-const NO_HEADERS: [&str; 1] = ["c4820457c0"];
+    The least number, the greatest number, and a hash, worked out by hand.
+    request: least number | 80
+    request: greatest number | 88ffffffffffffffff
+    request: hash of zeros | a0+00*32
 
-/// A request for the bodies of two blocks, for their receipts, or for the transactions with these
-/// hashes.
-const BODIES: [&str; 2] = [
-    "f847820457f842a000000000000000000000000000000000000000000000000000000000deadc0de",
-    "a000000000000000000000000000000000000000000000000000000000feedbeef",
-];
+    Bytes that are neither a hash nor a number, worked out by hand. The strings of 9, 31 and 33 bytes
+    are too long for a number, and no hashes.
+    HashOrNumber |  | RlpIsTooShort
+    HashOrNumber | 00 | RlpInvalidIndirection
+    HashOrNumber | 820001 | RlpInvalidIndirection
+    HashOrNumber | c0 | RlpExpectedToBeData
+    HashOrNumber | 89010000000000000000 | RlpIsTooBig
+    HashOrNumber | 9f+01*31 | RlpIsTooBig
+    HashOrNumber | a1+01*33 | RlpIsTooBig
 
-/// Bytes that are neither a hash nor a number, and the faults, worked out by hand. The strings of 9,
-/// 31 and 33 bytes are too long for a number, and no hashes.
-const NEITHER: [(&str, DecoderError); 7] = [
-    ("", DecoderError::RlpIsTooShort),
-    ("00", DecoderError::RlpInvalidIndirection),
-    ("820001", DecoderError::RlpInvalidIndirection),
-    ("c0", DecoderError::RlpExpectedToBeData),
-    ("89010000000000000000", DecoderError::RlpIsTooBig),
-    (
-        "9f01010101010101010101010101010101010101010101010101010101010101",
-        DecoderError::RlpIsTooBig,
-    ),
-    (
-        "a1010101010101010101010101010101010101010101010101010101010101010101",
-        DecoderError::RlpIsTooBig,
-    ),
-];
-
-/// The least number, the greatest number, and a hash, worked out by hand.
-const EITHER: [(&str, HashOrNumber); 3] = [
-    ("80", HashOrNumber::Number(0)),
-    ("88ffffffffffffffff", HashOrNumber::Number(u64::MAX)),
-    (
-        "a00000000000000000000000000000000000000000000000000000000000000000",
-        HashOrNumber::Hash(Hash([0; 32])),
-    ),
-];
-
-/// Returns the hash of 28 zeros and these bytes.
-fn hash(last: [u8; 4]) -> Hash {
-    let [a, b, c, d] = last;
-    let mut bytes = [0; 32];
-    bytes[28] = a;
-    bytes[29] = b;
-    bytes[30] = c;
-    bytes[31] = d;
-    Hash(bytes)
-}
+    The answer 2 with a body without and one with a withdrawal, the answer 1111 with the receipt of
+    one legacy transaction that failed, and the answer 3 for three blocks: one with receipts of types
+    0 and 2, one without, and one with a receipt of type 3. An independent program wrote the first and
+    the last.
+    BlockBodies | f9016602f90162f8a2f89ff86780862d79883d2000825208945df9b87991262f6ba471f09758cde1c\
+     0fc1de734827a69801ca088ff6cf0fefd94db46111149ae4bfc179e9b94721fffd821d38d16464b3f71d0a045e0aff\
+     800961cfce805daef7016b9b675c137a6a41a548f7b60a3484c06a33ab502f30180843b9aca008504a817c80082520\
+     8943535353535353535353535353535353535353535880de0b6b3a764000080c0800102c0f8bcf89ff86780862d798\
+     83d2000825208945df9b87991262f6ba471f09758cde1c0fc1de734827a69801ca088ff6cf0fefd94db46111149ae4\
+     bfc179e9b94721fffd821d38d16464b3f71d0a045e0aff800961cfce805daef7016b9b675c137a6a41a548f7b60a34\
+     84c06a33ab502f30180843b9aca008504a817c800825208943535353535353535353535353535353535353535880de\
+     0b6b3a764000080c0800102c0d9d8010294030303030303030303030303030303030303030304
+    fields of BlockBodies | f9016602f90162f8a2f89ff86780862d79883d2000825208945df9b87991262f6ba471f\
+     09758cde1c0fc1de734827a69801ca088ff6cf0fefd94db46111149ae4bfc179e9b94721fffd821d38d16464b3f71d\
+     0a045e0aff800961cfce805daef7016b9b675c137a6a41a548f7b60a3484c06a33ab502f30180843b9aca008504a81\
+     7c800825208943535353535353535353535353535353535353535880de0b6b3a764000080c0800102c0f8bcf89ff86\
+     780862d79883d2000825208945df9b87991262f6ba471f09758cde1c0fc1de734827a69801ca088ff6cf0fefd94db4\
+     6111149ae4bfc179e9b94721fffd821d38d16464b3f71d0a045e0aff800961cfce805daef7016b9b675c137a6a41a5\
+     48f7b60a3484c06a33ab502f30180843b9aca008504a817c8008252089435353535353535353535353535353535353\
+     53535880de0b6b3a764000080c0800102c0d9d8010294030303030303030303030303030303030303030304 | 2 2
+    Receipts | f90172820457f9016cf90169f901668001b90100+00*256+LOGS
+    fields of Receipts | f90172820457f9016cf90169f901668001b90100+00*256+LOGS | 1111: legacy;
+    Receipts | f9039203f9038ef90278f9010801825208b90100+00*256+c0b9016a02f901668001b90100+00*256+LO\
+     GS+c0f9010fb9010c03f9010801825208b90100+00*256+c0
+    fields of Receipts | f9039203f9038ef90278f9010801825208b90100+00*256+c0b9016a02f901668001b90100\
+     +00*256+LOGS+c0f9010fb9010c03f9010801825208b90100+00*256+c0 | 3: legacy fee market;; blob;
+";
 
 /// Returns the request for headers from this block on.
 fn get_headers(start_block: HashOrNumber) -> WithRequestId<GetBlockHeaders> {
@@ -99,110 +118,76 @@ fn get_headers(start_block: HashOrNumber) -> WithRequestId<GetBlockHeaders> {
     }
 }
 
-#[test]
-fn requests_for_headers(rt: HostRuntime) -> Result<(), Fail> {
-    let alloc = rt.alloc();
-    let by_hash = get_headers(HashOrNumber::Hash(hash([0xde, 0xad, 0xc0, 0xde])));
-    assert!(rt; is_written_as(alloc, &by_hash, &BY_HASH)?);
-    assert!(rt; is_written_as(alloc, &get_headers(HashOrNumber::Number(9999)), &BY_NUMBER)?);
-    Ok(())
-}
+/// The hashes of the examples.
+const HASHES: [Hash; 2] = [
+    Hash([
+        0, 0, 0, 0, 0, 0, 0, 0, 0, 0, 0, 0, 0, 0, 0, 0, 0, 0, 0, 0, 0, 0, 0, 0, 0, 0, 0, 0, 0xde,
+        0xad, 0xc0, 0xde,
+    ]),
+    Hash([
+        0, 0, 0, 0, 0, 0, 0, 0, 0, 0, 0, 0, 0, 0, 0, 0, 0, 0, 0, 0, 0, 0, 0, 0, 0, 0, 0, 0, 0xfe,
+        0xed, 0xbe, 0xef,
+    ]),
+];
 
-/// Returns the header of the example.
-fn header(alloc: Global) -> Result<Header, AllocError> {
-    Ok(Header {
-        parent_hash: Hash([0; 32]),
-        ommers_hash: Hash([0; 32]),
-        beneficiary: Address([0; 20]),
-        state_root: Hash([0; 32]),
-        transactions_root: Hash([0; 32]),
-        receipts_root: Hash([0; 32]),
-        logs_bloom: Bloom([0; 256]),
-        difficulty: wide(2222),
-        number: 3333,
-        gas_limit: 4444,
-        gas_used: 5555,
-        timestamp: 6666,
-        extra_data: Vec::from_slice(alloc, &[0x77, 0x88])?,
-        mix_hash: Hash([0; 32]),
-        nonce: [0; 8],
-        since_london: None,
-    })
-}
-
-#[test]
-fn answers_with_headers(rt: HostRuntime) -> Result<(), Fail> {
-    let alloc = rt.alloc();
-    let mut headers = Vec::new(alloc);
-    let none = WithRequestId {
-        request_id: 1111,
-        content: BlockHeaders(Vec::new(alloc)),
-    };
-    assert!(rt; is_written_as(alloc, &none, &NO_HEADERS)?);
-    headers.push(header(alloc)?)?;
-    let one = WithRequestId {
-        request_id: 1111,
-        content: BlockHeaders(headers),
-    };
-    assert!(rt; is_written_as(alloc, &one, &HEADERS)?);
-    Ok(())
-}
-
-#[test]
-fn requests_by_hashes(rt: HostRuntime) -> Result<(), Fail> {
-    let alloc = rt.alloc();
-    let hashes = [
-        hash([0xde, 0xad, 0xc0, 0xde]),
-        hash([0xfe, 0xed, 0xbe, 0xef]),
-    ];
-    let bodies = WithRequestId {
-        request_id: 1111,
-        content: GetBlockBodies(Vec::from_array(alloc, hashes)?),
-    };
-    assert!(rt; is_written_as(alloc, &bodies, &BODIES)?);
-    let receipts = WithRequestId {
-        request_id: 1111,
-        content: GetReceipts(Vec::from_array(alloc, hashes)?),
-    };
-    assert!(rt; is_written_as(alloc, &receipts, &BODIES)?);
-    let transactions = WithRequestId {
-        request_id: 1111,
-        content: GetPooledTransactions(Vec::from_array(alloc, hashes)?),
-    };
-    assert!(rt; is_written_as(alloc, &transactions, &BODIES)?);
-    Ok(())
-}
-
-/// Returns the number of the first row of hashes and numbers that isn't read and written so.
-fn either_fails_at(alloc: Global) -> Result<Option<usize>, Fail> {
-    for (row, (digits, value)) in EITHER.iter().enumerate() {
-        let bytes = bytes_of(alloc, &[*digits])?;
-        let back = rlp::decode_strict::<HashOrNumber>(alloc, bytes.as_slice())?;
-        if back != *value || !is_written_as(alloc, value, &[*digits])? {
-            return Ok(Some(row));
+/// Returns what a call about a request answers.
+pub(crate) fn answer(alloc: Global, name: &str, bytes: &[u8]) -> Result<String, Fail> {
+    match name {
+        "headers by hash" => {
+            let from = HashOrNumber::Hash(HASHES[0]);
+            written(alloc, &get_headers(from), bytes)
         }
-    }
-    Ok(None)
-}
-
-/// Returns the number of the first row of other bytes that aren't refused with their fault.
-fn neither_fails_at(alloc: Global) -> Result<Option<usize>, Fail> {
-    for (row, (digits, fault)) in NEITHER.iter().enumerate() {
-        let bytes = bytes_of(alloc, &[*digits])?;
-        if !is_fault(
-            rlp::decode::<HashOrNumber>(alloc, bytes.as_slice()).err(),
-            fault,
-        ) {
-            return Ok(Some(row));
+        "headers by number" => written(alloc, &get_headers(HashOrNumber::Number(9999)), bytes),
+        "no headers" => {
+            let content = BlockHeaders(Vec::new(alloc));
+            let request_id = 1111;
+            written(
+                alloc,
+                &WithRequestId {
+                    request_id,
+                    content,
+                },
+                bytes,
+            )
         }
+        "bodies" => {
+            let content = GetBlockBodies(Vec::from_array(alloc, HASHES)?);
+            let request_id = 1111;
+            written(
+                alloc,
+                &WithRequestId {
+                    request_id,
+                    content,
+                },
+                bytes,
+            )
+        }
+        "receipts" => {
+            let content = GetReceipts(Vec::from_array(alloc, HASHES)?);
+            let request_id = 1111;
+            written(
+                alloc,
+                &WithRequestId {
+                    request_id,
+                    content,
+                },
+                bytes,
+            )
+        }
+        "transactions" => {
+            let content = GetPooledTransactions(Vec::from_array(alloc, HASHES)?);
+            let request_id = 1111;
+            written(
+                alloc,
+                &WithRequestId {
+                    request_id,
+                    content,
+                },
+                bytes,
+            )
+        }
+        "least number" => written(alloc, &HashOrNumber::Number(0), bytes),
+        "greatest number" => written(alloc, &HashOrNumber::Number(u64::MAX), bytes),
+        _ => written(alloc, &HashOrNumber::Hash(Hash([0; 32])), bytes),
     }
-    Ok(None)
-}
-
-#[test]
-fn hashes_and_numbers(rt: HostRuntime) -> Result<(), Fail> {
-    let alloc = rt.alloc();
-    assert_eq!(rt; either_fails_at(alloc)?, None);
-    assert_eq!(rt; neither_fails_at(alloc)?, None);
-    Ok(())
 }

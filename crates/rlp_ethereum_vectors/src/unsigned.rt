@@ -1,77 +1,236 @@
-//! Transactions and authorizations before they are signed. An independent writer of the format, in
+//! Transactions of every type, and what is signed of them. An independent writer of the format, in
 //! Python, made the expected bytes from the values of the fields. Those of the example of EIP-155
 //! are in the EIP.
 
-use crate::support::{bytes_of, goes_both_ways, is_written_as, wide};
-use rlp::{DecoderError, Uint};
+use crate::reading::written;
+use crate::text::{spelled, wide};
+use bytes::BytesMut;
 use rlp_ethereum::{
-    Address, Recipient, Transaction, UnsignedAccessListTransaction, UnsignedAuthorization,
-    UnsignedBlobTransaction, UnsignedFeeMarketTransaction, UnsignedLegacyTransaction,
-    UnsignedSetCodeTransaction, UnsignedTransaction,
+    Address, Recipient, Transaction, UnsignedAuthorization, UnsignedLegacyTransaction,
+    UnsignedTransaction,
 };
-use std::alloc::Global;
+use std::alloc::{AllocError, Global};
 use std::test::Fail;
 
-/// What is signed of the example of EIP-155.
-const EXAMPLE: [&str; 2] = [
-    "ec098504a817c800825208943535353535353535353535353535353535353535880de0b6b3a76400",
-    "0080018080",
-];
+/// Rows of transactions.
+pub(crate) const ROWS: &str = "
+    The first transaction of Ethereum's main network, and the example of EIP-155 before it is signed
+    and signed: the recipient, the price of gas, the value, the signature, the nonce, the limit of gas
+    and the length of the data.
+    LegacyTransaction | FIRST
+    fields of LegacyTransaction | FIRST | 5df9b87991262f6ba471f09758cde1c0fc1de734 0000000000000000\
+     0000000000000000000000000000000000002d79883d2000 000000000000000000000000000000000000000000000\
+     0000000000000007a69 000000000000000000000000000000000000000000000000000000000000001c 88ff6cf0f\
+     efd94db46111149ae4bfc179e9b94721fffd821d38d16464b3f71d0 45e0aff800961cfce805daef7016b9b675c137\
+     a6a41a548f7b60a3484c06a33a 0 21000 0
+    LegacyTransaction | EXAMPLE
+    fields of LegacyTransaction | EXAMPLE | 3535353535353535353535353535353535353535 00000000000000\
+     000000000000000000000000000000000000000004a817c800 0000000000000000000000000000000000000000000\
+     000000de0b6b3a7640000 0000000000000000000000000000000000000000000000000000000000000001 0000000\
+     000000000000000000000000000000000000000000000000000000000 000000000000000000000000000000000000\
+     0000000000000000000000000000 9 21000 0
+    LegacyTransaction | SIGNED
+    fields of LegacyTransaction | SIGNED | 3535353535353535353535353535353535353535 000000000000000\
+     00000000000000000000000000000000000000004a817c800 00000000000000000000000000000000000000000000\
+     00000de0b6b3a7640000 0000000000000000000000000000000000000000000000000000000000000025 28ef6134\
+     0bd939bc2195fe537567866003e1a15d3c71ff63e1590620aa636276 67cbe9d8997f761aecb703304b3800ccf555c\
+     9f3dc64214b297fb1966a3b6d83 9 21000 0
 
-/// What is signed of the same transaction without EIP-155.
-const BEFORE: [&str; 2] = [
-    "e9098504a817c800825208943535353535353535353535353535353535353535880de0b6b3a76400",
-    "0080",
-];
+    Transactions by themselves, and as items of a block: a list, or the string of an envelope.
+    Transaction alone | LEGACY
+    Transaction alone | ACCESS_LIST
+    Transaction alone | FEE_MARKET
+    Transaction alone | BLOB
+    Transaction alone | SET_CODE
+    Transaction | LEGACY
+    Transaction | b867+ACCESS_LIST
+    Transaction | 9d+FEE_MARKET
+    Transaction | b8b5+BLOB
+    Transaction | b879+SET_CODE
 
-/// What is signed of a transaction that creates a contract, on chain 1337.
-const SINCE: [&str; 1] = ["cf800182ea6080808260018205398080"];
+    The type, the nonce and the limit of gas of types 0 to 2, and the fields of types 3 and 4. Those of
+    type 4 end with the fields of the second authorization.
+    fields of Transaction alone | LEGACY | type 0 9 21000,
+    fields of Transaction alone | ACCESS_LIST | type 1 7 50000,
+    fields of Transaction alone | FEE_MARKET | type 2 8 21000,
+    fields of Transaction alone | BLOB | 000000000000000000000000000000000000000000000000000000003b\
+     9aca00 00000000000000000000000000000000000000000000000000000006fc23ac00 0000000000000000000000\
+     000000000000000000000000000000000000000007 beef 0000000000000000000000000000000000000000000000\
+     0000000000000f4240 0000000000000000000000000000000000000000000000000000000000005555 0000000000\
+     000000000000000000000000000000000000000000000000006666 1 9 60000 1 2 true
+    fields of Transaction alone | SET_CODE | 000000000000000000000000000000000000000000000000000000\
+     003b9aca00 00000000000000000000000000000000000000000000000000000009502f9000 000000000000000000\
+     0000000000000000000000000000000000000000000000 010203 0000000000000000000000000000000000000000\
+     00000000000000000000bbbb 000000000000000000000000000000000000000000000000000000000000cccc 10 7\
+     0000 true 0000000000000000000000000000000000000000000000000000000000000001 0000000000000000000\
+     000000000000000000000000000000000000000009999 000000000000000000000000000000000000000000000000\
+     000000000000aaaa 300 255
 
-/// What is signed of a transaction of type 1 with an access list of two items.
-const ACCESS_LIST: [&str; 4] = [
-    "01f8840503843b9aca0083011170800182cafef872f8599411111111111111111111111111111111",
-    "11111111f842a02222222222222222222222222222222222222222222222222222222222222222a0",
-    "3333333333333333333333333333333333333333333333333333333333333333d694444444444444",
-    "4444444444444444444444444444c0",
-];
+    What is signed: of a legacy transaction, without EIP-155 and for chain 1, of the other types, and
+    of the second authorization of the transaction of type 4.
+    signed: payload | LEGACY | e9098504a817c800825208943535353535353535353535353535353535353535880d\
+     e0b6b3a764000080
+    signed: payload for chain 1 | LEGACY | ec098504a817c8008252089435353535353535353535353535353535\
+     35353535880de0b6b3a764000080018080
+    signed: payload | ACCESS_LIST | 01f85d0107843b9aca0082c3509435353535353535353535353535353535353\
+     535350582cafef838f7941111111111111111111111111111111111111111e1a022222222222222222222222222222\
+     22222222222222222222222222222222222
+    signed: payload | FEE_MARKET | 02d40108843b9aca008504a817c800825208800600c0
+    signed: payload | BLOB | 03f8ab0109843b9aca008506fc23ac0082ea6094353535353535353535353535353535\
+     35353535350782beeff838f7941111111111111111111111111111111111111111e1a0222222222222222222222222\
+     2222222222222222222222222222222222222222830f4240f842a00155555555555555555555555555555555555555\
+     555555555555555555555555a00166666666666666666666666666666666666666666666666666666666666666
+    signed: payload | SET_CODE | 04f86f010a843b9aca008509502f90008301117094353535353535353535353535\
+     35353535353535358083010203c0f841de809477777777777777777777777777777777777777770301827777828888\
+     e10194888888888888888888888888888888888888888882012c81ff82999982aaaa
+    signed: second authorization | SET_CODE | 05d90194888888888888888888888888888888888888888882012c
 
-/// What is signed of a transaction of type 2 with the greatest nonce and the highest fee.
-const FEE_MARKET: [&str; 2] = [
-    "02f8470188ffffffffffffffff80a0ffffffffffffffffffffffffffffffffffffffffffffffffff",
-    "ffffffffffffff8252089435353535353535353535353535353535353535350780c0",
-];
+    Bytes that are no transaction by themselves.
+    No bytes.
+    Transaction alone |  | RlpIsTooShort
+    Type 0.
+    Transaction alone | 00c0 | Custom(\"unknown transaction type\")
+    Type 5.
+    Transaction alone | 05c0 | Custom(\"unknown transaction type\")
+    A reserved first byte.
+    Transaction alone | 8002 | Custom(\"unknown transaction type\")
+    Type 1 without a payload.
+    Transaction alone | 01 | RlpExpectedToBeList
 
-/// What is signed of a transaction of type 3 with one blob.
-const BLOB: [&str; 2] = [
-    "03f84301090102039435353535353535353535353535353535353535358005c0830f4240e1a00155",
-    "555555555555555555555555555555555555555555555555555555555555",
-];
+    Bytes that are no transaction of a block.
+    An empty string.
+    Transaction | 80 | RlpIsTooShort
+    Type 5.
+    Transaction | 8205c0 | Custom(\"unknown transaction type\")
+    A legacy list in a string.
+    Transaction | b1f0098504a817c800825208943535353535353535353535353535353535353535880de0b6b3a7640\
+     0008025821111822222 | Custom(\"unknown transaction type\")
+    The payload of type 2 as a list.
+    Transaction | db0108843b9aca008504a817c800825208800600c080823333824444 | RlpIncorrectListLen
+    An envelope with a byte after the payload.
+    Transaction | 9e02db0108843b9aca008504a817c800825208800600c08082333382444400 | RlpIsTooBig
 
-/// What is signed of a transaction of type 4 with one authorization.
-const SET_CODE: [&str; 2] = [
-    "04f83d01800102039435353535353535353535353535353535353535358080c0dfde809466666666",
-    "666666666666666666666666666666660701821111822222",
-];
+    What is signed, by itself: the number of the chain, the nonce and the limit of gas.
+    UnsignedTransaction alone | EXAMPLE
+    UnsignedTransaction alone | BEFORE
+    UnsignedTransaction alone | SINCE
+    UnsignedTransaction alone | 01+UNSIGNED_1
+    UnsignedTransaction alone | 02+UNSIGNED_2
+    UnsignedTransaction alone | 03+UNSIGNED_3
+    UnsignedTransaction alone | 04+UNSIGNED_4
+    signed: numbers | EXAMPLE | Some(1) 9 21000
+    signed: numbers | BEFORE | None 9 21000
+    signed: numbers | SINCE | Some(1337) 0 60000
+    signed: numbers | 01+UNSIGNED_1 | Some(5) 3 70000
+    signed: numbers | 02+UNSIGNED_2 | Some(1) 18446744073709551615 21000
+    signed: numbers | 03+UNSIGNED_3 | Some(1) 9 3
+    signed: numbers | 04+UNSIGNED_4 | Some(1) 0 3
 
-/// What is signed of an authorization, with the greatest numbers.
-const AUTHORIZATION: [&str; 2] = [
-    "05f83fa0ffffffffffffffffffffffffffffffffffffffffffffffffffffffffffffffff94777777",
-    "777777777777777777777777777777777788ffffffffffffffff",
-];
+    The same as lists, and as items of a list.
+    UnsignedLegacyTransaction | EXAMPLE
+    UnsignedLegacyTransaction | BEFORE
+    UnsignedLegacyTransaction | SINCE
+    UnsignedAccessListTransaction | UNSIGNED_1
+    UnsignedFeeMarketTransaction | UNSIGNED_2
+    UnsignedBlobTransaction | UNSIGNED_3
+    UnsignedSetCodeTransaction | UNSIGNED_4
+    UnsignedAuthorization | UNSIGNED_5
+    UnsignedTransaction | EXAMPLE
+    UnsignedTransaction | BEFORE
+    UnsignedTransaction | SINCE
+    UnsignedTransaction | b88701+UNSIGNED_1
+    UnsignedTransaction | b84a02+UNSIGNED_2
+    UnsignedTransaction | b84603+UNSIGNED_3
+    UnsignedTransaction | b84004+UNSIGNED_4
 
-/// Returns the bytes of the row with this number.
-fn row(alloc: Global, index: usize) -> Result<Vec<u8>, Fail> {
-    match index {
-        0 => bytes_of(alloc, &EXAMPLE),
-        1 => bytes_of(alloc, &BEFORE),
-        2 => bytes_of(alloc, &SINCE),
-        3 => bytes_of(alloc, &ACCESS_LIST),
-        4 => bytes_of(alloc, &FEE_MARKET),
-        5 => bytes_of(alloc, &BLOB),
-        6 => bytes_of(alloc, &SET_CODE),
-        _ => bytes_of(alloc, &AUTHORIZATION),
-    }
-}
+    The same with a bit changed, of the length of the list or of the type.
+    UnsignedTransaction alone | ed098504a817c800825208943535353535353535353535353535353535353535880\
+     de0b6b3a764000080018080 | refused
+    UnsignedTransaction alone | e8098504a817c800825208943535353535353535353535353535353535353535880\
+     de0b6b3a764000080 | refused
+    UnsignedTransaction alone | ce800182ea6080808260018205398080 | refused
+    UnsignedTransaction alone | 00+UNSIGNED_1 | refused
+    UnsignedTransaction alone | 01f8850503843b9aca0083011170800182cafef872f859941111111111111111111\
+     111111111111111111111f842a02222222222222222222222222222222222222222222222222222222222222222a03\
+     333333333333333333333333333333333333333333333333333333333333333d694444444444444444444444444444\
+     4444444444444c0 | refused
+    UnsignedTransaction alone | 02f9470188ffffffffffffffff80a0fffffffffffffffffffffffffffffffffffff\
+     fffffffffffffffffffffffffff8252089435353535353535353535353535353535353535350780c0 | refused
+    UnsignedTransaction alone | 02+UNSIGNED_3 | refused
+    UnsignedTransaction alone | 04f83c01800102039435353535353535353535353535353535353535358080c0dfd\
+     e809466666666666666666666666666666666666666660701821111822222 | refused
+
+    The example of EIP-155 from its fields, with and without the number of the chain.
+    signed: example for chain 1 | EXAMPLE
+    signed: example | BEFORE
+    signed: bytes of the example for chain 1 |  | ec098504a817c800825208943535353535353535353535353\
+     535353535353535880de0b6b3a764000080018080
+
+    An authorization: the number of the chain, the address and the nonce.
+    UnsignedAuthorization alone | 05+UNSIGNED_5
+    signed: authorization | 05+UNSIGNED_5 | fffffffffffffffffffffffffffffffffffffffffffffffffffffff\
+     fffffffff 7777777777777777777777777777777777777777 18446744073709551615
+    UnsignedAuthorization alone |  | refused
+    UnsignedAuthorization alone | 04c0 | refused
+
+    Bytes that are no transaction before it is signed.
+    Seven items.
+    UnsignedTransaction alone | ea098504a817c800825208943535353535353535353535353535353535353535880\
+     de0b6b3a76400008001 | RlpIncorrectListLen
+    Eight items.
+    UnsignedTransaction alone | eb098504a817c800825208943535353535353535353535353535353535353535880\
+     de0b6b3a7640000800180 | RlpIncorrectListLen
+    Ten items.
+    UnsignedTransaction alone | ed098504a817c800825208943535353535353535353535353535353535353535880\
+     de0b6b3a76400008001808080 | RlpIncorrectListLen
+    1 in the place of the first 0.
+    UnsignedTransaction alone | ec098504a817c800825208943535353535353535353535353535353535353535880\
+     de0b6b3a764000080010180 | RlpIsTooBig
+    1 in the place of the second 0.
+    UnsignedTransaction alone | ec098504a817c800825208943535353535353535353535353535353535353535880\
+     de0b6b3a764000080018001 | RlpIsTooBig
+    The byte 0 in the place of the first 0.
+    UnsignedTransaction alone | ec098504a817c800825208943535353535353535353535353535353535353535880\
+     de0b6b3a764000080010080 | RlpIsTooBig
+    A list in the place of the second 0.
+    UnsignedTransaction alone | ec098504a817c800825208943535353535353535353535353535353535353535880\
+     de0b6b3a7640000800180c0 | RlpExpectedToBeData
+    A signed transaction.
+    UnsignedTransaction alone | f0098504a817c800825208943535353535353535353535353535353535353535880\
+     de0b6b3a76400008025821111822222 | RlpIsTooBig
+    A number of the chain of 65 bits.
+    UnsignedTransaction alone | f5098504a817c800825208943535353535353535353535353535353535353535880\
+     de0b6b3a764000080890100000000000000008080 | RlpIsTooBig
+    A number of the chain that begins with a zero.
+    UnsignedTransaction alone | ee098504a817c800825208943535353535353535353535353535353535353535880\
+     de0b6b3a7640000808200018080 | RlpInvalidIndirection
+    The list of a legacy transaction after the type 2.
+    UnsignedTransaction alone | 02e9098504a817c8008252089435353535353535353535353535353535353535358\
+     80de0b6b3a764000080 | RlpIncorrectListLen
+    A signed transaction of type 2.
+    UnsignedTransaction alone | 02f84a0188ffffffffffffffff80a0fffffffffffffffffffffffffffffffffffff\
+     fffffffffffffffffffffffffff8252089435353535353535353535353535353535353535350780c0800102 | RlpI\
+     ncorrectListLen
+    An authorization.
+    UnsignedTransaction alone | 05c0 | Custom(\"unknown transaction type\")
+    Type 0.
+    UnsignedTransaction alone | 00c0 | Custom(\"unknown transaction type\")
+    No bytes.
+    UnsignedTransaction alone |  | RlpIsTooShort
+
+    Signed transactions of types 0 to 4 without their signatures. The legacy one is for chain 1.
+    signed: without its signature | f0098504a817c80082520894353535353535353535353535353535353535353\
+     5880de0b6b3a76400008025821111822222 | ec098504a817c8008252089435353535353535353535353535353535\
+     35353535880de0b6b3a764000080018080
+    signed: without its signature | 01d40503843b9aca0083011170800182cafec0010203 | 01d10503843b9aca\
+     0083011170800182cafec0
+    signed: without its signature | 02e001020304059435353535353535353535353535353535353535350780c08\
+     00102 | 02dd01020304059435353535353535353535353535353535353535350780c0
+    signed: without its signature | 03e201020304059435353535353535353535353535353535353535350780c00\
+     8c0800102 | 03df01020304059435353535353535353535353535353535353535350780c008c0
+    signed: without its signature | 04e101020304059435353535353535353535353535353535353535350780c0c\
+     0800102 | 04de01020304059435353535353535353535353535353535353535350780c0c0
+";
 
 /// Returns the example of EIP-155 with this number of the chain.
 fn example(alloc: Global, chain_id: Option<u64>) -> UnsignedLegacyTransaction {
@@ -86,295 +245,69 @@ fn example(alloc: Global, chain_id: Option<u64>) -> UnsignedLegacyTransaction {
     }
 }
 
-#[test]
-fn example_of_eip_155_is_written(rt: HostRuntime) -> Result<(), Fail> {
-    let alloc = rt.alloc();
-    assert!(rt; is_written_as(alloc, &example(alloc, Some(1)), &EXAMPLE)?);
-    assert!(rt; is_written_as(alloc, &example(alloc, None), &BEFORE)?);
-    let unsigned = UnsignedTransaction::Legacy(example(alloc, Some(1)));
-    let bytes = unsigned.to_bytes(alloc)?;
-    assert!(rt; bytes.as_slice() == bytes_of(alloc, &EXAMPLE)?.as_slice());
-    Ok(())
-}
-
-/// Returns the number of the chain of a transaction, and `None` if it is none of EIP-155.
-fn chain_of(unsigned: &UnsignedTransaction) -> Option<u64> {
-    match unsigned {
-        UnsignedTransaction::Legacy(legacy) => legacy.chain_id,
-        UnsignedTransaction::AccessList(typed) => Some(typed.chain_id),
-        UnsignedTransaction::FeeMarket(typed) => Some(typed.chain_id),
-        UnsignedTransaction::Blob(typed) => Some(typed.chain_id),
-        UnsignedTransaction::SetCode(typed) => Some(typed.chain_id),
+/// Returns what a call about a transaction that is signed answers.
+pub(crate) fn answer(alloc: Global, name: &str, bytes: &[u8]) -> Result<String, Fail> {
+    match name {
+        "example for chain 1" => written(alloc, &example(alloc, Some(1)), bytes),
+        "example" => written(alloc, &example(alloc, None), bytes),
+        "bytes of the example for chain 1" => {
+            let unsigned = UnsignedTransaction::Legacy(example(alloc, Some(1)));
+            spelled(alloc, &[unsigned.to_bytes(alloc)?.as_slice()])
+        }
+        "numbers" => numbers(alloc, bytes),
+        "authorization" => {
+            let read = UnsignedAuthorization::from_bytes(alloc, bytes)?;
+            let text = spelled(alloc, &[&read.chain_id.bytes, &read.address.0])?;
+            let nonce = read.nonce;
+            Ok(format!(in alloc; "{text} {nonce}")?)
+        }
+        "without its signature" => {
+            let unsigned = without_signature(Transaction::from_bytes(alloc, bytes)?);
+            spelled(alloc, &[unsigned.to_bytes(alloc)?.as_slice()])
+        }
+        _ => {
+            let signed = payload(alloc, name, Transaction::from_bytes(alloc, bytes)?)?;
+            spelled(alloc, &[signed.as_slice()])
+        }
     }
 }
 
-/// The numbers of the chains, the nonces and the limits of gas of the rows of transactions.
-const NUMBERS: [(Option<u64>, u64, u64); 7] = [
-    (Some(1), 9, 21_000),
-    (None, 9, 21_000),
-    (Some(1337), 0, 60_000),
-    (Some(5), 3, 70_000),
-    (Some(1), u64::MAX, 21_000),
-    (Some(1), 9, 3),
-    (Some(1), 0, 3),
-];
-
-/// Returns whether a transaction has the numbers of its row.
-fn has_numbers(unsigned: &UnsignedTransaction, numbers: (Option<u64>, u64, u64)) -> bool {
-    let (nonce, gas_limit) = match unsigned {
-        UnsignedTransaction::Legacy(legacy) => (legacy.nonce, legacy.gas_limit),
-        UnsignedTransaction::AccessList(typed) => (typed.nonce, typed.gas_limit),
-        UnsignedTransaction::FeeMarket(typed) => (typed.nonce, typed.gas_limit),
-        UnsignedTransaction::Blob(typed) => (typed.nonce, typed.gas_limit),
-        UnsignedTransaction::SetCode(typed) => (typed.nonce, typed.gas_limit),
+/// Returns the number of the chain, the nonce and the limit of gas of a transaction.
+fn numbers(alloc: Global, bytes: &[u8]) -> Result<String, Fail> {
+    let (chain, nonce, gas) = match UnsignedTransaction::from_bytes(alloc, bytes)? {
+        UnsignedTransaction::Legacy(tx) => (tx.chain_id, tx.nonce, tx.gas_limit),
+        UnsignedTransaction::AccessList(tx) => (Some(tx.chain_id), tx.nonce, tx.gas_limit),
+        UnsignedTransaction::FeeMarket(tx) => (Some(tx.chain_id), tx.nonce, tx.gas_limit),
+        UnsignedTransaction::Blob(tx) => (Some(tx.chain_id), tx.nonce, tx.gas_limit),
+        UnsignedTransaction::SetCode(tx) => (Some(tx.chain_id), tx.nonce, tx.gas_limit),
     };
-    chain_of(unsigned) == numbers.0 && nonce == numbers.1 && gas_limit == numbers.2
+    Ok(format!(in alloc; "{chain:?} {nonce} {gas}")?)
 }
 
-/// Returns whether the transaction of a row is read from its bytes and written as them, and not read
-/// from bytes with one less, one more, or another byte at `changed`.
-fn goes_alone(alloc: Global, index: usize, changed: usize) -> Result<bool, Fail> {
-    let mut bytes = row(alloc, index)?;
-    let unsigned = UnsignedTransaction::from_bytes(alloc, bytes.as_slice())?;
-    let numbers = NUMBERS.get(index).copied().unwrap_or((None, 0, 0));
-    let again = unsigned.to_bytes(alloc)?;
-    let is_same = has_numbers(&unsigned, numbers) && again.as_slice() == bytes.as_slice();
-    bytes.push(0)?;
-    let is_longer_refused = UnsignedTransaction::from_bytes(alloc, bytes.as_slice()).is_err();
-    bytes.pop();
-    if let Some(byte) = bytes.get_mut(changed) {
-        *byte ^= 1;
-    }
-    let is_changed_refused = UnsignedTransaction::from_bytes(alloc, bytes.as_slice()).is_err();
-    if let Some(byte) = bytes.get_mut(changed) {
-        *byte ^= 1;
-    }
-    bytes.pop();
-    let is_cut_refused = UnsignedTransaction::from_bytes(alloc, bytes.as_slice()).is_err();
-    Ok(is_same && is_longer_refused && is_changed_refused && is_cut_refused)
-}
-
-#[test]
-fn transactions_alone(rt: HostRuntime) -> Result<(), Fail> {
-    let alloc = rt.alloc();
-    // the byte that is changed is the first or second one: of the length of the list, or the type
-    for (index, changed) in [
-        (0, 0),
-        (1, 0),
-        (2, 0),
-        (3, 0),
-        (3, 2),
-        (4, 1),
-        (5, 0),
-        (6, 2),
-    ] {
-        assert!(rt; goes_alone(alloc, index, changed)?, "row {index}");
-    }
-    Ok(())
-}
-
-/// Returns whether the list of a row goes both ways by the traits.
-fn list_goes(alloc: Global, index: usize) -> Result<bool, Fail> {
-    let bytes = row(alloc, index)?;
-    let payload = bytes
-        .split_first()
-        .map_or(bytes.as_slice(), |parts| parts.1);
-    match index {
-        0..=2 => goes_both_ways::<UnsignedLegacyTransaction>(alloc, bytes.as_slice()),
-        3 => goes_both_ways::<UnsignedAccessListTransaction>(alloc, payload),
-        4 => goes_both_ways::<UnsignedFeeMarketTransaction>(alloc, payload),
-        5 => goes_both_ways::<UnsignedBlobTransaction>(alloc, payload),
-        6 => goes_both_ways::<UnsignedSetCodeTransaction>(alloc, payload),
-        _ => goes_both_ways::<UnsignedAuthorization>(alloc, payload),
+/// Returns what is signed of a transaction, or of its second authorization.
+fn payload(alloc: Global, name: &str, signed: Transaction) -> Result<BytesMut, AllocError> {
+    match signed {
+        Transaction::Legacy(tx) if name == "payload for chain 1" => {
+            tx.signing_payload_for_chain(alloc, 1)
+        }
+        Transaction::Legacy(tx) => tx.signing_payload(alloc),
+        Transaction::AccessList(tx) => tx.signing_payload(alloc),
+        Transaction::FeeMarket(tx) => tx.signing_payload(alloc),
+        Transaction::Blob(tx) => tx.signing_payload(alloc),
+        Transaction::SetCode(tx) => match tx.authorization_list.get(1) {
+            Some(second) if name == "second authorization" => second.signing_payload(alloc),
+            _ => tx.signing_payload(alloc),
+        },
     }
 }
-
-#[test]
-fn lists_go_both_ways(rt: HostRuntime) -> Result<(), Fail> {
-    let alloc = rt.alloc();
-    for index in 0..8 {
-        assert!(rt; list_goes(alloc, index)?, "row {index}");
-    }
-    Ok(())
-}
-
-/// What stands before the bytes of each row of a transaction where it is an item.
-const HEADERS: [&str; 7] = ["", "", "", "b887", "b84a", "b846", "b840"];
-
-/// Returns whether the transaction of a row goes both ways as an item.
-fn item_goes(alloc: Global, index: usize, header: &str) -> Result<bool, Fail> {
-    let mut bytes = bytes_of(alloc, &[header])?;
-    bytes.extend_from_slice(row(alloc, index)?.as_slice())?;
-    goes_both_ways::<UnsignedTransaction>(alloc, bytes.as_slice())
-}
-
-#[test]
-fn items_go_both_ways(rt: HostRuntime) -> Result<(), Fail> {
-    let alloc = rt.alloc();
-    for (index, header) in HEADERS.iter().enumerate() {
-        assert!(rt; item_goes(alloc, index, header)?, "row {index}");
-    }
-    Ok(())
-}
-
-#[test]
-fn authorization_alone(rt: HostRuntime) -> Result<(), Fail> {
-    let alloc = rt.alloc();
-    let mut bytes = bytes_of(alloc, &AUTHORIZATION)?;
-    let unsigned = UnsignedAuthorization::from_bytes(alloc, bytes.as_slice())?;
-    assert!(rt; unsigned.chain_id == Uint { bytes: [0xff; 32] });
-    assert!(rt; unsigned.address == Address([0x77; 20]) && unsigned.nonce == u64::MAX);
-    assert!(rt; unsigned.to_bytes(alloc)?.as_slice() == bytes.as_slice());
-    bytes.push(0)?;
-    assert!(rt; UnsignedAuthorization::from_bytes(alloc, bytes.as_slice()).is_err());
-    bytes.pop();
-    bytes.pop();
-    assert!(rt; UnsignedAuthorization::from_bytes(alloc, bytes.as_slice()).is_err());
-    assert!(rt; UnsignedAuthorization::from_bytes(alloc, &[]).is_err());
-    assert!(rt; UnsignedAuthorization::from_bytes(alloc, &[0x04, 0xc0]).is_err());
-    Ok(())
-}
-
-/// Bytes that are no transaction before it is signed, and their faults.
-const NOT_UNSIGNED: [(&str, &str); 15] = [
-    // seven items
-    (
-        "ea098504a817c800825208943535353535353535353535353535353535353535880de0b6b3a76400008001",
-        "RlpIncorrectListLen",
-    ),
-    // eight items
-    (
-        "eb098504a817c800825208943535353535353535353535353535353535353535880de0b6b3a7640000800180",
-        "RlpIncorrectListLen",
-    ),
-    // ten items
-    (
-        "ed098504a817c800825208943535353535353535353535353535353535353535880de0b6b3a76400008001808080",
-        "RlpIncorrectListLen",
-    ),
-    // 1 in the place of the first 0
-    (
-        "ec098504a817c800825208943535353535353535353535353535353535353535880de0b6b3a764000080010180",
-        "RlpIsTooBig",
-    ),
-    // 1 in the place of the second 0
-    (
-        "ec098504a817c800825208943535353535353535353535353535353535353535880de0b6b3a764000080018001",
-        "RlpIsTooBig",
-    ),
-    // the byte 0 in the place of the first 0
-    (
-        "ec098504a817c800825208943535353535353535353535353535353535353535880de0b6b3a764000080010080",
-        "RlpIsTooBig",
-    ),
-    // a list in the place of the second 0
-    (
-        "ec098504a817c800825208943535353535353535353535353535353535353535880de0b6b3a7640000800180c0",
-        "RlpExpectedToBeData",
-    ),
-    // a signed transaction
-    (
-        "f0098504a817c800825208943535353535353535353535353535353535353535880de0b6b3a76400008025821111822222",
-        "RlpIsTooBig",
-    ),
-    // a number of the chain of 65 bits
-    (
-        "f5098504a817c800825208943535353535353535353535353535353535353535880de0b6b3a764000080890100000000000000008080",
-        "RlpIsTooBig",
-    ),
-    // a number of the chain that begins with a zero
-    (
-        "ee098504a817c800825208943535353535353535353535353535353535353535880de0b6b3a7640000808200018080",
-        "RlpInvalidIndirection",
-    ),
-    // the list of a legacy transaction after the type 2
-    (
-        "02e9098504a817c800825208943535353535353535353535353535353535353535880de0b6b3a764000080",
-        "RlpIncorrectListLen",
-    ),
-    // a signed transaction of type 2
-    (
-        "02f84a0188ffffffffffffffff80a0ffffffffffffffffffffffffffffffffffffffffffffffffffffffffffffffff8252089435353535353535353535353535353535353535350780c0800102",
-        "RlpIncorrectListLen",
-    ),
-    // an authorization
-    ("05c0", "Custom(\"unknown transaction type\")"),
-    // type 0
-    ("00c0", "Custom(\"unknown transaction type\")"),
-    // no bytes
-    ("", "RlpIsTooShort"),
-];
-
-/// Returns the text of a fault, or of no fault.
-fn text_of(alloc: Global, read: Result<UnsignedTransaction, DecoderError>) -> Result<String, Fail> {
-    match read {
-        Ok(_) => Ok(String::from_str(alloc, "none")?),
-        Err(fault) => Ok(format!(in alloc; "{fault:?}")?),
-    }
-}
-
-#[test]
-fn other_bytes_are_refused(rt: HostRuntime) -> Result<(), Fail> {
-    let alloc = rt.alloc();
-    for (digits, fault) in NOT_UNSIGNED {
-        let bytes = bytes_of(alloc, &[digits])?;
-        let read = UnsignedTransaction::from_bytes(alloc, bytes.as_slice());
-        assert_eq!(rt; text_of(alloc, read)?.as_str(), fault, "{digits}");
-    }
-    Ok(())
-}
-
-/// Signed transactions, and what was signed of them.
-const SIGNED: [(&str, &str); 5] = [
-    // the example of EIP-155
-    (
-        "f0098504a817c800825208943535353535353535353535353535353535353535880de0b6b3a76400008025821111822222",
-        "ec098504a817c800825208943535353535353535353535353535353535353535880de0b6b3a764000080018080",
-    ),
-    // type 1
-    (
-        "01d40503843b9aca0083011170800182cafec0010203",
-        "01d10503843b9aca0083011170800182cafec0",
-    ),
-    // type 2
-    (
-        "02e001020304059435353535353535353535353535353535353535350780c0800102",
-        "02dd01020304059435353535353535353535353535353535353535350780c0",
-    ),
-    // type 3
-    (
-        "03e201020304059435353535353535353535353535353535353535350780c008c0800102",
-        "03df01020304059435353535353535353535353535353535353535350780c008c0",
-    ),
-    // type 4
-    (
-        "04e101020304059435353535353535353535353535353535353535350780c0c0800102",
-        "04de01020304059435353535353535353535353535353535353535350780c0c0",
-    ),
-];
 
 /// Returns a signed transaction without its signature. A legacy transaction is for chain 1.
-fn unsigned_of(signed: Transaction) -> UnsignedTransaction {
+fn without_signature(signed: Transaction) -> UnsignedTransaction {
     match signed {
-        Transaction::Legacy(legacy) => UnsignedTransaction::Legacy(legacy.into_unsigned(Some(1))),
-        Transaction::AccessList(typed) => UnsignedTransaction::AccessList(typed.into_unsigned()),
-        Transaction::FeeMarket(typed) => UnsignedTransaction::FeeMarket(typed.into_unsigned()),
-        Transaction::Blob(typed) => UnsignedTransaction::Blob(typed.into_unsigned()),
-        Transaction::SetCode(typed) => UnsignedTransaction::SetCode(typed.into_unsigned()),
+        Transaction::Legacy(tx) => UnsignedTransaction::Legacy(tx.into_unsigned(Some(1))),
+        Transaction::AccessList(tx) => UnsignedTransaction::AccessList(tx.into_unsigned()),
+        Transaction::FeeMarket(tx) => UnsignedTransaction::FeeMarket(tx.into_unsigned()),
+        Transaction::Blob(tx) => UnsignedTransaction::Blob(tx.into_unsigned()),
+        Transaction::SetCode(tx) => UnsignedTransaction::SetCode(tx.into_unsigned()),
     }
-}
-
-#[test]
-fn signatures_are_left_out(rt: HostRuntime) -> Result<(), Fail> {
-    let alloc = rt.alloc();
-    for (signed, unsigned) in SIGNED {
-        let bytes = bytes_of(alloc, &[signed])?;
-        let transaction = Transaction::from_bytes(alloc, bytes.as_slice())?;
-        let left = unsigned_of(transaction).to_bytes(alloc)?;
-        assert!(rt;
-            left.as_slice() == bytes_of(alloc, &[unsigned])?.as_slice(),
-            "{signed}"
-        );
-    }
-    Ok(())
 }

@@ -1,0 +1,110 @@
+//! The calls that the rows of tables name.
+
+use crate::reading::{Item, ways};
+use crate::{fields, messages, node_records, nodes, records, requests, unsigned};
+use rlp_ethereum::{
+    Account, Block, Body, Branch, Child, Extension, FeeMarketTransaction, Hash, Header, Leaf,
+    LegacyTransaction, Log, NodeRecord, Transaction, TrieNode, TypedReceipt,
+    UnsignedAccessListTransaction, UnsignedAuthorization, UnsignedBlobTransaction,
+    UnsignedFeeMarketTransaction, UnsignedLegacyTransaction, UnsignedSetCodeTransaction,
+    UnsignedTransaction, Withdrawal,
+};
+use rlp_messages::{
+    BlockBodies, BlockHeaders, HashOrNumber, Hello, NewBlock, Ping, Pong, Receipts, Transactions,
+    WithRequestId,
+};
+use std::alloc::Global;
+use std::test::Fail;
+
+/// Returns what a call answers about the bytes. The name of a type stands for reading it both ways.
+pub(crate) fn answer(alloc: Global, call: &str, bytes: &[u8]) -> Result<String, Fail> {
+    match call {
+        "Account" => ways::<Item<Account>>(alloc, bytes),
+        "Block" => ways::<Item<Block>>(alloc, bytes),
+        "Body" => ways::<Item<Body>>(alloc, bytes),
+        "Branch" => ways::<Item<Branch>>(alloc, bytes),
+        "Child" => ways::<Item<Child>>(alloc, bytes),
+        "Extension" => ways::<Item<Extension>>(alloc, bytes),
+        "Hash" => ways::<Item<Hash>>(alloc, bytes),
+        "Header" => ways::<Item<Header>>(alloc, bytes),
+        "Leaf" => ways::<Item<Leaf>>(alloc, bytes),
+        "LegacyTransaction" => ways::<Item<LegacyTransaction>>(alloc, bytes),
+        "Log" => ways::<Item<Log>>(alloc, bytes),
+        "NodeRecord" => ways::<Item<NodeRecord>>(alloc, bytes),
+        "Transaction" => ways::<Item<Transaction>>(alloc, bytes),
+        "TrieNode" => ways::<Item<TrieNode>>(alloc, bytes),
+        "TypedReceipt" => ways::<Item<TypedReceipt>>(alloc, bytes),
+        "Withdrawal" => ways::<Item<Withdrawal>>(alloc, bytes),
+        _ => unsigned_or_message(alloc, call, bytes),
+    }
+}
+
+/// Returns what a call answers about the bytes of a transaction before it is signed, or of a message.
+fn unsigned_or_message(alloc: Global, call: &str, bytes: &[u8]) -> Result<String, Fail> {
+    match call {
+        "UnsignedAccessListTransaction" => {
+            ways::<Item<UnsignedAccessListTransaction>>(alloc, bytes)
+        }
+        "UnsignedAuthorization" => ways::<Item<UnsignedAuthorization>>(alloc, bytes),
+        "UnsignedBlobTransaction" => ways::<Item<UnsignedBlobTransaction>>(alloc, bytes),
+        "UnsignedFeeMarketTransaction" => ways::<Item<UnsignedFeeMarketTransaction>>(alloc, bytes),
+        "UnsignedLegacyTransaction" => ways::<Item<UnsignedLegacyTransaction>>(alloc, bytes),
+        "UnsignedSetCodeTransaction" => ways::<Item<UnsignedSetCodeTransaction>>(alloc, bytes),
+        "UnsignedTransaction" => ways::<Item<UnsignedTransaction>>(alloc, bytes),
+        "BlockBodies" => ways::<Item<WithRequestId<BlockBodies>>>(alloc, bytes),
+        "BlockHeaders" => ways::<Item<WithRequestId<BlockHeaders>>>(alloc, bytes),
+        "HashOrNumber" => ways::<Item<HashOrNumber>>(alloc, bytes),
+        "Hello" => ways::<Item<Hello>>(alloc, bytes),
+        "NewBlock" => ways::<Item<NewBlock>>(alloc, bytes),
+        "Ping" => ways::<Item<Ping>>(alloc, bytes),
+        "Pong" => ways::<Item<Pong>>(alloc, bytes),
+        "Receipts" => ways::<Item<WithRequestId<Receipts>>>(alloc, bytes),
+        "Transactions" => ways::<Item<Transactions>>(alloc, bytes),
+        _ => alone_or_fields(alloc, call, bytes),
+    }
+}
+
+/// Returns what a call answers about the bytes of an envelope by itself, or about fields.
+fn alone_or_fields(alloc: Global, call: &str, bytes: &[u8]) -> Result<String, Fail> {
+    match call {
+        "Transaction alone" => ways::<Transaction>(alloc, bytes),
+        "TypedReceipt alone" => ways::<TypedReceipt>(alloc, bytes),
+        "UnsignedTransaction alone" => ways::<UnsignedTransaction>(alloc, bytes),
+        "UnsignedAuthorization alone" => ways::<UnsignedAuthorization>(alloc, bytes),
+        "FeeMarketTransaction alone" => ways::<FeeMarketTransaction>(alloc, bytes),
+        "fields of Header" => fields::header(alloc, bytes),
+        "forks of Header" => fields::forks(alloc, bytes),
+        "London" => fields::london(alloc, bytes),
+        "fields of Block" => fields::block(alloc, bytes),
+        "fields of NewBlock" => fields::new_block(alloc, bytes),
+        "fields of Body" => fields::body(alloc, bytes),
+        "fields of LegacyTransaction" => fields::legacy(alloc, bytes),
+        "fields of Transaction alone" => fields::typed(alloc, bytes),
+        "fields of Transactions" => {
+            let read = rlp::decode_strict::<Transactions>(alloc, bytes)?;
+            fields::transactions(alloc, read.0.as_slice())
+        }
+        "fields of BlockHeaders" => fields::headers(alloc, bytes),
+        "fields of BlockBodies" => fields::bodies(alloc, bytes),
+        "fields of Receipts" => fields::receipts(alloc, bytes),
+        "kind of TypedReceipt" => {
+            let read = rlp::decode_strict::<TypedReceipt>(alloc, bytes)?;
+            Ok(String::from_str(alloc, fields::kind(&read))?)
+        }
+        "fields of TrieNode" => fields::node(alloc, bytes),
+        _ => of_a_table(alloc, call, bytes),
+    }
+}
+
+/// Returns what a call answers that a single table names.
+fn of_a_table(alloc: Global, call: &str, bytes: &[u8]) -> Result<String, Fail> {
+    match call.split_once(": ") {
+        Some(("record", name)) => records::answer(alloc, name, bytes),
+        Some(("message", name)) => messages::answer(alloc, name, bytes),
+        Some(("node", name)) => nodes::answer(alloc, name, bytes),
+        Some(("node record", name)) => node_records::answer(alloc, name, bytes),
+        Some(("request", name)) => requests::answer(alloc, name, bytes),
+        Some(("signed", name)) => unsigned::answer(alloc, name, bytes),
+        _ => Ok(String::from_str(alloc, "no such call")?),
+    }
+}

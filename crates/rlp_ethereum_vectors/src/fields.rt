@@ -1,0 +1,231 @@
+//! The fields of values that were read, as text.
+
+use crate::records::has_withdrawals;
+use crate::text::spelled;
+use rlp::Rlp;
+use rlp_ethereum::{
+    Block, Body, Child, Header, LegacyTransaction, London, Recipient, Transaction, TrieNode,
+    TypedReceipt,
+};
+use rlp_messages::{BlockBodies, BlockHeaders, NewBlock, Receipts, WithRequestId};
+use std::alloc::Global;
+use std::test::Fail;
+
+/// Returns the fields of all headers: the bytes in digits, the numbers, and whether the filter of
+/// logs is empty.
+pub(crate) fn header(alloc: Global, bytes: &[u8]) -> Result<String, Fail> {
+    let header = rlp::decode_strict::<Header>(alloc, bytes)?;
+    let words = [
+        header.parent_hash.0.as_slice(),
+        header.ommers_hash.0.as_slice(),
+        header.beneficiary.0.as_slice(),
+        header.state_root.0.as_slice(),
+        header.transactions_root.0.as_slice(),
+        header.receipts_root.0.as_slice(),
+        header.difficulty.bytes.as_slice(),
+        header.extra_data.as_slice(),
+        header.mix_hash.0.as_slice(),
+        header.nonce.as_slice(),
+    ];
+    let text = spelled(alloc, &words)?;
+    let (number, gas_limit, gas_used) = (header.number, header.gas_limit, header.gas_used);
+    let (timestamp, is_empty) = (header.timestamp, header.logs_bloom.0 == [0; 256]);
+    Ok(format!(in alloc; "{text} {number} {gas_limit} {gas_used} {timestamp} {is_empty}")?)
+}
+
+/// Returns the fields that a header has since London, and its length in bytes.
+pub(crate) fn forks(alloc: Global, bytes: &[u8]) -> Result<String, Fail> {
+    let header = rlp::decode_strict::<Header>(alloc, bytes)?;
+    let mut words = Vec::new(alloc);
+    if let Some(fee) = header.base_fee_per_gas() {
+        words.push(fee.bytes.as_slice())?;
+    }
+    if let Some(root) = header.withdrawals_root() {
+        words.push(root.0.as_slice())?;
+    }
+    if let Some(root) = header.parent_beacon_block_root() {
+        words.push(root.0.as_slice())?;
+    }
+    if let Some(hash) = header.requests_hash() {
+        words.push(hash.0.as_slice())?;
+    }
+    let text = spelled(alloc, words.as_slice())?;
+    let (used, excess) = (header.blob_gas_used(), header.excess_blob_gas());
+    let (len, has_root) = (bytes.len(), has_withdrawals(alloc, bytes)?);
+    Ok(format!(in alloc; "{len} {has_root} {used:?} {excess:?} {text}")?)
+}
+
+/// Returns what the fault of the fields since London prints.
+pub(crate) fn london(alloc: Global, bytes: &[u8]) -> Result<String, Fail> {
+    match rlp::decode_struct::<London>(alloc, &Rlp::new(bytes)) {
+        Ok(_) => Ok(String::from_str(alloc, "no fault")?),
+        Err(fault) => Ok(fault.to_string(alloc)?),
+    }
+}
+
+/// Returns the number, the withdrawals and the length of a block.
+pub(crate) fn block(alloc: Global, bytes: &[u8]) -> Result<String, Fail> {
+    let block = rlp::decode_strict::<Block>(alloc, bytes)?;
+    let (number, len) = (block.header.number, bytes.len());
+    let has_withdrawals = block.withdrawals.is_some();
+    Ok(format!(in alloc; "{number} {has_withdrawals} {len}")?)
+}
+
+/// Returns the total difficulty of a new block.
+pub(crate) fn new_block(alloc: Global, bytes: &[u8]) -> Result<String, Fail> {
+    let new = rlp::decode_strict::<NewBlock>(alloc, bytes)?;
+    spelled(alloc, &[new.total_difficulty.bytes.as_slice()])
+}
+
+/// Returns the transactions of a body, the number of its ommers, and whether it has withdrawals.
+pub(crate) fn body(alloc: Global, bytes: &[u8]) -> Result<String, Fail> {
+    let body = rlp::decode_strict::<Body>(alloc, bytes)?;
+    let (ommers, has_withdrawals) = (body.ommers.len(), body.withdrawals.is_some());
+    let text = transactions(alloc, body.transactions.as_slice())?;
+    Ok(format!(in alloc; "{text}{ommers} {has_withdrawals}")?)
+}
+
+/// Returns the type, the nonce and the limit of gas of each transaction.
+pub(crate) fn transactions(alloc: Global, all: &[Transaction]) -> Result<String, Fail> {
+    let mut text = String::new(alloc);
+    for transaction in all {
+        let (kind, nonce, gas) = match transaction {
+            Transaction::Legacy(payload) => (0, payload.nonce, payload.gas_limit),
+            Transaction::AccessList(payload) => (1, payload.nonce, payload.gas_limit),
+            Transaction::FeeMarket(payload) => (2, payload.nonce, payload.gas_limit),
+            Transaction::Blob(payload) => (3, payload.nonce, payload.gas_limit),
+            Transaction::SetCode(payload) => (4, payload.nonce, payload.gas_limit),
+        };
+        text.push_str(format!(in alloc; "type {kind} {nonce} {gas}, ")?.as_str())?;
+    }
+    Ok(text)
+}
+
+/// Returns the recipient and the numbers of a legacy transaction.
+pub(crate) fn legacy(alloc: Global, bytes: &[u8]) -> Result<String, Fail> {
+    let tx = rlp::decode_strict::<LegacyTransaction>(alloc, bytes)?;
+    let to = match &tx.to {
+        Recipient::Creation => b"".as_slice(),
+        Recipient::Account(address) => address.0.as_slice(),
+    };
+    let words = [
+        to,
+        tx.gas_price.bytes.as_slice(),
+        tx.value.bytes.as_slice(),
+        tx.v.bytes.as_slice(),
+        tx.r.bytes.as_slice(),
+        tx.s.bytes.as_slice(),
+    ];
+    let text = spelled(alloc, &words)?;
+    let (nonce, gas_limit, len) = (tx.nonce, tx.gas_limit, tx.data.len());
+    Ok(format!(in alloc; "{text} {nonce} {gas_limit} {len}")?)
+}
+
+/// Returns the fields of a transaction of type 3 or 4 by itself, of the latter with those of the
+/// second authorization.
+pub(crate) fn typed(alloc: Global, bytes: &[u8]) -> Result<String, Fail> {
+    match Transaction::from_bytes(alloc, bytes)? {
+        Transaction::Blob(tx) => {
+            let words = [
+                tx.max_priority_fee_per_gas.bytes.as_slice(),
+                tx.max_fee_per_gas.bytes.as_slice(),
+                tx.value.bytes.as_slice(),
+                tx.data.as_slice(),
+                tx.max_fee_per_blob_gas.bytes.as_slice(),
+                tx.r.bytes.as_slice(),
+                tx.s.bytes.as_slice(),
+            ];
+            let text = spelled(alloc, &words)?;
+            let (chain, nonce, gas) = (tx.chain_id, tx.nonce, tx.gas_limit);
+            let (accounts, blobs) = (tx.access_list.0.len(), tx.blob_versioned_hashes.len());
+            let parity = tx.y_parity;
+            Ok(format!(in alloc; "{text} {chain} {nonce} {gas} {accounts} {blobs} {parity}")?)
+        }
+        Transaction::SetCode(tx) => {
+            let words = [
+                tx.max_priority_fee_per_gas.bytes.as_slice(),
+                tx.max_fee_per_gas.bytes.as_slice(),
+                tx.value.bytes.as_slice(),
+                tx.data.as_slice(),
+                tx.r.bytes.as_slice(),
+                tx.s.bytes.as_slice(),
+            ];
+            let text = spelled(alloc, &words)?;
+            let (nonce, gas, parity) = (tx.nonce, tx.gas_limit, tx.y_parity);
+            let second = match tx.authorization_list.get(1) {
+                Some(second) => second,
+                None => return Ok(text),
+            };
+            let words = [
+                second.chain_id.bytes.as_slice(),
+                second.r.bytes.as_slice(),
+                second.s.bytes.as_slice(),
+            ];
+            let more = spelled(alloc, &words)?;
+            let (second_nonce, second_parity) = (second.nonce, second.y_parity);
+            Ok(format!(in alloc;
+                "{text} {nonce} {gas} {parity} {more} {second_nonce} {second_parity}"
+            )?)
+        }
+        other => transactions(alloc, &[other]),
+    }
+}
+
+/// Returns the number of a request, and how many headers or bodies answer it.
+pub(crate) fn headers(alloc: Global, bytes: &[u8]) -> Result<String, Fail> {
+    let read = rlp::decode_strict::<WithRequestId<BlockHeaders>>(alloc, bytes)?;
+    let (id, len) = (read.request_id, read.content.0.len());
+    Ok(format!(in alloc; "{id} {len}")?)
+}
+
+/// Returns the number of a request, and how many bodies answer it.
+pub(crate) fn bodies(alloc: Global, bytes: &[u8]) -> Result<String, Fail> {
+    let read = rlp::decode_strict::<WithRequestId<BlockBodies>>(alloc, bytes)?;
+    let (id, len) = (read.request_id, read.content.0.len());
+    Ok(format!(in alloc; "{id} {len}")?)
+}
+
+/// Returns the name of the type of a receipt.
+pub(crate) fn kind(receipt: &TypedReceipt) -> &'static str {
+    match receipt {
+        TypedReceipt::Legacy(_) => "legacy",
+        TypedReceipt::AccessList(_) => "access list",
+        TypedReceipt::FeeMarket(_) => "fee market",
+        TypedReceipt::Blob(_) => "blob",
+        TypedReceipt::SetCode(_) => "set code",
+    }
+}
+
+/// Returns the number of a request, and the types of the receipts of each block.
+pub(crate) fn receipts(alloc: Global, bytes: &[u8]) -> Result<String, Fail> {
+    let read = rlp::decode_strict::<WithRequestId<Receipts>>(alloc, bytes)?;
+    let id = read.request_id;
+    let mut text = format!(in alloc; "{id}:")?;
+    for block in read.content.0.iter() {
+        for receipt in block.0.iter() {
+            text.push(' ')?;
+            text.push_str(kind(receipt))?;
+        }
+        text.push(';')?;
+    }
+    Ok(text)
+}
+
+/// Returns the kind of a node, its path unless it is a branch, and the hash that it has as child.
+pub(crate) fn node(alloc: Global, bytes: &[u8]) -> Result<String, Fail> {
+    match rlp::decode_strict::<TrieNode>(alloc, bytes)? {
+        TrieNode::Leaf(leaf) => {
+            let path = hex::encode(alloc, leaf.path.as_slice())?;
+            Ok(format!(in alloc; "leaf {path}")?)
+        }
+        TrieNode::Extension(extension) => {
+            let child = match &extension.child {
+                Child::Node(hash) => hash.0.as_slice(),
+                _ => b"".as_slice(),
+            };
+            let words = spelled(alloc, &[extension.path.as_slice(), child])?;
+            Ok(format!(in alloc; "extension {words}")?)
+        }
+        TrieNode::Branch(_) => Ok(String::from_str(alloc, "branch")?),
+    }
+}
