@@ -4,10 +4,9 @@
 
 use crate::support::guarded::{estimates, finishes_as, put_raw, put_raw_within};
 use crate::support::iterators::put_undotted;
-use crate::support::script::buffer_of;
 use bytes::BytesMut;
 use rlp::RlpStream;
-use std::alloc::AllocError;
+use std::alloc::{AllocError, Global};
 use std::test::Fail;
 
 /// The number of bytes that is requested as the signal.
@@ -37,25 +36,31 @@ fn room_is_used(mut s: RlpStream) -> Result<bool, AllocError> {
     Ok(put && refused && s.len() == 1004 && s.as_raw().ends_with(b"rlp\x80"))
 }
 
-/// The encodings of two strings of three bytes.
-const TWO_STRINGS: &[u8] = b"\x83cat\x83dog";
+/// Gives the signal. The result of the request makes no difference.
+fn refuse_from_here(alloc: Global) {
+    drop(Vec::<u8>::with_capacity(alloc, SIGNAL));
+}
 
-// The last stream puts the bytes of iterators into room of exactly their size.
 #[test]
 fn streams_that_need_no_memory(rt: HostRuntime) -> Result<(), Fail> {
-    let alloc = rt.alloc();
-    let mut list = RlpStream::new_list(alloc, 3)?;
+    let mut list = RlpStream::new_list(rt.alloc(), 3)?;
     list.append(&"cat")?;
-    let roomy = RlpStream::new(alloc)?;
-    let front = buffer_of(alloc, "'junk")?;
-    let room = BytesMut::with_capacity(alloc, TWO_STRINGS.len())?;
-    // The result of the signal makes no difference.
-    drop(Vec::<u8>::with_capacity(alloc, SIGNAL));
-    let front = RlpStream::new_with_buffer(alloc, front);
-    let mut s = RlpStream::new_with_buffer(alloc, room);
+    let roomy = RlpStream::new(rt.alloc())?;
+    refuse_from_here(rt.alloc());
+    assert!(rt; list_answers(list) && room_is_used(roomy)?);
+    Ok(())
+}
+
+// The bytes of iterators are put into room of exactly their size.
+#[test]
+fn buffers_that_need_no_memory(rt: HostRuntime) -> Result<(), Fail> {
+    let mut buffer = BytesMut::with_capacity(rt.alloc(), 12)?;
+    buffer.extend_from_slice(b"junk")?;
+    refuse_from_here(rt.alloc());
+    let mut s = RlpStream::new_with_buffer(rt.alloc(), buffer);
+    assert!(rt; s.is_empty() && s.as_raw() == b"junk".as_slice());
     put_undotted(&mut s, b"c.a.t", true)?;
     put_undotted(&mut s, b"d.o.g", false)?;
-    assert!(rt; finishes_as(s, TWO_STRINGS) && list_answers(list) && room_is_used(roomy)?);
-    assert!(rt; front.is_empty() && finishes_as(front, b"junk"));
+    assert!(rt; finishes_as(s, b"junk\x83cat\x83dog"));
     Ok(())
 }

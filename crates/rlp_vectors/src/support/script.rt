@@ -184,15 +184,14 @@ fn make_again(
     };
     let raw = Vec::from_slice(alloc, s.as_raw())?;
     let (size, awaited, any) = (s.len(), s.items_awaited(), s.can_finalize());
-    let first = make(alloc, s, call);
-    let made = match first {
-        Ok(made) => made,
-        Err(_) => false,
+    let (made, again) = match make(alloc, s, call) {
+        Ok(made) => (made, false),
+        Err(_) => (false, true),
     };
     if !made && !is_as(s, raw.as_slice(), size, awaited, any) {
         return Ok(false);
     }
-    if first.is_ok() {
+    if !again {
         return Ok(made == admitted);
     }
     *refused = true;

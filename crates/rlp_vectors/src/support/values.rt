@@ -1,4 +1,4 @@
-//! Rows of values and bytes. Each function returns the bytes of the first row that isn't met.
+//! Rows of values and bytes.
 
 use crate::support::guarded::finishes_as;
 use crate::support::text::bytes_of;
@@ -6,26 +6,38 @@ use rlp::{Decodable, Encodable, RlpStream};
 use std::alloc::{AllocError, Global};
 use std::test::Fail;
 
-/// Writes each value alone, by both functions for it, and in a stream.
-pub(crate) fn first_unwritten<'a, E: Encodable>(
+/// Returns whether a value is written as these bytes: alone, by both functions for it, and in a
+/// stream.
+pub(crate) fn is_written<E: Encodable>(
     alloc: Global,
-    rows: &[(E, &'a str)],
-) -> Result<Option<&'a str>, AllocError> {
+    value: &E,
+    want: &str,
+) -> Result<bool, AllocError> {
+    let want = bytes_of(alloc, want)?;
+    let mut s = RlpStream::new(alloc)?;
+    s.append(value)?;
+    Ok(
+        rlp::encode(alloc, value)?.as_slice() == want.as_slice()
+            && value.rlp_bytes(alloc)?.as_slice() == want.as_slice()
+            && finishes_as(s, want.as_slice()),
+    )
+}
+
+/// Returns the bytes of the first row whose value isn't written as them.
+pub(crate) fn first_unwritten<E: Encodable>(
+    alloc: Global,
+    rows: &[(E, &'static str)],
+) -> Result<Option<&'static str>, AllocError> {
     for row in rows {
-        let want = bytes_of(alloc, row.1)?;
-        let mut s = RlpStream::new(alloc)?;
-        s.append(&row.0)?;
-        if rlp::encode(alloc, &row.0)?.as_slice() != want.as_slice()
-            || row.0.rlp_bytes(alloc)?.as_slice() != want.as_slice()
-            || !finishes_as(s, want.as_slice())
-        {
+        if !is_written(alloc, &row.0, row.1)? {
             return Ok(Some(row.1));
         }
     }
     Ok(None)
 }
 
-/// Writes the list of the values alone and in a stream.
+/// Returns the bytes of the first row whose values aren't written as them: the list of the values,
+/// alone and in a stream.
 pub(crate) fn first_unlisted<'a, E: Encodable>(
     alloc: Global,
     rows: &[(&[E], &'a str)],
@@ -44,7 +56,7 @@ pub(crate) fn first_unlisted<'a, E: Encodable>(
 }
 
 /// Reads the bytes of each row, by `decode_strict` or by `decode`. The text beside them is the
-/// fault, or the bytes as which the value is written again.
+/// fault, or the bytes as which the value is written again. Returns the first row that isn't met.
 pub(crate) fn first_unread<T: Decodable + Encodable>(
     alloc: Global,
     strict: bool,

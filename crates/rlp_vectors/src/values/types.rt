@@ -3,7 +3,7 @@
 
 use crate::support::script::Row as Line;
 use crate::support::text::bytes_of;
-use crate::support::values::{first_unread, first_unwritten};
+use crate::support::values::{first_unread, first_unwritten, is_written};
 use rlp::{Each, Flattened, ListOf, RlpStream, Uint};
 use rlp_examples::{Entry, Inner, Message, Nest, Row};
 use std::alloc::Global;
@@ -50,9 +50,7 @@ fn first_wrong_number(alloc: Global) -> Result<Option<&'static str>, Fail> {
         let mut whole = vec![in alloc; 0u8; 32usize.saturating_sub(last.len())]?;
         whole.extend_from_slice(last.as_slice())?;
         let number = rlp::decode::<Uint<32>>(alloc, bytes.as_slice())?;
-        if number.bytes.as_slice() != whole.as_slice()
-            || first_unwritten(alloc, &[(number, want)])?.is_some()
-        {
+        if number.bytes.as_slice() != whole.as_slice() || !is_written(alloc, &number, want)? {
             return Ok(Some(want));
         }
     }
@@ -118,8 +116,7 @@ fn structs_messages_and_nests(rt: HostRuntime) -> Result<(), Fail> {
     let nests = rlp::decode::<Nest<Nest<Inner>>>(alloc, bytes_of(alloc, NESTS)?.as_slice())?;
     assert!(rt; nests.0.len() == 2 && nests.0[0] == pairs && nests.0[1] == pairs);
     assert!(rt; rlp::decode::<Nest<Inner>>(alloc, bytes_of(alloc, PAIRS)?.as_slice())? == pairs);
-    assert_eq!(rt; first_unwritten(alloc, &[(nests, NESTS)])?, None);
-    assert_eq!(rt; first_unwritten(alloc, &[(pairs, PAIRS)])?, None);
+    assert!(rt; is_written(alloc, &nests, NESTS)? && is_written(alloc, &pairs, PAIRS)?);
     Ok(())
 }
 
@@ -132,7 +129,7 @@ fn fields(rt: HostRuntime) -> Result<(), Fail> {
     assert!(rt; entry.number == 5 && entry.bytes.is_empty());
     let row = rlp::decode_strict::<Row>(alloc, bytes_of(alloc, ROW)?.as_slice())?;
     assert!(rt; row.column_29 == 5 && row.column_32 == [2; 8]);
-    assert_eq!(rt; first_unwritten(alloc, &[(row, ROW)])?, None);
+    assert!(rt; is_written(alloc, &row, ROW)?);
     let mut s = RlpStream::new(alloc)?;
     let pairs = [(&1u64, &2u64), (&3u64, &4u64)];
     rlp::append_fields!(&mut s, Each(&[7u64, 8]), Flattened(&pairs), ListOf(&[5u64]))?;

@@ -1,7 +1,7 @@
 //! The examples of calls, some of which the pages show.
 
 use crate::support::guarded::finishes_as;
-use rlp::{BasicDecoder, DecoderError, Rlp};
+use rlp::{DecoderError, Rlp};
 use rlp_examples::{append_by_stream, append_each, chain_and_encoder, first_and_text, nested};
 use std::alloc::Global;
 use std::test::Fail;
@@ -17,11 +17,6 @@ fn views_agree(alloc: Global) -> Result<bool, DecoderError> {
             && first == [0x01, 0x02].as_slice()
             && text.as_str() == "[[\"0x01\", \"0x02\"], \"0x03\"]",
     )
-}
-
-/// Returns the length of a string.
-fn length(string: &[u8]) -> Result<usize, DecoderError> {
-    Ok(string.len())
 }
 
 fn list_is_read_back(alloc: Global, bytes: &[u8]) -> Result<bool, DecoderError> {
@@ -44,7 +39,6 @@ fn examples_as_shown(rt: HostRuntime) -> Result<(), Fail> {
     append_each(&mut s, &[128, 0])?;
     assert!(rt; finishes_as(s, &[1, 2, 3, 4, 1, 2, 0x81, 0x80, 0x80]));
     assert!(rt; views_agree(alloc)?);
-    assert_eq!(rt; BasicDecoder::new(b"\x83cat").decode_value(length)?, 3);
     assert_eq!(rt; rlp::decode::<u64>(alloc, &[0x82, 0x01, 0x00])?, 256);
     let is_right = match nested(alloc)? {
         Some(bytes) => list_is_read_back(alloc, bytes.as_slice())?,

@@ -1,24 +1,32 @@
 //! Bounds of the lengths of encodings. An encoding is within its bound.
 
-use crate::support::script::buffer_of;
 use crate::support::text::bytes_of;
 use crate::values::refused::OnceRefused;
-use bytes::Bytes;
+use bytes::{Bytes, BytesMut};
 use rlp::{Encodable, Uint};
 use rlp_examples::Pair;
 use std::alloc::{AllocError, Global};
 use std::cell::Cell;
 use std::test::Fail;
 
-/// Returns the place of the first row whose value has another bound than the first number beside it,
-/// or whose encoding has another length than the second.
+/// Returns whether a value has this bound, and its encoding has this length.
+fn is_bounded<E: Encodable>(
+    alloc: Global,
+    value: &E,
+    bound: usize,
+    len: usize,
+) -> Result<bool, AllocError> {
+    let encoded = rlp::encode(alloc, value)?.len();
+    Ok(value.max_len() == Some(bound) && encoded == len && len <= bound)
+}
+
+/// Returns the place of the first row whose value hasn't the bound and the length beside it.
 fn first_unbounded<E: Encodable>(
     alloc: Global,
     rows: &[(E, usize, usize)],
 ) -> Result<Option<usize>, AllocError> {
     for (place, row) in rows.iter().enumerate() {
-        let len = rlp::encode(alloc, &row.0)?.len();
-        if row.0.max_len() != Some(row.1) || len != row.2 || len > row.1 {
+        if !is_bounded(alloc, &row.0, row.1, row.2)? {
             return Ok(Some(place));
         }
     }
@@ -47,34 +55,39 @@ const STRINGS: [(&str, usize, usize); 7] = [
     ("61*65536", 65_545, 65_540),
 ];
 
-#[test]
-fn bounds_of_numbers_and_strings(rt: HostRuntime) -> Result<(), Fail> {
-    let alloc = rt.alloc();
+/// Returns the first number that hasn't its bound in one of its types.
+fn first_unbounded_number(alloc: Global) -> Result<Option<u64>, AllocError> {
     let calls = Cell::new(1usize);
     for (number, len) in NUMBERS {
-        let boxed = Box::new(alloc, number)?;
         let custom = OnceRefused {
             number,
             calls: &calls,
         };
-        assert_eq!(rt; first_unbounded(alloc, &[(number, 9, len)])?, None);
-        assert_eq!(rt; first_unbounded(alloc, &[(number as u128, 17, len)])?, None);
-        assert_eq!(rt; first_unbounded(alloc, &[(boxed, 9, len)])?, None);
-        assert_eq!(rt; first_unbounded(alloc, &[(custom, 9, len)])?, None);
+        if !is_bounded(alloc, &number, 9, len)?
+            || !is_bounded(alloc, &(number as u128), 17, len)?
+            || !is_bounded(alloc, &Box::new(alloc, number)?, 9, len)?
+            || !is_bounded(alloc, &custom, 9, len)?
+        {
+            return Ok(Some(number));
+        }
     }
+    Ok(None)
+}
+
+/// Returns the first string that hasn't its bound in one of its types.
+fn first_unbounded_string(alloc: Global) -> Result<Option<&'static str>, AllocError> {
     for (string, bound, len) in STRINGS {
-        let bytes = bytes_of(alloc, string)?;
-        let buffer = buffer_of(alloc, string)?;
-        let shared = Bytes::copy_from_slice(alloc, bytes.as_slice())?;
-        assert_eq!(rt;
-            first_unbounded(alloc, &[(bytes.as_slice(), bound, len)])?,
-            None
-        );
-        assert_eq!(rt; first_unbounded(alloc, &[(bytes, bound, len)])?, None);
-        assert_eq!(rt; first_unbounded(alloc, &[(buffer, bound, len)])?, None);
-        assert_eq!(rt; first_unbounded(alloc, &[(shared, bound, len)])?, None);
+        let owned = bytes_of(alloc, string)?;
+        let bytes = owned.as_slice();
+        if !is_bounded(alloc, &bytes, bound, len)?
+            || !is_bounded(alloc, &owned, bound, len)?
+            || !is_bounded(alloc, &BytesMut::copy_from_slice(alloc, bytes)?, bound, len)?
+            || !is_bounded(alloc, &Bytes::copy_from_slice(alloc, bytes)?, bound, len)?
+        {
+            return Ok(Some(string));
+        }
     }
-    Ok(())
+    Ok(None)
 }
 
 /// The greatest and the least value of each narrow type, and wide numbers.
@@ -97,20 +110,6 @@ const WIDE: [(Uint<32>, usize, usize); 2] = [
 
 const WIDEST: [(Uint<56>, usize, usize); 1] = [(Uint { bytes: [1; 56] }, 65, 58)];
 
-#[test]
-fn bounds_of_narrow_and_wide_numbers(rt: HostRuntime) -> Result<(), Fail> {
-    let alloc = rt.alloc();
-    assert_eq!(rt; first_unbounded(alloc, &TRUTHS)?, None);
-    assert_eq!(rt; first_unbounded(alloc, &U8)?, None);
-    assert_eq!(rt; first_unbounded(alloc, &U16)?, None);
-    assert_eq!(rt; first_unbounded(alloc, &U32)?, None);
-    assert_eq!(rt; first_unbounded(alloc, &USIZE)?, None);
-    assert_eq!(rt; first_unbounded(alloc, &U128)?, None);
-    assert_eq!(rt; first_unbounded(alloc, &WIDE)?, None);
-    assert_eq!(rt; first_unbounded(alloc, &WIDEST)?, None);
-    Ok(())
-}
-
 /// Arrays, an empty text, and options.
 const SHORT: [([u8; 32], usize, usize); 1] = [([0x61; 32], 33, 33)];
 
@@ -125,10 +124,25 @@ const STRING_OPTIONS: [(Option<[u8; 55]>, usize, usize); 1] = [(Some([0x61; 55])
 const NESTED: [(Option<Option<&str>>, usize, usize); 1] = [(Some(Some("cat")), 6, 6)];
 
 #[test]
+fn bounds_of_numbers(rt: HostRuntime) -> Result<(), Fail> {
+    let alloc = rt.alloc();
+    assert_eq!(rt; first_unbounded_number(alloc)?, None);
+    assert_eq!(rt; first_unbounded(alloc, &TRUTHS)?, None);
+    assert_eq!(rt; first_unbounded(alloc, &U8)?, None);
+    assert_eq!(rt; first_unbounded(alloc, &U16)?, None);
+    assert_eq!(rt; first_unbounded(alloc, &U32)?, None);
+    assert_eq!(rt; first_unbounded(alloc, &USIZE)?, None);
+    assert_eq!(rt; first_unbounded(alloc, &U128)?, None);
+    assert_eq!(rt; first_unbounded(alloc, &WIDE)?, None);
+    assert_eq!(rt; first_unbounded(alloc, &WIDEST)?, None);
+    Ok(())
+}
+
+#[test]
 fn bounds_of_texts_arrays_and_options(rt: HostRuntime) -> Result<(), Fail> {
     let alloc = rt.alloc();
-    let text = String::from_str(alloc, "cat")?;
-    assert_eq!(rt; first_unbounded(alloc, &[(text, 4, 4)])?, None);
+    assert_eq!(rt; first_unbounded_string(alloc)?, None);
+    assert!(rt; is_bounded(alloc, &String::from_str(alloc, "cat")?, 4, 4)?);
     assert_eq!(rt; first_unbounded(alloc, &SHORT)?, None);
     assert_eq!(rt; first_unbounded(alloc, &LONG)?, None);
     assert_eq!(rt; first_unbounded(alloc, &TEXTS)?, None);

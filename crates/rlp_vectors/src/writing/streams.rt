@@ -9,7 +9,7 @@ use std::alloc::{AllocError, Global};
 use std::test::Fail;
 
 /// Lists that announce their items, unbounded lists, values of each kind, and `clear`.
-const ROWS: [Row; 23] = [
+const ROWS: [Row; 24] = [
     ("list 0", "c0"),
     ("list 1; begin 0", "c1c0"),
     ("list 2; pair 1 2; number 3", "c4c2010203"),
@@ -18,6 +18,10 @@ const ROWS: [Row; 23] = [
     ("begin 1; encode 01; number 2", "c20102"),
     ("list 2; internal 1; number 2; number 3", "c3010203"),
     ("list 2; empty; empty", "c28080"),
+    (
+        "begin 2; begin 2; text cat; text dog; empty",
+        "cac88363617483646f6780",
+    ),
     ("unbounded; unbounded; finalize; finalize", "c1c0"),
     ("list 1; raw 0 05; number 6", "c20506"),
     ("list 3; text cat; clear; text dog", "83646f67"),
@@ -86,17 +90,12 @@ const FRONTS: [Row; 3] = [
     ),
 ];
 
-/// Lists behind a string of 2 MiB, and a list of many numbers.
-const LONG: [Row; 2] = [
+/// Lists that await many items, in a new stream and over a buffer; and lists behind 2 MiB.
+const MANY: [Row; 5] = [
     (
         "string 07*2097152; begin 1; small 5; unbounded; small 6; finalize",
         "ba200000+07*2097152+c105c106",
     ),
-    ("smalls 07*65537", "fa010001+07*65537"),
-];
-
-/// Lists that await many items, in a new stream and over a buffer.
-const AWAITED: [Row; 4] = [
     (
         "begin 1000001; is 1 1000001 00; list_over 1000001; is 1 1000001 00",
         "open",
@@ -246,8 +245,7 @@ fn streams_finish_as_worked_out(rt: HostRuntime) -> Result<(), Fail> {
     assert_eq!(rt; first_wrong(alloc, &NOT_ADMITTED)?, None);
     assert_eq!(rt; first_wrong(alloc, &ITERATORS)?, None);
     assert_eq!(rt; first_wrong(alloc, &FRONTS)?, None);
-    assert_eq!(rt; first_wrong(alloc, &LONG)?, None);
-    assert_eq!(rt; first_wrong(alloc, &AWAITED)?, None);
+    assert_eq!(rt; first_wrong(alloc, &MANY)?, None);
     assert_eq!(rt; first_wrong(alloc, &FILLED)?, None);
     assert_eq!(rt; first_wrong(alloc, &FINALIZED)?, None);
     assert_eq!(rt; first_wrong(alloc, &NESTED)?, None);
