@@ -6,28 +6,23 @@
 use crate::support::script::buffer_of;
 use rlp::{Encodable, RlpStream, Uint};
 use rlp_examples::Pair;
-use std::alloc::AllocError;
+use std::alloc::{AllocError, Global};
 use std::test::Fail;
 
-// The buffer is the front of a new list, or is returned if the call is refused.
-#[test]
-fn a_buffer_handed_in(rt: HostRuntime) -> Result<(), Fail> {
-    let buffer = buffer_of(rt.alloc(), "'junk")?;
-    match RlpStream::new_list_with_buffer(rt.alloc(), buffer, 2) {
-        Ok(s) => {
-            assert!(rt; s.as_raw() == b"junk\0".as_slice() && s.items_awaited() == Some(2));
-            Ok(())
-        }
-        Err(buffer) => {
-            assert_eq!(rt; buffer.as_slice(), b"junk".as_slice());
-            Err(AllocError)?
-        }
+/// Returns whether the given buffer is the front of a new list, or is returned if the call is
+/// refused.
+fn buffer_comes_back(alloc: Global) -> Result<bool, AllocError> {
+    match RlpStream::new_list_with_buffer(alloc, buffer_of(alloc, "'junk")?, 2) {
+        Ok(s) => Ok(s.as_raw() == b"junk\0".as_slice() && s.items_awaited() == Some(2)),
+        Err(buffer) if buffer.as_slice() == b"junk".as_slice() => Err(AllocError),
+        Err(_) => Ok(false),
     }
 }
 
 #[test]
 fn what_is_made(rt: HostRuntime) -> Result<(), Fail> {
     let alloc = rt.alloc();
+    assert!(rt; buffer_comes_back(alloc)?);
     let text = "Lorem ipsum";
     let stream = RlpStream::new(alloc)?;
     let list = RlpStream::new_list(alloc, 3)?;

@@ -62,7 +62,7 @@ fn make(alloc: Global, s: &mut RlpStream, call: &str) -> Result<bool, AllocError
     Ok(true)
 }
 
-/// Makes a call that appends values or bytes. Returns `false` if it isn't admitted.
+/// Makes a call that appends values, or puts bytes. Returns `false` if it isn't admitted.
 fn append(
     alloc: Global,
     s: &mut RlpStream,
@@ -104,30 +104,50 @@ fn append(
         "pairs" => {
             s.append_list(&[Pair(1, 2), Pair(3, 4)])?;
         }
-        "raw_item" => match RawItem::new(alloc, bytes_of(alloc, first)?.as_slice()) {
+        "raw" | "within" => {
+            return put(
+                alloc,
+                s,
+                name,
+                bytes_of(alloc, second)?.as_slice(),
+                number(first)?,
+            );
+        }
+        _ => return put(alloc, s, name, bytes_of(alloc, first)?.as_slice(), 0),
+    }
+    Ok(true)
+}
+
+/// Makes a call that puts bytes. Returns `false` if it isn't admitted. The number is that of the
+/// items of `raw`, or the limit of `within`.
+fn put(
+    alloc: Global,
+    s: &mut RlpStream,
+    name: &str,
+    bytes: &[u8],
+    number: usize,
+) -> Result<bool, AllocError> {
+    match name {
+        "raw" => return put_raw(s, bytes, number),
+        "within" => return put_raw_within(s, bytes, 1, number),
+        "raw_item" => match RawItem::new(alloc, bytes) {
             Ok(item) => {
                 s.append(&item)?;
             }
             Err(_) => return Err(AllocError),
         },
-        "undotted" => put_undotted(s, bytes_of(alloc, first)?.as_slice(), true)?,
-        "encode_undotted" => put_undotted(s, bytes_of(alloc, first)?.as_slice(), false)?,
+        "undotted" => put_undotted(s, bytes, true)?,
+        "encode_undotted" => put_undotted(s, bytes, false)?,
         "string" => {
-            s.append(&bytes_of(alloc, first)?)?;
+            s.append(&bytes)?;
         }
         "smalls" => {
-            s.append_list(bytes_of(alloc, first)?.as_slice())?;
+            s.append_list(bytes)?;
         }
         "iter" => {
-            s.append_iter(bytes_of(alloc, first)?.iter().copied())?;
+            s.append_iter(bytes.iter().copied())?;
         }
-        "encode" => s
-            .encoder()
-            .encode_value(bytes_of(alloc, first)?.as_slice())?,
-        "raw" => return put_raw(s, bytes_of(alloc, second)?.as_slice(), number(first)?),
-        "within" => {
-            return put_raw_within(s, bytes_of(alloc, second)?.as_slice(), 1, number(first)?);
-        }
+        "encode" => s.encoder().encode_value(bytes)?,
         _ => return Ok(false),
     }
     Ok(true)

@@ -36,6 +36,21 @@ pub(crate) fn first_unwritten<E: Encodable>(
     Ok(None)
 }
 
+/// Reads the encoding of each row as a value. Returns the first one as which the value isn't written
+/// again.
+pub(crate) fn first_unwritten_again<T: Decodable + Encodable>(
+    alloc: Global,
+    rows: &[(&'static str, &'static str)],
+) -> Result<Option<&'static str>, Fail> {
+    for row in rows {
+        let value = rlp::decode_strict::<T>(alloc, bytes_of(alloc, row.1)?.as_slice())?;
+        if !is_written(alloc, &value, row.1)? {
+            return Ok(Some(row.1));
+        }
+    }
+    Ok(None)
+}
+
 /// Returns the bytes of the first row whose values aren't written as them: the list of the values,
 /// alone and in a stream.
 pub(crate) fn first_unlisted<'a, E: Encodable>(

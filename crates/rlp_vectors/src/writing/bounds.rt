@@ -3,7 +3,7 @@
 use crate::support::text::bytes_of;
 use crate::values::refused::OnceRefused;
 use bytes::{Bytes, BytesMut};
-use rlp::{Encodable, Uint};
+use rlp::{Decodable, Encodable, Uint};
 use rlp_examples::Pair;
 use std::alloc::{AllocError, Global};
 use std::cell::Cell;
@@ -44,15 +44,25 @@ const NUMBERS: [(u64, usize); 7] = [
     (u64::MAX, 9),
 ];
 
-/// Strings of bytes 61, the bounds, and the lengths of the encodings.
+/// Encodings of strings of bytes 61, the bounds, and the lengths of the encodings.
 const STRINGS: [(&str, usize, usize); 7] = [
-    ("", 1, 1),
+    ("80", 1, 1),
     ("61", 2, 1),
-    ("61*2", 3, 3),
-    ("61*55", 56, 56),
-    ("61*56", 65, 58),
-    ("61*256", 265, 259),
-    ("61*65536", 65_545, 65_540),
+    ("82+61*2", 3, 3),
+    ("b7+61*55", 56, 56),
+    ("b838+61*56", 65, 58),
+    ("b90100+61*256", 265, 259),
+    ("ba010000+61*65536", 65_545, 65_540),
+];
+
+/// Slices of 0, 1, 2, 55, 56 and 256 such bytes.
+const SLICES: [(&[u8], usize, usize); 6] = [
+    (&[], 1, 1),
+    (&[0x61], 2, 1),
+    (&[0x61; 2], 3, 3),
+    (&[0x61; 55], 56, 56),
+    (&[0x61; 56], 65, 58),
+    (&[0x61; 256], 265, 259),
 ];
 
 /// Returns the first number that hasn't its bound in one of its types.
@@ -74,17 +84,13 @@ fn first_unbounded_number(alloc: Global) -> Result<Option<u64>, AllocError> {
     Ok(None)
 }
 
-/// Returns the first string that hasn't its bound in one of its types.
-fn first_unbounded_string(alloc: Global) -> Result<Option<&'static str>, AllocError> {
-    for (string, bound, len) in STRINGS {
-        let owned = bytes_of(alloc, string)?;
-        let bytes = owned.as_slice();
-        if !is_bounded(alloc, &bytes, bound, len)?
-            || !is_bounded(alloc, &owned, bound, len)?
-            || !is_bounded(alloc, &BytesMut::copy_from_slice(alloc, bytes)?, bound, len)?
-            || !is_bounded(alloc, &Bytes::copy_from_slice(alloc, bytes)?, bound, len)?
-        {
-            return Ok(Some(string));
+/// Reads the encoding of each row as a string. Returns the place of the first whose string hasn't
+/// the bound and the length beside it.
+fn first_unbounded_string<T: Decodable + Encodable>(alloc: Global) -> Result<Option<usize>, Fail> {
+    for (place, (bytes, bound, len)) in STRINGS.iter().enumerate() {
+        let string = rlp::decode_strict::<T>(alloc, bytes_of(alloc, bytes)?.as_slice())?;
+        if !is_bounded(alloc, &string, *bound, *len)? {
+            return Ok(Some(place));
         }
     }
     Ok(None)
@@ -141,7 +147,12 @@ fn bounds_of_numbers(rt: HostRuntime) -> Result<(), Fail> {
 #[test]
 fn bounds_of_texts_arrays_and_options(rt: HostRuntime) -> Result<(), Fail> {
     let alloc = rt.alloc();
-    assert_eq!(rt; first_unbounded_string(alloc)?, None);
+    assert_eq!(rt; first_unbounded_string::<Vec<u8>>(alloc)?, None);
+    assert_eq!(rt; first_unbounded_string::<Bytes>(alloc)?, None);
+    assert_eq!(rt; first_unbounded_string::<BytesMut>(alloc)?, None);
+    assert_eq!(rt; first_unbounded(alloc, &SLICES)?, None);
+    let long = bytes_of(alloc, "61*65536")?;
+    assert!(rt; is_bounded(alloc, &long.as_slice(), 65_545, 65_540)?);
     assert!(rt; is_bounded(alloc, &String::from_str(alloc, "cat")?, 4, 4)?);
     assert_eq!(rt; first_unbounded(alloc, &SHORT)?, None);
     assert_eq!(rt; first_unbounded(alloc, &LONG)?, None);
