@@ -1,55 +1,61 @@
-//! Transactions, receipts and what is signed, by themselves: with no header around their envelope.
+//! Transactions, receipts and what is signed, by themselves.
 
-use crate::reading::{Again, Reading};
+use crate::reading::Bare;
+use bytes::BytesMut;
+use rlp::DecoderError;
 use rlp_ethereum::{
     FEE_MARKET_TYPE, FeeMarketTransaction, Transaction, TypedReceipt, UnsignedAuthorization,
     UnsignedTransaction, from_envelope, to_envelope,
 };
-use std::alloc::Global;
-use std::test::Fail;
+use std::alloc::{AllocError, Global};
 
-impl Reading for Transaction {
-    fn again(alloc: Global, bytes: &[u8]) -> Result<Again, Fail> {
-        match Transaction::from_bytes(alloc, bytes) {
-            Ok(value) => Ok(Ok(value.to_bytes(alloc)?)),
-            Err(fault) => Ok(Err(fault)),
-        }
+impl Bare for Transaction {
+    fn from(alloc: Global, bytes: &[u8]) -> Result<Transaction, DecoderError> {
+        Transaction::from_bytes(alloc, bytes)
+    }
+
+    fn to(&self, alloc: Global) -> Result<BytesMut, AllocError> {
+        self.to_bytes(alloc)
     }
 }
 
-impl Reading for TypedReceipt {
-    fn again(alloc: Global, bytes: &[u8]) -> Result<Again, Fail> {
-        match TypedReceipt::from_bytes(alloc, bytes) {
-            Ok(value) => Ok(Ok(value.to_bytes(alloc)?)),
-            Err(fault) => Ok(Err(fault)),
-        }
+impl Bare for TypedReceipt {
+    fn from(alloc: Global, bytes: &[u8]) -> Result<TypedReceipt, DecoderError> {
+        TypedReceipt::from_bytes(alloc, bytes)
+    }
+
+    fn to(&self, alloc: Global) -> Result<BytesMut, AllocError> {
+        self.to_bytes(alloc)
     }
 }
 
-impl Reading for UnsignedTransaction {
-    fn again(alloc: Global, bytes: &[u8]) -> Result<Again, Fail> {
-        match UnsignedTransaction::from_bytes(alloc, bytes) {
-            Ok(value) => Ok(Ok(value.to_bytes(alloc)?)),
-            Err(fault) => Ok(Err(fault)),
-        }
+impl Bare for UnsignedTransaction {
+    fn from(alloc: Global, bytes: &[u8]) -> Result<UnsignedTransaction, DecoderError> {
+        UnsignedTransaction::from_bytes(alloc, bytes)
+    }
+
+    fn to(&self, alloc: Global) -> Result<BytesMut, AllocError> {
+        self.to_bytes(alloc)
     }
 }
 
-impl Reading for UnsignedAuthorization {
-    fn again(alloc: Global, bytes: &[u8]) -> Result<Again, Fail> {
-        match UnsignedAuthorization::from_bytes(alloc, bytes) {
-            Ok(value) => Ok(Ok(value.to_bytes(alloc)?)),
-            Err(fault) => Ok(Err(fault)),
-        }
+impl Bare for UnsignedAuthorization {
+    fn from(alloc: Global, bytes: &[u8]) -> Result<UnsignedAuthorization, DecoderError> {
+        UnsignedAuthorization::from_bytes(alloc, bytes)
+    }
+
+    fn to(&self, alloc: Global) -> Result<BytesMut, AllocError> {
+        self.to_bytes(alloc)
     }
 }
 
-/// Reads a transaction of type 2 from its envelope.
-impl Reading for FeeMarketTransaction {
-    fn again(alloc: Global, bytes: &[u8]) -> Result<Again, Fail> {
-        match from_envelope::<FeeMarketTransaction>(alloc, FEE_MARKET_TYPE, bytes) {
-            Ok(value) => Ok(Ok(to_envelope(alloc, FEE_MARKET_TYPE, &value)?)),
-            Err(fault) => Ok(Err(fault)),
-        }
+/// A transaction of type 2 in its envelope.
+impl Bare for FeeMarketTransaction {
+    fn from(alloc: Global, bytes: &[u8]) -> Result<FeeMarketTransaction, DecoderError> {
+        from_envelope(alloc, FEE_MARKET_TYPE, bytes)
+    }
+
+    fn to(&self, alloc: Global) -> Result<BytesMut, AllocError> {
+        to_envelope(alloc, FEE_MARKET_TYPE, self)
     }
 }

@@ -1,6 +1,7 @@
 //! The calls that the rows of tables name.
 
-use crate::reading::{Item, ways};
+use crate::reading::{Alone, Item, ways};
+use crate::text::spelled;
 use crate::{fields, messages, node_records, nodes, records, requests, unsigned};
 use rlp_ethereum::{
     Account, Block, Body, Branch, Child, Extension, FeeMarketTransaction, Hash, Header, Leaf,
@@ -67,25 +68,37 @@ fn unsigned_or_message(alloc: Global, call: &str, bytes: &[u8]) -> Result<String
 /// Returns what a call answers about the bytes of an envelope by itself, or about fields.
 fn alone_or_fields(alloc: Global, call: &str, bytes: &[u8]) -> Result<String, Fail> {
     match call {
-        "Transaction alone" => ways::<Transaction>(alloc, bytes),
-        "TypedReceipt alone" => ways::<TypedReceipt>(alloc, bytes),
-        "UnsignedTransaction alone" => ways::<UnsignedTransaction>(alloc, bytes),
-        "UnsignedAuthorization alone" => ways::<UnsignedAuthorization>(alloc, bytes),
-        "FeeMarketTransaction alone" => ways::<FeeMarketTransaction>(alloc, bytes),
+        "Transaction alone" => ways::<Alone<Transaction>>(alloc, bytes),
+        "TypedReceipt alone" => ways::<Alone<TypedReceipt>>(alloc, bytes),
+        "UnsignedTransaction alone" => ways::<Alone<UnsignedTransaction>>(alloc, bytes),
+        "UnsignedAuthorization alone" => ways::<Alone<UnsignedAuthorization>>(alloc, bytes),
+        "FeeMarketTransaction alone" => ways::<Alone<FeeMarketTransaction>>(alloc, bytes),
         "fields of Header" => fields::header(alloc, bytes),
         "forks of Header" => fields::forks(alloc, bytes),
         "London" => fields::london(alloc, bytes),
         "fields of Block" => fields::block(alloc, bytes),
-        "fields of NewBlock" => fields::new_block(alloc, bytes),
+        "fields of NewBlock" => {
+            let new = rlp::decode_strict::<NewBlock>(alloc, bytes)?;
+            spelled(alloc, &[new.total_difficulty.bytes.as_slice()])
+        }
         "fields of Body" => fields::body(alloc, bytes),
         "fields of LegacyTransaction" => fields::legacy(alloc, bytes),
-        "fields of Transaction alone" => fields::typed(alloc, bytes),
+        "fields of Transaction alone" => fields::typed(alloc, bytes, false),
+        "second authorization" => fields::typed(alloc, bytes, true),
         "fields of Transactions" => {
             let read = rlp::decode_strict::<Transactions>(alloc, bytes)?;
             fields::transactions(alloc, read.0.as_slice())
         }
-        "fields of BlockHeaders" => fields::headers(alloc, bytes),
-        "fields of BlockBodies" => fields::bodies(alloc, bytes),
+        "fields of BlockHeaders" => {
+            let read = rlp::decode_strict::<WithRequestId<BlockHeaders>>(alloc, bytes)?;
+            let (id, count) = (read.request_id, read.content.0.len());
+            Ok(format!(in alloc; "{id} {count}")?)
+        }
+        "fields of BlockBodies" => {
+            let read = rlp::decode_strict::<WithRequestId<BlockBodies>>(alloc, bytes)?;
+            let (id, count) = (read.request_id, read.content.0.len());
+            Ok(format!(in alloc; "{id} {count}")?)
+        }
         "fields of Receipts" => fields::receipts(alloc, bytes),
         "kind of TypedReceipt" => {
             let read = rlp::decode_strict::<TypedReceipt>(alloc, bytes)?;

@@ -4,10 +4,10 @@ use crate::records::has_withdrawals;
 use crate::text::spelled;
 use rlp::Rlp;
 use rlp_ethereum::{
-    Block, Body, Child, Header, LegacyTransaction, London, Recipient, Transaction, TrieNode,
-    TypedReceipt,
+    Authorization, BlobTransaction, Block, Body, Child, Hash, Header, LegacyTransaction, London,
+    Recipient, SetCodeTransaction, Transaction, TrieNode, TypedReceipt,
 };
-use rlp_messages::{BlockBodies, BlockHeaders, NewBlock, Receipts, WithRequestId};
+use rlp_messages::{Receipts, WithRequestId};
 use std::alloc::Global;
 use std::test::Fail;
 
@@ -33,23 +33,28 @@ pub(crate) fn header(alloc: Global, bytes: &[u8]) -> Result<String, Fail> {
     Ok(format!(in alloc; "{text} {number} {gas_limit} {gas_used} {timestamp} {is_empty}")?)
 }
 
+/// Returns the bytes of a hash, or none.
+fn digits_of(hash: Option<&Hash>) -> &[u8] {
+    match hash {
+        Some(hash) => hash.0.as_slice(),
+        None => b"".as_slice(),
+    }
+}
+
 /// Returns the fields that a header has since London, and its length in bytes.
 pub(crate) fn forks(alloc: Global, bytes: &[u8]) -> Result<String, Fail> {
     let header = rlp::decode_strict::<Header>(alloc, bytes)?;
-    let mut words = Vec::new(alloc);
-    if let Some(fee) = header.base_fee_per_gas() {
-        words.push(fee.bytes.as_slice())?;
-    }
-    if let Some(root) = header.withdrawals_root() {
-        words.push(root.0.as_slice())?;
-    }
-    if let Some(root) = header.parent_beacon_block_root() {
-        words.push(root.0.as_slice())?;
-    }
-    if let Some(hash) = header.requests_hash() {
-        words.push(hash.0.as_slice())?;
-    }
-    let text = spelled(alloc, words.as_slice())?;
+    let fee = match header.base_fee_per_gas() {
+        Some(fee) => fee.bytes.as_slice(),
+        None => b"".as_slice(),
+    };
+    let words = [
+        fee,
+        digits_of(header.withdrawals_root()),
+        digits_of(header.parent_beacon_block_root()),
+        digits_of(header.requests_hash()),
+    ];
+    let text = spelled(alloc, &words)?;
     let (used, excess) = (header.blob_gas_used(), header.excess_blob_gas());
     let (len, has_root) = (bytes.len(), has_withdrawals(alloc, bytes)?);
     Ok(format!(in alloc; "{len} {has_root} {used:?} {excess:?} {text}")?)
@@ -71,12 +76,6 @@ pub(crate) fn block(alloc: Global, bytes: &[u8]) -> Result<String, Fail> {
     Ok(format!(in alloc; "{number} {has_withdrawals} {len}")?)
 }
 
-/// Returns the total difficulty of a new block.
-pub(crate) fn new_block(alloc: Global, bytes: &[u8]) -> Result<String, Fail> {
-    let new = rlp::decode_strict::<NewBlock>(alloc, bytes)?;
-    spelled(alloc, &[new.total_difficulty.bytes.as_slice()])
-}
-
 /// Returns the transactions of a body, the number of its ommers, and whether it has withdrawals.
 pub(crate) fn body(alloc: Global, bytes: &[u8]) -> Result<String, Fail> {
     let body = rlp::decode_strict::<Body>(alloc, bytes)?;
@@ -85,17 +84,22 @@ pub(crate) fn body(alloc: Global, bytes: &[u8]) -> Result<String, Fail> {
     Ok(format!(in alloc; "{text}{ommers} {has_withdrawals}")?)
 }
 
+/// Returns the type, the nonce and the limit of gas of a transaction.
+fn numbers(transaction: &Transaction) -> (u8, u64, u64) {
+    match transaction {
+        Transaction::Legacy(payload) => (0, payload.nonce, payload.gas_limit),
+        Transaction::AccessList(payload) => (1, payload.nonce, payload.gas_limit),
+        Transaction::FeeMarket(payload) => (2, payload.nonce, payload.gas_limit),
+        Transaction::Blob(payload) => (3, payload.nonce, payload.gas_limit),
+        Transaction::SetCode(payload) => (4, payload.nonce, payload.gas_limit),
+    }
+}
+
 /// Returns the type, the nonce and the limit of gas of each transaction.
 pub(crate) fn transactions(alloc: Global, all: &[Transaction]) -> Result<String, Fail> {
     let mut text = String::new(alloc);
     for transaction in all {
-        let (kind, nonce, gas) = match transaction {
-            Transaction::Legacy(payload) => (0, payload.nonce, payload.gas_limit),
-            Transaction::AccessList(payload) => (1, payload.nonce, payload.gas_limit),
-            Transaction::FeeMarket(payload) => (2, payload.nonce, payload.gas_limit),
-            Transaction::Blob(payload) => (3, payload.nonce, payload.gas_limit),
-            Transaction::SetCode(payload) => (4, payload.nonce, payload.gas_limit),
-        };
+        let (kind, nonce, gas) = numbers(transaction);
         text.push_str(format!(in alloc; "type {kind} {nonce} {gas}, ")?.as_str())?;
     }
     Ok(text)
@@ -121,68 +125,61 @@ pub(crate) fn legacy(alloc: Global, bytes: &[u8]) -> Result<String, Fail> {
     Ok(format!(in alloc; "{text} {nonce} {gas_limit} {len}")?)
 }
 
-/// Returns the fields of a transaction of type 3 or 4 by itself, of the latter with those of the
-/// second authorization.
-pub(crate) fn typed(alloc: Global, bytes: &[u8]) -> Result<String, Fail> {
-    match Transaction::from_bytes(alloc, bytes)? {
-        Transaction::Blob(tx) => {
-            let words = [
-                tx.max_priority_fee_per_gas.bytes.as_slice(),
-                tx.max_fee_per_gas.bytes.as_slice(),
-                tx.value.bytes.as_slice(),
-                tx.data.as_slice(),
-                tx.max_fee_per_blob_gas.bytes.as_slice(),
-                tx.r.bytes.as_slice(),
-                tx.s.bytes.as_slice(),
-            ];
-            let text = spelled(alloc, &words)?;
-            let (chain, nonce, gas) = (tx.chain_id, tx.nonce, tx.gas_limit);
-            let (accounts, blobs) = (tx.access_list.0.len(), tx.blob_versioned_hashes.len());
-            let parity = tx.y_parity;
-            Ok(format!(in alloc; "{text} {chain} {nonce} {gas} {accounts} {blobs} {parity}")?)
+/// Returns the fields of a transaction of type 3.
+fn blob(alloc: Global, tx: &BlobTransaction) -> Result<String, Fail> {
+    let words = [
+        tx.max_priority_fee_per_gas.bytes.as_slice(),
+        tx.max_fee_per_gas.bytes.as_slice(),
+        tx.value.bytes.as_slice(),
+        tx.data.as_slice(),
+        tx.max_fee_per_blob_gas.bytes.as_slice(),
+        tx.r.bytes.as_slice(),
+        tx.s.bytes.as_slice(),
+    ];
+    let text = spelled(alloc, &words)?;
+    let (chain, nonce, gas) = (tx.chain_id, tx.nonce, tx.gas_limit);
+    let (accounts, blobs) = (tx.access_list.0.len(), tx.blob_versioned_hashes.len());
+    let parity = tx.y_parity;
+    Ok(format!(in alloc; "{text} {chain} {nonce} {gas} {accounts} {blobs} {parity}")?)
+}
+
+/// Returns the fields of a transaction of type 4.
+fn set_code(alloc: Global, tx: &SetCodeTransaction) -> Result<String, Fail> {
+    let words = [
+        tx.max_priority_fee_per_gas.bytes.as_slice(),
+        tx.max_fee_per_gas.bytes.as_slice(),
+        tx.value.bytes.as_slice(),
+        tx.data.as_slice(),
+        tx.r.bytes.as_slice(),
+        tx.s.bytes.as_slice(),
+    ];
+    let text = spelled(alloc, &words)?;
+    let (nonce, gas, parity) = (tx.nonce, tx.gas_limit, tx.y_parity);
+    Ok(format!(in alloc; "{text} {nonce} {gas} {parity}")?)
+}
+
+/// Returns the fields of an authorization.
+fn authorization(alloc: Global, one: &Authorization) -> Result<String, Fail> {
+    let words = [one.chain_id.bytes.as_slice(), &one.r.bytes, &one.s.bytes];
+    let text = spelled(alloc, &words)?;
+    let (nonce, parity) = (one.nonce, one.y_parity);
+    Ok(format!(in alloc; "{text} {nonce} {parity}")?)
+}
+
+/// Returns the fields of a transaction by itself, or of its second authorization.
+pub(crate) fn typed(alloc: Global, bytes: &[u8], is_second: bool) -> Result<String, Fail> {
+    let transaction = Transaction::from_bytes(alloc, bytes)?;
+    match &transaction {
+        Transaction::Blob(tx) => blob(alloc, tx),
+        Transaction::SetCode(tx) => match tx.authorization_list.get(1) {
+            Some(second) if is_second => authorization(alloc, second),
+            _ => set_code(alloc, tx),
+        },
+        _ => {
+            let (kind, nonce, gas) = numbers(&transaction);
+            Ok(format!(in alloc; "type {kind} {nonce} {gas}")?)
         }
-        Transaction::SetCode(tx) => {
-            let words = [
-                tx.max_priority_fee_per_gas.bytes.as_slice(),
-                tx.max_fee_per_gas.bytes.as_slice(),
-                tx.value.bytes.as_slice(),
-                tx.data.as_slice(),
-                tx.r.bytes.as_slice(),
-                tx.s.bytes.as_slice(),
-            ];
-            let text = spelled(alloc, &words)?;
-            let (nonce, gas, parity) = (tx.nonce, tx.gas_limit, tx.y_parity);
-            let second = match tx.authorization_list.get(1) {
-                Some(second) => second,
-                None => return Ok(text),
-            };
-            let words = [
-                second.chain_id.bytes.as_slice(),
-                second.r.bytes.as_slice(),
-                second.s.bytes.as_slice(),
-            ];
-            let more = spelled(alloc, &words)?;
-            let (second_nonce, second_parity) = (second.nonce, second.y_parity);
-            Ok(format!(in alloc;
-                "{text} {nonce} {gas} {parity} {more} {second_nonce} {second_parity}"
-            )?)
-        }
-        other => transactions(alloc, &[other]),
     }
-}
-
-/// Returns the number of a request, and how many headers or bodies answer it.
-pub(crate) fn headers(alloc: Global, bytes: &[u8]) -> Result<String, Fail> {
-    let read = rlp::decode_strict::<WithRequestId<BlockHeaders>>(alloc, bytes)?;
-    let (id, len) = (read.request_id, read.content.0.len());
-    Ok(format!(in alloc; "{id} {len}")?)
-}
-
-/// Returns the number of a request, and how many bodies answer it.
-pub(crate) fn bodies(alloc: Global, bytes: &[u8]) -> Result<String, Fail> {
-    let read = rlp::decode_strict::<WithRequestId<BlockBodies>>(alloc, bytes)?;
-    let (id, len) = (read.request_id, read.content.0.len());
-    Ok(format!(in alloc; "{id} {len}")?)
 }
 
 /// Returns the name of the type of a receipt.
@@ -213,19 +210,24 @@ pub(crate) fn receipts(alloc: Global, bytes: &[u8]) -> Result<String, Fail> {
 
 /// Returns the kind of a node, its path unless it is a branch, and the hash that it has as child.
 pub(crate) fn node(alloc: Global, bytes: &[u8]) -> Result<String, Fail> {
-    match rlp::decode_strict::<TrieNode>(alloc, bytes)? {
-        TrieNode::Leaf(leaf) => {
-            let path = hex::encode(alloc, leaf.path.as_slice())?;
-            Ok(format!(in alloc; "leaf {path}")?)
-        }
-        TrieNode::Extension(extension) => {
-            let child = match &extension.child {
-                Child::Node(hash) => hash.0.as_slice(),
-                _ => b"".as_slice(),
-            };
-            let words = spelled(alloc, &[extension.path.as_slice(), child])?;
-            Ok(format!(in alloc; "extension {words}")?)
-        }
-        TrieNode::Branch(_) => Ok(String::from_str(alloc, "branch")?),
+    let node = rlp::decode_strict::<TrieNode>(alloc, bytes)?;
+    let (kind, path, child) = match &node {
+        TrieNode::Leaf(leaf) => ("leaf", leaf.path.as_slice(), None),
+        TrieNode::Extension(extension) => (
+            "extension",
+            extension.path.as_slice(),
+            hash_of(&extension.child),
+        ),
+        TrieNode::Branch(_) => ("branch", b"".as_slice(), None),
+    };
+    let text = spelled(alloc, &[path, digits_of(child)])?;
+    Ok(format!(in alloc; "{kind} {text}")?)
+}
+
+/// Returns the hash of a child.
+fn hash_of(child: &Child) -> Option<&Hash> {
+    match child {
+        Child::Node(hash) => Some(hash),
+        _ => None,
     }
 }

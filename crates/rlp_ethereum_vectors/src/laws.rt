@@ -26,8 +26,10 @@ fn laws_hold<R: Record>(alloc: Global, text: &str) -> Result<bool, Fail> {
 #[test]
 fn laws_hold_of_records(rt: HostRuntime) -> Result<(), Fail> {
     let alloc = rt.alloc();
-    assert!(rt; laws_hold::<Withdrawal>(alloc, WITHDRAWAL)?);
-    assert!(rt; laws_hold::<Account>(alloc, ACCOUNT)?);
-    assert!(rt; laws_hold::<Transaction>(alloc, TRANSACTION)?);
+    assert!(rt;
+        laws_hold::<Withdrawal>(alloc, WITHDRAWAL)?
+            && laws_hold::<Account>(alloc, ACCOUNT)?
+            && laws_hold::<Transaction>(alloc, TRANSACTION)?
+    );
     Ok(())
 }

@@ -1,6 +1,6 @@
 //! Node records. The record and its fields are those that EIP-778 publishes as its example.
 
-use crate::reading::{Item, ways};
+use crate::reading::{Item, fault, ways};
 use crate::text::spelled;
 use rlp::RawItem;
 use rlp_ethereum::{NodeFields, NodePair, NodeRecord};
@@ -75,6 +75,6 @@ fn of_the_key(alloc: Global, key: &[u8]) -> Result<String, Fail> {
             let len = written.len();
             Ok(format!(in alloc; "{ways}, {len}")?)
         }
-        Err(fault) => Ok(format!(in alloc; "{fault:?}")?),
+        Err(found) => fault(alloc, &found),
     }
 }

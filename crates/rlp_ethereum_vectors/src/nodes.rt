@@ -1,8 +1,8 @@
 //! Nodes of the trie. Unless a comment says otherwise, the expected bytes were worked out by the
 //! rules of the format.
 
-use crate::reading::written;
-use rlp::{Encodable, RawItem};
+use crate::reading::{Item, Reading, digits, is_fault, written};
+use rlp::RawItem;
 use rlp_ethereum::{Branch, Child, Extension, Hash, Leaf, TrieNode};
 use std::alloc::{AllocError, Global};
 use std::test::Fail;
@@ -45,37 +45,37 @@ pub(crate) const ROWS: &str = "
     TrieNode | e216a0bd3ee507e6c67cfefca98f84be47c1bbc009315fabc4405db4ba32190374572a
     fields of TrieNode | e216a0bd3ee507e6c67cfefca98f84be47c1bbc009315fabc4405db4ba32190374572a | e\
      xtension 16 bd3ee507e6c67cfefca98f84be47c1bbc009315fabc4405db4ba32190374572a
-    node: changed | e216a0bd3ee507e6c67cfefca98f84be47c1bbc009315fabc4405db4ba32190374572a | true
+    node: changed | e216a0bd3ee507e6c67cfefca98f84be47c1bbc009315fabc4405db4ba32190374572a | None
     TrieNode | f84080808080a094a9f95bd89698e4da1812e0518053813b4d5b87caaf6b3c6fa57e9e50c0ff68808080\
      cf85206f727365887374616c6c696f6e8080808080808080
     fields of TrieNode | f84080808080a094a9f95bd89698e4da1812e0518053813b4d5b87caaf6b3c6fa57e9e50c0\
      ff68808080cf85206f727365887374616c6c696f6e8080808080808080 | branch
     node: changed | f84080808080a094a9f95bd89698e4da1812e0518053813b4d5b87caaf6b3c6fa57e9e50c0ff688\
-     08080cf85206f727365887374616c6c696f6e8080808080808080 | true
+     08080cf85206f727365887374616c6c696f6e8080808080808080 | None
     TrieNode | e482006fa0d43b87fdcd4217013ccc92d04662e12d36e4cc25dc690077cd821a1956fc3e36
     fields of TrieNode | e482006fa0d43b87fdcd4217013ccc92d04662e12d36e4cc25dc690077cd821a1956fc3e3\
      6 | extension 006f d43b87fdcd4217013ccc92d04662e12d36e4cc25dc690077cd821a1956fc3e36
-    node: changed | e482006fa0d43b87fdcd4217013ccc92d04662e12d36e4cc25dc690077cd821a1956fc3e36 | tr\
-     ue
+    node: changed | e482006fa0d43b87fdcd4217013ccc92d04662e12d36e4cc25dc690077cd821a1956fc3e36 | No\
+     ne
     TrieNode | f3808080808080de17dc808080808080c63584636f696e80808080808080808085707570707980808080\
      80808080808476657262
     fields of TrieNode | f3808080808080de17dc808080808080c63584636f696e8080808080808080808570757070\
      798080808080808080808476657262 | branch
     node: changed | f3808080808080de17dc808080808080c63584636f696e808080808080808080857075707079808\
-     0808080808080808476657262 | true
+     0808080808080808476657262 | None
     TrieNode | de17dc808080808080c63584636f696e808080808080808080857075707079
     fields of TrieNode | de17dc808080808080c63584636f696e808080808080808080857075707079 | extensio\
      n 17
-    node: changed | de17dc808080808080c63584636f696e808080808080808080857075707079 | true
+    node: changed | de17dc808080808080c63584636f696e808080808080808080857075707079 | None
     TrieNode | dc808080808080c63584636f696e808080808080808080857075707079
     fields of TrieNode | dc808080808080c63584636f696e808080808080808080857075707079 | branch
-    node: changed | dc808080808080c63584636f696e808080808080808080857075707079 | true
+    node: changed | dc808080808080c63584636f696e808080808080808080857075707079 | None
     TrieNode | c63584636f696e
     fields of TrieNode | c63584636f696e | leaf 35
-    node: changed | c63584636f696e | true
+    node: changed | c63584636f696e | None
     TrieNode | cf85206f727365887374616c6c696f6e
     fields of TrieNode | cf85206f727365887374616c6c696f6e | leaf 206f727365
-    node: changed | cf85206f727365887374616c6c696f6e | true
+    node: changed | cf85206f727365887374616c6c696f6e | None
     node: branch again | dc808080808080c63584636f696e808080808080808080857075707079
 
     Bytes that are no node: no list, lists of another number of items, paths of no bytes and with
@@ -161,29 +161,21 @@ fn branch(alloc: Global, last: Child, value: &[u8]) -> Result<Branch, AllocError
     })
 }
 
-/// Returns whether bytes with one byte changed are refused, or are read as the node that is written
-/// so.
-fn changes_are_noticed(alloc: Global, bytes: &[u8]) -> Result<bool, Fail> {
+/// Returns the number of the first byte whose change is not noticed: the changed bytes are neither
+/// refused nor read as the node that is written so.
+fn first_unnoticed(alloc: Global, bytes: &[u8]) -> Result<Option<usize>, Fail> {
     for place in 0..bytes.len() {
         let mut changed = Vec::from_slice(alloc, bytes)?;
         if let Some(byte) = changed.get_mut(place) {
             *byte ^= 0x20;
         }
-        if let Ok(node) = rlp::decode_strict::<TrieNode>(alloc, changed.as_slice()) {
-            if rlp::encode(alloc, &node)?.as_slice() != changed.as_slice() {
-                return Ok(false);
-            }
+        let again = Item::<TrieNode>::again(alloc, changed.as_slice())?;
+        let digits = hex::encode(alloc, changed.as_slice())?;
+        if !is_fault(&again) && again.as_str() != digits.as_str() {
+            return Ok(Some(place));
         }
     }
-    Ok(true)
-}
-
-/// Returns the digits that a value is written as, or `refused`.
-fn digits<T: Encodable>(alloc: Global, value: &T) -> Result<String, Fail> {
-    match rlp::encode(alloc, value) {
-        Ok(written) => Ok(hex::encode(alloc, written.as_slice())?),
-        Err(_) => Ok(String::from_str(alloc, "refused")?),
-    }
+    Ok(None)
 }
 
 /// Returns what a call about a node answers.
@@ -192,7 +184,10 @@ pub(crate) fn answer(alloc: Global, name: &str, bytes: &[u8]) -> Result<String, 
         "nothing" => written(alloc, &Child::Nothing, bytes),
         "hash" => written(alloc, &Child::Node(Hash([0x11; 32])), bytes),
         "kept" => written(alloc, &Child::Inline(RawItem::new(alloc, bytes)?), bytes),
-        "kept of" => digits(alloc, &Child::Inline(RawItem::new(alloc, bytes)?)),
+        "kept of" => {
+            let child = Child::Inline(RawItem::new(alloc, bytes)?);
+            digits(alloc, rlp::encode(alloc, &child))
+        }
         "leaf of cat" => written(alloc, &leaf(alloc, &[0x20, 0x12], b"cat")?, bytes),
         "leaf of coin" => written(alloc, &leaf(alloc, &[0x35], b"coin")?, bytes),
         "leaf of stallion" => {
@@ -212,7 +207,10 @@ pub(crate) fn answer(alloc: Global, name: &str, bytes: &[u8]) -> Result<String, 
                 bytes,
             )
         }
-        "changed" => Ok(format!(in alloc; "{}", changes_are_noticed(alloc, bytes)?)?),
+        "changed" => {
+            let place = first_unnoticed(alloc, bytes)?;
+            Ok(format!(in alloc; "{place:?}")?)
+        }
         _ => marked(alloc, name, bytes),
     }
 }
@@ -220,17 +218,18 @@ pub(crate) fn answer(alloc: Global, name: &str, bytes: &[u8]) -> Result<String, 
 /// Returns what a call about a node with a mark in its path answers.
 fn marked(alloc: Global, name: &str, bytes: &[u8]) -> Result<String, Fail> {
     match name {
-        "leaf by" => digits(alloc, &TrieNode::Leaf(leaf(alloc, bytes, b"coin")?)),
+        "leaf by" => {
+            let node = TrieNode::Leaf(leaf(alloc, bytes, b"coin")?);
+            digits(alloc, rlp::encode(alloc, &node))
+        }
         "extension by" => {
-            let extension = extension(alloc, bytes, Child::Nothing)?;
-            digits(alloc, &TrieNode::Extension(extension))
+            let node = TrieNode::Extension(extension(alloc, bytes, Child::Nothing)?);
+            digits(alloc, rlp::encode(alloc, &node))
         }
         "extension by 17 to" => {
             let child = Child::Inline(RawItem::new(alloc, bytes)?);
-            digits(
-                alloc,
-                &TrieNode::Extension(extension(alloc, &[0x17], child)?),
-            )
+            let node = TrieNode::Extension(extension(alloc, &[0x17], child)?);
+            digits(alloc, rlp::encode(alloc, &node))
         }
         _ => {
             let branch = rlp::decode_strict::<Branch>(alloc, bytes)?;

@@ -2,36 +2,76 @@
 
 use bytes::BytesMut;
 use rlp::{Decodable, DecoderError, Encodable};
-use std::alloc::Global;
+use std::alloc::{AllocError, Global};
 use std::test::Fail;
 
-/// The bytes that the value which was read is written as, or the fault.
-pub(crate) type Again = Result<BytesMut, DecoderError>;
+/// Returns the digits of what is written, or `refused`.
+pub(crate) fn digits(alloc: Global, written: Result<BytesMut, AllocError>) -> Result<String, Fail> {
+    match written {
+        Ok(bytes) => Ok(hex::encode(alloc, bytes.as_slice())?),
+        Err(_) => Ok(String::from_str(alloc, "refused")?),
+    }
+}
+
+/// Returns the text of a fault.
+pub(crate) fn fault(alloc: Global, fault: &DecoderError) -> Result<String, Fail> {
+    Ok(format!(in alloc; "{fault:?}")?)
+}
+
+/// Returns whether an answer is a fault.
+pub(crate) fn is_fault(answer: &str) -> bool {
+    answer.starts_with("Rlp") || answer.starts_with("Custom")
+}
 
 /// A way to read bytes as a value, and to write the value again.
 pub(crate) trait Reading {
-    /// Returns what the value that is read from the bytes is written as.
-    fn again(alloc: Global, bytes: &[u8]) -> Result<Again, Fail>;
+    /// Returns the digits of what the value that is read from the bytes is written as, or the fault.
+    fn again(alloc: Global, bytes: &[u8]) -> Result<String, Fail>;
 }
 
-/// Reads an item, leniently and strictly. If no bytes follow the item, both give the same answer.
+/// Reads an item, leniently and strictly. The answer names both, unless they are the same or only
+/// strict reading fails.
 pub(crate) struct Item<T>(T);
 
 impl<T: Encodable + Decodable> Reading for Item<T> {
-    fn again(alloc: Global, bytes: &[u8]) -> Result<Again, Fail> {
-        let lenient = rlp::decode::<T>(alloc, bytes);
-        match rlp::decode_strict::<T>(alloc, bytes) {
-            Ok(strict) => {
-                let again = rlp::encode(alloc, &strict)?;
-                if rlp::encode(alloc, &lenient?)?.as_slice() == again.as_slice() {
-                    return Ok(Ok(again));
-                }
-                Ok(Err(DecoderError::Custom("lenient reading differs")))
-            }
-            Err(strict) => match lenient {
-                Err(fault) if fault != strict => Ok(Err(fault)),
-                _ => Ok(Err(strict)),
-            },
+    fn again(alloc: Global, bytes: &[u8]) -> Result<String, Fail> {
+        let strict = value(alloc, rlp::decode_strict::<T>(alloc, bytes))?;
+        let lenient = value(alloc, rlp::decode::<T>(alloc, bytes))?;
+        if strict.as_str() == lenient.as_str() || is_fault(&strict) && !is_fault(&lenient) {
+            return Ok(strict);
+        }
+        Ok(format!(in alloc; "{lenient}, strictly {strict}")?)
+    }
+}
+
+/// Returns the digits of what a value that was read is written as, or the fault.
+fn value<T: Encodable + Decodable>(
+    alloc: Global,
+    read: Result<T, DecoderError>,
+) -> Result<String, Fail> {
+    match read {
+        Ok(value) => digits(alloc, rlp::encode(alloc, &value)),
+        Err(found) => fault(alloc, &found),
+    }
+}
+
+/// What is read by itself, with no header around its envelope.
+pub(crate) trait Bare {
+    /// Reads a value from its bytes.
+    fn from(alloc: Global, bytes: &[u8]) -> Result<Self, DecoderError>;
+
+    /// Returns the bytes of the value.
+    fn to(&self, alloc: Global) -> Result<BytesMut, AllocError>;
+}
+
+/// Reads a value by itself.
+pub(crate) struct Alone<T>(T);
+
+impl<T: Bare + Drop> Reading for Alone<T> {
+    fn again(alloc: Global, bytes: &[u8]) -> Result<String, Fail> {
+        match T::from(alloc, bytes) {
+            Ok(value) => digits(alloc, value.to(alloc)),
+            Err(found) => fault(alloc, &found),
         }
     }
 }
@@ -39,36 +79,32 @@ impl<T: Encodable + Decodable> Reading for Item<T> {
 /// Returns `both ways` if the bytes are read and written as the same bytes, and fail if the last byte
 /// is missing or another follows. Returns else what is wrong, or the fault.
 pub(crate) fn ways<R: Reading>(alloc: Global, bytes: &[u8]) -> Result<String, Fail> {
-    let again = match R::again(alloc, bytes)? {
-        Ok(again) => again,
-        Err(fault) => return Ok(format!(in alloc; "{fault:?}")?),
-    };
-    if again.as_slice() != bytes {
-        let other = hex::encode(alloc, again.as_slice())?;
-        return Ok(format!(in alloc; "written as {other}")?);
-    }
+    let again = R::again(alloc, bytes)?;
     let mut longer = Vec::from_slice(alloc, bytes)?;
+    if again.as_str() != hex::encode(alloc, bytes)?.as_str() {
+        return Ok(again);
+    }
     longer.push(0)?;
-    if R::again(alloc, longer.as_slice())?.is_ok() {
-        return Ok(String::from_str(alloc, "read with one more byte")?);
+    let cut = match bytes.split_last() {
+        Some((_, front)) => front,
+        None => bytes,
+    };
+    if is_fault(&R::again(alloc, longer.as_slice())?) && is_fault(&R::again(alloc, cut)?) {
+        return Ok(String::from_str(alloc, "both ways")?);
     }
-    let cut = bytes.split_last().map_or(bytes, |parts| parts.1);
-    if R::again(alloc, cut)?.is_ok() {
-        return Ok(String::from_str(alloc, "read without the last byte")?);
-    }
-    Ok(String::from_str(alloc, "both ways")?)
+    Ok(String::from_str(alloc, "read with a byte more or less")?)
 }
 
-/// Returns what [`ways`] answers about the bytes if the value is written as them, and else the bytes
-/// that it is written as, or `refused`.
+/// Returns what [`ways`] answers about the bytes if the value is written as them, and else the digits
+/// of what it is written as, or `refused`.
 pub(crate) fn written<T: Encodable + Decodable>(
     alloc: Global,
     value: &T,
     bytes: &[u8],
 ) -> Result<String, Fail> {
-    match rlp::encode(alloc, value) {
-        Ok(written) if written.as_slice() == bytes => ways::<Item<T>>(alloc, bytes),
-        Ok(written) => Ok(hex::encode(alloc, written.as_slice())?),
-        Err(_) => Ok(String::from_str(alloc, "refused")?),
+    let written = digits(alloc, rlp::encode(alloc, value))?;
+    if written.as_str() == hex::encode(alloc, bytes)?.as_str() {
+        return ways::<Item<T>>(alloc, bytes);
     }
+    Ok(written)
 }

@@ -1,6 +1,6 @@
 //! Records by themselves: headers, blocks, receipts, accounts and their parts.
 
-use crate::reading::written;
+use crate::reading::{digits, fault, written};
 use crate::text::wide;
 use rlp::DecoderError;
 use rlp_ethereum::{
@@ -51,7 +51,6 @@ pub(crate) const ROWS: &str = "
     FeeMarketTransaction alone | 02+PAYMENT
     FeeMarketTransaction alone |  | refused
     record: payment of type 1 | 02+PAYMENT | Custom(\"another type\")
-    record: gas of the payment | 02+PAYMENT | 21000
 
     The first headers of the main network, with the values that block explorers show.
     Header | GENESIS
@@ -315,31 +314,18 @@ pub(crate) fn answer(alloc: Global, name: &str, bytes: &[u8]) -> Result<String, 
         "access list" => written(alloc, &access_list(alloc)?, bytes),
         "payment" => written(alloc, &payment(alloc), bytes),
         "creation" => written(alloc, &creation(alloc)?, bytes),
-        _ => enveloped(alloc, name, bytes),
-    }
-}
-
-/// Returns what a call about an envelope answers.
-fn enveloped(alloc: Global, name: &str, bytes: &[u8]) -> Result<String, Fail> {
-    match name {
         "envelope of the payment" => {
-            let envelope = to_envelope(alloc, FEE_MARKET_TYPE, &payment(alloc))?;
-            Ok(hex::encode(alloc, envelope.as_slice())?)
+            digits(alloc, to_envelope(alloc, FEE_MARKET_TYPE, &payment(alloc)))
         }
         "envelope of the creation" => {
-            let envelope = to_envelope(alloc, ACCESS_LIST_TYPE, &creation(alloc)?)?;
-            Ok(hex::encode(alloc, envelope.as_slice())?)
+            digits(
+                alloc,
+                to_envelope(alloc, ACCESS_LIST_TYPE, &creation(alloc)?),
+            )
         }
-        "payment of type 1" => {
-            match from_envelope::<FeeMarketTransaction>(alloc, ACCESS_LIST_TYPE, bytes) {
-                Ok(_) => Ok(String::from_str(alloc, "no fault")?),
-                Err(fault) => Ok(format!(in alloc; "{fault:?}")?),
-            }
-        }
-        _ => {
-            let payment = from_envelope::<FeeMarketTransaction>(alloc, FEE_MARKET_TYPE, bytes)?;
-            let gas = payment.gas_limit;
-            Ok(format!(in alloc; "{gas}")?)
-        }
+        _ => match from_envelope::<FeeMarketTransaction>(alloc, ACCESS_LIST_TYPE, bytes) {
+            Ok(payment) => digits(alloc, rlp::encode(alloc, &payment)),
+            Err(found) => fault(alloc, &found),
+        },
     }
 }

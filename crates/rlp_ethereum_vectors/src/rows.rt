@@ -1,6 +1,7 @@
 //! The tests of the tables.
 
 use crate::answers::answer;
+use crate::reading::is_fault;
 use crate::text::bytes_of;
 use crate::{messages, node_records, nodes, records, requests, unsigned};
 use std::alloc::Global;
@@ -17,8 +18,7 @@ fn first_other(alloc: Global, table: &str) -> Result<Option<String>, Fail> {
         let (text, wanted) = rest.split_once(" | ").unwrap_or((rest, "both ways"));
         let bytes = bytes_of(alloc, text)?;
         let given = answer(alloc, call, bytes.as_slice())?;
-        let is_refused = given.starts_with("Rlp") || given.starts_with("Custom");
-        if given.trim() != wanted && !(is_refused && wanted == "refused") {
+        if given.trim() != wanted && !(wanted == "refused" && is_fault(&given)) {
             return Ok(Some(format!(in alloc; "{call} | {text} | {given}")?));
         }
     }

@@ -12,14 +12,20 @@ pub(crate) fn bytes_of(alloc: Global, text: &str) -> Result<Vec<u8>, Fail> {
     let mut bytes = Vec::new(alloc);
     for part in text.split('+') {
         for digits in named(part).split('+') {
-            let (digits, times) = digits.split_once('*').unwrap_or((digits, "1"));
-            let once = hex::decode(alloc, digits.as_bytes())?;
-            for _ in 0..times.parse::<usize>()? {
-                bytes.extend_from_slice(once.as_slice())?;
-            }
+            push_part(alloc, digits, &mut bytes)?;
         }
     }
     Ok(bytes)
+}
+
+/// Appends the bytes of digits, which may be followed by `*` and a number of times.
+fn push_part(alloc: Global, part: &str, bytes: &mut Vec<u8>) -> Result<(), Fail> {
+    let (digits, times) = part.split_once('*').unwrap_or((part, "1"));
+    let once = hex::decode(alloc, digits.as_bytes())?;
+    for _ in 0..times.parse::<usize>()? {
+        bytes.extend_from_slice(once.as_slice())?;
+    }
+    Ok(())
 }
 
 /// Returns the bytes with this name as text, or the name itself if there are none.

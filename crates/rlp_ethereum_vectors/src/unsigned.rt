@@ -2,7 +2,7 @@
 //! Python, made the expected bytes from the values of the fields. Those of the example of EIP-155
 //! are in the EIP.
 
-use crate::reading::written;
+use crate::reading::{digits, written};
 use crate::text::{spelled, wide};
 use bytes::BytesMut;
 use rlp_ethereum::{
@@ -48,11 +48,11 @@ pub(crate) const ROWS: &str = "
     Transaction | b8b5+BLOB
     Transaction | b879+SET_CODE
 
-    The type, the nonce and the limit of gas of types 0 to 2, and the fields of types 3 and 4. Those of
-    type 4 end with the fields of the second authorization.
-    fields of Transaction alone | LEGACY | type 0 9 21000,
-    fields of Transaction alone | ACCESS_LIST | type 1 7 50000,
-    fields of Transaction alone | FEE_MARKET | type 2 8 21000,
+    The type, the nonce and the limit of gas of types 0 to 2, the fields of types 3 and 4, and those of
+    the second authorization of the latter.
+    fields of Transaction alone | LEGACY | type 0 9 21000
+    fields of Transaction alone | ACCESS_LIST | type 1 7 50000
+    fields of Transaction alone | FEE_MARKET | type 2 8 21000
     fields of Transaction alone | BLOB | 000000000000000000000000000000000000000000000000000000003b\
      9aca00 00000000000000000000000000000000000000000000000000000006fc23ac00 0000000000000000000000\
      000000000000000000000000000000000000000007 beef 0000000000000000000000000000000000000000000000\
@@ -62,9 +62,10 @@ pub(crate) const ROWS: &str = "
      003b9aca00 00000000000000000000000000000000000000000000000000000009502f9000 000000000000000000\
      0000000000000000000000000000000000000000000000 010203 0000000000000000000000000000000000000000\
      00000000000000000000bbbb 000000000000000000000000000000000000000000000000000000000000cccc 10 7\
-     0000 true 0000000000000000000000000000000000000000000000000000000000000001 0000000000000000000\
-     000000000000000000000000000000000000000009999 000000000000000000000000000000000000000000000000\
-     000000000000aaaa 300 255
+     0000 true
+    second authorization | SET_CODE | 0000000000000000000000000000000000000000000000000000000000000\
+     001 0000000000000000000000000000000000000000000000000000000000009999 0000000000000000000000000\
+     00000000000000000000000000000000000aaaa 300 255
 
     What is signed: of a legacy transaction, without EIP-155 and for chain 1, of the other types, and
     of the second authorization of the transaction of type 4.
@@ -252,7 +253,7 @@ pub(crate) fn answer(alloc: Global, name: &str, bytes: &[u8]) -> Result<String, 
         "example" => written(alloc, &example(alloc, None), bytes),
         "bytes of the example for chain 1" => {
             let unsigned = UnsignedTransaction::Legacy(example(alloc, Some(1)));
-            spelled(alloc, &[unsigned.to_bytes(alloc)?.as_slice()])
+            digits(alloc, unsigned.to_bytes(alloc))
         }
         "numbers" => numbers(alloc, bytes),
         "authorization" => {
@@ -263,11 +264,11 @@ pub(crate) fn answer(alloc: Global, name: &str, bytes: &[u8]) -> Result<String, 
         }
         "without its signature" => {
             let unsigned = without_signature(Transaction::from_bytes(alloc, bytes)?);
-            spelled(alloc, &[unsigned.to_bytes(alloc)?.as_slice()])
+            digits(alloc, unsigned.to_bytes(alloc))
         }
         _ => {
-            let signed = payload(alloc, name, Transaction::from_bytes(alloc, bytes)?)?;
-            spelled(alloc, &[signed.as_slice()])
+            let signed = Transaction::from_bytes(alloc, bytes)?;
+            digits(alloc, payload(alloc, name, &signed))
         }
     }
 }
@@ -285,7 +286,7 @@ fn numbers(alloc: Global, bytes: &[u8]) -> Result<String, Fail> {
 }
 
 /// Returns what is signed of a transaction, or of its second authorization.
-fn payload(alloc: Global, name: &str, signed: Transaction) -> Result<BytesMut, AllocError> {
+fn payload(alloc: Global, name: &str, signed: &Transaction) -> Result<BytesMut, AllocError> {
     match signed {
         Transaction::Legacy(tx) if name == "payload for chain 1" => {
             tx.signing_payload_for_chain(alloc, 1)

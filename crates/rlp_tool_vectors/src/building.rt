@@ -25,12 +25,6 @@ fn pairs_are_built(alloc: Global) -> Result<bool, AllocError> {
     Ok(finishes(&built, expected.as_slice()))
 }
 
-#[test]
-fn build_always_lacks_memory(rt: HostRuntime) -> Result<(), AllocError> {
-    assert!(rt; pairs_are_built(rt.alloc())?);
-    Ok(())
-}
-
 /// Returns whether the front stays, and the result has the open lists.
 fn front_stays(alloc: Global) -> Result<bool, BuildFault> {
     let mut front = BytesMut::new(alloc);
@@ -42,12 +36,6 @@ fn front_stays(alloc: Global) -> Result<bool, BuildFault> {
         Built::Finished(_) => Ok(false),
         Built::Open { size, raw } => Ok(size == 2 && raw.as_slice() == b"junk\x00\x01".as_slice()),
     }
-}
-
-#[test]
-fn build_keeps_its_front(rt: HostRuntime) -> Result<(), AllocError> {
-    assert!(rt; front_stays(rt.alloc()) == Ok(true));
-    Ok(())
 }
 
 /// Returns whether raw bytes that aren't items fail at their place, after raw bytes that are items.
@@ -65,12 +53,6 @@ fn raw_bytes_are_checked(alloc: Global) -> Result<bool, AllocError> {
     )
 }
 
-#[test]
-fn build_checks_raw_bytes(rt: HostRuntime) -> Result<(), AllocError> {
-    assert!(rt; raw_bytes_are_checked(rt.alloc())?);
-    Ok(())
-}
-
 /// Returns whether calls with a value that is refused fail with `OutOfMemory`.
 fn refused_value_is_told(alloc: Global) -> bool {
     let calls = [
@@ -84,6 +66,11 @@ fn refused_value_is_told(alloc: Global) -> bool {
 }
 
 #[test]
-fn build_tells_refused_values(rt: HostRuntime) {
-    assert!(rt; refused_value_is_told(rt.alloc()));
+fn build_answers_calls(rt: HostRuntime) -> Result<(), AllocError> {
+    let alloc = rt.alloc();
+    assert!(rt; pairs_are_built(alloc)?, "values and lists of values");
+    assert!(rt; front_stays(alloc) == Ok(true), "a front");
+    assert!(rt; raw_bytes_are_checked(alloc)?, "raw bytes");
+    assert!(rt; refused_value_is_told(alloc), "a refused value");
+    Ok(())
 }

@@ -2,30 +2,16 @@
 #![tactic(auto)]
 
 #[cfg(test)]
-mod answers;
-#[cfg(test)]
 mod building;
-#[cfg(test)]
-mod deep;
-#[cfg(test)]
-mod depth;
 #[cfg(test)]
 mod devices;
 #[cfg(test)]
-mod devices_once;
-#[cfg(test)]
-mod faults;
-#[cfg(test)]
-mod flushes;
-#[cfg(test)]
 mod laws;
 #[cfg(test)]
-mod lists;
+mod lines;
 #[cfg(test)]
-mod long_answers;
+mod noted;
 #[cfg(test)]
 mod refused;
-#[cfg(test)]
-mod scripts;
 #[cfg(test)]
 mod sweeps;

@@ -2,9 +2,9 @@
 //!
 //! `refusals/run` refuses each request of these tests in turn. A test then returns `AllocError`.
 
-use crate::devices_once::sink;
+use crate::devices::{SOUND, reader, writer};
 use bytes::BytesMut;
-use rlp_tool::{BuildFault, Built, Noted, RunFault, StreamCall, build, run};
+use rlp_tool::{BuildFault, Built, RunFault, StreamCall, build, run};
 use std::alloc::{AllocError, Global};
 use std::test::Fail;
 
@@ -36,8 +36,8 @@ fn texts_in_lists(rt: HostRuntime) -> Result<(), Fail> {
 /// Returns whether a run over three lines flushes once, at its end. If memory is refused, it
 /// doesn't flush.
 fn flushes_at_its_end_alone(alloc: Global) -> Result<bool, AllocError> {
-    let mut source = Noted::new(b"c20506\n+l:1 d:2a\n80".as_slice());
-    let mut sink = sink(alloc, 0, 0);
+    let mut source = reader(b"c20506\n+l:1 d:2a\n80", &SOUND);
+    let mut sink = writer(alloc, &SOUND)?;
     let outcome = run(alloc, &mut source, &mut sink);
     let flushes = sink.inner().flushes;
     match outcome {

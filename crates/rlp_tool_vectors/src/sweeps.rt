@@ -1,8 +1,9 @@
 //! Runs over devices that move a few bytes in each call, and fail at one of their calls.
 
-use crate::devices::{Failure, Left, Plan, ran, sound};
+use crate::devices::{Left, NEVER, Plan, SOUND as NO_FAILURE, ran};
 use rlp_tool::RunFault;
 use std::alloc::{AllocError, Global};
+use std::io::ErrorKind;
 use std::test::Fail;
 
 /// Four lines, and the replies to them.
@@ -17,17 +18,12 @@ const ENDS: [(usize, usize); 4] = [(7, 17), (10, 20), (11, 25), (41, 52)];
 /// The greatest number of calls in a sweep.
 const MOST_CALLS: usize = 100;
 
-/// Returns whether these bytes were written.
-fn has_written(left: &Left, expected: &[u8]) -> bool {
-    left.written.as_slice() == expected
-}
-
 /// Returns whether a run returned `Ok` and wrote all replies, and neither device failed.
 fn is_whole(left: &Left) -> bool {
     left.outcome == Ok(())
         && !left.reader_failed
         && !left.writer_failed
-        && has_written(left, REPLIES)
+        && left.written.as_slice() == REPLIES
 }
 
 /// Returns the number of bytes of the replies to the lines that end in the first `read` bytes of
@@ -42,63 +38,51 @@ fn replied(read: usize) -> usize {
     replied
 }
 
-/// Returns whether a run whose reader failed after `read` bytes returned `Read`, and answered all
-/// lines before.
-fn is_cut_short(left: &Left, read: usize) -> bool {
-    let expected = REPLIES.get(..replied(read)).unwrap_or(b"");
-    left.outcome == Err(RunFault::Read)
-        && left.reader_failed
-        && !left.writer_failed
-        && has_written(left, expected)
-}
-
-/// Returns the first call at which a failure makes no difference, for a reader of `most` bytes in
-/// each call. Returns `None` if a run with an earlier failure has another result than expected.
-fn reads_needed(alloc: Global, most: usize) -> Result<Option<usize>, AllocError> {
-    for calls in 0..MOST_CALLS {
-        let plan = Plan {
-            reads: calls,
-            ..sound(most)
-        };
-        let left = ran(alloc, INPUT, plan)?;
-        if is_whole(&left) {
-            return Ok(Some(calls));
-        }
-        if !is_cut_short(&left, calls.saturating_mul(most)) {
-            return Ok(None);
-        }
-    }
-    Ok(None)
-}
-
-/// Returns whether a run whose writer failed returned `Write`, and wrote at least the first `least`
-/// bytes of the replies and nothing else.
-fn is_cut_off(left: &Left, least: usize) -> bool {
-    left.outcome == Err(RunFault::Write)
-        && left.writer_failed
-        && !left.reader_failed
+/// Returns whether a run ended with the fault of the device that failed, and wrote at least `least`
+/// and at most `greatest` bytes of the replies and nothing else.
+fn is_cut(left: &Left, fault: RunFault, least: usize, greatest: usize) -> bool {
+    left.reader_failed == (fault == RunFault::Read)
+        && left.writer_failed == (fault == RunFault::Write)
+        && left.outcome == Err(fault)
         && left.written.len() >= least
+        && left.written.len() <= greatest
         && REPLIES.starts_with(left.written.as_slice())
 }
 
-/// Returns the first call at which a failure makes no difference, for a writer of `most` bytes in
-/// each call. Returns `None` if a run with an earlier failure has another result than expected.
-fn writes_needed(
+/// Returns the first call at which a failure of the reader, or of the writer with this error, makes
+/// no difference, if each call moves `most` bytes. Returns `None` if a run with an earlier failure
+/// has another result than expected.
+fn calls_needed(
     alloc: Global,
     most: usize,
-    failure: Failure,
+    is_reader: bool,
+    error: Option<ErrorKind>,
 ) -> Result<Option<usize>, AllocError> {
     for calls in 0..MOST_CALLS {
-        let plan = Plan {
-            writes: calls,
-            failure,
-            ..sound(most)
+        let fails = (calls + 1, usize::MAX);
+        let (reads, writes) = if is_reader {
+            (fails, NEVER)
+        } else {
+            (NEVER, fails)
         };
-        let left = ran(alloc, INPUT, plan)?;
+        let plan = Plan {
+            most,
+            reads,
+            writes,
+            error,
+            ..NO_FAILURE
+        };
+        let left = ran(alloc, INPUT, &plan)?;
         if is_whole(&left) {
             return Ok(Some(calls));
         }
-        if !is_cut_off(&left, calls) {
+        let answered = replied(calls.saturating_mul(most));
+        let is_cut = if is_reader {
+            is_cut(&left, RunFault::Read, answered, answered)
+        } else {
+            is_cut(&left, RunFault::Write, calls, usize::MAX)
+        };
+        if !is_cut {
             return Ok(None);
         }
     }
@@ -109,23 +93,14 @@ fn writes_needed(
 /// finds the end of the input.
 const NEEDED: [(usize, usize, usize); 3] = [(1, 42, 52), (2, 22, 28), (4096, 2, 1)];
 
-/// Returns whether each failing call of a reader or a writer ends the run with its fault, and no
-/// other call does.
-fn all_failures_are_answered(alloc: Global) -> Result<bool, AllocError> {
-    for (most, reads, writes) in NEEDED {
-        if reads_needed(alloc, most)? != Some(reads)
-            || writes_needed(alloc, most, Failure::Error)? != Some(writes)
-            || writes_needed(alloc, most, Failure::TakesNone)? != Some(writes)
-        {
-            return Ok(false);
-        }
-    }
-    Ok(true)
-}
-
 #[test]
 fn every_call_of_a_device_fails_in_turn(rt: HostRuntime) -> Result<(), Fail> {
-    assert!(rt; all_failures_are_answered(rt.alloc())?);
+    let error = Some(ErrorKind::BrokenPipe);
+    for (most, reads, writes) in NEEDED {
+        assert_eq!(rt; calls_needed(rt.alloc(), most, true, None)?, Some(reads));
+        assert_eq!(rt; calls_needed(rt.alloc(), most, false, error)?, Some(writes));
+        assert_eq!(rt; calls_needed(rt.alloc(), most, false, None)?, Some(writes));
+    }
     Ok(())
 }
 
@@ -236,63 +211,48 @@ const ROWS: [Row; 12] = [
     },
 ];
 
-/// Returns the whole input of a row.
-fn input_of(alloc: Global, row: &Row) -> Result<Vec<u8>, AllocError> {
-    let mut input = Vec::from_slice(alloc, row.front)?;
-    input.extend_from_slice(vec![in alloc; row.byte; row.times]?.as_slice())?;
-    input.extend_from_slice(row.rest)?;
-    Ok(input)
-}
-
-/// Returns whether a row has its result with devices that move at most `most` bytes in each call.
-fn row_is_answered(
+/// Returns the number of the first row with another result, over devices that move at most `most`
+/// bytes in each call, and a writer that fails with this error.
+fn first_other(
     alloc: Global,
-    row: &Row,
     most: usize,
-    failure: Failure,
-) -> Result<bool, AllocError> {
-    let input = input_of(alloc, row)?;
-    let needed = input.len().div_ceil(most.max(1));
-    let plan = Plan {
-        reads: if row.cut { needed } else { usize::MAX },
-        room: row.room,
-        failure,
-        flushes: row.flushes,
-        ..sound(most)
-    };
-    let left = ran(alloc, input.as_slice(), plan)?;
-    Ok(
-        left.outcome == row.outcome
-            && left.reader_failed == row.cut
-            && left.writer_failed == (row.outcome == Err(RunFault::Write))
-            && has_written(&left, row.written),
-    )
-}
-
-/// Returns whether all rows have their results with such devices.
-fn rows_are_answered(alloc: Global, most: usize, failure: Failure) -> Result<bool, AllocError> {
-    for row in &ROWS {
-        if !row_is_answered(alloc, row, most, failure)? {
-            return Ok(false);
-        }
-    }
-    Ok(true)
-}
-
-/// Returns whether they have, for each number of bytes in a call and each kind of failure.
-fn all_rows_are_answered(alloc: Global) -> Result<bool, AllocError> {
-    for (most, ..) in NEEDED {
-        if !rows_are_answered(alloc, most, Failure::Error)?
-            || !rows_are_answered(alloc, most, Failure::TakesNone)?
+    error: Option<ErrorKind>,
+) -> Result<Option<usize>, AllocError> {
+    for (number, row) in ROWS.iter().enumerate() {
+        let mut input = Vec::from_slice(alloc, row.front)?;
+        input.extend_from_slice(vec![in alloc; row.byte; row.times]?.as_slice())?;
+        input.extend_from_slice(row.rest)?;
+        let whole = input.len().div_ceil(most.max(1));
+        let plan = Plan {
+            most,
+            reads: if row.cut {
+                (whole.saturating_add(1), usize::MAX)
+            } else {
+                NEVER
+            },
+            room: row.room,
+            error,
+            flushes: if row.flushes { NEVER } else { (1, usize::MAX) },
+            ..NO_FAILURE
+        };
+        let left = ran(alloc, input.as_slice(), &plan)?;
+        if left.outcome != row.outcome
+            || left.reader_failed != row.cut
+            || left.writer_failed != (row.outcome == Err(RunFault::Write))
+            || left.written.as_slice() != row.written
         {
-            return Ok(false);
+            return Ok(Some(number));
         }
     }
-    Ok(true)
+    Ok(None)
 }
 
 #[test]
 fn devices_that_move_a_few_bytes(rt: HostRuntime) -> Result<(), Fail> {
-    assert!(rt; all_rows_are_answered(rt.alloc())?);
+    for (most, ..) in NEEDED {
+        for error in [Some(ErrorKind::BrokenPipe), None] {
+            assert_eq!(rt; first_other(rt.alloc(), most, error)?, None, "at {most}");
+        }
+    }
     Ok(())
 }
