@@ -1,3 +1,6 @@
+//! Tests of what `rlp` reads: headers, views and values. The crate has only tests.
+#![tactic(auto)]
+
 #[cfg(test)]
 mod fields;
 #[cfg(test)]
