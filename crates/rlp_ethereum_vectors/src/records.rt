@@ -3,10 +3,9 @@
 use crate::reading::{digits, fault, written};
 use crate::text::wide;
 use bytes::BytesMut;
-use rlp::DecoderError;
 use rlp_ethereum::{
     ACCESS_LIST_TYPE, AccessList, AccessListItem, AccessListTransaction, Address, Bloom,
-    FEE_MARKET_TYPE, FeeMarketTransaction, Hash, Header, Log, Receipt, Recipient, from_envelope,
+    FEE_MARKET_TYPE, FeeMarketTransaction, Hash, Log, Receipt, Recipient, from_envelope,
     to_envelope,
 };
 use std::alloc::{AllocError, Global};
@@ -210,13 +209,6 @@ pub(crate) const ROWS: &str = "
     TypedReceipt alone | 0180 | RlpExpectedToBeList
     TypedReceipt alone | 01 | RlpExpectedToBeList
 ";
-
-/// Returns whether the block with this header has a root of withdrawals, as blocks have since
-/// Shanghai.
-pub(crate) fn has_withdrawals(alloc: Global, bytes: &[u8]) -> Result<bool, DecoderError> {
-    let header = rlp::decode_strict::<Header>(alloc, bytes)?;
-    Ok(header.withdrawals_root().is_some())
-}
 
 /// Returns a payment of 1 ether, with a chosen signature.
 fn payment(alloc: Global) -> FeeMarketTransaction {
