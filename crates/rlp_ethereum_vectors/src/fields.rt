@@ -1,8 +1,7 @@
 //! The fields of values that were read, as text.
 
-use crate::records::has_withdrawals;
 use crate::text::spelled;
-use rlp::Rlp;
+use rlp::{DecoderError, Rlp};
 use rlp_ethereum::{
     Authorization, BlobTransaction, Block, Body, Child, Hash, Header, LegacyTransaction, London,
     Recipient, SetCodeTransaction, Transaction, TrieNode, TypedReceipt,
@@ -39,6 +38,13 @@ fn digits_of(hash: Option<&Hash>) -> &[u8] {
         Some(hash) => hash.0.as_slice(),
         None => b"".as_slice(),
     }
+}
+
+/// Returns whether the block with this header has a root of withdrawals, as blocks have since
+/// Shanghai.
+fn has_withdrawals(alloc: Global, bytes: &[u8]) -> Result<bool, DecoderError> {
+    let header = rlp::decode_strict::<Header>(alloc, bytes)?;
+    Ok(header.withdrawals_root().is_some())
 }
 
 /// Returns the fields that a header has since London, and its length in bytes.

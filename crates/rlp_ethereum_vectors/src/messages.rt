@@ -2,6 +2,7 @@
 //! independent program from the values of the fields.
 
 use crate::reading::written;
+use bytes::BytesMut;
 use rlp::Uint;
 use rlp_ethereum::Hash;
 use rlp_messages::{
@@ -73,8 +74,8 @@ pub(crate) const ROWS: &str = "
     Transactions | c20505 | Custom(\"unknown transaction type\")
 ";
 
-/// Returns the greeting.
-fn hello(alloc: Global) -> Result<Hello, AllocError> {
+/// Returns the bytes of the greeting.
+fn hello(alloc: Global) -> Result<BytesMut, AllocError> {
     let eth = Capability {
         name: Vec::from_slice(alloc, b"eth")?,
         version: 68,
@@ -83,22 +84,30 @@ fn hello(alloc: Global) -> Result<Hello, AllocError> {
         name: Vec::from_slice(alloc, b"snap")?,
         version: 1,
     };
-    Ok(Hello {
+    let hello = Hello {
         protocol_version: 5,
         client_id: Vec::from_slice(alloc, b"rattle/1.0")?,
         capabilities: Vec::from_array(alloc, [eth, snap])?,
         listen_port: 30303,
         node_id: NodeId([0x77; 64]),
-    })
+    };
+    rlp::encode(alloc, &hello)
 }
 
-/// Returns the announcement of three transactions.
-fn three_transactions(alloc: Global) -> Result<NewPooledTransactionHashes, AllocError> {
-    Ok(NewPooledTransactionHashes {
+/// Returns the bytes of the announcement of three transactions.
+fn three_transactions(alloc: Global) -> Result<BytesMut, AllocError> {
+    let announcement = NewPooledTransactionHashes {
         types: Vec::from_slice(alloc, &[0, 2, 3])?,
         sizes: Vec::from_slice(alloc, &[110, 256, 131_072])?,
         hashes: Vec::from_array(alloc, [Hash([1; 32]), Hash([2; 32]), Hash([3; 32])])?,
-    })
+    };
+    rlp::encode(alloc, &announcement)
+}
+
+/// Returns the bytes of the announcement of two blocks.
+fn two_blocks(alloc: Global) -> Result<BytesMut, AllocError> {
+    let blocks = NewBlockHashes(Vec::from_array(alloc, NEW_BLOCKS)?);
+    rlp::encode(alloc, &blocks)
 }
 
 /// The hash of block 0 of Ethereum's main network.
@@ -158,38 +167,42 @@ const NEW_BLOCKS: [NewBlockHash; 2] = [
     },
 ];
 
+/// Returns the bytes of an identifier of forks.
+fn fork_id(alloc: Global, fork_hash: [u8; 4], fork_next: u64) -> Result<BytesMut, AllocError> {
+    let fork_hash = ForkHash(fork_hash);
+    rlp::encode(
+        alloc,
+        &ForkId {
+            fork_hash,
+            fork_next,
+        },
+    )
+}
+
 /// Returns what a call about a message answers.
 pub(crate) fn answer(alloc: Global, name: &str, bytes: &[u8]) -> Result<String, Fail> {
     match name {
-        "greeting" => written(alloc, &hello(alloc)?, bytes),
-        "too many peers" => written(alloc, &Disconnect { reason: 4 }, bytes),
-        "ping" => written(alloc, &Ping, bytes),
-        "pong" => written(alloc, &Pong, bytes),
-        "no fork" => written(alloc, &fork_id([0; 4], 0), bytes),
+        "greeting" => written::<Hello>(alloc, hello(alloc), bytes),
+        "too many peers" => {
+            let message = rlp::encode(alloc, &Disconnect { reason: 4 });
+            written::<Disconnect>(alloc, message, bytes)
+        }
+        "ping" => written::<Ping>(alloc, rlp::encode(alloc, &Ping), bytes),
+        "pong" => written::<Pong>(alloc, rlp::encode(alloc, &Pong), bytes),
+        "no fork" => written::<ForkId>(alloc, fork_id(alloc, [0; 4], 0), bytes),
         "fork of letters" => {
-            written(
-                alloc,
-                &fork_id([0xde, 0xad, 0xbe, 0xef], 0xbadd_cafe),
-                bytes,
-            )
+            let message = fork_id(alloc, [0xde, 0xad, 0xbe, 0xef], 0xbadd_cafe);
+            written::<ForkId>(alloc, message, bytes)
         }
-        "greatest fork" => written(alloc, &fork_id([0xff; 4], u64::MAX), bytes),
-        "status of eth/68" => written(alloc, &STATUS_68, bytes),
-        "status of eth/69" => written(alloc, &STATUS_69, bytes),
-        "range" => written(alloc, &RANGE, bytes),
-        "two blocks" => {
-            let blocks = NewBlockHashes(Vec::from_array(alloc, NEW_BLOCKS)?);
-            written(alloc, &blocks, bytes)
+        "greatest fork" => written::<ForkId>(alloc, fork_id(alloc, [0xff; 4], u64::MAX), bytes),
+        "status of eth/68" => { written::<Status68>(alloc, rlp::encode(alloc, &STATUS_68), bytes) }
+        "status of eth/69" => { written::<Status69>(alloc, rlp::encode(alloc, &STATUS_69), bytes) }
+        "range" => written::<BlockRangeUpdate>(alloc, rlp::encode(alloc, &RANGE), bytes),
+        "two blocks" => written::<NewBlockHashes>(alloc, two_blocks(alloc), bytes),
+        "no blocks" => {
+            let none = NewBlockHashes(Vec::new(alloc));
+            written::<NewBlockHashes>(alloc, rlp::encode(alloc, &none), bytes)
         }
-        "no blocks" => written(alloc, &NewBlockHashes(Vec::new(alloc)), bytes),
-        _ => written(alloc, &three_transactions(alloc)?, bytes),
-    }
-}
-
-/// Returns an identifier of forks.
-fn fork_id(fork_hash: [u8; 4], fork_next: u64) -> ForkId {
-    ForkId {
-        fork_hash: ForkHash(fork_hash),
-        fork_next,
+        _ => written::<NewPooledTransactionHashes>(alloc, three_transactions(alloc), bytes),
     }
 }

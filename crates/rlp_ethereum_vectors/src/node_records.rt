@@ -9,8 +9,8 @@ use std::test::Fail;
 
 /// Rows of node records.
 pub(crate) const ROWS: &str = "
-    The example: its sequence number, its signature of 64 bytes, and its keys id, ip, secp256k1 and
-    udp, each before its value. Then the content that is signed: the list without the signature.
+    The example: its sequence number, its signature of 64 bytes, the content that is signed, which is
+    the list without the signature, and its keys id, ip, secp256k1 and udp, each before its value.
     NodeRecord | f884b8407098ad865b00a582051940cb9cf36836572411a47278783077011599ed5cd16b76f2635f4e\
      234738f30813a89eb9137e3e3df5266e3a1f11df72ecf1145ccb9c01826964827634826970847f0000018973656370\
      3235366b31a103ca634cae0d49acb401d8a4c6b6fe8c55b70d115bf400769cc1400f3258cd31388375647082765f
@@ -18,13 +18,10 @@ pub(crate) const ROWS: &str = "
      6f2635f4e234738f30813a89eb9137e3e3df5266e3a1f11df72ecf1145ccb9c01826964827634826970847f0000018\
      9736563703235366b31a103ca634cae0d49acb401d8a4c6b6fe8c55b70d115bf400769cc1400f3258cd31388375647\
      082765f | 1 7098ad865b00a582051940cb9cf36836572411a47278783077011599ed5cd16b76f2635f4e234738f3\
-     0813a89eb9137e3e3df5266e3a1f11df72ecf1145ccb9c 6964 827634 6970 847f000001 736563703235366b3\
-     1 a103ca634cae0d49acb401d8a4c6b6fe8c55b70d115bf400769cc1400f3258cd3138 756470 82765f
-    node record: signed content | f884b8407098ad865b00a582051940cb9cf36836572411a47278783077011599e\
-     d5cd16b76f2635f4e234738f30813a89eb9137e3e3df5266e3a1f11df72ecf1145ccb9c01826964827634826970847\
-     f00000189736563703235366b31a103ca634cae0d49acb401d8a4c6b6fe8c55b70d115bf400769cc1400f3258cd313\
-     88375647082765f | f84201826964827634826970847f00000189736563703235366b31a103ca634cae0d49acb401\
-     d8a4c6b6fe8c55b70d115bf400769cc1400f3258cd31388375647082765f
+     0813a89eb9137e3e3df5266e3a1f11df72ecf1145ccb9c f84201826964827634826970847f0000018973656370323\
+     5366b31a103ca634cae0d49acb401d8a4c6b6fe8c55b70d115bf400769cc1400f3258cd31388375647082765f 696\
+     4 827634 6970 847f000001 736563703235366b31 a103ca634cae0d49acb401d8a4c6b6fe8c55b70d115bf40076\
+     9cc1400f3258cd3138 756470 82765f
 
     An odd number of items, the keys b and a, the key a twice, and a value with a longer spelling.
     NodeRecord | c3800161 | RlpIncorrectListLen
@@ -39,22 +36,31 @@ pub(crate) const ROWS: &str = "
 
 /// Returns what a call about a node record answers.
 pub(crate) fn answer(alloc: Global, name: &str, bytes: &[u8]) -> Result<String, Fail> {
-    if name == "of the key" {
-        return of_the_key(alloc, bytes);
+    match name {
+        "fields" => fields(alloc, bytes),
+        _ => of_the_key(alloc, bytes),
     }
+}
+
+/// Returns the sequence number, the signature, the content that is signed, and the pairs.
+fn fields(alloc: Global, bytes: &[u8]) -> Result<String, Fail> {
     let record = rlp::decode::<NodeRecord>(alloc, bytes)?;
     let fields = record.fields();
-    if name == "signed content" {
-        let signed = record.signed_content(alloc)?;
-        return spelled(alloc, &[signed.as_slice()]);
-    }
-    let mut words = Vec::from_array(alloc, [fields.signature.as_slice()])?;
-    for pair in fields.pairs.iter() {
+    let signed = record.signed_content(alloc)?;
+    let words = spelled(alloc, &[fields.signature.as_slice(), signed.as_slice()])?;
+    let pairs = spelled_pairs(alloc, fields.pairs.as_slice())?;
+    let sequence = fields.sequence;
+    Ok(format!(in alloc; "{sequence} {words} {pairs}")?)
+}
+
+/// Returns the digits of keys, each before those of its value.
+fn spelled_pairs(alloc: Global, pairs: &[NodePair]) -> Result<String, Fail> {
+    let mut words = Vec::new(alloc);
+    for pair in pairs {
         words.push(pair.key.as_slice())?;
         words.push(pair.value.as_bytes())?;
     }
-    let (sequence, text) = (fields.sequence, spelled(alloc, words.as_slice())?);
-    Ok(format!(in alloc; "{sequence} {text}")?)
+    spelled(alloc, words.as_slice())
 }
 
 /// Returns what is answered about a record with one pair, of this key and the empty list.

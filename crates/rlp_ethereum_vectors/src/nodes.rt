@@ -2,7 +2,8 @@
 //! rules of the format.
 
 use crate::reading::{Item, Reading, digits, is_fault, written};
-use rlp::RawItem;
+use bytes::BytesMut;
+use rlp::{DecoderError, RawItem};
 use rlp_ethereum::{Branch, Child, Extension, Hash, Leaf, TrieNode};
 use std::alloc::{AllocError, Global};
 use std::test::Fail;
@@ -120,25 +121,38 @@ pub(crate) const ROWS: &str = "
      08080808080c63584636f696e808080808080808080857075707079
 ";
 
-/// Returns the leaf with this path and value.
-fn leaf(alloc: Global, path: &[u8], value: &[u8]) -> Result<Leaf, AllocError> {
-    Ok(Leaf {
+/// Returns the child with these bytes.
+fn inline(alloc: Global, bytes: &[u8]) -> Result<Child, DecoderError> {
+    Ok(Child::Inline(RawItem::new(alloc, bytes)?))
+}
+
+/// Returns the bytes of the leaf with this path and value.
+fn leaf(alloc: Global, path: &[u8], value: &[u8]) -> Result<BytesMut, AllocError> {
+    let leaf = Leaf {
         path: Vec::from_slice(alloc, path)?,
         value: Vec::from_slice(alloc, value)?,
-    })
+    };
+    rlp::encode(alloc, &leaf)
 }
 
-/// Returns the extension by a path to a child.
-fn extension(alloc: Global, path: &[u8], child: Child) -> Result<Extension, AllocError> {
-    Ok(Extension {
+/// Returns the bytes of the leaf with this path and the value `coin`, as a node.
+fn leaf_node(alloc: Global, path: &[u8]) -> Result<BytesMut, AllocError> {
+    let leaf = Leaf {
         path: Vec::from_slice(alloc, path)?,
-        child,
-    })
+        value: Vec::from_slice(alloc, b"coin")?,
+    };
+    rlp::encode(alloc, &TrieNode::Leaf(leaf))
 }
 
-/// Returns the branch with a hash at place 1, a child at place 15 and a value.
-fn branch(alloc: Global, last: Child, value: &[u8]) -> Result<Branch, AllocError> {
-    Ok(Branch {
+/// Returns the bytes of the extension by a path to a child.
+fn extension(alloc: Global, path: &[u8], child: Child) -> Result<BytesMut, AllocError> {
+    let path = Vec::from_slice(alloc, path)?;
+    rlp::encode(alloc, &TrieNode::Extension(Extension { path, child }))
+}
+
+/// Returns the bytes of the branch with a hash at place 1, a child at place 15 and a value.
+fn branch(alloc: Global, last: Child, value: &[u8]) -> Result<BytesMut, AllocError> {
+    let branch = Branch {
         children: [
             Child::Nothing,
             Child::Node(Hash([0x11; 32])),
@@ -158,7 +172,14 @@ fn branch(alloc: Global, last: Child, value: &[u8]) -> Result<Branch, AllocError
             last,
         ],
         value: Vec::from_slice(alloc, value)?,
-    })
+    };
+    rlp::encode(alloc, &branch)
+}
+
+/// Returns the bytes of the branch with these bytes, as a node.
+fn branch_node(alloc: Global, bytes: &[u8]) -> Result<BytesMut, Fail> {
+    let branch = rlp::decode_strict::<Branch>(alloc, bytes)?;
+    Ok(rlp::encode(alloc, &TrieNode::Branch(branch))?)
 }
 
 /// Returns the number of the first byte whose change is not noticed: the changed bytes are neither
@@ -181,59 +202,48 @@ fn first_unnoticed(alloc: Global, bytes: &[u8]) -> Result<Option<usize>, Fail> {
 /// Returns what a call about a node answers.
 pub(crate) fn answer(alloc: Global, name: &str, bytes: &[u8]) -> Result<String, Fail> {
     match name {
-        "nothing" => written(alloc, &Child::Nothing, bytes),
-        "hash" => written(alloc, &Child::Node(Hash([0x11; 32])), bytes),
-        "kept" => written(alloc, &Child::Inline(RawItem::new(alloc, bytes)?), bytes),
+        "nothing" => written::<Child>(alloc, rlp::encode(alloc, &Child::Nothing), bytes),
+        "hash" => {
+            let child = Child::Node(Hash([0x11; 32]));
+            written::<Child>(alloc, rlp::encode(alloc, &child), bytes)
+        }
+        "kept" => {
+            let child = inline(alloc, bytes)?;
+            written::<Child>(alloc, rlp::encode(alloc, &child), bytes)
+        }
         "kept of" => {
-            let child = Child::Inline(RawItem::new(alloc, bytes)?);
+            let child = inline(alloc, bytes)?;
             digits(alloc, rlp::encode(alloc, &child))
         }
-        "leaf of cat" => written(alloc, &leaf(alloc, &[0x20, 0x12], b"cat")?, bytes),
-        "leaf of coin" => written(alloc, &leaf(alloc, &[0x35], b"coin")?, bytes),
-        "leaf of stallion" => {
-            let path = [0x20, 0x6f, 0x72, 0x73, 0x65];
-            written(alloc, &leaf(alloc, &path, b"stallion")?, bytes)
-        }
-        "extension to the cat" => {
-            let cat = rlp::encode(alloc, &leaf(alloc, &[0x20, 0x12], b"cat")?)?;
-            let child = Child::Inline(RawItem::new(alloc, cat.as_slice())?);
-            written(alloc, &extension(alloc, &[0x11], child)?, bytes)
-        }
-        "branch of v" => written(alloc, &branch(alloc, Child::Nothing, b"v")?, bytes),
+        "branch of v" => written::<Branch>(alloc, branch(alloc, Child::Nothing, b"v"), bytes),
         "branch of verb" => {
-            written(
-                alloc,
-                &branch(alloc, Child::Node(Hash([0xff; 32])), b"verb")?,
-                bytes,
-            )
+            let last = Child::Node(Hash([0xff; 32]));
+            written::<Branch>(alloc, branch(alloc, last, b"verb"), bytes)
         }
+        "branch again" => written::<TrieNode>(alloc, Ok(branch_node(alloc, bytes)?), bytes),
         "changed" => {
             let place = first_unnoticed(alloc, bytes)?;
             Ok(format!(in alloc; "{place:?}")?)
         }
-        _ => marked(alloc, name, bytes),
+        _ => short(alloc, name, bytes),
     }
 }
 
-/// Returns what a call about a node with a mark in its path answers.
-fn marked(alloc: Global, name: &str, bytes: &[u8]) -> Result<String, Fail> {
+/// Returns what a call about a leaf or an extension answers.
+fn short(alloc: Global, name: &str, bytes: &[u8]) -> Result<String, Fail> {
     match name {
-        "leaf by" => {
-            let node = TrieNode::Leaf(leaf(alloc, bytes, b"coin")?);
-            digits(alloc, rlp::encode(alloc, &node))
+        "leaf of cat" => written::<Leaf>(alloc, leaf(alloc, &[0x20, 0x12], b"cat"), bytes),
+        "leaf of coin" => written::<Leaf>(alloc, leaf(alloc, &[0x35], b"coin"), bytes),
+        "leaf of stallion" => {
+            let leaf = leaf(alloc, b"\x20\x6f\x72\x73\x65", b"stallion");
+            written::<Leaf>(alloc, leaf, bytes)
         }
-        "extension by" => {
-            let node = TrieNode::Extension(extension(alloc, bytes, Child::Nothing)?);
-            digits(alloc, rlp::encode(alloc, &node))
+        "extension to the cat" => {
+            let cat = inline(alloc, b"\xc7\x82\x20\x12\x83cat")?;
+            written::<Extension>(alloc, extension(alloc, &[0x11], cat), bytes)
         }
-        "extension by 17 to" => {
-            let child = Child::Inline(RawItem::new(alloc, bytes)?);
-            let node = TrieNode::Extension(extension(alloc, &[0x17], child)?);
-            digits(alloc, rlp::encode(alloc, &node))
-        }
-        _ => {
-            let branch = rlp::decode_strict::<Branch>(alloc, bytes)?;
-            written(alloc, &TrieNode::Branch(branch), bytes)
-        }
+        "leaf by" => digits(alloc, leaf_node(alloc, bytes)),
+        "extension by" => digits(alloc, extension(alloc, bytes, Child::Nothing)),
+        _ => digits(alloc, extension(alloc, &[0x17], inline(alloc, bytes)?)),
     }
 }

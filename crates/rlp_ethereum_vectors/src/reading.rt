@@ -95,14 +95,14 @@ pub(crate) fn ways<R: Reading>(alloc: Global, bytes: &[u8]) -> Result<String, Fa
     Ok(String::from_str(alloc, "read with a byte more or less")?)
 }
 
-/// Returns what [`ways`] answers about the bytes if the value is written as them, and else the digits
-/// of what it is written as, or `refused`.
+/// Returns what [`ways`] answers about the bytes if they are what was written of a `T`. Returns else
+/// the digits of what was written, or `refused`.
 pub(crate) fn written<T: Encodable + Decodable>(
     alloc: Global,
-    value: &T,
+    written: Result<BytesMut, AllocError>,
     bytes: &[u8],
 ) -> Result<String, Fail> {
-    let written = digits(alloc, rlp::encode(alloc, value))?;
+    let written = digits(alloc, written)?;
     if written.as_str() == hex::encode(alloc, bytes)?.as_str() {
         return ways::<Item<T>>(alloc, bytes);
     }

@@ -2,10 +2,10 @@
 
 use crate::reading::{digits, fault, written};
 use crate::text::wide;
-use rlp::DecoderError;
+use bytes::BytesMut;
 use rlp_ethereum::{
     ACCESS_LIST_TYPE, AccessList, AccessListItem, AccessListTransaction, Address, Bloom,
-    FEE_MARKET_TYPE, FeeMarketTransaction, Hash, Header, Log, Receipt, Recipient, from_envelope,
+    FEE_MARKET_TYPE, FeeMarketTransaction, Hash, Log, Receipt, Recipient, from_envelope,
     to_envelope,
 };
 use std::alloc::{AllocError, Global};
@@ -210,13 +210,6 @@ pub(crate) const ROWS: &str = "
     TypedReceipt alone | 01 | RlpExpectedToBeList
 ";
 
-/// Returns whether the block with this header has a root of withdrawals, as blocks have since
-/// Shanghai.
-pub(crate) fn has_withdrawals(alloc: Global, bytes: &[u8]) -> Result<bool, DecoderError> {
-    let header = rlp::decode_strict::<Header>(alloc, bytes)?;
-    Ok(header.withdrawals_root().is_some())
-}
-
 /// Returns a payment of 1 ether, with a chosen signature.
 fn payment(alloc: Global) -> FeeMarketTransaction {
     FeeMarketTransaction {
@@ -265,14 +258,15 @@ fn log(alloc: Global) -> Result<Log, AllocError> {
     })
 }
 
-/// Returns the receipt of a transaction that succeeded, with one log.
-fn receipt(alloc: Global) -> Result<Receipt, AllocError> {
-    Ok(Receipt {
+/// Returns the bytes of the receipt of a transaction that succeeded, with one log.
+fn receipt(alloc: Global) -> Result<BytesMut, AllocError> {
+    let receipt = Receipt {
         status_or_state_root: Vec::from_array(alloc, [1])?,
         cumulative_gas_used: 21_000,
         logs_bloom: Bloom([0; 256]),
         logs: Vec::from_array(alloc, [log(alloc)?])?,
-    })
+    };
+    rlp::encode(alloc, &receipt)
 }
 
 /// The hash whose digits stand in the row.
@@ -292,8 +286,9 @@ const SECOND: [u8; 20] = [
     0x8c, 0x18, 0x94, 0x13,
 ];
 
-/// Returns the example of EIP-2930: an account with the keys 3 and 7, and another with none.
-fn access_list(alloc: Global) -> Result<AccessList, AllocError> {
+/// Returns the bytes of the example of EIP-2930: an account with the keys 3 and 7, and another with
+/// none.
+fn access_list(alloc: Global) -> Result<BytesMut, AllocError> {
     let first = AccessListItem {
         address: Address(FIRST),
         storage_keys: Vec::from_array(alloc, [Hash(wide(3).bytes), Hash(wide(7).bytes)])?,
@@ -302,18 +297,25 @@ fn access_list(alloc: Global) -> Result<AccessList, AllocError> {
         address: Address(SECOND),
         storage_keys: Vec::new(alloc),
     };
-    Ok(AccessList(Vec::from_array(alloc, [first, second])?))
+    let accesses = AccessList(Vec::from_array(alloc, [first, second])?);
+    rlp::encode(alloc, &accesses)
 }
 
 /// Returns what a call of this page answers.
 pub(crate) fn answer(alloc: Global, name: &str, bytes: &[u8]) -> Result<String, Fail> {
     match name {
-        "hash" => written(alloc, &HASH, bytes),
-        "log" => written(alloc, &log(alloc)?, bytes),
-        "receipt" => written(alloc, &receipt(alloc)?, bytes),
-        "access list" => written(alloc, &access_list(alloc)?, bytes),
-        "payment" => written(alloc, &payment(alloc), bytes),
-        "creation" => written(alloc, &creation(alloc)?, bytes),
+        "hash" => written::<Hash>(alloc, rlp::encode(alloc, &HASH), bytes),
+        "log" => written::<Log>(alloc, rlp::encode(alloc, &log(alloc)?), bytes),
+        "receipt" => written::<Receipt>(alloc, receipt(alloc), bytes),
+        "access list" => written::<AccessList>(alloc, access_list(alloc), bytes),
+        "payment" => {
+            let payment = rlp::encode(alloc, &payment(alloc));
+            written::<FeeMarketTransaction>(alloc, payment, bytes)
+        }
+        "creation" => {
+            let creation = rlp::encode(alloc, &creation(alloc)?);
+            written::<AccessListTransaction>(alloc, creation, bytes)
+        }
         "envelope of the payment" => {
             digits(alloc, to_envelope(alloc, FEE_MARKET_TYPE, &payment(alloc)))
         }

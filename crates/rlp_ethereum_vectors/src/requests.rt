@@ -2,12 +2,14 @@
 //! unless a comment says otherwise.
 
 use crate::reading::written;
+use bytes::BytesMut;
+use rlp::{Decodable, Encodable};
 use rlp_ethereum::Hash;
 use rlp_messages::{
     BlockHeaders, GetBlockBodies, GetBlockHeaders, GetPooledTransactions, GetReceipts,
     HashOrNumber, WithRequestId,
 };
-use std::alloc::Global;
+use std::alloc::{AllocError, Global};
 use std::test::Fail;
 
 /// Rows of requests and answers.
@@ -130,64 +132,59 @@ const HASHES: [Hash; 2] = [
     ]),
 ];
 
+/// Returns the bytes of a request or an answer with this content.
+fn with_id<T: Encodable + Decodable>(alloc: Global, content: T) -> Result<BytesMut, AllocError> {
+    let request_id = 1111;
+    rlp::encode(
+        alloc,
+        &WithRequestId {
+            request_id,
+            content,
+        },
+    )
+}
+
 /// Returns what a call about a request answers.
 pub(crate) fn answer(alloc: Global, name: &str, bytes: &[u8]) -> Result<String, Fail> {
     match name {
         "headers by hash" => {
-            let from = HashOrNumber::Hash(HASHES[0]);
-            written(alloc, &get_headers(from), bytes)
+            let request = get_headers(HashOrNumber::Hash(HASHES[0]));
+            let request = rlp::encode(alloc, &request);
+            written::<WithRequestId<GetBlockHeaders>>(alloc, request, bytes)
         }
-        "headers by number" => written(alloc, &get_headers(HashOrNumber::Number(9999)), bytes),
+        "headers by number" => {
+            let request = rlp::encode(alloc, &get_headers(HashOrNumber::Number(9999)));
+            written::<WithRequestId<GetBlockHeaders>>(alloc, request, bytes)
+        }
         "no headers" => {
-            let content = BlockHeaders(Vec::new(alloc));
-            let request_id = 1111;
-            written(
-                alloc,
-                &WithRequestId {
-                    request_id,
-                    content,
-                },
-                bytes,
-            )
+            let answer = with_id(alloc, BlockHeaders(Vec::new(alloc)));
+            written::<WithRequestId<BlockHeaders>>(alloc, answer, bytes)
         }
         "bodies" => {
-            let content = GetBlockBodies(Vec::from_array(alloc, HASHES)?);
-            let request_id = 1111;
-            written(
-                alloc,
-                &WithRequestId {
-                    request_id,
-                    content,
-                },
-                bytes,
-            )
+            let request = with_id(alloc, GetBlockBodies(Vec::from_array(alloc, HASHES)?));
+            written::<WithRequestId<GetBlockBodies>>(alloc, request, bytes)
         }
         "receipts" => {
-            let content = GetReceipts(Vec::from_array(alloc, HASHES)?);
-            let request_id = 1111;
-            written(
-                alloc,
-                &WithRequestId {
-                    request_id,
-                    content,
-                },
-                bytes,
-            )
+            let request = with_id(alloc, GetReceipts(Vec::from_array(alloc, HASHES)?));
+            written::<WithRequestId<GetReceipts>>(alloc, request, bytes)
         }
         "transactions" => {
-            let content = GetPooledTransactions(Vec::from_array(alloc, HASHES)?);
-            let request_id = 1111;
-            written(
+            let request = with_id(
                 alloc,
-                &WithRequestId {
-                    request_id,
-                    content,
-                },
-                bytes,
-            )
+                GetPooledTransactions(Vec::from_array(alloc, HASHES)?),
+            );
+            written::<WithRequestId<GetPooledTransactions>>(alloc, request, bytes)
         }
-        "least number" => written(alloc, &HashOrNumber::Number(0), bytes),
-        "greatest number" => written(alloc, &HashOrNumber::Number(u64::MAX), bytes),
-        _ => written(alloc, &HashOrNumber::Hash(Hash([0; 32])), bytes),
+        _ => hash_or_number(alloc, name, bytes),
     }
+}
+
+/// Returns what a call about a hash or a number answers.
+fn hash_or_number(alloc: Global, name: &str, bytes: &[u8]) -> Result<String, Fail> {
+    let value = match name {
+        "least number" => HashOrNumber::Number(0),
+        "greatest number" => HashOrNumber::Number(u64::MAX),
+        _ => HashOrNumber::Hash(Hash([0; 32])),
+    };
+    written::<HashOrNumber>(alloc, rlp::encode(alloc, &value), bytes)
 }

@@ -7,19 +7,34 @@ use crate::{messages, node_records, nodes, records, requests, unsigned};
 use std::alloc::Global;
 use std::test::Fail;
 
+/// The tables.
+const TABLES: [&str; 6] = [
+    records::ROWS,
+    messages::ROWS,
+    nodes::ROWS,
+    node_records::ROWS,
+    requests::ROWS,
+    unsigned::ROWS,
+];
+
+/// Returns what the call of a row answers, if it isn't what the row wants. The answer `refused` is
+/// any fault.
+fn other_answer(alloc: Global, call: &str, rest: &str) -> Result<Option<String>, Fail> {
+    let (text, wanted) = rest.split_once(" | ").unwrap_or((rest, "both ways"));
+    let given = answer(alloc, call, bytes_of(alloc, text)?.as_slice())?;
+    if given.trim() == wanted || wanted == "refused" && is_fault(&given) {
+        return Ok(None);
+    }
+    Ok(Some(given))
+}
+
 /// Returns the first row of a table whose call answers something else, and the answer.
-///
-/// The answer `refused` is any fault.
 fn first_other(alloc: Global, table: &str) -> Result<Option<String>, Fail> {
     for line in table.lines() {
-        let Some((call, rest)) = line.trim().split_once(" | ") else {
-            continue;
-        };
-        let (text, wanted) = rest.split_once(" | ").unwrap_or((rest, "both ways"));
-        let bytes = bytes_of(alloc, text)?;
-        let given = answer(alloc, call, bytes.as_slice())?;
-        if given.trim() != wanted && !(wanted == "refused" && is_fault(&given)) {
-            return Ok(Some(format!(in alloc; "{call} | {text} | {given}")?));
+        if let Some((call, rest)) = line.trim().split_once(" | ") {
+            if let Some(given) = other_answer(alloc, call, rest)? {
+                return Ok(Some(format!(in alloc; "{call} | {rest} | {given}")?));
+            }
         }
     }
     Ok(None)
@@ -27,15 +42,7 @@ fn first_other(alloc: Global, table: &str) -> Result<Option<String>, Fail> {
 
 #[test]
 fn records_and_messages(rt: HostRuntime) -> Result<(), Fail> {
-    let tables = [
-        records::ROWS,
-        messages::ROWS,
-        nodes::ROWS,
-        node_records::ROWS,
-        requests::ROWS,
-        unsigned::ROWS,
-    ];
-    for table in tables {
+    for table in TABLES {
         assert_eq!(rt; first_other(rt.alloc(), table)?, None);
     }
     Ok(())

@@ -249,8 +249,14 @@ fn example(alloc: Global, chain_id: Option<u64>) -> UnsignedLegacyTransaction {
 /// Returns what a call about a transaction that is signed answers.
 pub(crate) fn answer(alloc: Global, name: &str, bytes: &[u8]) -> Result<String, Fail> {
     match name {
-        "example for chain 1" => written(alloc, &example(alloc, Some(1)), bytes),
-        "example" => written(alloc, &example(alloc, None), bytes),
+        "example for chain 1" => {
+            let example = rlp::encode(alloc, &example(alloc, Some(1)));
+            written::<UnsignedLegacyTransaction>(alloc, example, bytes)
+        },
+        "example" => {
+            let example = rlp::encode(alloc, &example(alloc, None));
+            written::<UnsignedLegacyTransaction>(alloc, example, bytes)
+        },
         "bytes of the example for chain 1" => {
             let unsigned = UnsignedTransaction::Legacy(example(alloc, Some(1)));
             digits(alloc, unsigned.to_bytes(alloc))
