@@ -1,5 +1,11 @@
 //! Scripts: calls on a stream, as text. `; ` stands between two calls. A call is its name and its
 //! arguments, with spaces between them. Bytes are written as `bytes_of` reads them.
+//!
+//! `!` stands before a call that isn't admitted, and `N times` before one that is made N times.
+//! `list`, `over` and `list_over` begin a new stream: a list, over bytes, and a list over bytes.
+//! `raw N BYTES` appends N items, and `within N BYTES` one item within the limit N.
+//! `finalize_up_to N M` closes at most N lists, and M in fact. `is SIZE AWAITED BYTES`, `size SIZE`
+//! and `estimate MORE SIZE` compare the stream.
 
 use crate::support::guarded::{estimates, finalize, finishes_as, put_raw, put_raw_within};
 use crate::support::iterators::put_undotted;
