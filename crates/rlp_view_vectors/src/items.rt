@@ -81,6 +81,7 @@ impl<const STRICT: bool> Call for Items<STRICT> {
 /// A row of `Items`: bytes and what is asked of their view, and the answer.
 type Asked = ((&'static [u8], Ask), &'static str);
 
+/// Items are found up to the first that isn't framed. Past them is the fault of what follows.
 const ITEMS: [Asked; 29] = [
     ((CAT_DOG, Item(0)), "Ok(83636174) Ok(83636174) 1"),
     ((CAT_DOG, Item(1)), "Ok(83646f67) Ok(83646f67) 5"),
@@ -143,6 +144,7 @@ const ITEMS: [Asked; 29] = [
     ((b"\x81\x05", Value), "1 1 05 of Ok(8105)"),
 ];
 
+/// A strict view has items only if it is exactly one list of framed items, and they are strict.
 const STRICT_ITEMS: [Asked; 12] = [
     ((b"\xc1\x01", Item(0)), "Ok(01) Ok(01) 1"),
     ((b"\xc1\x01\x02", Item(0)), "Err(RlpIsTooBig) RlpIsTooBig"),

@@ -70,8 +70,7 @@ fn has_ones(alloc: Global, bytes: &[u8], len: usize, place: usize) -> Result<boo
     }
     let is_one_left = items.len() == 1 && items.next().is_some();
     let (last, found) = view.at_with_offset(len.saturating_sub(1))?;
-    let large = rlp::decode_list::<u64>(alloc, bytes)?;
-    let small = view.as_list::<u8>(alloc)?;
+    let numbers = rlp::decode_list::<u64>(alloc, bytes)?;
     Ok(
         is_one_left
             && items.next().is_none()
@@ -81,8 +80,7 @@ fn has_ones(alloc: Global, bytes: &[u8], len: usize, place: usize) -> Result<boo
             && found == place
             && view.item_count()? == len
             && view.at(len).err() == Some(DecoderError::RlpIsTooShort)
-            && large.as_slice() == vec![in alloc; 1u64; len]?.as_slice()
-            && small.as_slice() == vec![in alloc; 1u8; len]?.as_slice(),
+            && numbers.as_slice() == vec![in alloc; 1u64; len]?.as_slice(),
     )
 }
 
@@ -116,21 +114,34 @@ fn has_depth(s: &RlpStream, levels: usize) -> bool {
         && !view.is_canonical(fewer)
 }
 
-// With siblings at every level, a function that tests each item twice wouldn't end in time. The text
-// of a million items 01 has for each item four characters `0x01`, two quotes, and two
-// characters of comma and space or of brackets.
+// With siblings at every level, a function that tests each item twice wouldn't end in time.
 #[test]
 fn lists_of_many_items_and_levels(rt: HostRuntime) -> Result<(), Fail> {
     let alloc = rt.alloc();
-    let some = filled(alloc, b"\xf9\x27\x10", 10_000, 1)?;
-    assert!(rt; has_ones(alloc, some.as_slice(), 10_000, 10_002)?);
-    let many = filled(alloc, b"\xfa\x0f\x42\x40", 1_000_000, 1)?;
-    assert!(rt; has_ones(alloc, many.as_slice(), 1_000_000, 1_000_003)?);
-    let text = format!(in alloc; "{}", Rlp::new(many.as_slice()))?;
+    let bytes = filled(alloc, b"\xf9\x27\x10", 10_000, 1)?;
+    assert!(rt; has_ones(alloc, bytes.as_slice(), 10_000, 10_002)?);
+    assert!(rt; has_depth(&nested(alloc, 200, false)?, 200));
+    assert!(rt; has_depth(&nested(alloc, 256, true)?, 256));
+    Ok(())
+}
+
+// The text has for each item four characters `0x01`, two quotes, and two characters of comma and
+// space or of brackets.
+#[test]
+fn a_million_items(rt: HostRuntime) -> Result<(), Fail> {
+    let alloc = rt.alloc();
+    let bytes = filled(alloc, b"\xfa\x0f\x42\x40", 1_000_000, 1)?;
+    let view = Rlp::new(bytes.as_slice());
+    let mut count = 0usize;
+    for item in view.iter() {
+        count = count.saturating_add(usize::from(item.as_raw().len() == 1));
+    }
+    assert_eq!(rt; (count, view.item_count()?), (1_000_000, 1_000_000));
+    let values = view.as_list::<u8>(alloc)?;
+    assert!(rt; values.as_slice() == filled(alloc, b"", 1_000_000, 1)?.as_slice());
+    let text = format!(in alloc; "{view}")?;
     assert_eq!(rt; text.len(), 8_000_000);
     assert!(rt; text.as_str().starts_with("[\"0x01\", \"0x01\", \"0x01\", "));
     assert!(rt; text.as_str().ends_with(", \"0x01\", \"0x01\"]"));
-    assert!(rt; has_depth(&nested(alloc, 200, false)?, 200));
-    assert!(rt; has_depth(&nested(alloc, 256, true)?, 256));
     Ok(())
 }

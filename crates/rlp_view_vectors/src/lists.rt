@@ -30,6 +30,7 @@ impl<T: Decodable + fmt::Debug + PartialEq, const STRICT: bool> Call for ReadLis
     }
 }
 
+/// Lists are read whole. Bytes that aren't a framed list are read as an empty list.
 const NUMBERS: [(&[u8], &str); 7] = [
     (b"\xc0", "Ok([])"),
     (b"\xc1\x0f", "Ok([15])"),
@@ -43,12 +44,14 @@ const NUMBERS: [(&[u8], &str); 7] = [
     (b"\xc3\x05\x81\x05", "Err(RlpInvalidIndirection)"),
 ];
 
+/// The same holds for numbers of one byte.
 const SMALL_NUMBERS: [(&[u8], &str); 3] = [
     (b"\xc5", "Ok([])"),
     (b"\x05", "Ok([])"),
     (b"\xc3\x05\x81\x05", "Err(RlpInvalidIndirection)"),
 ];
 
+/// A list of texts is read.
 const WORDS: [(&[u8], &str); 1] = [(b"\xc8\x83cat\x83dog", "Ok([\"cat\", \"dog\"])")];
 
 /// The first faulty item gives its fault, and a cut item ends the list.

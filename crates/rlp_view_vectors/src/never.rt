@@ -12,6 +12,7 @@ use std::test::Fail;
 /// difference.
 const SIGNAL: usize = 77_777;
 
+/// A view of each kind.
 const TEXTS: [Asked; 4] = [
     ((b"", Text), "null"),
     ((b"\xc2\x05\x06", Text), "[\"0x05\", \"0x06\"]"),

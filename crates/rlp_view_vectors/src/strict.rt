@@ -9,20 +9,24 @@ use std::fmt;
 use std::fmt::Write;
 use std::test::Fail;
 
+/// Bytes after a text are too much, but a fault of its header comes first.
 const TEXTS: [(&[u8], &str); 3] = [
     (b"\x83cat", "Ok(\"cat\")"),
     (b"\x83cat\x00", "Err(RlpIsTooBig)"),
     (b"\xb8\x02ab\x00", "Err(RlpInvalidIndirection)"),
 ];
 
+/// Bytes after a number are too much, also after one with a leading zero.
 const U16: [(&[u8], &str); 3] = [
     (b"\x82\x01\x00", "Ok(256)"),
     (b"\x82\x00\x01\x00", "Err(RlpIsTooBig)"),
     (b"\x82\x00\x01", "Err(RlpInvalidIndirection)"),
 ];
 
+/// No bytes are too few.
 const U8: [(&[u8], &str); 1] = [(b"", "Err(RlpIsTooShort)")];
 
+/// A list or an item that isn't framed is too short, and two items are a wrong number.
 const OPTIONS: [(&[u8], &str); 5] = [
     (b"\xc1\x05", "Ok(Some(5))"),
     (b"\xc0", "Ok(None)"),
@@ -31,6 +35,7 @@ const OPTIONS: [(&[u8], &str); 5] = [
     (b"\xc2\x05\x06", "Err(RlpIncorrectListLen)"),
 ];
 
+/// A list is read only if it is exactly one list of framed items.
 const LISTS: [(&[u8], &str); 7] = [
     (b"\xc2\x05\x06", "Ok([5, 6])"),
     (b"", "Err(RlpExpectedToBeList)"),

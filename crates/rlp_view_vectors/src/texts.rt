@@ -9,6 +9,7 @@ use std::fmt;
 use std::fmt::Write;
 use std::test::Fail;
 
+/// A string prints as its bytes, a list as its framed items, and other bytes as a fault.
 const TEXTS: [Asked; 12] = [
     ((b"", Text), "null"),
     ((b"\xc0", Text), "[]"),

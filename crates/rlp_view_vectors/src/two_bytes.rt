@@ -232,16 +232,22 @@ fn decoded<T: Decodable>(alloc: Global) -> Tally {
     tally
 }
 
+/// 256 inputs for each byte from 01 to 80, and `8180` to `81ff`.
 const NUMBERS: Tally = [32_896, 0, 0, 0, 16_384, 0, 0, 0, 440, 15_816, 0, 0, 0, 0];
 
+/// 256 inputs for each of the bytes 01 and 80. Other numbers are no truth values.
 const BOOLS: Tally = [512, 0, 0, 0, 16_384, 0, 0, 0, 440, 15_816, 0, 32_384, 0, 0];
 
+/// 256 inputs for each byte up to 80, and `8180` to `81ff`.
 const STRINGS: Tally = [33_152, 0, 0, 0, 16_384, 0, 0, 0, 184, 15_816, 0, 0, 0, 0];
 
+/// The same but for the empty string, which is too short.
 const ARRAYS: Tally = [32_896, 0, 256, 0, 16_384, 0, 0, 0, 184, 15_816, 0, 0, 0, 0];
 
+/// 256 inputs for each byte up to 80. The strings of `8180` to `81ff` are no texts.
 const TEXTS: Tally = [33_024, 0, 0, 0, 16_512, 0, 0, 0, 184, 15_816, 0, 0, 0, 0];
 
+/// Each list but `c100` and `c1c0` is read, most as `None`.
 const OPTIONS: Tally = [16_382, 0, 0, 49_152, 1, 0, 0, 0, 1, 0, 0, 0, 0, 0];
 
 /// Returns the length of a string.
@@ -263,6 +269,7 @@ fn lengths() -> [Tally; 2] {
     [by_view, by_bytes]
 }
 
+/// The sum is 256 for each byte below 80, and 128 for `8180` to `81ff`.
 const LENGTHS: Tally = [
     33_152, 0, 0, 0, 16_384, 0, 0, 0, 184, 15_816, 0, 0, 0, 32_896,
 ];
@@ -298,6 +305,7 @@ fn lists(alloc: Global) -> [Tally; 3] {
     [whole, first, inner]
 }
 
+/// All inputs but `c100` and `c1c0` are read as lists, most as empty ones.
 const LISTS: [Tally; 3] = [
     [65_534, 0, 0, 0, 1, 0, 0, 0, 1, 0, 0, 0, 0, 0],
     [128, 0, 16_191, 49_152, 1, 0, 0, 8, 56, 0, 0, 0, 0, 0],

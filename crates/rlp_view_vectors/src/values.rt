@@ -45,6 +45,7 @@ impl Call for ReadNonce {
     }
 }
 
+/// Numbers of each length are read. Leading zeros, long forms and lists are faults.
 const U64: [(&[u8], &str); 18] = [
     (b"\x84\x01\x00\x00\x00", "Ok(16777216)"),
     (b"\x84\xff\xff\xff\xff", "Ok(4294967295)"),
@@ -84,6 +85,7 @@ const U64: [(&[u8], &str); 18] = [
     ),
 ];
 
+/// A longer number is too big, and a length over the end of the bytes is a fault.
 const U8: [(&[u8], &str); 11] = [
     (b"\x80", "Ok(0)"),
     (b"\x77", "Ok(119)"),
@@ -107,6 +109,7 @@ const U8: [(&[u8], &str); 11] = [
     ),
 ];
 
+/// A number of two bytes begins with no zero.
 const U16: [(&[u8], &str); 4] = [
     (b"\x82\x01\x00", "Ok(256)"),
     (b"\x82\xff\xff", "Ok(65535)"),
@@ -114,11 +117,13 @@ const U16: [(&[u8], &str); 4] = [
     (b"\x83\x00\x00\x01", "Err(RlpIsTooBig)"),
 ];
 
+/// Numbers of three bytes are read.
 const U32: [(&[u8], &str); 2] = [
     (b"\x83\x01\x00\x00", "Ok(65536)"),
     (b"\x83\xff\xff\xff", "Ok(16777215)"),
 ];
 
+/// Numbers of eight and of sixteen bytes are read.
 const U128: [(&[u8], &str); 3] = [
     (
         b"\x88\x01\x00\x00\x00\x00\x00\x00\x00",
@@ -134,6 +139,7 @@ const U128: [(&[u8], &str); 3] = [
     ),
 ];
 
+/// Other numbers are no truth values.
 const BOOLS: [(&[u8], &str); 1] = [(b"\x02", "Err(Custom(\"invalid boolean value\"))")];
 
 #[test]
@@ -149,6 +155,7 @@ fn numbers(rt: HostRuntime) -> Result<(), Fail> {
     Ok(())
 }
 
+/// Strings of no byte, of a byte below 80 and of two bytes are read.
 const VECTORS: [(&[u8], &str); 4] = [
     (b"\x80", "Ok([])"),
     (b"\x00", "Ok([0])"),
@@ -156,6 +163,7 @@ const VECTORS: [(&[u8], &str); 4] = [
     (b"\x82\x40\x00", "Ok([64, 0])"),
 ];
 
+/// The same strings are read as `Bytes` and `BytesMut`.
 const BYTES: [(&[u8], &str); 4] = [
     (b"\x80", "Ok(b\"\")"),
     (b"\x00", "Ok(b\"\\0\")"),
@@ -163,6 +171,7 @@ const BYTES: [(&[u8], &str); 4] = [
     (b"\x82\x40\x00", "Ok(b\"@\\0\")"),
 ];
 
+/// Texts are read, also in front of other bytes. Cut, long and other strings are faults.
 const TEXTS: [(&[u8], &str); 12] = [
     (b"\x83cat", "Ok(\"cat\")"),
     (b"\x83dog", "Ok(\"dog\")"),
@@ -207,6 +216,7 @@ impl Call for FirstByte {
     }
 }
 
+/// A closure reads the string, and its fault is returned as it is.
 const FIRST_BYTES: [(&[u8], &str); 4] = [
     (b"\x82\x40\x00", "Ok(64)"),
     (b"\x15", "Ok(21)"),
@@ -214,6 +224,7 @@ const FIRST_BYTES: [(&[u8], &str); 4] = [
     (b"\xc0", "Err(RlpExpectedToBeData)"),
 ];
 
+/// A lenient option goes by the framed items of its list.
 const OPTIONS: [(&[u8], &str); 6] = [
     (b"\xc5", "Ok(None)"),
     (b"\xc0\xff", "Ok(None)"),
@@ -223,11 +234,13 @@ const OPTIONS: [(&[u8], &str); 6] = [
     (b"\xc1\x00", "Err(RlpInvalidIndirection)"),
 ];
 
+/// Options nest.
 const OPTIONS_OF_OPTIONS: [(&[u8], &str); 2] = [
     (b"\xc1\xc0", "Ok(Some(None))"),
     (b"\xc2\xc1\x05", "Ok(Some(Some(5)))"),
 ];
 
+/// An option holds a box.
 const OPTIONS_OF_BOXES: [(&[u8], &str); 1] = [(b"\xc1\x05", "Ok(Some(5))")];
 
 /// An option has the fault of its value.

@@ -152,12 +152,13 @@ pub(crate) type Asked = ((&'static [u8], Ask), &'static str);
 
 /// Among the numbers at the front are the first bytes of the long headers of strings, without other
 /// bytes.
-const VIEWS: [Asked; 33] = [
+const VIEWS: [Asked; 34] = [
     ((b"", Kinds), "true false false false"),
     ((b"\x80", Kinds), "false true false true"),
     ((b"\xc0", Kinds), "false true true false"),
     ((b"\x05", Kinds), "false false false true"),
     ((b"\xc1\x05", Kinds), "false false true false"),
+    ((b"\xc8\x83cat\x83dog", Kinds), "false false true false"),
     ((b"", Int), "false"),
     ((b"\x81", Int), "false"),
     ((b"\x81\x00", Int), "false"),
@@ -188,6 +189,7 @@ const VIEWS: [Asked; 33] = [
     ((b"\xc8\x83cat\x83dog", Sizes), "Ok(List(2)) 0"),
 ];
 
+/// The prototype of a strict view counts the items as that of a lenient view does.
 const STRICT_VIEWS: [Asked; 1] = [((b"\xc1\x01\x02", Sizes), "Ok(List(1)) 0")];
 
 /// A list of 56 numbers 1, whose header has two bytes.
