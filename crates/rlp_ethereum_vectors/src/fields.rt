@@ -47,7 +47,7 @@ fn has_withdrawals(alloc: Global, bytes: &[u8]) -> Result<bool, DecoderError> {
     Ok(header.withdrawals_root().is_some())
 }
 
-/// Returns the fields that a header has since London, and its length in bytes.
+/// Returns the length of a header, its number, and the fields that it has since London.
 pub(crate) fn forks(alloc: Global, bytes: &[u8]) -> Result<String, Fail> {
     let header = rlp::decode_strict::<Header>(alloc, bytes)?;
     let fee = match header.base_fee_per_gas() {
@@ -62,8 +62,8 @@ pub(crate) fn forks(alloc: Global, bytes: &[u8]) -> Result<String, Fail> {
     ];
     let text = spelled(alloc, &words)?;
     let (used, excess) = (header.blob_gas_used(), header.excess_blob_gas());
-    let (len, has_root) = (bytes.len(), has_withdrawals(alloc, bytes)?);
-    Ok(format!(in alloc; "{len} {has_root} {used:?} {excess:?} {text}")?)
+    let (len, number, has_root) = (bytes.len(), header.number, has_withdrawals(alloc, bytes)?);
+    Ok(format!(in alloc; "{len} {number} {has_root} {used:?} {excess:?} {text}")?)
 }
 
 /// Returns what the fault of the fields since London prints.

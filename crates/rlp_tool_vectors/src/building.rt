@@ -1,8 +1,8 @@
-//! The results of calls.
+//! Calls that are read from lines, and the results of calls.
 
 use bytes::BytesMut;
 use rlp_examples::{Pair, Refusing, Trio};
-use rlp_tool::{BuildFault, Built, StreamCall, build};
+use rlp_tool::{BuildFault, Built, ScriptFault, StreamCall, build, read_calls};
 use std::alloc::{AllocError, Global};
 
 /// Returns whether calls result in these bytes, with no open list.
@@ -65,12 +65,26 @@ fn refused_value_is_told(alloc: Global) -> bool {
     )
 }
 
+/// Returns whether a script is read, and a wrong one fails at the right place.
+fn scripts_are_read(alloc: Global) -> Result<bool, ScriptFault> {
+    let calls = read_calls(alloc, b"d:2a r:3:0102")?;
+    let none = read_calls(alloc, b"")?;
+    let refused = read_calls(alloc, b"d:2a d:2");
+    Ok(
+        calls.len() == 2
+            && none.is_empty()
+            && matches!(refused, Err(ScriptFault::Syntax(2)))
+            && matches!(&calls[1], StreamCall::Raw(bytes, 3) if bytes.as_slice() == [1, 2].as_slice()),
+    )
+}
+
 #[test]
-fn build_answers_calls(rt: HostRuntime) -> Result<(), AllocError> {
+fn calls_are_read_and_built(rt: HostRuntime) -> Result<(), AllocError> {
     let alloc = rt.alloc();
     assert!(rt; pairs_are_built(alloc)?, "values and lists of values");
     assert!(rt; front_stays(alloc) == Ok(true), "a front");
     assert!(rt; raw_bytes_are_checked(alloc)?, "raw bytes");
     assert!(rt; refused_value_is_told(alloc), "a refused value");
+    assert!(rt; scripts_are_read(alloc) == Ok(true), "a script");
     Ok(())
 }

@@ -127,10 +127,12 @@ fn writes(alloc: Global, plan: &Plan, calls: &[&str]) -> Result<String, AllocErr
     let mut sink = writer(alloc, plan)?;
     let mut text = String::new(alloc);
     for call in calls {
-        let returned = if *call == "flush" {
-            sink.flush().map(|_| 0)
-        } else {
-            sink.write(call.as_bytes())
+        let returned = match *call {
+            "flush" => match sink.flush() {
+                Ok(()) => Ok(0),
+                Err(error) => Err(error),
+            },
+            _ => sink.write(call.as_bytes()),
         };
         let returned = text_of(alloc, returned)?;
         let (writes, flushes) = (sink.inner().writes, sink.inner().flushes);
@@ -187,20 +189,21 @@ const RUNS: [([usize; 3], &str, &str, &str); 15] = [
 /// Returns the number of the first row of `RUNS` that ends otherwise, or not at the first failure of
 /// its reader or writer. Each line is read by a call of its own.
 fn first_other_run(alloc: Global) -> Result<Option<usize>, AllocError> {
-    for (row, ([read, write, flush], input, ends, written)) in RUNS.iter().enumerate() {
+    for (row, (fails, input, ends, written)) in RUNS.iter().enumerate() {
+        let [read, write, flush] = *fails;
         let plan = Plan {
             most: 3,
-            reads: (*read, *read),
-            writes: (*write, *write),
-            flushes: (*flush, *flush),
+            reads: (read, read),
+            writes: (write, write),
+            flushes: (flush, flush),
             error: Some(ErrorKind::Interrupted),
             ..SOUND
         };
         let left = ran(alloc, input.as_bytes(), &plan)?;
         let (outcome, flushes) = (&left.outcome, left.flushes);
         let text = format!(in alloc; "{outcome:?} {flushes}")?;
-        let stops = (*read == 0 || left.calls == *read)
-            && (*write == 0 || left.calls == *write && left.writes == *write);
+        let stops = (read == 0 || left.calls == read)
+            && (write == 0 || left.calls == write && left.writes == write);
         if text.as_str() != *ends || left.written.as_slice() != written.as_bytes() || !stops {
             return Ok(Some(row));
         }
