@@ -1,6 +1,4 @@
 pub mod Entry
 pub mod Message
 pub mod Nest
-pub mod Ordered
 pub mod Parcel
-pub mod Row

@@ -2,32 +2,16 @@
 //! public contracts and from the lemmas that authors of types cite.
 #![tactic(auto)]
 
-mod appends;
-mod careless;
-mod couple;
 mod entry;
-mod half_written;
 mod message;
 mod nest;
 mod nonce;
-mod ordered;
-mod pair;
 mod parcel;
-mod row;
-mod trio;
 mod uses;
 
-pub use appends::{append_one, append_three, bytes_of_three};
-pub use careless::{InList, Odd, Wrapper};
-pub use couple::{Alone, Couple, append_list_in_list, write_list_in_list};
 pub use entry::{Entry, entry_back};
-pub use half_written::HalfWritten;
 pub use message::Message;
 pub use nest::{Inner, Nest};
 pub use nonce::Nonce;
-pub use ordered::Ordered;
-pub use pair::Pair;
 pub use parcel::{Parcel, items_tell_parcels};
-pub use row::Row;
-pub use trio::{Refusing, Trio};
 pub use uses::{append_by_stream, append_each, chain_and_encoder, drained, first_and_text, nested};

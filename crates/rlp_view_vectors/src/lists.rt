@@ -2,7 +2,7 @@
 
 use crate::rows::{Call, first_wrong, view_of};
 use rlp::{Decodable, Rlp};
-use rlp_examples::Odd;
+use rlp_fixtures::Odd;
 use std::alloc::Global;
 use std::fmt;
 use std::fmt::Write;

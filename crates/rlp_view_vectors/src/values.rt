@@ -3,7 +3,7 @@
 use crate::rows::{Call, first_wrong, view_of};
 use bytes::{Bytes, BytesMut};
 use rlp::{BasicDecoder, Decodable, DecoderError, Rlp};
-use rlp_examples::{Nonce, Odd};
+use rlp_fixtures::Odd;
 use std::alloc::Global;
 use std::fmt;
 use std::fmt::Write;
@@ -27,20 +27,6 @@ impl<T: Decodable + fmt::Debug + PartialEq, const STRICT: bool> Call for Read<T,
             write!(out, "{decoded:?}")
         } else {
             write!(out, "{decoded:?}, of a view {viewed:?}")
-        }
-    }
-}
-
-/// Tells the number that is read as a `Nonce`.
-struct ReadNonce;
-
-impl Call for ReadNonce {
-    type Input = &'static [u8];
-
-    fn tell<W: fmt::Write>(alloc: Global, bytes: &&'static [u8], out: &mut W) -> fmt::Result {
-        match rlp::decode::<Nonce>(alloc, bytes) {
-            Ok(nonce) => write!(out, "Ok({})", nonce.0),
-            Err(fault) => write!(out, "Err({fault})"),
         }
     }
 }
@@ -146,7 +132,6 @@ const BOOLS: [(&[u8], &str); 1] = [(b"\x02", "Err(Custom(\"invalid boolean value
 fn numbers(rt: HostRuntime) -> Result<(), Fail> {
     let alloc = rt.alloc();
     assert_eq!(rt; first_wrong::<Read<u64, false>>(alloc, &U64)?, None);
-    assert_eq!(rt; first_wrong::<ReadNonce>(alloc, &U64)?, None);
     assert_eq!(rt; first_wrong::<Read<u8, false>>(alloc, &U8)?, None);
     assert_eq!(rt; first_wrong::<Read<u16, false>>(alloc, &U16)?, None);
     assert_eq!(rt; first_wrong::<Read<u32, false>>(alloc, &U32)?, None);

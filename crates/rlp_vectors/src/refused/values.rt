@@ -5,7 +5,7 @@
 
 use crate::support::script::buffer_of;
 use rlp::{Encodable, RlpStream, Uint};
-use rlp_examples::Pair;
+use rlp_fixtures::Pair;
 use std::alloc::{AllocError, Global};
 use std::test::Fail;
 

@@ -12,7 +12,7 @@ use crate::support::iterators::put_undotted;
 use crate::support::text::{bytes_of, number};
 use bytes::BytesMut;
 use rlp::{RawItem, RlpStream};
-use rlp_examples::{Pair, Wrapper};
+use rlp_fixtures::{Pair, Wrapper};
 use std::alloc::{AllocError, Global};
 
 /// A script, and the finished bytes after it: all of them; or their number, `begins`, and the first

@@ -3,7 +3,7 @@
 use crate::support::guarded::finishes_as;
 use crate::support::script::is_as;
 use rlp::{Encodable, RlpStream};
-use rlp_examples::{Refusing, Trio};
+use rlp_fixtures::{Refusing, Trio};
 use std::alloc::{AllocError, Global};
 use std::cell::Cell;
 use std::test::Fail;

@@ -5,7 +5,8 @@ use crate::support::script::Row as Line;
 use crate::support::text::bytes_of;
 use crate::support::values::{first_unread, first_unwritten, is_written};
 use rlp::{Each, Flattened, ListOf, RlpStream, Uint};
-use rlp_examples::{Entry, Inner, Message, Nest, Row};
+use rlp_examples::{Entry, Inner, Message, Nest, Nonce};
+use rlp_fixtures::Row;
 use std::alloc::Global;
 use std::test::Fail;
 
@@ -69,6 +70,13 @@ fn arrays_and_numbers(rt: HostRuntime) -> Result<(), Fail> {
     Ok(())
 }
 
+/// A number of a custom type, and strings that aren't such a number.
+const NONCES: [Line; 3] = [
+    ("8401000000", "8401000000"),
+    ("8100", "RlpInvalidIndirection"),
+    ("89000000000000000000", "RlpIsTooBig"),
+];
+
 /// A struct alone, with a byte after it, and with a number that isn't in its shortest form.
 const ENTRIES: [Line; 3] = [
     ("c20580", "c20580"),
@@ -106,6 +114,7 @@ const NESTS: &str = "dddccdccc28001c20102c20203c20304cdccc28001c20102c20203c2030
 #[test]
 fn structs_messages_and_nests(rt: HostRuntime) -> Result<(), Fail> {
     let alloc = rt.alloc();
+    assert_eq!(rt; first_unread::<Nonce>(alloc, false, &NONCES)?, None);
     assert_eq!(rt; first_unread::<Entry>(alloc, true, &ENTRIES)?, None);
     assert_eq!(rt; first_unread::<Message>(alloc, true, &MESSAGES)?, None);
     assert_eq!(rt;

@@ -4,7 +4,7 @@ use crate::support::text::bytes_of;
 use crate::values::refused::OnceRefused;
 use bytes::{Bytes, BytesMut};
 use rlp::{Decodable, Encodable, Uint};
-use rlp_examples::Pair;
+use rlp_fixtures::Pair;
 use std::alloc::{AllocError, Global};
 use std::cell::Cell;
 use std::test::Fail;

@@ -5,7 +5,7 @@ use crate::support::guarded::{finalize, finishes_as};
 use crate::support::plain;
 use crate::support::values::first_unlisted;
 use rlp::RlpStream;
-use rlp_examples::Pair;
+use rlp_fixtures::Pair;
 use std::test::Fail;
 
 /// Bytes, the length of a string of them, and the string's header.

@@ -4,7 +4,7 @@ use crate::refused::streams::SIXTY;
 use crate::support::guarded::{finalize, finishes_as, put_raw_within, takes_items};
 use crate::support::script::{Row, buffer_of, first_wrong, is_as};
 use rlp::RlpStream;
-use rlp_examples::Pair;
+use rlp_fixtures::Pair;
 use std::alloc::{AllocError, Global};
 use std::test::Fail;
 

@@ -5,7 +5,8 @@ use crate::support::text::bytes_of;
 use crate::support::values::{first_unlisted, first_unwritten, first_unwritten_again, is_written};
 use bytes::{Bytes, BytesMut};
 use rlp::{EMPTY_LIST_RLP, NULL_RLP, RlpStream};
-use rlp_examples::{HalfWritten, Nonce, Pair, append_one, append_three, bytes_of_three};
+use rlp_examples::Nonce;
+use rlp_fixtures::{HalfWritten, Pair, append_one, append_three, bytes_of_three};
 use std::alloc::{AllocError, Global};
 use std::test::Fail;
 

@@ -1,6 +1,6 @@
 //! A list of nine fields, read in order.
 
-ghost use Rattle.rlp_examples.specs.Ordered.{ordered};
+ghost use Rattle.rlp_fixtures.specs.Ordered.{ordered};
 
 use rlp::{Decodable, DecoderError, Encodable, Rlp, RlpStream, RoundTrip, StrictRead};
 use std::alloc::{AllocError, Global};

@@ -1,7 +1,7 @@
 -- How nine fields are written and read, in order.
 use Rattle.std.specs.Vec.{vec_items}
 use Rattle.rlp.specs.Codec.{Codec, Fields, byte_string, end, field, number, struct_of}
-use Rattle.rlp_examples.specs.declared.ordered.Ordered.{Ordered}
+use Rattle.rlp_fixtures.specs.declared.ordered.Ordered.{Ordered}
 
 -- the nine fields, in order
 abbrev pub ordered_fields : Fields Ordered

@@ -1,7 +1,7 @@
 use Rattle.std.proofs.Common.{arith}
 use Rattle.std.proofs.lemmas.Result.{err_from_is_err_and}
 use Rattle.rlp.specs.Lemmas.Structs.{next_0, next_1, next_2, next_3, next_4, next_5, next_6, next_7, next_8}
-use Rattle.rlp_examples.proofs.ordered.OrderedDecodable.decode.Goals as goal
+use Rattle.rlp_fixtures.proofs.ordered.OrderedDecodable.decode.Goals as goal
 
 pub returns-in_err-next_value-clause-fault : goal.returns-in_err-next_value-clause-fault
 returns-in_err-next_value-clause-fault c =
