@@ -13,5 +13,5 @@ pub use entry::{Entry, entry_back};
 pub use message::Message;
 pub use nest::{Inner, Nest};
 pub use nonce::Nonce;
-pub use parcel::{Parcel, items_tell_parcels};
+pub use parcel::{Parcel, items_tell_parcels, renumbered};
 pub use uses::{append_by_stream, append_each, chain_and_encoder, drained, first_and_text, nested};
