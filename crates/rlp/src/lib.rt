@@ -56,8 +56,7 @@ pub fn encode<E: Encodable>(alloc: Global, object: &E) -> Result<BytesMut, Alloc
     object.rlp_bytes(alloc)
 }
 
-/// The encoding of the list of the values. Fails as [`encode`] does. It makes room once, for the sum
-/// of [`Encodable::max_len`] of the values, if each has a bound.
+/// The encoding of the list of the values. Fails as [`encode`] does.
 ///
 /// ```rust
 /// assert_eq!(rt; rlp::encode_list(alloc, &["cat", "dog"])?.len(), 9);

@@ -16,5 +16,3 @@ pub mod ClosedSize
 pub mod Rooms
 -- the encoding of a list, alone in a buffer
 pub mod Alone
--- how many bytes encodings have at most
-pub mod Bounds

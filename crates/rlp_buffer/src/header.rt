@@ -1,6 +1,6 @@
 //! Writing of headers.
 
-ghost use Rattle.std.specs.Prelude.{◌≡◌, ◌<◌, ◌≤◌, ◌+◌, ℕ, IfSome, length};
+ghost use Rattle.std.specs.Prelude.{◌≡◌, ◌<◌, ◌≤◌, length};
 ghost use Rattle.rlp_format.specs.Format.WrittenHeader.{big_endian, written_header};
 
 use rlp_format::digits::leading_zero_bytes;
@@ -74,17 +74,4 @@ pub fn list_header_len(len: usize) -> usize
         return 9 - leading_zero_bytes(len as u64);
     }
     1
-}
-
-/// The most bytes that a header and a payload of at most `len` bytes have together: a header has one
-/// byte if `len` is at most 55, else at most nine. `None` if that is 2^64 or more.
-#[inline]
-pub fn max_written_len(len: usize) -> Option<usize>
-    ensures { IfSome result
-        (λ n. (base payload : ℕ) → payload ≤ len → length (written_header base payload) + payload ≤ n) }
-{
-    if len <= SHORT {
-        return Some(1 + len);
-    }
-    len.checked_add(9)
 }

@@ -90,15 +90,6 @@ impl RlpStream {
         Ok(RlpStream::new_with_buffer(alloc, buffer))
     }
 
-    /// An empty stream that takes this many bytes without another allocation, or 1,024 bytes if the
-    /// number is `None`.
-    pub(crate) fn with_room(alloc: Global, room: Option<usize>) -> Result<RlpStream, AllocError>
-        ensures state { IfOk result (λ s. s.state ≡ initial_state []) }
-    {
-        let buffer = BytesMut::with_capacity(alloc, room.unwrap_or(STARTING_CAPACITY))?;
-        Ok(RlpStream::new_with_buffer(alloc, buffer))
-    }
-
     /// A stream in which a list is begun, as by [`RlpStream::begin_list`].
     #[tactic(auto, unfolding(rlp_buffer::specs::Streams::Stream::Retains))]
     pub fn new_list(alloc: Global, len: usize) -> Result<RlpStream, AllocError>

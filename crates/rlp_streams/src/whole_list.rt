@@ -1,6 +1,6 @@
 //! Lists of values, each encoded alone.
 
-ghost use Rattle.std.specs.Prelude.{◌≡◌, ◌≤◌, ◌++◌, IfOk, IfSome, OnOk, length, map, All};
+ghost use Rattle.std.specs.Prelude.{◌≡◌, ◌++◌, IfOk, OnOk, map, All};
 ghost use Rattle.rlp_format.specs.Format.Item.{list_of};
 ghost use Rattle.rlp_format.specs.Format.Encoding.{encoding, join};
 ghost use Rattle.rlp_buffer.specs.Streams.Stream.{IsFinished};
@@ -9,22 +9,10 @@ use crate::stream::RlpStream;
 use crate::traits::Encodable;
 use bytes::BytesMut;
 use rlp_buffer::buffer::alone::list_alone;
-use rlp_buffer::header::max_written_len;
 use std::alloc::{AllocError, Global};
 
-// The number of bytes for which room is made if a value has no bound.
+// The number of bytes for which room is made at first.
 const STARTING_CAPACITY: usize = 1024;
-
-/// The sum of the bounds of the values, or `None` if one has none, or if the sum is 2^64 or more.
-fn max_joined_len<E: Encodable>(values: &[E]) -> Option<usize>
-    ensures { IfSome result (λ n. length (join (map E.item values.now)) ≤ n) }
-{
-    let mut sum: usize = 0;
-    for value in values {
-        sum = sum.checked_add(value.max_len()?)?;
-    }
-    Some(sum)
-}
 
 /// Puts the encoding of each value at the end of the top. No list may be open.
 fn put_each<E: Encodable>(s: &mut RlpStream, values: &[E]) -> Result<(), AllocError>
@@ -44,17 +32,12 @@ fn put_each<E: Encodable>(s: &mut RlpStream, values: &[E]) -> Result<(), AllocEr
 /// The encoding of the list of the values. Fails with `AllocError` if memory is refused, or if the
 /// [`Encodable::rlp_append`] of a value fails.
 ///
-/// It makes room once, for the sum of the values' bounds. If a value has no bound, it makes room for
-/// 1,024 bytes, and for more as the values come.
+/// It makes room for 1,024 bytes, and for more as the values come.
 pub fn encoded_list<E: Encodable>(alloc: Global, values: &[E]) -> Result<BytesMut, AllocError>
     ensures fits { OnOk result (All E.fits values.now) }
     ensures bytes { IfOk result (λ b. b.items ≡ encoding (list_of (map E.item values.now))) }
 {
-    let room = match max_joined_len(values) {
-        Some(joined) => max_written_len(joined),
-        None => None,
-    };
-    let mut bytes = BytesMut::with_capacity(alloc, room.unwrap_or(STARTING_CAPACITY))?;
+    let mut bytes = BytesMut::with_capacity(alloc, STARTING_CAPACITY)?;
     bytes.extend_from_slice(&[0])?;
     let mut s = RlpStream::new_with_buffer(alloc, bytes);
     put_each(&mut s, values)?;

@@ -1,6 +1,5 @@
 //! Tests of what is written: values, and streams of calls.
 
-mod bounds;
 mod limits;
 mod long;
 mod streams;

@@ -8,7 +8,7 @@ ghost use Rattle.rlp_buffer.specs.Streams.Held.{Keeps};
 ghost use Rattle.rlp_buffer.specs.Streams.Iterated.{GivesAll};
 
 use super::counted::Buffer;
-use crate::header::{SHORT, STRING, max_written_len, written_header};
+use crate::header::{SHORT, STRING, written_header};
 use bytes::BytesMut;
 use std::alloc::{AllocError, Global};
 
@@ -77,15 +77,6 @@ pub fn encoded_string(alloc: Global, value: &[u8]) -> Result<BytesMut, AllocErro
     bytes.extend_from_slice(header.as_slice())?;
     bytes.extend_from_slice(value)?;
     Ok(BytesMut::from_vec(bytes))
-}
-
-/// The most bytes that the encoding of a string may have: those of the string, and 1 or 9 for its
-/// header. `None` if that is 2^64 or more, which no string in memory has.
-#[inline]
-pub fn max_string_len(value: &[u8]) -> Option<usize>
-    ensures { IfSome result (λ n. length (encoding (string value.now)) ≤ n) }
-{
-    max_written_len(value.len())
 }
 
 /// Writes the bytes that an iterator gives at the end of a buffer. A refused call may leave some.

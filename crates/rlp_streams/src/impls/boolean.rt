@@ -19,10 +19,6 @@ impl Encodable for bool {
         (*self as u64).rlp_append(s)
     }
 
-    fn max_len(&self) -> Option<usize> {
-        Some(1)
-    }
-
     fn rlp_bytes(&self, alloc: Global) -> Result<BytesMut, AllocError> {
         (*self as u64).rlp_bytes(alloc)
     }

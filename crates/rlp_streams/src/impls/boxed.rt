@@ -16,10 +16,6 @@ impl<T: Encodable> Encodable for Box<T> {
         T::rlp_append(self, s)
     }
 
-    fn max_len(&self) -> Option<usize> {
-        T::max_len(self)
-    }
-
     fn rlp_bytes(&self, alloc: Global) -> Result<BytesMut, AllocError> {
         T::rlp_bytes(self, alloc)
     }

@@ -6,7 +6,7 @@ ghost use Rattle.rlp_format.specs.Format.Item.{string};
 use crate::stream::RlpStream;
 use crate::traits::Encodable;
 use bytes::BytesMut;
-use rlp_buffer::buffer::strings::{encoded_string, max_string_len};
+use rlp_buffer::buffer::strings::encoded_string;
 use std::alloc::{AllocError, Global};
 
 /// Writes the string of all `N` bytes.
@@ -20,10 +20,6 @@ impl<const N: usize> Encodable for [u8; N] {
     #[tactic(auto, using(crate::proofs::Streams::Growth::growth))]
     fn rlp_append(&self, s: &mut RlpStream) -> Result<(), AllocError> {
         s.encoder().encode_value(self)
-    }
-
-    fn max_len(&self) -> Option<usize> {
-        max_string_len(self)
     }
 
     fn rlp_bytes(&self, alloc: Global) -> Result<BytesMut, AllocError> {

@@ -6,7 +6,7 @@ ghost use Rattle.rlp_format.specs.Format.Item.{string};
 use crate::stream::RlpStream;
 use crate::traits::Encodable;
 use bytes::{Bytes, BytesMut};
-use rlp_buffer::buffer::strings::{encoded_string, max_string_len};
+use rlp_buffer::buffer::strings::encoded_string;
 use std::alloc::{AllocError, Global};
 
 impl Encodable for Bytes {
@@ -19,10 +19,6 @@ impl Encodable for Bytes {
     #[tactic(auto, using(crate::proofs::Streams::Growth::growth))]
     fn rlp_append(&self, s: &mut RlpStream) -> Result<(), AllocError> {
         s.encoder().encode_value(self.as_slice())
-    }
-
-    fn max_len(&self) -> Option<usize> {
-        max_string_len(self.as_slice())
     }
 
     fn rlp_bytes(&self, alloc: Global) -> Result<BytesMut, AllocError> {

@@ -1,6 +1,6 @@
 //! Numbers: written as the string of their digits to the base 256, the most significant first.
 
-ghost use Rattle.std.specs.Prelude.{◌<◌, ⊤};
+ghost use Rattle.std.specs.Prelude.{⊤};
 ghost use Rattle.rlp_format.specs.Values.Value.{FitsBytes, number_item};
 
 use crate::stream::RlpStream;
@@ -21,12 +21,6 @@ impl Encodable for u8 {
         (*self as u64).rlp_append(s)
     }
 
-    #[tactic(auto, using(crate::proofs::Values::Bounds::number_bounds))]
-    fn max_len(&self) -> Option<usize> {
-        let _number = *self;
-        Some(2)
-    }
-
     fn rlp_bytes(&self, alloc: Global) -> Result<BytesMut, AllocError> {
         (*self as u64).rlp_bytes(alloc)
     }
@@ -43,12 +37,6 @@ impl Encodable for u16 {
         (*self as u64).rlp_append(s)
     }
 
-    #[tactic(auto, using(crate::proofs::Values::Bounds::number_bounds))]
-    fn max_len(&self) -> Option<usize> {
-        let _number = *self;
-        Some(3)
-    }
-
     fn rlp_bytes(&self, alloc: Global) -> Result<BytesMut, AllocError> {
         (*self as u64).rlp_bytes(alloc)
     }
@@ -63,12 +51,6 @@ impl Encodable for u32 {
 
     fn rlp_append(&self, s: &mut RlpStream) -> Result<(), AllocError> {
         (*self as u64).rlp_append(s)
-    }
-
-    #[tactic(auto, using(crate::proofs::Values::Bounds::number_bounds))]
-    fn max_len(&self) -> Option<usize> {
-        let _number = *self;
-        Some(5)
     }
 
     fn rlp_bytes(&self, alloc: Global) -> Result<BytesMut, AllocError> {
@@ -88,12 +70,6 @@ impl Encodable for u64 {
         s.encoder().encode_value(Digits::of(*self).as_slice())
     }
 
-    #[tactic(auto, using(crate::proofs::Values::Bounds::number_bounds))]
-    fn max_len(&self) -> Option<usize> {
-        let _number = *self;
-        Some(9)
-    }
-
     fn rlp_bytes(&self, alloc: Global) -> Result<BytesMut, AllocError> {
         encoded_string(alloc, Digits::of(*self).as_slice())
     }
@@ -108,12 +84,6 @@ impl Encodable for usize {
 
     fn rlp_append(&self, s: &mut RlpStream) -> Result<(), AllocError> {
         (*self as u64).rlp_append(s)
-    }
-
-    #[tactic(auto, using(crate::proofs::Values::Bounds::number_bounds))]
-    fn max_len(&self) -> Option<usize> {
-        let _number = *self;
-        Some(9)
     }
 
     fn rlp_bytes(&self, alloc: Global) -> Result<BytesMut, AllocError> {
@@ -131,12 +101,6 @@ impl Encodable for u128 {
     #[tactic(auto, using(crate::proofs::Streams::Growth::growth))]
     fn rlp_append(&self, s: &mut RlpStream) -> Result<(), AllocError> {
         s.encoder().encode_value(Digits::of_wide(*self).as_slice())
-    }
-
-    #[tactic(auto, using(crate::proofs::Values::Bounds::number_bounds))]
-    fn max_len(&self) -> Option<usize> {
-        let _number = *self;
-        Some(17)
     }
 
     fn rlp_bytes(&self, alloc: Global) -> Result<BytesMut, AllocError> {

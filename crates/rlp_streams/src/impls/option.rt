@@ -5,7 +5,6 @@ ghost use Rattle.rlp_format.specs.Values.Value.{option_item};
 
 use crate::stream::RlpStream;
 use crate::traits::Encodable;
-use rlp_buffer::header::max_written_len;
 use std::alloc::AllocError;
 
 impl<T: Encodable> Encodable for Option<T> {
@@ -26,12 +25,5 @@ impl<T: Encodable> Encodable for Option<T> {
             }
         }
         Ok(())
-    }
-
-    fn max_len(&self) -> Option<usize> {
-        match self {
-            None => Some(1),
-            Some(value) => max_written_len(value.max_len()?),
-        }
     }
 }

@@ -7,7 +7,7 @@ ghost use Rattle.rlp_format.specs.Format.Item.{string};
 use crate::stream::RlpStream;
 use crate::traits::Encodable;
 use bytes::BytesMut;
-use rlp_buffer::buffer::strings::{encoded_string, max_string_len};
+use rlp_buffer::buffer::strings::encoded_string;
 use std::alloc::{AllocError, Global};
 
 impl Encodable for String {
@@ -20,10 +20,6 @@ impl Encodable for String {
     #[tactic(auto, using(crate::proofs::Streams::Growth::growth))]
     fn rlp_append(&self, s: &mut RlpStream) -> Result<(), AllocError> {
         s.encoder().encode_value(self.as_str().as_bytes())
-    }
-
-    fn max_len(&self) -> Option<usize> {
-        max_string_len(self.as_str().as_bytes())
     }
 
     fn rlp_bytes(&self, alloc: Global) -> Result<BytesMut, AllocError> {
@@ -41,10 +37,6 @@ impl Encodable for &str {
     #[tactic(auto, using(crate::proofs::Streams::Growth::growth))]
     fn rlp_append(&self, s: &mut RlpStream) -> Result<(), AllocError> {
         s.encoder().encode_value(self.as_bytes())
-    }
-
-    fn max_len(&self) -> Option<usize> {
-        max_string_len(self.as_bytes())
     }
 
     fn rlp_bytes(&self, alloc: Global) -> Result<BytesMut, AllocError> {

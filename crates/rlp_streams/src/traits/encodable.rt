@@ -1,6 +1,6 @@
 //! Types whose values are written.
 
-ghost use Rattle.std.specs.Prelude.{◌≡◌, ◌≤◌, IsOk, OnOk, OnErr, IfOk, IfSome, length};
+ghost use Rattle.std.specs.Prelude.{◌≡◌, IsOk, OnOk, OnErr, IfOk};
 ghost use Rattle.rlp_format.specs.Format.Item.{Item};
 ghost use Rattle.rlp_format.specs.Format.Encoding.{encoding};
 ghost use Rattle.rlp_buffer.specs.Streams.Stream.{HasRoomFor, Retains, put_item};
@@ -62,26 +62,16 @@ pub trait Encodable {
         ensures refused { OnErr result (GrowsTo s.old.state s.new.state) }
         ensures retains { Retains s.old s.new };
 
-    /// An upper bound of the number of bytes of the value's encoding, if the type knows one. By
-    /// default it is `None`. A call that encodes the value alone, or in a list alone, first takes
-    /// memory for this number of bytes, so the bound should be close to the length.
-    fn max_len(&self) -> Option<usize>
-        ensures { IfSome result (λ n. length (encoding (item self.now)) ≤ n) }
-    {
-        None
-    }
-
     /// Returns the encoding of the value. Fails with `AllocError` if memory is refused, or if
     /// [`Encodable::rlp_append`] fails.
     ///
-    /// The default body writes into a stream with room for [`Encodable::max_len`] bytes, or for
-    /// 1,024 if that is `None`. The provided types that are strings make one request for memory, of
-    /// the encoding's length.
+    /// The default body writes into a stream with room for 1,024 bytes. The provided types that are
+    /// strings make one request for memory, of the encoding's length.
     fn rlp_bytes(&self, alloc: Global) -> Result<BytesMut, AllocError>
         ensures fits { OnOk result (fits self.now) }
         ensures bytes { IfOk result (λ b. b.items ≡ encoding (item self.now)) }
     {
-        let mut s = RlpStream::with_room(alloc, self.max_len())?;
+        let mut s = RlpStream::new(alloc)?;
         self.rlp_append(&mut s)?;
         Ok(s.out())
     }

@@ -38,10 +38,9 @@ fn what_is_made(rt: HostRuntime) -> Result<(), Fail> {
     Ok(())
 }
 
-// Values whose bound is known. Each call but the last makes one request for memory, and the last
-// makes two: the option is a list, which the stream opens.
+// Numbers that need more room than a new stream has, and strings, each of one request, and an option.
 #[test]
-fn what_is_encoded_at_once(rt: HostRuntime) -> Result<(), Fail> {
+fn what_is_encoded(rt: HostRuntime) -> Result<(), Fail> {
     let alloc = rt.alloc();
     let numbers = [u64::MAX; 500];
     let list = rlp::encode_list(alloc, numbers.as_slice())?;

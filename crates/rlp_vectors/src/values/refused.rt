@@ -9,11 +9,11 @@ use std::cell::Cell;
 use std::test::Fail;
 
 /// A number, and the number of times that it was written. It is refused the first time, in the
-/// middle of its bytes. Its bound is that of the number.
+/// middle of its bytes.
 #[derive(Drop)]
-pub(crate) struct OnceRefused<'a> {
-    pub(crate) number: u64,
-    pub(crate) calls: &'a Cell<usize>,
+struct OnceRefused<'a> {
+    number: u64,
+    calls: &'a Cell<usize>,
 }
 
 impl<'a> Encodable for OnceRefused<'a> {
@@ -32,10 +32,6 @@ impl<'a> Encodable for OnceRefused<'a> {
             return Err(AllocError);
         }
         self.number.rlp_append(s)
-    }
-
-    fn max_len(&self) -> Option<usize> {
-        self.number.max_len()
     }
 }
 

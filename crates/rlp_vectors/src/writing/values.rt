@@ -38,9 +38,15 @@ const U128: [(u128, &str); 3] = [
     (0xffffffffffffffff, "88ffffffffffffffff"),
 ];
 
+const USIZE: [(usize, &str); 1] = [(usize::MAX, "88ffffffffffffffff")];
+
 const TRUTHS: [(bool, &str); 2] = [(false, "80"), (true, "01")];
 
 const OPTIONS: [(Option<&str>, &str); 2] = [(Some("cat"), "c483636174"), (None, "c0")];
+
+const NESTED: [(Option<Option<&str>>, &str); 1] = [(Some(Some("cat")), "c5c483636174")];
+
+const LONG_OPTIONS: [(Option<[u8; 55]>, &str); 1] = [(Some([0x61; 55]), "f838b7+61*55")];
 
 const PAIRS: [(Pair, &str); 1] = [(Pair(1, 256), "c401820100")];
 
@@ -52,9 +58,12 @@ fn numbers_options_and_pairs(rt: HostRuntime) -> Result<(), Fail> {
     assert_eq!(rt; first_unwritten(alloc, &U32)?, None);
     assert_eq!(rt; first_unwritten(alloc, &U64)?, None);
     assert_eq!(rt; first_unwritten(alloc, &U128)?, None);
+    assert_eq!(rt; first_unwritten(alloc, &USIZE)?, None);
     assert_eq!(rt; first_unwritten(alloc, &TRUTHS)?, None);
     assert!(rt; rlp::decode::<bool>(alloc, &[0x02]).is_err());
     assert_eq!(rt; first_unwritten(alloc, &OPTIONS)?, None);
+    assert_eq!(rt; first_unwritten(alloc, &NESTED)?, None);
+    assert_eq!(rt; first_unwritten(alloc, &LONG_OPTIONS)?, None);
     assert_eq!(rt; first_unwritten(alloc, &PAIRS)?, None);
     Ok(())
 }
