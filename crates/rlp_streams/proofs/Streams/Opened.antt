@@ -3,7 +3,7 @@ use Rattle.std.proofs.Common.{◌≡◌, ℕ, zero, suc, ◌<◌, true, List, []
 use Rattle.rlp_format.specs.Format.WrittenHeader.{big_endian, written_header}
 use Rattle.rlp_format.specs.Format.Item.{list_of}
 use Rattle.rlp_format.specs.Format.Encoding.{encoding, join_items}
-use Rattle.rlp_buffer.specs.Streams.Stream.{State, Seen, HasRoomFor, raw_text, put, count, with_list, with_mark}
+use Rattle.rlp_buffer.specs.Streams.Stream.{State, Seen, HasRoomFor, raw_text, put, count, with_list, with_is_counted}
 use Rattle.rlp_buffer.specs.Streams.Calls.{with_list_of}
 
 -- the encoding of the list of no items
@@ -12,9 +12,9 @@ unfolding encoding join_items written_header big_endian
 empty_list = refl
 
 -- a list of no items
-pub opened_none : (n : ℕ) (s : State) → n ≡ 0 → with_mark true (count 1 (put (0xc0 ∷ []) s)) ≡ with_list_of n s
+pub opened_none : (n : ℕ) (s : State) → n ≡ 0 → with_is_counted true (count 1 (put (0xc0 ∷ []) s)) ≡ with_list_of n s
 opened_none n s e =
-    ap (λ (b : List ℕ). with_mark true (count 1 (put b s))) (sym empty_list) ∙ ap (λ m. with_list_of m s) (sym e)
+    ap (λ (b : List ℕ). with_is_counted true (count 1 (put b s))) (sym empty_list) ∙ ap (λ m. with_list_of m s) (sym e)
 
 -- a list that awaits some items is opened
 pub opened_some : (n : ℕ) (s : State) → 0 < n → with_list (Some n) s ≡ with_list_of n s
