@@ -116,6 +116,7 @@ impl RlpStream {
     pub fn new_with_buffer(alloc: Global, buffer: BytesMut) -> RlpStream
         ensures state { result.state ≡ initial_state buffer.items }
         ensures spare { result.spare ≡ buffer.spare }
+        ensures moved { IfOk result (λ s. s.moved ≡ 0) }
         ensures spare_lists { result.spare_lists ≡ 0 }
         ensures moved { result.moved ≡ 0 }
     {
@@ -149,6 +150,7 @@ impl RlpStream {
             Err(_) => Err(s.out()),
         }
     }
+        ensures moved { IfOk result (λ s. s.moved ≡ 0) }
 
     /// Appends a value: puts its encoding, and counts one item in the innermost open list.
     ///
@@ -310,6 +312,7 @@ impl RlpStream {
     /// Begins an unbounded list, which [`RlpStream::finalize_unbounded_list`] closes.
     pub fn begin_unbounded_list(&mut self) -> Result<Chain<'_>, AllocError>
         ensures* refused { sem 𝓛 (rests_if_refused self.entry result) }
+        ensures not_moved { 0 < len → IfOk result (λ c. c.stream.now.moved ≡ self.old.moved) }
         ensures ok { LeavesState result (effect begin_unbounded_list self.old.state) }
         ensures room { 1 ≤ self.old.spare → 1 ≤ self.old.spare_lists → IsOk result }
         ensures moved { MovesWithin self.old result }

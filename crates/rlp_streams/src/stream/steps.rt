@@ -118,6 +118,8 @@ impl RlpStream {
         ensures room_finished { IsFinished self.old.state → len ≡ 0 → 1 ≤ self.old.spare
             → IsOk result }
         ensures moved { self.new.moved ≤ self.old.moved + closed_size self.new.state }
+        ensures not_moved { 0 < len → self.new.moved ≡ self.old.moved }
+        ensures not_moved_finished { IsFinished self.old.state → self.new.moved ≡ self.old.moved }
         ensures retains { Retains self.old self.new }
     {
         if len == 0 {
@@ -140,6 +142,7 @@ impl RlpStream {
         ensures has_room { HasRoomFor self.old (count items (put bytes.now self.old.state))
             → IsOk result }
         ensures moved { self.new.moved ≤ self.old.moved + closed_size self.new.state }
+        ensures not_moved { IsFinished self.old.state → self.new.moved ≡ self.old.moved }
         ensures retains { Retains self.old self.new }
     {
         let open = !self.lists.is_empty();
