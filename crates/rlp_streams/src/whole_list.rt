@@ -44,9 +44,14 @@ fn put_each<E: Encodable>(s: &mut RlpStream, values: &[E]) -> Result<(), AllocEr
 /// The encoding of the list of the values. Fails with `AllocError` if memory is refused, or if the
 /// [`Encodable::rlp_append`] of a value fails.
 ///
-/// It makes room once, for the sum of the values' bounds. If a value has no bound, it makes room for
-/// 1,024 bytes, and for more as the values come.
-pub fn encoded_list<E: Encodable>(alloc: Global, values: &[E]) -> Result<BytesMut, AllocError>
+/// It makes room once, for the sum of [`Encodable::max_len`] of the values. If a value has no bound,
+/// it makes room for 1,024 bytes, and for more as the values come. If the room for the bounds is
+/// refused, it makes room as the values come.
+///
+/// ```rust
+/// assert_eq!(rt; rlp::encode_list(alloc, &["cat", "dog"])?.len(), 9);
+/// ```
+pub fn encode_list<E: Encodable>(alloc: Global, values: &[E]) -> Result<BytesMut, AllocError>
     ensures fits { OnOk result (All E.fits values.now) }
     ensures bytes { IfOk result (λ b. b.items ≡ encoding (list_of (map E.item values.now))) }
 {
