@@ -33,6 +33,18 @@ use std::marker::Model;
 // The number of bytes that a new stream takes without another allocation.
 const STARTING_CAPACITY: usize = 1024;
 
+/// An empty buffer that takes this many bytes without another allocation, or 1,024 bytes if the
+/// number is `None`. If so much memory is refused, it has no room yet: the number is only an upper
+/// bound, and the bytes to come may be few.
+pub(crate) fn buffer_with_room(alloc: Global, room: Option<usize>) -> BytesMut
+    ensures { result.items ≡ [] }
+{
+    match BytesMut::with_capacity(alloc, room.unwrap_or(STARTING_CAPACITY)) {
+        Ok(buffer) => buffer,
+        Err(_) => BytesMut::new(alloc),
+    }
+}
+
 /// A stream of encodings, which grows as values are appended.
 ///
 /// A list is opened with the number of items that it awaits, and its last item closes it. An
@@ -91,13 +103,11 @@ impl RlpStream {
         Ok(RlpStream::new_with_buffer(alloc, buffer))
     }
 
-    /// An empty stream that takes this many bytes without another allocation, or 1,024 bytes if the
-    /// number is `None`.
-    pub(crate) fn with_room(alloc: Global, room: Option<usize>) -> Result<RlpStream, AllocError>
-        ensures state { IfOk result (λ s. s.state ≡ initial_state []) }
+    /// An empty stream with the room of [`buffer_with_room`].
+    pub(crate) fn with_room(alloc: Global, room: Option<usize>) -> RlpStream
+        ensures state { result.state ≡ initial_state [] }
     {
-        let buffer = BytesMut::with_capacity(alloc, room.unwrap_or(STARTING_CAPACITY))?;
-        Ok(RlpStream::new_with_buffer(alloc, buffer))
+        RlpStream::new_with_buffer(alloc, buffer_with_room(alloc, room))
     }
 
     /// A stream in which a list is begun, as by [`RlpStream::begin_list`].
@@ -106,6 +116,7 @@ impl RlpStream {
         ensures state { IfOk result
             (λ s. s.state ≡ effect (begin_list len) (initial_state [])) }
         ensures room { IfOk result (λ s. 1024 ≤ room s) }
+        ensures moved { IfOk result (λ s. s.moved ≡ 0) }
     {
         let mut s = RlpStream::new(alloc)?;
         s.try_begin(len)?;
@@ -116,7 +127,6 @@ impl RlpStream {
     pub fn new_with_buffer(alloc: Global, buffer: BytesMut) -> RlpStream
         ensures state { result.state ≡ initial_state buffer.items }
         ensures spare { result.spare ≡ buffer.spare }
-        ensures moved { IfOk result (λ s. s.moved ≡ 0) }
         ensures spare_lists { result.spare_lists ≡ 0 }
         ensures moved { result.moved ≡ 0 }
     {
@@ -140,6 +150,7 @@ impl RlpStream {
         ensures ok { IfOk result
             (λ s. s.state ≡ effect (begin_list len) (initial_state buffer.items)) }
         ensures room { IfOk result (λ s. length buffer.items + buffer.spare ≤ room s) }
+        ensures moved { IfOk result (λ s. s.moved ≡ 0) }
         ensures room_at_once { len ≡ 0 → 1 ≤ buffer.spare → IsOk result }
         ensures refused { IfErr result (λ b. b.items ≡ buffer.items) }
         ensures spare { IfErr result (λ b. buffer.spare ≤ b.spare) }
@@ -150,7 +161,6 @@ impl RlpStream {
             Err(_) => Err(s.out()),
         }
     }
-        ensures moved { IfOk result (λ s. s.moved ≡ 0) }
 
     /// Appends a value: puts its encoding, and counts one item in the innermost open list.
     ///
@@ -302,6 +312,7 @@ impl RlpStream {
         ensures room_at_once { len ≡ 0
             → HasRoomFor self.old (effect (begin_list 0) self.old.state) → IsOk result }
         ensures moved { MovesWithin self.old result }
+        ensures not_moved { 0 < len → IfOk result (λ c. c.stream.now.moved ≡ self.old.moved) }
         ensures retains { RetainsInChain self.old result }
         ensures same_stream { HoldsStream self.entry result }
     {
@@ -312,7 +323,6 @@ impl RlpStream {
     /// Begins an unbounded list, which [`RlpStream::finalize_unbounded_list`] closes.
     pub fn begin_unbounded_list(&mut self) -> Result<Chain<'_>, AllocError>
         ensures* refused { sem 𝓛 (rests_if_refused self.entry result) }
-        ensures not_moved { 0 < len → IfOk result (λ c. c.stream.now.moved ≡ self.old.moved) }
         ensures ok { LeavesState result (effect begin_unbounded_list self.old.state) }
         ensures room { 1 ≤ self.old.spare → 1 ≤ self.old.spare_lists → IsOk result }
         ensures moved { MovesWithin self.old result }

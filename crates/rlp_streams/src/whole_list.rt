@@ -5,15 +5,12 @@ ghost use Rattle.rlp_format.specs.Format.Item.{list_of};
 ghost use Rattle.rlp_format.specs.Format.Encoding.{encoding, join};
 ghost use Rattle.rlp_buffer.specs.Streams.Stream.{IsFinished};
 
-use crate::stream::RlpStream;
+use crate::stream::{RlpStream, buffer_with_room};
 use crate::traits::Encodable;
 use bytes::BytesMut;
 use rlp_buffer::buffer::alone::list_alone;
 use rlp_buffer::header::max_written_len;
 use std::alloc::{AllocError, Global};
-
-// The number of bytes for which room is made if a value has no bound.
-const STARTING_CAPACITY: usize = 1024;
 
 /// The sum of the bounds of the values, or `None` if one has none, or if the sum is 2^64 or more.
 fn max_joined_len<E: Encodable>(values: &[E]) -> Option<usize>
@@ -59,7 +56,7 @@ pub fn encode_list<E: Encodable>(alloc: Global, values: &[E]) -> Result<BytesMut
         Some(joined) => max_written_len(joined),
         None => None,
     };
-    let mut bytes = BytesMut::with_capacity(alloc, room.unwrap_or(STARTING_CAPACITY))?;
+    let mut bytes = buffer_with_room(alloc, room);
     bytes.extend_from_slice(&[0])?;
     let mut s = RlpStream::new_with_buffer(alloc, bytes);
     put_each(&mut s, values)?;

@@ -135,6 +135,11 @@ impl Encodable for RawItem {
     }
 
     #[tactic(auto, using(crate::specs::Lemmas::RawItems::raw_writing))]
+    fn max_len(&self) -> Option<usize> {
+        Some(self.as_bytes().len())
+    }
+
+    #[tactic(auto, using(crate::specs::Lemmas::RawItems::raw_writing))]
     fn rlp_bytes(&self, alloc: Global) -> Result<BytesMut, AllocError> {
         BytesMut::copy_from_slice(alloc, self.as_bytes())
     }

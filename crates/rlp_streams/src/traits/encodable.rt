@@ -64,7 +64,8 @@ pub trait Encodable {
 
     /// An upper bound of the number of bytes of the value's encoding, if the type knows one. By
     /// default it is `None`. A call that encodes the value alone, or in a list alone, first takes
-    /// memory for this number of bytes, so the bound should be close to the length.
+    /// memory for this number of bytes, so the bound should be close to the length. If so much
+    /// memory is refused, the call goes on, and takes memory as the bytes come.
     fn max_len(&self) -> Option<usize>
         ensures { IfSome result (λ n. length (encoding (item self.now)) ≤ n) }
     {
@@ -81,7 +82,7 @@ pub trait Encodable {
         ensures fits { OnOk result (fits self.now) }
         ensures bytes { IfOk result (λ b. b.items ≡ encoding (item self.now)) }
     {
-        let mut s = RlpStream::with_room(alloc, self.max_len())?;
+        let mut s = RlpStream::with_room(alloc, self.max_len());
         self.rlp_append(&mut s)?;
         Ok(s.out())
     }

@@ -3,11 +3,37 @@
 use crate::support::text::bytes_of;
 use crate::values::refused::OnceRefused;
 use bytes::{Bytes, BytesMut};
-use rlp::{Decodable, Encodable, Uint};
+use rlp::{Decodable, Encodable, RawItem, RlpStream, Uint};
 use rlp_examples::Pair;
 use std::alloc::{AllocError, Global};
 use std::cell::Cell;
 use std::test::Fail;
+
+/// A number whose bound is at least `most`, though its encoding has nine bytes or fewer.
+#[derive(Clone, Copy)]
+struct Overestimated {
+    number: u64,
+    most: usize,
+}
+
+impl Encodable for Overestimated {
+    ghost use Rattle.rlp.specs.Values.Value.{FitsBytes, number_item};
+
+    ghost item = { λ v. number_item v.number };
+
+    ghost fits = { λ v. FitsBytes 8 v.number };
+
+    fn rlp_append(&self, s: &mut RlpStream) -> Result<(), AllocError> {
+        self.number.rlp_append(s)
+    }
+
+    fn max_len(&self) -> Option<usize> {
+        match self.number.max_len() {
+            Some(len) if len < self.most => Some(self.most),
+            bound => bound,
+        }
+    }
+}
 
 /// Returns whether a value has this bound, and its encoding has this length.
 fn is_bounded<E: Encodable>(
@@ -116,6 +142,34 @@ const WIDE: [(Uint<32>, usize, usize); 2] = [
 
 const WIDEST: [(Uint<56>, usize, usize); 1] = [(Uint { bytes: [1; 56] }, 65, 58)];
 
+/// Numbers with bounds that are too large.
+const OVERESTIMATED: [(Overestimated, usize, usize); 3] = [
+    (
+        Overestimated {
+            number: 5,
+            most: usize::MAX,
+        },
+        usize::MAX,
+        1,
+    ),
+    (
+        Overestimated {
+            number: 256,
+            most: 1 << 62,
+        },
+        1 << 62,
+        3,
+    ),
+    (
+        Overestimated {
+            number: 5,
+            most: 10,
+        },
+        10,
+        1,
+    ),
+];
+
 /// Arrays, an empty text, and options.
 const SHORT: [([u8; 32], usize, usize); 1] = [([0x61; 32], 33, 33)];
 
@@ -161,5 +215,26 @@ fn bounds_of_texts_arrays_and_options(rt: HostRuntime) -> Result<(), Fail> {
     assert_eq!(rt; first_unbounded(alloc, &STRING_OPTIONS)?, None);
     assert_eq!(rt; first_unbounded(alloc, &NESTED)?, None);
     assert!(rt; Pair(1, 2).max_len().is_none() && Some(Pair(1, 2)).max_len().is_none());
+    Ok(())
+}
+
+#[test]
+fn bounds_of_raw_items(rt: HostRuntime) -> Result<(), Fail> {
+    let alloc = rt.alloc();
+    assert!(rt; is_bounded(alloc, &RawItem::new(alloc, &[0x80])?, 1, 1)?);
+    assert!(rt; is_bounded(alloc, &RawItem::new(alloc, &[0xc2, 0x05, 0x06])?, 3, 3)?);
+    Ok(())
+}
+
+// No memory has room for these bounds.
+#[test]
+fn bounds_that_are_too_large(rt: HostRuntime) -> Result<(), Fail> {
+    let alloc = rt.alloc();
+    assert_eq!(rt; first_unbounded(alloc, &OVERESTIMATED)?, None);
+    let listed = rlp::encode_list(alloc, &[OVERESTIMATED[1].0, OVERESTIMATED[2].0])?;
+    assert_eq!(rt;
+        listed.as_slice(),
+        [0xc4, 0x82, 0x01, 0x00, 0x05].as_slice()
+    );
     Ok(())
 }
