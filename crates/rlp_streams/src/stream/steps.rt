@@ -162,7 +162,12 @@ impl RlpStream {
     }
 
     /// Closes the `count` innermost lists, which are unbounded, one after another, and counts each
-    /// in the list around it. It does what the last item does in lists that each await one.
+    /// in the list around it.
+    ///
+    /// An item that is counted in a list that awaits one item closes it, and the list is then
+    /// counted in the list around it. So each of the lists is made to await one item, and one item
+    /// is counted: that closes them all in one pass. If memory is refused, they are made unbounded
+    /// again.
     #[tactic(auto, unfolding(rlp_buffer::specs::Streams::Stream::Retains))]
     pub(super) fn try_finalize(&mut self, count: usize) -> Result<(), AllocError>
         requires some { 0 < count }
