@@ -8,7 +8,7 @@ use Rattle.rlp_format.specs.Format.Encoding.{encoding}
 use Rattle.rlp_format.specs.Format.WrittenHeader.{written_header}
 use Rattle.rlp_buffer.specs.declared.open_lists.Placeholder.{Placeholder}
 use Rattle.rlp_buffer.specs.Streams.Stack.{OpenList, Stack, is_counted_after, unbounded_count, is_last, awaits_after, count_around}
-use Rattle.rlp_buffer.specs.Streams.Stream.{State, Seen, Retains, HasRoomFor, IsFinished, raw_text, list_encoding, put, put_item, add}
+use Rattle.rlp_buffer.specs.Streams.Stream.{State, Seen, Retains, HasRoomFor, IsFinished, raw_text, list_encoding, put, put_item, add, add_all}
 use Rattle.rlp_buffer.specs.Streams.Stream.{with_list, count}
 use Rattle.rlp_buffer.specs.Streams.Calls.{finalized}
 use Rattle.rlp_buffer.specs.Streams.Placeholders.{lists_of, IsLaid}
@@ -117,6 +117,18 @@ raw_count k f p (l ∷ ls) m =
       header_some (length p),
     ))
     (λ _. omega (arith, counted_in l.awaits, counted_in (awaits_after k l.awaits)))
+
+-- an item that is added leaves all bytes, and its own are more
+pub raw_add : (x : Item) (s : State) → length (raw_text s) + length (encoding x) ≤ length (raw_text (add x s))
+unfolding state_with
+raw_add x s =
+    let more = raw_count 1 s.front (s.stack.inner ++ encoding x) s.stack.lists s.is_counted in
+    omega (arith, more, ap length (raw_text-put (encoding x) s), length-append (raw_text s) (encoding x))
+
+-- so do further items
+pub raw_add_all : (xs : List Item) (s : State) → length (raw_text s) ≤ length (raw_text (add_all xs s))
+raw_add_all [] s = omega arith
+raw_add_all (x ∷ xs) s = omega (arith, raw_add x s, raw_add_all xs (add x s))
 
 -- a stream with room for an item that is added has room for it put
 pub room_to_put : (x : Item) (v : Seen) → HasRoomFor v (add x v.state) → HasRoomFor v (put_item x v.state)
