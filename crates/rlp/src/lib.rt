@@ -12,8 +12,7 @@
 //! ```
 #![tactic(auto)]
 
-ghost use Rattle.std.specs.Prelude.{◌≡◌, IfOk, IfErr, OnOk, ◌⊎◌, map, All};
-ghost use Rattle.rlp_format.specs.Format.Item.{list_of};
+ghost use Rattle.std.specs.Prelude.{◌≡◌, IfOk, IfErr, OnOk, ◌⊎◌};
 ghost use Rattle.rlp_format.specs.Format.Encoding.{encoding};
 ghost use Rattle.rlp_format.specs.declared.error.DecoderError.TheVariants.{OutOfMemory};
 ghost use Rattle.rlp.specs.Values.ListReading.{FaultsAsList, GivesList, MayLackAsList};
@@ -28,11 +27,10 @@ mod traits;
 use bytes::BytesMut;
 pub use impls::RawItem;
 pub use rlp_format::{DecoderError, PayloadInfo, Prototype};
-use rlp_streams::encoded_list;
 pub use rlp_streams::{
     AppendFields, BasicEncoder, Chain, EMPTY_LIST_RLP, Each, Encodable, Flattened, ListOf,
-    NULL_RLP, Optional, OptionalGroupOf, OptionalListOf, RlpStream, Uint, write_envelope,
-    write_struct,
+    NULL_RLP, Optional, OptionalGroupOf, OptionalListOf, RlpStream, Uint, encode_list,
+    write_envelope, write_struct,
 };
 pub use rlpin::{BasicDecoder, Envelope, Fields, Rlp, RlpIterator};
 use std::alloc::{AllocError, Global};
@@ -54,19 +52,6 @@ pub fn encode<E: Encodable>(alloc: Global, object: &E) -> Result<BytesMut, Alloc
     ensures bytes { IfOk result (λ b. b.items ≡ encoding (E.item object.now)) }
 {
     object.rlp_bytes(alloc)
-}
-
-/// The encoding of the list of the values. Fails as [`encode`] does.
-///
-/// ```rust
-/// assert_eq!(rt; rlp::encode_list(alloc, &["cat", "dog"])?.len(), 9);
-/// ```
-pub fn encode_list<E: Encodable>(alloc: Global, object: &[E]) -> Result<BytesMut, AllocError>
-    ensures fits { OnOk result (All E.fits object.now) }
-    ensures bytes { IfOk result
-        (λ b. b.items ≡ encoding (list_of (map E.item object.now))) }
-{
-    encoded_list(alloc, object)
 }
 
 /// The value that the bytes begin with, read by [`Decodable::decode`] of its type from a lenient

@@ -32,7 +32,7 @@ pub fn is_unbounded(lists: &[Placeholder]) -> bool
 }
 
 /// Sets the number of items that the innermost list awaits.
-pub fn set_innermost(lists: &mut Vec<Placeholder>, awaits: Option<usize>)
+pub(crate) fn set_innermost(lists: &mut Vec<Placeholder>, awaits: Option<usize>)
     ensures lists { reverse lists.new.items
         ≡ with_innermost (λ _. awaits) (reverse lists.old.items) }
     ensures list_room { vec_capacity lists.new ≡ vec_capacity lists.old }
@@ -71,7 +71,7 @@ pub fn set_awaits(lists: &mut Vec<Placeholder>, count: usize, awaits: Option<usi
 }
 
 /// Counts items in the innermost list. It must await more than these.
-pub fn count_innermost(lists: &mut Vec<Placeholder>, items: usize)
+pub(crate) fn count_innermost(lists: &mut Vec<Placeholder>, items: usize)
     ensures lists { reverse lists.new.items
         ≡ with_innermost (awaits_after items) (reverse lists.old.items) }
     ensures list_room { vec_capacity lists.new ≡ vec_capacity lists.old }

@@ -15,22 +15,22 @@ pub struct Place {
     pub open_count: usize,
     /// The number of items that the innermost list awaits.
     pub awaits: Option<usize>,
-    /// The mark: whether the last call closed a list.
-    pub mark: bool,
+    /// Whether the item that was written last is counted already.
+    pub is_counted: bool,
 }
 
 /// Notes the current place of a stream.
-pub fn place_of(buffer: &Buffer, lists: &Vec<Placeholder>, mark: bool) -> Place
+pub fn place_of(buffer: &Buffer, lists: &Vec<Placeholder>, is_counted: bool) -> Place
     ensures len { result.len ≡ length buffer.now.items }
     ensures open { result.open_count ≡ length lists.now.items }
     ensures awaits { result.awaits ≡ innermost_awaits (reverse lists.now.items) }
-    ensures mark { result.mark ≡ mark }
+    ensures is_counted { result.is_counted ≡ is_counted }
 {
     Place {
         len: buffer.len(),
         open_count: lists.len(),
         awaits: innermost_awaits(lists),
-        mark,
+        is_counted,
     }
 }
 

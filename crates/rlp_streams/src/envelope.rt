@@ -3,7 +3,7 @@
 ghost use Rattle.std.specs.Prelude.{◌≡◌, ◌∷◌, OnOk, OnErr};
 ghost use Rattle.rlp_format.specs.Format.Encoding.{encoding};
 ghost use Rattle.rlp_format.specs.Format.Item.{string};
-ghost use Rattle.rlp_buffer.specs.Streams.Stream.{Retains, put_item};
+ghost use Rattle.rlp_buffer.specs.Streams.Stream.{IsAsBefore, Retains, put_item};
 ghost use Rattle.rlp_streams.specs.Streams.Growth.{GrowsTo};
 
 use crate::stream::RlpStream;
@@ -15,7 +15,7 @@ use std::alloc::AllocError;
 /// [`Encodable::rlp_append`] of a type whose values are such strings. It counts no item.
 ///
 /// The payload is written into a buffer of its own first. Fails with `AllocError` if memory is
-/// refused, or if the [`Encodable::rlp_append`] of the payload fails.
+/// refused, or if the [`Encodable::rlp_append`] of the payload fails, and then writes nothing.
 #[tactic(auto, using(crate::proofs::Streams::Filling::filling))]
 pub fn write_envelope<T: Encodable>(
     s: &mut RlpStream,
@@ -25,7 +25,9 @@ pub fn write_envelope<T: Encodable>(
     ensures fits { OnOk result (T.fits payload.now) }
     ensures ok { OnOk result
         (s.new.state ≡ put_item (string (tag ∷ encoding (T.item payload.now))) s.old.state) }
-    ensures refused { OnErr result (GrowsTo s.old.state s.new.state) }
+    ensures refused { OnErr result (IsAsBefore s.old s.new) }
+    // This follows. An `rlp_append` that returns the result needs no lemma for it.
+    ensures grows { OnErr result (GrowsTo s.old.state s.new.state) }
     ensures retains { Retains s.old s.new }
 {
     let mut buffer = BytesMut::new(s.allocator());

@@ -41,7 +41,7 @@ pub fn bytes_go_to_the_end()
 pub fn finished_streams_gain_encodings()
     ensures add { (x : Item) (s : State) → IsFinished s
         → add x s
-        ≡ record { front = s.front; stack = record { inner = s.stack.inner ++ encoding x; lists = [] }; mark = is_list x } }
+        ≡ record { front = s.front; stack = record { inner = s.stack.inner ++ encoding x; lists = [] }; is_counted = is_list x } }
     ensures put_item { (x : Item) (s : State) → IsFinished s
         → (put_item x s).stack ≡ record { inner = s.stack.inner ++ encoding x; lists = [] } }
 {}

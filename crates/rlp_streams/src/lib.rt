@@ -1,5 +1,6 @@
 //! Writing: streams, and values that are appended to them. It depends on `rlp_buffer`, the bytes of
-//! a stream, and on `rlp_format`. Users list `rlp`, which re-exports what they need.
+//! a stream, and on `rlp_format`. Users list `rlp`, which re-exports every public name but
+//! [`append_list_encoding`]: only its `RawItem` may call that.
 #![tactic(auto)]
 
 mod envelope;
@@ -17,7 +18,7 @@ pub use structs::{
     AppendFields, Each, Flattened, ListOf, Optional, OptionalGroupOf, OptionalListOf, write_struct,
 };
 pub use traits::Encodable;
-pub use whole_list::encoded_list;
+pub use whole_list::encode_list;
 
 /// The encoding of the empty string.
 pub const NULL_RLP: [u8; 1] = [0x80];

@@ -40,9 +40,10 @@ const STARTING_CAPACITY: usize = 1024;
 /// may nest. A closed list is one item of the list around it.
 ///
 /// Contracts see its state: the front, which is the bytes handed in, what was written after it, the
-/// open lists, and the mark. They also see how many more bytes the buffer takes without an
+/// open lists, and `is_counted`, which says whether the item that was written last is counted
+/// already. They also see how many more bytes the buffer takes without an
 /// allocation, and how many bytes of payload were moved to make place for headers. A refused call
-/// leaves the state as it was, including the mark.
+/// leaves the state as it was, including `is_counted`.
 ///
 /// ```rust
 /// let mut s = rlp::RlpStream::new_list(alloc, 2)?;
@@ -57,8 +58,8 @@ pub struct RlpStream {
     start: usize,
     // The open lists, from the outside in.
     lists: Vec<Placeholder>,
-    // The mark: whether the last call closed a list, which counted it already.
-    mark: bool,
+    // Whether the item that was written last is counted already, as a closed list is.
+    is_counted: bool,
 }
 
 impl Model for RlpStream {
@@ -70,7 +71,7 @@ impl Model for RlpStream {
     ghost Value = { Seen };
 
     ghost view = { λ s. record {
-      state = state_of s.start s.buffer.items (reverse s.lists.items) s.mark;
+      state = state_of s.start s.buffer.items (reverse s.lists.items) s.is_counted;
       spare = s.buffer.spare;
       spare_lists = vec_capacity s.lists - length (reverse s.lists.items);
       moved = s.buffer.moved;
@@ -96,6 +97,7 @@ impl RlpStream {
         ensures state { IfOk result
             (λ s. s.state ≡ effect (begin_list len) (initial_state [])) }
         ensures room { IfOk result (λ s. 1024 ≤ room s) }
+        ensures moved { IfOk result (λ s. s.moved ≡ 0) }
     {
         let mut s = RlpStream::new(alloc)?;
         s.try_begin(len)?;
@@ -114,7 +116,7 @@ impl RlpStream {
             buffer: Buffer::new(buffer),
             start,
             lists: Vec::new(alloc),
-            mark: false,
+            is_counted: false,
         }
     }
 
@@ -129,6 +131,7 @@ impl RlpStream {
         ensures ok { IfOk result
             (λ s. s.state ≡ effect (begin_list len) (initial_state buffer.items)) }
         ensures room { IfOk result (λ s. length buffer.items + buffer.spare ≤ room s) }
+        ensures moved { IfOk result (λ s. s.moved ≡ 0) }
         ensures room_at_once { len ≡ 0 → 1 ≤ buffer.spare → IsOk result }
         ensures refused { IfErr result (λ b. b.items ≡ buffer.items) }
         ensures spare { IfErr result (λ b. buffer.spare ≤ b.spare) }
@@ -290,6 +293,7 @@ impl RlpStream {
         ensures room_at_once { len ≡ 0
             → HasRoomFor self.old (effect (begin_list 0) self.old.state) → IsOk result }
         ensures moved { MovesWithin self.old result }
+        ensures not_moved { 0 < len → IfOk result (λ c. c.stream.now.moved ≡ self.old.moved) }
         ensures retains { RetainsInChain self.old result }
         ensures same_stream { HoldsStream self.entry result }
     {
@@ -361,7 +365,7 @@ impl RlpStream {
         Ok(count)
     }
 
-    /// Drops everything that was written and every open list. The front and the mark stay.
+    /// Drops everything that was written and every open list. The front and `is_counted` stay.
     pub fn clear(&mut self)
         ensures state { self.new.state ≡ effect clear self.old.state }
         ensures moved { self.new.moved ≡ self.old.moved }
@@ -447,7 +451,7 @@ impl RlpStream {
             buffer,
             start: _,
             lists: _,
-            mark: _,
+            is_counted: _,
         } = self;
         buffer.into_bytes()
     }

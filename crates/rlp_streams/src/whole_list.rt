@@ -33,7 +33,11 @@ fn put_each<E: Encodable>(s: &mut RlpStream, values: &[E]) -> Result<(), AllocEr
 /// [`Encodable::rlp_append`] of a value fails.
 ///
 /// It makes room for 1,024 bytes, and for more as the values come.
-pub fn encoded_list<E: Encodable>(alloc: Global, values: &[E]) -> Result<BytesMut, AllocError>
+///
+/// ```rust
+/// assert_eq!(rt; rlp::encode_list(alloc, &["cat", "dog"])?.len(), 9);
+/// ```
+pub fn encode_list<E: Encodable>(alloc: Global, values: &[E]) -> Result<BytesMut, AllocError>
     ensures fits { OnOk result (All E.fits values.now) }
     ensures bytes { IfOk result (λ b. b.items ≡ encoding (list_of (map E.item values.now))) }
 {

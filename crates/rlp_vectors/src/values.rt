@@ -2,5 +2,6 @@
 
 mod raw_items;
 pub(crate) mod refused;
+mod structs;
 mod types;
 mod uses;

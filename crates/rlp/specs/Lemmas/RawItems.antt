@@ -19,7 +19,7 @@ use Rattle.rlp_format.specs.Lemmas.Frames.{encoding_framed, frame_front}
 use Rattle.rlp_format.specs.Lemmas.Strings.{string_list, string_only}
 use Rattle.rlp_format.specs.Lemmas.Views.{items_of_list, list_shape}
 use Rattle.rlp_format.proofs.Views.Depths.{depth_of_item, not_list}
-use Rattle.rlp_buffer.specs.Streams.Stream.{State, count, is_list, put, put_item, with_mark}
+use Rattle.rlp_buffer.specs.Streams.Stream.{State, is_list, put, put_item}
 use Rattle.rlp.specs.Lemmas.StringsHeld.{held_begins, held_read}
 use Rattle.rlp.specs.Lemmas.WholeLists.{strict_fault-encoding}
 
@@ -163,21 +163,18 @@ list_by (list ys) b fits is =
 pub string_kind : (b d : List ℕ) → length b < 2 ^ 64 → b ≡ encoding (string d) → begins_as_list b ≡ false
 string_kind b d fits is = list_by (string d) b fits is
 
-put_list : (x : Item) (s : State) → is_list x ≡ true → with_mark true (count 1 (put (encoding x) s)) ≡ put_item x s
-put_list (string d) s is = absurd (let no : ⊥ = cc in no)
-put_list (list xs) s is = refl
-
 put_string : (x : Item) (s : State) → is_list x ≡ false → put (encoding x) s ≡ put_item x s
 put_string (string d) s is = refl
 put_string (list xs) s is = absurd (let no : ⊥ = cc in no)
 
--- what is written for a raw item that begins as a list
-pub raw_list_put : (b : List ℕ) (s : State) → length b < 2 ^ 64 → IsRawItem b → begins_as_list b ≡ true
-    → with_mark true (count 1 (put b s)) ≡ put_item (raw_item_of b) s
-raw_list_put b s fits is begins =
-    let same : encoding (raw_item_of b) ≡ b = raw_encoding b fits is in
-    let kind : is_list (raw_item_of b) ≡ true = sym (list_by (raw_item_of b) b fits (sym same)) ∙ begins in
-    ap (λ c. with_mark true (count 1 (put c s))) (sym same) ∙ put_list (raw_item_of b) s kind
+-- the item of a raw item that begins as a list
+pub raw_list : (b : List ℕ) → length b < 2 ^ 64 → IsRawItem b → begins_as_list b ≡ true → is_list (raw_item_of b) ≡ true
+raw_list b fits is begins = sym (list_by (raw_item_of b) b fits (sym (raw_encoding b fits is))) ∙ begins
+
+-- a raw item that begins as a list is the encoding of one
+pub raw_is_list : (b : List ℕ) → length b < 2 ^ 64 → IsRawItem b → begins_as_list b ≡ true
+    → (x : Item) × (is_list x ≡ true) × (b ≡ encoding x)
+raw_is_list b fits is begins = (raw_item_of b, raw_list b fits is begins, sym (raw_encoding b fits is))
 
 -- what is written for any other raw item
 pub raw_string_put : (b d : List ℕ) (s : State) → length b < 2 ^ 64 → IsRawItem b → begins_as_list b ≡ false → b ≡ encoding (string d)
@@ -203,7 +200,7 @@ raw_string_read b v e fits strict is begins none =
     held_read (strict_view_of b) d e fits whole (subst (λ v. view_string v ≡ Err e) strict none)
 
 -- for the `rlp_append` of a raw item
-pub ruleset raw_writing = (raw_list_put, raw_string_put, raw_string_read, raw_encoding)
+pub ruleset raw_writing = (raw_is_list, raw_list, raw_string_put, raw_string_read, raw_encoding)
 
 -- the value that is read from the first item
 pub raw_given : (v : View) (f : List ℕ) → length f < 2 ^ 64 → Holds v.is_strict v.bytes f → IsRawItem f → GivesValue IsRawItem raw_item_of v f

@@ -5,7 +5,7 @@ use Rattle.std.proofs.lemmas.Bool.{cond_both}
 use Rattle.std.proofs.lemmas.Bool.Decides.{nat_tests}
 use Rattle.std.proofs.lemmas.List.{take-take, take-append-le, drop-append-le, take_at, drop_all, length-take-le, length_push, take-append-drop}
 use Rattle.rlp_buffer.specs.declared.open_lists.Placeholder.{Placeholder}
-use Rattle.rlp_buffer.specs.Streams.Stack.{OpenList, Stack, is_last, awaits_after, count_around, mark_after, unbounded_count, closed_payload_around}
+use Rattle.rlp_buffer.specs.Streams.Stack.{OpenList, Stack, is_last, awaits_after, count_around, is_counted_after, unbounded_count, closed_payload_around}
 use Rattle.rlp_format.specs.Format.WrittenHeader.{written_header}
 use Rattle.rlp_buffer.specs.Streams.Stream.{State, list_encoding, put, with_list, count, raw_text, closed_size}
 use Rattle.rlp_buffer.specs.Streams.Calls.{finalized}
@@ -90,7 +90,7 @@ raw_state start b [] m h = sym (ap (λ t. take start b ++ t) (append-nil (drop s
 raw_state start b (p ∷ ps) m h =
     let around = state_of start (take p.position b) ps m in
     let inside = put (drop (p.position + 1) b) (with_list p.awaits around) in
-    let front : state_of start b (p ∷ ps) m ≡ record inside { front = take start b; mark = m } = refl in
+    let front : state_of start b (p ∷ ps) m ≡ record inside { front = take start b; is_counted = m } = refl in
     let same : raw_text inside ≡ raw_text (state_of start b (p ∷ ps) m) = rw (below_front start b p ps h) refl in
     h.0.placeholder
     ∙ (ap (λ c. c ++ (0 ∷ drop (p.position + 1) b)) (raw_state start (take p.position b) ps m h.1)
@@ -147,7 +147,7 @@ pub laid_counted : (k start : ℕ) (b : List ℕ) (ps : List Placeholder) → Is
 laid_counted k start b ps h = laid_counted_with k start b [] ps h
 
 -- the flat bytes after counting are those of the counted state
-pub state_counted : (k start : ℕ) (b : List ℕ) (ps : List Placeholder) (m n : Bool) → IsLaid start b ps → n ≡ mark_after k (lists_of start b ps) m
+pub state_counted : (k start : ℕ) (b : List ℕ) (ps : List Placeholder) (m n : Bool) → IsLaid start b ps → n ≡ is_counted_after k (lists_of start b ps) m
     → state_of start (closed_bytes (filled k ps) b [] ps) (counted k ps) n ≡ count k (state_of start b ps m)
 state_counted k start b ps m n h e =
     let stack : stack_of start (closed_bytes (filled k ps) b [] ps) (counted k ps)
@@ -155,12 +155,12 @@ state_counted k start b ps m n h e =
     count_laid k start b [] ps h ∙ ap (λ payload. count_around list_encoding k payload (lists_of start b ps)) (append-nil (drop (begin_of start ps) b)) in
     rw (front_closed (filled k ps) start b [] ps h, stack, e) refl
 
--- ---- the mark, and the number of lists that are left
+-- ---- `is_counted`, and the number of lists that are left
 
--- if the mark is true after a count, a list was closed
-pub mark_laid : (k start : ℕ) (b : List ℕ) (p : Placeholder) (ps : List Placeholder) (m : Bool)
-    → mark_after k (lists_of start b (p ∷ ps)) m ≡ nat_lt 0 (filled k (p ∷ ps))
-mark_laid k start b p ps m = by_full (is_last k p.awaits) (filled 1 ps)
+-- if `is_counted` is true after a count, a list was closed
+pub is_counted_laid : (k start : ℕ) (b : List ℕ) (p : Placeholder) (ps : List Placeholder) (m : Bool)
+    → is_counted_after k (lists_of start b (p ∷ ps)) m ≡ nat_lt 0 (filled k (p ∷ ps))
+is_counted_laid k start b p ps m = by_full (is_last k p.awaits) (filled 1 ps)
   where
     by_full : (full : Bool) (n : ℕ) → full ≡ nat_lt 0 (cond full (suc n) 0)
     by_full true n = grind (arith, nat_tests)
@@ -233,17 +233,17 @@ moved_counted k start b ps n old new h moved =
 
 -- ---- rules for the methods of a stream
 
--- the mark after a count, if a list is open
-pub mark_open : (k start : ℕ) (b : List ℕ) (ps : List Placeholder) (m n : Bool) → 0 < length ps → n ≡ nat_lt 0 (filled k ps)
-    → n ≡ mark_after k (lists_of start b ps) m
-mark_open k start b [] m n some e = absurd (let no : 0 < 0 = some in omega arith)
-mark_open k start b (p ∷ ps) m n some e = e ∙ sym (mark_laid k start b p ps m)
+-- `is_counted` after a count, if a list is open
+pub is_counted_open : (k start : ℕ) (b : List ℕ) (ps : List Placeholder) (m n : Bool) → 0 < length ps → n ≡ nat_lt 0 (filled k ps)
+    → n ≡ is_counted_after k (lists_of start b ps) m
+is_counted_open k start b [] m n some e = absurd (let no : 0 < 0 = some in omega arith)
+is_counted_open k start b (p ∷ ps) m n some e = e ∙ sym (is_counted_laid k start b p ps m)
 
 -- the state after bytes were put and items counted
-pub state_put_counted : (k start : ℕ) (b x : List ℕ) (ps : List Placeholder) (m n : Bool) → IsLaid start b ps → n ≡ mark_after k (lists_of start b ps) m
+pub state_put_counted : (k start : ℕ) (b x : List ℕ) (ps : List Placeholder) (m n : Bool) → IsLaid start b ps → n ≡ is_counted_after k (lists_of start b ps) m
     → state_of start (closed_bytes (filled k ps) (b ++ x) [] ps) (counted k ps) n ≡ count k (put x (state_of start b ps m))
 state_put_counted k start b x ps m n h e =
-    state_counted k start (b ++ x) ps m n (laid_append start b x ps h) (e ∙ ap (λ ls. mark_after k ls m) (sym (lists_append start b x ps h)))
+    state_counted k start (b ++ x) ps m n (laid_append start b x ps h) (e ∙ ap (λ ls. is_counted_after k ls m) (sym (lists_append start b x ps h)))
     ∙ ap (count k) (state_put start b x ps m h)
 
 -- a number that isn't 0 is greater than 0
@@ -289,7 +289,7 @@ unbounded_lists start b [] = refl
 unbounded_lists start b (p ∷ ps) = ap (λ n. cond (is_none p.awaits) (suc n) 0) (unbounded_lists start (take p.position b) ps)
 
 abbrev state_with : List ℕ → Stack ℕ → Bool → State
-state_with f s m = record { front = f; stack = s; mark = m }
+state_with f s m = record { front = f; stack = s; is_counted = m }
 
 -- a count in an unbounded list changes nothing
 pub count_unbounded : (p : List ℕ) (ls : List (OpenList ℕ)) → 0 < unbounded_count ls

@@ -7,8 +7,8 @@ use Rattle.rlp_format.specs.Format.Item.{Item, string, list}
 use Rattle.rlp_format.specs.Format.Encoding.{encoding}
 use Rattle.rlp_format.specs.Format.WrittenHeader.{written_header}
 use Rattle.rlp_buffer.specs.declared.open_lists.Placeholder.{Placeholder}
-use Rattle.rlp_buffer.specs.Streams.Stack.{OpenList, Stack, mark_after, unbounded_count, is_last, awaits_after, count_around}
-use Rattle.rlp_buffer.specs.Streams.Stream.{State, Seen, Retains, HasRoomFor, IsFinished, raw_text, list_encoding, put, put_item, add}
+use Rattle.rlp_buffer.specs.Streams.Stack.{OpenList, Stack, is_counted_after, unbounded_count, is_last, awaits_after, count_around}
+use Rattle.rlp_buffer.specs.Streams.Stream.{State, Seen, Retains, HasRoomFor, IsFinished, raw_text, list_encoding, put, put_item, add, add_all}
 use Rattle.rlp_buffer.specs.Streams.Stream.{with_list, count}
 use Rattle.rlp_buffer.specs.Streams.Calls.{finalized}
 use Rattle.rlp_buffer.specs.Streams.Placeholders.{lists_of, IsLaid}
@@ -66,7 +66,7 @@ pub short_to_count : (k start : ℕ) (b x : List ℕ) (ps : List Placeholder) (m
 short_to_count k start b x ps m v laid is short has =
     let before = ap length (raw_state start b ps m laid) in
     let now = ap (λ s. length (raw_text s)) is in
-    let n = mark_after k (lists_of start b ps) m in
+    let n = is_counted_after k (lists_of start b ps) m in
     short_of k start (b ++ x) ps n v (length x) (count k (put x v.state)) (laid_append start b x ps laid) (omega (arith, before, now, length-append b x))
     (state_put_counted k start b x ps m n laid refl ∙ ap (λ s. count k (put x s)) (sym is)) short has
 
@@ -92,14 +92,14 @@ short_to_put x v short has = omega (arith, has.enough, short, ap length (raw_tex
 -- ---- a count removes no byte
 
 state_with : List ℕ → Bool → Stack ℕ → State
-state_with f m s = record { front = f; stack = s; mark = m }
+state_with f m s = record { front = f; stack = s; is_counted = m }
 
 raw_count : (k : ℕ) (f p : List ℕ) (ls : List (OpenList ℕ)) (m : Bool)
     → length (raw_text (state_with f m (record { inner = p; lists = ls }))) ≤ length (raw_text (state_with f m (count_around list_encoding k p ls)))
 unfolding state_with
 raw_count k f p [] m = omega arith
 raw_count k f p (l ∷ ls) m =
-    let around : State = record { front = f; stack = record { inner = l.outer; lists = ls }; mark = m } in
+    let around : State = record { front = f; stack = record { inner = l.outer; lists = ls }; is_counted = m } in
     let closed = raw_count 1 f (l.outer ++ list_encoding p) ls m in
     let counted_in = λ (awaits : Option ℕ). ap length (raw_text-put p (with_list awaits around) ∙ ap (λ b. b ++ p) (raw_text-with_list awaits around)) in
     let put_list = ap length (raw_text-put (list_encoding p) around) in
@@ -118,11 +118,23 @@ raw_count k f p (l ∷ ls) m =
     ))
     (λ _. omega (arith, counted_in l.awaits, counted_in (awaits_after k l.awaits)))
 
+-- an item that is added leaves all bytes, and its own are more
+pub raw_add : (x : Item) (s : State) → length (raw_text s) + length (encoding x) ≤ length (raw_text (add x s))
+unfolding state_with
+raw_add x s =
+    let more = raw_count 1 s.front (s.stack.inner ++ encoding x) s.stack.lists s.is_counted in
+    omega (arith, more, ap length (raw_text-put (encoding x) s), length-append (raw_text s) (encoding x))
+
+-- so do further items
+pub raw_add_all : (xs : List Item) (s : State) → length (raw_text s) ≤ length (raw_text (add_all xs s))
+raw_add_all [] s = omega arith
+raw_add_all (x ∷ xs) s = omega (arith, raw_add x s, raw_add_all xs (add x s))
+
 -- a stream with room for an item that is added has room for it put
 pub room_to_put : (x : Item) (v : Seen) → HasRoomFor v (add x v.state) → HasRoomFor v (put_item x v.state)
 unfolding state_with
 room_to_put (string t) v has =
-    let more = raw_count 1 v.state.front (v.state.stack.inner ++ encoding (string t)) v.state.stack.lists v.state.mark in
+    let more = raw_count 1 v.state.front (v.state.stack.inner ++ encoding (string t)) v.state.stack.lists v.state.is_counted in
     record { enough = omega (arith, more, has.enough); few = omega (arith, more, has.few) }
 room_to_put (list xs) v has = record { enough = has.enough; few = has.few }
 

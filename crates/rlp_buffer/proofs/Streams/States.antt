@@ -15,13 +15,13 @@ use Rattle.rlp_buffer.specs.Streams.Stream.{closed_text, closed_size, closed_siz
 -- ---- the closed text
 
 closed_shut_around : (f : List ℕ) (p : List ℕ) (ls : List (OpenList ℕ)) (m : Bool)
-    → closed_text (shut (record { front = f; stack = record { inner = p; lists = ls }; mark = m })) ≡ closed_payload_around list_encoding p ls
+    → closed_text (shut (record { front = f; stack = record { inner = p; lists = ls }; is_counted = m })) ≡ closed_payload_around list_encoding p ls
 closed_shut_around f p [] m = refl
 closed_shut_around f p (l ∷ ls) m = refl
 
 -- closing a list doesn't change the closed text
 pub closed_text-shut : (s : State) → closed_text (shut s) ≡ closed_text s
-closed_text-shut s = closed_shut_around s.front s.stack.inner s.stack.lists s.mark
+closed_text-shut s = closed_shut_around s.front s.stack.inner s.stack.lists s.is_counted
 
 cond_closed : (b : Bool) (x y : Stack ℕ) (c : List ℕ) → closed_payload_around list_encoding x.inner x.lists ≡ c
     → closed_payload_around list_encoding y.inner y.lists ≡ c
@@ -147,23 +147,23 @@ raw_text-with_list awaits s =
 -- ---- with no list open
 
 add_with : (x : Item) (f p : List ℕ) (ls : List (OpenList ℕ)) (m : Bool) → ls ≡ []
-    → add x (record { front = f; stack = record { inner = p; lists = ls }; mark = m })
-    ≡ record { front = f; stack = record { inner = p ++ encoding x; lists = [] }; mark = is_list x }
+    → add x (record { front = f; stack = record { inner = p; lists = ls }; is_counted = m })
+    ≡ record { front = f; stack = record { inner = p ++ encoding x; lists = [] }; is_counted = is_list x }
 add_with (string t) f p [] m e = refl
 add_with (list xs) f p [] m e = refl
 add_with x f p (l ∷ ls) m e = absurd (let no : ⊥ = cc in no)
 
 -- an item that is added to a finished stream
 pub add-finished : (x : Item) (s : State) → IsFinished s
-    → add x s ≡ record { front = s.front; stack = record { inner = s.stack.inner ++ encoding x; lists = [] }; mark = is_list x }
-add-finished x s e = add_with x s.front s.stack.inner s.stack.lists s.mark e
+    → add x s ≡ record { front = s.front; stack = record { inner = s.stack.inner ++ encoding x; lists = [] }; is_counted = is_list x }
+add-finished x s e = add_with x s.front s.stack.inner s.stack.lists s.is_counted e
 
 put_item_with : (x : Item) (f p : List ℕ) (ls : List (OpenList ℕ)) (m : Bool) → ls ≡ []
-    → (put_item x (record { front = f; stack = record { inner = p; lists = ls }; mark = m })).stack ≡ record { inner = p ++ encoding x; lists = [] }
+    → (put_item x (record { front = f; stack = record { inner = p; lists = ls }; is_counted = m })).stack ≡ record { inner = p ++ encoding x; lists = [] }
 put_item_with (string t) f p [] m e = refl
 put_item_with (list xs) f p [] m e = refl
 put_item_with x f p (l ∷ ls) m e = absurd (let no : ⊥ = cc in no)
 
 -- an item that is put in a finished stream
 pub put_item-finished : (x : Item) (s : State) → IsFinished s → (put_item x s).stack ≡ record { inner = s.stack.inner ++ encoding x; lists = [] }
-put_item-finished x s e = put_item_with x s.front s.stack.inner s.stack.lists s.mark e
+put_item-finished x s e = put_item_with x s.front s.stack.inner s.stack.lists s.is_counted e

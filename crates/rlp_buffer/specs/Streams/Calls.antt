@@ -3,7 +3,7 @@ use Rattle.std.specs.Prelude.{ℕ, zero, suc, ◌+◌, Bool, true, if◌then◌e
 use Rattle.rlp_format.specs.Format.Item.{Item, string, list_of}
 use Rattle.rlp_format.specs.Format.Encoding.{encoding}
 use Rattle.rlp_buffer.specs.Streams.Stack.{empty_stack, has_room, is_unbounded}
-use Rattle.rlp_buffer.specs.Streams.Stream.{State, initial_state, put, shut, count, with_mark, with_list, add, put_item, closed_size}
+use Rattle.rlp_buffer.specs.Streams.Stream.{State, initial_state, put, shut, count, with_is_counted, with_list, add, put_item, closed_size}
 
 -- A call, with its items and bytes. `append` is also the call that appends a list of values, as the list of their items, and the call that appends the bytes of
 -- an iterator, as their string.
@@ -36,7 +36,7 @@ effect (append_raw bytes k) s = count k (put bytes s)
 effect (append_raw_checked bytes k limit) s = if is_within_size bytes limit s then count k (put bytes s) else s
 effect (begin_list n) s = with_list_of n s
 effect begin_unbounded_list s = with_list None s
-effect finalize_unbounded_list s = with_mark true (count 1 (shut s))
+effect finalize_unbounded_list s = with_is_counted true (count 1 (shut s))
 effect (append_internal x) s = put_item x s
 effect (encode_value t) s = put (encoding (string t)) s
 effect clear s = record s { stack = empty_stack }

@@ -11,4 +11,4 @@ stack_of start b ps = record { inner = drop (begin_of start ps) b; lists = lists
 
 -- the front is the first bytes
 abbrev pub state_of : ℕ → List ℕ → List Placeholder → Bool → State
-state_of start b ps mark = record { front = take start b; stack = stack_of start b ps; mark = mark }
+state_of start b ps is_counted = record { front = take start b; stack = stack_of start b ps; is_counted = is_counted }

@@ -91,10 +91,10 @@ count_around wrap k payload (l ∷ ls) =
 abbrev pub stack_count : {A : Type 0} → (List A → List A) → ℕ → Stack A → Stack A
 stack_count wrap k s = count_around wrap k s.inner s.lists
 
--- the mark after k items were counted: whether that closed a list; with no list open it stays
-abbrev pub mark_after : {A : Type 0} → ℕ → List (OpenList A) → Bool → Bool
-mark_after k [] mark = mark
-mark_after k (l ∷ ls) mark = is_last k l.awaits
+-- `is_counted` of a state after k items were counted: whether that closed a list, which is itself an item and counted by now; with no list open it stays
+abbrev pub is_counted_after : {A : Type 0} → ℕ → List (OpenList A) → Bool → Bool
+is_counted_after k [] is_counted = is_counted
+is_counted_after k (l ∷ ls) is_counted = is_last k l.awaits
 
 -- the top's payload after every list was shut, if `payload` is inside them
 abbrev pub closed_payload_around : {A : Type 0} → (List A → List A) → List A → List (OpenList A) → List A

@@ -3,14 +3,15 @@ use Rattle.std.specs.Prelude.{ℕ, ◌≡◌, ◌+◌, ◌^◌, ◌<◌, ◌≤�
 use Rattle.rlp_format.specs.Format.WrittenHeader.{written_header}
 use Rattle.rlp_format.specs.Format.Item.{Item, string, list}
 use Rattle.rlp_format.specs.Format.Encoding.{encoding}
-use Rattle.rlp_buffer.specs.Streams.Stack.{Stack, empty_stack, top, levels, stack_put, stack_with_list, stack_shut, stack_count, closed_payload, mark_after}
+use Rattle.rlp_buffer.specs.Streams.Stack.{Stack, empty_stack, top, levels, stack_put, stack_with_list, stack_shut, stack_count, closed_payload, is_counted_after}
 
--- The front, which is the bytes handed in; the payloads and the open lists; and the mark, which tells a caller of `rlp_append` whether the value counted
--- itself.
+-- The front, which is the bytes handed in; the payloads and the open lists; and whether the item that was written last is counted already. A list counts itself
+-- once it is whole, so what writes or closes a list makes `is_counted` true. A string doesn't: `append` makes `is_counted` false, lets the value be written, and
+-- counts it if `is_counted` is false then.
 pub record State : Type 0 where
   pub front : List ℕ
   pub stack : Stack ℕ
-  pub mark : Bool
+  pub is_counted : Bool
 
 -- What clauses see of a stream: its state; how many more bytes its buffer takes without an allocation; how many more lists it opens without one; and how many
 -- payload bytes its closings have moved.
@@ -20,13 +21,13 @@ pub record Seen : Type 0 where
   pub spare_lists : ℕ
   pub moved : ℕ
 
--- The state is the old one, including the mark, and no payload byte was moved. The room may differ.
+-- The state is the old one, including `is_counted`, and no payload byte was moved. The room may differ.
 abbrev pub IsAsBefore : Seen → Seen → Type 0
 IsAsBefore old new = (new.state ≡ old.state) × (new.moved ≡ old.moved)
 
 -- a new stream over these bytes
 abbrev pub initial_state : List ℕ → State
-initial_state front = record { front = front; stack = empty_stack; mark = false }
+initial_state front = record { front = front; stack = empty_stack; is_counted = false }
 
 -- no list is open
 abbrev pub IsFinished : State → Type 0
@@ -46,18 +47,18 @@ put x s = record s { stack = stack_put x s.stack }
 abbrev pub shut : State → State
 shut s = record s { stack = stack_shut list_encoding s.stack }
 
--- K items are counted. With no list open nothing changes. If the innermost list is unbounded, the mark becomes false. If it is bounded, it awaits k fewer. At 0
--- it is shut, one item is counted in the list around it, and the mark becomes true. Else the mark becomes false.
+-- K items are counted. With no list open nothing changes. If the innermost list is unbounded, `is_counted` becomes false. If it is bounded, it awaits k fewer. At 0
+-- it is shut, one item is counted in the list around it, and `is_counted` becomes true. Else it becomes false.
 abbrev pub count : ℕ → State → State
-count k s = record { front = s.front; stack = stack_count list_encoding k s.stack; mark = mark_after k s.stack.lists s.mark }
+count k s = record { front = s.front; stack = stack_count list_encoding k s.stack; is_counted = is_counted_after k s.stack.lists s.is_counted }
 
--- the state with this mark
-abbrev pub with_mark : Bool → State → State
-with_mark mark s = record s { mark = mark }
+-- the state with this value of `is_counted`
+abbrev pub with_is_counted : Bool → State → State
+with_is_counted is_counted s = record s { is_counted = is_counted }
 
--- a new list with an empty payload, which awaits the given number of items, and the mark false
+-- a new list with an empty payload, which awaits the given number of items, and `is_counted` false
 abbrev pub with_list : Option ℕ → State → State
-with_list awaits s = record { front = s.front; stack = stack_with_list awaits s.stack; mark = false }
+with_list awaits s = record { front = s.front; stack = stack_with_list awaits s.stack; is_counted = false }
 
 -- ---- the effect of items
 
@@ -66,14 +67,14 @@ abbrev pub is_list : Item → Bool
 is_list (string s) = false
 is_list (list xs) = true
 
--- an appended item: the mark is false, the encoding is put, one is counted, and the mark is true if the item is a list
+-- an appended item: `is_counted` is false, the encoding is put, one is counted, and `is_counted` is true if the item is a list
 abbrev pub add : Item → State → State
-add x s = let counted : State = count 1 (put (encoding x) (with_mark false s)) in record counted { mark = is_list x || counted.mark }
+add x s = let counted : State = count 1 (put (encoding x) (with_is_counted false s)) in record counted { is_counted = is_list x || counted.is_counted }
 
--- What a value's `rlp_append` does. It puts the encoding of a string, and nothing else changes. Or it puts the encoding of a list, one is counted, and the mark
--- is true.
+-- What a value's `rlp_append` does. It puts the encoding of a string, and nothing else changes. Or it puts the encoding of a list, one is counted, and
+-- `is_counted` is true.
 abbrev pub put_item : Item → State → State
-put_item x s = if is_list x then with_mark true (count 1 (put (encoding x) s)) else put (encoding x) s
+put_item x s = if is_list x then with_is_counted true (count 1 (put (encoding x) s)) else put (encoding x) s
 
 -- items appended, one after another
 abbrev pub add_all : List Item → State → State

@@ -109,7 +109,7 @@ impl Buffer {
 
     /// Appends `more` bytes of any value. There must be room for them.
     #[inline]
-    pub fn advance_mut(&mut self, more: usize)
+    pub(crate) fn advance_mut(&mut self, more: usize)
         requires { more ≤ self.old.spare }
         ensures front { take (length self.old.items) self.new.items ≡ self.old.items }
         ensures len { length self.new.items ≡ length self.old.items + more }
@@ -133,7 +133,7 @@ impl Buffer {
     /// Moves bytes to a later place in the buffer, and counts them. If they are there already, it
     /// moves nothing.
     #[inline]
-    pub fn shift(&mut self, from: usize, len: usize, to: usize)
+    pub(crate) fn shift(&mut self, from: usize, len: usize, to: usize)
         requires forward { from ≤ to }
         requires within { to + len ≤ length self.old.items }
         ensures items { self.new.items
@@ -152,7 +152,7 @@ impl Buffer {
     /// Writes the header of the list whose payload is all bytes from a place on. It writes over the
     /// bytes in front of that place. Returns the place where the header begins.
     #[inline]
-    pub fn write_list_header(&mut self, payload: usize) -> usize
+    pub(crate) fn write_list_header(&mut self, payload: usize) -> usize
         requires within { payload ≤ length self.old.items }
         requires room { header_len (length self.old.items - payload) ≤ payload }
         ensures begin { result + header_len (length self.old.items - payload) ≡ payload }

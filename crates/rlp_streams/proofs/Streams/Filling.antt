@@ -25,18 +25,18 @@ record StaysOpen (s t : State) (outer : List ℕ) (ls : List (OpenList ℕ)) : T
   pub around : l.outer ≡ outer
 
 stays_open : (xs : List Item) (n : ℕ) (f p outer : List ℕ) (ls : List (OpenList ℕ)) (m : Bool) → length xs < n
-    → StaysOpen (record { front = f; stack = record { inner = p; lists = record { awaits = Some n; outer = outer } ∷ ls }; mark = m })
-    (add_all xs (record { front = f; stack = record { inner = p; lists = record { awaits = Some n; outer = outer } ∷ ls }; mark = m })) outer ls
+    → StaysOpen (record { front = f; stack = record { inner = p; lists = record { awaits = Some n; outer = outer } ∷ ls }; is_counted = m })
+    (add_all xs (record { front = f; stack = record { inner = p; lists = record { awaits = Some n; outer = outer } ∷ ls }; is_counted = m })) outer ls
 stays_open [] n f p outer ls m few = record { l = record { awaits = Some n; outer = outer }; front = refl; lists = refl; around = refl }
 stays_open (x ∷ xs) zero f p outer ls m few = absurd (omega arith)
 stays_open (x ∷ xs) (suc zero) f p outer ls m few = absurd (omega arith)
 stays_open (x ∷ xs) (suc (suc n)) f p outer ls m few =
     let r = stays_open xs (suc n) f (p ++ encoding x) outer ls (is_list x || false) (omega arith) in
-    let old : State = record { front = f; stack = record { inner = p; lists = record { awaits = Some (suc (suc n)); outer = outer } ∷ ls }; mark = m } in
+    let old : State = record { front = f; stack = record { inner = p; lists = record { awaits = Some (suc (suc n)); outer = outer } ∷ ls }; is_counted = m } in
     let next : State = record {
       front = f;
       stack = record { inner = p ++ encoding x; lists = record { awaits = Some (suc n); outer = outer } ∷ ls };
-      mark = is_list x || false;
+      is_counted = is_list x || false;
     } in
     subst (λ (t : State). StaysOpen old (add_all xs t) outer ls) (sym (add_more n x f p outer ls m))
     (record { l = r.l; front = r.front; lists = r.lists; around = r.around })

@@ -70,13 +70,13 @@ pub grows_trans : (s t u : State) → GrowsTo s t → GrowsTo t u → GrowsTo s 
 grows_trans s t u g h =
     record { front = h.front ∙ g.front; stands = stands_trans s.stack.inner s.stack.lists t.stack.inner t.stack.lists g.stands h.stands }
 
--- a value that left the mark false was a string
-unmarked_put : (x : Item) (s t : State) → t ≡ put_item x s → t.mark ≡ false → t ≡ put (encoding x) s
-unmarked_put (string b) s t is unmarked = is
-unmarked_put (list xs) s t is unmarked = absurd (let marked : true ≡ false = sym (ap (λ (u : State). u.mark) is) ∙ unmarked in let no : ⊥ = cc in no)
+-- a value that left `is_counted` false was a string
+uncounted_put : (x : Item) (s t : State) → t ≡ put_item x s → t.is_counted ≡ false → t ≡ put (encoding x) s
+uncounted_put (string b) s t is uncounted = is
+uncounted_put (list xs) s t is uncounted = absurd (let both : true ≡ false = sym (ap (λ (u : State). u.is_counted) is) ∙ uncounted in let no : ⊥ = cc in no)
 
--- a stream without the mark has grown by an item that was put
-pub grows_unmarked : (x : Item) (s t u : State) → t ≡ put_item x s → t.mark ≡ false → u ≡ t → GrowsTo s u
-grows_unmarked x s t u is unmarked e = grows_put s u (encoding x) (e ∙ unmarked_put x s t is unmarked)
+-- a stream in which `is_counted` is false after a value has grown by an item that was put
+pub grows_uncounted : (x : Item) (s t u : State) → t ≡ put_item x s → t.is_counted ≡ false → u ≡ t → GrowsTo s u
+grows_uncounted x s t u is uncounted e = grows_put s u (encoding x) (e ∙ uncounted_put x s t is uncounted)
 
 pub ruleset growth = (grows_same, grows_put, grows_with_list, grows_in_list, grows_trans, retains_same, retains_trans)

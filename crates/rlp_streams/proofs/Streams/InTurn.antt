@@ -23,7 +23,7 @@ counts_left (suc n) p ls s many same = rw (same (omega (arith, many))) many
 -- one more list is finalized, and the others are unbounded
 next_by : (n : ℕ) (f p : List ℕ) (ls : List (OpenList ℕ)) (m : Bool) → n < unbounded_count ls
     → IsTrue (is_unbounded ls)
-    × (n ≤ unbounded_count (effect finalize_unbounded_list (record { front = f; stack = record { inner = p; lists = ls }; mark = m })).stack.lists)
+    × (n ≤ unbounded_count (effect finalize_unbounded_list (record { front = f; stack = record { inner = p; lists = ls }; is_counted = m })).stack.lists)
 next_by n f p [] m many = absurd (let no : n < 0 = many in omega arith)
 next_by n f p (l ∷ ls) m many = (
   unbounded l ls (omega (arith, many)),
@@ -32,7 +32,7 @@ next_by n f p (l ∷ ls) m many = (
 
 pub finalized-next : (n : ℕ) (s : State) → n < unbounded_count s.stack.lists
     → IsTrue (is_admitted finalize_unbounded_list s) × (n ≤ unbounded_count (effect finalize_unbounded_list s).stack.lists)
-finalized-next n s many = next_by n s.front s.stack.inner s.stack.lists s.mark many
+finalized-next n s many = next_by n s.front s.stack.inner s.stack.lists s.is_counted many
 
 -- all calls are admitted, and they lead to the same state
 pub finalized-in_turn : (n place : ℕ) (s : State) → n ≤ unbounded_count s.stack.lists

@@ -195,11 +195,11 @@ rewound start start' b c bytes old grown lists m m' place s t h k was is grows l
 -- the stream has the state that it had at the place
 pub record IsBack (place : Place) (s : State) (start : ℕ) (bytes : List ℕ) (lists : List Placeholder) : Type 0 where
   pub laid : IsLaid start bytes (reverse lists)
-  pub is : state_of start bytes (reverse lists) place.mark ≡ s
+  pub is : state_of start bytes (reverse lists) place.is_counted ≡ s
 
 pub is_back : (place : Place) (s t : State) (start : ℕ) (c bytes : List ℕ) (grown lists : List Placeholder) (m : Bool)
     → IsPlaceOf place s → IsLaid start c (reverse grown) → state_of start c (reverse grown) m ≡ t → GrowsTo s t
     → bytes ≡ take place.len c → reverse lists ≡ with_innermost (λ _. place.awaits) (reverse (take place.open_count grown)) → IsBack place s start bytes lists
 is_back place s t start c bytes grown lists m p k is grows cut last =
-    let r = rewound p.start start p.bytes c bytes p.lists grown lists place.mark m place s t p.laid k p.is is grows p.len p.open_count p.awaits cut last in
+    let r = rewound p.start start p.bytes c bytes p.lists grown lists place.is_counted m place s t p.laid k p.is is grows p.len p.open_count p.awaits cut last in
     record { laid = rw (r.front, r.bytes, r.lists) p.laid; is = rw (r.front, r.bytes, r.lists) p.is }

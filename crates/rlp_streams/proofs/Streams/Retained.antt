@@ -14,6 +14,6 @@ pub retained : (v : Seen) (i j : Inside) → the_view i ≡ v → IsLaid i.start
     → Keeps i.buffer j.buffer → vec_capacity i.lists ≤ vec_capacity j.lists → Retains v (the_view j)
 retained v i j is laid laid' keeps lists =
     subst (λ (w : Seen). Retains w (the_view j)) is
-    (retains_laid i.start j.start i.buffer.items j.buffer.items (reverse i.lists.items) (reverse j.lists.items) i.mark j.mark i.buffer.spare j.buffer.spare
+    (retains_laid i.start j.start i.buffer.items j.buffer.items (reverse i.lists.items) (reverse j.lists.items) i.is_counted j.is_counted i.buffer.spare j.buffer.spare
     (vec_capacity i.lists) (vec_capacity j.lists) i.buffer.moved j.buffer.moved laid laid' keeps.moved keeps.room
     (omega (arith, length-reverse i.lists.items, i.lists.ok.0, i.lists.ok.1)) lists)

@@ -5,7 +5,7 @@ use Rattle.rlp_streams.specs.contracts.stream.RlpStream.{the_row}
 use Rattle.rlp_streams.specs.declared.stream.chain.Chain.{Chain}
 use Rattle.rlp_buffer.specs.Streams.Stream.{State, Seen, IsAsBefore, Retains, closed_size}
 
--- after a refusal the stream has the state from before the call, including the mark, and gave nothing up; otherwise the chain holds it
+-- after a refusal the stream has the state from before the call, including `is_counted`, and gave nothing up; otherwise the chain holds it
 abbrev pub stays_if_refused : {E : Type 0} → MutBor Seen → Result Chain E → Fml
 stays_if_refused stream r = RestsIfErr the_row stream (λ c. c.stream.ghost_name) r (λ last. (last.state ≡ stream.now.state) × Retains stream.now last)
 

@@ -16,7 +16,7 @@ pub data Stands (payload : List ℕ) (lists : List (OpenList ℕ)) : List ℕ �
   within : (inner : List ℕ) (l : OpenList ℕ) (ls : List (OpenList ℕ)) → Stands payload lists l.outer ls → Stands payload lists inner (l ∷ ls)
 
 -- The old state grows to the new one. The front stays, and so do the open lists, perhaps with further lists inside. Every payload but the innermost stays, and
--- that one begins the payload in its place. The number of items that the innermost list awaits and the mark may be any.
+-- that one begins the payload in its place. The number of items that the innermost list awaits and `is_counted` may be any.
 pub record GrowsTo (old new : State) : Type 0 where
   pub front : new.front ≡ old.front
   pub stands : Stands old.stack.inner old.stack.lists new.stack.inner new.stack.lists

@@ -132,6 +132,8 @@ impl<'a> Chain<'a> {
         ensures room_at_once { len ≡ 0 → HasRoomFor self.entry.stream.now
             (effect (begin_list 0) self.entry.stream.now.state) → IsOk result }
         ensures moved { MovesWithin self.entry.stream.now result }
+        ensures not_moved { 0 < len → IfOk result
+            (λ c. c.stream.now.moved ≡ self.entry.stream.now.moved) }
         ensures retains { RetainsInChain self.entry.stream.now result }
         ensures same_stream { HoldsStream self.entry.stream result }
     {

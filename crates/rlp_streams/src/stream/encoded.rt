@@ -1,25 +1,28 @@
 //! Lists that are written from their encodings.
 
-ghost use Rattle.std.specs.Prelude.{◌≡◌, true, IsOk, OnOk, OnErr};
-ghost use Rattle.rlp_buffer.specs.Streams.Stream.{HasRoomFor, IsAsBefore, Retains, count, put, with_mark};
+ghost use Rattle.std.specs.Prelude.{◌≡◌, IsTrue, IsOk, OnOk, OnErr};
+ghost use Rattle.rlp_format.specs.Format.Item.{Item};
+ghost use Rattle.rlp_format.specs.Format.Encoding.{encoding};
+ghost use Rattle.rlp_buffer.specs.Streams.Stream.{HasRoomFor, IsAsBefore, Retains, is_list, put_item};
 
 use crate::stream::RlpStream;
 use std::alloc::AllocError;
 
-/// Puts the encoding of a list, counts it as one item, and sets the mark, as the `rlp_append` of a
-/// list does. The caller must know that the bytes are the encoding of a list.
+/// Writes a list from its encoding, as the `rlp_append` of a list does: puts the bytes, and counts
+/// one item. The bytes must be the encoding of a list.
 ///
 /// Fails with `AllocError` if memory is refused, and then writes nothing.
-#[tactic(auto, unfolding(rlp_buffer::specs::Streams::Stream::Retains))]
+#[tactic(auto, using(crate::proofs::Streams::Opened::encoded), unfolding(rlp_buffer::specs::Streams::Stream::Retains))]
 pub fn append_list_encoding(s: &mut RlpStream, bytes: &[u8]) -> Result<(), AllocError>
-    ensures ok { OnOk result
-        (s.new.state ≡ with_mark true (count 1 (put bytes.now s.old.state))) }
+    requires { (x : Item) × IsTrue (is_list x) × (bytes.now ≡ encoding x) }
+    ensures ok { (x : Item) → IsTrue (is_list x) → bytes.now ≡ encoding x
+        → OnOk result (s.new.state ≡ put_item x s.old.state) }
     ensures refused { OnErr result (IsAsBefore s.old s.new) }
-    ensures room { HasRoomFor s.old (with_mark true (count 1 (put bytes.now s.old.state)))
-        → IsOk result }
+    ensures room { (x : Item) → IsTrue (is_list x) → bytes.now ≡ encoding x
+        → HasRoomFor s.old (put_item x s.old.state) → IsOk result }
     ensures retains { Retains s.old s.new }
 {
     s.try_put_counted(bytes, 1)?;
-    s.mark = true;
+    s.is_counted = true;
     Ok(())
 }

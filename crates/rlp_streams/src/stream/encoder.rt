@@ -11,7 +11,7 @@ ghost use Rattle.rlp_buffer.specs.Streams.Iterated.{GivesAll};
 use crate::stream::RlpStream;
 use std::alloc::AllocError;
 
-/// A writer of strings into a stream that it borrows. It doesn't count the strings, and the mark
+/// A writer of strings into a stream that it borrows. It doesn't count the strings, and `is_counted`
 /// stays. Use it in [`crate::Encodable::rlp_append`] of a type that is written as a string.
 ///
 /// ```rust

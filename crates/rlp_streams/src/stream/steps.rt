@@ -100,7 +100,7 @@ impl RlpStream {
         match self.lists.push(Placeholder { position, awaits }) {
             Ok(()) => {
                 self.buffer.extend_reserved(&[0]);
-                self.mark = false;
+                self.is_counted = false;
                 Ok(())
             }
             Err(_) => Err(AllocError),
@@ -118,11 +118,13 @@ impl RlpStream {
         ensures room_finished { IsFinished self.old.state → len ≡ 0 → 1 ≤ self.old.spare
             → IsOk result }
         ensures moved { self.new.moved ≤ self.old.moved + closed_size self.new.state }
+        ensures not_moved { 0 < len → self.new.moved ≡ self.old.moved }
+        ensures not_moved_finished { IsFinished self.old.state → self.new.moved ≡ self.old.moved }
         ensures retains { Retains self.old self.new }
     {
         if len == 0 {
             self.try_put_counted(&EMPTY_LIST_RLP, 1)?;
-            self.mark = true;
+            self.is_counted = true;
             return Ok(());
         }
         self.try_open(Some(len))
@@ -140,12 +142,13 @@ impl RlpStream {
         ensures has_room { HasRoomFor self.old (count items (put bytes.now self.old.state))
             → IsOk result }
         ensures moved { self.new.moved ≤ self.old.moved + closed_size self.new.state }
+        ensures not_moved { IsFinished self.old.state → self.new.moved ≡ self.old.moved }
         ensures retains { Retains self.old self.new }
     {
         let open = !self.lists.is_empty();
         let closed = put_counted(&mut self.buffer, &mut self.lists, bytes, items)?;
         if open {
-            self.mark = closed;
+            self.is_counted = closed;
         }
         Ok(())
     }
@@ -159,7 +162,12 @@ impl RlpStream {
     }
 
     /// Closes the `count` innermost lists, which are unbounded, one after another, and counts each
-    /// in the list around it. It does what the last item does in lists that each await one.
+    /// in the list around it.
+    ///
+    /// An item that is counted in a list that awaits one item closes it, and the list is then
+    /// counted in the list around it. So each of the lists is made to await one item, and one item
+    /// is counted: that closes them all in one pass. If memory is refused, they are made unbounded
+    /// again.
     #[tactic(auto, unfolding(rlp_buffer::specs::Streams::Stream::Retains))]
     pub(super) fn try_finalize(&mut self, count: usize) -> Result<(), AllocError>
         requires some { 0 < count }
@@ -173,7 +181,7 @@ impl RlpStream {
         set_awaits(&mut self.lists, count, Some(1));
         match put_counted(&mut self.buffer, &mut self.lists, &[], 1) {
             Ok(_) => {
-                self.mark = true;
+                self.is_counted = true;
                 Ok(())
             }
             Err(e) => {
@@ -194,10 +202,10 @@ impl RlpStream {
         self.try_put_counted(&[], items)
     }
 
-    /// Puts a value and counts it if the mark is false. A refused call may leave some bytes.
-    #[tactic(auto, using(crate::proofs::Streams::Growth::grows_unmarked), unfolding(rlp_buffer::specs::Streams::Stream::Retains))]
+    /// Puts a value and counts it if `is_counted` is false. A refused call may leave some bytes.
+    #[tactic(auto, using(crate::proofs::Streams::Growth::grows_uncounted), unfolding(rlp_buffer::specs::Streams::Stream::Retains))]
     fn put_value<E: Encodable>(&mut self, value: &E) -> Result<(), AllocError>
-        requires { self.old.state.mark ≡ false }
+        requires { self.old.state.is_counted ≡ false }
         ensures fits { OnOk result (E.fits value.now) }
         ensures ok { OnOk result (self.new.state ≡ add (E.item value.now) self.old.state) }
         ensures room { E.at_once value.now
@@ -206,17 +214,17 @@ impl RlpStream {
         ensures retains { Retains self.old self.new }
     {
         value.rlp_append(self)?;
-        if !self.mark {
+        if !self.is_counted {
             self.try_count(1)?;
         }
         Ok(())
     }
 
-    /// Puts the string that an iterator gives and counts it if the mark is false. A refused call
+    /// Puts the string that an iterator gives and counts it if `is_counted` is false. A refused call
     /// may leave some bytes.
     #[tactic(auto, using(crate::proofs::Streams::Growth::growth), unfolding(rlp_buffer::specs::Streams::Stream::Retains))]
     fn put_iter<I: IntoIterator<Item = u8>>(&mut self, value: I) -> Result<(), AllocError>
-        requires unmarked { self.old.state.mark ≡ false }
+        requires uncounted { self.old.state.is_counted ≡ false }
         requires ends { IsFiniteIterable I.into_iter_gives I.IntoIter.can_next I.IntoIter.remaining value }
         ensures ok { OnOk result ((s : List ℕ)
             × GivesAll I.into_iter_gives I.IntoIter.next_gives value s
@@ -232,7 +240,7 @@ impl RlpStream {
     fn place(&self) -> Place
         ensures { IsPlaceOf result self.now.state }
     {
-        place_of(&self.buffer, &self.lists, self.mark)
+        place_of(&self.buffer, &self.lists, self.is_counted)
     }
 
     /// Goes back to a place. The stream must have grown from it.
@@ -244,7 +252,7 @@ impl RlpStream {
         ensures retains { Retains self.old self.new }
     {
         rewind(&mut self.buffer, &mut self.lists, place);
-        self.mark = place.mark;
+        self.is_counted = place.is_counted;
     }
 
     /// Appends a value. If it is refused, goes back to the place before the call.
@@ -258,7 +266,7 @@ impl RlpStream {
         ensures retains { Retains self.old self.new }
     {
         let place = self.place();
-        self.mark = false;
+        self.is_counted = false;
         match self.put_value(value) {
             Ok(()) => Ok(()),
             Err(e) => {
@@ -304,7 +312,7 @@ impl RlpStream {
         ensures retains { Retains self.old self.new }
     {
         let place = self.place();
-        self.mark = false;
+        self.is_counted = false;
         match self.put_iter(value) {
             Ok(()) => Ok(()),
             Err(e) => {

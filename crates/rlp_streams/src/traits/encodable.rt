@@ -47,7 +47,7 @@ pub trait Encodable {
     ghost at_once: { Self → Type 0 } = { λ _. ⊥ };
 
     /// Writes the value into a stream. For a string it writes the encoding and counts no item. For
-    /// a list it writes the encoding, counts one item, and sets the mark, which says that the item
+    /// a list it writes the encoding, counts one item, and sets `is_counted`, which says that the item
     /// is counted.
     ///
     /// Fails with `AllocError` if memory is refused, or for a reason of the type. The stream then

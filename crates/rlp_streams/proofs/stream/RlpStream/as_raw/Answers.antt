@@ -5,4 +5,4 @@ use Rattle.rlp_streams.proofs.stream.RlpStream.as_raw.Goals as goal
 pub returns : goal.returns
 returns c =
     let i = c.self.inside in
-    rw (← c.self.view_is) (c.as_slice.ensures ∙ raw_state i.start i.buffer.items (reverse i.lists.items) i.mark c.self.invariant)
+    rw (← c.self.view_is) (c.as_slice.ensures ∙ raw_state i.start i.buffer.items (reverse i.lists.items) i.is_counted c.self.invariant)

@@ -17,7 +17,7 @@ closed_len-requires-clause-lowest c =
 pub returns : goal.returns
 returns c =
     let i = c.self.inside in
-    let is = closed_size_is i.start i.buffer.items (reverse i.lists.items) i.mark c.args.add c.self.invariant
+    let is = closed_size_is i.start i.buffer.items (reverse i.lists.items) i.is_counted c.args.add c.self.invariant
     ∙ sym (rw (c.as_slice.ensures.value, c.len.ensures.value) refl) in
     let size = sym (ap (λ (v : Seen). closed_size_with c.args.add v.state) c.self.view_is) ∙ is in
     rw size c.closed_len.ensures

@@ -19,6 +19,6 @@ returns-clause-retains c =
     let laid : IsLaid i.start c.truncate.new.self.items (reverse c.clear.new.self.items) =
     rw (c.truncate.ensures.items, c.clear.ensures.items)
     (let whole : i.start ≤ length (take i.start i.buffer.items) = omega (arith, length-take-le i.start i.buffer.items le) in whole) in
-    retained c.args.self.now i (record { buffer = c.truncate.new.self; start = i.start; lists = c.clear.new.self; mark = i.mark }) c.self.view_is
+    retained c.args.self.now i (record { buffer = c.truncate.new.self; start = i.start; lists = c.clear.new.self; is_counted = i.is_counted }) c.self.view_is
     c.self.invariant laid
     (record { moved = omega arith; room = omega arith }) (omega arith)

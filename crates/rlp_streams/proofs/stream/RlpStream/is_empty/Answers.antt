@@ -8,6 +8,6 @@ pub returns : goal.returns
 returns c =
     let i = c.self.inside in
     let size = ap (λ (v : Seen). closed_size v.state) c.self.view_is in (
-      λ t. sym size ∙ front_size i.start i.buffer.items (reverse i.lists.items) i.mark c.self.invariant (sym c.len.ensures.value ∙ grind (arith, nat_tests)),
-      λ e. let same = empty_size i.start i.buffer.items (reverse i.lists.items) i.mark c.self.invariant (size ∙ e) in grind (arith, nat_tests),
+      λ t. sym size ∙ front_size i.start i.buffer.items (reverse i.lists.items) i.is_counted c.self.invariant (sym c.len.ensures.value ∙ grind (arith, nat_tests)),
+      λ e. let same = empty_size i.start i.buffer.items (reverse i.lists.items) i.is_counted c.self.invariant (size ∙ e) in grind (arith, nat_tests),
     )

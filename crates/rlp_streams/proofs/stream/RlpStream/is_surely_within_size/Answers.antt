@@ -26,7 +26,7 @@ returns-in-Some-clause-within c =
     ∙ ap length (sym c.as_slice-lists.ensures.value) in
     let few : (length i.buffer.items - i.start) + 8 * length (reverse i.lists.items) + c.args.add ≤ c.args.limit =
     omega (arith, most, lists, c.in-Some.ensures.1, c.len.ensures.value) in
-    let size = within_few i.start i.buffer.items (reverse i.lists.items) i.mark c.args.add c.args.limit c.self.invariant (omega (arith, c.ranges.limit)) few in
+    let size = within_few i.start i.buffer.items (reverse i.lists.items) i.is_counted c.args.add c.args.limit c.self.invariant (omega (arith, c.ranges.limit)) few in
     subst (λ (v : Seen). closed_size_with c.args.add v.state ≤ c.args.limit) c.self.view_is size
 
 pub returns-in-Some-clause-sure : goal.returns-in-Some-clause-sure
@@ -36,7 +36,7 @@ returns-in-Some-clause-sure c =
     let lists : length (reverse i.lists.items) ≡ length c.as_slice-lists.result.now = length-reverse i.lists.items
     ∙ ap length (sym c.as_slice-lists.ensures.value) in
     let is = subst (λ (v : Seen). closed_size_with c.args.add v.state + 8 * length v.state.stack.lists ≤ c.args.limit) (sym c.self.view_is) small in
-    let few = few_within i.start i.buffer.items (reverse i.lists.items) i.mark c.args.add c.args.limit c.self.invariant is in
+    let few = few_within i.start i.buffer.items (reverse i.lists.items) i.is_counted c.args.add c.args.limit c.self.invariant is in
     let most : c.in-Some.most ≤ c.args.limit = omega (arith, few, lists, c.in-Some.ensures.1, c.len.ensures.value) in
     grind (arith, nat_tests)
 
@@ -47,5 +47,5 @@ returns-in-None-clause-sure c =
     let lists : length (reverse i.lists.items) ≡ length c.as_slice-lists.result.now = length-reverse i.lists.items
     ∙ ap length (sym c.as_slice-lists.ensures.value) in
     let is = subst (λ (v : Seen). closed_size_with c.args.add v.state + 8 * length v.state.stack.lists ≤ c.args.limit) (sym c.self.view_is) small in
-    let few = few_within i.start i.buffer.items (reverse i.lists.items) i.mark c.args.add c.args.limit c.self.invariant is in
+    let few = few_within i.start i.buffer.items (reverse i.lists.items) i.is_counted c.args.add c.args.limit c.self.invariant is in
     absurd (c.in-None.ensures (omega (arith, few, lists, c.len.ensures.value, c.ranges.limit)))

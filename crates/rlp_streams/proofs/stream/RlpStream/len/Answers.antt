@@ -30,7 +30,7 @@ returns c =
     (rw c.as_slice-lists.ensures.value c.self.invariant) c.len.ensures.bound c.as_slice-lists.type_inv.1 in
     let size : Some c.unwrap.result ≡ Some (closed_len i.start c.len.result 0 (reverse c.as_slice-lists.result.now)) = sym c.unwrap.ensures ∙ is in
     let value : c.unwrap.result ≡ closed_len i.start c.len.result 0 (reverse c.as_slice-lists.result.now) = cc in
-    let state = state_of i.start i.buffer.items (reverse i.lists.items) i.mark in
+    let state = state_of i.start i.buffer.items (reverse i.lists.items) i.is_counted in
     let whole : closed_len i.start c.len.result 0 (reverse c.as_slice-lists.result.now) ≡ closed_size_with 0 state =
-    rw (c.as_slice-lists.ensures.value, c.len.ensures.value) (sym (closed_size_is i.start i.buffer.items (reverse i.lists.items) i.mark 0 c.self.invariant)) in
+    rw (c.as_slice-lists.ensures.value, c.len.ensures.value) (sym (closed_size_is i.start i.buffer.items (reverse i.lists.items) i.is_counted 0 c.self.invariant)) in
     value ∙ whole ∙ closed_size_none state ∙ ap (λ (v : Seen). closed_size v.state) c.self.view_is

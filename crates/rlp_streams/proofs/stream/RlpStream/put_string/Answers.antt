@@ -9,7 +9,7 @@ use Rattle.rlp_streams.proofs.stream.RlpStream.put_string.Goals as goal
 pub returns-clause-ok : goal.returns-clause-ok
 returns-clause-ok c =
     let i = c.self.inside in
-    rw (c.in_ok-write_string.ensures.ok, ← c.self.view_is) (state_put i.start i.buffer.items _ (reverse i.lists.items) i.mark c.self.invariant)
+    rw (c.in_ok-write_string.ensures.ok, ← c.self.view_is) (state_put i.start i.buffer.items _ (reverse i.lists.items) i.is_counted c.self.invariant)
 
 pub returns-in_err-write_string-clause-has_room : goal.returns-in_err-write_string-clause-has_room
 returns-in_err-write_string-clause-has_room c =

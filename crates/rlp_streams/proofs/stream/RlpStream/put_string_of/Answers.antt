@@ -6,4 +6,4 @@ pub returns-clause-ok : goal.returns-clause-ok
 returns-clause-ok g c =
     let i = c.self.inside in
     let written = c.in_ok-write_string_of.ensures.ok in
-    (written.0, written.1, rw (written.2, ← c.self.view_is) (state_put i.start i.buffer.items _ (reverse i.lists.items) i.mark c.self.invariant))
+    (written.0, written.1, rw (written.2, ← c.self.view_is) (state_put i.start i.buffer.items _ (reverse i.lists.items) i.is_counted c.self.invariant))

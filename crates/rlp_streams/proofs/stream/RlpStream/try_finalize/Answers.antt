@@ -23,7 +23,7 @@ pub set_awaits-requires : goal.set_awaits-requires
 set_awaits-requires c =
     let i = c.self.inside in
     let ps = reverse i.lists.items in
-    let many = few c.args.count i.start i.buffer.items ps c.args.self.now i.mark (ap (λ (v : Seen). v.state) c.self.view_is) c.requires.open in
+    let many = few c.args.count i.start i.buffer.items ps c.args.self.now i.is_counted (ap (λ (v : Seen). v.state) c.self.view_is) c.requires.open in
     omega (arith, many, unbounded_le ps, length-reverse i.lists.items)
 
 pub put_counted-requires : goal.put_counted-requires
@@ -47,7 +47,7 @@ returns-in-Ok-clause-ok c =
     let i = c.self.inside in
     let done = c.in-Ok.ensures in
     rw (done.bytes, done.lists, append-nil i.buffer.items, c.set_awaits.ensures.lists)
-    (state_finalized c.args.count i.start i.buffer.items (reverse i.lists.items) i.mark c.self.invariant c.requires.some
+    (state_finalized c.args.count i.start i.buffer.items (reverse i.lists.items) i.is_counted c.self.invariant c.requires.some
     (subst (λ (v : Seen). c.args.count ≤ unbounded_count v.state.stack.lists) (sym c.self.view_is) c.requires.open)
     ∙ ap (λ (v : Seen). finalized c.args.count v.state) c.self.view_is)
 
@@ -67,20 +67,20 @@ returns-in-Ok-clause-retains c =
     let laid : IsLaid i.start c.put_counted.new.buffer.items (reverse c.put_counted.new.lists.items) =
     rw (done.bytes, done.lists, append-nil i.buffer.items, c.set_awaits.ensures.lists)
     (laid_counted 1 i.start i.buffer.items (with_last c.args.count (reverse i.lists.items)) (laid_last c.args.count i.start i.buffer.items (reverse i.lists.items) c.self.invariant)) in
-    retained c.args.self.now i (record { buffer = c.put_counted.new.buffer; start = i.start; lists = c.put_counted.new.lists; mark = true })
+    retained c.args.self.now i (record { buffer = c.put_counted.new.buffer; start = i.start; lists = c.put_counted.new.lists; is_counted = true })
     c.self.view_is c.self.invariant laid done.keeps (omega arith)
 
 pub set_awaits-requires-in-Err : goal.set_awaits-requires-in-Err
 set_awaits-requires-in-Err c =
     let i = c.self.inside in
     let ps = reverse i.lists.items in
-    let many = few c.args.count i.start i.buffer.items ps c.args.self.now i.mark (ap (λ (v : Seen). v.state) c.self.view_is) c.requires.open in
-    let marked = ap length (ap reverse c.in-Err.ensures.refused.1 ∙ c.set_awaits.ensures.lists) in
+    let many = few c.args.count i.start i.buffer.items ps c.args.self.now i.is_counted (ap (λ (v : Seen). v.state) c.self.view_is) c.requires.open in
+    let same = ap length (ap reverse c.in-Err.ensures.refused.1 ∙ c.set_awaits.ensures.lists) in
     omega (
       arith,
       many,
       unbounded_le ps,
-      marked,
+      same,
       length-with_awaits c.args.count (Some 1) ps,
       length-reverse i.lists.items,
       length-reverse c.put_counted.new.lists.items,
@@ -91,7 +91,7 @@ lists_back : (c : goal.After-set_awaits-in-Err) → reverse c.set_awaits-in-Err.
 lists_back c =
     let i = c.self.inside in
     let ps = reverse i.lists.items in
-    let many = few c.args.count i.start i.buffer.items ps c.args.self.now i.mark (ap (λ (v : Seen). v.state) c.self.view_is) c.requires.open in
+    let many = few c.args.count i.start i.buffer.items ps c.args.self.now i.is_counted (ap (λ (v : Seen). v.state) c.self.view_is) c.requires.open in
     c.set_awaits-in-Err.ensures.lists ∙ ap (λ ls. with_awaits c.args.count None (reverse ls)) c.in-Err.ensures.refused.1
     ∙ ap (with_awaits c.args.count None) c.set_awaits.ensures.lists ∙ awaits_restored c.args.count (Some 1) ps many
 
@@ -114,7 +114,7 @@ returns-in-Err-clause-retains c =
       buffer = c.put_counted.new.buffer;
       start = i.start;
       lists = c.set_awaits-in-Err.new.lists;
-      mark = i.mark;
+      is_counted = i.is_counted;
     }) c.self.view_is c.self.invariant laid c.in-Err.ensures.keeps (omega arith)
 
 pub returns-in-Err-clause-room : goal.returns-in-Err-clause-room
@@ -123,6 +123,6 @@ returns-in-Err-clause-room c =
     let i = c.self.inside in
     let many = subst (λ (v : Seen). c.args.count ≤ unbounded_count v.state.stack.lists) (sym c.self.view_is) c.requires.open in
     absurd (short_to_finalize c.args.count i.start i.buffer.items (reverse i.lists.items)
-    (reverse c.set_awaits.new.lists.items) i.mark i.buffer.spare c.args.self.now c.self.invariant c.requires.some many
+    (reverse c.set_awaits.new.lists.items) i.is_counted i.buffer.spare c.args.self.now c.self.invariant c.requires.some many
     c.set_awaits.ensures.lists (ap (λ (v : Seen). v.state) (sym c.self.view_is))
     (ap (λ (v : Seen). v.spare) (sym c.self.view_is)) c.in-Err.ensures.room_closing has)

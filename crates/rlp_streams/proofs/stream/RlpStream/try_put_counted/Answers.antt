@@ -2,7 +2,7 @@ use Rattle.std.proofs.Common.{◌++◌, ◌<◌, length, reverse, ap, sym, ◌�
 use Rattle.std.proofs.lemmas.List.{length-reverse}
 use Rattle.rlp_buffer.specs.Streams.Stream.{Seen, put, count}
 use Rattle.rlp_buffer.specs.Streams.Placeholders.{IsLaid}
-use Rattle.rlp_buffer.proofs.Streams.FlatBuffer.{laid_descends, laid_append, laid_counted, mark_open, not_empty, state_put_counted, moved_counted}
+use Rattle.rlp_buffer.proofs.Streams.FlatBuffer.{laid_descends, laid_append, laid_counted, is_counted_open, not_empty, state_put_counted, moved_counted}
 use Rattle.rlp_buffer.proofs.Streams.Rooms.{short_to_count}
 use Rattle.rlp_streams.proofs.Streams.Retained.{retained}
 use Rattle.rlp_streams.proofs.stream.RlpStream.try_put_counted.Goals as goal
@@ -26,8 +26,8 @@ returns-then-open-clause-ok c =
     let any = not_empty i.lists.len c.if-open.ensures in
     let some : 0 < length (reverse i.lists.items) = omega (arith, length-reverse i.lists.items, i.lists.ok.0) in
     rw (done.bytes, done.lists)
-    (state_put_counted c.args.items i.start i.buffer.items c.args.bytes.now (reverse i.lists.items) i.mark c.in_ok-closed.closed c.self.invariant
-    (mark_open c.args.items i.start i.buffer.items (reverse i.lists.items) i.mark c.in_ok-closed.closed some done.closed)
+    (state_put_counted c.args.items i.start i.buffer.items c.args.bytes.now (reverse i.lists.items) i.is_counted c.in_ok-closed.closed c.self.invariant
+    (is_counted_open c.args.items i.start i.buffer.items (reverse i.lists.items) i.is_counted c.in_ok-closed.closed some done.closed)
     ∙ ap (λ (v : Seen). count c.args.items (put c.args.bytes.now v.state)) c.self.view_is)
 
 pub returns-then-open-clause-moved : goal.returns-then-open-clause-moved
@@ -43,7 +43,7 @@ pub returns-in_err-closed-clause-has_room : goal.returns-in_err-closed-clause-ha
 returns-in_err-closed-clause-has_room c =
     λ has.
     let i = c.self.inside in
-    absurd (short_to_count c.args.items i.start i.buffer.items c.args.bytes.now (reverse i.lists.items) i.mark c.args.self.now c.self.invariant
+    absurd (short_to_count c.args.items i.start i.buffer.items c.args.bytes.now (reverse i.lists.items) i.is_counted c.args.self.now c.self.invariant
     (ap (λ (v : Seen). v.state) (sym c.self.view_is))
     (rw (ap (λ (v : Seen). v.spare) (sym c.self.view_is)) c.in_err-closed.ensures.room_closing) has)
 
@@ -58,6 +58,6 @@ returns-then-open-clause-retains c =
       buffer = c.put_counted.new.buffer;
       start = i.start;
       lists = c.put_counted.new.lists;
-      mark =
+      is_counted =
           c.in_ok-closed.closed;
     }) c.self.view_is c.self.invariant laid done.keeps (omega arith)

@@ -3,7 +3,7 @@ use Rattle.std.specs.Prelude.{IfOk}
 use Rattle.rlp_format.specs.Format.Encoding.{join}
 use Rattle.rlp_buffer.specs.Streams.Stream.{State}
 use Rattle.rlp_streams.proofs.Streams.Joined.{joined_list}
-use Rattle.rlp_streams.proofs.whole_list.encoded_list.Goals as goal
+use Rattle.rlp_streams.proofs.whole_list.encode_list.Goals as goal
 
 pub returns-clause-bytes : goal.returns-clause-bytes
 returns-clause-bytes g c =
