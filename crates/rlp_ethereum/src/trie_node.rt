@@ -80,10 +80,7 @@ impl Decodable for TrieNode {
 
     #[tactic(auto, using(crate::specs::TrieNodeLaws::node_reading))]
     fn decode(alloc: Global, rlp: &Rlp<'_>) -> Result<TrieNode, DecoderError> {
-        let item = match rlp.first_item() {
-            Ok(item) => item,
-            Err(fault) => return Err(fault),
-        };
+        let (item, _) = rlp.split_first()?;
         match node_of(alloc, item.as_raw()) {
             Ok(node) => Ok(node),
             Err(fault) => Err(fault),

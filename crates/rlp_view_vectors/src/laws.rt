@@ -77,7 +77,7 @@ fn laws_of_streams() {
 #[test]
 fn laws_that_read(rt: HostRuntime) -> Result<(), Fail> {
     let alloc = rt.alloc();
-    let (item, rest) = laws::joined_items_are_split_off(&LIST[1..], false)?;
+    let (item, rest) = laws::joined_items_are_split_off(&LIST[1..])?;
     assert!(rt; item.as_raw() == [0x01].as_slice() && rest == [0x02].as_slice());
     let numbers = (
         laws::encoding_is_decoded::<u64>(alloc, &LIST[1..])?,
