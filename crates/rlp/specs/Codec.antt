@@ -19,13 +19,13 @@ use Rattle.rlp.specs.Values.ListReading.{MayLackAsList, MayLackAsOption, MayLack
 use Rattle.rlp.specs.Values.FieldReading.{FaultsAsStruct, FieldsReading, IsCount, MayLackAsStruct, count_if, field_before, group_fields, no_fields, optional_fields}
 use Rattle.rlp.specs.Values.RoundTrip.{ReadsBack, ReadsStrictly}
 use Rattle.rlp.specs.Values.Same.{SameOption}
+use Rattle.rlp.specs.Values.FieldReading.{HoldsFrom, PartsFrom}
 use Rattle.rlp.specs.Lemmas.RoundTrips.{bool_reads_back, bytes_in, number_reads_back, reads_back, reads_back_through, sound_length, text_in}
 use Rattle.rlp.specs.Lemmas.ListRoundTrips.{option_reads_back}
 use Rattle.rlp.specs.Lemmas.ValueLists.{list_reads_back}
-use Rattle.rlp.specs.Lemmas.Structs.{HoldsFrom, list_same}
+use Rattle.rlp.specs.Lemmas.Structs.{list_same}
 use Rattle.rlp.specs.Lemmas.StrictReads.{bool_strict, bytes_strict, number_strict, option_strict, strict_through, strings_strict, text_strict}
 use Rattle.rlp.specs.Lemmas.StrictLists.{list_strict}
-use Rattle.rlp.specs.Lemmas.StrictStructs.{PartsFrom}
 use Rattle.rlp.specs.Lemmas.Fields.{field_alike, field_exact, field_exactly_sound, field_sound}
 use Rattle.rlp.specs.Lemmas.Groups.{below_same, groups_alike, groups_counted, groups_exact, groups_exactly_sound, groups_right, groups_sound, not_none}
 use Rattle.rlp.specs.Lemmas.OptionalGroups.{if_alike, if_counted, if_exact, if_exactly_sound, if_right, if_sound, some_here, with_end, without_end}

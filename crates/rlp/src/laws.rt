@@ -31,8 +31,8 @@ pub use rlp_streams::laws::{
 };
 pub use round_trip::{encoding_is_decoded, list_is_decoded, list_is_read_back, scalar_is_decoded};
 pub use strict::{
-    lenient_views_ignore_what_follows, list_strictly_decoded, strict_fault_is_read,
-    strict_option_is_read, strict_values_are_read, strictly_decoded,
+    lenient_views_ignore_what_follows, strict_fault_is_read, strict_option_is_read,
+    strict_values_are_read,
 };
 pub use uints::equal_numbers_are_equal_uints;
 pub use views::{

@@ -12,8 +12,11 @@
 //! ```
 #![tactic(auto)]
 
-ghost use Rattle.std.specs.Prelude.{◌≡◌, IfOk, IfErr, OnOk, ◌⊎◌};
+ghost use Rattle.std.specs.Prelude.{◌≡◌, IfOk, IfErr, IsOkAnd, OnOk, ◌⊎◌, List, map, All};
+ghost use Rattle.rlp_format.specs.Format.Item.{list_of};
 ghost use Rattle.rlp_format.specs.Format.Encoding.{encoding};
+ghost use Rattle.rlp_format.specs.Format.WrittenHeader.{AreBytes};
+ghost use Rattle.rlp_format.specs.Values.Value.{AreAlike};
 ghost use Rattle.rlp_format.specs.declared.error.DecoderError.TheVariants.{OutOfMemory};
 ghost use Rattle.rlp.specs.Values.ListReading.{FaultsAsList, GivesList, MayLackAsList};
 ghost use Rattle.rlp_format.specs.Views.View.{strict_view_of, view_of};
@@ -114,4 +117,49 @@ pub fn decode_list_strict<T: Decodable>(alloc: Global, bytes: &[u8]) -> Result<V
         ⊎ ((e ≡ OutOfMemory) × MayLackAsList T.gives T.may_lack_memory (strict_view_of bytes.now))) }
 {
     Rlp::new_strict(bytes).as_list(alloc)
+}
+
+/// The value whose whole encoding the bytes are, for a type with [`StrictRead`]. This is
+/// [`decode_strict`], whose contract speaks of any type. The law of the trait says more:
+///
+/// - A value fits, and the bytes are its encoding.
+/// - For the encoding of a value that fits, the result is a value alike to it, or `OutOfMemory` if
+///   memory is refused.
+///
+/// ```rust
+/// assert_eq!(rt; rlp::decode_whole::<u64>(alloc, &[0x82, 0x01, 0x00])?, 256);
+/// ```
+pub fn decode_whole<T: StrictRead>(alloc: Global, bytes: &[u8]) -> Result<T, DecoderError>
+    ensures whole { IfOk result (λ w. T.fits w × (bytes.now ≡ encoding (T.item w))) }
+    ensures fault { IfErr result
+        (λ e. (AreBytes bytes.now × T.faults (strict_view_of bytes.now) e) ⊎ ((e ≡ OutOfMemory)
+        × T.may_lack_memory (strict_view_of bytes.now))) }
+    ensures only { (v : T) → IsOkAnd result (λ w. AreAlike T.item w v)
+        → bytes.now ≡ encoding (T.item v) }
+    ensures alike { (v : T) → T.fits v → bytes.now ≡ encoding (T.item v)
+        → IfOk result (λ w. T.fits w × AreAlike T.item w v) }
+    ensures memory { (v : T) → T.fits v → bytes.now ≡ encoding (T.item v)
+        → IfErr result (λ e. (e ≡ OutOfMemory) × T.may_lack_memory (strict_view_of bytes.now)) }
+{
+    decode_strict(alloc, bytes)
+}
+
+/// The values of the list whose whole encoding the bytes are, for a type with [`StrictRead`]:
+/// [`decode_list_strict`], with what the law of the trait says of a list.
+///
+/// ```rust
+/// assert_eq!(rt; rlp::decode_list_whole::<u64>(alloc, &[0xc2, 0x05, 0x06])?.as_slice(), [5, 6].as_slice());
+/// ```
+pub fn decode_list_whole<T: StrictRead>(alloc: Global, bytes: &[u8]) -> Result<Vec<T>, DecoderError>
+    ensures only { (vs : List T)
+        → IsOkAnd result (λ ws. map T.item ws.items ≡ map T.item vs)
+        → bytes.now ≡ encoding (list_of (map T.item vs)) }
+    ensures alike { (vs : List T) → All T.fits vs → bytes.now ≡ encoding (list_of (map T.item vs))
+        → IfOk result (λ ws. All T.fits ws.items × (map T.item ws.items ≡ map T.item vs)) }
+    ensures memory { (vs : List T) → All T.fits vs
+        → bytes.now ≡ encoding (list_of (map T.item vs))
+        → IfErr result (λ e. (e ≡ OutOfMemory)
+        × MayLackAsList T.gives T.may_lack_memory (strict_view_of bytes.now)) }
+{
+    decode_list_strict(alloc, bytes)
 }

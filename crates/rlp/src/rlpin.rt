@@ -4,7 +4,6 @@ mod decoder;
 mod display;
 mod envelope;
 mod fields;
-mod first_item;
 mod iter;
 mod rlp;
 mod splitting;

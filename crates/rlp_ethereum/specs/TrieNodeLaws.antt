@@ -6,7 +6,7 @@ use Rattle.rlp.specs.DecoderError.TheVariants.{OutOfMemory}
 use Rattle.rlp.specs.Format.Encoding.{encoding}
 use Rattle.rlp.specs.Format.WrittenHeader.{AreBytes}
 use Rattle.rlp.specs.Values.FieldReading.{faulty_item}
-use Rattle.rlp.specs.Values.ListReading.{GivesAt, in_field}
+use Rattle.rlp.specs.Values.ListReading.{GivesAt}
 use Rattle.rlp.specs.Lemmas.Structs.{all_items_right}
 use Rattle.rlp.specs.Values.RawItem.{view_frame}
 use Rattle.rlp.specs.Values.ValueReading.{GivesBytes, GivesValue}
@@ -50,7 +50,8 @@ module _ (b : List ℕ) (bytes : AreBytes b) (fits : length b < 2 ^ 64) where
       leaf_by e (other_length n same not_two not_many) many path_at = not_two (let two : n ≡ 2 = cc in two)
       leaf_by e (faulty_branch f same bad) many path_at = cc
       leaf_by e (no_path f same bad) many path_at =
-          (leaf.reads_strictly b l bytes fits).sound fit is f (faulty_item 2 f same (all_items_right 2) (in_field 0 (omega arith) tt bad))
+          (leaf.reads_strictly b l bytes fits).sound fit is f (faulty_item 2 0 f same (all_items_right 2)
+          (record { few = omega arith; before = λ j none. absurd (omega (arith, none)); fault = bad }))
       leaf_by e (no_mark p f has none custom) many path_at =
           let same : p ≡ vec_items l.path = one_path p (vec_items l.path) has.path_at path_at in
           let other : path_mark p ≡ Some OfLeaf = ap path_mark same ∙ mark in cc
@@ -69,7 +70,8 @@ module _ (b : List ℕ) (bytes : AreBytes b) (fits : length b < 2 ^ 64) where
       extension_by e (other_length n same not_two not_many) many path_at = not_two (let two : n ≡ 2 = cc in two)
       extension_by e (faulty_branch f same bad) many path_at = cc
       extension_by e (no_path f same bad) many path_at =
-          (extension.reads_strictly b x bytes fits).sound fit is f (faulty_item 2 f same (all_items_right 2) (in_field 0 (omega arith) tt bad))
+          (extension.reads_strictly b x bytes fits).sound fit is f (faulty_item 2 0 f same (all_items_right 2)
+          (record { few = omega arith; before = λ j none. absurd (omega (arith, none)); fault = bad }))
       extension_by e (no_mark p f has none custom) many path_at =
           let same : p ≡ vec_items x.path = one_path p (vec_items x.path) has.path_at path_at in
           let other : path_mark p ≡ Some OfExtension = ap path_mark same ∙ mark in cc

@@ -60,10 +60,7 @@ impl Decodable for Child {
 
     #[tactic(auto, using(crate::specs::ChildLaws::child_reading))]
     fn decode(alloc: Global, rlp: &Rlp<'_>) -> Result<Child, DecoderError> {
-        let item = match rlp.first_item() {
-            Ok(item) => item,
-            Err(fault) => return Err(fault),
-        };
+        let (item, _) = rlp.split_first()?;
         match child_of(alloc, item.as_raw()) {
             Ok(child) => Ok(child),
             Err(fault) => Err(fault),

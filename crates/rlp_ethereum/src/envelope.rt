@@ -10,7 +10,7 @@ ghost use Rattle.rlp.specs.Values.Value.{AreAlike};
 ghost use Rattle.rlp_ethereum.specs.Envelope.{FaultsAfter, MayLackAfter, another_type};
 
 use bytes::{BufMut, BytesMut};
-use rlp::{AppendFields, DecoderError, Encodable, RlpStream, StrictRead, laws, write_struct};
+use rlp::{AppendFields, DecoderError, Encodable, RlpStream, StrictRead, write_struct};
 use std::alloc::{AllocError, Global};
 
 /// The type of an [`AccessListTransaction`](crate::AccessListTransaction): EIP-2930.
@@ -96,7 +96,7 @@ pub fn from_envelope<T: StrictRead>(
         → IfErr result (λ e. e ≡ OutOfMemory) }
 {
     match bytes {
-        [first, payload @ ..] if *first == kind => laws::strictly_decoded(alloc, payload),
+        [first, payload @ ..] if *first == kind => rlp::decode_whole(alloc, payload),
         _ => Err(DecoderError::Custom("another type")),
     }
 }

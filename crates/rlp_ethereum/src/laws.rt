@@ -31,7 +31,7 @@ pub fn record_is_read<R: Record>(alloc: Global, bytes: &[u8]) -> Result<R, Decod
     ensures memory { (v : R) → R.fits v → bytes.now ≡ encoding (R.item v)
         → IfErr result (λ e. (e ≡ OutOfMemory) × R.may_lack_memory (strict_view_of bytes.now)) }
 {
-    rlp::laws::strictly_decoded(alloc, bytes)
+    rlp::decode_whole(alloc, bytes)
 }
 
 /// Two records whose encodings are shorter than 2^64 bytes have equal encodings exactly if they are

@@ -158,10 +158,7 @@ impl Decodable for NodeRecord {
 
     #[tactic(auto, using(crate::specs::NodeLaws::record_reading))]
     fn decode(alloc: Global, rlp: &Rlp<'_>) -> Result<NodeRecord, DecoderError> {
-        let item = match rlp.first_item() {
-            Ok(item) => item,
-            Err(fault) => return Err(fault),
-        };
+        let (item, _) = rlp.split_first()?;
         match record_fields(alloc, item.as_raw()) {
             Ok(fields) => Ok(NodeRecord { fields }),
             Err(fault) => Err(fault),

@@ -16,7 +16,7 @@ use crate::{
 };
 use bytes::BytesMut;
 use rlp::{
-    Decodable, DecoderError, Encodable, Envelope, Rlp, RlpStream, RoundTrip, StrictRead, laws,
+    Decodable, DecoderError, Encodable, Envelope, Rlp, RlpStream, RoundTrip, StrictRead,
     write_envelope,
 };
 use std::alloc::{AllocError, Global};
@@ -84,7 +84,7 @@ fn read_alone(alloc: Global, bytes: &[u8]) -> Result<Transaction, DecoderError>
         × MayLackAlone legacy_transaction typed_transactions bytes.now)) }
 {
     if Rlp::new(bytes).is_list() {
-        return match laws::strictly_decoded(alloc, bytes) {
+        return match rlp::decode_whole(alloc, bytes) {
             Ok(legacy) => Ok(Transaction::Legacy(legacy)),
             Err(fault) => Err(fault),
         };

@@ -11,7 +11,7 @@ ghost use Rattle.rlp_ethereum.specs.TrieNode.{IsNodeFault, IsTrieNode, MayLackIn
 ghost use Rattle.rlp_ethereum.specs.TrieNodeLaws.{trie_node};
 
 use crate::{Branch, Extension, Leaf};
-use rlp::{Decodable, DecoderError, Encodable, Rlp, RlpStream, RoundTrip, StrictRead, laws};
+use rlp::{Decodable, DecoderError, Encodable, Rlp, RlpStream, RoundTrip, StrictRead};
 use std::alloc::{AllocError, Global};
 
 /// A node of the Merkle Patricia trie of any kind.
@@ -80,10 +80,7 @@ impl Decodable for TrieNode {
 
     #[tactic(auto, using(crate::specs::TrieNodeLaws::node_reading))]
     fn decode(alloc: Global, rlp: &Rlp<'_>) -> Result<TrieNode, DecoderError> {
-        let item = match rlp.first_item() {
-            Ok(item) => item,
-            Err(fault) => return Err(fault),
-        };
+        let (item, _) = rlp.split_first()?;
         match node_of(alloc, item.as_raw()) {
             Ok(node) => Ok(node),
             Err(fault) => Err(fault),
@@ -109,7 +106,7 @@ fn node_of(alloc: Global, bytes: &[u8]) -> Result<TrieNode, DecoderError>
 {
     match Rlp::new_strict(bytes).item_count() {
         Ok(2) => short_node_of(alloc, bytes),
-        Ok(17) => match laws::strictly_decoded(alloc, bytes) {
+        Ok(17) => match rlp::decode_whole(alloc, bytes) {
             Ok(branch) => Ok(TrieNode::Branch(branch)),
             Err(fault) => Err(fault),
         },
@@ -131,11 +128,11 @@ fn short_node_of(alloc: Global, bytes: &[u8]) -> Result<TrieNode, DecoderError>
         Err(fault) => return Err(fault),
     };
     match mark_of(path) {
-        Some(Mark::OfLeaf) => match laws::strictly_decoded(alloc, bytes) {
+        Some(Mark::OfLeaf) => match rlp::decode_whole(alloc, bytes) {
             Ok(leaf) => Ok(TrieNode::Leaf(leaf)),
             Err(fault) => Err(fault),
         },
-        Some(Mark::OfExtension) => match laws::strictly_decoded(alloc, bytes) {
+        Some(Mark::OfExtension) => match rlp::decode_whole(alloc, bytes) {
             Ok(extension) => Ok(TrieNode::Extension(extension)),
             Err(fault) => Err(fault),
         },

@@ -14,7 +14,7 @@ use crate::envelope::{
 };
 use bytes::BytesMut;
 use rlp::{
-    Decodable, DecoderError, Encodable, Envelope, Rlp, RlpStream, RoundTrip, StrictRead, laws,
+    Decodable, DecoderError, Encodable, Envelope, Rlp, RlpStream, RoundTrip, StrictRead,
     write_envelope,
 };
 use std::alloc::{AllocError, Global};
@@ -83,7 +83,7 @@ fn read_alone(alloc: Global, bytes: &[u8]) -> Result<TypedReceipt, DecoderError>
         × MayLackAlone receipt typed_receipts bytes.now)) }
 {
     if Rlp::new(bytes).is_list() {
-        return match laws::strictly_decoded(alloc, bytes) {
+        return match rlp::decode_whole(alloc, bytes) {
             Ok(receipt) => Ok(TypedReceipt::Legacy(receipt)),
             Err(fault) => Err(fault),
         };

@@ -7,7 +7,7 @@ use Rattle.rlp.specs.Format.Item.{Item, list_of}
 use Rattle.rlp.specs.Views.View.{View, item_count}
 use Rattle.rlp.specs.Values.ListReading.{FaultsAsList, GivesAt, GivesList, GivesSomeAt, MayLackAsList, MayLackAt}
 use Rattle.rlp.specs.Values.FieldReading.{FaultsAsStruct, MayLackAsStruct, NoMore, by_place}
-use Rattle.rlp.specs.Lemmas.ListRoundTrips.{AlwaysReadsBack}
+use Rattle.rlp.specs.Values.RoundTrip.{AlwaysReadsBack}
 use Rattle.rlp.specs.Lemmas.Fields.{field_alike, field_sound}
 use Rattle.rlp.specs.Lemmas.WholeStructs.{none_below, none_right, one_more_right, struct_reads_back}
 use Rattle.rlp.specs.Lemmas.ValueLists.{list_reads_back}

@@ -69,7 +69,7 @@ fn first_item<'a>(bytes: &'a [u8]) -> Option<(&'a [u8], &'a [u8])>
         (λ r. (frame bytes.now ≡ Ok r.0.now) × (bytes.now ≡ r.0.now ++ r.1.now)) }
 {
     frame_is_of_framed(bytes);
-    match Rlp::split_first(bytes) {
+    match Rlp::new(bytes).split_first() {
         Ok((item, others)) => Some((item.as_raw(), others)),
         Err(_) => None,
     }

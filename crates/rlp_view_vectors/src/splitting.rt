@@ -1,20 +1,10 @@
 //! Items that are split off the beginning of bytes.
 
-use crate::rows::{Call, Hex, first_wrong, raw};
-use rlp::{DecoderError, Rlp};
+use crate::rows::{Call, Hex, first_wrong, raw, view_of};
 use std::alloc::Global;
 use std::fmt;
 use std::fmt::Write;
 use std::test::Fail;
-
-/// Returns the first item as a strict or a lenient view, and the bytes that follow it.
-fn split_first<'a>(bytes: &'a [u8], strict: bool) -> Result<(Rlp<'a>, &'a [u8]), DecoderError> {
-    if strict {
-        Rlp::split_first_strict(bytes)
-    } else {
-        Rlp::split_first(bytes)
-    }
-}
 
 /// Tells the items that are split off one after another, and then the fault, and what is left.
 struct Split<const STRICT: bool>;
@@ -25,7 +15,7 @@ impl<const STRICT: bool> Call for Split<STRICT> {
     fn tell<W: fmt::Write>(_alloc: Global, bytes: &&'static [u8], out: &mut W) -> fmt::Result {
         let mut left = *bytes;
         for _ in 0..=bytes.len() {
-            match split_first(left, STRICT) {
+            match view_of(left, STRICT).split_first() {
                 Ok((item, rest)) => {
                     write!(out, "{:?} ", raw(Ok(item), STRICT))?;
                     left = rest;
@@ -56,6 +46,17 @@ const ITEMS: [(&[u8], &str); 12] = [
     (b"\xf8\x00\x05", "RlpListLenWithZeroPrefix f80005"),
 ];
 
+/// A strict view is split only if it is one item. If it isn't framed, this fault comes first.
+const STRICT_ITEMS: [(&[u8], &str); 7] = [
+    (b"", "RlpIsTooShort "),
+    (b"\xc1\x06", "Ok(c106) RlpIsTooShort "),
+    (b"\x81\x05", "Ok(8105) RlpIsTooShort "),
+    (b"\x05\xc1\x06", "RlpIsTooBig 05c106"),
+    (b"\x83cat\x80", "RlpIsTooBig 8363617480"),
+    (b"\xc5\x05", "RlpIsTooShort c505"),
+    (b"\xb8\x00\x05", "RlpDataLenWithZeroPrefix b80005"),
+];
+
 /// Tells whether the first item is canonical, its fault as a number or as a list of numbers, and
 /// the bytes that follow it.
 struct FirstRead<const STRICT: bool>;
@@ -64,7 +65,7 @@ impl<const STRICT: bool> Call for FirstRead<STRICT> {
     type Input = &'static [u8];
 
     fn tell<W: fmt::Write>(alloc: Global, bytes: &&'static [u8], out: &mut W) -> fmt::Result {
-        let (item, rest) = match split_first(bytes, STRICT) {
+        let (item, rest) = match view_of(bytes, STRICT).split_first() {
             Ok(found) => found,
             Err(fault) => return write!(out, "{fault}"),
         };
@@ -84,18 +85,18 @@ const NOT_CANONICAL: [(&[u8], &str); 3] = [
     (b"\xc3\x05\x82\x00\xc0", "false None c0"),
 ];
 
-/// The same items, as strict views.
+/// The same items alone, as strict views.
 const STRICTLY_READ: [(&[u8], &str); 3] = [
-    (b"\x81\x05\xc0", "false Some(RlpInvalidIndirection) c0"),
-    (b"\xc2\x81\x05\xc0", "false Some(RlpInvalidIndirection) c0"),
-    (b"\xc3\x05\x82\x00\xc0", "false Some(RlpIsTooShort) c0"),
+    (b"\x81\x05", "false Some(RlpInvalidIndirection) "),
+    (b"\xc2\x81\x05", "false Some(RlpInvalidIndirection) "),
+    (b"\xc3\x05\x82\x00", "false Some(RlpIsTooShort) "),
 ];
 
 #[test]
 fn first_items(rt: HostRuntime) -> Result<(), Fail> {
     let alloc = rt.alloc();
     assert_eq!(rt; first_wrong::<Split<false>>(alloc, &ITEMS)?, None);
-    assert_eq!(rt; first_wrong::<Split<true>>(alloc, &ITEMS)?, None);
+    assert_eq!(rt; first_wrong::<Split<true>>(alloc, &STRICT_ITEMS)?, None);
     assert_eq!(rt;
         first_wrong::<FirstRead<false>>(alloc, &NOT_CANONICAL)?,
         None

@@ -3,7 +3,7 @@
 use crate::lists::{ReadList, ReadListAt};
 use crate::rows::{Call, first_wrong};
 use crate::values::Read;
-use rlp::Rlp;
+use rlp::{DecoderError, Rlp};
 use std::alloc::Global;
 use std::fmt;
 use std::fmt::Write;
@@ -128,6 +128,17 @@ const INVALID: [(&[u8], &str); 24] = [
     (b"\xc0\x00", "false Some(RlpIsTooBig)"),
     (b"\x00\x00", "false Some(RlpIsTooBig)"),
 ];
+
+#[test]
+fn whole_encodings(rt: HostRuntime) -> Result<(), Fail> {
+    let alloc = rt.alloc();
+    assert_eq!(rt; rlp::decode_whole::<u64>(alloc, &[0x82, 0x01, 0x00])?, 256);
+    let longer = rlp::decode_whole::<u64>(alloc, &[0x05, 0x06]);
+    assert_eq!(rt; longer, Err(DecoderError::RlpIsTooBig));
+    let list = rlp::decode_list_whole::<u64>(alloc, &[0xc2, 0x05, 0x06])?;
+    assert_eq!(rt; list.as_slice(), [5, 6].as_slice());
+    Ok(())
+}
 
 #[test]
 fn strict_values_and_invalid_encodings(rt: HostRuntime) -> Result<(), Fail> {

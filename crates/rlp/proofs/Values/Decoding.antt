@@ -11,10 +11,9 @@ use Rattle.rlp_format.specs.Views.View.{View, view_of}
 use Rattle.rlp.specs.Values.ListReading.{GivesList, FaultsAsList}
 use Rattle.rlp_format.specs.Lemmas.Encodings.{front_sized}
 use Rattle.rlp.specs.Lemmas.Structs.{list_same}
-use Rattle.rlp.specs.Lemmas.ListRoundTrips.{AlwaysReadsBack}
 use Rattle.rlp.specs.Lemmas.ValueLists.{list_reads_back}
 use Rattle.rlp_format.specs.Lemmas.Views.{items_of_list}
-use Rattle.rlp.specs.Values.RoundTrip.{ReadsBack}
+use Rattle.rlp.specs.Values.RoundTrip.{AlwaysReadsBack, ReadsBack}
 
 module _ {A : Type 0} (Fits : A → Type 0) (item : A → Item) (gives : View → A → Type 0) (faults : View → DecoderError → Type 0) (b : List ℕ) where
   -- a value that is read has the item that was written

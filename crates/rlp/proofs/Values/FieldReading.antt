@@ -8,7 +8,7 @@ use Rattle.rlp.specs.Lemmas.WholeStructs.{none_right, only_more}
 use Rattle.rlp.specs.Values.FieldPlace.{FieldPlace, field_place}
 use Rattle.rlp.specs.Values.FieldReading.{FaultsAsStruct, FieldsFail, GivesFields, IsCount, MayLackAsStruct, NoMore, NoneOr, StructFails}
 use Rattle.rlp.specs.Values.FieldReading.{by_place, fails_at, faulty_item, has_other_number, is_no_list, no_items, other_number}
-use Rattle.rlp.specs.Values.ListReading.{FaultsAt, GivesBefore, in_field}
+use Rattle.rlp.specs.Values.ListReading.{FaultsAt}
 
 -- ---- numbers of items
 
@@ -157,14 +157,6 @@ pub ruleset optional_groups = (none_given, none_next, all_after)
 
 -- ---- the whole struct
 
-pub given_before : (some : ℕ → ℕ → View → Type 0) (v : View) (k : ℕ) → GivesFields k some v 0 → GivesBefore some v k
-given_before some v zero given = tt
-given_before some v (suc k) given = (
-  given_before some v k (λ j few. given j (omega (arith, few))),
-  subst (λ i. some k i v) (let place : 0 + k ≡ k = omega arith in place)
-      (given k (omega arith)),
-)
-
 module _ (least : ℕ) (IsMore : ℕ → Type 0) (some : ℕ → ℕ → View → Type 0) (faults : ℕ → View → DecoderError → Type 0)
     (may_lack : ℕ → ℕ → View → Type 0) (v : View) where
   -- a struct whose fields fail has a fault, or memory may be short for it
@@ -172,21 +164,9 @@ module _ (least : ℕ) (IsMore : ℕ → Type 0) (some : ℕ → ℕ → View �
       → FaultsAsStruct least IsMore some faults v e ⊎ ((e ≡ OutOfMemory) × MayLackAsStruct least IsMore some may_lack v)
   struct_faults place e (is_no_list f none) = inl (no_items f none)
   struct_faults place e (has_other_number m many wrong) = inl (other_number m many wrong)
-  struct_faults place e (fails_at m k f many right (inl bad)) = inl (faulty_item m f many right
-      (in_field k bad.few (given_before some v k bad.before)
-      (subst (λ i. FaultsAt (faults k) v i f) (let place : 0 + k ≡ k = omega arith in place) bad.fault)))
-  struct_faults place e (fails_at m k f many right (inr (lacks, l))) = inr (
-    lacks,
-    record {
-      count = m;
-      many = many;
-      right = right;
-      place = k;
-      few = l.few;
-      before = given_before some v k l.before;
-      may = subst (λ i. may_lack k i v) (let place : 0 + k ≡ k = omega arith in place) l.may;
-    },
-  )
+  struct_faults place e (fails_at m k f many right (inl bad)) = inl (faulty_item m k f many right bad)
+  struct_faults place e (fails_at m k f many right (inr (lacks, may))) =
+      inr (lacks, record { count = m; many = many; right = right; place = k; may = may })
 
   -- if a view has a right number of items and its fields fail, the struct fails there
   pub struct_fails : (m : ℕ) (f : FieldPlace) (place : Option ℕ) (e : DecoderError) → item_count v ≡ Ok m → IsCount least IsMore m → f ≡ field_place v 0

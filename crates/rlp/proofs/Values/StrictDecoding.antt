@@ -8,8 +8,8 @@ use Rattle.rlp_format.specs.Format.Encoding.{encoding}
 use Rattle.rlp_format.specs.Views.View.{View, strict_view_of}
 use Rattle.rlp.specs.Values.ListReading.{GivesList, FaultsAsList}
 use Rattle.rlp_format.specs.Lemmas.Encodings.{prefix_free}
+use Rattle.rlp.specs.Values.RoundTrip.{AlwaysReadsStrictly}
 use Rattle.rlp.specs.Lemmas.Structs.{list_same}
-use Rattle.rlp.specs.Lemmas.StrictReads.{AlwaysReadsStrictly}
 use Rattle.rlp.specs.Lemmas.StrictLists.{list_whole, no_list_fault}
 use Rattle.rlp.specs.Lemmas.WholeLists.{whole_sized}
 

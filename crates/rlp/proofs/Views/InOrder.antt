@@ -1,5 +1,5 @@
 -- The items of a view, taken one after another.
-use Rattle.std.proofs.Common.{◌≡◌, ℕ, ◌+◌, ◌-◌, ◌≤◌, true, List, [], ◌∷◌, ◌++◌, length, drop, Ok, Err, None, sym, ap, ◌∙◌, arith, length-drop}
+use Rattle.std.proofs.Common.{◌≡◌, ℕ, ◌+◌, ◌-◌, ◌<◌, ◌≤◌, true, List, [], ◌∷◌, ◌++◌, length, drop, Ok, Err, None, IsOkAnd, sym, ap, ◌∙◌, subst, arith, length-drop}
 use Rattle.rlp_format.specs.declared.error.DecoderError.{DecoderError}
 use Rattle.rlp_format.specs.declared.header.PayloadInfo.{PayloadInfo}
 use Rattle.rlp_format.specs.Format.Framing.{fault, framing, value}
@@ -89,19 +89,19 @@ all_counted v place left at none =
     let same : length (items v.bytes) ≡ place = let below = at.few in omega arith in
     item_count-told v at.told ∙ ap Ok same
 
--- if an item is left, not all were taken
+-- if an item is left, fewer were taken than the view has
 pub more_counted : (v : View) (place : ℕ) (left item others : List ℕ) → IsAtPlace v place left → split left ≡ item ∷ split others
-    → FaultsAsFields place (λ _ _. ⊥) v RlpIncorrectListLen
+    → IsOkAnd (item_count v) (λ count. place < count)
 more_counted v place left item others at parts =
     let inside = drop-inside place (items v.bytes) (split others) item (sym at.others ∙ parts) in
-    other_count (length (items v.bytes)) (item_count-told v at.told) (λ same. omega (arith, same))
+    subst (λ r. IsOkAnd r (λ count. place < count)) (sym (item_count-told v at.told)) (omega arith)
 
 -- a view with another number of items
-pub other_fields : (v : View) (m n : ℕ) → item_count v ≡ Ok m → (m ≡ n → ⊥) → FaultsAsFields n (λ _ _. ⊥) v RlpIncorrectListLen
+pub other_fields : (v : View) (m n : ℕ) → item_count v ≡ Ok m → (m ≡ n → ⊥) → FaultsAsFields n v RlpIncorrectListLen
 other_fields v m n is other = other_count m is other
 
 -- a view that has no number of items
-pub untold_fields : (v : View) (n : ℕ) (e : DecoderError) → item_count v ≡ Err e → FaultsAsFields n (λ _ _. ⊥) v e
+pub untold_fields : (v : View) (n : ℕ) (e : DecoderError) → item_count v ≡ Err e → FaultsAsFields n v e
 untold_fields v n e is = no_fields e is
 
 -- if items are counted, they are returned by number

@@ -6,8 +6,7 @@ use Rattle.rlp_format.specs.Format.Encoding.{BeginsWith, encoding}
 use Rattle.rlp_format.specs.Views.View.{View, HoldsItem, strict_view_of, view_of}
 use Rattle.rlp.specs.Values.ValueReading.{GivesValue}
 use Rattle.rlp_format.specs.Lemmas.Encodings.{front_sized, prefix_free}
-use Rattle.rlp.specs.Lemmas.ListRoundTrips.{AlwaysReadsBack}
-use Rattle.rlp.specs.Lemmas.StrictReads.{AlwaysReadsStrictly}
+use Rattle.rlp.specs.Values.RoundTrip.{AlwaysReadsBack, AlwaysReadsStrictly}
 use Rattle.rlp.specs.Lemmas.StringsHeld.{held_begins}
 
 -- bytes begin with the encoding of at most one item

@@ -5,11 +5,10 @@ use Rattle.rlp_format.specs.Format.Item.{Item}
 use Rattle.rlp_format.specs.Format.Encoding.{encoding}
 use Rattle.rlp_format.specs.Views.View.{View}
 use Rattle.rlp.specs.Values.ListReading.{FaultsAt, GivesAt}
-use Rattle.rlp.specs.Values.FieldReading.{by_place}
-use Rattle.rlp.specs.Lemmas.ListRoundTrips.{AlwaysReadsBack}
-use Rattle.rlp.specs.Lemmas.StrictReads.{AlwaysReadsStrictly}
-use Rattle.rlp.specs.Lemmas.StrictStructs.{PartsFrom, exact_at, sound_at}
-use Rattle.rlp.specs.Lemmas.Structs.{HoldsFrom, cons_same, first_back, sound_by}
+use Rattle.rlp.specs.Values.FieldReading.{HoldsFrom, PartsFrom, by_place}
+use Rattle.rlp.specs.Values.RoundTrip.{AlwaysReadsBack, AlwaysReadsStrictly}
+use Rattle.rlp.specs.Lemmas.StrictStructs.{exact_at, sound_at}
+use Rattle.rlp.specs.Lemmas.Structs.{cons_same, first_back, sound_by}
 use Rattle.rlp.specs.Lemmas.WholeLists.{parts_same}
 
 module _ {A : Type 0} (Fits : A → Type 0) (item : A → Item) (gives : View → A → Type 0) (faults : View → DecoderError → Type 0) where

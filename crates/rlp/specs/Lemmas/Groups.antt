@@ -12,9 +12,7 @@ use Rattle.rlp_format.specs.Format.Encoding.{encoding}
 use Rattle.rlp_format.specs.Views.View.{View}
 use Rattle.rlp_streams.specs.Streams.Fields.{all_items}
 use Rattle.rlp.specs.Values.ListReading.{FaultsAt}
-use Rattle.rlp.specs.Values.FieldReading.{GivesGroups, in_group}
-use Rattle.rlp.specs.Lemmas.StrictStructs.{PartsFrom}
-use Rattle.rlp.specs.Lemmas.Structs.{HoldsFrom}
+use Rattle.rlp.specs.Values.FieldReading.{GivesGroups, HoldsFrom, PartsFrom, in_group}
 
 -- a number that isn't 0
 pub not_none : (n : ℕ) → (0 == n) ≡ false → 0 < n

@@ -9,15 +9,10 @@ use Rattle.rlp_format.specs.Format.Encoding.{BeginsWith, encoding, join, IsSized
 use Rattle.rlp_format.specs.Values.Value.{option_item}
 use Rattle.rlp_format.specs.Views.View.{View, view_of, item_at, item_count}
 use Rattle.rlp.specs.Values.ListReading.{GivesAt, FaultsAt, GivesOption, no_value, one_value, FaultsAsOption, no_list, many_items, faulty_item}
-use Rattle.rlp.specs.Values.RoundTrip.{ReadsBack}
+use Rattle.rlp.specs.Values.RoundTrip.{AlwaysReadsBack, ReadsBack}
 use Rattle.rlp_format.specs.Lemmas.Encodings.{encoding_list, small_payload, front_sized}
 use Rattle.rlp_format.specs.Lemmas.Views.{sized_items}
 use Rattle.rlp_format.specs.Lemmas.Numbered.{item_count-list, item_at-list_item}
-
--- what the law of `RoundTrip` says about a type
-abbrev pub AlwaysReadsBack : {A : Type 0} → (A → Type 0) → (A → Item) → (View → A → Type 0) → (View → DecoderError → Type 0) → Type 0
-AlwaysReadsBack {A} Fits item gives faults = (b : List ℕ) (v : A) → length b < 2 ^ 64 → Fits v → BeginsWith b (encoding (item v))
-    → ReadsBack Fits item gives faults (view_of b) v
 
 -- ---- one item of a list
 

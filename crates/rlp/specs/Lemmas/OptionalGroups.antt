@@ -8,10 +8,8 @@ use Rattle.rlp_format.specs.Format.Encoding.{encoding}
 use Rattle.rlp_format.specs.Views.View.{View}
 use Rattle.rlp.specs.Values.ListReading.{FaultsAt}
 use Rattle.rlp_streams.specs.Streams.Fields.{items_if}
-use Rattle.rlp.specs.Values.FieldReading.{IsCount, NoneOr, count_if}
+use Rattle.rlp.specs.Values.FieldReading.{HoldsFrom, IsCount, NoneOr, PartsFrom, count_if}
 use Rattle.rlp.specs.Lemmas.Groups.{not_none}
-use Rattle.rlp.specs.Lemmas.StrictStructs.{PartsFrom}
-use Rattle.rlp.specs.Lemmas.Structs.{HoldsFrom}
 use Rattle.rlp.specs.Lemmas.WholeStructs.{none_below, only_more}
 
 module _ {A : Type 0} (Fits : A → Type 0) (items_of : A → List Item) (count : A → ℕ) (counted : (x : A) → length (items_of x) ≡ count x) where

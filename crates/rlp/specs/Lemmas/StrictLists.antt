@@ -13,8 +13,8 @@ use Rattle.rlp.specs.Values.ListReading.{GivesEach, GivesList, FaultsAsList, not
 use Rattle.rlp.specs.Lemmas.OneReading.{front_bytes, back_bytes}
 use Rattle.rlp_format.specs.Lemmas.Reading.{Bytes}
 use Rattle.rlp.specs.Lemmas.Slices.{payload_short}
-use Rattle.rlp.specs.Lemmas.StrictReads.{AlwaysReadsStrictly}
 use Rattle.rlp_format.specs.Lemmas.Views.{payload_bytes}
+use Rattle.rlp.specs.Values.RoundTrip.{AlwaysReadsStrictly}
 use Rattle.rlp.specs.Lemmas.WholeLists.{parts_same, payload_parts, strict_items, strict_list_fault-encoding, whole_list, whole_sized}
 
 -- bytes that a slice can hold

@@ -13,16 +13,12 @@ use Rattle.rlp_format.specs.Values.Value.{FitsBytes, number_item, bit, option_it
 use Rattle.rlp.specs.Values.ValueReading.{GivesValue, FaultsAs, GivesNumber, FaultsAsNumber, GivesBytes, FaultsAsBytes, GivesText, FaultsAsText}
 use Rattle.rlp.specs.Values.ValueReading.{GivesBool, FaultsAsBool}
 use Rattle.rlp.specs.Values.ListReading.{GivesAt, GivesOption, no_value, one_value, FaultsAsOption, no_list, many_items, faulty_item}
-use Rattle.rlp.specs.Values.RoundTrip.{ReadsStrictly}
+use Rattle.rlp.specs.Values.RoundTrip.{AlwaysReadsStrictly, ReadsStrictly}
 use Rattle.rlp_format.specs.Views.View.{View, item_at, item_count, items_fault, strict_view_of}
 use Rattle.rlp_format.specs.Lemmas.Numbered.{item_count-fault, item_count-told, fault_cases, told_begins}
 use Rattle.rlp.specs.Lemmas.RoundTrips.{bit_below, bool_held_back, bytes_held_back, held_back, number_held_back, text_held_back}
 use Rattle.rlp.specs.Lemmas.Slices.{part_of_items}
 use Rattle.rlp.specs.Lemmas.WholeLists.{strict_first, strict_item_count, strict_items, strict_list_told, whole_list, whole_sized}
-
--- what the law of `StrictRead` says about a type
-abbrev pub AlwaysReadsStrictly : {A : Type 0} → (A → Type 0) → (A → Item) → (View → A → Type 0) → (View → DecoderError → Type 0) → Type 0
-AlwaysReadsStrictly {A} Fits item gives faults = (b : List ℕ) (v : A) → AreBytes b → length b < 2 ^ 64 → ReadsStrictly Fits item gives faults b v
 
 -- ---- types that are read from one string
 

@@ -10,13 +10,9 @@ use Rattle.rlp_format.specs.Format.Split.{items}
 use Rattle.rlp_format.specs.Views.View.{View, item_at, item_views, items_fault, strict_view_of}
 use Rattle.rlp.specs.Values.ListReading.{FaultsAt, GivesAt}
 use Rattle.rlp_format.specs.Lemmas.Numbered.{slice_get-item_at}
+use Rattle.rlp.specs.Values.FieldReading.{PartsFrom}
+use Rattle.rlp.specs.Values.RoundTrip.{AlwaysReadsStrictly}
 use Rattle.rlp.specs.Lemmas.Slices.{part_of_items}
-use Rattle.rlp.specs.Lemmas.StrictReads.{AlwaysReadsStrictly}
-
--- from place i on, the items of the view are these bytes, read strictly
-abbrev pub PartsFrom : View → ℕ → List (List ℕ) → Type 0
-PartsFrom view i [] = Unit {0}
-PartsFrom view i (part ∷ parts) = (item_at view i ≡ Ok (strict_view_of part)) × (AreBytes part × ((length part < 2 ^ 64) × PartsFrom view (suc i) parts))
 
 -- ---- the first field, of a type whose values are read strictly
 

@@ -1,18 +1,19 @@
 -- Structs that are lists of their fields: their encodings are read back. Rules for bodies that read them.
 use Rattle.std.proofs.Common.{◌≡◌, ℕ, zero, suc, ◌+◌, ◌^◌, ◌<◌, ◌⊎◌, inl, inr, List, [], ◌∷◌, ◌++◌, length, refl, sym, ap, ◌∙◌, subst, arith}
-use Rattle.std.proofs.Common.{append_assoc, length-append, Ok, ◌≢◌}
+use Rattle.std.proofs.Common.{append_assoc, length-append, Ok, ◌≢◌, ⊎_elim}
+use Rattle.std.proofs.lemmas.Bool.{cases_lt}
 use Rattle.rlp_format.specs.declared.error.DecoderError.{DecoderError}
 use Rattle.rlp_format.specs.declared.error.DecoderError.TheVariants.{OutOfMemory, RlpIncorrectListLen}
 use Rattle.rlp_format.specs.Format.Item.{Item, list_of, items_from, listed}
 use Rattle.rlp_format.specs.Format.Encoding.{BeginsWith, encoding, join, IsSized}
 use Rattle.rlp_format.specs.Views.View.{View, view_of, item_at, item_count}
-use Rattle.rlp.specs.Values.ListReading.{FaultsAsFields, no_fields, other_count, faulty_field, FaultsAt, in_field, GivesAt, GivesBefore}
-use Rattle.rlp.specs.Values.FieldReading.{FaultsAsStruct, IsCount, MayLackAsStruct, NoMore, faulty_item, no_items, other_number}
+use Rattle.rlp.specs.Values.ListReading.{FaultsAsFields, no_fields, other_count, FaultsAt, GivesAt}
+use Rattle.rlp.specs.Values.FieldReading.{FaultsAsStruct, GivesFields, HoldsFrom, IsCount, MayLackAsStruct, NoMore, faulty_item, no_items, other_number}
 use Rattle.rlp.specs.Values.FieldPlace.{FieldPlace, field_place}
-use Rattle.rlp.specs.Values.RoundTrip.{ReadsBack}
+use Rattle.rlp.specs.Values.RoundTrip.{AlwaysReadsBack, ReadsBack}
 use Rattle.rlp_format.specs.Lemmas.Encodings.{encoding_list, small_payload, listed_from}
 use Rattle.rlp_format.specs.Lemmas.Numbered.{item_at-list_item}
-use Rattle.rlp.specs.Lemmas.ListRoundTrips.{AlwaysReadsBack, item_reads_back, middle_sized}
+use Rattle.rlp.specs.Lemmas.ListRoundTrips.{item_reads_back, middle_sized}
 
 -- equal lists have the same first item, and the same others
 pub cons_same : (x y : Item) (xs ys : List Item) → x ∷ xs ≡ y ∷ ys → (x ≡ y) × (xs ≡ ys)
@@ -21,11 +22,6 @@ cons_same x y xs ys e = (let h : x ≡ y = cc in h, let t : xs ≡ ys = cc in t)
 -- if two lists are the same item, they have the same items
 pub list_same : (xs ys : List Item) → list_of xs ≡ list_of ys → xs ≡ ys
 list_same xs ys e = let inner : items_from xs ≡ items_from ys = cc in sym (listed_from xs) ∙ ap listed inner ∙ listed_from ys
-
--- from place i on, the items of the view are the encodings of these
-abbrev pub HoldsFrom : View → ℕ → List Item → Type 0
-HoldsFrom view i [] = Unit {0}
-HoldsFrom view i (x ∷ xs) = (item_at view i ≡ Ok (view_of (encoding x))) × (IsSized x × HoldsFrom view (suc i) xs)
 
 -- in the encoding of a list, the items after some first ones are at their places
 pub holds_from : (before xs : List Item) (b : List ℕ) → IsSized (list_of (before ++ xs)) → BeginsWith b (encoding (list_of (before ++ xs)))
@@ -62,6 +58,22 @@ module _ {A P : Type 0} (field : P → A) (Fits : A → Type 0) (item : A → It
 pub all_items_right : (n : ℕ) → IsCount n NoMore n
 all_items_right n = record { more = 0; sum = omega arith; right = refl }
 
+-- the place of a field that is counted from the first item
+pub from_first : (k : ℕ) → k ≡ 0 + k
+from_first k = omega arith
+
+-- no field is before the first
+pub none_before : (some : ℕ → ℕ → View → Type 0) (v : View) (i : ℕ) → GivesFields 0 some v i
+none_before some v i j few = absurd (omega (arith, few))
+
+-- the fields before the next one: those before this one, and this one
+pub one_more_before : (some : ℕ → ℕ → View → Type 0) (v : View) (k : ℕ) → GivesFields k some v 0 → some k k v → GivesFields (suc k) some v 0
+one_more_before some v k before given j few =
+    ⊎_elim
+    (λ below. before j below)
+    (λ last. let same : k ≡ j = omega (arith, few, last) in subst (λ n. some j n v) (from_first j) (subst (λ n. some n n v) same given))
+    (cases_lt j k)
+
 module _ (count : ℕ) (some : ℕ → ℕ → View → Type 0) (faults : ℕ → View → DecoderError → Type 0) (may_lack : ℕ → ℕ → View → Type 0) (v : View)
     (e : DecoderError) where
   -- the fault is one of the struct, or memory may be short
@@ -70,10 +82,23 @@ module _ (count : ℕ) (some : ℕ → ℕ → View → Type 0) (faults : ℕ �
 
   -- a fault of a field is one of the struct
   pub field_fails : (k : ℕ) → FaultsAt (faults k) v k e ⊎ ((e ≡ OutOfMemory) × may_lack k k v) → item_count v ≡ Ok count → k < count
-      → GivesBefore some v k → StructFails
-  field_fails k (inl fault) many few before = inl (faulty_item count e many (all_items_right count) (in_field k few before fault))
-  field_fails k (inr (lacks, may)) many few before =
-      inr (lacks, record { count = count; many = many; right = all_items_right count; place = k; few = few; before = before; may = may })
+      → GivesFields k some v 0 → StructFails
+  field_fails k (inl fault) many few before =
+      inl (faulty_item count k e many (all_items_right count) (record {
+        few = few;
+        before = before;
+        fault = subst (λ n. FaultsAt (faults k) v n e) (from_first k) fault;
+      }))
+  field_fails k (inr (lacks, may)) many few before = inr (
+    lacks,
+    record {
+      count = count;
+      many = many;
+      right = all_items_right count;
+      place = k;
+      may = record { few = few; before = before; may = subst (λ n. may_lack k n v) (from_first k) may };
+    },
+  )
 
   -- the fact, if each of the first k fields is given
   abbrev pub WhereGiven : ℕ → Type 0 → Type 0
@@ -81,9 +106,9 @@ module _ (count : ℕ) (some : ℕ → ℕ → View → Type 0) (faults : ℕ �
   WhereGiven (suc k) Fact = WhereGiven k (some k k v → Fact)
 
   -- a fact that follows from all of the first fields together, as a chain of implications
-  pub where_given : (k : ℕ) (Fact : Type 0) → (GivesBefore some v k → Fact) → WhereGiven k Fact
-  where_given zero Fact from = from tt
-  where_given (suc k) Fact from = where_given k (some k k v → Fact) (λ before given. from (before, given))
+  pub where_given : (k : ℕ) (Fact : Type 0) → (GivesFields k some v 0 → Fact) → WhereGiven k Fact
+  where_given zero Fact from = from (none_before some v 0)
+  where_given (suc k) Fact from = where_given k (some k k v → Fact) (λ before given. from (one_more_before some v k before given))
 
   -- the same for the field with this number, if the fields before it gave values
   abbrev pub FieldFails : ℕ → Type 0
@@ -176,10 +201,9 @@ pub ruleset struct_fields = (
 
 -- a view that isn't a list of that number of items has a fault
 pub fields_off : (n : ℕ) (some : ℕ → ℕ → View → Type 0) (faults : ℕ → View → DecoderError → Type 0) (v : View) (e : DecoderError)
-    → FaultsAsFields n (λ _ _. ⊥) v e → FaultsAsStruct n NoMore some faults v e
+    → FaultsAsFields n v e → FaultsAsStruct n NoMore some faults v e
 fields_off n some faults v e (no_fields f none) = no_items f none
 fields_off n some faults v e (other_count m is other) = count_off n m some faults v (sym is) other
-fields_off n some faults v e (faulty_field f is bad) = absurd bad
 
 -- a reader's places, one after another: each of the first k was read, and gave a value of its field
 module _ (count : ℕ) (some : ℕ → ℕ → View → Type 0) (faults : ℕ → View → DecoderError → Type 0) (may_lack : ℕ → ℕ → View → Type 0) (v : View)
@@ -190,12 +214,12 @@ module _ (count : ℕ) (some : ℕ → ℕ → View → Type 0) (faults : ℕ �
   WhereRead (suc k) w i Fact = (x : View) (j : ℕ) → record { view = w; place = i } ≡ field_place x (j + 1) → some k j x → WhereRead k x j Fact
 
   -- a fact that follows from all of the first places together, as a chain of implications
-  pub where_read : (k : ℕ) (w : View) (i : ℕ) (Fact : Type 0) → (w ≡ v → i ≡ k → GivesBefore some v k → Fact) → WhereRead k w i Fact
-  where_read zero w i Fact from = λ at. from (ap (λ (f : FieldPlace). f.view) at) (ap (λ (f : FieldPlace). f.place) at) tt
+  pub where_read : (k : ℕ) (w : View) (i : ℕ) (Fact : Type 0) → (w ≡ v → i ≡ k → GivesFields k some v 0 → Fact) → WhereRead k w i Fact
+  where_read zero w i Fact from = λ at. from (ap (λ (f : FieldPlace). f.view) at) (ap (λ (f : FieldPlace). f.place) at) (none_before some v 0)
   where_read (suc k) w i Fact from = λ x j at given. where_read k x j Fact (λ same here before.
       let view_is : w ≡ v = ap (λ (f : FieldPlace). f.view) at ∙ same in
       let place_is : i ≡ suc k = ap (λ (f : FieldPlace). f.place) at ∙ (let next : j + 1 ≡ suc k = omega (arith, here) in next) in
-      from view_is place_is (before, subst (λ n. some k n v) here (subst (λ u. some k j u) same given)))
+      from view_is place_is (one_more_before some v k before (subst (λ n. some k n v) here (subst (λ u. some k j u) same given))))
 
   -- the fault of the next field is one of the struct
   abbrev pub NextFails : ℕ → Type 0

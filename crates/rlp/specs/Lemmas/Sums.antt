@@ -15,14 +15,12 @@ use Rattle.rlp_format.specs.Lemmas.Strings.{string_list, string_only}
 use Rattle.rlp_format.specs.Lemmas.Views.{list_shape}
 use Rattle.rlp_buffer.specs.Streams.Stream.{is_list}
 use Rattle.rlp_format.specs.Views.View.{View, HoldsItem, HoldsString, strict_view_of, view_of}
-use Rattle.rlp.specs.Values.RoundTrip.{ReadsBack, ReadsStrictly}
+use Rattle.rlp.specs.Values.RoundTrip.{AlwaysReadsBack, AlwaysReadsStrictly, ReadsBack, ReadsStrictly}
 use Rattle.rlp.specs.Values.ValueReading.{FaultsAs, GivesValue}
 use Rattle.rlp.specs.Values.Sums.{ByFirstByte, IsEnvelopeFault, IsOtherTag, OnSum, faulty_payload, no_tag, other_tag, sum_item, sum_tag}
-use Rattle.rlp.specs.Lemmas.ListRoundTrips.{AlwaysReadsBack}
 use Rattle.rlp.specs.Lemmas.RoundTrips.{held_back}
 use Rattle.rlp.specs.Lemmas.StringsHeld.{held_begins}
 use Rattle.rlp.specs.Lemmas.Told.{string_sized}
-use Rattle.rlp.specs.Lemmas.StrictReads.{AlwaysReadsStrictly}
 use Rattle.rlp.specs.Codec.{Codec}
 
 -- ---- the values on one side of a sum

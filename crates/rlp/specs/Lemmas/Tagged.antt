@@ -1,5 +1,5 @@
 -- Lists of a tag and a payload that are read back and read strictly.
-use Rattle.std.proofs.Common.{◌≡◌, ◌↔◌, ℕ, ◌^◌, ◌<◌, List, [], ◌∷◌, length, refl, sym, ◌∙◌, subst, arith, Ok}
+use Rattle.std.proofs.Common.{◌≡◌, ◌↔◌, ℕ, zero, suc, ◌^◌, ◌<◌, List, [], ◌∷◌, length, refl, sym, ◌∙◌, subst, arith, Ok}
 use Rattle.rlp_format.specs.declared.error.DecoderError.{DecoderError}
 use Rattle.rlp_format.specs.Format.Item.{Item, list_of}
 use Rattle.rlp_format.specs.Format.WrittenHeader.{AreBytes, big_endian}
@@ -10,7 +10,7 @@ use Rattle.rlp_format.specs.Values.Value.{FitsBytes, number_item}
 use Rattle.rlp_format.specs.Views.View.{View, HoldsItem, item_count, strict_view_of, view_of}
 use Rattle.rlp.specs.Values.RoundTrip.{ReadsBack, ReadsStrictly}
 use Rattle.rlp.specs.Values.ValueReading.{GivesNumber}
-use Rattle.rlp.specs.Values.ListReading.{FaultsAt, GivesAt, in_field}
+use Rattle.rlp.specs.Values.ListReading.{FaultsAt, GivesAt}
 use Rattle.rlp.specs.Values.FieldReading.{faulty_item, no_items, other_number}
 use Rattle.rlp.specs.Lemmas.Structs.{all_items_right}
 use Rattle.rlp.specs.Values.Sums.{FaultsAsTagged, IsOtherTag, faulty_second, faulty_tag, no_pair, other_pair, unknown_tag}
@@ -74,13 +74,16 @@ module _ {A : Type 0} (width : ℕ) (unknown tags : List ℕ) (tag : A → ℕ) 
       → ((e : DecoderError) → ¬ (with_tag (tag x)).faults v e) → (e : DecoderError) → ¬ TaggedFaults v e
   tagged_sound v x given only sound e (no_pair f is) = sound f (no_items f is)
   tagged_sound v x given only sound e (other_pair m is other) = sound e (other_number m is (λ right. other (let sum = right.sum in let none : right.more ≡ 0 = right.right in omega (arith, sum, none))))
-  tagged_sound v x given only sound e (faulty_tag f is at) = sound f (faulty_item 2 f is (all_items_right 2) (in_field 0 (omega arith) tt at))
+  tagged_sound v x given only sound e (faulty_tag f is at) = sound f (faulty_item 2 0 f is (all_items_right 2) (record { few = omega arith; before = λ j none. absurd (omega (arith, none)); fault = at }))
   tagged_sound v x given only sound e (unknown_tag n f is at other custom) =
       known x (subst (IsOtherTag tags) (only n (is, (at, given.1.1))) other)
   tagged_sound v x given only sound e (faulty_second n f is at fault) =
       let same : n ≡ tag x = only n (is, (at, given.1.1)) in
-      sound f (faulty_item 2 f is (all_items_right 2) (in_field 1 (omega arith) (tt, record { given = tag x; at = given.1.0 })
-      (subst (λ k. FaultsAt (case k).faults v 1 f) same fault)))
+      sound f (faulty_item 2 1 f is (all_items_right 2) (record {
+        few = omega arith;
+        before = elim [ zero ↦ λ first. record { given = tag x; at = given.1.0 } | suc j ↦ λ later. absurd (omega (arith, later)) ];
+        fault = subst (λ k. FaultsAt (case k).faults v 1 f) same fault;
+      }))
 
   module _ (b : List ℕ) (x : A) (fits : length b < 2 ^ 64) (fit : TaggedFits x) (begins : HoldsItem (view_of b) (tagged_item x)) where
     back : ReadsBack (with_tag (tag x)).Fits (with_tag (tag x)).item (with_tag (tag x)).gives (with_tag (tag x)).faults (view_of b) x

@@ -7,11 +7,10 @@ use Rattle.rlp_format.specs.Format.Item.{Item, list_of}
 use Rattle.rlp_format.specs.Format.Encoding.{encoding, join, IsSized}
 use Rattle.rlp_format.specs.Views.View.{View, view_of, item_views}
 use Rattle.rlp.specs.Values.ListReading.{GivesEach, GivesList, FaultsAsList, not_list, faulty_in_list}
-use Rattle.rlp.specs.Values.RoundTrip.{ReadsBack}
+use Rattle.rlp.specs.Values.RoundTrip.{AlwaysReadsBack, ReadsBack}
 use Rattle.rlp_format.specs.Lemmas.Encodings.{encoding_list, front_sized, small_payload}
 use Rattle.std.proofs.lemmas.Simd.{map-map}
 use Rattle.rlp_format.specs.Lemmas.Numbered.{item_views-list}
-use Rattle.rlp.specs.Lemmas.ListRoundTrips.{AlwaysReadsBack}
 use Rattle.rlp.specs.Lemmas.Structs.{cons_same, list_same}
 
 module _ {A : Type 0} (Fits : A → Type 0) (item : A → Item) (gives : View → A → Type 0) (faults : View → DecoderError → Type 0) where

@@ -6,14 +6,14 @@ use Rattle.rlp_format.specs.Format.WrittenHeader.{AreBytes}
 use Rattle.rlp_format.specs.Format.Encoding.{encoding, IsSized}
 use Rattle.rlp_format.specs.Format.Split.{items}
 use Rattle.rlp_format.specs.Views.View.{View, view_of, strict_view_of, item_count}
-use Rattle.rlp.specs.Values.ListReading.{FaultsAt, in_field}
-use Rattle.rlp.specs.Values.FieldReading.{FaultsAsStruct, IsCount, NoMore, faulty_item, no_items, other_number}
+use Rattle.rlp.specs.Values.ListReading.{FaultsAt}
+use Rattle.rlp.specs.Values.FieldReading.{FaultsAsStruct, HoldsFrom, IsCount, NoMore, PartsFrom, faulty_item, no_items, other_number}
 use Rattle.rlp_format.specs.Lemmas.Encodings.{front_sized}
 use Rattle.rlp_format.specs.Lemmas.Numbered.{item_count-list}
-use Rattle.rlp.specs.Lemmas.ListRoundTrips.{AlwaysReadsBack}
-use Rattle.rlp.specs.Lemmas.StrictReads.{AlwaysReadsStrictly, counted_items, counted_told, told_whole}
-use Rattle.rlp.specs.Lemmas.StrictStructs.{PartsFrom, parts_of_strict}
-use Rattle.rlp.specs.Lemmas.Structs.{HoldsFrom, holds_items, list_same}
+use Rattle.rlp.specs.Values.RoundTrip.{AlwaysReadsBack, AlwaysReadsStrictly}
+use Rattle.rlp.specs.Lemmas.StrictReads.{counted_items, counted_told, told_whole}
+use Rattle.rlp.specs.Lemmas.StrictStructs.{parts_of_strict}
+use Rattle.rlp.specs.Lemmas.Structs.{holds_items, list_same}
 use Rattle.rlp.specs.Lemmas.WholeLists.{strict_item_count, strict_items, strict_list_told, whole_list, whole_sized}
 
 -- ---- numbers of items
@@ -51,9 +51,10 @@ module _ {P : Type 0} (least : ℕ) (IsMore : ℕ → Type 0) (count : P → ℕ
   no_fault_in view p fit many sound e (no_items g none) = cc
   no_fault_in view p fit many sound e (other_number m same wrong) =
       let equal : m ≡ count p = cc in wrong (subst (λ n. IsCount least IsMore n) (sym equal) (right p fit))
-  no_fault_in view p fit many sound e (faulty_item m g same allowed (in_field k within before at)) =
+  no_fault_in view p fit many sound e (faulty_item m k g same allowed bad) =
       let equal : m ≡ count p = cc in
-      sound k g (omega (arith, equal, counted p)) (subst (λ j. FaultsAt (faults k) view j g) (let zero_add : k ≡ 0 + k = omega arith in zero_add) at)
+      let few = bad.few in
+      sound k g (omega (arith, equal, counted p, few)) bad.fault
 
   -- such a struct is read back if its fields are
   pub struct_reads_back : ((i : ℕ) (view : View) (p : P) → Fits p → HoldsFrom view i (items_of p) → (q : P)

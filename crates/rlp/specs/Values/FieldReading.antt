@@ -1,9 +1,12 @@
 -- The fields of a struct, read from the items of a list.
-use Rattle.std.specs.Prelude.{◌≡◌, ◌<◌, ◌+◌, ◌*◌, ◌%◌, ◌⊎◌, ℕ, zero, suc, List, [], ◌∷◌, length, Option, Some, None, Ok, Err, IfSome, ⊤}
+use Rattle.std.specs.Prelude.{◌≡◌, ◌<◌, ◌+◌, ◌*◌, ◌%◌, ◌^◌, ◌⊎◌, ℕ, zero, suc, List, [], ◌∷◌, length, Option, Some, None, Ok, Err, IfSome, ⊤}
 use Rattle.rlp_format.specs.declared.error.DecoderError.{DecoderError}
 use Rattle.rlp_format.specs.declared.error.DecoderError.TheVariants.{OutOfMemory, RlpIncorrectListLen}
-use Rattle.rlp_format.specs.Views.View.{View, item_count}
-use Rattle.rlp.specs.Values.ListReading.{FaultsAt, FaultsInField, GivesBefore}
+use Rattle.rlp_format.specs.Format.Item.{Item}
+use Rattle.rlp_format.specs.Format.WrittenHeader.{AreBytes}
+use Rattle.rlp_format.specs.Format.Encoding.{IsSized, encoding}
+use Rattle.rlp_format.specs.Views.View.{View, item_at, item_count, strict_view_of, view_of}
+use Rattle.rlp.specs.Values.ListReading.{FaultsAt}
 
 -- `first` for place 0, and `others` for the places after it
 abbrev pub by_place : {A : Type 1} → A → (ℕ → A) → ℕ → A
@@ -52,6 +55,18 @@ pub record MayLackInFields (count : ℕ) (some may_lack : ℕ → ℕ → View �
 -- why reading fields from place i on ends at field k: its item has this fault, or memory was refused for it
 abbrev pub FieldsFail : ℕ → (ℕ → ℕ → View → Type 0) → (ℕ → View → DecoderError → Type 0) → (ℕ → ℕ → View → Type 0) → View → ℕ → ℕ → DecoderError → Type 0
 FieldsFail count some faults may_lack v i k e = FaultsInFields count some faults v i k e ⊎ ((e ≡ OutOfMemory) × MayLackInFields count some may_lack v i k)
+
+-- ---- what items hold from some place on
+
+-- from place i on, the items of the view are the encodings of these
+abbrev pub HoldsFrom : View → ℕ → List Item → Type 0
+HoldsFrom view i [] = Unit {0}
+HoldsFrom view i (x ∷ xs) = (item_at view i ≡ Ok (view_of (encoding x))) × (IsSized x × HoldsFrom view (suc i) xs)
+
+-- from place i on, the items of the view are these bytes, read strictly
+abbrev pub PartsFrom : View → ℕ → List (List ℕ) → Type 0
+PartsFrom view i [] = Unit {0}
+PartsFrom view i (part ∷ parts) = (item_at view i ≡ Ok (strict_view_of part)) × (AreBytes part × ((length part < 2 ^ 64) × PartsFrom view (suc i) parts))
 
 -- ---- how fields are read
 
@@ -156,7 +171,7 @@ pub data FaultsAsStruct (least : ℕ) (IsMore : ℕ → Type 0) (some : ℕ → 
     : DecoderError → Type 0 where
   no_items : (e : DecoderError) → item_count v ≡ Err e → FaultsAsStruct least IsMore some faults v e
   other_number : (m : ℕ) → item_count v ≡ Ok m → ¬ IsCount least IsMore m → FaultsAsStruct least IsMore some faults v RlpIncorrectListLen
-  faulty_item : (m : ℕ) (e : DecoderError) → item_count v ≡ Ok m → IsCount least IsMore m → FaultsInField m some faults v e
+  faulty_item : (m k : ℕ) (e : DecoderError) → item_count v ≡ Ok m → IsCount least IsMore m → FaultsInFields m some faults v 0 k e
       → FaultsAsStruct least IsMore some faults v e
 
 -- Memory may be short for a struct: the view has a right number of items, and memory may be short at one, and each before it gives a value of its field.
@@ -165,9 +180,7 @@ pub record MayLackAsStruct (least : ℕ) (IsMore : ℕ → Type 0) (some may_lac
   pub many : item_count v ≡ Ok count
   pub right : IsCount least IsMore count
   pub place : ℕ
-  pub few : place < count
-  pub before : GivesBefore some v place
-  pub may : may_lack place place v
+  pub may : MayLackInFields count some may_lack v 0 place
 
 -- Why reading a struct ends, with the place of the field: none if the view isn't a list or has a number of items that isn't right; else field k, whose item has a
 -- fault, or for which memory was refused.

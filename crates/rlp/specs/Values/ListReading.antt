@@ -83,18 +83,7 @@ pub record MayLackAsOption (may_lack : View → Type 0) (v : View) : Type 0 wher
   pub one : item_count v ≡ Ok 1
   pub lacks : MayLackAt may_lack v 0
 
--- Why a view gives no value whose item is a list of n items: it isn't a list, it has another number of items, or an item has a fault. `IsFaulty` gives the
--- faults of items.
-pub data FaultsAsFields (n : ℕ) (IsFaulty : View → DecoderError → Type 0) (v : View) : DecoderError → Type 0 where
-  no_fields : (e : DecoderError) → item_count v ≡ Err e → FaultsAsFields n IsFaulty v e
-  other_count : (m : ℕ) → item_count v ≡ Ok m → m ≢ n → FaultsAsFields n IsFaulty v RlpIncorrectListLen
-  faulty_field : (e : DecoderError) → item_count v ≡ Ok n → IsFaulty v e → FaultsAsFields n IsFaulty v e
-
--- the item in its place gives each of the first k fields
-abbrev pub GivesBefore : (ℕ → ℕ → View → Type 0) → View → ℕ → Type 0
-GivesBefore some v zero = Unit {0}
-GivesBefore some v (suc k) = GivesBefore some v k × some k k v
-
--- One of the first items has the fault, by the type of its field, and each before it gives a value of its field.
-pub data FaultsInField (count : ℕ) (some : ℕ → ℕ → View → Type 0) (faults : ℕ → View → DecoderError → Type 0) (v : View) (e : DecoderError) : Type 0 where
-  in_field : (k : ℕ) → k < count → GivesBefore some v k → FaultsAt (faults k) v k e → FaultsInField count some faults v e
+-- Why a view isn't a list of n items: it isn't a list, or it has another number of items.
+pub data FaultsAsFields (n : ℕ) (v : View) : DecoderError → Type 0 where
+  no_fields : (e : DecoderError) → item_count v ≡ Err e → FaultsAsFields n v e
+  other_count : (m : ℕ) → item_count v ≡ Ok m → m ≢ n → FaultsAsFields n v RlpIncorrectListLen

@@ -3,8 +3,8 @@ use Rattle.std.specs.Prelude.{ℕ, ◌≡◌, ◌<◌, ◌⊎◌, Ok}
 use Rattle.rlp_format.specs.declared.error.DecoderError.{DecoderError}
 use Rattle.rlp_format.specs.Views.View.{View, item_count}
 use Rattle.rlp.specs.Values.ValueReading.{IsSameFault}
-use Rattle.rlp.specs.Values.ListReading.{FaultsAt, GivesBefore}
-use Rattle.rlp.specs.Values.FieldReading.{IsCount}
+use Rattle.rlp.specs.Values.ListReading.{FaultsAt}
+use Rattle.rlp.specs.Values.FieldReading.{GivesFields, IsCount}
 
 -- Exactly one of a fact and one fault: the fact holds or there is a fault, not both, and all faults are the same.
 pub record HoldsOrHasOneFault (Fact : Type 0) (Faults : DecoderError → Type 0) : Type 0 where
@@ -21,4 +21,4 @@ pub record GivesEachField (least : ℕ) (IsMore : ℕ → Type 0) (some : ℕ �
   pub count : ℕ
   pub many : item_count v ≡ Ok count
   pub right : IsCount least IsMore count
-  pub each : GivesBefore some v count
+  pub each : GivesFields count some v 0

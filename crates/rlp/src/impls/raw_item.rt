@@ -154,10 +154,7 @@ impl Decodable for RawItem {
 
     #[tactic(auto, using(crate::specs::Lemmas::RawItems::raw_reading))]
     fn decode(alloc: Global, rlp: &Rlp<'_>) -> Result<RawItem, DecoderError> {
-        let item = match rlp.first_item() {
-            Ok(item) => item,
-            Err(fault) => return Err(fault),
-        };
+        let (item, _) = rlp.split_first()?;
         match RawItem::new(alloc, item.as_raw()) {
             Ok(item) => Ok(item),
             Err(fault) => Err(fault),

@@ -1,4 +1,4 @@
-//! Views of both kinds. Strict reading gives a value exactly for its whole encoding.
+//! Views of both kinds, and what strict views give.
 
 ghost use Rattle.std.specs.Prelude.{◌≡◌, ◌+◌, ◌<◌, ◌^◌, ◌↔◌, ◌⊎◌, ℕ, List, All, if◌then◌else◌, length, Ok, Err, Some, None, IfErr, IfOk, IsOkAnd, map};
 ghost use Rattle.rlp_format.specs.declared.error.DecoderError.TheVariants.{OutOfMemory, RlpExpectedToBeList, RlpIsTooBig};
@@ -19,44 +19,6 @@ use crate::traits::{Decodable, StrictRead};
 use rlp_format::error::DecoderError;
 use rlp_streams::Encodable;
 use std::alloc::Global;
-
-/// The value that is read strictly. It fits, and the bytes are its encoding. It is alike to a value
-/// that fits exactly if the bytes are the encoding of that value. If they are, the call fails only
-/// if memory runs out.
-pub fn strictly_decoded<T: StrictRead>(alloc: Global, bytes: &[u8]) -> Result<T, DecoderError>
-    ensures whole { IfOk result (λ w. T.fits w × (bytes.now ≡ encoding (T.item w))) }
-    ensures fault { IfErr result
-        (λ e. (AreBytes bytes.now × T.faults (strict_view_of bytes.now) e) ⊎ ((e ≡ OutOfMemory)
-        × T.may_lack_memory (strict_view_of bytes.now))) }
-    ensures only { (v : T) → IsOkAnd result (λ w. AreAlike T.item w v)
-        → bytes.now ≡ encoding (T.item v) }
-    ensures alike { (v : T) → T.fits v → bytes.now ≡ encoding (T.item v)
-        → IfOk result (λ w. T.fits w × AreAlike T.item w v) }
-    ensures memory { (v : T) → T.fits v → bytes.now ≡ encoding (T.item v)
-        → IfErr result (λ e. (e ≡ OutOfMemory) × T.may_lack_memory (strict_view_of bytes.now)) }
-{
-    crate::decode_strict(alloc, bytes)
-}
-
-/// The values of a list that is read strictly. They are alike to values that fit, each to the one
-/// in its place, exactly if the bytes are the encoding of the list of those values. If they are,
-/// the call fails only if memory runs out.
-pub fn list_strictly_decoded<T: StrictRead>(
-    alloc: Global,
-    bytes: &[u8],
-) -> Result<Vec<T>, DecoderError>
-    ensures only { (vs : List T)
-        → IsOkAnd result (λ ws. map T.item ws.items ≡ map T.item vs)
-        → bytes.now ≡ encoding (list_of (map T.item vs)) }
-    ensures alike { (vs : List T) → All T.fits vs → bytes.now ≡ encoding (list_of (map T.item vs))
-        → IfOk result (λ ws. All T.fits ws.items × (map T.item ws.items ≡ map T.item vs)) }
-    ensures memory { (vs : List T) → All T.fits vs
-        → bytes.now ≡ encoding (list_of (map T.item vs))
-        → IfErr result (λ e. (e ≡ OutOfMemory)
-        × MayLackAsList T.gives T.may_lack_memory (strict_view_of bytes.now)) }
-{
-    crate::decode_list_strict(alloc, bytes)
-}
 
 /// Why bytes aren't exactly one framed item: they aren't framed, or bytes follow the framed item.
 /// Canonical bytes have no such fault.

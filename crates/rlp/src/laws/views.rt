@@ -42,20 +42,13 @@ pub fn iteration_reads_few_headers()
         → end.headers ≤ length given + 2 }
 {}
 
-/// Over joined encodings, [`Rlp::split_first`] returns the first and leaves the others joined.
-/// Called again on what is left, it returns them one by one, and after the last no bytes are left.
-/// The same holds for [`Rlp::split_first_strict`].
-pub fn joined_items_are_split_off<'a>(
-    bytes: &'a [u8],
-    strict: bool,
-) -> Result<(Rlp<'a>, &'a [u8]), DecoderError>
+/// Over joined encodings, [`Rlp::split_first`] of a lenient view returns the first and leaves the
+/// others joined. Called again on what is left, it returns them one by one, and after the last no
+/// bytes are left.
+pub fn joined_items_are_split_off<'a>(bytes: &'a [u8]) -> Result<(Rlp<'a>, &'a [u8]), DecoderError>
     ensures next { (x : Item) (xs : List Item) → bytes.now ≡ join (x ∷ xs)
         → IsOkAnd result (λ r. (r.0.bytes ≡ encoding x) × (r.1.now ≡ join xs)) }
     ensures end { bytes.now ≡ join [] → result ≡ Err RlpIsTooShort }
-    ensures kind { IfOk result (λ r. r.0.is_strict ≡ strict) }
 {
-    if strict {
-        return Rlp::split_first_strict(bytes);
-    }
-    Rlp::split_first(bytes)
+    Rlp::new(bytes).split_first()
 }

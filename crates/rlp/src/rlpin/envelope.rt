@@ -7,7 +7,7 @@ ghost use Rattle.rlp_format.specs.Format.WrittenHeader.{AreBytes};
 ghost use Rattle.rlp_format.specs.Views.View.{HoldsString, strict_view_of};
 ghost use Rattle.rlp.specs.Values.ValueReading.{FaultsAs};
 
-use crate::laws::strictly_decoded;
+use crate::decode_whole;
 use crate::rlpin::Rlp;
 use crate::traits::StrictRead;
 use rlp_format::error::DecoderError;
@@ -61,6 +61,6 @@ impl<'a> Envelope<'a> {
             × T.faults (strict_view_of self.now.payload.now) e) ⊎ ((e ≡ OutOfMemory)
             × T.may_lack_memory (strict_view_of self.now.payload.now))) }
     {
-        strictly_decoded(alloc, self.payload)
+        decode_whole(alloc, self.payload)
     }
 }

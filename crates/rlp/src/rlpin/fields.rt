@@ -2,8 +2,8 @@
 
 ghost use Rattle.std.specs.Vec.{vec_items};
 ghost use Rattle.std.specs.declared.alloc.Global.{Global};
-ghost use Rattle.std.specs.Prelude.{◌≡◌, ◌+◌, ◌⊎◌, None, Some, Ok, Err, IfOk, IfErr, MatchResult, OnOk, OnErr};
-ghost use Rattle.rlp_format.specs.declared.error.DecoderError.TheVariants.{OutOfMemory};
+ghost use Rattle.std.specs.Prelude.{◌≡◌, ◌+◌, ◌<◌, ◌⊎◌, None, Some, Ok, Err, IfOk, IfErr, IsOkAnd, MatchResult, OnOk, OnErr};
+ghost use Rattle.rlp_format.specs.declared.error.DecoderError.TheVariants.{OutOfMemory, RlpIncorrectListLen};
 ghost use Rattle.rlp_format.specs.Views.View.{item_at, item_count, items_fault};
 ghost use Rattle.rlp.specs.Values.FieldPlace.{IsAtPlace, FieldPlace};
 ghost use Rattle.rlp.specs.Values.ListReading.{FaultsAsFields, FaultsAsList, FaultsAt, GivesAt, GivesList, GivesSomeAt, MayLackAsList, MayLackAt, ReadsValue};
@@ -67,7 +67,7 @@ impl<'a> Rlp<'a> {
     pub fn fields_of(&self, len: usize) -> Result<Fields<'a>, DecoderError>
         ensures read { IfOk result (λ f. f ≡ record { view = self.now; place = 0 }) }
         ensures count { OnOk result (item_count self.now ≡ Ok len) }
-        ensures fault { IfErr result (λ e. FaultsAsFields len (λ _ _. ⊥) self.now e) }
+        ensures fault { IfErr result (λ e. FaultsAsFields len self.now e) }
     {
         match self.item_count() {
             Ok(count) => {
@@ -179,8 +179,9 @@ impl<'a> Fields<'a> {
     /// Tests that all items were taken. Fails with `RlpIncorrectListLen` if one is left.
     pub fn finish(self) -> Result<(), DecoderError>
         ensures all { OnOk result (item_count self.entry.view ≡ Ok self.entry.place) }
-        ensures fault { IfErr result (λ e.
-            FaultsAsFields self.entry.place (λ _ _. ⊥) self.entry.view e) }
+        ensures fault { IfErr result (λ e. e ≡ RlpIncorrectListLen) }
+        ensures left { OnErr result (IsOkAnd (item_count self.entry.view)
+            (λ count. self.entry.place < count)) }
     {
         match first_framed(self.items.rest()) {
             Ok(_) => Err(DecoderError::RlpIncorrectListLen),

@@ -12,7 +12,7 @@ ghost use Rattle.rlp_ethereum.specs.declared.unsigned.authorization.UnsignedAuth
 use crate::envelope::to_envelope;
 use crate::{Address, Authorization};
 use bytes::BytesMut;
-use rlp::{Decodable, DecoderError, Encodable, Rlp, RlpStream, RoundTrip, StrictRead, Uint, laws};
+use rlp::{Decodable, DecoderError, Encodable, Rlp, RlpStream, RoundTrip, StrictRead, Uint};
 use std::alloc::{AllocError, Global};
 
 /// What an account signs to run the code of an address as its own, without the signature: the list
@@ -77,7 +77,7 @@ impl UnsignedAuthorization {
     {
         match bytes {
             [first, payload @ ..] if *first == AUTHORIZATION_MAGIC => {
-                laws::strictly_decoded(alloc, payload)
+                rlp::decode_whole(alloc, payload)
             }
             _ => Err(DecoderError::Custom("no authorization")),
         }

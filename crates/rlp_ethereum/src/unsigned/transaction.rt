@@ -17,7 +17,7 @@ use crate::unsigned::{
 };
 use bytes::BytesMut;
 use rlp::{
-    Decodable, DecoderError, Encodable, Envelope, Rlp, RlpStream, RoundTrip, StrictRead, laws,
+    Decodable, DecoderError, Encodable, Envelope, Rlp, RlpStream, RoundTrip, StrictRead,
     write_envelope,
 };
 use std::alloc::{AllocError, Global};
@@ -95,7 +95,7 @@ fn read_alone(alloc: Global, bytes: &[u8]) -> Result<UnsignedTransaction, Decode
         × MayLackAlone unsigned_legacy_transaction unsigned_types bytes.now)) }
 {
     if Rlp::new(bytes).is_list() {
-        return match laws::strictly_decoded(alloc, bytes) {
+        return match rlp::decode_whole(alloc, bytes) {
             Ok(legacy) => Ok(UnsignedTransaction::Legacy(legacy)),
             Err(fault) => Err(fault),
         };

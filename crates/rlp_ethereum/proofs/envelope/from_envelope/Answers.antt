@@ -6,5 +6,5 @@ use Rattle.rlp_ethereum.proofs.envelope.from_envelope.Goals as goal
 
 pub returns-in-len1-up-clause-fault : goal.returns-in-len1-up-clause-fault
 returns-in-len1-up-clause-fault g c =
-    rest_fails c.args.kind another_type g.T.Decodable.faults g.T.Decodable.may_lack_memory c.args.bytes.now _ c.strictly_decoded.result (grind (arith, common_steps))
-    c.strictly_decoded.ensures.fault
+    rest_fails c.args.kind another_type g.T.Decodable.faults g.T.Decodable.may_lack_memory c.args.bytes.now _ c.decode_whole.result (grind (arith, common_steps))
+    c.decode_whole.ensures.fault

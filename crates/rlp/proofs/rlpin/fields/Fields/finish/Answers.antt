@@ -3,8 +3,8 @@ use Rattle.rlp_format.specs.Format.Split.{split}
 use Rattle.rlp.proofs.Views.InOrder.{all_counted, more_counted}
 use Rattle.rlp.proofs.rlpin.fields.Fields.finish.Goals as goal
 
-pub returns-in-Ok-clause-fault : goal.returns-in-Ok-clause-fault
-returns-in-Ok-clause-fault c =
+pub returns-in-Ok-clause-left : goal.returns-in-Ok-clause-left
+returns-in-Ok-clause-left c =
     rw (← c.self.view_is) (more_counted c.self.inside.rlp c.self.inside.taken.total c.self.inside.items.rest c.in-Ok.field-0.0.item.now
     c.in-Ok.field-0.1.now c.self.invariant (ap split (sym c.rest.ensures) ∙ c.in-Ok.ensures.parts))
 

@@ -6,5 +6,5 @@ use Rattle.rlp_ethereum.proofs.unsigned.authorization.UnsignedAuthorization.from
 
 pub returns-in-len1-up-clause-fault : goal.returns-in-len1-up-clause-fault
 returns-in-len1-up-clause-fault c =
-    rest_fails 5 no_authorization unsigned_authorization.faults unsigned_authorization.may_lack c.args.bytes.now _ c.strictly_decoded.result (grind (arith, common_steps))
-    c.strictly_decoded.ensures.fault
+    rest_fails 5 no_authorization unsigned_authorization.faults unsigned_authorization.may_lack c.args.bytes.now _ c.decode_whole.result (grind (arith, common_steps))
+    c.decode_whole.ensures.fault

@@ -1,7 +1,7 @@
 use Rattle.std.proofs.Common.{◌<◌, ◌^◌, length, arith}
 use Rattle.rlp_format.specs.Lemmas.Reading.{bytes_held}
 use Rattle.rlp.proofs.Values.StrictDecoding.{strict_alike, strict_fault_of, strict_memory, strict_only, strict_whole}
-use Rattle.rlp.proofs.laws.strict.strictly_decoded.Goals as goal
+use Rattle.rlp.proofs.decode_whole.Goals as goal
 
 pub returns-clause-only : goal.returns-clause-only
 returns-clause-only g c =

@@ -2,7 +2,7 @@ use Rattle.std.proofs.Common.{◌<◌, ◌^◌, length, arith}
 use Rattle.std.specs.Vec.{vec_items}
 use Rattle.rlp_format.specs.Lemmas.Reading.{bytes_held}
 use Rattle.rlp.proofs.Values.StrictDecoding.{strict_list_alike, strict_list_memory, strict_list_only}
-use Rattle.rlp.proofs.laws.strict.list_strictly_decoded.Goals as goal
+use Rattle.rlp.proofs.decode_list_whole.Goals as goal
 
 pub returns-clause-only : goal.returns-clause-only
 returns-clause-only g c =
