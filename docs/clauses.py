@@ -51,5 +51,5 @@ def words_of(sources, own):
         clauses = "\n".join(public_clauses(text))
         for alias, name, module in imports_of(text, own):
             if re.search(rf"(?<![\w-]){re.escape(alias)}(?![\w-])", clauses):
-                found.setdefault((name, module.split(".")[-1]), source)
+                found.setdefault((name, module), source)
     return found
