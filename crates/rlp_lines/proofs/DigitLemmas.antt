@@ -127,16 +127,6 @@ refused_by digits (Err e) is other = refl
 pub read-no_digits : (digits : List ℕ) → list_all is_hex_digit digits ≡ false → result_ok (decode_of digits) ≡ None
 read-no_digits digits other = refused_by digits (decode_of digits) refl other
 
--- a byte that isn't a digit
-pub stray_digit : (text : List ℕ) (at : ℕ) → at < length text → is_hex_digit (slice_index text at) ≡ false → result_ok (decode_of text) ≡ None
-stray_digit text at inside stray = read-no_digits text (not_all (list_all is_hex_digit text) refl)
-  where
-    not_all : (b : Bool) → list_all is_hex_digit text ≡ b → list_all is_hex_digit text ≡ false
-    not_all true all =
-        let digit : is_hex_digit (slice_index text at) ≡ true = AllPass-from_list_all is_hex_digit text all at 0 inside in
-        absurd (let no : ⊥ = cc in no)
-    not_all false some = some
-
 -- ---- printing
 
 -- the digit of a number

@@ -1,12 +1,9 @@
-//! Hexadecimal digits, tested and decoded. If there are many, this takes no branch for each.
+//! Hexadecimal digits, tested and decoded without a branch for each.
 
-ghost use Rattle.std.specs.Prelude.{◌≡◌, ◌*◌, ◌/◌, ◌%◌, ◌<◌, ◌≤◌, length, take, IsTrue, Some, None, Ok, false, if◌then◌else◌};
+ghost use Rattle.std.specs.Prelude.{◌≡◌, ◌*◌, ◌/◌, ◌%◌, ◌<◌, ◌≤◌, length, take, IsTrue, Some, None, Ok, false};
 ghost use Rattle.std.specs.List.{list_all};
 ghost use Rattle.std.specs.Result.{result_ok};
 ghost use Rattle.hex.specs.Hex.{decode_of, hex_digit_value, is_hex_digit};
-
-/// The most digits that are decoded one by one. To begin with many at once takes longer.
-const FEW: usize = 16;
 
 /// Whether a byte is a digit of either case.
 fn is_digit(byte: u8) -> bool
@@ -27,7 +24,7 @@ fn are_digits(text: &[u8]) -> bool
 }
 
 /// Whether a text is digits, two for each byte.
-pub(crate) fn are_pairs(text: &[u8]) -> bool
+pub fn are_pairs(text: &[u8]) -> bool
     ensures some { IsTrue result
         → (length text.now % 2 ≡ 0) × IsTrue (list_all is_hex_digit text.now) }
     ensures none { result ≡ false → result_ok (decode_of text.now) ≡ None }
@@ -48,7 +45,7 @@ fn value_of(digit: u8) -> u8
 }
 
 /// Writes the bytes of digits, two for each byte, to the front of a buffer.
-pub(crate) fn put_bytes(digits: &[u8], out: &mut [u8])
+pub fn put_bytes(digits: &[u8], out: &mut [u8])
     requires two { length digits.now % 2 ≡ 0 }
     requires room { length digits.now ≤ 2 * length out.old }
     requires digits { IsTrue (list_all is_hex_digit digits.now) }
@@ -57,42 +54,4 @@ pub(crate) fn put_bytes(digits: &[u8], out: &mut [u8])
     for i in 0..digits.len() / 2 {
         out[i] = value_of(digits[2 * i]) * 16 + value_of(digits[2 * i + 1]);
     }
-}
-
-/// The same for a text that may not be digits. Returns `false` if it isn't.
-fn put_few(digits: &[u8], out: &mut [u8]) -> bool
-    requires { length digits.now / 2 ≤ length out.old }
-    ensures { result_ok (decode_of digits.now)
-        ≡ (if result then Some (take (length digits.now / 2) out.new) else None) }
-{
-    if digits.len() % 2 != 0 {
-        return false;
-    }
-    for i in 0..digits.len() / 2 {
-        if !is_digit(digits[2 * i]) {
-            return false;
-        }
-        if !is_digit(digits[2 * i + 1]) {
-            return false;
-        }
-        out[i] = value_of(digits[2 * i]) * 16 + value_of(digits[2 * i + 1]);
-    }
-    true
-}
-
-/// Decodes a text of digits, two for each byte, to the front of a buffer. Returns `false` if the
-/// text isn't digits.
-pub fn decode(digits: &[u8], out: &mut [u8]) -> bool
-    requires { length digits.now / 2 ≤ length out.old }
-    ensures { result_ok (decode_of digits.now)
-        ≡ (if result then Some (take (length digits.now / 2) out.new) else None) }
-{
-    if digits.len() <= FEW {
-        return put_few(digits, out);
-    }
-    if !are_pairs(digits) {
-        return false;
-    }
-    put_bytes(digits, out);
-    true
 }

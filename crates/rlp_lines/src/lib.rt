@@ -10,7 +10,7 @@ mod serving;
 mod status;
 
 pub use answering::LineAnswers;
-pub use decoding::decode;
+pub use decoding::{are_pairs, put_bytes};
 pub use digits::{push_bytes, read_bytes, read_number, without_prefix};
 pub use line::without_carriage_return;
 pub use noted::Noted;

@@ -1,6 +1,6 @@
 -- The answers to lines of calls.
 use Rattle.std.proofs.Common.{◌≡◌, ℕ, suc, ◌+◌, ◌^◌, ◌<◌, All, subst, Bool, true, false, cond, List, [], ◌∷◌, ◌++◌, length, append-nil, codes}
-use Rattle.std.proofs.Common.{decimal, Result, Ok, Err, IfOk, IfErr, OnOk, IsTrue, nat_lt, refl, sym, ap, ◌∙◌, arith}
+use Rattle.std.proofs.Common.{decimal, Result, Ok, Err, OnOk, IsTrue, nat_lt, refl, sym, ap, ◌∙◌, arith}
 use Rattle.std.proofs.lemmas.Bool.Decides.{nat_tests}
 use Rattle.rlp.specs.Format.Item.{Item}
 use Rattle.rlp.specs.Format.Encoding.{join, BeginsWith, IsSized}
@@ -11,19 +11,17 @@ use Rattle.rlp.specs.Streams.Calls.{finalize_unbounded_list, append_internal, en
 use Rattle.rlp.specs.Streams.Described.{Step, DescribesWhere, by_append, by_empty_data, by_raw, by_checked_raw, by_refused_raw, by_empty_list}
 use Rattle.rlp.specs.Streams.Described.{by_list, by_unbounded_list, by_finalize, by_internal_list, by_clear, AreDescribedWhere, IsDescribedWhere}
 use Rattle.rlp.specs.Streams.Described.{FinishAs}
-use Rattle.rlp_tool.specs.declared.building.Built.{Built}
-use Rattle.rlp_tool.specs.declared.building.Built.TheVariants.{Finished, Open}
-use Rattle.rlp_tool.specs.declared.building.BuildFault.{BuildFault}
+use Rattle.rlp_tool.specs.declared.making.LineFault.{LineFault}
+use Rattle.rlp_tool.specs.declared.making.LineFault.TheVariants.{Syntax, Failed}
 use Rattle.rlp_tool.specs.declared.building.BuildFault.TheVariants.{TooManyItems, NothingToFinish, RawNotItems, OutOfMemory}
 use Rattle.rlp_tool.specs.Building.{AreRefused, AreTaken, BringsItems, BringsNoItems, BringsTooMany, HasNothingToFinish, StayOpen, is_raw, is_finish}
-use Rattle.rlp_tool.specs.Building.{IsBuilt, IsRefusal}
-use Rattle.rlp_tool.specs.Making.{MakesScript}
+use Rattle.rlp_tool.specs.Making.{AppendsFault, IsLineFault, MakesScript}
 use Rattle.rlp_tool.specs.RawItems.{IsShallow, are_raw_items}
 use Rattle.rlp_tool.specs.Script.{script}
 use Rattle.rlp_lines.specs.Replies.{answer_by, longest_line}
 use Rattle.rlp_tool.specs.Answer.{SaysCalls, answer, answer_within, brings_items, text_answer, finished_answer, open_answer}
-use Rattle.rlp_tool.specs.Answer.{state_answer, refusal_name, outcome_answer, calls_answer, AppendsOutcome}
-use Rattle.rlp_tool.proofs.CallsLemmas.{Leaves}
+use Rattle.rlp_tool.specs.Answer.{state_answer, refusal_name, outcome_answer, calls_answer}
+use Rattle.rlp_tool.proofs.CallsLemmas.{Leaves, refused_for}
 use Rattle.rlp_tool.proofs.SaidLemmas.{EndFinished, end_finished, length-stripped, script_said}
 use Rattle.rlp_tool.proofs.RawLemmas.{are_raw_items-join, are_raw_items-told}
 
@@ -110,7 +108,7 @@ state_answer-closed s closed none =
 
 -- a script whose calls are made has the answer of the state that they lead to
 pub answer-made : (text : List ℕ) (s : State) → MakesScript text s → state_answer s.stack.lists s ≡ calls_answer (script text)
-answer-made text s m = sym (outcome-all m.calls s m.taken m.admitted) ∙ ap calls_answer (sym m.says)
+answer-made text s m = sym (outcome-all m.calls s m.made.taken m.made.admitted) ∙ ap calls_answer (sym m.says)
 
 -- ---- calls that are refused
 
@@ -178,23 +176,22 @@ answer-no_items calls place r =
     sym (refused-first calls place r ∙ cond-true (is_admitted r.call r.met) (cond (brings_items r.call) next name)
     (refusal_name r.call ++ decimal place) r.refused.0 ∙ cond-false (brings_items r.call) next name (fails r.call r.refused.1))
 
--- the printed result of calls is the answer to them
-answer-outcome : (r : Result Built BuildFault) (calls : List Call) (old new : List ℕ) → OnOk r (AreTaken [] calls) → IfOk r (IsBuilt [] calls)
-    → IfErr r (IsRefusal [] calls) → AppendsOutcome old new r → new ≡ old ++ outcome_answer 1 (initial_state []) calls
-answer-outcome (Ok (Finished bytes)) calls old new t b f e = e ∙ ap (λ (a : List ℕ). old ++ a) (answer-finished calls bytes.items t b)
-answer-outcome (Ok (Open size raw)) calls old new t b f e = e ∙ ap (λ (a : List ℕ). old ++ a) (answer-open calls size raw.items t b)
-answer-outcome (Err (TooManyItems place)) calls old new t b f e = e ∙ ap (λ (a : List ℕ). old ++ a) (answer-too_many calls place f)
-answer-outcome (Err (NothingToFinish place)) calls old new t b f e = e ∙ ap (λ (a : List ℕ). old ++ a) (answer-nothing calls place f)
-answer-outcome (Err (RawNotItems place)) calls old new t b f e = e ∙ ap (λ (a : List ℕ). old ++ a) (answer-no_items calls place f)
-answer-outcome (Err OutOfMemory) calls old new t b f e = absurd e
+-- the printed fault of a script is the answer to it
+answer-fault : (text old new : List ℕ) (fault : LineFault) → IsLineFault text fault → AppendsFault old new fault → new ≡ old ++ calls_answer (script text)
+answer-fault text old new (Syntax place) is e = e ∙ ap (λ (r : Result (List Call) ℕ). old ++ calls_answer r) (sym is)
+answer-fault text old new (Failed (TooManyItems place)) f e =
+    e ∙ ap (λ (a : List ℕ). old ++ a) (answer-too_many f.calls place (refused_for place f.stops f.stops.refused) ∙ ap calls_answer (sym f.says))
+answer-fault text old new (Failed (NothingToFinish place)) f e =
+    e ∙ ap (λ (a : List ℕ). old ++ a) (answer-nothing f.calls place (refused_for place f.stops f.stops.refused) ∙ ap calls_answer (sym f.says))
+answer-fault text old new (Failed (RawNotItems place)) f e =
+    e ∙ ap (λ (a : List ℕ). old ++ a) (answer-no_items f.calls place (refused_for place f.stops f.stops.refused) ∙ ap calls_answer (sym f.says))
+answer-fault text old new (Failed OutOfMemory) f e = absurd e
 
 -- the same, if it was printed
-pub answer-script : {T E : Type 0} (printed : Result T E) (built : Result Built BuildFault) (text : List ℕ) (calls : List Call) (old new : List ℕ)
-    → script text ≡ Ok calls → OnOk built (AreTaken [] calls) → IfOk built (IsBuilt [] calls) → IfErr built (IsRefusal [] calls)
-    → OnOk printed (AppendsOutcome old new built) → OnOk printed (new ≡ old ++ calls_answer (script text))
-answer-script (Ok x) built text calls old new is t b f e =
-    answer-outcome built calls old new t b f e ∙ ap (λ (r : Result (List Call) ℕ). old ++ calls_answer r) (sym is)
-answer-script (Err x) built text calls old new is t b f e = tt
+pub answer-failed : {T E : Type 0} (printed : Result T E) (text old new : List ℕ) (fault : LineFault) → IsLineFault text fault
+    → OnOk printed (AppendsFault old new fault) → OnOk printed (new ≡ old ++ calls_answer (script text))
+answer-failed (Ok x) text old new fault is e = answer-fault text old new fault is e
+answer-failed (Err x) text old new fault is e = tt
 
 -- ---- lines of calls
 

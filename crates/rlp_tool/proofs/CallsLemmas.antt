@@ -24,8 +24,9 @@ use Rattle.rlp_tool.specs.declared.calls.StreamCall.{StreamCall}
 use Rattle.rlp_tool.specs.declared.calls.StreamCall.TheVariants.{Value, Values, Raw, Begin, BeginUnbounded, Finish, Clear}
 use Rattle.rlp_tool.specs.RawItems.{AreRawItems, IsShallow}
 use Rattle.rlp_tool.specs.StreamCalls.{call_of}
-use Rattle.rlp_tool.specs.Building.{AreRefused, AreTaken, BringsItems, BringsNoItems, BringsTooMany, HasNothingToFinish, IsBuilt, IsJoined, IsRefusal}
-use Rattle.rlp_tool.specs.Building.{AreJoined, IsFinishedAs, IsSomeStep, IsUnfit, IsHeld, takes_memory}
+use Rattle.rlp_tool.specs.Building.{AreRefused, AreTaken, BringsItems, IsBuilt, IsJoined, IsRefusal}
+use Rattle.rlp_tool.specs.Building.{AreJoined, IsFinishedAs, IsSomeStep, takes_memory}
+use Rattle.rlp_tool.specs.Making.{AreMade, IsHeld, IsUnfit, Stops}
 
 -- room for k items, by the number of awaited items
 abbrev pub room_for : ℕ → Option ℕ → Bool
@@ -41,14 +42,6 @@ room k (l ∷ ls) = room_in l.awaits
     room_in (Some n) = refl
 
 -- ---- one call
-
--- the calls that are left begin with the call at this place
-left-next : {E : Type 0} (f : E → Call) (xs : List E) (i : ℕ) (x : E) → i < length xs → x ≡ get_or xs i x → drop i (map f xs) ≡ f x ∷ drop (i + 1) (map f xs)
-left-next f [] i x h e = absurd (omega arith)
-left-next f (y ∷ ys) zero x h e = ap (λ z. f z ∷ map f ys) (sym e)
-left-next f (y ∷ ys) (suc i) x h e =
-    let one_more : suc i + 1 ≡ suc (i + 1) = omega arith in
-    left-next f ys i x (omega arith) e ∙ ap (λ (k : ℕ). f x ∷ drop k (map f (y ∷ ys))) (sym one_more)
 
 cond-yes : {A : Type 0} (b : Bool) (x y : A) → IsTrue b → cond b x y ≡ x
 cond-yes true x y h = refl
@@ -108,14 +101,8 @@ described-more (b ∷ calls) (k ∷ steps) c m n s t d e admitted step = (
       admitted step,
 )
 
--- none of the calls was refused, and they have led to this state
-pub record AreMade (front : List ℕ) (calls : List Call) (s : State) : Type 0 where
-  pub taken : AreTaken front calls
-  pub admitted : after front calls ≡ Ok s
-  pub same_front : s.front ≡ front
-
-pub made_none : (front : List ℕ) (calls : List Call) (s : State) → s ≡ initial_state front → AreMade front (take 0 calls) s
-made_none front calls s is =
+pub made_none : (front : List ℕ) (s : State) → s ≡ initial_state front → AreMade front [] s
+made_none front s is =
     record { taken = record { steps = []; described = tt }; admitted = ap (λ (u : State). Ok u) (sym is); same_front = ap (λ (u : State). u.front) is }
 
 -- one more call
@@ -139,61 +126,48 @@ take-next f (y ∷ ys) (suc i) x h e =
     let one_more : suc i + 1 ≡ suc (i + 1) = omega arith in
     ap (λ (k : ℕ). take k (map f (y ∷ ys))) one_more ∙ ap (λ cs. f y ∷ cs) (take-next f ys i x (omega arith) e)
 
-take-all : {E : Type 0} (f : E → Call) (xs : List E) (i : ℕ) → length xs ≤ i → take i (map f xs) ≡ map f xs
+pub take-all : {E : Type 0} (f : E → Call) (xs : List E) (i : ℕ) → length xs ≤ i → take i (map f xs) ≡ map f xs
 take-all f [] zero h = refl
 take-all f [] (suc i) h = refl
 take-all f (y ∷ ys) zero h = absurd (omega arith)
 take-all f (y ∷ ys) (suc i) h = ap (λ cs. f y ∷ cs) (take-all f ys i (omega arith))
 
-length-taken : {E : Type 0} (f : E → Call) (xs : List E) (i : ℕ) → i < length xs → length (take i (map f xs)) ≡ i
-length-taken f [] i h = absurd (omega arith)
-length-taken f (y ∷ ys) zero h = refl
-length-taken f (y ∷ ys) (suc i) h = ap suc (length-taken f ys i (omega arith))
+pub length-made : {E : Type 0} (f : E → Call) (xs : List E) (i : ℕ) → i ≤ length xs → length (take i (map f xs)) ≡ i
+length-made f xs zero h = refl
+length-made f [] (suc i) h = absurd (omega (arith, h))
+length-made f (y ∷ ys) (suc i) h = ap suc (length-made f ys i (omega (arith, h)))
 
-around : {E : Type 0} (f : E → Call) (xs : List E) (i : ℕ) (x : E) → i < length xs → x ≡ get_or xs i x
-    → map f xs ≡ take i (map f xs) ++ f x ∷ drop (i + 1) (map f xs)
-around f xs i x h e = sym (take-append-drop i (map f xs)) ∙ ap (λ cs. take i (map f xs) ++ cs) (left-next f xs i x h e)
+-- the calls that are made, and those behind them
+pub split-next : {E : Type 0} (f : E → Call) (xs : List E) (i : ℕ) (x : E) → i < length xs → x ≡ get_or xs i x
+    → (take i (map f xs) ++ f x ∷ []) ++ drop (i + 1) (map f xs) ≡ map f xs
+split-next f xs i x h e = ap (λ cs. cs ++ drop (i + 1) (map f xs)) (sym (take-next f xs i x h e)) ∙ take-append-drop (i + 1) (map f xs)
 
--- the call at this place is made
-pub made_next : {E : Type 0} (f : E → Call) (xs : List E) (front : List ℕ) (i : ℕ) (x : E) (s t : State) → i < length xs → x ≡ get_or xs i x
-    → IsTrue (is_admitted (f x) s) → IsSomeStep (f x) s → t ≡ effect (f x) s
-    → AreMade front (take i (map f xs)) s → AreMade front (take (i + 1) (map f xs)) t
-made_next f xs front i x s t h e admitted step moved made =
-    subst (λ cs. AreMade front cs t) (sym (take-next f xs i x h e)) (made_more front (take i (map f xs)) (f x) s t made admitted step moved)
-
-pub made_all : {E : Type 0} (f : E → Call) (xs : List E) (front : List ℕ) (i : ℕ) (s : State) → length xs ≤ i → AreMade front (take i (map f xs)) s
-    → AreMade front (map f xs) s
-made_all f xs front i s h made = subst (λ cs. AreMade front cs s) (take-all f xs i h) made
-
--- the call at this place is refused
-refused_there : {E : Type 0} (reason : Call → State → Type 0) (f : E → Call) (xs : List E) (front : List ℕ) (i : ℕ) (x : E) (s : State) (place : ℕ)
-    → i < length xs → x ≡ get_or xs i x
-    → AreMade front (take i (map f xs)) s → place ≡ i + 1 → reason (f x) s → AreRefused reason front (map f xs) place
-refused_there reason f xs front i x s place h e made is why = record {
-  before = take i (map f xs);
-  call = f x;
-  later = drop (i + 1) (map f xs);
-  in_order = around f xs i x h e;
-  counted = omega (arith, is, length-taken f xs i h);
-  taken = made.taken;
-  met = s;
-  admitted = made.admitted;
+-- a call fails for this reason
+pub refused_for : {unfit : Call → State → ℕ → BuildFault → Type 0} {reason : Call → State → Type 0} {front : List ℕ} {calls : List Call} {fault : BuildFault} (place : ℕ)
+    (s : Stops unfit front calls fault) → (place ≡ suc (length s.before)) × reason s.call s.met → AreRefused reason front calls place
+refused_for place s (counted, why) = record {
+  before = s.before;
+  call = s.call;
+  later = s.later;
+  in_order = s.in_order;
+  counted = counted;
+  taken = s.made.taken;
+  met = s.met;
+  admitted = s.made.admitted;
   refused = why;
 }
 
-pub refused : {E : Type 0} (f : E → Call) (xs : List E) (front : List ℕ) (i : ℕ) (x : E) (s : State) (fault : BuildFault) → i < length xs
-    → x ≡ get_or xs i x → AreMade front (take i (map f xs)) s
-    → IsUnfit (f x) s (i + 1) fault → IsRefusal front (map f xs) fault
-refused f xs front i x s (TooManyItems place) h e made unfit = refused_there BringsTooMany f xs front i x s place h e made unfit.0 unfit.1
-refused f xs front i x s (NothingToFinish place) h e made unfit = refused_there HasNothingToFinish f xs front i x s place h e made unfit.0 unfit.1
-refused f xs front i x s (RawNotItems place) h e made unfit = refused_there BringsNoItems f xs front i x s place h e made unfit.0 unfit.1
-refused f xs front i x s OutOfMemory h e made (admitted, step, takes) = record {
-  before = take i (map f xs);
-  call = f x;
-  later = drop (i + 1) (map f xs);
-  in_order = around f xs i x h e;
-  taken = (made_more front (take i (map f xs)) (f x) s (effect (f x) s) made admitted step refl).taken;
-  takes = takes;
+pub refused : (front : List ℕ) (calls : List Call) (fault : BuildFault) → Stops IsUnfit front calls fault → IsRefusal front calls fault
+refused front calls (TooManyItems place) s = refused_for place s s.refused
+refused front calls (NothingToFinish place) s = refused_for place s s.refused
+refused front calls (RawNotItems place) s = refused_for place s s.refused
+refused front calls OutOfMemory s = record {
+  before = s.before;
+  call = s.call;
+  later = s.later;
+  in_order = s.in_order;
+  taken = (made_more front s.before s.call s.met (effect s.call s.met) s.made s.refused.0.0 s.refused.1 refl).taken;
+  takes = s.refused.0.1;
 }
 
 -- ---- memory for what is open in the end

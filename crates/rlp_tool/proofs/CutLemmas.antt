@@ -1,6 +1,6 @@
 -- Pieces of a text, cut at a byte.
-use Rattle.std.proofs.Common.{◌≡◌, ◌≢◌, IsSome, option_map, subst, ℕ, ◌+◌, ◌-◌, ◌<◌, ◌==◌, ◌&&◌, Bool, true, false, cond, nat_eq, nat_lt, List, []}
-use Rattle.std.proofs.Common.{◌∷◌, ◌++◌, length, take, drop, get_or, is_some, Option, Some, None, Result, Ok, Err, OnOk, refl, sym, ap, ◌∙◌}
+use Rattle.std.proofs.Common.{◌≡◌, ◌≢◌, IsSome, ℕ, ◌+◌, ◌-◌, ◌<◌, ◌==◌, ◌&&◌, Bool, true, false, cond, nat_lt, List, []}
+use Rattle.std.proofs.Common.{◌∷◌, ◌++◌, length, take, drop, get_or, is_some, Option, Some, None, Result, Ok, Err, refl, sym, ap, ◌∙◌}
 use Rattle.std.proofs.Common.{append_assoc, append-nil, length-append, arith, position, filter_map}
 use Rattle.std.specs.List.{slice_split, list_all, prefix_len, position_or_len, cons_option}
 use Rattle.std.proofs.lemmas.List.{drop-drop, take_all, length-drop}
@@ -9,13 +9,12 @@ use Rattle.std.proofs.lemmas.List.Elements.{All-from_get_or}
 use Rattle.std.proofs.lemmas.List.Sums.{fails_before_first, position_or_len_is}
 use Rattle.std.proofs.lemmas.Bool.{eqb-true}
 use Rattle.std.proofs.lemmas.Bool.Decides.{nat_tests}
-use Rattle.std.specs.Option.{IsSomeAnd}
+use Rattle.std.specs.Borrow.{Bor}
 use Rattle.memchr.specs.Find.{IsFirstByte, is_byte}
-use Rattle.rlp.specs.Format.Item.{string}
-use Rattle.rlp.specs.Streams.Calls.{Call, append}
+use Rattle.rlp.specs.Streams.Calls.{Call}
 use Rattle.rlp_lines.specs.Digits.{number_in, bytes_in}
-use Rattle.rlp_tool.specs.Script.{BringsBytes, raw_call, raw_parts, call_in, is_call, script, AddsCall, IsUnread, IsScriptFault, AppendsScriptFault}
-use Rattle.rlp_tool.specs.Answer.{calls_answer}
+use Rattle.rlp_tool.specs.Pieces.{pieces_left, spaces}
+use Rattle.rlp_tool.specs.Script.{raw_call, raw_parts, call_in, calls_in, is_call, script, AddsCall, IsUnread, IsScriptFault}
 use Rattle.rlp_tool.specs.declared.script.ScriptFault.{ScriptFault}
 use Rattle.rlp_tool.specs.declared.script.ScriptFault.TheVariants.{Syntax, OutOfMemory}
 
@@ -96,7 +95,7 @@ left_by-added (Some call) old new pieces e =
     cond_same (list_all is_call pieces) (ap (λ (cs : List Call). Ok cs) calls) (ap (λ (n : ℕ). Err n) place)
 left_by-added None old new pieces e = absurd e
 
-left_by-unread : (o : Option Call) (old : List Call) (pieces : List (List ℕ)) → o ≡ None → left_by o old pieces ≡ Err (length old + 1)
+pub left_by-unread : (o : Option Call) (old : List Call) (pieces : List (List ℕ)) → o ≡ None → left_by o old pieces ≡ Err (length old + 1)
 left_by-unread (Some call) old pieces e = absurd (let never : ⊥ = cc in never)
 left_by-unread None old pieces e = let same : length old + 1 + 0 ≡ length old + 1 = omega arith in ap (λ (n : ℕ). Err n) same
 
@@ -115,67 +114,35 @@ unread : (text : List ℕ) (o : Option Call) (old : List Call) (pieces : List (L
 unread text o old pieces (Syntax place) some all (is, at) = all ∙ left_by-unread o old pieces is ∙ ap (λ (n : ℕ). Err n) (sym at)
 unread text o old pieces OutOfMemory some all h = (some, λ e. begins o old pieces h (sym all ∙ e))
 
-abbrev pub spaces : List ℕ → List (List ℕ)
-spaces text = slice_split (λ c. c == 32) text
+-- all pieces of a script are left
+pub reading_begin : (text : List ℕ) (rest : Option (Bor (List ℕ))) → script text ≡ calls_in (pieces_left rest) → script text ≡ left [] (pieces_left rest)
+reading_begin text rest all = all ∙ cond_same (list_all is_call (pieces_left rest)) refl refl
 
-pub some_text : (text : List ℕ) → false ≡ nat_eq (length text) 0 → text ≢ []
-some_text [] test = absurd (let no : ⊥ = cc in no)
-some_text (b ∷ text) test = λ none. cc
+-- one more piece is a call
+pub reading_next : (text rest piece : List ℕ) (others : Option (Bor (List ℕ))) (old new : List Call) → spaces rest ≡ piece ∷ pieces_left others
+    → script text ≡ left old (spaces rest) → AddsCall old new (call_in piece) → script text ≡ left new (pieces_left others)
+reading_next text rest piece others old new cut all added = all ∙ ap (left old) cut ∙ left_by-added (call_in piece) old new (pieces_left others) added
 
--- a text that isn't empty is left as a whole
-pub script-begin : (text : List ℕ) → 0 < length text → script text ≡ left [] (spaces text)
-script-begin [] h = absurd (omega arith)
-script-begin (b ∷ text) h = cond_same (list_all is_call (spaces (b ∷ text))) refl refl
+pub reading_unread : (text rest piece : List ℕ) (others : Option (Bor (List ℕ))) (old : List Call) (fault : ScriptFault)
+    → spaces rest ≡ piece ∷ pieces_left others → script text ≡ left old (spaces rest) → IsUnread old (call_in piece) fault
+    → text ≢ [] → IsScriptFault text fault
+reading_unread text rest piece others old fault cut all h some =
+    unread text (call_in piece) old (pieces_left others) fault some (all ∙ ap (left old) cut) h
 
--- the pieces of a text that a space cuts
-cut-front : (rest front back : List ℕ) (at : ℕ) → position (λ b. b == 32) rest ≡ Some at → front ≡ take at rest → back ≡ drop at rest
-    → spaces rest ≡ front ∷ spaces (drop 1 back)
-cut-front rest front back at e f b =
-    let after : drop 1 back ≡ drop (at + 1) rest = ap (drop 1) b ∙ drop-drop 1 at rest in
-    cut-there 32 rest at e ∙ ap (λ (p : List ℕ). p ∷ spaces (drop (at + 1) rest)) (sym f) ∙ ap (λ (r : List ℕ). front ∷ spaces r) (sym after)
+-- no piece is left
+pub reading_end : (text : List ℕ) (calls : List Call) → script text ≡ left calls [] → script text ≡ Ok calls
+reading_end text calls all = all ∙ ap (λ (cs : List Call). Ok cs) (append-nil calls)
 
 -- all but the first byte
 whole_rest : (back : List ℕ) → take (length back - 1) (drop 1 back) ≡ drop 1 back
 whole_rest back = take_all (length back - 1) (drop 1 back) (omega (arith, length-drop 1 back))
 
-pub script-next : (text rest front back : List ℕ) (at : ℕ) (old new : List Call) → position (λ b. b == 32) rest ≡ Some at → front ≡ take at rest
-    → back ≡ drop at rest → script text ≡ left old (spaces rest) → AddsCall old new (call_in front)
-    → script text ≡ left new (spaces (take (length back - 1) (drop 1 back)))
-script-next text rest front back at old new e f b all added =
-    all ∙ ap (left old) (cut-front rest front back at e f b) ∙ left_by-added (call_in front) old new (spaces (drop 1 back)) added
-    ∙ ap (λ (r : List ℕ). left new (spaces r)) (sym (whole_rest back))
-
-pub script-unread : (text rest front back : List ℕ) (at : ℕ) (old : List Call) (fault : ScriptFault) → position (λ b. b == 32) rest ≡ Some at
-    → front ≡ take at rest → back ≡ drop at rest → script text ≡ left old (spaces rest) → IsUnread old (call_in front) fault
-    → text ≢ [] → IsScriptFault text fault
-script-unread text rest front back at old fault e f b all h some =
-    unread text (call_in front) old (spaces (drop 1 back)) fault some (all ∙ ap (left old) (cut-front rest front back at e f b)) h
-
--- the last piece
-pub script-last : (text rest : List ℕ) (old new : List Call) → position (λ b. b == 32) rest ≡ None → script text ≡ left old (spaces rest)
-    → AddsCall old new (call_in rest) → script text ≡ Ok new
-script-last text rest old new e all added =
-    all ∙ ap (left old) (cut-nowhere 32 rest e) ∙ left_by-added (call_in rest) old new [] added ∙ ap (λ (cs : List Call). Ok cs) (append-nil new)
-
-pub script-last_unread : (text rest : List ℕ) (old : List Call) (fault : ScriptFault) → position (λ b. b == 32) rest ≡ None
-    → script text ≡ left old (spaces rest) → IsUnread old (call_in rest) fault → text ≢ [] → IsScriptFault text fault
-script-last_unread text rest old fault e all h some = unread text (call_in rest) old [] fault some (all ∙ ap (left old) (cut-nowhere 32 rest e)) h
-
--- ---- the bytes of calls
-
-brings_raw : (count : ℕ) (o : Option (List ℕ)) → IsSomeAnd o (λ bytes. bytes ≢ []) → BringsBytes (raw_call (Some count) o)
-brings_raw count (Some bytes) some = some
-brings_raw count None some = absurd some
-
--- memory was refused for a string
-pub string_refused : (o : Option (List ℕ)) → IsSomeAnd o (λ bytes. bytes ≢ []) → BringsBytes (option_map (λ bytes. append (string bytes)) o)
-string_refused (Some bytes) some = some
-string_refused None some = absurd some
-
--- bytes are those of a call
-pub brings_some : (o : Option Call) → BringsBytes o → IsSome o
-brings_some (Some call) some = refl
-brings_some None some = absurd some
+-- the pieces of a text that a space cuts
+pub cut_first : (text front back : List ℕ) (at : ℕ) → Some at ≡ position (λ b. b == 32) text → front ≡ take at text → back ≡ drop at text
+    → spaces text ≡ front ∷ spaces (take (length back - 1) (drop 1 back))
+cut_first text front back at e f b =
+    let after : take (length back - 1) (drop 1 back) ≡ drop (at + 1) text = whole_rest back ∙ ap (drop 1) b ∙ drop-drop 1 at text in
+    cut-there 32 text at (sym e) ∙ ap (λ (p : List ℕ). p ∷ spaces (drop (at + 1) text)) (sym f) ∙ ap (λ (r : List ℕ). front ∷ spaces r) (sym after)
 
 -- the number and the bytes on both sides of the colon
 pub raw_parts-cut : (text number rest : List ℕ) (at : ℕ) (count : Option ℕ) (bytes : Option (List ℕ)) → Some at ≡ position (λ b. b == 58) text
@@ -185,20 +152,3 @@ raw_parts-cut text number rest at count bytes colon front back n b =
     let behind : take (length rest - 1) (drop 1 rest) ≡ drop (at + 1) text = whole_rest rest ∙ ap (drop 1) back ∙ drop-drop 1 at text in
     ap (λ (o : Option ℕ). raw_call o bytes) (n ∙ ap number_in front) ∙ ap (raw_call (number_in (take at text))) (b ∙ ap bytes_in behind)
     ∙ ap (raw_parts text) colon
-
--- memory was refused for raw bytes
-pub raw_refused : (text number rest : List ℕ) (at count : ℕ) → Some at ≡ position (λ b. b == 58) text → number ≡ take at text → rest ≡ drop at text
-    → Some count ≡ number_in number → IsSomeAnd (bytes_in (take (length rest - 1) (drop 1 rest))) (λ bytes. bytes ≢ [])
-    → BringsBytes (raw_parts text (position (λ b. b == 58) text))
-raw_refused text number rest at count colon front back n some =
-    let read = bytes_in (take (length rest - 1) (drop 1 rest)) in
-    subst BringsBytes (raw_parts-cut text number rest at (Some count) read colon front back n refl) (brings_raw count read some)
-
--- ---- answers
-
--- the printed fault of a script is the answer to it
-pub answer-unread : {T E : Type 0} (printed : Result T E) (fault : ScriptFault) (text old new : List ℕ) → IsScriptFault text fault
-    → OnOk printed (AppendsScriptFault old new fault) → OnOk printed (new ≡ old ++ calls_answer (script text))
-answer-unread (Ok x) (Syntax place) text old new is e = e ∙ ap (λ (r : Result (List Call) ℕ). old ++ calls_answer r) (sym is)
-answer-unread (Ok x) OutOfMemory text old new is e = absurd e
-answer-unread (Err x) fault text old new is e = tt

@@ -6,10 +6,8 @@ pub mod CutLemmas
 pub mod RawLemmas
 -- calls of a stream, one after another
 pub mod CallsLemmas
--- calls of a script that are made as they are read
+-- calls that are made one after another, of which some wait
 pub mod MakingLemmas
--- calls that close lists, made at once
-pub mod FinishLemmas
 -- the calls of a line whose answer is `out`
 pub mod SaidLemmas
 -- the answers to lines of calls

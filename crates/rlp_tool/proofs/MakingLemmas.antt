@@ -1,134 +1,280 @@
--- Calls of a script that are made as they are read.
-use Rattle.std.proofs.Common.{◌≡◌, ℕ, zero, suc, ◌+◌, ◌-◌, ◌*◌, ◌<◌, ◌≤◌, ◌==◌, IsTrue, true, false, nat_eq, List, [], ◌∷◌, ◌++◌, length, get_or, take, drop, Option, Some, None, refl, sym, ap, subst, ◌∙◌}
-use Rattle.std.proofs.Common.{arith, position}
-use Rattle.std.proofs.lemmas.Bool.Decides.{nat_tests}
-use Rattle.std.proofs.lemmas.List.{drop-drop, length-drop, take_all}
-use Rattle.rlp.specs.Format.Item.{Item}
-use Rattle.rlp.specs.Streams.Stream.{State, initial_state}
-use Rattle.rlp.specs.Streams.Calls.{Call, append, effect, finalize_unbounded_list, finalized, is_admitted}
+-- Calls that are made one after another, of which some wait.
+use Rattle.std.proofs.Common.{◌≡◌, ◌≢◌, ℕ, zero, suc, ◌+◌, ◌-◌, ◌<◌, ◌≤◌, nat_eq, true, false, IsTrue, List, [], ◌∷◌, ◌++◌, length, replicate, Option, Some, None, option_map, Result, Ok, Err, IfOk, IsSome, IfErr, OnOk, refl, sym, ap, subst, ◌∙◌}
+use Rattle.std.proofs.Common.{append_assoc, append-nil, length-append, arith}
+use Rattle.std.proofs.lemmas.List.{replicate-append-replicate, length-replicate}
+use Rattle.std.specs.Borrow.{Bor}
+use Rattle.std.specs.Option.{IsSomeAnd}
+use Rattle.rlp.specs.Format.Item.{string}
 use Rattle.rlp.specs.Streams.Stack.{unbounded_count}
-use Rattle.rlp.specs.Streams.Described.{brings, finishes, by_append, by_finalize}
+use Rattle.rlp.specs.Streams.Stream.{State, initial_state}
+use Rattle.rlp.specs.Streams.Calls.{Call, append, append_raw, begin_list, begin_unbounded_list, clear, effect, finalize_unbounded_list, finalized, is_admitted}
+use Rattle.rlp.specs.Streams.Described.{finishes, by_finalize}
+use Rattle.rlp_tool.specs.declared.building.BuildFault.{BuildFault}
+use Rattle.rlp_tool.specs.declared.building.BuildFault.TheVariants.{TooManyItems, NothingToFinish, RawNotItems, OutOfMemory}
 use Rattle.rlp_tool.specs.Building.{IsSomeStep}
-use Rattle.rlp_tool.specs.Making.{BeginsWithEnds, MakesCall, MakesEnds, MakesScript}
-use Rattle.rlp_tool.specs.Script.{AddsCall, call_in, script}
-use Rattle.rlp_tool.proofs.CallsLemmas.{AreMade, made_more, made_none}
-use Rattle.rlp_tool.proofs.CutLemmas.{first_near, left, script-begin, script-last, script-next, spaces}
+use Rattle.rlp_tool.specs.Making.{AreMade, AreMadeBut, Goes, IsUnfit, IsUnmade, IsTaken, Stops, StopsScript}
+use Rattle.rlp_tool.specs.declared.script.Piece.{Piece}
+use Rattle.rlp_tool.specs.declared.script.Piece.TheVariants.{Value, Raw, Begin, BeginUnbounded, Finish, Clear}
+use Rattle.rlp_tool.specs.Pieces.{ArePairs, HasPairs, bytes_of, piece_call, pieces_left, spaces}
+use Rattle.rlp_tool.specs.Script.{AddsCall, call_in, calls_in, script}
+use Rattle.rlp_lines.proofs.DigitLemmas.{read-nothing, read-some}
+use Rattle.rlp_tool.proofs.CallsLemmas.{made_more, made_none}
+use Rattle.rlp_tool.proofs.CutLemmas.{left, left_by-unread, reading_begin, reading_end, reading_next}
 
--- a string is a step
-pub step_append : (x : Item) (s : State) → IsSomeStep (append x) s
-step_append x s = (brings (x ∷ []), by_append x)
-
--- some calls are made, and the pieces that are left decide after them
-pub record IsMaking (text rest : List ℕ) (s : State) : Type 0 where
-  pub calls : List Call
-  pub decide : script text ≡ left calls (spaces rest)
-  pub made : AreMade [] calls s
-
-pub making_none : (text : List ℕ) (s : State) → true ≡ nat_eq (length text) 0 → s ≡ initial_state [] → MakesScript text s
-making_none [] s none is =
-    let made : AreMade [] [] s = made_none [] [] s is in
-    record { calls = []; says = refl; taken = made.taken; admitted = made.admitted; front = made.same_front }
-making_none (b ∷ text) s none is = absurd (let no : ⊥ = grind (arith, nat_tests) in no)
-
-pub making_begin : (text : List ℕ) (s : State) → false ≡ nat_eq (length text) 0 → s ≡ initial_state [] → IsMaking text text s
-making_begin text s test is =
-    let some : 0 < length text = grind (arith, nat_tests) in
-    record { calls = []; decide = script-begin text some; made = made_none [] [] s is }
-
-made_step : (calls : List Call) (o : Option Call) (s t : State) → AreMade [] calls s → MakesCall o s t
-    → (more : List Call) × AreMade [] more t × AddsCall calls more o
-made_step calls (Some c) s t made (admitted, step, moved) = (calls ++ c ∷ [], made_more [] calls c s t made admitted step moved, refl)
-made_step calls None s t made none = absurd none
-
--- the call of one more piece is made
-pub making_next : (text rest front back : List ℕ) (at : ℕ) (s t : State) → position (λ b. b == 32) rest ≡ Some at → front ≡ take at rest
-    → back ≡ drop at rest → IsMaking text rest s → MakesCall (call_in front) s t → IsMaking text (take (length back - 1) (drop 1 back)) t
-making_next text rest front back at s t e f b m makes =
-    let (more, made, added) = made_step m.calls (call_in front) s t m.made makes in
-    record { calls = more; decide = script-next text rest front back at m.calls more e f b m.decide added; made = made }
-
--- the call of the last piece is made
-pub making_last : (text rest : List ℕ) (s t : State) → position (λ b. b == 32) rest ≡ None → IsMaking text rest s → MakesCall (call_in rest) s t
-    → MakesScript text t
-making_last text rest s t e m makes =
-    let (more, made, added) = made_step m.calls (call_in rest) s t m.made makes in
-    record {
-      calls = more;
-      says = script-last text rest m.calls more e m.decide added;
-      taken = made.taken;
-      admitted = made.admitted;
-      front = made.same_front;
-    }
-
--- ---- pieces `e`
-
--- to close a list is a step
-pub step_end : (s t : State) → IsTrue (is_admitted finalize_unbounded_list s) → t ≡ effect finalize_unbounded_list s → MakesCall (call_in (101 ∷ [])) s t
-step_end s t admitted moved = (admitted, (finishes, by_finalize), moved)
+-- ---- calls that wait
 
 -- what the streams' law says: one of some unbounded lists is closed, and the others are unbounded
 abbrev pub InTurn : Type 0
 InTurn = (n : ℕ) (s : State) → n < unbounded_count s.stack.lists
     → IsTrue (is_admitted finalize_unbounded_list s) × (n ≤ unbounded_count (effect finalize_unbounded_list s).stack.lists)
 
-making_end : (text others : List ℕ) (s : State) → IsTrue (is_admitted finalize_unbounded_list s) → IsMaking text (101 ∷ 32 ∷ others) s
-    → IsMaking text others (effect finalize_unbounded_list s)
-making_end text others s admitted m =
-    let space : Some 1 ≡ position (λ b. b == 32) (101 ∷ 32 ∷ others) =
-    first_near 32 (101 ∷ 32 ∷ others) 1 (omega arith) (λ k lt e. let first : k ≡ 0 = omega (arith, lt) in
-    let no : 101 ≡ 32 = ap (λ i. get_or (101 ∷ 32 ∷ others) i 0) (sym first) ∙ e in absurd (omega (arith, no))) refl in
-    let made = making_next text (101 ∷ 32 ∷ others) (101 ∷ []) (32 ∷ others) 1 s (effect finalize_unbounded_list s) (sym space) refl refl m
-    (step_end s (effect finalize_unbounded_list s) admitted refl) in
-    subst (λ rest. IsMaking text rest (effect finalize_unbounded_list s)) (take_all (length (32 ∷ others) - 1) others (omega arith)) made
-
--- some pieces `e` are made at once
-making_closed : InTurn → (n : ℕ) (text rest : List ℕ) (s : State) → BeginsWithEnds n rest → n ≤ unbounded_count s.stack.lists → IsMaking text rest s
-    → IsMaking text (drop (2 * n) rest) (finalized n s)
-making_closed in_turn zero text rest s begins many m = m
-making_closed in_turn (suc n) text rest s begins many m =
+made_in_turn : InTurn → (n : ℕ) (front : List ℕ) (calls : List Call) (s : State) → n ≤ unbounded_count s.stack.lists → AreMade front calls s
+    → AreMade front (calls ++ replicate n finalize_unbounded_list) (finalized n s)
+made_in_turn in_turn zero front calls s many made = subst (λ cs. AreMade front cs s) (sym (append-nil calls)) made
+made_in_turn in_turn (suc n) front calls s many made =
     let next = in_turn n s (omega (arith, many)) in
-    let ended = making_end text (drop 2 rest) s next.0 (subst (λ ys. IsMaking text ys s) begins.0 m) in
-    let twice : 2 + 2 * n ≡ 2 * suc n = omega arith in
-    subst (λ ys. IsMaking text ys (finalized (suc n) s)) (drop-drop (2 * n) 2 rest ∙ ap (λ k. drop k rest) twice)
-    (making_closed in_turn n text (drop 2 rest) (effect finalize_unbounded_list s) begins.1 next.1 ended)
+    let one = made_more front calls finalize_unbounded_list s (effect finalize_unbounded_list s) made next.0 (finishes, by_finalize) refl in
+    subst (λ cs. AreMade front cs (finalized (suc n) s)) (append_assoc calls (finalize_unbounded_list ∷ []) (replicate n finalize_unbounded_list))
+    (made_in_turn in_turn n front (calls ++ finalize_unbounded_list ∷ []) (effect finalize_unbounded_list s) next.1 one)
 
--- the pieces `e` behind a piece are made
-pub making_ends : InTurn → (text rest left_over : List ℕ) (s t : State) → IsMaking text rest s → MakesEnds rest left_over s t → IsMaking text left_over t
-making_ends in_turn text rest left_over s t m ends =
-    rw (ends.rest_is, ends.closes) (making_closed in_turn ends.count text rest s ends.begins ends.are_unbounded m)
-
--- the progress of counting the pieces: after this number of them, the rest
-pub record Leads (text rest : List ℕ) (count : ℕ) : Type 0 where
-  pub begins : BeginsWithEnds count text
-  pub rest_is : rest ≡ drop (2 * count) text
-  pub within : 2 * count ≤ length text
-
-begins_more : (n : ℕ) (text : List ℕ) → BeginsWithEnds n text → drop (2 * n) text ≡ 101 ∷ 32 ∷ drop 2 (drop (2 * n) text) → BeginsWithEnds (suc n) text
-begins_more zero text begins more = (more, tt)
-begins_more (suc n) text begins more =
-    let twice : 2 * suc n ≡ 2 + 2 * n = omega arith in
-    let there : drop (2 * suc n) text ≡ drop (2 * n) (drop 2 text) = ap (λ k. drop k text) twice ∙ sym (drop-drop (2 * n) 2 text) in
-    (begins.0, begins_more n (drop 2 text) begins.1 (subst (λ ys. ys ≡ 101 ∷ 32 ∷ drop 2 ys) there more))
-
--- fewer pieces
-pub begins_fewer : (m n : ℕ) (text : List ℕ) → m ≤ n → BeginsWithEnds n text → BeginsWithEnds m text
-begins_fewer zero n text few begins = tt
-begins_fewer (suc m) zero text few begins = absurd (omega (arith, few))
-begins_fewer (suc m) (suc n) text few begins = (begins.0, begins_fewer m n (drop 2 text) (omega (arith, few)) begins.1)
-
--- one more piece is counted
-pub leads_more : (text rest others : List ℕ) (count more : ℕ) → Leads text rest count → more ≡ count + 1 → rest ≡ 101 ∷ 32 ∷ others
-    → Leads text others more
-leads_more text rest others count more h one is =
-    let behind : others ≡ drop 2 rest = sym (ap (drop 2) is) in
-    let here : drop (2 * count) text ≡ 101 ∷ 32 ∷ drop 2 (drop (2 * count) text) =
-    subst (λ ys. ys ≡ 101 ∷ 32 ∷ drop 2 ys) h.rest_is (is ∙ ap (λ ys. 101 ∷ 32 ∷ ys) behind) in
-    let size : length (drop (2 * count) text) ≡ length text - 2 * count = length-drop (2 * count) text in
-    let some = ap length here in
-    let twice : 2 * count + 2 ≡ 2 * more = omega (arith, one) in
-    let next : suc count ≡ more = omega (arith, one) in
+-- some of those that wait are made
+pub made_some : InTurn → (front : List ℕ) (calls : List Call) (waiting n : ℕ) (s : State) → n ≤ waiting → n ≤ unbounded_count s.stack.lists
+    → AreMadeBut front calls waiting s → AreMadeBut front calls (waiting - n) (finalized n s)
+made_some in_turn front calls waiting n s few many m =
+    let all : n + (waiting - n) ≡ waiting = omega (arith, few) in
+    let split : replicate waiting finalize_unbounded_list ≡ replicate n finalize_unbounded_list ++ replicate (waiting - n) finalize_unbounded_list =
+    ap (λ k. replicate k finalize_unbounded_list) (sym all) ∙ sym (replicate-append-replicate n (waiting - n) finalize_unbounded_list) in
     record {
-      begins = subst (λ n. BeginsWithEnds n text) next (begins_more count text h.begins here);
-      rest_is = behind ∙ ap (drop 2) h.rest_is ∙ drop-drop 2 (2 * count) text ∙ ap (λ k. drop k text) twice;
-      within = omega (arith, size, some, one);
+      before = m.before ++ replicate n finalize_unbounded_list;
+      in_order = m.in_order ∙ ap (λ cs. m.before ++ cs) split
+          ∙ sym (append_assoc m.before (replicate n finalize_unbounded_list) (replicate (waiting - n) finalize_unbounded_list));
+      made = made_in_turn in_turn n front m.before s many m.made;
     }
+
+-- none waits
+pub none_waits : (front : List ℕ) (calls : List Call) (s : State) → AreMade front calls s → AreMadeBut front calls 0 s
+none_waits front calls s made = record { before = calls; in_order = sym (append-nil calls); made = made }
+
+pub all_made : (front : List ℕ) (calls : List Call) (waiting : ℕ) (s : State) → waiting ≡ 0 → AreMadeBut front calls waiting s → AreMade front calls s
+all_made front calls zero s none m = subst (λ cs. AreMade front cs s) (sym (m.in_order ∙ append-nil m.before)) m.made
+all_made front calls (suc k) s none m = absurd (omega (arith, none))
+
+-- one more waits
+pub one_waits : (front : List ℕ) (calls : List Call) (c : Call) (waiting : ℕ) (s : State) → c ≡ finalize_unbounded_list → AreMadeBut front calls waiting s
+    → AreMadeBut front (calls ++ c ∷ []) (waiting + 1) s
+one_waits front calls c waiting s is m = record {
+  before = m.before;
+  in_order = ap (λ cs. cs ++ c ∷ []) m.in_order ∙ append_assoc m.before (replicate waiting finalize_unbounded_list) (c ∷ [])
+      ∙ ap (λ d. m.before ++ (replicate waiting finalize_unbounded_list ++ d ∷ [])) is
+      ∙ ap (λ cs. m.before ++ cs) (replicate-append-replicate waiting 1 finalize_unbounded_list);
+  made = m.made;
+}
+
+-- the number of calls
+pub length-waiting : (front : List ℕ) (calls : List Call) (waiting : ℕ) (s : State) (m : AreMadeBut front calls waiting s)
+    → length calls ≡ length m.before + waiting
+length-waiting front calls waiting s m =
+    ap length m.in_order ∙ length-append m.before (replicate waiting finalize_unbounded_list)
+    ∙ ap (λ n. length m.before + n) (length-replicate waiting finalize_unbounded_list)
+
+-- the first of those that wait fails
+pub stops_waiting : (front : List ℕ) (calls : List Call) (waiting : ℕ) (s : State) (fault : BuildFault) → 0 < waiting
+    → (m : AreMadeBut front calls waiting s) → IsUnfit finalize_unbounded_list s (suc (length m.before)) fault → (later : List Call)
+    → Stops IsUnfit front (calls ++ later) fault
+stops_waiting front calls zero s fault some m why later = absurd (omega (arith, some))
+stops_waiting front calls (suc k) s fault some m why later = record {
+  before = m.before;
+  call = finalize_unbounded_list;
+  later = replicate k finalize_unbounded_list ++ later;
+  in_order = ap (λ cs. cs ++ later) m.in_order ∙ append_assoc m.before (finalize_unbounded_list ∷ replicate k finalize_unbounded_list) later;
+  met = s;
+  made = m.made;
+  refused = why;
+}
+
+-- ---- one more call
+
+-- a call is made after all before it
+goes_taken : (unfit : Call → State → ℕ → BuildFault → Type 0) (front : List ℕ) (calls : List Call) (c : Call) (place : ℕ) (s t : State)
+    (r : Result (Unit {0}) BuildFault) → AreMade front calls s → place ≡ length calls + 1 → OnOk r (IsTaken c s t) → IfErr r (unfit c s place)
+    → Goes unfit front (calls ++ c ∷ []) 0 t r
+goes_taken unfit front calls c place s t (Ok end) made at taken why =
+    none_waits front (calls ++ c ∷ []) t (made_more front calls c s t made taken.0 taken.1 taken.2)
+goes_taken unfit front calls c place s t (Err fault) made at taken why = λ later. record {
+  before = calls;
+  call = c;
+  later = later;
+  in_order = append_assoc calls (c ∷ []) later;
+  met = s;
+  made = made;
+  refused = let next : place ≡ suc (length calls) = omega (arith, at) in subst (λ n. unfit c s n fault) next why;
+}
+
+pub goes_next : (unfit : Call → State → ℕ → BuildFault → Type 0) (front : List ℕ) (calls : List Call) (c : Call) (place waiting : ℕ) (s t : State)
+    (r : Result (Unit {0}) BuildFault) → waiting ≡ 0 → AreMadeBut front calls waiting s → place ≡ length calls + 1 → OnOk r (IsTaken c s t)
+    → IfErr r (unfit c s place) → Goes unfit front (calls ++ c ∷ []) waiting t r
+goes_next unfit front calls c place waiting s t r none m at taken why =
+    subst (λ w. Goes unfit front (calls ++ c ∷ []) w t r) (sym none)
+    (goes_taken unfit front calls c place s t r (all_made front calls waiting s none m) at taken why)
+
+-- what the clauses of a call say
+pub taken_by : (c : Call) (s t : State) (r : Result (Unit {0}) BuildFault) → OnOk r (IsTrue (is_admitted c s)) → OnOk r (t ≡ effect c s)
+    → OnOk r (IsSomeStep c s) → OnOk r (IsTaken c s t)
+taken_by c s t (Ok end) admitted moved step = (admitted, step, moved)
+taken_by c s t (Err fault) admitted moved step = tt
+
+-- a call failed before it
+pub stops_before : (unfit : Call → State → ℕ → BuildFault → Type 0) (front : List ℕ) (calls : List Call) (c : Call) (fault : BuildFault)
+    → ((later : List Call) → Stops unfit front (calls ++ later) fault) → (later : List Call) → Stops unfit front ((calls ++ c ∷ []) ++ later) fault
+stops_before unfit front calls c fault stops later =
+    subst (λ cs. Stops unfit front cs fault) (sym (append_assoc calls (c ∷ []) later)) (stops (c ∷ later))
+
+-- ---- memory that is refused for raw bytes
+
+unfit_unmade : (c : Call) (s : State) (place : ℕ) (fault : BuildFault) → IsUnfit c s place fault → IsUnmade c s place fault
+unfit_unmade c s place (TooManyItems there) why = why
+unfit_unmade c s place (NothingToFinish there) why = why
+unfit_unmade c s place (RawNotItems there) why = why
+unfit_unmade c s place OutOfMemory why = why.0
+
+pub unfit_anyhow : (c : Call) (s : State) (place : ℕ) (r : Result (Unit {0}) BuildFault) → IfErr r (IsUnfit c s place) → IfErr r (IsUnmade c s place)
+unfit_anyhow c s place (Ok end) why = tt
+unfit_anyhow c s place (Err fault) why = unfit_unmade c s place fault why
+
+stops_anyhow : (front : List ℕ) (calls : List Call) (fault : BuildFault) → Stops IsUnfit front calls fault → Stops IsUnmade front calls fault
+stops_anyhow front calls fault s = record {
+  before = s.before;
+  call = s.call;
+  later = s.later;
+  in_order = s.in_order;
+  met = s.met;
+  made = s.made;
+  refused = unfit_unmade s.call s.met (suc (length s.before)) fault s.refused;
+}
+
+pub goes_anyhow : (front : List ℕ) (calls : List Call) (waiting : ℕ) (s : State) (r : Result (Unit {0}) BuildFault)
+    → Goes IsUnfit front calls waiting s r → Goes IsUnmade front calls waiting s r
+goes_anyhow front calls waiting s (Ok end) m = m
+goes_anyhow front calls waiting s (Err fault) stops = λ later. stops_anyhow front (calls ++ later) fault (stops later)
+
+-- ---- the calls of a script
+
+-- some calls are read, and made as far as none fails; the pieces that are left decide after them
+pub record IsReading (text : List ℕ) (rest : Option (Bor (List ℕ))) (place waiting : ℕ) (s : State) (outcome : Result (Unit {0}) BuildFault) : Type 0 where
+  pub calls : List Call
+  pub decide : script text ≡ left calls (pieces_left rest)
+  pub counted : place ≡ length calls + 1
+  pub goes : Goes IsUnmade [] calls waiting s outcome
+
+pub reads_all : (text : List ℕ) (rest : Option (Bor (List ℕ))) (s : State) (outcome : Result (Unit {0}) BuildFault) (end : Unit {0})
+    → script text ≡ calls_in (pieces_left rest) → s ≡ initial_state [] → outcome ≡ Ok end → IsReading text rest 1 0 s outcome
+reads_all text rest s outcome end all is ok = record {
+  calls = [];
+  decide = reading_begin text rest all;
+  counted = refl;
+  goes = subst (Goes IsUnmade [] [] 0 s) (sym ok) (none_waits [] [] s (made_none [] s is));
+}
+
+-- the digits of a piece are those of some bytes
+some_bytes : (digits : List ℕ) → ArePairs digits → (bytes : List ℕ) × (Some bytes ≡ bytes_of digits)
+some_bytes digits pairs =
+    elim (nat_eq (length digits) 0) as (λ test. test ≡ nat_eq (length digits) 0 → (bytes : List ℕ) × (Some bytes ≡ bytes_of digits)) [
+      | true ↦ λ none. ([], sym (read-nothing digits none))
+      | false ↦ λ some. read_bytes_of (bytes_of digits) (read-some digits pairs.0 some pairs.1)
+    ] refl
+  where
+    read_bytes_of : (o : Option (List ℕ)) → IsSomeAnd o (λ bytes. bytes ≢ []) → (bytes : List ℕ) × (Some bytes ≡ o)
+    read_bytes_of (Some bytes) some = (bytes, refl)
+    read_bytes_of None some = absurd some
+
+-- a piece is a call
+some_call : (piece : Piece) → HasPairs piece → (call : Call) × (Some call ≡ piece_call piece)
+some_call (Value digits) pairs =
+    let (bytes, are) = some_bytes digits.now pairs in (append (string bytes), ap (option_map (λ xs. append (string xs))) are)
+some_call (Raw digits count) pairs =
+    let (bytes, are) = some_bytes digits.now pairs in (append_raw bytes count, ap (option_map (λ xs. append_raw xs count)) are)
+some_call (Begin count) pairs = (begin_list count, refl)
+some_call BeginUnbounded pairs = (begin_unbounded_list, refl)
+some_call Finish pairs = (finalize_unbounded_list, refl)
+some_call Clear pairs = (clear, refl)
+
+pub some_read : (o : Option Call) (piece : Piece) → HasPairs piece → o ≡ piece_call piece → IsSome o
+some_read o piece pairs read = let (call, called) = some_call piece pairs in subst IsSome (called ∙ sym read) refl
+
+-- one more piece is read, and its call made if none failed before
+pub reads_next : (text : List ℕ) (all others : Option (Bor (List ℕ))) (rest : Bor (List ℕ)) (cut : List ℕ) (piece : Piece) (place waiting more : ℕ) (s t : State)
+    (before outcome : Result (Unit {0}) BuildFault) → all ≡ Some rest → spaces rest.now ≡ cut ∷ pieces_left others → HasPairs piece
+    → call_in cut ≡ piece_call piece
+    → ((calls : List Call) (call : Call) → Goes IsUnmade [] calls waiting s before → place ≡ length calls + 1 → Some call ≡ piece_call piece
+    → Goes IsUnmade [] (calls ++ call ∷ []) more t outcome)
+    → IsReading text all place waiting s before → IsReading text others (place + 1) more t outcome
+reads_next text all others rest cut piece place waiting more s t before outcome is cuts pairs read goes r =
+    let (call, called) = some_call piece pairs in
+    let decide : script text ≡ left r.calls (spaces rest.now) = r.decide ∙ ap (λ o. left r.calls (pieces_left o)) is in
+    record {
+      calls = r.calls ++ call ∷ [];
+      decide = reading_next text rest.now cut others r.calls (r.calls ++ call ∷ []) cuts decide
+          (subst (λ o. AddsCall r.calls (r.calls ++ call ∷ []) o) (called ∙ sym read) refl);
+      counted = omega (arith, r.counted, length-append r.calls (call ∷ []));
+      goes = goes r.calls call r.goes r.counted called;
+    }
+
+-- a piece isn't a call
+pub reads_fault : (text : List ℕ) (all others : Option (Bor (List ℕ))) (rest : Bor (List ℕ)) (cut : List ℕ) (place waiting : ℕ) (s : State)
+    (before : Result (Unit {0}) BuildFault) → all ≡ Some rest → spaces rest.now ≡ cut ∷ pieces_left others → call_in cut ≡ None
+    → IsReading text all place waiting s before → script text ≡ Err place
+reads_fault text all others rest cut place waiting s before is cuts none r =
+    r.decide ∙ ap (λ o. left r.calls (pieces_left o)) is ∙ ap (left r.calls) cuts ∙ left_by-unread (call_in cut) r.calls (pieces_left others) none
+    ∙ ap (λ (n : ℕ). Err n) (sym r.counted)
+
+-- no piece is left
+reads_end : (text : List ℕ) (all : Option (Bor (List ℕ))) (place waiting : ℕ) (s : State) (outcome : Result (Unit {0}) BuildFault) → all ≡ None
+    → (r : IsReading text all place waiting s outcome) → script text ≡ Ok r.calls
+reads_end text all place waiting s outcome none r = reading_end text r.calls (r.decide ∙ ap (λ o. left r.calls (pieces_left o)) none)
+
+stops_here : (calls : List Call) (fault : BuildFault) → ((later : List Call) → Stops IsUnmade [] (calls ++ later) fault) → Stops IsUnmade [] calls fault
+stops_here calls fault stops = subst (λ cs. Stops IsUnmade [] cs fault) (append-nil calls) (stops [])
+
+pub reads_stopped : (text : List ℕ) (all : Option (Bor (List ℕ))) (place waiting : ℕ) (s : State) (outcome : Result (Unit {0}) BuildFault)
+    (fault : BuildFault) → all ≡ None → outcome ≡ Err fault → IsReading text all place waiting s outcome → StopsScript text fault
+reads_stopped text all place waiting s outcome fault none is r = record {
+  calls = r.calls;
+  says = reads_end text all place waiting s outcome none r;
+  stops = stops_here r.calls fault (subst (Goes IsUnmade [] r.calls waiting s) is r.goes);
+}
+
+-- all calls are made but those that wait
+pub record IsRead (text : List ℕ) (place waiting : ℕ) (s : State) : Type 0 where
+  pub calls : List Call
+  pub says : script text ≡ Ok calls
+  pub counted : place ≡ length calls + 1
+  pub made : AreMadeBut [] calls waiting s
+
+pub reads_to_end : (text : List ℕ) (all : Option (Bor (List ℕ))) (place waiting : ℕ) (s : State) (outcome : Result (Unit {0}) BuildFault)
+    (end : Unit {0}) → all ≡ None → outcome ≡ Ok end → IsReading text all place waiting s outcome → IsRead text place waiting s
+reads_to_end text all place waiting s outcome end none is r = record {
+  calls = r.calls;
+  says = reads_end text all place waiting s outcome none r;
+  counted = r.counted;
+  made = subst (Goes IsUnmade [] r.calls waiting s) is r.goes;
+}
+
+-- fewer calls wait than were read
+pub waits_within : (front : List ℕ) (calls : List Call) (place waiting : ℕ) (s : State) → place ≡ length calls + 1 → AreMadeBut front calls waiting s
+    → waiting < place
+waits_within front calls place waiting s at m = omega (arith, at, length-waiting front calls waiting s m)
+
+pub reads_within : (text : List ℕ) (all : Option (Bor (List ℕ))) (place waiting : ℕ) (s : State) (outcome : Result (Unit {0}) BuildFault)
+    → IsReading text all place waiting s outcome → IfOk outcome (λ _. waiting < place)
+reads_within text all place waiting s (Ok end) r = waits_within [] r.calls place waiting s r.counted r.goes
+reads_within text all place waiting s (Err fault) r = tt
+
+-- a fault stays
+pub goes_stopped : (calls : List Call) (c : Call) (waiting : ℕ) (s : State) (before : Result (Unit {0}) BuildFault) (fault : BuildFault)
+    → before ≡ Err fault → Goes IsUnmade [] calls waiting s before → (later : List Call) → Stops IsUnmade [] ((calls ++ c ∷ []) ++ later) fault
+goes_stopped calls c waiting s before fault is goes = stops_before IsUnmade [] calls c fault (subst (Goes IsUnmade [] calls waiting s) is goes)
+
+-- the calls that wait can't be made
+pub stops_in_end : (text : List ℕ) (calls : List Call) (fault : BuildFault) → script text ≡ Ok calls
+    → ((later : List Call) → Stops IsUnmade [] (calls ++ later) fault) → StopsScript text fault
+stops_in_end text calls fault says stops = record { calls = calls; says = says; stops = stops_here calls fault stops }

@@ -24,7 +24,7 @@ use Rattle.rlp_lines.specs.Digits.{bytes_in, digits_of, number_in}
 use Rattle.rlp_tool.specs.RawItems.{IsShallow}
 use Rattle.rlp_tool.specs.Script.{call_in, is_call, labelled_call, letter_call, raw_call, raw_parts, script}
 use Rattle.rlp_tool.proofs.CallsLemmas.{step_begin, step_raw}
-use Rattle.rlp_tool.proofs.CutLemmas.{spaces}
+use Rattle.rlp_tool.specs.Pieces.{spaces}
 use Rattle.rlp_tool.proofs.RawLemmas.{are_raw_items-told}
 
 -- ---- the calls of a script

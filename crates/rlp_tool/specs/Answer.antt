@@ -9,10 +9,6 @@ use Rattle.rlp.specs.Views.Text.{text}
 use Rattle.rlp.specs.Streams.Stack.{OpenList}
 use Rattle.rlp.specs.Streams.Stream.{State, initial_state, closed_size, raw_text}
 use Rattle.rlp.specs.Streams.Calls.{Call, append_raw, effect, is_admitted}
-use Rattle.rlp_tool.specs.declared.building.Built.{Built}
-use Rattle.rlp_tool.specs.declared.building.Built.TheVariants.{Finished, Open}
-use Rattle.rlp_tool.specs.declared.building.BuildFault.{BuildFault}
-use Rattle.rlp_tool.specs.declared.building.BuildFault.TheVariants.{TooManyItems, NothingToFinish, RawNotItems, OutOfMemory}
 use Rattle.rlp_tool.specs.Building.{is_raw}
 use Rattle.rlp_lines.specs.Digits.{bytes_in}
 use Rattle.rlp_lines.specs.Replies.{answer_by, longest_line}
@@ -93,14 +89,3 @@ pub record SaysCalls (line : List ℕ) (calls : List Call) : Type 0 where
   pub text : List ℕ
   pub stripped : strip_carriage_return line ≡ byte "+" ∷ text
   pub says : script text ≡ Ok calls
-
--- ---- parts that only clauses of private functions cite
-
--- the result of calls was appended, or the fault of the first that fails
-abbrev pub AppendsOutcome : List ℕ → List ℕ → Result Built BuildFault → Type 0
-AppendsOutcome old new (Ok (Finished bytes)) = new ≡ old ++ finished_answer bytes.items
-AppendsOutcome old new (Ok (Open size raw)) = new ≡ old ++ open_answer size raw.items
-AppendsOutcome old new (Err (TooManyItems place)) = new ≡ old ++ (codes "error too many items at " ++ decimal place)
-AppendsOutcome old new (Err (NothingToFinish place)) = new ≡ old ++ (codes "error nothing to finish at " ++ decimal place)
-AppendsOutcome old new (Err (RawNotItems place)) = new ≡ old ++ (codes "error raw not items at " ++ decimal place)
-AppendsOutcome old new (Err OutOfMemory) = ⊥

@@ -1,9 +1,8 @@
 -- The result of calls over a front.
-use Rattle.std.specs.Prelude.{ℕ, suc, ◌≡◌, ◌≤◌, Bool, true, false, IsTrue, List, [], ◌∷◌, ◌++◌, length, take, drop, replicate, Ok}
+use Rattle.std.specs.Prelude.{ℕ, suc, ◌≡◌, Bool, true, false, IsTrue, List, [], ◌∷◌, ◌++◌, length, Ok}
 use Rattle.rlp.specs.Format.Item.{Item}
 use Rattle.rlp.specs.Format.Encoding.{join}
-use Rattle.rlp.specs.Streams.Calls.{Call, append_raw, append_raw_checked, clear, finalize_unbounded_list, finalized, is_admitted, after}
-use Rattle.rlp.specs.Streams.Stack.{is_unbounded, unbounded_count}
+use Rattle.rlp.specs.Streams.Calls.{Call, append_raw, append_raw_checked, clear, finalize_unbounded_list, is_admitted, after}
 use Rattle.rlp.specs.Streams.Stream.{State, initial_state, IsFinished, closed_size, raw_text}
 use Rattle.rlp.specs.Streams.Described.{Step, DescribesWhere, AreDescribedWhere, IsDescribed, IsDescribedWhere, FinishAs}
 use Rattle.rlp_tool.specs.declared.building.Built.{Built}
@@ -111,28 +110,3 @@ IsJoined front calls (Open size raw) = Unit
 abbrev pub IsFinishedAs : List ℕ → Built → Type 0
 IsFinishedAs expected (Finished bytes) = bytes.items ≡ expected
 IsFinishedAs expected (Open size raw) = ⊥
-
--- ---- parts that only clauses of private functions cite
-
--- why a call fails, in this state and this place
-abbrev pub IsUnfit : Call → State → ℕ → BuildFault → Type 0
-IsUnfit call s place (TooManyItems there) = (there ≡ place) × BringsTooMany call s
-IsUnfit call s place (NothingToFinish there) = (there ≡ place) × HasNothingToFinish call s
-IsUnfit call s place (RawNotItems there) = (there ≡ place) × BringsNoItems call s
-IsUnfit call s place OutOfMemory = IsTrue (is_admitted call s) × IsSomeStep call s × IsTrue (takes_memory call)
-
--- the result of a stream in this state
-abbrev pub IsHeld : State → Built → Type 0
-IsHeld s (Finished bytes) = IsFinished s × (bytes.items ≡ s.front ++ s.stack.inner)
-IsHeld s (Open size raw) = ¬ IsFinished s × (size ≡ closed_size s) × (raw.items ≡ raw_text s)
-
--- this number of calls from a place on close unbounded lists, and lead from one state to the other
-pub record AreFinished (calls : List Call) (place count : ℕ) (old new : State) : Type 0 where
-  pub are_finishes : take count (drop place calls) ≡ replicate count finalize_unbounded_list
-  pub are_unbounded : count ≤ unbounded_count old.stack.lists
-  pub closes : new ≡ finalized count old
-
--- the call at a place closes the innermost list, which is unbounded
-pub record CanFinish (calls : List Call) (place : ℕ) (s : State) : Type 0 where
-  pub is_finish : take 1 (drop place calls) ≡ finalize_unbounded_list ∷ []
-  pub is_open : IsTrue (is_unbounded s.stack.lists)

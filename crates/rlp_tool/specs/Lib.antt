@@ -6,8 +6,10 @@ pub mod Building
 pub use Rattle.rlp_lines.specs.Digits
 -- the lines of a text
 pub use Rattle.rlp_lines.specs.Lines
--- calls that are made as they are read, for private functions
+-- calls that are made one after another, for private functions
 pub mod Making
+-- pieces of a script, for private functions
+pub mod Pieces
 -- raw bytes that are items
 pub mod RawItems
 -- the replies to lines

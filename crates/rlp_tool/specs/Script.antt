@@ -1,5 +1,5 @@
 -- Scripts: calls of a stream as text.
-use Rattle.std.specs.Prelude.{ℕ, ◌≡◌, ◌≢◌, IsSome, ◌+◌, ◌==◌, ◌++◌, codes, decimal, length, Bool, if◌then◌else◌, List, [], ◌∷◌, take, drop, is_some}
+use Rattle.std.specs.Prelude.{ℕ, ◌≡◌, ◌≢◌, IsSome, ◌+◌, ◌==◌, ◌++◌, length, Bool, if◌then◌else◌, List, [], ◌∷◌, take, drop, is_some}
 use Rattle.std.specs.Prelude.{Option, Some, None, option_map, position, filter_map, Result, Ok, Err}
 use Rattle.std.specs.List.{slice_split, list_all, prefix_len}
 use Rattle.std.specs.Str.{byte}
@@ -72,18 +72,7 @@ abbrev pub AddsCall : List Call → List Call → Option Call → Type 0
 AddsCall old new (Some call) = new ≡ old ++ call ∷ []
 AddsCall old new None = ⊥
 
--- a call has bytes, for which memory may be refused
-abbrev pub BringsBytes : Option Call → Type 0
-BringsBytes (Some (append (string bytes))) = bytes ≢ []
-BringsBytes (Some (append_raw bytes count)) = bytes ≢ []
-BringsBytes _ = ⊥
-
 -- why a piece isn't read, after these calls: it isn't a call, or memory was refused for its call
 abbrev pub IsUnread : List Call → Option Call → ScriptFault → Type 0
 IsUnread old call (Syntax place) = (call ≡ None) × (place ≡ length old + 1)
 IsUnread old call OutOfMemory = IsSome call
-
--- the place of the piece that isn't a call was printed
-abbrev pub AppendsScriptFault : List ℕ → List ℕ → ScriptFault → Type 0
-AppendsScriptFault old new (Syntax place) = new ≡ old ++ (codes "error syntax at " ++ decimal place)
-AppendsScriptFault old new OutOfMemory = ⊥

@@ -2,20 +2,16 @@
 
 ghost use Rattle.std.specs.Prelude.{◌≡◌, ◌++◌, [], decimal, string_bytes, OnOk};
 ghost use Rattle.rlp_lines.specs.Digits.{bytes_in};
-ghost use Rattle.rlp_tool.specs.Answer.{answer_within, calls_answer, digits_answer, finished_answer, open_answer, state_answer, view_answer, AppendsOutcome};
-ghost use Rattle.rlp_tool.specs.Script.{script, AppendsScriptFault};
+ghost use Rattle.rlp_tool.specs.Answer.{answer_within, calls_answer, digits_answer, finished_answer, open_answer, state_answer, view_answer};
+ghost use Rattle.rlp_tool.specs.Making.{AppendsFault};
+ghost use Rattle.rlp_tool.specs.Script.{script};
 
-use crate::building::{BuildFault, Built, build};
-use crate::making::make_script;
-use crate::script::{ScriptFault, read_calls};
-use bytes::BytesMut;
+use crate::building::BuildFault;
+use crate::making::{LineFault, make_script};
 use rlp::{Rlp, RlpStream};
 use rlp_lines::{push_bytes, read_bytes, without_carriage_return};
 use std::alloc::{AllocError, Global};
 use std::fmt::Write;
-
-/// The number of bytes that a script can write without another request for memory.
-const STARTING_CAPACITY: usize = 1024;
 
 /// The greatest depth that is printed.
 const DEEPEST_NESTING: usize = 256;
@@ -97,31 +93,23 @@ fn put_fault(name: &str, place: usize, out: &mut String) -> Result<(), AllocErro
     push_number(place, out)
 }
 
-/// Appends the result of calls, or the fault of the first that fails.
-fn put_outcome(outcome: &Result<Built, BuildFault>, out: &mut String) -> Result<(), AllocError>
+/// Appends the fault of a script. Fails with `AllocError` also if memory was refused for a call.
+fn put_script_fault(fault: &LineFault, out: &mut String) -> Result<(), AllocError>
     ensures { OnOk result
-        (AppendsOutcome (string_bytes out.old) (string_bytes out.new) outcome.now) }
-{
-    match outcome {
-        Ok(Built::Finished(bytes)) => put_finished(bytes.as_slice(), out),
-        Ok(Built::Open { size, raw }) => put_open(*size, raw.as_slice(), out),
-        Err(BuildFault::TooManyItems(place)) => put_fault("error too many items at ", *place, out),
-        Err(BuildFault::NothingToFinish(place)) => {
-            put_fault("error nothing to finish at ", *place, out)
-        }
-        Err(BuildFault::RawNotItems(place)) => put_fault("error raw not items at ", *place, out),
-        Err(BuildFault::OutOfMemory) => Err(AllocError),
-    }
-}
-
-/// Appends the fault of a script.
-fn put_script_fault(fault: &ScriptFault, out: &mut String) -> Result<(), AllocError>
-    ensures { OnOk result
-        (AppendsScriptFault (string_bytes out.old) (string_bytes out.new) fault.now) }
+        (AppendsFault (string_bytes out.old) (string_bytes out.new) fault.now) }
 {
     match fault {
-        ScriptFault::Syntax(place) => put_fault("error syntax at ", *place, out),
-        ScriptFault::OutOfMemory => Err(AllocError),
+        LineFault::Syntax(place) => put_fault("error syntax at ", *place, out),
+        LineFault::Failed(BuildFault::TooManyItems(place)) => {
+            put_fault("error too many items at ", *place, out)
+        }
+        LineFault::Failed(BuildFault::NothingToFinish(place)) => {
+            put_fault("error nothing to finish at ", *place, out)
+        }
+        LineFault::Failed(BuildFault::RawNotItems(place)) => {
+            put_fault("error raw not items at ", *place, out)
+        }
+        LineFault::Failed(BuildFault::OutOfMemory) => Err(AllocError),
     }
 }
 
@@ -137,29 +125,13 @@ fn put_result(stream: RlpStream, out: &mut String) -> Result<(), AllocError>
     put_open(stream.len(), stream.as_raw(), out)
 }
 
-/// Appends the answer to a script that is read to its end before a call is made.
-fn whole_script_answer(alloc: Global, text: &[u8], out: &mut String) -> Result<(), AllocError>
-    ensures { OnOk result
-        (string_bytes out.new ≡ string_bytes out.old ++ calls_answer (script text.now)) }
-{
-    match read_calls(alloc, text) {
-        Ok(calls) => {
-            let buffer = BytesMut::with_capacity(alloc, STARTING_CAPACITY)?;
-            put_outcome(&build(alloc, buffer, calls.as_slice()), out)
-        }
-        Err(fault) => put_script_fault(&fault, out),
-    }
-}
-
-/// Appends the answer to a script. It makes each call as it is read. If that fails, it reads the
-/// script again, since its first piece that isn't a call comes before any call that fails.
+/// Appends the answer to a script.
 fn script_answer(alloc: Global, text: &[u8], out: &mut String) -> Result<(), AllocError>
     ensures { OnOk result
         (string_bytes out.new ≡ string_bytes out.old ++ calls_answer (script text.now)) }
 {
-    let mut stream = RlpStream::new(alloc)?;
-    if make_script(alloc, text, &mut stream)? {
-        return put_result(stream, out);
+    match make_script(alloc, text) {
+        Ok(stream) => put_result(stream, out),
+        Err(fault) => put_script_fault(&fault, out),
     }
-    whole_script_answer(alloc, text, out)
 }

@@ -1,13 +1,14 @@
 //! Makes calls of a stream over a front.
-ghost use Rattle.std.specs.Prelude.{◌≡◌, ◌≢◌, ◌++◌, ◌+◌, ◌≤◌, ◌↔◌, List, length, replicate, take, MatchOption, OnOk, OnErr, IfOk, IfErr, IsTrue, Ok};
+ghost use Rattle.std.specs.Prelude.{ℕ, ◌≡◌, ◌≢◌, ◌++◌, ◌∷◌, [], ◌+◌, ◌<◌, ◌↔◌, List, length, MatchOption, OnOk, OnErr, IfOk, IfErr, IsTrue, Ok};
 ghost use Rattle.rlp.specs.Format.Item.{Item};
 ghost use Rattle.rlp.specs.Format.Encoding.{join};
 ghost use Rattle.rlp.specs.Format.Framing.{IsFramed, frame};
 ghost use Rattle.rlp.specs.Streams.Stack.{has_room};
 ghost use Rattle.rlp.specs.Streams.Stream.{IsFinished};
-ghost use Rattle.rlp.specs.Streams.Calls.{append_raw, effect, finalize_unbounded_list, is_admitted};
+ghost use Rattle.rlp.specs.Streams.Calls.{Call, append_raw, effect, finalize_unbounded_list, is_admitted};
 ghost use Rattle.rlp.specs.Streams.Described.{IsDescribed, IsDescribedWhere};
-ghost use Rattle.rlp_tool.specs.Building.{AreTaken, IsBuilt, IsRefusal, IsJoined, IsFinishedAs, IsSomeStep, IsUnfit, IsHeld, AreFinished, CanFinish, takes_memory};
+ghost use Rattle.rlp_tool.specs.Building.{AreTaken, IsBuilt, IsRefusal, IsJoined, IsFinishedAs, IsSomeStep, takes_memory};
+ghost use Rattle.rlp_tool.specs.Making.{AreMadeBut, Goes, IsHeld, IsTaken, IsUnfit};
 ghost use Rattle.rlp_tool.specs.RawItems.{AreRawItems, IsShallow};
 ghost use Rattle.rlp_tool.specs.declared.building.BuildFault.{BuildFault};
 ghost use Rattle.rlp_tool.specs.StreamCalls.{call_of, calls_of};
@@ -52,6 +53,13 @@ pub enum BuildFault {
     OutOfMemory,
 }
 
+/// Whether a call is `Finish`.
+fn is_finish<E: Encodable>(call: &StreamCall<E>) -> bool
+    ensures { IsTrue result → call_of E.item call.now ≡ finalize_unbounded_list }
+{
+    matches!(call, StreamCall::Finish)
+}
+
 /// Whether the innermost list awaits at least `count` items, is unbounded, or no list is open.
 #[tactic(auto, using(crate::proofs::CallsLemmas::room))]
 pub(crate) fn has_room(stream: &RlpStream, count: usize) -> bool
@@ -76,7 +84,7 @@ fn first_item<'a>(bytes: &'a [u8]) -> Option<(&'a [u8], &'a [u8])>
 }
 
 /// Whether raw bytes are the joined canonical encodings of `item_count` items, none too deep.
-pub(crate) fn raw_items_are_canonical(bytes: &[u8], item_count: usize) -> bool
+fn raw_items_are_canonical(bytes: &[u8], item_count: usize) -> bool
     ensures { IsTrue result ↔ AreRawItems bytes.now item_count }
 {
     parts_of_sized_are_sized();
@@ -168,7 +176,7 @@ fn make_call<E: Encodable>(stream: &mut RlpStream, call: &StreamCall<E>) -> Resu
 }
 
 /// Tests a call and makes it. `place` is its place.
-fn take_call<E: Encodable>(
+pub(crate) fn take_call<E: Encodable>(
     stream: &mut RlpStream,
     call: &StreamCall<E>,
     place: usize,
@@ -187,48 +195,74 @@ fn take_call<E: Encodable>(
     }
 }
 
-/// Whether a call is `Finish`.
-fn is_finish<E: Encodable>(call: &StreamCall<E>) -> bool
-    ensures { IsTrue result → call_of E.item call.now ≡ finalize_unbounded_list }
-{
-    matches!(call, StreamCall::Finish)
-}
-
-/// The number of calls `Finish` that the calls begin with.
-fn leading_finishes<E: Encodable>(calls: &[StreamCall<E>]) -> usize
-    ensures are_finishes { take result (calls_of E.item calls.now)
-        ≡ replicate result finalize_unbounded_list }
-    ensures within { result ≤ length calls.now }
-{
-    let mut count = 0;
-    while count < calls.len() && is_finish(&calls[count]) {
-        count += 1;
-    }
-    count
-}
-
-/// Makes the calls `Finish` from a place on, at most as many as there are innermost lists that are
-/// unbounded. They are made at once, so that each byte moves only once. Returns their number.
-fn finish_lists<E: Encodable>(
+/// Tests raw bytes and puts them. `place` is the place of the call.
+pub(crate) fn take_raw(
     stream: &mut RlpStream,
-    calls: &[StreamCall<E>],
-    from: usize,
-) -> Result<usize, BuildFault>
-    requires { from ≤ length calls.now }
-    ensures within { IfOk result (λ count. from + count ≤ length calls.now) }
-    ensures ok { IfOk result (λ count. AreFinished (calls_of E.item calls.now) from count
-        stream.old.state stream.new.state) }
-    ensures refused { IfErr result (λ fault. (fault ≡ BuildFault.OutOfMemory)
-        × CanFinish (calls_of E.item calls.now) from stream.old.state) }
+    bytes: &[u8],
+    count: usize,
+    place: usize,
+) -> Result<(), BuildFault>
+    ensures ok { OnOk result (IsTaken (append_raw bytes.now count) stream.old.state
+        stream.new.state) }
+    ensures refused { IfErr result (IsUnfit (append_raw bytes.now count) stream.old.state place) }
 {
-    let count = leading_finishes(&calls[from..]);
-    if count == 0 || !stream.can_finalize() {
-        return Ok(0);
+    parts_of_sized_are_sized();
+    if let Err(fault) = admit_raw(stream, bytes, count, place) {
+        return Err(fault);
     }
-    match stream.finalize_unbounded_lists(count) {
-        Ok(finished) => Ok(finished),
+    match stream.append_raw(bytes, count) {
+        Ok(_) => Ok(()),
         Err(_) => Err(BuildFault::OutOfMemory),
     }
+}
+
+/// Makes the calls `Finish` that wait. They are made at once where several lists in a row are
+/// unbounded, so that each byte moves only once. `place` is the place behind them.
+pub(crate) fn make_waiting(
+    stream: &mut RlpStream,
+    waiting: &mut usize,
+    place: usize,
+) -> Result<(), BuildFault>
+    requires { waiting.old < place }
+    ensures none { OnOk result (waiting.new ≡ 0) }
+    ensures made { (front : List ℕ) (calls : List Call)
+        → AreMadeBut front calls waiting.old stream.old.state → place ≡ length calls + 1
+        → Goes IsUnfit front calls waiting.new stream.new.state result }
+{
+    unbounded_lists_are_finalized_in_turn();
+    while *waiting > 0 {
+        if !stream.can_finalize() {
+            return Err(BuildFault::NothingToFinish(place - *waiting));
+        }
+        match stream.finalize_unbounded_lists(*waiting) {
+            Ok(finished) => *waiting -= finished,
+            Err(_) => return Err(BuildFault::OutOfMemory),
+        }
+    }
+    Ok(())
+}
+
+/// Makes a call after those that wait, or lets it wait if it is `Finish`. `place` is its place.
+fn take_next<E: Encodable>(
+    stream: &mut RlpStream,
+    waiting: &mut usize,
+    call: &StreamCall<E>,
+    place: usize,
+) -> Result<(), BuildFault>
+    requires { waiting.old < place }
+    ensures { (front : List ℕ) (calls : List Call)
+        → AreMadeBut front calls waiting.old stream.old.state → place ≡ length calls + 1
+        → Goes IsUnfit front (calls ++ call_of E.item call.now ∷ []) waiting.new
+        stream.new.state result }
+{
+    if is_finish(call) {
+        *waiting += 1;
+        return Ok(());
+    }
+    if let Err(fault) = make_waiting(stream, waiting, place) {
+        return Err(fault);
+    }
+    take_call(stream, call, place)
 }
 
 /// The result of a stream after all calls.
@@ -291,18 +325,17 @@ pub fn build<E: Encodable>(
         → IfErr result (λ fault. fault ≡ BuildFault.OutOfMemory) }
 {
     stream_joins_what_is_described();
-    unbounded_lists_are_finalized_in_turn();
     let mut stream = RlpStream::new_with_buffer(alloc, front);
+    let mut waiting = 0;
     let mut made = 0;
     while made < calls.len() {
-        if let Err(fault) = take_call(&mut stream, &calls[made], made + 1) {
+        if let Err(fault) = take_next(&mut stream, &mut waiting, &calls[made], made + 1) {
             return Err(fault);
         }
         made += 1;
-        match finish_lists(&mut stream, calls, made) {
-            Ok(finished) => made += finished,
-            Err(fault) => return Err(fault),
-        }
+    }
+    if let Err(fault) = make_waiting(&mut stream, &mut waiting, made + 1) {
+        return Err(fault);
     }
     held(alloc, stream)
 }

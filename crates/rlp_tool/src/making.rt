@@ -1,220 +1,202 @@
-//! Makes the calls of a script as they are read.
-ghost use Rattle.std.specs.Prelude.{◌≡◌, ◌==◌, ◌≤◌, ◌*◌, [], ◌∷◌, length, position, option_map, take, vec_len, IfOk, IfSome, IsTrue, OnOk, Some};
-ghost use Rattle.std.specs.Str.{byte};
-ghost use Rattle.rlp.specs.Format.Item.{string};
+//! Makes the calls of a script on a stream, each as its piece is read.
+ghost use Rattle.std.specs.Prelude.{ℕ, ◌≡◌, ◌++◌, ◌∷◌, ◌+◌, ◌<◌, [], List, length, IfOk, IfErr, OnOk, Ok, Err, Some};
 ghost use Rattle.rlp.specs.Streams.Stream.{initial_state};
-ghost use Rattle.rlp.specs.Streams.Calls.{append, append_raw, begin_list};
-ghost use Rattle.rlp_lines.specs.Digits.{bytes_in, number_in};
-ghost use Rattle.rlp_tool.specs.Making.{BeginsWithEnds, MakesCall, MakesEnds, MakesScript};
-ghost use Rattle.rlp_tool.specs.Script.{call_in, labelled_call, letter_call, raw_parts};
+ghost use Rattle.rlp.specs.Format.Item.{string};
+ghost use Rattle.rlp.specs.Streams.Calls.{Call, append, append_raw};
+ghost use Rattle.rlp_tool.specs.Making.{AreMade, AreMadeBut, Goes, IsLineFault, IsTaken, IsUnmade, MakesScript};
+ghost use Rattle.rlp_tool.specs.Script.{script};
+ghost use Rattle.rlp_tool.specs.Pieces.{ArePairs, HasPairs, bytes_of, piece_call};
 
-use crate::building::{has_room, raw_items_are_canonical};
-use crate::script::place_of;
+use crate::building::{BuildFault, has_room, make_waiting, take_call, take_raw};
+use crate::calls::StreamCall;
+use crate::script::{Piece, decode, first_piece, pieces_of, read_piece};
+use bytes::BytesMut;
 use rlp::RlpStream;
-use rlp::laws::{parts_of_sized_are_sized, unbounded_lists_are_finalized_in_turn};
-use rlp_lines::{decode, read_number, without_prefix};
-use std::alloc::{AllocError, Global};
+use std::alloc::Global;
 
-/// Makes the room at least this long.
-fn grow(room: &mut Vec<u8>, len: usize) -> Result<(), AllocError>
-    ensures { OnOk result (len ≤ vec_len room.new) }
-{
-    if room.len() < len {
-        room.resize(len, 0)?;
-    }
-    Ok(())
+/// The number of bytes that a script can write without another request for memory.
+const STARTING_CAPACITY: usize = 1024;
+
+/// Why a script has no result.
+#[derive(Drop)]
+pub(crate) enum LineFault {
+    /// The piece in this place, counted from 1, is the first that isn't a call.
+    Syntax(usize),
+    /// A call fails.
+    Failed(BuildFault),
 }
 
-/// Decodes a text of digits to the front of the room, which grows if it must. Returns the number
-/// of bytes, or `None` if the text isn't digits.
-fn decode_text(text: &[u8], room: &mut Vec<u8>) -> Result<Option<usize>, AllocError>
-    ensures gives { IfOk result
-        (λ read. option_map (λ count. take count room.new.items) read ≡ bytes_in text.now) }
-    ensures within { IfOk result (λ read. IfSome read (λ count. count ≤ vec_len room.new)) }
-{
-    let digits = without_prefix(text);
-    let count = digits.len() / 2;
-    grow(room, count)?;
-    if decode(digits, room.as_mut_slice()) {
-        Ok(Some(count))
-    } else {
-        Ok(None)
-    }
-}
-
-/// Makes the call of a single letter. Returns `false` if it isn't a call, or if the call fails.
-fn make_letter(stream: &mut RlpStream, letter: u8) -> Result<bool, AllocError>
-    ensures { IfOk result (λ made. IsTrue made
-        → MakesCall (letter_call letter) stream.old.state stream.new.state) }
-{
-    match letter {
-        b'u' => {
-            stream.begin_unbounded_list()?;
-        }
-        b'e' => {
-            if !stream.can_finalize() {
-                return Ok(false);
-            }
-            stream.finalize_unbounded_list()?;
-        }
-        b'c' => stream.clear(),
-        _ => return Ok(false),
-    }
-    Ok(true)
-}
-
-/// Appends the string of `d:HEX`, from behind the colon. Returns `false` if it isn't digits.
-fn make_value(stream: &mut RlpStream, text: &[u8], room: &mut Vec<u8>) -> Result<bool, AllocError>
-    ensures { IfOk result (λ made. IsTrue made
-        → MakesCall (option_map (λ bytes. append (string bytes)) (bytes_in text.now))
-        stream.old.state stream.new.state) }
-{
-    let Some(count) = decode_text(text, room)? else {
-        return Ok(false);
-    };
-    let bytes = &room[..count];
-    stream.append(&bytes)?;
-    Ok(true)
-}
-
-/// Puts raw bytes, if they are items for which there is room.
-fn put_raw(stream: &mut RlpStream, bytes: &[u8], count: usize) -> Result<bool, AllocError>
-    ensures { IfOk result (λ made. IsTrue made
-        → MakesCall (Some (append_raw bytes.now count)) stream.old.state stream.new.state) }
-{
-    parts_of_sized_are_sized();
-    if !has_room(stream, count) || !raw_items_are_canonical(bytes, count) {
-        return Ok(false);
-    }
-    stream.append_raw(bytes, count)?;
-    Ok(true)
-}
-
-/// Puts the raw bytes of `r:N:HEX`, from behind the first colon.
-fn make_raw(stream: &mut RlpStream, text: &[u8], room: &mut Vec<u8>) -> Result<bool, AllocError>
-    ensures { IfOk result (λ made. IsTrue made
-        → MakesCall (raw_parts text.now (position (λ b. b == 58) text.now))
-        stream.old.state stream.new.state) }
-{
-    let Some(colon) = place_of(b':', text) else {
-        return Ok(false);
-    };
-    let (number, rest) = text.split_at(colon);
-    let Some(items) = read_number(number) else {
-        return Ok(false);
-    };
-    let Some(count) = decode_text(&rest[1..], room)? else {
-        return Ok(false);
-    };
-    put_raw(stream, &room[..count], items)
-}
-
-/// Begins the list of `l:N`, from behind the colon. Returns `false` if it isn't a number.
-fn make_list(stream: &mut RlpStream, text: &[u8]) -> Result<bool, AllocError>
-    ensures { IfOk result (λ made. IsTrue made
-        → MakesCall (option_map begin_list (number_in text.now))
-        stream.old.state stream.new.state) }
-{
-    let Some(count) = read_number(text) else {
-        return Ok(false);
-    };
-    stream.begin_list(count)?;
-    Ok(true)
-}
-
-/// Makes the call of a letter, a colon and the text that follows.
-fn make_labelled(
+/// Appends the string of some digits. `place` is the place of the call.
+fn take_value(
     stream: &mut RlpStream,
-    letter: u8,
-    text: &[u8],
+    digits: &[u8],
     room: &mut Vec<u8>,
-) -> Result<bool, AllocError>
-    ensures { IfOk result (λ made. IsTrue made
-        → MakesCall (labelled_call letter text.now) stream.old.state stream.new.state) }
+    place: usize,
+) -> Result<(), BuildFault>
+    requires { ArePairs digits.now }
+    ensures ok { (bytes : List ℕ) → Some bytes ≡ bytes_of digits.now
+        → OnOk result (IsTaken (append (string bytes)) stream.old.state stream.new.state) }
+    ensures refused { (bytes : List ℕ) → Some bytes ≡ bytes_of digits.now
+        → IfErr result (IsUnmade (append (string bytes)) stream.old.state place) }
 {
-    match letter {
-        b'd' => make_value(stream, text, room),
-        b'r' => make_raw(stream, text, room),
-        b'l' => make_list(stream, text),
-        _ => Ok(false),
+    match decode(digits, room) {
+        Ok(()) => {
+            let bytes = &room[..digits.len() / 2];
+            take_call(stream, &StreamCall::Value(bytes), place)
+        }
+        Err(_) => Err(BuildFault::OutOfMemory),
     }
 }
 
-/// Makes the call of a piece. Returns `false` if it isn't a call, or if the call fails.
-fn make_piece(stream: &mut RlpStream, piece: &[u8], room: &mut Vec<u8>) -> Result<bool, AllocError>
-    ensures { IfOk result (λ made. IsTrue made
-        → MakesCall (call_in piece.now) stream.old.state stream.new.state) }
+/// Puts the raw bytes of some digits, if they are items for which there is room.
+fn take_digits(
+    stream: &mut RlpStream,
+    digits: &[u8],
+    count: usize,
+    room: &mut Vec<u8>,
+    place: usize,
+) -> Result<(), BuildFault>
+    requires { ArePairs digits.now }
+    ensures ok { (bytes : List ℕ) → Some bytes ≡ bytes_of digits.now
+        → OnOk result (IsTaken (append_raw bytes count) stream.old.state stream.new.state) }
+    ensures refused { (bytes : List ℕ) → Some bytes ≡ bytes_of digits.now
+        → IfErr result (IsUnmade (append_raw bytes count) stream.old.state place) }
+{
+    match decode(digits, room) {
+        Ok(()) => {
+            let bytes = &room[..digits.len() / 2];
+            take_raw(stream, bytes, count, place)
+        }
+        Err(_) => {
+            if has_room(stream, count) {
+                Err(BuildFault::OutOfMemory)
+            } else {
+                Err(BuildFault::TooManyItems(place))
+            }
+        }
+    }
+}
+
+/// Makes the call of a piece, if it passes its test. `place` is its place.
+fn take_piece(
+    stream: &mut RlpStream,
+    piece: &Piece<'_>,
+    room: &mut Vec<u8>,
+    place: usize,
+) -> Result<(), BuildFault>
+    requires { HasPairs piece.now }
+    ensures ok { (call : Call) → Some call ≡ piece_call piece.now
+        → OnOk result (IsTaken call stream.old.state stream.new.state) }
+    ensures refused { (call : Call) → Some call ≡ piece_call piece.now
+        → IfErr result (IsUnmade call stream.old.state place) }
 {
     match piece {
-        [letter] => make_letter(stream, *letter),
-        [letter, b':', text @ ..] => make_labelled(stream, *letter, text, room),
-        _ => Ok(false),
+        Piece::Value(digits) => take_value(stream, digits, room, place),
+        Piece::Raw(digits, count) => take_digits(stream, digits, *count, room, place),
+        Piece::Begin(count) => take_call::<&[u8]>(stream, &StreamCall::Begin(*count), place),
+        Piece::BeginUnbounded => take_call::<&[u8]>(stream, &StreamCall::BeginUnbounded, place),
+        Piece::Finish => take_call::<&[u8]>(stream, &StreamCall::Finish, place),
+        Piece::Clear => take_call::<&[u8]>(stream, &StreamCall::Clear, place),
     }
 }
 
-/// The text after the piece `e` and the space that it begins with, if it begins so.
-#[inline(always)]
-fn after_end<'a>(text: &'a [u8]) -> Option<&'a [u8]>
-    ensures { IfSome result (λ rest. text.now ≡ byte "e" ∷ byte " " ∷ rest.now) }
-{
-    match text {
-        [b'e', b' ', others @ ..] => Some(others),
-        _ => None,
-    }
-}
-
-/// The number of pieces `e` that a text begins with, each with the space after it.
-fn leading_ends(text: &[u8]) -> usize
-    ensures pieces { BeginsWithEnds result text.now }
-    ensures within { 2 * result ≤ length text.now }
-{
-    let mut rest = text;
-    let mut count = 0;
-    while let Some(others) = after_end(rest) {
-        count += 1;
-        rest = others;
-    }
-    count
-}
-
-/// Makes the calls of the pieces `e` that a text begins with, at most as many as there are innermost
-/// lists that are unbounded. They are made at once. Returns the rest of the text.
-fn make_ends<'a>(stream: &mut RlpStream, text: &'a [u8]) -> Result<&'a [u8], AllocError>
-    ensures { IfOk result
-        (λ rest. MakesEnds text.now rest.now stream.old.state stream.new.state) }
-{
-    let count = leading_ends(text);
-    if count == 0 {
-        return Ok(text);
-    }
-    let closed = stream.finalize_unbounded_lists(count)?;
-    Ok(&text[2 * closed..])
-}
-
-/// Makes the calls of a script on an empty stream, each as soon as its piece is read. Returns
-/// `false` at the first piece that isn't a call, or whose call fails.
-///
-/// Calls in a row that close lists are made at once, so that each byte moves only once.
-pub(crate) fn make_script(
-    alloc: Global,
-    text: &[u8],
+/// Makes the call of a piece after those that wait, or lets it wait if it is `e`.
+fn make_piece(
     stream: &mut RlpStream,
-) -> Result<bool, AllocError>
-    requires { stream.old.state ≡ initial_state [] }
-    ensures { IfOk result (λ made. IsTrue made → MakesScript text.now stream.new.state) }
+    waiting: &mut usize,
+    piece: &Piece<'_>,
+    room: &mut Vec<u8>,
+    place: usize,
+) -> Result<(), BuildFault>
+    requires waiting { waiting.old < place }
+    requires digits { HasPairs piece.now }
+    ensures { (calls : List Call) (call : Call) → AreMadeBut [] calls waiting.old stream.old.state
+        → place ≡ length calls + 1 → Some call ≡ piece_call piece.now
+        → Goes IsUnmade [] (calls ++ call ∷ []) waiting.new stream.new.state result }
 {
-    unbounded_lists_are_finalized_in_turn();
-    if text.is_empty() {
-        return Ok(true);
+    if let Piece::Finish = piece {
+        *waiting += 1;
+        return Ok(());
     }
+    if let Err(fault) = make_waiting(stream, waiting, place) {
+        return Err(fault);
+    }
+    take_piece(stream, piece, room, place)
+}
+
+/// Makes the call of a piece, unless a call before it failed. Then that fault stays.
+fn go_on(
+    before: Result<(), BuildFault>,
+    stream: &mut RlpStream,
+    waiting: &mut usize,
+    piece: &Piece<'_>,
+    room: &mut Vec<u8>,
+    place: usize,
+) -> Result<(), BuildFault>
+    requires waiting { IfOk before (λ _. waiting.old < place) }
+    requires digits { HasPairs piece.now }
+    ensures { (calls : List Call) (call : Call)
+        → Goes IsUnmade [] calls waiting.old stream.old.state before
+        → place ≡ length calls + 1 → Some call ≡ piece_call piece.now
+        → Goes IsUnmade [] (calls ++ call ∷ []) waiting.new stream.new.state result }
+{
+    match before {
+        Ok(()) => make_piece(stream, waiting, piece, room, place),
+        Err(fault) => Err(fault),
+    }
+}
+
+/// An empty stream, with room if memory is granted for it.
+fn empty_stream(alloc: Global) -> RlpStream
+    ensures { result.state ≡ initial_state [] }
+{
+    match BytesMut::with_capacity(alloc, STARTING_CAPACITY) {
+        Ok(buffer) => RlpStream::new_with_buffer(alloc, buffer),
+        Err(_) => RlpStream::new_with_buffer(alloc, BytesMut::new(alloc)),
+    }
+}
+
+/// The stream, once the calls that wait are made.
+fn finished(stream: RlpStream, waiting: usize, place: usize) -> Result<RlpStream, LineFault>
+    requires { waiting < place }
+    ensures ok { (calls : List Call) → AreMadeBut [] calls waiting stream.state
+        → place ≡ length calls + 1 → IfOk result (λ last. AreMade [] calls last.state) }
+    ensures refused { (text : List ℕ) (calls : List Call) → AreMadeBut [] calls waiting stream.state
+        → place ≡ length calls + 1 → script text ≡ Ok calls → IfErr result (IsLineFault text) }
+{
+    let mut stream = stream;
+    let mut waiting = waiting;
+    match make_waiting(&mut stream, &mut waiting, place) {
+        Ok(()) => Ok(stream),
+        Err(fault) => Err(LineFault::Failed(fault)),
+    }
+}
+
+/// Makes the calls of a script on an empty stream, each as its piece is read, and returns the stream.
+///
+/// After a call that fails it goes on reading, and makes no more calls: the first piece that isn't
+/// a call comes before any call that fails, also if that lacks memory.
+pub(crate) fn make_script(alloc: Global, text: &[u8]) -> Result<RlpStream, LineFault>
+    ensures ok { IfOk result (λ stream. MakesScript text.now stream.state) }
+    ensures refused { IfErr result (IsLineFault text.now) }
+{
+    let mut stream = empty_stream(alloc);
     let mut room = Vec::new(alloc);
-    let mut rest = text;
-    while let Some(space) = place_of(b' ', rest) {
-        let (piece, others) = rest.split_at(space);
-        if !make_piece(stream, piece, &mut room)? {
-            return Ok(false);
-        }
-        rest = make_ends(stream, &others[1..])?;
+    let mut waiting = 0;
+    let mut place = 1;
+    let mut outcome = Ok(());
+    let mut left = pieces_of(text);
+    while let Some(rest) = left {
+        let (piece, others) = first_piece(rest);
+        let Some(piece) = read_piece(piece) else {
+            return Err(LineFault::Syntax(place));
+        };
+        outcome = go_on(outcome, &mut stream, &mut waiting, &piece, &mut room, place);
+        place += 1;
+        left = others;
     }
-    make_piece(stream, rest, &mut room)
+    match outcome {
+        Ok(()) => finished(stream, waiting, place),
+        Err(fault) => Err(LineFault::Failed(fault)),
+    }
 }

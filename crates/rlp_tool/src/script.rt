@@ -1,14 +1,15 @@
 //! Scripts: calls of a stream as text.
-ghost use Rattle.std.specs.Prelude.{◌≡◌, ◌==◌, ◌+◌, position, option_map, Some, None, IfOk, IfErr, OnOk, OnErr, Ok, Err};
+ghost use Rattle.std.specs.Prelude.{◌≡◌, ◌≢◌, [], ◌==◌, ◌+◌, ◌/◌, ◌≤◌, ◌∷◌, length, position, option_map, take, vec_len, Some, None, MatchOption, IfSome, IfOk, IfErr, OnOk, Ok};
 ghost use Rattle.rlp.specs.Format.Item.{string};
 ghost use Rattle.rlp.specs.Streams.Calls.{append, begin_list};
-ghost use Rattle.rlp_tool.specs.Script.{BringsBytes, call_in, labelled_call, letter_call, raw_parts, script, AddsCall, IsUnread, IsScriptFault};
+ghost use Rattle.rlp_tool.specs.Script.{call_in, calls_in, labelled_call, letter_call, raw_parts, script, AddsCall, IsUnread, IsScriptFault};
 ghost use Rattle.rlp_lines.specs.Digits.{bytes_in, number_in};
+ghost use Rattle.rlp_tool.specs.Pieces.{ArePairs, HasPairs, IsRead, bytes_of, left_len, piece_call, pieces_left, spaces};
 ghost use Rattle.rlp_tool.specs.StreamCalls.{call_of_bytes, calls_of_bytes};
 
 use crate::calls::StreamCall;
 use memchr::memchr;
-use rlp_lines::{read_bytes, read_number};
+use rlp_lines::{are_pairs, put_bytes, read_number, without_prefix};
 use std::alloc::{AllocError, Global};
 
 /// Why a script can't be read.
@@ -36,89 +37,169 @@ pub(crate) fn place_of(byte: u8, text: &[u8]) -> Option<usize>
     memchr(byte, text)
 }
 
-/// The call of a single letter.
-fn letter_call(letter: u8) -> Option<StreamCall<Vec<u8>>>
-    ensures { option_map call_of_bytes result ≡ letter_call letter }
+/// A piece of a script that is a call. Its bytes are still digits, which were tested.
+#[derive(Drop)]
+pub(crate) enum Piece<'a> {
+    /// `d:HEX`, by its digits.
+    Value(&'a [u8]),
+    /// `r:N:HEX`, by its digits and its number of items.
+    Raw(&'a [u8], usize),
+    /// `l:N`, by its number of items.
+    Begin(usize),
+    /// `u`
+    BeginUnbounded,
+    /// `e`
+    Finish,
+    /// `c`
+    Clear,
+}
+
+/// Reads a single letter.
+fn read_letter<'a>(letter: u8) -> Option<Piece<'a>>
+    ensures { IsRead result (letter_call letter) }
 {
     match letter {
-        b'u' => Some(StreamCall::BeginUnbounded),
-        b'e' => Some(StreamCall::Finish),
-        b'c' => Some(StreamCall::Clear),
+        b'u' => Some(Piece::BeginUnbounded),
+        b'e' => Some(Piece::Finish),
+        b'c' => Some(Piece::Clear),
         _ => None,
     }
 }
 
-/// Reads the string of `d:HEX`, from behind the colon.
-fn read_value(alloc: Global, text: &[u8]) -> Result<Option<StreamCall<Vec<u8>>>, AllocError>
-    ensures gives { IfOk result (λ read. option_map call_of_bytes read
-        ≡ option_map (λ bytes. append (string bytes)) (bytes_in text.now)) }
-    ensures refused { OnErr result
-        (BringsBytes (option_map (λ bytes. append (string bytes)) (bytes_in text.now))) }
+/// The digits of a text, without `0x` before them. Returns `None` if they aren't two for each byte.
+fn digits_in(text: &[u8]) -> Option<&[u8]>
+    ensures { MatchOption result (bytes_in text.now ≡ None)
+        (λ digits. ArePairs digits.now × (bytes_in text.now ≡ bytes_of digits.now)) }
 {
-    match read_bytes(alloc, text)? {
-        Some(bytes) => Ok(Some(StreamCall::Value(bytes))),
-        None => Ok(None),
+    let digits = without_prefix(text);
+    if are_pairs(digits) {
+        Some(digits)
+    } else {
+        None
     }
 }
 
-/// Reads the number of items and the raw bytes of `r:N:HEX`, from behind the first colon.
-fn read_raw(alloc: Global, text: &[u8]) -> Result<Option<StreamCall<Vec<u8>>>, AllocError>
-    ensures gives { IfOk result (λ read. option_map call_of_bytes read
-        ≡ raw_parts text.now (position (λ b. b == 58) text.now)) }
-    ensures refused { OnErr result
-        (BringsBytes (raw_parts text.now (position (λ b. b == 58) text.now))) }
+/// Reads `d:HEX`, from behind the colon.
+fn read_value(text: &[u8]) -> Option<Piece<'_>>
+    ensures { IsRead result (option_map (λ bytes. append (string bytes)) (bytes_in text.now)) }
 {
-    let Some(colon) = place_of(b':', text) else {
-        return Ok(None);
-    };
-    let (number, rest) = text.split_at(colon);
-    let Some(count) = read_number(number) else {
-        return Ok(None);
-    };
-    match read_bytes(alloc, &rest[1..])? {
-        Some(bytes) => Ok(Some(StreamCall::Raw(bytes, count))),
-        None => Ok(None),
-    }
-}
-
-/// Reads `l:N`, a call that begins a list of N items, from behind the colon.
-fn read_list(text: &[u8]) -> Option<StreamCall<Vec<u8>>>
-    ensures { option_map call_of_bytes result ≡ option_map begin_list (number_in text.now) }
-{
-    match read_number(text) {
-        Some(count) => Some(StreamCall::Begin(count)),
+    match digits_in(text) {
+        Some(digits) => Some(Piece::Value(digits)),
         None => None,
     }
 }
 
-/// Reads a call of a letter, a colon and the text that follows.
-fn read_labelled(
-    alloc: Global,
-    letter: u8,
-    text: &[u8],
-) -> Result<Option<StreamCall<Vec<u8>>>, AllocError>
-    ensures gives { IfOk result
-        (λ read. option_map call_of_bytes read ≡ labelled_call letter text.now) }
-    ensures refused { OnErr result (BringsBytes (labelled_call letter text.now)) }
+/// Reads `r:N:HEX`, from behind the first colon.
+fn read_raw(text: &[u8]) -> Option<Piece<'_>>
+    ensures { IsRead result (raw_parts text.now (position (λ b. b == 58) text.now)) }
 {
-    match letter {
-        b'd' => read_value(alloc, text),
-        b'r' => read_raw(alloc, text),
-        b'l' => Ok(read_list(text)),
-        _ => Ok(None),
+    let Some(colon) = place_of(b':', text) else {
+        return None;
+    };
+    let (number, rest) = text.split_at(colon);
+    let Some(count) = read_number(number) else {
+        return None;
+    };
+    match digits_in(&rest[1..]) {
+        Some(digits) => Some(Piece::Raw(digits, count)),
+        None => None,
     }
 }
 
-/// Reads the call of a piece, if it is one.
-fn read_call(alloc: Global, piece: &[u8]) -> Result<Option<StreamCall<Vec<u8>>>, AllocError>
-    ensures gives { IfOk result (λ read. option_map call_of_bytes read ≡ call_in piece.now) }
-    ensures refused { OnErr result (BringsBytes (call_in piece.now)) }
+/// Reads `l:N`, from behind the colon.
+fn read_list(text: &[u8]) -> Option<Piece<'_>>
+    ensures { IsRead result (option_map begin_list (number_in text.now)) }
+{
+    match read_number(text) {
+        Some(count) => Some(Piece::Begin(count)),
+        None => None,
+    }
+}
+
+/// Reads a letter, a colon and the text that follows.
+fn read_labelled(letter: u8, text: &[u8]) -> Option<Piece<'_>>
+    ensures { IsRead result (labelled_call letter text.now) }
+{
+    match letter {
+        b'd' => read_value(text),
+        b'r' => read_raw(text),
+        b'l' => read_list(text),
+        _ => None,
+    }
+}
+
+/// Reads a piece, if it is a call.
+pub(crate) fn read_piece(piece: &[u8]) -> Option<Piece<'_>>
+    ensures { IsRead result (call_in piece.now) }
 {
     match piece {
-        [letter] => Ok(letter_call(*letter)),
-        [letter, b':', text @ ..] => read_labelled(alloc, *letter, text),
-        _ => Ok(None),
+        [letter] => read_letter(*letter),
+        [letter, b':', text @ ..] => read_labelled(*letter, text),
+        _ => None,
     }
+}
+
+/// The pieces of a script, as a text that is to be cut. There are none if the script is empty.
+pub(crate) fn pieces_of(text: &[u8]) -> Option<&[u8]>
+    ensures all { script text.now ≡ calls_in (pieces_left result) }
+    ensures within { left_len result ≤ length text.now + 1 }
+    ensures some { IfSome result (λ _. text.now ≢ []) }
+{
+    if text.is_empty() { None } else { Some(text) }
+}
+
+/// Cuts a text at its first space: the first piece, and the text with those after it.
+pub(crate) fn first_piece<'a>(text: &'a [u8]) -> (&'a [u8], Option<&'a [u8]>)
+    ensures cut { spaces text.now ≡ result.0.now ∷ pieces_left result.1 }
+    ensures shorter { left_len result.1 ≤ length text.now }
+{
+    match place_of(b' ', text) {
+        Some(space) => {
+            let (piece, others) = text.split_at(space);
+            (piece, Some(&others[1..]))
+        }
+        None => (text, None),
+    }
+}
+
+/// Decodes digits to the front of the room, which grows if it must.
+pub(crate) fn decode(digits: &[u8], room: &mut Vec<u8>) -> Result<(), AllocError>
+    requires { ArePairs digits.now }
+    ensures gives { OnOk result
+        (Some (take (length digits.now / 2) room.new.items) ≡ bytes_of digits.now) }
+    ensures within { OnOk result (length digits.now / 2 ≤ vec_len room.new) }
+{
+    let count = digits.len() / 2;
+    if room.len() < count {
+        room.resize(count, 0)?;
+    }
+    put_bytes(digits, room.as_mut_slice());
+    Ok(())
+}
+
+/// Returns the bytes of digits.
+fn decoded(alloc: Global, digits: &[u8]) -> Result<Vec<u8>, AllocError>
+    requires { ArePairs digits.now }
+    ensures { IfOk result (λ bytes. Some bytes.items ≡ bytes_of digits.now) }
+{
+    let mut bytes = vec![in alloc; 0u8; digits.len() / 2]?;
+    put_bytes(digits, bytes.as_mut_slice());
+    Ok(bytes)
+}
+
+/// Returns the call that a piece is.
+fn call_of(alloc: Global, piece: &Piece<'_>) -> Result<StreamCall<Vec<u8>>, AllocError>
+    requires { HasPairs piece.now }
+    ensures { IfOk result (λ call. Some (call_of_bytes call) ≡ piece_call piece.now) }
+{
+    Ok(match piece {
+        Piece::Value(digits) => StreamCall::Value(decoded(alloc, digits)?),
+        Piece::Raw(digits, count) => StreamCall::Raw(decoded(alloc, digits)?, *count),
+        Piece::Begin(count) => StreamCall::Begin(*count),
+        Piece::BeginUnbounded => StreamCall::BeginUnbounded,
+        Piece::Finish => StreamCall::Finish,
+        Piece::Clear => StreamCall::Clear,
+    })
 }
 
 /// Reads a piece, and adds its call to the calls before it.
@@ -132,12 +213,14 @@ fn take_piece(
     ensures refused { IfErr result (IsUnread (calls_of_bytes calls.old.items)
         (call_in piece.now)) }
 {
-    match read_call(alloc, piece) {
-        Ok(Some(call)) => match calls.push(call) {
-            Ok(()) => Ok(()),
-            Err(_) => Err(ScriptFault::OutOfMemory),
-        },
-        Ok(None) => Err(ScriptFault::Syntax(calls.len() + 1)),
+    let Some(piece) = read_piece(piece) else {
+        return Err(ScriptFault::Syntax(calls.len() + 1));
+    };
+    let Ok(call) = call_of(alloc, &piece) else {
+        return Err(ScriptFault::OutOfMemory);
+    };
+    match calls.push(call) {
+        Ok(()) => Ok(()),
         Err(_) => Err(ScriptFault::OutOfMemory),
     }
 }
@@ -161,19 +244,13 @@ pub fn read_calls(alloc: Global, text: &[u8]) -> Result<Vec<StreamCall<Vec<u8>>>
     ensures refused { IfErr result (IsScriptFault text.now) }
 {
     let mut calls = Vec::new(alloc);
-    if text.is_empty() {
-        return Ok(calls);
-    }
-    let mut rest = text;
-    while let Some(space) = place_of(b' ', rest) {
-        let (piece, others) = rest.split_at(space);
+    let mut left = pieces_of(text);
+    while let Some(rest) = left {
+        let (piece, others) = first_piece(rest);
         if let Err(fault) = take_piece(alloc, piece, &mut calls) {
             return Err(fault);
         }
-        rest = &others[1..];
+        left = others;
     }
-    match take_piece(alloc, rest, &mut calls) {
-        Ok(()) => Ok(calls),
-        Err(fault) => Err(fault),
-    }
+    Ok(calls)
 }

@@ -10,6 +10,8 @@ mod laws;
 #[cfg(test)]
 mod lines;
 #[cfg(test)]
+mod never;
+#[cfg(test)]
 mod noted;
 #[cfg(test)]
 mod refused;

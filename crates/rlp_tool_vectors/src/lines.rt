@@ -56,7 +56,7 @@ const CALLS: [Row; 21] = [
 ];
 
 /// Lines of calls with an error, and their answers.
-const REFUSED: [Row; 36] = [
+const REFUSED: [Row; 40] = [
     ("+l:1 d:01 e", "error nothing to finish at 3\n"),
     ("+u l:1 e", "error nothing to finish at 3\n"),
     ("+l:1 r:2:0102", "error too many items at 2\n"),
@@ -81,6 +81,10 @@ const REFUSED: [Row; 36] = [
     ("+l:36893488147419103233", "error syntax at 1\n"),
     ("+ ", "error syntax at 1\n"),
     ("+e x", "error syntax at 2\n"),
+    ("+r:1:8105 x", "error syntax at 2\n"),
+    ("+l:1 r:2:0102 d:0", "error syntax at 3\n"),
+    ("+l:1 e d:05 e ", "error syntax at 5\n"),
+    ("+u e e d:05", "error nothing to finish at 3\n"),
     ("+r::05", "error syntax at 1\n"),
     ("+u ", "error syntax at 2\n"),
     ("+l:", "error syntax at 1\n"),

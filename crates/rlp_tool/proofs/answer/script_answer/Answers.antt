@@ -1,8 +1,13 @@
 use Rattle.std.proofs.Common.{◌≡◌, ◌++◌, List, OnOk, string_bytes, subst, ℕ}
-use Rattle.rlp_tool.proofs.AnswerLemmas.{answer-made}
+use Rattle.rlp_tool.proofs.AnswerLemmas.{answer-failed, answer-made}
 use Rattle.rlp_tool.proofs.answer.script_answer.Goals as goal
 
-pub returns-then-branch : goal.returns-then-branch
-returns-then-branch c =
+pub returns-in-Ok : goal.returns-in-Ok
+returns-in-Ok c =
     subst (λ (answer : List ℕ). OnOk c.put_result.result (string_bytes c.put_result.new.out ≡ string_bytes c.args.out.now ++ answer))
-    (answer-made c.args.text.now c.make_script.new.stream.state (c.in_ok-make_script.ensures c.if-branch.true)) c.put_result.ensures
+    (answer-made c.args.text.now c.in-Ok.stream.state c.in-Ok.ensures.ok) c.put_result.ensures
+
+pub returns-in-Err : goal.returns-in-Err
+returns-in-Err c =
+    answer-failed c.put_script_fault.result c.args.text.now (string_bytes c.args.out.now) (string_bytes c.put_script_fault.new.out) c.in-Err.fault
+    c.in-Err.ensures.refused c.put_script_fault.ensures

@@ -1,10 +1,14 @@
-use Rattle.std.proofs.Common.{length}
-use Rattle.rlp_tool.proofs.MakingLemmas.{IsMaking}
+use Rattle.std.proofs.Common.{◌+◌, ◌≤◌, length}
+use Rattle.rlp_tool.specs.Pieces.{left_len}
+use Rattle.rlp_tool.proofs.MakingLemmas.{IsReading}
 use Rattle.rlp_tool.proofs.making.make_script.Given as goal
 
--- the calls so far are made, and the pieces that are left decide
-abbrev pub invariant-loop-space : goal.invariant-loop-space
-invariant-loop-space l = IsMaking l.text l.rest l.stream.state
+-- the calls so far are made as far as none fails, and the pieces that are left decide
+abbrev pub invariant-loop-left : goal.invariant-loop-left
+invariant-loop-left l = record {
+  reading : IsReading l.text l.left l.place l.waiting l.stream.state l.outcome;
+  within : l.place + left_len l.left ≤ length l.text + 2;
+}
 
-abbrev pub decreases-loop-space : goal.decreases-loop-space
-decreases-loop-space l = length l.rest
+abbrev pub decreases-loop-left : goal.decreases-loop-left
+decreases-loop-left l = left_len l.left
