@@ -23,6 +23,7 @@ impl Encodable for u8 {
 
     #[tactic(auto, using(crate::proofs::Values::Bounds::number_bounds))]
     fn max_len(&self) -> Option<usize> {
+        // Tells the proof that the number fits its type.
         let _number = *self;
         Some(2)
     }
@@ -45,6 +46,7 @@ impl Encodable for u16 {
 
     #[tactic(auto, using(crate::proofs::Values::Bounds::number_bounds))]
     fn max_len(&self) -> Option<usize> {
+        // Tells the proof that the number fits its type.
         let _number = *self;
         Some(3)
     }
@@ -67,6 +69,7 @@ impl Encodable for u32 {
 
     #[tactic(auto, using(crate::proofs::Values::Bounds::number_bounds))]
     fn max_len(&self) -> Option<usize> {
+        // Tells the proof that the number fits its type.
         let _number = *self;
         Some(5)
     }
@@ -90,6 +93,7 @@ impl Encodable for u64 {
 
     #[tactic(auto, using(crate::proofs::Values::Bounds::number_bounds))]
     fn max_len(&self) -> Option<usize> {
+        // Tells the proof that the number fits its type.
         let _number = *self;
         Some(9)
     }
@@ -112,6 +116,7 @@ impl Encodable for usize {
 
     #[tactic(auto, using(crate::proofs::Values::Bounds::number_bounds))]
     fn max_len(&self) -> Option<usize> {
+        // Tells the proof that the number fits its type.
         let _number = *self;
         Some(9)
     }
@@ -135,6 +140,7 @@ impl Encodable for u128 {
 
     #[tactic(auto, using(crate::proofs::Values::Bounds::number_bounds))]
     fn max_len(&self) -> Option<usize> {
+        // Tells the proof that the number fits its type.
         let _number = *self;
         Some(17)
     }
