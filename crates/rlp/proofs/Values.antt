@@ -12,5 +12,7 @@ pub mod StrictDecoding
 pub mod FieldReading
 -- groups of fields that are read one after another
 pub mod GroupReading
+-- one reading of raw items
+pub mod RawReading
 -- one reading of structs
 pub mod StructReading

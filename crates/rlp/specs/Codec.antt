@@ -20,7 +20,8 @@ use Rattle.rlp.specs.Values.FieldReading.{FaultsAsStruct, FieldsReading, IsCount
 use Rattle.rlp.specs.Values.RoundTrip.{ReadsBack, ReadsStrictly}
 use Rattle.rlp.specs.Values.Same.{SameOption}
 use Rattle.rlp.specs.Values.FieldReading.{HoldsFrom, PartsFrom}
-use Rattle.rlp.specs.Lemmas.RoundTrips.{bool_reads_back, bytes_in, number_reads_back, reads_back, reads_back_through, sound_length, text_in}
+use Rattle.rlp.specs.Lemmas.RoundTrips.{bool_reads_back, bytes_in, number_reads_back, reads_back, reads_back_through, text_in}
+use Rattle.rlp.specs.Lemmas.OneReading.{sound_length}
 use Rattle.rlp.specs.Lemmas.ListRoundTrips.{option_reads_back}
 use Rattle.rlp.specs.Lemmas.ValueLists.{list_reads_back}
 use Rattle.rlp.specs.Lemmas.Structs.{list_same}

@@ -1,6 +1,6 @@
 //! Laws over the definitions, as public functions. Each contract is the law, and a body that calls
 //! the function may use it. Most of these functions do nothing. Those that return a `Result` make a
-//! call and return its result, which the law is about. `struct_is_read` counts items.
+//! call and return its result, which the law is about. `struct_is_read` counts items, and `raw_item_is_read` frames one.
 
 mod described;
 mod reading;
@@ -11,9 +11,9 @@ mod views;
 
 pub use described::{finished_buffers_tell_items, stream_joins_what_is_described};
 pub use reading::{
-    bool_is_read, bytes_are_read, encodings_are_raw_items, field_is_read, number_is_read,
-    option_is_read, option_of_bytes_is_read, option_of_option_is_read, options_are_read,
-    string_is_read, struct_is_read, text_is_read,
+    arrays_are_read, bool_is_read, bytes_are_read, encodings_are_raw_items, field_is_read,
+    number_is_read, option_is_read, option_of_bytes_is_read, option_of_option_is_read,
+    options_are_read, raw_item_is_read, string_is_read, struct_is_read, text_is_read,
 };
 pub use rlp_format::laws::{
     cuts_begin_one_another, digits_are_canonical, encoding_has_its_depth,

@@ -66,10 +66,7 @@ impl<T: Decodable> DecodeField for Field<T> {
     ghost may_lack_memory = { T.may_lack_memory };
 
     fn decode_field(alloc: Global, fields: &mut Fields<'_>) -> Result<Field<T>, DecoderError> {
-        match fields.next_value(alloc) {
-            Ok(value) => Ok(Field(value)),
-            Err(fault) => Err(fault),
-        }
+        Ok(Field(fields.next_value(alloc)?))
     }
 }
 
@@ -84,10 +81,7 @@ impl<T: Decodable> DecodeField for ListField<T> {
     ghost may_lack_memory = { λ v. MayLackAsList T.gives T.may_lack_memory v };
 
     fn decode_field(alloc: Global, fields: &mut Fields<'_>) -> Result<ListField<T>, DecoderError> {
-        match fields.next_list(alloc) {
-            Ok(values) => Ok(ListField(values)),
-            Err(fault) => Err(fault),
-        }
+        Ok(ListField(fields.next_list(alloc)?))
     }
 }
 

@@ -4,9 +4,9 @@ use Rattle.std.proofs.Common.{ap, arith, sym}
 use Rattle.rlp.specs.DecoderError.{DecoderError}
 use Rattle.rlp.specs.Format.Item.{Item, string}
 use Rattle.rlp.specs.Format.WrittenHeader.{big_endian}
-use Rattle.rlp.specs.Lemmas.OneReading.{few_digits}
+use Rattle.rlp.specs.Lemmas.OneReading.{few_digits, sound_length}
 use Rattle.rlp.specs.Lemmas.Told.{number_told, string_told}
-use Rattle.rlp.specs.Lemmas.RoundTrips.{held_back, number_held_back, sound_length}
+use Rattle.rlp.specs.Lemmas.RoundTrips.{held_back, number_held_back}
 use Rattle.rlp.specs.Values.RoundTrip.{ReadsBack}
 use Rattle.rlp.specs.Values.Value.{FitsBytes}
 use Rattle.rlp.specs.Values.ValueReading.{FaultsAsNumber, GivesNumber, GivesValue, IsLengthFault}

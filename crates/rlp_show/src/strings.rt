@@ -24,6 +24,7 @@ fn show_fixed<const N: usize>(
     ensures { Shows (fixed_bytes N name.now item.now) (string_bytes out.old)
         (string_bytes out.new) result }
 {
+    // Tells the proof that these are bytes, and fewer than 2^64.
     let _bytes = item.as_raw();
     match item.as_val::<[u8; N]>(alloc) {
         Ok(bytes) => match put_bytes_line(name, &bytes, out) {
@@ -86,6 +87,7 @@ impl Show for Recipient {
 
     #[tactic(auto, using(crate::specs::StringLemmas::recipient_strings))]
     fn show(alloc: Global, name: &str, item: &Rlp<'_>, out: &mut String) -> Result<(), ShowFault> {
+        // Tells the proof that these are bytes, and fewer than 2^64.
         let _bytes = item.as_raw();
         let recipient = match item.as_val::<Recipient>(alloc) {
             Ok(recipient) => recipient,

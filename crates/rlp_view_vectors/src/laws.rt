@@ -41,6 +41,8 @@ fn laws_of_views_and_values() {
     laws::string_is_read(&LIST);
     laws::number_is_read(&LIST);
     laws::bytes_are_read(&LIST);
+    laws::arrays_are_read(&LIST);
+    laws::raw_item_is_read(&Rlp::new(&LIST));
     laws::text_is_read(&LIST);
     laws::bool_is_read(&LIST);
     laws::option_is_read::<u64>(&LIST);

@@ -8,14 +8,14 @@ use Rattle.std.proofs.lemmas.Int.Digits.{length-digits_of-le}
 use Rattle.std.proofs.lemmas.List.Elements.{All-from_recursion, recursion_from_All}
 use Rattle.std.proofs.lemmas.Str.{IsUtf8-from_is_utf8, is_utf8-from_IsUtf8}
 use Rattle.rlp_format.specs.declared.error.DecoderError.{DecoderError}
-use Rattle.rlp_format.specs.declared.error.DecoderError.TheVariants.{RlpIsTooBig, RlpInvalidIndirection, RlpExpectedToBeData}
+use Rattle.rlp_format.specs.declared.error.DecoderError.TheVariants.{RlpIsTooBig, RlpIsTooShort, RlpInvalidIndirection, RlpExpectedToBeData}
 use Rattle.rlp_format.specs.Format.Item.{string}
 use Rattle.rlp_format.specs.Format.WrittenHeader.{big_endian, written_header, AreBytes}
 use Rattle.rlp_format.specs.Format.Encoding.{encoding, string_encoding, is_low_byte}
 use Rattle.rlp_format.specs.Format.StringReading.{IsString}
 use Rattle.rlp_format.specs.Values.Value.{FitsBytes, number_item}
 use Rattle.rlp.specs.Values.ValueReading.{GivesValue, FaultsAs, no_string, no_value, GivesNumber, IsDigitsFault, too_long, leading_zero}
-use Rattle.rlp.specs.Values.ValueReading.{FaultsAsNumber, GivesBytes, FaultsAsBytes, GivesText, IsTextFault, FaultsAsText, HasOneReading}
+use Rattle.rlp.specs.Values.ValueReading.{FaultsAsNumber, GivesBytes, FaultsAsBytes, GivesText, IsTextFault, FaultsAsText, IsLengthFault, shorter, longer, HasOneReading}
 use Rattle.rlp_format.specs.Views.Text.{error_name}
 use Rattle.rlp_format.specs.Views.View.{View, HoldsString, view_string}
 use Rattle.rlp_format.specs.Lemmas.Digits.{big_endian_is, big_endian_first, big_endian_zero, pow-bytes, digits_fit, digits_again, none_is_zero}
@@ -167,3 +167,33 @@ pub text_reading : (v : View) → AreBytes v.bytes → length v.bytes < 2 ^ 64 �
 text_reading v bytes fits =
     reading IsUtf8 (λ t. t) IsTextFault
     (record { told = told_text; sound = λ t e good bad. bad.0 good; one = λ d e f one two. one.1 ∙ sym two.1 }) v fits bytes
+
+-- ---- strings of n bytes
+
+told_length : (n : ℕ) (d : List ℕ) → AreBytes d → ((a : List ℕ) × (length a ≡ n) × (a ≡ d)) ⊎ ((e : DecoderError) × IsLengthFault n d e)
+told_length n d bytes =
+    ⊎_elim
+    (λ short. inr (RlpIsTooShort, shorter short))
+    (λ enough. ⊎_elim
+    (λ long. inr (RlpIsTooBig, longer long))
+    (λ few. let same : length d ≡ n = omega (arith, enough, few) in inl (d, same, refl))
+    (cases_lt n (length d)))
+    (cases_lt (length d) n)
+
+-- a string of the right length has no fault of length
+pub sound_length : (n : ℕ) (d : List ℕ) (e : DecoderError) → length d ≡ n → ¬ IsLengthFault n d e
+sound_length n d e fit (shorter few) = omega arith
+sound_length n d e fit (longer many) = omega arith
+
+one_length : (n : ℕ) (d : List ℕ) (e f : DecoderError) → IsLengthFault n d e → IsLengthFault n d f → e ≡ f
+one_length n d e f (shorter short) (shorter short') = refl
+one_length n d e f (shorter short) (longer long) = absurd (omega (arith, short, long))
+one_length n d e f (longer long) (shorter short) = absurd (omega (arith, short, long))
+one_length n d e f (longer long) (longer long') = refl
+
+-- a string of n bytes has one reading
+pub array_reading : (v : View) → AreBytes v.bytes → length v.bytes < 2 ^ 64 → (n : ℕ)
+    → HasOneReading string (λ a. GivesValue (λ a. length a ≡ n) string v a) (λ e. FaultsAs (IsLengthFault n) v e)
+array_reading v bytes fits n =
+    reading (λ a. length a ≡ n) (λ a. a) (IsLengthFault n)
+    (record { told = told_length n; sound = λ a e fit. sound_length n a e fit; one = one_length n }) v fits bytes

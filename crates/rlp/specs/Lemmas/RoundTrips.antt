@@ -9,7 +9,7 @@ use Rattle.rlp_format.specs.Values.Value.{FitsBytes, number_item, bit}
 use Rattle.rlp_format.specs.Format.WrittenHeader.{big_endian}
 use Rattle.rlp.specs.Values.ValueReading.{GivesValue, FaultsAs, no_string, no_value, GivesNumber, IsDigitsFault, FaultsAsNumber, GivesBytes}
 use Rattle.rlp.specs.Values.ValueReading.{FaultsAsBytes, GivesText, IsTextFault, FaultsAsText, IsCustom, GivesBool, FaultsAsBool, no_number}
-use Rattle.rlp.specs.Values.ValueReading.{other_number, IsLengthFault, shorter, longer}
+use Rattle.rlp.specs.Values.ValueReading.{other_number, shorter, longer}
 use Rattle.rlp_format.specs.Views.View.{View, HoldsItem, HoldsString, view_of}
 use Rattle.rlp.specs.Values.RoundTrip.{ReadsBack}
 use Rattle.rlp_format.specs.Lemmas.Digits.{big_endian_same}
@@ -66,11 +66,6 @@ bytes_held_back view d fits holds = record { alike = alike_given (λ d. ⊤) (λ
 pub text_held_back : (view : View) (t : List ℕ) → length view.bytes < 2 ^ 64 → IsUtf8 t → HoldsItem view (string t)
     → ReadsBack IsUtf8 string GivesText FaultsAsText view t
 text_held_back view t fits good holds = held_back IsUtf8 (λ t. t) view t fits holds IsTextFault (λ e bad. bad.0 good)
-
--- a string of the right length has no fault of length
-pub sound_length : (n : ℕ) (d : List ℕ) (e : DecoderError) → length d ≡ n → ¬ IsLengthFault n d e
-sound_length n d e fit (shorter few) = omega arith
-sound_length n d e fit (longer many) = omega arith
 
 pub ruleset length_faults = (shorter, longer)
 

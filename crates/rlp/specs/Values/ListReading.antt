@@ -1,5 +1,5 @@
 -- The values that the items of a list give, and the value of an item by its number.
-use Rattle.std.specs.Prelude.{◌≡◌, ◌≢◌, ◌++◌, ◌∷◌, ◌⊎◌, ◌<◌, ℕ, zero, suc, List, [], Option, Some, None, Result, Ok, Err, MatchResult, IsOkAnd}
+use Rattle.std.specs.Prelude.{◌≡◌, ◌≢◌, ◌++◌, ◌∷◌, ◌⊎◌, ◌<◌, ℕ, List, [], Option, Some, None, Result, Ok, Err, MatchResult, IsOkAnd}
 use Rattle.rlp_format.specs.declared.error.DecoderError.{DecoderError}
 use Rattle.rlp_format.specs.declared.error.DecoderError.TheVariants.{OutOfMemory, RlpIncorrectListLen}
 use Rattle.rlp_format.specs.Views.View.{View, item_at, item_count, item_views, list_fault}

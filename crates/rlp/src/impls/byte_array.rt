@@ -23,10 +23,7 @@ impl<const N: usize> Decodable for [u8; N] {
 
     #[tactic(auto, using(crate::specs::Lemmas::Numbers::array_answers))]
     fn decode(_alloc: Global, rlp: &Rlp<'_>) -> Result<[u8; N], DecoderError> {
-        let string = match rlp.decoder().string() {
-            Ok(string) => string,
-            Err(fault) => return Err(fault),
-        };
+        let string = rlp.decoder().string()?;
         match <[u8; N]>::try_from(string) {
             Ok(bytes) => Ok(bytes),
             Err(_) if string.len() < N => Err(DecoderError::RlpIsTooShort),

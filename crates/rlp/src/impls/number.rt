@@ -23,10 +23,7 @@ impl Decodable for u8 {
     ghost may_lack_memory = { λ v. ⊥ };
 
     fn decode(_alloc: Global, rlp: &Rlp<'_>) -> Result<u8, DecoderError> {
-        match number_within(rlp, 1) {
-            Ok(number) => Ok(number as u8),
-            Err(fault) => Err(fault),
-        }
+        Ok(number_within(rlp, 1)? as u8)
     }
 }
 
@@ -39,10 +36,7 @@ impl Decodable for u16 {
     ghost may_lack_memory = { λ v. ⊥ };
 
     fn decode(_alloc: Global, rlp: &Rlp<'_>) -> Result<u16, DecoderError> {
-        match number_within(rlp, 2) {
-            Ok(number) => Ok(number as u16),
-            Err(fault) => Err(fault),
-        }
+        Ok(number_within(rlp, 2)? as u16)
     }
 }
 
@@ -55,10 +49,7 @@ impl Decodable for u32 {
     ghost may_lack_memory = { λ v. ⊥ };
 
     fn decode(_alloc: Global, rlp: &Rlp<'_>) -> Result<u32, DecoderError> {
-        match number_within(rlp, 4) {
-            Ok(number) => Ok(number as u32),
-            Err(fault) => Err(fault),
-        }
+        Ok(number_within(rlp, 4)? as u32)
     }
 }
 
@@ -74,10 +65,7 @@ impl Decodable for u64 {
     ghost may_lack_memory = { λ v. ⊥ };
 
     fn decode(_alloc: Global, rlp: &Rlp<'_>) -> Result<u64, DecoderError> {
-        match number_within(rlp, 8) {
-            Ok(number) => Ok(number as u64),
-            Err(fault) => Err(fault),
-        }
+        Ok(number_within(rlp, 8)? as u64)
     }
 }
 
@@ -90,10 +78,7 @@ impl Decodable for usize {
     ghost may_lack_memory = { λ v. ⊥ };
 
     fn decode(_alloc: Global, rlp: &Rlp<'_>) -> Result<usize, DecoderError> {
-        match number_within(rlp, 8) {
-            Ok(number) => Ok(number),
-            Err(fault) => Err(fault),
-        }
+        number_within(rlp, 8)
     }
 }
 
@@ -106,10 +91,7 @@ impl Decodable for u128 {
     ghost may_lack_memory = { λ v. ⊥ };
 
     fn decode(_alloc: Global, rlp: &Rlp<'_>) -> Result<u128, DecoderError> {
-        match number_digits(rlp, 16) {
-            Ok(digits) => Ok(wide_number_of(digits)),
-            Err(fault) => Err(fault),
-        }
+        Ok(wide_number_of(number_digits(rlp, 16)?))
     }
 }
 
@@ -178,10 +160,7 @@ fn number_of_string(rlp: &Rlp<'_>, width: usize) -> Result<usize, DecoderError>
     ensures value { IfOk result (λ n. GivesNumber width rlp.now n) }
     ensures fault { IfErr result (λ e. FaultsAsNumber width rlp.now e) }
 {
-    match digits_of_string(rlp, width) {
-        Ok(digits) => Ok(number_of(digits)),
-        Err(fault) => Err(fault),
-    }
+    Ok(number_of(digits_of_string(rlp, width)?))
 }
 
 /// Returns the digits of the number of at most `width` bytes that the view begins with.
@@ -243,14 +222,9 @@ fn digits_of_string<'a>(rlp: &Rlp<'a>, width: usize) -> Result<&'a [u8], Decoder
     ensures value { IfOk result (λ d. GivesNumber width rlp.now (number_from_digits 256 d.now)) }
     ensures fault { IfErr result (λ e. FaultsAsNumber width rlp.now e) }
 {
-    let digits = match rlp.decoder().string() {
-        Ok(digits) => digits,
-        Err(fault) => return Err(fault),
-    };
-    match check_digits(digits, width) {
-        Ok(()) => Ok(digits),
-        Err(fault) => Err(fault),
-    }
+    let digits = rlp.decoder().string()?;
+    check_digits(digits, width)?;
+    Ok(digits)
 }
 
 /// Tests whether these are the digits of a number of at most `width` bytes: first their number, and

@@ -23,12 +23,8 @@ impl<const N: usize> Decodable for Uint<N> {
     ghost may_lack_memory = { λ v. ⊥ };
 
     fn decode(_alloc: Global, rlp: &Rlp<'_>) -> Result<Uint<N>, DecoderError> {
-        match number_digits(rlp, N) {
-            Ok(digits) => Ok(Uint {
-                bytes: padded(digits),
-            }),
-            Err(fault) => Err(fault),
-        }
+        let bytes = padded(number_digits(rlp, N)?);
+        Ok(Uint { bytes })
     }
 }
 

@@ -3,9 +3,9 @@
 ghost use Rattle.std.specs.Prelude.{◌≡◌, ◌<◌, ◌≤◌, ◌^◌, ◌↔◌, ℕ, IsTrue, List, Ok, length};
 ghost use Rattle.rlp_format.specs.Format.Encoding.{encoding};
 ghost use Rattle.rlp_format.specs.Format.Item.{Item, item_depth, string};
-ghost use Rattle.rlp.specs.Values.RawItem.{deepest_raw_item, raw_item_of};
+ghost use Rattle.rlp.specs.Values.RawItem.{FaultsAsRaw, IsRawItem, deepest_raw_item, raw_item_of};
 ghost use Rattle.rlp_format.specs.Format.StringReading.{IsString, ReadsString, read_string};
-ghost use Rattle.rlp.specs.Values.ValueReading.{GivesNumber, FaultsAsNumber, GivesBytes, FaultsAsBytes, GivesText, FaultsAsText, GivesBool, FaultsAsBool, HasOneReading};
+ghost use Rattle.rlp.specs.Values.ValueReading.{FaultsAs, GivesNumber, FaultsAsNumber, GivesBytes, FaultsAsBytes, GivesText, FaultsAsText, GivesBool, FaultsAsBool, GivesValue, HasOneReading, IsLengthFault};
 ghost use Rattle.rlp_format.specs.Values.Value.{bit, number_item, option_item};
 ghost use Rattle.rlp_format.specs.Views.View.{View, item_count, strict_view_of, view_of};
 ghost use Rattle.rlp.specs.Values.FieldReading.{FaultsAsStruct, IsCount};
@@ -25,7 +25,8 @@ pub fn string_is_read(bytes: &[u8])
     ensures only { (d : List ℕ) → IsString bytes.now d → read_string bytes.now ≡ Ok d }
 {}
 
-/// For each width, bytes give one number and have no fault, or give none and have one fault.
+/// For each width, bytes give one number and have no fault, or give none and have one fault. The
+/// numbers of `N` bytes are those of `Uint<N>` too.
 pub fn number_is_read(bytes: &[u8])
     ensures { (width : ℕ)
         → HasOneReading number_item (GivesNumber width (view_of bytes.now))
@@ -36,6 +37,24 @@ pub fn number_is_read(bytes: &[u8])
 pub fn bytes_are_read(bytes: &[u8])
     ensures { HasOneReading string (GivesBytes (view_of bytes.now)) (FaultsAsBytes (view_of bytes.now)) }
 {}
+
+/// For each length, bytes give one array and have no fault, or give none and have one fault.
+pub fn arrays_are_read(bytes: &[u8])
+    ensures { (n : ℕ) → HasOneReading string
+        (λ a. GivesValue (λ a. length a ≡ n) string (view_of bytes.now) a)
+        (λ e. FaultsAs (IsLengthFault n) (view_of bytes.now) e) }
+{}
+
+/// A view, lenient or strict, gives one raw item and has no fault, or gives none and has one fault.
+/// The body splits the first item off the view.
+pub fn raw_item_is_read(rlp: &Rlp<'_>)
+    ensures { HasOneReading raw_item_of (λ b. GivesValue IsRawItem raw_item_of rlp.now b)
+        (λ e. FaultsAsRaw rlp.now e) }
+{
+    // The proof goes by what these return: fewer than 2^64 bytes, and the first item.
+    let _bytes = rlp.as_raw();
+    let _split = rlp.split_first();
+}
 
 /// Bytes give one text and have no fault, or give none and have one fault.
 pub fn text_is_read(bytes: &[u8])
@@ -121,6 +140,7 @@ pub fn struct_is_read<F: DecodeFields>(rlp: &Rlp<'_>)
         (λ e. FaultsAsStruct F.reading.least F.reading.IsMore F.reading.some F.reading.faults
         rlp.now e) }
 {
+    // The proof goes by what this returns.
     let _accepted = accepts_items::<F>(rlp);
 }
 

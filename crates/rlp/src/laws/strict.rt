@@ -11,7 +11,7 @@ ghost use Rattle.rlp_format.specs.Format.StringReading.{read_string};
 ghost use Rattle.rlp_format.specs.Format.Strict.{IsCanonical, strict_fault};
 ghost use Rattle.rlp_format.specs.Format.Item.{Item, list_of, string};
 ghost use Rattle.rlp.specs.Values.ListReading.{FaultsAsOption, GivesOption, MayLackAsList};
-ghost use Rattle.rlp.specs.Values.ValueReading.{FaultsAsBool, FaultsAsBytes, FaultsAsNumber, FaultsAsText, GivesBool, GivesBytes, GivesNumber, GivesText, HasOneReading};
+ghost use Rattle.rlp.specs.Values.ValueReading.{FaultsAs, FaultsAsBool, FaultsAsBytes, FaultsAsNumber, FaultsAsText, GivesBool, GivesBytes, GivesNumber, GivesText, GivesValue, HasOneReading, IsLengthFault};
 ghost use Rattle.rlp_format.specs.Values.Value.{AreAlike, bit, number_item, option_item};
 ghost use Rattle.rlp_format.specs.Views.View.{HoldsItem, View, item_by, item_count, item_with_place, list_fault, strict_view_of, view_header, view_of, view_string, view_value};
 
@@ -48,8 +48,10 @@ pub fn lenient_views_ignore_what_follows(bytes: &[u8])
         else Err RlpExpectedToBeList) }
 {}
 
-/// A strict view gives one number of a width, truth value, byte string or text and has no fault, or
-/// gives none and has one fault.
+/// A strict view gives one value of a number of each width, of a truth value, of a byte string, of
+/// a text or of an array of each length, and has no fault, or gives none and has one fault. The
+/// numbers of `N` bytes are those of `Uint<N>` too. See also [`crate::laws::raw_item_is_read`] and
+/// [`strict_option_is_read`].
 pub fn strict_values_are_read(bytes: &[u8])
     ensures numbers { (width : ℕ)
         → HasOneReading number_item (GivesNumber width (strict_view_of bytes.now))
@@ -61,6 +63,9 @@ pub fn strict_values_are_read(bytes: &[u8])
         (FaultsAsBytes (strict_view_of bytes.now)) }
     ensures texts { HasOneReading string (GivesText (strict_view_of bytes.now))
         (FaultsAsText (strict_view_of bytes.now)) }
+    ensures arrays { (n : ℕ) → HasOneReading string
+        (λ a. GivesValue (λ a. length a ≡ n) string (strict_view_of bytes.now) a)
+        (λ e. FaultsAs (IsLengthFault n) (strict_view_of bytes.now) e) }
 {}
 
 /// If each item gives one value of a type or has one fault, a strict view gives one option of it or

@@ -55,10 +55,8 @@ impl<'a> Rlp<'a> {
         ensures fault { MatchResult result (λ _. items_fault self.now ≡ None)
             (λ e. items_fault self.now ≡ Some e) }
     {
-        match self.check_items() {
-            Ok(()) => Ok(Fields::over(self)),
-            Err(fault) => Err(fault),
-        }
+        self.check_items()?;
+        Ok(Fields::over(self))
     }
 
     /// The same as [`Rlp::fields`] for a list of `len` items. Fails with `RlpIncorrectListLen` if
@@ -69,15 +67,10 @@ impl<'a> Rlp<'a> {
         ensures count { OnOk result (item_count self.now ≡ Ok len) }
         ensures fault { IfErr result (λ e. FaultsAsFields len self.now e) }
     {
-        match self.item_count() {
-            Ok(count) => {
-                if count != len {
-                    return Err(DecoderError::RlpIncorrectListLen);
-                }
-                Ok(Fields::over(self))
-            }
-            Err(fault) => Err(fault),
+        if self.item_count()? != len {
+            return Err(DecoderError::RlpIncorrectListLen);
         }
+        Ok(Fields::over(self))
     }
 }
 
@@ -141,10 +134,7 @@ impl<'a> Fields<'a> {
             (λ _. self.new ≡ self.old) }
         ensures same_view { self.new.view ≡ self.old.view }
     {
-        match self.next_view() {
-            Ok(item) => item.as_val(alloc),
-            Err(fault) => Err(fault),
-        }
+        self.next_view()?.as_val(alloc)
     }
 
     /// The values of the items of the next item, as [`Rlp::list_at`] reads them.
@@ -170,10 +160,7 @@ impl<'a> Fields<'a> {
             (λ _. self.new ≡ self.old) }
         ensures same_view { self.new.view ≡ self.old.view }
     {
-        match self.next_view() {
-            Ok(item) => item.as_list(alloc),
-            Err(fault) => Err(fault),
-        }
+        self.next_view()?.as_list(alloc)
     }
 
     /// Tests that all items were taken. Fails with `RlpIncorrectListLen` if one is left.

@@ -105,10 +105,7 @@ impl<'a> Rlp<'a> {
     pub fn payload_info(&self) -> Result<PayloadInfo, DecoderError>
         ensures { result ≡ view_header self.now }
     {
-        match self.framed() {
-            Ok(framed) => Ok(framed.header),
-            Err(fault) => Err(fault),
-        }
+        Ok(self.framed()?.header)
     }
 
     /// The bytes of the first item after its header: the bytes of a string, or the payload of a
@@ -119,10 +116,7 @@ impl<'a> Rlp<'a> {
         ensures { MatchResult result (λ d. view_value self.now ≡ Ok d.now)
             (λ e. view_value self.now ≡ Err e) }
     {
-        match self.framed() {
-            Ok(framed) => Ok(framed.content),
-            Err(fault) => Err(fault),
-        }
+        Ok(self.framed()?.content)
     }
 
     /// The number of items in the list that the view begins with.
@@ -326,10 +320,7 @@ impl<'a> Rlp<'a> {
         ensures fault { IfErr result (λ e. (FaultsAt T.faults self.now index e)
             ⊎ ((e ≡ OutOfMemory) × MayLackAt T.may_lack_memory self.now index)) }
     {
-        match self.at(index) {
-            Ok(item) => item.as_val(alloc),
-            Err(fault) => Err(fault),
-        }
+        self.at(index)?.as_val(alloc)
     }
 
     /// The values of the items of the item at `index`, counted from 0: [`Rlp::at`], and then
@@ -352,10 +343,7 @@ impl<'a> Rlp<'a> {
             ⊎ ((e ≡ OutOfMemory)
             × MayLackAt (λ item. MayLackAsList T.gives T.may_lack_memory item) self.now index)) }
     {
-        match self.at(index) {
-            Ok(item) => item.as_list(alloc),
-            Err(fault) => Err(fault),
-        }
+        self.at(index)?.as_list(alloc)
     }
 
     /// A decoder of the view's bytes, of the same kind. A strict decoder fails with `RlpIsTooBig`
@@ -444,10 +432,8 @@ impl<'a> Rlp<'a> {
         if self.strict {
             return whole_framed(self.bytes);
         }
-        match first_framed(self.bytes) {
-            Ok((framed, _)) => Ok(framed),
-            Err(fault) => Err(fault),
-        }
+        let (framed, _) = first_framed(self.bytes)?;
+        Ok(framed)
     }
 
     /// The number of items of a list that is all of the bytes, by one walk over it.

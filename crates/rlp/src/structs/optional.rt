@@ -26,9 +26,6 @@ impl<S: DecodeFields> DecodeFields for OptionalGroup<S> {
         if len == 0 {
             return Ok(OptionalGroup(None));
         }
-        match S::decode_fields(alloc, fields, len) {
-            Ok(values) => Ok(OptionalGroup(Some(values))),
-            Err(fault) => Err(fault),
-        }
+        Ok(OptionalGroup(Some(S::decode_fields(alloc, fields, len)?)))
     }
 }
