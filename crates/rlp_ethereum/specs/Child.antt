@@ -7,6 +7,7 @@ use Rattle.rlp.specs.Format.Encoding.{encoding}
 use Rattle.rlp.specs.Format.Split.{begins_as_list}
 use Rattle.rlp.specs.Values.RawItem.{IsRawFault, IsRawItem, raw_item_of, view_frame}
 use Rattle.rlp.specs.Views.View.{View, strict_view_of, view_string}
+use Rattle.rlp_ethereum.specs.Inline.{IsInlineNode}
 use Rattle.rlp_ethereum.specs.declared.child.Child.{Child}
 use Rattle.rlp_ethereum.specs.declared.child.Child.TheVariants.{Nothing, Node, Inline}
 
@@ -14,19 +15,13 @@ use Rattle.rlp_ethereum.specs.declared.child.Child.TheVariants.{Nothing, Node, I
 abbrev pub child_item : Child → Item
 child_item Nothing = string []
 child_item (Node hash) = string hash.0
-child_item (Inline bytes) = raw_item_of bytes
+child_item (Inline node) = raw_item_of node.item
 
--- the bytes are a node that is kept in its parent: a list of fewer than 32 bytes
-pub record IsInlineNode (b : List ℕ) : Type 0 where
-  pub raw : IsRawItem b
-  pub is_list : begins_as_list b ≡ true
-  pub short : length b < 32
-
--- a hash has 32 bytes
+-- a hash has 32 bytes, and a node that is kept is a raw item
 abbrev pub IsChild : Child → Type 0
 IsChild Nothing = ⊤
 IsChild (Node hash) = length hash.0 ≡ 32
-IsChild (Inline bytes) = IsInlineNode bytes
+IsChild (Inline node) = IsRawItem node.item
 
 -- Why bytes that are an item aren't a child: they are no string, or one of 1 to 31 bytes or of more than 32; or they are a list of 32 bytes or more, or no raw
 -- item.
@@ -46,4 +41,4 @@ pub data FaultsAsChild (v : View) (e : DecoderError) : Type 0 where
 pub record MayLackAsChild (v : View) : Type 0 where
   pub bytes : List ℕ
   pub framed : view_frame v ≡ Ok bytes
-  pub is : IsRawItem bytes
+  pub is : IsInlineNode bytes

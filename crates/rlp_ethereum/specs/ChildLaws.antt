@@ -13,8 +13,9 @@ use Rattle.rlp.specs.Codecs.Exact.{exact_type}
 use Rattle.rlp.specs.Lemmas.RawItems.{raw_encoding, raw_has_no_fault, string_kind, view_frame-held}
 use Rattle.rlp.specs.Lemmas.StringsHeld.{held_begins, held_read, same_held}
 use Rattle.rlp.specs.Lemmas.Encodings.{front_sized}
-use Rattle.rlp_ethereum.specs.Child.{FaultsAsChild, IsChild, IsChildFault, IsInlineNode, MayLackAsChild, child_item, faulty_child, faulty_node}
+use Rattle.rlp_ethereum.specs.Child.{FaultsAsChild, IsChild, IsChildFault, MayLackAsChild, child_item, faulty_child, faulty_node}
 use Rattle.rlp_ethereum.specs.Child.{longer_hash, longer_node, no_string, shorter_hash, unframed_child}
+use Rattle.rlp_ethereum.specs.Inline.{IsInlineNode}
 use Rattle.rlp_ethereum.specs.declared.child.Child.{Child}
 use Rattle.rlp_ethereum.specs.declared.child.Child.TheVariants.{Nothing, Node, Inline}
 
@@ -36,18 +37,18 @@ string_told b s e fits is long (faulty_node f kind bad) = let other = string_kin
 node_told : (b : List ℕ) (e : DecoderError) → IsInlineNode b → ¬ IsChildFault b e
 node_told b e is (no_string f kind none) = let other = is.is_list in cc
 node_told b e is (shorter_hash d whole some few) =
-    let other = string_kind b d (let fits : length b < 2 ^ 64 = omega (arith, is.short) in fits) whole in let kind = is.is_list in cc
+    let other = string_kind b d (let fits : length b < 2 ^ 64 = omega (arith, is.is_short) in fits) whole in let kind = is.is_list in cc
 node_told b e is (longer_hash d whole more) =
-    let other = string_kind b d (let fits : length b < 2 ^ 64 = omega (arith, is.short) in fits) whole in let kind = is.is_list in cc
-node_told b e is (longer_node kind many) = omega (arith, is.short, many)
-node_told b e is (faulty_node f kind bad) = raw_has_no_fault b f (let fits : length b < 2 ^ 64 = omega (arith, is.short) in fits) is.raw bad
+    let other = string_kind b d (let fits : length b < 2 ^ 64 = omega (arith, is.is_short) in fits) whole in let kind = is.is_list in cc
+node_told b e is (longer_node kind many) = omega (arith, is.is_short, many)
+node_told b e is (faulty_node f kind bad) = raw_has_no_fault b f (let fits : length b < 2 ^ 64 = omega (arith, is.is_short) in fits) is.raw bad
 
 child_told : (b : List ℕ) (c : Child) (e : DecoderError) → length b < 2 ^ 64 → IsChild c → b ≡ encoding (child_item c) → ¬ IsChildFault b e
 child_told b Nothing e fits is whole = string_told b [] e fits whole (inl (let none : length {A = ℕ} [] ≡ 0 = omega arith in none))
 child_told b (Node hash) e fits is whole = string_told b hash.0 e fits whole (inr is)
-child_told b (Inline bytes) e fits is whole =
-    let same : b ≡ bytes = whole ∙ raw_encoding bytes (let few : length bytes < 2 ^ 64 = omega (arith, is.short) in few) is.raw in
-    node_told b e (subst IsInlineNode (sym same) is)
+child_told b (Inline node) e fits is whole =
+    let same : b ≡ node.item = whole ∙ raw_encoding node.item (let few : length node.item < 2 ^ 64 = omega (arith, node.is_short) in few) is in
+    node_told b e (subst IsInlineNode (sym same) (record { raw = is; is_list = node.is_list; is_short = node.is_short }))
 
 -- a view that holds the encoding of a child has no fault
 pub child_sound : (v : View) (c : Child) → length v.bytes < 2 ^ 64 → IsChild c → HoldsItem v (child_item c) → (e : DecoderError) → ¬ FaultsAsChild v e
@@ -65,10 +66,10 @@ child = exact_type IsChild child_item FaultsAsChild MayLackAsChild child_sound
 
 -- ---- rules for bodies
 
--- a raw item that is a short list is a child
-pub inline_given : (b : List ℕ) → IsRawItem b → begins_as_list b ≡ true → length b < 32 → IsInlineNode b × (b ≡ encoding (raw_item_of b))
-inline_given b raw kind short =
-    (record { raw = raw; is_list = kind; short = short }, sym (raw_encoding b (let few : length b < 2 ^ 64 = omega (arith, short) in few) raw))
+-- the encoding of the node that is kept is its bytes
+pub inline_given : (b c : List ℕ) → IsRawItem b → length b < 32 → c ≡ b → b ≡ encoding (raw_item_of c)
+inline_given b c raw short same =
+    sym (raw_encoding b (let few : length b < 2 ^ 64 = omega (arith, short) in few) raw) ∙ ap (λ d. encoding (raw_item_of d)) (sym same)
 
 -- the child that is read from the first item
 pub child_given : (v : View) (b : List ℕ) (c : Child) → Holds v.is_strict v.bytes b → IsChild c → b ≡ encoding (child_item c)
@@ -76,15 +77,15 @@ pub child_given : (v : View) (b : List ℕ) (c : Child) → Holds v.is_strict v.
 child_given v b c holds is whole = record { fits = is; begins = subst (λ a. Holds v.is_strict v.bytes a) whole holds }
 
 -- why no child is read from the first item
-pub child_fails : (v : View) (b c : List ℕ) (e : DecoderError) → view_frame v ≡ Ok b → c ≡ b → IsChildFault c e ⊎ ((e ≡ OutOfMemory) × IsRawItem c)
+pub child_fails : (v : View) (b c : List ℕ) (e : DecoderError) → view_frame v ≡ Ok b → c ≡ b → IsChildFault c e ⊎ ((e ≡ OutOfMemory) × IsInlineNode c)
     → FaultsAsChild v e ⊎ ((e ≡ OutOfMemory) × MayLackAsChild v)
 child_fails v b c e framed same (inl bad) = inl (faulty_child c (framed ∙ ap Ok (sym same)) bad)
 child_fails v b c e framed same (inr (lacks, raw)) = inr (lacks, record { bytes = c; framed = framed ∙ ap Ok (sym same); is = raw })
 
--- a fault of a raw item that is a list is one of the child
-pub node_fails : (b : List ℕ) (e : DecoderError) → begins_as_list b ≡ true → IsRawFault b e ⊎ ((e ≡ OutOfMemory) × IsRawItem b)
-    → IsChildFault b e ⊎ ((e ≡ OutOfMemory) × IsRawItem b)
-node_fails b e kind (inl bad) = inl (faulty_node e kind bad)
-node_fails b e kind (inr lacks) = inr lacks
+-- a fault of a raw item that is a short list is one of the child
+pub node_fails : (b : List ℕ) (e : DecoderError) → begins_as_list b ≡ true → length b < 32 → IsRawFault b e ⊎ ((e ≡ OutOfMemory) × IsRawItem b)
+    → IsChildFault b e ⊎ ((e ≡ OutOfMemory) × IsInlineNode b)
+node_fails b e kind short (inl bad) = inl (faulty_node e kind bad)
+node_fails b e kind short (inr (lacks, raw)) = inr (lacks, record { raw = raw; is_list = kind; is_short = short })
 
 pub ruleset child_reading = (no_string, shorter_hash, longer_hash, longer_node, inline_given, child_given, child_fails, node_fails, unframed_child)

@@ -1,16 +1,10 @@
 -- How the fields that forks added to headers are written and read.
 use Rattle.std.specs.Prelude.{refl}
-use Rattle.rlp.specs.Codec.{Fields, end, field, number, optional_group, uint}
+use Rattle.rlp.specs.Codec.{Fields, field, number, optional, optional_group, uint}
 use Rattle.rlp_ethereum.specs.declared.header.forks.Cancun.{Cancun}
 use Rattle.rlp_ethereum.specs.declared.header.forks.London.{London}
-use Rattle.rlp_ethereum.specs.declared.header.forks.Prague.{Prague}
 use Rattle.rlp_ethereum.specs.declared.header.forks.Shanghai.{Shanghai}
 use Rattle.rlp_ethereum.specs.Hash.{hash}
-
--- the fields since Prague
-abbrev pub prague_fields : Fields Prague
-prague_fields =
-    field (λ (x : Prague). x.requests_hash) hash end
 
 -- the fields since Cancun
 abbrev pub cancun_fields : Fields Cancun
@@ -18,7 +12,7 @@ cancun_fields =
     field (λ (x : Cancun). x.blob_gas_used) (number 8) (
     field (λ (x : Cancun). x.excess_blob_gas) (number 8) (
     field (λ (x : Cancun). x.parent_beacon_block_root) hash (
-    optional_group (λ (x : Cancun). x.since_prague) prague_fields refl)))
+    optional (λ (x : Cancun). x.requests_hash) hash)))
 
 -- the fields since Shanghai
 abbrev pub shanghai_fields : Fields Shanghai

@@ -15,11 +15,14 @@ pub mod FeeMarketTransaction
 pub mod Forks
 pub mod Hash
 pub mod Header
+pub mod Inline
 pub mod LegacyTransaction
 pub mod Log
+pub mod Marks
 pub mod NodeFields
 pub mod NodeLaws
 pub mod NodeRecord
+pub mod Path
 pub mod Receipt
 pub mod Recipient
 pub mod SetCodeTransaction

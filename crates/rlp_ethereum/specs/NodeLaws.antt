@@ -19,7 +19,7 @@ use Rattle.rlp.specs.Lemmas.RawItems.{view_frame-held}
 use Rattle.rlp.specs.Lemmas.Structs.{list_same}
 use Rattle.rlp_ethereum.specs.NodeFields.{node_fields, pair_fields}
 use Rattle.rlp_ethereum.specs.NodeRecord.{AreInOrder, FaultsAsNodeRecord, IsNodeRecord, IsRecordFault, MayLackAsNodeRecord, faulty_fields, faulty_record}
-use Rattle.rlp_ethereum.specs.NodeRecord.{keys_of, keys_rise, longest_record, not_framed, not_rising, too_long}
+use Rattle.rlp_ethereum.specs.NodeRecord.{fields_too_long, keys_of, keys_rise, longest_record, not_framed, not_rising, too_long}
 use Rattle.rlp_ethereum.specs.declared.node_fields.NodeFields.{NodeFields}
 use Rattle.rlp_ethereum.specs.declared.node_fields.NodePair.{NodePair}
 
@@ -115,3 +115,6 @@ pub passed_order : (pairs all : List NodePair) {r : Bool} → all ≡ pairs → 
 passed_order pairs all same told passed = subst AreInOrder same (told.0 passed)
 
 pub ruleset record_reading = (too_long, faulty_fields, not_rising, record_read, record_given, record_fails, not_framed)
+
+-- for a body that tests the order first
+pub ruleset fields_in_order = (fields_too_long, passed_order)

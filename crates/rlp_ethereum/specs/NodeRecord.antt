@@ -38,9 +38,9 @@ pub record IsNodeRecord (f : NodeFields) : Type 0 where
   pub rising : AreInOrder (vec_items f.pairs)
   pub short : length (encoding (node_fields.item f)) ≤ longest_record
 
--- Why fields aren't those of a node record: their encoding is too long, or the keys aren't in order.
+-- Why fields aren't those of a node record: the keys aren't in order, or they are and the encoding is too long.
 pub data IsFieldsFault (f : NodeFields) : DecoderError → Type 0 where
-  fields_too_long : longest_record < length (encoding (node_fields.item f)) → IsFieldsFault f RlpIsTooBig
+  fields_too_long : AreInOrder (vec_items f.pairs) → longest_record < length (encoding (node_fields.item f)) → IsFieldsFault f RlpIsTooBig
   keys_not_rising : (e : DecoderError) → ¬ AreInOrder (vec_items f.pairs) → IsCustom (codes "keys are not in order") e → IsFieldsFault f e
 
 -- Why bytes aren't a node record, if they are an item: they are too long, the fields have a fault if they are read strictly, or the keys aren't in order.

@@ -8,10 +8,11 @@ use Rattle.rlp_ethereum.specs.declared.child.Child.TheVariants.{Nothing}
 use Rattle.rlp_ethereum.specs.declared.extension.Extension.{Extension}
 use Rattle.rlp_ethereum.specs.declared.leaf.Leaf.{Leaf}
 use Rattle.rlp_ethereum.specs.ChildLaws.{child}
+use Rattle.rlp_ethereum.specs.Path.{path}
 
 -- a path and a value
 abbrev pub leaf_fields : Fields Leaf
-leaf_fields = field (λ (l : Leaf). l.path) (byte_string vec_items) (field (λ (l : Leaf). l.value) (byte_string vec_items) end)
+leaf_fields = field (λ (l : Leaf). l.path) (path 2) (field (λ (l : Leaf). l.value) (byte_string vec_items) end)
 
 -- the list of the fields
 abbrev pub leaf : Codec Leaf
@@ -19,7 +20,7 @@ leaf = struct_of leaf_fields
 
 -- a path and a child
 abbrev pub extension_fields : Fields Extension
-extension_fields = field (λ (e : Extension). e.path) (byte_string vec_items) (field (λ (e : Extension). e.child) child end)
+extension_fields = field (λ (e : Extension). e.path) (path 0) (field (λ (e : Extension). e.child) child end)
 
 -- the list of the fields
 abbrev pub extension : Codec Extension

@@ -1,15 +1,12 @@
 -- Nodes of the trie are given exactly by their encodings.
-use Rattle.std.proofs.Common.{◌≡◌, ◌<◌, ◌^◌, ◌⊎◌, inl, inr, ℕ, List, length, refl, sym, ap, ◌∙◌, subst, arith, Ok, Err, Result, IsOkAnd, Some}
+use Rattle.std.proofs.Common.{◌≡◌, ◌<◌, ◌^◌, ◌⊎◌, inl, inr, ℕ, Bool, true, false, List, length, refl, sym, ap, ◌∙◌, subst, arith, Ok, Err, Result, IsOkAnd, Some}
 use Rattle.std.specs.Vec.{vec_items}
 use Rattle.rlp.specs.DecoderError.{DecoderError}
 use Rattle.rlp.specs.DecoderError.TheVariants.{OutOfMemory}
 use Rattle.rlp.specs.Format.Encoding.{encoding}
 use Rattle.rlp.specs.Format.WrittenHeader.{AreBytes}
-use Rattle.rlp.specs.Values.FieldReading.{faulty_item}
-use Rattle.rlp.specs.Values.ListReading.{GivesAt}
-use Rattle.rlp.specs.Lemmas.Structs.{all_items_right}
 use Rattle.rlp.specs.Values.RawItem.{view_frame}
-use Rattle.rlp.specs.Values.ValueReading.{GivesBytes, GivesValue}
+use Rattle.rlp.specs.Values.ValueReading.{GivesValue}
 use Rattle.rlp.specs.Views.View.{View, Holds, HoldsItem, item_at, item_count, strict_view_of}
 use Rattle.rlp.specs.Codec.{Codec}
 use Rattle.rlp.specs.Codecs.Exact.{exact_type}
@@ -17,70 +14,53 @@ use Rattle.rlp.specs.Lemmas.Encodings.{front_sized}
 use Rattle.rlp.specs.Lemmas.RawItems.{view_frame-held}
 use Rattle.rlp.specs.Lemmas.Reading.{bytes_held}
 use Rattle.rlp.specs.Lemmas.Slices.{part_of_items}
-use Rattle.rlp.specs.Lemmas.StringsHeld.{held_begins, same_held}
+use Rattle.rlp.specs.Lemmas.StringsHeld.{held_begins, held_only}
+use Rattle.rlp_ethereum.specs.Marks.{is_leaf_mark}
+use Rattle.rlp_ethereum.specs.Path.{path}
 use Rattle.rlp_ethereum.specs.Trie.{branch, extension, leaf}
-use Rattle.rlp_ethereum.specs.TrieNode.{FaultsAsNode, HasPath, IsNodeFault, IsTrieNode, MayLackAsNode, MayLackInNode, faulty_branch, faulty_extension}
-use Rattle.rlp_ethereum.specs.TrieNode.{faulty_leaf, faulty_node, lacks_branch, lacks_extension, lacks_leaf, no_list, no_mark, no_path, node_item}
-use Rattle.rlp_ethereum.specs.TrieNode.{other_length, path_mark, unframed_node}
+use Rattle.rlp_ethereum.specs.TrieNode.{FaultsAsNode, IsNodeFault, IsTrieNode, MayLackAsNode, MayLackInNode, begins_as_leaf, faulty_branch, faulty_extension}
+use Rattle.rlp_ethereum.specs.TrieNode.{faulty_leaf, faulty_node, is_leaf_item, is_leaf_path, lacks_branch, lacks_extension, lacks_leaf, no_list, node_item}
+use Rattle.rlp_ethereum.specs.TrieNode.{other_length, unframed_node}
 use Rattle.rlp_ethereum.specs.declared.branch.Branch.{Branch}
 use Rattle.rlp_ethereum.specs.declared.extension.Extension.{Extension}
 use Rattle.rlp_ethereum.specs.declared.leaf.Leaf.{Leaf}
-use Rattle.rlp_ethereum.specs.declared.trie_node.Mark.TheVariants.{OfExtension, OfLeaf}
+use Rattle.rlp_ethereum.specs.declared.path.Path.{Path}
 use Rattle.rlp_ethereum.specs.declared.trie_node.TrieNode.{TrieNode}
 use Rattle.rlp_ethereum.specs.declared.trie_node.TrieNode.TheVariants as node
 
 module _ (b : List ℕ) (bytes : AreBytes b) (fits : length b < 2 ^ 64) where
-  path_by : (p q : List ℕ) (r : Result View DecoderError) → item_at (strict_view_of b) 0 ≡ r → IsOkAnd r (λ item. GivesBytes item p)
-      → IsOkAnd r (λ item. GivesBytes item q) → p ≡ q
-  path_by p q (Ok item) is one two =
-      let (held, short) = part_of_items (strict_view_of b) item 0 bytes fits is in same_held item p q short one.begins two.begins
-  path_by p q (Err e) is one two = absurd one
+  -- the first item is the path that it gives
+  path_by : (kind : ℕ) (p : Path kind) (r : Result View DecoderError) → item_at (strict_view_of b) 0 ≡ r → IsOkAnd r (λ item. (path kind).gives item p)
+      → is_leaf_item r ≡ is_leaf_mark (Some kind)
+  path_by kind p (Ok item) is given =
+      let (held, short) = part_of_items (strict_view_of b) item 0 bytes fits is in
+      ap is_leaf_path (held_only item (vec_items p.bytes) short given.begins) ∙ ap is_leaf_mark p.marked
+  path_by kind p (Err e) is given = absurd given
 
-  -- a list has one path
-  one_path : (p q : List ℕ) → GivesAt GivesBytes (strict_view_of b) 0 p → GivesAt GivesBytes (strict_view_of b) 0 q → p ≡ q
-  one_path p q one two = path_by p q (item_at (strict_view_of b) 0) refl one two
-
-  -- a leaf whose path has its mark has no fault
-  leaf_told : (l : Leaf) (e : DecoderError) → IsTrieNode (node.Leaf l) → b ≡ encoding (leaf.item l) → ¬ IsNodeFault b e
-  leaf_told l e (fit, mark) is bad =
-      let (many, (path_at, value_at)) = (leaf.reads_strictly b l bytes fits).exact.1 (fit, is) in leaf_by e bad many path_at
+  leaf_told : (l : Leaf) (e : DecoderError) → leaf.Fits l → b ≡ encoding (leaf.item l) → ¬ IsNodeFault b e
+  leaf_told l e fit is bad =
+      let (many, (path_at, value_at)) = (leaf.reads_strictly b l bytes fits).exact.1 (fit, is) in
+      leaf_by e bad many (path_by 2 l.path (item_at (strict_view_of b) 0) refl path_at)
     where
-      leaf_by : (e : DecoderError) → IsNodeFault b e → item_count (strict_view_of b) ≡ Ok 2 → GivesAt GivesBytes (strict_view_of b) 0 (vec_items l.path) → ⊥
-      leaf_by e (no_list f none) many path_at = cc
-      leaf_by e (other_length n same not_two not_many) many path_at = not_two (let two : n ≡ 2 = cc in two)
-      leaf_by e (faulty_branch f same bad) many path_at = cc
-      leaf_by e (no_path f same bad) many path_at =
-          (leaf.reads_strictly b l bytes fits).sound fit is f (faulty_item 2 0 f same (all_items_right 2)
-          (record { few = omega arith; before = λ j none. absurd (omega (arith, none)); fault = bad }))
-      leaf_by e (no_mark p f has none custom) many path_at =
-          let same : p ≡ vec_items l.path = one_path p (vec_items l.path) has.path_at path_at in
-          let other : path_mark p ≡ Some OfLeaf = ap path_mark same ∙ mark in cc
-      leaf_by e (faulty_leaf p f has is_leaf bad) many path_at = (leaf.reads_strictly b l bytes fits).sound fit is f bad
-      leaf_by e (faulty_extension p f has is_extension bad) many path_at =
-          let same : p ≡ vec_items l.path = one_path p (vec_items l.path) has.path_at path_at in
-          let other : path_mark p ≡ Some OfLeaf = ap path_mark same ∙ mark in cc
+      leaf_by : (e : DecoderError) → IsNodeFault b e → item_count (strict_view_of b) ≡ Ok 2 → begins_as_leaf b ≡ true → ⊥
+      leaf_by e (no_list f none) many is_leaf = cc
+      leaf_by e (other_length n same not_two not_many) many is_leaf = not_two (let two : n ≡ 2 = cc in two)
+      leaf_by e (faulty_branch f same bad) many is_leaf = cc
+      leaf_by e (faulty_leaf f same kind bad) many is_leaf = (leaf.reads_strictly b l bytes fits).sound fit is f bad
+      leaf_by e (faulty_extension f same kind bad) many is_leaf = cc
 
-  -- an extension whose path has its mark has no fault
-  extension_told : (x : Extension) (e : DecoderError) → IsTrieNode (node.Extension x) → b ≡ encoding (extension.item x) → ¬ IsNodeFault b e
-  extension_told x e (fit, mark) is bad =
-      let (many, (path_at, child_at)) = (extension.reads_strictly b x bytes fits).exact.1 (fit, is) in extension_by e bad many path_at
+  extension_told : (x : Extension) (e : DecoderError) → extension.Fits x → b ≡ encoding (extension.item x) → ¬ IsNodeFault b e
+  extension_told x e fit is bad =
+      let (many, (path_at, child_at)) = (extension.reads_strictly b x bytes fits).exact.1 (fit, is) in
+      extension_by e bad many (path_by 0 x.path (item_at (strict_view_of b) 0) refl path_at)
     where
-      extension_by : (e : DecoderError) → IsNodeFault b e → item_count (strict_view_of b) ≡ Ok 2 → GivesAt GivesBytes (strict_view_of b) 0 (vec_items x.path) → ⊥
-      extension_by e (no_list f none) many path_at = cc
-      extension_by e (other_length n same not_two not_many) many path_at = not_two (let two : n ≡ 2 = cc in two)
-      extension_by e (faulty_branch f same bad) many path_at = cc
-      extension_by e (no_path f same bad) many path_at =
-          (extension.reads_strictly b x bytes fits).sound fit is f (faulty_item 2 0 f same (all_items_right 2)
-          (record { few = omega arith; before = λ j none. absurd (omega (arith, none)); fault = bad }))
-      extension_by e (no_mark p f has none custom) many path_at =
-          let same : p ≡ vec_items x.path = one_path p (vec_items x.path) has.path_at path_at in
-          let other : path_mark p ≡ Some OfExtension = ap path_mark same ∙ mark in cc
-      extension_by e (faulty_leaf p f has is_leaf bad) many path_at =
-          let same : p ≡ vec_items x.path = one_path p (vec_items x.path) has.path_at path_at in
-          let other : path_mark p ≡ Some OfExtension = ap path_mark same ∙ mark in cc
-      extension_by e (faulty_extension p f has is_extension bad) many path_at = (extension.reads_strictly b x bytes fits).sound fit is f bad
+      extension_by : (e : DecoderError) → IsNodeFault b e → item_count (strict_view_of b) ≡ Ok 2 → begins_as_leaf b ≡ false → ⊥
+      extension_by e (no_list f none) many is_extension = cc
+      extension_by e (other_length n same not_two not_many) many is_extension = not_two (let two : n ≡ 2 = cc in two)
+      extension_by e (faulty_branch f same bad) many is_extension = cc
+      extension_by e (faulty_leaf f same kind bad) many is_extension = cc
+      extension_by e (faulty_extension f same kind bad) many is_extension = (extension.reads_strictly b x bytes fits).sound fit is f bad
 
-  -- a branch has no fault
   branch_told : (x : Branch) (e : DecoderError) → branch.Fits x → b ≡ encoding (branch.item x) → ¬ IsNodeFault b e
   branch_told x e fit is bad = branch_by e bad ((branch.reads_strictly b x bytes fits).exact.1 (fit, is)).0
     where
@@ -88,11 +68,10 @@ module _ (b : List ℕ) (bytes : AreBytes b) (fits : length b < 2 ^ 64) where
       branch_by e (no_list f none) many = cc
       branch_by e (other_length n same not_two not_many) many = not_many (let all : n ≡ 17 = cc in all)
       branch_by e (faulty_branch f same bad) many = (branch.reads_strictly b x bytes fits).sound fit is f bad
-      branch_by e (no_path f same bad) many = cc
-      branch_by e (no_mark p f has none custom) many = let two = has.many in cc
-      branch_by e (faulty_leaf p f has is_leaf bad) many = let two = has.many in cc
-      branch_by e (faulty_extension p f has is_extension bad) many = let two = has.many in cc
+      branch_by e (faulty_leaf f same kind bad) many = cc
+      branch_by e (faulty_extension f same kind bad) many = cc
 
+  -- the encoding of a node has no fault
   node_told : (n : TrieNode) (e : DecoderError) → IsTrieNode n → b ≡ encoding (node_item n) → ¬ IsNodeFault b e
   node_told (node.Leaf l) e is whole = leaf_told l e is whole
   node_told (node.Extension x) e is whole = extension_told x e is whole
@@ -133,30 +112,16 @@ pub branch_fails : (b : List ℕ) (e : DecoderError) → item_count (strict_view
 branch_fails b e many (inl (bytes, bad)) = inl (faulty_branch e many bad)
 branch_fails b e many (inr (lacks, may)) = inr (lacks, lacks_branch may)
 
-pub leaf_fails : (b path : List ℕ) (e : DecoderError) → HasPath (strict_view_of b) path → path_mark path ≡ Some OfLeaf
+pub leaf_fails : (b : List ℕ) (e : DecoderError) → item_count (strict_view_of b) ≡ Ok 2 → begins_as_leaf b ≡ true
     → (AreBytes b × leaf.faults (strict_view_of b) e) ⊎ ((e ≡ OutOfMemory) × leaf.may_lack (strict_view_of b))
     → IsNodeFault b e ⊎ ((e ≡ OutOfMemory) × MayLackInNode b)
-leaf_fails b path e has mark (inl (bytes, bad)) = inl (faulty_leaf path e has mark bad)
-leaf_fails b path e has mark (inr (lacks, may)) = inr (lacks, lacks_leaf path has mark may)
+leaf_fails b e many kind (inl (bytes, bad)) = inl (faulty_leaf e many kind bad)
+leaf_fails b e many kind (inr (lacks, may)) = inr (lacks, lacks_leaf kind may)
 
-pub extension_fails : (b path : List ℕ) (e : DecoderError) → HasPath (strict_view_of b) path → path_mark path ≡ Some OfExtension
+pub extension_fails : (b : List ℕ) (e : DecoderError) → item_count (strict_view_of b) ≡ Ok 2 → begins_as_leaf b ≡ false
     → (AreBytes b × extension.faults (strict_view_of b) e) ⊎ ((e ≡ OutOfMemory) × extension.may_lack (strict_view_of b))
     → IsNodeFault b e ⊎ ((e ≡ OutOfMemory) × MayLackInNode b)
-extension_fails b path e has mark (inl (bytes, bad)) = inl (faulty_extension path e has mark bad)
-extension_fails b path e has mark (inr (lacks, may)) = inr (lacks, lacks_extension path has mark may)
+extension_fails b e many kind (inl (bytes, bad)) = inl (faulty_extension e many kind bad)
+extension_fails b e many kind (inr (lacks, may)) = inr (lacks, lacks_extension kind may)
 
--- bytes that were read as a leaf or an extension are a node, if the path's mark is that of the kind
-pub leaf_given : (b path : List ℕ) (l : Leaf) → AreBytes b → length b < 2 ^ 64 → HasPath (strict_view_of b) path → path_mark path ≡ Some OfLeaf
-    → leaf.Fits l × (b ≡ encoding (leaf.item l)) → IsTrieNode (node.Leaf l) × (b ≡ encoding (node_item (node.Leaf l)))
-leaf_given b path l bytes fits has mark (fit, is) =
-    let given = (leaf.reads_strictly b l bytes fits).exact.1 (fit, is) in
-    ((fit, ap path_mark (one_path b bytes fits (vec_items l.path) path given.1.0 has.path_at) ∙ mark), is)
-
-pub extension_given : (b path : List ℕ) (x : Extension) → AreBytes b → length b < 2 ^ 64 → HasPath (strict_view_of b) path
-    → path_mark path ≡ Some OfExtension
-    → extension.Fits x × (b ≡ encoding (extension.item x)) → IsTrieNode (node.Extension x) × (b ≡ encoding (node_item (node.Extension x)))
-extension_given b path x bytes fits has mark (fit, is) =
-    let given = (extension.reads_strictly b x bytes fits).exact.1 (fit, is) in
-    ((fit, ap path_mark (one_path b bytes fits (vec_items x.path) path given.1.0 has.path_at) ∙ mark), is)
-
-pub ruleset node_reading = (no_list, other_length, no_path, no_mark, node_given, node_fails, branch_fails, leaf_fails, extension_fails, unframed_node, bytes_held)
+pub ruleset node_reading = (no_list, other_length, node_given, node_fails, branch_fails, leaf_fails, extension_fails, unframed_node, bytes_held)

@@ -1,13 +1,13 @@
 //! Children of nodes of the trie.
 
-ghost use Rattle.std.specs.Prelude.{◌≡◌, ◌⊎◌, ◌↔◌, IfErr, IfOk, IsTrue};
+ghost use Rattle.std.specs.Prelude.{◌≡◌, ◌⊎◌, ⊤, IfErr, IfOk};
 ghost use Rattle.rlp.specs.DecoderError.TheVariants.{OutOfMemory};
 ghost use Rattle.rlp.specs.Format.Encoding.{encoding};
-ghost use Rattle.rlp.specs.Values.RawItem.{IsRawItem};
-ghost use Rattle.rlp_ethereum.specs.Child.{IsChild, IsChildFault, IsInlineNode, child_item};
+ghost use Rattle.rlp_ethereum.specs.Child.{IsChild, IsChildFault, child_item};
 ghost use Rattle.rlp_ethereum.specs.ChildLaws.{child};
+ghost use Rattle.rlp_ethereum.specs.Inline.{IsInlineNode};
 
-use crate::Hash;
+use crate::{Hash, InlineNode};
 use rlp::{Decodable, DecoderError, Encodable, RawItem, Rlp, RlpStream, RoundTrip, StrictRead};
 use std::alloc::{AllocError, Global};
 
@@ -21,8 +21,8 @@ pub enum Child {
     Nothing,
     /// The node with this hash.
     Node(Hash),
-    /// A node that is kept in its parent: a list of fewer than 32 bytes with its header.
-    Inline(RawItem),
+    /// A node that is kept in its parent.
+    Inline(InlineNode),
 }
 
 impl Encodable for Child {
@@ -30,17 +30,14 @@ impl Encodable for Child {
 
     ghost fits = { child.Fits };
 
+    ghost at_once = { λ _. ⊤ };
+
     #[tactic(auto, using(rlp::proofs::Writing::writing))]
     fn rlp_append(&self, s: &mut RlpStream) -> Result<(), AllocError> {
         match self {
             Child::Nothing => s.encoder().encode_value(&[]),
             Child::Node(hash) => s.encoder().encode_value(&hash.0),
-            Child::Inline(node) => {
-                if !is_inline_node(node) {
-                    return Err(AllocError);
-                }
-                node.rlp_append(s)
-            }
+            Child::Inline(node) => node.item.rlp_append(s),
         }
     }
 }
@@ -81,7 +78,7 @@ impl StrictRead for Child {
 fn child_of(alloc: Global, bytes: &[u8]) -> Result<Child, DecoderError>
     ensures value { IfOk result (λ c. IsChild c × (bytes.now ≡ encoding (child_item c))) }
     ensures fault { IfErr result (λ e. IsChildFault bytes.now e
-        ⊎ ((e ≡ OutOfMemory) × IsRawItem bytes.now)) }
+        ⊎ ((e ≡ OutOfMemory) × IsInlineNode bytes.now)) }
 {
     let view = Rlp::new_strict(bytes);
     if view.is_list() {
@@ -89,7 +86,7 @@ fn child_of(alloc: Global, bytes: &[u8]) -> Result<Child, DecoderError>
             return Err(DecoderError::RlpIsTooBig);
         }
         return match RawItem::new(alloc, bytes) {
-            Ok(node) => Ok(Child::Inline(node)),
+            Ok(item) => Ok(Child::Inline(InlineNode { item })),
             Err(fault) => Err(fault),
         };
     }
@@ -105,11 +102,4 @@ fn child_of(alloc: Global, bytes: &[u8]) -> Result<Child, DecoderError>
         Err(_) if string.len() < 32 => Err(DecoderError::RlpIsTooShort),
         Err(_) => Err(DecoderError::RlpIsTooBig),
     }
-}
-
-/// Returns whether a raw item is a list of fewer than 32 bytes.
-fn is_inline_node(node: &RawItem) -> bool
-    ensures { IsTrue result ↔ IsInlineNode node.now }
-{
-    node.rlp().is_list() && node.as_bytes().len() < 32
 }

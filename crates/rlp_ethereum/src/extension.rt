@@ -2,7 +2,7 @@
 
 ghost use Rattle.rlp_ethereum.specs.Trie.{extension};
 
-use crate::Child;
+use crate::{Child, ExtensionPath};
 use rlp::{Decodable, DecoderError, Encodable, Rlp, RlpStream, RoundTrip, StrictRead};
 use std::alloc::{AllocError, Global};
 
@@ -11,9 +11,8 @@ use std::alloc::{AllocError, Global};
 /// See appendix D of the yellow paper.
 #[derive(Debug, PartialEq, Eq, Drop)]
 pub struct Extension {
-    /// A part of the path, hex-prefix encoded: two digits in each byte, after the mark of an
-    /// extension in the first byte. It may be any bytes: the mark isn't tested.
-    pub path: Vec<u8>,
+    /// A part of the path.
+    pub path: ExtensionPath,
     /// The node at the end of this part, which is a branch.
     pub child: Child,
 }

@@ -1,13 +1,13 @@
 //! Headers of the blocks of all forks up to Prague.
 
 ghost use Rattle.std.specs.Option.{option_copied};
-ghost use Rattle.std.specs.Prelude.{◌≡◌, option_map};
-ghost use Rattle.rlp_ethereum.specs.Header.{since_cancun, since_prague, since_shanghai, header};
+ghost use Rattle.std.specs.Prelude.{◌≡◌};
+ghost use Rattle.rlp_ethereum.specs.Header.{since_cancun, since_shanghai, header};
 
 mod forks;
 
 use crate::{Address, Bloom, Hash};
-pub use forks::{Cancun, London, Prague, Shanghai};
+pub use forks::{Cancun, London, Shanghai};
 use rlp::{
     Decodable, DecoderError, Encodable, OptionalGroupOf, Rlp, RlpStream, RoundTrip, StrictRead,
     Uint,
@@ -18,10 +18,8 @@ use std::alloc::{AllocError, Global};
 ///
 /// See section 4.4 of the yellow paper, and the EIPs of the fields. A list of 15 items is a header
 /// of the first forks, and one of 16, 17, 20 or 21 items is a header since [`London`], [`Shanghai`],
-/// [`Cancun`] or [`Prague`]. A list with any other number of items fails with
-/// `RlpIncorrectListLen`. No header has the fields of a fork without those of an earlier one.
-///
-/// The methods give the fields of forks, which stand in one another.
+/// [`Cancun`] or Prague. A list with any other number of items fails with `RlpIncorrectListLen`. No
+/// header has the fields of a fork without those of an earlier one: they stand in one another.
 #[derive(Drop)]
 pub struct Header {
     /// The hash of the parent's header.
@@ -59,8 +57,8 @@ pub struct Header {
 }
 
 impl Header {
-    /// What came with Shanghai and later.
-    fn shanghai(&self) -> Option<&Shanghai>
+    /// What came with Shanghai and later, or `None` in blocks before Shanghai.
+    pub fn shanghai(&self) -> Option<&Shanghai>
         ensures { option_copied result ≡ since_shanghai self.now }
     {
         match &self.since_london {
@@ -69,83 +67,12 @@ impl Header {
         }
     }
 
-    /// What came with Cancun and later.
-    fn cancun(&self) -> Option<&Cancun>
+    /// What came with Cancun and later, or `None` in blocks before Cancun.
+    pub fn cancun(&self) -> Option<&Cancun>
         ensures { option_copied result ≡ since_cancun self.now }
     {
         match self.shanghai() {
             Some(shanghai) => shanghai.since_cancun.as_ref(),
-            None => None,
-        }
-    }
-
-    /// What came with Prague.
-    fn prague(&self) -> Option<&Prague>
-        ensures { option_copied result ≡ since_prague self.now }
-    {
-        match self.cancun() {
-            Some(cancun) => cancun.since_prague.as_ref(),
-            None => None,
-        }
-    }
-
-    /// The base fee of a unit of gas, in Wei. Since London, EIP-1559.
-    pub fn base_fee_per_gas(&self) -> Option<&Uint<32>>
-        ensures { option_copied result ≡ option_map (λ l. l.base_fee_per_gas) self.now.since_london }
-    {
-        match &self.since_london {
-            Some(london) => Some(&london.base_fee_per_gas),
-            None => None,
-        }
-    }
-
-    /// The root of the trie of the block's withdrawals. Since Shanghai, EIP-4895.
-    pub fn withdrawals_root(&self) -> Option<&Hash>
-        ensures { option_copied result ≡ option_map (λ s. s.withdrawals_root) (since_shanghai self.now) }
-    {
-        match self.shanghai() {
-            Some(shanghai) => Some(&shanghai.withdrawals_root),
-            None => None,
-        }
-    }
-
-    /// The blob gas that the block's transactions used. Since Cancun, EIP-4844.
-    pub fn blob_gas_used(&self) -> Option<&u64>
-        ensures { option_copied result ≡ option_map (λ c. c.blob_gas_used) (since_cancun self.now) }
-    {
-        match self.cancun() {
-            Some(cancun) => Some(&cancun.blob_gas_used),
-            None => None,
-        }
-    }
-
-    /// The blob gas above the target, summed over the blocks so far. Since Cancun, EIP-4844.
-    pub fn excess_blob_gas(&self) -> Option<&u64>
-        ensures { option_copied result ≡ option_map (λ c. c.excess_blob_gas) (since_cancun self.now) }
-    {
-        match self.cancun() {
-            Some(cancun) => Some(&cancun.excess_blob_gas),
-            None => None,
-        }
-    }
-
-    /// The root of the parent's block of the beacon chain. Since Cancun, EIP-4788.
-    pub fn parent_beacon_block_root(&self) -> Option<&Hash>
-        ensures { option_copied result
-            ≡ option_map (λ c. c.parent_beacon_block_root) (since_cancun self.now) }
-    {
-        match self.cancun() {
-            Some(cancun) => Some(&cancun.parent_beacon_block_root),
-            None => None,
-        }
-    }
-
-    /// The hash of the block's requests. Since Prague, EIP-7685.
-    pub fn requests_hash(&self) -> Option<&Hash>
-        ensures { option_copied result ≡ option_map (λ p. p.requests_hash) (since_prague self.now) }
-    {
-        match self.prague() {
-            Some(prague) => Some(&prague.requests_hash),
             None => None,
         }
     }

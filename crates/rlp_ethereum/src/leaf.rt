@@ -2,6 +2,7 @@
 
 ghost use Rattle.rlp_ethereum.specs.Trie.{leaf};
 
+use crate::LeafPath;
 use rlp::{Decodable, DecoderError, Encodable, Rlp, RlpStream, RoundTrip, StrictRead};
 use std::alloc::{AllocError, Global};
 
@@ -10,9 +11,8 @@ use std::alloc::{AllocError, Global};
 /// See appendix D of the yellow paper.
 #[derive(Debug, PartialEq, Eq, Drop)]
 pub struct Leaf {
-    /// The rest of the path, hex-prefix encoded: two digits in each byte, after the mark of a leaf
-    /// in the first byte. It may be any bytes: the mark isn't tested.
-    pub path: Vec<u8>,
+    /// The rest of the path.
+    pub path: LeafPath,
     /// The value.
     pub value: Vec<u8>,
 }

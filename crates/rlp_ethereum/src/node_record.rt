@@ -1,6 +1,7 @@
 //! Node records, whose keys are in order and whose size is within the limit.
 
 ghost use Rattle.std.specs.Prelude.{◌≡◌, ◌⊎◌, ◌↔◌, IfOk, IfErr, OnOk, IsTrue, length};
+ghost use Rattle.std.specs.Vec.{vec_items};
 ghost use Rattle.rlp.specs.DecoderError.TheVariants.{OutOfMemory};
 ghost use Rattle.rlp.specs.Format.Encoding.{encoding};
 ghost use Rattle.rlp.specs.Views.View.{strict_view_of};
@@ -47,23 +48,24 @@ impl NodeRecord {
 
     /// The node record with these fields.
     ///
-    /// Fails with `RlpIsTooBig` if the encoding has more than [`NodeRecord::MAX_LEN`] bytes, and
-    /// with `Custom("keys are not in order")` if a key isn't after the one before it, in the order
-    /// of their bytes. Fails with `OutOfMemory` if memory is refused.
-    #[tactic(auto, using(crate::specs::NodeRecord::fields_too_long))]
+    /// Fails with `Custom("keys are not in order")` if a key isn't after the one before it, in the
+    /// order of their bytes. Else it fails with `RlpIsTooBig` if the encoding has more than
+    /// [`NodeRecord::MAX_LEN`] bytes, and with `OutOfMemory` if memory is refused.
+    #[tactic(auto, using(crate::specs::NodeLaws::fields_in_order))]
     pub fn new(alloc: Global, fields: NodeFields) -> Result<NodeRecord, DecoderError>
         ensures value { IfOk result (λ r. (r ≡ fields) × IsNodeRecord fields) }
-        ensures fault { IfErr result (λ e. (IsFieldsFault fields e) ⊎ (e ≡ OutOfMemory)) }
+        ensures fault { IfErr result (λ e. IsFieldsFault fields e
+            ⊎ ((e ≡ OutOfMemory) × AreInOrder (vec_items fields.pairs))) }
     {
+        if !are_in_order(fields.pairs.as_slice()) {
+            return Err(DecoderError::Custom("keys are not in order"));
+        }
         let bytes = match rlp::encode(alloc, &fields) {
             Ok(bytes) => bytes,
             Err(_) => return Err(DecoderError::OutOfMemory),
         };
         if bytes.len() > NodeRecord::MAX_LEN {
             return Err(DecoderError::RlpIsTooBig);
-        }
-        if !are_in_order(fields.pairs.as_slice()) {
-            return Err(DecoderError::Custom("keys are not in order"));
         }
         Ok(NodeRecord { fields })
     }

@@ -1,6 +1,6 @@
 //! Recipients of transactions: a string of 20 bytes, or the empty string.
 
-ghost use Rattle.std.specs.Prelude.{◌≡◌, IfErr, IfOk};
+ghost use Rattle.std.specs.Prelude.{◌≡◌, ⊤, IfErr, IfOk};
 ghost use Rattle.rlp_ethereum.specs.Recipient.{IsRecipient, IsRecipientFault, recipient_bytes, recipient};
 
 use crate::Address;
@@ -23,6 +23,8 @@ impl Encodable for Recipient {
     ghost item = { recipient.item };
 
     ghost fits = { recipient.Fits };
+
+    ghost at_once = { λ _. ⊤ };
 
     #[tactic(auto, using(rlp::proofs::Writing::writing))]
     fn rlp_append(&self, s: &mut RlpStream) -> Result<(), AllocError> {

@@ -20,6 +20,7 @@ use crate::legacy_transaction::LegacyTransaction;
 use crate::log::Log;
 use crate::node_fields::NodeFields;
 use crate::node_record::NodeRecord;
+use crate::path::Path;
 use crate::receipt::Receipt;
 use crate::recipient::Recipient;
 use crate::set_code_transaction::SetCodeTransaction;
@@ -81,6 +82,8 @@ impl Record for Receipt {}
 impl Record for Account {}
 
 impl Record for Child {}
+
+impl<const KIND: u8> Record for Path<KIND> {}
 
 impl Record for Leaf {}
 

@@ -44,24 +44,33 @@ fn digits_of(hash: Option<&Hash>) -> &[u8] {
 /// Shanghai.
 fn has_withdrawals(alloc: Global, bytes: &[u8]) -> Result<bool, DecoderError> {
     let header = rlp::decode_strict::<Header>(alloc, bytes)?;
-    Ok(header.withdrawals_root().is_some())
+    Ok(header.shanghai().is_some())
 }
 
 /// Returns the length of a header, its number, and the fields that it has since London.
 pub(crate) fn forks(alloc: Global, bytes: &[u8]) -> Result<String, Fail> {
     let header = rlp::decode_strict::<Header>(alloc, bytes)?;
-    let fee = match header.base_fee_per_gas() {
-        Some(fee) => fee.bytes.as_slice(),
+    let fee = match &header.since_london {
+        Some(london) => london.base_fee_per_gas.bytes.as_slice(),
         None => b"".as_slice(),
+    };
+    let withdrawals = header.shanghai().map(|shanghai| &shanghai.withdrawals_root);
+    let (used, excess, root, requests) = match header.cancun() {
+        Some(cancun) => (
+            Some(cancun.blob_gas_used),
+            Some(cancun.excess_blob_gas),
+            Some(&cancun.parent_beacon_block_root),
+            cancun.requests_hash.as_ref(),
+        ),
+        None => (None, None, None, None),
     };
     let words = [
         fee,
-        digits_of(header.withdrawals_root()),
-        digits_of(header.parent_beacon_block_root()),
-        digits_of(header.requests_hash()),
+        digits_of(withdrawals),
+        digits_of(root),
+        digits_of(requests),
     ];
     let text = spelled(alloc, &words)?;
-    let (used, excess) = (header.blob_gas_used(), header.excess_blob_gas());
     let (len, number, has_root) = (bytes.len(), header.number, has_withdrawals(alloc, bytes)?);
     Ok(format!(in alloc; "{len} {number} {has_root} {used:?} {excess:?} {text}")?)
 }
@@ -218,10 +227,10 @@ pub(crate) fn receipts(alloc: Global, bytes: &[u8]) -> Result<String, Fail> {
 pub(crate) fn node(alloc: Global, bytes: &[u8]) -> Result<String, Fail> {
     let node = rlp::decode_strict::<TrieNode>(alloc, bytes)?;
     let (kind, path, child) = match &node {
-        TrieNode::Leaf(leaf) => ("leaf", leaf.path.as_slice(), None),
+        TrieNode::Leaf(leaf) => ("leaf", leaf.path.bytes.as_slice(), None),
         TrieNode::Extension(extension) => (
             "extension",
-            extension.path.as_slice(),
+            extension.path.bytes.as_slice(),
             hash_of(&extension.child),
         ),
         TrieNode::Branch(_) => ("branch", b"".as_slice(), None),

@@ -29,16 +29,24 @@ pub(crate) const ROWS: &str = "
     NodeRecord | c6800161056105 | Custom(\"keys are not in order\")
     NodeRecord | c58001618105 | Custom(\"item is not canonical\")
 
-    A record with one key of these bytes: the longest one has 300 bytes.
+    A record of 17 pairs.
+    NodeRecord | e48001+6180+6280+6380+6480+6580+6680+6780+6880+6980+6a80+6b80+6c80+6d80+6e80+6f80\
+     +7080+7180
+
+    A record with one key of these bytes: the longest one has 300 bytes. The order of two keys is
+    tested before the length.
     node record: of the key | 61*291 | both ways, 300
     node record: of the key | 61*292 | RlpIsTooBig
+    node record: of the key, twice | 61 | Custom(\"keys are not in order\")
+    node record: of the key, twice | 61*300 | Custom(\"keys are not in order\")
 ";
 
 /// Returns what a call about a node record answers.
 pub(crate) fn answer(alloc: Global, name: &str, bytes: &[u8]) -> Result<String, Fail> {
     match name {
         "fields" => fields(alloc, bytes),
-        _ => of_the_key(alloc, bytes),
+        "of the key" => of_the_keys(alloc, &[bytes]),
+        _ => of_the_keys(alloc, &[bytes, bytes]),
     }
 }
 
@@ -63,16 +71,19 @@ fn spelled_pairs(alloc: Global, pairs: &[NodePair]) -> Result<String, Fail> {
     spelled(alloc, words.as_slice())
 }
 
-/// Returns what is answered about a record with one pair, of this key and the empty list.
-fn of_the_key(alloc: Global, key: &[u8]) -> Result<String, Fail> {
-    let pair = NodePair {
-        key: Vec::from_slice(alloc, key)?,
-        value: RawItem::new(alloc, &[0xc0])?,
-    };
+/// Returns what is answered about a record with these keys, whose values are empty lists.
+fn of_the_keys(alloc: Global, keys: &[&[u8]]) -> Result<String, Fail> {
+    let mut pairs = Vec::new(alloc);
+    for key in keys {
+        pairs.push(NodePair {
+            key: Vec::from_slice(alloc, *key)?,
+            value: RawItem::new(alloc, &[0xc0])?,
+        })?;
+    }
     let fields = NodeFields {
         signature: Vec::new(alloc),
         sequence: 1,
-        pairs: Vec::from_array(alloc, [pair])?,
+        pairs,
     };
     match NodeRecord::new(alloc, fields) {
         Ok(record) => {

@@ -1,22 +1,24 @@
 //! Nodes of the trie. Unless a comment says otherwise, the expected bytes were worked out by the
 //! rules of the format.
 
-use crate::reading::{Item, Reading, digits, is_fault, written};
+use crate::reading::{Item, Reading, digits, fault, is_fault, written};
 use bytes::BytesMut;
-use rlp::{DecoderError, RawItem};
-use rlp_ethereum::{Branch, Child, Extension, Hash, Leaf, TrieNode};
+use rlp::{DecoderError, Encodable, RawItem};
+use rlp_ethereum::{
+    Branch, Child, Extension, ExtensionPath, Hash, InlineNode, Leaf, LeafPath, TrieNode,
+};
 use std::alloc::{AllocError, Global};
 use std::test::Fail;
 
 /// Rows of nodes.
 pub(crate) const ROWS: &str = "
     Children: nothing, a hash, and the longest node that is kept in its parent, of 31 bytes with its
-    header. A longer list and a string aren't written as a child.
+    header. A longer list and a string are no such node.
     node: nothing | 80
     node: hash | a0+11*32
     node: kept | de209c+22*28
-    node: kept of | df209d+22*29 | refused
-    node: kept of | 05 | refused
+    node: kept of | df209d+22*29 | RlpIsTooBig
+    node: kept of | 05 | RlpExpectedToBeList
 
     Bytes that begin with no child: strings of 1 and 33 bytes, a long list, and a list with a longer
     spelling.
@@ -99,55 +101,67 @@ pub(crate) const ROWS: &str = "
     TrieNode | c3358105 | RlpInvalidIndirection
     TrieNode | d105+80*16 | RlpIsTooShort
 
-    A leaf with a path and the value coin, and an extension with a path to nothing, are written if
-    the path has the mark of their kind.
-    node: leaf by | 00 | refused
-    node: leaf by | 10 | refused
-    node: leaf by | 1f | refused
+    Leaves and extensions whose path has the mark of the other, or none.
+    Leaf | c20005 | Custom(\"path is that of another node\")
+    Leaf | c22105 | Custom(\"path is not hex-prefix encoded\")
+    Extension | c22080 | Custom(\"path is that of another node\")
+    Extension | c24080 | Custom(\"path is not hex-prefix encoded\")
+
+    A leaf with a path and the value coin, and an extension with a path to nothing. A path has the
+    mark of its node. The longest path of a key of 32 bytes has 33 bytes.
+    node: leaf by | 00 | Custom(\"path is that of another node\")
+    node: leaf by | 10 | Custom(\"path is that of another node\")
+    node: leaf by | 1f | Custom(\"path is that of another node\")
     node: leaf by | 20 | c62084636f696e
     node: leaf by | 30 | c63084636f696e
     node: leaf by | 3f | c63f84636f696e
     node: leaf by | 35 | c63584636f696e
-    node: leaf by | 21 | refused
-    node: leaf by |  | refused
+    node: leaf by | 21 | Custom(\"path is not hex-prefix encoded\")
+    node: leaf by |  | Custom(\"path is not hex-prefix encoded\")
+    TrieNode | e7a120+11*32+84636f696e
+    node: leaf by | 20+11*32 | e7a120111111111111111111111111111111111111111111111111111111111111111184\
+     636f696e
     node: extension by | 00 | c20080
     node: extension by | 10 | c21080
     node: extension by | 1f | c21f80
-    node: extension by | 20 | refused
-    node: extension by | 30 | refused
-    node: extension by | 3f | refused
-    node: extension by | 40 | refused
+    node: extension by | 20 | Custom(\"path is that of another node\")
+    node: extension by | 30 | Custom(\"path is that of another node\")
+    node: extension by | 3f | Custom(\"path is that of another node\")
+    node: extension by | 40 | Custom(\"path is not hex-prefix encoded\")
     node: extension by 17 to | dc808080808080c63584636f696e808080808080808080857075707079 | de17dc8\
      08080808080c63584636f696e808080808080808080857075707079
 ";
 
 /// Returns the child with these bytes.
 fn inline(alloc: Global, bytes: &[u8]) -> Result<Child, DecoderError> {
-    Ok(Child::Inline(RawItem::new(alloc, bytes)?))
+    let node = InlineNode::new(RawItem::new(alloc, bytes)?)?;
+    Ok(Child::Inline(node))
 }
 
-/// Returns the bytes of the leaf with this path and value.
-fn leaf(alloc: Global, path: &[u8], value: &[u8]) -> Result<BytesMut, AllocError> {
-    let leaf = Leaf {
-        path: Vec::from_slice(alloc, path)?,
-        value: Vec::from_slice(alloc, value)?,
-    };
-    rlp::encode(alloc, &leaf)
+/// Returns the leaf with this path and value.
+fn leaf(alloc: Global, path: &[u8], value: &[u8]) -> Result<Leaf, DecoderError> {
+    let path = LeafPath::new(alloc, path)?;
+    match Vec::from_slice(alloc, value) {
+        Ok(value) => Ok(Leaf { path, value }),
+        Err(_) => Err(DecoderError::OutOfMemory),
+    }
 }
 
-/// Returns the bytes of the leaf with this path and the value `coin`, as a node.
-fn leaf_node(alloc: Global, path: &[u8]) -> Result<BytesMut, AllocError> {
-    let leaf = Leaf {
-        path: Vec::from_slice(alloc, path)?,
-        value: Vec::from_slice(alloc, b"coin")?,
-    };
-    rlp::encode(alloc, &TrieNode::Leaf(leaf))
+/// Returns the extension by a path to a child.
+fn extension(alloc: Global, path: &[u8], child: Child) -> Result<Extension, DecoderError> {
+    let path = ExtensionPath::new(alloc, path)?;
+    Ok(Extension { path, child })
 }
 
-/// Returns the bytes of the extension by a path to a child.
-fn extension(alloc: Global, path: &[u8], child: Child) -> Result<BytesMut, AllocError> {
-    let path = Vec::from_slice(alloc, path)?;
-    rlp::encode(alloc, &TrieNode::Extension(Extension { path, child }))
+/// Returns the digits of what a value is written as, or the fault that there is in its place.
+fn written_of<T: Encodable + Drop>(
+    alloc: Global,
+    value: Result<T, DecoderError>,
+) -> Result<String, Fail> {
+    match value {
+        Ok(value) => digits(alloc, rlp::encode(alloc, &value)),
+        Err(found) => fault(alloc, &found),
+    }
 }
 
 /// Returns the bytes of the branch with a hash at place 1, a child at place 15 and a value.
@@ -211,10 +225,7 @@ pub(crate) fn answer(alloc: Global, name: &str, bytes: &[u8]) -> Result<String, 
             let child = inline(alloc, bytes)?;
             written::<Child>(alloc, rlp::encode(alloc, &child), bytes)
         }
-        "kept of" => {
-            let child = inline(alloc, bytes)?;
-            digits(alloc, rlp::encode(alloc, &child))
-        }
+        "kept of" => written_of(alloc, inline(alloc, bytes)),
         "branch of v" => written::<Branch>(alloc, branch(alloc, Child::Nothing, b"v"), bytes),
         "branch of verb" => {
             let last = Child::Node(Hash([0xff; 32]));
@@ -232,18 +243,22 @@ pub(crate) fn answer(alloc: Global, name: &str, bytes: &[u8]) -> Result<String, 
 /// Returns what a call about a leaf or an extension answers.
 fn short(alloc: Global, name: &str, bytes: &[u8]) -> Result<String, Fail> {
     match name {
-        "leaf of cat" => written::<Leaf>(alloc, leaf(alloc, &[0x20, 0x12], b"cat"), bytes),
-        "leaf of coin" => written::<Leaf>(alloc, leaf(alloc, &[0x35], b"coin"), bytes),
-        "leaf of stallion" => {
-            let leaf = leaf(alloc, b"\x20\x6f\x72\x73\x65", b"stallion");
-            written::<Leaf>(alloc, leaf, bytes)
-        }
+        "leaf of cat" => of_leaf(alloc, &[0x20, 0x12], b"cat", bytes),
+        "leaf of coin" => of_leaf(alloc, &[0x35], b"coin", bytes),
+        "leaf of stallion" => of_leaf(alloc, b"\x20\x6f\x72\x73\x65", b"stallion", bytes),
         "extension to the cat" => {
             let cat = inline(alloc, b"\xc7\x82\x20\x12\x83cat")?;
-            written::<Extension>(alloc, extension(alloc, &[0x11], cat), bytes)
+            let extension = extension(alloc, &[0x11], cat)?;
+            written::<Extension>(alloc, rlp::encode(alloc, &extension), bytes)
         }
-        "leaf by" => digits(alloc, leaf_node(alloc, bytes)),
-        "extension by" => digits(alloc, extension(alloc, bytes, Child::Nothing)),
-        _ => digits(alloc, extension(alloc, &[0x17], inline(alloc, bytes)?)),
+        "leaf by" => written_of(alloc, leaf(alloc, bytes, b"coin")),
+        "extension by" => written_of(alloc, extension(alloc, bytes, Child::Nothing)),
+        _ => written_of(alloc, extension(alloc, &[0x17], inline(alloc, bytes)?)),
     }
+}
+
+/// Returns what is answered about the bytes of a leaf.
+fn of_leaf(alloc: Global, path: &[u8], value: &[u8], bytes: &[u8]) -> Result<String, Fail> {
+    let leaf = leaf(alloc, path, value)?;
+    written::<Leaf>(alloc, rlp::encode(alloc, &leaf), bytes)
 }

@@ -2,7 +2,7 @@
 //! Python, made the expected bytes from the values of the fields. Those of the example of EIP-155
 //! are in the EIP.
 
-use crate::reading::{digits, written};
+use crate::reading::{Alone, digits, ways, written};
 use crate::text::{spelled, wide};
 use bytes::BytesMut;
 use rlp_ethereum::{
@@ -86,6 +86,17 @@ pub(crate) const ROWS: &str = "
      e10194888888888888888888888888888888888888888882012c81ff82999982aaaa
     signed: second authorization | SET_CODE | 05d90194888888888888888888888888888888888888888882012c
 
+    What is signed of transactions of types 0 to 4 with 256 bytes of data, and of one with 65,536
+    bytes: it is read and written as a transaction before it is signed, and has this length.
+    signed: payload, both ways | f9010b8080808080b90100+aa*256+800102 | both ways, 267
+    signed: payload, both ways | 01f9010d018080808080b90100+aa*256+c0800102 | both ways, 270
+    signed: payload, both ways | 02f9010e01808080808080b90100+aa*256+c0800102 | both ways, 271
+    signed: payload, both ways | 03f901240180808080+94+35*20+80b90100+aa*256+c080c0800102 | both ways, \
+     293
+    signed: payload, both ways | 04f901230180808080+94+35*20+80b90100+aa*256+c0c0800102 | both ways, 2\
+     92
+    signed: payload, both ways | 02fa01000f01808080808080ba010000+aa*65536+c0800102 | both ways, 65553
+
     Bytes that are no transaction by themselves.
     No bytes.
     Transaction alone |  | RlpIsTooShort
@@ -101,6 +112,8 @@ pub(crate) const ROWS: &str = "
     Bytes that are no transaction of a block.
     An empty string.
     Transaction | 80 | RlpIsTooShort
+    Type 1 without a payload.
+    Transaction | 01 | RlpExpectedToBeList
     Type 5.
     Transaction | 8205c0 | Custom(\"unknown transaction type\")
     A legacy list in a string.
@@ -267,6 +280,13 @@ pub(crate) fn answer(alloc: Global, name: &str, bytes: &[u8]) -> Result<String, 
             let text = spelled(alloc, &[&read.chain_id.bytes, &read.address.0])?;
             let nonce = read.nonce;
             Ok(format!(in alloc; "{text} {nonce}")?)
+        }
+        "payload, both ways" => {
+            let signed = Transaction::from_bytes(alloc, bytes)?;
+            let payload = payload(alloc, name, &signed)?;
+            let ways = ways::<Alone<UnsignedTransaction>>(alloc, payload.as_slice())?;
+            let len = payload.len();
+            Ok(format!(in alloc; "{ways}, {len}")?)
         }
         "without its signature" => {
             let unsigned = without_signature(Transaction::from_bytes(alloc, bytes)?);

@@ -37,7 +37,6 @@ use Rattle.rlp_ethereum.specs.declared.header.Header.{Header}
 use Rattle.rlp_ethereum.specs.declared.header.forks.London.{London}
 use Rattle.rlp_ethereum.specs.declared.header.forks.Shanghai.{Shanghai}
 use Rattle.rlp_ethereum.specs.declared.header.forks.Cancun.{Cancun}
-use Rattle.rlp_ethereum.specs.declared.header.forks.Prague.{Prague}
 use Rattle.rlp_ethereum.specs.Header.{header as header_codec}
 use Rattle.rlp_ethereum.specs.declared.address.Address.{Address}
 use Rattle.rlp_ethereum.specs.declared.bloom.Bloom.{Bloom}
@@ -317,5 +316,4 @@ header_display = record_display (
     field_display (codes "blob_gas_used") (λ (c : Cancun). c.blob_gas_used) (number_display 8) (
     field_display (codes "excess_blob_gas") (λ (c : Cancun). c.excess_blob_gas) (number_display 8) (
     field_display (codes "parent_beacon_block_root") (λ (c : Cancun). c.parent_beacon_block_root) hash_display (
-    optional_group_display (λ (c : Cancun). c.since_prague) (
-    field_display (codes "requests_hash") (λ (p : Prague). p.requests_hash) hash_display end_display) refl)))) refl)) refl)) refl))))))))))))))))
+    optional_display (codes "requests_hash") (λ (c : Cancun). c.requests_hash) hash_display)))) refl)) refl)) refl))))))))))))))))

@@ -3,12 +3,12 @@
 //! A fork's struct has its fields and, as an `Option`, the struct of the next fork. So a header has
 //! the fields of a fork only with those of each fork before it.
 
-ghost use Rattle.rlp_ethereum.specs.Forks.{london_fields, shanghai_fields, cancun_fields, prague_fields};
+ghost use Rattle.rlp_ethereum.specs.Forks.{london_fields, shanghai_fields, cancun_fields};
 
 use crate::Hash;
 use rlp::{
-    AppendFields, DecodeFields, Field, FieldFault, Fields, OptionalGroup, OptionalGroupOf,
-    RlpStream, Uint,
+    AppendFields, DecodeFields, Field, FieldFault, Fields, Optional, OptionalGroup,
+    OptionalGroupOf, RlpStream, Uint,
 };
 use std::alloc::{AllocError, Global};
 
@@ -114,7 +114,7 @@ impl DecodeFields for Shanghai {
     }
 }
 
-/// What a header has since Cancun: three fields, and those of later forks.
+/// What a header has since Cancun: three fields, and that of Prague.
 #[derive(Drop)]
 pub struct Cancun {
     /// The blob gas that the block's transactions used. EIP-4844.
@@ -123,8 +123,8 @@ pub struct Cancun {
     pub excess_blob_gas: u64,
     /// The root of the parent's block of the beacon chain. EIP-4788.
     pub parent_beacon_block_root: Hash,
-    /// What came with Prague and later, or `None` in blocks before Prague.
-    pub since_prague: Option<Prague>,
+    /// The hash of the block's requests, or `None` in blocks before Prague. EIP-7685.
+    pub requests_hash: Option<Hash>,
 }
 
 impl AppendFields for Cancun {
@@ -133,31 +133,23 @@ impl AppendFields for Cancun {
     ghost fit = { cancun_fields.Fits };
 
     fn field_count(&self) -> Option<usize> {
-        (
+        rlp::append_fields!([
             &self.blob_gas_used,
-            (
-                &self.excess_blob_gas,
-                (
-                    &self.parent_beacon_block_root,
-                    OptionalGroupOf(&self.since_prague),
-                ),
-            ),
-        )
-            .field_count()
+            &self.excess_blob_gas,
+            &self.parent_beacon_block_root,
+            Optional(&self.requests_hash)
+        ])
+        .field_count()
     }
 
     fn append_fields(&self, s: &mut RlpStream) -> Result<(), AllocError> {
-        (
+        rlp::append_fields!([
             &self.blob_gas_used,
-            (
-                &self.excess_blob_gas,
-                (
-                    &self.parent_beacon_block_root,
-                    OptionalGroupOf(&self.since_prague),
-                ),
-            ),
-        )
-            .append_fields(s)
+            &self.excess_blob_gas,
+            &self.parent_beacon_block_root,
+            Optional(&self.requests_hash)
+        ])
+        .append_fields(s)
     }
 }
 
@@ -167,7 +159,7 @@ impl DecodeFields for Cancun {
     fn accepts(len: usize) -> bool {
         <(
             Field<u64>,
-            (Field<u64>, (Field<Hash>, OptionalGroup<Prague>)),
+            (Field<u64>, (Field<Hash>, OptionalGroup<(Field<Hash>, ())>)),
         ) as DecodeFields>::accepts(len)
     }
 
@@ -184,45 +176,8 @@ impl DecodeFields for Cancun {
                 blob_gas_used,
                 excess_blob_gas,
                 parent_beacon_block_root,
-                since_prague: (..)?
+                requests_hash: ?
             }
         )
-    }
-}
-
-/// What a header has since Prague: one field.
-#[derive(Drop)]
-pub struct Prague {
-    /// The hash of the block's requests. EIP-7685.
-    pub requests_hash: Hash,
-}
-
-impl AppendFields for Prague {
-    ghost items = { prague_fields.items };
-
-    ghost fit = { prague_fields.Fits };
-
-    fn field_count(&self) -> Option<usize> {
-        (&self.requests_hash, ()).field_count()
-    }
-
-    fn append_fields(&self, s: &mut RlpStream) -> Result<(), AllocError> {
-        (&self.requests_hash, ()).append_fields(s)
-    }
-}
-
-impl DecodeFields for Prague {
-    ghost reading = { prague_fields.reading };
-
-    fn accepts(len: usize) -> bool {
-        <(Field<Hash>, ()) as DecodeFields>::accepts(len)
-    }
-
-    fn decode_fields(
-        alloc: Global,
-        fields: &mut Fields<'_>,
-        len: usize,
-    ) -> Result<Prague, FieldFault> {
-        rlp::decode_fields!(alloc, fields, len, Prague { requests_hash })
     }
 }
