@@ -15,7 +15,7 @@ pub struct Place {
     pub open_count: usize,
     /// The number of items that the innermost list awaits.
     pub awaits: Option<usize>,
-    /// Whether the item that was written last is counted already.
+    /// Whether the value that was just written is counted already.
     pub is_counted: bool,
 }
 

@@ -40,8 +40,8 @@ const STARTING_CAPACITY: usize = 1024;
 /// may nest. A closed list is one item of the list around it.
 ///
 /// Contracts see its state: the front, which is the bytes handed in, what was written after it, the
-/// open lists, and `is_counted`, which says whether the item that was written last is counted
-/// already. They also see how many more bytes the buffer takes without an
+/// open lists, and `is_counted`, which tells [`RlpStream::append`] whether the value that was just
+/// written is counted already. They also see how many more bytes the buffer takes without an
 /// allocation, and how many bytes of payload were moved to make place for headers. A refused call
 /// leaves the state as it was, including `is_counted`.
 ///
@@ -58,7 +58,7 @@ pub struct RlpStream {
     start: usize,
     // The open lists, from the outside in.
     lists: Vec<Placeholder>,
-    // Whether the item that was written last is counted already, as a closed list is.
+    // Whether the value that was just written is counted already, as a whole list is.
     is_counted: bool,
 }
 

@@ -5,9 +5,9 @@ use Rattle.rlp_format.specs.Format.Item.{Item, string, list}
 use Rattle.rlp_format.specs.Format.Encoding.{encoding}
 use Rattle.rlp_buffer.specs.Streams.Stack.{Stack, empty_stack, top, levels, stack_put, stack_with_list, stack_shut, stack_count, closed_payload, is_counted_after}
 
--- The front, which is the bytes handed in; the payloads and the open lists; and whether the item that was written last is counted already. A list counts itself
--- once it is whole, so what writes or closes a list makes `is_counted` true. A string doesn't: `append` makes `is_counted` false, lets the value be written, and
--- counts it if `is_counted` is false then.
+-- The front, which is the bytes handed in; the payloads and the open lists; and `is_counted`, which tells `append` whether the value that it let be written is
+-- counted already. A list counts itself once it is whole, so what writes or closes a list makes `is_counted` true. `append` makes it false before the value is
+-- written, and counts one item if it is false after it.
 pub record State : Type 0 where
   pub front : List ℕ
   pub stack : Stack ℕ
