@@ -101,11 +101,6 @@ answer-open calls size raw taken o =
     ap (λ (n : ℕ). open_answer n raw) o.closed ∙ ap (open_answer (closed_size s)) o.text ∙ sym (state_answer-open s.stack.lists s o.unfinished)
     ∙ sym (outcome-all calls s taken o.admitted)
 
--- the same, for a finished stream without a front
-pub state_answer-closed : (s : State) → s.stack.lists ≡ [] → s.front ≡ [] → finished_answer (s.front ++ s.stack.inner) ≡ state_answer s.stack.lists s
-state_answer-closed s closed none =
-    ap (λ (f : List ℕ). finished_answer (f ++ s.stack.inner)) none ∙ ap (λ (ls : List (OpenList ℕ)). state_answer ls s) (sym closed)
-
 -- a script whose calls are made has the answer of the state that they lead to
 pub answer-made : (text : List ℕ) (s : State) → MakesScript text s → state_answer s.stack.lists s ≡ calls_answer (script text)
 answer-made text s m = sym (outcome-all m.calls s m.made.taken m.made.admitted) ∙ ap calls_answer (sym m.says)

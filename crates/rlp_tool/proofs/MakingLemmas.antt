@@ -137,10 +137,6 @@ unfit_unmade c s place (NothingToFinish there) why = why
 unfit_unmade c s place (RawNotItems there) why = why
 unfit_unmade c s place OutOfMemory why = why.0
 
-pub unfit_anyhow : (c : Call) (s : State) (place : ℕ) (r : Result (Unit {0}) BuildFault) → IfErr r (IsUnfit c s place) → IfErr r (IsUnmade c s place)
-unfit_anyhow c s place (Ok end) why = tt
-unfit_anyhow c s place (Err fault) why = unfit_unmade c s place fault why
-
 stops_anyhow : (front : List ℕ) (calls : List Call) (fault : BuildFault) → Stops IsUnfit front calls fault → Stops IsUnmade front calls fault
 stops_anyhow front calls fault s = record {
   before = s.before;

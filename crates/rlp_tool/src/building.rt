@@ -122,6 +122,7 @@ fn admit_raw(stream: &RlpStream, bytes: &[u8], count: usize, place: usize) -> Re
 }
 
 /// Tests a call before it is made. `place` is its place.
+#[inline(always)]
 fn admit<E: Encodable>(
     stream: &RlpStream,
     call: &StreamCall<E>,
@@ -147,6 +148,7 @@ fn admit<E: Encodable>(
 }
 
 /// Makes a call that is admitted.
+#[inline(always)]
 fn make_call<E: Encodable>(stream: &mut RlpStream, call: &StreamCall<E>) -> Result<(), AllocError>
     requires { IsTrue (is_admitted (call_of E.item call.now) stream.old.state) }
     ensures ok { OnOk result
@@ -176,6 +178,7 @@ fn make_call<E: Encodable>(stream: &mut RlpStream, call: &StreamCall<E>) -> Resu
 }
 
 /// Tests a call and makes it. `place` is its place.
+#[inline(always)]
 pub(crate) fn take_call<E: Encodable>(
     stream: &mut RlpStream,
     call: &StreamCall<E>,
@@ -218,6 +221,7 @@ pub(crate) fn take_raw(
 
 /// Makes the calls `Finish` that wait. They are made at once where several lists in a row are
 /// unbounded, so that each byte moves only once. `place` is the place behind them.
+#[inline(always)]
 pub(crate) fn make_waiting(
     stream: &mut RlpStream,
     waiting: &mut usize,
