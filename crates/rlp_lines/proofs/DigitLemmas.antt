@@ -1,7 +1,7 @@
 -- Numbers and bytes as digits.
 use Rattle.std.proofs.Common.{◌≡◌, ◌≢◌, ℕ, zero, suc, inl, inr, ◌+◌, ◌*◌, ◌/◌, ◌%◌, slice_index, ◌^◌, ◌<◌, ◌≤◌, ◌&&◌, Bool, true, false, cond, nat_eq, nat_lt, IsTrue}
 use Rattle.std.proofs.Common.{List, [], ◌∷◌, ◌++◌, length, take, drop, Option, Some, None, Result, Ok, Err, refl, subst, sym, ap, ◌∙◌, append_assoc}
-use Rattle.std.proofs.Common.{arith, take-append-drop}
+use Rattle.std.proofs.Common.{arith, take-add, take-append-drop}
 use Rattle.std.specs.List.{list_all}
 use Rattle.std.specs.Char.{digit_value, is_ascii_digit}
 use Rattle.std.specs.Str.Parse.{digits_value, digits_value_after}
@@ -90,6 +90,12 @@ small_digit n c m e = small (is_ascii_digit c) (nat_lt (n * 10 + digit_value c) 
 pub pair_read : (high low x y i : ℕ) → hex_digit_value high ≡ Some x → hex_digit_value low ≡ Some y → pair_value high low i ≡ Ok (x * 16 + y)
 pair_read high low x y i h l = rw (ap (digit_or_error high i) h, ap (digit_or_error low (i + 1)) l) refl
 
+-- the byte of a text of two digits
+pub byte_read : (high low x y : ℕ) → hex_digit_value high ≡ Some x → hex_digit_value low ≡ Some y
+    → result_ok (decode_of (high ∷ low ∷ [])) ≡ Some ((x * 16 + y) ∷ [])
+unfolding decode_pairs
+byte_read high low x y h l = rw (pair_read high low x y 0 h l) refl
+
 -- all pairs of digits are decoded
 pub decoded : (digits out : List ℕ) (i n : ℕ) → length digits ≤ 2 * i → i ≡ n
     → decode_pairs 0 digits ≡ prepend (take i out) (decode_pairs (2 * i) (drop (2 * i) digits)) → decode_pairs 0 digits ≡ Ok (take n out)
@@ -166,16 +172,22 @@ unfolding encode_with
 encode_with-append t [] ys = refl
 encode_with-append t (b ∷ xs) ys = ap (λ (r : List ℕ). slice_index t (b / 16) ∷ slice_index t (b % 16) ∷ r) (encode_with-append t xs ys)
 
--- the digits of bytes that are cut in two
-pub encode_lower-cut : (rest front back : List ℕ) (n : ℕ) → front ≡ take n rest → back ≡ drop n rest
-    → encode_lower front ++ encode_lower back ≡ encode_lower rest
-encode_lower-cut rest front back n f b =
-    sym (encode_with-append lower_digits front back)
-    ∙ ap encode_lower (ap (λ (x : List ℕ). x ++ back) f ∙ ap (λ (x : List ℕ). take n rest ++ x) b ∙ take-append-drop n rest)
+pub printed-none : (old bytes : List ℕ) → old ≡ old ++ encode_lower (take 0 bytes)
+unfolding encode_with
+printed-none old bytes = sym (append-nil old)
 
--- the digits of the first bytes are printed, and those of the bytes after them are left
-pub printed-more : (before after old front back rest : List ℕ) (n : ℕ) → front ≡ take n rest → back ≡ drop n rest
-    → after ≡ before ++ encode_lower front → before ++ encode_lower rest ≡ old → after ++ encode_lower back ≡ old
-printed-more before after old front back rest n f b grown all =
-    ap (λ (x : List ℕ). x ++ encode_lower back) grown ∙ append_assoc before (encode_lower front) (encode_lower back)
-    ∙ ap (λ (x : List ℕ). before ++ x) (encode_lower-cut rest front back n f b) ∙ all
+-- the digits of the first n bytes, and then of k more
+pub printed-more : (old before after bytes rest front : List ℕ) (n k : ℕ) → before ≡ old ++ encode_lower (take n bytes) → rest ≡ drop n bytes
+    → front ≡ take k rest → after ≡ before ++ encode_lower front → after ≡ old ++ encode_lower (take (n + k) bytes)
+printed-more old before after bytes rest front n k so_far left is grown =
+    grown ∙ ap (λ (t : List ℕ). t ++ encode_lower front) so_far ∙ append_assoc old (encode_lower (take n bytes)) (encode_lower front)
+    ∙ ap (λ (t : List ℕ). old ++ t) (sym (encode_with-append lower_digits (take n bytes) front)
+    ∙ ap encode_lower (ap (λ (t : List ℕ). take n bytes ++ t) (is ∙ ap (take k) left) ∙ sym (take-add n k bytes)))
+
+-- the digits of the first n bytes, and then of the rest
+pub printed-all : (old before after bytes rest : List ℕ) (n : ℕ) → before ≡ old ++ encode_lower (take n bytes) → rest ≡ drop n bytes
+    → after ≡ before ++ encode_lower rest → after ≡ old ++ encode_lower bytes
+printed-all old before after bytes rest n so_far left grown =
+    grown ∙ ap (λ (t : List ℕ). t ++ encode_lower rest) so_far ∙ append_assoc old (encode_lower (take n bytes)) (encode_lower rest)
+    ∙ ap (λ (t : List ℕ). old ++ t) (sym (encode_with-append lower_digits (take n bytes) rest)
+    ∙ ap encode_lower (ap (λ (t : List ℕ). take n bytes ++ t) left ∙ take-append-drop n bytes))

@@ -228,15 +228,15 @@ pub last_piece-nil : last_piece [] ≡ []
 unfolding last_piece
 last_piece-nil = ap last_of pieces-nil
 
--- the first newline that a search finds
-pub first_newline : (bytes : List ℕ) (r : Option ℕ) → IsFirstByte (is_byte 10) bytes r → r ≡ position (λ byte. byte == 10) bytes
-first_newline bytes None h =
-    let all : position_or_len (λ byte. byte == 10) bytes ≡ length bytes = position_or_len_is (λ byte. byte == 10) bytes (length bytes) 0 (omega arith)
-    (λ k lt. is-false (get_or bytes k 0 == 10) (h k (omega arith) lt)) (λ lt. absurd (omega arith)) in
+-- the first such byte that a search finds
+pub first_byte : (a : ℕ) (bytes : List ℕ) (r : Option ℕ) → IsFirstByte (is_byte a) bytes r → r ≡ position (λ b. b == a) bytes
+first_byte a bytes None h =
+    let all : position_or_len (λ b. b == a) bytes ≡ length bytes = position_or_len_is (λ b. b == a) bytes (length bytes) 0 (omega arith)
+    (λ k lt. is-false (get_or bytes k 0 == a) (h k (omega arith) lt)) (λ lt. absurd (omega arith)) in
     grind (arith, all)
-first_newline bytes (Some at) h =
+first_byte a bytes (Some at) h =
     let first = h.0 in
-    let found : position_or_len (λ byte. byte == 10) bytes ≡ at = position_or_len_is (λ byte. byte == 10) bytes at 0 (omega (arith, first.high))
-    (λ k lt. is-false (get_or bytes k 0 == 10) (first.before k (omega arith) lt)) (λ lt. h.1) in
+    let found : position_or_len (λ b. b == a) bytes ≡ at = position_or_len_is (λ b. b == a) bytes at 0 (omega (arith, first.high))
+    (λ k lt. is-false (get_or bytes k 0 == a) (first.before k (omega arith) lt)) (λ lt. h.1) in
     let inside : at < length bytes = first.high in
     grind (arith, found, inside)

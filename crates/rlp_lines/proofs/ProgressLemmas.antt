@@ -5,7 +5,8 @@ use Rattle.std.proofs.Common.{subst, take-append-drop}
 use Rattle.std.proofs.Math.Seq.{take-append_seam}
 use Rattle.std.proofs.KnownBytes.{Appends-nil, Appends-trans, Appends-kept, Consumes-nil, Consumes-trans}
 use Rattle.std.specs.Io.KnownBytes.{Appends, Consumes, Keeps, IsAtEnd}
-use Rattle.rlp_lines.specs.Run.{AppendsBefore, AppendsPart, AreRepliesBefore, AnswersAll, AnswersBefore, AnswersPart, longest_read}
+use Rattle.rlp_lines.specs.Run.{AppendsBefore, AppendsPart, AreRepliesBefore, RunLeaves, longest_read}
+use Rattle.rlp_lines.specs.Watched.{Watched}
 use Rattle.rlp_lines.specs.declared.serving.RunFault.{RunFault}
 use Rattle.rlp_lines.specs.declared.serving.RunFault.TheVariants.{Memory, Read, Write}
 use Rattle.std.specs.List.{position}
@@ -70,6 +71,10 @@ OnErr-always (Err error) holds = holds
 pub OnErr-step : {T E P Q : Type 0} (result : Result T E) → OnErr result P → (P → Q) → OnErr result Q
 OnErr-step (Ok value) holds step = tt
 OnErr-step (Err error) holds step = step holds
+
+pub OnOk-step : {T E P Q : Type 0} (result : Result T E) → OnOk result P → (P → Q) → OnOk result Q
+OnOk-step (Ok value) holds step = step holds
+OnOk-step (Err error) holds step = tt
 
 -- bytes that follow an empty text
 pub after_empty : {old said new : List ℕ} → old ≡ [] → new ≡ old ++ said → new ≡ said
@@ -309,58 +314,52 @@ module _ (answer : List ℕ → List ℕ) where
   IsRunning-more {in0} {in1} in2 out2 more running read served =
       record { took = running.took ++ more; read = Consumes-trans in0 in1 in2 running.took more running.read read; served = served }
 
-  -- the input gives no more bytes
-  pub AnswersAll-end : (result : Result (Unit {0}) RunFault) {in0 in1 out0 out1 : Option (List ℕ)} {kept : List ℕ} {over : Bool}
-      (in2 out2 : Option (List ℕ)) (running : IsRunning in0 in1 out0 out1 kept over) → Consumes in1 in2 [] → IsAtEnd in2
-      → OnOk result (Appends out0 out2 (replies answer running.took)) → OnOk result (AnswersAll answer in0 in2 out0 out2)
-  AnswersAll-end (Err fault) in2 out2 running read end wrote = tt
-  AnswersAll-end (Ok unit) {in0} {in1} in2 out2 running read end wrote = record {
-    took = running.took;
-    read = subst (Consumes in0 in2) (append-nil running.took) (Consumes-trans in0 in1 in2 running.took [] running.read read);
-    ended = end;
-    wrote = wrote;
-  }
-
-  -- the state after a stop
-  pub record StopLeaves (result : Result (Unit {0}) RunFault) (in0 in1 out0 out1 : Option (List ℕ)) (failed : Bool) : Type 0 where
-    pub memory : result ≡ Err Memory → AnswersBefore answer in0 in1 out0 out1
-    pub not_read : result ≢ Err Read
-    pub write : result ≡ Err Write → AnswersPart answer in0 in1 out0 out1
-    pub write_only : result ≡ Err Write → failed ≡ true
-
-  pub StopLeaves-IsStop : (result : Result (Unit {0}) RunFault) {in0 in1 out0 out1 : Option (List ℕ)} {kept : List ℕ} {over : Bool}
-      (in2 out2 : Option (List ℕ)) (failed : Bool) (text more : List ℕ) (running : IsRunning in0 in1 out0 out1 kept over) → Consumes in1 in2 more
-      → length more ≤ longest_read → text ≡ running.took ++ more → IfErr result (λ fault. IsStop answer fault out0 out2 running.took text failed)
-      → StopLeaves result in0 in2 out0 out2 failed
-  StopLeaves-IsStop (Ok unit) in2 out2 failed text more running read one_read whole stop = record {
-    memory = λ e. absurd (cc);
-    not_read = λ e. cc;
-    write = λ e. absurd (cc);
-    write_only = λ e. absurd (cc);
-  }
-  StopLeaves-IsStop (Err fault) {in0} {in1} {out0} {out1} in2 out2 failed text more running read one_read whole (inl refused) =
-      let is : fault ≡ Memory = refused.0 in
-      record {
-        memory = λ e. record {
-          earlier = running.took;
-          last = more;
-          read = Consumes-trans in0 in1 in2 running.took more running.read read;
-          one_read = one_read;
-          answered = subst (AppendsBefore answer out0 out2 running.took) whole refused.1;
-        };
-        not_read = λ e. cc;
-        write = λ e. absurd (cc);
-        write_only = λ e. absurd (cc);
-      }
-  StopLeaves-IsStop (Err fault) {in0} {in1} {out0} {out1} in2 out2 failed text more running read one_read whole (inr broken) =
-      let is : fault ≡ Write = broken.0 in
-      record {
-        memory = λ e. absurd (cc);
-        not_read = λ e. cc;
-        write = λ e. record {
+  -- a run that memory or the writer stopped
+  pub RunLeaves-stop : {R W : Type 0} (remaining : R → Option (List ℕ)) (contents : W → Option (List ℕ)) (in0 in2 : Watched R) (out0 out2 : Watched W)
+      (fault : RunFault) {in1 out1 : Option (List ℕ)} {kept : List ℕ} {over : Bool} (text more : List ℕ)
+      (running : IsRunning (remaining in0.inner) in1 (contents out0.inner) out1 kept over) → Consumes in1 (remaining in2.inner) more
+      → length more ≤ longest_read → text ≡ running.took ++ more
+      → IsStop answer fault (contents out0.inner) (contents out2.inner) running.took text out2.failed
+      → RunLeaves answer remaining contents in0 in2 out0 out2 (Err fault)
+  RunLeaves-stop remaining contents in0 in2 out0 out2 fault {in1} text more running read one_read whole (inl refused) =
+      subst (λ (f : RunFault). RunLeaves answer remaining contents in0 in2 out0 out2 (Err f)) (sym refused.0) (record {
+        earlier = running.took;
+        last = more;
+        read = Consumes-trans (remaining in0.inner) in1 (remaining in2.inner) running.took more running.read read;
+        one_read = one_read;
+        answered = subst (AppendsBefore answer (contents out0.inner) (contents out2.inner) running.took) whole refused.1;
+      })
+  RunLeaves-stop remaining contents in0 in2 out0 out2 fault {in1} text more running read one_read whole (inr broken) =
+      subst (λ (f : RunFault). RunLeaves answer remaining contents in0 in2 out0 out2 (Err f)) (sym broken.0) (
+        record {
           took = text;
-          read = subst (Consumes in0 in2) (sym whole) (Consumes-trans in0 in1 in2 running.took more running.read read);
+          read = subst (Consumes (remaining in0.inner) (remaining in2.inner)) (sym whole)
+              (Consumes-trans (remaining in0.inner) in1 (remaining in2.inner) running.took more running.read read);
           wrote = broken.1;
-        };
-        write_only = λ e. broken.2;
-      }
+        },
+        broken.2,
+      )
+
+  -- a run whose input gives no more bytes
+  pub RunLeaves-end : {R W : Type 0} (remaining : R → Option (List ℕ)) (contents : W → Option (List ℕ)) (in0 in2 : Watched R) (out0 out2 : Watched W)
+      (result : Result (Unit {0}) RunFault) {in1 out1 : Option (List ℕ)} {kept : List ℕ} {over : Bool}
+      (running : IsRunning (remaining in0.inner) in1 (contents out0.inner) out1 kept over) → Consumes in1 (remaining in2.inner) []
+      → IsAtEnd (remaining in2.inner) → in2.failed ≡ false
+      → OnOk result (Appends (contents out0.inner) (contents out2.inner) (replies answer running.took))
+      → OnOk result (out2.failed ≡ false) → OnOk result (out2.flushed ≡ true)
+      → IfErr result (λ fault. IsStop answer fault (contents out0.inner) (contents out2.inner) running.took running.took out2.failed)
+      → RunLeaves answer remaining contents in0 in2 out0 out2 result
+  RunLeaves-end remaining contents in0 in2 out0 out2 (Ok unit) {in1} running read end reader wrote writer flushed stop = (
+    record {
+      took = running.took;
+      read = subst (Consumes (remaining in0.inner) (remaining in2.inner)) (append-nil running.took)
+          (Consumes-trans (remaining in0.inner) in1 (remaining in2.inner) running.took [] running.read read);
+      ended = end;
+      wrote = wrote;
+    },
+    reader,
+    writer,
+    flushed,
+  )
+  RunLeaves-end remaining contents in0 in2 out0 out2 (Err fault) running read end reader wrote writer flushed stop =
+      RunLeaves-stop remaining contents in0 in2 out0 out2 fault running.took [] running read (omega arith) (sym (append-nil running.took)) stop

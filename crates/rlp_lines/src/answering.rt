@@ -10,7 +10,7 @@ pub trait LineAnswers {
     ghost answer_within: { List ℕ → List ℕ };
 
     /// Appends the answer to a line of at most 131,072 bytes, without its newline. Fails with
-    /// `AllocError` if memory is refused.
+    /// `AllocError` if memory is refused. `out` may then hold anything: the caller drops it.
     fn put_answer(alloc: Global, line: &[u8], out: &mut String) -> Result<(), AllocError>
         ensures { OnOk result
             (string_bytes out.new ≡ string_bytes out.old ++ answer_within line.now) };

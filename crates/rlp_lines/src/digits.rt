@@ -1,5 +1,5 @@
 //! Bytes and numbers as digits, read and printed.
-ghost use Rattle.std.specs.Prelude.{◌≡◌, ◌≢◌, ◌++◌, ◌*◌, ◌<◌, ◌≤◌, slice_index, [], length, string_bytes, option_map, IfOk, OnErr, OnOk};
+ghost use Rattle.std.specs.Prelude.{◌≡◌, ◌≢◌, ◌++◌, ◌*◌, ◌<◌, ◌≤◌, ℕ, slice_index, [], length, take, string_bytes, option_map, IfOk, OnErr, OnOk};
 ghost use Rattle.std.specs.Option.{IsSomeAnd};
 ghost use Rattle.hex.specs.Hex.{encode_lower, lower_digits};
 ghost use Rattle.rlp_lines.specs.Digits.{digits_of, bytes_in, number_in, with_digit};
@@ -101,8 +101,9 @@ fn put_digits(bytes: &[u8], out: &mut [u8])
 /// Appends a few bytes in one piece, each as two digits.
 fn push_few(bytes: &[u8], out: &mut String) -> Result<(), AllocError>
     requires { length bytes.now ≤ 64 }
-    ensures { OnOk result
+    ensures ok { OnOk result
         (string_bytes out.new ≡ string_bytes out.old ++ encode_lower bytes.now) }
+    ensures refused { OnErr result (string_bytes out.new ≡ string_bytes out.old) }
 {
     let mut room = [0u8; 2 * AT_ONCE];
     let digits = &mut room[..2 * bytes.len()];
@@ -114,10 +115,12 @@ fn push_few(bytes: &[u8], out: &mut String) -> Result<(), AllocError>
 }
 
 /// Appends each byte as two lower-case hexadecimal digits. Fails with `AllocError` if memory is
-/// refused.
+/// refused. The digits of some first bytes may then be appended.
 pub fn push_bytes(bytes: &[u8], out: &mut String) -> Result<(), AllocError>
-    ensures { OnOk result
+    ensures ok { OnOk result
         (string_bytes out.new ≡ string_bytes out.old ++ encode_lower bytes.now) }
+    ensures refused { OnErr result ((n : ℕ)
+        × (string_bytes out.new ≡ string_bytes out.old ++ encode_lower (take n bytes.now))) }
 {
     let mut rest = bytes;
     while rest.len() > AT_ONCE {

@@ -155,7 +155,7 @@ impl Line {
 }
 
 /// The place of the first newline.
-#[tactic(auto, using(crate::proofs::LinesLemmas::first_newline))]
+#[tactic(auto, using(crate::proofs::LinesLemmas::first_byte))]
 fn newline_at(bytes: &[u8]) -> Option<usize>
     ensures { result ≡ position (λ byte. byte == 10) bytes.now }
 {

@@ -3,7 +3,7 @@ ghost use Rattle.std.specs.Prelude.{◌≡◌, ◌-◌, ◌^◌, ◌++◌, ◌<�
 ghost use Rattle.std.specs.Io.KnownBytes.{Appends};
 ghost use Rattle.rlp_lines.specs.Replies.{answer_by, replies};
 ghost use Rattle.rlp_lines.specs.Progress.{IsServed, IsStop};
-ghost use Rattle.rlp_lines.specs.Run.{AppendsPart, AnswersAll, AnswersBefore, AnswersEnded, AnswersPart};
+ghost use Rattle.rlp_lines.specs.Run.{AppendsPart, RunLeaves};
 
 use crate::answering::LineAnswers;
 use crate::line::Line;
@@ -14,10 +14,12 @@ use std::io::{Read, Write};
 /// The most bytes of one read.
 const CHUNK: usize = 16_384;
 
-/// Why a run ended before the end of its input.
+/// Why a run ended before the end of its input. It has written whole answers only, except after
+/// `Write`.
 #[derive(Debug, PartialEq, Eq, Drop)]
 pub enum RunFault {
-    /// Memory was refused.
+    /// Memory was refused. The run has written the answers to exactly the lines before some line,
+    /// which had not ended before the last read.
     Memory,
     /// A read failed, or the count of reads was at `u64::MAX` before the end of the input.
     Read,
@@ -137,11 +139,7 @@ fn finish<A: LineAnswers, W: Write>(
 }
 
 /// Answers each line of the input as `A` says, until its end. The answer to a line of more than
-/// 131,072 bytes is `error long line`.
-///
-/// Fails with the fault that stopped it. It has written whole answers only, except after `Write`.
-/// After `Memory` it has written the answers to exactly the lines before some line, which had not
-/// ended before the last read.
+/// 131,072 bytes is `error long line`. Fails with the [`RunFault`] that stopped it.
 pub fn answer_lines<A: LineAnswers, R: Read, W: Write>(
     alloc: Global,
     input: &mut Noted<R>,
@@ -149,28 +147,8 @@ pub fn answer_lines<A: LineAnswers, R: Read, W: Write>(
 ) -> Result<(), RunFault>
     requires input { input.old.failed ≡ false }
     requires output { output.old.failed ≡ false }
-
-    // At the end of the input, all lines are answered, the output is flushed, and neither device
-    // has failed.
-    ensures ok { OnOk result (AnswersAll (answer_by A.answer_within)
-        (R.remaining input.old.inner) (R.remaining input.new.inner)
-        (W.contents output.old.inner) (W.contents output.new.inner)) }
-    ensures faultless { OnOk result ((input.new.failed ≡ false) × (output.new.failed ≡ false)) }
-    ensures flushed { OnOk result (output.new.flushed ≡ true) }
-
-    // What was written before each fault, and which device has failed.
-    ensures memory { result ≡ Err RunFault.Memory → AnswersBefore (answer_by A.answer_within)
-        (R.remaining input.old.inner) (R.remaining input.new.inner)
-        (W.contents output.old.inner) (W.contents output.new.inner) }
-    ensures read { result ≡ Err RunFault.Read → AnswersEnded (answer_by A.answer_within)
-        (R.remaining input.old.inner) (R.remaining input.new.inner)
-        (W.contents output.old.inner) (W.contents output.new.inner) }
-    ensures read_only { result ≡ Err RunFault.Read → (input.new.failed ≡ true)
-        ⊎ (input.new.reads ≡ 2 ^ 64 - 1) }
-    ensures write { result ≡ Err RunFault.Write → AnswersPart (answer_by A.answer_within)
-        (R.remaining input.old.inner) (R.remaining input.new.inner)
-        (W.contents output.old.inner) (W.contents output.new.inner) }
-    ensures write_only { result ≡ Err RunFault.Write → output.new.failed ≡ true }
+    ensures { RunLeaves (answer_by A.answer_within) R.remaining W.contents
+        input.old input.new output.old output.new result }
 {
     let mut line = Line::new(alloc);
     let mut answers = String::new(alloc);

@@ -6,7 +6,7 @@ use Rattle.rlp_lines.specs.Digits.{bytes_in}
 use Rattle.rlp_show.specs.Lines.{Fault, Shape, Shown, fault_text}
 use Rattle.rlp_show.specs.Records.{account, any_receipt, any_transaction, block, header, node, node_record, withdrawal}
 use Rattle.rlp_show.specs.declared.kind.Kind.{Kind}
-use Rattle.rlp_show.specs.declared.kind.Kind.TheVariants.{Account, Block, Header, Node, Receipt, Record, Transaction, Withdrawal}
+use Rattle.rlp_show.specs.declared.kind.Kind.TheVariants.{Account, Block, Header, Node, NodeRecord, Receipt, Transaction, Withdrawal}
 use Rattle.rlp_show.specs.declared.fault.ItemFault.{ItemFault}
 use Rattle.rlp_show.specs.declared.fault.ShowFault.{ShowFault}
 use Rattle.rlp_show.specs.declared.fault.ShowFault.TheVariants.{Wrong, OutOfMemory}
@@ -35,7 +35,7 @@ kind_named name =
     else if bytes_eq name (codes "header") then Some Header
     else if bytes_eq name (codes "node") then Some Node
     else if bytes_eq name (codes "receipt") then Some Receipt
-    else if bytes_eq name (codes "record") then Some Record
+    else if bytes_eq name (codes "record") then Some NodeRecord
     else if bytes_eq name (codes "transaction") then Some Transaction
     else if bytes_eq name (codes "withdrawal") then Some Withdrawal
     else None
@@ -47,7 +47,7 @@ kind_shape Block = block
 kind_shape Header = header
 kind_shape Node = node
 kind_shape Receipt = any_receipt
-kind_shape Record = node_record
+kind_shape NodeRecord = node_record
 kind_shape Transaction = any_transaction
 kind_shape Withdrawal = withdrawal
 

@@ -55,14 +55,8 @@ fn show_within(
     let mut items = item.iter();
     let mut index = 0;
     while let Some(next) = items.next() {
-        let place = match place_in(alloc, name, index) {
-            Ok(place) => place,
-            Err(_) => return Err(ShowFault::OutOfMemory),
-        };
-        match show_within(alloc, place.as_str(), &next, most - 1, out) {
-            Ok(()) => {}
-            Err(fault) => return Err(fault),
-        }
+        let place = place_in(alloc, name, index)?;
+        show_within(alloc, place.as_str(), &next, most - 1, out)?;
         index += 1;
     }
     Ok(())

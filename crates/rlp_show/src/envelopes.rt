@@ -69,10 +69,8 @@ fn show_typed<T: Show>(
         (T.shape name.now (strict_view_of payload.now))) (string_bytes out.old)
         (string_bytes out.new) result }
 {
-    match put_type(alloc, name, kind, out) {
-        Ok(()) => T::show(alloc, name, &Rlp::new_strict(payload), out),
-        Err(_) => Err(ShowFault::OutOfMemory),
-    }
+    put_type(alloc, name, kind, out)?;
+    T::show(alloc, name, &Rlp::new_strict(payload), out)
 }
 
 impl<const KIND: u8, T: Show, Q: Show> Show for Typed<KIND, T, Q> {

@@ -65,6 +65,16 @@ pub enum ShowFault {
     OutOfMemory,
 }
 
+impl From<AllocError> for ShowFault {
+    ghost use Rattle.rlp_show.specs.declared.fault.ShowFault.TheVariants.{OutOfMemory};
+
+    ghost from_gives = { λ _ fault. fault ≡ OutOfMemory };
+
+    fn from(_refused: AllocError) -> ShowFault {
+        ShowFault::OutOfMemory
+    }
+}
+
 impl ShowFault {
     /// The fault of the item with this name.
     pub(crate) fn of(alloc: Global, name: &str, fault: &DecoderError) -> ShowFault

@@ -57,10 +57,7 @@ pub(crate) fn show_field<T: Show>(
     ensures { Shows (in_field place (T.shape (before.now ++ name.now) item.now))
         (string_bytes out.old) (string_bytes out.new) result }
 {
-    let name = match joined(alloc, before, name) {
-        Ok(name) => name,
-        Err(_) => return Err(ShowFault::OutOfMemory),
-    };
+    let name = joined(alloc, before, name)?;
     in_field(T::show(alloc, name.as_str(), item, out), place)
 }
 
@@ -119,16 +116,12 @@ impl<T: Show, Q: ShowFields> ShowFields for (Named<T>, Q) {
         items: &mut RlpIterator<'_, '_>,
         out: &mut String,
     ) -> Result<(), ShowFault> {
-        let item = match items.next() {
-            Some(item) => item,
-            None => return Ok(()),
+        let Some(item) = items.next() else {
+            return Ok(());
         };
-        match show_field::<T>(alloc, before, place, self.0.name, &item, out) {
-            Ok(()) => self
-                .1
-                .show_fields(alloc, before, place.saturating_add(1), items, out),
-            Err(fault) => Err(fault),
-        }
+        show_field::<T>(alloc, before, place, self.0.name, &item, out)?;
+        self.1
+            .show_fields(alloc, before, place.saturating_add(1), items, out)
     }
 }
 
@@ -164,10 +157,7 @@ pub fn show_record<F: ShowFields>(
     if !fields.accepts(count) {
         return Err(ShowFault::of(alloc, name, &DecoderError::RlpIncorrectListLen));
     }
-    let before = match prefix_of(alloc, name) {
-        Ok(before) => before,
-        Err(_) => return Err(ShowFault::OutOfMemory),
-    };
+    let before = prefix_of(alloc, name)?;
     let mut items = item.iter();
     fields.show_fields(alloc, before.as_str(), 0, &mut items, out)
 }

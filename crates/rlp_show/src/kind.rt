@@ -23,7 +23,7 @@ pub enum Kind {
     /// Receipts, also in the envelopes of types 1 to 4.
     Receipt,
     /// Node records.
-    Record,
+    NodeRecord,
     /// Transactions, also in the envelopes of types 1 to 4.
     Transaction,
     /// Withdrawals.
@@ -43,7 +43,7 @@ impl Kind {
             "header" => Some(Kind::Header),
             "node" => Some(Kind::Node),
             "receipt" => Some(Kind::Receipt),
-            "record" => Some(Kind::Record),
+            "record" => Some(Kind::NodeRecord),
             "transaction" => Some(Kind::Transaction),
             "withdrawal" => Some(Kind::Withdrawal),
             _ => None,

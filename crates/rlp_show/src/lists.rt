@@ -64,10 +64,7 @@ pub(crate) fn put_empty(name: &str, out: &mut String) -> Result<(), ShowFault>
     ensures { Shows (Ok (line name.now (codes "[]"))) (string_bytes out.old)
         (string_bytes out.new) result }
 {
-    match put_line(name, "[]", out) {
-        Ok(()) => Ok(()),
-        Err(_) => Err(ShowFault::OutOfMemory),
-    }
+    Ok(put_line(name, "[]", out)?)
 }
 
 /// Appends the lines of the items of a list that isn't empty.
@@ -83,14 +80,8 @@ fn show_items<T: Show>(
     let mut items = item.iter();
     let mut index = 0;
     while let Some(next) = items.next() {
-        let place = match place_in(alloc, name, index) {
-            Ok(place) => place,
-            Err(_) => return Err(ShowFault::OutOfMemory),
-        };
-        match T::show(alloc, place.as_str(), &next, out) {
-            Ok(()) => {}
-            Err(fault) => return Err(fault),
-        }
+        let place = place_in(alloc, name, index)?;
+        T::show(alloc, place.as_str(), &next, out)?;
         index += 1;
     }
     Ok(())

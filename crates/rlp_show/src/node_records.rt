@@ -42,10 +42,8 @@ fn show_parts(alloc: Global, name: &str, item: &Rlp<'_>, out: &mut String) -> Re
         (pairs_lines any_item (prefix name.now ++ codes "pairs") 0 2 (drop 2 (item_views item.now))))
         (string_bytes out.old) (string_bytes out.new) result }
 {
-    match show_first_fields(alloc, name, item, out) {
-        Ok(()) => show_pairs(alloc, name, item, out),
-        Err(fault) => Err(fault),
-    }
+    show_first_fields(alloc, name, item, out)?;
+    show_pairs(alloc, name, item, out)
 }
 
 /// Appends the lines of the fields before the pairs.
@@ -58,10 +56,7 @@ fn show_first_fields(
     ensures { Shows (fields_lines (prefix name.now) 0 first_fields (item_views item.now))
         (string_bytes out.old) (string_bytes out.new) result }
 {
-    let before = match prefix_of(alloc, name) {
-        Ok(before) => before,
-        Err(_) => return Err(ShowFault::OutOfMemory),
-    };
+    let before = prefix_of(alloc, name)?;
     let mut items = item.iter();
     show_fields!(@nested "signature": Vec<u8>, "sequence": u64).show_fields(
         alloc,
@@ -77,14 +72,8 @@ fn show_pairs(alloc: Global, name: &str, item: &Rlp<'_>, out: &mut String) -> Re
     ensures { Shows (pairs_lines any_item (prefix name.now ++ codes "pairs") 0 2
         (drop 2 (item_views item.now))) (string_bytes out.old) (string_bytes out.new) result }
 {
-    let before = match prefix_of(alloc, name) {
-        Ok(before) => before,
-        Err(_) => return Err(ShowFault::OutOfMemory),
-    };
-    let label = match joined(alloc, before.as_str(), "pairs") {
-        Ok(label) => label,
-        Err(_) => return Err(ShowFault::OutOfMemory),
-    };
+    let before = prefix_of(alloc, name)?;
+    let label = joined(alloc, before.as_str(), "pairs")?;
     let mut items = item.iter();
     skip(&mut items);
     skip(&mut items);
@@ -113,14 +102,10 @@ fn show_next_pairs(
     let mut index = 0;
     let mut first = 2;
     while let Some(key) = items.next() {
-        let value = match items.next() {
-            Some(value) => value,
-            None => return Ok(()),
+        let Some(value) = items.next() else {
+            return Ok(());
         };
-        match show_pair(alloc, name, index, first, &key, &value, out) {
-            Ok(()) => {}
-            Err(fault) => return Err(fault),
-        }
+        show_pair(alloc, name, index, first, &key, &value, out)?;
         index += 1;
         first += 2;
     }
@@ -143,12 +128,7 @@ fn show_pair(
     ensures { Shows (pair_lines any_item (place name.now index) first key.now value.now)
         (string_bytes out.old) (string_bytes out.new) result }
 {
-    let pair = match place_in(alloc, name, index) {
-        Ok(pair) => pair,
-        Err(_) => return Err(ShowFault::OutOfMemory),
-    };
-    match show_field::<Vec<u8>>(alloc, pair.as_str(), first, ".key", key, out) {
-        Ok(()) => show_field::<AnyItem>(alloc, pair.as_str(), first + 1, ".value", value, out),
-        Err(fault) => Err(fault),
-    }
+    let pair = place_in(alloc, name, index)?;
+    show_field::<Vec<u8>>(alloc, pair.as_str(), first, ".key", key, out)?;
+    show_field::<AnyItem>(alloc, pair.as_str(), first + 1, ".value", value, out)
 }

@@ -40,10 +40,7 @@ impl Show for Path {
             Err(fault) => return Err(ShowFault::of(alloc, name, &fault)),
         };
         match bytes {
-            [first, ..] if begins_path(*first) => match put_bytes_line(name, bytes, out) {
-                Ok(()) => Ok(()),
-                Err(_) => Err(ShowFault::OutOfMemory),
-            },
+            [first, ..] if begins_path(*first) => Ok(put_bytes_line(name, bytes, out)?),
             _ => {
                 let fault = DecoderError::Custom("path is not hex-prefix encoded");
                 Err(ShowFault::of(alloc, name, &fault))
@@ -72,10 +69,7 @@ fn show_child_hash(
     if bytes.len() > 32 {
         return Err(ShowFault::of(alloc, name, &DecoderError::RlpIsTooBig));
     }
-    match put_bytes_line(name, bytes, out) {
-        Ok(()) => Ok(()),
-        Err(_) => Err(ShowFault::OutOfMemory),
-    }
+    Ok(put_bytes_line(name, bytes, out)?)
 }
 
 /// The hash of the child in hexadecimal, `0x` if there is none, or the items of a node that is kept
@@ -175,10 +169,8 @@ fn show_node<T: Show>(
     ensures { Shows (node_of kind.now T.shape name.now item.now) (string_bytes out.old)
         (string_bytes out.new) result }
 {
-    match put_kind(alloc, name, kind, out) {
-        Ok(()) => T::show(alloc, name, item, out),
-        Err(_) => Err(ShowFault::OutOfMemory),
-    }
+    put_kind(alloc, name, kind, out)?;
+    T::show(alloc, name, item, out)
 }
 
 /// A node of 17 items is a branch, and one of two is a leaf or an extension, as its path says. Fails

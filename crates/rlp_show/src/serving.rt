@@ -1,10 +1,9 @@
 //! The loop over the input.
 
-ghost use Rattle.std.specs.Prelude.{◌≡◌, ◌++◌, ◌^◌, ◌-◌, ◌⊎◌, [], string_bytes, true, false, OnOk, Err};
+ghost use Rattle.std.specs.Prelude.{◌≡◌, ◌++◌, [], string_bytes, false, OnOk};
 ghost use Rattle.rlp.specs.Views.View.{strict_view_of};
 ghost use Rattle.rlp_lines.specs.Replies.{answer_by};
-ghost use Rattle.rlp_lines.specs.Run.{AnswersAll, AnswersBefore, AnswersEnded, AnswersPart};
-ghost use Rattle.rlp_lines.specs.declared.serving.RunFault.TheVariants as run_fault;
+ghost use Rattle.rlp_lines.specs.Run.{RunLeaves};
 ghost use Rattle.rlp_show.specs.Answer.{kind_answer, shown_answer};
 
 use crate::envelopes::AnyReceipt;
@@ -55,7 +54,8 @@ fn put_record<T: Show>(alloc: Global, bytes: &[u8], out: &mut String) -> Result<
 }
 
 /// Answers each line of the input, until its end, with the lines of the record that its digits
-/// encode, or with what is wrong with it. Fails as [`answer_lines`] does.
+/// encode, or with what is wrong with it. The answer to a line of more than 131,072 bytes is
+/// `error long line`. Fails with the [`RunFault`] that stopped it.
 pub fn run<R: Read, W: Write>(
     alloc: Global,
     kind: Kind,
@@ -64,28 +64,8 @@ pub fn run<R: Read, W: Write>(
 ) -> Result<(), RunFault>
     requires input { input.old.failed ≡ false }
     requires output { output.old.failed ≡ false }
-
-    // At the end of the input, all lines are answered, the output is flushed, and neither device
-    // has failed.
-    ensures ok { OnOk result (AnswersAll (answer_by (kind_answer kind))
-        (R.remaining input.old.inner) (R.remaining input.new.inner)
-        (W.contents output.old.inner) (W.contents output.new.inner)) }
-    ensures faultless { OnOk result ((input.new.failed ≡ false) × (output.new.failed ≡ false)) }
-    ensures flushed { OnOk result (output.new.flushed ≡ true) }
-
-    // What was written before each fault, and which device has failed.
-    ensures memory { result ≡ Err run_fault.Memory → AnswersBefore (answer_by (kind_answer kind))
-        (R.remaining input.old.inner) (R.remaining input.new.inner)
-        (W.contents output.old.inner) (W.contents output.new.inner) }
-    ensures read { result ≡ Err run_fault.Read → AnswersEnded (answer_by (kind_answer kind))
-        (R.remaining input.old.inner) (R.remaining input.new.inner)
-        (W.contents output.old.inner) (W.contents output.new.inner) }
-    ensures read_only { result ≡ Err run_fault.Read → (input.new.failed ≡ true)
-        ⊎ (input.new.reads ≡ 2 ^ 64 - 1) }
-    ensures write { result ≡ Err run_fault.Write → AnswersPart (answer_by (kind_answer kind))
-        (R.remaining input.old.inner) (R.remaining input.new.inner)
-        (W.contents output.old.inner) (W.contents output.new.inner) }
-    ensures write_only { result ≡ Err run_fault.Write → output.new.failed ≡ true }
+    ensures { RunLeaves (answer_by (kind_answer kind)) R.remaining W.contents
+        input.old input.new output.old output.new result }
 {
     match kind {
         Kind::Account => answer_lines::<RecordAnswers<Account>, R, W>(alloc, input, output),
@@ -93,7 +73,7 @@ pub fn run<R: Read, W: Write>(
         Kind::Header => answer_lines::<RecordAnswers<Header>, R, W>(alloc, input, output),
         Kind::Node => answer_lines::<RecordAnswers<Node>, R, W>(alloc, input, output),
         Kind::Receipt => answer_lines::<RecordAnswers<AnyReceipt>, R, W>(alloc, input, output),
-        Kind::Record => answer_lines::<RecordAnswers<NodeFields>, R, W>(alloc, input, output),
+        Kind::NodeRecord => answer_lines::<RecordAnswers<NodeFields>, R, W>(alloc, input, output),
         Kind::Transaction => {
             answer_lines::<RecordAnswers<AnyTransaction>, R, W>(alloc, input, output)
         }

@@ -24,13 +24,10 @@ fn show_fixed<const N: usize>(
     ensures { Shows (fixed_bytes N name.now item.now) (string_bytes out.old)
         (string_bytes out.new) result }
 {
-    // Tells the proof that these are bytes, and fewer than 2^64.
+    // Only the proof needs this: a slice has fewer than 2^64 bytes, each below 256.
     let _bytes = item.as_raw();
     match item.as_val::<[u8; N]>(alloc) {
-        Ok(bytes) => match put_bytes_line(name, &bytes, out) {
-            Ok(()) => Ok(()),
-            Err(_) => Err(ShowFault::OutOfMemory),
-        },
+        Ok(bytes) => Ok(put_bytes_line(name, &bytes, out)?),
         Err(DecoderError::OutOfMemory) => Err(ShowFault::OutOfMemory),
         Err(fault) => Err(ShowFault::of(alloc, name, &fault)),
     }
@@ -73,10 +70,7 @@ impl Show for Vec<u8> {
 
     fn show(alloc: Global, name: &str, item: &Rlp<'_>, out: &mut String) -> Result<(), ShowFault> {
         match item.decoder().string() {
-            Ok(bytes) => match put_bytes_line(name, bytes, out) {
-                Ok(()) => Ok(()),
-                Err(_) => Err(ShowFault::OutOfMemory),
-            },
+            Ok(bytes) => Ok(put_bytes_line(name, bytes, out)?),
             Err(fault) => Err(ShowFault::of(alloc, name, &fault)),
         }
     }
@@ -87,20 +81,17 @@ impl Show for Recipient {
 
     #[tactic(auto, using(crate::specs::StringLemmas::recipient_strings))]
     fn show(alloc: Global, name: &str, item: &Rlp<'_>, out: &mut String) -> Result<(), ShowFault> {
-        // Tells the proof that these are bytes, and fewer than 2^64.
+        // Only the proof needs this: a slice has fewer than 2^64 bytes, each below 256.
         let _bytes = item.as_raw();
         let recipient = match item.as_val::<Recipient>(alloc) {
             Ok(recipient) => recipient,
             Err(DecoderError::OutOfMemory) => return Err(ShowFault::OutOfMemory),
             Err(fault) => return Err(ShowFault::of(alloc, name, &fault)),
         };
-        let put = match recipient {
-            Recipient::Creation => put_bytes_line(name, &[], out),
-            Recipient::Account(address) => put_bytes_line(name, &address.0, out),
-        };
-        match put {
-            Ok(()) => Ok(()),
-            Err(_) => Err(ShowFault::OutOfMemory),
+        match recipient {
+            Recipient::Creation => put_bytes_line(name, &[], out)?,
+            Recipient::Account(address) => put_bytes_line(name, &address.0, out)?,
         }
+        Ok(())
     }
 }

@@ -8,7 +8,7 @@ use rlp_show::Kind;
 use std::test::Fail;
 
 /// The kind, the digits, and what is wrong.
-const FAULTS: [Row; 26] = [
+const FAULTS: [Row; 30] = [
     (
         Kind::Transaction,
         &[
@@ -309,7 +309,7 @@ const FAULTS: [Row; 26] = [
         &["error field 10 (blob_versioned_hashes[1]): RlpIsTooShort\n"],
     ),
     (
-        Kind::Record,
+        Kind::NodeRecord,
         &[
             "f846b8407098ad865b00a582051940cb9cf36836572411a47278783077011599ed5cd16b",
             "76f2635f4e234738f30813a89eb9137e3e3df5266e3a1f11df72ecf1145ccb9c01826964",
@@ -317,7 +317,7 @@ const FAULTS: [Row; 26] = [
         &["error RlpIncorrectListLen\n"],
     ),
     (
-        Kind::Record,
+        Kind::NodeRecord,
         &[
             "f842b8407098ad865b00a582051940cb9cf36836572411a47278783077011599ed5cd16b",
             "76f2635f4e234738f30813a89eb9137e3e3df5266e3a1f11df72ecf1145ccb9c",
@@ -325,7 +325,7 @@ const FAULTS: [Row; 26] = [
         &["error RlpIncorrectListLen\n"],
     ),
     (
-        Kind::Record,
+        Kind::NodeRecord,
         &[
             "f84db8407098ad865b00a582051940cb9cf36836572411a47278783077011599ed5cd16b",
             "76f2635f4e234738f30813a89eb9137e3e3df5266e3a1f11df72ecf1145ccb9c01826964",
@@ -334,7 +334,7 @@ const FAULTS: [Row; 26] = [
         &["error field 4 (pairs[1].key): RlpExpectedToBeData\n"],
     ),
     (
-        Kind::Record,
+        Kind::NodeRecord,
         &[
             "f84bb8407098ad865b00a582051940cb9cf36836572411a47278783077011599ed5cd16b",
             "76f2635f4e234738f30813a89eb9137e3e3df5266e3a1f11df72ecf1145ccb9c82000182",
@@ -343,7 +343,7 @@ const FAULTS: [Row; 26] = [
         &["error field 1 (sequence): RlpInvalidIndirection\n"],
     ),
     (
-        Kind::Record,
+        Kind::NodeRecord,
         &[
             "f84bb8407098ad865b00a582051940cb9cf36836572411a47278783077011599ed5cd16b",
             "76f2635f4e234738f30813a89eb9137e3e3df5266e3a1f11df72ecf1145ccb9c01836574",
@@ -351,7 +351,24 @@ const FAULTS: [Row; 26] = [
         ],
         &["error field 3 (pairs[0].value[1]): RlpInvalidIndirection\n"],
     ),
+    (
+        Kind::NodeRecord,
+        &[
+            "f9010a800183657468f90101050505050505050505050505050505050505050505050505",
+            "050505050505050505050505050505050505050505050505050505050505050505050505",
+            "050505050505050505050505050505050505050505050505050505050505050505050505",
+            "050505050505050505050505050505050505050505050505050505050505050505050505",
+            "050505050505050505050505050505050505050505050505050505050505050505050505",
+            "050505050505050505050505050505050505050505050505050505050505050505050505",
+            "050505050505050505050505050505050505050505050505050505050505050505050505",
+            "0505050505050505050505050505058105",
+        ],
+        &["error field 3 (pairs[0].value[255]): RlpInvalidIndirection\n"],
+    ),
     (Kind::Withdrawal, &[""], &["error RlpExpectedToBeList\n"]),
+    (Kind::Transaction, &["01"], &["error RlpExpectedToBeList\n"]),
+    (Kind::Withdrawal, &["c"], &["error hex\n"]),
+    (Kind::Withdrawal, &["cg"], &["error hex\n"]),
 ];
 
 /// Lists of 18 and 19 items, of the right fields and of empty strings: no fork has these numbers.
@@ -430,7 +447,7 @@ fn kinds_have_names(rt: HostRuntime) -> Result<(), Fail> {
     assert_eq!(rt; Kind::named("transaction"), Some(Kind::Transaction));
     assert_eq!(rt; Kind::named("block"), Some(Kind::Block));
     assert_eq!(rt; Kind::named("node"), Some(Kind::Node));
-    assert_eq!(rt; Kind::named("record"), Some(Kind::Record));
+    assert_eq!(rt; Kind::named("record"), Some(Kind::NodeRecord));
     assert_eq!(rt; Kind::named("Header"), None);
     assert_eq!(rt; Kind::named(""), None);
     Ok(())

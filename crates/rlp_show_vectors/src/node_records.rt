@@ -9,7 +9,7 @@ use std::test::Fail;
 /// The kind, the digits of a record, and its lines.
 const NODE_RECORDS: [Row; 3] = [
     (
-        Kind::Record,
+        Kind::NodeRecord,
         &[
             "f884b8407098ad865b00a582051940cb9cf36836572411a47278783077011599ed5cd16b",
             "76f2635f4e234738f30813a89eb9137e3e3df5266e3a1f11df72ecf1145ccb9c01826964",
@@ -33,7 +33,7 @@ const NODE_RECORDS: [Row; 3] = [
         ],
     ),
     (
-        Kind::Record,
+        Kind::NodeRecord,
         &["e282010288ffffffffffffffff83657468c7c6849f3d22548080c078c68180c280c061"],
         &[
             "signature: 0x0102\n",
@@ -52,7 +52,7 @@ const NODE_RECORDS: [Row; 3] = [
         ],
     ),
     (
-        Kind::Record,
+        Kind::NodeRecord,
         &["c28080"],
         &["signature: 0x\n", "sequence: 0\n", "\n"],
     ),

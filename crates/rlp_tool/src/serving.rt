@@ -1,16 +1,15 @@
 //! The answers to a whole input.
-ghost use Rattle.std.specs.Prelude.{◌≡◌, ◌-◌, ◌^◌, ◌⊎◌, ℕ, List, OnOk, Err, true, false};
+ghost use Rattle.std.specs.Prelude.{◌≡◌, false};
+ghost use Rattle.rlp_lines.specs.Run.{RunLeaves};
 ghost use Rattle.rlp_tool.specs.Answer.{answer};
-ghost use Rattle.rlp_lines.specs.Run.{AnswersAll, AnswersBefore, AnswersEnded, AnswersPart};
-ghost use Rattle.rlp_lines.specs.declared.serving.RunFault.TheVariants as run_fault;
 
 use crate::answer::answer_within;
 use rlp_lines::{LineAnswers, Noted, RunFault, answer_lines};
 use std::alloc::{AllocError, Global};
 use std::io::{Read, Write};
 
-/// The answers of [`run`](crate::run): to lines of digits and to lines of calls.
-pub(crate) struct ToolAnswers;
+/// The answers of [`run`]: to lines of digits and to lines of calls.
+struct ToolAnswers;
 
 impl LineAnswers for ToolAnswers {
     ghost use Rattle.rlp_tool.specs.Answer.{answer_within};
@@ -22,8 +21,8 @@ impl LineAnswers for ToolAnswers {
     }
 }
 
-/// Answers each line of the input, a line of digits or of calls, until its end. Fails as
-/// [`answer_lines`] does.
+/// Answers each line of the input, a line of digits or of calls, until its end. The answer to a line
+/// of more than 131,072 bytes is `error long line`. Fails with the [`RunFault`] that stopped it.
 pub fn run<R: Read, W: Write>(
     alloc: Global,
     input: &mut Noted<R>,
@@ -31,28 +30,8 @@ pub fn run<R: Read, W: Write>(
 ) -> Result<(), RunFault>
     requires input { input.old.failed ≡ false }
     requires output { output.old.failed ≡ false }
-
-    // At the end of the input, all lines are answered, the output is flushed, and neither device
-    // has failed.
-    ensures ok { OnOk result (AnswersAll answer
-        (R.remaining input.old.inner) (R.remaining input.new.inner)
-        (W.contents output.old.inner) (W.contents output.new.inner)) }
-    ensures faultless { OnOk result ((input.new.failed ≡ false) × (output.new.failed ≡ false)) }
-    ensures flushed { OnOk result (output.new.flushed ≡ true) }
-
-    // What was written before each fault, and which device has failed.
-    ensures memory { result ≡ Err run_fault.Memory → AnswersBefore answer
-        (R.remaining input.old.inner) (R.remaining input.new.inner)
-        (W.contents output.old.inner) (W.contents output.new.inner) }
-    ensures read { result ≡ Err run_fault.Read → AnswersEnded answer
-        (R.remaining input.old.inner) (R.remaining input.new.inner)
-        (W.contents output.old.inner) (W.contents output.new.inner) }
-    ensures read_only { result ≡ Err run_fault.Read → (input.new.failed ≡ true)
-        ⊎ (input.new.reads ≡ 2 ^ 64 - 1) }
-    ensures write { result ≡ Err run_fault.Write → AnswersPart answer
-        (R.remaining input.old.inner) (R.remaining input.new.inner)
-        (W.contents output.old.inner) (W.contents output.new.inner) }
-    ensures write_only { result ≡ Err run_fault.Write → output.new.failed ≡ true }
+    ensures { RunLeaves answer R.remaining W.contents
+        input.old input.new output.old output.new result }
 {
     answer_lines::<ToolAnswers, R, W>(alloc, input, output)
 }
