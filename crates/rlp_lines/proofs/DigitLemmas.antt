@@ -90,12 +90,6 @@ small_digit n c m e = small (is_ascii_digit c) (nat_lt (n * 10 + digit_value c) 
 pub pair_read : (high low x y i : ℕ) → hex_digit_value high ≡ Some x → hex_digit_value low ≡ Some y → pair_value high low i ≡ Ok (x * 16 + y)
 pair_read high low x y i h l = rw (ap (digit_or_error high i) h, ap (digit_or_error low (i + 1)) l) refl
 
--- the byte of a text of two digits
-pub byte_read : (high low x y : ℕ) → hex_digit_value high ≡ Some x → hex_digit_value low ≡ Some y
-    → result_ok (decode_of (high ∷ low ∷ [])) ≡ Some ((x * 16 + y) ∷ [])
-unfolding decode_pairs
-byte_read high low x y h l = rw (pair_read high low x y 0 h l) refl
-
 -- all pairs of digits are decoded
 pub decoded : (digits out : List ℕ) (i n : ℕ) → length digits ≤ 2 * i → i ≡ n
     → decode_pairs 0 digits ≡ prepend (take i out) (decode_pairs (2 * i) (drop (2 * i) digits)) → decode_pairs 0 digits ≡ Ok (take n out)
