@@ -213,9 +213,9 @@ impl<F: DecodeField, Q: DecodeFields> DecodeFields for (F, Q) {
 /// Reads the fields of a struct from the list that the view begins with, and says which field
 /// fails. `rlp::decode_fields!` calls it.
 ///
-/// Fails with `RlpIncorrectListLen` and no place if the fields can't be the number of items. It then
-/// reads no field. Also fails as [`Rlp::item_count`] does, with no place, and with the error of the
-/// first field that fails and its place.
+/// Fails with `RlpIncorrectListLen` and no place if the number of items is wrong, whatever the items
+/// are. Also fails as [`Rlp::item_count`] does, with no place, and with the error of the first field
+/// that fails and its place.
 #[tactic(auto, using(crate::proofs::Values::FieldReading::whole_struct, crate::proofs::Views::InOrder::counted_fields))]
 pub fn decode_struct<F: DecodeFields>(alloc: Global, rlp: &Rlp<'_>) -> Result<F, FieldFault>
     ensures value { IfOk result (λ x. (item_count rlp.now ≡ Ok (F.reading.count x))

@@ -1,5 +1,5 @@
 //! What holds of each type of this crate: its encoding is that of its item, strict reading gives a
-//! value exactly for its whole encoding, and equal encodings mean alike values.
+//! value exactly for its whole encoding, and two values with equal encodings are alike.
 
 ghost use Rattle.std.specs.Prelude.{◌≡◌, ◌↔◌, ◌<◌, ◌^◌, IfErr, IfOk, IsOkAnd, length};
 ghost use Rattle.rlp.specs.DecoderError.TheVariants.{OutOfMemory};

@@ -78,8 +78,8 @@ impl NodeRecord {
         &self.fields
     }
 
-    /// The bytes that the signature is of: the encoding of the list of the sequence number and the
-    /// pairs. Fails with `AllocError` if memory is refused.
+    /// The bytes that are signed: the encoding of the list of the sequence number and the pairs.
+    /// Fails with `AllocError` if memory is refused.
     pub fn signed_content(&self, alloc: Global) -> Result<BytesMut, AllocError>
         ensures { IfOk result (λ b. b.items ≡ encoding (signed_item self.now)) }
     {

@@ -1,5 +1,5 @@
-//! Types that promise little to their callers: one reads half of the numbers, one appends
-//! uncounted, and one is in a list that it must fill.
+//! Types for tests: one reads only odd numbers, one is appended without being counted, and one
+//! begins a list and fills it.
 
 use rlp::{Decodable, DecoderError, Encodable, Rlp, RlpStream};
 use std::alloc::{AllocError, Global};

@@ -27,7 +27,7 @@ pub use nest::{Inner, Nest};
 pub use nonce::Nonce;
 pub use ordered::Ordered;
 pub use pair::Pair;
-pub use parcel::{Parcel, items_tell_parcels};
+pub use parcel::{Parcel, items_tell_parcels, renumbered};
 pub use row::Row;
 pub use trio::{Refusing, Trio};
 pub use uses::{append_by_stream, append_each, chain_and_encoder, drained, first_and_text, nested};

@@ -2,7 +2,7 @@
 use Rattle.std.specs.Prelude.{ℕ, ◌≡◌, ⊤, List, [], ◌++◌, codes, bytes_eq, if◌then◌else◌, string_bytes, Option, Some, None, Result, Ok, Err}
 use Rattle.std.specs.Str.Lines.{strip_carriage_return}
 use Rattle.rlp.specs.Views.View.{strict_view_of}
-use Rattle.rlp_tool.specs.Digits.{bytes_in}
+use Rattle.rlp_lines.specs.Digits.{bytes_in}
 use Rattle.rlp_show.specs.Lines.{Fault, Shape, Shown, fault_text}
 use Rattle.rlp_show.specs.Records.{account, any_receipt, any_transaction, block, header, node, node_record, withdrawal}
 use Rattle.rlp_show.specs.declared.kind.Kind.{Kind}

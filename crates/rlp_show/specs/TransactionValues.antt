@@ -24,7 +24,7 @@ use Rattle.rlp_ethereum.specs.Alone.{bytes_alone}
 use Rattle.rlp_ethereum.specs.Transaction.{transaction as transaction_codec}
 use Rattle.rlp_ethereum.specs.Withdrawal.{withdrawals as withdrawals_codec}
 use Rattle.std.specs.Str.Lines.{strip_carriage_return}
-use Rattle.rlp_tool.specs.Digits.{bytes_in}
+use Rattle.rlp_lines.specs.Digits.{bytes_in}
 use Rattle.rlp_show.specs.Answer.{record_answer}
 use Rattle.rlp_show.specs.ValueLemmas.{encoding_answered}
 use Rattle.rlp_show.specs.Lines.{Shape, line, list_of, prefix, then_lines, typed}

@@ -10,7 +10,7 @@ use Rattle.rlp.specs.Lemmas.Encodings.{encoding_list, small_payload}
 use Rattle.rlp.specs.Lemmas.WholeLists.{strict_item_count, strict_items}
 use Rattle.rlp.specs.Views.View.{View, item_views, strict_view_of}
 use Rattle.std.specs.Str.Lines.{strip_carriage_return}
-use Rattle.rlp_tool.specs.Digits.{bytes_in}
+use Rattle.rlp_lines.specs.Digits.{bytes_in}
 use Rattle.rlp_show.specs.Answer.{bytes_answer, record_answer, shown_answer}
 use Rattle.rlp_show.specs.Lines.{Field, Shape, Shown, field, fields_lines, in_field, items_lines, lines_if, list_lines, may_have, optional, place, prefix, record_lines}
 use Rattle.rlp_show.specs.Lines.{list_of as list_shape_of, list_value_lines, record_of, then_lines, value_lines}

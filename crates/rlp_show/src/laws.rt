@@ -4,7 +4,7 @@
 ghost use Rattle.std.specs.Prelude.{◌≡◌, ◌<◌, ◌^◌, [], Some, length};
 ghost use Rattle.std.specs.Str.Lines.{strip_carriage_return};
 ghost use Rattle.rlp.specs.Format.Encoding.{IsSized, encoding};
-ghost use Rattle.rlp_tool.specs.Digits.{bytes_in};
+ghost use Rattle.rlp_lines.specs.Digits.{bytes_in};
 ghost use Rattle.rlp_ethereum.specs.Alone.{bytes_alone};
 ghost use Rattle.rlp_ethereum.specs.Transaction.{transaction};
 ghost use Rattle.rlp_ethereum.specs.declared.transaction.Transaction.{Transaction};

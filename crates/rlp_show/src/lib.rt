@@ -26,6 +26,7 @@ pub use fields::{Named, ShowFields, show_record};
 pub use kind::{Kind, UNKNOWN_KIND, USAGE};
 pub use lists::Items;
 pub use nodes::{Node, Path};
+pub use rlp_lines::{Noted, RunFault, exit_status};
 pub use serving::run;
 pub use show::Show;
 pub use transactions::{AnyTransaction, TypedTransaction, UnknownTransaction};

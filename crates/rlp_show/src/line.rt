@@ -4,7 +4,7 @@ ghost use Rattle.std.specs.Prelude.{◌≡◌, ◌++◌, codes, string_bytes, On
 ghost use Rattle.rlp_show.specs.Lines.{line};
 ghost use Rattle.rlp_show.specs.Text.{bytes_text};
 
-use rlp_tool::push_bytes;
+use rlp_lines::push_bytes;
 use std::alloc::AllocError;
 
 /// Appends a line with this name and text.

@@ -182,7 +182,7 @@ fn show_node<T: Show>(
 }
 
 /// A node of 17 items is a branch, and one of two is a leaf or an extension, as its path says. Fails
-/// with `RlpIncorrectListLen` for another number of items.
+/// with `RlpIncorrectListLen` for any other number of items.
 impl Show for Node {
     ghost shape = { node };
 

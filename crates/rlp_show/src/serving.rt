@@ -2,9 +2,9 @@
 
 ghost use Rattle.std.specs.Prelude.{◌≡◌, ◌++◌, ◌^◌, ◌-◌, ◌⊎◌, [], string_bytes, true, false, OnOk, Err};
 ghost use Rattle.rlp.specs.Views.View.{strict_view_of};
-ghost use Rattle.rlp_tool.specs.Answer.{answer_by};
-ghost use Rattle.rlp_tool.specs.Run.{AnswersAll, AnswersBefore, AnswersEnded, AnswersPart};
-ghost use Rattle.rlp_tool.specs.declared.serving.RunFault.TheVariants as run_fault;
+ghost use Rattle.rlp_lines.specs.Replies.{answer_by};
+ghost use Rattle.rlp_lines.specs.Run.{AnswersAll, AnswersBefore, AnswersEnded, AnswersPart};
+ghost use Rattle.rlp_lines.specs.declared.serving.RunFault.TheVariants as run_fault;
 ghost use Rattle.rlp_show.specs.Answer.{kind_answer, shown_answer};
 
 use crate::envelopes::AnyReceipt;
@@ -15,7 +15,7 @@ use crate::show::Show;
 use crate::transactions::AnyTransaction;
 use rlp::Rlp;
 use rlp_ethereum::{Account, Block, Header, NodeFields, Withdrawal};
-use rlp_tool::{LineAnswers, Noted, RunFault, answer_lines, read_bytes, without_carriage_return};
+use rlp_lines::{LineAnswers, Noted, RunFault, answer_lines, read_bytes, without_carriage_return};
 use std::alloc::{AllocError, Global};
 use std::io::{Read, Write};
 use std::marker::PhantomData;

@@ -1,8 +1,7 @@
 //! Shows each line of standard input, a record in hexadecimal digits, by the names of its fields.
 #![tactic(auto)]
 
-use rlp_show::{Kind, UNKNOWN_KIND, USAGE, run};
-use rlp_tool::{Noted, exit_status};
+use rlp_show::{Kind, Noted, UNKNOWN_KIND, USAGE, exit_status, run};
 use std::env;
 use std::process::ExitCode;
 

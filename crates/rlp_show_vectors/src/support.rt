@@ -1,7 +1,6 @@
 //! What the tests of this crate share.
 
-use rlp_show::{Kind, run};
-use rlp_tool::Noted;
+use rlp_show::{Kind, Noted, run};
 use std::alloc::{AllocError, Global};
 
 /// A kind, the digits of a line in pieces, and the expected answer in pieces.

@@ -1,5 +1,5 @@
 //! Writing: streams, and values that are appended to them. It depends on `rlp_buffer`, the bytes of
-//! a stream, and on `rlp_format`. Users list `rlp`, which re-exports every public name.
+//! a stream, and on `rlp_format`. Users list `rlp`, which re-exports what they need.
 #![tactic(auto)]
 
 mod envelope;

@@ -20,7 +20,8 @@ use Rattle.rlp_tool.specs.Building.{IsBuilt, IsRefusal}
 use Rattle.rlp_tool.specs.Making.{MakesScript}
 use Rattle.rlp_tool.specs.RawItems.{IsShallow, are_raw_items}
 use Rattle.rlp_tool.specs.Script.{script}
-use Rattle.rlp_tool.specs.Answer.{SaysCalls, answer, answer_by, answer_within, brings_items, longest_line, text_answer, finished_answer, open_answer}
+use Rattle.rlp_lines.specs.Replies.{answer_by, longest_line}
+use Rattle.rlp_tool.specs.Answer.{SaysCalls, answer, answer_within, brings_items, text_answer, finished_answer, open_answer}
 use Rattle.rlp_tool.specs.Answer.{state_answer, refusal_name, outcome_answer, calls_answer, AppendsOutcome}
 use Rattle.rlp_tool.proofs.CallsLemmas.{Leaves}
 use Rattle.rlp_tool.proofs.SaidLemmas.{EndFinished, end_finished, length-stripped, script_said}

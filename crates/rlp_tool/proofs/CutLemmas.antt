@@ -13,7 +13,7 @@ use Rattle.std.specs.Option.{IsSomeAnd}
 use Rattle.memchr.specs.Find.{IsFirstByte, is_byte}
 use Rattle.rlp.specs.Format.Item.{string}
 use Rattle.rlp.specs.Streams.Calls.{Call, append}
-use Rattle.rlp_tool.specs.Digits.{number_in, bytes_in}
+use Rattle.rlp_lines.specs.Digits.{number_in, bytes_in}
 use Rattle.rlp_tool.specs.Script.{BringsBytes, raw_call, raw_parts, call_in, is_call, script, AddsCall, IsUnread, IsScriptFault, AppendsScriptFault}
 use Rattle.rlp_tool.specs.Answer.{calls_answer}
 use Rattle.rlp_tool.specs.declared.script.ScriptFault.{ScriptFault}

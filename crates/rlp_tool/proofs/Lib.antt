@@ -1,7 +1,5 @@
 -- Lemmas, in a file for each file of definitions that they are about. The invariants and results of a function are in a folder with its name.
 
--- numbers and bytes as digits
-pub mod DigitLemmas
 -- pieces of a text, cut at a byte
 pub mod CutLemmas
 -- raw bytes that are items
@@ -16,7 +14,3 @@ pub mod FinishLemmas
 pub mod SaidLemmas
 -- the answers to lines of calls
 pub mod AnswerLemmas
--- lines of a text that grows at its end
-pub mod LinesLemmas
--- steps of the loop over the input
-pub mod ProgressLemmas

@@ -20,7 +20,7 @@ use Rattle.rlp.specs.Streams.Calls.{finalize_unbounded_list, append_internal, en
 use Rattle.rlp.specs.Streams.Described.{Step, brings, opens, finishes, clears, by_append, by_unbounded_list, by_finalize, by_clear, AreDescribedWhere}
 use Rattle.rlp_tool.specs.Answer.{brings_items, outcome_answer, refusal_name, state_answer}
 use Rattle.rlp_tool.specs.Building.{IsSomeStep, is_raw}
-use Rattle.rlp_tool.specs.Digits.{bytes_in, digits_of, number_in}
+use Rattle.rlp_lines.specs.Digits.{bytes_in, digits_of, number_in}
 use Rattle.rlp_tool.specs.RawItems.{IsShallow}
 use Rattle.rlp_tool.specs.Script.{call_in, is_call, labelled_call, letter_call, raw_call, raw_parts, script}
 use Rattle.rlp_tool.proofs.CallsLemmas.{step_begin, step_raw}

@@ -14,13 +14,10 @@ use Rattle.rlp_tool.specs.declared.building.Built.TheVariants.{Finished, Open}
 use Rattle.rlp_tool.specs.declared.building.BuildFault.{BuildFault}
 use Rattle.rlp_tool.specs.declared.building.BuildFault.TheVariants.{TooManyItems, NothingToFinish, RawNotItems, OutOfMemory}
 use Rattle.rlp_tool.specs.Building.{is_raw}
-use Rattle.rlp_tool.specs.Digits.{bytes_in}
+use Rattle.rlp_lines.specs.Digits.{bytes_in}
+use Rattle.rlp_lines.specs.Replies.{answer_by, longest_line}
 use Rattle.rlp_tool.specs.RawItems.{are_raw_items}
 use Rattle.rlp_tool.specs.Script.{script}
-
--- the most bytes that a line may have, without its newline
-abbrev pub longest_line : ℕ
-longest_line = 131072
 
 -- the greatest depth that is printed
 abbrev pub deepest_nesting : ℕ
@@ -85,10 +82,6 @@ text_answer (b ∷ rest) = if b == byte "+" then calls_answer (script rest) else
 -- the answer to a line that isn't too long: one carriage return at its end is dropped first
 abbrev pub answer_within : List ℕ → List ℕ
 answer_within line = text_answer (strip_carriage_return line)
-
--- the answer to any line, by that to a line that isn't too long
-unfoldable pub answer_by : (List ℕ → List ℕ) → List ℕ → List ℕ
-answer_by within line = if nat_lt longest_line (length line) then codes "error long line" else within line
 
 -- the answer to a line
 abbrev pub answer : List ℕ → List ℕ

@@ -1,17 +1,16 @@
 //! The answer to one line.
 
 ghost use Rattle.std.specs.Prelude.{◌≡◌, ◌++◌, [], decimal, string_bytes, OnOk};
-ghost use Rattle.std.specs.Str.Lines.{strip_carriage_return};
+ghost use Rattle.rlp_lines.specs.Digits.{bytes_in};
 ghost use Rattle.rlp_tool.specs.Answer.{answer_within, calls_answer, digits_answer, finished_answer, open_answer, state_answer, view_answer, AppendsOutcome};
-ghost use Rattle.rlp_tool.specs.Digits.{bytes_in};
 ghost use Rattle.rlp_tool.specs.Script.{script, AppendsScriptFault};
 
 use crate::building::{BuildFault, Built, build};
-use crate::digits::{push_bytes, read_bytes};
 use crate::making::make_script;
 use crate::script::{ScriptFault, read_calls};
 use bytes::BytesMut;
 use rlp::{Rlp, RlpStream};
+use rlp_lines::{push_bytes, read_bytes, without_carriage_return};
 use std::alloc::{AllocError, Global};
 use std::fmt::Write;
 
@@ -28,16 +27,6 @@ pub(crate) fn answer_within(alloc: Global, line: &[u8], out: &mut String) -> Res
     match without_carriage_return(line) {
         [b'+', text @ ..] => script_answer(alloc, text, out),
         digits => digits_answer(alloc, digits, out),
-    }
-}
-
-/// The line without one carriage return at its end.
-pub fn without_carriage_return(line: &[u8]) -> &[u8]
-    ensures { result.now ≡ strip_carriage_return line.now }
-{
-    match line {
-        [rest @ .., b'\r'] => rest,
-        _ => line,
     }
 }
 

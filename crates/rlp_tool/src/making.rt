@@ -4,16 +4,15 @@ ghost use Rattle.std.specs.Str.{byte};
 ghost use Rattle.rlp.specs.Format.Item.{string};
 ghost use Rattle.rlp.specs.Streams.Stream.{initial_state};
 ghost use Rattle.rlp.specs.Streams.Calls.{append, append_raw, begin_list};
-ghost use Rattle.rlp_tool.specs.Digits.{bytes_in, number_in};
+ghost use Rattle.rlp_lines.specs.Digits.{bytes_in, number_in};
 ghost use Rattle.rlp_tool.specs.Making.{BeginsWithEnds, MakesCall, MakesEnds, MakesScript};
 ghost use Rattle.rlp_tool.specs.Script.{call_in, labelled_call, letter_call, raw_parts};
 
 use crate::building::{has_room, raw_items_are_canonical};
-use crate::decoding::decode;
-use crate::digits::{read_number, without_prefix};
 use crate::script::place_of;
 use rlp::RlpStream;
 use rlp::laws::{parts_of_sized_are_sized, unbounded_lists_are_finalized_in_turn};
+use rlp_lines::{decode, read_number, without_prefix};
 use std::alloc::{AllocError, Global};
 
 /// Makes the room at least this long.

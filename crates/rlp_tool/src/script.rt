@@ -3,12 +3,12 @@ ghost use Rattle.std.specs.Prelude.{◌≡◌, ◌==◌, ◌+◌, position, opti
 ghost use Rattle.rlp.specs.Format.Item.{string};
 ghost use Rattle.rlp.specs.Streams.Calls.{append, begin_list};
 ghost use Rattle.rlp_tool.specs.Script.{BringsBytes, call_in, labelled_call, letter_call, raw_parts, script, AddsCall, IsUnread, IsScriptFault};
-ghost use Rattle.rlp_tool.specs.Digits.{bytes_in, number_in};
+ghost use Rattle.rlp_lines.specs.Digits.{bytes_in, number_in};
 ghost use Rattle.rlp_tool.specs.StreamCalls.{call_of_bytes, calls_of_bytes};
 
 use crate::calls::StreamCall;
-use crate::digits::{read_bytes, read_number};
 use memchr::memchr;
+use rlp_lines::{read_bytes, read_number};
 use std::alloc::{AllocError, Global};
 
 /// Why a script can't be read.

@@ -86,8 +86,8 @@ pub fn lenient_views_ignore_what_follows(bytes: &[u8])
         else Err RlpExpectedToBeList) }
 {}
 
-/// For each provided type, a strict view gives one value and has no fault, or gives none and has
-/// one fault.
+/// A strict view gives one number of a width, truth value, byte string or text and has no fault, or
+/// gives none and has one fault.
 pub fn strict_values_are_read(bytes: &[u8])
     ensures numbers { (width : ℕ)
         → HasOneReading number_item (GivesNumber width (strict_view_of bytes.now))

@@ -10,8 +10,8 @@ ghost use Rattle.rlp_format.specs.Views.View.{IsStep, Remaining, View, item_at, 
 use crate::rlpin::Rlp;
 use rlp_format::error::DecoderError;
 
-/// The item of a number is the one in that place in the items. Past the last item every number has
-/// the same fault.
+/// Item number i of a view is the i-th of its items, counted from 0. All numbers past the last item
+/// have the same fault.
 pub fn items_by_number_are_in_order(bytes: &[u8])
     ensures there { (i : ℕ) (item : View) → (item_at (view_of bytes.now) i ≡ Ok item)
         ↔ (slice_get (item_views (view_of bytes.now)) i ≡ Some item) }

@@ -41,7 +41,7 @@ impl<'a> Envelope<'a> {
         }
     }
 
-    /// Splits bytes after the first one: an envelope that stands by itself. Fails with
+    /// Splits an envelope that isn't in a string: the first byte, and the bytes after it. Fails with
     /// `RlpIsTooShort` if there are no bytes.
     pub fn split(bytes: &'a [u8]) -> Result<Envelope<'a>, DecoderError>
         ensures value { IfOk result (λ x. bytes.now ≡ x.tag ∷ x.payload.now) }

@@ -62,7 +62,7 @@ impl<'a> Rlp<'a> {
     }
 
     /// The same as [`Rlp::fields`] for a list of `len` items. Fails with `RlpIncorrectListLen` if
-    /// the list has another number of items.
+    /// the list has a different number of items.
     #[tactic(auto, using(crate::proofs::Views::InOrder::counted_fields))]
     pub fn fields_of(&self, len: usize) -> Result<Fields<'a>, DecoderError>
         ensures read { IfOk result (λ f. f ≡ record { view = self.now; place = 0 }) }

@@ -47,8 +47,8 @@ pub trait Decodable: Sized + Drop {
     /// Reads the value that the view begins with. The types of this crate ignore bytes that follow
     /// its item.
     ///
-    /// Fails with a fault of the type, or with `OutOfMemory` if memory may be short for the view
-    /// and is refused.
+    /// Fails with a fault of the type, or with `OutOfMemory` if reading the view may lack memory
+    /// and memory is refused.
     fn decode(alloc: Global, rlp: &Rlp<'_>) -> Result<Self, DecoderError>
         ensures value { IfOk result (λ v. gives rlp.now v) }
         ensures fault { IfErr result (λ e. (faults rlp.now e) ⊎ ((e ≡ OutOfMemory)

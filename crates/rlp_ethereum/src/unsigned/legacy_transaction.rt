@@ -112,8 +112,8 @@ impl Encodable for UnsignedLegacyTransaction {
 }
 
 /// A list of nine items is read with EIP-155, and any other view as without it. Fails with
-/// `RlpIncorrectListLen` for a list of another number of items than 6 or 9, and with `RlpIsTooBig`
-/// if one of the last two of nine is another string than the empty one.
+/// `RlpIncorrectListLen` for a list that has neither 6 nor 9 items, and with `RlpIsTooBig` if one of
+/// the last two of nine is a string that isn't empty.
 impl Decodable for UnsignedLegacyTransaction {
     ghost gives = { unsigned_legacy_transaction.gives };
 

@@ -2,7 +2,9 @@
 
 use crate::support::guarded::finishes_as;
 use rlp::{DecoderError, Rlp};
-use rlp_examples::{append_by_stream, append_each, chain_and_encoder, first_and_text, nested};
+use rlp_examples::{
+    append_by_stream, append_each, chain_and_encoder, first_and_text, nested, renumbered,
+};
 use std::alloc::Global;
 use std::test::Fail;
 
@@ -30,6 +32,15 @@ fn list_is_read_back(alloc: Global, bytes: &[u8]) -> Result<bool, DecoderError> 
     )
 }
 
+fn parcel_is_renumbered(alloc: Global) -> Result<bool, DecoderError> {
+    let parcel = [0xc5, 0x05, 0x81, 0xff, 0xc1, 0x07];
+    let trailing = [0xc4, 0x05, 0x80, 0xc1, 0x07, 0x00];
+    Ok(
+        renumbered(alloc, &parcel, 6)?.as_slice() == [0xc5, 0x06, 0x81, 0xff, 0xc1, 0x07].as_slice()
+            && renumbered(alloc, &trailing, 6).err() == Some(DecoderError::RlpIsTooBig),
+    )
+}
+
 #[test]
 fn examples_as_shown(rt: HostRuntime) -> Result<(), Fail> {
     let alloc = rt.alloc();
@@ -39,6 +50,7 @@ fn examples_as_shown(rt: HostRuntime) -> Result<(), Fail> {
     append_each(&mut s, &[128, 0])?;
     assert!(rt; finishes_as(s, &[1, 2, 3, 4, 1, 2, 0x81, 0x80, 0x80]));
     assert!(rt; views_agree(alloc)?);
+    assert!(rt; parcel_is_renumbered(alloc)?);
     assert_eq!(rt; rlp::decode::<u64>(alloc, &[0x82, 0x01, 0x00])?, 256);
     let is_right = match nested(alloc)? {
         Some(bytes) => list_is_read_back(alloc, bytes.as_slice())?,

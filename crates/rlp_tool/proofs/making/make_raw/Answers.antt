@@ -1,5 +1,5 @@
 use Rattle.std.proofs.Common.{◌∙◌, ◌≡◌, ◌-◌, IfOk, IsTrue, List, Some, ap, drop, length, subst, take, ℕ}
-use Rattle.rlp_tool.specs.Digits.{bytes_in}
+use Rattle.rlp_lines.specs.Digits.{bytes_in}
 use Rattle.rlp_tool.specs.Making.{MakesCall}
 use Rattle.rlp_tool.proofs.CutLemmas.{raw_parts-cut}
 use Rattle.rlp_tool.proofs.making.make_raw.Goals as goal

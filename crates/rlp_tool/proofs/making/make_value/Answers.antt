@@ -1,6 +1,6 @@
 use Rattle.std.proofs.Common.{◌∙◌, ◌≡◌, List, Some, ap, refl, rules, take, ℕ}
 use Rattle.rlp.specs.Format.Item.{string}
-use Rattle.rlp_tool.specs.Digits.{bytes_in}
+use Rattle.rlp_lines.specs.Digits.{bytes_in}
 use Rattle.rlp_tool.proofs.MakingLemmas.{step_append}
 use Rattle.rlp_tool.proofs.making.make_value.Goals as goal
 

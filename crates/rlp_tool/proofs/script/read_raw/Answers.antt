@@ -1,6 +1,6 @@
 use Rattle.std.proofs.Common.{Some, None}
 use Rattle.rlp_tool.proofs.CutLemmas.{raw_parts-cut, raw_refused}
-use Rattle.rlp_tool.proofs.ProgressLemmas.{OnErr-always}
+use Rattle.rlp_lines.proofs.ProgressLemmas.{OnErr-always}
 use Rattle.rlp_tool.proofs.script.read_raw.Goals as goal
 
 pub returns-in-Some-2-clause-gives : goal.returns-in-Some-2-clause-gives

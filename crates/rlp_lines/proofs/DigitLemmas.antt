@@ -1,0 +1,191 @@
+-- Numbers and bytes as digits.
+use Rattle.std.proofs.Common.{◌≡◌, ◌≢◌, ℕ, zero, suc, inl, inr, ◌+◌, ◌*◌, ◌/◌, ◌%◌, slice_index, ◌^◌, ◌<◌, ◌≤◌, ◌&&◌, Bool, true, false, cond, nat_eq, nat_lt, IsTrue}
+use Rattle.std.proofs.Common.{List, [], ◌∷◌, ◌++◌, length, take, drop, Option, Some, None, Result, Ok, Err, refl, subst, sym, ap, ◌∙◌, append_assoc}
+use Rattle.std.proofs.Common.{arith, take-append-drop}
+use Rattle.std.specs.List.{list_all}
+use Rattle.std.specs.Char.{digit_value, is_ascii_digit}
+use Rattle.std.specs.Str.Parse.{digits_value, digits_value_after}
+use Rattle.std.proofs.lemmas.Bool.{and_parts, cases_lt, eqb-true}
+use Rattle.std.proofs.lemmas.Bool.Decides.{nat_tests}
+use Rattle.std.specs.Option.{IsSomeAnd}
+use Rattle.std.specs.Result.{result_ok}
+use Rattle.hex.specs.Hex.{encode_with, encode_lower, lower_digits, decode_of, decode_pairs, digit_or_error, hex_digit_value, is_hex_digit, pair_value}
+use Rattle.hex.specs.declared.error.FromHexError.{FromHexError}
+use Rattle.std.proofs.lemmas.List.Sums.{AllPass-from_list_all, list_all-from_AllPass}
+use Rattle.std.proofs.lemmas.List.{append-nil, drop_all}
+use Rattle.hex.proofs.Pairs.{prepend}
+use Rattle.hex.proofs.HexLemmas.{decode_of-ok, decode_of-digits, decode_of-odd}
+use Rattle.rlp_lines.specs.Digits.{number_in, with_digit}
+
+-- the number that digits write when they follow those of n
+abbrev pub number_after : ℕ → List ℕ → Option ℕ
+number_after n text = cond (list_all is_ascii_digit text && nat_lt (digits_value_after 10 n text) (2 ^ 64)) (Some (digits_value_after 10 n text)) None
+
+pub number_in-begin : (text : List ℕ) → 0 < length text → number_in text ≡ number_after 0 text
+number_in-begin text h =
+    let some : nat_lt 0 (length text) ≡ true = grind (arith, nat_tests) in
+    ap (λ (b : Bool). cond (b && (list_all is_ascii_digit text && nat_lt (digits_value 10 text) (2 ^ 64))) (Some (digits_value 10 text)) None) some
+
+both_true : (a b : Bool) (n m : ℕ) → cond (a && b) (Some n) None ≡ Some m → (a ≡ true) × (b ≡ true) × (n ≡ m)
+both_true true true n m e = (refl, refl, cc)
+both_true true false n m e = absurd (let never : ⊥ = cc in never)
+both_true false b n m e = absurd (let never : ⊥ = cc in never)
+
+not_both : (a b rest more : Bool) (n m : ℕ) → cond (a && b) (Some n) None ≡ None → (b ≡ false → more ≡ false) → cond ((a && rest) && more) (Some m) None ≡ None
+not_both true true rest more n m e f = absurd (let never : ⊥ = cc in never)
+not_both true false true more n m e f = ap (λ (b : Bool). cond b (Some m) None) (f refl)
+not_both true false false more n m e f = refl
+not_both false b rest more n m e f = refl
+
+digits_value_after-ge : (n : ℕ) (text : List ℕ) → n ≤ digits_value_after 10 n text
+digits_value_after-ge n [] = omega arith
+digits_value_after-ge n (c ∷ text) = omega (arith, digits_value_after-ge (n * 10 + digit_value c) text)
+
+pub number_after-more : (n m c : ℕ) (rest text : List ℕ) → rest ≡ c ∷ text → with_digit n c ≡ Some m → number_after n rest ≡ number_after m text
+number_after-more n m c rest text is e =
+    let both = both_true (is_ascii_digit c) (nat_lt (n * 10 + digit_value c) (2 ^ 64)) (n * 10 + digit_value c) m e in
+    ap (number_after n) is ∙ ap (λ (b : Bool). cond
+    ((b && list_all is_ascii_digit text) && nat_lt (digits_value_after 10 (n * 10 + digit_value c) text) (2 ^ 64))
+    (Some (digits_value_after 10 (n * 10 + digit_value c) text)) None) both.0 ∙ ap (λ (k : ℕ). number_after k text) both.2
+
+too_large : (n m : ℕ) → n ≤ m → nat_lt n (2 ^ 64) ≡ false → nat_lt m (2 ^ 64) ≡ false
+too_large n m h e = grind (arith, nat_tests)
+
+pub number_after-none : (n c : ℕ) (rest text : List ℕ) → rest ≡ c ∷ text → with_digit n c ≡ None → number_after n rest ≡ None
+number_after-none n c rest text is e =
+    let k = n * 10 + digit_value c in
+    ap (number_after n) is ∙ not_both (is_ascii_digit c) (nat_lt k (2 ^ 64)) (list_all is_ascii_digit text)
+    (nat_lt (digits_value_after 10 k text) (2 ^ 64)) k (digits_value_after 10 k text) e
+    (too_large k (digits_value_after 10 k text) (digits_value_after-ge k text))
+
+number_after-nil : (n : ℕ) → n < 2 ^ 64 → number_after n [] ≡ Some n
+number_after-nil n h =
+    let small : nat_lt n (2 ^ 64) ≡ true = grind (arith, nat_tests) in
+    ap (λ (b : Bool). cond (true && b) (Some n) None) small
+
+no_digits : (text : List ℕ) → length text ≡ 0 → text ≡ []
+no_digits [] h = refl
+no_digits (c ∷ text) h = absurd (omega arith)
+
+pub number_after-end : (n : ℕ) (text : List ℕ) → n < 2 ^ 64 → length text ≡ 0 → number_after n text ≡ Some n
+number_after-end n text small h = ap (number_after n) (no_digits text h) ∙ number_after-nil n small
+
+pub number_in-nil : (text : List ℕ) → length text ≡ 0 → number_in text ≡ None
+number_in-nil text h = ap number_in (no_digits text h)
+
+small : (a b : Bool) (k m : ℕ) → (b ≡ true → k < 2 ^ 64) → cond (a && b) (Some k) None ≡ Some m → m < 2 ^ 64
+small a b k m h e =
+    let both = both_true a b k m e in
+    let is : k ≡ m = both.2 in
+    let fits : k < 2 ^ 64 = h both.1 in
+    omega arith
+
+-- a number with one more digit is below 2^64
+pub small_digit : (n c m : ℕ) → with_digit n c ≡ Some m → m < 2 ^ 64
+small_digit n c m e = small (is_ascii_digit c) (nat_lt (n * 10 + digit_value c) (2 ^ 64)) (n * 10 + digit_value c) m (λ less. grind (arith, nat_tests)) e
+
+-- ---- bytes
+
+-- the byte of two digits
+pub pair_read : (high low x y i : ℕ) → hex_digit_value high ≡ Some x → hex_digit_value low ≡ Some y → pair_value high low i ≡ Ok (x * 16 + y)
+pair_read high low x y i h l = rw (ap (digit_or_error high i) h, ap (digit_or_error low (i + 1)) l) refl
+
+-- all pairs of digits are decoded
+pub decoded : (digits out : List ℕ) (i n : ℕ) → length digits ≤ 2 * i → i ≡ n
+    → decode_pairs 0 digits ≡ prepend (take i out) (decode_pairs (2 * i) (drop (2 * i) digits)) → decode_pairs 0 digits ≡ Ok (take n out)
+unfolding decode_pairs
+decoded digits out i n none is so_far =
+    so_far ∙ ap (prepend (take i out)) (ap (decode_pairs (2 * i)) (drop_all (2 * i) digits none)) ∙ ap Ok (append-nil (take i out))
+    ∙ ap (λ (k : ℕ). Ok (take k out)) is
+
+-- the result of reading no digits
+pub read-nothing : (digits : List ℕ) → true ≡ nat_eq (length digits) 0 → result_ok (decode_of digits) ≡ Some []
+unfolding decode_pairs
+read-nothing [] none = refl
+read-nothing (c ∷ digits) none = absurd (let no : ⊥ = grind (arith, nat_tests) in no)
+
+-- digits of which two write a byte write some bytes
+pub read-some : (digits : List ℕ) → length digits % 2 ≡ 0 → false ≡ nat_eq (length digits) 0 → IsTrue (list_all is_hex_digit digits)
+    → IsSomeAnd (result_ok (decode_of digits)) (λ bytes. bytes ≢ [])
+read-some digits even test all =
+    let some : 0 < length digits = grind (arith, nat_tests) in
+    let (bytes, is) = decode_of-digits digits even (AllPass-from_list_all is_hex_digit digits all) in
+    let long = (decode_of-ok digits bytes is).2 in
+    let P : Result (List ℕ) FromHexError → Type 0 = λ r. IsSomeAnd (result_ok r) (λ bytes. bytes ≢ []) in
+    subst P (sym is) (λ none. absurd (omega (arith, long, ap length none)))
+
+-- the result of reading an odd number of digits
+pub read-odd : (digits : List ℕ) → (length digits % 2 ≡ 0 → ⊥) → result_ok (decode_of digits) ≡ None
+read-odd digits odd = ap result_ok (decode_of-odd digits (omega arith))
+
+refused_by : (digits : List ℕ) (r : Result (List ℕ) FromHexError) → decode_of digits ≡ r → list_all is_hex_digit digits ≡ false → result_ok r ≡ None
+refused_by digits (Ok bytes) is other =
+    let all : list_all is_hex_digit digits ≡ true = list_all-from_AllPass is_hex_digit digits (decode_of-ok digits bytes is).1 in absurd (let no : ⊥ = cc in no)
+refused_by digits (Err e) is other = refl
+
+-- the result of reading a text that isn't all digits
+pub read-no_digits : (digits : List ℕ) → list_all is_hex_digit digits ≡ false → result_ok (decode_of digits) ≡ None
+read-no_digits digits other = refused_by digits (decode_of digits) refl other
+
+-- a byte that isn't a digit
+pub stray_digit : (text : List ℕ) (at : ℕ) → at < length text → is_hex_digit (slice_index text at) ≡ false → result_ok (decode_of text) ≡ None
+stray_digit text at inside stray = read-no_digits text (not_all (list_all is_hex_digit text) refl)
+  where
+    not_all : (b : Bool) → list_all is_hex_digit text ≡ b → list_all is_hex_digit text ≡ false
+    not_all true all =
+        let digit : is_hex_digit (slice_index text at) ≡ true = AllPass-from_list_all is_hex_digit text all at 0 inside in
+        absurd (let no : ⊥ = cc in no)
+    not_all false some = some
+
+-- ---- printing
+
+-- the digit of a number
+abbrev digit_at : ℕ → ℕ
+digit_at d = cond (nat_lt d 10) (48 + d) (87 + d)
+
+-- whether the first numbers have these digits
+abbrev are_digits_of : ℕ → Bool
+are_digits_of zero = true
+are_digits_of (suc n) = nat_eq (slice_index lower_digits n) (digit_at n) && are_digits_of n
+
+digit_below : (n d : ℕ) → are_digits_of n ≡ true → d < n → slice_index lower_digits d ≡ digit_at d
+digit_below zero d all inside = absurd (omega arith)
+digit_below (suc n) d all inside =
+    let parts = and_parts (nat_eq (slice_index lower_digits n) (digit_at n)) (are_digits_of n) all in
+    elim (cases_lt d n) [
+      | inl below ↦ digit_below n d parts.1 below
+      | inr top ↦
+          let here : slice_index lower_digits n ≡ digit_at n = eqb-true (slice_index lower_digits n) (digit_at n) parts.0 in
+          let last : d ≡ n = omega arith in
+          subst (λ (k : ℕ). slice_index lower_digits k ≡ digit_at k) (sym last) here
+    ]
+
+-- the digits of the numbers below 16
+pub digit_small : (d : ℕ) → d < 10 → 48 + d ≡ slice_index lower_digits d
+digit_small d small =
+    let test : nat_lt d 10 ≡ true = grind (arith, nat_tests) in
+    sym (digit_below 16 d refl (omega arith) ∙ ap (λ (b : Bool). cond b (48 + d) (87 + d)) test)
+
+pub digit_large : (d : ℕ) → 10 ≤ d → d < 16 → 87 + d ≡ slice_index lower_digits d
+digit_large d large small =
+    let test : nat_lt d 10 ≡ false = grind (arith, nat_tests) in
+    sym (digit_below 16 d refl small ∙ ap (λ (b : Bool). cond b (48 + d) (87 + d)) test)
+
+encode_with-append : (t xs ys : List ℕ) → encode_with t (xs ++ ys) ≡ encode_with t xs ++ encode_with t ys
+unfolding encode_with
+encode_with-append t [] ys = refl
+encode_with-append t (b ∷ xs) ys = ap (λ (r : List ℕ). slice_index t (b / 16) ∷ slice_index t (b % 16) ∷ r) (encode_with-append t xs ys)
+
+-- the digits of bytes that are cut in two
+pub encode_lower-cut : (rest front back : List ℕ) (n : ℕ) → front ≡ take n rest → back ≡ drop n rest
+    → encode_lower front ++ encode_lower back ≡ encode_lower rest
+encode_lower-cut rest front back n f b =
+    sym (encode_with-append lower_digits front back)
+    ∙ ap encode_lower (ap (λ (x : List ℕ). x ++ back) f ∙ ap (λ (x : List ℕ). take n rest ++ x) b ∙ take-append-drop n rest)
+
+-- the digits of the first bytes are printed, and those of the bytes after them are left
+pub printed-more : (before after old front back rest : List ℕ) (n : ℕ) → front ≡ take n rest → back ≡ drop n rest
+    → after ≡ before ++ encode_lower front → before ++ encode_lower rest ≡ old → after ++ encode_lower back ≡ old
+printed-more before after old front back rest n f b grown all =
+    ap (λ (x : List ℕ). x ++ encode_lower back) grown ∙ append_assoc before (encode_lower front) (encode_lower back)
+    ∙ ap (λ (x : List ℕ). before ++ x) (encode_lower-cut rest front back n f b) ∙ all

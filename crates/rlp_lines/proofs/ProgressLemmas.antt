@@ -1,0 +1,366 @@
+-- Steps of the loop over the input.
+use Rattle.std.proofs.Common.{ℕ, ◌≡◌, ◌<◌, ◌≤◌, Bool, true, false, List, [], ◌∷◌, ◌++◌, length, take, drop, get_or, nat_eq, ◌+◌, ◌-◌, ◌==◌, arith}
+use Rattle.std.proofs.Common.{◌≢◌, Option, Some, None, Result, Ok, Err, OnOk, OnErr, IfErr, inl, inr, refl, sym, ap, ◌∙◌, append_assoc, append-nil}
+use Rattle.std.proofs.Common.{subst, take-append-drop}
+use Rattle.std.proofs.Math.Seq.{take-append_seam}
+use Rattle.std.proofs.KnownBytes.{Appends-nil, Appends-trans, Appends-kept, Consumes-nil, Consumes-trans}
+use Rattle.std.specs.Io.KnownBytes.{Appends, Consumes, Keeps, IsAtEnd}
+use Rattle.rlp_lines.specs.Run.{AppendsBefore, AppendsPart, AreRepliesBefore, AnswersAll, AnswersBefore, AnswersPart, longest_read}
+use Rattle.rlp_lines.specs.declared.serving.RunFault.{RunFault}
+use Rattle.rlp_lines.specs.declared.serving.RunFault.TheVariants.{Memory, Read, Write}
+use Rattle.std.specs.List.{position}
+use Rattle.std.proofs.lemmas.List.{take_rest, drop_more}
+use Rattle.std.proofs.lemmas.List.Quantifiers.{position-Some}
+use Rattle.std.proofs.lemmas.List.Concat.{flat_map-append}
+use Rattle.rlp_lines.specs.Lines.{lines, ended_lines, last_piece, line_of_last, unended_line}
+use Rattle.rlp_lines.specs.Replies.{reply, replies_to, replies}
+use Rattle.rlp_lines.specs.Progress.{IsOnePiece, IsLine, IsAfter, IsServed, IsStop}
+use Rattle.rlp_lines.proofs.LinesLemmas.{ended_lines-run, last_piece-run, ended_lines-line, last_piece-line, one_piece-take, one_piece-whole}
+use Rattle.rlp_lines.proofs.LinesLemmas.{is_newline, take-lines, length-ended_lines-append, length-lines-more, length-lines-begun, ended_lines-nil}
+use Rattle.rlp_lines.proofs.LinesLemmas.{last_piece-nil}
+
+-- all of some bytes but a rest was written
+pub record IsWriting (start now : Option (List ℕ)) (bytes rest : List ℕ) : Type 0 where
+  pub done : List ℕ
+  pub parts : done ++ rest ≡ bytes
+  pub wrote : Appends start now done
+
+pub IsWriting-more : {start old : Option (List ℕ)} {bytes rest : List ℕ} (new : Option (List ℕ)) (count : ℕ) → IsWriting start old bytes rest
+    → Appends old new (take count rest) → IsWriting start new bytes (take (length rest - count) (drop count rest))
+IsWriting-more {start} {old} {bytes} {rest} new count before wrote = rw take_rest (record {
+  done = before.done ++ take count rest;
+  parts = append_assoc before.done (take count rest) (drop count rest) ∙ ap (λ w. before.done ++ w) (take-append-drop count rest) ∙ before.parts;
+  wrote = Appends-trans start old new before.done (take count rest) before.wrote wrote;
+})
+
+-- none of the bytes was taken
+Keeps-nil : (old new : Option (List ℕ)) → Appends old new [] → Keeps old new
+Keeps-nil None new wrote = tt
+Keeps-nil (Some before) None wrote = wrote
+Keeps-nil (Some before) (Some after) wrote = wrote ∙ append-nil before
+
+pub Keeps-none : (old new : Option (List ℕ)) (bytes : List ℕ) (count : ℕ) → count ≡ 0 → Appends old new (take count bytes) → Keeps old new
+Keeps-none old new bytes count none wrote = Keeps-nil old new (subst (λ n. Appends old new (take n bytes)) none wrote)
+
+-- a beginning of some bytes was appended
+AppendsPart-front : (start new : Option (List ℕ)) (front rest bytes : List ℕ) → Appends start new front → front ++ rest ≡ bytes → AppendsPart start new bytes
+AppendsPart-front start new front rest bytes wrote parts = record {
+  count = length front;
+  wrote = subst (Appends start new) (sym (ap (take (length front)) (sym parts) ∙ take-append_seam front rest)) wrote;
+}
+
+pub IsWriting-part : {start old : Option (List ℕ)} {bytes rest : List ℕ} (new : Option (List ℕ)) → IsWriting start old bytes rest → Keeps old new
+    → AppendsPart start new bytes
+IsWriting-part {start} {old} {bytes} {rest} new writing kept =
+    AppendsPart-front start new writing.done rest bytes (Appends-kept start old new writing.done writing.wrote kept) writing.parts
+
+pub AppendsPart-whole : (start old new : Option (List ℕ)) (bytes : List ℕ) → Appends start old bytes → Keeps old new → AppendsPart start new bytes
+AppendsPart-whole start old new bytes wrote kept = AppendsPart-front start new bytes [] bytes (Appends-kept start old new bytes wrote kept) (append-nil bytes)
+
+newline_parts : (rest : List ℕ) (at : ℕ) → position (λ byte. byte == 10) rest ≡ Some at → 10 ∷ drop 1 (drop at rest) ≡ drop at rest
+newline_parts rest at e =
+    let found = position-Some (λ byte. byte == 10) rest at 0 e in
+    let more = drop_more rest at 0 found.0 in
+    ap (λ l. 10 ∷ drop 1 l) more ∙ ap (λ b. b ∷ drop (at + 1) rest) (sym (is_newline (get_or rest at 0) found.1)) ∙ sym more
+
+pub OnErr-always : {T E P : Type 0} (result : Result T E) → P → OnErr result P
+OnErr-always (Ok value) holds = tt
+OnErr-always (Err error) holds = holds
+
+pub OnErr-step : {T E P Q : Type 0} (result : Result T E) → OnErr result P → (P → Q) → OnErr result Q
+OnErr-step (Ok value) holds step = tt
+OnErr-step (Err error) holds step = step holds
+
+-- bytes that follow an empty text
+pub after_empty : {old said new : List ℕ} → old ≡ [] → new ≡ old ++ said → new ≡ said
+after_empty {said = said} none e = e ∙ ap (λ l. l ++ said) none
+
+pub replies_to-append : (answer : List ℕ → List ℕ) (xs ys : List (List ℕ)) → replies_to answer (xs ++ ys) ≡ replies_to answer xs ++ replies_to answer ys
+unfolding replies_to
+replies_to-append answer xs ys = flat_map-append (reply answer) xs ys
+
+pub replies_to-one : (answer : List ℕ → List ℕ) (line : List ℕ) → replies_to answer (line ∷ []) ≡ reply answer line
+unfolding replies_to
+replies_to-one answer line = append-nil (reply answer line)
+
+-- an empty line that has begun isn't a line
+pub replies_to-none : (answer : List ℕ → List ℕ) (begun : List ℕ) → begun ≡ [] → replies_to answer (line_of_last begun) ≡ []
+unfolding replies_to
+replies_to-none answer begun e = ap (λ l. replies_to answer (line_of_last l)) e
+
+pub replies_to-last : (answer : List ℕ → List ℕ) (begun : List ℕ) → begun ≢ [] → replies_to answer (line_of_last begun) ≡ reply answer begun
+replies_to-last answer [] some = absurd (some refl)
+replies_to-last answer (byte ∷ rest) some = replies_to-one answer (byte ∷ rest)
+
+pub ruleset last_line = (replies_to-none, replies_to-last, append-nil)
+
+-- The answer to a line, for the lemmas below.
+module _ (answer : List ℕ → List ℕ) where
+  -- bytes without a newline came
+  pub IsAfter-run : {text written waiting kept kept' : List ℕ} {over over' : Bool} (run : List ℕ) → IsAfter answer text written waiting kept over
+      → IsOnePiece run → IsLine kept' over' (last_piece text ++ run) → IsAfter answer (text ++ run) written waiting kept' over'
+  IsAfter-run {text} {kept' = kept'} {over' = over'} run before one line = record {
+    answered = before.answered ∙ ap (replies_to answer) (sym (ended_lines-run text run one));
+    line = subst (IsLine kept' over') (sym (last_piece-run text run one)) line;
+  }
+
+  -- bytes without a newline came, and then a newline
+  pub IsAfter-line : {text written waiting waiting' kept kept' : List ℕ} {over over' : Bool} (run : List ℕ) → IsAfter answer text written waiting kept over
+      → IsOnePiece run → waiting' ≡ waiting ++ reply answer (last_piece text ++ run) → IsLine kept' over' []
+      → IsAfter answer (text ++ run ++ 10 ∷ []) written waiting' kept' over'
+  IsAfter-line {text} {written} {waiting} {kept' = kept'} {over' = over'} run before one said line =
+      let new = last_piece text ++ run in
+      record {
+        answered = ap (λ w. written ++ w) said ∙ sym (append_assoc written waiting (reply answer new)) ∙ ap (λ w. w ++ reply answer new) before.answered
+            ∙ ap (λ w. replies_to answer (ended_lines text) ++ w) (sym (replies_to-one answer new))
+            ∙ sym (replies_to-append answer (ended_lines text) (new ∷ []))
+            ∙ ap (replies_to answer) (sym (ended_lines-line text run one));
+        line = subst (IsLine kept' over') (sym (last_piece-line text run)) line;
+      }
+
+  -- all of some bytes but a rest came after any text
+  pub record IsFeeding (waiting kept : List ℕ) (over : Bool) (waiting' kept' : List ℕ) (over' : Bool) (bytes rest : List ℕ) : Type 0 where
+    pub done : List ℕ
+    pub parts : done ++ rest ≡ bytes
+    pub after : (text written : List ℕ) → IsAfter answer text written waiting kept over → IsAfter answer (text ++ done) written waiting' kept' over'
+
+  -- one more line was ended
+  pub IsFeeding-line : {waiting kept waiting' kept' waiting'' kept'' bytes : List ℕ} {over over' over'' : Bool} (rest run others : List ℕ) (at : ℕ)
+      → IsFeeding waiting kept over waiting' kept' over' bytes rest → position (λ byte. byte == 10) rest ≡ Some at → run ≡ take at rest → others ≡ drop at rest
+      → ((text written : List ℕ) → IsAfter answer text written waiting' kept' over' → IsOnePiece run
+      → IsAfter answer (text ++ run ++ 10 ∷ []) written waiting'' kept'' over'')
+      → IsFeeding waiting kept over waiting'' kept'' over'' bytes (take (length others - 1) (drop 1 others))
+  IsFeeding-line {waiting'' = waiting''} {kept'' = kept''} {over'' = over''} rest run others at before e front back step = rw take_rest (record {
+    done = before.done ++ run ++ 10 ∷ [];
+    parts = ap (λ o. before.done ++ run ++ 10 ∷ [] ++ drop 1 o) back ∙ append_assoc (before.done ++ run) (10 ∷ []) (drop 1 (drop at rest))
+        ∙ ap (λ o. before.done ++ run ++ o) (newline_parts rest at e) ∙ append_assoc before.done run (drop at rest)
+        ∙ ap (λ r. before.done ++ (r ++ drop at rest)) front ∙ ap (λ r. before.done ++ r) (take-append-drop at rest) ∙ before.parts;
+    after = λ text written b. subst (λ t. IsAfter answer t written waiting'' kept'' over'')
+        (ap (λ t. t ++ 10 ∷ []) (append_assoc text before.done run) ∙ append_assoc text (before.done ++ run) (10 ∷ []))
+        (step (text ++ before.done) written (before.after text written b) (subst IsOnePiece (sym front) (one_piece-take rest at e)));
+  })
+
+  -- the rest has no newline
+  pub IsFeeding-end : {E : Type 0} (result : Result (Unit {0}) E) {waiting kept waiting' kept' bytes : List ℕ} {over over' : Bool}
+      (rest kept'' : List ℕ) (over'' : Bool) → IsFeeding waiting kept over waiting' kept' over' bytes rest → position (λ byte. byte == 10) rest ≡ None
+      → (text written : List ℕ) → IsAfter answer text written waiting kept over
+      → ((begun : List ℕ) → IsLine kept' over' begun → OnOk result (IsLine kept'' over'' (begun ++ rest)))
+      → OnOk result (IsAfter answer (text ++ bytes) written waiting' kept'' over'')
+  IsFeeding-end (Err error) rest kept'' over'' feeding e text written before step = tt
+  IsFeeding-end (Ok unit) {waiting' = waiting'} rest kept'' over'' feeding e text written before step =
+      let after = feeding.after text written before in
+      subst (λ t. IsAfter answer t written waiting' kept'' over'') (append_assoc text feeding.done rest ∙ ap (λ t. text ++ t) feeding.parts)
+      (IsAfter-run rest after (one_piece-whole rest e) (step (last_piece (text ++ feeding.done)) after.line))
+
+  -- memory was refused before the rest
+  pub IsFeeding-refused : {waiting kept waiting' kept' bytes : List ℕ} {over over' : Bool} (rest new : List ℕ)
+      → IsFeeding waiting kept over waiting' kept' over' bytes rest → new ≡ waiting' → (text written : List ℕ) → IsAfter answer text written waiting kept over
+      → rest ≢ []
+      → AreRepliesBefore answer text (text ++ bytes) (written ++ new)
+  IsFeeding-refused {bytes = bytes} rest new feeding same text written before some =
+      let done = feeding.after text written before in
+      let answered = text ++ feeding.done in
+      let whole : answered ++ rest ≡ text ++ bytes = append_assoc text feeding.done rest ∙ ap (λ t. text ++ t) feeding.parts in
+      let IsBelow : List ℕ → Type 0 = λ t. length (ended_lines answered) < length (lines t) in
+      record {
+        refused = length (ended_lines answered);
+        unended = length-ended_lines-append text feeding.done;
+        is_line = subst IsBelow whole (length-lines-more answered rest some);
+        replies =
+            ap (λ w. written ++ w) same ∙ done.answered
+            ∙ ap (replies_to answer) (sym (take-lines answered rest))
+            ∙ ap (λ t. replies_to answer (take (length (ended_lines answered)) (lines t))) whole;
+      }
+
+  -- no reply waits
+  pub IsAfter-served : {start now : Option (List ℕ)} {text kept waiting : List ℕ} {over : Bool} → IsServed answer start now text kept over → waiting ≡ []
+      → IsAfter answer text (replies_to answer (ended_lines text)) waiting kept over
+  IsAfter-served {text = text} served none = record {
+    answered = ap (λ w. replies_to answer (ended_lines text) ++ w) none ∙ append-nil (replies_to answer (ended_lines text));
+    line = served.line;
+  }
+
+  -- the replies that waited were written
+  pub IsServed-written : (result : Result (Unit {0}) RunFault) (new : Option (List ℕ)) (bytes : List ℕ) {start old : Option (List ℕ)}
+      {text text' waiting kept kept' : List ℕ} {over over' : Bool} → IsServed answer start old text kept over
+      → IsAfter answer text' (replies_to answer (ended_lines text)) waiting kept' over' → bytes ≡ waiting → OnOk result (Appends old new bytes)
+      → OnOk result (IsServed answer start new text' kept' over')
+  IsServed-written (Err fault) new bytes served after all wrote = tt
+  IsServed-written (Ok unit) new bytes {start} {old} {text} served after all wrote = record {
+    wrote = subst (Appends start new) (ap (λ w. replies_to answer (ended_lines text) ++ w) all ∙ after.answered)
+        (Appends-trans start old new (replies_to answer (ended_lines text)) bytes served.wrote wrote);
+    line = after.line;
+  }
+
+  -- a writer that failed has a beginning of the replies
+  IsStop-front : (result : Result (Unit {0}) RunFault) (start old new : Option (List ℕ)) (failed : Bool) (earlier text front bytes rest : List ℕ)
+      → Appends start old front → (front ++ bytes) ++ rest ≡ replies answer text → OnErr result (AppendsPart old new bytes) → OnErr result (failed ≡ true)
+      → IfErr result (λ fault. fault ≡ Write) → IfErr result (λ fault. IsStop answer fault start new earlier text failed)
+  IsStop-front (Ok unit) start old new failed earlier text front bytes rest before parts part broken write = tt
+  IsStop-front (Err fault) start old new failed earlier text front bytes rest before parts part broken write =
+      let all = front ++ take part.count bytes in
+      let split : all ++ (drop part.count bytes ++ rest) ≡ (front ++ bytes) ++ rest = sym (append_assoc all (drop part.count bytes) rest)
+      ∙ ap (λ l. l ++ rest) (append_assoc front (take part.count bytes) (drop part.count bytes) ∙ ap (λ l. front ++ l) (take-append-drop part.count bytes)) in
+      inr (
+        write,
+        AppendsPart-front start new all (drop part.count bytes ++ rest) (replies answer text)
+            (Appends-trans start old new front (take part.count bytes) before part.wrote) (split ∙ parts),
+        broken,
+      )
+
+  -- the writer failed among the replies to lines that ended
+  pub IsStop-written : (result : Result (Unit {0}) RunFault) (new : Option (List ℕ)) (failed : Bool) (bytes : List ℕ) {start old : Option (List ℕ)}
+      {text text' waiting kept kept' : List ℕ} {over over' : Bool} → IsServed answer start old text kept over
+      → IsAfter answer text' (replies_to answer (ended_lines text)) waiting kept' over' → bytes ≡ waiting → OnErr result (AppendsPart old new bytes)
+      → OnErr result (failed ≡ true) → IfErr result (λ fault. fault ≡ Write) → IfErr result (λ fault. IsStop answer fault start new text text' failed)
+  IsStop-written result new failed bytes {start} {old} {text} {text'} served after all =
+      let front = replies_to answer (ended_lines text) in
+      let rest = replies_to answer (unended_line text') in
+      IsStop-front result start old new failed text text' front bytes rest served.wrote
+      (ap (λ w. (front ++ w) ++ rest) all ∙ ap (λ w. w ++ rest) after.answered ∙ sym (replies_to-append answer (ended_lines text') (unended_line text')))
+
+  -- the replies to some first lines begin those to all
+  replies_to-take : (count : ℕ) (text : List ℕ) → replies_to answer (take count (lines text)) ++ replies_to answer (drop count (lines text)) ≡ replies
+      answer text
+  replies_to-take count text = sym (replies_to-append answer (take count (lines text)) (drop count (lines text)))
+      ∙ ap (replies_to answer) (take-append-drop count (lines text))
+
+  -- memory was refused, and what waited before was written, or the writer failed then
+  pub IsStop-some : (start old new : Option (List ℕ)) (failed : Bool) (text' bytes waiting : List ℕ) {text kept : List ℕ} {over : Bool}
+      (result : Result (Unit {0}) RunFault) → IsServed answer start old text kept over → AreRepliesBefore answer text text'
+      (replies_to answer (ended_lines text) ++ waiting)
+      → bytes ≡ waiting
+      → OnErr result (AppendsPart old new bytes) → OnErr result (failed ≡ true) → IfErr result (λ fault. fault ≡ Write)
+      → IfErr result (λ fault. IsStop answer fault start new text text' failed)
+  IsStop-some start old new failed text' bytes waiting {text} result served some all =
+      let front = replies_to answer (ended_lines text) in
+      IsStop-front result start old new failed text text' front bytes (replies_to answer (drop some.refused (lines text'))) served.wrote
+      (ap (λ w. (front ++ w) ++ replies_to answer (drop some.refused (lines text'))) all
+      ∙ ap (λ w. w ++ replies_to answer (drop some.refused (lines text'))) some.replies ∙ replies_to-take some.refused text')
+
+  pub AppendsBefore-written : (start old new : Option (List ℕ)) (text' bytes waiting : List ℕ) {text kept : List ℕ} {over : Bool}
+      → IsServed answer start old text kept over → AreRepliesBefore answer text text' (replies_to answer (ended_lines text) ++ waiting) → bytes ≡ waiting
+      → Appends old new bytes → AppendsBefore answer start new text text'
+  AppendsBefore-written start old new text' bytes waiting {text} served some all wrote =
+      let front = replies_to answer (ended_lines text) in
+      record {
+        bytes = front ++ waiting;
+        replies = some;
+        wrote = subst (Appends start new) (ap (λ w. front ++ w) all) (Appends-trans start old new front bytes served.wrote wrote);
+      }
+
+  -- nothing of the last line was written
+  pub AppendsBefore-served : (start now : Option (List ℕ)) (text : List ℕ) {kept : List ℕ} {over : Bool} → IsServed answer start now text kept over
+      → last_piece text ≢ [] → AppendsBefore answer start now text text
+  AppendsBefore-served start now text served some = record {
+    bytes = replies_to answer (ended_lines text);
+    replies = record {
+      refused = length (ended_lines text);
+      unended = omega arith;
+      is_line = length-lines-begun text some;
+      replies = ap (replies_to answer) (sym (ap (λ t. take (length (ended_lines text)) (lines t)) (sym (append-nil text)) ∙ take-lines text []));
+    };
+    wrote = served.wrote;
+  }
+
+  -- the replies to a text are those to its ended lines and then that to its last line
+  replies-parts : (text bytes : List ℕ) → bytes ≡ replies_to answer (unended_line text) → replies_to answer (ended_lines text) ++ bytes ≡ replies answer text
+  replies-parts text bytes last = ap (λ w. replies_to answer (ended_lines text) ++ w) last
+      ∙ sym (replies_to-append answer (ended_lines text) (unended_line text))
+
+  -- the writer failed in the reply to the last line
+  pub IsStop-last : (result : Result (Unit {0}) RunFault) (new : Option (List ℕ)) (failed : Bool) (bytes : List ℕ) {start old : Option (List ℕ)}
+      {text kept : List ℕ} {over : Bool} → IsServed answer start old text kept over → bytes ≡ replies_to answer (unended_line text)
+      → OnErr result (AppendsPart old new bytes) → OnErr result (failed ≡ true) → IfErr result (λ fault. fault ≡ Write)
+      → IfErr result (λ fault. IsStop answer fault start new text text failed)
+  IsStop-last result new failed bytes {start} {old} {text} served last =
+      let front = replies_to answer (ended_lines text) in
+      IsStop-front result start old new failed text text front bytes [] served.wrote (append-nil (front ++ bytes) ∙ replies-parts text bytes last)
+
+  -- the reply to the last line was written
+  pub Appends-last : (result : Result (Unit {0}) RunFault) (new : Option (List ℕ)) (bytes : List ℕ) {start old : Option (List ℕ)} {text kept : List ℕ}
+      {over : Bool} → IsServed answer start old text kept over → bytes ≡ replies_to answer (unended_line text) → OnOk result (Appends old new bytes)
+      → OnOk result (Appends start new (replies answer text))
+  Appends-last (Err fault) new bytes served last wrote = tt
+  Appends-last (Ok unit) new bytes {start} {old} {text} served last wrote =
+      subst (Appends start new) (replies-parts text bytes last) (Appends-trans start old new (replies_to answer (ended_lines text)) bytes served.wrote wrote)
+
+  -- nothing was read
+  pub IsServed-begin : (start : Option (List ℕ)) (kept : List ℕ) (over : Bool) → IsLine kept over [] → IsServed answer start start [] kept over
+  unfolding replies_to
+  IsServed-begin start kept over line = record {
+    wrote = subst (Appends start start) (sym (ap (replies_to answer) ended_lines-nil)) (Appends-nil start);
+    line = subst (IsLine kept over) (sym last_piece-nil) line;
+  }
+
+  -- some bytes of the input were taken, and served
+  pub record IsRunning (in0 in1 out0 out1 : Option (List ℕ)) (kept : List ℕ) (over : Bool) : Type 0 where
+    pub took : List ℕ
+    pub read : Consumes in0 in1 took
+    pub served : IsServed answer out0 out1 took kept over
+
+  pub IsRunning-begin : (in0 out0 : Option (List ℕ)) (kept : List ℕ) (over : Bool) → IsLine kept over [] → IsRunning in0 in0 out0 out0 kept over
+  IsRunning-begin in0 out0 kept over line = record { took = []; read = Consumes-nil in0; served = IsServed-begin out0 kept over line }
+
+  -- more bytes of the input were taken, and served
+  pub IsRunning-more : {in0 in1 out0 out1 : Option (List ℕ)} {kept kept' : List ℕ} {over over' : Bool} (in2 out2 : Option (List ℕ)) (more : List ℕ)
+      (running : IsRunning in0 in1 out0 out1 kept over) → Consumes in1 in2 more → IsServed answer out0 out2 (running.took ++ more) kept' over'
+      → IsRunning in0 in2 out0 out2 kept' over'
+  IsRunning-more {in0} {in1} in2 out2 more running read served =
+      record { took = running.took ++ more; read = Consumes-trans in0 in1 in2 running.took more running.read read; served = served }
+
+  -- the input gives no more bytes
+  pub AnswersAll-end : (result : Result (Unit {0}) RunFault) {in0 in1 out0 out1 : Option (List ℕ)} {kept : List ℕ} {over : Bool}
+      (in2 out2 : Option (List ℕ)) (running : IsRunning in0 in1 out0 out1 kept over) → Consumes in1 in2 [] → IsAtEnd in2
+      → OnOk result (Appends out0 out2 (replies answer running.took)) → OnOk result (AnswersAll answer in0 in2 out0 out2)
+  AnswersAll-end (Err fault) in2 out2 running read end wrote = tt
+  AnswersAll-end (Ok unit) {in0} {in1} in2 out2 running read end wrote = record {
+    took = running.took;
+    read = subst (Consumes in0 in2) (append-nil running.took) (Consumes-trans in0 in1 in2 running.took [] running.read read);
+    ended = end;
+    wrote = wrote;
+  }
+
+  -- the state after a stop
+  pub record StopLeaves (result : Result (Unit {0}) RunFault) (in0 in1 out0 out1 : Option (List ℕ)) (failed : Bool) : Type 0 where
+    pub memory : result ≡ Err Memory → AnswersBefore answer in0 in1 out0 out1
+    pub not_read : result ≢ Err Read
+    pub write : result ≡ Err Write → AnswersPart answer in0 in1 out0 out1
+    pub write_only : result ≡ Err Write → failed ≡ true
+
+  pub StopLeaves-IsStop : (result : Result (Unit {0}) RunFault) {in0 in1 out0 out1 : Option (List ℕ)} {kept : List ℕ} {over : Bool}
+      (in2 out2 : Option (List ℕ)) (failed : Bool) (text more : List ℕ) (running : IsRunning in0 in1 out0 out1 kept over) → Consumes in1 in2 more
+      → length more ≤ longest_read → text ≡ running.took ++ more → IfErr result (λ fault. IsStop answer fault out0 out2 running.took text failed)
+      → StopLeaves result in0 in2 out0 out2 failed
+  StopLeaves-IsStop (Ok unit) in2 out2 failed text more running read one_read whole stop = record {
+    memory = λ e. absurd (cc);
+    not_read = λ e. cc;
+    write = λ e. absurd (cc);
+    write_only = λ e. absurd (cc);
+  }
+  StopLeaves-IsStop (Err fault) {in0} {in1} {out0} {out1} in2 out2 failed text more running read one_read whole (inl refused) =
+      let is : fault ≡ Memory = refused.0 in
+      record {
+        memory = λ e. record {
+          earlier = running.took;
+          last = more;
+          read = Consumes-trans in0 in1 in2 running.took more running.read read;
+          one_read = one_read;
+          answered = subst (AppendsBefore answer out0 out2 running.took) whole refused.1;
+        };
+        not_read = λ e. cc;
+        write = λ e. absurd (cc);
+        write_only = λ e. absurd (cc);
+      }
+  StopLeaves-IsStop (Err fault) {in0} {in1} {out0} {out1} in2 out2 failed text more running read one_read whole (inr broken) =
+      let is : fault ≡ Write = broken.0 in
+      record {
+        memory = λ e. absurd (cc);
+        not_read = λ e. cc;
+        write = λ e. record {
+          took = text;
+          read = subst (Consumes in0 in2) (sym whole) (Consumes-trans in0 in1 in2 running.took more running.read read);
+          wrote = broken.1;
+        };
+        write_only = λ e. broken.2;
+      }

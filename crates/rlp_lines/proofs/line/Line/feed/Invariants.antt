@@ -1,0 +1,13 @@
+use Rattle.std.proofs.Common.{length}
+use Rattle.rlp_lines.specs.Replies.{answer_by}
+use Rattle.rlp_lines.proofs.ProgressLemmas.{IsFeeding}
+use Rattle.rlp_lines.proofs.line.Line.feed.Given as goal
+use Rattle.std.proofs.Common.{string_bytes}
+
+abbrev pub invariant-loop-at : goal.invariant-loop-at
+invariant-loop-at g l =
+    IsFeeding (answer_by g.A.LineAnswers.answer_within) (string_bytes l.initial.out) l.initial.self.bytes.items l.initial.self.over (string_bytes l.out)
+    l.self.bytes.items l.self.over l.bytes l.rest
+
+abbrev pub decreases-loop-at : goal.decreases-loop-at
+decreases-loop-at g l = length l.rest

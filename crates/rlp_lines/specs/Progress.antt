@@ -1,0 +1,33 @@
+-- The bookkeeping of the loop over the input, which only clauses of private functions cite.
+use Rattle.std.specs.Prelude.{◌≡◌, ◌<◌, Bool, true, false, ℕ, List, [], ◌∷◌, ◌++◌, length, Option, ◌⊎◌}
+use Rattle.std.specs.Io.KnownBytes.{Appends}
+use Rattle.rlp_lines.specs.Lines.{pieces, ended_lines, last_piece}
+use Rattle.rlp_lines.specs.Replies.{longest_line, replies_to, replies}
+use Rattle.rlp_lines.specs.Run.{AppendsBefore, AppendsPart}
+use Rattle.rlp_lines.specs.declared.serving.RunFault.{RunFault}
+use Rattle.rlp_lines.specs.declared.serving.RunFault.TheVariants.{Memory, Write}
+
+-- no newline is among these bytes
+abbrev pub IsOnePiece : List ℕ → Type 0
+IsOnePiece run = pieces run ≡ run ∷ []
+
+-- the bytes kept of the current line, or the fact that it is too long
+abbrev pub IsLine : List ℕ → Bool → List ℕ → Type 0
+IsLine kept false begun = kept ≡ begun
+IsLine kept true begun = longest_line < length begun
+
+-- the state after a text: some replies were written, the others wait, and the last piece is kept
+pub record IsAfter (answer : List ℕ → List ℕ) (text written waiting kept : List ℕ) (over : Bool) : Type 0 where
+  pub answered : written ++ waiting ≡ replies_to answer (ended_lines text)
+  pub line : IsLine kept over (last_piece text)
+
+-- the state after a text: all its ended lines were answered, and the last piece is kept
+pub record IsServed (answer : List ℕ → List ℕ) (start now : Option (List ℕ)) (text kept : List ℕ) (over : Bool) : Type 0 where
+  pub wrote : Appends start now (replies_to answer (ended_lines text))
+  pub line : IsLine kept over (last_piece text)
+
+-- how the answers to a text stop: out of memory, the whole replies to the lines before the refused one were written;
+-- a writer that failed has a beginning of the replies
+abbrev pub IsStop : (List ℕ → List ℕ) → RunFault → Option (List ℕ) → Option (List ℕ) → List ℕ → List ℕ → Bool → Type 0
+IsStop answer fault start new earlier text failed =
+    ((fault ≡ Memory) × AppendsBefore answer start new earlier text) ⊎ ((fault ≡ Write) × AppendsPart start new (replies answer text) × (failed ≡ true))

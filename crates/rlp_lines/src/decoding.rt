@@ -1,0 +1,98 @@
+//! Hexadecimal digits, tested and decoded. If there are many, this takes no branch for each.
+
+ghost use Rattle.std.specs.Prelude.{◌≡◌, ◌*◌, ◌/◌, ◌%◌, ◌<◌, ◌≤◌, length, take, IsTrue, Some, None, Ok, false, if◌then◌else◌};
+ghost use Rattle.std.specs.List.{list_all};
+ghost use Rattle.std.specs.Result.{result_ok};
+ghost use Rattle.hex.specs.Hex.{decode_of, hex_digit_value, is_hex_digit};
+
+/// The most digits that are decoded one by one. To begin with many at once takes longer.
+const FEW: usize = 16;
+
+/// Whether a byte is a digit of either case.
+fn is_digit(byte: u8) -> bool
+    ensures { result ≡ is_hex_digit byte }
+{
+    byte.is_ascii_hexdigit()
+}
+
+/// Whether all bytes are digits. It reads each of them, so that many can be tested at once.
+fn are_digits(text: &[u8]) -> bool
+    ensures { result ≡ list_all is_hex_digit text.now }
+{
+    let mut all = true;
+    for byte in text {
+        all &= is_digit(*byte);
+    }
+    all
+}
+
+/// Whether a text is digits, two for each byte.
+pub(crate) fn are_pairs(text: &[u8]) -> bool
+    ensures some { IsTrue result
+        → (length text.now % 2 ≡ 0) × IsTrue (list_all is_hex_digit text.now) }
+    ensures none { result ≡ false → result_ok (decode_of text.now) ≡ None }
+{
+    if text.len() % 2 != 0 {
+        return false;
+    }
+    are_digits(text)
+}
+
+/// The number that a digit stands for. The low four bits of `A` and of `a` are 1.
+fn value_of(digit: u8) -> u8
+    requires { IsTrue (is_hex_digit digit) }
+    ensures value { hex_digit_value digit ≡ Some result }
+    ensures small { result < 16 }
+{
+    digit % 16 + digit / 64 * 9
+}
+
+/// Writes the bytes of digits, two for each byte, to the front of a buffer.
+pub(crate) fn put_bytes(digits: &[u8], out: &mut [u8])
+    requires two { length digits.now % 2 ≡ 0 }
+    requires room { length digits.now ≤ 2 * length out.old }
+    requires digits { IsTrue (list_all is_hex_digit digits.now) }
+    ensures { decode_of digits.now ≡ Ok (take (length digits.now / 2) out.new) }
+{
+    for i in 0..digits.len() / 2 {
+        out[i] = value_of(digits[2 * i]) * 16 + value_of(digits[2 * i + 1]);
+    }
+}
+
+/// The same for a text that may not be digits. Returns `false` if it isn't.
+fn put_few(digits: &[u8], out: &mut [u8]) -> bool
+    requires { length digits.now / 2 ≤ length out.old }
+    ensures { result_ok (decode_of digits.now)
+        ≡ (if result then Some (take (length digits.now / 2) out.new) else None) }
+{
+    if digits.len() % 2 != 0 {
+        return false;
+    }
+    for i in 0..digits.len() / 2 {
+        if !is_digit(digits[2 * i]) {
+            return false;
+        }
+        if !is_digit(digits[2 * i + 1]) {
+            return false;
+        }
+        out[i] = value_of(digits[2 * i]) * 16 + value_of(digits[2 * i + 1]);
+    }
+    true
+}
+
+/// Decodes a text of digits, two for each byte, to the front of a buffer. Returns `false` if the
+/// text isn't digits.
+pub fn decode(digits: &[u8], out: &mut [u8]) -> bool
+    requires { length digits.now / 2 ≤ length out.old }
+    ensures { result_ok (decode_of digits.now)
+        ≡ (if result then Some (take (length digits.now / 2) out.new) else None) }
+{
+    if digits.len() <= FEW {
+        return put_few(digits, out);
+    }
+    if !are_pairs(digits) {
+        return false;
+    }
+    put_bytes(digits, out);
+    true
+}

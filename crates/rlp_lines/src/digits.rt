@@ -1,0 +1,129 @@
+//! Bytes and numbers as digits, read and printed.
+ghost use Rattle.std.specs.Prelude.{◌≡◌, ◌≢◌, ◌++◌, ◌*◌, ◌<◌, ◌≤◌, slice_index, [], length, string_bytes, option_map, IfOk, OnErr, OnOk};
+ghost use Rattle.std.specs.Option.{IsSomeAnd};
+ghost use Rattle.hex.specs.Hex.{encode_lower, lower_digits};
+ghost use Rattle.rlp_lines.specs.Digits.{digits_of, bytes_in, number_in, with_digit};
+
+use crate::decoding::{are_pairs, put_bytes};
+use std::alloc::{AllocError, Global};
+use std::str::from_utf8;
+
+/// The number of bytes that are printed at once as digits.
+const AT_ONCE: usize = 64;
+
+/// The text without a leading `0x`.
+pub fn without_prefix(text: &[u8]) -> &[u8]
+    ensures { result.now ≡ digits_of text.now }
+{
+    match text {
+        [b'0', b'x', digits @ ..] => digits,
+        _ => text,
+    }
+}
+
+/// The bytes of a text of hexadecimal digits of either case, two for each byte, after an optional
+/// `0x`. Returns `None` if the text isn't digits. Fails with `AllocError` if memory is refused.
+pub fn read_bytes(alloc: Global, text: &[u8]) -> Result<Option<Vec<u8>>, AllocError>
+    ensures gives { IfOk result (λ read. option_map (λ v. v.items) read ≡ bytes_in text.now) }
+    ensures refused { OnErr result (IsSomeAnd (bytes_in text.now) (λ bytes. bytes ≢ [])) }
+{
+    let digits = without_prefix(text);
+    if !are_pairs(digits) {
+        return Ok(None);
+    }
+    if digits.is_empty() {
+        return Ok(Some(Vec::new(alloc)));
+    }
+    let mut bytes = vec![in alloc; 0u8; digits.len() / 2]?;
+    put_bytes(digits, bytes.as_mut_slice());
+    Ok(Some(bytes))
+}
+
+/// The number with one more digit at its end. Returns `None` if the byte isn't a digit, or if the
+/// number isn't below 2^64.
+fn put_digit(value: usize, byte: u8) -> Option<usize>
+    ensures { result ≡ with_digit value byte }
+{
+    if !byte.is_ascii_digit() {
+        return None;
+    }
+    let Some(tens) = value.checked_mul(10) else {
+        return None;
+    };
+    tens.checked_add(usize::from(byte - b'0'))
+}
+
+/// The number of a text of decimal digits. Returns `None` if the text has another byte or none, or if
+/// the number isn't below 2^64.
+#[tactic(auto, using(crate::proofs::DigitLemmas::small_digit))]
+pub fn read_number(text: &[u8]) -> Option<usize>
+    ensures { result ≡ number_in text.now }
+{
+    if text.is_empty() {
+        return None;
+    }
+    let mut value = 0;
+    let mut rest = text;
+    while let Some((byte, others)) = rest.split_first() {
+        let Some(more) = put_digit(value, *byte) else {
+            return None;
+        };
+        value = more;
+        rest = others;
+    }
+    Some(value)
+}
+
+/// The lower-case digit of a number below 16.
+#[tactic(auto, using(crate::proofs::DigitLemmas::digit_small, crate::proofs::DigitLemmas::digit_large))]
+fn digit_of(number: u8) -> u8
+    requires { number < 16 }
+    ensures { result ≡ slice_index lower_digits number }
+{
+    if number < 10 {
+        b'0' + number
+    } else {
+        b'a' - 10 + number
+    }
+}
+
+/// Writes each byte as two digits, without a branch for each digit.
+fn put_digits(bytes: &[u8], out: &mut [u8])
+    requires { length out.old ≡ 2 * length bytes.now }
+    ensures { out.new ≡ encode_lower bytes.now }
+{
+    for i in 0..bytes.len() {
+        out[2 * i] = digit_of(bytes[i] / 16);
+        out[2 * i + 1] = digit_of(bytes[i] % 16);
+    }
+}
+
+/// Appends a few bytes in one piece, each as two digits.
+fn push_few(bytes: &[u8], out: &mut String) -> Result<(), AllocError>
+    requires { length bytes.now ≤ 64 }
+    ensures { OnOk result
+        (string_bytes out.new ≡ string_bytes out.old ++ encode_lower bytes.now) }
+{
+    let mut room = [0u8; 2 * AT_ONCE];
+    let digits = &mut room[..2 * bytes.len()];
+    put_digits(bytes, digits);
+    match from_utf8(digits) {
+        Ok(digits) => out.push_str(digits),
+        Err(_) => Err(AllocError),
+    }
+}
+
+/// Appends each byte as two lower-case hexadecimal digits. Fails with `AllocError` if memory is
+/// refused.
+pub fn push_bytes(bytes: &[u8], out: &mut String) -> Result<(), AllocError>
+    ensures { OnOk result
+        (string_bytes out.new ≡ string_bytes out.old ++ encode_lower bytes.now) }
+{
+    let mut rest = bytes;
+    while rest.len() > AT_ONCE {
+        let (front, after) = rest.split_at(AT_ONCE);
+        push_few(front, out)?;
+        rest = after;
+    }
+    push_few(rest, out)
+}

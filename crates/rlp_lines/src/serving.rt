@@ -1,0 +1,192 @@
+//! The loop over the input.
+ghost use Rattle.std.specs.Prelude.{◌≡◌, ◌-◌, ◌^◌, ◌++◌, ◌<◌, ◌⊎◌, ℕ, List, OnOk, OnErr, IfErr, Option, string_bytes, true, false};
+ghost use Rattle.std.specs.Io.KnownBytes.{Appends};
+ghost use Rattle.rlp_lines.specs.Replies.{answer_by, replies};
+ghost use Rattle.rlp_lines.specs.Progress.{IsServed, IsStop};
+ghost use Rattle.rlp_lines.specs.Run.{AppendsPart, AnswersAll, AnswersBefore, AnswersEnded, AnswersPart};
+
+use crate::answering::LineAnswers;
+use crate::line::Line;
+use crate::noted::Noted;
+use std::alloc::Global;
+use std::io::{Read, Write};
+
+/// The most bytes of one read.
+const CHUNK: usize = 16_384;
+
+/// Why a run ended before the end of its input.
+#[derive(Debug, PartialEq, Eq, Drop)]
+pub enum RunFault {
+    /// Memory was refused.
+    Memory,
+    /// A read failed, or the count of reads was at `u64::MAX` before the end of the input.
+    Read,
+    /// A write or the last flush failed, or a write took no byte.
+    Write,
+}
+
+impl RunFault {
+    ghost use Rattle.rlp_lines.specs.Status.{status_of};
+
+    /// The exit status of a program after this fault.
+    pub fn status(&self) -> u8
+        ensures { result ≡ status_of self.now }
+    {
+        match self {
+            RunFault::Memory => 1,
+            RunFault::Read => 2,
+            RunFault::Write => 3,
+        }
+    }
+}
+
+/// Writes all the bytes.
+fn write_whole<W: Write>(output: &mut Noted<W>, bytes: &[u8]) -> Result<(), RunFault>
+    ensures ok { OnOk result (Appends (W.contents output.old.inner)
+        (W.contents output.new.inner) bytes.now) }
+    ensures kept { OnOk result (output.new.failed ≡ output.old.failed) }
+    ensures part { OnErr result (AppendsPart (W.contents output.old.inner)
+        (W.contents output.new.inner) bytes.now) }
+    ensures failed { OnErr result (output.new.failed ≡ true) }
+    ensures fault { IfErr result (λ fault. fault ≡ RunFault.Write) }
+{
+    let mut rest = bytes;
+    while !rest.is_empty() {
+        match output.write(rest) {
+            Ok(0) => return Err(RunFault::Write),
+            Ok(count) => rest = &rest[count..],
+            Err(_) => return Err(RunFault::Write),
+        }
+    }
+    Ok(())
+}
+
+/// Writes all the bytes, and flushes.
+fn write_last<W: Write>(output: &mut Noted<W>, bytes: &[u8]) -> Result<(), RunFault>
+    ensures ok { OnOk result (Appends (W.contents output.old.inner)
+        (W.contents output.new.inner) bytes.now) }
+    ensures kept { OnOk result (output.new.failed ≡ output.old.failed) }
+    ensures flushed { OnOk result (output.new.flushed ≡ true) }
+    ensures part { OnErr result (AppendsPart (W.contents output.old.inner)
+        (W.contents output.new.inner) bytes.now) }
+    ensures failed { OnErr result (output.new.failed ≡ true) }
+    ensures fault { IfErr result (λ fault. fault ≡ RunFault.Write) }
+{
+    write_whole(output, bytes)?;
+    match output.flush() {
+        Ok(()) => Ok(()),
+        Err(_) => Err(RunFault::Write),
+    }
+}
+
+/// Answers the lines that end in these bytes. It stops at the first line for which memory is
+/// refused.
+fn serve<A: LineAnswers, W: Write>(
+    alloc: Global,
+    line: &mut Line,
+    answers: &mut String,
+    output: &mut Noted<W>,
+    bytes: &[u8],
+) -> Result<(), RunFault>
+    ensures ok { (start : Option (List ℕ)) (text : List ℕ)
+        → IsServed (answer_by A.answer_within) start (W.contents output.old.inner) text line.old.bytes.items line.old.over
+        → OnOk result (IsServed (answer_by A.answer_within) start (W.contents output.new.inner) (text ++ bytes.now)
+        line.new.bytes.items line.new.over) }
+    ensures kept { OnOk result (output.new.failed ≡ output.old.failed) }
+    ensures stop { (start : Option (List ℕ)) (text : List ℕ)
+        → IsServed (answer_by A.answer_within) start (W.contents output.old.inner) text line.old.bytes.items line.old.over
+        → IfErr result (λ fault. IsStop (answer_by A.answer_within) fault start
+        (W.contents output.new.inner) text (text ++ bytes.now) output.new.failed) }
+
+    // The finished replies are written even if memory was refused after them.
+    ensures waiting { result ≡ Err RunFault.Memory → Appends (W.contents output.old.inner)
+        (W.contents output.new.inner) (string_bytes answers.new) }
+{
+    answers.clear();
+    match line.feed::<A>(alloc, bytes, answers) {
+        Ok(()) => write_whole(output, answers.as_bytes()),
+        Err(_) => match write_whole(output, answers.as_bytes()) {
+            Ok(()) => Err(RunFault::Memory),
+            Err(fault) => Err(fault),
+        },
+    }
+}
+
+/// Answers a last line without a newline, and flushes.
+fn finish<A: LineAnswers, W: Write>(
+    alloc: Global,
+    line: &mut Line,
+    answers: &mut String,
+    output: &mut Noted<W>,
+) -> Result<(), RunFault>
+    ensures ok { (start : Option (List ℕ)) (text : List ℕ)
+        → IsServed (answer_by A.answer_within) start (W.contents output.old.inner) text line.old.bytes.items line.old.over
+        → OnOk result (Appends start (W.contents output.new.inner) (replies (answer_by A.answer_within) text)) }
+    ensures kept { OnOk result (output.new.failed ≡ output.old.failed) }
+    ensures flushed { OnOk result (output.new.flushed ≡ true) }
+    ensures stop { (start : Option (List ℕ)) (text : List ℕ)
+        → IsServed (answer_by A.answer_within) start (W.contents output.old.inner) text line.old.bytes.items line.old.over
+        → IfErr result (λ fault. IsStop (answer_by A.answer_within) fault start
+        (W.contents output.new.inner) text text output.new.failed) }
+{
+    answers.clear();
+    match line.finish::<A>(alloc, answers) {
+        Ok(()) => write_last(output, answers.as_bytes()),
+        Err(_) => Err(RunFault::Memory),
+    }
+}
+
+/// Answers each line of the input as `A` says, until its end. The answer to a line of more than
+/// 131,072 bytes is `error long line`.
+///
+/// Fails with the fault that stopped it. It has written whole answers only, except after `Write`.
+/// After `Memory` it has written the answers to exactly the lines before some line, which had not
+/// ended before the last read.
+pub fn answer_lines<A: LineAnswers, R: Read, W: Write>(
+    alloc: Global,
+    input: &mut Noted<R>,
+    output: &mut Noted<W>,
+) -> Result<(), RunFault>
+    requires input { input.old.failed ≡ false }
+    requires output { output.old.failed ≡ false }
+
+    // At the end of the input, all lines are answered, the output is flushed, and neither device
+    // has failed.
+    ensures ok { OnOk result (AnswersAll (answer_by A.answer_within)
+        (R.remaining input.old.inner) (R.remaining input.new.inner)
+        (W.contents output.old.inner) (W.contents output.new.inner)) }
+    ensures faultless { OnOk result ((input.new.failed ≡ false) × (output.new.failed ≡ false)) }
+    ensures flushed { OnOk result (output.new.flushed ≡ true) }
+
+    // What was written before each fault, and which device has failed.
+    ensures memory { result ≡ Err RunFault.Memory → AnswersBefore (answer_by A.answer_within)
+        (R.remaining input.old.inner) (R.remaining input.new.inner)
+        (W.contents output.old.inner) (W.contents output.new.inner) }
+    ensures read { result ≡ Err RunFault.Read → AnswersEnded (answer_by A.answer_within)
+        (R.remaining input.old.inner) (R.remaining input.new.inner)
+        (W.contents output.old.inner) (W.contents output.new.inner) }
+    ensures read_only { result ≡ Err RunFault.Read → (input.new.failed ≡ true)
+        ⊎ (input.new.reads ≡ 2 ^ 64 - 1) }
+    ensures write { result ≡ Err RunFault.Write → AnswersPart (answer_by A.answer_within)
+        (R.remaining input.old.inner) (R.remaining input.new.inner)
+        (W.contents output.old.inner) (W.contents output.new.inner) }
+    ensures write_only { result ≡ Err RunFault.Write → output.new.failed ≡ true }
+{
+    let mut line = Line::new(alloc);
+    let mut answers = String::new(alloc);
+    let mut buffer = [0u8; CHUNK];
+    'reading: while input.reads() < u64::MAX {
+        let count = match input.read(&mut buffer) {
+            Ok(count) => count,
+            Err(_) => return Err(RunFault::Read),
+        };
+        if count == 0 {
+            return finish::<A, W>(alloc, &mut line, &mut answers, output);
+        }
+        let chunk = &buffer[..count];
+        if let Err(fault) = serve::<A, W>(alloc, &mut line, &mut answers, output, chunk) {
+            return Err(fault);
+        }
+    }
+    Err(RunFault::Read)
+}
