@@ -11,7 +11,7 @@ struct Columns<'a>(&'a [u64]);
 
 impl Encodable for Columns<'_> {
     ghost use Rattle.std.specs.Prelude.{All, map};
-    ghost use Rattle.rlp_format.specs.Format.Item.{list_of};
+    ghost use Rattle.rlp.specs.Format.Item.{list_of};
     ghost use Rattle.rlp.specs.Values.Value.{FitsBytes, number_item};
 
     ghost item = { λ v. list_of (map number_item v.0.now) };
@@ -28,9 +28,9 @@ struct LastField(Option<u64>);
 
 impl Encodable for LastField {
     ghost use Rattle.std.specs.Prelude.{[], ◌∷◌, IfSome};
-    ghost use Rattle.rlp_format.specs.Format.Item.{list_of};
+    ghost use Rattle.rlp.specs.Format.Item.{list_of};
     ghost use Rattle.rlp.specs.Values.Value.{FitsBytes, number_item};
-    ghost use Rattle.rlp_streams.specs.Streams.Fields.{items_if};
+    ghost use Rattle.rlp.specs.Streams.Fields.{items_if};
 
     ghost item = { λ v. list_of (items_if (λ n. number_item n ∷ []) v.0) };
 
@@ -46,8 +46,8 @@ struct Tagged(u8, u64);
 
 impl Encodable for Tagged {
     ghost use Rattle.std.specs.Prelude.{◌∷◌};
-    ghost use Rattle.rlp_format.specs.Format.Item.{string};
-    ghost use Rattle.rlp_format.specs.Format.Encoding.{encoding};
+    ghost use Rattle.rlp.specs.Format.Item.{string};
+    ghost use Rattle.rlp.specs.Format.Encoding.{encoding};
     ghost use Rattle.rlp.specs.Values.Value.{FitsBytes, number_item};
 
     ghost item = { λ v. string (v.0 ∷ encoding (number_item v.1)) };
