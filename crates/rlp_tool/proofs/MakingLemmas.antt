@@ -1,8 +1,9 @@
 -- Calls that are made one after another, of which some wait.
-use Rattle.std.proofs.Common.{◌≡◌, ◌≢◌, ℕ, zero, suc, ◌+◌, ◌-◌, ◌<◌, ◌≤◌, nat_eq, true, false, IsTrue, List, [], ◌∷◌, ◌++◌, length, replicate, Option, Some, None, option_map, Result, Ok, Err, IfOk, IsSome, IfErr, OnOk, refl, sym, ap, subst, ◌∙◌}
+use Rattle.std.proofs.Common.{◌≡◌, ◌≢◌, ℕ, zero, suc, ◌+◌, ◌-◌, ◌<◌, ◌≤◌, nat_eq, true, false, IsTrue, List, [], ◌∷◌, ◌++◌, length, replicate, Option, Some, None, option_map, Result, Ok, Err, IsSome, IfErr, OnOk, refl, sym, ap, subst, ◌∙◌, cond, filter_map, Bool, not, is_some, ◌&&◌}
 use Rattle.std.proofs.Common.{append_assoc, append-nil, length-append, arith}
 use Rattle.std.proofs.lemmas.List.{replicate-append-replicate, length-replicate}
 use Rattle.std.specs.Borrow.{Bor}
+use Rattle.std.specs.List.{list_all, prefix_len}
 use Rattle.std.specs.Option.{IsSomeAnd}
 use Rattle.rlp.specs.Format.Item.{string}
 use Rattle.rlp.specs.Streams.Stack.{unbounded_count}
@@ -15,8 +16,8 @@ use Rattle.rlp_tool.specs.Building.{IsSomeStep}
 use Rattle.rlp_tool.specs.Making.{AreMade, AreMadeBut, Goes, IsUnfit, IsUnmade, IsTaken, Stops, StopsScript}
 use Rattle.rlp_tool.specs.declared.script.Piece.{Piece}
 use Rattle.rlp_tool.specs.declared.script.Piece.TheVariants.{Value, Raw, Begin, BeginUnbounded, Finish, Clear}
-use Rattle.rlp_tool.specs.Pieces.{ArePairs, HasPairs, bytes_of, piece_call, pieces_left, spaces}
-use Rattle.rlp_tool.specs.Script.{AddsCall, call_in, calls_in, script}
+use Rattle.rlp_tool.specs.Pieces.{ArePairs, HasPairs, IsRead, bytes_of, left_len, piece_call, pieces_left, spaces}
+use Rattle.rlp_tool.specs.Script.{AddsCall, call_in, calls_in, is_call, script}
 use Rattle.rlp_lines.proofs.DigitLemmas.{read-nothing, read-some}
 use Rattle.rlp_tool.proofs.CallsLemmas.{made_more, made_none}
 use Rattle.rlp_tool.proofs.CutLemmas.{left, left_by-unread, reading_begin, reading_end, reading_next}
@@ -162,14 +163,17 @@ pub record IsReading (text : List ℕ) (rest : Option (Bor (List ℕ))) (place w
   pub counted : place ≡ length calls + 1
   pub goes : Goes IsUnmade [] calls waiting s outcome
 
-pub reads_all : (text : List ℕ) (rest : Option (Bor (List ℕ))) (s : State) (outcome : Result (Unit {0}) BuildFault) (end : Unit {0})
-    → script text ≡ calls_in (pieces_left rest) → s ≡ initial_state [] → outcome ≡ Ok end → IsReading text rest 1 0 s outcome
-reads_all text rest s outcome end all is ok = record {
+pub reads_all : (text : List ℕ) (rest : Option (Bor (List ℕ))) (s : State) → script text ≡ calls_in (pieces_left rest) → s ≡ initial_state []
+    → IsReading text rest 1 0 s (Ok tt)
+reads_all text rest s all is = record {
   calls = [];
   decide = reading_begin text rest all;
   counted = refl;
-  goes = subst (Goes IsUnmade [] [] 0 s) (sym ok) (none_waits [] [] s (made_none [] s is));
+  goes = none_waits [] [] s (made_none [] s is);
 }
+
+pub left_some : (all : Option (Bor (List ℕ))) (rest : Bor (List ℕ)) → all ≡ Some rest → left_len all ≡ length rest.now + 1
+left_some all rest is = ap left_len is
 
 -- the digits of a piece are those of some bytes
 some_bytes : (digits : List ℕ) → ArePairs digits → (bytes : List ℕ) × (Some bytes ≡ bytes_of digits)
@@ -197,14 +201,27 @@ some_call Clear pairs = (clear, refl)
 pub some_read : (o : Option Call) (piece : Piece) → HasPairs piece → o ≡ piece_call piece → IsSome o
 some_read o piece pairs read = let (call, called) = some_call piece pairs in subst IsSome (called ∙ sym read) refl
 
--- one more piece is read, and its call made if none failed before
+-- one more piece is a call
+pub read_is_call : (o : Option Piece) (call : Option Call) (none : Bool) → is_some o ≡ not none → none ≡ false → IsRead o call → IsSome call
+read_is_call (Some piece) call none said is read = some_read call piece read.0 read.1
+read_is_call None call none said is read = let no : false ≡ true = said ∙ ap not is in absurd (let never : ⊥ = cc in never)
+
+pub calls_next : (all others : Option (Bor (List ℕ))) (rest : Bor (List ℕ)) (piece : List ℕ) → all ≡ Some rest → spaces rest.now ≡ piece ∷ pieces_left others
+    → IsSome (call_in piece) → (list_all is_call (pieces_left all) ≡ list_all is_call (pieces_left others))
+    × (prefix_len is_call (pieces_left all) ≡ 1 + prefix_len is_call (pieces_left others))
+calls_next all others rest piece is cuts some =
+    let pieces : pieces_left all ≡ piece ∷ pieces_left others = ap pieces_left is ∙ cuts in (
+      ap (list_all is_call) pieces ∙ ap (λ b. b && list_all is_call (pieces_left others)) some,
+      ap (prefix_len is_call) pieces ∙ ap (λ b. cond b (1 + prefix_len is_call (pieces_left others)) 0) some,
+    )
+
+-- one more piece is read, and its call made
 pub reads_next : (text : List ℕ) (all others : Option (Bor (List ℕ))) (rest : Bor (List ℕ)) (cut : List ℕ) (piece : Piece) (place waiting more : ℕ) (s t : State)
-    (before outcome : Result (Unit {0}) BuildFault) → all ≡ Some rest → spaces rest.now ≡ cut ∷ pieces_left others → HasPairs piece
-    → call_in cut ≡ piece_call piece
-    → ((calls : List Call) (call : Call) → Goes IsUnmade [] calls waiting s before → place ≡ length calls + 1 → Some call ≡ piece_call piece
+    (outcome : Result (Unit {0}) BuildFault) → all ≡ Some rest → spaces rest.now ≡ cut ∷ pieces_left others → HasPairs piece → call_in cut ≡ piece_call piece
+    → ((calls : List Call) (call : Call) → AreMadeBut [] calls waiting s → place ≡ length calls + 1 → Some call ≡ piece_call piece
     → Goes IsUnmade [] (calls ++ call ∷ []) more t outcome)
-    → IsReading text all place waiting s before → IsReading text others (place + 1) more t outcome
-reads_next text all others rest cut piece place waiting more s t before outcome is cuts pairs read goes r =
+    → IsReading text all place waiting s (Ok tt) → IsReading text others (place + 1) more t outcome
+reads_next text all others rest cut piece place waiting more s t outcome is cuts pairs read goes r =
     let (call, called) = some_call piece pairs in
     let decide : script text ≡ left r.calls (spaces rest.now) = r.decide ∙ ap (λ o. left r.calls (pieces_left o)) is in
     record {
@@ -217,60 +234,47 @@ reads_next text all others rest cut piece place waiting more s t before outcome 
 
 -- a piece isn't a call
 pub reads_fault : (text : List ℕ) (all others : Option (Bor (List ℕ))) (rest : Bor (List ℕ)) (cut : List ℕ) (place waiting : ℕ) (s : State)
-    (before : Result (Unit {0}) BuildFault) → all ≡ Some rest → spaces rest.now ≡ cut ∷ pieces_left others → call_in cut ≡ None
-    → IsReading text all place waiting s before → script text ≡ Err place
-reads_fault text all others rest cut place waiting s before is cuts none r =
+    (outcome : Result (Unit {0}) BuildFault) → all ≡ Some rest → spaces rest.now ≡ cut ∷ pieces_left others → call_in cut ≡ None
+    → IsReading text all place waiting s outcome → script text ≡ Err place
+reads_fault text all others rest cut place waiting s outcome is cuts none r =
     r.decide ∙ ap (λ o. left r.calls (pieces_left o)) is ∙ ap (left r.calls) cuts ∙ left_by-unread (call_in cut) r.calls (pieces_left others) none
     ∙ ap (λ (n : ℕ). Err n) (sym r.counted)
 
+-- a piece after a call that fails isn't a call
+pub reads_late_fault : (text : List ℕ) (rest : Option (Bor (List ℕ))) (place there waiting : ℕ) (s : State) (outcome : Result (Unit {0}) BuildFault)
+    → list_all is_call (pieces_left rest) ≡ false → there ≡ place + prefix_len is_call (pieces_left rest)
+    → IsReading text rest place waiting s outcome → script text ≡ Err there
+reads_late_fault text rest place there waiting s outcome none at r =
+    let k = prefix_len is_call (pieces_left rest) in
+    let same : length r.calls + 1 + k ≡ there = omega (arith, at, r.counted) in
+    r.decide ∙ ap (λ b. cond b (Ok (r.calls ++ filter_map call_in (pieces_left rest))) (Err (length r.calls + 1 + k))) none ∙ ap (λ (n : ℕ). Err n) same
+
+-- all pieces after a call that fails are calls
+pub reads_stopped : (text : List ℕ) (rest : Option (Bor (List ℕ))) (place waiting : ℕ) (s : State) (fault : BuildFault)
+    → IsTrue (list_all is_call (pieces_left rest)) → IsReading text rest place waiting s (Err fault) → StopsScript text fault
+reads_stopped text rest place waiting s fault all r =
+    let later = filter_map call_in (pieces_left rest) in
+    record {
+      calls = r.calls ++ later;
+      says = r.decide ∙ ap (λ b. cond b (Ok (r.calls ++ later)) (Err (length r.calls + 1 + prefix_len is_call (pieces_left rest)))) all;
+      stops = r.goes later;
+    }
+
 -- no piece is left
-reads_end : (text : List ℕ) (all : Option (Bor (List ℕ))) (place waiting : ℕ) (s : State) (outcome : Result (Unit {0}) BuildFault) → all ≡ None
+pub reads_end : (text : List ℕ) (all : Option (Bor (List ℕ))) (place waiting : ℕ) (s : State) (outcome : Result (Unit {0}) BuildFault) → all ≡ None
     → (r : IsReading text all place waiting s outcome) → script text ≡ Ok r.calls
 reads_end text all place waiting s outcome none r = reading_end text r.calls (r.decide ∙ ap (λ o. left r.calls (pieces_left o)) none)
-
-stops_here : (calls : List Call) (fault : BuildFault) → ((later : List Call) → Stops IsUnmade [] (calls ++ later) fault) → Stops IsUnmade [] calls fault
-stops_here calls fault stops = subst (λ cs. Stops IsUnmade [] cs fault) (append-nil calls) (stops [])
-
-pub reads_stopped : (text : List ℕ) (all : Option (Bor (List ℕ))) (place waiting : ℕ) (s : State) (outcome : Result (Unit {0}) BuildFault)
-    (fault : BuildFault) → all ≡ None → outcome ≡ Err fault → IsReading text all place waiting s outcome → StopsScript text fault
-reads_stopped text all place waiting s outcome fault none is r = record {
-  calls = r.calls;
-  says = reads_end text all place waiting s outcome none r;
-  stops = stops_here r.calls fault (subst (Goes IsUnmade [] r.calls waiting s) is r.goes);
-}
-
--- all calls are made but those that wait
-pub record IsRead (text : List ℕ) (place waiting : ℕ) (s : State) : Type 0 where
-  pub calls : List Call
-  pub says : script text ≡ Ok calls
-  pub counted : place ≡ length calls + 1
-  pub made : AreMadeBut [] calls waiting s
-
-pub reads_to_end : (text : List ℕ) (all : Option (Bor (List ℕ))) (place waiting : ℕ) (s : State) (outcome : Result (Unit {0}) BuildFault)
-    (end : Unit {0}) → all ≡ None → outcome ≡ Ok end → IsReading text all place waiting s outcome → IsRead text place waiting s
-reads_to_end text all place waiting s outcome end none is r = record {
-  calls = r.calls;
-  says = reads_end text all place waiting s outcome none r;
-  counted = r.counted;
-  made = subst (Goes IsUnmade [] r.calls waiting s) is r.goes;
-}
 
 -- fewer calls wait than were read
 pub waits_within : (front : List ℕ) (calls : List Call) (place waiting : ℕ) (s : State) → place ≡ length calls + 1 → AreMadeBut front calls waiting s
     → waiting < place
 waits_within front calls place waiting s at m = omega (arith, at, length-waiting front calls waiting s m)
 
-pub reads_within : (text : List ℕ) (all : Option (Bor (List ℕ))) (place waiting : ℕ) (s : State) (outcome : Result (Unit {0}) BuildFault)
-    → IsReading text all place waiting s outcome → IfOk outcome (λ _. waiting < place)
-reads_within text all place waiting s (Ok end) r = waits_within [] r.calls place waiting s r.counted r.goes
-reads_within text all place waiting s (Err fault) r = tt
-
--- a fault stays
-pub goes_stopped : (calls : List Call) (c : Call) (waiting : ℕ) (s : State) (before : Result (Unit {0}) BuildFault) (fault : BuildFault)
-    → before ≡ Err fault → Goes IsUnmade [] calls waiting s before → (later : List Call) → Stops IsUnmade [] ((calls ++ c ∷ []) ++ later) fault
-goes_stopped calls c waiting s before fault is goes = stops_before IsUnmade [] calls c fault (subst (Goes IsUnmade [] calls waiting s) is goes)
-
 -- the calls that wait can't be made
 pub stops_in_end : (text : List ℕ) (calls : List Call) (fault : BuildFault) → script text ≡ Ok calls
     → ((later : List Call) → Stops IsUnmade [] (calls ++ later) fault) → StopsScript text fault
-stops_in_end text calls fault says stops = record { calls = calls; says = says; stops = stops_here calls fault stops }
+stops_in_end text calls fault says stops = record {
+  calls = calls;
+  says = says;
+  stops = subst (λ cs. Stops IsUnmade [] cs fault) (append-nil calls) (stops []);
+}

@@ -1,5 +1,5 @@
 //! Makes the calls of a script on a stream, each as its piece is read.
-ghost use Rattle.std.specs.Prelude.{ℕ, ◌≡◌, ◌++◌, ◌∷◌, ◌+◌, ◌<◌, [], List, length, IfOk, IfErr, OnOk, Ok, Err, Some};
+ghost use Rattle.std.specs.Prelude.{ℕ, ◌≡◌, ◌++◌, ◌∷◌, ◌+◌, ◌<◌, [], List, length, IfOk, IfErr, OnOk, Ok, Some};
 ghost use Rattle.rlp.specs.Streams.Stream.{initial_state};
 ghost use Rattle.rlp.specs.Format.Item.{string};
 ghost use Rattle.rlp.specs.Streams.Calls.{Call, append, append_raw};
@@ -9,7 +9,7 @@ ghost use Rattle.rlp_tool.specs.Pieces.{ArePairs, HasPairs, bytes_of, piece_call
 
 use crate::building::{BuildFault, has_room, make_waiting, take_call, take_raw};
 use crate::calls::StreamCall;
-use crate::script::{Piece, decode, first_piece, pieces_of, read_piece};
+use crate::script::{Piece, decode, first_piece, first_unread, pieces_of, read_piece};
 use bytes::BytesMut;
 use rlp::RlpStream;
 use std::alloc::Global;
@@ -124,28 +124,6 @@ fn make_piece(
     take_piece(stream, piece, room, place)
 }
 
-/// Makes the call of a piece, unless a call before it failed. Then that fault stays.
-fn go_on(
-    before: Result<(), BuildFault>,
-    stream: &mut RlpStream,
-    waiting: &mut usize,
-    piece: &Piece<'_>,
-    room: &mut Vec<u8>,
-    place: usize,
-) -> Result<(), BuildFault>
-    requires waiting { IfOk before (λ _. waiting.old < place) }
-    requires digits { HasPairs piece.now }
-    ensures { (calls : List Call) (call : Call)
-        → Goes IsUnmade [] calls waiting.old stream.old.state before
-        → place ≡ length calls + 1 → Some call ≡ piece_call piece.now
-        → Goes IsUnmade [] (calls ++ call ∷ []) waiting.new stream.new.state result }
-{
-    match before {
-        Ok(()) => make_piece(stream, waiting, piece, room, place),
-        Err(fault) => Err(fault),
-    }
-}
-
 /// An empty stream, with room if memory is granted for it.
 fn empty_stream(alloc: Global) -> RlpStream
     ensures { result.state ≡ initial_state [] }
@@ -174,8 +152,8 @@ fn finished(stream: RlpStream, waiting: usize, place: usize) -> Result<RlpStream
 
 /// Makes the calls of a script on an empty stream, each as its piece is read, and returns the stream.
 ///
-/// After a call that fails it goes on reading, and makes no more calls: the first piece that isn't
-/// a call comes before any call that fails, also if that lacks memory.
+/// After a call that fails it only reads. The first piece that isn't a call comes before any call
+/// that fails, also if that lacks memory.
 pub(crate) fn make_script(alloc: Global, text: &[u8]) -> Result<RlpStream, LineFault>
     ensures ok { IfOk result (λ stream. MakesScript text.now stream.state) }
     ensures refused { IfErr result (IsLineFault text.now) }
@@ -184,19 +162,20 @@ pub(crate) fn make_script(alloc: Global, text: &[u8]) -> Result<RlpStream, LineF
     let mut room = Vec::new(alloc);
     let mut waiting = 0;
     let mut place = 1;
-    let mut outcome = Ok(());
     let mut left = pieces_of(text);
     while let Some(rest) = left {
         let (piece, others) = first_piece(rest);
         let Some(piece) = read_piece(piece) else {
             return Err(LineFault::Syntax(place));
         };
-        outcome = go_on(outcome, &mut stream, &mut waiting, &piece, &mut room, place);
+        if let Err(fault) = make_piece(&mut stream, &mut waiting, &piece, &mut room, place) {
+            return Err(match first_unread(others, place + 1) {
+                Some(place) => LineFault::Syntax(place),
+                None => LineFault::Failed(fault),
+            });
+        }
         place += 1;
         left = others;
     }
-    match outcome {
-        Ok(()) => finished(stream, waiting, place),
-        Err(fault) => Err(LineFault::Failed(fault)),
-    }
+    finished(stream, waiting, place)
 }

@@ -1,8 +1,9 @@
 //! Scripts: calls of a stream as text.
-ghost use Rattle.std.specs.Prelude.{◌≡◌, ◌≢◌, [], ◌==◌, ◌+◌, ◌/◌, ◌≤◌, ◌∷◌, length, position, option_map, take, vec_len, Some, None, MatchOption, IfSome, IfOk, IfErr, OnOk, Ok};
+ghost use Rattle.std.specs.Prelude.{◌≡◌, ◌≢◌, [], ◌==◌, ◌+◌, ◌/◌, ◌^◌, ◌<◌, ◌≤◌, ◌∷◌, false, IsTrue, length, position, option_map, take, vec_len, Some, None, MatchOption, IfSome, IfOk, IfErr, OnOk, Ok};
+ghost use Rattle.std.specs.List.{list_all, prefix_len};
 ghost use Rattle.rlp.specs.Format.Item.{string};
 ghost use Rattle.rlp.specs.Streams.Calls.{append, begin_list};
-ghost use Rattle.rlp_tool.specs.Script.{call_in, calls_in, labelled_call, letter_call, raw_parts, script, AddsCall, IsUnread, IsScriptFault};
+ghost use Rattle.rlp_tool.specs.Script.{call_in, calls_in, is_call, labelled_call, letter_call, raw_parts, script, AddsCall, IsUnread, IsScriptFault};
 ghost use Rattle.rlp_lines.specs.Digits.{bytes_in, number_in};
 ghost use Rattle.rlp_tool.specs.Pieces.{ArePairs, HasPairs, IsRead, bytes_of, left_len, piece_call, pieces_left, spaces};
 ghost use Rattle.rlp_tool.specs.StreamCalls.{call_of_bytes, calls_of_bytes};
@@ -160,6 +161,26 @@ pub(crate) fn first_piece<'a>(text: &'a [u8]) -> (&'a [u8], Option<&'a [u8]>)
         }
         None => (text, None),
     }
+}
+
+/// The place of the first piece that isn't a call, if there is one. `first` is the place of the first piece.
+pub(crate) fn first_unread(pieces: Option<&[u8]>, first: usize) -> Option<usize>
+    requires { first + left_len pieces < 2 ^ 64 }
+    ensures { MatchOption result (IsTrue (list_all is_call (pieces_left pieces.entry)))
+        (λ place. (list_all is_call (pieces_left pieces.entry) ≡ false)
+        × (place ≡ first + prefix_len is_call (pieces_left pieces.entry))) }
+{
+    let mut left = pieces;
+    let mut place = first;
+    while let Some(rest) = left {
+        let (piece, others) = first_piece(rest);
+        if read_piece(piece).is_none() {
+            return Some(place);
+        }
+        place += 1;
+        left = others;
+    }
+    None
 }
 
 /// Decodes digits to the front of the room, which grows if it must.
