@@ -118,18 +118,20 @@ fn read_list(text: &[u8]) -> Option<Piece<'_>>
 }
 
 /// Reads a letter, a colon and the text that follows.
+#[inline(always)]
 fn read_labelled(letter: u8, text: &[u8]) -> Option<Piece<'_>>
     ensures { IsRead result (labelled_call letter text.now) }
 {
     match letter {
-        b'd' => read_value(text),
-        b'r' => read_raw(text),
         b'l' => read_list(text),
+        b'r' => read_raw(text),
+        b'd' => read_value(text),
         _ => None,
     }
 }
 
 /// Reads a piece, if it is a call.
+#[inline(always)]
 pub(crate) fn read_piece(piece: &[u8]) -> Option<Piece<'_>>
     ensures { IsRead result (call_in piece.now) }
 {
@@ -154,6 +156,11 @@ pub(crate) fn first_piece<'a>(text: &'a [u8]) -> (&'a [u8], Option<&'a [u8]>)
     ensures cut { spaces text.now ≡ result.0.now ∷ pieces_left result.1 }
     ensures shorter { left_len result.1 ≤ length text.now }
 {
+    if let [letter, b' ', others @ ..] = text {
+        if *letter != b' ' {
+            return (&text[..1], Some(others));
+        }
+    }
     match place_of(b' ', text) {
         Some(space) => {
             let (piece, others) = text.split_at(space);
@@ -164,6 +171,7 @@ pub(crate) fn first_piece<'a>(text: &'a [u8]) -> (&'a [u8], Option<&'a [u8]>)
 }
 
 /// The place of the first piece that isn't a call, if there is one. `first` is the place of the first piece.
+#[inline(never)]
 pub(crate) fn first_unread(pieces: Option<&[u8]>, first: usize) -> Option<usize>
     requires { first + left_len pieces < 2 ^ 64 }
     ensures { MatchOption result (IsTrue (list_all is_call (pieces_left pieces.entry)))
