@@ -1,12 +1,11 @@
 //! The items of a list, read in order as views and as values.
 
-use crate::rows::{Call, first_wrong, raw, view_of};
-use rlp::Decodable;
+use crate::rows::{Call, Wrong, raw, view_of};
+use rlp::{Decodable, DecoderError, Fields, Rlp};
 use std::alloc::Global;
 use std::fmt;
 use std::fmt::Write;
 use std::marker::PhantomData;
-use std::test::Fail;
 
 /// Reads the fields of a view in steps, and finishes. `v` reads a view, `n` a `T`, `t` a text and
 /// `l` a list of `T`. `COUNTED` says whether `fields_of` is called with the row's number of items,
@@ -22,25 +21,40 @@ impl<T: Decodable + fmt::Debug, const STRICT: bool, const COUNTED: bool> Call
         input: &(&'static [u8], usize, &'static str),
         out: &mut W,
     ) -> fmt::Result {
-        let view = view_of(input.0, STRICT);
-        let fields = if COUNTED {
-            view.fields_of(input.1)
-        } else {
-            view.fields()
-        };
-        let mut fields = match fields {
-            Ok(fields) => fields,
-            Err(fault) => return write!(out, "{fault}"),
-        };
-        for step in input.2.bytes() {
-            match step {
-                b'v' => write!(out, "{:?} ", raw(fields.next_view(), STRICT))?,
-                b'n' => write!(out, "{:?} ", fields.next_value::<T>(alloc))?,
-                b't' => write!(out, "{:?} ", fields.next_value::<String>(alloc))?,
-                _ => write!(out, "{:?} ", fields.next_list::<T>(alloc))?,
+        match opened(view_of(input.0, STRICT), input.1, COUNTED) {
+            Ok(mut fields) => {
+                for step in input.2.bytes() {
+                    tell_step::<T, W>(alloc, &mut fields, step, STRICT, out)?;
+                }
+                write!(out, "{:?}", fields.finish())
             }
+            Err(fault) => write!(out, "{fault}"),
         }
-        write!(out, "{:?}", fields.finish())
+    }
+}
+
+/// Returns the fields of a view, which are counted or not.
+fn opened(view: Rlp<'_>, count: usize, counted: bool) -> Result<Fields<'_>, DecoderError> {
+    if counted {
+        view.fields_of(count)
+    } else {
+        view.fields()
+    }
+}
+
+/// Writes what one step reads.
+fn tell_step<T: Decodable + fmt::Debug, W: fmt::Write>(
+    alloc: Global,
+    fields: &mut Fields<'_>,
+    step: u8,
+    strict: bool,
+    out: &mut W,
+) -> fmt::Result {
+    match step {
+        b'v' => write!(out, "{:?} ", raw(fields.next_view(), strict)),
+        b'n' => write!(out, "{:?} ", fields.next_value::<T>(alloc)),
+        b't' => write!(out, "{:?} ", fields.next_value::<String>(alloc)),
+        _ => write!(out, "{:?} ", fields.next_list::<T>(alloc)),
     }
 }
 
@@ -101,43 +115,20 @@ const STRICT_NONE: [Row; 6] = [
 ];
 
 #[test]
-fn fields_as_views(rt: HostRuntime) -> Result<(), Fail> {
+fn fields_as_views(rt: HostRuntime) {
     let alloc = rt.alloc();
-    assert_eq!(rt;
-        first_wrong::<Steps<u64, false, false>>(alloc, &VIEWS)?,
-        None
-    );
-    assert_eq!(rt;
-        first_wrong::<Steps<u64, false, true>>(alloc, &VIEWS)?,
-        None
-    );
-    assert_eq!(rt;
-        first_wrong::<Steps<u64, true, false>>(alloc, &VIEWS)?,
-        None
-    );
-    assert_eq!(rt; first_wrong::<Steps<u64, true, true>>(alloc, &VIEWS)?, None);
-    assert_eq!(rt;
-        first_wrong::<Steps<u64, false, false>>(alloc, &LENIENT_VIEWS)?,
-        None
-    );
-    assert_eq!(rt;
-        first_wrong::<Steps<u64, false, true>>(alloc, &LENIENT_VIEWS)?,
-        None
-    );
-    assert_eq!(rt;
-        first_wrong::<Steps<u64, false, false>>(alloc, &NONE)?,
-        None
-    );
-    assert_eq!(rt; first_wrong::<Steps<u64, false, true>>(alloc, &NONE)?, None);
-    assert_eq!(rt;
-        first_wrong::<Steps<u64, true, false>>(alloc, &STRICT_NONE)?,
-        None
-    );
-    assert_eq!(rt;
-        first_wrong::<Steps<u64, true, true>>(alloc, &STRICT_NONE)?,
-        None
-    );
-    Ok(())
+    let mut wrong = Wrong::none(alloc);
+    wrong.check::<Steps<u64, false, false>>(alloc, &VIEWS);
+    wrong.check::<Steps<u64, false, true>>(alloc, &VIEWS);
+    wrong.check::<Steps<u64, true, false>>(alloc, &VIEWS);
+    wrong.check::<Steps<u64, true, true>>(alloc, &VIEWS);
+    wrong.check::<Steps<u64, false, false>>(alloc, &LENIENT_VIEWS);
+    wrong.check::<Steps<u64, false, true>>(alloc, &LENIENT_VIEWS);
+    wrong.check::<Steps<u64, false, false>>(alloc, &NONE);
+    wrong.check::<Steps<u64, false, true>>(alloc, &NONE);
+    wrong.check::<Steps<u64, true, false>>(alloc, &STRICT_NONE);
+    wrong.check::<Steps<u64, true, true>>(alloc, &STRICT_NONE);
+    assert_eq!(rt; wrong, Wrong::none(alloc));
 }
 
 /// A list of three numbers, of which some are taken.
@@ -236,47 +227,18 @@ const STRICT_LISTS: [Row; 4] = [
 ];
 
 #[test]
-fn fields_as_values_and_of_another_number(rt: HostRuntime) -> Result<(), Fail> {
+fn fields_as_values_and_of_another_number(rt: HostRuntime) {
     let alloc = rt.alloc();
-    assert_eq!(rt;
-        first_wrong::<Steps<u64, false, false>>(alloc, &FINISHED)?,
-        None
-    );
-    assert_eq!(rt;
-        first_wrong::<Steps<u64, true, false>>(alloc, &FINISHED)?,
-        None
-    );
-    assert_eq!(rt;
-        first_wrong::<Steps<u64, false, true>>(alloc, &MISCOUNTED)?,
-        None
-    );
-    assert_eq!(rt;
-        first_wrong::<Steps<u64, true, true>>(alloc, &STRICTLY_MISCOUNTED)?,
-        None
-    );
-    assert_eq!(rt;
-        first_wrong::<Steps<u64, false, true>>(alloc, &VALUES)?,
-        None
-    );
-    assert_eq!(rt;
-        first_wrong::<Steps<u64, true, true>>(alloc, &VALUES)?,
-        None
-    );
-    assert_eq!(rt;
-        first_wrong::<Steps<u8, false, true>>(alloc, &NUMBERS)?,
-        None
-    );
-    assert_eq!(rt;
-        first_wrong::<Steps<u8, true, true>>(alloc, &NUMBERS)?,
-        None
-    );
-    assert_eq!(rt;
-        first_wrong::<Steps<u8, false, false>>(alloc, &LISTS)?,
-        None
-    );
-    assert_eq!(rt;
-        first_wrong::<Steps<u8, true, false>>(alloc, &STRICT_LISTS)?,
-        None
-    );
-    Ok(())
+    let mut wrong = Wrong::none(alloc);
+    wrong.check::<Steps<u64, false, false>>(alloc, &FINISHED);
+    wrong.check::<Steps<u64, true, false>>(alloc, &FINISHED);
+    wrong.check::<Steps<u64, false, true>>(alloc, &MISCOUNTED);
+    wrong.check::<Steps<u64, true, true>>(alloc, &STRICTLY_MISCOUNTED);
+    wrong.check::<Steps<u64, false, true>>(alloc, &VALUES);
+    wrong.check::<Steps<u64, true, true>>(alloc, &VALUES);
+    wrong.check::<Steps<u8, false, true>>(alloc, &NUMBERS);
+    wrong.check::<Steps<u8, true, true>>(alloc, &NUMBERS);
+    wrong.check::<Steps<u8, false, false>>(alloc, &LISTS);
+    wrong.check::<Steps<u8, true, false>>(alloc, &STRICT_LISTS);
+    assert_eq!(rt; wrong, Wrong::none(alloc));
 }

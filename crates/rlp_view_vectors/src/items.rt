@@ -1,6 +1,6 @@
 //! The items of a list and the value of an item, by the calls of a view.
 
-use crate::rows::{Call, Hex, first_wrong, raw, view_of};
+use crate::rows::{Call, Hex, Wrong, raw, view_of};
 use rlp::{DecoderError, Rlp};
 use std::alloc::Global;
 use std::fmt;
@@ -176,8 +176,10 @@ const STRICT_ITEMS: [Asked; 12] = [
 #[test]
 fn items_and_values(rt: HostRuntime) -> Result<(), Fail> {
     let alloc = rt.alloc();
-    assert_eq!(rt; first_wrong::<Items<false>>(alloc, &ITEMS)?, None);
-    assert_eq!(rt; first_wrong::<Items<true>>(alloc, &STRICT_ITEMS)?, None);
+    let mut wrong = Wrong::none(alloc);
+    wrong.check::<Items<false>>(alloc, &ITEMS);
+    wrong.check::<Items<true>>(alloc, &STRICT_ITEMS);
+    assert_eq!(rt; wrong, Wrong::none(alloc));
     let item = {
         let view = Rlp::new(CAT_DOG);
         let mut items = view.iter();

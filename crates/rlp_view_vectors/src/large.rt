@@ -54,34 +54,41 @@ fn long_strings(rt: HostRuntime) -> Result<(), Fail> {
     Ok(())
 }
 
-/// Returns whether a list has `len` items 01, the last of them at this place, an iterator gives them
-/// and then `None` each time, and they are read as numbers. `RlpIterator::len` walks what is left.
-fn has_ones(alloc: Global, bytes: &[u8], len: usize, place: usize) -> Result<bool, Fail> {
-    let view = Rlp::new(bytes);
+/// Returns whether a list has `len` items 01, and an iterator gives them and then `None` each time.
+/// `RlpIterator::len` walks what is left.
+fn iterates_ones(view: &Rlp<'_>, len: usize) -> bool {
     let mut count = 0usize;
-    for item in &view {
+    for item in view {
         count = count.saturating_add(usize::from(item.as_raw() == [0x01].as_slice()));
     }
     let mut items = view.iter();
     for _ in 1..len {
         if items.next().is_none() {
-            return Ok(false);
+            return false;
         }
     }
-    let is_one_left = items.len() == 1 && items.next().is_some();
+    items.len() == 1
+        && items.next().is_some()
+        && items.next().is_none()
+        && items.next().is_none()
+        && count == len
+}
+
+/// Returns whether a list has `len` items, the last of them 01 and at this place.
+fn ends_with_one(view: &Rlp<'_>, len: usize, place: usize) -> Result<bool, DecoderError> {
     let (last, found) = view.at_with_offset(len.saturating_sub(1))?;
-    let numbers = rlp::decode_list::<u64>(alloc, bytes)?;
     Ok(
-        is_one_left
-            && items.next().is_none()
-            && items.next().is_none()
-            && count == len
-            && last.as_raw() == [0x01].as_slice()
+        last.as_raw() == [0x01].as_slice()
             && found == place
             && view.item_count()? == len
-            && view.at(len).err() == Some(DecoderError::RlpIsTooShort)
-            && numbers.as_slice() == vec![in alloc; 1u64; len]?.as_slice(),
+            && view.at(len).err() == Some(DecoderError::RlpIsTooShort),
     )
+}
+
+/// Returns whether a list is read as `len` numbers 1.
+fn gives_ones(alloc: Global, view: &Rlp<'_>, len: usize) -> Result<bool, Fail> {
+    let numbers = view.as_list::<u8>(alloc)?;
+    Ok(numbers.as_slice() == filled(alloc, b"", len, 1)?.as_slice())
 }
 
 /// Returns lists, one inside another. If they have siblings, each but the outermost stands between
@@ -89,11 +96,7 @@ fn has_ones(alloc: Global, bytes: &[u8], len: usize, place: usize) -> Result<boo
 fn nested(alloc: Global, levels: usize, siblings: bool) -> Result<RlpStream, AllocError> {
     let mut s = RlpStream::new(alloc)?;
     for _ in 1..levels {
-        if siblings {
-            s.begin_list(3)?.append_empty_data()?;
-        } else {
-            s.begin_list(1)?;
-        }
+        open(&mut s, siblings)?;
     }
     s.begin_list(0)?;
     for _ in 1..levels {
@@ -102,6 +105,16 @@ fn nested(alloc: Global, levels: usize, siblings: bool) -> Result<RlpStream, All
         }
     }
     Ok(s)
+}
+
+/// Begins a list of one item, or one of three whose first is the empty string.
+fn open(s: &mut RlpStream, siblings: bool) -> Result<(), AllocError> {
+    if siblings {
+        s.begin_list(3)?.append_empty_data()?;
+    } else {
+        s.begin_list(1)?;
+    }
+    Ok(())
 }
 
 /// Returns whether the depth of a stream's lists is exactly `levels`.
@@ -119,29 +132,34 @@ fn has_depth(s: &RlpStream, levels: usize) -> bool {
 fn lists_of_many_items_and_levels(rt: HostRuntime) -> Result<(), Fail> {
     let alloc = rt.alloc();
     let bytes = filled(alloc, b"\xf9\x27\x10", 10_000, 1)?;
-    assert!(rt; has_ones(alloc, bytes.as_slice(), 10_000, 10_002)?);
+    let view = Rlp::new(bytes.as_slice());
+    assert!(rt; iterates_ones(&view, 10_000));
+    assert!(rt; ends_with_one(&view, 10_000, 10_002)?);
     assert!(rt; has_depth(&nested(alloc, 200, false)?, 200));
     assert!(rt; has_depth(&nested(alloc, 256, true)?, 256));
     Ok(())
 }
 
-// The text has for each item four characters `0x01`, two quotes, and two characters of comma and
-// space or of brackets.
+/// Returns whether the text of a list of `len` items 01 has for each item four characters `0x01`,
+/// two quotes, and two characters of comma and space or of brackets.
+fn prints_ones(alloc: Global, view: &Rlp<'_>, len: usize) -> Result<bool, AllocError> {
+    let text = format!(in alloc; "{view}")?;
+    let text = text.as_str();
+    Ok(
+        text.len() == len.saturating_mul(8)
+            && text.starts_with("[\"0x01\", \"0x01\", \"0x01\", ")
+            && text.ends_with(", \"0x01\", \"0x01\"]"),
+    )
+}
+
 #[test]
 fn a_million_items(rt: HostRuntime) -> Result<(), Fail> {
     let alloc = rt.alloc();
     let bytes = filled(alloc, b"\xfa\x0f\x42\x40", 1_000_000, 1)?;
     let view = Rlp::new(bytes.as_slice());
-    let mut count = 0usize;
-    for item in view.iter() {
-        count = count.saturating_add(usize::from(item.as_raw().len() == 1));
-    }
-    assert_eq!(rt; (count, view.item_count()?), (1_000_000, 1_000_000));
-    let values = view.as_list::<u8>(alloc)?;
-    assert!(rt; values.as_slice() == filled(alloc, b"", 1_000_000, 1)?.as_slice());
-    let text = format!(in alloc; "{view}")?;
-    assert_eq!(rt; text.len(), 8_000_000);
-    assert!(rt; text.as_str().starts_with("[\"0x01\", \"0x01\", \"0x01\", "));
-    assert!(rt; text.as_str().ends_with(", \"0x01\", \"0x01\"]"));
+    assert!(rt; iterates_ones(&view, 1_000_000));
+    assert!(rt; ends_with_one(&view, 1_000_000, 1_000_003)?);
+    assert!(rt; gives_ones(alloc, &view, 1_000_000)?);
+    assert!(rt; prints_ones(alloc, &view, 1_000_000)?);
     Ok(())
 }

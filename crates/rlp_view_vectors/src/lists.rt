@@ -1,6 +1,6 @@
 //! Values that are read from the items of a list.
 
-use crate::rows::{Call, first_wrong, view_of};
+use crate::rows::{Call, Wrong, view_of};
 use rlp::{Decodable, Rlp};
 use rlp_fixtures::Odd;
 use std::alloc::Global;
@@ -151,22 +151,15 @@ const LIST: [u8; 186] = [
 #[test]
 fn lists(rt: HostRuntime) -> Result<(), Fail> {
     let alloc = rt.alloc();
-    assert_eq!(rt; first_wrong::<ReadList<u64, false>>(alloc, &NUMBERS)?, None);
-    assert_eq!(rt;
-        first_wrong::<ReadList<u8, false>>(alloc, &SMALL_NUMBERS)?,
-        None
-    );
-    assert_eq!(rt;
-        first_wrong::<ReadList<String, false>>(alloc, &WORDS)?,
-        None
-    );
-    assert_eq!(rt; first_wrong::<ReadList<Odd, false>>(alloc, &ODD)?, None);
-    assert_eq!(rt; first_wrong::<ReadAt<String>>(alloc, &TEXTS)?, None);
-    assert_eq!(rt; first_wrong::<ReadAt<u64>>(alloc, &NESTED_NUMBERS)?, None);
-    assert_eq!(rt;
-        first_wrong::<ReadListAt<u64, false>>(alloc, &NESTED_LISTS)?,
-        None
-    );
+    let mut wrong = Wrong::none(alloc);
+    wrong.check::<ReadList<u64, false>>(alloc, &NUMBERS);
+    wrong.check::<ReadList<u8, false>>(alloc, &SMALL_NUMBERS);
+    wrong.check::<ReadList<String, false>>(alloc, &WORDS);
+    wrong.check::<ReadList<Odd, false>>(alloc, &ODD);
+    wrong.check::<ReadAt<String>>(alloc, &TEXTS);
+    wrong.check::<ReadAt<u64>>(alloc, &NESTED_NUMBERS);
+    wrong.check::<ReadListAt<u64, false>>(alloc, &NESTED_LISTS);
+    assert_eq!(rt; wrong, Wrong::none(alloc));
     let view = Rlp::new(&LIST);
     let before = view.item_count()?;
     let second = view.at(1)?.is_list();

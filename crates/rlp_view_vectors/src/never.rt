@@ -2,11 +2,10 @@
 //!
 //! `refusals/run` refuses every request after a signal. The signal is a request for `SIGNAL` bytes.
 
-use crate::rows::first_wrong;
+use crate::rows::Wrong;
 use crate::views::Ask::Text;
 use crate::views::{Asked, View};
 use rlp::DecoderError;
-use std::test::Fail;
 
 /// The number of bytes that is requested as the signal. The result of the request makes no
 /// difference.
@@ -21,10 +20,11 @@ const TEXTS: [Asked; 4] = [
 ];
 
 #[test]
-fn views_that_need_no_memory(rt: HostRuntime) -> Result<(), Fail> {
+fn views_that_need_no_memory(rt: HostRuntime) {
     let _signal = Vec::<u8>::with_capacity(rt.alloc(), SIGNAL).is_ok();
-    assert_eq!(rt; first_wrong::<View<false>>(rt.alloc(), &TEXTS)?, None);
+    let mut wrong = Wrong::none(rt.alloc());
+    wrong.check::<View<false>>(rt.alloc(), &TEXTS);
+    assert_eq!(rt; wrong, Wrong::none(rt.alloc()));
     let fault = DecoderError::Custom("text");
     assert!(rt; fault.clone() == fault);
-    Ok(())
 }

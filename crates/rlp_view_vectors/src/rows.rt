@@ -4,7 +4,6 @@ use rlp::{DecoderError, Rlp};
 use std::alloc::Global;
 use std::fmt;
 use std::fmt::Write;
-use std::test::Fail;
 
 /// A call of the library.
 pub(crate) trait Call {
@@ -41,19 +40,39 @@ pub(crate) fn answers<C: Call>(alloc: Global, input: &C::Input, want: &str) -> b
     C::tell(alloc, input, &mut out).is_ok() && out.rest.is_empty()
 }
 
-/// Returns the place of the first row with another answer, what came, and what was wanted.
-pub(crate) fn first_wrong<C: Call>(
-    alloc: Global,
-    rows: &[(C::Input, &str)],
-) -> Result<Option<String>, Fail> {
-    for (row, (input, want)) in rows.iter().enumerate() {
-        if !answers::<C>(alloc, input, want) {
-            let mut came = String::new(alloc);
-            C::tell(alloc, input, &mut came)?;
-            return Ok(Some(format!(in alloc; "row {row}: {came}, and not {want}")?));
+/// The rows of tables that have another answer. A test asserts that there are none.
+#[derive(Debug, PartialEq, Drop)]
+pub(crate) struct Wrong {
+    rows: usize,
+    text: String,
+}
+
+impl Wrong {
+    /// No row so far.
+    pub(crate) fn none(alloc: Global) -> Wrong {
+        Wrong {
+            rows: 0,
+            text: String::new(alloc),
         }
     }
-    Ok(None)
+
+    /// Tries the rows of a table, and notes those that have another answer.
+    pub(crate) fn check<C: Call>(&mut self, alloc: Global, rows: &[(C::Input, &str)]) {
+        for (row, (input, want)) in rows.iter().enumerate() {
+            if !answers::<C>(alloc, input, want) {
+                self.rows = self.rows.saturating_add(1);
+                self.note::<C>(alloc, row, input, want);
+            }
+        }
+    }
+
+    /// Adds what came of a row to the text, as far as there is memory for it.
+    fn note<C: Call>(&mut self, alloc: Global, row: usize, input: &C::Input, want: &str) {
+        let text = &mut self.text;
+        if write!(text, "row {row}: ").is_ok() && C::tell(alloc, input, text).is_ok() {
+            let _ = write!(text, ", and not {want}. ");
+        }
+    }
 }
 
 /// Bytes that are printed as hexadecimal digits.

@@ -1,10 +1,9 @@
 //! Items that are split off the beginning of bytes.
 
-use crate::rows::{Call, Hex, first_wrong, raw, view_of};
+use crate::rows::{Call, Hex, Wrong, raw, view_of};
 use std::alloc::Global;
 use std::fmt;
 use std::fmt::Write;
-use std::test::Fail;
 
 /// Tells the items that are split off one after another, and then the fault, and what is left.
 struct Split<const STRICT: bool>;
@@ -93,17 +92,12 @@ const STRICTLY_READ: [(&[u8], &str); 3] = [
 ];
 
 #[test]
-fn first_items(rt: HostRuntime) -> Result<(), Fail> {
+fn first_items(rt: HostRuntime) {
     let alloc = rt.alloc();
-    assert_eq!(rt; first_wrong::<Split<false>>(alloc, &ITEMS)?, None);
-    assert_eq!(rt; first_wrong::<Split<true>>(alloc, &STRICT_ITEMS)?, None);
-    assert_eq!(rt;
-        first_wrong::<FirstRead<false>>(alloc, &NOT_CANONICAL)?,
-        None
-    );
-    assert_eq!(rt;
-        first_wrong::<FirstRead<true>>(alloc, &STRICTLY_READ)?,
-        None
-    );
-    Ok(())
+    let mut wrong = Wrong::none(alloc);
+    wrong.check::<Split<false>>(alloc, &ITEMS);
+    wrong.check::<Split<true>>(alloc, &STRICT_ITEMS);
+    wrong.check::<FirstRead<false>>(alloc, &NOT_CANONICAL);
+    wrong.check::<FirstRead<true>>(alloc, &STRICTLY_READ);
+    assert_eq!(rt; wrong, Wrong::none(alloc));
 }

@@ -1,7 +1,7 @@
 //! Strict decoding, and the invalid encodings that the public standard lists.
 
 use crate::lists::{ReadList, ReadListAt};
-use crate::rows::{Call, first_wrong};
+use crate::rows::{Call, Wrong};
 use crate::values::Read;
 use rlp::{DecoderError, Rlp};
 use std::alloc::Global;
@@ -141,20 +141,15 @@ fn whole_encodings(rt: HostRuntime) -> Result<(), Fail> {
 }
 
 #[test]
-fn strict_values_and_invalid_encodings(rt: HostRuntime) -> Result<(), Fail> {
+fn strict_values_and_invalid_encodings(rt: HostRuntime) {
     let alloc = rt.alloc();
-    assert_eq!(rt; first_wrong::<Read<String, true>>(alloc, &TEXTS)?, None);
-    assert_eq!(rt; first_wrong::<Read<u16, true>>(alloc, &U16)?, None);
-    assert_eq!(rt; first_wrong::<Read<u8, true>>(alloc, &U8)?, None);
-    assert_eq!(rt;
-        first_wrong::<Read<Option<u8>, true>>(alloc, &OPTIONS)?,
-        None
-    );
-    assert_eq!(rt; first_wrong::<ReadList<u8, true>>(alloc, &LISTS)?, None);
-    assert_eq!(rt;
-        first_wrong::<ReadListAt<u8, true>>(alloc, &LISTS_OF_ITEMS)?,
-        None
-    );
-    assert_eq!(rt; first_wrong::<Invalid>(alloc, &INVALID)?, None);
-    Ok(())
+    let mut wrong = Wrong::none(alloc);
+    wrong.check::<Read<String, true>>(alloc, &TEXTS);
+    wrong.check::<Read<u16, true>>(alloc, &U16);
+    wrong.check::<Read<u8, true>>(alloc, &U8);
+    wrong.check::<Read<Option<u8>, true>>(alloc, &OPTIONS);
+    wrong.check::<ReadList<u8, true>>(alloc, &LISTS);
+    wrong.check::<ReadListAt<u8, true>>(alloc, &LISTS_OF_ITEMS);
+    wrong.check::<Invalid>(alloc, &INVALID);
+    assert_eq!(rt; wrong, Wrong::none(alloc));
 }

@@ -1,6 +1,6 @@
 //! The texts of views and of faults.
 
-use crate::rows::{Call, answers, first_wrong};
+use crate::rows::{Call, Wrong, answers};
 use crate::views::Ask::Text;
 use crate::views::{Asked, View};
 use rlp::{DecoderError, Rlp};
@@ -100,9 +100,10 @@ const NAMES: [(DecoderError, &str); 12] = [
 // The first bytes of the list of hashes print as `null` if there are none, as the list's text if
 // there are all, and else as `RlpIsTooShort`.
 #[test]
-fn texts_of_views_and_faults(rt: HostRuntime) -> Result<(), Fail> {
+fn texts_of_views_and_faults(rt: HostRuntime) {
     let alloc = rt.alloc();
-    assert_eq!(rt; first_wrong::<View<false>>(alloc, &TEXTS)?, None);
+    let mut wrong = Wrong::none(alloc);
+    wrong.check::<View<false>>(alloc, &TEXTS);
     for len in 0..=79 {
         let text = match len {
             0 => "null",
@@ -115,8 +116,8 @@ fn texts_of_views_and_faults(rt: HostRuntime) -> Result<(), Fail> {
             "{len} bytes"
         );
     }
-    assert_eq!(rt; first_wrong::<Name>(alloc, &NAMES)?, None);
-    Ok(())
+    wrong.check::<Name>(alloc, &NAMES);
+    assert_eq!(rt; wrong, Wrong::none(alloc));
 }
 
 #[test]

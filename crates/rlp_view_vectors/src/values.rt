@@ -1,6 +1,6 @@
 //! Values that are read from strings and options, and the faults of bytes that give no value.
 
-use crate::rows::{Call, first_wrong, view_of};
+use crate::rows::{Call, Wrong, view_of};
 use bytes::{Bytes, BytesMut};
 use rlp::{BasicDecoder, Decodable, DecoderError, Rlp};
 use rlp_fixtures::Odd;
@@ -8,7 +8,6 @@ use std::alloc::Global;
 use std::fmt;
 use std::fmt::Write;
 use std::marker::PhantomData;
-use std::test::Fail;
 
 /// Tells what is read as a `T` from bytes and from a view of them, which is to be the same.
 pub(crate) struct Read<T, const STRICT: bool>(PhantomData<T>);
@@ -129,15 +128,16 @@ const U128: [(&[u8], &str); 3] = [
 const BOOLS: [(&[u8], &str); 1] = [(b"\x02", "Err(Custom(\"invalid boolean value\"))")];
 
 #[test]
-fn numbers(rt: HostRuntime) -> Result<(), Fail> {
+fn numbers(rt: HostRuntime) {
     let alloc = rt.alloc();
-    assert_eq!(rt; first_wrong::<Read<u64, false>>(alloc, &U64)?, None);
-    assert_eq!(rt; first_wrong::<Read<u8, false>>(alloc, &U8)?, None);
-    assert_eq!(rt; first_wrong::<Read<u16, false>>(alloc, &U16)?, None);
-    assert_eq!(rt; first_wrong::<Read<u32, false>>(alloc, &U32)?, None);
-    assert_eq!(rt; first_wrong::<Read<u128, false>>(alloc, &U128)?, None);
-    assert_eq!(rt; first_wrong::<Read<bool, false>>(alloc, &BOOLS)?, None);
-    Ok(())
+    let mut wrong = Wrong::none(alloc);
+    wrong.check::<Read<u64, false>>(alloc, &U64);
+    wrong.check::<Read<u8, false>>(alloc, &U8);
+    wrong.check::<Read<u16, false>>(alloc, &U16);
+    wrong.check::<Read<u32, false>>(alloc, &U32);
+    wrong.check::<Read<u128, false>>(alloc, &U128);
+    wrong.check::<Read<bool, false>>(alloc, &BOOLS);
+    assert_eq!(rt; wrong, Wrong::none(alloc));
 }
 
 /// Strings of no byte, of a byte below 80 and of two bytes are read.
@@ -232,28 +232,17 @@ const OPTIONS_OF_BOXES: [(&[u8], &str); 1] = [(b"\xc1\x05", "Ok(Some(5))")];
 const OPTIONS_OF_ODD: [(&[u8], &str); 1] = [(b"\xc1\x02", "Err(Custom(\"even\"))")];
 
 #[test]
-fn strings_and_options(rt: HostRuntime) -> Result<(), Fail> {
+fn strings_and_options(rt: HostRuntime) {
     let alloc = rt.alloc();
-    assert_eq!(rt; first_wrong::<Read<Vec<u8>, false>>(alloc, &VECTORS)?, None);
-    assert_eq!(rt; first_wrong::<Read<Bytes, false>>(alloc, &BYTES)?, None);
-    assert_eq!(rt; first_wrong::<Read<BytesMut, false>>(alloc, &BYTES)?, None);
-    assert_eq!(rt; first_wrong::<Read<String, false>>(alloc, &TEXTS)?, None);
-    assert_eq!(rt; first_wrong::<FirstByte>(alloc, &FIRST_BYTES)?, None);
-    assert_eq!(rt;
-        first_wrong::<Read<Option<u8>, false>>(alloc, &OPTIONS)?,
-        None
-    );
-    assert_eq!(rt;
-        first_wrong::<Read<Option<Option<u8>>, false>>(alloc, &OPTIONS_OF_OPTIONS)?,
-        None
-    );
-    assert_eq!(rt;
-        first_wrong::<Read<Option<Box<u8>>, false>>(alloc, &OPTIONS_OF_BOXES)?,
-        None
-    );
-    assert_eq!(rt;
-        first_wrong::<Read<Option<Odd>, false>>(alloc, &OPTIONS_OF_ODD)?,
-        None
-    );
-    Ok(())
+    let mut wrong = Wrong::none(alloc);
+    wrong.check::<Read<Vec<u8>, false>>(alloc, &VECTORS);
+    wrong.check::<Read<Bytes, false>>(alloc, &BYTES);
+    wrong.check::<Read<BytesMut, false>>(alloc, &BYTES);
+    wrong.check::<Read<String, false>>(alloc, &TEXTS);
+    wrong.check::<FirstByte>(alloc, &FIRST_BYTES);
+    wrong.check::<Read<Option<u8>, false>>(alloc, &OPTIONS);
+    wrong.check::<Read<Option<Option<u8>>, false>>(alloc, &OPTIONS_OF_OPTIONS);
+    wrong.check::<Read<Option<Box<u8>>, false>>(alloc, &OPTIONS_OF_BOXES);
+    wrong.check::<Read<Option<Odd>, false>>(alloc, &OPTIONS_OF_ODD);
+    assert_eq!(rt; wrong, Wrong::none(alloc));
 }

@@ -1,11 +1,10 @@
 //! The calls of a view about all its bytes, and headers at the lengths at which their form changes.
 
-use crate::rows::{Call, first_wrong, view_of};
+use crate::rows::{Call, Wrong, view_of};
 use rlp::PayloadInfo;
 use std::alloc::Global;
 use std::fmt;
 use std::fmt::Write;
-use std::test::Fail;
 
 /// Tells the lengths of a header and of its value, and both together if a `usize` can hold it.
 struct Header;
@@ -214,19 +213,20 @@ const CANONICAL: [Asked; 12] = [
 ];
 
 #[test]
-fn headers_and_views(rt: HostRuntime) -> Result<(), Fail> {
+fn headers_and_views(rt: HostRuntime) {
     let alloc = rt.alloc();
-    assert_eq!(rt; first_wrong::<Header>(alloc, &STRINGS)?, None);
-    assert_eq!(rt; first_wrong::<Header>(alloc, &LISTS)?, None);
-    assert_eq!(rt; first_wrong::<Header>(alloc, &FAULTY)?, None);
+    let mut wrong = Wrong::none(alloc);
+    wrong.check::<Header>(alloc, &STRINGS);
+    wrong.check::<Header>(alloc, &LISTS);
+    wrong.check::<Header>(alloc, &FAULTY);
     let info = PayloadInfo {
         header_len: 1,
         value_len: 3,
     };
     assert_eq!(rt; info.total(), 4);
-    assert_eq!(rt; first_wrong::<View<false>>(alloc, &VIEWS)?, None);
-    assert_eq!(rt; first_wrong::<View<true>>(alloc, &STRICT_VIEWS)?, None);
-    assert_eq!(rt; first_wrong::<View<false>>(alloc, &CANONICAL)?, None);
-    assert_eq!(rt; first_wrong::<View<true>>(alloc, &CANONICAL)?, None);
-    Ok(())
+    wrong.check::<View<false>>(alloc, &VIEWS);
+    wrong.check::<View<true>>(alloc, &STRICT_VIEWS);
+    wrong.check::<View<false>>(alloc, &CANONICAL);
+    wrong.check::<View<true>>(alloc, &CANONICAL);
+    assert_eq!(rt; wrong, Wrong::none(alloc));
 }
