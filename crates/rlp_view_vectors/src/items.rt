@@ -5,7 +5,6 @@ use rlp::{DecoderError, Rlp};
 use std::alloc::Global;
 use std::fmt;
 use std::fmt::Write;
-use std::test::Fail;
 
 /// A list of the strings "cat" and "dog".
 const CAT_DOG: &[u8] = b"\xc8\x83cat\x83dog";
@@ -172,20 +171,22 @@ const STRICT_ITEMS: [Asked; 12] = [
     ),
 ];
 
-// The view that an item is taken from is dropped before the item is read.
-#[test]
-fn items_and_values(rt: HostRuntime) -> Result<(), Fail> {
-    let alloc = rt.alloc();
-    let mut wrong = Wrong::none(alloc);
-    wrong.check::<Items<false>>(alloc, &ITEMS);
-    wrong.check::<Items<true>>(alloc, &STRICT_ITEMS);
-    assert_eq!(rt; wrong, Wrong::none(alloc));
+/// Returns an item of a list. The view that it is taken from is dropped before the item is read.
+fn taken_item() -> Option<Hex<'static>> {
     let item = {
         let view = Rlp::new(CAT_DOG);
         let mut items = view.iter();
         items.next()
     };
-    let item = raw(item.ok_or(DecoderError::Custom("no item")), false)?;
-    assert!(rt; item.0 == b"\x83cat".as_slice());
-    Ok(())
+    raw(item.ok_or(DecoderError::Custom("no item")), false).ok()
+}
+
+#[test]
+fn items_and_values(rt: HostRuntime) {
+    let alloc = rt.alloc();
+    let mut wrong = Wrong::none(alloc);
+    wrong.check::<Items<false>>(alloc, &ITEMS);
+    wrong.check::<Items<true>>(alloc, &STRICT_ITEMS);
+    assert_eq!(rt; wrong, Wrong::none(alloc));
+    assert!(rt; taken_item().is_some_and(|item| item.0 == b"\x83cat".as_slice()));
 }
