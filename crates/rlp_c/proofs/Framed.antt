@@ -1,23 +1,28 @@
 -- Strings with and without a needless header.
 use Rattle.std.proofs.Common.{◌≡◌, ◌≢◌, ℕ, ◌+◌, ◌^◌, ◌<◌, ◌≤◌, inl, inr, ⊎_elim, true, false, List, [], ◌∷◌, ◌++◌, length, take, drop, refl, sym, ap, ◌∙◌}
-use Rattle.std.proofs.Common.{subst, arith, Ok, Result, append-nil, take_at, drop_at, length-append, le-leb, lt-ltb, pos_of_ne-zero}
-use Rattle.std.proofs.lemmas.Bool.{cases_Bool, lt-leb, cond-true, cond-false}
+use Rattle.std.proofs.Common.{◌==◌, ltb, subst, arith, Ok, Result, append-nil, take_at, drop_at, length-append, le-leb, lt-ltb, pos_of_ne-zero}
+use Rattle.std.proofs.lemmas.Bool.{and_parts, cases_Bool, cond-false, cond-true, eqb-true, lt-leb, ltb-true}
 use Rattle.std.proofs.lemmas.List.{nil_from_length}
 use Rattle.rlp_format.specs.declared.error.DecoderError.{DecoderError}
 use Rattle.rlp_format.specs.declared.header.PayloadInfo.{PayloadInfo}
 use Rattle.rlp_format.specs.Format.Item.{string}
 use Rattle.rlp_format.specs.Format.WrittenHeader.{written_header}
 use Rattle.rlp_format.specs.Format.Encoding.{encoding, is_low_byte}
-use Rattle.rlp_format.specs.Format.Header.{HasHeader, lone, written, payload_info}
+use Rattle.rlp_format.specs.Format.Header.{HasHeader, header, lone, written, payload_info}
 use Rattle.rlp_format.specs.Format.Framing.{IsFramedItem, framing, value}
 use Rattle.rlp_format.specs.Format.Split.{begins_as_list}
 use Rattle.rlp_format.specs.Format.Strict.{IsCanonicalWithin}
-use Rattle.rlp_format.specs.Lemmas.Headers.{Parts, shape}
+use Rattle.rlp_format.specs.Lemmas.Encodings.{low_byte}
+use Rattle.rlp_format.specs.Lemmas.Headers.{Parts, shape, written_header_short}
 use Rattle.rlp_format.specs.Lemmas.Frames.{framing_is, value_is}
 use Rattle.rlp_format.specs.Lemmas.Reading.{read}
 use Rattle.rlp.proofs.Views.Canonical.{not_true, refuted, string_canonical}
-use Rattle.rlp_c.specs.Walk.{IsNeedless}
+use Rattle.rlp_c.specs.Faults.{is_needless}
 use Rattle.rlp_c.proofs.Strings.{Ok_same, string_placed}
+
+-- a byte that is its own encoding, behind a header
+abbrev pub IsNeedless : List ℕ → PayloadInfo → Type 0
+IsNeedless content p = (is_low_byte content ≡ true) × (p.header_len ≢ 0)
 
 -- a whole item with the header that was read
 pub record IsWhole (b : List ℕ) (p : PayloadInfo) (c : List ℕ) : Type 0 where
@@ -95,6 +100,49 @@ string_needless b p c most fits w kind (low, some) =
     let equal : c ≡ d = w.content ∙ ap (λ k. take k (drop p.header_len b)) n ∙ ap (λ k. take (length d) (drop k b)) h ∙ place.there in
     let alone : b ≡ c = is ∙ ap (λ s. encoding (string s)) (sym equal) ∙ low_again c low in
     some (omega (arith, ap length alone, ap length equal, n, w.whole))))).1)
+
+-- the header of such a string is 81
+needless_form : {b : List ℕ} {h n : ℕ} (c : List ℕ) → HasHeader b h n → h + n ≡ length b → false ≡ begins_as_list b → c ≡ take n (drop h b)
+    → is_low_byte c ≡ true → h ≢ 0 → is_needless b ≡ true
+needless_form c (lone byte rest low) whole kind content is_low some = absurd (some refl)
+needless_form c (written base n rest is_base small) whole kind content is_low some =
+    let byte = low_byte c is_low in
+    let len : length rest ≡ n = omega (arith, whole, length-append (written_header base n) rest) in
+    let same : rest ≡ byte.byte ∷ [] = sym (content ∙ ap (take n) (drop_at (written_header base n) rest (length (written_header base n)) refl)
+    ∙ ap (take n) (sym (append-nil rest)) ∙ take_at rest [] n len) ∙ byte.is in
+    let one : n ≡ 1 = omega (arith, len, ap length same) in
+    ⊎_elim
+    (λ of_string. ap is_needless (ap (λ k. written_header k n ++ rest) of_string ∙ ap (λ k. written_header 0x80 k ++ rest) one
+    ∙ ap (λ r. written_header 0x80 1 ++ r) same ∙ ap (λ s. s ++ byte.byte ∷ []) (written_header_short 0x80 1 (omega arith)))
+    ∙ lt-ltb byte.byte 0x80 byte.low)
+    (λ of_list. absurd (let no : false ≡ true = kind ∙ ap (λ k. begins_as_list (written_header k n ++ rest)) of_list ∙ list_begins n rest small in
+    let none : ⊥ = cc in none))
+    is_base
+
+needless_bytes : (b : List ℕ) → is_needless b ≡ true → (byte : ℕ) × (b ≡ 0x81 ∷ byte ∷ []) × (byte < 0x80)
+needless_bytes [] is = absurd (let none : ⊥ = cc in none)
+needless_bytes (first ∷ []) is = absurd (let none : ⊥ = cc in none)
+needless_bytes (first ∷ byte ∷ []) is =
+    let both = and_parts (first == 0x81) (ltb byte 0x80) is in
+    (byte, ap (λ k. k ∷ byte ∷ []) (eqb-true first 0x81 both.0), ltb-true byte 0x80 both.1)
+needless_bytes (first ∷ byte ∷ next ∷ rest) is = absurd (let none : ⊥ = cc in none)
+
+needless_header : (byte : ℕ) → header (0x81 ∷ byte ∷ []) ≡ Ok (payload_info 1 1)
+unfolding header
+needless_header byte = refl
+
+-- a needless header is read from the bytes
+pub needless_is : (b : List ℕ) (p : PayloadInfo) (c : List ℕ) → IsWhole b p c → false ≡ begins_as_list b → IsNeedless c p → is_needless b ≡ true
+needless_is b p c w kind (low, some) = needless_form c w.has w.whole kind w.content low some
+
+pub is_needless_by : (b : List ℕ) (p : PayloadInfo) (c : List ℕ) → IsWhole b p c → is_needless b ≡ true → IsNeedless c p
+is_needless_by b p c w is =
+    let (byte, same, low) = needless_bytes b is in
+    let info : p ≡ payload_info 1 1 = Ok_same (sym (read w.has) ∙ ap header same ∙ needless_header byte) in
+    let content : c ≡ byte ∷ [] = w.content ∙ ap (λ (q : PayloadInfo). take q.value_len (drop q.header_len b)) info ∙ ap (λ s. take 1 (drop 1 s)) same in (
+      ap is_low_byte content ∙ lt-ltb byte 0x80 low,
+      λ none. omega (arith, none, ap (λ (q : PayloadInfo). q.header_len) info),
+    )
 
 list_form : {b : List ℕ} {h n : ℕ} → HasHeader b h n → true ≡ begins_as_list b → 0 < h
 list_form (lone byte rest low) kind =

@@ -5,10 +5,18 @@ mod Rows
 -- strings with and without a needless header
 mod Framed
 -- the walk over the items of a list
-mod Walking
--- the numbers of faults
-mod Statuses
+mod Walks
+-- the first fault of a walk, step by step
+mod Faults
 -- the answer of a whole walk
 mod Flattening
 -- the walk over the items of one list
 mod Splitting
+-- the tree that rows describe
+mod Trees
+-- a tree that is gone through from its last row on
+mod Measuring
+-- bytes that are put one after another
+mod Texts
+-- the rows of a tree describe it
+mod Described

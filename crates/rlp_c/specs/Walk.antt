@@ -1,8 +1,7 @@
 -- What the walk over a tree has done.
-use Rattle.std.specs.Prelude.{ℕ, ◌≡◌, ◌≢◌, ◌+◌, ◌≤◌, true, List, ◌++◌, length, take}
-use Rattle.rlp_format.specs.declared.header.PayloadInfo.{PayloadInfo}
+use Rattle.std.specs.Prelude.{ℕ, ◌≡◌, ◌+◌, ◌≤◌, List, ◌++◌, length, take}
 use Rattle.rlp_format.specs.Format.Item.{Item, item_depth}
-use Rattle.rlp_format.specs.Format.Encoding.{encoding, is_low_byte}
+use Rattle.rlp_format.specs.Format.Encoding.{encoding}
 use Rattle.rlp_format.specs.Format.Strict.{IsCanonicalWithin}
 use Rattle.rlp_c.specs.declared.item.RlpItem.{RlpItem}
 use Rattle.rlp_c.specs.Flat.{flat}
@@ -11,10 +10,6 @@ use Rattle.rlp_c.specs.Flat.{flat}
 pub record Extends (old : List RlpItem) (n : ℕ) (rows : List RlpItem) (new : List RlpItem) : Type 0 where
   pub same_len : length new ≡ length old
   pub filled : n + length rows ≤ length old → take (n + length rows) new ≡ take n old ++ rows
-
--- a byte that is its own encoding, behind a header
-abbrev pub IsNeedless : List ℕ → PayloadInfo → Type 0
-IsNeedless content p = (is_low_byte content ≡ true) × (p.header_len ≢ 0)
 
 -- b is the encoding of no item
 abbrev pub IsNeverCanonical : List ℕ → Type 0

@@ -3,7 +3,7 @@
 ghost use Rattle.std.specs.Prelude.{◌≡◌, ◌↔◌, IsTrue, min};
 ghost use Rattle.rlp_format.specs.Format.Strict.{IsCanonicalWithin};
 
-use crate::flatten::walk;
+use crate::walking::walk;
 use rlp_format::framed::whole_framed;
 
 /// The greatest depth of lists that any function goes to, whatever the caller allows. It bounds the

@@ -6,9 +6,9 @@ ghost use Rattle.rlp_format.specs.Format.Strict.{after_items, fault_of_some, str
 ghost use Rattle.rlp_c.specs.Rows.{IsItemized, rows_at};
 ghost use Rattle.rlp_c.specs.Walk.{Extends};
 
-use crate::flatten::put;
 use crate::item::{RlpItem, bit};
 use crate::status::{RLP_NO_ROOM, RLP_OK, status_of};
+use crate::walking::put;
 use rlp::DecoderError;
 use rlp_format::framed::{begins_as_list, first_framed, whole_framed};
 

@@ -1,8 +1,9 @@
 //! The numbers by which C tells faults apart.
 
 ghost use Rattle.std.specs.Prelude.{◌≡◌};
-ghost use Rattle.rlp_c.specs.Status.{fault_status};
+ghost use Rattle.rlp_c.specs.Status.{fault_status, walk_status};
 
+use crate::walking::WalkFault;
 use rlp::DecoderError;
 
 /// Everything went well.
@@ -32,5 +33,15 @@ pub fn status_of(fault: &DecoderError) -> u32
         DecoderError::RlpInvalidLength => 10,
         DecoderError::Custom(_) => 11,
         DecoderError::OutOfMemory => 12,
+    }
+}
+
+/// The number of a fault of a walk.
+pub fn status_of_walk(fault: &WalkFault) -> u32
+    ensures { result ≡ walk_status fault.now }
+{
+    match fault {
+        WalkFault::Bytes(fault) => status_of(fault),
+        WalkFault::TooDeep => RLP_TOO_DEEP,
     }
 }

@@ -1,10 +1,11 @@
 -- The walk over the items of a list.
 use Rattle.std.proofs.Common.{◌≡◌, ◌≢◌, ℕ, ◌+◌, ◌-◌, ◌<◌, ◌≤◌, suc, true, false, List, [], ◌∷◌, ◌++◌, length, map, drop, refl, sym, ap, ◌∙◌}
-use Rattle.std.proofs.Common.{subst, arith, Result, Ok, Err, MatchResult, append-nil, append_assoc, length-append, length-take-le, length-drop, pos_of_ne-zero}
+use Rattle.std.proofs.Common.{subst, arith, Result, Ok, Err, Some, None, MatchResult, append-nil, append_assoc, length-append, length-take-le, length-drop, pos_of_ne-zero}
+use Rattle.rlp_format.specs.declared.error.DecoderError.{DecoderError}
 use Rattle.rlp_format.specs.declared.header.PayloadInfo.{PayloadInfo}
 use Rattle.rlp_format.specs.Format.Item.{Item, string, items_from, list_of, item_depth, items_depth}
 use Rattle.rlp_format.specs.Format.Encoding.{encoding, join, join_items}
-use Rattle.rlp_format.specs.Format.Framing.{value}
+use Rattle.rlp_format.specs.Format.Framing.{fault, value}
 use Rattle.rlp_format.specs.Format.Split.{begins_as_list, items, payload, split}
 use Rattle.rlp_format.specs.Format.Strict.{IsCanonicalWithin}
 use Rattle.rlp_format.specs.Lemmas.Encodings.{join_items_is}
@@ -12,10 +13,14 @@ use Rattle.rlp_format.proofs.Format.StrictLists.{value-payload}
 use Rattle.rlp.specs.Lemmas.WholeLists.{whole_by}
 use Rattle.rlp.proofs.Views.Canonical.{split_items}
 use Rattle.rlp_c.specs.declared.item.RlpItem.{RlpItem}
+use Rattle.rlp_c.specs.declared.walking.WalkFault.{WalkFault}
+use Rattle.rlp_c.specs.declared.walking.WalkFault.TheVariants.{Bytes}
 use Rattle.rlp_c.specs.Rows.{row}
 use Rattle.rlp_c.specs.Flat.{flat, flat_items}
-use Rattle.rlp_c.specs.Walk.{Extends, IsNeedless, IsNeverCanonical, IsWalked}
-use Rattle.rlp_c.proofs.Framed.{IsWhole, string_whole}
+use Rattle.rlp_c.specs.Faults.{payload_fault, needless_fault, walk_fault}
+use Rattle.rlp_c.specs.Walk.{Extends, IsNeverCanonical, IsWalked}
+use Rattle.rlp_c.proofs.Faults.{payload_fault-item, payload_fault-next, payload_fault-none, payload_fault-stray, walk_fault-list, walk_fault-string}
+use Rattle.rlp_c.proofs.Framed.{IsNeedless, IsWhole, string_whole}
 use Rattle.rlp_c.proofs.Rows.{extends_both}
 
 -- a string with its row
@@ -51,6 +56,7 @@ pub record IsWalking (b rest : List ℕ) (p : PayloadInfo) (place depth most : �
   pub all : map encoding done ++ split rest ≡ items b
   pub whole : payload b ≡ join done ++ rest
   pub shallow : items_depth (items_from done) ≤ most
+  pub follows : payload_fault (walk_fault most) (payload b) ≡ payload_fault (walk_fault most) rest
   pub rows : Extends old count (row place depth true p ∷ flat_items (place + p.header_len) (depth + 1) (items_from done)) new
   pub total : n ≡ count + 1 + length (flat_items (place + p.header_len) (depth + 1) (items_from done))
   pub few : n + length rest ≤ place + length b
@@ -74,6 +80,7 @@ walking_none b p c place depth most old count new w kind found some few wrote =
       all = split_items b c same.0;
       whole = sym same.0;
       shallow = let low : 0 ≤ most = omega arith in low;
+      follows = ap (payload_fault (walk_fault most)) (sym same.0);
       rows = wrote;
       total = let t : count + 1 ≡ count + 1 + 0 = omega arith in t;
       few = omega (arith, few, some, w.whole, same.1, ap length same.0);
@@ -103,9 +110,9 @@ flat_items-more place depth (y ∷ xs) x =
 
 pub walking_one : (b rest item others : List ℕ) (p : PayloadInfo) (place depth most : ℕ) (old : List RlpItem) (count : ℕ) (mid new : List RlpItem) (n m : ℕ)
     → IsWalking b rest p place depth most old count mid n → split rest ≡ item ∷ split others → rest ≡ item ++ others
-    → IsWalked item (place + (length b - length rest)) (depth + 1) most mid n new m
+    → IsWalked item (place + (length b - length rest)) (depth + 1) most mid n new m → walk_fault most item ≡ None
     → IsWalking b others p place depth most old count new m
-walking_one b rest item others p place depth most old count mid new n m w parts whole one =
+walking_one b rest item others p place depth most old count mid new n m w parts whole one fine =
     let at : place + (length b - length rest) ≡ place + p.header_len + length (join w.done) =
     omega (arith, w.within, ap length w.whole, length-append (join w.done) rest) in
     let rows : Extends mid n (flat (place + p.header_len + length (join w.done)) (depth + 1) one.x) new =
@@ -119,6 +126,7 @@ walking_one b rest item others p place depth most old count mid new n m w parts 
       whole = w.whole ∙ ap (λ s. join w.done ++ s) (whole ∙ ap (λ f. f ++ others) one.is) ∙ sym (append_assoc (join w.done) (encoding one.x) others)
           ∙ ap (λ s. s ++ others) (sym (join-more w.done one.x));
       shallow = depth-more w.done one.x most w.shallow one.deep;
+      follows = w.follows ∙ payload_fault-next (walk_fault most) rest item others parts whole fine;
       rows = subst (λ rows. Extends old count (row place depth true p ∷ rows) new) (sym more)
           (extends_both old mid new count n (row place depth true p ∷ flat_items (place + p.header_len) (depth + 1) (items_from w.done))
           (flat (place + p.header_len + length (join w.done)) (depth + 1) one.x) w.rows (omega (arith, w.total)) rows);
@@ -178,8 +186,34 @@ walked_within b place depth most old count new n w = record {
 }
 
 -- the answer of a string within no lists is one within any
-pub answered_within : (b : List ℕ) (place depth most : ℕ) (old : List RlpItem) (count : ℕ) (new : List RlpItem) (r : Result ℕ ℕ)
-    → MatchResult r (λ n. IsWalked b place depth 0 old count new n) (λ e. (e ≢ 0) × (e ≢ 13) × IsNeverCanonical b)
-    → MatchResult r (λ n. IsWalked b place depth most old count new n) (λ e. (e ≢ 0) × (e ≢ 13) × ¬ IsCanonicalWithin most b)
-answered_within b place depth most old count new (Ok n) w = walked_within b place depth most old count new n w
-answered_within b place depth most old count new (Err e) (some, other, never) = (some, other, never most)
+pub walked_string_within : (b : List ℕ) (place depth most : ℕ) (old : List RlpItem) (count : ℕ) (new : List RlpItem) (r : Result ℕ WalkFault)
+    → MatchResult r (λ n. IsWalked b place depth 0 old count new n) (λ _. IsNeverCanonical b)
+    → MatchResult r (λ n. IsWalked b place depth most old count new n) (λ _. ¬ IsCanonicalWithin most b)
+walked_string_within b place depth most old count new (Ok n) w = walked_within b place depth most old count new n w
+walked_string_within b place depth most old count new (Err e) never = never most
+
+pub fault_within : (b : List ℕ) (most : ℕ) (r : Result ℕ WalkFault) → begins_as_list b ≡ false
+    → MatchResult r (λ _. needless_fault b ≡ None) (λ e. needless_fault b ≡ Some e)
+    → MatchResult r (λ _. walk_fault most b ≡ None) (λ e. walk_fault most b ≡ Some e)
+fault_within b most (Ok n) kind none = walk_fault-string most b kind ∙ none
+fault_within b most (Err e) kind some = walk_fault-string most b kind ∙ some
+
+-- ---- the faults of a list
+
+module _ (b rest : List ℕ) (p : PayloadInfo) (place depth most : ℕ) (old : List RlpItem) (count : ℕ) (new : List RlpItem) (n : ℕ)
+    (kind : true ≡ begins_as_list b) (some : most ≢ 0) (w : IsWalking b rest p place depth (most - 1) old count new n) where
+  follows_all : walk_fault most b ≡ payload_fault (walk_fault (most - 1)) rest
+  follows_all = walk_fault-list most b (sym kind) some ∙ w.follows
+
+  -- the next item has a fault
+  pub fault_of_item : (item others : List ℕ) (e : WalkFault) → split rest ≡ item ∷ split others → walk_fault (most - 1) item ≡ Some e
+      → walk_fault most b ≡ Some e
+  fault_of_item item others e parts fault = follows_all ∙ payload_fault-item (walk_fault (most - 1)) rest item others parts e fault
+
+  -- no item is next
+  pub fault_of_bytes : (e : DecoderError) → split rest ≡ [] → 0 < length rest → e ≡ fault rest → walk_fault most b ≡ Some (Bytes e)
+  fault_of_bytes e none more is = follows_all ∙ payload_fault-stray (walk_fault (most - 1)) rest none more ∙ ap (λ d. Some (Bytes d)) (sym is)
+
+  -- all items are fine
+  pub fault_of_none : rest ≡ [] → walk_fault most b ≡ None
+  fault_of_none none = follows_all ∙ payload_fault-none (walk_fault (most - 1)) rest none

@@ -1,6 +1,6 @@
 use Rattle.std.proofs.Common.{◌-◌, length}
-use Rattle.rlp_c.proofs.Walking.{IsWalking}
-use Rattle.rlp_c.proofs.flatten.+walk.Given as goal
+use Rattle.rlp_c.proofs.Walks.{IsWalking}
+use Rattle.rlp_c.proofs.walking.+walk.Given as goal
 
 abbrev pub decreases-walk : goal.decreases-walk
 decreases-walk l = l.left
