@@ -1,45 +1,57 @@
-/* Nanoseconds of a call over the bytes of a file: cc -O2 bench.c librlp_c.a && ./a.out FILE [ROUNDS] */
-#include "../rlp.h"
+/* bench FILE: nanoseconds of processor time for one call over the bytes of a file, by the library and by plain C. */
+#include "tests/plain.h"
+
 #include <stdio.h>
-#include <stdlib.h>
 #include <time.h>
 
-static uint8_t bytes[1 << 24];
+#define RUNS 15
+#define NANOSECONDS 1e7
+
+static uint8_t bytes[1 << 24], out[1 << 24];
 static rlp_item items[1 << 20];
-static uint8_t out[1 << 24];
+static size_t len, found, count;
+static const size_t cap = sizeof items / sizeof *items;
+
+static bool flatten(void) { return rlp_flatten(bytes, len, RLP_DEPTH_LIMIT, items, cap, &found) == RLP_OK; }
+static bool plain_decode(void) { return plain_flatten(bytes, len, RLP_DEPTH_LIMIT, items, cap, &found) == RLP_OK; }
+static bool encode(void) { return rlp_encode(items, found, bytes, len, out, sizeof out, &count) == RLP_OK; }
+static bool plain_write(void) { return plain_encode(items, found, bytes, len, out, sizeof out, &count) == RLP_OK; }
+static bool is_canonical(void) { return rlp_is_canonical(bytes, len, RLP_DEPTH_LIMIT); }
 
 static double now(void) {
-    struct timespec t;
-    clock_gettime(CLOCK_PROCESS_CPUTIME_ID, &t);
-    return (double)t.tv_sec * 1e9 + (double)t.tv_nsec;
+    struct timespec time;
+    clock_gettime(CLOCK_PROCESS_CPUTIME_ID, &time);
+    return (double)time.tv_sec * 1e9 + (double)time.tv_nsec;
 }
 
-#define TIME(name, call)                                                              \
-    do {                                                                              \
-        double best = 1e30;                                                           \
-        for (int run = 0; run < 9; run++) {                                           \
-            double start = now();                                                     \
-            for (long i = 0; i < rounds; i++) sum += (call) + count;                  \
-            double took = (now() - start) / (double)rounds;                           \
-            if (took < best) best = took;                                             \
-        }                                                                             \
-        printf("%-12s %10.1f ns  %zu rows\n", name, best, count);                      \
-    } while (0)
+static double run(bool call(void), long rounds) {
+    double start = now();
+    for (long left = rounds; left > 0; left--)
+        if (!call()) return -1;
+    return now() - start;
+}
+
+/* Prints the shortest time of some runs, each of enough rounds to be measured. */
+static void measure(const char *name, bool call(void)) {
+    long rounds = 1;
+    while (run(call, rounds) < NANOSECONDS / 2 && rounds < 1 << 24) rounds *= 2;
+    double best = run(call, rounds);
+    for (int left = RUNS - 1; left > 0; left--) {
+        double took = run(call, rounds);
+        if (took < best) best = took;
+    }
+    printf("%s %.1f\n", name, best / (double)rounds);
+}
 
 int main(int argc, char **argv) {
-    FILE *file = fopen(argv[1], "rb");
-    size_t len = fread(bytes, 1, sizeof bytes, file), count = 0, cap = sizeof items / sizeof *items;
-    long rounds = argc > 2 ? atol(argv[2]) : 1000;
-    unsigned long sum = 0;
-    TIME("header", rlp_header(bytes, len, items));
-    TIME("split", rlp_split(bytes, len, items, cap, &count));
-    TIME("flatten", rlp_flatten(bytes, len, 256, items, cap, &count));
-    TIME("count only", rlp_flatten(bytes, len, 256, NULL, 0, &count));
-    TIME("is_canonical", rlp_is_canonical(bytes, len, 256));
-    size_t rows = 0;
-    rlp_flatten(bytes, len, 256, items, cap, &rows);
-    TIME("encode", rlp_encode(items, rows, bytes, len, out, sizeof out, &count));
-    for (size_t i = 0; i < len; i++)
-        if (out[i] != bytes[i]) return 1;
-    return sum == 42;
+    FILE *file = argc == 2 ? fopen(argv[1], "rb") : NULL;
+    if (file == NULL) return 2;
+    len = fread(bytes, 1, sizeof bytes, file);
+    fclose(file);
+    measure("decode", flatten);
+    measure("is_canonical", is_canonical);
+    measure("encode", encode);
+    measure("plain_decode", plain_decode);
+    measure("plain_encode", plain_write);
+    printf("items %zu\n", found);
 }
