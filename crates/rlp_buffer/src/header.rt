@@ -7,17 +7,17 @@ use rlp_format::digits::leading_zero_bytes;
 use std::marker::Model;
 
 /// The header of a short string is this and its length.
-pub(crate) const STRING: u8 = 0x80;
+pub const STRING: u8 = 0x80;
 
 /// The header of a list with a short payload is this and the payload's length.
-pub(crate) const LIST: u8 = 0xc0;
+pub const LIST: u8 = 0xc0;
 
 /// The greatest length with a header of one byte.
-pub(crate) const SHORT: usize = 55;
+pub const SHORT: usize = 55;
 
 /// A header that isn't written yet. It is the last bytes of the array.
 #[derive(Drop)]
-pub(crate) struct HeaderBytes {
+pub struct HeaderBytes {
     bytes: [u8; 9],
     start: usize,
 }
@@ -34,7 +34,7 @@ impl Model for HeaderBytes {
 
 impl HeaderBytes {
     /// The bytes of the header.
-    pub(crate) fn as_slice(&self) -> &[u8]
+    pub fn as_slice(&self) -> &[u8]
         ensures { result.now ≡ self.now }
     {
         &self.bytes[self.start..]
@@ -44,7 +44,7 @@ impl HeaderBytes {
 /// The header of a string of `len` bytes if the base is [`STRING`], or of a list with a payload of
 /// `len` bytes if it is [`LIST`].
 #[tactic(auto, using(crate::proofs::Streams::Written::written))]
-pub(crate) fn written_header(base: u8, len: usize) -> HeaderBytes
+pub fn written_header(base: u8, len: usize) -> HeaderBytes
     requires { base ≤ 0xc0 }
     ensures { result ≡ written_header base len }
 {
@@ -65,7 +65,7 @@ pub(crate) fn written_header(base: u8, len: usize) -> HeaderBytes
 
 /// The length in bytes of a list's header, for the length of its payload.
 #[tactic(auto, using(crate::proofs::Streams::Written::written))]
-pub(crate) fn list_header_len(len: usize) -> usize
+pub fn list_header_len(len: usize) -> usize
     ensures value { result ≡ length (written_header 0xc0 len) }
     ensures some { 0 < result }
     ensures few { result ≤ 9 }

@@ -1,0 +1,120 @@
+/* The Recursive Length Prefix format of Ethereum. Link librlp.a or librlp.so; neither needs another library.
+ *
+ * The functions are proved to answer as stated here, for all bytes, lengths and items. None takes memory, keeps a
+ * pointer, has a state, or writes elsewhere than through its result parameters, so calls may run at the same time.
+ *
+ * A caller owes this, and nothing tests it: `bytes` are `len` readable bytes, `items` are `items_len` readable
+ * elements, and `out` are `cap` writable ones. A pointer may be NULL if its length is 0. Result parameters are aligned,
+ * and overlap nothing else. Nothing changes the arguments during a call. A `bool` is 0 or 1.
+ *
+ * All offsets and lengths are in bytes. Each uint32_t that is returned is an rlp_status. */
+#ifndef RLP_H
+#define RLP_H
+
+#include <stdbool.h>
+#include <stddef.h>
+#include <stdint.h>
+
+#ifdef __cplusplus
+#define RLP_RESTRICT __restrict
+extern "C" {
+#else
+#define RLP_RESTRICT restrict
+#endif
+
+/* How a call went. After a status other than RLP_OK and RLP_NO_ROOM the result parameters are as they were, except for
+ * the elements of `out` of rlp_split and rlp_flatten, which then have no meaning. */
+typedef enum rlp_status {
+    RLP_OK = 0,
+    RLP_IS_TOO_BIG = 1,                     /* bytes follow the item, or a number has too many bytes */
+    RLP_IS_TOO_SHORT = 2,                   /* the bytes end before the item does */
+    RLP_EXPECTED_TO_BE_LIST = 3,            /* a string, or no bytes, in place of a list */
+    RLP_EXPECTED_TO_BE_DATA = 4,            /* a list in place of a string */
+    RLP_DATA_LEN_WITH_ZERO_PREFIX = 6,      /* the length of a string begins with a zero byte */
+    RLP_LIST_LEN_WITH_ZERO_PREFIX = 7,      /* the length of a list begins with a zero byte */
+    RLP_INVALID_INDIRECTION = 8,            /* there is a shorter encoding, or a number begins with a zero byte */
+    RLP_INCONSISTENT_LENGTH_AND_DATA = 9,   /* the bytes end before the string that is read does */
+    RLP_INVALID_LENGTH = 10,                /* a header and its string are 2^64 bytes or more */
+    RLP_NO_ROOM = 13,                       /* `cap` is less than `*count`, which is what is needed */
+    RLP_TOO_DEEP = 14,                      /* there are more lists, one in the other, than allowed */
+    RLP_BAD_ITEMS = 15                      /* the items describe no tree, or lie outside the bytes */
+} rlp_status;
+
+/* No call goes deeper into lists that hold lists, whatever the caller allows. It bounds the stack of a call at 64 KiB. */
+#define RLP_DEPTH_LIMIT 256
+
+/* An item of some bytes: 32 bytes on a 64-bit machine, without padding. */
+typedef struct rlp_item {
+    size_t offset;                          /* where its encoding begins */
+    size_t header_len;                      /* 0 to 9; 0 for a byte below 0x80, which is its own encoding */
+    size_t payload_len;                     /* the payload is at bytes + offset + header_len */
+    uint32_t depth;                         /* the number of lists around the item, 0 to RLP_DEPTH_LIMIT */
+    uint32_t is_list;                       /* 1 for a list, 0 for a string */
+} rlp_item;
+
+/* Finds the item that the bytes begin with. Others may follow it. It lies within the bytes; its payload isn't read.
+ * Status: 0, 2, 6, 7, 8. */
+uint32_t rlp_header(const uint8_t *RLP_RESTRICT bytes, size_t len, rlp_item *RLP_RESTRICT out);
+
+/* Tells whether the bytes are the canonical encoding of an item whose lists nest at most `max_depth` deep, and at most
+ * RLP_DEPTH_LIMIT: 0 allows strings alone, 1 also lists of strings. */
+bool rlp_is_canonical(const uint8_t *bytes, size_t len, uint32_t max_depth);
+
+/* Finds the items of the list that the bytes are, at depth 1, and doesn't look into them. `*count` is their number, at
+ * most `len`. After RLP_NO_ROOM the elements of `out` have no meaning.
+ * Status: 0, 1, 2, 3, 6, 7, 8, 13. */
+uint32_t rlp_split(const uint8_t *RLP_RESTRICT bytes, size_t len, rlp_item *RLP_RESTRICT out, size_t cap,
+                   size_t *RLP_RESTRICT count);
+
+/* Finds all items of the canonical encoding that the bytes are, each before the items in it. The first is the whole.
+ * Otherwise as rlp_split. RLP_OK and RLP_NO_ROOM are answered exactly where rlp_is_canonical holds; else the status is
+ * the first fault on the way. Status: 0, 1, 2, 6, 7, 8, 13, 14. */
+uint32_t rlp_flatten(const uint8_t *RLP_RESTRICT bytes, size_t len, uint32_t max_depth, rlp_item *RLP_RESTRICT out,
+                     size_t cap, size_t *RLP_RESTRICT count);
+
+/* Finds the string that the bytes begin with. If `strict`, nothing may follow it: use that for untrusted bytes.
+ * Status: 0, 1, 2, 4, 8, 9, 10. */
+uint32_t rlp_decode_bytes(const uint8_t *RLP_RESTRICT bytes, size_t len, bool strict, rlp_item *RLP_RESTRICT out);
+
+/* Reads the number below 2^64 that the bytes begin with. `strict` and status as for rlp_decode_bytes. */
+uint32_t rlp_decode_u64(const uint8_t *RLP_RESTRICT bytes, size_t len, bool strict, uint64_t *RLP_RESTRICT out);
+
+/* Finds the digits to the base 256 of the number that the bytes begin with, the greatest first, without a zero in front
+ * and at most `width` of them. The number 0 has none. `strict` and status as for rlp_decode_bytes. */
+uint32_t rlp_decode_uint(const uint8_t *RLP_RESTRICT bytes, size_t len, bool strict, size_t width,
+                         rlp_item *RLP_RESTRICT out);
+
+/* Writes the header of a payload. The caller writes the payload behind it: the encodings of a list's items, or a string
+ * other than one byte below 0x80. `*count` is the header's length, 1 to 9. After RLP_NO_ROOM `out` is as it was.
+ * Status: 0, 13. */
+uint32_t rlp_encode_header(bool is_list, size_t payload_len, uint8_t *RLP_RESTRICT out, size_t cap,
+                           size_t *RLP_RESTRICT count);
+
+/* Writes the encoding of a string. `*count` is its length. After RLP_NO_ROOM `out` is as it was. Status: 0, 13; and 10
+ * if the encoding has 2^64 bytes or more, which no string in memory has. */
+uint32_t rlp_encode_bytes(const uint8_t *RLP_RESTRICT bytes, size_t len, uint8_t *RLP_RESTRICT out, size_t cap,
+                          size_t *RLP_RESTRICT count);
+
+/* Writes the encoding of a number. `*count` is its length, 1 to 9. After RLP_NO_ROOM `out` is as it was.
+ * Status: 0, 13. */
+uint32_t rlp_encode_u64(uint64_t number, uint8_t *RLP_RESTRICT out, size_t cap, size_t *RLP_RESTRICT count);
+
+/* Writes the encoding of the tree that the items describe, in the order of rlp_flatten: `*count` bytes. The first item
+ * has depth 0; each other has at least depth 1, and at most that of the item before it, or 1 more if that is a list. No
+ * list has a depth of RLP_DEPTH_LIMIT or more. Of a list only `depth` and `is_list` are read; `is_list` is 0 for a
+ * string, and anything else for a list. A string is the payload that its item points at in `bytes`. After RLP_NO_ROOM
+ * `out` is as it was. Status: 0, 13, 15; and 10 if the encoding has 2^64 bytes or more. */
+uint32_t rlp_encode(const rlp_item *RLP_RESTRICT items, size_t items_len, const uint8_t *RLP_RESTRICT bytes, size_t len,
+                    uint8_t *RLP_RESTRICT out, size_t cap, size_t *RLP_RESTRICT count);
+
+/* Writes the text of the item that the bytes begin with, in ASCII and without a zero at the end: `*count` bytes. It is
+ * `"0x.."` for a string, `[.., ..]` for a list of the items that its payload begins with, `null` for no bytes, and the
+ * name of the fault for other bytes. After RLP_NO_ROOM `out` is as it was. Status: 0, 13; and 14 for more than
+ * RLP_DEPTH_LIMIT lists, one in the other. */
+uint32_t rlp_text(const uint8_t *RLP_RESTRICT bytes, size_t len, uint8_t *RLP_RESTRICT out, size_t cap,
+                  size_t *RLP_RESTRICT count);
+
+#ifdef __cplusplus
+}
+#endif
+#endif

@@ -1,0 +1,22 @@
+-- where the string that bytes begin with is
+mod Strings
+-- rows that were written one after another
+mod Rows
+-- strings with and without a needless header
+mod Framed
+-- the walk over the items of a list
+mod Walks
+-- the first fault of a walk, step by step
+mod Faults
+-- the answer of a whole walk
+mod Flattening
+-- the walk over the items of one list
+mod Splitting
+-- the tree that rows describe
+mod Trees
+-- a tree that is gone through from its last row on
+mod Measuring
+-- bytes that are put one after another
+mod Texts
+-- the rows of a tree describe it
+mod Described

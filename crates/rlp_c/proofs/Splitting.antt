@@ -1,0 +1,144 @@
+-- The walk over the items of one list.
+use Rattle.std.proofs.Common.{◌≡◌, ℕ, ◌+◌, ◌-◌, ◌<◌, ◌≤◌, ◌⊎◌, inl, inr, suc, true, List, [], ◌∷◌, ◌++◌, length, take, refl, sym, ap, ◌∙◌}
+use Rattle.std.proofs.Common.{subst, arith, Ok, Some, None, append-nil, append_assoc, length-append}
+use Rattle.rlp_format.specs.declared.error.DecoderError.{DecoderError}
+use Rattle.rlp_format.specs.declared.header.PayloadInfo.{PayloadInfo}
+use Rattle.rlp_format.specs.Format.Framing.{fault, framing, value}
+use Rattle.rlp_format.specs.Format.Split.{begins_as_list, items, split}
+use Rattle.rlp_format.specs.Format.Strict.{after_items, fault_of_some, strict_fault, strict_list_fault}
+use Rattle.rlp_format.proofs.Format.Splits.{split-nil}
+use Rattle.rlp_format.proofs.Format.StrictLists.{after_items-next, after_items-nil, after_items-none, fault_of_some-some, strict_whole, value-items}
+use Rattle.rlp_c.specs.declared.item.RlpItem.{RlpItem}
+use Rattle.rlp_c.specs.Rows.{IsItemized, header_length, row, row_by, rows_at}
+use Rattle.rlp_c.specs.Status.{fault_status}
+use Rattle.rlp_c.specs.Walk.{Extends}
+use Rattle.rlp_c.proofs.Rows.{extends_both}
+use Rattle.std.specs.List.{concat}
+
+-- the first items have rows, and the others are those of the rest
+pub record IsSplitting (p rest : List ℕ) (place : ℕ) (old new : List RlpItem) (n : ℕ) : Type 0 where
+  pub done : List (List ℕ)
+  pub all : done ++ split rest ≡ split p
+  pub follows : after_items p ≡ after_items rest
+  pub rows : Extends old 0 (rows_at place 1 done) new
+  pub total : n ≡ length (rows_at place 1 done)
+  pub counted : n ≡ length done
+  pub bytes : length (concat done) + length rest ≡ length p
+  pub few : n + length rest ≤ length p
+
+rows_none : (old : List RlpItem) (place : ℕ) → Extends old 0 (rows_at place 1 []) old
+unfolding rows_at
+rows_none old place = record { same_len = refl; filled = λ fits. refl }
+
+length_none : (place : ℕ) → 0 ≡ length (rows_at place 1 [])
+unfolding rows_at
+length_none place = refl
+
+rows-more : (place depth : ℕ) (fs : List (List ℕ)) (f : List ℕ) → rows_at place depth (fs ++ f ∷ [])
+    ≡ rows_at place depth fs ++ row_by (place + length (concat fs)) depth (begins_as_list f) (framing f) ∷ []
+unfolding rows_at
+rows-more place depth [] f = ap (λ k. row_by k depth (begins_as_list f) (framing f) ∷ []) (let same : place ≡ place + 0 = omega arith in same)
+rows-more place depth (g ∷ fs) f =
+    let at : place + length g + length (concat fs) ≡ place + length (concat (g ∷ fs)) = omega (arith, length-append g (concat fs)) in
+    ap (λ s. row_by place depth (begins_as_list g) (framing g) ∷ s) (rows-more (place + length g) depth fs f
+    ∙ ap (λ k. rows_at (place + length g) depth fs ++ row_by k depth (begins_as_list f) (framing f) ∷ []) at)
+
+pub splitting_none : (p : List ℕ) (place : ℕ) (old : List RlpItem) → IsSplitting p p place old old 0
+splitting_none p place old = record {
+  done = [];
+  all = refl;
+  follows = refl;
+  rows = rows_none old place;
+  total = length_none place;
+  counted = refl;
+  bytes = let e : 0 + length p ≡ length p = omega arith in e;
+  few = let e : 0 + length p ≤ length p = omega arith in e;
+}
+
+concat-more : (fs : List (List ℕ)) (f : List ℕ) → length (concat (fs ++ f ∷ [])) ≡ length (concat fs) + length f
+concat-more [] f = omega (arith, ap length (append-nil f))
+concat-more (g ∷ fs) f = omega (arith, concat-more fs f, length-append g (concat fs), length-append g (concat (fs ++ f ∷ [])))
+
+pub splitting_one : (p rest item others : List ℕ) (place : ℕ) (h : PayloadInfo) (old mid new : List RlpItem) (n : ℕ) → IsSplitting p rest place old mid n
+    → split rest ≡ item ∷ split others → rest ≡ item ++ others → framing item ≡ Ok h → 0 < length item
+    → Extends mid n (row (place + (length p - length rest)) 1 (begins_as_list item) h ∷ []) new
+    → IsSplitting p others place old new (n + 1)
+splitting_one p rest item others place h old mid new n w parts whole header some wrote =
+    let at : place + (length p - length rest) ≡ place + length (concat w.done) = omega (arith, w.bytes) in
+    let same : row (place + (length p - length rest)) 1 (begins_as_list item) h
+    ≡ row_by (place + length (concat w.done)) 1 (begins_as_list item) (framing item) =
+    ap (λ k. row k 1 (begins_as_list item) h) at ∙ ap (λ r. row_by (place + length (concat w.done)) 1 (begins_as_list item) r) (sym header) in
+    let one : Extends mid n (row_by (place + length (concat w.done)) 1 (begins_as_list item) (framing item) ∷ []) new =
+    subst (λ r. Extends mid n (r ∷ []) new) same wrote in
+    let more = rows-more place 1 w.done item in
+    record {
+      done = w.done ++ item ∷ [];
+      all = append_assoc w.done (item ∷ []) (split others) ∙ ap (λ s. w.done ++ s) (sym parts) ∙ w.all;
+      follows = w.follows ∙ after_items-next rest item others parts whole;
+      rows = subst (λ rows. Extends old 0 rows new) (sym more)
+          (extends_both old mid new 0 n (rows_at place 1 w.done) (row_by (place + length (concat w.done)) 1 (begins_as_list item) (framing item) ∷ [])
+          w.rows (let c : n ≡ 0 + length (rows_at place 1 w.done) = omega (arith, w.total) in c) one);
+      total = omega (
+        arith,
+        w.total,
+        ap length more,
+        length-append (rows_at place 1 w.done) (row_by (place + length (concat w.done)) 1 (begins_as_list item) (framing item) ∷ []),
+      );
+      counted = omega (arith, w.counted, length-append w.done (item ∷ []));
+      bytes = omega (arith, w.bytes, concat-more w.done item, ap length whole, length-append item others);
+      few = omega (arith, w.few, some, ap length whole, length-append item others);
+    }
+
+pub splitting_fault : (p rest : List ℕ) (place : ℕ) (old new : List RlpItem) (n : ℕ) (e : DecoderError) → IsSplitting p rest place old new n
+    → split rest ≡ [] → 0 < length rest → e ≡ fault rest → fault_of_some (after_items p) ≡ Some e
+splitting_fault p rest place old new n e w none some is =
+    ap fault_of_some (w.follows ∙ after_items-none rest none) ∙ fault_of_some-some rest some ∙ ap Some (sym is)
+
+-- the walk has reached the end
+pub record IsAllSplit (p : List ℕ) (place : ℕ) (old new : List RlpItem) (n : ℕ) : Type 0 where
+  pub no_fault : fault_of_some (after_items p) ≡ None
+  pub counted : n ≡ length (split p)
+  pub rows : Extends old 0 (rows_at place 1 (split p)) new
+
+pub splitting_ends : (p rest : List ℕ) (place : ℕ) (old new : List RlpItem) (n : ℕ) → IsSplitting p rest place old new n → rest ≡ []
+    → IsAllSplit p place old new n
+splitting_ends p rest place old new n w none =
+    let same : w.done ≡ split p = sym (append-nil w.done) ∙ ap (λ s. w.done ++ s) (sym (ap split none ∙ split-nil)) ∙ w.all in
+    record {
+      no_fault = ap fault_of_some (w.follows ∙ ap after_items none ∙ after_items-nil);
+      counted = w.counted ∙ ap length same;
+      rows = subst (λ fs. Extends old 0 (rows_at place 1 fs) new) same w.rows;
+    }
+
+rows_counted : (place depth : ℕ) (fs : List (List ℕ)) → length (rows_at place depth fs) ≡ length fs
+unfolding rows_at
+rows_counted place depth [] = refl
+rows_counted place depth (f ∷ fs) = ap (λ n. suc n) (rows_counted (place + length f) depth fs)
+
+-- the answer for a list
+pub itemized : (b q : List ℕ) (h : PayloadInfo) (old new : List RlpItem) (old_count n status : ℕ) → true ≡ begins_as_list b → strict_fault b ≡ None
+    → value b ≡ Ok q → framing b ≡ Ok h → fault_of_some (after_items q) ≡ None → n ≡ length (split q) → Extends old 0 (rows_at h.header_len 1 (split q)) new
+    → ((n ≤ length old) × (status ≡ 0)) ⊎ ((length old < n) × (status ≡ 13)) → IsItemized b old new old_count n status (strict_list_fault b)
+itemized b q h old new old_count n status kind whole found header none count rows room =
+    let same : split q ≡ items b = value-items b q kind found in
+    let fault : None ≡ strict_list_fault b = sym none ∙ strict_whole b q kind whole found in
+    let counted : n ≡ length (items b) = count ∙ ap length same in
+    let wrote : Extends old 0 (rows_at (header_length (framing b)) 1 (items b)) new =
+    subst (λ fs. Extends old 0 (rows_at (header_length (framing b)) 1 fs) new) same
+    (subst (λ k. Extends old 0 (rows_at k 1 (split q)) new) (ap header_length (sym header)) rows) in
+    let len = rows_counted (header_length (framing b)) 1 (items b) in
+    subst (IsItemized b old new old_count n status) fault (counted, roomy b old new n status counted wrote len room)
+  where
+    roomy : (b : List ℕ) (old new : List RlpItem) (n status : ℕ) → n ≡ length (items b) → Extends old 0 (rows_at (header_length (framing b)) 1 (items b)) new
+        → length (rows_at (header_length (framing b)) 1 (items b)) ≡ length (items b)
+        → ((n ≤ length old) × (status ≡ 0)) ⊎ ((length old < n) × (status ≡ 13))
+        → ((n ≤ length old) × (status ≡ 0) × (take n new ≡ rows_at (header_length (framing b)) 1 (items b))) ⊎ ((length old < n) × (status ≡ 13))
+    roomy b old new n status counted wrote len (inl (fits, ok)) =
+        let total : n ≡ 0 + length (rows_at (header_length (framing b)) 1 (items b)) = omega (arith, counted, len) in
+        inl (fits, ok, ap (λ k. take k new) total ∙ wrote.filled (omega (arith, fits, counted, len)))
+    roomy b old new n status counted wrote len (inr full) = inr full
+
+-- the answer for what isn't a list
+pub not_itemized : (b : List ℕ) (old new : List RlpItem) (count status : ℕ) (e : DecoderError) → strict_list_fault b ≡ Some e → status ≡ fault_status e
+    → IsItemized b old new count count status (strict_list_fault b)
+not_itemized b old new count status e fault is = subst (IsItemized b old new count count status) (sym fault) (is, refl)

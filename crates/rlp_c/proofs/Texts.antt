@@ -1,0 +1,65 @@
+-- Bytes that are put one after another.
+use Rattle.std.proofs.Common.{◌≡◌, ℕ, ◌+◌, ◌-◌, ◌^◌, ◌<◌, ◌≤◌, List, [], ◌∷◌, ◌++◌, length, take, drop, map, codes, get_or, sym, ap, ◌∙◌, subst, arith}
+use Rattle.std.proofs.Common.{append-nil, append_assoc, length-append}
+use Rattle.std.proofs.lemmas.Grind.{flat_map-append}
+use Rattle.std.proofs.lemmas.List.{drop-drop, drop_at, length-take-le, take_at, take_more}
+use Rattle.rlp_format.specs.Format.Split.{items, split}
+use Rattle.rlp_format.specs.Views.Text.{hex, hex_pair, separated, text}
+use Rattle.rlp_format.proofs.Views.Printing.{done-more, separator_after, separator_after-more, texts-more}
+use Rattle.rlp_c.specs.Written.{IsPut}
+
+pub put_both : (old mid new : List ℕ) (n m k : ℕ) (e f : List ℕ) → length old < 2 ^ 64 - 1 → IsPut old n e mid m → IsPut mid m f new k → IsPut old n (e ++ f) new k
+put_both old mid new n m k e f short first then = record {
+  end = omega (arith, length-append e f, first.end, then.end);
+  same_len = then.same_len ∙ first.same_len;
+  filled = λ room.
+      let len = length-append e f in
+      let early : n + length e ≤ length old = omega (arith, room, len) in
+      let place : m ≡ n + length e = omega (arith, first.end, early, short) in
+      let whole : mid ≡ take n old ++ (e ++ drop (n + length e) old) = first.filled early in
+      let front : length (take n old ++ e) ≡ m = length-append (take n old) e ∙ (let same : length (take n old) + length e ≡ m = omega (arith, place, length-take-le n old (omega (arith, early))) in same) in
+      let parts : mid ≡ (take n old ++ e) ++ drop (n + length e) old = whole ∙ sym (append_assoc (take n old) e (drop (n + length e) old)) in
+      let before : take m mid ≡ take n old ++ e = ap (take m) parts ∙ take_at (take n old ++ e) (drop (n + length e) old) m front in
+      let behind : drop (m + length f) mid ≡ drop (n + length (e ++ f)) old =
+      sym (drop-drop (length f) m mid)
+      ∙ ap (λ s. drop (length f) s) (ap (drop m) parts ∙ drop_at (take n old ++ e) (drop (n + length e) old) m front)
+      ∙ drop-drop (length f) (n + length e) old
+      ∙ ap (λ j. drop j old) (let same : n + length e + length f ≡ n + length (e ++ f) = omega (arith, len) in same) in
+      then.filled (omega (arith, place, room, len, first.same_len))
+      ∙ ap (λ s. s ++ (f ++ drop (m + length f) mid)) before
+      ∙ ap (λ s. (take n old ++ e) ++ (f ++ s)) behind
+      ∙ append_assoc (take n old) e (f ++ drop (n + length (e ++ f)) old)
+      ∙ ap (λ s. take n old ++ s) (sym (append_assoc e f (drop (n + length (e ++ f)) old)));
+}
+
+pub put_as : (old new : List ℕ) (n m : ℕ) (e f : List ℕ) → e ≡ f → IsPut old n e new m → IsPut old n f new m
+put_as old new n m e f same p = subst (λ s. IsPut old n s new m) same p
+
+-- one more byte as two digits
+pub hex-more : (s : List ℕ) (i : ℕ) (d : ℕ) → i < length s → hex (take i s) ++ hex_pair (get_or s i d) ≡ hex (take (i + 1) s)
+hex-more s i d less =
+    ap (λ t. hex (take i s) ++ t) (sym (append-nil (hex_pair (get_or s i d))))
+    ∙ sym (flat_map-append hex_pair (take i s) (get_or s i d ∷ []))
+    ∙ ap hex (sym (take_more s i d less))
+
+-- the first items of a list are put
+pub record IsPrinting (b rest : List ℕ) (old : List ℕ) (n : ℕ) (separator new : List ℕ) (m : ℕ) : Type 0 where
+  pub done : List (List ℕ)
+  pub all : done ++ split rest ≡ items b
+  pub next : separator ≡ separator_after done
+  pub put : IsPut old n (codes "[" ++ separated (map text done)) new m
+
+pub printing_one : (b rest item others old mid out new separator : List ℕ) (n m k l : ℕ) → length old < 2 ^ 64 - 1
+    → IsPrinting b rest old n separator mid m → split rest ≡ item ∷ split others → IsPut mid m separator out k → IsPut out k (text item) new l
+    → IsPrinting b others old n (codes ", ") new l
+printing_one b rest item others old mid out new separator n m k l short w parts between one = record {
+  done = w.done ++ item ∷ [];
+  all = done-more w.done (items b) rest item others w.all parts;
+  next = separator_after-more w.done item;
+  put = put_as old new n l (((codes "[" ++ separated (map text w.done)) ++ separator) ++ text item) (codes "[" ++ separated (map text (w.done ++ item ∷ [])))
+      (append_assoc (codes "[" ++ separated (map text w.done)) separator (text item)
+      ∙ append_assoc (codes "[") (separated (map text w.done)) (separator ++ text item)
+      ∙ ap (λ s. codes "[" ++ s) (texts-more w.done item separator w.next))
+      (put_both old out new n k l ((codes "[" ++ separated (map text w.done)) ++ separator) (text item) short
+      (put_both old mid out n m k (codes "[" ++ separated (map text w.done)) separator short w.put between) one);
+}

@@ -1,0 +1,51 @@
+-- What C sees of items.
+use Rattle.std.specs.Prelude.{ℕ, ◌≡◌, ◌+◌, ◌<◌, ◌≤◌, ◌⊎◌, Bool, List, [], ◌∷◌, length, take, drop, Option, Some, None, Result, Ok, Err}
+use Rattle.rlp_format.specs.declared.error.DecoderError.{DecoderError}
+use Rattle.rlp_format.specs.declared.header.PayloadInfo.{PayloadInfo}
+use Rattle.rlp_format.specs.Format.Framing.{framing}
+use Rattle.rlp_format.specs.Format.Split.{begins_as_list, items}
+use Rattle.rlp_format.specs.Format.WrittenHeader.{big_endian}
+use Rattle.rlp_format.specs.Values.Value.{bit}
+use Rattle.rlp_format.specs.Views.View.{View}
+use Rattle.rlp.specs.Values.ValueReading.{GivesBytes, GivesNumber}
+use Rattle.rlp_c.specs.Status.{fault_status}
+use Rattle.rlp_c.specs.declared.item.RlpItem.{RlpItem}
+
+-- the row of an item with this header, at this place and depth
+abbrev pub row : ℕ → ℕ → Bool → PayloadInfo → RlpItem
+row place depth is_list p = record { offset = place; header_len = p.header_len; payload_len = p.value_len; depth = depth; is_list = bit is_list }
+
+-- the payload that a row points at
+abbrev pub payload_at : List ℕ → RlpItem → List ℕ
+payload_at b r = take r.payload_len (drop (r.offset + r.header_len) b)
+
+-- the row points at the string that the view gives
+abbrev pub PointsAtString : View → RlpItem → Type 0
+PointsAtString v r = GivesBytes v (payload_at v.bytes r)
+
+-- the row points at the digits, without a zero in front, of the number of at most this number of bytes that the view gives
+abbrev pub PointsAtNumber : ℕ → View → RlpItem → Type 0
+PointsAtNumber width v r = (n : ℕ) × GivesNumber width v n × (payload_at v.bytes r ≡ big_endian n)
+
+-- the row of a framed item, by its header
+abbrev pub row_by : ℕ → ℕ → Bool → Result PayloadInfo DecoderError → RlpItem
+row_by place depth is_list (Ok p) = row place depth is_list p
+row_by place depth is_list (Err e) = record { offset = place; header_len = 0; payload_len = 0; depth = depth; is_list = bit is_list }
+
+-- the rows of framed items, one after another from this place
+unfoldable pub rows_at : ℕ → ℕ → List (List ℕ) → List RlpItem
+rows_at place depth [] = []
+rows_at place depth (f ∷ fs) = row_by place depth (begins_as_list f) (framing f) ∷ rows_at (place + length f) depth fs
+
+-- the length of a header
+abbrev pub header_length : Result PayloadInfo DecoderError → ℕ
+header_length (Ok p) = p.header_len
+header_length (Err e) = 0
+
+-- The answer for the items of one list: if b isn't exactly one list, its fault. Else `count` is the number of items, and if the array has room for so many,
+-- it begins with their rows.
+abbrev pub IsItemized : List ℕ → List RlpItem → List RlpItem → ℕ → ℕ → ℕ → Option DecoderError → Type 0
+IsItemized b old new old_count count status (Some e) = (status ≡ fault_status e) × (count ≡ old_count)
+IsItemized b old new old_count count status None = (count ≡ length (items b))
+    × (((count ≤ length old) × (status ≡ 0) × (take count new ≡ rows_at (header_length (framing b)) 1 (items b)))
+    ⊎ ((length old < count) × (status ≡ 13)))

@@ -1,0 +1,24 @@
+//! What C sees of an item: where it is in the bytes.
+
+ghost use Rattle.std.specs.Prelude.{◌≡◌};
+ghost use Rattle.rlp_format.specs.Values.Value.{bit};
+
+/// An item of some bytes. Its header begins at `offset`, and its payload follows the header. `depth`
+/// is the number of lists around it. `is_list` is 1 for a list and 0 for a string: a number, so that
+/// an array of any bytes is one of items.
+#[repr(C)]
+#[derive(Clone, Copy)]
+pub struct RlpItem {
+    pub offset: usize,
+    pub header_len: usize,
+    pub payload_len: usize,
+    pub depth: u32,
+    pub is_list: u32,
+}
+
+/// A truth value as a number.
+pub fn bit(flag: bool) -> u32
+    ensures { result ≡ bit flag }
+{
+    if flag { 1 } else { 0 }
+}

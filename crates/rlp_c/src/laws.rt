@@ -1,0 +1,14 @@
+//! Laws over the definitions. These functions have no effect: each contract is the law.
+
+ghost use Rattle.std.specs.Prelude.{ℕ, ◌≡◌, ◌≤◌};
+ghost use Rattle.rlp_format.specs.Format.Item.{Item, item_depth};
+ghost use Rattle.rlp_format.specs.Format.Encoding.{encoding};
+ghost use Rattle.rlp_c.specs.Flat.{flat};
+ghost use Rattle.rlp_c.specs.Tree.{DescribeTree, tree_of};
+
+/// The rows of an item describe the item, so that `rlp_encode` writes what `rlp_flatten` has read.
+pub fn rows_describe_their_item(bytes: &[u8])
+    ensures describe { (most : ℕ) (x : Item) → bytes.now ≡ encoding x → item_depth x ≤ most
+        → DescribeTree most bytes.now (flat 0 0 x) }
+    ensures tree { (x : Item) → bytes.now ≡ encoding x → tree_of bytes.now (flat 0 0 x) ≡ x }
+{}

@@ -1,0 +1,16 @@
+//! The codec for other languages: functions with C's calling convention. `bindings/rlp.h` declares
+//! them and says what a caller owes.
+#![tactic(auto)]
+
+mod canonical;
+mod encode;
+mod flatten;
+mod header;
+mod item;
+mod laws;
+mod split;
+mod status;
+mod text;
+mod tree;
+mod values;
+mod walking;

@@ -1,0 +1,47 @@
+//! The numbers by which C tells faults apart.
+
+ghost use Rattle.std.specs.Prelude.{◌≡◌};
+ghost use Rattle.rlp_c.specs.Status.{fault_status, walk_status};
+
+use crate::walking::WalkFault;
+use rlp::DecoderError;
+
+/// Everything went well.
+pub const RLP_OK: u32 = 0;
+/// The caller's array has too few elements.
+pub const RLP_NO_ROOM: u32 = 13;
+/// Lists are nested deeper than the caller allows.
+pub const RLP_TOO_DEEP: u32 = 14;
+
+/// The items describe no tree, or point outside the bytes.
+pub const RLP_BAD_ITEMS: u32 = 15;
+
+/// The number of a fault.
+pub fn status_of(fault: &DecoderError) -> u32
+    ensures { result ≡ fault_status fault.now }
+{
+    match fault {
+        DecoderError::RlpIsTooBig => 1,
+        DecoderError::RlpIsTooShort => 2,
+        DecoderError::RlpExpectedToBeList => 3,
+        DecoderError::RlpExpectedToBeData => 4,
+        DecoderError::RlpIncorrectListLen => 5,
+        DecoderError::RlpDataLenWithZeroPrefix => 6,
+        DecoderError::RlpListLenWithZeroPrefix => 7,
+        DecoderError::RlpInvalidIndirection => 8,
+        DecoderError::RlpInconsistentLengthAndData => 9,
+        DecoderError::RlpInvalidLength => 10,
+        DecoderError::Custom(_) => 11,
+        DecoderError::OutOfMemory => 12,
+    }
+}
+
+/// The number of a fault of a walk.
+pub fn status_of_walk(fault: &WalkFault) -> u32
+    ensures { result ≡ walk_status fault.now }
+{
+    match fault {
+        WalkFault::Bytes(fault) => status_of(fault),
+        WalkFault::TooDeep => RLP_TOO_DEEP,
+    }
+}

@@ -1,0 +1,123 @@
+//! Values that are read from one string.
+
+ghost use Rattle.std.specs.Prelude.{◌≡◌, ◌≤◌, length, take, drop, IfOk, IfErr};
+ghost use Rattle.std.specs.Int.Digits.{number_from_digits};
+ghost use Rattle.rlp_format.specs.Format.WrittenHeader.{big_endian};
+ghost use Rattle.rlp_format.specs.Format.StringReading.{IsString};
+ghost use Rattle.rlp_format.specs.Values.Value.{FitsBytes};
+ghost use Rattle.rlp.specs.Values.ValueReading.{FaultsAsBytes, FaultsAsNumber, GivesNumber, IsDigitsFault};
+ghost use Rattle.rlp_c.specs.Answers.{Answers, view_as};
+ghost use Rattle.rlp_c.specs.Rows.{PointsAtNumber, PointsAtString, payload_at};
+
+use crate::item::RlpItem;
+use crate::status::{RLP_OK, status_of};
+use rlp::{Decodable, DecoderError, PayloadInfo, Rlp};
+use std::alloc::Global;
+
+/// A view of the bytes, strict or lenient.
+fn view_over(bytes: &[u8], strict: bool) -> Rlp<'_>
+    ensures { result ≡ view_as strict bytes.now }
+{
+    if strict {
+        Rlp::new_strict(bytes)
+    } else {
+        Rlp::new(bytes)
+    }
+}
+
+/// Reads a number below 2^64. If strict, nothing may follow it.
+#[unsafe(no_mangle)]
+pub extern "C" fn rlp_decode_u64(alloc: Global, bytes: &[u8], strict: bool, out: &mut u64) -> u32
+    ensures { Answers (λ n. GivesNumber 8 (view_as strict bytes.now) n)
+        (λ e. FaultsAsNumber 8 (view_as strict bytes.now) e) result out.old out.new }
+{
+    match u64::decode(alloc, &view_over(bytes, strict)) {
+        Ok(number) => {
+            *out = number;
+            RLP_OK
+        }
+        Err(fault) => status_of(&fault),
+    }
+}
+
+/// Finds the digits of a number of at most `width` bytes, the greatest first and without leading
+/// zeros. If strict, nothing may follow it.
+#[unsafe(no_mangle)]
+#[tactic(auto, using(rlp::specs::Lemmas::Numbers::number_answers))]
+pub extern "C" fn rlp_decode_uint(
+    bytes: &[u8],
+    strict: bool,
+    width: usize,
+    out: &mut RlpItem,
+) -> u32
+    ensures { Answers (λ r. PointsAtNumber width (view_as strict bytes.now) r)
+        (λ e. FaultsAsNumber width (view_as strict bytes.now) e) result out.old out.new }
+{
+    let digits = match view_over(bytes, strict).decoder().string() {
+        Ok(digits) => digits,
+        Err(fault) => return status_of(&fault),
+    };
+    match check_digits(digits, width) {
+        Ok(()) => {
+            *out = string_row(bytes, digits);
+            RLP_OK
+        }
+        Err(fault) => status_of(&fault),
+    }
+}
+
+/// Finds a byte string. If strict, nothing may follow it.
+#[unsafe(no_mangle)]
+pub extern "C" fn rlp_decode_bytes(bytes: &[u8], strict: bool, out: &mut RlpItem) -> u32
+    ensures { Answers (λ r. PointsAtString (view_as strict bytes.now) r)
+        (λ e. FaultsAsBytes (view_as strict bytes.now) e) result out.old out.new }
+{
+    match view_over(bytes, strict).decoder().string() {
+        Ok(string) => {
+            *out = string_row(bytes, string);
+            RLP_OK
+        }
+        Err(fault) => status_of(&fault),
+    }
+}
+
+/// The row of the string that the bytes begin with.
+fn string_row(bytes: &[u8], string: &[u8]) -> RlpItem
+    requires { IsString bytes.now string.now }
+    ensures { payload_at bytes.now result ≡ string.now }
+{
+    let header_len = match PayloadInfo::from(bytes) {
+        Ok(info) => info.header_len,
+        Err(_) => 0,
+    };
+    RlpItem {
+        offset: 0,
+        header_len,
+        payload_len: string.len(),
+        depth: 0,
+        is_list: 0,
+    }
+}
+
+/// Tests whether these are the digits of a number of at most `width` bytes: first their number, and
+/// then the first digit.
+#[tactic(auto, using(rlp::specs::Lemmas::Numbers::digit_faults))]
+fn check_digits(digits: &[u8], width: usize) -> Result<(), DecoderError>
+    ensures few { IfOk result (λ _. length digits.now ≤ width) }
+    ensures value { IfOk result (λ _. FitsBytes width (number_from_digits 256 digits.now)
+        × (big_endian (number_from_digits 256 digits.now) ≡ digits.now)) }
+    ensures fault { IfErr result (λ e. IsDigitsFault width digits.now e) }
+{
+    if digits.len() > width {
+        return Err(DecoderError::RlpIsTooBig);
+    }
+    match digits {
+        [] => Ok(()),
+        [first, ..] => {
+            if *first == 0 {
+                return Err(DecoderError::RlpInvalidIndirection);
+            }
+            Ok(())
+        }
+    }
+}
