@@ -4,7 +4,7 @@ import re
 
 from bodies import Unfit
 
-FUNCTION = re.compile(r"^( *)(?P<public>pub )?(?:pub\([a-z ]+\) )?(?:const )?(?:unsafe )?(?:extern \S+ )?fn (?P<name>\w+)", re.M)
+FUNCTION = re.compile(r"^( *)(?P<public>pub )?(?:pub\([a-z ]+\) )?(?:final )?(?:const )?(?:unsafe )?(?:extern \S+ )?fn (?P<name>\w+)", re.M)
 IMPL = re.compile(r"^(?P<sort>impl|(?:pub )?trait)\b(?P<head>[^{]*?)\s*\{\n(?P<inside>.*?)^\}", re.M | re.S)
 
 

@@ -11,7 +11,6 @@ pub mod Writing
 pub mod Reading
 pub mod Envelopes
 pub mod Tagged
-pub mod Counted
 -- the same rules in smaller sets: for a type that is read from one string, and those that are passed on from `rlp_streams`
 pub mod OneString
 pub mod Growth

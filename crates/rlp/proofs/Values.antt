@@ -12,6 +12,8 @@ pub mod StrictDecoding
 pub mod FieldReading
 -- groups of fields that are read one after another
 pub mod GroupReading
+-- fields of a part of a value, and others after them
+pub mod PartReading
 -- one reading of raw items
 pub mod RawReading
 -- one reading of structs

@@ -4,7 +4,7 @@ pub mod Exact
 pub mod RawItem
 -- types whose values are of several types: sums, envelopes and tagged lists
 pub mod Sums
--- types whose values are lists of two lengths
-pub mod Counted
+-- structs whose lists begin with the fields of a part of the value
+pub mod Parts
 -- lemmas for a struct with several fields of one type
 pub mod EachField

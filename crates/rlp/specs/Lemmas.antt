@@ -56,7 +56,7 @@ pub mod Told
 pub mod WholeStructs
 -- fields that may be missing together
 pub mod OptionalGroups
+-- fields of a part of a value before others
+pub mod Parts
 -- lists of a tag and a payload
 pub mod Tagged
--- values of two types of structs, told apart by their numbers of fields
-pub mod Counted

@@ -20,3 +20,5 @@ pub use Rattle.rlp_format.specs.declared.error.DecoderError
 pub use Rattle.rlp_format.specs.declared.header.PayloadInfo
 -- what a view begins with
 pub use Rattle.rlp_format.specs.declared.prototype.Prototype
+-- numbers that are kept as n bytes
+pub use Rattle.rlp_streams.specs.declared.impls.uint.Uint

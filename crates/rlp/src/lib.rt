@@ -38,8 +38,8 @@ pub use rlp_streams::{
 pub use rlpin::{BasicDecoder, Envelope, Fields, Rlp, RlpIterator};
 use std::alloc::{AllocError, Global};
 pub use structs::{
-    DecodeField, DecodeFields, Field, FieldFault, FixedFields, Groups, ListField, OptionalGroup,
-    decode_struct,
+    DecodeField, DecodeFields, Field, FieldFault, FieldsOf, FixedFields, Groups, Joined, ListField,
+    OptionalGroup, decode_struct,
 };
 pub use traits::{Decodable, RoundTrip, Scalar, StrictRead};
 

@@ -12,11 +12,13 @@ ghost use Rattle.rlp.specs.Values.ListReading.{FaultsAsList, FaultsAt, GivesAt, 
 
 mod groups;
 mod optional;
+mod parts;
 
 use crate::rlpin::{Fields, Rlp};
 use crate::traits::Decodable;
 pub use groups::{FixedFields, Groups};
 pub use optional::OptionalGroup;
+pub use parts::{FieldsOf, Joined};
 use rlp_format::error::DecoderError;
 use std::alloc::Global;
 use std::error::Error;
@@ -243,7 +245,7 @@ pub fn decode_struct<F: DecodeFields>(alloc: Global, rlp: &Rlp<'_>) -> Result<F,
 ///
 /// A reference to a value is one item. `ListOf(&self.keys)` is one item, which is a list.
 /// `Each(&self.children)` is one item for each value. `Flattened(&self.pairs)` is the fields of
-/// each value. Fails as [`write_struct`] does.
+/// each value, and `FieldsOf(&self.payload)` those of a struct. Fails as [`write_struct`] does.
 ///
 /// What stands last may be missing: `Optional(&self.base_fee)` is one item if the option is `Some`,
 /// and `OptionalListOf(&self.withdrawals)` is one that is a list. `OptionalGroupOf(&self.since_london)`
@@ -305,7 +307,8 @@ macro_rules! append_fields {
 /// it is a list. Fields that are missing together are a struct of their own with [`DecodeFields`], in
 /// an `Option` that is written `since_london: (..)?`. Instead the last field may be groups of fields,
 /// such as keys and values one after another, in a vector of [`FixedFields`]: it is written
-/// `pairs: [(..)]`.
+/// `pairs: [(..)]`. A struct whose fields stand first in the list is written `payload: (..)`, if it
+/// has [`FixedFields`].
 ///
 /// ```rust
 /// fn decode(alloc: Global, rlp: &Rlp<'_>) -> Result<Access, DecoderError> {
@@ -373,6 +376,12 @@ macro_rules! decode_fields {
     (@next $head:tt $left:ident [$($moves:tt)*] [$($names:ident)*] $field:ident: (..)? $(,)?) => {
         $crate::decode_fields!(
             @call $head $left [$($moves)* let $crate::OptionalGroup($field) = $left;] [$($names)* $field]
+        )
+    };
+    (@next $head:tt $left:ident [$($moves:tt)*] [$($names:ident)*] $field:ident: (..) $(, $($others:tt)*)?) => {
+        $crate::decode_fields!(
+            @next $head $left
+            [$($moves)* let $crate::Joined($field, $left) = $left;] [$($names)* $field] $($($others)*)?
         )
     };
     (@next $head:tt $left:ident [$($moves:tt)*] [$($names:ident)*] $field:ident: [(..)] $(,)?) => {

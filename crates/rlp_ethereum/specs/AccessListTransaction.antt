@@ -1,11 +1,14 @@
 -- How transactions of type 1 are written and read.
+use Rattle.std.specs.Prelude.{Bool, refl}
 use Rattle.std.specs.Vec.{vec_items}
-use Rattle.rlp.specs.Codec.{Codec, Fields, byte_string, end, field, number, struct_of, truth_value, uint}
+use Rattle.rlp.specs.Codec.{Codec, Fields, byte_string, end, field, number, truth_value, uint}
 use Rattle.rlp_ethereum.specs.declared.access_list_transaction.AccessListTransaction.{AccessListTransaction}
 use Rattle.rlp_ethereum.specs.Access.{access_list}
 use Rattle.rlp_ethereum.specs.Recipient.{recipient}
+use Rattle.rlp_ethereum.specs.Signed.{signed}
+use Rattle.rlp_ethereum.specs.declared.signed.Signed.{Signed}
 
--- the fields, in order
+-- the fields before the signature, in order
 abbrev pub access_list_transaction_fields : Fields AccessListTransaction
 access_list_transaction_fields =
     field (λ (a : AccessListTransaction). a.chain_id) (number 8) (
@@ -15,11 +18,8 @@ access_list_transaction_fields =
     field (λ (a : AccessListTransaction). a.to) recipient (
     field (λ (a : AccessListTransaction). a.value) (uint 32) (
     field (λ (a : AccessListTransaction). a.data) (byte_string vec_items) (
-    field (λ (a : AccessListTransaction). a.access_list) access_list (
-    field (λ (a : AccessListTransaction). a.y_parity) truth_value (
-    field (λ (a : AccessListTransaction). a.r) (uint 32) (
-    field (λ (a : AccessListTransaction). a.s) (uint 32) end))))))))))
+    field (λ (a : AccessListTransaction). a.access_list) access_list end)))))))
 
--- the list of the fields
-abbrev pub access_list_transaction : Codec AccessListTransaction
-access_list_transaction = struct_of access_list_transaction_fields
+-- the list of these fields, and of the signature
+abbrev pub signed_access_list_transaction : Codec (Signed AccessListTransaction Bool)
+signed_access_list_transaction = signed access_list_transaction_fields (λ p. refl) truth_value

@@ -1,18 +1,18 @@
 -- How authorizations of transactions of type 4 are written and read.
-use Rattle.rlp.specs.Codec.{Codec, Fields, end, field, number, struct_of, uint}
+use Rattle.std.specs.Prelude.{ℕ, refl}
+use Rattle.rlp.specs.Codec.{Codec, Fields, end, field, number, uint}
 use Rattle.rlp_ethereum.specs.declared.authorization.Authorization.{Authorization}
 use Rattle.rlp_ethereum.specs.Address.{address}
+use Rattle.rlp_ethereum.specs.Signed.{signed}
+use Rattle.rlp_ethereum.specs.declared.signed.Signed.{Signed}
 
--- the fields, in order
+-- the fields before the signature, in order
 abbrev pub authorization_fields : Fields Authorization
 authorization_fields =
     field (λ (a : Authorization). a.chain_id) (uint 32) (
     field (λ (a : Authorization). a.address) address (
-    field (λ (a : Authorization). a.nonce) (number 8) (
-    field (λ (a : Authorization). a.y_parity) (number 1) (
-    field (λ (a : Authorization). a.r) (uint 32) (
-    field (λ (a : Authorization). a.s) (uint 32) end)))))
+    field (λ (a : Authorization). a.nonce) (number 8) end))
 
--- the list of the fields
-abbrev pub authorization : Codec Authorization
-authorization = struct_of authorization_fields
+-- the list of these fields, and of the signature
+abbrev pub signed_authorization : Codec (Signed Authorization ℕ)
+signed_authorization = signed authorization_fields (λ p. refl) (number 1)

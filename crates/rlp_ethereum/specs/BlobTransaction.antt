@@ -1,12 +1,15 @@
 -- How transactions of type 3 are written and read.
+use Rattle.std.specs.Prelude.{Bool, refl}
 use Rattle.std.specs.Vec.{vec_items}
-use Rattle.rlp.specs.Codec.{Codec, Fields, byte_string, end, field, list_type, number, struct_of, truth_value, uint}
+use Rattle.rlp.specs.Codec.{Codec, Fields, byte_string, end, field, list_type, number, truth_value, uint}
 use Rattle.rlp_ethereum.specs.declared.blob_transaction.BlobTransaction.{BlobTransaction}
 use Rattle.rlp_ethereum.specs.Access.{access_list}
 use Rattle.rlp_ethereum.specs.Address.{address}
 use Rattle.rlp_ethereum.specs.Hash.{hash}
+use Rattle.rlp_ethereum.specs.Signed.{signed}
+use Rattle.rlp_ethereum.specs.declared.signed.Signed.{Signed}
 
--- the fields, in order
+-- the fields before the signature, in order
 abbrev pub blob_transaction_fields : Fields BlobTransaction
 blob_transaction_fields =
     field (λ (b : BlobTransaction). b.chain_id) (number 8) (
@@ -19,11 +22,8 @@ blob_transaction_fields =
     field (λ (b : BlobTransaction). b.data) (byte_string vec_items) (
     field (λ (b : BlobTransaction). b.access_list) access_list (
     field (λ (b : BlobTransaction). b.max_fee_per_blob_gas) (uint 32) (
-    field (λ (b : BlobTransaction). b.blob_versioned_hashes) (list_type vec_items hash) (
-    field (λ (b : BlobTransaction). b.y_parity) truth_value (
-    field (λ (b : BlobTransaction). b.r) (uint 32) (
-    field (λ (b : BlobTransaction). b.s) (uint 32) end)))))))))))))
+    field (λ (b : BlobTransaction). b.blob_versioned_hashes) (list_type vec_items hash) end))))))))))
 
--- the list of the fields
-abbrev pub blob_transaction : Codec BlobTransaction
-blob_transaction = struct_of blob_transaction_fields
+-- the list of these fields, and of the signature
+abbrev pub signed_blob_transaction : Codec (Signed BlobTransaction Bool)
+signed_blob_transaction = signed blob_transaction_fields (λ p. refl) truth_value

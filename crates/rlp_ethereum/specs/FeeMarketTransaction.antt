@@ -1,11 +1,14 @@
 -- How transactions of type 2 are written and read.
+use Rattle.std.specs.Prelude.{Bool, refl}
 use Rattle.std.specs.Vec.{vec_items}
-use Rattle.rlp.specs.Codec.{Codec, Fields, byte_string, end, field, number, struct_of, truth_value, uint}
+use Rattle.rlp.specs.Codec.{Codec, Fields, byte_string, end, field, number, truth_value, uint}
 use Rattle.rlp_ethereum.specs.declared.fee_market_transaction.FeeMarketTransaction.{FeeMarketTransaction}
 use Rattle.rlp_ethereum.specs.Access.{access_list}
 use Rattle.rlp_ethereum.specs.Recipient.{recipient}
+use Rattle.rlp_ethereum.specs.Signed.{signed}
+use Rattle.rlp_ethereum.specs.declared.signed.Signed.{Signed}
 
--- the fields, in order
+-- the fields before the signature, in order
 abbrev pub fee_market_transaction_fields : Fields FeeMarketTransaction
 fee_market_transaction_fields =
     field (λ (f : FeeMarketTransaction). f.chain_id) (number 8) (
@@ -16,11 +19,8 @@ fee_market_transaction_fields =
     field (λ (f : FeeMarketTransaction). f.to) recipient (
     field (λ (f : FeeMarketTransaction). f.value) (uint 32) (
     field (λ (f : FeeMarketTransaction). f.data) (byte_string vec_items) (
-    field (λ (f : FeeMarketTransaction). f.access_list) access_list (
-    field (λ (f : FeeMarketTransaction). f.y_parity) truth_value (
-    field (λ (f : FeeMarketTransaction). f.r) (uint 32) (
-    field (λ (f : FeeMarketTransaction). f.s) (uint 32) end)))))))))))
+    field (λ (f : FeeMarketTransaction). f.access_list) access_list end))))))))
 
--- the list of the fields
-abbrev pub fee_market_transaction : Codec FeeMarketTransaction
-fee_market_transaction = struct_of fee_market_transaction_fields
+-- the list of these fields, and of the signature
+abbrev pub signed_fee_market_transaction : Codec (Signed FeeMarketTransaction Bool)
+signed_fee_market_transaction = signed fee_market_transaction_fields (λ p. refl) truth_value

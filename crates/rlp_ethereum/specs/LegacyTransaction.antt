@@ -1,10 +1,14 @@
 -- How legacy transactions are written and read.
+use Rattle.std.specs.Prelude.{refl}
 use Rattle.std.specs.Vec.{vec_items}
 use Rattle.rlp.specs.Codec.{Codec, Fields, byte_string, end, field, number, struct_of, uint}
 use Rattle.rlp_ethereum.specs.declared.legacy_transaction.LegacyTransaction.{LegacyTransaction}
 use Rattle.rlp_ethereum.specs.Recipient.{recipient}
+use Rattle.rlp.specs.Uint.{Uint}
+use Rattle.rlp_ethereum.specs.Signed.{signed_fields}
+use Rattle.rlp_ethereum.specs.declared.signed.Signed.{Signed}
 
--- the fields, in order
+-- the fields before the signature, in order
 abbrev pub legacy_transaction_fields : Fields LegacyTransaction
 legacy_transaction_fields =
     field (λ (l : LegacyTransaction). l.nonce) (number 8) (
@@ -12,11 +16,12 @@ legacy_transaction_fields =
     field (λ (l : LegacyTransaction). l.gas_limit) (number 8) (
     field (λ (l : LegacyTransaction). l.to) recipient (
     field (λ (l : LegacyTransaction). l.value) (uint 32) (
-    field (λ (l : LegacyTransaction). l.data) (byte_string vec_items) (
-    field (λ (l : LegacyTransaction). l.v) (uint 32) (
-    field (λ (l : LegacyTransaction). l.r) (uint 32) (
-    field (λ (l : LegacyTransaction). l.s) (uint 32) end))))))))
+    field (λ (l : LegacyTransaction). l.data) (byte_string vec_items) end)))))
 
--- the list of the fields
-abbrev pub legacy_transaction : Codec LegacyTransaction
-legacy_transaction = struct_of legacy_transaction_fields
+-- these fields, and then those of the signature
+abbrev pub signed_legacy_transaction_fields : Fields (Signed LegacyTransaction (Uint 32))
+signed_legacy_transaction_fields = signed_fields legacy_transaction_fields (λ p. refl) (uint 32)
+
+-- the list of all of them
+abbrev pub signed_legacy_transaction : Codec (Signed LegacyTransaction (Uint 32))
+signed_legacy_transaction = struct_of signed_legacy_transaction_fields

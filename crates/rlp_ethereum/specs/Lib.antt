@@ -26,10 +26,12 @@ pub mod Path
 pub mod Receipt
 pub mod Recipient
 pub mod SetCodeTransaction
+pub mod Signed
 pub mod Transaction
 pub mod Trie
 pub mod TrieNode
 pub mod TrieNodeLaws
 pub mod TypedReceipt
-pub mod Unsigned
+pub mod UnsignedLegacyTransaction
+pub mod UnsignedTransaction
 pub mod Withdrawal

@@ -1,19 +1,16 @@
 //! Transactions of type 1.
 
-ghost use Rattle.std.specs.Prelude.{◌≡◌, ◌∷◌, IfOk, take};
-ghost use Rattle.rlp.specs.Format.Encoding.{encoding};
-ghost use Rattle.rlp.specs.Format.Item.{list_of};
-ghost use Rattle.rlp_ethereum.specs.AccessListTransaction.{access_list_transaction_fields, access_list_transaction};
+ghost use Rattle.std.specs.Prelude.{refl};
+ghost use Rattle.rlp.specs.Codecs.Parts.{laws_of};
+ghost use Rattle.rlp_ethereum.specs.AccessListTransaction.{access_list_transaction_fields};
 
-use crate::envelope::{ACCESS_LIST_TYPE, typed_list};
-use crate::{AccessList, Recipient};
-use bytes::BytesMut;
-use rlp::{Decodable, DecoderError, Encodable, Rlp, RlpStream, RoundTrip, StrictRead, Uint};
+use crate::envelope::ACCESS_LIST_TYPE;
+use crate::{AccessList, Payload, Recipient, Tagged, TypedTransaction};
+use rlp::{AppendFields, DecodeFields, FieldFault, Fields, FixedFields, RlpStream, Uint};
 use std::alloc::{AllocError, Global};
 
-/// The payload of a signed transaction of type 1: the list of its eleven fields, as in EIP-2930.
-///
-/// EIP-2718 puts the byte 1 before the payload. This type neither writes nor reads that byte.
+/// A transaction of type 1 without its signature: the list of its eight fields is signed after the
+/// byte 1, as in EIP-2930.
 #[derive(Drop)]
 pub struct AccessListTransaction {
     /// The number of the chain, as in EIP-155. This type reads numbers of at most 64 bits.
@@ -32,47 +29,19 @@ pub struct AccessListTransaction {
     pub data: Vec<u8>,
     /// The accounts and the keys of storage that the transaction declares.
     pub access_list: AccessList,
-    /// The parity of the signature's point: 0 is `false` and 1 is `true`. Reading fails for other
-    /// numbers.
-    pub y_parity: bool,
-    /// The first number of the signature. This type doesn't check it.
-    pub r: Uint<32>,
-    /// The second number of the signature. This type doesn't check it.
-    pub s: Uint<32>,
 }
 
-impl AccessListTransaction {
-    /// Returns the bytes that are signed: the byte 1, and the list of the fields before the
-    /// signature, as in EIP-2930.
-    pub fn signing_payload(&self, alloc: Global) -> Result<BytesMut, AllocError>
-        ensures { IfOk result (λ b. b.items
-            ≡ 1 ∷ encoding (list_of (take 8 (access_list_transaction_fields.items self.now)))) }
-    {
-        typed_list(
-            alloc,
-            ACCESS_LIST_TYPE,
-            &rlp::append_fields!([
-                &self.chain_id,
-                &self.nonce,
-                &self.gas_price,
-                &self.gas_limit,
-                &self.to,
-                &self.value,
-                &self.data,
-                &self.access_list
-            ]),
-        )
+impl AppendFields for AccessListTransaction {
+    ghost items = { access_list_transaction_fields.items };
+
+    ghost fit = { access_list_transaction_fields.Fits };
+
+    fn field_count(&self) -> Option<usize> {
+        Some(8)
     }
-}
 
-impl Encodable for AccessListTransaction {
-    ghost item = { access_list_transaction.item };
-
-    ghost fits = { access_list_transaction.Fits };
-
-    fn rlp_append(&self, s: &mut RlpStream) -> Result<(), AllocError> {
-        rlp::append_fields!(
-            s,
+    fn append_fields(&self, s: &mut RlpStream) -> Result<(), AllocError> {
+        rlp::append_fields!([
             &self.chain_id,
             &self.nonce,
             &self.gas_price,
@@ -80,25 +49,28 @@ impl Encodable for AccessListTransaction {
             &self.to,
             &self.value,
             &self.data,
-            &self.access_list,
-            &self.y_parity,
-            &self.r,
-            &self.s
-        )
+            &self.access_list
+        ])
+        .append_fields(s)
     }
 }
 
-impl Decodable for AccessListTransaction {
-    ghost gives = { access_list_transaction.gives };
+impl DecodeFields for AccessListTransaction {
+    ghost reading = { access_list_transaction_fields.reading };
 
-    ghost faults = { access_list_transaction.faults };
+    fn accepts(len: usize) -> bool {
+        len == 8
+    }
 
-    ghost may_lack_memory = { access_list_transaction.may_lack };
-
-    fn decode(alloc: Global, rlp: &Rlp<'_>) -> Result<AccessListTransaction, DecoderError> {
+    fn decode_fields(
+        alloc: Global,
+        fields: &mut Fields<'_>,
+        len: usize,
+    ) -> Result<AccessListTransaction, FieldFault> {
         rlp::decode_fields!(
             alloc,
-            rlp,
+            fields,
+            len,
             AccessListTransaction {
                 chain_id,
                 nonce,
@@ -107,19 +79,28 @@ impl Decodable for AccessListTransaction {
                 to,
                 value,
                 data,
-                access_list,
-                y_parity,
-                r,
-                s
+                access_list
             }
         )
     }
 }
 
-impl RoundTrip for AccessListTransaction {
-    ghost round_trip = { access_list_transaction.reads_back };
+impl FixedFields for AccessListTransaction {
+    fn width() -> Option<usize> {
+        Some(8)
+    }
+
+    ghost none_more = { refl };
 }
 
-impl StrictRead for AccessListTransaction {
-    ghost strict = { access_list_transaction.reads_strictly };
+impl Payload for AccessListTransaction {
+    ghost laws = { laws_of access_list_transaction_fields (λ p. refl) };
 }
+
+impl Tagged for AccessListTransaction {
+    ghost TAG = { 1 };
+
+    const TAG: u8 = ACCESS_LIST_TYPE;
+}
+
+impl TypedTransaction for AccessListTransaction {}

@@ -1,18 +1,22 @@
 //! Authorizations of transactions of type 4.
 
-ghost use Rattle.std.specs.Prelude.{◌≡◌, ◌∷◌, IfOk, take};
-ghost use Rattle.rlp.specs.Format.Encoding.{encoding};
-ghost use Rattle.rlp.specs.Format.Item.{list_of};
-ghost use Rattle.rlp_ethereum.specs.Authorization.{authorization_fields, authorization};
+ghost use Rattle.std.specs.Prelude.{refl};
+ghost use Rattle.rlp.specs.Codecs.Parts.{laws_of};
+ghost use Rattle.rlp_ethereum.specs.Authorization.{authorization_fields};
 
-use crate::Address;
-use crate::envelope::typed_list;
-use bytes::BytesMut;
-use rlp::{Decodable, DecoderError, Encodable, Rlp, RlpStream, RoundTrip, StrictRead, Uint};
+use crate::{Address, Payload, Signed, Tagged};
+use rlp::{AppendFields, DecodeFields, FieldFault, Fields, FixedFields, RlpStream, Uint};
 use std::alloc::{AllocError, Global};
 
-/// The signed leave of an account to run the code of an address as its own: the list of six fields,
-/// as in EIP-7702.
+/// The byte before the list of an authorization's fields in what is signed, as in EIP-7702.
+pub const AUTHORIZATION_MAGIC: u8 = 0x05;
+
+/// An authorization with its signature: the list of six fields. The parity of the signature's point
+/// is any number below 256, as in the EIP.
+pub type SignedAuthorization = Signed<Authorization, u8>;
+
+/// The leave of an account to run the code of an address as its own, without its signature: the list
+/// of its three fields is signed after the byte 5, as in EIP-7702.
 #[derive(Drop)]
 pub struct Authorization {
     /// The number of the chain, or 0 for any chain.
@@ -21,74 +25,61 @@ pub struct Authorization {
     pub address: Address,
     /// The number of transactions that the account has sent before.
     pub nonce: u64,
-    /// The parity of the signature's point. This type reads any number below 256, as the EIP does.
-    pub y_parity: u8,
-    /// The first number of the signature. This type doesn't check it.
-    pub r: Uint<32>,
-    /// The second number of the signature. This type doesn't check it.
-    pub s: Uint<32>,
 }
 
-impl Authorization {
-    /// Returns the bytes that the account signs: the byte 5, and the list of the fields before the
-    /// signature, as in EIP-7702.
-    pub fn signing_payload(&self, alloc: Global) -> Result<BytesMut, AllocError>
-        ensures { IfOk result (λ b. b.items
-            ≡ 5 ∷ encoding (list_of (take 3 (authorization_fields.items self.now)))) }
-    {
-        typed_list(
-            alloc,
-            5,
-            &rlp::append_fields!([&self.chain_id, &self.address, &self.nonce]),
-        )
+impl AppendFields for Authorization {
+    ghost items = { authorization_fields.items };
+
+    ghost fit = { authorization_fields.Fits };
+
+    fn field_count(&self) -> Option<usize> {
+        Some(3)
+    }
+
+    fn append_fields(&self, s: &mut RlpStream) -> Result<(), AllocError> {
+        rlp::append_fields!([&self.chain_id, &self.address, &self.nonce]).append_fields(s)
     }
 }
 
-impl Encodable for Authorization {
-    ghost item = { authorization.item };
+impl DecodeFields for Authorization {
+    ghost reading = { authorization_fields.reading };
 
-    ghost fits = { authorization.Fits };
-
-    fn rlp_append(&self, s: &mut RlpStream) -> Result<(), AllocError> {
-        rlp::append_fields!(
-            s,
-            &self.chain_id,
-            &self.address,
-            &self.nonce,
-            &self.y_parity,
-            &self.r,
-            &self.s
-        )
+    fn accepts(len: usize) -> bool {
+        len == 3
     }
-}
 
-impl Decodable for Authorization {
-    ghost gives = { authorization.gives };
-
-    ghost faults = { authorization.faults };
-
-    ghost may_lack_memory = { authorization.may_lack };
-
-    fn decode(alloc: Global, rlp: &Rlp<'_>) -> Result<Authorization, DecoderError> {
+    fn decode_fields(
+        alloc: Global,
+        fields: &mut Fields<'_>,
+        len: usize,
+    ) -> Result<Authorization, FieldFault> {
         rlp::decode_fields!(
             alloc,
-            rlp,
+            fields,
+            len,
             Authorization {
                 chain_id,
                 address,
-                nonce,
-                y_parity,
-                r,
-                s
+                nonce
             }
         )
     }
 }
 
-impl RoundTrip for Authorization {
-    ghost round_trip = { authorization.reads_back };
+impl FixedFields for Authorization {
+    fn width() -> Option<usize> {
+        Some(3)
+    }
+
+    ghost none_more = { refl };
 }
 
-impl StrictRead for Authorization {
-    ghost strict = { authorization.reads_strictly };
+impl Payload for Authorization {
+    ghost laws = { laws_of authorization_fields (λ p. refl) };
+}
+
+impl Tagged for Authorization {
+    ghost TAG = { 5 };
+
+    const TAG: u8 = AUTHORIZATION_MAGIC;
 }

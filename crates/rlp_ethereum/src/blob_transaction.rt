@@ -1,22 +1,18 @@
 //! Transactions of type 3.
 
-ghost use Rattle.std.specs.Prelude.{◌≡◌, ◌∷◌, IfOk, take};
-ghost use Rattle.rlp.specs.Format.Encoding.{encoding};
-ghost use Rattle.rlp.specs.Format.Item.{list_of};
-ghost use Rattle.rlp_ethereum.specs.BlobTransaction.{blob_transaction_fields, blob_transaction};
+ghost use Rattle.std.specs.Prelude.{refl};
+ghost use Rattle.rlp.specs.Codecs.Parts.{laws_of};
+ghost use Rattle.rlp_ethereum.specs.BlobTransaction.{blob_transaction_fields};
 
-use crate::envelope::{BLOB_TYPE, typed_list};
-use crate::{AccessList, Address, Hash};
-use bytes::BytesMut;
-use rlp::{
-    Decodable, DecoderError, Encodable, ListOf, Rlp, RlpStream, RoundTrip, StrictRead, Uint,
-};
+use crate::envelope::BLOB_TYPE;
+use crate::{AccessList, Address, Hash, Payload, Tagged, TypedTransaction};
+use rlp::{AppendFields, DecodeFields, FieldFault, Fields, FixedFields, ListOf, RlpStream, Uint};
 use std::alloc::{AllocError, Global};
 
-/// The payload of a signed transaction of type 3: the list of its fourteen fields, as in EIP-4844.
+/// A transaction of type 3 without its signature: the list of its eleven fields is signed after the
+/// byte 3, as in EIP-4844.
 ///
-/// It always has a recipient. EIP-2718 puts the byte 3 before the payload. This type neither writes
-/// nor reads that byte, and it holds no blobs.
+/// It always has a recipient, and it holds no blobs.
 #[derive(Drop)]
 pub struct BlobTransaction {
     /// The number of the chain, as in EIP-155. This type reads numbers of at most 64 bits.
@@ -41,50 +37,19 @@ pub struct BlobTransaction {
     pub max_fee_per_blob_gas: Uint<32>,
     /// The versioned hashes of the blobs. This type doesn't check their version.
     pub blob_versioned_hashes: Vec<Hash>,
-    /// The parity of the signature's point: 0 is `false` and 1 is `true`. Reading fails for other
-    /// numbers.
-    pub y_parity: bool,
-    /// The first number of the signature. This type doesn't check it.
-    pub r: Uint<32>,
-    /// The second number of the signature. This type doesn't check it.
-    pub s: Uint<32>,
 }
 
-impl BlobTransaction {
-    /// Returns the bytes that are signed: the byte 3, and the list of the fields before the
-    /// signature, as in EIP-4844.
-    pub fn signing_payload(&self, alloc: Global) -> Result<BytesMut, AllocError>
-        ensures { IfOk result (λ b. b.items
-            ≡ 3 ∷ encoding (list_of (take 11 (blob_transaction_fields.items self.now)))) }
-    {
-        typed_list(
-            alloc,
-            BLOB_TYPE,
-            &rlp::append_fields!([
-                &self.chain_id,
-                &self.nonce,
-                &self.max_priority_fee_per_gas,
-                &self.max_fee_per_gas,
-                &self.gas_limit,
-                &self.to,
-                &self.value,
-                &self.data,
-                &self.access_list,
-                &self.max_fee_per_blob_gas,
-                ListOf(&self.blob_versioned_hashes)
-            ]),
-        )
+impl AppendFields for BlobTransaction {
+    ghost items = { blob_transaction_fields.items };
+
+    ghost fit = { blob_transaction_fields.Fits };
+
+    fn field_count(&self) -> Option<usize> {
+        Some(11)
     }
-}
 
-impl Encodable for BlobTransaction {
-    ghost item = { blob_transaction.item };
-
-    ghost fits = { blob_transaction.Fits };
-
-    fn rlp_append(&self, s: &mut RlpStream) -> Result<(), AllocError> {
-        rlp::append_fields!(
-            s,
+    fn append_fields(&self, s: &mut RlpStream) -> Result<(), AllocError> {
+        rlp::append_fields!([
             &self.chain_id,
             &self.nonce,
             &self.max_priority_fee_per_gas,
@@ -95,25 +60,28 @@ impl Encodable for BlobTransaction {
             &self.data,
             &self.access_list,
             &self.max_fee_per_blob_gas,
-            ListOf(&self.blob_versioned_hashes),
-            &self.y_parity,
-            &self.r,
-            &self.s
-        )
+            ListOf(&self.blob_versioned_hashes)
+        ])
+        .append_fields(s)
     }
 }
 
-impl Decodable for BlobTransaction {
-    ghost gives = { blob_transaction.gives };
+impl DecodeFields for BlobTransaction {
+    ghost reading = { blob_transaction_fields.reading };
 
-    ghost faults = { blob_transaction.faults };
+    fn accepts(len: usize) -> bool {
+        len == 11
+    }
 
-    ghost may_lack_memory = { blob_transaction.may_lack };
-
-    fn decode(alloc: Global, rlp: &Rlp<'_>) -> Result<BlobTransaction, DecoderError> {
+    fn decode_fields(
+        alloc: Global,
+        fields: &mut Fields<'_>,
+        len: usize,
+    ) -> Result<BlobTransaction, FieldFault> {
         rlp::decode_fields!(
             alloc,
-            rlp,
+            fields,
+            len,
             BlobTransaction {
                 chain_id,
                 nonce,
@@ -125,19 +93,28 @@ impl Decodable for BlobTransaction {
                 data,
                 access_list,
                 max_fee_per_blob_gas,
-                blob_versioned_hashes: [..],
-                y_parity,
-                r,
-                s
+                blob_versioned_hashes: [..]
             }
         )
     }
 }
 
-impl RoundTrip for BlobTransaction {
-    ghost round_trip = { blob_transaction.reads_back };
+impl FixedFields for BlobTransaction {
+    fn width() -> Option<usize> {
+        Some(11)
+    }
+
+    ghost none_more = { refl };
 }
 
-impl StrictRead for BlobTransaction {
-    ghost strict = { blob_transaction.reads_strictly };
+impl Payload for BlobTransaction {
+    ghost laws = { laws_of blob_transaction_fields (λ p. refl) };
 }
+
+impl Tagged for BlobTransaction {
+    ghost TAG = { 3 };
+
+    const TAG: u8 = BLOB_TYPE;
+}
+
+impl TypedTransaction for BlobTransaction {}

@@ -27,7 +27,7 @@ pub const SET_CODE_TYPE: u8 = 0x04;
 
 /// Returns the envelope of a value: the byte `kind` of its type, and its encoding. In EIP-2718 the
 /// type is below 0x80, so an envelope doesn't begin as a list does.
-pub fn to_envelope<T: Encodable>(
+pub(crate) fn to_envelope<T: Encodable>(
     alloc: Global,
     kind: u8,
     payload: &T,
@@ -46,21 +46,11 @@ pub(crate) fn typed_list<F: AppendFields>(
     kind: u8,
     fields: &F,
 ) -> Result<BytesMut, AllocError>
-    ensures { IfOk result (λ b. b.items ≡ kind ∷ encoding (list_of (F.items fields.now))) }
+    ensures fits { OnOk result (F.fit fields.now) }
+    ensures bytes { IfOk result
+        (λ b. b.items ≡ kind ∷ encoding (list_of (F.items fields.now))) }
 {
     let mut s = typed_stream(alloc, kind)?;
-    write_struct(&mut s, fields)?;
-    Ok(s.out())
-}
-
-/// Returns the encoding of the list of these fields.
-pub(crate) fn list_of_fields<F: AppendFields>(
-    alloc: Global,
-    fields: &F,
-) -> Result<BytesMut, AllocError>
-    ensures { IfOk result (λ b. b.items ≡ encoding (list_of (F.items fields.now))) }
-{
-    let mut s = RlpStream::new(alloc)?;
     write_struct(&mut s, fields)?;
     Ok(s.out())
 }
@@ -80,7 +70,7 @@ fn typed_stream(alloc: Global, kind: u8) -> Result<RlpStream, AllocError>
 /// Fails with `Custom("another type")` if the bytes are empty or begin with another type, and else
 /// with the strict fault of the value.
 #[tactic(auto, using(crate::proofs::AfterByte::other_first_fails))]
-pub fn from_envelope<T: StrictRead>(
+pub(crate) fn from_envelope<T: StrictRead>(
     alloc: Global,
     kind: u8,
     bytes: &[u8],
@@ -103,15 +93,16 @@ pub fn from_envelope<T: StrictRead>(
 
 /// Reads the payload of an envelope by the type that its tag names. The arguments are the
 /// allocator, the envelope, the text of the fault of another type, and then for each type its
-/// constant and the variant that holds its payload. It is the whole body of a function.
+/// constant and the variant that holds its payload, with the type that it is read as in brackets if
+/// that is another. It is the whole body of a function.
 ///
 /// Fails with [`DecoderError::Custom`] with the text for another type, and else with the strict
 /// fault of the payload.
 macro_rules! decode_typed {
-    ($alloc:expr, $envelope:expr, $unknown:literal, $($kind:path => $variant:path),+ $(,)?) => {
+    ($alloc:expr, $envelope:expr, $unknown:literal, $($kind:path => $variant:path $([$listed:path])?),+ $(,)?) => {
         match $envelope.tag {
             $($kind => match $envelope.decode($alloc) {
-                Ok(payload) => Ok($variant(payload)),
+                Ok($($listed)?(payload)) => Ok($variant(payload)),
                 Err(fault) => Err(fault),
             },)+
             _ => Err(DecoderError::Custom($unknown)),

@@ -1,19 +1,16 @@
 //! Transactions of type 2.
 
-ghost use Rattle.std.specs.Prelude.{◌≡◌, ◌∷◌, IfOk, take};
-ghost use Rattle.rlp.specs.Format.Encoding.{encoding};
-ghost use Rattle.rlp.specs.Format.Item.{list_of};
-ghost use Rattle.rlp_ethereum.specs.FeeMarketTransaction.{fee_market_transaction_fields, fee_market_transaction};
+ghost use Rattle.std.specs.Prelude.{refl};
+ghost use Rattle.rlp.specs.Codecs.Parts.{laws_of};
+ghost use Rattle.rlp_ethereum.specs.FeeMarketTransaction.{fee_market_transaction_fields};
 
-use crate::envelope::{FEE_MARKET_TYPE, typed_list};
-use crate::{AccessList, Recipient};
-use bytes::BytesMut;
-use rlp::{Decodable, DecoderError, Encodable, Rlp, RlpStream, RoundTrip, StrictRead, Uint};
+use crate::envelope::FEE_MARKET_TYPE;
+use crate::{AccessList, Payload, Recipient, Tagged, TypedTransaction};
+use rlp::{AppendFields, DecodeFields, FieldFault, Fields, FixedFields, RlpStream, Uint};
 use std::alloc::{AllocError, Global};
 
-/// The payload of a signed transaction of type 2: the list of its twelve fields, as in EIP-1559.
-///
-/// EIP-2718 puts the byte 2 before the payload. This type neither writes nor reads that byte.
+/// A transaction of type 2 without its signature: the list of its nine fields is signed after the
+/// byte 2, as in EIP-1559.
 #[derive(Drop)]
 pub struct FeeMarketTransaction {
     /// The number of the chain, as in EIP-155. This type reads numbers of at most 64 bits.
@@ -34,48 +31,19 @@ pub struct FeeMarketTransaction {
     pub data: Vec<u8>,
     /// The accounts and the keys of storage that the transaction declares.
     pub access_list: AccessList,
-    /// The parity of the signature's point: 0 is `false` and 1 is `true`. Reading fails for other
-    /// numbers.
-    pub y_parity: bool,
-    /// The first number of the signature. This type doesn't check it.
-    pub r: Uint<32>,
-    /// The second number of the signature. This type doesn't check it.
-    pub s: Uint<32>,
 }
 
-impl FeeMarketTransaction {
-    /// Returns the bytes that are signed: the byte 2, and the list of the fields before the
-    /// signature, as in EIP-1559.
-    pub fn signing_payload(&self, alloc: Global) -> Result<BytesMut, AllocError>
-        ensures { IfOk result (λ b. b.items
-            ≡ 2 ∷ encoding (list_of (take 9 (fee_market_transaction_fields.items self.now)))) }
-    {
-        typed_list(
-            alloc,
-            FEE_MARKET_TYPE,
-            &rlp::append_fields!([
-                &self.chain_id,
-                &self.nonce,
-                &self.max_priority_fee_per_gas,
-                &self.max_fee_per_gas,
-                &self.gas_limit,
-                &self.to,
-                &self.value,
-                &self.data,
-                &self.access_list
-            ]),
-        )
+impl AppendFields for FeeMarketTransaction {
+    ghost items = { fee_market_transaction_fields.items };
+
+    ghost fit = { fee_market_transaction_fields.Fits };
+
+    fn field_count(&self) -> Option<usize> {
+        Some(9)
     }
-}
 
-impl Encodable for FeeMarketTransaction {
-    ghost item = { fee_market_transaction.item };
-
-    ghost fits = { fee_market_transaction.Fits };
-
-    fn rlp_append(&self, s: &mut RlpStream) -> Result<(), AllocError> {
-        rlp::append_fields!(
-            s,
+    fn append_fields(&self, s: &mut RlpStream) -> Result<(), AllocError> {
+        rlp::append_fields!([
             &self.chain_id,
             &self.nonce,
             &self.max_priority_fee_per_gas,
@@ -84,25 +52,28 @@ impl Encodable for FeeMarketTransaction {
             &self.to,
             &self.value,
             &self.data,
-            &self.access_list,
-            &self.y_parity,
-            &self.r,
-            &self.s
-        )
+            &self.access_list
+        ])
+        .append_fields(s)
     }
 }
 
-impl Decodable for FeeMarketTransaction {
-    ghost gives = { fee_market_transaction.gives };
+impl DecodeFields for FeeMarketTransaction {
+    ghost reading = { fee_market_transaction_fields.reading };
 
-    ghost faults = { fee_market_transaction.faults };
+    fn accepts(len: usize) -> bool {
+        len == 9
+    }
 
-    ghost may_lack_memory = { fee_market_transaction.may_lack };
-
-    fn decode(alloc: Global, rlp: &Rlp<'_>) -> Result<FeeMarketTransaction, DecoderError> {
+    fn decode_fields(
+        alloc: Global,
+        fields: &mut Fields<'_>,
+        len: usize,
+    ) -> Result<FeeMarketTransaction, FieldFault> {
         rlp::decode_fields!(
             alloc,
-            rlp,
+            fields,
+            len,
             FeeMarketTransaction {
                 chain_id,
                 nonce,
@@ -112,19 +83,28 @@ impl Decodable for FeeMarketTransaction {
                 to,
                 value,
                 data,
-                access_list,
-                y_parity,
-                r,
-                s
+                access_list
             }
         )
     }
 }
 
-impl RoundTrip for FeeMarketTransaction {
-    ghost round_trip = { fee_market_transaction.reads_back };
+impl FixedFields for FeeMarketTransaction {
+    fn width() -> Option<usize> {
+        Some(9)
+    }
+
+    ghost none_more = { refl };
 }
 
-impl StrictRead for FeeMarketTransaction {
-    ghost strict = { fee_market_transaction.reads_strictly };
+impl Payload for FeeMarketTransaction {
+    ghost laws = { laws_of fee_market_transaction_fields (λ p. refl) };
 }
+
+impl Tagged for FeeMarketTransaction {
+    ghost TAG = { 2 };
+
+    const TAG: u8 = FEE_MARKET_TYPE;
+}
+
+impl TypedTransaction for FeeMarketTransaction {}

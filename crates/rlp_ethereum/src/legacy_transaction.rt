@@ -1,21 +1,18 @@
 //! Transactions without a type.
 
-ghost use Rattle.std.specs.Prelude.{◌≡◌, ◌++◌, ◌∷◌, [], IfOk, take};
-ghost use Rattle.rlp.specs.Format.Encoding.{encoding};
-ghost use Rattle.rlp.specs.Format.Item.{list_of};
-ghost use Rattle.rlp.specs.Values.Value.{number_item};
-ghost use Rattle.rlp_ethereum.specs.LegacyTransaction.{legacy_transaction_fields, legacy_transaction};
+ghost use Rattle.std.specs.Prelude.{refl};
+ghost use Rattle.rlp.specs.Codecs.Parts.{laws_of};
+ghost use Rattle.rlp_ethereum.specs.LegacyTransaction.{legacy_transaction_fields};
 
-use crate::Recipient;
-use crate::envelope::list_of_fields;
-use bytes::BytesMut;
-use rlp::{Decodable, DecoderError, Encodable, Rlp, RlpStream, RoundTrip, StrictRead, Uint};
+use crate::{Payload, Recipient, Signed};
+use rlp::{AppendFields, DecodeFields, FieldFault, Fields, FixedFields, RlpStream, Uint};
 use std::alloc::{AllocError, Global};
 
-/// A signed legacy transaction: the list of its nine fields.
-///
-/// See section 4.2 of the yellow paper. The bytes that are signed with EIP-155 are the same list
-/// with the number of the chain in `v`, and 0 in `r` and `s`.
+/// A transaction without a type, with its signature: the list of nine fields. `v` is any number.
+pub type SignedLegacyTransaction = Signed<LegacyTransaction, Uint<32>>;
+
+/// A transaction without a type and without its signature: six fields, as in section 4.2 of the yellow
+/// paper. What is signed is a [`UnsignedLegacyTransaction`](crate::UnsignedLegacyTransaction).
 #[derive(Drop)]
 pub struct LegacyTransaction {
     /// The number of transactions that the sender has sent before. EIP-2681 limits it to 64 bits.
@@ -30,114 +27,66 @@ pub struct LegacyTransaction {
     pub value: Uint<32>,
     /// The input of the call, or the code that creates the contract.
     pub data: Vec<u8>,
-    /// 27 or 28, or with EIP-155 twice the number of the chain plus 35 or 36. This type doesn't
-    /// check it.
-    pub v: Uint<32>,
-    /// The first number of the signature. This type doesn't check it.
-    pub r: Uint<32>,
-    /// The second number of the signature. This type doesn't check it.
-    pub s: Uint<32>,
 }
 
-impl LegacyTransaction {
-    /// Returns the bytes that are signed without EIP-155: the list of the six fields before the
-    /// signature.
-    pub fn signing_payload(&self, alloc: Global) -> Result<BytesMut, AllocError>
-        ensures { IfOk result
-            (λ b. b.items ≡ encoding (list_of (take 6 (legacy_transaction_fields.items self.now)))) }
-    {
-        list_of_fields(
-            alloc,
-            &rlp::append_fields!([
-                &self.nonce,
-                &self.gas_price,
-                &self.gas_limit,
-                &self.to,
-                &self.value,
-                &self.data
-            ]),
-        )
+impl AppendFields for LegacyTransaction {
+    ghost items = { legacy_transaction_fields.items };
+
+    ghost fit = { legacy_transaction_fields.Fits };
+
+    fn field_count(&self) -> Option<usize> {
+        Some(6)
     }
 
-    /// Returns the bytes that are signed with EIP-155: the list of the six fields before the
-    /// signature, the number of the chain, 0 and 0.
-    pub fn signing_payload_for_chain(
-        &self,
-        alloc: Global,
-        chain_id: u64,
-    ) -> Result<BytesMut, AllocError>
-        ensures { IfOk result (λ b. b.items
-            ≡ encoding (list_of (take 6 (legacy_transaction_fields.items self.now)
-            ++ number_item chain_id ∷ number_item 0 ∷ number_item 0 ∷ []))) }
-    {
-        list_of_fields(
-            alloc,
-            &rlp::append_fields!([
-                &self.nonce,
-                &self.gas_price,
-                &self.gas_limit,
-                &self.to,
-                &self.value,
-                &self.data,
-                &chain_id,
-                &0u8,
-                &0u8
-            ]),
-        )
-    }
-}
-
-impl Encodable for LegacyTransaction {
-    ghost item = { legacy_transaction.item };
-
-    ghost fits = { legacy_transaction.Fits };
-
-    fn rlp_append(&self, s: &mut RlpStream) -> Result<(), AllocError> {
-        rlp::append_fields!(
-            s,
+    fn append_fields(&self, s: &mut RlpStream) -> Result<(), AllocError> {
+        rlp::append_fields!([
             &self.nonce,
             &self.gas_price,
             &self.gas_limit,
             &self.to,
             &self.value,
-            &self.data,
-            &self.v,
-            &self.r,
-            &self.s
-        )
+            &self.data
+        ])
+        .append_fields(s)
     }
 }
 
-impl Decodable for LegacyTransaction {
-    ghost gives = { legacy_transaction.gives };
+impl DecodeFields for LegacyTransaction {
+    ghost reading = { legacy_transaction_fields.reading };
 
-    ghost faults = { legacy_transaction.faults };
+    fn accepts(len: usize) -> bool {
+        len == 6
+    }
 
-    ghost may_lack_memory = { legacy_transaction.may_lack };
-
-    fn decode(alloc: Global, rlp: &Rlp<'_>) -> Result<LegacyTransaction, DecoderError> {
+    fn decode_fields(
+        alloc: Global,
+        fields: &mut Fields<'_>,
+        len: usize,
+    ) -> Result<LegacyTransaction, FieldFault> {
         rlp::decode_fields!(
             alloc,
-            rlp,
+            fields,
+            len,
             LegacyTransaction {
                 nonce,
                 gas_price,
                 gas_limit,
                 to,
                 value,
-                data,
-                v,
-                r,
-                s
+                data
             }
         )
     }
 }
 
-impl RoundTrip for LegacyTransaction {
-    ghost round_trip = { legacy_transaction.reads_back };
+impl FixedFields for LegacyTransaction {
+    fn width() -> Option<usize> {
+        Some(6)
+    }
+
+    ghost none_more = { refl };
 }
 
-impl StrictRead for LegacyTransaction {
-    ghost strict = { legacy_transaction.reads_strictly };
+impl Payload for LegacyTransaction {
+    ghost laws = { laws_of legacy_transaction_fields (λ p. refl) };
 }

@@ -1,38 +1,10 @@
 //! The records of this crate, as one trait.
 
-use crate::access::{AccessList, AccessListItem};
-use crate::access_list_transaction::AccessListTransaction;
-use crate::account::Account;
-use crate::address::Address;
-use crate::authorization::Authorization;
-use crate::blob_transaction::BlobTransaction;
-use crate::block::Block;
-use crate::bloom::Bloom;
-use crate::body::Body;
-use crate::branch::Branch;
-use crate::child::Child;
-use crate::extension::Extension;
-use crate::fee_market_transaction::FeeMarketTransaction;
-use crate::hash::Hash;
-use crate::header::Header;
-use crate::leaf::Leaf;
-use crate::legacy_transaction::LegacyTransaction;
-use crate::log::Log;
-use crate::node_fields::NodeFields;
-use crate::node_record::NodeRecord;
-use crate::path::Path;
-use crate::receipt::Receipt;
-use crate::recipient::Recipient;
-use crate::set_code_transaction::SetCodeTransaction;
-use crate::transaction::Transaction;
-use crate::trie_node::TrieNode;
-use crate::typed_receipt::TypedReceipt;
-use crate::unsigned::{
-    UnsignedAccessListTransaction, UnsignedAuthorization, UnsignedBlobTransaction,
-    UnsignedFeeMarketTransaction, UnsignedLegacyTransaction, UnsignedSetCodeTransaction,
-    UnsignedTransaction,
+use crate::{
+    AccessList, AccessListItem, Account, Address, Block, Bloom, Body, Branch, Child, Extension,
+    Hash, Header, Leaf, Log, NodeFields, NodeRecord, Path, Payload, Receipt, Recipient, Signed,
+    Transaction, TrieNode, TypedReceipt, UnsignedLegacyTransaction, Withdrawal, Withdrawals,
 };
-use crate::withdrawal::{Withdrawal, Withdrawals};
 use rlp::StrictRead;
 
 /// A record of Ethereum: a type whose values are written as items and read back, also strictly.
@@ -51,17 +23,7 @@ impl Record for AccessListItem {}
 
 impl Record for AccessList {}
 
-impl Record for LegacyTransaction {}
-
-impl Record for AccessListTransaction {}
-
-impl Record for FeeMarketTransaction {}
-
-impl Record for BlobTransaction {}
-
-impl Record for Authorization {}
-
-impl Record for SetCodeTransaction {}
+impl<T: Payload, V: StrictRead> Record for Signed<T, V> {}
 
 impl Record for Transaction {}
 
@@ -100,15 +62,3 @@ impl Record for TrieNode {}
 impl Record for TypedReceipt {}
 
 impl Record for UnsignedLegacyTransaction {}
-
-impl Record for UnsignedAccessListTransaction {}
-
-impl Record for UnsignedFeeMarketTransaction {}
-
-impl Record for UnsignedBlobTransaction {}
-
-impl Record for UnsignedAuthorization {}
-
-impl Record for UnsignedSetCodeTransaction {}
-
-impl Record for UnsignedTransaction {}

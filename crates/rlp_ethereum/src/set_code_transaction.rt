@@ -1,22 +1,18 @@
 //! Transactions of type 4.
 
-ghost use Rattle.std.specs.Prelude.{◌≡◌, ◌∷◌, IfOk, take};
-ghost use Rattle.rlp.specs.Format.Encoding.{encoding};
-ghost use Rattle.rlp.specs.Format.Item.{list_of};
-ghost use Rattle.rlp_ethereum.specs.SetCodeTransaction.{set_code_transaction_fields, set_code_transaction};
+ghost use Rattle.std.specs.Prelude.{refl};
+ghost use Rattle.rlp.specs.Codecs.Parts.{laws_of};
+ghost use Rattle.rlp_ethereum.specs.SetCodeTransaction.{set_code_transaction_fields};
 
-use crate::envelope::{SET_CODE_TYPE, typed_list};
-use crate::{AccessList, Address, Authorization};
-use bytes::BytesMut;
-use rlp::{
-    Decodable, DecoderError, Encodable, ListOf, Rlp, RlpStream, RoundTrip, StrictRead, Uint,
-};
+use crate::envelope::SET_CODE_TYPE;
+use crate::{AccessList, Address, Payload, SignedAuthorization, Tagged, TypedTransaction};
+use rlp::{AppendFields, DecodeFields, FieldFault, Fields, FixedFields, ListOf, RlpStream, Uint};
 use std::alloc::{AllocError, Global};
 
-/// The payload of a signed transaction of type 4: the list of its thirteen fields, as in EIP-7702.
+/// A transaction of type 4 without its signature: the list of its ten fields is signed after the
+/// byte 4, as in EIP-7702.
 ///
-/// It always has a recipient. EIP-2718 puts the byte 4 before the payload. This type neither writes
-/// nor reads that byte.
+/// It always has a recipient.
 #[derive(Drop)]
 pub struct SetCodeTransaction {
     /// The number of the chain, as in EIP-155. This type reads numbers of at most 64 bits.
@@ -39,50 +35,20 @@ pub struct SetCodeTransaction {
     pub access_list: AccessList,
     /// The accounts whose code the transaction sets. This type also reads an empty list, which the EIP
     /// calls invalid.
-    pub authorization_list: Vec<Authorization>,
-    /// The parity of the signature's point: 0 is `false` and 1 is `true`. Reading fails for other
-    /// numbers.
-    pub y_parity: bool,
-    /// The first number of the signature. This type doesn't check it.
-    pub r: Uint<32>,
-    /// The second number of the signature. This type doesn't check it.
-    pub s: Uint<32>,
+    pub authorization_list: Vec<SignedAuthorization>,
 }
 
-impl SetCodeTransaction {
-    /// Returns the bytes that are signed: the byte 4, and the list of the fields before the
-    /// signature, as in EIP-7702.
-    pub fn signing_payload(&self, alloc: Global) -> Result<BytesMut, AllocError>
-        ensures { IfOk result (λ b. b.items
-            ≡ 4 ∷ encoding (list_of (take 10 (set_code_transaction_fields.items self.now)))) }
-    {
-        typed_list(
-            alloc,
-            SET_CODE_TYPE,
-            &rlp::append_fields!([
-                &self.chain_id,
-                &self.nonce,
-                &self.max_priority_fee_per_gas,
-                &self.max_fee_per_gas,
-                &self.gas_limit,
-                &self.destination,
-                &self.value,
-                &self.data,
-                &self.access_list,
-                ListOf(&self.authorization_list)
-            ]),
-        )
+impl AppendFields for SetCodeTransaction {
+    ghost items = { set_code_transaction_fields.items };
+
+    ghost fit = { set_code_transaction_fields.Fits };
+
+    fn field_count(&self) -> Option<usize> {
+        Some(10)
     }
-}
 
-impl Encodable for SetCodeTransaction {
-    ghost item = { set_code_transaction.item };
-
-    ghost fits = { set_code_transaction.Fits };
-
-    fn rlp_append(&self, s: &mut RlpStream) -> Result<(), AllocError> {
-        rlp::append_fields!(
-            s,
+    fn append_fields(&self, s: &mut RlpStream) -> Result<(), AllocError> {
+        rlp::append_fields!([
             &self.chain_id,
             &self.nonce,
             &self.max_priority_fee_per_gas,
@@ -92,25 +58,28 @@ impl Encodable for SetCodeTransaction {
             &self.value,
             &self.data,
             &self.access_list,
-            ListOf(&self.authorization_list),
-            &self.y_parity,
-            &self.r,
-            &self.s
-        )
+            ListOf(&self.authorization_list)
+        ])
+        .append_fields(s)
     }
 }
 
-impl Decodable for SetCodeTransaction {
-    ghost gives = { set_code_transaction.gives };
+impl DecodeFields for SetCodeTransaction {
+    ghost reading = { set_code_transaction_fields.reading };
 
-    ghost faults = { set_code_transaction.faults };
+    fn accepts(len: usize) -> bool {
+        len == 10
+    }
 
-    ghost may_lack_memory = { set_code_transaction.may_lack };
-
-    fn decode(alloc: Global, rlp: &Rlp<'_>) -> Result<SetCodeTransaction, DecoderError> {
+    fn decode_fields(
+        alloc: Global,
+        fields: &mut Fields<'_>,
+        len: usize,
+    ) -> Result<SetCodeTransaction, FieldFault> {
         rlp::decode_fields!(
             alloc,
-            rlp,
+            fields,
+            len,
             SetCodeTransaction {
                 chain_id,
                 nonce,
@@ -121,19 +90,28 @@ impl Decodable for SetCodeTransaction {
                 value,
                 data,
                 access_list,
-                authorization_list: [..],
-                y_parity,
-                r,
-                s
+                authorization_list: [..]
             }
         )
     }
 }
 
-impl RoundTrip for SetCodeTransaction {
-    ghost round_trip = { set_code_transaction.reads_back };
+impl FixedFields for SetCodeTransaction {
+    fn width() -> Option<usize> {
+        Some(10)
+    }
+
+    ghost none_more = { refl };
 }
 
-impl StrictRead for SetCodeTransaction {
-    ghost strict = { set_code_transaction.reads_strictly };
+impl Payload for SetCodeTransaction {
+    ghost laws = { laws_of set_code_transaction_fields (λ p. refl) };
 }
+
+impl Tagged for SetCodeTransaction {
+    ghost TAG = { 4 };
+
+    const TAG: u8 = SET_CODE_TYPE;
+}
+
+impl TypedTransaction for SetCodeTransaction {}

@@ -4,15 +4,15 @@ ghost use Rattle.std.specs.Prelude.{◌≡◌, ◌∷◌, ◌⊎◌, IfErr, IfOk
 ghost use Rattle.rlp.specs.DecoderError.TheVariants.{OutOfMemory};
 ghost use Rattle.rlp.specs.Format.Item.{string};
 ghost use Rattle.rlp_ethereum.specs.Alone.{FaultsAlone, MayLackAlone, PayloadFails, bytes_alone};
-ghost use Rattle.rlp_ethereum.specs.LegacyTransaction.{legacy_transaction};
+ghost use Rattle.rlp_ethereum.specs.LegacyTransaction.{signed_legacy_transaction};
 ghost use Rattle.rlp_ethereum.specs.Transaction.{transaction, typed_transactions, unknown_type};
 
 use crate::envelope::{
     ACCESS_LIST_TYPE, BLOB_TYPE, FEE_MARKET_TYPE, SET_CODE_TYPE, decode_typed, to_envelope,
 };
 use crate::{
-    AccessListTransaction, BlobTransaction, FeeMarketTransaction, LegacyTransaction,
-    SetCodeTransaction,
+    AccessListTransaction, BlobTransaction, FeeMarketTransaction, SetCodeTransaction, Signed,
+    SignedLegacyTransaction,
 };
 use bytes::BytesMut;
 use rlp::{
@@ -26,15 +26,15 @@ use std::alloc::{AllocError, Global};
 #[derive(Drop)]
 pub enum Transaction {
     /// A transaction without a type.
-    Legacy(LegacyTransaction),
+    Legacy(SignedLegacyTransaction),
     /// A transaction of type 1.
-    AccessList(AccessListTransaction),
+    AccessList(Signed<AccessListTransaction>),
     /// A transaction of type 2.
-    FeeMarket(FeeMarketTransaction),
+    FeeMarket(Signed<FeeMarketTransaction>),
     /// A transaction of type 3.
-    Blob(BlobTransaction),
+    Blob(Signed<BlobTransaction>),
     /// A transaction of type 4.
-    SetCode(SetCodeTransaction),
+    SetCode(Signed<SetCodeTransaction>),
 }
 
 impl Transaction {
@@ -63,9 +63,9 @@ impl Transaction {
         ensures value { IfOk result (λ t. transaction.Fits t
             × (bytes.now ≡ bytes_alone (transaction.item t))) }
         ensures fault { IfErr result (λ e.
-            (FaultsAlone legacy_transaction unknown_type typed_transactions bytes.now e)
+            (FaultsAlone signed_legacy_transaction unknown_type typed_transactions bytes.now e)
             ⊎ ((e ≡ OutOfMemory)
-            × MayLackAlone legacy_transaction typed_transactions bytes.now)) }
+            × MayLackAlone signed_legacy_transaction typed_transactions bytes.now)) }
         ensures memory { (t : Transaction) → transaction.Fits t
             → bytes.now ≡ bytes_alone (transaction.item t) → IfErr result (λ e. e ≡ OutOfMemory) }
     {
@@ -79,9 +79,9 @@ fn read_alone(alloc: Global, bytes: &[u8]) -> Result<Transaction, DecoderError>
     ensures value { IfOk result (λ t. transaction.Fits t
         × (bytes.now ≡ bytes_alone (transaction.item t))) }
     ensures fault { IfErr result (λ e.
-        (FaultsAlone legacy_transaction unknown_type typed_transactions bytes.now e)
+        (FaultsAlone signed_legacy_transaction unknown_type typed_transactions bytes.now e)
         ⊎ ((e ≡ OutOfMemory)
-        × MayLackAlone legacy_transaction typed_transactions bytes.now)) }
+        × MayLackAlone signed_legacy_transaction typed_transactions bytes.now)) }
 {
     if Rlp::new(bytes).is_list() {
         return match rlp::decode_whole(alloc, bytes) {

@@ -4,8 +4,7 @@ use crate::reading::Bare;
 use bytes::BytesMut;
 use rlp::DecoderError;
 use rlp_ethereum::{
-    FEE_MARKET_TYPE, FeeMarketTransaction, Transaction, TypedReceipt, UnsignedAuthorization,
-    UnsignedTransaction, from_envelope, to_envelope,
+    FeeMarketTransaction, Signed, Tagged, Transaction, TypedReceipt, UnsignedTransaction,
 };
 use std::alloc::{AllocError, Global};
 
@@ -39,9 +38,10 @@ impl Bare for UnsignedTransaction {
     }
 }
 
-impl Bare for UnsignedAuthorization {
-    fn from(alloc: Global, bytes: &[u8]) -> Result<UnsignedAuthorization, DecoderError> {
-        UnsignedAuthorization::from_bytes(alloc, bytes)
+/// A transaction of type 2 in its envelope.
+impl Bare for Signed<FeeMarketTransaction> {
+    fn from(alloc: Global, bytes: &[u8]) -> Result<Signed<FeeMarketTransaction>, DecoderError> {
+        Signed::<FeeMarketTransaction>::from_bytes(alloc, bytes)
     }
 
     fn to(&self, alloc: Global) -> Result<BytesMut, AllocError> {
@@ -49,13 +49,16 @@ impl Bare for UnsignedAuthorization {
     }
 }
 
-/// A transaction of type 2 in its envelope.
-impl Bare for FeeMarketTransaction {
-    fn from(alloc: Global, bytes: &[u8]) -> Result<FeeMarketTransaction, DecoderError> {
-        from_envelope(alloc, FEE_MARKET_TYPE, bytes)
+/// What is signed of a payload, after the byte of its type.
+#[derive(Drop)]
+pub(crate) struct Payload<T>(T);
+
+impl<T: Tagged> Bare for Payload<T> {
+    fn from(alloc: Global, bytes: &[u8]) -> Result<Payload<T>, DecoderError> {
+        Ok(Payload(T::from_signing_payload(alloc, bytes)?))
     }
 
     fn to(&self, alloc: Global) -> Result<BytesMut, AllocError> {
-        to_envelope(alloc, FEE_MARKET_TYPE, self)
+        self.0.signing_payload(alloc)
     }
 }

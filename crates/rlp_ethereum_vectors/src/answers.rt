@@ -1,14 +1,14 @@
 //! The calls that the rows of tables name.
 
+use crate::alone::Payload;
 use crate::reading::{Alone, Item, ways};
 use crate::text::spelled;
 use crate::{fields, messages, node_records, nodes, records, requests, unsigned};
 use rlp_ethereum::{
-    Account, Block, Body, Branch, Child, Extension, FeeMarketTransaction, Hash, Header, Leaf,
-    LegacyTransaction, Log, NodeRecord, Transaction, TrieNode, TypedReceipt,
-    UnsignedAccessListTransaction, UnsignedAuthorization, UnsignedBlobTransaction,
-    UnsignedFeeMarketTransaction, UnsignedLegacyTransaction, UnsignedSetCodeTransaction,
-    UnsignedTransaction, Withdrawal,
+    AccessListTransaction, Account, Authorization, BlobTransaction, Block, Body, Branch, Child,
+    Extension, FeeMarketTransaction, Hash, Header, Leaf, Log, NodeRecord, SetCodeTransaction,
+    Signed, SignedLegacyTransaction, Transaction, TrieNode, TypedReceipt,
+    UnsignedLegacyTransaction, UnsignedTransaction, Withdrawal,
 };
 use rlp_messages::{
     BlockBodies, BlockHeaders, HashOrNumber, Hello, NewBlock, Ping, Pong, Receipts, Transactions,
@@ -29,7 +29,7 @@ pub(crate) fn answer(alloc: Global, call: &str, bytes: &[u8]) -> Result<String, 
         "Hash" => ways::<Item<Hash>>(alloc, bytes),
         "Header" => ways::<Item<Header>>(alloc, bytes),
         "Leaf" => ways::<Item<Leaf>>(alloc, bytes),
-        "LegacyTransaction" => ways::<Item<LegacyTransaction>>(alloc, bytes),
+        "LegacyTransaction" => ways::<Item<SignedLegacyTransaction>>(alloc, bytes),
         "Log" => ways::<Item<Log>>(alloc, bytes),
         "NodeRecord" => ways::<Item<NodeRecord>>(alloc, bytes),
         "Transaction" => ways::<Item<Transaction>>(alloc, bytes),
@@ -43,15 +43,12 @@ pub(crate) fn answer(alloc: Global, call: &str, bytes: &[u8]) -> Result<String, 
 /// Returns what a call answers about the bytes of a transaction before it is signed, or of a message.
 fn unsigned_or_message(alloc: Global, call: &str, bytes: &[u8]) -> Result<String, Fail> {
     match call {
-        "UnsignedAccessListTransaction" => {
-            ways::<Item<UnsignedAccessListTransaction>>(alloc, bytes)
-        }
-        "UnsignedAuthorization" => ways::<Item<UnsignedAuthorization>>(alloc, bytes),
-        "UnsignedBlobTransaction" => ways::<Item<UnsignedBlobTransaction>>(alloc, bytes),
-        "UnsignedFeeMarketTransaction" => ways::<Item<UnsignedFeeMarketTransaction>>(alloc, bytes),
         "UnsignedLegacyTransaction" => ways::<Item<UnsignedLegacyTransaction>>(alloc, bytes),
-        "UnsignedSetCodeTransaction" => ways::<Item<UnsignedSetCodeTransaction>>(alloc, bytes),
-        "UnsignedTransaction" => ways::<Item<UnsignedTransaction>>(alloc, bytes),
+        "signed: type 1" => ways::<Alone<Payload<AccessListTransaction>>>(alloc, bytes),
+        "signed: type 2" => ways::<Alone<Payload<FeeMarketTransaction>>>(alloc, bytes),
+        "signed: type 3" => ways::<Alone<Payload<BlobTransaction>>>(alloc, bytes),
+        "signed: type 4" => ways::<Alone<Payload<SetCodeTransaction>>>(alloc, bytes),
+        "signed: an authorization" => ways::<Alone<Payload<Authorization>>>(alloc, bytes),
         "BlockBodies" => ways::<Item<WithRequestId<BlockBodies>>>(alloc, bytes),
         "BlockHeaders" => ways::<Item<WithRequestId<BlockHeaders>>>(alloc, bytes),
         "HashOrNumber" => ways::<Item<HashOrNumber>>(alloc, bytes),
@@ -71,8 +68,7 @@ fn alone_or_fields(alloc: Global, call: &str, bytes: &[u8]) -> Result<String, Fa
         "Transaction alone" => ways::<Alone<Transaction>>(alloc, bytes),
         "TypedReceipt alone" => ways::<Alone<TypedReceipt>>(alloc, bytes),
         "UnsignedTransaction alone" => ways::<Alone<UnsignedTransaction>>(alloc, bytes),
-        "UnsignedAuthorization alone" => ways::<Alone<UnsignedAuthorization>>(alloc, bytes),
-        "FeeMarketTransaction alone" => ways::<Alone<FeeMarketTransaction>>(alloc, bytes),
+        "FeeMarketTransaction alone" => ways::<Alone<Signed<FeeMarketTransaction>>>(alloc, bytes),
         "fields of Header" => fields::header(alloc, bytes),
         "forks of Header" => fields::forks(alloc, bytes),
         "London" => fields::london(alloc, bytes),

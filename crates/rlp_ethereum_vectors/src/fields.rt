@@ -3,8 +3,8 @@
 use crate::text::spelled;
 use rlp::{DecoderError, Rlp};
 use rlp_ethereum::{
-    Authorization, BlobTransaction, Block, Body, Child, Hash, Header, LegacyTransaction, London,
-    Recipient, SetCodeTransaction, Transaction, TrieNode, TypedReceipt,
+    BlobTransaction, Block, Body, Child, Hash, Header, London, Recipient, SetCodeTransaction,
+    Signed, SignedAuthorization, SignedLegacyTransaction, Transaction, TrieNode, TypedReceipt,
 };
 use rlp_messages::{Receipts, WithRequestId};
 use std::alloc::Global;
@@ -102,11 +102,11 @@ pub(crate) fn body(alloc: Global, bytes: &[u8]) -> Result<String, Fail> {
 /// Returns the type, the nonce and the limit of gas of a transaction.
 fn numbers(transaction: &Transaction) -> (u8, u64, u64) {
     match transaction {
-        Transaction::Legacy(payload) => (0, payload.nonce, payload.gas_limit),
-        Transaction::AccessList(payload) => (1, payload.nonce, payload.gas_limit),
-        Transaction::FeeMarket(payload) => (2, payload.nonce, payload.gas_limit),
-        Transaction::Blob(payload) => (3, payload.nonce, payload.gas_limit),
-        Transaction::SetCode(payload) => (4, payload.nonce, payload.gas_limit),
+        Transaction::Legacy(tx) => (0, tx.payload.nonce, tx.payload.gas_limit),
+        Transaction::AccessList(tx) => (1, tx.payload.nonce, tx.payload.gas_limit),
+        Transaction::FeeMarket(tx) => (2, tx.payload.nonce, tx.payload.gas_limit),
+        Transaction::Blob(tx) => (3, tx.payload.nonce, tx.payload.gas_limit),
+        Transaction::SetCode(tx) => (4, tx.payload.nonce, tx.payload.gas_limit),
     }
 }
 
@@ -122,62 +122,73 @@ pub(crate) fn transactions(alloc: Global, all: &[Transaction]) -> Result<String,
 
 /// Returns the recipient and the numbers of a legacy transaction.
 pub(crate) fn legacy(alloc: Global, bytes: &[u8]) -> Result<String, Fail> {
-    let tx = rlp::decode_strict::<LegacyTransaction>(alloc, bytes)?;
-    let to = match &tx.to {
+    let tx = rlp::decode_strict::<SignedLegacyTransaction>(alloc, bytes)?;
+    let to = match &tx.payload.to {
         Recipient::Creation => b"".as_slice(),
         Recipient::Account(address) => address.0.as_slice(),
     };
     let words = [
         to,
-        tx.gas_price.bytes.as_slice(),
-        tx.value.bytes.as_slice(),
+        tx.payload.gas_price.bytes.as_slice(),
+        tx.payload.value.bytes.as_slice(),
         tx.v.bytes.as_slice(),
         tx.r.bytes.as_slice(),
         tx.s.bytes.as_slice(),
     ];
     let text = spelled(alloc, &words)?;
-    let (nonce, gas_limit, len) = (tx.nonce, tx.gas_limit, tx.data.len());
+    let (nonce, gas_limit, len) = (
+        tx.payload.nonce,
+        tx.payload.gas_limit,
+        tx.payload.data.len(),
+    );
     Ok(format!(in alloc; "{text} {nonce} {gas_limit} {len}")?)
 }
 
 /// Returns the fields of a transaction of type 3.
-fn blob(alloc: Global, tx: &BlobTransaction) -> Result<String, Fail> {
+fn blob(alloc: Global, tx: &Signed<BlobTransaction>) -> Result<String, Fail> {
     let words = [
-        tx.max_priority_fee_per_gas.bytes.as_slice(),
-        tx.max_fee_per_gas.bytes.as_slice(),
-        tx.value.bytes.as_slice(),
-        tx.data.as_slice(),
-        tx.max_fee_per_blob_gas.bytes.as_slice(),
+        tx.payload.max_priority_fee_per_gas.bytes.as_slice(),
+        tx.payload.max_fee_per_gas.bytes.as_slice(),
+        tx.payload.value.bytes.as_slice(),
+        tx.payload.data.as_slice(),
+        tx.payload.max_fee_per_blob_gas.bytes.as_slice(),
         tx.r.bytes.as_slice(),
         tx.s.bytes.as_slice(),
     ];
     let text = spelled(alloc, &words)?;
-    let (chain, nonce, gas) = (tx.chain_id, tx.nonce, tx.gas_limit);
-    let (accounts, blobs) = (tx.access_list.0.len(), tx.blob_versioned_hashes.len());
-    let parity = tx.y_parity;
+    let (chain, nonce, gas) = (tx.payload.chain_id, tx.payload.nonce, tx.payload.gas_limit);
+    let (accounts, blobs) = (
+        tx.payload.access_list.0.len(),
+        tx.payload.blob_versioned_hashes.len(),
+    );
+    let parity = tx.v;
     Ok(format!(in alloc; "{text} {chain} {nonce} {gas} {accounts} {blobs} {parity}")?)
 }
 
 /// Returns the fields of a transaction of type 4.
-fn set_code(alloc: Global, tx: &SetCodeTransaction) -> Result<String, Fail> {
+fn set_code(alloc: Global, tx: &Signed<SetCodeTransaction>) -> Result<String, Fail> {
     let words = [
-        tx.max_priority_fee_per_gas.bytes.as_slice(),
-        tx.max_fee_per_gas.bytes.as_slice(),
-        tx.value.bytes.as_slice(),
-        tx.data.as_slice(),
+        tx.payload.max_priority_fee_per_gas.bytes.as_slice(),
+        tx.payload.max_fee_per_gas.bytes.as_slice(),
+        tx.payload.value.bytes.as_slice(),
+        tx.payload.data.as_slice(),
         tx.r.bytes.as_slice(),
         tx.s.bytes.as_slice(),
     ];
     let text = spelled(alloc, &words)?;
-    let (nonce, gas, parity) = (tx.nonce, tx.gas_limit, tx.y_parity);
+    let (nonce, gas, parity) = (tx.payload.nonce, tx.payload.gas_limit, tx.v);
     Ok(format!(in alloc; "{text} {nonce} {gas} {parity}")?)
 }
 
 /// Returns the fields of an authorization.
-fn authorization(alloc: Global, one: &Authorization) -> Result<String, Fail> {
-    let words = [one.chain_id.bytes.as_slice(), &one.r.bytes, &one.s.bytes];
+fn authorization(alloc: Global, one: &SignedAuthorization) -> Result<String, Fail> {
+    let words = [
+        one.payload.chain_id.bytes.as_slice(),
+        &one.r.bytes,
+        &one.s.bytes,
+    ];
     let text = spelled(alloc, &words)?;
-    let (nonce, parity) = (one.nonce, one.y_parity);
+    let (nonce, parity) = (one.payload.nonce, one.v);
     Ok(format!(in alloc; "{text} {nonce} {parity}")?)
 }
 
@@ -186,7 +197,7 @@ pub(crate) fn typed(alloc: Global, bytes: &[u8], is_second: bool) -> Result<Stri
     let transaction = Transaction::from_bytes(alloc, bytes)?;
     match &transaction {
         Transaction::Blob(tx) => blob(alloc, tx),
-        Transaction::SetCode(tx) => match tx.authorization_list.get(1) {
+        Transaction::SetCode(tx) => match tx.payload.authorization_list.get(1) {
             Some(second) if is_second => authorization(alloc, second),
             _ => set_code(alloc, tx),
         },

@@ -4,9 +4,8 @@ use crate::reading::{digits, fault, written};
 use crate::text::wide;
 use bytes::BytesMut;
 use rlp_ethereum::{
-    ACCESS_LIST_TYPE, AccessList, AccessListItem, AccessListTransaction, Address, Bloom,
-    FEE_MARKET_TYPE, FeeMarketTransaction, Hash, Log, Receipt, Recipient, from_envelope,
-    to_envelope,
+    AccessList, AccessListItem, AccessListTransaction, Address, Bloom, FeeMarketTransaction, Hash,
+    Log, Receipt, Recipient, Signed,
 };
 use std::alloc::{AllocError, Global};
 use std::test::Fail;
@@ -211,8 +210,8 @@ pub(crate) const ROWS: &str = "
 ";
 
 /// Returns a payment of 1 ether, with a chosen signature.
-fn payment(alloc: Global) -> FeeMarketTransaction {
-    FeeMarketTransaction {
+fn payment(alloc: Global) -> Signed<FeeMarketTransaction> {
+    let payload = FeeMarketTransaction {
         chain_id: 1,
         nonce: 0,
         max_priority_fee_per_gas: wide(1_000_000_000),
@@ -222,19 +221,22 @@ fn payment(alloc: Global) -> FeeMarketTransaction {
         value: wide(1_000_000_000_000_000_000),
         data: Vec::new(alloc),
         access_list: AccessList(Vec::new(alloc)),
-        y_parity: false,
+    };
+    Signed {
+        payload,
+        v: false,
         r: wide(1),
         s: wide(2),
     }
 }
 
 /// Returns the creation of a contract, with a declared key of storage.
-fn creation(alloc: Global) -> Result<AccessListTransaction, AllocError> {
+fn creation(alloc: Global) -> Result<Signed<AccessListTransaction>, AllocError> {
     let item = AccessListItem {
         address: Address([0x11; 20]),
         storage_keys: Vec::from_array(alloc, [Hash([0x22; 32])])?,
     };
-    Ok(AccessListTransaction {
+    let payload = AccessListTransaction {
         chain_id: 1,
         nonce: 0,
         gas_price: wide(1_000_000_000),
@@ -243,7 +245,10 @@ fn creation(alloc: Global) -> Result<AccessListTransaction, AllocError> {
         value: wide(0),
         data: Vec::from_array(alloc, *b"cat")?,
         access_list: AccessList(Vec::from_array(alloc, [item])?),
-        y_parity: true,
+    };
+    Ok(Signed {
+        payload,
+        v: true,
         r: wide(1),
         s: wide(2),
     })
@@ -310,22 +315,15 @@ pub(crate) fn answer(alloc: Global, name: &str, bytes: &[u8]) -> Result<String, 
         "access list" => written::<AccessList>(alloc, access_list(alloc), bytes),
         "payment" => {
             let payment = rlp::encode(alloc, &payment(alloc));
-            written::<FeeMarketTransaction>(alloc, payment, bytes)
+            written::<Signed<FeeMarketTransaction>>(alloc, payment, bytes)
         }
         "creation" => {
             let creation = rlp::encode(alloc, &creation(alloc)?);
-            written::<AccessListTransaction>(alloc, creation, bytes)
+            written::<Signed<AccessListTransaction>>(alloc, creation, bytes)
         }
-        "envelope of the payment" => {
-            digits(alloc, to_envelope(alloc, FEE_MARKET_TYPE, &payment(alloc)))
-        }
-        "envelope of the creation" => {
-            digits(
-                alloc,
-                to_envelope(alloc, ACCESS_LIST_TYPE, &creation(alloc)?),
-            )
-        }
-        _ => match from_envelope::<FeeMarketTransaction>(alloc, ACCESS_LIST_TYPE, bytes) {
+        "envelope of the payment" => digits(alloc, payment(alloc).to_bytes(alloc)),
+        "envelope of the creation" => digits(alloc, creation(alloc)?.to_bytes(alloc)),
+        _ => match Signed::<AccessListTransaction>::from_bytes(alloc, bytes) {
             Ok(payment) => digits(alloc, rlp::encode(alloc, &payment)),
             Err(found) => fault(alloc, &found),
         },

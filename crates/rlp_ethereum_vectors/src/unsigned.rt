@@ -6,8 +6,8 @@ use crate::reading::{Alone, digits, ways, written};
 use crate::text::{spelled, wide};
 use bytes::BytesMut;
 use rlp_ethereum::{
-    Address, Recipient, Transaction, UnsignedAuthorization, UnsignedLegacyTransaction,
-    UnsignedTransaction,
+    Address, Authorization, LegacyTransaction, Recipient, Tagged, Transaction,
+    UnsignedLegacyTransaction, UnsignedTransaction,
 };
 use std::alloc::{AllocError, Global};
 use std::test::Fail;
@@ -140,22 +140,16 @@ pub(crate) const ROWS: &str = "
     signed: numbers | 03+UNSIGNED_3 | Some(1) 9 3
     signed: numbers | 04+UNSIGNED_4 | Some(1) 0 3
 
-    The same as lists, and as items of a list.
+    The same, each read as its type.
     UnsignedLegacyTransaction | EXAMPLE
     UnsignedLegacyTransaction | BEFORE
     UnsignedLegacyTransaction | SINCE
-    UnsignedAccessListTransaction | UNSIGNED_1
-    UnsignedFeeMarketTransaction | UNSIGNED_2
-    UnsignedBlobTransaction | UNSIGNED_3
-    UnsignedSetCodeTransaction | UNSIGNED_4
-    UnsignedAuthorization | UNSIGNED_5
-    UnsignedTransaction | EXAMPLE
-    UnsignedTransaction | BEFORE
-    UnsignedTransaction | SINCE
-    UnsignedTransaction | b88701+UNSIGNED_1
-    UnsignedTransaction | b84a02+UNSIGNED_2
-    UnsignedTransaction | b84603+UNSIGNED_3
-    UnsignedTransaction | b84004+UNSIGNED_4
+    signed: type 1 | 01+UNSIGNED_1
+    signed: type 2 | 02+UNSIGNED_2
+    signed: type 3 | 03+UNSIGNED_3
+    signed: type 4 | 04+UNSIGNED_4
+    signed: type 1 | 02+UNSIGNED_1 | Custom(\"another type\")
+    signed: type 1 | 01+UNSIGNED_2 | RlpIncorrectListLen
 
     The same with a bit changed, of the length of the list or of the type.
     UnsignedTransaction alone | ed098504a817c800825208943535353535353535353535353535353535353535880\
@@ -181,11 +175,11 @@ pub(crate) const ROWS: &str = "
      535353535353535880de0b6b3a764000080018080
 
     An authorization: the number of the chain, the address and the nonce.
-    UnsignedAuthorization alone | 05+UNSIGNED_5
+    signed: an authorization | 05+UNSIGNED_5
     signed: authorization | 05+UNSIGNED_5 | fffffffffffffffffffffffffffffffffffffffffffffffffffffff\
      fffffffff 7777777777777777777777777777777777777777 18446744073709551615
-    UnsignedAuthorization alone |  | refused
-    UnsignedAuthorization alone | 04c0 | refused
+    signed: an authorization |  | refused
+    signed: an authorization | 04c0 | refused
 
     Bytes that are no transaction before it is signed.
     Seven items.
@@ -248,15 +242,15 @@ pub(crate) const ROWS: &str = "
 
 /// Returns the example of EIP-155 with this number of the chain.
 fn example(alloc: Global, chain_id: Option<u64>) -> UnsignedLegacyTransaction {
-    UnsignedLegacyTransaction {
+    let payload = LegacyTransaction {
         nonce: 9,
         gas_price: wide(20_000_000_000),
         gas_limit: 21_000,
         to: Recipient::Account(Address([0x35; 20])),
         value: wide(1_000_000_000_000_000_000),
         data: Vec::new(alloc),
-        chain_id,
-    }
+    };
+    UnsignedLegacyTransaction { payload, chain_id }
 }
 
 /// Returns what a call about a transaction that is signed answers.
@@ -276,25 +270,25 @@ pub(crate) fn answer(alloc: Global, name: &str, bytes: &[u8]) -> Result<String, 
         }
         "numbers" => numbers(alloc, bytes),
         "authorization" => {
-            let read = UnsignedAuthorization::from_bytes(alloc, bytes)?;
+            let read = Authorization::from_signing_payload(alloc, bytes)?;
             let text = spelled(alloc, &[&read.chain_id.bytes, &read.address.0])?;
             let nonce = read.nonce;
             Ok(format!(in alloc; "{text} {nonce}")?)
         }
         "payload, both ways" => {
             let signed = Transaction::from_bytes(alloc, bytes)?;
-            let payload = payload(alloc, name, &signed)?;
+            let payload = payload(alloc, name, signed)?;
             let ways = ways::<Alone<UnsignedTransaction>>(alloc, payload.as_slice())?;
             let len = payload.len();
             Ok(format!(in alloc; "{ways}, {len}")?)
         }
         "without its signature" => {
-            let unsigned = without_signature(Transaction::from_bytes(alloc, bytes)?);
+            let unsigned = without_signature(Transaction::from_bytes(alloc, bytes)?, Some(1));
             digits(alloc, unsigned.to_bytes(alloc))
         }
         _ => {
             let signed = Transaction::from_bytes(alloc, bytes)?;
-            digits(alloc, payload(alloc, name, &signed))
+            digits(alloc, payload(alloc, name, signed))
         }
     }
 }
@@ -302,7 +296,7 @@ pub(crate) fn answer(alloc: Global, name: &str, bytes: &[u8]) -> Result<String, 
 /// Returns the number of the chain, the nonce and the limit of gas of a transaction.
 fn numbers(alloc: Global, bytes: &[u8]) -> Result<String, Fail> {
     let (chain, nonce, gas) = match UnsignedTransaction::from_bytes(alloc, bytes)? {
-        UnsignedTransaction::Legacy(tx) => (tx.chain_id, tx.nonce, tx.gas_limit),
+        UnsignedTransaction::Legacy(tx) => (tx.chain_id, tx.payload.nonce, tx.payload.gas_limit),
         UnsignedTransaction::AccessList(tx) => (Some(tx.chain_id), tx.nonce, tx.gas_limit),
         UnsignedTransaction::FeeMarket(tx) => (Some(tx.chain_id), tx.nonce, tx.gas_limit),
         UnsignedTransaction::Blob(tx) => (Some(tx.chain_id), tx.nonce, tx.gas_limit),
@@ -312,29 +306,32 @@ fn numbers(alloc: Global, bytes: &[u8]) -> Result<String, Fail> {
 }
 
 /// Returns what is signed of a transaction, or of its second authorization.
-fn payload(alloc: Global, name: &str, signed: &Transaction) -> Result<BytesMut, AllocError> {
-    match signed {
-        Transaction::Legacy(tx) if name == "payload for chain 1" => {
-            tx.signing_payload_for_chain(alloc, 1)
+fn payload(alloc: Global, name: &str, signed: Transaction) -> Result<BytesMut, AllocError> {
+    if let Transaction::SetCode(tx) = &signed {
+        if name == "second authorization" {
+            if let Some(second) = tx.payload.authorization_list.get(1) {
+                return second.payload.signing_payload(alloc);
+            }
         }
-        Transaction::Legacy(tx) => tx.signing_payload(alloc),
-        Transaction::AccessList(tx) => tx.signing_payload(alloc),
-        Transaction::FeeMarket(tx) => tx.signing_payload(alloc),
-        Transaction::Blob(tx) => tx.signing_payload(alloc),
-        Transaction::SetCode(tx) => match tx.authorization_list.get(1) {
-            Some(second) if name == "second authorization" => second.signing_payload(alloc),
-            _ => tx.signing_payload(alloc),
-        },
     }
+    let chain_id = if name == "payload for chain 1" {
+        Some(1)
+    } else {
+        None
+    };
+    without_signature(signed, chain_id).to_bytes(alloc)
 }
 
-/// Returns a signed transaction without its signature. A legacy transaction is for chain 1.
-fn without_signature(signed: Transaction) -> UnsignedTransaction {
+/// Returns a signed transaction without its signature. A legacy transaction is for this chain.
+fn without_signature(signed: Transaction, chain_id: Option<u64>) -> UnsignedTransaction {
     match signed {
-        Transaction::Legacy(tx) => UnsignedTransaction::Legacy(tx.into_unsigned(Some(1))),
-        Transaction::AccessList(tx) => UnsignedTransaction::AccessList(tx.into_unsigned()),
-        Transaction::FeeMarket(tx) => UnsignedTransaction::FeeMarket(tx.into_unsigned()),
-        Transaction::Blob(tx) => UnsignedTransaction::Blob(tx.into_unsigned()),
-        Transaction::SetCode(tx) => UnsignedTransaction::SetCode(tx.into_unsigned()),
+        Transaction::Legacy(tx) => UnsignedTransaction::Legacy(UnsignedLegacyTransaction {
+            payload: tx.payload,
+            chain_id,
+        }),
+        Transaction::AccessList(tx) => UnsignedTransaction::AccessList(tx.payload),
+        Transaction::FeeMarket(tx) => UnsignedTransaction::FeeMarket(tx.payload),
+        Transaction::Blob(tx) => UnsignedTransaction::Blob(tx.payload),
+        Transaction::SetCode(tx) => UnsignedTransaction::SetCode(tx.payload),
     }
 }

@@ -1,9 +1,8 @@
 -- The lines of transactions of every type, and of blocks.
-use Rattle.std.specs.Prelude.{ℕ, ◌≡◌, ◌<◌, ◌^◌, List, ◌∷◌, ◌++◌, [], length, codes, true, Some, Ok}
+use Rattle.std.specs.Prelude.{ℕ, Bool, ◌≡◌, ◌<◌, ◌^◌, List, ◌∷◌, ◌++◌, [], length, codes, true, Some, Ok}
 use Rattle.std.specs.Vec.{vec_items}
 use Rattle.std.proofs.Common.{ap, ◌∙◌, arith}
 use Rattle.rlp.specs.Format.Encoding.{IsSized, encoding}
-use Rattle.rlp.specs.Format.Item.{list_of as list_item}
 use Rattle.rlp.specs.Format.Split.{begins_as_list}
 use Rattle.rlp.specs.Views.View.{View, strict_view_of}
 use Rattle.rlp_ethereum.specs.declared.access_list_transaction.AccessListTransaction.{AccessListTransaction}
@@ -11,15 +10,16 @@ use Rattle.rlp_ethereum.specs.declared.blob_transaction.BlobTransaction.{BlobTra
 use Rattle.rlp_ethereum.specs.declared.block.Block.{Block}
 use Rattle.rlp_ethereum.specs.declared.fee_market_transaction.FeeMarketTransaction.{FeeMarketTransaction}
 use Rattle.rlp_ethereum.specs.declared.set_code_transaction.SetCodeTransaction.{SetCodeTransaction}
+use Rattle.rlp_ethereum.specs.declared.signed.Signed.{Signed}
 use Rattle.rlp_ethereum.specs.declared.transaction.Transaction.{Transaction}
 use Rattle.rlp_ethereum.specs.declared.transaction.Transaction.TheVariants.{AccessList, Blob, FeeMarket, Legacy, SetCode}
 use Rattle.rlp_ethereum.specs.declared.withdrawal.Withdrawals.{Withdrawals}
-use Rattle.rlp_ethereum.specs.AccessListTransaction.{access_list_transaction as access_list_transaction_codec}
-use Rattle.rlp_ethereum.specs.BlobTransaction.{blob_transaction as blob_transaction_codec}
+use Rattle.rlp_ethereum.specs.AccessListTransaction.{signed_access_list_transaction}
+use Rattle.rlp_ethereum.specs.BlobTransaction.{signed_blob_transaction}
 use Rattle.rlp_ethereum.specs.Block.{block as block_codec}
-use Rattle.rlp_ethereum.specs.FeeMarketTransaction.{fee_market_transaction as fee_market_transaction_codec}
-use Rattle.rlp_ethereum.specs.LegacyTransaction.{legacy_transaction_fields}
-use Rattle.rlp_ethereum.specs.SetCodeTransaction.{set_code_transaction as set_code_transaction_codec}
+use Rattle.rlp_ethereum.specs.FeeMarketTransaction.{signed_fee_market_transaction}
+use Rattle.rlp_ethereum.specs.LegacyTransaction.{signed_legacy_transaction, signed_legacy_transaction_fields}
+use Rattle.rlp_ethereum.specs.SetCodeTransaction.{signed_set_code_transaction}
 use Rattle.rlp_ethereum.specs.Alone.{bytes_alone}
 use Rattle.rlp_ethereum.specs.Transaction.{transaction as transaction_codec}
 use Rattle.rlp_ethereum.specs.Withdrawal.{withdrawals as withdrawals_codec}
@@ -50,29 +50,29 @@ transaction_lines name (SetCode t) = typed_value 4 name (set_code_transaction_di
 
 -- ---- envelopes by their first byte
 
-access_list_typed : (other : Shape) (name : List ℕ) (t : AccessListTransaction) → access_list_transaction_codec.Fits t
-    → IsSized (access_list_transaction_codec.item t)
-    → typed_transaction other name (strict_view_of (1 ∷ encoding (access_list_transaction_codec.item t)))
+access_list_typed : (other : Shape) (name : List ℕ) (t : Signed AccessListTransaction Bool) → signed_access_list_transaction.Fits t
+    → IsSized (signed_access_list_transaction.item t)
+    → typed_transaction other name (strict_view_of (1 ∷ encoding (signed_access_list_transaction.item t)))
     ≡ Ok (typed_value 1 name (access_list_transaction_display.lines name t))
 access_list_typed other name t fit sized =
     ap (then_lines (Ok (line (prefix name ++ codes "type") (number_text 1)))) (access_list_transaction_display.shown name t fit sized)
 
-fee_market_typed : (other : Shape) (name : List ℕ) (t : FeeMarketTransaction) → fee_market_transaction_codec.Fits t
-    → IsSized (fee_market_transaction_codec.item t)
-    → typed_transaction other name (strict_view_of (2 ∷ encoding (fee_market_transaction_codec.item t)))
+fee_market_typed : (other : Shape) (name : List ℕ) (t : Signed FeeMarketTransaction Bool) → signed_fee_market_transaction.Fits t
+    → IsSized (signed_fee_market_transaction.item t)
+    → typed_transaction other name (strict_view_of (2 ∷ encoding (signed_fee_market_transaction.item t)))
     ≡ Ok (typed_value 2 name (fee_market_transaction_display.lines name t))
 fee_market_typed other name t fit sized =
     ap (then_lines (Ok (line (prefix name ++ codes "type") (number_text 2)))) (fee_market_transaction_display.shown name t fit sized)
 
-blob_typed : (other : Shape) (name : List ℕ) (t : BlobTransaction) → blob_transaction_codec.Fits t → IsSized (blob_transaction_codec.item t)
-    → typed_transaction other name (strict_view_of (3 ∷ encoding (blob_transaction_codec.item t)))
+blob_typed : (other : Shape) (name : List ℕ) (t : Signed BlobTransaction Bool) → signed_blob_transaction.Fits t → IsSized (signed_blob_transaction.item t)
+    → typed_transaction other name (strict_view_of (3 ∷ encoding (signed_blob_transaction.item t)))
     ≡ Ok (typed_value 3 name (blob_transaction_display.lines name t))
 blob_typed other name t fit sized =
     ap (then_lines (Ok (line (prefix name ++ codes "type") (number_text 3)))) (blob_transaction_display.shown name t fit sized)
 
-set_code_typed : (other : Shape) (name : List ℕ) (t : SetCodeTransaction) → set_code_transaction_codec.Fits t
-    → IsSized (set_code_transaction_codec.item t)
-    → typed_transaction other name (strict_view_of (4 ∷ encoding (set_code_transaction_codec.item t)))
+set_code_typed : (other : Shape) (name : List ℕ) (t : Signed SetCodeTransaction Bool) → signed_set_code_transaction.Fits t
+    → IsSized (signed_set_code_transaction.item t)
+    → typed_transaction other name (strict_view_of (4 ∷ encoding (signed_set_code_transaction.item t)))
     ≡ Ok (typed_value 4 name (set_code_transaction_display.lines name t))
 set_code_typed other name t fit sized =
     ap (then_lines (Ok (line (prefix name ++ codes "type") (number_text 4)))) (set_code_transaction_display.shown name t fit sized)
@@ -93,8 +93,7 @@ not_typed other name v is =
 pub alone_shown : (name : List ℕ) (t : Transaction) → transaction_codec.Fits t → length (bytes_alone (transaction_codec.item t)) < 2 ^ 64
     → any_transaction name (strict_view_of (bytes_alone (transaction_codec.item t))) ≡ Ok (transaction_lines name t)
 alone_shown name (Legacy t) fit few =
-    let xs = legacy_transaction_fields.items t in
-    not_typed legacy_transaction name (strict_view_of (encoding (list_item xs))) (list_kind xs few) ∙ legacy_transaction_display.shown name t fit few
+    not_typed legacy_transaction name (strict_view_of (encoding (signed_legacy_transaction.item t))) (list_kind (signed_legacy_transaction_fields.items t) few) ∙ legacy_transaction_display.shown name t fit few
 alone_shown name (AccessList t) fit few = access_list_typed legacy_transaction name t fit (after_type 1 _ few)
 alone_shown name (FeeMarket t) fit few = fee_market_typed legacy_transaction name t fit (after_type 2 _ few)
 alone_shown name (Blob t) fit few = blob_typed legacy_transaction name t fit (after_type 3 _ few)
@@ -112,7 +111,7 @@ transaction_answered l t fit few is =
 pub held_shown : (name : List ℕ) (t : Transaction) → transaction_codec.Fits t → IsSized (transaction_codec.item t)
     → transaction name (strict_view_of (encoding (transaction_codec.item t))) ≡ Ok (transaction_lines name t)
 held_shown name (Legacy t) fit sized =
-    list_held legacy_transaction (typed_transaction unknown_transaction) name (legacy_transaction_fields.items t) sized
+    list_held legacy_transaction (typed_transaction unknown_transaction) name (signed_legacy_transaction_fields.items t) sized
     ∙ legacy_transaction_display.shown name t fit sized
 held_shown name (AccessList t) fit sized =
     string_held legacy_transaction (typed_transaction unknown_transaction) name _ sized

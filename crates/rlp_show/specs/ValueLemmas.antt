@@ -1,7 +1,7 @@
 -- The encoding of a value, shown.
 use Rattle.std.specs.Prelude.{IfSome}
-use Rattle.std.proofs.Common.{◌≡◌, ◌^◌, ◌<◌, ◌+◌, ℕ, zero, suc, true, Option, Some, None, List, [], ◌∷◌, ◌++◌, length, map, refl, ap, ◌∙◌, arith}
-use Rattle.std.proofs.Common.{append-nil, length-append, Ok}
+use Rattle.std.proofs.Common.{◌≡◌, ◌^◌, ◌<◌, ◌+◌, ℕ, zero, suc, true, Option, Some, None, List, [], ◌∷◌, ◌++◌, length, map, refl, sym, ap, ◌∙◌, arith}
+use Rattle.std.proofs.Common.{append-nil, append_assoc, length-append, Ok, Err}
 use Rattle.std.specs.List.{AllByRecursion}
 use Rattle.std.proofs.lemmas.Bool.{cond-true}
 use Rattle.rlp.specs.Format.Encoding.{IsSized, encoding, join}
@@ -97,6 +97,55 @@ module _ {A : Type 0} (Fits : A → Type 0) (first : Field) (fields : List Field
       → fields_lines before i (optional first ∷ fields) (views_of (items_if items o)) ≡ Ok (lines_if lines o)
   group_shown items before i lines shown None fit small = refl
   group_shown items before i lines shown (Some x) fit small = same_lines before i first fields (views_of (items x)) ∙ shown x fit small
+
+-- ---- fields of a part before others
+
+then_none : (s : Shown) → s ≡ then_lines (Ok []) s
+then_none (Ok lines) = refl
+then_none (Err fault) = refl
+
+then_lines-assoc : (a b c : Shown) → then_lines a (then_lines b c) ≡ then_lines (then_lines a b) c
+then_lines-assoc (Err f) b c = refl
+then_lines-assoc (Ok x) (Err f) c = refl
+then_lines-assoc (Ok x) (Ok y) (Err f) = refl
+then_lines-assoc (Ok x) (Ok y) (Ok z) = ap Ok (sym (append_assoc x y z))
+
+fields_lines-append : (before : List ℕ) (i : ℕ) (first others : List Field) (xs ys : List Item) → length first ≡ length xs
+    → fields_lines before i (first ++ others) (views_of (xs ++ ys))
+    ≡ then_lines (fields_lines before i first (views_of xs)) (fields_lines before (i + length first) others (views_of ys))
+fields_lines-append before i [] others [] ys many =
+    ap (λ n. fields_lines before n others (views_of ys)) (let same : i ≡ i + 0 = omega arith in same) ∙ then_none _
+fields_lines-append before i [] others (x ∷ xs) ys many = absurd (omega arith)
+fields_lines-append before i (f ∷ first) others [] ys many = absurd (omega arith)
+fields_lines-append before i (f ∷ first) others (x ∷ xs) ys many =
+    let one = in_field i (f.shape (before ++ f.name) (strict_view_of (encoding x))) in
+    let place : i + 1 + length first ≡ i + suc (length first) = omega arith in
+    ap (then_lines one) (fields_lines-append before (i + 1) first others xs ys (omega (arith, many))
+    ∙ ap (λ n. then_lines (fields_lines before (i + 1) first (views_of xs)) (fields_lines before n others (views_of ys))) place)
+    ∙ then_lines-assoc one _ _
+
+-- a record has its first fields, and then the others
+pub may_have-append : (first others : List Field) (n m : ℕ) → length first ≡ n → may_have (first ++ others) (n + m) ≡ may_have others m
+may_have-append [] others n m many = ap (may_have others) (let same : n + m ≡ m = omega (arith, many) in same)
+may_have-append (f ∷ first) others n m many =
+    let next : n + m ≡ suc (length first + m) = omega (arith, many) in
+    ap (may_have (f ∷ first ++ others)) next ∙ may_have-append first others (length first) m refl
+
+join-append : (xs ys : List Item) → join (xs ++ ys) ≡ join xs ++ join ys
+join-append [] ys = refl
+join-append (x ∷ xs) ys = ap (λ b. encoding x ++ b) (join-append xs ys) ∙ sym (append_assoc (encoding x) (join xs) (join ys))
+
+pub front_small : (xs ys : List Item) → length (join (xs ++ ys)) < 2 ^ 64 → length (join xs) < 2 ^ 64
+front_small xs ys small = omega (arith, ap length (join-append xs ys), length-append (join xs) (join ys))
+
+pub rest_small : (xs ys : List Item) → length (join (xs ++ ys)) < 2 ^ 64 → length (join ys) < 2 ^ 64
+rest_small xs ys small = omega (arith, ap length (join-append xs ys), length-append (join xs) (join ys))
+
+pub part_shown : (before : List ℕ) (i : ℕ) (first others : List Field) (xs ys : List Item) (lines more : List ℕ) → length first ≡ length xs
+    → fields_lines before i first (views_of xs) ≡ Ok lines → fields_lines before (i + length first) others (views_of ys) ≡ Ok more
+    → fields_lines before i (first ++ others) (views_of (xs ++ ys)) ≡ Ok (lines ++ more)
+part_shown before i first others xs ys lines more many is are =
+    fields_lines-append before i first others xs ys many ∙ both_shown _ _ lines more is are
 
 -- ---- a last field that may be missing
 

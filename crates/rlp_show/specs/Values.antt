@@ -2,10 +2,11 @@
 use Rattle.std.specs.Prelude.{ℕ, ◌≡◌, ◌==◌, ◌<◌, ◌+◌, ◌^◌, false, true, List, [], ◌∷◌, ◌++◌, length, codes, Option, Ok}
 use Rattle.std.specs.Vec.{vec_items}
 use Rattle.std.specs.Int.Digits.{number_from_digits}
-use Rattle.std.proofs.Common.{refl, ap, ◌∙◌}
+use Rattle.std.proofs.Common.{refl, sym, ap, ◌∙◌}
 use Rattle.std.proofs.lemmas.List.Elements.{recursion_from_All}
-use Rattle.rlp.specs.Codec.{Codec, Fields, byte_array, byte_string as byte_string_codec, end, field as field_codec, list_type, newtype}
+use Rattle.rlp.specs.Codec.{Codec, Fields, IsFixed, byte_array, byte_string as byte_string_codec, end, field as field_codec, list_type, newtype}
 use Rattle.rlp.specs.Codec.{number as number_codec, optional as optional_codec, optional_group, struct_of, truth_value as truth_codec, uint}
+use Rattle.rlp.specs.Codecs.Parts.{group}
 use Rattle.rlp.specs.Format.Encoding.{IsSized, encoding, join}
 use Rattle.rlp.specs.Lemmas.RoundTrips.{bit_below}
 use Rattle.rlp.specs.Values.Value.{bit}
@@ -21,17 +22,19 @@ use Rattle.rlp_ethereum.specs.Receipt.{receipt as receipt_codec}
 use Rattle.rlp_ethereum.specs.declared.access.AccessListItem.{AccessListItem}
 use Rattle.rlp_ethereum.specs.Access.{access_list_item as access_list_item_codec, access_list as access_list_codec}
 use Rattle.rlp_ethereum.specs.declared.legacy_transaction.LegacyTransaction.{LegacyTransaction}
-use Rattle.rlp_ethereum.specs.LegacyTransaction.{legacy_transaction as legacy_transaction_codec}
+use Rattle.rlp_ethereum.specs.LegacyTransaction.{signed_legacy_transaction}
 use Rattle.rlp_ethereum.specs.declared.access_list_transaction.AccessListTransaction.{AccessListTransaction}
-use Rattle.rlp_ethereum.specs.AccessListTransaction.{access_list_transaction as access_list_transaction_codec}
+use Rattle.rlp_ethereum.specs.AccessListTransaction.{signed_access_list_transaction}
 use Rattle.rlp_ethereum.specs.declared.fee_market_transaction.FeeMarketTransaction.{FeeMarketTransaction}
-use Rattle.rlp_ethereum.specs.FeeMarketTransaction.{fee_market_transaction as fee_market_transaction_codec}
+use Rattle.rlp_ethereum.specs.FeeMarketTransaction.{signed_fee_market_transaction}
 use Rattle.rlp_ethereum.specs.declared.blob_transaction.BlobTransaction.{BlobTransaction}
-use Rattle.rlp_ethereum.specs.BlobTransaction.{blob_transaction as blob_transaction_codec}
+use Rattle.rlp_ethereum.specs.BlobTransaction.{signed_blob_transaction}
 use Rattle.rlp_ethereum.specs.declared.authorization.Authorization.{Authorization}
-use Rattle.rlp_ethereum.specs.Authorization.{authorization as authorization_codec}
+use Rattle.rlp_ethereum.specs.Authorization.{signed_authorization}
 use Rattle.rlp_ethereum.specs.declared.set_code_transaction.SetCodeTransaction.{SetCodeTransaction}
-use Rattle.rlp_ethereum.specs.SetCodeTransaction.{set_code_transaction as set_code_transaction_codec}
+use Rattle.rlp_ethereum.specs.SetCodeTransaction.{signed_set_code_transaction}
+use Rattle.rlp_ethereum.specs.declared.signed.Signed.{Signed}
+use Rattle.rlp_ethereum.specs.Signed.{signed}
 use Rattle.rlp_ethereum.specs.declared.access.AccessList.{AccessList}
 use Rattle.rlp_ethereum.specs.declared.header.Header.{Header}
 use Rattle.rlp_ethereum.specs.declared.header.forks.London.{London}
@@ -51,8 +54,8 @@ use Rattle.rlp_show.specs.Records.{access_list_item, access_list_transaction, ac
 use Rattle.rlp_show.specs.Records.{authorization, blob_transaction, log, receipt, set_code_transaction, withdrawal}
 use Rattle.rlp_show.specs.Text.{bytes_text, number_text}
 use Rattle.rlp_show.specs.StringLemmas.{bytes_given, fixed_given, number_given, recipient_given, truth_given}
-use Rattle.rlp_show.specs.ValueLemmas.{both_shown, first_sized, group_right, group_shown, joined_small, list_shown, optional_right, optional_shown}
-use Rattle.rlp_show.specs.ValueLemmas.{others_small, record_shown, views_of}
+use Rattle.rlp_show.specs.ValueLemmas.{both_shown, first_sized, front_small, group_right, group_shown, joined_small, list_shown, optional_right, optional_shown}
+use Rattle.rlp_show.specs.ValueLemmas.{may_have-append, others_small, part_shown, record_shown, rest_small, views_of}
 
 -- How the values of a type are shown. `lines` has the lines of a value under a name. The encoding of each value that fits is shown as these lines.
 pub record Display {A : Type 0} (codec : Codec A) (shape : Shape) : Type 0 where
@@ -173,6 +176,27 @@ record_display {f = f} {fields = fields} d = record {
       (d.shown (prefix name) 0 p fit (joined_small (f.items p) sized));
 }
 
+-- the fields of a part of the value, always the same number, before others
+abbrev pub part_display : {A P : Type 0} {f : Fields A} {more : Fields P} {first others : List Field} (value : P → A) (fixed : IsFixed f)
+    → length first ≡ f.reading.least → FieldsDisplay f first → FieldsDisplay more others → FieldsDisplay (group value f fixed more) (first ++ others)
+part_display {f = f} {more = more} {first = first} {others = others} value fixed many d rest = record {
+  lines = λ before p. d.lines before (value p) ++ rest.lines before p;
+  right = λ p fit. may_have-append first others (f.reading.count (value p)) (more.reading.count p) (many ∙ sym (fixed (value p))) ∙ rest.right p fit.1;
+  shown = λ before i p fit small. part_shown before i first others (f.items (value p)) (more.items p) _ _
+      (many ∙ sym (fixed (value p)) ∙ sym (f.counted (value p)))
+      (d.shown before i (value p) fit.0 (front_small (f.items (value p)) (more.items p) small))
+      (rest.shown before (i + length first) p fit.1 (rest_small (f.items (value p)) (more.items p) small));
+}
+
+-- a payload with its signature, by the name of what comes before its two numbers
+abbrev pub signed_display : {T V : Type 0} {f : Fields T} {c : Codec V} {s : Shape} {first : List Field} (fixed : IsFixed f) → length first ≡ f.reading.least
+    → (name : List ℕ) → Display c s → FieldsDisplay f first
+    → Display (signed f fixed c) (record_of (first ++ field name s ∷ field (codes "r") (number 32) ∷ field (codes "s") (number 32) ∷ []))
+signed_display {T} {V} fixed many name v d = record_display (part_display (λ (x : Signed T V). x.payload) fixed many d (
+    field_display name (λ (x : Signed T V). x.v) v (
+    field_display (codes "r") (λ (x : Signed T V). x.r) (uint_display 32) (
+    field_display (codes "s") (λ (x : Signed T V). x.s) (uint_display 32) end_display))))
+
 abbrev pub withdrawal_display : Display withdrawal_codec withdrawal
 withdrawal_display = record_display (
     field_display (codes "index") (λ (w : Withdrawal). w.index) (number_display 8) (
@@ -208,20 +232,17 @@ access_list_item_display = record_display (
 abbrev pub access_list_display : Display access_list_codec (list_of access_list_item)
 access_list_display = list_display (λ (a : AccessList). vec_items a.0) access_list_item_display
 
-abbrev pub legacy_transaction_display : Display legacy_transaction_codec legacy_transaction
-legacy_transaction_display = record_display (
+abbrev pub legacy_transaction_display : Display signed_legacy_transaction legacy_transaction
+legacy_transaction_display = signed_display (λ p. refl) refl (codes "v") (uint_display 32) (
     field_display (codes "nonce") (λ (l : LegacyTransaction). l.nonce) (number_display 8) (
     field_display (codes "gas_price") (λ (l : LegacyTransaction). l.gas_price) (uint_display 32) (
     field_display (codes "gas_limit") (λ (l : LegacyTransaction). l.gas_limit) (number_display 8) (
     field_display (codes "to") (λ (l : LegacyTransaction). l.to) recipient_display (
     field_display (codes "value") (λ (l : LegacyTransaction). l.value) (uint_display 32) (
-    field_display (codes "data") (λ (l : LegacyTransaction). l.data) (bytes_display vec_items) (
-    field_display (codes "v") (λ (l : LegacyTransaction). l.v) (uint_display 32) (
-    field_display (codes "r") (λ (l : LegacyTransaction). l.r) (uint_display 32) (
-    field_display (codes "s") (λ (l : LegacyTransaction). l.s) (uint_display 32) end_display)))))))))
+    field_display (codes "data") (λ (l : LegacyTransaction). l.data) (bytes_display vec_items) end_display))))))
 
-abbrev pub access_list_transaction_display : Display access_list_transaction_codec access_list_transaction
-access_list_transaction_display = record_display (
+abbrev pub access_list_transaction_display : Display signed_access_list_transaction access_list_transaction
+access_list_transaction_display = signed_display (λ p. refl) refl (codes "y_parity") truth_display (
     field_display (codes "chain_id") (λ (a : AccessListTransaction). a.chain_id) (number_display 8) (
     field_display (codes "nonce") (λ (a : AccessListTransaction). a.nonce) (number_display 8) (
     field_display (codes "gas_price") (λ (a : AccessListTransaction). a.gas_price) (uint_display 32) (
@@ -229,13 +250,10 @@ access_list_transaction_display = record_display (
     field_display (codes "to") (λ (a : AccessListTransaction). a.to) recipient_display (
     field_display (codes "value") (λ (a : AccessListTransaction). a.value) (uint_display 32) (
     field_display (codes "data") (λ (a : AccessListTransaction). a.data) (bytes_display vec_items) (
-    field_display (codes "access_list") (λ (a : AccessListTransaction). a.access_list) access_list_display (
-    field_display (codes "y_parity") (λ (a : AccessListTransaction). a.y_parity) truth_display (
-    field_display (codes "r") (λ (a : AccessListTransaction). a.r) (uint_display 32) (
-    field_display (codes "s") (λ (a : AccessListTransaction). a.s) (uint_display 32) end_display)))))))))))
+    field_display (codes "access_list") (λ (a : AccessListTransaction). a.access_list) access_list_display end_display))))))))
 
-abbrev pub fee_market_transaction_display : Display fee_market_transaction_codec fee_market_transaction
-fee_market_transaction_display = record_display (
+abbrev pub fee_market_transaction_display : Display signed_fee_market_transaction fee_market_transaction
+fee_market_transaction_display = signed_display (λ p. refl) refl (codes "y_parity") truth_display (
     field_display (codes "chain_id") (λ (f : FeeMarketTransaction). f.chain_id) (number_display 8) (
     field_display (codes "nonce") (λ (f : FeeMarketTransaction). f.nonce) (number_display 8) (
     field_display (codes "max_priority_fee_per_gas") (λ (f : FeeMarketTransaction). f.max_priority_fee_per_gas) (uint_display 32) (
@@ -244,13 +262,10 @@ fee_market_transaction_display = record_display (
     field_display (codes "to") (λ (f : FeeMarketTransaction). f.to) recipient_display (
     field_display (codes "value") (λ (f : FeeMarketTransaction). f.value) (uint_display 32) (
     field_display (codes "data") (λ (f : FeeMarketTransaction). f.data) (bytes_display vec_items) (
-    field_display (codes "access_list") (λ (f : FeeMarketTransaction). f.access_list) access_list_display (
-    field_display (codes "y_parity") (λ (f : FeeMarketTransaction). f.y_parity) truth_display (
-    field_display (codes "r") (λ (f : FeeMarketTransaction). f.r) (uint_display 32) (
-    field_display (codes "s") (λ (f : FeeMarketTransaction). f.s) (uint_display 32) end_display))))))))))))
+    field_display (codes "access_list") (λ (f : FeeMarketTransaction). f.access_list) access_list_display end_display)))))))))
 
-abbrev pub blob_transaction_display : Display blob_transaction_codec blob_transaction
-blob_transaction_display = record_display (
+abbrev pub blob_transaction_display : Display signed_blob_transaction blob_transaction
+blob_transaction_display = signed_display (λ p. refl) refl (codes "y_parity") truth_display (
     field_display (codes "chain_id") (λ (b : BlobTransaction). b.chain_id) (number_display 8) (
     field_display (codes "nonce") (λ (b : BlobTransaction). b.nonce) (number_display 8) (
     field_display (codes "max_priority_fee_per_gas") (λ (b : BlobTransaction). b.max_priority_fee_per_gas) (uint_display 32) (
@@ -261,22 +276,16 @@ blob_transaction_display = record_display (
     field_display (codes "data") (λ (b : BlobTransaction). b.data) (bytes_display vec_items) (
     field_display (codes "access_list") (λ (b : BlobTransaction). b.access_list) access_list_display (
     field_display (codes "max_fee_per_blob_gas") (λ (b : BlobTransaction). b.max_fee_per_blob_gas) (uint_display 32) (
-    field_display (codes "blob_versioned_hashes") (λ (b : BlobTransaction). b.blob_versioned_hashes) (list_display vec_items hash_display) (
-    field_display (codes "y_parity") (λ (b : BlobTransaction). b.y_parity) truth_display (
-    field_display (codes "r") (λ (b : BlobTransaction). b.r) (uint_display 32) (
-    field_display (codes "s") (λ (b : BlobTransaction). b.s) (uint_display 32) end_display))))))))))))))
+    field_display (codes "blob_versioned_hashes") (λ (b : BlobTransaction). b.blob_versioned_hashes) (list_display vec_items hash_display) end_display)))))))))))
 
-abbrev pub authorization_display : Display authorization_codec authorization
-authorization_display = record_display (
+abbrev pub authorization_display : Display signed_authorization authorization
+authorization_display = signed_display (λ p. refl) refl (codes "y_parity") (number_display 1) (
     field_display (codes "chain_id") (λ (a : Authorization). a.chain_id) (uint_display 32) (
     field_display (codes "address") (λ (a : Authorization). a.address) address_display (
-    field_display (codes "nonce") (λ (a : Authorization). a.nonce) (number_display 8) (
-    field_display (codes "y_parity") (λ (a : Authorization). a.y_parity) (number_display 1) (
-    field_display (codes "r") (λ (a : Authorization). a.r) (uint_display 32) (
-    field_display (codes "s") (λ (a : Authorization). a.s) (uint_display 32) end_display))))))
+    field_display (codes "nonce") (λ (a : Authorization). a.nonce) (number_display 8) end_display)))
 
-abbrev pub set_code_transaction_display : Display set_code_transaction_codec set_code_transaction
-set_code_transaction_display = record_display (
+abbrev pub set_code_transaction_display : Display signed_set_code_transaction set_code_transaction
+set_code_transaction_display = signed_display (λ p. refl) refl (codes "y_parity") truth_display (
     field_display (codes "chain_id") (λ (s : SetCodeTransaction). s.chain_id) (number_display 8) (
     field_display (codes "nonce") (λ (s : SetCodeTransaction). s.nonce) (number_display 8) (
     field_display (codes "max_priority_fee_per_gas") (λ (s : SetCodeTransaction). s.max_priority_fee_per_gas) (uint_display 32) (
@@ -286,10 +295,7 @@ set_code_transaction_display = record_display (
     field_display (codes "value") (λ (s : SetCodeTransaction). s.value) (uint_display 32) (
     field_display (codes "data") (λ (s : SetCodeTransaction). s.data) (bytes_display vec_items) (
     field_display (codes "access_list") (λ (s : SetCodeTransaction). s.access_list) access_list_display (
-    field_display (codes "authorization_list") (λ (s : SetCodeTransaction). s.authorization_list) (list_display vec_items authorization_display) (
-    field_display (codes "y_parity") (λ (s : SetCodeTransaction). s.y_parity) truth_display (
-    field_display (codes "r") (λ (s : SetCodeTransaction). s.r) (uint_display 32) (
-    field_display (codes "s") (λ (s : SetCodeTransaction). s.s) (uint_display 32) end_display)))))))))))))
+    field_display (codes "authorization_list") (λ (s : SetCodeTransaction). s.authorization_list) (list_display vec_items authorization_display) end_display))))))))))
 
 abbrev pub header_display : Display header_codec header
 header_display = record_display (

@@ -8,9 +8,9 @@ use crate::lists::Items;
 use crate::show::Show;
 use rlp::{Rlp, Uint};
 use rlp_ethereum::{
-    AccessListItem, AccessListTransaction, Account, Address, Authorization, BlobTransaction, Block,
-    Bloom, FeeMarketTransaction, Hash, Header, LegacyTransaction, Log, Receipt, Recipient,
-    SetCodeTransaction, Transaction, Withdrawal,
+    AccessListItem, AccessListTransaction, Account, Address, BlobTransaction, Block, Bloom,
+    FeeMarketTransaction, Hash, Header, Log, Receipt, Recipient, SetCodeTransaction, Signed,
+    SignedAuthorization, SignedLegacyTransaction, Transaction, Withdrawal,
 };
 use std::alloc::Global;
 use std::marker::PhantomData;
@@ -131,7 +131,7 @@ impl Show for AccessListItem {
     }
 }
 
-impl Show for LegacyTransaction {
+impl Show for SignedLegacyTransaction {
     ghost shape = { legacy_transaction };
 
     fn show(alloc: Global, name: &str, item: &Rlp<'_>, out: &mut String) -> Result<(), ShowFault> {
@@ -153,7 +153,7 @@ impl Show for LegacyTransaction {
     }
 }
 
-impl Show for AccessListTransaction {
+impl Show for Signed<AccessListTransaction> {
     ghost shape = { access_list_transaction };
 
     fn show(alloc: Global, name: &str, item: &Rlp<'_>, out: &mut String) -> Result<(), ShowFault> {
@@ -177,7 +177,7 @@ impl Show for AccessListTransaction {
     }
 }
 
-impl Show for FeeMarketTransaction {
+impl Show for Signed<FeeMarketTransaction> {
     ghost shape = { fee_market_transaction };
 
     fn show(alloc: Global, name: &str, item: &Rlp<'_>, out: &mut String) -> Result<(), ShowFault> {
@@ -202,7 +202,7 @@ impl Show for FeeMarketTransaction {
     }
 }
 
-impl Show for BlobTransaction {
+impl Show for Signed<BlobTransaction> {
     ghost shape = { blob_transaction };
 
     fn show(alloc: Global, name: &str, item: &Rlp<'_>, out: &mut String) -> Result<(), ShowFault> {
@@ -229,7 +229,7 @@ impl Show for BlobTransaction {
     }
 }
 
-impl Show for Authorization {
+impl Show for SignedAuthorization {
     ghost shape = { authorization };
 
     fn show(alloc: Global, name: &str, item: &Rlp<'_>, out: &mut String) -> Result<(), ShowFault> {
@@ -248,7 +248,7 @@ impl Show for Authorization {
     }
 }
 
-impl Show for SetCodeTransaction {
+impl Show for Signed<SetCodeTransaction> {
     ghost shape = { set_code_transaction };
 
     fn show(alloc: Global, name: &str, item: &Rlp<'_>, out: &mut String) -> Result<(), ShowFault> {
@@ -266,7 +266,7 @@ impl Show for SetCodeTransaction {
             "value": Uint<32>,
             "data": Vec<u8>,
             "access_list": Items<AccessListItem>,
-            "authorization_list": Items<Authorization>,
+            "authorization_list": Items<SignedAuthorization>,
             "y_parity": bool,
             "r": Uint<32>,
             "s": Uint<32>

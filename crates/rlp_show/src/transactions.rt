@@ -10,23 +10,28 @@ use crate::show::Show;
 use rlp::{DecoderError, Rlp};
 use rlp_ethereum::{
     ACCESS_LIST_TYPE, AccessListTransaction, BLOB_TYPE, BlobTransaction, FEE_MARKET_TYPE,
-    FeeMarketTransaction, LegacyTransaction, SET_CODE_TYPE, SetCodeTransaction, Transaction,
+    FeeMarketTransaction, SET_CODE_TYPE, SetCodeTransaction, Signed, SignedLegacyTransaction,
+    Transaction,
 };
 use std::alloc::Global;
 
 /// The envelope of a transaction of any type that `rlp_ethereum` knows, or else a `Q`, for [`Show`].
 pub type TypedTransaction<Q> = Typed<
     ACCESS_LIST_TYPE,
-    AccessListTransaction,
+    Signed<AccessListTransaction>,
     Typed<
         FEE_MARKET_TYPE,
-        FeeMarketTransaction,
-        Typed<BLOB_TYPE, BlobTransaction, Typed<SET_CODE_TYPE, SetCodeTransaction, Q>>,
+        Signed<FeeMarketTransaction>,
+        Typed<
+            BLOB_TYPE,
+            Signed<BlobTransaction>,
+            Typed<SET_CODE_TYPE, Signed<SetCodeTransaction>, Q>,
+        >,
     >,
 >;
 
 /// A transaction by itself, of any type that `rlp_ethereum` knows, for [`Show`].
-pub type AnyTransaction = TypedTransaction<LegacyTransaction>;
+pub type AnyTransaction = TypedTransaction<SignedLegacyTransaction>;
 
 /// The envelope of a transaction of an unknown type, for [`Show`]. It is always at fault.
 pub struct UnknownTransaction;
@@ -52,7 +57,7 @@ impl Show for Transaction {
 
     fn show(alloc: Global, name: &str, item: &Rlp<'_>, out: &mut String) -> Result<(), ShowFault> {
         if item.is_list() {
-            return LegacyTransaction::show(alloc, name, item, out);
+            return SignedLegacyTransaction::show(alloc, name, item, out);
         }
         match item.decoder().string() {
             Ok(bytes) => {

@@ -3,15 +3,14 @@
 ghost use Rattle.std.specs.Prelude.{◌≡◌, ℕ, List, Ok};
 ghost use Rattle.rlp.specs.Format.Encoding.{IsSized, encoding};
 ghost use Rattle.rlp.specs.Views.View.{strict_view_of};
-ghost use Rattle.rlp_show.specs.Values.{withdrawal_display, account_display, header_display, log_display, receipt_display, access_list_item_display, legacy_transaction_display, access_list_transaction_display, fee_market_transaction_display, blob_transaction_display, authorization_display, set_code_transaction_display};
+ghost use Rattle.rlp_show.specs.Values.{withdrawal_display, account_display, header_display, log_display, receipt_display, access_list_item_display, legacy_transaction_display, authorization_display};
 ghost use Rattle.rlp_show.specs.TransactionValues.{transaction_display, block_display};
 
 use crate::show::Show;
 use rlp::Encodable;
 use rlp_ethereum::{
-    AccessListItem, AccessListTransaction, Account, Authorization, BlobTransaction, Block,
-    FeeMarketTransaction, Header, LegacyTransaction, Log, Receipt, SetCodeTransaction, Transaction,
-    Withdrawal,
+    AccessListItem, Account, Block, Header, Log, Receipt, SignedAuthorization,
+    SignedLegacyTransaction, Transaction, Withdrawal,
 };
 
 /// A type of which the encoding of each value that fits is shown as the lines of the value. It has
@@ -61,40 +60,16 @@ impl ShowValues for AccessListItem {
     ghost shown = { access_list_item_display.shown };
 }
 
-impl ShowValues for LegacyTransaction {
+impl ShowValues for SignedLegacyTransaction {
     ghost lines = { legacy_transaction_display.lines };
 
     ghost shown = { legacy_transaction_display.shown };
 }
 
-impl ShowValues for AccessListTransaction {
-    ghost lines = { access_list_transaction_display.lines };
-
-    ghost shown = { access_list_transaction_display.shown };
-}
-
-impl ShowValues for FeeMarketTransaction {
-    ghost lines = { fee_market_transaction_display.lines };
-
-    ghost shown = { fee_market_transaction_display.shown };
-}
-
-impl ShowValues for BlobTransaction {
-    ghost lines = { blob_transaction_display.lines };
-
-    ghost shown = { blob_transaction_display.shown };
-}
-
-impl ShowValues for Authorization {
+impl ShowValues for SignedAuthorization {
     ghost lines = { authorization_display.lines };
 
     ghost shown = { authorization_display.shown };
-}
-
-impl ShowValues for SetCodeTransaction {
-    ghost lines = { set_code_transaction_display.lines };
-
-    ghost shown = { set_code_transaction_display.shown };
 }
 
 impl ShowValues for Transaction {

@@ -50,14 +50,14 @@ this_place : (i : ℕ) → i ≡ i + 0
 this_place i = omega arith
 
 -- the first items of a view from a place on, and those after them
-holds_parts : (view : View) (i : ℕ) (xs ys : List Item) → HoldsFrom view i (xs ++ ys) → HoldsFrom view i xs × HoldsFrom view (i + length xs) ys
+pub holds_parts : (view : View) (i : ℕ) (xs ys : List Item) → HoldsFrom view i (xs ++ ys) → HoldsFrom view i xs × HoldsFrom view (i + length xs) ys
 holds_parts view i [] ys holds = (tt, subst (λ j. HoldsFrom view j ys) (this_place i) holds)
 holds_parts view i (x ∷ xs) ys (is, (sized, others)) =
     let more = holds_parts view (suc i) xs ys others in
     ((is, (sized, more.0)), subst (λ j. HoldsFrom view j ys) (next_place i (length xs)) more.1)
 
 -- the same for a strict view
-held_parts : (view : View) (i : ℕ) (xs ys : List (List ℕ)) → PartsFrom view i (xs ++ ys) → PartsFrom view i xs × PartsFrom view (i + length xs) ys
+pub held_parts : (view : View) (i : ℕ) (xs ys : List (List ℕ)) → PartsFrom view i (xs ++ ys) → PartsFrom view i xs × PartsFrom view (i + length xs) ys
 held_parts view i [] ys held = (tt, subst (λ j. PartsFrom view j ys) (this_place i) held)
 held_parts view i (x ∷ xs) ys (is, (bytes, (short, others))) =
     let more = held_parts view (suc i) xs ys others in
@@ -80,7 +80,7 @@ module _ {G : Type 0} (width : ℕ) (items_of : G → List Item) (counted : (g :
   group_and_more g gs = length-append (items_of g) (all_items items_of gs) ∙ ap (λ n. n + length (all_items items_of gs)) (counted g)
 
 -- item k of a group, or of the groups after it
-group_cases : (width k : ℕ) → (k < width) ⊎ ((j : ℕ) × (k ≡ width + j))
+pub group_cases : (width k : ℕ) → (k < width) ⊎ ((j : ℕ) × (k ≡ width + j))
 group_cases width k = ⊎_elim (λ below. inl below) (λ above. inr (k - width, omega arith)) (cases_lt k width)
 
 module _ {G : Type 0} (width : ℕ) (Fits : G → Type 0) (items_of : G → List Item) where

@@ -1,0 +1,70 @@
+//! Structs whose lists begin with the fields of another struct.
+
+ghost use Rattle.rlp.specs.Values.FieldReading.{part_fields};
+ghost use Rattle.rlp.specs.Values.Parts.{fields_before};
+
+use crate::rlpin::Fields;
+use crate::structs::{DecodeFields, FieldFault, FixedFields};
+use rlp_format::error::DecoderError;
+use rlp_streams::{AppendFields, RlpStream};
+use std::alloc::{AllocError, Global};
+
+/// The fields of a struct, in the list of another struct.
+#[derive(Clone, Copy)]
+pub struct FieldsOf<'a, S>(pub &'a S);
+
+impl<S: AppendFields> AppendFields for FieldsOf<'_, S> {
+    ghost items = { λ v. S.items v.0.now };
+
+    ghost fit = { λ v. S.fit v.0.now };
+
+    ghost at_once = { λ v. S.at_once v.0.now };
+
+    fn field_count(&self) -> Option<usize> {
+        self.0.field_count()
+    }
+
+    fn append_fields(&self, s: &mut RlpStream) -> Result<(), AllocError> {
+        self.0.append_fields(s)
+    }
+}
+
+/// Fields that are a fixed number of items, and those after them.
+pub struct Joined<P, Q>(pub P, pub Q);
+
+impl<P: FixedFields, Q: DecodeFields> DecodeFields for Joined<P, Q> {
+    ghost reading = { fields_before (λ x. x.0) P.reading (part_fields (λ x. x.1) Q.reading) };
+
+    #[tactic(auto, using(crate::proofs::Values::PartReading::part_numbers))]
+    fn accepts(len: usize) -> bool {
+        match P::width() {
+            Some(width) => len >= width && Q::accepts(len - width),
+            None => false,
+        }
+    }
+
+    #[tactic(auto, using(crate::proofs::Values::PartReading::part_numbers))]
+    fn decode_fields(
+        alloc: Global,
+        fields: &mut Fields<'_>,
+        len: usize,
+    ) -> Result<Joined<P, Q>, FieldFault> {
+        let width = match P::width() {
+            Some(width) => width,
+            // So many items can't be.
+            None => {
+                return Err(FieldFault {
+                    place: None,
+                    fault: DecoderError::RlpIncorrectListLen,
+                });
+            }
+        };
+        match P::decode_fields(alloc, fields, width) {
+            Ok(first) => match Q::decode_fields(alloc, fields, len - width) {
+                Ok(others) => Ok(Joined(first, others)),
+                Err(fault) => Err(fault.after(width)),
+            },
+            Err(fault) => Err(fault),
+        }
+    }
+}

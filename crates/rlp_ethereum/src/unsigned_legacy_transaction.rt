@@ -1,0 +1,74 @@
+//! Transactions without a type, before they are signed.
+
+ghost use Rattle.rlp_ethereum.specs.UnsignedLegacyTransaction.{unsigned_legacy_transaction};
+
+use crate::LegacyTransaction;
+use rlp::{
+    Decodable, DecoderError, Encodable, Field, FieldsOf, Joined, OptionalGroup, Rlp, RlpStream,
+    RoundTrip, StrictRead,
+};
+use std::alloc::{AllocError, Global};
+
+/// A transaction without a type before it is signed: the list of its six fields, as in section 4.2 of
+/// the yellow paper. With EIP-155 it is the list of nine: these six, the number of the chain, 0 and 0.
+///
+/// This list is what is signed.
+#[derive(Drop)]
+pub struct UnsignedLegacyTransaction {
+    /// The six fields.
+    pub payload: LegacyTransaction,
+    /// The number of the chain, or `None` without EIP-155. This type reads numbers of at most 64 bits.
+    pub chain_id: Option<u64>,
+}
+
+impl Encodable for UnsignedLegacyTransaction {
+    ghost item = { unsigned_legacy_transaction.item };
+
+    ghost fits = { unsigned_legacy_transaction.Fits };
+
+    fn rlp_append(&self, s: &mut RlpStream) -> Result<(), AllocError> {
+        match &self.chain_id {
+            None => rlp::append_fields!(s, FieldsOf(&self.payload)),
+            Some(chain_id) => rlp::append_fields!(
+                s,
+                FieldsOf(&self.payload),
+                chain_id,
+                &[0u8; 0],
+                &[0u8; 0]
+            ),
+        }
+    }
+}
+
+/// Fails with `RlpIncorrectListLen` for a list that has neither 6 nor 9 items, and with
+/// `RlpIsTooBig` if one of the last two of nine is a string that isn't empty.
+impl Decodable for UnsignedLegacyTransaction {
+    ghost gives = { unsigned_legacy_transaction.gives };
+
+    ghost faults = { unsigned_legacy_transaction.faults };
+
+    ghost may_lack_memory = { unsigned_legacy_transaction.may_lack };
+
+    fn decode(alloc: Global, rlp: &Rlp<'_>) -> Result<UnsignedLegacyTransaction, DecoderError> {
+        match rlp::decode_struct(alloc, rlp) {
+            Ok(Joined(payload, OptionalGroup(group))) => {
+                let chain_id = match group {
+                    Some((Field(chain_id), (Field::<[u8; 0]>(_), (Field::<[u8; 0]>(_), ())))) => {
+                        Some(chain_id)
+                    }
+                    None => None,
+                };
+                Ok(UnsignedLegacyTransaction { payload, chain_id })
+            }
+            Err(fault) => Err(fault.fault),
+        }
+    }
+}
+
+impl RoundTrip for UnsignedLegacyTransaction {
+    ghost round_trip = { unsigned_legacy_transaction.reads_back };
+}
+
+impl StrictRead for UnsignedLegacyTransaction {
+    ghost strict = { unsigned_legacy_transaction.reads_strictly };
+}
