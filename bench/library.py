@@ -84,4 +84,5 @@ def main():
         print(f"{what:50}" + "".join(f"{statistics.median(each):13.1f} {min(each):13.1f}" for each in taken) + ratio, flush=True)
 
 
-main()
+if __name__ == "__main__":
+    main()

@@ -3,6 +3,7 @@
 import re
 
 from functions import IMPL, functions_of
+from words import defines
 
 IMPORT = re.compile(r"ghost use Rattle\.(\w+)\.specs\.([\w.]+)\.\{([^}]*)\}")
 CLAUSE = re.compile(r"\b(?:requires|ensures\*?)\s*\w*\s*\{")
@@ -28,7 +29,7 @@ def imports_of(text, own):
         if crate in own and not any(part in DECLARED for part in module.split(".")):
             for word in words.split(","):
                 name, _, alias = word.strip().partition(" as ")
-                yield alias or name, name, module
+                yield alias or name, name, crate, module
 
 
 def public_clauses(text):
@@ -43,13 +44,20 @@ def public_clauses(text):
             yield block_at(text, member.end())
 
 
-def words_of(sources, own):
-    """The words that public clauses of these files use: each with its module, and a file that uses it."""
+def file_of(root, crate, module, name, own):
+    """The file that defines a word: in the crate that it is imported from, or in one that this crate re-exports it from."""
+    path = f"specs/{module.replace('.', '/')}.antt"
+    files = [root / "crates" / each / path for each in [crate, *own]]
+    return next((file for file in files if file.exists() and defines(file, name)), files[0])
+
+
+def words_of(root, sources, own):
+    """The words that public clauses of these files use: each with the file that defines it, and a file that uses it."""
     found = {}
     for source in sources:
         text = source.read_text(encoding="utf-8")
         clauses = "\n".join(public_clauses(text))
-        for alias, name, module in imports_of(text, own):
+        for alias, name, crate, module in imports_of(text, own):
             if re.search(rf"(?<![\w-]){re.escape(alias)}(?![\w-])", clauses):
-                found.setdefault((name, module), source)
+                found.setdefault((name, file_of(root, crate, module, name, own)), source)
     return found

@@ -1,0 +1,53 @@
+"""The index of the words that public clauses use."""
+
+from clauses import words_of
+from crates import crates_of
+from words import RELATIVE, comment_of, words_in
+
+# The crates whose definitions are examples, and have no rows.
+WITHOUT_ROWS = ("rlp_examples", "rlp_fixtures")
+
+
+def crates_with_words(root):
+    """The crates whose definitions have rows, in the order of `crates.txt`."""
+    return [name for name in crates_of(root) if name not in WITHOUT_ROWS and (root / "crates" / name / "specs").is_dir()]
+
+
+def cited(root):
+    """The words that public clauses use, by the files that define them."""
+    crates = crates_with_words(root)
+    sources = [source for crate in crates for source in sorted((root / "crates" / crate / "src").rglob("*.rt"))]
+    return words_of(root, sources, crates)
+
+
+def rows_of(file, names):
+    """The rows of a file: words with their sentence, in the order of the file. Words with one sentence share a row."""
+    order = words_in(file)
+    rows = []
+    for place, word in enumerate(order):
+        sentence = comment_of(file, word)
+        # What is said to be the same as the word before needs that word.
+        is_needed = word in names or place + 1 < len(order) and order[place + 1] in names and RELATIVE.match(comment_of(file, order[place + 1]))
+        if is_needed and rows and rows[-1][1] == sentence:
+            rows[-1][0].append(word)
+        elif is_needed:
+            rows.append(([word], sentence))
+    return rows
+
+
+def index(root):
+    """A table for each crate, with a line for each word."""
+    by_file = {}
+    for (word, file), _ in cited(root).items():
+        by_file.setdefault(file, set()).add(word)
+    text = ""
+    for crate in crates_with_words(root):
+        specs = root / "crates" / crate / "specs"
+        files = sorted(file for file in by_file if file.is_relative_to(specs))
+        if files:
+            text += f"\n### `{crate}`\n\n| Word | What it is | File |\n|---|---|---|\n"
+        for file in files:
+            for words, sentence in rows_of(file, by_file[file]):
+                names = ", ".join(f"`{word}`" for word in words)
+                text += f"| {names} | {sentence} | [`{file.stem}`](../{file.relative_to(root)}) |\n"
+    return text + "\n"
