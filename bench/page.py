@@ -4,43 +4,38 @@ import math
 
 ROW, LEFT, WIDTH, TOP = 18, 330, 420, 34
 # The ratios at the ends of the chart.
-LEAST, MOST = 0.01, 20
+LEAST, MOST = 0.01, 60
+# The column of the chart: times by those of the Rust crate, built as one unit with its caller, as the library here is.
+RATIO = "ratio, with link-time optimisation"
 
 
-def measured(root):
-    """What was measured where, and a row for each operation: the numbers here, and those of the Rust crate."""
-    where, rows = {}, []
-    for line in (root / "bench" / "times.tsv").read_text(encoding="utf-8").splitlines():
-        cells = line.split("\t")
-        if line.startswith("# "):
-            where[cells[0][2:]] = cells[1]
-        elif cells[0] != "operation":
-            rows.append((cells[0], [float(cell) if cell else None for cell in cells[1:]]))
-    return where, rows
+def measured(root, name="times"):
+    """What is told of a run, the heads of the columns, and the rows. A file that isn't there has no rows."""
+    file = root / "bench" / f"{name}.tsv"
+    lines = file.read_text(encoding="utf-8").splitlines() if file.exists() else []
+    about = dict(line[2:].split("\t") for line in lines if line.startswith("# "))
+    heads, *rows = [line.split("\t") for line in lines if not line.startswith("# ")] or [[]]
+    return about, heads, rows
 
 
-def number(value):
-    """A number as text: with a digit after the point if it is small, and nothing if there is none."""
-    return "" if value is None else f"{value:,.1f}" if value < 1000 else f"{value:,.0f}"
+def number(cell):
+    """A number as text, with commas."""
+    return f"{float(cell):,.0f}" if cell and float(cell) >= 1000 else cell
 
 
-def ratio(own, other):
-    return "" if own is None or not other else f"{own / other:.2f}"
+def table(root, name):
+    """The table of a file, after what is told of its run; nothing if there is no such file."""
+    about, heads, rows = measured(root, name)
+    if not rows:
+        return ""
+    text = f"\nVersion {about['version']}, {about['date']}, {about['machine']}; {about['runs']} runs.\n\n"
+    text += "| " + " | ".join(head[0].upper() + head[1:] if head == heads[0] else head for head in heads) + " |\n|---" + "|---:" * (len(heads) - 1) + "|\n"
+    return text + "".join(f"| {first} | {' | '.join(number(cell) for cell in others)} |\n" for first, *others in rows)
 
 
 def table_of_times(root):
-    """A row for each operation; columns without a number are left out."""
-    where, rows = measured(root)
-    has_instructions = any(numbers[2] is not None for _, numbers in rows)
-    heads = ["Operation", "ns", "ns, Rust crate", "ratio"] + (["instructions", "instructions, Rust crate", "ratio of instructions"] if has_instructions else [])
-    told = f"Version {where['version']}, {where['date']}, {where['machine']}; {where['runs']} runs.\n\n"
-    text = told + "| " + " | ".join(heads) + " |\n|---" + "|---:" * (len(heads) - 1) + "|\n"
-    for name, numbers in rows:
-        cells = [name]
-        for own, other in (numbers[:2], numbers[2:])[: 1 + has_instructions]:
-            cells += [number(own), number(other), ratio(own, other)]
-        text += "| " + " | ".join(cells) + " |\n"
-    return text
+    """The times of the library, and those of the program if it was measured."""
+    return table(root, "times") + table(root, "program") + "\n"
 
 
 def place(value):
@@ -50,10 +45,10 @@ def place(value):
 
 
 def bars(rows):
-    """A bar for each operation, from 1 to the ratio of its times."""
-    for turn, (name, (own, other, *_)) in enumerate(rows):
-        top, end, one = TOP + turn * ROW, place(own / other), place(1)
-        colour = "#5b7aa6" if own <= other else "#c4713b"
+    """A bar for each operation, from 1 to its ratio."""
+    for turn, (name, ratio) in enumerate(rows):
+        top, end, one = TOP + turn * ROW, place(ratio), place(1)
+        colour = "#5b7aa6" if ratio <= 1 else "#c4713b"
         label = name.replace("`", "").replace("&", "&amp;")
         yield f'  <text x="{LEFT - 8}" y="{top + 13}" text-anchor="end">{label}</text>'
         yield f'  <rect x="{min(one, end)}" y="{top + 3}" width="{round(abs(end - one), 1)}" height="{ROW - 6}" fill="{colour}"/>'
@@ -61,13 +56,15 @@ def bars(rows):
 
 def chart(root):
     """A picture: the time of each operation by that of the Rust crate, on a logarithmic scale."""
-    rows = [(name, numbers) for name, numbers in measured(root)[1] if numbers[0] and numbers[1]]
+    _, heads, cells = measured(root)
+    column = heads.index(RATIO) if RATIO in heads else 0
+    rows = [(row[0], float(row[column])) for row in cells if column and row[column]]
     height = TOP + len(rows) * ROW + 10
     lines = [
         f'<svg xmlns="http://www.w3.org/2000/svg" viewBox="0 0 {LEFT + WIDTH + 20} {height}" width="{LEFT + WIDTH + 20}" height="{height}" font-family="sans-serif" font-size="12" fill="#1c2733">',
         "  <title>Time of each operation by that of the Rust crate</title>",
     ]
-    for value in (0.01, 0.1, 0.5, 1, 2, 10):
+    for value in (0.01, 0.1, 0.5, 1, 2, 10, 50):
         x = place(value)
         lines.append(f'  <line x1="{x}" y1="{TOP - 6}" x2="{x}" y2="{height - 8}" stroke="{"#1c2733" if value == 1 else "#d4dbe6"}"/>')
         lines.append(f'  <text x="{x}" y="{TOP - 12}" text-anchor="middle">{value}</text>')

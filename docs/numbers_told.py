@@ -45,7 +45,7 @@ COUNTED = {
     "laws in all": laws,
     "lines of definitions": lines_of_format,
     "operations of the library": lambda root: len(OPERATIONS),
-    "operations were measured": lambda root: len(measured(root)[1]),
+    "operations were measured": lambda root: len(measured(root)[2]),
 }
 NUMBER = re.compile(rf"\b(?P<number>\d[\d,]*|{'|'.join(WORDS)}) (?P<what>{'|'.join(COUNTED)})\b", re.IGNORECASE)
 
