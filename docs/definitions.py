@@ -20,17 +20,24 @@ def cited(root):
     return words_of(root, sources, crates)
 
 
+def needed(file, names):
+    """The words of a file that have a row: these, and the one before each that is said to be the same but for something."""
+    order, found = words_in(file), set(names)
+    whole = [word for word, is_part in order if not is_part]
+    for before, word in zip(whole, whole[1:]):
+        if word in found and RELATIVE.match(comment_of(file, word)):
+            found.add(before)
+    return [word for word, _ in order if word in found]
+
+
 def rows_of(file, names):
     """The rows of a file: words with their sentence, in the order of the file. Words with one sentence share a row."""
-    order = words_in(file)
     rows = []
-    for place, word in enumerate(order):
+    for word in needed(file, names):
         sentence = comment_of(file, word)
-        # What is said to be the same as the word before needs that word.
-        is_needed = word in names or place + 1 < len(order) and order[place + 1] in names and RELATIVE.match(comment_of(file, order[place + 1]))
-        if is_needed and rows and rows[-1][1] == sentence:
+        if rows and rows[-1][1] == sentence:
             rows[-1][0].append(word)
-        elif is_needed:
+        else:
             rows.append(([word], sentence))
     return rows
 

@@ -5,7 +5,7 @@ import re
 
 DEFINED = r"^(?P<indent> *)(?:(?:abbrev|unfoldable|pub|record|data) )*{}(?![\w-])"
 SECTION = re.compile(r"-- -+")
-HEAD = re.compile(r"^ *(?:(?:abbrev|unfoldable|pub|record|data) )+([^\s:({]+)|^  (?! )([a-z]\w*) :", re.MULTILINE)
+HEAD = re.compile(r"^(?P<indent> *)(?:(?:abbrev|unfoldable|pub|record|data) )*(?P<word>[A-Za-z]\S*) (?:: |\(|where$|\{)", re.MULTILINE)
 # A comment that leans on the one before it.
 RELATIVE = re.compile(r"(?:the |and the )?same\b|only ", re.IGNORECASE)
 
@@ -32,15 +32,15 @@ def comment_before(lines, number):
 
 
 def words_in(file):
-    """The words that a file defines, in order."""
-    return list(dict.fromkeys(found[1] or found[2] for found in HEAD.finditer(text_of(file))))
+    """The words that a file defines, in order, and whether each is a part of another, as a constructor is."""
+    return list({found["word"]: bool(found["indent"]) for found in reversed(list(HEAD.finditer(text_of(file))))}.items())[::-1]
 
 
 def sentence_of(text):
     """The first sentence of a comment, which begins with a capital letter unless a variable or code comes first."""
     found = re.match(r".*?[^.]\.(?=\s+[A-Z`]|$)", text)
     first = (found[0] if found else text).rstrip(" .:;").replace("|", "\\|")
-    return first[0].upper() + first[1:] if re.match("[a-z]{2}", first) else first
+    return first[0].upper() + first[1:] if re.match("[a-z]{2}|a ", first) else first
 
 
 def comment_of(file, word):
