@@ -2,6 +2,7 @@
 
 import os
 import re
+import textwrap
 from fnmatch import fnmatchcase
 
 from sources import Crate, first_sentence
@@ -12,11 +13,13 @@ class Unmade(Exception):
 
 
 def shape_of(item):
-    """The signature of a function with its type, or the shape of a type, on one line if that isn't long."""
+    """The signature of a function with its type, or the shape of a type."""
     if item.sort == "fn":
         return item.signature.replace("fn " + item.heading.split("::")[-1], f"fn {item.heading}", 1)
     line = re.sub(r",? \}$", " }", " ".join(item.signature.split()))
-    return line if len(line) <= 160 else item.signature
+    # A line ends behind a whole field.
+    lines = textwrap.wrap(line.replace(": ", ":\u00a0"), 140, subsequent_indent="    ", break_long_words=False, break_on_hyphens=False)
+    return "\n".join(lines).replace("\u00a0", " ")
 
 
 def shared(item, earlier):
@@ -87,15 +90,16 @@ class Quotes:
         for crate in {crate for crate, _ in self.named}:
             self.items[crate] = Crate(root, crate).items()
         self.taken, before = [], set()
-        for crate, patterns in self.named:
-            self.taken.append({id(item) for item in self.items[crate] if is_asked(item, patterns)} - before)
+        for (crate, patterns), words in zip(self.named, asked):
+            without = [word[1:] for word in words if word[0] == "-"]
+            self.taken.append({id(item) for item in self.items[crate] if is_asked(item, patterns) and not is_asked(item, without)} - before)
             before |= self.taken[-1]
 
     def faults(self):
-        """Patterns that name no item."""
+        """Names that name no item. A name with a `*` may have none."""
         for crate, patterns in self.named:
             for pattern in patterns:
-                if not any(is_asked(item, [pattern]) for item in self.items[crate]):
+                if "*" not in pattern and not any(is_asked(item, [pattern]) for item in self.items[crate]):
                     yield f"`{pattern}` names nothing that {crate} exports"
 
     def part(self, order):
