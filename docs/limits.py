@@ -7,6 +7,11 @@ from parts import PART, by_hand
 # The most words that are written by hand: of a page, of all `CALLING.md` together, and of all pages.
 BOUNDS = {"README.md": 700, "CHANGELOG.md": 300, "docs/EVIDENCE.md": 900, "docs/FOREIGN.md": 600, "docs/DEFINITIONS.md": 400, "docs/SPEED.md": 400}
 OTHER_PAGE, CALLING, ALL = 1600, 1200, 11000
+# Turns of phrase that no native speaker would write, such as "is no list" for "isn't a list".
+ODD = re.compile(
+    r"(?<!there )\b(?:is|are) no (?:call|envelope|item|list|number|record|string|tag)s?\b"
+    r"|\b(?:in turn|of another number|memory may be short|stands? by itself|that the \w+ is of)\b"
+)
 # What is shorter may stand twice.
 FEWEST_WORDS = 8
 
@@ -28,6 +33,14 @@ def too_long(texts):
         yield f"the CALLING.md have {calling} words by hand, and their bound is {CALLING}"
     if sum(counts.values()) > ALL:
         yield f"the pages have {sum(counts.values())} words by hand, and their bound is {ALL}"
+
+
+def oddities(texts):
+    """Turns of phrase that aren't English."""
+    for name, text in texts.items():
+        blank = PART.sub(lambda part: re.sub(r"[^\n]", "", part[0]), text)
+        for found in ODD.finditer(blank):
+            yield f"{name}:{text.count(chr(10), 0, found.start()) + 1}: `{found[0]}`"
 
 
 def pieces_of(text):
