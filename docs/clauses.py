@@ -7,7 +7,7 @@ from words import defines, text_of
 
 IMPORT = re.compile(r"ghost use Rattle\.(\w+)\.specs\.([\w.]+)\.\{([^}]*)\}")
 CLAUSE = re.compile(r"\b(?:requires|ensures\*?)\s*\w*\s*\{")
-PUBLIC = re.compile(r" *pub (?:const )?fn ")
+PUBLIC = re.compile(r" *pub (?:const )?(?:extern \S+ )?fn ")
 MEMBER = re.compile(r"^ *ghost (?!use)\w+[^{]*\{", re.MULTILINE)
 TRAIT = re.compile(r"^pub trait (\w+)", re.MULTILINE)
 # Declarations that the check makes from the sources.

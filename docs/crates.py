@@ -15,8 +15,8 @@ def crates_of(root):
 def documentation_of(root, crate):
     """What the first lines of a crate say of it."""
     folder = root / "crates" / crate / "src"
-    source = next(file for file in (folder / "lib.rt", folder / "main.rt") if file.exists())
-    lines = source.read_text(encoding="utf-8").splitlines()
+    sources = [file for file in (folder / "lib.rt", folder / "main.rt") if file.exists()]
+    lines = [line for source in sources[:1] for line in source.read_text(encoding="utf-8").splitlines()]
     return "\n".join(line[3:].strip() for line in lines if line.startswith("//!"))
 
 

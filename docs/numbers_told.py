@@ -1,11 +1,12 @@
 """Numbers of the pages that count something of the tree."""
 
 import re
+import statistics
 
 from bodies import Unfit, pages_of, read
 from crates import crates_of
 from library import OPERATIONS
-from page import measured
+from page import RATIO, measured
 from parts import PART
 
 WORDS = "zero one two three four five six seven eight nine ten eleven twelve thirteen fourteen fifteen sixteen seventeen eighteen nineteen twenty".split()
@@ -47,31 +48,37 @@ COUNTED = {
     "operations of the library": lambda root: len(OPERATIONS),
     "operations were measured": lambda root: len(measured(root)[2]),
 }
-NUMBER = re.compile(rf"\b(?P<number>\d[\d,]*|{'|'.join(WORDS)}) (?P<what>{'|'.join(COUNTED)})\b", re.IGNORECASE)
+NUMBER = re.compile(
+    rf"\b(?P<number>\d[\d,]*|{'|'.join(WORDS)}) (?P<what>{'|'.join(COUNTED)})\b|\bthe median takes (?P<median>\d+\.\d+)\b", re.IGNORECASE
+)
+
+
+def median(root):
+    """The median of the measured ratios of times."""
+    _, heads, rows = measured(root)
+    return f"{statistics.median(float(row[heads.index(RATIO)]) for row in rows):.2f}"
 
 
 def right(root, found):
-    """The right number, written as the one that was found."""
+    """What was found, with the right number, which is written as the one that was found."""
+    if found["median"]:
+        return f"the median takes {median(root)}"
     count = COUNTED[found["what"].lower()](root)
     if found["number"][0].isdigit() or count >= len(WORDS):
-        return f"{count:,}"
-    return WORDS[count].capitalize() if found["number"][0].isupper() else WORDS[count]
+        number = f"{count:,}"
+    else:
+        number = WORDS[count].capitalize() if found["number"][0].isupper() else WORDS[count]
+    return f"{number} {found['what']}"
 
 
 def corrected(root, text):
     """A page with right numbers outside its made parts."""
-    begins = [part.span() for part in PART.finditer(text)]
-
-    def told(found):
-        if any(begin <= found.start() < end for begin, end in begins):
-            return found[0]
-        return f"{right(root, found)} {found['what']}"
-
-    return NUMBER.sub(told, text)
+    parts = [part.span() for part in PART.finditer(text)]
+    return NUMBER.sub(lambda found: found[0] if any(begin <= found.start() < end for begin, end in parts) else right(root, found), text)
 
 
 def numbers_wrong(root, text):
     """Numbers that differ from the tree, each with its line."""
     for found in NUMBER.finditer(text):
-        if right(root, found) != found["number"]:
+        if right(root, found) != found[0]:
             yield text.count("\n", 0, found.start()) + 1, f"{found[0]}; the tree has {right(root, found)}"
