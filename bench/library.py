@@ -126,6 +126,8 @@ def words():
 
 def main():
     given, rows = words(), []
+    if given.write and not given.against:
+        raise SystemExit("--write needs another program")
     programs = [given.program] + ([given.against] if given.against else [])
     other = "; then those of the other program, and this one's median by the other's" if given.against else ""
     print(f"nanoseconds of processor time: the median and the smallest of {RUNS} runs{other}")

@@ -56,7 +56,8 @@ NUMBER = re.compile(
 def median(root):
     """The median of the measured ratios of times."""
     _, heads, rows = measured(root)
-    return f"{statistics.median(float(row[heads.index(RATIO)]) for row in rows):.2f}"
+    column = heads.index(RATIO)
+    return f"{statistics.median(float(row[column]) for row in rows if row[column]):.2f}"
 
 
 def right(root, found):
