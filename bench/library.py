@@ -1,9 +1,18 @@
-"""library.py PROGRAM [--against PROGRAM] [WORD..]: runs each operation of the library many times over, and prints nanoseconds of processor time for one."""
+"""Runs each operation of the library many times over, and prints nanoseconds of processor time for one, or instructions.
+
+usage: library.py PROGRAM [--against PROGRAM] [--instructions] [--write FILE] [WORD..]
+
+With a WORD it runs the operations whose names hold one. `--write` writes what `page.py` makes a table of.
+"""
 
 import argparse
+import re
 import resource
 import statistics
 import subprocess
+
+from machine import told_of_run
+from page import RATIO
 
 RUNS = 5
 SECONDS = 0.3
@@ -46,13 +55,18 @@ OPERATIONS = {
 }
 
 
+def summed(program, operation, times):
+    """Runs an operation, and returns whether the program has it."""
+    out = subprocess.run([program, operation, str(times)], capture_output=True, text=True, check=True).stdout.strip()
+    return out.isdigit()
+
+
 def seconds(program, operation, times):
     """The processor time of one run."""
     before = resource.getrusage(resource.RUSAGE_CHILDREN)
-    out = subprocess.run([program, operation, str(times)], capture_output=True, text=True, check=True).stdout.strip()
+    if not summed(program, operation, times):
+        raise SystemExit(f"{program} doesn't run {operation}")
     after = resource.getrusage(resource.RUSAGE_CHILDREN)
-    if not out.isdigit():
-        raise SystemExit(f"{operation}: {out}")
     return after.ru_utime + after.ru_stime - before.ru_utime - before.ru_stime
 
 
@@ -64,24 +78,73 @@ def enough(program, operation):
     return max(1, int(times * SECONDS / max(seconds(program, operation, times), 1e-6)))
 
 
+def nanoseconds(programs, operation):
+    """The median for each program, which run by turns, and their smallest times."""
+    times = enough(programs[0], operation)
+    taken = [[] for _ in programs]
+    for _ in range(RUNS):
+        for program, each in zip(programs, taken):
+            each.append((seconds(program, operation, times) - seconds(program, operation, 0)) * 1e9 / times)
+    return [statistics.median(each) for each in taken], [min(each) for each in taken]
+
+
+def counted(program, operation, times):
+    """The instructions of one run, counted by callgrind."""
+    command = ["valgrind", "--tool=callgrind", "--callgrind-out-file=/dev/null", program, operation, str(times)]
+    told = subprocess.run(command, capture_output=True, text=True, check=True).stderr
+    return int(re.search(r"Collected : (\d+)", told)[1])
+
+
+def instructions(programs, operation):
+    """The instructions of one operation, for each program."""
+    return [(counted(program, operation, 300) - counted(program, operation, 100)) / 200 for program in programs]
+
+
+def write(file, rows):
+    """Writes the medians, the instructions and their ratios, with the version, the day and the machine."""
+    lines = told_of_run(RUNS)
+    lines.append("\t".join(["operation", "ns", "ns, Rust crate", RATIO, "instructions", "instructions, Rust crate", "ratio of instructions"]))
+    for name, *pairs in rows:
+        cells = [name]
+        for pair in pairs:
+            cells += [f"{number:.1f}" for number in pair] + [""] * (2 - len(pair))
+            cells.append(f"{pair[0] / pair[1]:.2f}" if len(pair) > 1 else "")
+        lines.append("\t".join(cells))
+    with open(file, "w", encoding="utf-8") as out:
+        out.write("\n".join(lines) + "\n")
+
+
+def words():
+    given = argparse.ArgumentParser()
+    given.add_argument("program")
+    given.add_argument("--against", metavar="PROGRAM")
+    given.add_argument("--instructions", action="store_true")
+    given.add_argument("--write", metavar="FILE")
+    given.add_argument("words", nargs="*")
+    return given.parse_intermixed_args()
+
+
 def main():
-    words = argparse.ArgumentParser()
-    words.add_argument("program")
-    words.add_argument("--against", metavar="PROGRAM")
-    words.add_argument("words", nargs="*")
-    given = words.parse_intermixed_args()
+    given, rows = words(), []
+    if given.write and not given.against:
+        raise SystemExit("--write needs another program")
     programs = [given.program] + ([given.against] if given.against else [])
-    print("nanoseconds of processor time: the median and the smallest of five runs" + ("; then those of the other build, and this one's median by the other's" if given.against else ""))
+    other = "; then those of the other program, and this one's median by the other's" if given.against else ""
+    print(f"nanoseconds of processor time: the median and the smallest of {RUNS} runs{other}")
     for operation, what in OPERATIONS.items():
         if given.words and not any(word in operation for word in given.words):
             continue
-        times = enough(programs[0], operation)
-        taken = [[] for _ in programs]
-        for _ in range(RUNS):
-            for program, each in zip(programs, taken):
-                each.append((seconds(program, operation, times) - seconds(program, operation, 0)) * 1e9 / times)
-        ratio = f"{statistics.median(taken[0]) / statistics.median(taken[1]):8.2f}" if given.against else ""
-        print(f"{what:50}" + "".join(f"{statistics.median(each):13.1f} {min(each):13.1f}" for each in taken) + ratio, flush=True)
+        # The Rust crate has fewer operations.
+        some = [program for program in programs if summed(program, operation, 1)]
+        medians, least = nanoseconds(some, operation)
+        counts = instructions(some, operation) if given.instructions else []
+        ratio = f"{medians[0] / medians[1]:8.2f}" if len(some) > 1 else ""
+        told = "; instructions" + "".join(f" {count:,.1f}" for count in counts) if counts else ""
+        print(f"{what:50}" + "".join(f"{median:13.1f} {low:13.1f}" for median, low in zip(medians, least)) + ratio + told, flush=True)
+        rows.append((what, medians, counts))
+    if given.write:
+        write(given.write, rows)
 
 
-main()
+if __name__ == "__main__":
+    main()

@@ -1,4 +1,10 @@
-"""measure.py PROGRAM FOLDER [--against PROGRAM] [WORD..]: runs the program five times on each kind of input, which it makes in the folder from a fixed seed, and prints bytes of input per second of processor time."""
+"""Runs the program on each kind of input, and prints bytes of input per second of processor time.
+
+usage: measure.py PROGRAM FOLDER [--against PROGRAM] [--write FILE] [WORD..]
+
+It makes the inputs in the folder, from a fixed seed. With a WORD it takes the kinds whose names hold one. `--write` writes what `page.py`
+makes a table of.
+"""
 
 import argparse
 import os
@@ -8,6 +14,7 @@ import statistics
 import subprocess
 
 from kinds import kinds
+from machine import told_of_run
 
 SEED = 20151007
 RUNS = 5
@@ -53,16 +60,30 @@ def rate(size, times):
     return f"{size / statistics.median(times) / 1e6:9.1f} {size / max(times) / 1e6:9.1f}"
 
 
+def write(file, rows):
+    """Writes the medians, with the version, the day and the machine."""
+    lines = [*told_of_run(RUNS), "kind of lines\tmillions of bytes in a second"]
+    lines += [f"{name}\t{rate:.1f}" for name, rate in rows]
+    with open(file, "w", encoding="utf-8") as out:
+        out.write("\n".join(lines) + "\n")
+
+
+def words():
+    given = argparse.ArgumentParser()
+    given.add_argument("program")
+    given.add_argument("folder")
+    given.add_argument("--against", metavar="PROGRAM")
+    given.add_argument("--write", metavar="FILE")
+    given.add_argument("words", nargs="*")
+    return given.parse_intermixed_args()
+
+
 def main():
-    words = argparse.ArgumentParser()
-    words.add_argument("program")
-    words.add_argument("folder")
-    words.add_argument("--against", metavar="PROGRAM")
-    words.add_argument("words", nargs="*")
-    given = words.parse_intermixed_args()
+    given, rows = words(), []
     os.makedirs(given.folder, exist_ok=True)
     programs = [given.program] + ([given.against] if given.against else [])
-    print("millions of bytes of input in a second of processor time: the median and the smallest of five runs" + ("; then those of the other build, and the time of this one by the other's" if given.against else ""))
+    other = "; then those of the other build, and the time of this one by the other's" if given.against else ""
+    print(f"millions of bytes of input in a second of processor time: the median and the smallest of {RUNS} runs{other}")
     for name, line_of in kinds().items():
         if given.words and not any(word in name for word in given.words):
             continue
@@ -77,6 +98,10 @@ def main():
         size = os.path.getsize(path)
         ratio = f"{statistics.median(times[0]) / statistics.median(times[1]):9.2f}" if given.against else ""
         print(f"{name:40}" + "".join(rate(size, taken) for taken in times) + ratio, flush=True)
+        rows.append((name, size / statistics.median(times[0]) / 1e6))
+    if given.write:
+        write(given.write, rows)
 
 
-main()
+if __name__ == "__main__":
+    main()

@@ -22,7 +22,7 @@ string_fails e is h = ⊎_elim (λ fault. inl (inr (is, fault))) (λ memory. inr
 -- ---- envelopes
 
 module _ (tags unknown : List ℕ) (faults : ℕ → View → DecoderError → Type 0) (may_lack : ℕ → View → Type 0) (v : View) (e : DecoderError) where
-  -- the fault is one of the envelope, or memory may be short
+  -- the fault is one of the envelope, or memory may run out
   abbrev pub EnvelopeFails : Type 0
   EnvelopeFails = FaultsAs (IsEnvelopeFault tags unknown faults) v e ⊎ ((e ≡ OutOfMemory) × MayLackInEnvelope may_lack v)
 
@@ -57,7 +57,7 @@ module _ (tags unknown : List ℕ) (faults : ℕ → View → DecoderError → T
 -- ---- the bytes of an envelope by themselves
 
 module _ (tags unknown : List ℕ) (faults : ℕ → View → DecoderError → Type 0) (may_lack : ℕ → View → Type 0) (d : List ℕ) (e : DecoderError) where
-  -- the fault is one of these bytes, or memory may be short
+  -- the fault is one of these bytes, or memory may run out
   abbrev pub BytesFail : Type 0
   BytesFail = IsEnvelopeFault tags unknown faults d e ⊎ ((e ≡ OutOfMemory) × MayLackAfterTag may_lack d)
 

@@ -12,7 +12,7 @@ none_lacks (Ok v) may = may
 none_lacks (Err e) may = absurd may
 
 module _ (width : ℕ) (tags unknown : List ℕ) (faults : ℕ → View → DecoderError → Type 0) (may_lack : ℕ → View → Type 0) (v : View) where
-  -- the fault is one of the list, or memory may be short
+  -- the fault is one of the list, or memory may run out
   abbrev pub TaggedFails : DecoderError → Type 0
   TaggedFails e = FaultsAsTagged width tags unknown faults v e ⊎ ((e ≡ OutOfMemory) × MayLackAsTagged width may_lack v)
 
@@ -24,12 +24,12 @@ module _ (width : ℕ) (tags unknown : List ℕ) (faults : ℕ → View → Deco
   pub other_pair_fails : (m : ℕ) → item_count v ≡ Ok m → m ≢ 2 → TaggedFails RlpIncorrectListLen
   other_pair_fails m is other = inl (other_pair m is other)
 
-  -- the first item is no number
+  -- the first item isn't a number
   pub tag_fails : (e : DecoderError) → item_count v ≡ Ok 2 → FaultsAt (FaultsAsNumber width) v 0 e ⊎ ((e ≡ OutOfMemory) × MayLackAt (λ v. ⊥) v 0)
       → TaggedFails e
   tag_fails e two h = ⊎_elim (λ fault. inl (faulty_tag e two fault)) (λ memory. absurd (none_lacks (item_at v 0) memory.1)) h
 
-  -- the number is no tag
+  -- the number isn't a tag
   pub unknown_tag_list_fails : (tag : ℕ) (e : DecoderError) → item_count v ≡ Ok 2 → GivesAt (GivesNumber width) v 0 tag → IsOtherTag tags tag
       → IsCustom unknown e → TaggedFails e
   unknown_tag_list_fails tag e two at other custom = inl (unknown_tag tag e two at other custom)

@@ -8,7 +8,7 @@ use Rattle.rlp.specs.Values.ValueReading.{IsCustom}
 use Rattle.rlp_ethereum.specs.Envelope.{FaultsAfter, MayLackAfter, faulty_rest, other_first}
 
 module _ (kind : ℕ) (other : List ℕ) (faults : View → DecoderError → Type 0) (may_lack : View → Type 0) (d : List ℕ) where
-  -- the fault is one of the bytes, or memory may be short
+  -- the fault is one of the bytes, or memory may run out
   abbrev pub FailsAfter : DecoderError → Type 0
   FailsAfter e = FaultsAfter kind other faults d e ⊎ ((e ≡ OutOfMemory) × MayLackAfter kind may_lack d)
 

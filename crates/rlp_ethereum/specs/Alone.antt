@@ -1,5 +1,5 @@
 -- How values of several types stand by themselves, outside a list, as in EIP-2718. `bare` is the codec of the type without a number: its items are lists.
--- `cases` has the types with numbers, and `unknown` is the text of the fault of another number.
+-- `cases` has the types with numbers, and `unknown` is the text of the fault of any other number.
 use Rattle.std.specs.Prelude.{ℕ, List, ◌≡◌, ◌⊎◌, ◌∷◌, true, false}
 use Rattle.rlp.specs.DecoderError.{DecoderError}
 use Rattle.rlp.specs.DecoderError.TheVariants.{OutOfMemory}
@@ -23,12 +23,12 @@ FaultsAlone bare unknown cases d e =
     ((begins_as_list d ≡ true) × (AreBytes d × bare.faults (strict_view_of d) e))
     ⊎ ((begins_as_list d ≡ false) × IsEnvelopeFault cases.tags unknown (λ k. (cases.case k).faults) d e)
 
--- memory may be short for a value by itself
+-- memory may run out for a value by itself
 abbrev pub MayLackAlone : {A B : Type 0} → Codec A → Cases B → List ℕ → Type 0
 MayLackAlone bare cases d =
     ((begins_as_list d ≡ true) × bare.may_lack (strict_view_of d)) ⊎ ((begins_as_list d ≡ false) × MayLackAfterTag (λ k. (cases.case k).may_lack) d)
 
--- reading the payload after this number fails: the number is none of the types', or the payload has a strict fault of its type, or memory may be short for it
+-- reading the payload after this number fails: the number is none of the types', or the payload has a strict fault of its type, or memory may run out for it
 abbrev pub PayloadFails : {B : Type 0} → List ℕ → Cases B → ℕ → List ℕ → DecoderError → Type 0
 PayloadFails unknown cases tag payload e =
     IsEnvelopeFault cases.tags unknown (λ k. (cases.case k).faults) (tag ∷ payload) e

@@ -23,7 +23,7 @@ IsChild Nothing = ⊤
 IsChild (Node hash) = length hash.0 ≡ 32
 IsChild (Inline node) = IsRawItem node.item
 
--- Why bytes that are an item aren't a child: they are no string, or one of 1 to 31 bytes or of more than 32; or they are a list of 32 bytes or more, or no raw
+-- Why bytes that are an item aren't a child: they aren't a string, or are one of 1 to 31 bytes or of more than 32; or they are a list of 32 bytes or more, or no raw
 -- item.
 pub data IsChildFault (b : List ℕ) : DecoderError → Type 0 where
   no_string : (e : DecoderError) → begins_as_list b ≡ false → view_string (strict_view_of b) ≡ Err e → IsChildFault b e
@@ -37,7 +37,7 @@ pub data FaultsAsChild (v : View) (e : DecoderError) : Type 0 where
   unframed_child : view_frame v ≡ Err e → FaultsAsChild v e
   faulty_child : (b : List ℕ) → view_frame v ≡ Ok b → IsChildFault b e → FaultsAsChild v e
 
--- memory may be short for a node that is kept in its parent
+-- memory may run out for a node that is kept in its parent
 pub record MayLackAsChild (v : View) : Type 0 where
   pub bytes : List ℕ
   pub framed : view_frame v ≡ Ok bytes

@@ -11,7 +11,7 @@ pub data FaultsAfter (kind : ℕ) (other : List ℕ) (faults : View → DecoderE
   other_first : ((payload : List ℕ) → d ≢ kind ∷ payload) → IsCustom other e → FaultsAfter kind other faults d e
   faulty_rest : (payload : List ℕ) → d ≡ kind ∷ payload → AreBytes payload → faults (strict_view_of payload) e → FaultsAfter kind other faults d e
 
--- memory may be short for the value after the byte `kind`
+-- memory may run out for the value after the byte `kind`
 pub record MayLackAfter (kind : ℕ) (may_lack : View → Type 0) (d : List ℕ) : Type 0 where
   pub payload : List ℕ
   pub is : d ≡ kind ∷ payload

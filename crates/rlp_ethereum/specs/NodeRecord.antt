@@ -55,7 +55,7 @@ pub data FaultsAsNodeRecord (v : View) (e : DecoderError) : Type 0 where
   not_framed : view_frame v ≡ Err e → FaultsAsNodeRecord v e
   faulty_record : (b : List ℕ) → view_frame v ≡ Ok b → IsRecordFault b e → FaultsAsNodeRecord v e
 
--- memory may be short for a node record: it may be for its fields, read strictly
+-- memory may run out for a node record: it may for its fields, read strictly
 pub record MayLackAsNodeRecord (v : View) : Type 0 where
   pub bytes : List ℕ
   pub framed : view_frame v ≡ Ok bytes

@@ -16,7 +16,7 @@ pub sound_path : (kind : ℕ) (p : Path kind) (e : DecoderError) → ⊤ → ¬ 
 sound_path kind p e fit (no_mark none custom) = let marked = p.marked in cc
 sound_path kind p e fit (other_mark mark is other custom) = let marked = p.marked in other (let same : mark ≡ kind = cc in same)
 
--- memory may be short for the copy of a path of this kind
+-- memory may run out for the copy of a path of this kind
 abbrev pub MayLackAsPath : ℕ → View → Type 0
 MayLackAsPath kind v = GivesSome (GivesValue (λ d. path_mark d ≡ Some kind) string) v
 

@@ -41,7 +41,7 @@ is_leaf_item (Err e) = false
 abbrev pub begins_as_leaf : List ℕ → Bool
 begins_as_leaf b = is_leaf_item (item_at (strict_view_of b) 0)
 
--- Why bytes that are an item aren't a node: they are no list, or one of another length than 2 and 17. A list of 17 items has a fault of a branch. A list of two
+-- Why bytes that are an item aren't a node: they aren't a list, or are one of a length other than 2 and 17. A list of 17 items has a fault of a branch. A list of two
 -- has a fault of a leaf if it begins with the path of a leaf, and else one of an extension.
 pub data IsNodeFault (b : List ℕ) : DecoderError → Type 0 where
   no_list : (e : DecoderError) → item_count (strict_view_of b) ≡ Err e → IsNodeFault b e
@@ -56,13 +56,13 @@ pub data FaultsAsNode (v : View) (e : DecoderError) : Type 0 where
   unframed_node : view_frame v ≡ Err e → FaultsAsNode v e
   faulty_node : (b : List ℕ) → view_frame v ≡ Ok b → AreBytes b → IsNodeFault b e → FaultsAsNode v e
 
--- memory may be short for a node that bytes are: it may be for the branch, the leaf or the extension
+-- memory may run out for a node that bytes are: it may for the branch, the leaf or the extension
 pub data MayLackInNode (b : List ℕ) : Type 0 where
   lacks_branch : branch.may_lack (strict_view_of b) → MayLackInNode b
   lacks_leaf : begins_as_leaf b ≡ true → leaf.may_lack (strict_view_of b) → MayLackInNode b
   lacks_extension : begins_as_leaf b ≡ false → extension.may_lack (strict_view_of b) → MayLackInNode b
 
--- memory may be short for the node that a view begins with
+-- memory may run out for the node that a view begins with
 pub record MayLackAsNode (v : View) : Type 0 where
   pub bytes : List ℕ
   pub framed : view_frame v ≡ Ok bytes

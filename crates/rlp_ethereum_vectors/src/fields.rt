@@ -99,6 +99,12 @@ pub(crate) fn body(alloc: Global, bytes: &[u8]) -> Result<String, Fail> {
     Ok(format!(in alloc; "{text}{ommers} {has_withdrawals}")?)
 }
 
+/// Reads a transaction of any type strictly, and returns its type, its nonce and its limit of gas.
+fn numbers_in(alloc: Global, bytes: &[u8]) -> Result<(u8, u64, u64), DecoderError> {
+    let transaction = Transaction::from_bytes(alloc, bytes)?;
+    Ok(numbers(&transaction))
+}
+
 /// Returns the type, the nonce and the limit of gas of a transaction.
 fn numbers(transaction: &Transaction) -> (u8, u64, u64) {
     match transaction {
@@ -202,7 +208,7 @@ pub(crate) fn typed(alloc: Global, bytes: &[u8], is_second: bool) -> Result<Stri
             _ => set_code(alloc, tx),
         },
         _ => {
-            let (kind, nonce, gas) = numbers(&transaction);
+            let (kind, nonce, gas) = numbers_in(alloc, bytes)?;
             Ok(format!(in alloc; "type {kind} {nonce} {gas}")?)
         }
     }

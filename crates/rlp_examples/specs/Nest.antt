@@ -36,7 +36,7 @@ abbrev pub FaultsAsNest : {A : Type 0} → (View → A → Type 0) → (View →
 FaultsAsNest {A} gives faults = FaultsAsStruct 1 NoMore (GivesSomeValues (vec_items {X = A} {Z = Global}) gives)
     (by_place (λ v e. FaultsAsList gives faults v e) (λ k v e. ⊥))
 
--- and the views for which memory may be short.
+-- and the views for which memory may run out.
 abbrev pub MayLackAsNest : {A : Type 0} → (View → A → Type 0) → (View → Type 0) → View → Type 0
 MayLackAsNest {A} gives may_lack v = MayLackAsStruct 1 NoMore (GivesSomeValues (vec_items {X = A} {Z = Global}) gives)
     (by_place (λ i v. MayLackAt (λ w. MayLackAsList gives may_lack w) v i) (λ k i v. ⊥)) v

@@ -30,7 +30,7 @@ abbrev pub FaultsWithRequestId : {A : Type 0} → (View → A → Type 0) → (V
 FaultsWithRequestId gives faults =
     FaultsAsStruct 2 NoMore (GivesSomeOfBoth gives) (by_place (λ v e. FaultsAsNumber 8 v e) (by_place faults (λ k v e. ⊥)))
 
--- and the views for which memory may be short.
+-- and the views for which memory may run out.
 abbrev pub MayLackWithRequestId : {A : Type 0} → (View → A → Type 0) → (View → Type 0) → View → Type 0
 MayLackWithRequestId gives may_lack = MayLackAsStruct 2 NoMore (GivesSomeOfBoth gives)
     (by_place (λ i v. MayLackAt (λ v. ⊥) v i) (by_place (λ i v. MayLackAt may_lack v i) (λ k i v. ⊥)))

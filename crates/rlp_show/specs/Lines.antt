@@ -60,7 +60,7 @@ abbrev pub named : List ℕ → Worded → Shown
 named name (Ok text) = Ok (line name text)
 named name (Err what) = Err (wrong name what)
 
--- the text of a string, or the fault of an item that is no string
+-- the text of a string, or the fault of an item that isn't a string
 abbrev pub in_string : (List ℕ → Worded) → Result (List ℕ) DecoderError → Worded
 in_string text_in (Ok string) = text_in string
 in_string text_in (Err e) = Err (error_name e)
@@ -219,7 +219,7 @@ typed kind shape other name v = typed_lines kind shape name other v v.bytes
 
 -- ---- strings that hold records
 
--- the lines of what the bytes of a string are, read strictly, or the fault of an item that is no string
+-- the lines of what the bytes of a string are, read strictly, or the fault of an item that isn't a string
 abbrev pub held_lines : Shape → List ℕ → Result (List ℕ) DecoderError → Shown
 held_lines shape name (Ok string) = shape name (strict_view_of string)
 held_lines shape name (Err e) = Err (wrong name (error_name e))

@@ -26,7 +26,7 @@ FramesEncodings b = (x : Item) → BeginsWith b (encoding x) → IsFramed b × (
 pub none_left : (count : ℕ) (b : List ℕ) → b ≡ [] → count ≡ 0 → AreRawItems b count
 none_left count b none zero_left = record { brought = []; joined = none; counted = sym zero_left; shallow = All-from_recursion IsShallow [] tt }
 
--- an empty slice is no items
+-- an empty slice has no items
 pub none_brought : (b : List ℕ) (count : ℕ) → ((xs : List Item) → length (join xs) < 2 ^ 64 → All IsSized xs)
     → ((xs ys : List Item) → All IsSized xs → All IsSized ys → (join xs ≡ join ys) ↔ (xs ≡ ys)) → length b < 2 ^ 64 → b ≡ [] → AreRawItems b count → count ≡ 0
 none_brought b count sized same fits none is =

@@ -12,7 +12,7 @@ use Rattle.rlp.specs.Values.ListReading.{FaultsAt}
 
 -- ---- numbers of items
 
--- no fields are no items
+-- without fields there are no items
 pub none_counted : (n : ℕ) → IsCount 0 NoMore n → n ≡ 0
 none_counted n right = let sum = right.sum in let none : right.more ≡ 0 = right.right in omega (arith, sum, none)
 
@@ -159,7 +159,7 @@ pub ruleset optional_groups = (none_given, none_next, all_after)
 
 module _ (least : ℕ) (IsMore : ℕ → Type 0) (some : ℕ → ℕ → View → Type 0) (faults : ℕ → View → DecoderError → Type 0)
     (may_lack : ℕ → ℕ → View → Type 0) (v : View) where
-  -- a struct whose fields fail has a fault, or memory may be short for it
+  -- a struct whose fields fail has a fault, or memory may run out for it
   pub struct_faults : (place : Option ℕ) (e : DecoderError) → StructFails least IsMore some faults may_lack v place e
       → FaultsAsStruct least IsMore some faults v e ⊎ ((e ≡ OutOfMemory) × MayLackAsStruct least IsMore some may_lack v)
   struct_faults place e (is_no_list f none) = inl (no_items f none)

@@ -39,7 +39,7 @@ module _ {A : Type 0} (gives : View → A → Type 0) (faults : View → Decoder
   faults-first e (inl bad) = inl (faulty_in_list is_list (reached (λ v. faults v e) bad))
   faults-first e (inr (lacks, may)) = inr (lacks, record { is_list = is_list; comes = reached (λ v. GivesSome gives v ⊎ may_lack v) (inr may) })
 
-  -- an item gives a value, so memory may be short for it
+  -- an item gives a value, so memory may run out for it
   pub no-room : (x : A) → gives item x → MayLackAsList gives may_lack v
   no-room x given = record { is_list = is_list; comes = reached (λ v. GivesSome gives v ⊎ may_lack v) (inl (x, given)) }
 

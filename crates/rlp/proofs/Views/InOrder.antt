@@ -96,7 +96,7 @@ more_counted v place left item others at parts =
     let inside = drop-inside place (items v.bytes) (split others) item (sym at.others ∙ parts) in
     subst (λ r. IsOkAnd r (λ count. place < count)) (sym (item_count-told v at.told)) (omega arith)
 
--- a view with another number of items
+-- a view with a different number of items
 pub other_fields : (v : View) (m n : ℕ) → item_count v ≡ Ok m → (m ≡ n → ⊥) → FaultsAsFields n v RlpIncorrectListLen
 other_fields v m n is other = other_count m is other
 

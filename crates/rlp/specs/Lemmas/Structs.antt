@@ -76,7 +76,7 @@ one_more_before some v k before given j few =
 
 module _ (count : ℕ) (some : ℕ → ℕ → View → Type 0) (faults : ℕ → View → DecoderError → Type 0) (may_lack : ℕ → ℕ → View → Type 0) (v : View)
     (e : DecoderError) where
-  -- the fault is one of the struct, or memory may be short
+  -- the fault is one of the struct, or memory may run out
   abbrev pub StructFails : Type 0
   StructFails = FaultsAsStruct count NoMore some faults v e ⊎ ((e ≡ OutOfMemory) × MayLackAsStruct count NoMore some may_lack v)
 
@@ -170,7 +170,7 @@ module _ (count : ℕ) (some : ℕ → ℕ → View → Type 0) (faults : ℕ �
   pub field_16 : FieldFails 16
   field_16 = field_by 16
 
--- a list with another number of items has a fault
+-- a list with a different number of items has a fault
 pub count_off : (n m : ℕ) (some : ℕ → ℕ → View → Type 0) (faults : ℕ → View → DecoderError → Type 0) (v : View) → Ok m ≡ item_count v → m ≢ n
     → FaultsAsStruct n NoMore some faults v RlpIncorrectListLen
 count_off n m some faults v is other =

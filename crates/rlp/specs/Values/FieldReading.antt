@@ -46,7 +46,7 @@ pub record FaultsInFields (count : ℕ) (some : ℕ → ℕ → View → Type 0)
   pub before : GivesFields k some v i
   pub fault : FaultsAt (faults k) v (i + k) e
 
--- memory may be short for field k, and each item before its item gives a value of its field
+-- memory may run out for field k, and each item before its item gives a value of its field
 pub record MayLackInFields (count : ℕ) (some may_lack : ℕ → ℕ → View → Type 0) (v : View) (i k : ℕ) : Type 0 where
   pub few : k < count
   pub before : GivesFields k some v i
@@ -72,7 +72,7 @@ PartsFrom view i (part ∷ parts) = (item_at view i ≡ Ok (strict_view_of part)
 
 -- How fields are read from the items of a list. They may be `least` items, and then a number that `IsMore` allows; those of a value are `count` items.
 -- `gives i v p` says that the items of the view from place i on give the value p. `some k i v` says that item i gives some value of field k, `faults k` is
--- that of the type of field k, and `may_lack k i v` says that memory may be short for field k at item i.
+-- that of the type of field k, and `may_lack k i v` says that memory may run out for field k at item i.
 pub record FieldsReading (P : Type 0) : Type 1 where
   pub least : ℕ
   pub IsMore : ℕ → Type 0
@@ -147,7 +147,7 @@ GivesGroups width gives i v (g ∷ gs) = gives i v g × GivesGroups width gives 
 abbrev pub in_group : {A : Type 1} → ℕ → (ℕ → A) → ℕ → A
 in_group width of_field k = of_field (k % width)
 
--- Memory may be short at field k, counted over all groups: for the field, or if it is the last of its group and is given, for the group.
+-- Memory may run out at field k, counted over all groups: for the field, or if it is the last of its group and is given, for the group.
 abbrev pub MayLackInGroups : ℕ → (ℕ → ℕ → View → Type 0) → (ℕ → ℕ → View → Type 0) → ℕ → ℕ → View → Type 0
 MayLackInGroups width some may_lack k i v = in_group width may_lack k i v ⊎ ((suc k % width ≡ 0) × in_group width some k i v)
 
@@ -174,7 +174,7 @@ pub data FaultsAsStruct (least : ℕ) (IsMore : ℕ → Type 0) (some : ℕ → 
   faulty_item : (m k : ℕ) (e : DecoderError) → item_count v ≡ Ok m → IsCount least IsMore m → FaultsInFields m some faults v 0 k e
       → FaultsAsStruct least IsMore some faults v e
 
--- Memory may be short for a struct: the view has a right number of items, and memory may be short at one, and each before it gives a value of its field.
+-- Memory may run out for a struct: the view has a right number of items, and memory may run out at one, and each before it gives a value of its field.
 pub record MayLackAsStruct (least : ℕ) (IsMore : ℕ → Type 0) (some may_lack : ℕ → ℕ → View → Type 0) (v : View) : Type 0 where
   pub count : ℕ
   pub many : item_count v ≡ Ok count

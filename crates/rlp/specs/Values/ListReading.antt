@@ -26,8 +26,8 @@ pub record ComesTo {A : Type 0} (gives : View → A → Type 0) (IsSuch : View �
 abbrev pub FaultsFirst : {A : Type 0} → (View → A → Type 0) → (View → DecoderError → Type 0) → List View → DecoderError → Type 0
 FaultsFirst gives faults views e = ComesTo gives (λ v. faults v e) views
 
--- Memory may be short for the values of the views. Some first views give values. Then either the next view gives a value too, for which there may be no room,
--- or memory may be short for that view.
+-- Memory may run out for the values of the views. Some first views give values. Then either the next view gives a value too, for which there may be no room,
+-- or memory may run out for that view.
 abbrev pub MayLackFirst : {A : Type 0} → (View → A → Type 0) → (View → Type 0) → List View → Type 0
 MayLackFirst gives may_lack views = ComesTo gives (λ v. GivesSome gives v ⊎ may_lack v) views
 
@@ -41,12 +41,12 @@ pub data FaultsAsList {A : Type 0} (gives : View → A → Type 0) (faults : Vie
   not_list : list_fault v ≡ Some e → FaultsAsList gives faults v e
   faulty_in_list : list_fault v ≡ None → FaultsFirst gives faults (item_views v) e → FaultsAsList gives faults v e
 
--- memory may be short for the list of values of a view: it can be read as a list, and memory may be short for the values of its items
+-- memory may run out for the list of values of a view: it can be read as a list, and memory may run out for the values of its items
 pub record MayLackAsList {A : Type 0} (gives : View → A → Type 0) (may_lack : View → Type 0) (v : View) : Type 0 where
   pub is_list : list_fault v ≡ None
   pub comes : MayLackFirst gives may_lack (item_views v)
 
--- the right answer for a view, by the values and faults of the type, and where memory may be short
+-- the right answer for a view, by the values and faults of the type, and where memory may run out
 abbrev pub ReadsValue : {A : Type 0} → (View → A → Type 0) → (View → DecoderError → Type 0) → (View → Type 0) → View → Result A DecoderError → Type 0
 ReadsValue gives faults may_lack v answer = MatchResult answer (λ x. gives v x) (λ e. faults v e ⊎ ((e ≡ OutOfMemory) × may_lack v))
 
@@ -63,7 +63,7 @@ pub record GivesSomeAt {A : Type 0} (gives : View → A → Type 0) (v : View) (
 abbrev pub FaultsAt : (View → DecoderError → Type 0) → View → ℕ → DecoderError → Type 0
 FaultsAt faults v i e = MatchResult (item_at v i) (λ item. faults item e) (λ f. e ≡ f)
 
--- the view has an item i, and memory may be short for its value
+-- the view has an item i, and memory may run out for its value
 abbrev pub MayLackAt : (View → Type 0) → View → ℕ → Type 0
 MayLackAt may_lack v i = IsOkAnd (item_at v i) (λ item. may_lack item)
 
@@ -78,12 +78,12 @@ pub data FaultsAsOption (faults : View → DecoderError → Type 0) (v : View) :
   many_items : (n : ℕ) → item_count v ≡ Ok n → 1 < n → FaultsAsOption faults v RlpIncorrectListLen
   faulty_item : (e : DecoderError) → item_count v ≡ Ok 1 → FaultsAt faults v 0 e → FaultsAsOption faults v e
 
--- memory may be short for an option: the view has one item, and memory may be short for its value
+-- memory may run out for an option: the view has one item, and memory may run out for its value
 pub record MayLackAsOption (may_lack : View → Type 0) (v : View) : Type 0 where
   pub one : item_count v ≡ Ok 1
   pub lacks : MayLackAt may_lack v 0
 
--- Why a view isn't a list of n items: it isn't a list, or it has another number of items.
+-- Why a view isn't a list of n items: it isn't a list, or it has a different number of items.
 pub data FaultsAsFields (n : ℕ) (v : View) : DecoderError → Type 0 where
   no_fields : (e : DecoderError) → item_count v ≡ Err e → FaultsAsFields n v e
   other_count : (m : ℕ) → item_count v ≡ Ok m → m ≢ n → FaultsAsFields n v RlpIncorrectListLen

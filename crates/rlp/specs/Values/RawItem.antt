@@ -54,7 +54,7 @@ pub data FaultsAsRaw (v : View) (e : DecoderError) : Type 0 where
   not_framed : view_frame v ≡ Err e → FaultsAsRaw v e
   faulty_frame : (f : List ℕ) → view_frame v ≡ Ok f → IsRawFault f e → FaultsAsRaw v e
 
--- memory may be short for the copy of a raw item
+-- memory may run out for the copy of a raw item
 pub record MayLackAsRaw (v : View) : Type 0 where
   pub bytes : List ℕ
   pub framed : view_frame v ≡ Ok bytes

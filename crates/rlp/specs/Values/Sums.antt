@@ -34,7 +34,7 @@ abbrev pub IsOtherTag : List ℕ → ℕ → Type 0
 IsOtherTag [] k = ⊤
 IsOtherTag (tag ∷ tags) k = (k ≢ tag) × IsOtherTag tags k
 
--- Why a string isn't a tag and the whole encoding of a payload: it is empty, its first byte is no tag, or the bytes after the tag, read strictly, have a fault
+-- Why a string isn't a tag and the whole encoding of a payload: it is empty, its first byte isn't a tag, or the bytes after the tag, read strictly, have a fault
 -- of the type with this tag. `unknown` is the text of the fault of another tag.
 pub data IsEnvelopeFault (tags unknown : List ℕ) (faults : ℕ → View → DecoderError → Type 0) (d : List ℕ) : DecoderError → Type 0 where
   no_tag : d ≡ [] → IsEnvelopeFault tags unknown faults d RlpIsTooShort
@@ -43,14 +43,14 @@ pub data IsEnvelopeFault (tags unknown : List ℕ) (faults : ℕ → View → De
   faulty_payload : (tag : ℕ) (payload : List ℕ) (e : DecoderError) → d ≡ tag ∷ payload → AreBytes payload → faults tag (strict_view_of payload) e
       → IsEnvelopeFault tags unknown faults d e
 
--- memory may be short for the payload of a view that holds such a string
+-- memory may run out for the payload of a view that holds such a string
 pub record MayLackInEnvelope (may_lack : ℕ → View → Type 0) (v : View) : Type 0 where
   pub tag : ℕ
   pub payload : List ℕ
   pub holds : HoldsString v (tag ∷ payload)
   pub may : may_lack tag (strict_view_of payload)
 
--- memory may be short for the payload of such bytes
+-- memory may run out for the payload of such bytes
 pub record MayLackAfterTag (may_lack : ℕ → View → Type 0) (d : List ℕ) : Type 0 where
   pub tag : ℕ
   pub payload : List ℕ
@@ -59,7 +59,7 @@ pub record MayLackAfterTag (may_lack : ℕ → View → Type 0) (d : List ℕ) :
 
 -- ---- a list of a tag and a payload
 
--- Why a view isn't a list of two items, a tag and a payload: it isn't a list, it has another number of items, the first item is no number of at most `width`
+-- Why a view isn't a list of two items, a tag and a payload: it isn't a list, it has another number of items, the first item isn't a number of at most `width`
 -- bytes or no tag, or the second has a fault of the type with this tag.
 pub data FaultsAsTagged (width : ℕ) (tags unknown : List ℕ) (faults : ℕ → View → DecoderError → Type 0) (v : View) : DecoderError → Type 0 where
   no_pair : (e : DecoderError) → item_count v ≡ Err e → FaultsAsTagged width tags unknown faults v e
@@ -70,7 +70,7 @@ pub data FaultsAsTagged (width : ℕ) (tags unknown : List ℕ) (faults : ℕ �
   faulty_second : (tag : ℕ) (e : DecoderError) → item_count v ≡ Ok 2 → GivesAt (GivesNumber width) v 0 tag → FaultsAt (faults tag) v 1 e
       → FaultsAsTagged width tags unknown faults v e
 
--- memory may be short for the payload of a view that is a list of two items
+-- memory may run out for the payload of a view that is a list of two items
 pub record MayLackAsTagged (width : ℕ) (may_lack : ℕ → View → Type 0) (v : View) : Type 0 where
   pub two : item_count v ≡ Ok 2
   pub tag : ℕ

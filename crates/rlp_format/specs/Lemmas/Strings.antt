@@ -38,7 +38,7 @@ string_long first rest l h =
     let from80 : 0x80 ≤ first = omega arith in
     cond-false (ltb first 0x80) _ _ (le-ltb _ _ from80) ∙ cond-false (ltb first 0xb8) _ _ (le-ltb _ _ l) ∙ cond-true (ltb first 0xc0) _ _ (lt-ltb _ _ h)
 
--- a list is no string
+-- a list isn't a string
 pub string_list : (first : ℕ) (rest : List ℕ) → 0xc0 ≤ first → read_string (first ∷ rest) ≡ Err RlpExpectedToBeData
 unfolding read_string
 string_list first rest l =

@@ -63,7 +63,7 @@ laid_same start b c (p ∷ ps) (q ∷ qs) h k f i e =
     let bytes : b ≡ below c q ++ (0 ∷ drop (q.position + 1) c) = h.0.placeholder ∙ cc (r.0, i) in
     (bytes ∙ sym k.0.placeholder, cc (same_placeholder p q places awaits, r.1))
 
--- the same lists, but the innermost may await another number of items
+-- the same lists, but the innermost may await a different number of items
 abbrev SameRest : List Placeholder → List Placeholder → Type 0
 SameRest [] [] = Unit
 SameRest [] (q ∷ qs) = ⊥

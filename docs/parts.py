@@ -1,0 +1,21 @@
+"""The parts of a page that a script makes: each stands between a line `<!-- made: KIND.. -->` and a line `<!-- end -->`."""
+
+import re
+
+PART = re.compile(r"^<!-- made: (?P<order>[^\n]*) -->\n(?P<text>.*?)^<!-- end -->$", re.MULTILINE | re.DOTALL)
+
+
+def orders_of(page):
+    """What a page asks for, in order."""
+    return [part["order"] for part in PART.finditer(page)]
+
+
+def filled(page, made):
+    """A page with these texts as its parts."""
+    texts = iter(made)
+    return PART.sub(lambda part: f"<!-- made: {part['order']} -->\n{next(texts)}<!-- end -->", page)
+
+
+def by_hand(page):
+    """What isn't made: a page without its parts."""
+    return PART.sub("", page)
