@@ -28,6 +28,7 @@ pub mod Recipient
 pub mod SetCodeTransaction
 pub mod Signed
 pub mod Transaction
+pub mod TransactionParts
 pub mod Trie
 pub mod TrieNode
 pub mod TrieNodeLaws

@@ -7,6 +7,8 @@ ghost use Rattle.rlp_ethereum.specs.Alone.{FaultsAlone, MayLackAlone, PayloadFai
 ghost use Rattle.rlp_ethereum.specs.LegacyTransaction.{signed_legacy_transaction};
 ghost use Rattle.rlp_ethereum.specs.Transaction.{transaction, typed_transactions, unknown_type};
 
+mod parts;
+
 use crate::envelope::{
     ACCESS_LIST_TYPE, BLOB_TYPE, FEE_MARKET_TYPE, SET_CODE_TYPE, decode_typed, to_envelope,
 };

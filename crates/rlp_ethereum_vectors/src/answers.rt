@@ -81,6 +81,7 @@ fn alone_or_fields(alloc: Global, call: &str, bytes: &[u8]) -> Result<String, Fa
         "fields of LegacyTransaction" => fields::legacy(alloc, bytes),
         "fields of Transaction alone" => fields::typed(alloc, bytes, false),
         "second authorization" => fields::typed(alloc, bytes, true),
+        "parts of Transaction alone" => fields::parts(alloc, bytes),
         "fields of Transactions" => {
             let read = rlp::decode_strict::<Transactions>(alloc, bytes)?;
             fields::transactions(alloc, read.0.as_slice())

@@ -214,6 +214,23 @@ pub(crate) fn typed(alloc: Global, bytes: &[u8], is_second: bool) -> Result<Stri
     }
 }
 
+/// Returns what a transaction of any type has: the recipient, the value, the input, the nonce, the
+/// limit of gas, and the length of the access list.
+pub(crate) fn parts(alloc: Global, bytes: &[u8]) -> Result<String, Fail> {
+    let tx = Transaction::from_bytes(alloc, bytes)?;
+    let to = match tx.to() {
+        Some(address) => address.0.as_slice(),
+        None => b"".as_slice(),
+    };
+    let text = spelled(alloc, &[to, tx.value().bytes.as_slice(), tx.input()])?;
+    let (nonce, gas_limit) = (tx.nonce(), tx.gas_limit());
+    let accesses = match tx.access_list() {
+        Some(list) => Some(list.0.len()),
+        None => None,
+    };
+    Ok(format!(in alloc; "{text} {nonce} {gas_limit} {accesses:?}")?)
+}
+
 /// Returns the name of the type of a receipt.
 pub(crate) fn kind(receipt: &TypedReceipt) -> &'static str {
     match receipt {
