@@ -1,6 +1,7 @@
 -- The answer to a line of input.
 use Rattle.std.specs.Prelude.{ℕ, ◌≡◌, ⊤, List, [], ◌++◌, codes, bytes_eq, if◌then◌else◌, string_bytes, Option, Some, None, Result, Ok, Err}
 use Rattle.std.specs.Str.Lines.{strip_carriage_return}
+use Rattle.rlp.specs.Views.Text.{error_name}
 use Rattle.rlp.specs.Views.View.{strict_view_of}
 use Rattle.rlp_lines.specs.Digits.{bytes_in}
 use Rattle.rlp_show.specs.Lines.{Fault, Shape, Shown, fault_text}
@@ -59,7 +60,7 @@ kind_answer kind = record_answer (kind_shape kind)
 
 -- what a fault says
 abbrev pub fault_of : ItemFault → Fault
-fault_of f = record { field = f.field; name = string_bytes f.name; what = string_bytes f.fault }
+fault_of f = record { field = f.fault.place; name = string_bytes f.name; what = error_name f.fault.fault }
 
 -- the lines after an earlier text
 abbrev pub after_text : List ℕ → Shown → Shown

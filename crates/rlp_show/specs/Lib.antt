@@ -2,6 +2,8 @@
 pub mod Text
 -- the lines of an item, or what is wrong with it
 pub mod Lines
+-- the fields of a record that have labels
+pub mod Fields
 -- the fields of each record
 pub mod Records
 -- the answer to a line of input

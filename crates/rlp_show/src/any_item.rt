@@ -45,12 +45,12 @@ fn show_within(
     }
     if most == 0 {
         let fault = DecoderError::Custom("item nests too deep");
-        return Err(ShowFault::of(alloc, name, &fault));
+        return Err(ShowFault::of(alloc, name, fault));
     }
     match item.item_count() {
         Ok(0) => return put_empty(name, out),
         Ok(_) => {}
-        Err(fault) => return Err(ShowFault::of(alloc, name, &fault)),
+        Err(fault) => return Err(ShowFault::of(alloc, name, fault)),
     }
     let mut items = item.iter();
     let mut index = 0;

@@ -1,24 +1,22 @@
 //! Why an item isn't shown.
 
-ghost use Rattle.std.specs.Prelude.{◌≡◌, ◌++◌, ℕ, List, IfOk, OnOk, codes, decimal, string_bytes};
+ghost use Rattle.std.specs.Prelude.{◌≡◌, ◌++◌, ℕ, List, OnOk, string_bytes};
 ghost use Rattle.rlp.specs.Views.Text.{error_name};
-ghost use Rattle.rlp_show.specs.Answer.{Says, Shows, fault_of};
+ghost use Rattle.rlp_show.specs.Answer.{Says, Shows};
 ghost use Rattle.rlp_show.specs.Lines.{Shown, fault_text, in_field, wrong};
 
-use rlp::DecoderError;
+use rlp::{DecoderError, FieldFault};
 use std::alloc::{AllocError, Global};
 use std::fmt::Write;
 
 /// What is wrong with an item.
 #[derive(Drop)]
 pub struct ItemFault {
-    /// The place of the field that has the item, counted from 0, in the outermost record that is
-    /// shown; none for a whole record.
-    pub field: Option<usize>,
     /// The name of the item; none for a whole record.
     pub name: String,
-    /// The fault of reading it, as [`DecoderError`] prints it.
-    pub fault: String,
+    /// The fault of reading it, and the place of the field that has it, counted from 0, in the
+    /// outermost record that is shown; no place for a whole record.
+    pub fault: FieldFault,
 }
 
 impl ItemFault {
@@ -26,33 +24,15 @@ impl ItemFault {
     /// whole record it appends the fault alone. Fails with `AllocError` if memory is refused.
     pub fn put(&self, out: &mut String) -> Result<(), AllocError>
         ensures { OnOk result (string_bytes out.new ≡ string_bytes out.old
-            ++ fault_text self.now.field (string_bytes self.now.name)
-            (string_bytes self.now.fault)) }
+            ++ fault_text self.now.fault.place (string_bytes self.now.name)
+            (error_name self.now.fault.fault)) }
     {
-        match self.field {
-            Some(place) => {
-                put_place(place, out)?;
-                out.push_str(self.name.as_str())?;
-                out.push_str("): ")?;
-            }
-            None if self.name.is_empty() => {}
-            None => {
-                out.push_str(self.name.as_str())?;
-                out.push_str(": ")?;
-            }
+        let FieldFault { place, fault } = &self.fault;
+        match place {
+            Some(place) => write!(out, "field {place} ({}): {fault}", self.name),
+            None if self.name.is_empty() => write!(out, "{fault}"),
+            None => write!(out, "{}: {fault}", self.name),
         }
-        out.push_str(self.fault.as_str())
-    }
-}
-
-/// Appends the place of a field.
-fn put_place(place: usize, out: &mut String) -> Result<(), AllocError>
-    ensures { OnOk result (string_bytes out.new
-        ≡ string_bytes out.old ++ codes "field " ++ decimal place ++ codes " (") }
-{
-    match write!(out, "field {place} (") {
-        Ok(()) => Ok(()),
-        Err(_) => Err(AllocError),
     }
 }
 
@@ -77,27 +57,17 @@ impl From<AllocError> for ShowFault {
 
 impl ShowFault {
     /// The fault of the item with this name.
-    pub(crate) fn of(alloc: Global, name: &str, fault: &DecoderError) -> ShowFault
-        ensures { Says (wrong name.now (error_name fault.now)) result }
+    pub(crate) fn of(alloc: Global, name: &str, fault: DecoderError) -> ShowFault
+        ensures { Says (wrong name.now (error_name fault)) result }
     {
-        match named_fault(alloc, name, fault) {
-            Ok(fault) => ShowFault::Wrong(fault),
+        match String::from_str(alloc, name) {
+            Ok(name) => ShowFault::Wrong(ItemFault {
+                name,
+                fault: FieldFault { place: None, fault },
+            }),
             Err(_) => ShowFault::OutOfMemory,
         }
     }
-}
-
-/// The fault of the item with this name.
-fn named_fault(alloc: Global, name: &str, fault: &DecoderError) -> Result<ItemFault, AllocError>
-    ensures { IfOk result (λ f. fault_of f ≡ wrong name.now (error_name fault.now)) }
-{
-    let name = String::from_str(alloc, name)?;
-    let fault = format!(in alloc; "{fault}")?;
-    Ok(ItemFault {
-        field: None,
-        name,
-        fault,
-    })
 }
 
 /// What was shown of the field with this place.
@@ -107,9 +77,11 @@ pub(crate) fn in_field(shown: Result<(), ShowFault>, place: usize) -> Result<(),
 {
     match shown {
         Err(ShowFault::Wrong(wrong)) => Err(ShowFault::Wrong(ItemFault {
-            field: Some(place),
             name: wrong.name,
-            fault: wrong.fault,
+            fault: FieldFault {
+                place: Some(place),
+                fault: wrong.fault.fault,
+            },
         })),
         others => others,
     }

@@ -2,46 +2,45 @@
 
 ghost use Rattle.std.specs.Prelude.{◌≡◌, ◌<◌, ◌^◌, ◌+◌, ◌++◌, List, length, string_bytes, IfOk};
 ghost use Rattle.rlp_show.specs.Answer.{Shows};
+ghost use Rattle.rlp_show.specs.declared.fields.Label.{Label};
 ghost use Rattle.rlp_show.specs.Lines.{Field, fields_lines, in_field, may_have, prefix, record_of};
 
 use crate::fault::{ShowFault, in_field};
 use crate::show::Show;
 use rlp::{DecoderError, Rlp, RlpIterator};
 use std::alloc::{AllocError, Global};
-use std::marker::PhantomData;
 
-/// A field of a record: its name, and the type that says how it is shown.
-pub struct Named<T> {
+/// The name of a field, and whether a record may end before it.
+pub struct Label {
     /// The name.
     pub name: &'static str,
     /// Whether a record may end before the field.
     pub may_end: bool,
-    /// The type, which has no value here.
-    pub shown_as: PhantomData<T>,
 }
 
-/// The fields of a record, in order. They are nested pairs that end with `()`: `(a, (b, ()))`.
+/// The types of the fields of a record, in order. They are nested pairs that end with `()`:
+/// `(A, (B, ()))`.
 pub trait ShowFields {
-    /// The fields with their names and shapes.
-    ghost fields: { Self → List Field };
+    /// The fields that have these labels.
+    ghost fields: { List Label → List Field };
 
     /// Returns whether a record of the fields may have this number of items.
-    fn accepts(&self, count: usize) -> bool
-        ensures { result ≡ may_have (fields self.now) count };
+    fn accepts(labels: &[Label], count: usize) -> bool
+        ensures { result ≡ may_have (fields labels.now) count };
 
     /// Appends the lines of the fields that are the next items. Fields without an item have none.
     /// `place` is that of the first field in its record. No record has more than 2^64 - 1 items.
     /// Fails as [`Show::show`] does for the first field that fails, with the place of that field.
     fn show_fields(
-        &self,
         alloc: Global,
         before: &str,
         place: usize,
+        labels: &[Label],
         items: &mut RlpIterator<'_, '_>,
         out: &mut String,
     ) -> Result<(), ShowFault>
         ensures { place + length items.old.left < 2 ^ 64
-            → Shows (fields_lines before.now place (fields self.now) items.old.left)
+            → Shows (fields_lines before.now place (fields labels.now) items.old.left)
             (string_bytes out.old) (string_bytes out.new) result };
 }
 
@@ -74,17 +73,17 @@ pub(crate) fn joined(alloc: Global, front: &str, back: &str) -> Result<String, A
 impl ShowFields for () {
     ghost use Rattle.std.specs.Prelude.{[]};
 
-    ghost fields = { λ f. [] };
+    ghost fields = { λ labels. [] };
 
-    fn accepts(&self, count: usize) -> bool {
+    fn accepts(_labels: &[Label], count: usize) -> bool {
         count == 0
     }
 
     fn show_fields(
-        &self,
         _alloc: Global,
         _before: &str,
         _place: usize,
+        _labels: &[Label],
         _items: &mut RlpIterator<'_, '_>,
         _out: &mut String,
     ) -> Result<(), ShowFault> {
@@ -93,35 +92,37 @@ impl ShowFields for () {
 }
 
 /// A field, and those after it.
-impl<T: Show, Q: ShowFields> ShowFields for (Named<T>, Q) {
-    ghost use Rattle.std.specs.Prelude.{◌∷◌};
+impl<T: Show, Q: ShowFields> ShowFields for (T, Q) {
+    ghost use Rattle.rlp_show.specs.Fields.{labelled_fields};
 
-    ghost fields = { λ f.
-        record { name = f.0.name.now; shape = T.shape; may_end = f.0.may_end } ∷ Q.fields f.1 };
+    ghost fields = { labelled_fields T.shape Q.fields };
 
     #[tactic(auto, using(crate::proofs::FieldLemmas::numbers_of_items))]
-    fn accepts(&self, count: usize) -> bool {
-        if count == 0 {
-            return self.0.may_end;
+    fn accepts(labels: &[Label], count: usize) -> bool {
+        match labels {
+            [] => count == 0,
+            [label, ..] if count == 0 => label.may_end,
+            [_, others @ ..] => Q::accepts(others, count - 1),
         }
-        self.1.accepts(count - 1)
     }
 
     #[tactic(auto, using(crate::proofs::FieldLemmas::fields_in_order))]
     fn show_fields(
-        &self,
         alloc: Global,
         before: &str,
         place: usize,
+        labels: &[Label],
         items: &mut RlpIterator<'_, '_>,
         out: &mut String,
     ) -> Result<(), ShowFault> {
+        let [label, others @ ..] = labels else {
+            return Ok(());
+        };
         let Some(item) = items.next() else {
             return Ok(());
         };
-        show_field::<T>(alloc, before, place, self.0.name, &item, out)?;
-        self.1
-            .show_fields(alloc, before, place.saturating_add(1), items, out)
+        show_field::<T>(alloc, before, place, label.name, &item, out)?;
+        Q::show_fields(alloc, before, place.saturating_add(1), others, items, out)
     }
 }
 
@@ -135,7 +136,7 @@ pub(crate) fn prefix_of(alloc: Global, name: &str) -> Result<String, AllocError>
     joined(alloc, name, ".")
 }
 
-/// Appends the lines of a record of these fields.
+/// Appends the lines of a record whose fields have these types and labels.
 ///
 /// Fails with `Wrong` if the item isn't a list, if a record may not have its number of items, or if
 /// an item isn't one of its field. Fails with `OutOfMemory` if memory is refused.
@@ -144,44 +145,47 @@ pub fn show_record<F: ShowFields>(
     alloc: Global,
     name: &str,
     item: &Rlp<'_>,
-    fields: &F,
+    labels: &[Label],
     out: &mut String,
 ) -> Result<(), ShowFault>
-    ensures { Shows (record_of (F.fields fields.now) name.now item.now)
+    ensures { Shows (record_of (F.fields labels.now) name.now item.now)
         (string_bytes out.old) (string_bytes out.new) result }
 {
     let count = match item.item_count() {
         Ok(count) => count,
-        Err(fault) => return Err(ShowFault::of(alloc, name, &fault)),
+        Err(fault) => return Err(ShowFault::of(alloc, name, fault)),
     };
-    if !fields.accepts(count) {
-        return Err(ShowFault::of(alloc, name, &DecoderError::RlpIncorrectListLen));
+    if !F::accepts(labels, count) {
+        return Err(ShowFault::of(alloc, name, DecoderError::RlpIncorrectListLen));
     }
     let before = prefix_of(alloc, name)?;
     let mut items = item.iter();
-    fields.show_fields(alloc, before.as_str(), 0, &mut items, out)
+    F::show_fields(alloc, before.as_str(), 0, labels, &mut items, out)
 }
 
 /// Shows a record whose fields have these names and types. The arguments are the allocator, the
-/// name, the view, the text, and the fields. A record may end before a field whose type has a `?`.
+/// name, the view, the text, and the fields. A record may end before a field with a `?`.
 macro_rules! show_fields {
-    (@nested) => {
+    (@types) => {
         ()
     };
-    (@nested $name:literal : ? $type:ty $(, $($others:tt)*)?) => {
-        (
-            Named::<$type> { name: $name, may_end: true, shown_as: PhantomData },
-            show_fields!(@nested $($($others)*)?),
-        )
+    (@types $type:ty $(, $others:ty)*) => {
+        ($type, show_fields!(@types $($others),*))
     };
-    (@nested $name:literal : $type:ty $(, $($others:tt)*)?) => {
-        (
-            Named::<$type> { name: $name, may_end: false, shown_as: PhantomData },
-            show_fields!(@nested $($($others)*)?),
-        )
+    (@label : $name:literal) => {
+        Label { name: $name, may_end: false }
     };
-    ($alloc:expr, $name:expr, $item:expr, $out:expr, $($fields:tt)+) => {
-        show_record($alloc, $name, $item, &show_fields!(@nested $($fields)+), $out)
+    (@label ? $name:literal) => {
+        Label { name: $name, may_end: true }
+    };
+    ($alloc:expr, $name:expr, $item:expr, $out:expr, $($label:literal $mark:tt $type:ty),+) => {
+        show_record::<show_fields!(@types $($type),+)>(
+            $alloc,
+            $name,
+            $item,
+            &[$(show_fields!(@label $mark $label)),+],
+            $out,
+        )
     };
 }
 

@@ -22,7 +22,7 @@ mod values;
 pub use any_item::AnyItem;
 pub use envelopes::{AnyReceipt, Typed};
 pub use fault::{ItemFault, ShowFault};
-pub use fields::{Named, ShowFields, show_record};
+pub use fields::{Label, ShowFields, show_record};
 pub use kind::{Kind, UNKNOWN_KIND, USAGE};
 pub use lists::Items;
 pub use nodes::{Node, Path};

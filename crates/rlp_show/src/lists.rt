@@ -51,7 +51,7 @@ pub(crate) fn show_list<T: Show>(
 {
     let count = match item.item_count() {
         Ok(count) => count,
-        Err(fault) => return Err(ShowFault::of(alloc, name, &fault)),
+        Err(fault) => return Err(ShowFault::of(alloc, name, fault)),
     };
     if count == 0 {
         return put_empty(name, out);

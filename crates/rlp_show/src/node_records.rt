@@ -8,13 +8,12 @@ ghost use Rattle.rlp_show.specs.Records.{any_item, first_fields, node_record};
 
 use crate::any_item::AnyItem;
 use crate::fault::ShowFault;
-use crate::fields::{Named, ShowFields, joined, prefix_of, show_field, show_fields};
+use crate::fields::{Label, ShowFields, joined, prefix_of, show_field, show_fields};
 use crate::lists::place_in;
 use crate::show::Show;
 use rlp::{DecoderError, Rlp, RlpIterator};
 use rlp_ethereum::NodeFields;
 use std::alloc::Global;
-use std::marker::PhantomData;
 
 /// A node record is the list of its signature, its number, and then each key and its value. The
 /// order of the keys and the size aren't tested, as in [`NodeFields`].
@@ -25,10 +24,10 @@ impl Show for NodeFields {
     fn show(alloc: Global, name: &str, item: &Rlp<'_>, out: &mut String) -> Result<(), ShowFault> {
         let count = match item.item_count() {
             Ok(count) => count,
-            Err(fault) => return Err(ShowFault::of(alloc, name, &fault)),
+            Err(fault) => return Err(ShowFault::of(alloc, name, fault)),
         };
         if count < 2 || count % 2 == 1 {
-            return Err(ShowFault::of(alloc, name, &DecoderError::RlpIncorrectListLen));
+            return Err(ShowFault::of(alloc, name, DecoderError::RlpIncorrectListLen));
         }
         show_parts(alloc, name, item, out)
     }
@@ -58,10 +57,14 @@ fn show_first_fields(
 {
     let before = prefix_of(alloc, name)?;
     let mut items = item.iter();
-    show_fields!(@nested "signature": Vec<u8>, "sequence": u64).show_fields(
+    <show_fields!(@types Vec<u8>, u64)>::show_fields(
         alloc,
         before.as_str(),
         0,
+        &[
+            show_fields!(@label : "signature"),
+            show_fields!(@label : "sequence"),
+        ],
         &mut items,
         out,
     )

@@ -8,13 +8,12 @@ ghost use Rattle.rlp_show.specs.Records.{are_leaf, begins_path, child_hash_in, n
 
 use crate::any_item::AnyItem;
 use crate::fault::ShowFault;
-use crate::fields::{Named, joined, prefix_of, show_fields, show_record};
+use crate::fields::{Label, joined, prefix_of, show_fields, show_record};
 use crate::line::{put_bytes_line, put_line};
 use crate::show::Show;
 use rlp::{DecoderError, Rlp};
 use rlp_ethereum::{Branch, Child, Extension, Leaf};
 use std::alloc::{AllocError, Global};
-use std::marker::PhantomData;
 
 /// A path, for [`Show`]: hex-prefix encoded bytes. It has no values.
 pub struct Path;
@@ -37,13 +36,13 @@ impl Show for Path {
     fn show(alloc: Global, name: &str, item: &Rlp<'_>, out: &mut String) -> Result<(), ShowFault> {
         let bytes = match item.decoder().string() {
             Ok(bytes) => bytes,
-            Err(fault) => return Err(ShowFault::of(alloc, name, &fault)),
+            Err(fault) => return Err(ShowFault::of(alloc, name, fault)),
         };
         match bytes {
             [first, ..] if begins_path(*first) => Ok(put_bytes_line(name, bytes, out)?),
             _ => {
                 let fault = DecoderError::Custom("path is not hex-prefix encoded");
-                Err(ShowFault::of(alloc, name, &fault))
+                Err(ShowFault::of(alloc, name, fault))
             }
         }
     }
@@ -61,13 +60,13 @@ fn show_child_hash(
 {
     let bytes = match item.decoder().string() {
         Ok(bytes) => bytes,
-        Err(fault) => return Err(ShowFault::of(alloc, name, &fault)),
+        Err(fault) => return Err(ShowFault::of(alloc, name, fault)),
     };
     if !bytes.is_empty() && bytes.len() < 32 {
-        return Err(ShowFault::of(alloc, name, &DecoderError::RlpIsTooShort));
+        return Err(ShowFault::of(alloc, name, DecoderError::RlpIsTooShort));
     }
     if bytes.len() > 32 {
-        return Err(ShowFault::of(alloc, name, &DecoderError::RlpIsTooBig));
+        return Err(ShowFault::of(alloc, name, DecoderError::RlpIsTooBig));
     }
     Ok(put_bytes_line(name, bytes, out)?)
 }
@@ -82,7 +81,7 @@ impl Show for Child {
             return show_child_hash(alloc, name, item, out);
         }
         if item.as_raw().len() >= 32 {
-            return Err(ShowFault::of(alloc, name, &DecoderError::RlpIsTooBig));
+            return Err(ShowFault::of(alloc, name, DecoderError::RlpIsTooBig));
         }
         AnyItem::show(alloc, name, item, out)
     }
@@ -183,8 +182,8 @@ impl Show for Node {
             Ok(17) => show_node::<Branch>(alloc, name, "branch", item, out),
             Ok(2) if is_leaf(item) => show_node::<Leaf>(alloc, name, "leaf", item, out),
             Ok(2) => show_node::<Extension>(alloc, name, "extension", item, out),
-            Ok(_) => Err(ShowFault::of(alloc, name, &DecoderError::RlpIncorrectListLen)),
-            Err(fault) => Err(ShowFault::of(alloc, name, &fault)),
+            Ok(_) => Err(ShowFault::of(alloc, name, DecoderError::RlpIncorrectListLen)),
+            Err(fault) => Err(ShowFault::of(alloc, name, fault)),
         }
     }
 }

@@ -3,7 +3,7 @@
 ghost use Rattle.rlp_show.specs.Records.{withdrawal, account, header, log, receipt, access_list_item, legacy_transaction, access_list_transaction, fee_market_transaction, blob_transaction, authorization, set_code_transaction, block};
 
 use crate::fault::ShowFault;
-use crate::fields::{Named, show_fields, show_record};
+use crate::fields::{Label, show_fields, show_record};
 use crate::lists::Items;
 use crate::show::Show;
 use rlp::{Rlp, Uint};
@@ -13,7 +13,6 @@ use rlp_ethereum::{
     SignedAuthorization, SignedLegacyTransaction, Transaction, Withdrawal,
 };
 use std::alloc::Global;
-use std::marker::PhantomData;
 
 impl Show for Withdrawal {
     ghost shape = { withdrawal };
@@ -73,12 +72,12 @@ impl Show for Header {
             "extra_data": Vec<u8>,
             "mix_hash": Hash,
             "nonce": [u8; 8],
-            "base_fee_per_gas": ?Uint<32>,
-            "withdrawals_root": ?Hash,
-            "blob_gas_used": ?u64,
+            "base_fee_per_gas" ? Uint<32>,
+            "withdrawals_root" ? Hash,
+            "blob_gas_used" ? u64,
             "excess_blob_gas": u64,
             "parent_beacon_block_root": Hash,
-            "requests_hash": ?Hash
+            "requests_hash" ? Hash
         )
     }
 }
@@ -286,7 +285,7 @@ impl Show for Block {
             "header": Header,
             "transactions": Items<Transaction>,
             "ommers": Items<Header>,
-            "withdrawals": ?Items<Withdrawal>
+            "withdrawals" ? Items<Withdrawal>
         )
     }
 }

@@ -29,7 +29,7 @@ fn show_fixed<const N: usize>(
     match item.as_val::<[u8; N]>(alloc) {
         Ok(bytes) => Ok(put_bytes_line(name, &bytes, out)?),
         Err(DecoderError::OutOfMemory) => Err(ShowFault::OutOfMemory),
-        Err(fault) => Err(ShowFault::of(alloc, name, &fault)),
+        Err(fault) => Err(ShowFault::of(alloc, name, fault)),
     }
 }
 
@@ -71,7 +71,7 @@ impl Show for Vec<u8> {
     fn show(alloc: Global, name: &str, item: &Rlp<'_>, out: &mut String) -> Result<(), ShowFault> {
         match item.decoder().string() {
             Ok(bytes) => Ok(put_bytes_line(name, bytes, out)?),
-            Err(fault) => Err(ShowFault::of(alloc, name, &fault)),
+            Err(fault) => Err(ShowFault::of(alloc, name, fault)),
         }
     }
 }
@@ -86,7 +86,7 @@ impl Show for Recipient {
         let recipient = match item.as_val::<Recipient>(alloc) {
             Ok(recipient) => recipient,
             Err(DecoderError::OutOfMemory) => return Err(ShowFault::OutOfMemory),
-            Err(fault) => return Err(ShowFault::of(alloc, name, &fault)),
+            Err(fault) => return Err(ShowFault::of(alloc, name, fault)),
         };
         match recipient {
             Recipient::Creation => put_bytes_line(name, &[], out)?,

@@ -46,7 +46,7 @@ impl Show for UnknownTransaction {
             [] => DecoderError::RlpIsTooShort,
             _ => DecoderError::Custom("unknown transaction type"),
         };
-        Err(ShowFault::of(alloc, name, &fault))
+        Err(ShowFault::of(alloc, name, fault))
     }
 }
 
@@ -64,7 +64,7 @@ impl Show for Transaction {
                 let envelope = Rlp::new_strict(bytes);
                 TypedTransaction::<UnknownTransaction>::show(alloc, name, &envelope, out)
             }
-            Err(fault) => Err(ShowFault::of(alloc, name, &fault)),
+            Err(fault) => Err(ShowFault::of(alloc, name, fault)),
         }
     }
 }
