@@ -1,4 +1,4 @@
-//! The codec for other languages: functions with C's calling convention. `bindings/rlp.h` declares
+//! The codec for other languages: functions with C's calling convention. `bindings/c/rlp.h` declares
 //! them and says what a caller owes.
 #![tactic(auto)]
 
