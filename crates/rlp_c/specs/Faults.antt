@@ -29,7 +29,7 @@ first_of (Some e ∷ faults) follows = Some e
 abbrev pub payload_fault : (List ℕ → Option WalkFault) → List ℕ → Option WalkFault
 payload_fault item_fault p = first_of (map item_fault (split p)) (fault_of_some (after_items p))
 
--- The first fault of a framed item in so many lists at most, in the order of its bytes: a list that is too deep, a needless header, or bytes that aren't an item.
+-- The first fault, in the order of its bytes, of a framed item whose lists may nest to this depth: a list that is too deep, a needless header, or bytes that aren't an item.
 unfoldable pub walk_fault : ℕ → List ℕ → Option WalkFault
 walk_fault zero f = if begins_as_list f then Some TooDeep else needless_fault f
 walk_fault (suc left) f = if begins_as_list f then payload_fault (walk_fault left) (payload f) else needless_fault f

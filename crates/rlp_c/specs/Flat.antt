@@ -27,7 +27,7 @@ unfoldable mutual
   flat_items place depth (item_and x xs) = flat place depth x ++ flat_items (place + length (encoding x)) depth xs
 
 -- The answer for bytes: the rows of the item whose encoding they are, or their first fault if they aren't the encoding of an item within the depth. `count` is
--- the number of rows, and if the array has room for so many, it begins with them.
+-- the number of rows, and if the array has room for them, it begins with them.
 pub data IsFlattened (most : ℕ) (b : List ℕ) (old new : List RlpItem) (old_count count status : ℕ) : Type 0 where
   filled : (x : Item) → b ≡ encoding x → item_depth x ≤ most → count ≡ length (flat 0 0 x) → count ≤ length old
       → take count new ≡ flat 0 0 x → status ≡ 0 → IsFlattened most b old new old_count count status

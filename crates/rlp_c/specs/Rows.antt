@@ -42,7 +42,7 @@ abbrev pub header_length : Result PayloadInfo DecoderError → ℕ
 header_length (Ok p) = p.header_len
 header_length (Err e) = 0
 
--- The answer for the items of one list: if b isn't exactly one list, its fault. Else `count` is the number of items, and if the array has room for so many,
+-- The answer for the items of one list: if b isn't exactly one list, its fault. Else `count` is the number of items, and if the array has room for them,
 -- it begins with their rows.
 abbrev pub IsItemized : List ℕ → List RlpItem → List RlpItem → ℕ → ℕ → ℕ → Option DecoderError → Type 0
 IsItemized b old new old_count count status (Some e) = (status ≡ fault_status e) × (count ≡ old_count)

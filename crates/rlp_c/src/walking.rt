@@ -22,7 +22,7 @@ pub enum WalkFault {
 
 /// Writes the rows of an item behind the first `count` rows, and returns their new number, or the
 /// item's first fault within `left` lists.
-pub fn walk(
+pub(crate) fn walk(
     framed: &Framed<'_>,
     place: usize,
     depth: u32,

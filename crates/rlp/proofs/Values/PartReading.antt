@@ -30,7 +30,7 @@ module _ (first least : ℕ) (IsMore : ℕ → Type 0) (n : ℕ) where
   pub items_before : (width : ℕ) → width ≡ first → width ≤ n → IsCount least IsMore (n - width) → IsCount (first + least) IsMore n
   items_before width is within right = record { more = right.more; sum = let sum = right.sum in omega (arith, sum, is, within); right = right.right }
 
-  -- there are never so many items
+  -- no struct has this number of items
   pub never_so_many : 2 ^ 64 ≤ first → n < 2 ^ 64 → ¬ IsCount (first + least) IsMore n
   never_so_many many few right = let sum = right.sum in omega (arith, sum, many, few)
 

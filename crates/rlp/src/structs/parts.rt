@@ -51,7 +51,7 @@ impl<P: FixedFields, Q: DecodeFields> DecodeFields for Joined<P, Q> {
     ) -> Result<Joined<P, Q>, FieldFault> {
         let width = match P::width() {
             Some(width) => width,
-            // So many items can't be.
+            // A list can't have this number of items.
             None => {
                 return Err(FieldFault {
                     place: None,
