@@ -1,13 +1,5 @@
 -- where the string that bytes begin with is
 mod Strings
--- rows that were written one after another
-mod Rows
--- strings with and without a needless header
-mod Framed
--- the walk over the items of a list
-mod Walks
--- the first fault of a walk, step by step
-mod Faults
 -- the answer of a whole walk
 mod Flattening
 -- the walk over the items of one list

@@ -4,12 +4,8 @@ pub mod Status
 pub mod Answers
 -- what C sees of an item
 pub mod Rows
--- the first fault of a tree
-pub mod Faults
 -- a tree as rows
 pub mod Flat
--- what the walk over a tree has done
-pub mod Walk
 -- what the writing functions leave
 pub mod Written
 -- the tree that rows describe

@@ -13,4 +13,3 @@ mod status;
 mod text;
 mod tree;
 mod values;
-mod walking;

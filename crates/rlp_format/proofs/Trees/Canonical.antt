@@ -1,17 +1,16 @@
--- Whether bytes are the whole encoding of an item, tested by going over its items.
+-- Bytes that are and aren't the encoding of an item within a depth.
 use Rattle.std.proofs.Common.{◌≡◌, ℕ, suc, max, ◌-◌, ◌^◌, ◌<◌, ◌≤◌, ◌↔◌, Bool, true, false, List, [], ◌∷◌, ◌++◌, length, map, refl, sym, ap, ◌∙◌}
-use Rattle.std.proofs.Common.{subst, arith, append-nil, append_assoc, length-append, IsTrue, Some, None, pos_of_ne-zero}
+use Rattle.std.proofs.Common.{subst, arith, append-nil, length-append, IsTrue, Some, None}
 use Rattle.std.specs.List.{concat}
 use Rattle.rlp_format.specs.declared.error.DecoderError.{DecoderError}
 use Rattle.rlp_format.specs.Format.Item.{Item, Items, string, list, items_from, listed, list_of, item_depth, items_depth}
 use Rattle.rlp_format.specs.Format.Encoding.{encoding, join, IsSized}
-use Rattle.rlp_format.specs.Format.Framing.{IsFramedItem}
 use Rattle.rlp_format.specs.Format.Split.{begins_as_list, items, payload, split}
 use Rattle.rlp_format.specs.Format.Strict.{IsCanonicalWithin, strict_fault}
 use Rattle.rlp_format.specs.Lemmas.Encodings.{front_sized, items_from-listed}
 use Rattle.rlp_format.specs.Lemmas.Frames.{join_is}
-use Rattle.rlp_format.specs.Lemmas.Views.{list_shape, payload_of_list}
-use Rattle.rlp.specs.Lemmas.WholeLists.{strict_fault-encoding, strict_items, whole_by}
+use Rattle.rlp_format.specs.Lemmas.Views.{items_of_list, list_shape, payload_of_list}
+use Rattle.rlp_format.specs.Lemmas.WholeItems.{strict_fault-encoding}
 use Rattle.rlp_format.proofs.Views.Depths.{not_list}
 
 sized_whole : (x : Item) (b : List ℕ) → length b < 2 ^ 64 → b ≡ encoding x → IsSized x
@@ -70,7 +69,7 @@ payload_joined : (b : List ℕ) (xs : List Item) → length b < 2 ^ 64 → b ≡
 payload_joined b xs fits is = payload_of_list xs b (sized_whole (list_of xs) b fits is) ([], is ∙ sym (append-nil (encoding (list_of xs))))
 
 listed_items : (b : List ℕ) (xs : List Item) → length b < 2 ^ 64 → b ≡ encoding (list_of xs) → items b ≡ map encoding xs
-listed_items b xs fits is = strict_items xs b (sized_whole (list_of xs) b fits is) is
+listed_items b xs fits is = (items_of_list xs b (sized_whole (list_of xs) b fits is) ([], is ∙ sym (append-nil (encoding (list_of xs))))).0
 
 -- bytes of a payload that aren't an item
 pub stray_bytes : (b rest : List ℕ) (most : ℕ) (done : List Item) → length b < 2 ^ 64 → true ≡ begins_as_list b
@@ -106,50 +105,6 @@ stray_item b rest item others most done fits kind all parts other (x, is, deep) 
     ∙ listed_items b l.xs fits l.is in
     let (y, found, low) = one_of (map encoding done) (split others) item l.xs same in
     other (y, found, omega (arith, low, l.deep))
-
--- the progress of a walk over some items
-pub record IsDone (b rest : List ℕ) (most : ℕ) : Type 0 where
-  pub done : List Item
-  pub all : map encoding done ++ split rest ≡ items b
-  pub whole : payload b ≡ join done ++ rest
-  pub shallow : items_depth (items_from done) ≤ most
-
-pub done_none : (b q : List ℕ) (most : ℕ) → q ≡ payload b → IsDone b q most
-done_none b q most same = record { done = []; all = split_items b q same; whole = sym same; shallow = omega arith }
-
-map-more : (xs : List Item) (x : Item) → map encoding (xs ++ x ∷ []) ≡ map encoding xs ++ encoding x ∷ []
-map-more [] x = refl
-map-more (y ∷ xs) x = ap (λ s. encoding y ∷ s) (map-more xs x)
-
-join-more : (xs : List Item) (x : Item) → join (xs ++ x ∷ []) ≡ join xs ++ encoding x
-join-more [] x = append-nil (encoding x)
-join-more (y ∷ xs) x = ap (λ s. encoding y ++ s) (join-more xs x) ∙ sym (append_assoc (encoding y) (join xs) (encoding x))
-
-depth-more : (xs : List Item) (x : Item) (most : ℕ) → items_depth (items_from xs) ≤ most → item_depth x ≤ most → items_depth (items_from (xs ++ x ∷ [])) ≤ most
-depth-more [] x most few low = omega arith
-depth-more (y ∷ xs) x most few low = let more : items_depth (items_from (xs ++ x ∷ [])) ≤ most = depth-more xs x most (omega arith) low in omega (arith, more)
-
-pub done_one : (b rest item others : List ℕ) (most : ℕ) → IsDone b rest most → split rest ≡ item ∷ split others → rest ≡ item ++ others
-    → IsCanonicalWithin most item → IsDone b others most
-done_one b rest item others most is parts whole (x, same, low) = record {
-  done = is.done ++ x ∷ [];
-  all = ap (λ s. s ++ split others) (map-more is.done x) ∙ append_assoc (map encoding is.done) (encoding x ∷ []) (split others)
-      ∙ ap (λ f. map encoding is.done ++ f ∷ split others) (sym same) ∙ ap (λ s. map encoding is.done ++ s) (sym parts) ∙ is.all;
-  whole = is.whole ∙ ap (λ s. join is.done ++ s) (whole ∙ ap (λ f. f ++ others) same) ∙ sym (append_assoc (join is.done) (encoding x) others)
-      ∙ ap (λ s. s ++ others) (sym (join-more is.done x));
-  shallow = depth-more is.done x most is.shallow low;
-}
-
--- a walk that reaches the end of a list's payload
-pub done_all : (b rest : List ℕ) (most : ℕ) → IsFramedItem b → true ≡ begins_as_list b → (most ≡ 0 → ⊥) → rest ≡ [] → IsDone b rest (most - 1)
-    → IsCanonicalWithin most b
-done_all b rest most framed kind some none is =
-    let joined : payload b ≡ join is.done = is.whole ∙ ap (λ r. join is.done ++ r) none ∙ append-nil (join is.done) in
-    let positive : 0 < most = pos_of_ne-zero some in (
-      list_of is.done,
-      whole_by b framed.header_len framed.value_len is.done (sym kind) joined framed.has_header framed.whole,
-      let deep : suc (items_depth (items_from is.done)) ≤ most = omega (arith, is.shallow) in deep,
-    )
 
 never : false ≡ true → ⊥
 never e = cc

@@ -16,9 +16,9 @@ use Rattle.rlp_format.specs.Lemmas.Encodings.{low_byte}
 use Rattle.rlp_format.specs.Lemmas.Headers.{Parts, shape, written_header_short}
 use Rattle.rlp_format.specs.Lemmas.Frames.{framing_is, value_is}
 use Rattle.rlp_format.specs.Lemmas.Reading.{read}
-use Rattle.rlp.proofs.Views.Canonical.{not_true, refuted, string_canonical}
-use Rattle.rlp_c.specs.Faults.{is_needless}
-use Rattle.rlp_c.proofs.Strings.{Ok_same, string_placed}
+use Rattle.rlp_format.proofs.Trees.Canonical.{not_true, refuted, string_canonical}
+use Rattle.rlp_format.specs.Format.TreeFaults.{is_needless}
+use Rattle.rlp_format.proofs.Trees.Placed.{Ok_same, string_placed}
 
 -- a byte that is its own encoding, behind a header
 abbrev pub IsNeedless : List ℕ → PayloadInfo → Type 0
