@@ -25,7 +25,11 @@ impl Call for Flattened {
         for item in items.iter() {
             let kind = if item.is_list { "list" } else { "string" };
             let (place, depth) = (item.place, item.depth);
-            write!(out, "{kind} {place}+{}+{} in {depth}; ", item.header_len, item.payload_len)?;
+            write!(
+                out,
+                "{kind} {place}+{}+{} in {depth}; ",
+                item.header_len, item.payload_len
+            )?;
         }
         Ok(())
     }
