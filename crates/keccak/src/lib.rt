@@ -85,7 +85,12 @@ fn digest(state: &[u64; 25]) -> [u8; 32]
     out
 }
 
-/// The Keccak-256 hash of `bytes`: Ethereum's, which isn't SHA3-256.
+/// Returns the Keccak-256 hash of these bytes, as in Ethereum. It isn't SHA3-256, which FIPS 202 defines
+/// with another padding. It takes no memory and never fails.
+///
+/// ```rust
+/// assert_eq!(rt; keccak::keccak256(b"")[..4], [0xc5, 0xd2, 0x46, 0x01]);
+/// ```
 pub fn keccak256(bytes: &[u8]) -> [u8; 32]
     ensures { result ≡ keccak256 bytes.now }
 {
