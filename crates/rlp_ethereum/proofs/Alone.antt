@@ -6,14 +6,18 @@ use Rattle.std.proofs.lemmas.Bool.{cases_lt, lt-leb}
 use Rattle.rlp.specs.DecoderError.{DecoderError}
 use Rattle.rlp.specs.DecoderError.TheVariants.{OutOfMemory}
 use Rattle.rlp.specs.Format.Item.{Item, list, string}
-use Rattle.rlp.specs.Format.Encoding.{encoding}
+use Rattle.rlp.specs.Format.Encoding.{IsSized, encoding}
 use Rattle.rlp.specs.Format.Split.{begins_as_list}
 use Rattle.rlp.specs.Format.WrittenHeader.{AreBytes}
 use Rattle.rlp.specs.Streams.Stream.{is_list}
 use Rattle.rlp.specs.Views.View.{View, HoldsString, strict_view_of}
 use Rattle.rlp.specs.Codec.{Codec}
-use Rattle.rlp.specs.Codecs.Sums.{Cases, FitsCase, envelope}
+use Rattle.rlp.specs.Codecs.Sums.{Cases, FitsCase, SameCase, case_item, envelope}
+use Rattle.rlp.specs.Lemmas.Encodings.{encoding_same}
+use Rattle.rlp.specs.Lemmas.Lists.{head_same, tail_same}
 use Rattle.rlp.specs.Lemmas.Sums.{envelope_sound, list_first}
+use Rattle.rlp.specs.Lemmas.Told.{case_told}
+use Rattle.rlp.specs.Values.Same.{SameSum}
 use Rattle.rlp.specs.Values.Sums.{ByFirstByte, IsEnvelopeFault, IsOtherTag, MayLackInEnvelope, OnSum, faulty_payload, other_tag, sum_item}
 use Rattle.rlp.specs.Values.ValueReading.{FaultsAs, IsCustom, no_value}
 use Rattle.rlp_ethereum.specs.Alone.{FaultsAlone, PayloadFails, bytes_alone}
@@ -96,3 +100,64 @@ module _ {A B : Type 0} (bare : Codec A) (unknown : List ℕ) (cases : Cases B) 
     memory_alone s fit is (Ok x) M h = tt
     memory_alone s fit is (Err e) M (inl fault) = absurd (sound_alone s fit is e fault)
     memory_alone s fit is (Err e) M (inr memory) = memory.0
+
+-- ---- values with the same bytes
+
+module _ {A B : Type 0} (bare : Codec A) (cases : Cases B) (lists : (x : A) → is_list (bare.item x) ≡ true) (low : AreBelowLists cases.tags) where
+  abbrev FitsAlone : A ⊎ B → Type 0
+  FitsAlone s = OnSum bare.Fits (FitsCase cases) s
+
+  abbrev sum_alone : A ⊎ B → List ℕ
+  sum_alone s = bytes_alone (sum_item bare.item (λ y. string (envelope cases y)) s)
+
+  -- lists have the same fields
+  lists_told : (x y : A) → bare.Fits x → bare.Fits y → length (bytes_alone (bare.item x)) < 2 ^ 64 → bytes_alone (bare.item x) ≡ bytes_alone (bare.item y)
+      → bare.Same x y
+  lists_told x y fit other short same =
+      let one : bytes_alone (bare.item x) ≡ encoding (bare.item x) = list_alone (bare.item x) (lists x) in
+      let two : bytes_alone (bare.item y) ≡ encoding (bare.item y) = list_alone (bare.item y) (lists y) in
+      let small : IsSized (bare.item x) = omega (arith, short, ap length one) in
+      let little : IsSized (bare.item y) = omega (arith, short, ap length same, ap length two) in
+      bare.told x y fit other (encoding_same (bare.item x) (bare.item y) small little (sym one ∙ same ∙ two))
+
+  -- payloads after the same byte have the same fields
+  payloads_told : (x y : B) → FitsCase cases x → FitsCase cases y → length (envelope cases x) < 2 ^ 64 → envelope cases x ≡ envelope cases y
+      → SameCase cases x y
+  payloads_told x y fit other short same =
+      let rest = tail_same (cases.tag x) (cases.tag y) (encoding (case_item cases x)) (encoding (case_item cases y)) same in
+      let small : IsSized (case_item cases x) = omega (arith, short) in
+      let little : IsSized (case_item cases y) = omega (arith, short, ap length rest) in
+      case_told cases.tag (λ k. (cases.case k).Fits) (λ k. (cases.case k).item) (λ k. (cases.case k).Same) (λ k. (cases.case k).told) x y fit other
+      (head_same (cases.tag x) (cases.tag y) (encoding (case_item cases x)) (encoding (case_item cases y)) same)
+      (encoding_same (case_item cases x) (case_item cases y) small little rest)
+
+  -- no list has the bytes of a payload after its byte
+  lists_apart : (x : A) (y : B) → length (bytes_alone (bare.item x)) < 2 ^ 64 → ¬ (bytes_alone (bare.item x) ≡ envelope cases y)
+  lists_apart x y short same =
+      let d = bytes_alone (bare.item x) in
+      let whole : d ≡ encoding (bare.item x) = list_alone (bare.item x) (lists x) in
+      let kind : begins_as_list d ≡ true = list_first (bare.item x) d short ([], whole ∙ sym (append-nil (encoding (bare.item x)))) (lists x) in
+      let other : begins_as_list d ≡ false =
+      ap begins_as_list same ∙ not_as_list cases.tags (cases.tag y) (encoding (case_item cases y)) low (cases.known y) in
+      let no : ⊥ = cc in no
+
+  -- values with the same bytes have the same type and the same fields
+  pub alone_told : (s t : A ⊎ B) → FitsAlone s → FitsAlone t → length (sum_alone s) < 2 ^ 64 → sum_alone s ≡ sum_alone t
+      → SameSum bare.Same (SameCase cases) s t
+  alone_told (inl x) (inl y) fit other short same = lists_told x y fit other short same
+  alone_told (inl x) (inr y) fit other short same = absurd (lists_apart x y short same)
+  alone_told (inr x) (inl y) fit other short same = absurd (lists_apart y x (omega (arith, short, ap length same)) (sym same))
+  alone_told (inr x) (inr y) fit other short same = payloads_told x y fit other short same
+
+  -- no value has bytes that begin with this byte, which is none of the types' and below the first byte of every list
+  pub other_byte_apart : (k : ℕ) → k < 0xc0 → IsOtherTag cases.tags k → (s : A ⊎ B) → length (sum_alone s) < 2 ^ 64 → (rest : List ℕ)
+      → ¬ (sum_alone s ≡ k ∷ rest)
+  other_byte_apart k small none (inl x) short rest same =
+      let d = bytes_alone (bare.item x) in
+      let whole : d ≡ encoding (bare.item x) = list_alone (bare.item x) (lists x) in
+      let kind : begins_as_list d ≡ true = list_first (bare.item x) d short ([], whole ∙ sym (append-nil (encoding (bare.item x)))) (lists x) in
+      let other : begins_as_list d ≡ false = ap begins_as_list same ∙ lt-leb 0xc0 k small in
+      let no : ⊥ = cc in no
+  other_byte_apart k small none (inr y) short rest same =
+      let tags = head_same (cases.tag y) k (encoding (case_item cases y)) rest same in
+      cases.known y (subst (λ n. IsOtherTag cases.tags n) (sym tags) none)

@@ -27,6 +27,7 @@ pub mod Receipt
 pub mod Recipient
 pub mod SetCodeTransaction
 pub mod Signed
+pub mod Signing
 pub mod Transaction
 pub mod TransactionParts
 pub mod Trie

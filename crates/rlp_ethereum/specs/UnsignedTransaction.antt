@@ -2,7 +2,8 @@
 use Rattle.std.specs.Prelude.{◌⊎◌, refl}
 use Rattle.std.proofs.Common.{inl, inr}
 use Rattle.rlp.specs.Codec.{Codec, newtype, struct_of}
-use Rattle.rlp.specs.Codecs.Sums.{Cases, and_case, enveloped, last_case, list_or_string}
+use Rattle.rlp.specs.Codecs.Sums.{Cases, SameCase, and_case, enveloped, last_case, list_or_string}
+use Rattle.rlp.specs.Values.Same.{SameSum}
 use Rattle.rlp_ethereum.specs.Transaction.{unknown_type}
 use Rattle.rlp_ethereum.specs.declared.access_list_transaction.AccessListTransaction.{AccessListTransaction}
 use Rattle.rlp_ethereum.specs.declared.blob_transaction.BlobTransaction.{BlobTransaction}
@@ -38,3 +39,7 @@ unsigned_sum (SetCode t) = inr (inr (inr (inr t)))
 abbrev pub unsigned_transaction : Codec UnsignedTransaction
 unsigned_transaction = newtype unsigned_sum
     (list_or_string unsigned_legacy_transaction (enveloped unknown_type unsigned_types) (λ t. refl) (λ t. refl))
+
+-- both are of one type, and each field is the same
+abbrev pub HaveSameFields : UnsignedTransaction → UnsignedTransaction → Type 0
+HaveSameFields t u = SameSum unsigned_legacy_transaction.Same (SameCase unsigned_types) (unsigned_sum t) (unsigned_sum u)

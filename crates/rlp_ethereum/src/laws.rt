@@ -1,27 +1,34 @@
 //! What holds of each type of this crate: its encoding is that of its item, strict reading gives a
-//! value exactly for its whole encoding, and two values with equal encodings are alike.
+//! value exactly for its whole encoding, what is written is read back, and two values with equal
+//! encodings have the same fields. No bytes are signed for two meanings.
 
-ghost use Rattle.std.specs.Prelude.{◌≡◌, ◌↔◌, ◌<◌, ◌^◌, IfErr, IfOk, IsOkAnd, length};
+ghost use Rattle.std.specs.Prelude.{◌≡◌, ◌↔◌, ◌<◌, ◌^◌, IfErr, IfOk, IsOkAnd, OnOk, length};
 ghost use Rattle.rlp.specs.DecoderError.TheVariants.{OutOfMemory};
 ghost use Rattle.rlp.specs.Format.Encoding.{encoding, IsSized};
 ghost use Rattle.rlp.specs.Values.Value.{AreAlike};
-ghost use Rattle.rlp.specs.Views.View.{strict_view_of};
+ghost use Rattle.rlp.specs.Views.View.{View, strict_view_of};
+ghost use Rattle.rlp_ethereum.specs.Alone.{bytes_alone};
+ghost use Rattle.rlp_ethereum.specs.Transaction.{HaveSameFields, transaction};
+ghost use Rattle.rlp_ethereum.specs.Signing.{FitsSigning, HaveOneMeaning, Signable, signed_bytes};
 
+use crate::Transaction;
 use crate::record::Record;
 use bytes::BytesMut;
 use rlp::DecoderError;
 use std::alloc::{AllocError, Global};
 
-/// The bytes of a record. They are the encoding of its item.
+/// The bytes of a record. The record fits, and they are the encoding of its item.
 pub fn record_is_written<R: Record>(alloc: Global, value: &R) -> Result<BytesMut, AllocError>
-    ensures { IfOk result (λ b. b.items ≡ encoding (R.item value.now)) }
+    ensures fits { OnOk result (R.fits value.now) }
+    ensures bytes { IfOk result (λ b. b.items ≡ encoding (R.item value.now)) }
 {
     rlp::encode(alloc, value)
 }
 
 /// The record that bytes are, read strictly. The call gives a value exactly if the bytes are the
-/// whole encoding of a value that fits: `whole` and `only` say that no other bytes give one, and
-/// `alike` and `memory` that those bytes do, if memory doesn't run out.
+/// whole encoding of a value that fits: `whole` says that no other bytes give one, and `alike` and
+/// `memory` that those bytes do, if memory doesn't run out. `only` says `whole` of each value that
+/// is alike to the result.
 pub fn record_is_read<R: Record>(alloc: Global, bytes: &[u8]) -> Result<R, DecoderError>
     ensures whole { IfOk result (λ w. R.fits w × (bytes.now ≡ encoding (R.item w))) }
     ensures only { (v : R) → IsOkAnd result (λ w. AreAlike R.item w v)
@@ -34,10 +41,64 @@ pub fn record_is_read<R: Record>(alloc: Global, bytes: &[u8]) -> Result<R, Decod
     rlp::decode_whole(alloc, bytes)
 }
 
+/// The record that is read from what is written of a record: it has the same fields. The call fails
+/// only if the record doesn't fit or memory runs out.
+pub fn record_round_trips<R: Record>(alloc: Global, value: &R) -> Result<R, DecoderError>
+    ensures same { IfOk result (λ w. R.fits w × R.same w value.now) }
+    ensures memory { IfErr result (λ e. e ≡ OutOfMemory) }
+{
+    match record_is_written(alloc, value) {
+        Ok(bytes) => record_is_read(alloc, bytes.as_slice()),
+        Err(AllocError) => Err(DecoderError::OutOfMemory),
+    }
+}
+
+/// The record that bytes are, read strictly, for a type whose reading takes no memory, such as a
+/// [`Withdrawal`](crate::Withdrawal). The encoding of a value gives a value with its fields, and for
+/// other bytes the call fails with a fault of the type.
+pub fn reading_without_memory_is_total<R: Record>(
+    alloc: Global,
+    bytes: &[u8],
+) -> Result<R, DecoderError>
+    ensures value { ((view : View) → ¬ R.may_lack_memory view) → (v : R) → R.fits v
+        → bytes.now ≡ encoding (R.item v) → IsOkAnd result (λ w. R.fits w × R.same w v) }
+    ensures fault { ((view : View) → ¬ R.may_lack_memory view)
+        → IfErr result (λ e. R.faults (strict_view_of bytes.now) e) }
+{
+    rlp::decode_whole(alloc, bytes)
+}
+
 /// Two records whose encodings are shorter than 2^64 bytes have equal encodings exactly if they are
-/// alike: each of their fields is written as the same item.
+/// alike: they are written as the same item. If both fit, each of their fields is then the same.
 pub fn encodings_tell_records<R: Record>(one: &R, other: &R)
-    ensures { IsSized (R.item one.now) → IsSized (R.item other.now)
+    ensures alike { IsSized (R.item one.now) → IsSized (R.item other.now)
         → ((encoding (R.item one.now) ≡ encoding (R.item other.now))
         ↔ AreAlike R.item one.now other.now) }
+    ensures fields { R.fits one.now → R.fits other.now
+        → IsSized (R.item one.now) → IsSized (R.item other.now)
+        → encoding (R.item one.now) ≡ encoding (R.item other.now) → R.same one.now other.now }
+{}
+
+/// Two transactions that [`Transaction::to_bytes`] writes as the same bytes, fewer than 2^64, have
+/// the same type, and each of their fields is the same. So the hash of these bytes names one
+/// transaction, as far as no two strings have the same hash.
+pub fn bytes_tell_transactions(one: &Transaction, other: &Transaction)
+    ensures { transaction.Fits one.now → transaction.Fits other.now
+        → length (bytes_alone (transaction.item one.now)) < 2 ^ 64
+        → bytes_alone (transaction.item one.now) ≡ bytes_alone (transaction.item other.now)
+        → HaveSameFields one.now other.now }
+{}
+
+/// No bytes are signed for two meanings. If two of what a key signs have the same bytes, fewer than
+/// 2^64, then both are transactions of one type with the same fields, or both are authorizations
+/// with the same fields. A legacy transaction with the number of a chain and one without it have
+/// different bytes.
+///
+/// The bytes of a transaction are those of
+/// [`UnsignedTransaction::to_bytes`](crate::UnsignedTransaction::to_bytes), and those of an
+/// authorization are its [`Tagged::signing_payload`](crate::Tagged::signing_payload).
+pub fn no_bytes_are_signed_for_two_meanings()
+    ensures { (one other : Signable) → FitsSigning one → FitsSigning other
+        → length (signed_bytes one) < 2 ^ 64 → signed_bytes one ≡ signed_bytes other
+        → HaveOneMeaning one other }
 {}

@@ -1,7 +1,10 @@
 //! The laws of `rlp_ethereum`, called for several of its types. What a law says is proved.
 
 use crate::text::bytes_of;
-use rlp_ethereum::laws::{encodings_tell_records, record_is_read, record_is_written};
+use rlp_ethereum::laws::{
+    bytes_tell_transactions, encodings_tell_records, no_bytes_are_signed_for_two_meanings,
+    reading_without_memory_is_total, record_is_read, record_is_written, record_round_trips,
+};
 use rlp_ethereum::{Account, Record, Transaction, Withdrawal};
 use std::alloc::Global;
 use std::test::Fail;
@@ -15,12 +18,16 @@ const ACCOUNT: &str = "f84601820100a0+04*32+a0+05*32";
 /// A transaction of type 2 in a block: a string.
 const TRANSACTION: &str = "9d+FEE_MARKET";
 
-/// Returns whether the bytes are read as a record that is written as the same bytes.
+/// Returns whether the bytes are read as a record that is written as the same bytes, also after it
+/// was written and read back.
 fn laws_hold<R: Record>(alloc: Global, text: &str) -> Result<bool, Fail> {
     let bytes = bytes_of(alloc, text)?;
     let value = record_is_read::<R>(alloc, bytes.as_slice())?;
-    encodings_tell_records(&value, &value);
-    Ok(record_is_written(alloc, &value)?.as_slice() == bytes.as_slice())
+    let again = reading_without_memory_is_total::<R>(alloc, bytes.as_slice())?;
+    let back = record_round_trips(alloc, &again)?;
+    encodings_tell_records(&value, &back);
+    Ok(record_is_written(alloc, &value)?.as_slice() == bytes.as_slice()
+        && record_is_written(alloc, &back)?.as_slice() == bytes.as_slice())
 }
 
 #[test]
@@ -31,5 +38,9 @@ fn laws_hold_of_records(rt: HostRuntime) -> Result<(), Fail> {
             && laws_hold::<Account>(alloc, ACCOUNT)?
             && laws_hold::<Transaction>(alloc, TRANSACTION)?
     );
+    let bytes = bytes_of(alloc, "FEE_MARKET")?;
+    let transaction = Transaction::from_bytes(alloc, bytes.as_slice())?;
+    bytes_tell_transactions(&transaction, &transaction);
+    no_bytes_are_signed_for_two_meanings();
     Ok(())
 }

@@ -34,3 +34,7 @@ FaultsWithRequestId gives faults =
 abbrev pub MayLackWithRequestId : {A : Type 0} → (View → A → Type 0) → (View → Type 0) → View → Type 0
 MayLackWithRequestId gives may_lack = MayLackAsStruct 2 NoMore (GivesSomeOfBoth gives)
     (by_place (λ i v. MayLackAt (λ v. ⊥) v i) (by_place (λ i v. MayLackAt may_lack v i) (λ k i v. ⊥)))
+
+-- both have one number, and their contents agree
+abbrev pub SameWithRequestId : {A : Type 0} → (A → A → Type 0) → WithRequestId A → WithRequestId A → Type 0
+SameWithRequestId Same v w = (v.request_id ≡ w.request_id) × (Same v.content w.content × ⊤)

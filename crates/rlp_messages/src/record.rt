@@ -1,5 +1,15 @@
 //! The messages of this crate are records, so the laws of `rlp_ethereum` hold for each.
 
+ghost use Rattle.rlp.specs.Codec.{codec_of};
+ghost use Rattle.rlp_messages.specs.Announcements.{block_range_update, new_block, new_block_hash, new_block_hashes, new_pooled_transaction_hashes, transactions};
+ghost use Rattle.rlp_messages.specs.HashOrNumber.{hash_or_number};
+ghost use Rattle.rlp_messages.specs.Hello.{capability, hello, node_id};
+ghost use Rattle.rlp_messages.specs.Receipts.{block_receipts, receipts};
+ghost use Rattle.rlp_messages.specs.Requests.{block_bodies, block_headers, get_block_bodies, get_block_headers, get_pooled_transactions, get_receipts};
+ghost use Rattle.rlp_messages.specs.Session.{disconnect, ping, pong};
+ghost use Rattle.rlp_messages.specs.Status.{fork_hash, fork_id, status68, status69};
+ghost use Rattle.rlp_messages.specs.WithRequestId.{SameWithRequestId, with_request_id};
+
 use crate::announcements::{
     BlockRangeUpdate, NewBlock, NewBlockHash, NewBlockHashes, NewPooledTransactionHashes,
     Transactions,
@@ -15,54 +25,159 @@ use crate::status::{ForkHash, ForkId, Status68, Status69};
 use crate::with_request_id::WithRequestId;
 use rlp_ethereum::Record;
 
-impl Record for BlockRangeUpdate {}
+impl Record for BlockRangeUpdate {
+    ghost same = { block_range_update.Same };
 
-impl Record for NewBlock {}
+    ghost told = { block_range_update.told };
+}
 
-impl Record for NewBlockHash {}
+impl Record for NewBlock {
+    ghost same = { new_block.Same };
 
-impl Record for NewBlockHashes {}
+    ghost told = { new_block.told };
+}
 
-impl Record for NewPooledTransactionHashes {}
+impl Record for NewBlockHash {
+    ghost same = { new_block_hash.Same };
 
-impl Record for HashOrNumber {}
+    ghost told = { new_block_hash.told };
+}
 
-impl Record for Capability {}
+impl Record for NewBlockHashes {
+    ghost same = { new_block_hashes.Same };
 
-impl Record for Hello {}
+    ghost told = { new_block_hashes.told };
+}
 
-impl Record for NodeId {}
+impl Record for NewPooledTransactionHashes {
+    ghost same = { new_pooled_transaction_hashes.Same };
 
-impl Record for BlockBodies {}
+    ghost told = { new_pooled_transaction_hashes.told };
+}
 
-impl Record for BlockHeaders {}
+impl Record for HashOrNumber {
+    ghost same = { hash_or_number.Same };
 
-impl Record for GetBlockBodies {}
+    ghost told = { hash_or_number.told };
+}
 
-impl Record for GetBlockHeaders {}
+impl Record for Capability {
+    ghost same = { capability.Same };
 
-impl Record for Disconnect {}
+    ghost told = { capability.told };
+}
 
-impl Record for Ping {}
+impl Record for Hello {
+    ghost same = { hello.Same };
 
-impl Record for Pong {}
+    ghost told = { hello.told };
+}
 
-impl Record for ForkHash {}
+impl Record for NodeId {
+    ghost same = { node_id.Same };
 
-impl Record for ForkId {}
+    ghost told = { node_id.told };
+}
 
-impl Record for Status68 {}
+impl Record for BlockBodies {
+    ghost same = { block_bodies.Same };
 
-impl Record for Status69 {}
+    ghost told = { block_bodies.told };
+}
 
-impl Record for Transactions {}
+impl Record for BlockHeaders {
+    ghost same = { block_headers.Same };
 
-impl Record for BlockReceipts {}
+    ghost told = { block_headers.told };
+}
 
-impl Record for Receipts {}
+impl Record for GetBlockBodies {
+    ghost same = { get_block_bodies.Same };
 
-impl Record for GetPooledTransactions {}
+    ghost told = { get_block_bodies.told };
+}
 
-impl Record for GetReceipts {}
+impl Record for GetBlockHeaders {
+    ghost same = { get_block_headers.Same };
 
-impl<T: Record> Record for WithRequestId<T> {}
+    ghost told = { get_block_headers.told };
+}
+
+impl Record for Disconnect {
+    ghost same = { disconnect.Same };
+
+    ghost told = { disconnect.told };
+}
+
+impl Record for Ping {
+    ghost same = { ping.Same };
+
+    ghost told = { ping.told };
+}
+
+impl Record for Pong {
+    ghost same = { pong.Same };
+
+    ghost told = { pong.told };
+}
+
+impl Record for ForkHash {
+    ghost same = { fork_hash.Same };
+
+    ghost told = { fork_hash.told };
+}
+
+impl Record for ForkId {
+    ghost same = { fork_id.Same };
+
+    ghost told = { fork_id.told };
+}
+
+impl Record for Status68 {
+    ghost same = { status68.Same };
+
+    ghost told = { status68.told };
+}
+
+impl Record for Status69 {
+    ghost same = { status69.Same };
+
+    ghost told = { status69.told };
+}
+
+impl Record for Transactions {
+    ghost same = { transactions.Same };
+
+    ghost told = { transactions.told };
+}
+
+impl Record for BlockReceipts {
+    ghost same = { block_receipts.Same };
+
+    ghost told = { block_receipts.told };
+}
+
+impl Record for Receipts {
+    ghost same = { receipts.Same };
+
+    ghost told = { receipts.told };
+}
+
+impl Record for GetPooledTransactions {
+    ghost same = { get_pooled_transactions.Same };
+
+    ghost told = { get_pooled_transactions.told };
+}
+
+impl Record for GetReceipts {
+    ghost same = { get_receipts.Same };
+
+    ghost told = { get_receipts.told };
+}
+
+impl<T: Record> Record for WithRequestId<T> {
+    ghost same = { SameWithRequestId T.same };
+
+    ghost told = { (with_request_id (record (codec_of T.fits T.item T.gives T.faults
+        T.may_lack_memory T.round_trip T.strict) { Same = T.same; told = T.told })).told };
+}
