@@ -15,8 +15,6 @@ mod fields;
 #[cfg(test)]
 mod laws;
 #[cfg(test)]
-mod messages;
-#[cfg(test)]
 mod named;
 #[cfg(test)]
 mod node_records;
@@ -26,8 +24,6 @@ mod nodes;
 mod reading;
 #[cfg(test)]
 mod records;
-#[cfg(test)]
-mod requests;
 #[cfg(test)]
 mod rows;
 #[cfg(test)]
