@@ -54,7 +54,7 @@ const TREES: [((&[u8], usize), &str); 14] = [
     ((b"", 9), "RlpIsTooShort"),
     ((b"\xc0\x05", 9), "RlpIsTooBig"),
     ((b"\xc2\x81\x05", 9), "RlpInvalidIndirection"),
-    ((b"\xc4\x82\x05\x81\x05", 9), "RlpIsTooShort"),
+    ((b"\xc3\x05\x82\x01", 9), "RlpIsTooShort"),
     ((b"\xc4\xc1\xc0\x81\x05", 1), "TooDeep"),
     ((b"\xc4\x81\x05\xc1\xc0", 1), "RlpInvalidIndirection"),
 ];
