@@ -21,8 +21,8 @@ pub fn encoding_hash<E: Encodable>(alloc: Global, value: &E) -> Result<Hash, All
     ensures fits { OnOk result (E.fits value.now) }
     ensures hash { IfOk result (λ h. IsHashOf h (encoding (E.item value.now))) }
 {
-    let bytes = rlp::encode(alloc, value)?;
-    Ok(Hash(keccak256(bytes.as_slice())))
+    let encoding = rlp::encode(alloc, value)?;
+    Ok(Hash(keccak256(encoding.as_slice())))
 }
 
 /// Returns the hash that is signed: that of [`Tagged::signing_payload`]. Fails as it does.
@@ -31,8 +31,8 @@ pub fn signing_hash<T: Tagged>(alloc: Global, payload: &T) -> Result<Hash, Alloc
     ensures hash { IfOk result
         (λ h. IsHashOf h (T.TAG ∷ encoding (list_of (T.items payload.now)))) }
 {
-    let bytes = payload.signing_payload(alloc)?;
-    Ok(Hash(keccak256(bytes.as_slice())))
+    let signed = payload.signing_payload(alloc)?;
+    Ok(Hash(keccak256(signed.as_slice())))
 }
 
 impl Transaction {
@@ -54,8 +54,8 @@ impl UnsignedTransaction {
         ensures hash { IfOk result
             (λ h. IsHashOf h (bytes_alone (unsigned_transaction.item self.now))) }
     {
-        let bytes = self.to_bytes(alloc)?;
-        Ok(Hash(keccak256(bytes.as_slice())))
+        let payload = self.to_bytes(alloc)?;
+        Ok(Hash(keccak256(payload.as_slice())))
     }
 }
 
@@ -65,7 +65,7 @@ impl Header {
         ensures fits { OnOk result (header.Fits self.now) }
         ensures hash { IfOk result (λ h. IsHashOf h (encoding (header.item self.now))) }
     {
-        encoding_hash(alloc, self)
+        encoding_hash::<Header>(alloc, self)
     }
 }
 
@@ -76,6 +76,6 @@ impl TrieNode {
         ensures fits { OnOk result (trie_node.Fits self.now) }
         ensures hash { IfOk result (λ h. IsHashOf h (encoding (trie_node.item self.now))) }
     {
-        encoding_hash(alloc, self)
+        encoding_hash::<TrieNode>(alloc, self)
     }
 }
