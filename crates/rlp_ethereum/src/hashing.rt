@@ -15,8 +15,9 @@ use keccak::keccak256;
 use rlp::Encodable;
 use std::alloc::{AllocError, Global};
 
-/// Returns the hash of the encoding of a value, such as a list of ommers. Fails as [`rlp::encode`]
-/// does.
+/// Returns the hash of the encoding of a value, such as an
+/// [`UnsignedLegacyTransaction`](crate::UnsignedLegacyTransaction), for which it is what is signed.
+/// Fails as [`rlp::encode`] does.
 pub fn encoding_hash<E: Encodable>(alloc: Global, value: &E) -> Result<Hash, AllocError>
     ensures fits { OnOk result (E.fits value.now) }
     ensures hash { IfOk result (λ h. IsHashOf h (encoding (E.item value.now))) }

@@ -3,17 +3,17 @@
 use crate::text::bytes_of;
 use rlp_ethereum::{
     AccessListTransaction, FeeMarketTransaction, Hash, Header, Signed, Transaction, TrieNode,
-    UnsignedTransaction, encoding_hash, signing_hash,
+    UnsignedLegacyTransaction, UnsignedTransaction, encoding_hash, signing_hash,
 };
 use std::alloc::Global;
 use std::test::Fail;
 
 /// What is hashed, its bytes as text, and the digits of its hash: the headers of the first two blocks
-/// of the main network, of block 0 of the network Holesky and of block 1 of a test of EIP-1559; a
-/// list of no ommers; the first transaction of the main network, the example of EIP-155 and a
-/// transaction of type 2; what is signed of a transaction of the tests of `go-ethereum`, of the one
-/// of type 2 and of the example; and the roots of the tries of transactions and receipts of block
-/// 46147, which has only the first transaction.
+/// of the main network, of block 0 of the network Holesky and of block 1 of a test of EIP-1559; the
+/// first transaction of the main network, the example of EIP-155 and a transaction of type 2; what is
+/// signed of a transaction of the tests of `go-ethereum`, of the one of type 2 and of the example; and
+/// the roots of the tries of transactions and receipts of block 46147, which has only the first
+/// transaction.
 const ROWS: [(&str, &str, &str); 13] = [
     (
         "header",
@@ -43,11 +43,6 @@ const ROWS: [(&str, &str, &str); 13] = [
          a029b0562f7140574dd0d50dee8a271b22e1a0a7b78fca58f7c60370d8317ba2a9b90100+00*25\
          6+830200000188016345785d8a00008301553482079e42a0+00*32+88+00*8+82036b",
         "6a251c7c3c5dca7b42407a3752ff48f3bbca1fab7f9868371d9918daf1988d1f",
-    ),
-    (
-        "ommers",
-        "c0",
-        "1dcc4de8dec75d7aab85b567b6ccd41ad312451b948a7413f0a142fd40d49347",
     ),
     (
         "transaction",
@@ -90,6 +85,11 @@ const ROWS: [(&str, &str, &str); 13] = [
         "daf5a779ae972f972197303d7b574746c7ef83eadac0f2791ad23db92e4c8e53",
     ),
     (
+        "unsigned legacy transaction",
+        "EXAMPLE",
+        "daf5a779ae972f972197303d7b574746c7ef83eadac0f2791ad23db92e4c8e53",
+    ),
+    (
         "node",
         "f86e822080b869+FIRST",
         "4513310fcb9f6f616972a3b948dc5d547f280849a87ebb5af0191f98b87be598",
@@ -106,7 +106,10 @@ const ROWS: [(&str, &str, &str); 13] = [
 fn hash(alloc: Global, kind: &str, bytes: &[u8]) -> Result<Hash, Fail> {
     Ok(match kind {
         "header" => rlp::decode_strict::<Header>(alloc, bytes)?.hash(alloc)?,
-        "ommers" => encoding_hash(alloc, &rlp::decode_strict::<Vec<Header>>(alloc, bytes)?)?,
+        "unsigned legacy transaction" => {
+            let unsigned = rlp::decode_strict::<UnsignedLegacyTransaction>(alloc, bytes)?;
+            encoding_hash(alloc, &unsigned)?
+        }
         "transaction" => Transaction::from_bytes(alloc, bytes)?.hash(alloc)?,
         "unsigned transaction" => {
             UnsignedTransaction::from_bytes(alloc, bytes)?.signing_hash(alloc)?
