@@ -14,6 +14,7 @@ pub mod Envelope
 pub mod FeeMarketTransaction
 pub mod Forks
 pub mod Hash
+pub mod Hashing
 pub mod Header
 pub mod Inline
 pub mod LegacyTransaction

@@ -13,6 +13,8 @@ mod answers;
 #[cfg(test)]
 mod fields;
 #[cfg(test)]
+mod hashes;
+#[cfg(test)]
 mod laws;
 #[cfg(test)]
 mod named;
