@@ -12,3 +12,7 @@ mod Measuring
 mod Texts
 -- the rows of a tree describe it
 mod Described
+-- the walk over the fields of a record
+mod Checking
+-- the answers for transactions and headers
+mod RecordAnswers

@@ -110,7 +110,7 @@ splitting_ends p rest place old new n w none =
       rows = subst (λ fs. Extends old 0 (rows_at place 1 fs) new) same w.rows;
     }
 
-rows_counted : (place depth : ℕ) (fs : List (List ℕ)) → length (rows_at place depth fs) ≡ length fs
+pub rows_counted : (place depth : ℕ) (fs : List (List ℕ)) → length (rows_at place depth fs) ≡ length fs
 unfolding rows_at
 rows_counted place depth [] = refl
 rows_counted place depth (f ∷ fs) = ap (λ n. suc n) (rows_counted (place + length f) depth fs)

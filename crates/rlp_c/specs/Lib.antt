@@ -10,3 +10,9 @@ pub mod Flat
 pub mod Written
 -- the tree that rows describe
 pub mod Tree
+-- the records of Ethereum
+pub mod Kinds
+-- the first fault of the fields of a record
+pub mod Fields
+-- the answers for transactions and headers
+pub mod Records

@@ -8,6 +8,7 @@ mod flatten;
 mod header;
 mod item;
 mod laws;
+mod records;
 mod split;
 mod status;
 mod text;

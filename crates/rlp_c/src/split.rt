@@ -42,7 +42,11 @@ pub extern "C" fn rlp_split(bytes: &[u8], out: &mut [RlpItem], count: &mut usize
 
 /// Writes a row for each item of a payload that begins at this place, and returns their number, or
 /// the fault of what follows the items.
-fn split_payload(payload: &[u8], place: usize, out: &mut [RlpItem]) -> Result<usize, DecoderError>
+pub(crate) fn split_payload(
+    payload: &[u8],
+    place: usize,
+    out: &mut [RlpItem],
+) -> Result<usize, DecoderError>
     requires { place + length payload.now < 2 ^ 64 }
     ensures fault { MatchResult result (λ _. fault_of_some (after_items payload.now) ≡ None)
         (λ e. fault_of_some (after_items payload.now) ≡ Some e) }

@@ -15,6 +15,9 @@ pub const RLP_TOO_DEEP: u32 = 14;
 /// The items describe no tree, or point outside the bytes.
 pub const RLP_BAD_ITEMS: u32 = 15;
 
+/// A transaction has a type that isn't known.
+pub const RLP_UNKNOWN_TYPE: u32 = 16;
+
 /// The number of a fault.
 pub fn status_of(fault: &DecoderError) -> u32
     ensures { result ≡ fault_status fault.now }
