@@ -15,10 +15,10 @@ pub mod FeeMarketTransaction
 pub mod Forks
 pub mod Hash
 pub mod Header
+pub mod HexPrefix
 pub mod Inline
 pub mod LegacyTransaction
 pub mod Log
-pub mod Marks
 pub mod NodeFields
 pub mod NodeLaws
 pub mod NodeRecord

@@ -45,7 +45,7 @@ impl Record for Account {}
 
 impl Record for Child {}
 
-impl<const KIND: u8> Record for Path<KIND> {}
+impl<const FLAG: u8> Record for Path<FLAG> {}
 
 impl Record for Leaf {}
 
