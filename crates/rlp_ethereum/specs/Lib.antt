@@ -16,10 +16,10 @@ pub mod Forks
 pub mod Hash
 pub mod Hashing
 pub mod Header
+pub mod HexPrefix
 pub mod Inline
 pub mod LegacyTransaction
 pub mod Log
-pub mod Marks
 pub mod NodeFields
 pub mod NodeLaws
 pub mod NodeRecord

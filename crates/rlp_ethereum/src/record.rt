@@ -176,10 +176,10 @@ impl Record for Child {
     ghost told = { child.told };
 }
 
-impl<const KIND: u8> Record for Path<KIND> {
-    ghost same = { (path KIND).Same };
+impl<const FLAG: u8> Record for Path<FLAG> {
+    ghost same = { (path FLAG).Same };
 
-    ghost told = { (path KIND).told };
+    ghost told = { (path FLAG).told };
 }
 
 impl Record for Leaf {

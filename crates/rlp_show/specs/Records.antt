@@ -1,10 +1,12 @@
 -- The fields of each record, by their names in `rlp_ethereum`.
-use Rattle.std.specs.Prelude.{ℕ, ◌/◌, ◌%◌, ◌==◌, ◌||◌, ◌&&◌, nat_lt, if◌then◌else◌, Bool, false, List, [], ◌∷◌, ◌++◌, drop, length, codes, Result, Ok, Err}
+use Rattle.std.specs.Prelude.{ℕ, ◌%◌, ◌==◌, ◌||◌, nat_lt, if◌then◌else◌, Bool, false, List, [], ◌∷◌, ◌++◌, drop, length, codes, is_some, Result, Ok, Err}
 use Rattle.rlp.specs.DecoderError.{DecoderError}
 use Rattle.rlp.specs.DecoderError.TheVariants.{RlpIncorrectListLen, RlpIsTooBig, RlpIsTooShort}
 use Rattle.rlp.specs.Format.Split.{begins_as_list}
 use Rattle.rlp.specs.Views.Text.{error_name}
 use Rattle.rlp.specs.Views.View.{View, item_count, item_views, view_string}
+use Rattle.rlp_ethereum.specs.HexPrefix.{ends_in_leaf}
+use Rattle.rlp_ethereum.specs.TrieNode.{is_leaf_string}
 use Rattle.rlp_show.specs.Lines.{Field, Shape, Shown, Worded, byte_string, field, fields_lines, fixed_bytes, fixed_bytes_in, item_within, line, list_of}
 use Rattle.rlp_show.specs.Lines.{list_or_string, number, optional, pairs_lines, prefix, recipient, record_of, string_shape, then_lines, truth_value, typed, wrong}
 use Rattle.rlp_show.specs.Text.{bytes_text}
@@ -241,15 +243,10 @@ node_record name v = node_record_lines name (item_views v) (item_count v)
 
 -- ---- nodes of the trie
 
--- whether a first byte begins a hex-prefix encoded path: its first four bits are a flag from 0 to 3, and after an even flag the other four are zero
-abbrev pub begins_path : ℕ → Bool
-begins_path first = nat_lt first 0x40 && ((first / 16 % 2 == 1) || (first % 16 == 0))
-
 -- a hex-prefix encoded path
 abbrev pub path_in : List ℕ → Worded
-path_in [] = Err (codes "Custom(\"path is not hex-prefix encoded\")")
-path_in (first ∷ more) =
-    if begins_path first then Ok (bytes_text (first ∷ more))
+path_in d =
+    if is_some (ends_in_leaf d) then Ok (bytes_text d)
     else Err (codes "Custom(\"path is not hex-prefix encoded\")")
 
 -- paths
@@ -299,16 +296,10 @@ branch = record_of (
     ∷ field (codes "value") byte_string
     ∷ [])
 
--- whether a path is that of a leaf: the flag is 2 or 3, so that the first byte is at least 32
-abbrev pub flags_leaf : Result (List ℕ) DecoderError → Bool
-flags_leaf (Ok (first ∷ more)) = nat_lt 0x1f first
-flags_leaf (Ok []) = false
-flags_leaf (Err e) = false
-
--- the same for the items of a node, of which the path is the first
+-- whether the first item of a node is the path of a leaf
 abbrev pub are_leaf : List View → Bool
 are_leaf [] = false
-are_leaf (first ∷ more) = flags_leaf (view_string first)
+are_leaf (first ∷ more) = is_leaf_string (view_string first)
 
 -- the line of the kind of a node, and then the lines of the node
 abbrev pub node_of : List ℕ → Shape → Shape
