@@ -1,15 +1,15 @@
 //! Streams that are written by scripts of calls. The finished bytes were worked out by hand.
 
-use crate::refused::streams::SIXTY;
-use crate::support::guarded::{finalize, finishes_as, put_raw_within, takes_items};
-use crate::support::script::{Row, buffer_of, first_wrong, is_as};
-use rlp::RlpStream;
-use rlp_fixtures::Pair;
+use crate::guarded::{finalize, finishes_as, is_as, put_raw_within, takes_items};
+use crate::refused::SIXTY;
+use crate::script::{Row, buffer_of, first_wrong};
+use crate::values::Pair;
+use rlp_streams::RlpStream;
 use std::alloc::{AllocError, Global};
 use std::test::Fail;
 
 /// Lists that announce their items, unbounded lists, values of each kind, and `clear`.
-const ROWS: [Row; 24] = [
+const ROWS: [Row; 23] = [
     ("list 0", "c0"),
     ("list 1; begin 0", "c1c0"),
     ("list 2; pair 1 2; number 3", "c4c2010203"),
@@ -27,7 +27,7 @@ const ROWS: [Row; 24] = [
     ("list 3; text cat; clear; text dog", "83646f67"),
     ("unbounded; clear", ""),
     ("unbounded; text a; finalize; text b", "c16162"),
-    ("small 2", "02"),
+    ("small 02", "02"),
     ("smalls 010203", "c3010203"),
     (
         "unbounded; number 40; number 41; is 3 any 002829; finalize",
@@ -39,11 +39,6 @@ const ROWS: [Row; 24] = [
     // values that are put uncounted
     ("list 2; wrapper 7; number 8", "c20708"),
     ("list 1; none", "c1c0"),
-    // raw items
-    (
-        "list 3; raw_item 83636174; raw_item c0; begin 1; raw_item 83636174",
-        "ca83636174c0c483636174",
-    ),
     (
         "list 1; encode 'dog; encode_undotted 'dog; is 9 1 00+83+'dog+83+'dog; empty",
         "c983646f6783646f6780",
@@ -90,10 +85,19 @@ const FRONTS: [Row; 3] = [
     ),
 ];
 
-/// Lists that await many items, in a new stream and over a buffer; and lists behind 2 MiB.
-const MANY: [Row; 5] = [
+/// Lists whose payloads have 16,777,215 and 16,777,216 bytes; lists that await many items, in a new
+/// stream and over a buffer; and lists behind 2 MiB.
+const MANY: [Row; 7] = [
     (
-        "string 07*2097152; begin 1; small 5; unbounded; small 6; finalize",
+        "unbounded; string 07*16777211; finalize",
+        "faffffff+bafffffb+07*16777211",
+    ),
+    (
+        "unbounded; string 07*16777212; finalize",
+        "fb01000000+bafffffc+07*16777212",
+    ),
+    (
+        "string 07*2097152; begin 1; small 05; unbounded; small 06; finalize",
         "ba200000+07*2097152+c105c106",
     ),
     (
@@ -238,20 +242,18 @@ const ESTIMATES: [Row; 4] = [
     ("list 1; raw 0 05; is 2 1 0005", "open"),
 ];
 
-#[test]
-fn streams_finish_as_worked_out(rt: HostRuntime) -> Result<(), Fail> {
-    let alloc = rt.alloc();
-    assert_eq!(rt; first_wrong(alloc, &ROWS)?, None);
-    assert_eq!(rt; first_wrong(alloc, &NOT_ADMITTED)?, None);
-    assert_eq!(rt; first_wrong(alloc, &ITERATORS)?, None);
-    assert_eq!(rt; first_wrong(alloc, &FRONTS)?, None);
-    assert_eq!(rt; first_wrong(alloc, &MANY)?, None);
-    assert_eq!(rt; first_wrong(alloc, &FILLED)?, None);
-    assert_eq!(rt; first_wrong(alloc, &FINALIZED)?, None);
-    assert_eq!(rt; first_wrong(alloc, &NESTED)?, None);
-    assert_eq!(rt; first_wrong(alloc, &ESTIMATES)?, None);
-    Ok(())
-}
+/// The tables of scripts.
+const TABLES: [&[Row]; 9] = [
+    &ROWS,
+    &NOT_ADMITTED,
+    &ITERATORS,
+    &FRONTS,
+    &MANY,
+    &FILLED,
+    &FINALIZED,
+    &NESTED,
+    &ESTIMATES,
+];
 
 /// Opens sixty lists, one inside another, that await this number of items or any. Returns the first
 /// number of open lists with which the stream isn't as wanted. Lists of more than 55 bytes have a
@@ -335,8 +337,9 @@ fn buffers_are_joined(alloc: Global) -> Result<bool, AllocError> {
 }
 
 #[test]
-fn streams_in_calls(rt: HostRuntime) -> Result<(), Fail> {
+fn streams_finish_as_worked_out(rt: HostRuntime) -> Result<(), Fail> {
     let alloc = rt.alloc();
+    assert_eq!(rt; first_wrong(alloc, &TABLES)?, None);
     assert_eq!(rt; first_wrong_depth(alloc, Some(1))?, None);
     assert_eq!(rt; first_wrong_depth(alloc, None)?, None);
     assert_eq!(rt; first_unfilled(alloc)?, None);
