@@ -16,6 +16,19 @@ pub(crate) fn takes_items(s: &RlpStream, items: usize) -> bool
     }
 }
 
+/// Begins a list that awaits this number of items, or any.
+pub(crate) fn begin(s: &mut RlpStream, items: Option<usize>) -> Result<(), AllocError> {
+    match items {
+        Some(items) => {
+            s.begin_list(items)?;
+        }
+        None => {
+            s.begin_unbounded_list()?;
+        }
+    }
+    Ok(())
+}
+
 /// Appends raw bytes. Returns `false` if the innermost open list awaits fewer items.
 pub(crate) fn put_raw(s: &mut RlpStream, bytes: &[u8], items: usize) -> Result<bool, AllocError> {
     if !takes_items(s, items) {

@@ -1,7 +1,7 @@
 //! Raw bytes that are appended within a limit, for limits below and above the resulting closed
 //! size.
 
-use crate::guarded::{is_as, put_raw, put_raw_within};
+use crate::guarded::{begin, is_as, put_raw, put_raw_within};
 use bytes::BytesMut;
 use rlp_streams::RlpStream;
 use std::alloc::{AllocError, Global};
@@ -51,11 +51,13 @@ const ROWS: [Row; 32] = [
 /// each list.
 fn open(s: &mut RlpStream, lists: usize, awaited: &str, bytes: &[u8]) -> Result<bool, AllocError> {
     for list in 0..lists {
-        match awaited {
-            "any" => s.begin_unbounded_list()?,
-            "more" => s.begin_list(3)?,
-            _ => s.begin_list(if list + 1 < lists { 1 } else { 2 })?,
+        let items = match awaited {
+            "any" => None,
+            "more" => Some(3),
+            _ if list + 1 < lists => Some(1),
+            _ => Some(2),
         };
+        begin(s, items)?;
     }
     put_raw(s, bytes, 1)
 }

@@ -8,7 +8,7 @@
 //! and `estimate MORE SIZE` compare the stream.
 
 use crate::guarded::{
-    estimates, finalize, finishes_as, is_as, put_raw, put_raw_within, put_undotted,
+    begin, estimates, finalize, finishes_as, is_as, put_raw, put_raw_within, put_undotted,
 };
 use crate::values::{Pair, Wrapper};
 use bytes::BytesMut;
@@ -64,12 +64,8 @@ fn begun(alloc: Global, name: &str, first: &str, second: &str) -> Result<RlpStre
 /// Makes a call that begins or closes lists, or clears the stream.
 fn go_on(s: &mut RlpStream, name: &str, first: usize, second: usize) -> Result<bool, AllocError> {
     match name {
-        "begin" => {
-            s.begin_list(first)?;
-        }
-        "unbounded" => {
-            s.begin_unbounded_list()?;
-        }
+        "begin" => begin(s, Some(first))?,
+        "unbounded" => begin(s, None)?,
         "finalize" => return finalize(s),
         "finalize_up_to" => return Ok(s.finalize_unbounded_lists(first)? == second),
         _ => s.clear(),

@@ -1,9 +1,10 @@
 //! Streams that are written by scripts of calls. The finished bytes were worked out by hand.
 
-use crate::guarded::{finalize, finishes_as, is_as, put_raw_within, takes_items};
+use crate::guarded::{begin, finalize, finishes_as, is_as, put_raw_within, takes_items};
 use crate::refused::SIXTY;
 use crate::script::{Row, buffer_of, first_wrong};
 use crate::values::Pair;
+use bytes::BytesMut;
 use rlp_streams::RlpStream;
 use std::alloc::{AllocError, Global};
 use std::test::Fail;
@@ -261,10 +262,7 @@ const TABLES: [&[Row]; 9] = [
 fn first_wrong_depth(alloc: Global, awaited: Option<usize>) -> Result<Option<usize>, AllocError> {
     let mut s = RlpStream::new(alloc)?;
     for depth in 1usize..=60 {
-        match awaited {
-            Some(len) => s.begin_list(len)?,
-            None => s.begin_unbounded_list()?,
-        };
+        begin(&mut s, awaited)?;
         let raw = vec![in alloc; 0u8; depth]?;
         let size = depth.saturating_add(depth.saturating_sub(56));
         if !is_as(&s, raw.as_slice(), size, awaited, awaited.is_none()) {
@@ -317,23 +315,34 @@ fn six_finish(alloc: Global) -> Result<bool, AllocError> {
     Ok(finalize(&mut s)? && finalize(&mut s)? && finishes_as(s, &SIX))
 }
 
-/// Returns whether streams over the two parts of a split buffer write behind what is there, and the
-/// parts are joined again.
-fn buffers_are_joined(alloc: Global) -> Result<bool, AllocError> {
+/// Appends a text behind the bytes of a buffer.
+fn appended(alloc: Global, buffer: BytesMut, text: &str) -> Result<BytesMut, AllocError> {
+    let mut s = RlpStream::new_with_buffer(alloc, buffer);
+    s.append(&text)?;
+    if s.is_finished() {
+        Ok(s.out())
+    } else {
+        Err(AllocError)
+    }
+}
+
+/// Returns two parts of a buffer that is split behind `junk`. The second is `!`.
+fn parts(alloc: Global) -> Result<(BytesMut, BytesMut), AllocError> {
     let mut buffer = buffer_of(alloc, "'junk")?;
     let end = buffer.len();
     let mut split = buffer.split_off(end)?;
     split.extend_from_slice(b"!")?;
-    let mut s = RlpStream::new_with_buffer(alloc, split);
-    s.append(&"cat")?;
-    if !s.is_finished() {
-        return Ok(false);
-    }
-    buffer.unsplit(s.out())?;
+    Ok((buffer, split))
+}
+
+/// Returns whether streams over the two parts of a split buffer write behind what is there, and the
+/// parts are joined again.
+fn buffers_are_joined(alloc: Global) -> Result<bool, AllocError> {
+    let (mut buffer, split) = parts(alloc)?;
+    buffer.unsplit(appended(alloc, split, "cat")?)?;
     buffer.extend_from_slice(b" and ")?;
-    let mut s = RlpStream::new_with_buffer(alloc, buffer);
-    s.append(&"dog")?;
-    Ok(finishes_as(s, b"junk!\x83cat and \x83dog"))
+    let joined = appended(alloc, buffer, "dog")?;
+    Ok(joined.as_slice() == b"junk!\x83cat and \x83dog".as_slice())
 }
 
 #[test]

@@ -1,7 +1,7 @@
 //! Streams compared with a simple recursive writer, for every small tree and for strings of many
 //! lengths.
 
-use crate::guarded::{finalize, finishes_as};
+use crate::guarded::{begin, finalize, finishes_as};
 use crate::plain;
 use rlp_streams::RlpStream;
 use std::alloc::{AllocError, Global};
@@ -68,11 +68,7 @@ fn append(s: &mut RlpStream, announced: bool, tree: &Tree<'_>) -> Result<bool, A
         Tree::OneItem(_) => 1,
         Tree::TwoItems(..) => 2,
     };
-    if announced {
-        s.begin_list(len)?;
-    } else {
-        s.begin_unbounded_list()?;
-    }
+    begin(s, if announced { Some(len) } else { None })?;
     let done = match tree {
         Tree::OneItem(item) => append(s, announced, item)?,
         Tree::TwoItems(first, second) => {
@@ -119,7 +115,7 @@ const STRETCHES: [(usize, usize, usize); 7] = [
 
 /// Returns the first length of a range at which a string of bytes 00 isn't written as plainly.
 fn first_wrong(alloc: Global, range: (usize, usize, usize)) -> Result<Option<usize>, AllocError> {
-    for len in (range.0..range.1).step_by(range.2) {
+    for len in (range.0..range.1).step_by(range.2.max(1)) {
         let zeros = vec![in alloc; 0u8; len]?;
         let mut bytes = Vec::new(alloc);
         plain::put(&mut bytes, plain::STRING, zeros.as_slice())?;
