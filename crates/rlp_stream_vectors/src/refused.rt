@@ -4,7 +4,7 @@
 //! `refusals/run` refuses each request of these tests in turn. A test returns `AllocError` if the
 //! refused call left the stream as it was.
 
-use crate::support::script::{Row, first_wrong};
+use crate::script::{Row, first_wrong};
 use std::test::Fail;
 
 /// A list of two texts in a list, and then an empty text; a list of two pairs; 20 strings of 700
@@ -85,7 +85,6 @@ const LISTS: [Row; 4] = [
 
 #[test]
 fn calls_are_made_again(rt: HostRuntime) -> Result<(), Fail> {
-    assert_eq!(rt; first_wrong(rt.alloc(), &ITEMS)?, None);
-    assert_eq!(rt; first_wrong(rt.alloc(), &LISTS)?, None);
+    assert_eq!(rt; first_wrong(rt.alloc(), &[&ITEMS, &LISTS])?, None);
     Ok(())
 }

@@ -1,15 +1,16 @@
 //! Streams that are written by scripts of calls. The finished bytes were worked out by hand.
 
-use crate::refused::streams::SIXTY;
-use crate::support::guarded::{finalize, finishes_as, put_raw_within, takes_items};
-use crate::support::script::{Row, buffer_of, first_wrong, is_as};
-use rlp::RlpStream;
-use rlp_fixtures::Pair;
+use crate::guarded::{begin, finalize, finishes_as, is_as, put_raw_within, takes_items};
+use crate::refused::SIXTY;
+use crate::script::{Row, buffer_of, first_wrong};
+use crate::values::Pair;
+use bytes::BytesMut;
+use rlp_streams::RlpStream;
 use std::alloc::{AllocError, Global};
 use std::test::Fail;
 
 /// Lists that announce their items, unbounded lists, values of each kind, and `clear`.
-const ROWS: [Row; 24] = [
+const ROWS: [Row; 23] = [
     ("list 0", "c0"),
     ("list 1; begin 0", "c1c0"),
     ("list 2; pair 1 2; number 3", "c4c2010203"),
@@ -27,7 +28,7 @@ const ROWS: [Row; 24] = [
     ("list 3; text cat; clear; text dog", "83646f67"),
     ("unbounded; clear", ""),
     ("unbounded; text a; finalize; text b", "c16162"),
-    ("small 2", "02"),
+    ("small 02", "02"),
     ("smalls 010203", "c3010203"),
     (
         "unbounded; number 40; number 41; is 3 any 002829; finalize",
@@ -39,11 +40,6 @@ const ROWS: [Row; 24] = [
     // values that are put uncounted
     ("list 2; wrapper 7; number 8", "c20708"),
     ("list 1; none", "c1c0"),
-    // raw items
-    (
-        "list 3; raw_item 83636174; raw_item c0; begin 1; raw_item 83636174",
-        "ca83636174c0c483636174",
-    ),
     (
         "list 1; encode 'dog; encode_undotted 'dog; is 9 1 00+83+'dog+83+'dog; empty",
         "c983646f6783646f6780",
@@ -90,10 +86,19 @@ const FRONTS: [Row; 3] = [
     ),
 ];
 
-/// Lists that await many items, in a new stream and over a buffer; and lists behind 2 MiB.
-const MANY: [Row; 5] = [
+/// Lists whose payloads have 16,777,215 and 16,777,216 bytes; lists that await many items, in a new
+/// stream and over a buffer; and lists behind 2 MiB.
+const MANY: [Row; 7] = [
     (
-        "string 07*2097152; begin 1; small 5; unbounded; small 6; finalize",
+        "unbounded; string 07*16777211; finalize",
+        "faffffff+bafffffb+07*16777211",
+    ),
+    (
+        "unbounded; string 07*16777212; finalize",
+        "fb01000000+bafffffc+07*16777212",
+    ),
+    (
+        "string 07*2097152; begin 1; small 05; unbounded; small 06; finalize",
         "ba200000+07*2097152+c105c106",
     ),
     (
@@ -238,20 +243,18 @@ const ESTIMATES: [Row; 4] = [
     ("list 1; raw 0 05; is 2 1 0005", "open"),
 ];
 
-#[test]
-fn streams_finish_as_worked_out(rt: HostRuntime) -> Result<(), Fail> {
-    let alloc = rt.alloc();
-    assert_eq!(rt; first_wrong(alloc, &ROWS)?, None);
-    assert_eq!(rt; first_wrong(alloc, &NOT_ADMITTED)?, None);
-    assert_eq!(rt; first_wrong(alloc, &ITERATORS)?, None);
-    assert_eq!(rt; first_wrong(alloc, &FRONTS)?, None);
-    assert_eq!(rt; first_wrong(alloc, &MANY)?, None);
-    assert_eq!(rt; first_wrong(alloc, &FILLED)?, None);
-    assert_eq!(rt; first_wrong(alloc, &FINALIZED)?, None);
-    assert_eq!(rt; first_wrong(alloc, &NESTED)?, None);
-    assert_eq!(rt; first_wrong(alloc, &ESTIMATES)?, None);
-    Ok(())
-}
+/// The tables of scripts.
+const TABLES: [&[Row]; 9] = [
+    &ROWS,
+    &NOT_ADMITTED,
+    &ITERATORS,
+    &FRONTS,
+    &MANY,
+    &FILLED,
+    &FINALIZED,
+    &NESTED,
+    &ESTIMATES,
+];
 
 /// Opens sixty lists, one inside another, that await this number of items or any. Returns the first
 /// number of open lists with which the stream isn't as wanted. Lists of more than 55 bytes have a
@@ -259,10 +262,7 @@ fn streams_finish_as_worked_out(rt: HostRuntime) -> Result<(), Fail> {
 fn first_wrong_depth(alloc: Global, awaited: Option<usize>) -> Result<Option<usize>, AllocError> {
     let mut s = RlpStream::new(alloc)?;
     for depth in 1usize..=60 {
-        match awaited {
-            Some(len) => s.begin_list(len)?,
-            None => s.begin_unbounded_list()?,
-        };
+        begin(&mut s, awaited)?;
         let raw = vec![in alloc; 0u8; depth]?;
         let size = depth.saturating_add(depth.saturating_sub(56));
         if !is_as(&s, raw.as_slice(), size, awaited, awaited.is_none()) {
@@ -315,28 +315,40 @@ fn six_finish(alloc: Global) -> Result<bool, AllocError> {
     Ok(finalize(&mut s)? && finalize(&mut s)? && finishes_as(s, &SIX))
 }
 
-/// Returns whether streams over the two parts of a split buffer write behind what is there, and the
-/// parts are joined again.
-fn buffers_are_joined(alloc: Global) -> Result<bool, AllocError> {
+/// Appends a text behind the bytes of a buffer.
+fn appended(alloc: Global, buffer: BytesMut, text: &str) -> Result<BytesMut, AllocError> {
+    let mut s = RlpStream::new_with_buffer(alloc, buffer);
+    s.append(&text)?;
+    if s.is_finished() {
+        Ok(s.out())
+    } else {
+        Err(AllocError)
+    }
+}
+
+/// Returns two parts of a buffer that is split behind `junk`. The second is `!`.
+fn parts(alloc: Global) -> Result<(BytesMut, BytesMut), AllocError> {
     let mut buffer = buffer_of(alloc, "'junk")?;
     let end = buffer.len();
     let mut split = buffer.split_off(end)?;
     split.extend_from_slice(b"!")?;
-    let mut s = RlpStream::new_with_buffer(alloc, split);
-    s.append(&"cat")?;
-    if !s.is_finished() {
-        return Ok(false);
-    }
-    buffer.unsplit(s.out())?;
+    Ok((buffer, split))
+}
+
+/// Returns whether streams over the two parts of a split buffer write behind what is there, and the
+/// parts are joined again.
+fn buffers_are_joined(alloc: Global) -> Result<bool, AllocError> {
+    let (mut buffer, split) = parts(alloc)?;
+    buffer.unsplit(appended(alloc, split, "cat")?)?;
     buffer.extend_from_slice(b" and ")?;
-    let mut s = RlpStream::new_with_buffer(alloc, buffer);
-    s.append(&"dog")?;
-    Ok(finishes_as(s, b"junk!\x83cat and \x83dog"))
+    let joined = appended(alloc, buffer, "dog")?;
+    Ok(joined.as_slice() == b"junk!\x83cat and \x83dog".as_slice())
 }
 
 #[test]
-fn streams_in_calls(rt: HostRuntime) -> Result<(), Fail> {
+fn streams_finish_as_worked_out(rt: HostRuntime) -> Result<(), Fail> {
     let alloc = rt.alloc();
+    assert_eq!(rt; first_wrong(alloc, &TABLES)?, None);
     assert_eq!(rt; first_wrong_depth(alloc, Some(1))?, None);
     assert_eq!(rt; first_wrong_depth(alloc, None)?, None);
     assert_eq!(rt; first_unfilled(alloc)?, None);

@@ -2,10 +2,9 @@
 //!
 //! `refusals/run` refuses every request after a signal. The signal is a request for `SIGNAL` bytes.
 
-use crate::support::guarded::{estimates, finishes_as, put_raw, put_raw_within};
-use crate::support::iterators::put_undotted;
+use crate::guarded::{estimates, finishes_as, is_as, put_raw, put_raw_within, put_undotted};
 use bytes::BytesMut;
-use rlp::RlpStream;
+use rlp_streams::RlpStream;
 use std::alloc::{AllocError, Global};
 use std::test::Fail;
 
@@ -14,15 +13,10 @@ const SIGNAL: usize = 77_777;
 
 /// Returns whether a list of three items that holds "cat" has the right state, and is cleared.
 fn list_answers(mut s: RlpStream) -> bool {
-    let open = s.as_raw() == b"\0\x83cat".as_slice()
-        && s.len() == 5
-        && !s.is_empty()
-        && !s.is_finished()
-        && !s.can_finalize()
-        && s.items_awaited() == Some(2)
-        && s.checked_estimate_size(usize::MAX).is_none()
-        && estimates(&s, 51, 56)
-        && estimates(&s, 52, 58);
+    let open = is_as(&s, b"\0\x83cat", 5, Some(2), false)
+        && estimates(&s, usize::MAX, None)
+        && estimates(&s, 51, Some(56))
+        && estimates(&s, 52, Some(58));
     s.encoder();
     s.clear();
     open && s.is_empty() && finishes_as(s, b"")

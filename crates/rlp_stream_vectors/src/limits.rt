@@ -1,10 +1,9 @@
 //! Raw bytes that are appended within a limit, for limits below and above the resulting closed
 //! size.
 
-use crate::support::guarded::{put_raw, put_raw_within};
-use crate::support::script::is_as;
+use crate::guarded::{begin, is_as, put_raw, put_raw_within};
 use bytes::BytesMut;
-use rlp::RlpStream;
+use rlp_streams::RlpStream;
 use std::alloc::{AllocError, Global};
 use std::test::Fail;
 
@@ -47,10 +46,25 @@ const ROWS: [Row; 32] = [
     (100, 65_238, 1, 65_540),
 ];
 
+/// Opens lists, and appends the bytes in the innermost as one item. The lists are unbounded (`any`),
+/// await more items than are appended (`more`), or exactly these (`these`): the last of them closes
+/// each list.
+fn open(s: &mut RlpStream, lists: usize, awaited: &str, bytes: &[u8]) -> Result<bool, AllocError> {
+    for list in 0..lists {
+        let items = match awaited {
+            "any" => None,
+            "more" => Some(3),
+            _ if list + 1 < lists => Some(1),
+            _ => Some(2),
+        };
+        begin(s, items)?;
+    }
+    put_raw(s, bytes, 1)
+}
+
 /// Returns whether the bytes of a row are appended exactly if the resulting closed size is within
-/// the limit, and else leave the stream as it was. The open lists are unbounded (`any`), await more
-/// items than are appended (`more`), or exactly these (`these`): the last of them closes each list.
-/// All bytes are taken from `zeros`.
+/// the limit, and else leave the stream as it was. The lists are opened by `open`. All bytes are
+/// taken from `zeros`.
 fn is_answered(
     alloc: Global,
     front: &[u8],
@@ -63,20 +77,11 @@ fn is_answered(
     let mut buffer = BytesMut::new(alloc);
     buffer.extend_from_slice(front)?;
     let mut s = RlpStream::new_with_buffer(alloc, buffer);
-    for list in 0..lists {
-        match awaited {
-            "any" => s.begin_unbounded_list()?,
-            "more" => s.begin_list(3)?,
-            _ => s.begin_list(if list + 1 < lists { 1 } else { 2 })?,
-        };
-    }
-    if !put_raw(&mut s, zeros.get(..held).unwrap_or(&[]), 1)? {
-        return Ok(false);
-    }
+    let opened = open(&mut s, lists, awaited, zeros.get(..held).unwrap_or(&[]))?;
     let raw = Vec::from_slice(alloc, s.as_raw())?;
     let (len, items, any) = (s.len(), s.items_awaited(), s.can_finalize());
     if !put_raw_within(&mut s, zeros.get(..added).unwrap_or(&[]), 1, limit)? {
-        return Ok(limit < size && is_as(&s, raw.as_slice(), len, items, any));
+        return Ok(opened && limit < size && is_as(&s, raw.as_slice(), len, items, any));
     }
     let written = if s.is_finished() {
         front.len().saturating_add(size)
@@ -89,7 +94,8 @@ fn is_answered(
         None
     };
     Ok(
-        limit >= size
+        opened
+            && limit >= size
             && s.as_raw().starts_with(front)
             && s.as_raw().len() == written
             && s.len() == size
@@ -132,12 +138,9 @@ fn first_wrong(
 #[test]
 fn limits(rt: HostRuntime) -> Result<(), Fail> {
     for awaited in ["any", "more", "these"] {
-        assert_eq!(rt; first_wrong(rt.alloc(), b"", awaited)?, None, "{awaited}");
-        assert_eq!(rt;
-            first_wrong(rt.alloc(), b"what was handed in", awaited)?,
-            None,
-            "{awaited}"
-        );
+        for front in [b"".as_slice(), b"what was handed in".as_slice()] {
+            assert_eq!(rt; first_wrong(rt.alloc(), front, awaited)?, None, "{awaited}");
+        }
     }
     Ok(())
 }

@@ -1,8 +1,9 @@
-//! Streams compared with a simple recursive writer, for every small tree.
+//! Streams compared with a simple recursive writer, for every small tree and for strings of many
+//! lengths.
 
-use crate::support::guarded::{finalize, finishes_as};
-use crate::support::plain;
-use rlp::RlpStream;
+use crate::guarded::{begin, finalize, finishes_as};
+use crate::plain;
+use rlp_streams::RlpStream;
 use std::alloc::{AllocError, Global};
 use std::test::Fail;
 
@@ -67,11 +68,7 @@ fn append(s: &mut RlpStream, announced: bool, tree: &Tree<'_>) -> Result<bool, A
         Tree::OneItem(_) => 1,
         Tree::TwoItems(..) => 2,
     };
-    if announced {
-        s.begin_list(len)?;
-    } else {
-        s.begin_unbounded_list()?;
-    }
+    begin(s, if announced { Some(len) } else { None })?;
     let done = match tree {
         Tree::OneItem(item) => append(s, announced, item)?,
         Tree::TwoItems(first, second) => {
@@ -105,13 +102,42 @@ fn count_alike(alloc: Global, trees: &[Tree<'_>]) -> Result<usize, AllocError> {
     Ok(trees.len())
 }
 
+/// Ranges of lengths, each without its end, and steps.
+const STRETCHES: [(usize, usize, usize); 7] = [
+    (0, 301, 1),
+    (510, 515, 1),
+    (1_020, 1_030, 1),
+    (4_090, 4_100, 1),
+    (65_530, 65_542, 1),
+    (69_998, 70_001, 1),
+    (0, 70_000, 1_000),
+];
+
+/// Returns the first length of a range at which a string of bytes 00 isn't written as plainly.
+fn first_wrong(alloc: Global, range: (usize, usize, usize)) -> Result<Option<usize>, AllocError> {
+    for len in (range.0..range.1).step_by(range.2.max(1)) {
+        let zeros = vec![in alloc; 0u8; len]?;
+        let mut bytes = Vec::new(alloc);
+        plain::put(&mut bytes, plain::STRING, zeros.as_slice())?;
+        let mut s = RlpStream::new(alloc)?;
+        s.append(&zeros)?;
+        if !finishes_as(s, bytes.as_slice()) {
+            return Ok(Some(len));
+        }
+    }
+    Ok(None)
+}
+
 #[test]
-fn every_small_tree_is_written_as_plainly(rt: HostRuntime) -> Result<(), Fail> {
+fn trees_and_strings_are_written_as_plainly(rt: HostRuntime) -> Result<(), Fail> {
     let alloc = rt.alloc();
     let strings = [Tree::Empty, Tree::Byte];
     let flat = trees_over(alloc, &strings)?;
     let nested = trees_over(alloc, flat.as_slice())?;
     let deep = trees_over(alloc, nested.as_slice())?;
     assert_eq!(rt; count_alike(alloc, deep.as_slice())?, TREES);
+    for range in STRETCHES {
+        assert_eq!(rt; first_wrong(alloc, range)?, None);
+    }
     Ok(())
 }
