@@ -6,7 +6,7 @@ use Rattle.rlp.specs.Format.Split.{begins_as_list}
 use Rattle.rlp.specs.Views.Text.{error_name}
 use Rattle.rlp.specs.Views.View.{View, item_count, item_views, view_string}
 use Rattle.rlp_show.specs.Lines.{Field, Shape, Shown, Worded, byte_string, field, fields_lines, fixed_bytes, fixed_bytes_in, item_within, line, list_of}
-use Rattle.rlp_show.specs.Lines.{list_or_string, number, optional, pairs_lines, prefix, recipient, record_of, string_shape, then_lines, truth_value, typed, wrong}
+use Rattle.rlp_show.specs.Lines.{list_or_string, number, optional, pairs_lines, prefix, receipt_status, recipient, record_of, string_shape, then_lines, truth_value, typed, wrong}
 use Rattle.rlp_show.specs.Text.{bytes_text}
 
 -- addresses
@@ -76,7 +76,7 @@ log = record_of (
 -- receipts, without the byte of a type
 abbrev pub receipt : Shape
 receipt = record_of (
-    field (codes "status_or_state_root") byte_string
+    field (codes "status_or_state_root") receipt_status
     ∷ field (codes "cumulative_gas_used") (number 8)
     ∷ field (codes "logs_bloom") bloom
     ∷ field (codes "logs") (list_of log)
