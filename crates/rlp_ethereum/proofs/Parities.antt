@@ -1,6 +1,6 @@
 -- What `v` says in the signature of a transaction without a type, for bodies.
 use Rattle.std.proofs.Common.{◌≡◌, ℕ, zero, suc, ◌+◌, ◌*◌, ◌/◌, ◌%◌, ◌^◌, ◌<◌, ◌≤◌, ◌⊎◌, inl, inr, ⊎_elim, Bool, true, false, Option, Some, None, List, [], ◌∷◌, ◌++◌}
-use Rattle.std.proofs.Common.{length, take, drop, refl, sym, ap, ◌∙◌, arith, take-append-drop}
+use Rattle.std.proofs.Common.{length, take, drop, refl, sym, subst, ap, ◌∙◌, arith, take-append-drop}
 use Rattle.std.proofs.Math.Nat.{pow-suc, pow-succ', div-div-eq-div-mul}
 use Rattle.std.proofs.lemmas.Nat.{div_below}
 use Rattle.std.specs.Int.{byte_at, bytes_high_first}
@@ -8,8 +8,14 @@ use Rattle.std.specs.Int.Digits.{number_from_digits, number_from_digits_after}
 use Rattle.std.proofs.lemmas.Int.Digits.{number_after_append, number_after_ge, number_more, number_push}
 use Rattle.rlp.specs.Values.Value.{bit}
 use Rattle.rlp_ethereum.specs.declared.eip155.Eip155.{Eip155}
+use Rattle.rlp.specs.Uint.{Uint}
+use Rattle.rlp_ethereum.specs.declared.legacy_transaction.LegacyTransaction.{LegacyTransaction}
+use Rattle.rlp_ethereum.specs.declared.signed.Signed.{Signed}
+use Rattle.rlp_ethereum.specs.declared.transaction.Transaction.{Transaction}
+use Rattle.rlp_ethereum.specs.declared.transaction.Transaction.TheVariants.{Legacy}
+use Rattle.rlp_ethereum.specs.declared.unsigned_transaction.UnsignedTransaction.TheVariants as unsigned
 use Rattle.rlp_ethereum.specs.Eip155.{FitsChain, IsSignedFor, even_v, v_of}
-use Rattle.rlp_ethereum.specs.Signatures.{IsNoV, SaysChain}
+use Rattle.rlp_ethereum.specs.Signatures.{IsNoV, SaysChain, Signs, number_of}
 
 -- ---- which numbers are a `v`
 
@@ -33,17 +39,31 @@ pub ruleset v_says = (v_within)
 said : (n : ℕ) (chain : Option ℕ) (parity : Bool) → n ≡ bit parity + even_v chain → SaysChain n chain
 said n None false is = (tt, λ c fits signed. ⊎_elim (λ even. omega (arith, is, even)) (λ odd. omega (arith, is, odd)) signed)
 said n None true is = (tt, λ c fits signed. ⊎_elim (λ even. omega (arith, is, even)) (λ odd. omega (arith, is, odd)) signed)
-said n (Some c) false is = (inl is, tt)
-said n (Some c) true is = (inr is, tt)
+said n (Some c) false is = (inl (omega (arith, is)), tt)
+said n (Some c) true is = (inr (omega (arith, is)), tt)
 
 pub chain_said : (n : ℕ) (x : Eip155) → n ≡ v_of x → SaysChain n x.chain_id
 chain_said n x is = said n x.chain_id x.y_parity is
 
 pub no_chain_said : (n : ℕ) → IsNoV n → SaysChain n None
-no_chain_said n none = (tt, λ c fits signed.
-    ⊎_elim (λ even. none (record { chain_id = Some c; y_parity = false }) fits even) (λ odd. none (record { chain_id = Some c; y_parity = true }) fits odd) signed)
+no_chain_said n none = (
+  tt,
+  λ c fits signed.
+      ⊎_elim
+      (λ even. none (record { chain_id = Some c; y_parity = false }) fits (omega (arith, even)))
+      (λ odd. none (record { chain_id = Some c; y_parity = true }) fits (omega (arith, odd)))
+      signed,
+)
 
-pub ruleset chains = (chain_said, no_chain_said)
+pub ruleset chains = (chain_said)
+
+-- ---- what is signed
+
+-- a transaction without a type is signed for the chain that its `v` says
+pub legacy_signed : (t : Transaction) (l : Signed LegacyTransaction (Uint 32)) (x : Eip155) → t ≡ Legacy l → number_of l.v ≡ v_of x
+    → Signs t (unsigned.Legacy (record { payload = l.payload; chain_id = x.chain_id })) x.y_parity
+legacy_signed t l x same is =
+    subst (λ t. Signs t (unsigned.Legacy (record { payload = l.payload; chain_id = x.chain_id })) x.y_parity) (sym same) (x.chain_id, (refl, is))
 
 -- ---- numbers as digits to the base 256
 

@@ -19,8 +19,8 @@ MayLackAsBlob v = GivesSome (GivesValue (λ d. length d ≡ 131072) string) v
 abbrev pub blob : Codec Blob
 blob = record (string_type (λ (b : Blob). ⊤) (λ b. vec_items b.bytes) (IsLengthFault 131072)
     (λ b e fit. sound_length 131072 (vec_items b.bytes) e b.is_whole)) {
-  may_lack = λ v. MayLackAsBlob v;
-}
+      may_lack = λ v. MayLackAsBlob v;
+    }
 
 -- ---- rules for bodies
 

@@ -69,10 +69,10 @@ fn small_number(digits: &[u8]) -> Option<u128>
 {
     let mut number: u128 = 0;
     for digit in digits {
-        let Some(higher) = number.checked_mul(256) else {
+        if number > u128::MAX / 256 {
             return None;
-        };
-        number = higher + *digit as u128;
+        }
+        number = number * 256 + *digit as u128;
     }
     Some(number)
 }

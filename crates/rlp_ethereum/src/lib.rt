@@ -53,9 +53,7 @@ pub use address::Address;
 pub use authorization::{AUTHORIZATION_MAGIC, Authorization, SignedAuthorization};
 pub use blob::{BLOB_LEN, Blob};
 pub use blob_transaction::BlobTransaction;
-pub use blob_wrapper::{
-    BlobTransactionWithCellProofs, BlobTransactionWithProofs, WrapperVersion,
-};
+pub use blob_wrapper::{BlobTransactionWithCellProofs, BlobTransactionWithProofs, WrapperVersion};
 pub use block::Block;
 pub use bloom::Bloom;
 pub use body::Body;

@@ -1,9 +1,11 @@
 //! The records of this crate, as one trait.
 
 use crate::{
-    AccessList, AccessListItem, Account, Address, Block, Bloom, Body, Branch, Child, Extension,
-    Hash, Header, Leaf, Log, NodeFields, NodeRecord, Path, Payload, Receipt, Recipient, Signed,
-    Transaction, TrieNode, TypedReceipt, UnsignedLegacyTransaction, Withdrawal, Withdrawals,
+    AccessList, AccessListItem, Account, Address, Blob, BlobTransactionWithCellProofs,
+    BlobTransactionWithProofs, Block, Bloom, Body, Branch, Child, DepositTransaction, Extension,
+    Hash, Header, Leaf, Log, NodeFields, NodeRecord, Path, Payload, Receipt, ReceiptStatus,
+    Recipient, Signed, Transaction, TrieNode, TypedReceipt, UnsignedLegacyTransaction, Withdrawal,
+    Withdrawals, WrapperVersion,
 };
 use rlp::StrictRead;
 
@@ -62,3 +64,15 @@ impl Record for TrieNode {}
 impl Record for TypedReceipt {}
 
 impl Record for UnsignedLegacyTransaction {}
+
+impl Record for ReceiptStatus {}
+
+impl Record for Blob {}
+
+impl Record for BlobTransactionWithProofs {}
+
+impl Record for BlobTransactionWithCellProofs {}
+
+impl Record for WrapperVersion {}
+
+impl Record for DepositTransaction {}

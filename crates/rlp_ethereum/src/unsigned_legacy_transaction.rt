@@ -57,8 +57,7 @@ pub(crate) fn unsigned_bytes(
     match &chain_id {
         None => list_bytes(alloc, &FieldsOf(payload)),
         Some(chain_id) => {
-            let fields =
-                rlp::append_fields!([FieldsOf(payload), chain_id, &[0u8; 0], &[0u8; 0]]);
+            let fields = rlp::append_fields!([FieldsOf(payload), chain_id, &[0u8; 0], &[0u8; 0]]);
             list_bytes(alloc, &fields)
         }
     }

@@ -3,7 +3,7 @@
 use crate::alone::Payload;
 use crate::reading::{Alone, Item, ways};
 use crate::text::spelled;
-use crate::{fields, messages, node_records, nodes, records, requests, unsigned};
+use crate::{fields, messages, node_records, nodes, records, requests, signing, unsigned};
 use rlp_ethereum::{
     AccessListTransaction, Account, Authorization, BlobTransaction, Block, Body, Branch, Child,
     Extension, FeeMarketTransaction, Hash, Header, Leaf, Log, NodeRecord, SetCodeTransaction,
@@ -114,6 +114,8 @@ fn of_a_table(alloc: Global, call: &str, bytes: &[u8]) -> Result<String, Fail> {
         Some(("node", name)) => nodes::answer(alloc, name, bytes),
         Some(("node record", name)) => node_records::answer(alloc, name, bytes),
         Some(("request", name)) => requests::answer(alloc, name, bytes),
+        Some(("signing", name)) => signing::answer(alloc, name, bytes),
+        Some(("sent", name)) => signing::sent(alloc, name, bytes),
         Some(("signed", name)) => unsigned::answer(alloc, name, bytes),
         _ => Ok(String::from_str(alloc, "no such call")?),
     }

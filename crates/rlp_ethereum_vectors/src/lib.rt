@@ -31,6 +31,8 @@ mod requests;
 #[cfg(test)]
 mod rows;
 #[cfg(test)]
+mod signing;
+#[cfg(test)]
 mod text;
 #[cfg(test)]
 mod unsigned;

@@ -3,17 +3,18 @@
 use crate::answers::answer;
 use crate::reading::is_fault;
 use crate::text::bytes_of;
-use crate::{messages, node_records, nodes, records, requests, unsigned};
+use crate::{messages, node_records, nodes, records, requests, signing, unsigned};
 use std::alloc::Global;
 use std::test::Fail;
 
 /// The tables.
-const TABLES: [&str; 6] = [
+const TABLES: [&str; 7] = [
     records::ROWS,
     messages::ROWS,
     nodes::ROWS,
     node_records::ROWS,
     requests::ROWS,
+    signing::ROWS,
     unsigned::ROWS,
 ];
 

@@ -188,14 +188,6 @@ set_code_transaction = record_of (
 abbrev pub typed_transaction : Shape → Shape
 typed_transaction other = typed 1 access_list_transaction (typed 2 fee_market_transaction (typed 3 blob_transaction (typed 4 set_code_transaction other)))
 
--- transactions by their first byte: an envelope of type 1 to 4, or else a transaction without a type
-abbrev pub any_transaction : Shape
-any_transaction = typed_transaction legacy_transaction
-
--- receipts by their first byte: an envelope of type 1 to 4, or else a receipt without a type
-abbrev pub any_receipt : Shape
-any_receipt = typed 1 receipt (typed 2 receipt (typed 3 receipt (typed 4 receipt receipt)))
-
 -- the fault of an envelope of a transaction whose type isn't known
 abbrev pub unknown_type : List ℕ → List ℕ
 unknown_type [] = error_name RlpIsTooShort
@@ -204,6 +196,18 @@ unknown_type (kind ∷ payload) = codes "Custom(\"unknown transaction type\")"
 -- the envelope of a transaction whose type isn't known, which is always at fault
 abbrev pub unknown_transaction : Shape
 unknown_transaction name v = Err (wrong name (unknown_type v.bytes))
+
+-- bytes that begin as a list are a record of this shape, and others the envelope of an unknown type
+abbrev pub list_or_unknown : Shape → Shape
+list_or_unknown of_list name v = if begins_as_list v.bytes then of_list name v else unknown_transaction name v
+
+-- transactions by their first byte: an envelope of type 1 to 4, or else a transaction without a type
+abbrev pub any_transaction : Shape
+any_transaction = typed_transaction (list_or_unknown legacy_transaction)
+
+-- receipts by their first byte: an envelope of type 1 to 4, or else a receipt without a type
+abbrev pub any_receipt : Shape
+any_receipt = typed 1 receipt (typed 2 receipt (typed 3 receipt (typed 4 receipt (list_or_unknown receipt))))
 
 -- transactions in the list of a block: a list is a transaction without a type, and a string holds the envelope of one of type 1 to 4
 abbrev pub transaction : Shape
