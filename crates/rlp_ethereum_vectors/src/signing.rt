@@ -167,7 +167,11 @@ fn again(alloc: Global, signed: Transaction, bytes: &[u8]) -> Result<String, Fai
         Some((unsigned, y_parity)) => {
             let signed = unsigned.with_signature(y_parity, r, s);
             let again = signed.to_bytes(alloc)?;
-            if again.as_slice() == bytes { "the same" } else { "other bytes" }
+            if again.as_slice() == bytes {
+                "the same"
+            } else {
+                "other bytes"
+            }
         }
         None => "None",
     };
