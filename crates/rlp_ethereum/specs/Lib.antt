@@ -4,12 +4,16 @@ pub mod Account
 pub mod Address
 pub mod Alone
 pub mod Authorization
+pub mod Blob
 pub mod BlobTransaction
+pub mod BlobWrapper
 pub mod Block
 pub mod Bloom
 pub mod Body
 pub mod Child
 pub mod ChildLaws
+pub mod DepositTransaction
+pub mod Eip155
 pub mod Envelope
 pub mod FeeMarketTransaction
 pub mod Forks
@@ -25,8 +29,10 @@ pub mod NodeLaws
 pub mod NodeRecord
 pub mod Path
 pub mod Receipt
+pub mod ReceiptStatus
 pub mod Recipient
 pub mod SetCodeTransaction
+pub mod Signatures
 pub mod Signed
 pub mod Signing
 pub mod Transaction

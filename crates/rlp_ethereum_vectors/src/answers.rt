@@ -2,7 +2,8 @@
 
 use crate::alone::Payload;
 use crate::reading::{Alone, Item, ways};
-use crate::{fields, node_records, nodes, records, unsigned};
+use crate::text::spelled;
+use crate::{fields, node_records, nodes, records, signing, unsigned};
 use rlp_ethereum::{
     AccessListTransaction, Account, Authorization, BlobTransaction, Block, Body, Branch, Child,
     Extension, FeeMarketTransaction, Hash, Header, Leaf, Log, NodeRecord, SetCodeTransaction,
@@ -79,6 +80,8 @@ fn of_a_table(alloc: Global, call: &str, bytes: &[u8]) -> Result<String, Fail> {
         Some(("record", name)) => records::answer(alloc, name, bytes),
         Some(("node", name)) => nodes::answer(alloc, name, bytes),
         Some(("node record", name)) => node_records::answer(alloc, name, bytes),
+        Some(("signing", name)) => signing::answer(alloc, name, bytes),
+        Some(("sent", name)) => signing::sent(alloc, name, bytes),
         Some(("signed", name)) => unsigned::answer(alloc, name, bytes),
         _ => Ok(String::from_str(alloc, "no such call")?),
     }

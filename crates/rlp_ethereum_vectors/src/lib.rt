@@ -29,6 +29,8 @@ mod records;
 #[cfg(test)]
 mod rows;
 #[cfg(test)]
+mod signing;
+#[cfg(test)]
 mod text;
 #[cfg(test)]
 mod unsigned;

@@ -5,7 +5,7 @@ use crate::text::wide;
 use bytes::BytesMut;
 use rlp_ethereum::{
     AccessList, AccessListItem, AccessListTransaction, Address, Bloom, FeeMarketTransaction, Hash,
-    Log, Receipt, Recipient, Signed,
+    Log, Receipt, ReceiptStatus, Recipient, Signed,
 };
 use std::alloc::{AllocError, Global};
 use std::test::Fail;
@@ -282,7 +282,7 @@ fn log(alloc: Global) -> Result<Log, AllocError> {
 /// Returns the bytes of the receipt of a transaction that succeeded, with one log.
 fn receipt(alloc: Global) -> Result<BytesMut, AllocError> {
     let receipt = Receipt {
-        status_or_state_root: Vec::from_array(alloc, [1])?,
+        status_or_state_root: ReceiptStatus::Success,
         cumulative_gas_used: 21_000,
         logs_bloom: Bloom([0; 256]),
         logs: Vec::from_array(alloc, [log(alloc)?])?,

@@ -3,15 +3,16 @@
 use crate::answers::answer;
 use crate::reading::is_fault;
 use crate::text::bytes_of;
-use crate::{node_records, nodes, records, unsigned};
+use crate::{node_records, nodes, records, signing, unsigned};
 use std::alloc::Global;
 use std::test::Fail;
 
 /// The tables.
-const TABLES: [&str; 4] = [
+const TABLES: [&str; 5] = [
     records::ROWS,
     nodes::ROWS,
     node_records::ROWS,
+    signing::ROWS,
     unsigned::ROWS,
 ];
 

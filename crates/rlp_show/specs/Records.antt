@@ -8,7 +8,7 @@ use Rattle.rlp.specs.Views.View.{View, item_count, item_views, view_string}
 use Rattle.rlp_ethereum.specs.HexPrefix.{ends_in_leaf}
 use Rattle.rlp_ethereum.specs.TrieNode.{is_leaf_string}
 use Rattle.rlp_show.specs.Lines.{Field, Shape, Shown, Worded, byte_string, field, fields_lines, fixed_bytes, fixed_bytes_in, item_within, line, list_of}
-use Rattle.rlp_show.specs.Lines.{list_or_string, number, optional, pairs_lines, prefix, recipient, record_of, string_shape, then_lines, truth_value, typed, wrong}
+use Rattle.rlp_show.specs.Lines.{list_or_string, number, optional, pairs_lines, prefix, receipt_status, recipient, record_of, string_shape, then_lines, truth_value, typed, wrong}
 use Rattle.rlp_show.specs.Text.{bytes_text}
 
 -- addresses
@@ -78,7 +78,7 @@ log = record_of (
 -- receipts, without the byte of a type
 abbrev pub receipt : Shape
 receipt = record_of (
-    field (codes "status_or_state_root") byte_string
+    field (codes "status_or_state_root") receipt_status
     ∷ field (codes "cumulative_gas_used") (number 8)
     ∷ field (codes "logs_bloom") bloom
     ∷ field (codes "logs") (list_of log)
@@ -190,14 +190,6 @@ set_code_transaction = record_of (
 abbrev pub typed_transaction : Shape → Shape
 typed_transaction other = typed 1 access_list_transaction (typed 2 fee_market_transaction (typed 3 blob_transaction (typed 4 set_code_transaction other)))
 
--- transactions by their first byte: an envelope of type 1 to 4, or else a transaction without a type
-abbrev pub any_transaction : Shape
-any_transaction = typed_transaction legacy_transaction
-
--- receipts by their first byte: an envelope of type 1 to 4, or else a receipt without a type
-abbrev pub any_receipt : Shape
-any_receipt = typed 1 receipt (typed 2 receipt (typed 3 receipt (typed 4 receipt receipt)))
-
 -- the fault of an envelope of a transaction whose type isn't known
 abbrev pub unknown_type : List ℕ → List ℕ
 unknown_type [] = error_name RlpIsTooShort
@@ -206,6 +198,18 @@ unknown_type (kind ∷ payload) = codes "Custom(\"unknown transaction type\")"
 -- the envelope of a transaction whose type isn't known, which is always at fault
 abbrev pub unknown_transaction : Shape
 unknown_transaction name v = Err (wrong name (unknown_type v.bytes))
+
+-- bytes that begin as a list are a record of this shape, and others the envelope of an unknown type
+abbrev pub list_or_unknown : Shape → Shape
+list_or_unknown of_list name v = if begins_as_list v.bytes then of_list name v else unknown_transaction name v
+
+-- transactions by their first byte: an envelope of type 1 to 4, or else a transaction without a type
+abbrev pub any_transaction : Shape
+any_transaction = typed_transaction (list_or_unknown legacy_transaction)
+
+-- receipts by their first byte: an envelope of type 1 to 4, or else a receipt without a type
+abbrev pub any_receipt : Shape
+any_receipt = typed 1 receipt (typed 2 receipt (typed 3 receipt (typed 4 receipt (list_or_unknown receipt))))
 
 -- transactions in the list of a block: a list is a transaction without a type, and a string holds the envelope of one of type 1 to 4
 abbrev pub transaction : Shape
