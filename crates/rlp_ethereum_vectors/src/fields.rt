@@ -106,13 +106,11 @@ fn numbers_in(alloc: Global, bytes: &[u8]) -> Result<(u8, u64, u64), DecoderErro
 
 /// Returns the type, the nonce and the limit of gas of a transaction.
 fn numbers(transaction: &Transaction) -> (u8, u64, u64) {
-    match transaction {
-        Transaction::Legacy(tx) => (0, tx.payload.nonce, tx.payload.gas_limit),
-        Transaction::AccessList(tx) => (1, tx.payload.nonce, tx.payload.gas_limit),
-        Transaction::FeeMarket(tx) => (2, tx.payload.nonce, tx.payload.gas_limit),
-        Transaction::Blob(tx) => (3, tx.payload.nonce, tx.payload.gas_limit),
-        Transaction::SetCode(tx) => (4, tx.payload.nonce, tx.payload.gas_limit),
-    }
+    (
+        transaction.transaction_type(),
+        transaction.nonce(),
+        transaction.gas_limit(),
+    )
 }
 
 /// Returns the type, the nonce and the limit of gas of each transaction.
