@@ -2,7 +2,7 @@
 use Rattle.std.proofs.Common.{◌≡◌, ◌≢◌, ℕ, zero, suc, ◌+◌, ◌-◌, ◌<◌, ◌≤◌, true, false, List, [], ◌∷◌, ◌++◌, length, refl, sym, ap, ◌∙◌, arith, Option, Some, None, Ok, length-append}
 use Rattle.std.proofs.lemmas.Bool.{cond-true}
 use Rattle.rlp_format.specs.declared.error.DecoderError.{DecoderError}
-use Rattle.rlp_format.specs.declared.error.DecoderError.TheVariants.{RlpIncorrectListLen}
+use Rattle.rlp_format.specs.declared.error.DecoderError.TheVariants.{RlpExpectedToBeData, RlpIncorrectListLen}
 use Rattle.rlp_format.specs.Format.Framing.{fault, value}
 use Rattle.rlp_format.specs.Format.Split.{begins_as_list, split}
 use Rattle.rlp_format.specs.Format.Strict.{after_items, fault_of_some}
@@ -23,7 +23,7 @@ pub record IsChecking (left : ℕ) (r : Record) (p rest : List ℕ) (n : ℕ) : 
   pub same : fields_fault left r p ≡ items_fault (inner left) r (fault_of_some (after_items rest)) n (split rest)
   pub few : n + length rest ≤ length p
 
-pub unchecked : (left : ℕ) (r : Record) (p : List ℕ) → left ≡ 0 → fields_fault left r p ≡ None
+pub unchecked : (left : ℕ) (r : Record) (p : List ℕ) → left ≡ 0 → fields_fault left r p ≡ Some (0, RlpExpectedToBeData)
 unfolding fields_fault
 unchecked zero r p none = refl
 unchecked (suc left) r p none = absurd (omega (arith, none))

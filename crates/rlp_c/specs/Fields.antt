@@ -1,7 +1,8 @@
 -- The first fault of the fields of a record.
 use Rattle.std.specs.Prelude.{ℕ, zero, suc, ◌+◌, Bool, true, false, if◌then◌else◌, ◌==◌, nat_lt, List, [], ◌∷◌, length, Option, Some, None, Result, Ok, Err}
 use Rattle.rlp_format.specs.declared.error.DecoderError.{DecoderError}
-use Rattle.rlp_format.specs.declared.error.DecoderError.TheVariants.{RlpIsTooBig, RlpIsTooShort, RlpExpectedToBeList, RlpIncorrectListLen, RlpInvalidIndirection}
+use Rattle.rlp_format.specs.declared.error.DecoderError.TheVariants.{RlpIsTooBig, RlpIsTooShort, RlpExpectedToBeList, RlpExpectedToBeData, RlpIncorrectListLen}
+use Rattle.rlp_format.specs.declared.error.DecoderError.TheVariants.{RlpInvalidIndirection}
 use Rattle.rlp_format.specs.Format.Split.{begins_as_list, payload, split}
 use Rattle.rlp_format.specs.Format.Strict.{after_items, fault_of_some}
 use Rattle.rlp_format.specs.Format.StringReading.{read_string}
@@ -77,8 +78,8 @@ abbrev pub items_fault : (Option Kind → List ℕ → Option DecoderError) → 
 items_fault field r follows i [] = end_fault (may_end r i) i follows
 items_fault field r follows i (f ∷ fs) = fault_or i (field (kind_at r i) f) (items_fault field r follows (i + 1) fs)
 
--- The first fault of the payload of a record, in the order of its bytes, and the number of fields in front of it. So many lists, one in the other, are
--- looked into, this one too. A transaction has 4: it, its access list, an element of that, and the storage keys of the element.
+-- The first fault of the payload of a record, in the order of its bytes, and the number of fields in front of it. So many lists may stand one in the
+-- other, this one too. A transaction has 4: it, its access list, an element of that, and the storage keys of the element.
 unfoldable pub fields_fault : ℕ → Record → List ℕ → Option (ℕ × DecoderError)
-fields_fault zero r p = None
+fields_fault zero r p = Some (0, RlpExpectedToBeData)
 fields_fault (suc left) r p = items_fault (field_fault (fields_fault left)) r (fault_of_some (after_items p)) 0 (split p)

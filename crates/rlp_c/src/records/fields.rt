@@ -10,9 +10,8 @@ use rlp::DecoderError;
 use rlp_format::framed::{Framed, first_framed};
 use rlp_format::string_reading::string_in;
 
-/// Tests the fields in the payload of a record. `left` is the number of lists, one in the other,
-/// that are looked into. It fails with the first fault, and with the number of fields in front of
-/// it.
+/// Tests the fields in the payload of a record, in which at most `left` lists may stand one in the
+/// other. It fails with the first fault, and with the number of fields in front of it.
 #[cycle(fields)]
 pub(crate) fn check_fields(
     list: Record,
@@ -24,7 +23,7 @@ pub(crate) fn check_fields(
     ensures few { IfErr result (λ e. e.0 ≤ length payload.now) }
 {
     if left == 0 {
-        return Ok(());
+        return Err((0, DecoderError::RlpExpectedToBeData));
     }
     let mut rest = payload;
     let mut count = 0;
