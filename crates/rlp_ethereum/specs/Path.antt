@@ -1,5 +1,5 @@
 -- How paths of leaves and of extensions are written and read.
-use Rattle.std.specs.Prelude.{ℕ, ◌≡◌, ◌≢◌, ⊤, ◌⊎◌, List, Some}
+use Rattle.std.specs.Prelude.{ℕ, ◌≡◌, ⊤, ◌⊎◌, List, Some}
 use Rattle.std.proofs.Common.{inl, inr, sym, subst, Result, Ok, Err, IfErr}
 use Rattle.std.specs.Vec.{vec_items}
 use Rattle.rlp.specs.DecoderError.{DecoderError}
