@@ -14,7 +14,7 @@ use Rattle.rlp_ethereum.specs.declared.signed.Signed.{Signed}
 use Rattle.rlp_ethereum.specs.declared.transaction.Transaction.{Transaction}
 use Rattle.rlp_ethereum.specs.declared.transaction.Transaction.TheVariants.{Legacy}
 use Rattle.rlp_ethereum.specs.declared.unsigned_transaction.UnsignedTransaction.TheVariants as unsigned
-use Rattle.rlp_ethereum.specs.Eip155.{FitsChain, IsSignedFor, even_v, v_of}
+use Rattle.rlp_ethereum.specs.Eip155.{FitsChain, even_v, v_of}
 use Rattle.rlp_ethereum.specs.Signatures.{IsNoV, SaysChain, Signs, number_of}
 
 -- ---- which numbers are a `v`

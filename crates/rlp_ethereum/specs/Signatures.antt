@@ -5,7 +5,6 @@ use Rattle.rlp.specs.Uint.{Uint}
 use Rattle.rlp_ethereum.specs.declared.eip155.Eip155.{Eip155}
 use Rattle.rlp_ethereum.specs.declared.transaction.Transaction.{Transaction}
 use Rattle.rlp_ethereum.specs.declared.transaction.Transaction.TheVariants.{AccessList, Blob, FeeMarket, Legacy, SetCode}
-use Rattle.rlp_ethereum.specs.declared.unsigned_legacy_transaction.UnsignedLegacyTransaction.{UnsignedLegacyTransaction}
 use Rattle.rlp_ethereum.specs.declared.unsigned_transaction.UnsignedTransaction.{UnsignedTransaction}
 use Rattle.rlp_ethereum.specs.declared.unsigned_transaction.UnsignedTransaction.TheVariants as unsigned
 use Rattle.rlp_ethereum.specs.Eip155.{FitsChain, IsSignedFor, v_of}

@@ -1,5 +1,5 @@
 -- Nodes of the trie are given exactly by their encodings.
-use Rattle.std.proofs.Common.{◌≡◌, ◌<◌, ◌^◌, ◌⊎◌, inl, inr, ℕ, true, false, List, length, refl, sym, ap, ◌∙◌, subst, arith, Ok, Err, Result, IsOkAnd, unwrap_or}
+use Rattle.std.proofs.Common.{◌≡◌, ◌<◌, ◌^◌, ◌⊎◌, inl, inr, ℕ, true, false, List, length, refl, sym, ap, ◌∙◌, subst, arith, Ok, Err, Result, IsOkAnd, unwrap_or, Some}
 use Rattle.std.specs.Vec.{vec_items}
 use Rattle.rlp.specs.DecoderError.{DecoderError}
 use Rattle.rlp.specs.DecoderError.TheVariants.{OutOfMemory}

@@ -81,7 +81,7 @@ fn of_a_table(alloc: Global, call: &str, bytes: &[u8]) -> Result<String, Fail> {
         Some(("node", name)) => nodes::answer(alloc, name, bytes),
         Some(("node record", name)) => node_records::answer(alloc, name, bytes),
         Some(("signing", name)) => signing::answer(alloc, name, bytes),
-        Some(("sent", name)) => signing::sent(alloc, name, bytes),
+        Some(("sent", name)) => signing::in_envelope(alloc, name, bytes),
         Some(("signed", name)) => unsigned::answer(alloc, name, bytes),
         _ => Ok(String::from_str(alloc, "no such call")?),
     }

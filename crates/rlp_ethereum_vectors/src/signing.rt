@@ -63,7 +63,7 @@ pub(crate) const ROWS: &str = "
      2f0f680b844a22cb4650000000000000000000000005eee75727d804a2b13038928d36f8b188945a57a0000000000\
      000000000000000000000000000000000000000000000000000000c080a0840cfc572845f5786e702984c2a582528\
      cad4b49b2a10b9db1be7fca90058565a025e7109ceb98168d95b09b18bbf6b685130e0562f233877d492b94eee0c5\
-     b6d1 | 2 Some(66) 8504a817c800 843b9aca00 false
+     b6d1 | 2 Some(1) 8504a817c800 843b9aca00 false
     Each number v of EIP-155, and others.
     signing: payload | c98080808080801b0102 | c6808080808080
     signing: numbers | c98080808080801b0102 | 0 None 80 80 true
@@ -138,7 +138,7 @@ impl<T: Enveloped> Bare for Sent<T> {
 }
 
 /// Returns what a call about a transaction answers that is sent with what isn't in a block.
-pub(crate) fn sent(alloc: Global, name: &str, bytes: &[u8]) -> Result<String, Fail> {
+pub(crate) fn in_envelope(alloc: Global, name: &str, bytes: &[u8]) -> Result<String, Fail> {
     match name {
         "with proofs" => ways::<Alone<Sent<BlobTransactionWithProofs>>>(alloc, bytes),
         "with cell proofs" => ways::<Alone<Sent<BlobTransactionWithCellProofs>>>(alloc, bytes),
