@@ -1,7 +1,7 @@
 //! Records of Ethereum in the Recursive Length Prefix format.
 //!
 //! Each type says which bytes encode a value, and which value bytes decode to. Transactions, headers
-//! cryptography but the hash of what it writes: it checks no signature.
+//! and nodes of the trie have hashes. The crate checks no signature.
 #![tactic(auto)]
 
 mod access;
