@@ -4,13 +4,16 @@ use crate::announcements::{
     BlockRangeUpdate, NewBlock, NewBlockHash, NewBlockHashes, NewPooledTransactionHashes,
     Transactions,
 };
+use crate::disconnect::{Disconnect, DisconnectReason};
 use crate::hash_or_number::HashOrNumber;
 use crate::hello::{Capability, Hello, NodeId};
 use crate::receipts::{BlockReceipts, Receipts};
+use crate::receipts69::{BlockReceipts69, Receipt69, Receipts69};
 use crate::requests::{
     BlockBodies, BlockHeaders, GetBlockBodies, GetBlockHeaders, GetPooledTransactions, GetReceipts,
+    PooledTransactions,
 };
-use crate::session::{Disconnect, Ping, Pong};
+use crate::session::{Ping, Pong};
 use crate::status::{ForkHash, ForkId, Status68, Status69};
 use crate::with_request_id::WithRequestId;
 use rlp_ethereum::Record;
@@ -43,6 +46,8 @@ impl Record for GetBlockHeaders {}
 
 impl Record for Disconnect {}
 
+impl Record for DisconnectReason {}
+
 impl Record for Ping {}
 
 impl Record for Pong {}
@@ -60,6 +65,14 @@ impl Record for Transactions {}
 impl Record for BlockReceipts {}
 
 impl Record for Receipts {}
+
+impl Record for Receipt69 {}
+
+impl Record for BlockReceipts69 {}
+
+impl Record for Receipts69 {}
+
+impl Record for PooledTransactions {}
 
 impl Record for GetPooledTransactions {}
 
