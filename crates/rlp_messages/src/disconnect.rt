@@ -42,7 +42,7 @@ pub enum DisconnectReason {
 impl DisconnectReason {
     /// Returns the reason with this number. It is `Other` only for a number that has no name.
     pub fn of(number: u8) -> DisconnectReason
-        ensures number { reason_number result ≡ number.now }
+        ensures number { reason_number result ≡ number }
         ensures name { NamedIfPossible result }
     {
         match number {
@@ -65,7 +65,7 @@ impl DisconnectReason {
 
     /// Returns the number of the reason.
     pub fn number(self) -> u8
-        ensures { result ≡ reason_number self.now }
+        ensures { result ≡ reason_number self }
     {
         match self {
             DisconnectReason::Requested => 0x00,
@@ -133,7 +133,7 @@ pub enum Disconnect {
 impl Disconnect {
     /// Returns the reason, in either form.
     pub fn reason(self) -> DisconnectReason
-        ensures { result ≡ told_reason self.now }
+        ensures { result ≡ told_reason self }
     {
         match self {
             Disconnect::Listed(reason) => reason,
