@@ -3,8 +3,8 @@
 use crate::reading::{Item, ways};
 use crate::{fields, messages, requests};
 use rlp_messages::{
-    BlockBodies, BlockHeaders, HashOrNumber, Hello, NewBlock, Ping, Pong, Receipts, Transactions,
-    WithRequestId,
+    BlockBodies, BlockHeaders, Disconnect, HashOrNumber, Hello, NewBlock, Ping, Pong,
+    PooledTransactions, Receipts, Receipts69, Transactions, WithRequestId,
 };
 use std::alloc::Global;
 use std::test::Fail;
@@ -14,12 +14,15 @@ pub(crate) fn answer(alloc: Global, call: &str, bytes: &[u8]) -> Result<String, 
     match call {
         "BlockBodies" => ways::<Item<WithRequestId<BlockBodies>>>(alloc, bytes),
         "BlockHeaders" => ways::<Item<WithRequestId<BlockHeaders>>>(alloc, bytes),
+        "Disconnect" => ways::<Item<Disconnect>>(alloc, bytes),
         "HashOrNumber" => ways::<Item<HashOrNumber>>(alloc, bytes),
         "Hello" => ways::<Item<Hello>>(alloc, bytes),
         "NewBlock" => ways::<Item<NewBlock>>(alloc, bytes),
         "Ping" => ways::<Item<Ping>>(alloc, bytes),
         "Pong" => ways::<Item<Pong>>(alloc, bytes),
+        "PooledTransactions" => ways::<Item<WithRequestId<PooledTransactions>>>(alloc, bytes),
         "Receipts" => ways::<Item<WithRequestId<Receipts>>>(alloc, bytes),
+        "Receipts69" => ways::<Item<WithRequestId<Receipts69>>>(alloc, bytes),
         "Transactions" => ways::<Item<Transactions>>(alloc, bytes),
         _ => of_fields(alloc, call, bytes),
     }

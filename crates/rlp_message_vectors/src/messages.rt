@@ -6,7 +6,7 @@ use bytes::BytesMut;
 use rlp::Uint;
 use rlp_ethereum::Hash;
 use rlp_messages::{
-    BlockRangeUpdate, Capability, Disconnect, ForkHash, ForkId, Hello, NewBlockHash,
+    BlockRangeUpdate, Capability, Disconnect, DisconnectReason, ForkHash, ForkId, Hello, NewBlockHash,
     NewBlockHashes, NewPooledTransactionHashes, NodeId, Ping, Pong, Status68, Status69,
 };
 use std::alloc::{AllocError, Global};
@@ -14,17 +14,53 @@ use std::test::Fail;
 
 /// Rows of messages.
 pub(crate) const ROWS: &str = "
-    A greeting of a client that speaks eth/68 and snap/1, and that of EIP-8, which has three items
-    after the five fields.
+    A greeting of a client that speaks eth/68 and snap/1.
     message: greeting | f85f058a726174746c652f312e30cdc58365746844c684736e61700182765fb840777777777\
      7777777777777777777777777777777777777777777777777777777777777777777777777777777777777777777777\
      7777777777777777777777777
-    Hello | f87137916b6e6574682f76302e39312f706c616e39cdc5836574683dc6846d6f726b1682270fb840fda1cff\
-     674c90c9a197539fe3dfb53086ace64f83ed7c6eabec741f7f381cc803e52ab2cd55d5569bce4347107a310dfd5f88\
-     a010cd2ffd1005ca406f1842877c883666f6f836261720304 | RlpIncorrectListLen
 
-    The end of a connection, since there are too many peers, and the messages of no items.
+    The greeting of EIP-8, which has three items after the five fields: its version, its port, and
+    the number of further items. Then a greeting with a port above 65535, and bytes that are none,
+    worked out by hand.
+    Hello | EIP_8
+    fields of Hello | EIP_8 | 55 9999 3
+    Hello | f8498080c083010000b840+77*64
+    fields of Hello | f8498080c083010000b840+77*64 | 0 65536 0
+    Hello | f8468080c080b840+77*64
+    Hello | f84680808080b840+77*64 | RlpExpectedToBeList
+    Hello | f8468080c0c0b840+77*64 | RlpExpectedToBeData
+    Hello | f8488080c080b840+77*64+8105 | refused
+    Hello | c48080c080 | RlpIncorrectListLen
+    Hello | 80 | RlpExpectedToBeList
+
+    The end of a connection, since there are too many peers, as a list and alone, and the messages of
+    no items.
     message: too many peers | c104
+    message: too many peers, alone | 04
+    Disconnect | c110
+    Disconnect | 80
+    fields of Disconnect | c180 | Listed Requested 0
+    fields of Disconnect | c101 | Listed TcpError 1
+    fields of Disconnect | c102 | Listed ProtocolBreach 2
+    fields of Disconnect | c103 | Listed UselessPeer 3
+    fields of Disconnect | c104 | Listed TooManyPeers 4
+    fields of Disconnect | c105 | Listed AlreadyConnected 5
+    fields of Disconnect | c106 | Listed IncompatibleVersion 6
+    fields of Disconnect | c107 | Listed NullIdentity 7
+    fields of Disconnect | c108 | Listed ClientQuitting 8
+    fields of Disconnect | c109 | Listed UnexpectedIdentity 9
+    fields of Disconnect | c10a | Listed OwnIdentity 10
+    fields of Disconnect | c10b | Listed PingTimeout 11
+    fields of Disconnect | c10c | Listed Other(12) 12
+    fields of Disconnect | c110 | Listed SubprotocolError 16
+    fields of Disconnect | 80 | Bare Requested 0
+    fields of Disconnect | 04 | Bare TooManyPeers 4
+    fields of Disconnect | 81ff | Bare Other(255) 255
+    Disconnect | 00 | RlpInvalidIndirection
+    Disconnect | c100 | RlpInvalidIndirection
+    Disconnect | 820100 | RlpIsTooBig
+    Disconnect | c0 | RlpIncorrectListLen
+    Disconnect | c20405 | RlpIncorrectListLen
     message: ping | c0
     message: pong | c0
     Ping | 80 | RlpExpectedToBeList
@@ -95,6 +131,7 @@ fn hello(alloc: Global) -> Result<BytesMut, AllocError> {
         capabilities: Vec::from_array(alloc, [eth, snap])?,
         listen_port: 30303,
         node_id: NodeId([0x77; 64]),
+        further: Vec::new(alloc),
     };
     rlp::encode(alloc, &hello)
 }
@@ -189,8 +226,12 @@ pub(crate) fn answer(alloc: Global, name: &str, bytes: &[u8]) -> Result<String, 
     match name {
         "greeting" => written::<Hello>(alloc, hello(alloc), bytes),
         "too many peers" => {
-            let message = rlp::encode(alloc, &Disconnect { reason: 4 });
-            written::<Disconnect>(alloc, message, bytes)
+            let message = Disconnect::Listed(DisconnectReason::TooManyPeers);
+            written::<Disconnect>(alloc, rlp::encode(alloc, &message), bytes)
+        }
+        "too many peers, alone" => {
+            let message = Disconnect::Bare(DisconnectReason::TooManyPeers);
+            written::<Disconnect>(alloc, rlp::encode(alloc, &message), bytes)
         }
         "ping" => written::<Ping>(alloc, rlp::encode(alloc, &Ping), bytes),
         "pong" => written::<Pong>(alloc, rlp::encode(alloc, &Pong), bytes),
