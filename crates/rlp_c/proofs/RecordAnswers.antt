@@ -14,7 +14,7 @@ use Rattle.rlp_c.specs.Records.{IsRecordRead, filled, no_room, field}
 use Rattle.rlp_c.specs.Rows.{header_length, rows_at}
 use Rattle.rlp_c.specs.Status.{fault_status}
 use Rattle.rlp_format.specs.Format.Walk.{Extends}
-use Rattle.rlp_c.proofs.Framed.{whole_item}
+use Rattle.rlp_format.proofs.Trees.Needless.{whole_item}
 use Rattle.rlp_c.proofs.Splitting.{rows_counted}
 use Rattle.rlp_format.proofs.Trees.Walks.{content_payload}
 
