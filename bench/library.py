@@ -52,6 +52,7 @@ OPERATIONS = {
     "payload_info": "the header of a string of 1,000 bytes",
     "kinds": "is_list, is_data, is_int, is_empty, is_null",
     "data_and_size": "data and size of a string of 1,000 bytes",
+    "keccak256_of_1000": "the Keccak-256 hash of 1,000 bytes",
 }
 
 

@@ -1,6 +1,7 @@
 //! Operations that read.
 
 use crate::inputs::Inputs;
+use keccak::keccak256;
 use rlp::{Decodable, Rlp, decode, decode_list};
 use rlp_ethereum::SignedLegacyTransaction;
 use std::alloc::Global;
@@ -32,6 +33,7 @@ pub(crate) fn run(alloc: Global, inputs: &Inputs, operation: &str, times: usize)
         "payload_info" => payload_info(inputs, times),
         "kinds" => kinds(inputs, times),
         "data_and_size" => data_and_size(inputs, times),
+        "keccak256_of_1000" => hashed(inputs.text.as_str().as_bytes(), times),
         _ => None,
     }
 }
@@ -193,6 +195,15 @@ fn data_and_size(inputs: &Inputs, times: usize) -> Option<usize> {
         sum = sum
             .wrapping_add(view.data().ok()?.len())
             .wrapping_add(view.size());
+    }
+    Some(sum)
+}
+
+fn hashed(text: &[u8], times: usize) -> Option<usize> {
+    let mut sum: usize = 0;
+    for turn in 0..times {
+        let bytes = text.get(turn % 2..)?;
+        sum = sum.wrapping_add(keccak256(bytes)[0] as usize);
     }
     Some(sum)
 }
