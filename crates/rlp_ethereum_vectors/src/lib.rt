@@ -33,4 +33,6 @@ mod rows;
 #[cfg(test)]
 mod text;
 #[cfg(test)]
+mod uints;
+#[cfg(test)]
 mod unsigned;
