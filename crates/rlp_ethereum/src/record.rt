@@ -30,7 +30,11 @@ ghost use Rattle.rlp_ethereum.specs.UnsignedLegacyTransaction.{unsigned_legacy_t
 ghost use Rattle.rlp_ethereum.specs.Withdrawal.{withdrawal, withdrawals};
 
 use crate::{
-    AccessList, AccessListItem, AccessListTransaction, Account, Address, Authorization, BlobTransaction, Block, Bloom, Body, Branch, Child, Extension, FeeMarketTransaction, Hash, Header, Leaf, LegacyTransaction, Log, NodeFields, NodeRecord, Path, Receipt, Recipient, SetCodeTransaction, Signed, Transaction, TrieNode, TypedReceipt, UnsignedLegacyTransaction, Withdrawal, Withdrawals,
+    AccessList, AccessListItem, AccessListTransaction, Account, Address, Authorization,
+    BlobTransaction, Block, Bloom, Body, Branch, Child, Extension, FeeMarketTransaction, Hash,
+    Header, Leaf, LegacyTransaction, Log, NodeFields, NodeRecord, Path, Receipt, Recipient,
+    SetCodeTransaction, Signed, Transaction, TrieNode, TypedReceipt, UnsignedLegacyTransaction,
+    Withdrawal, Withdrawals,
 };
 use rlp::{StrictRead, Uint};
 

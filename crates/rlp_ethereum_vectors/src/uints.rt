@@ -40,10 +40,7 @@ impl fmt::Display for Hexadecimal {
 
 /// Returns the number with this encoding.
 fn number(alloc: Global, encoded: &str) -> Result<Uint<32>, Fail> {
-    Ok(rlp::decode_strict::<Uint<32>>(
-        alloc,
-        bytes_of(alloc, encoded)?.as_slice(),
-    )?)
+    Ok(rlp::decode_strict::<Uint<32>>(alloc, bytes_of(alloc, encoded)?.as_slice())?)
 }
 
 /// Returns whether the number of a row prints as the row says, and is that of its `u64` if it has
@@ -56,9 +53,10 @@ fn prints(alloc: Global, row: &(&str, &str, &str)) -> Result<bool, Fail> {
         Ok(small) => Uint::<32>::from(small) == read,
         Err(_) => true,
     };
-    Ok(same
-        && format!(in alloc; "{read}")?.as_str() == decimal
-        && format!(in alloc; "{hex}")?.as_str() == hexadecimal)
+    Ok(
+        same && format!(in alloc; "{read}")?.as_str() == decimal
+            && format!(in alloc; "{hex}")?.as_str() == hexadecimal,
+    )
 }
 
 /// Returns whether the number of the first row is below that of the second.
