@@ -30,6 +30,7 @@ const NUMBERS: [(&str, &str, &str); 7] = [
 ];
 
 /// A number that prints in hexadecimal.
+#[derive(Drop)]
 struct Hexadecimal(Uint<32>);
 
 impl fmt::Display for Hexadecimal {
