@@ -1,5 +1,6 @@
 """The crates of the tree, as a table and as a picture."""
 
+from page import measured
 from sources import first_sentence
 
 WIDTH, HEIGHT, STEP, GAP, MARGIN = 150, 34, 64, 14, 12
@@ -27,6 +28,23 @@ def table_of_crates(root):
         what = first_sentence(documentation_of(root, crate)).replace("|", "\\|")
         text += f"| [`{crate}`](../crates/{crate}) | {what} | {', '.join(f'`{name}`' for name in direct(crate, crates_of(root)))} |\n"
     return text
+
+
+def table_of_gate(root):
+    """A row for each crate: the processor seconds of its parts in one run of `rt ci`, and when its last part ended."""
+    about, _, rows = measured(root, "gate")
+    if not rows:
+        return ""
+    parts = {}
+    for crate, part, *numbers in rows:
+        parts.setdefault(crate, {})[part] = [int(number) for number in numbers]
+    text = f"\n{about['result']}, of {about['version']}, {about['date']}, {about['machine']}.\n\n"
+    text += "| Crate | Proof, s | Tests, s | Known mistakes, s | Most memory, MB | Ends, min |\n|---|---:|---:|---:|---:|---:|\n"
+    for crate in (name for name in crates_of(root) if name in parts):
+        found = parts[crate]
+        seconds = [f"{found[part][2]}" if part in found else "" for part in ("proof", "tests", "mistakes")]
+        text += f"| `{crate}` | {' | '.join(seconds)} | {max(one[3] for one in found.values()):,} | {max(one[1] for one in found.values()) / 60:.1f} |\n"
+    return text + "\n"
 
 
 def direct(crate, uses):

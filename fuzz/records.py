@@ -123,6 +123,13 @@ def number(width):
     return Text(number_text(width), some)
 
 
+def status_text(string):
+    """The text of the status of a receipt."""
+    if string not in (b"", b"\1") and len(string) != 32:
+        raise Answered('Custom("unknown receipt status")')
+    return "0x" + string.hex()
+
+
 def fixed(size):
     return Text(fixed_text(size), lambda dice: dice.randbytes(size))
 
@@ -131,6 +138,7 @@ HASH, ADDRESS, BLOOM = fixed(32), fixed(20), fixed(256)
 STRING = Text(lambda string: "0x" + string.hex(), lambda dice: dice.randbytes(dice.choice((0, 1, 4, 32, 60))))
 TRUTH = Text(truth_text, lambda dice: dice.choice((b"", b"\1")))
 RECIPIENT = Text(lambda s: fixed_text(20)(s) if s else "0x", lambda dice: dice.randbytes(dice.choice((0, 20))))
+STATUS = Text(status_text, lambda dice: dice.choice((b"", b"\1", dice.randbytes(32), dice.randbytes(1))))
 
 
 def written_list(dice, items):
@@ -199,7 +207,7 @@ class Typed:
     def lines(self, name, data):
         if data and data[0] in self.types:
             return [f"{name + '.' if name else ''}type: {data[0]}"] + self.types[data[0]].lines(name, data[1:])
-        return self.other.lines(name, data)
+        return (self.other if data and data[0] >= 0xC0 else Unknown()).lines(name, data)
 
     def written(self, dice):
         kind = dice.choice([None, *self.types])
@@ -368,7 +376,7 @@ def fields(text, types):
 
 
 TYPES = {"u8": number(1), "u64": number(8), "u256": number(32), "hash": HASH, "address": ADDRESS, "bloom": BLOOM, "string": STRING}
-TYPES |= {"truth": TRUTH, "recipient": RECIPIENT, "nonce": fixed(8), "hashes": ListOf(HASH)}
+TYPES |= {"truth": TRUTH, "recipient": RECIPIENT, "status": STATUS, "nonce": fixed(8), "hashes": ListOf(HASH)}
 TYPES["log"] = Record(fields("address:address topics:hashes data:string", TYPES))
 TYPES["access"] = Record(fields("address:address storage_keys:hashes", TYPES))
 TYPES["authorization"] = Record(fields("chain_id:u256 address:address nonce:u64 y_parity:u8 r:u256 s:u256", TYPES))
@@ -397,7 +405,7 @@ TRANSACTION = Typed(PAYLOADS, Record(fields(LEGACY, TYPES)))
 TYPES["transactions"] = ListOf(Held(PAYLOADS, TRANSACTION.other))
 TYPES |= {"headers": ListOf(TYPES["header"]), "withdrawals": ListOf(TYPES["withdrawal"])}
 BLOCK = "header:header transactions:transactions ommers:headers withdrawals:withdrawals"
-RECEIPT = Record(fields("status_or_state_root:string cumulative_gas_used:u64 logs_bloom:bloom logs:logs", TYPES))
+RECEIPT = Record(fields("status_or_state_root:status cumulative_gas_used:u64 logs_bloom:bloom logs:logs", TYPES))
 
 KINDS = {
     "account": Record(fields("nonce:u64 balance:u256 storage_root:hash code_hash:hash", TYPES)),

@@ -23,13 +23,14 @@ extern "C" {
 #endif
 
 /* How a call went. After a status other than RLP_OK and RLP_NO_ROOM the result parameters are as they were, except for
- * the elements of `out` of rlp_split and rlp_flatten, which then have no meaning. */
+ * the elements of `out` of functions that find several items, which then have no meaning, and as rlp_transaction says. */
 typedef enum rlp_status {
     RLP_OK = 0,
     RLP_IS_TOO_BIG = 1,                     /* bytes follow the item, or a number has too many bytes */
     RLP_IS_TOO_SHORT = 2,                   /* the bytes end before the item does */
     RLP_EXPECTED_TO_BE_LIST = 3,            /* a string, or no bytes, in place of a list */
     RLP_EXPECTED_TO_BE_DATA = 4,            /* a list in place of a string */
+    RLP_INCORRECT_LIST_LEN = 5,             /* a record of Ethereum has a field too few or too many */
     RLP_DATA_LEN_WITH_ZERO_PREFIX = 6,      /* the length of a string begins with a zero byte */
     RLP_LIST_LEN_WITH_ZERO_PREFIX = 7,      /* the length of a list begins with a zero byte */
     RLP_INVALID_INDIRECTION = 8,            /* there is a shorter encoding, or a number begins with a zero byte */
@@ -37,7 +38,8 @@ typedef enum rlp_status {
     RLP_INVALID_LENGTH = 10,                /* a header and its string are 2^64 bytes or more */
     RLP_NO_ROOM = 13,                       /* `cap` is less than `*count`, which is what is needed */
     RLP_TOO_DEEP = 14,                      /* there are more lists, one in the other, than allowed */
-    RLP_BAD_ITEMS = 15                      /* the items describe no tree, or lie outside the bytes */
+    RLP_BAD_ITEMS = 15,                     /* the items describe no tree, or lie outside the bytes */
+    RLP_UNKNOWN_TYPE = 16                   /* a transaction has a type other than 0 to 4 */
 } rlp_status;
 
 /* No call goes deeper into lists that hold lists, whatever the caller allows. It bounds the stack of a call at 64 KiB. */
@@ -71,6 +73,20 @@ uint32_t rlp_split(const uint8_t *RLP_RESTRICT bytes, size_t len, rlp_item *RLP_
  * the first fault on the way. Status: 0, 1, 2, 6, 7, 8, 13, 14. */
 uint32_t rlp_flatten(const uint8_t *RLP_RESTRICT bytes, size_t len, uint32_t max_depth, rlp_item *RLP_RESTRICT out,
                      size_t cap, size_t *RLP_RESTRICT count);
+
+/* Finds the fields of the transaction that the bytes are by themselves, as in EIP-2718, at depth 1 and in order:
+ * `*count` of them. `*transaction_type` is 0 for a legacy transaction, which is a list, and else the byte in front of the
+ * list: 1 (EIP-2930), 2 (EIP-1559), 3 (EIP-4844) or 4 (EIP-7702). Each field is tested: numbers of at most 8 or 32 bytes,
+ * addresses of 20, and the lists in a transaction to their last item. After RLP_NO_ROOM the elements of `out` have no
+ * meaning. After a fault `*count` is the number of the field that has it, 1 for the first, and 0 if the whole has it.
+ * Status: 0, 1, 2, 3, 4, 5, 6, 7, 8, 13, 16; after 2 for no bytes, and 16, `*transaction_type` is as it was. */
+uint32_t rlp_transaction(const uint8_t *RLP_RESTRICT bytes, size_t len, uint32_t *RLP_RESTRICT transaction_type,
+                         rlp_item *RLP_RESTRICT out, size_t cap, size_t *RLP_RESTRICT count);
+
+/* Finds the fields of the header of a block that the bytes are: 15, or since London 16, Shanghai 17, Cancun 20, Prague 21.
+ * Otherwise as rlp_transaction. Status: 0, 1, 2, 3, 4, 5, 6, 7, 8, 13. */
+uint32_t rlp_header_fields(const uint8_t *RLP_RESTRICT bytes, size_t len, rlp_item *RLP_RESTRICT out, size_t cap,
+                           size_t *RLP_RESTRICT count);
 
 /* Finds the string that the bytes begin with. If `strict`, nothing may follow it: use that for untrusted bytes.
  * Status: 0, 1, 2, 4, 8, 9, 10. */

@@ -26,6 +26,8 @@ struct state {
 PyObject *decode(PyObject *module, PyObject *args, PyObject *kwargs);
 PyObject *decode_part(PyObject *module, PyObject *args);
 PyObject *split_part(PyObject *module, PyObject *args);
+PyObject *decode_transaction(PyObject *module, PyObject *value);
+PyObject *decode_header(PyObject *module, PyObject *value);
 PyObject *is_canonical(PyObject *module, PyObject *args, PyObject *kwargs);
 PyObject *encode(PyObject *module, PyObject *value);
 void drop_tree(struct tree *tree);

@@ -8,6 +8,7 @@ struct items {
     rlp_item few[FEW];
     rlp_item *all;
     size_t cap, count;
+    uint32_t transaction_type;
 };
 
 typedef uint32_t finder(const uint8_t *bytes, size_t len, uint32_t max_depth, struct items *items);
@@ -19,6 +20,16 @@ static uint32_t flatten(const uint8_t *bytes, size_t len, uint32_t max_depth, st
 static uint32_t split(const uint8_t *bytes, size_t len, uint32_t max_depth, struct items *items) {
     (void)max_depth;
     return rlp_split(bytes, len, items->all, items->cap, &items->count);
+}
+
+static uint32_t transaction(const uint8_t *bytes, size_t len, uint32_t max_depth, struct items *items) {
+    (void)max_depth;
+    return rlp_transaction(bytes, len, &items->transaction_type, items->all, items->cap, &items->count);
+}
+
+static uint32_t header_fields(const uint8_t *bytes, size_t len, uint32_t max_depth, struct items *items) {
+    (void)max_depth;
+    return rlp_header_fields(bytes, len, items->all, items->cap, &items->count);
 }
 
 static void drop(struct items *items) {
@@ -206,6 +217,47 @@ PyObject *split_part(PyObject *module, PyObject *args) {
     drop(&items);
     PyBuffer_Release(&view);
     return places;
+}
+
+/* Where a field of a list begins, which itself begins at this place. Field 0 is the whole. */
+static size_t place_of_field(const uint8_t *bytes, size_t len, size_t start, size_t field) {
+    rlp_item item;
+    if (field == 0 || rlp_header(bytes + start, len - start, &item) != RLP_OK) return 0;
+    size_t place = start + item.header_len;
+    while (--field > 0 && rlp_header(bytes + place, len - place, &item) == RLP_OK) place += item.header_len + item.payload_len;
+    return place;
+}
+
+/* The values of the fields of a record, of which a call finds the places. */
+static PyObject *decode_fields(PyObject *module, PyObject *value, finder *call, struct items *items) {
+    Py_buffer view;
+    PyObject *fields = NULL;
+    if (PyObject_GetBuffer(value, &view, PyBUF_SIMPLE) < 0) return NULL;
+    const uint8_t *bytes = view.buf;
+    size_t len = (size_t)view.len;
+    int status = find(call, bytes, len, 1, items);
+    size_t start = call == transaction && len > 0 && bytes[0] < 0xc0;
+    if (status == RLP_OK) fields = PyList_New((Py_ssize_t)items->count);
+    else if (status > 0) refuse(module, (uint32_t)status, place_of_field(bytes, len, start, items->count), value);
+    for (size_t i = 0; fields != NULL && i < items->count; i++) {
+        const rlp_item *item = &items->all[i];
+        PyObject *field = decode_at(module, bytes + item->offset, item->header_len + item->payload_len, RLP_DEPTH_LIMIT, item->offset, value);
+        if (field == NULL || PyList_SetItem(fields, (Py_ssize_t)i, field) < 0) Py_CLEAR(fields);
+    }
+    drop(items);
+    PyBuffer_Release(&view);
+    return fields;
+}
+
+PyObject *decode_transaction(PyObject *module, PyObject *value) {
+    struct items items;
+    PyObject *fields = decode_fields(module, value, transaction, &items);
+    return fields ? Py_BuildValue("IN", items.transaction_type, fields) : NULL;
+}
+
+PyObject *decode_header(PyObject *module, PyObject *value) {
+    struct items items;
+    return decode_fields(module, value, header_fields, &items);
 }
 
 PyObject *is_canonical(PyObject *module, PyObject *args, PyObject *kwargs) {

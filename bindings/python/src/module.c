@@ -16,6 +16,15 @@ PyDoc_STRVAR(is_canonical_doc,
 "is_canonical(rlp, /, *, max_depth=256)\n--\n\n"
 "Return whether decode gives a value for these bytes. No value is made.");
 
+PyDoc_STRVAR(decode_transaction_doc,
+"decode_transaction(rlp, /)\n--\n\n"
+"Return the type and the fields of the transaction that the bytes are by themselves, as in EIP-2718: bytes, and lists of\n"
+"values. The type is 0 for a legacy transaction. Each field is tested. Raise DecodingError for other bytes.");
+
+PyDoc_STRVAR(decode_header_doc,
+"decode_header(rlp, /)\n--\n\n"
+"Return the fields of the header of a block that the bytes are. Raise DecodingError for other bytes.");
+
 PyDoc_STRVAR(decode_part_doc,
 "decode_part(rlp, start, stop, /)\n--\n\n"
 "Return what decode gives for rlp[start:stop].");
@@ -28,6 +37,8 @@ static PyMethodDef methods[] = {
     {"decode", (PyCFunction)(void (*)(void))decode, METH_VARARGS | METH_KEYWORDS, decode_doc},
     {"encode", encode, METH_O, encode_doc},
     {"is_canonical", (PyCFunction)(void (*)(void))is_canonical, METH_VARARGS | METH_KEYWORDS, is_canonical_doc},
+    {"decode_transaction", decode_transaction, METH_O, decode_transaction_doc},
+    {"decode_header", decode_header, METH_O, decode_header_doc},
     {"decode_part", decode_part, METH_VARARGS, decode_part_doc},
     {"split_part", split_part, METH_VARARGS, split_part_doc},
     {NULL, NULL, 0, NULL},

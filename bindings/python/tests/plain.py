@@ -69,3 +69,88 @@ def encode(value):
         return written_header(0x80, len(value)) + value
     payload = b"".join([encode(each) for each in value])
     return written_header(0xC0, len(payload)) + payload
+
+
+# The kinds of the fields of each record: a number of at most so many bytes, a string of so many, 0 or 1, an address or
+# nothing, any string, and in brackets a list of fields, or of any number of one kind behind "each".
+ACCESS_LIST = ["each", [20, ["each", 32]]]
+AUTHORIZATIONS = ["each", ["n32", 20, "n8", "n1", "n32", "n32"]]
+SIGNED = ["bit", "n32", "n32"]
+FEES = ["n8", "n8", "n32", "n32", "n8"]
+TRANSACTIONS = {
+    0: ["n8", "n32", "n8", "to", "n32", "any", "n32", "n32", "n32"],
+    1: ["n8", "n8", "n32", "n8", "to", "n32", "any", ACCESS_LIST, *SIGNED],
+    2: [*FEES, "to", "n32", "any", ACCESS_LIST, *SIGNED],
+    3: [*FEES, 20, "n32", "any", ACCESS_LIST, "n32", ["each", 32], *SIGNED],
+    4: [*FEES, 20, "n32", "any", ACCESS_LIST, AUTHORIZATIONS, *SIGNED],
+}
+HEADER = [32, 32, 20, 32, 32, 32, 256, "n32", "n8", "n8", "n8", "n8", "any", 32, 8, "n32", 32, "n8", "n8", 32, 32]
+
+
+def check_string(string, kind):
+    """Raises the fault of a field's string."""
+    if isinstance(kind, int) or kind == "to" and string:
+        length = 20 if kind == "to" else kind
+        if len(string) != length:
+            raise Fault("RlpIsTooShort" if len(string) < length else "RlpIsTooBig", 0)
+    elif kind[0] == "n" and len(string) > int(kind[1:]) or kind == "bit" and (len(string) > 1 or string > b"\1"):
+        raise Fault("RlpIsTooBig", 0)
+    elif kind not in ("to", "any") and string[:1] == b"\0":
+        raise Fault("RlpInvalidIndirection", 0)
+
+
+def check_fields(data, place, end, kinds):
+    """Raises the first fault of the fields from a place on, with the place of its field. Answers their number."""
+    count = 0
+    while place < end:
+        stop = header(data, place, end)[1]
+        kind = kinds[1] if kinds[0] == "each" else kinds[count] if count < len(kinds) else None
+        try:
+            if kind is None:
+                raise Fault("RlpIncorrectListLen", 0)
+            if not isinstance(kind, list):
+                if data[place] >= 0xC0:
+                    raise Fault("RlpExpectedToBeData", 0)
+                check_string(item(data, place, stop, 0)[0], kind)
+            elif data[place] < 0xC0:
+                raise Fault("RlpExpectedToBeList", 0)
+            else:
+                check_fields(data, *header(data, place, stop), kind)
+        except Fault as fault:
+            raise Fault(fault.args[0], place) from None
+        place, count = stop, count + 1
+    if count not in ((15, 16, 17, 20, 21) if kinds is HEADER else (count,) if kinds[0] == "each" else (len(kinds),)):
+        raise Fault("RlpIncorrectListLen", place)
+    return count
+
+
+def record(data, start, kinds):
+    """The values of the fields of a record that begins at a place."""
+    try:
+        if start == len(data) or data[start] < 0xC0:
+            raise Fault("RlpExpectedToBeList", 0)
+        first, end = header(data, start, len(data))
+        if end < len(data):
+            raise Fault("RlpIsTooBig", 0)
+        place = first
+        while place < end:
+            place = header(data, place, end)[1]
+    except Fault as fault:
+        raise Fault(fault.args[0], 0) from None
+    check_fields(data, first, end, kinds)
+    return item(data, start, end, 256)[0]
+
+
+def decode_header(data):
+    """The fields of a header."""
+    return record(data, 0, HEADER)
+
+
+def decode_transaction(data):
+    """The type and the fields of a transaction."""
+    if data == b"":
+        raise Fault("RlpIsTooShort", 0)
+    number = 0 if data[0] >= 0xC0 else data[0] or 256
+    if number not in TRANSACTIONS:
+        raise Fault("RlpUnknownType", 0)
+    return number, record(data, int(number > 0), TRANSACTIONS[number])

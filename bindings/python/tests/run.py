@@ -13,6 +13,7 @@ import plain
 import rlp_proved as rlp
 
 VECTORS = pathlib.Path(__file__).resolve().parent.parent.parent / "vectors"
+RECORDS = VECTORS.parent / "records"
 OFTEN = (0, 0x37, 0x38, 0x7F, 0x80, 0x81, 0xB7, 0xB8, 0xBF, 0xC0, 0xF7, 0xF8, 0xFF)
 LENGTHS = (0, 1, 1, 2, 3, 8, 20, 32, 54, 55, 56, 57, 255, 256, 300)
 SEED, COUNT = int(sys.argv[1]), int(sys.argv[2])
@@ -107,6 +108,41 @@ class Random(unittest.TestCase):
                 self.assertEqual(rlp.decode(data + b"\0", strict=False), wanted)
 
 
+class Records(unittest.TestCase):
+    CALLS = {
+        "transaction": (rlp.decode_transaction, plain.decode_transaction),
+        "header": (rlp.decode_header, plain.decode_header),
+    }
+
+    def rows(self):
+        for line in RECORDS.read_text().splitlines():
+            if line[0] != "#":
+                call, rest = line.split(" ", 1)
+                digits, wanted = rest.split(" => ")
+                yield self.CALLS[call], bytes.fromhex(digits), wanted
+
+    def test_rows(self):
+        for (call, model), data, wanted in self.rows():
+            with self.subTest(data.hex()[:99], wanted=wanted):
+                found = told(call, data)
+                if " at " in wanted:
+                    self.assertEqual(found[0], wanted.split(" at ")[0])
+                else:
+                    fields = found[1] if isinstance(found, tuple) else found
+                    number = f"type {found[0]}, " if isinstance(found, tuple) else ""
+                    self.assertEqual(f"{number}{len(fields)} fields", wanted)
+                self.assertEqual(found, told(model, data))
+
+    def test_spoiled_rows(self):
+        source = random.Random(SEED)
+        rows = [row for row in self.rows() if row[1]]
+        for _ in range(COUNT):
+            (call, model), data, _ = source.choice(rows)
+            for _ in range(source.choice((1, 1, 2))):
+                data = spoiled(source, data) or b"\xc0"
+            self.assertEqual(told(call, data), told(model, data), data.hex())
+
+
 class Faults(unittest.TestCase):
     def test_each_fault(self):
         for digits, fault in {
@@ -132,6 +168,8 @@ class Faults(unittest.TestCase):
             with self.assertRaises(rlp.EncodingError) as caught:
                 rlp.encode(value)
             self.assertEqual(caught.exception.obj, part)
+        for call in (rlp.decode_transaction, rlp.decode_header):
+            self.assertRaises(TypeError, call, "text")
         for call in (rlp.decode, rlp.is_canonical):
             self.assertRaises(TypeError, call, "text")
             self.assertRaises(TypeError, call)
@@ -182,11 +220,13 @@ class Values(unittest.TestCase):
         self.assertRaises(rlp.EncodingError, rlp.encode, value)
 
     def test_memory_is_given_back(self):
+        rows = [*Records().rows()]
         calls = [
             lambda: rlp.decode(rlp.encode([[b"x" * 99] * 500, 1 << 99])),
             lambda: told(rlp.decode, plain.encode([[b"x"] * 500])[:-1] + b"\x80"),
             lambda: all_of(rlp.decode_lazy(rlp.encode([[b"x" * 99] * 500]))),
             lambda: self.assertRaises(rlp.EncodingError, rlp.encode, [b"x" * 5000, [None]]),
+            lambda: [told(call, data) for (call, _), data, _ in rows],
         ]
         sizes = []
         for _ in range(3):

@@ -15,6 +15,8 @@ pub enum DecoderError {
     RlpExpectedToBeList = 3,
     /// A list in place of a string.
     RlpExpectedToBeData = 4,
+    /// A record of Ethereum has a field too few or too many.
+    RlpIncorrectListLen = 5,
     /// The length of a string begins with a zero byte.
     RlpDataLenWithZeroPrefix = 6,
     /// The length of a list begins with a zero byte.
@@ -29,13 +31,16 @@ pub enum DecoderError {
     RlpTooDeep = 14,
     /// The items describe no tree, or lie outside the bytes.
     RlpBadItems = 15,
+    /// A transaction has a type other than 0 to 4.
+    RlpUnknownType = 16,
 }
 
-const ALL: [DecoderError; 11] = [
+const ALL: [DecoderError; 13] = [
     DecoderError::RlpIsTooBig,
     DecoderError::RlpIsTooShort,
     DecoderError::RlpExpectedToBeList,
     DecoderError::RlpExpectedToBeData,
+    DecoderError::RlpIncorrectListLen,
     DecoderError::RlpDataLenWithZeroPrefix,
     DecoderError::RlpListLenWithZeroPrefix,
     DecoderError::RlpInvalidIndirection,
@@ -43,6 +48,7 @@ const ALL: [DecoderError; 11] = [
     DecoderError::RlpInvalidLength,
     DecoderError::RlpTooDeep,
     DecoderError::RlpBadItems,
+    DecoderError::RlpUnknownType,
 ];
 
 impl fmt::Display for DecoderError {

@@ -23,6 +23,21 @@ extern "C" {
         cap: usize,
         count: *mut usize,
     ) -> u32;
+    pub fn rlp_transaction(
+        bytes: *const u8,
+        len: usize,
+        transaction_type: *mut u32,
+        out: *mut Item,
+        cap: usize,
+        count: *mut usize,
+    ) -> u32;
+    pub fn rlp_header_fields(
+        bytes: *const u8,
+        len: usize,
+        out: *mut Item,
+        cap: usize,
+        count: *mut usize,
+    ) -> u32;
     pub fn rlp_decode_bytes(bytes: *const u8, len: usize, strict: bool, out: *mut Item) -> u32;
     pub fn rlp_decode_u64(bytes: *const u8, len: usize, strict: bool, out: *mut u64) -> u32;
     pub fn rlp_decode_uint(

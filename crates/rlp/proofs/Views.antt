@@ -1,5 +1,3 @@
--- canonical bytes
-pub mod Canonical
 -- lenient and strict views
 pub mod ViewKinds
 -- items that are split off bytes

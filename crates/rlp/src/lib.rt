@@ -29,7 +29,7 @@ mod traits;
 
 use bytes::BytesMut;
 pub use impls::RawItem;
-pub use rlp_format::{DecoderError, PayloadInfo, Prototype};
+pub use rlp_format::{DecoderError, FlatItem, PayloadInfo, Prototype, TreeFault};
 pub use rlp_streams::{
     AppendFields, BasicEncoder, Chain, EMPTY_LIST_RLP, Each, Encodable, Flattened, ListOf,
     NULL_RLP, Optional, OptionalGroupOf, OptionalListOf, RlpStream, Uint, encode_list,

@@ -6,9 +6,10 @@ use Rattle.rlp_format.specs.Format.Item.{Item, string, list, Items, no_items, it
 use Rattle.rlp_format.specs.Format.Encoding.{encoding, is_low_byte, join_items}
 use Rattle.rlp_format.specs.Format.WrittenHeader.{written_header}
 use Rattle.rlp_c.specs.declared.item.RlpItem.{RlpItem}
+use Rattle.rlp_format.specs.Format.Flat.{flat_item, flat_rows, header_length}
 use Rattle.rlp_c.specs.Flat.{flat, flat_items, row_of}
 use Rattle.rlp_c.specs.Tree.{AreRows, DescribeTree, item_of, items_of, tree_of}
-use Rattle.rlp_c.proofs.Framed.{high_written, low_again}
+use Rattle.rlp_format.proofs.Trees.Needless.{high_written, low_again}
 use Rattle.rlp_c.proofs.Trees.{item-list, item-string, items_of-behind, items_of-deeper, items_of-here}
 
 -- bytes stand at a place in b
@@ -79,12 +80,12 @@ module _ (b : List ℕ) where
   stops_later d more stops e deep = stops e (omega (arith, deep))
 
   mutual
-    unfolding flat
+    unfolding flat_rows
 
     skipped : (e place d : ℕ) (x : Item) (more : List RlpItem) → e < d → items_of b e (flat place d x ++ more) ≡ items_of b e more
-    skipped e place d (string s) more less = items_of-behind b e (row_of place d false (length (encoding (string s))) (length s)) more less
+    skipped e place d (string s) more less = items_of-behind b e (row_of (flat_item place d false (header_length (string s) s) (length s))) more less
     skipped e place d (list xs) more less =
-        items_of-behind b e (row_of place d true (length (encoding (list xs))) (length (join_items xs)))
+        items_of-behind b e (row_of (flat_item place d true (header_length (list xs) (join_items xs)) (length (join_items xs))))
         (flat_items (place + (length (encoding (list xs)) - length (join_items xs))) (d + 1) xs ++ more) less
         ∙ skipped_items e (place + (length (encoding (list xs)) - length (join_items xs))) (d + 1) xs more (omega (arith, less))
 
@@ -96,27 +97,27 @@ module _ (b : List ℕ) where
         ∙ skipped_items e (place + length (encoding x)) d xs more less
 
   stops_items : (d place : ℕ) (xs : Items) (more : List RlpItem) → Stops d more → Stops d (flat_items place d xs ++ more)
-  unfolding Stops flat
+  unfolding Stops flat_rows
   stops_items d place no_items more stops e deep = stops e deep
   stops_items d place (item_and (string s) xs) more stops e deep =
-      items_of-deeper b e (row_of place d false (length (encoding (string s))) (length s)) _ deep
+      items_of-deeper b e (row_of (flat_item place d false (header_length (string s) s) (length s))) _ deep
   stops_items d place (item_and (list ys) xs) more stops e deep =
-      items_of-deeper b e (row_of place d true (length (encoding (list ys))) (length (join_items ys))) _ deep
+      items_of-deeper b e (row_of (flat_item place d true (header_length (list ys) (join_items ys)) (length (join_items ys)))) _ deep
 
   mutual
-    unfolding flat encoding Stops
+    unfolding flat_rows encoding Stops
 
     -- the rows of an item give the item
     given_back : (place d : ℕ) (x : Item) (more : List RlpItem) → IsAt b place (encoding x) → Stops d more
         → items_of b d (flat place d x ++ more) ≡ item_and x (items_of b d more)
     given_back place d (string s) more a stops =
-        let row = row_of place d false (length (encoding (string s))) (length s) in
+        let row = row_of (flat_item place d false (header_length (string s) s) (length s)) in
         items_of-here b row more
         ∙ ap (λ y. item_and y (items_of b d more)) (item-string b row (items_of b (d + 1) more) refl)
         ∙ ap (λ t. item_and (string t) (items_of b d more))
         (at_read b (place + (length (encoding (string s)) - length s)) s (payload_stands b place (encoding (string s)) s (string_front s) a))
     given_back place d (list xs) more a stops =
-        let row = row_of place d true (length (encoding (list xs))) (length (join_items xs)) in
+        let row = row_of (flat_item place d true (header_length (list xs) (join_items xs)) (length (join_items xs))) in
         let inner = place + (length (encoding (list xs)) - length (join_items xs)) in
         let rows = flat_items inner (d + 1) xs ++ more in
         items_of-here b row rows
@@ -147,7 +148,7 @@ module _ (most : ℕ) (b : List ℕ) where
   Follow d more = (m : ℕ) → d ≤ m → AreRows most (length b) 1 m more
 
   mutual
-    unfolding flat encoding Follow
+    unfolding flat_rows encoding Follow
 
     in_order : (place d least deepest : ℕ) (x : Item) (more : List RlpItem) → IsAt b place (encoding x) → least ≤ d → d ≤ deepest → d + item_depth x ≤ most
         → Follow d more → AreRows most (length b) least deepest (flat place d x ++ more)
@@ -182,7 +183,7 @@ whole_at : (b e : List ℕ) → b ≡ e → IsAt b 0 e
 whole_at b e is = record { front = []; back = []; is = is ∙ sym (append-nil e); behind = refl }
 
 rows_some : (x : Item) → 1 ≤ length (flat 0 0 x)
-unfolding flat
+unfolding flat_rows
 rows_some (string s) = omega arith
 rows_some (list xs) = omega arith
 
@@ -195,10 +196,10 @@ flat_describes most b x is deep = record {
 }
 
 first_item : (b : List ℕ) (x : Item) → items_of b 0 (flat 0 0 x) ≡ item_and (tree_of b (flat 0 0 x)) no_items
-unfolding flat tree_of items_of
-first_item b (string s) = items_of-here b (row_of 0 0 false (length (encoding (string s))) (length s)) []
+unfolding flat_rows tree_of items_of
+first_item b (string s) = items_of-here b (row_of (flat_item 0 0 false (header_length (string s) s) (length s))) []
 first_item b (list xs) =
-    let row = row_of 0 0 true (length (encoding (list xs))) (length (join_items xs)) in
+    let row = row_of (flat_item 0 0 true (header_length (list xs) (join_items xs)) (length (join_items xs))) in
     let rows = flat_items (0 + (length (encoding (list xs)) - length (join_items xs))) 1 xs in
     items_of-here b row rows
     ∙ ap (item_and (item_of b row (items_of b 1 rows)))

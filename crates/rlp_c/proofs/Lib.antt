@@ -1,13 +1,5 @@
 -- where the string that bytes begin with is
 mod Strings
--- rows that were written one after another
-mod Rows
--- strings with and without a needless header
-mod Framed
--- the walk over the items of a list
-mod Walks
--- the first fault of a walk, step by step
-mod Faults
 -- the answer of a whole walk
 mod Flattening
 -- the walk over the items of one list
@@ -20,3 +12,7 @@ mod Measuring
 mod Texts
 -- the rows of a tree describe it
 mod Described
+-- the walk over the fields of a record
+mod Checking
+-- the answers for transactions and headers
+mod RecordAnswers

@@ -11,8 +11,8 @@ use Rattle.rlp_format.proofs.Format.StrictLists.{after_items-next, after_items-n
 use Rattle.rlp_c.specs.declared.item.RlpItem.{RlpItem}
 use Rattle.rlp_c.specs.Rows.{IsItemized, header_length, row, row_by, rows_at}
 use Rattle.rlp_c.specs.Status.{fault_status}
-use Rattle.rlp_c.specs.Walk.{Extends}
-use Rattle.rlp_c.proofs.Rows.{extends_both}
+use Rattle.rlp_format.specs.Format.Walk.{Extends}
+use Rattle.rlp_format.proofs.Trees.Rows.{extends_both}
 use Rattle.std.specs.List.{concat}
 
 -- the first items have rows, and the others are those of the rest
@@ -110,7 +110,7 @@ splitting_ends p rest place old new n w none =
       rows = subst (λ fs. Extends old 0 (rows_at place 1 fs) new) same w.rows;
     }
 
-rows_counted : (place depth : ℕ) (fs : List (List ℕ)) → length (rows_at place depth fs) ≡ length fs
+pub rows_counted : (place depth : ℕ) (fs : List (List ℕ)) → length (rows_at place depth fs) ≡ length fs
 unfolding rows_at
 rows_counted place depth [] = refl
 rows_counted place depth (f ∷ fs) = ap (λ n. suc n) (rows_counted (place + length f) depth fs)

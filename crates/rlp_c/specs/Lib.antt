@@ -4,13 +4,15 @@ pub mod Status
 pub mod Answers
 -- what C sees of an item
 pub mod Rows
--- the first fault of a tree
-pub mod Faults
 -- a tree as rows
 pub mod Flat
--- what the walk over a tree has done
-pub mod Walk
 -- what the writing functions leave
 pub mod Written
 -- the tree that rows describe
 pub mod Tree
+-- the records of Ethereum
+pub mod Kinds
+-- the first fault of the fields of a record
+pub mod Fields
+-- the answers for transactions and headers
+pub mod Records

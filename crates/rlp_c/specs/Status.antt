@@ -5,8 +5,8 @@ use Rattle.rlp_format.specs.declared.error.DecoderError.TheVariants.{RlpIsTooBig
 use Rattle.rlp_format.specs.declared.error.DecoderError.TheVariants.{RlpIncorrectListLen, RlpDataLenWithZeroPrefix, RlpListLenWithZeroPrefix}
 use Rattle.rlp_format.specs.declared.error.DecoderError.TheVariants.{RlpInvalidIndirection, RlpInconsistentLengthAndData, RlpInvalidLength, Custom}
 use Rattle.rlp_format.specs.declared.error.DecoderError.TheVariants.{OutOfMemory}
-use Rattle.rlp_c.specs.declared.walking.WalkFault.{WalkFault}
-use Rattle.rlp_c.specs.declared.walking.WalkFault.TheVariants.{Bytes, TooDeep}
+use Rattle.rlp_format.specs.declared.flat.TreeFault.{TreeFault}
+use Rattle.rlp_format.specs.declared.flat.TreeFault.TheVariants.{Decoding, TooDeep}
 
 -- the number of a fault; 0 is none of them
 abbrev pub fault_status : DecoderError → ℕ
@@ -23,7 +23,7 @@ fault_status RlpInvalidLength = 10
 fault_status (Custom text) = 11
 fault_status OutOfMemory = 12
 
--- the number of a fault of a walk
-abbrev pub walk_status : WalkFault → ℕ
-walk_status (Bytes e) = fault_status e
-walk_status TooDeep = 14
+-- the number of a fault of a tree
+abbrev pub tree_status : TreeFault → ℕ
+tree_status (Decoding e) = fault_status e
+tree_status TooDeep = 14

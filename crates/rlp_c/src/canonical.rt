@@ -3,8 +3,7 @@
 ghost use Rattle.std.specs.Prelude.{◌≡◌, ◌↔◌, IsTrue, min};
 ghost use Rattle.rlp_format.specs.Format.Strict.{IsCanonicalWithin};
 
-use crate::walking::walk;
-use rlp_format::framed::whole_framed;
+use rlp_format::walking::is_canonical;
 
 /// The greatest depth of lists that any function goes to, whatever the caller allows. It bounds the
 /// stack that a call takes.
@@ -27,12 +26,5 @@ pub fn depth_within(max_depth: u32) -> u32
 pub extern "C" fn rlp_is_canonical(bytes: &[u8], max_depth: u32) -> bool
     ensures { IsTrue result ↔ IsCanonicalWithin (min max_depth 256) bytes.now }
 {
-    let framed = match whole_framed(bytes) {
-        Ok(framed) => framed,
-        Err(_) => return false,
-    };
-    match walk(&framed, 0, 0, depth_within(max_depth), &mut [], 0) {
-        Ok(_) => true,
-        Err(_) => false,
-    }
+    is_canonical(bytes, depth_within(max_depth) as usize)
 }

@@ -5,9 +5,8 @@ ghost use Rattle.rlp_c.specs.Flat.{IsFlattened};
 
 use crate::canonical::depth_within;
 use crate::item::RlpItem;
-use crate::status::{RLP_NO_ROOM, RLP_OK, status_of, status_of_walk};
-use crate::walking::walk;
-use rlp_format::framed::whole_framed;
+use crate::status::{RLP_NO_ROOM, RLP_OK, status_of_tree};
+use rlp_format::walking::walk_whole;
 
 /// Writes a row for each item of the tree whose encoding the bytes are. `count` gets the number of
 /// rows. If the array has fewer elements, the status is [`RLP_NO_ROOM`], and a second call with
@@ -21,11 +20,7 @@ pub extern "C" fn rlp_flatten(
 ) -> u32
     ensures { IsFlattened (min max_depth 256) bytes.now out.old out.new count.old count.new result }
 {
-    let framed = match whole_framed(bytes) {
-        Ok(framed) => framed,
-        Err(fault) => return status_of(&fault),
-    };
-    match walk(&framed, 0, 0, depth_within(max_depth), out, 0) {
+    match walk_whole(bytes, depth_within(max_depth) as usize, out) {
         Ok(rows) => {
             *count = rows;
             if rows <= out.len() {
@@ -34,6 +29,6 @@ pub extern "C" fn rlp_flatten(
                 RLP_NO_ROOM
             }
         }
-        Err(fault) => status_of_walk(&fault),
+        Err(fault) => status_of_tree(&fault),
     }
 }

@@ -3,6 +3,8 @@
 ghost use Rattle.std.specs.Prelude.{◌≡◌};
 ghost use Rattle.rlp_format.specs.Values.Value.{bit};
 
+use rlp_format::flat::{FlatItem, FlatRow};
+
 /// An item of some bytes. Its header begins at `offset`, and its payload follows the header. `depth`
 /// is the number of lists around it. `is_list` is 1 for a list and 0 for a string: a number, so that
 /// an array of any bytes is one of items.
@@ -14,6 +16,25 @@ pub struct RlpItem {
     pub payload_len: usize,
     pub depth: u32,
     pub is_list: u32,
+}
+
+impl FlatRow for RlpItem {
+    ghost use Rattle.std.specs.Prelude.{◌-◌, ◌^◌};
+    ghost use Rattle.rlp_c.specs.Flat.{row_of};
+
+    ghost row_of = { row_of };
+
+    ghost greatest_depth = { 2 ^ 32 - 1 };
+
+    fn row_of(item: FlatItem) -> RlpItem {
+        RlpItem {
+            offset: item.place,
+            header_len: item.header_len,
+            payload_len: item.payload_len,
+            depth: item.depth as u32,
+            is_list: bit(item.is_list),
+        }
+    }
 }
 
 /// A truth value as a number.

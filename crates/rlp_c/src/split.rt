@@ -3,14 +3,14 @@
 ghost use Rattle.std.specs.Prelude.{◌≡◌, ◌+◌, ◌<◌, ◌^◌, length, None, Some, IfOk, MatchResult};
 ghost use Rattle.rlp_format.specs.Format.Split.{split};
 ghost use Rattle.rlp_format.specs.Format.Strict.{after_items, fault_of_some, strict_list_fault};
+ghost use Rattle.rlp_format.specs.Format.Walk.{Extends};
 ghost use Rattle.rlp_c.specs.Rows.{IsItemized, rows_at};
-ghost use Rattle.rlp_c.specs.Walk.{Extends};
 
 use crate::item::{RlpItem, bit};
 use crate::status::{RLP_NO_ROOM, RLP_OK, status_of};
-use crate::walking::put;
 use rlp::DecoderError;
 use rlp_format::framed::{begins_as_list, first_framed, whole_framed};
+use rlp_format::walking::put;
 
 /// Writes a row for each item of the list that the bytes are. It doesn't look into the items.
 /// `count` gets the number of items. If the array has fewer elements, the status is
@@ -42,7 +42,11 @@ pub extern "C" fn rlp_split(bytes: &[u8], out: &mut [RlpItem], count: &mut usize
 
 /// Writes a row for each item of a payload that begins at this place, and returns their number, or
 /// the fault of what follows the items.
-fn split_payload(payload: &[u8], place: usize, out: &mut [RlpItem]) -> Result<usize, DecoderError>
+pub(crate) fn split_payload(
+    payload: &[u8],
+    place: usize,
+    out: &mut [RlpItem],
+) -> Result<usize, DecoderError>
     requires { place + length payload.now < 2 ^ 64 }
     ensures fault { MatchResult result (λ _. fault_of_some (after_items payload.now) ≡ None)
         (λ e. fault_of_some (after_items payload.now) ≡ Some e) }

@@ -1,10 +1,9 @@
 //! The numbers by which C tells faults apart.
 
 ghost use Rattle.std.specs.Prelude.{◌≡◌};
-ghost use Rattle.rlp_c.specs.Status.{fault_status, walk_status};
+ghost use Rattle.rlp_c.specs.Status.{fault_status, tree_status};
 
-use crate::walking::WalkFault;
-use rlp::DecoderError;
+use rlp::{DecoderError, TreeFault};
 
 /// Everything went well.
 pub const RLP_OK: u32 = 0;
@@ -15,6 +14,9 @@ pub const RLP_TOO_DEEP: u32 = 14;
 
 /// The items describe no tree, or point outside the bytes.
 pub const RLP_BAD_ITEMS: u32 = 15;
+
+/// A transaction has a type that isn't known.
+pub const RLP_UNKNOWN_TYPE: u32 = 16;
 
 /// The number of a fault.
 pub fn status_of(fault: &DecoderError) -> u32
@@ -36,12 +38,12 @@ pub fn status_of(fault: &DecoderError) -> u32
     }
 }
 
-/// The number of a fault of a walk.
-pub fn status_of_walk(fault: &WalkFault) -> u32
-    ensures { result ≡ walk_status fault.now }
+/// The number of a fault of a tree.
+pub fn status_of_tree(fault: &TreeFault) -> u32
+    ensures { result ≡ tree_status fault.now }
 {
     match fault {
-        WalkFault::Bytes(fault) => status_of(fault),
-        WalkFault::TooDeep => RLP_TOO_DEEP,
+        TreeFault::Decoding(fault) => status_of(fault),
+        TreeFault::TooDeep => RLP_TOO_DEEP,
     }
 }

@@ -1,5 +1,5 @@
 -- How payloads are written and read, with their signatures and without.
-use Rattle.std.specs.Prelude.{ℕ, List, ◌++◌, ◌∷◌}
+use Rattle.std.specs.Prelude.{List, ◌++◌, ◌∷◌}
 use Rattle.rlp.specs.DecoderError.{DecoderError}
 use Rattle.rlp.specs.Format.Item.{Item, list_of}
 use Rattle.rlp.specs.Views.View.{View}

@@ -1,7 +1,7 @@
 -- How transactions of every type are written and read.
 use Rattle.std.specs.Prelude.{ℕ, Bool, List, ◌⊎◌, codes, refl}
 use Rattle.std.proofs.Common.{inl, inr}
-use Rattle.rlp.specs.Codec.{Codec, each, newtype}
+use Rattle.rlp.specs.Codec.{Codec, newtype}
 use Rattle.rlp.specs.Uint.{Uint}
 use Rattle.rlp.specs.Codecs.Sums.{Cases, SameCase, and_case, enveloped, last_case, list_or_string}
 use Rattle.rlp.specs.Values.Same.{SameSum}

@@ -61,3 +61,35 @@ access_list_of (AccessList t) = Some t.payload.access_list
 access_list_of (FeeMarket t) = Some t.payload.access_list
 access_list_of (Blob t) = Some t.payload.access_list
 access_list_of (SetCode t) = Some t.payload.access_list
+
+-- the number of the type, and 0 without one
+abbrev pub type_of : Transaction → ℕ
+type_of (Legacy t) = 0
+type_of (AccessList t) = 1
+type_of (FeeMarket t) = 2
+type_of (Blob t) = 3
+type_of (SetCode t) = 4
+
+-- the price of gas, if the type has one
+abbrev pub gas_price_of : Transaction → Option (Uint 32)
+gas_price_of (Legacy t) = Some t.payload.gas_price
+gas_price_of (AccessList t) = Some t.payload.gas_price
+gas_price_of (FeeMarket t) = None
+gas_price_of (Blob t) = None
+gas_price_of (SetCode t) = None
+
+-- EIP-1559, of a transaction with a price of gas: "max_fee_per_gas = transaction.gas_price"
+abbrev pub max_fee_of : Transaction → Uint 32
+max_fee_of (Legacy t) = t.payload.gas_price
+max_fee_of (AccessList t) = t.payload.gas_price
+max_fee_of (FeeMarket t) = t.payload.max_fee_per_gas
+max_fee_of (Blob t) = t.payload.max_fee_per_gas
+max_fee_of (SetCode t) = t.payload.max_fee_per_gas
+
+-- EIP-1559, of a transaction with a price of gas: "max_priority_fee_per_gas = transaction.gas_price"
+abbrev pub max_priority_fee_of : Transaction → Uint 32
+max_priority_fee_of (Legacy t) = t.payload.gas_price
+max_priority_fee_of (AccessList t) = t.payload.gas_price
+max_priority_fee_of (FeeMarket t) = t.payload.max_priority_fee_per_gas
+max_priority_fee_of (Blob t) = t.payload.max_priority_fee_per_gas
+max_priority_fee_of (SetCode t) = t.payload.max_priority_fee_per_gas

@@ -6,7 +6,7 @@ use Rattle.rlp.specs.Format.Item.{Item}
 use Rattle.rlp.specs.Format.WrittenHeader.{AreBytes}
 use Rattle.rlp.specs.Values.RawItem.{view_frame}
 use Rattle.rlp.specs.Views.View.{View, item_at, item_count, strict_view_of, view_string}
-use Rattle.rlp_ethereum.specs.Marks.{is_leaf_mark, path_mark}
+use Rattle.rlp_ethereum.specs.HexPrefix.{is_leaf_path}
 use Rattle.rlp_ethereum.specs.Trie.{branch, extension, leaf}
 use Rattle.rlp_ethereum.specs.declared.trie_node.TrieNode.{TrieNode}
 use Rattle.rlp_ethereum.specs.declared.trie_node.TrieNode.TheVariants.{Branch, Extension, Leaf}
@@ -27,14 +27,14 @@ IsTrieNode (Branch b) = branch.Fits b
 
 -- ---- reading
 
--- whether a string is the path of a leaf
-abbrev pub is_leaf_path : Result (List ℕ) DecoderError → Bool
-is_leaf_path (Ok d) = is_leaf_mark (path_mark d)
-is_leaf_path (Err e) = false
+-- whether a string that was read is the path of a leaf
+abbrev pub is_leaf_string : Result (List ℕ) DecoderError → Bool
+is_leaf_string (Ok d) = is_leaf_path d
+is_leaf_string (Err e) = false
 
 -- whether an item is the path of a leaf
 abbrev pub is_leaf_item : Result View DecoderError → Bool
-is_leaf_item (Ok item) = is_leaf_path (view_string item)
+is_leaf_item (Ok item) = is_leaf_string (view_string item)
 is_leaf_item (Err e) = false
 
 -- whether the first item of a list is the path of a leaf

@@ -1,5 +1,5 @@
 -- Nodes of the trie are given exactly by their encodings.
-use Rattle.std.proofs.Common.{◌≡◌, ◌<◌, ◌^◌, ◌⊎◌, inl, inr, ℕ, Bool, true, false, List, length, refl, sym, ap, ◌∙◌, subst, arith, Ok, Err, Result, IsOkAnd, Some}
+use Rattle.std.proofs.Common.{◌≡◌, ◌<◌, ◌^◌, ◌⊎◌, inl, inr, ℕ, true, false, List, length, refl, sym, ap, ◌∙◌, subst, arith, Ok, Err, Result, IsOkAnd, unwrap_or, Some}
 use Rattle.std.specs.Vec.{vec_items}
 use Rattle.rlp.specs.DecoderError.{DecoderError}
 use Rattle.rlp.specs.DecoderError.TheVariants.{OutOfMemory}
@@ -15,11 +15,11 @@ use Rattle.rlp.specs.Lemmas.RawItems.{view_frame-held}
 use Rattle.rlp.specs.Lemmas.Reading.{bytes_held}
 use Rattle.rlp.specs.Lemmas.Slices.{part_of_items}
 use Rattle.rlp.specs.Lemmas.StringsHeld.{held_begins, held_only}
-use Rattle.rlp_ethereum.specs.Marks.{is_leaf_mark}
+use Rattle.rlp_ethereum.specs.HexPrefix.{is_leaf_flag}
 use Rattle.rlp_ethereum.specs.Path.{path}
 use Rattle.rlp_ethereum.specs.Trie.{branch, extension, leaf}
 use Rattle.rlp_ethereum.specs.TrieNode.{FaultsAsNode, IsNodeFault, IsTrieNode, MayLackAsNode, MayLackInNode, begins_as_leaf, faulty_branch, faulty_extension}
-use Rattle.rlp_ethereum.specs.TrieNode.{faulty_leaf, faulty_node, is_leaf_item, is_leaf_path, lacks_branch, lacks_extension, lacks_leaf, no_list, node_item}
+use Rattle.rlp_ethereum.specs.TrieNode.{faulty_leaf, faulty_node, is_leaf_item, is_leaf_string, lacks_branch, lacks_extension, lacks_leaf, no_list, node_item}
 use Rattle.rlp_ethereum.specs.TrieNode.{other_length, unframed_node}
 use Rattle.rlp_ethereum.specs.declared.branch.Branch.{Branch}
 use Rattle.rlp_ethereum.specs.declared.extension.Extension.{Extension}
@@ -30,12 +30,12 @@ use Rattle.rlp_ethereum.specs.declared.trie_node.TrieNode.TheVariants as node
 
 module _ (b : List ℕ) (bytes : AreBytes b) (fits : length b < 2 ^ 64) where
   -- the first item is the path that it gives
-  path_by : (kind : ℕ) (p : Path kind) (r : Result View DecoderError) → item_at (strict_view_of b) 0 ≡ r → IsOkAnd r (λ item. (path kind).gives item p)
-      → is_leaf_item r ≡ is_leaf_mark (Some kind)
-  path_by kind p (Ok item) is given =
+  path_by : (flag : ℕ) (p : Path flag) (r : Result View DecoderError) → item_at (strict_view_of b) 0 ≡ r → IsOkAnd r (λ item. (path flag).gives item p)
+      → is_leaf_item r ≡ is_leaf_flag flag
+  path_by flag p (Ok item) is given =
       let (held, short) = part_of_items (strict_view_of b) item 0 bytes fits is in
-      ap is_leaf_path (held_only item (vec_items p.bytes) short given.begins) ∙ ap is_leaf_mark p.marked
-  path_by kind p (Err e) is given = absurd given
+      ap is_leaf_string (held_only item (vec_items p.bytes) short given.begins) ∙ ap (λ leaf. unwrap_or leaf false) p.encoded
+  path_by flag p (Err e) is given = absurd given
 
   leaf_told : (l : Leaf) (e : DecoderError) → leaf.Fits l → b ≡ encoding (leaf.item l) → ¬ IsNodeFault b e
   leaf_told l e fit is bad =

@@ -1,7 +1,7 @@
 -- How receipts of transactions of every type are written and read.
 use Rattle.std.specs.Prelude.{◌⊎◌, refl}
 use Rattle.std.proofs.Common.{inl, inr}
-use Rattle.rlp.specs.Codec.{Codec, each, newtype}
+use Rattle.rlp.specs.Codec.{Codec, newtype}
 use Rattle.rlp.specs.Codecs.Sums.{Cases, and_case, enveloped, last_case, list_or_string}
 use Rattle.rlp_ethereum.specs.declared.receipt.Receipt.{Receipt}
 use Rattle.rlp_ethereum.specs.declared.typed_receipt.TypedReceipt.{TypedReceipt}

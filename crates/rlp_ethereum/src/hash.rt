@@ -8,7 +8,7 @@ use std::alloc::{AllocError, Global};
 
 /// A Keccak-256 hash, or the root of a trie: 32 bytes.
 ///
-/// See section 4.3 and appendix B of the yellow paper. The library computes no hash.
+/// See section 4.3 and appendix B of the yellow paper.
 #[derive(Debug, Clone, Copy, PartialEq, Eq)]
 pub struct Hash(pub [u8; 32]);
 

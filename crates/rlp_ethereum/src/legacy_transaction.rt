@@ -1,10 +1,13 @@
 //! Transactions without a type.
 
-ghost use Rattle.std.specs.Prelude.{refl};
+ghost use Rattle.std.specs.Prelude.{◌≡◌, ◌+◌, ℕ, IfNone, IfSome, Option, refl};
 ghost use Rattle.rlp.specs.Codecs.Parts.{laws_of};
+ghost use Rattle.rlp.specs.Values.Value.{bit};
+ghost use Rattle.rlp_ethereum.specs.Eip155.{even_v, v_of};
 ghost use Rattle.rlp_ethereum.specs.LegacyTransaction.{legacy_transaction_fields};
+ghost use Rattle.rlp_ethereum.specs.Signatures.{IsNoV, SaysChain, number_of};
 
-use crate::{Payload, Recipient, Signed};
+use crate::{Eip155, Payload, Recipient, Signed};
 use rlp::{AppendFields, DecodeFields, FieldFault, Fields, FixedFields, RlpStream, Uint};
 use std::alloc::{AllocError, Global};
 
@@ -15,7 +18,8 @@ pub type SignedLegacyTransaction = Signed<LegacyTransaction, Uint<32>>;
 /// paper. What is signed is a [`UnsignedLegacyTransaction`](crate::UnsignedLegacyTransaction).
 #[derive(Drop)]
 pub struct LegacyTransaction {
-    /// The number of transactions that the sender has sent before. EIP-2681 limits it to 64 bits.
+    /// The number of transactions that the sender has sent before. As in EIP-2681 it is below 2^64,
+    /// and a transaction with 2^64 - 1 is invalid; this type reads it.
     pub nonce: u64,
     /// The price of a unit of gas, in Wei.
     pub gas_price: Uint<32>,
@@ -27,6 +31,42 @@ pub struct LegacyTransaction {
     pub value: Uint<32>,
     /// The input of the call, or the code that creates the contract.
     pub data: Vec<u8>,
+}
+
+impl Signed<LegacyTransaction, Uint<32>> {
+    /// Returns what `v` says: the chain that is signed, if there is one, and the parity. Returns `None`
+    /// where [`Eip155::from_v`] does.
+    pub fn eip155(&self) -> Option<Eip155>
+        ensures some { IfSome result (λ x. number_of self.now.v ≡ v_of x) }
+        ensures none { IfNone result (IsNoV (number_of self.now.v)) }
+    {
+        Eip155::from_v(&self.v)
+    }
+
+    /// Returns the number of the chain that is signed, as `v` says it in EIP-155. Returns `None` if `v`
+    /// is 27 or 28, or is none of EIP-155, or if the number has more than 64 bits.
+    #[tactic(auto, using(crate::proofs::Parities::chains))]
+    pub fn chain_id(&self) -> Option<u64>
+        ensures { SaysChain (number_of self.now.v) result }
+    {
+        match self.eip155() {
+            Some(said) => said.chain_id,
+            None => None,
+        }
+    }
+
+    /// Returns the parity of the y value of the signature's point, as `v` says it in EIP-155. Returns
+    /// `None` where [`Eip155::from_v`] does.
+    pub fn y_parity(&self) -> Option<bool>
+        ensures some { IfSome result (λ p. (chain : Option ℕ)
+            × (number_of self.now.v ≡ bit p + even_v chain)) }
+        ensures none { IfNone result (IsNoV (number_of self.now.v)) }
+    {
+        match self.eip155() {
+            Some(said) => Some(said.y_parity),
+            None => None,
+        }
+    }
 }
 
 impl AppendFields for LegacyTransaction {

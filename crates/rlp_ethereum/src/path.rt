@@ -2,8 +2,9 @@
 
 ghost use Rattle.std.specs.Prelude.{◌≡◌, ◌⊎◌, ⊤, IfErr, IfOk, Some};
 ghost use Rattle.rlp.specs.DecoderError.TheVariants.{OutOfMemory};
-ghost use Rattle.rlp_ethereum.specs.Marks.{IsPathFault, path_mark};
+ghost use Rattle.rlp_ethereum.specs.HexPrefix.{AreNibbles, IsNibbleFault, IsPathFault, ends_in_leaf, hex_prefix, is_leaf_flag, path_nibbles};
 
+use crate::hex_prefix::{are_nibbles, ends_in_leaf, hex_prefix, path_nibbles};
 use rlp::{Decodable, DecoderError, Encodable, Rlp, RlpStream, RoundTrip, StrictRead};
 use std::alloc::{AllocError, Global};
 
@@ -13,35 +14,31 @@ pub type LeafPath = Path<2>;
 /// The path of an extension.
 pub type ExtensionPath = Path<0>;
 
-/// A path of a node of the trie, hex-prefix encoded as in appendix C of the yellow paper: two
-/// digits to the base 16 in each byte, after the mark of the node's kind. `KIND` is the mark of a
-/// path with an even number of digits: 2 for a leaf, and 0 for an extension.
-///
-/// The first digit is the mark. If it is `KIND`, the second digit is 0. If it is 1 more, the number
-/// of the path's digits is odd, and the second digit is the first of the path.
+/// A path of a node of the trie, hex-prefix encoded as in appendix C of the yellow paper. `FLAG` is 2
+/// for the path of a leaf, and 0 for the path of an extension.
 #[derive(Debug, PartialEq, Eq, Drop)]
-pub struct Path<const KIND: u8> {
-    /// The mark and the digits.
+pub struct Path<const FLAG: u8> {
+    /// The encoding, as [`ends_in_leaf`] explains it.
     pub bytes: Vec<u8>,
-    pub ghost marked: { path_mark bytes.items ≡ Some KIND },
+    pub ghost encoded: { ends_in_leaf bytes.items ≡ Some (is_leaf_flag FLAG) },
 }
 
-impl<const KIND: u8> Path<KIND> {
+impl<const FLAG: u8> Path<FLAG> {
     /// The path of these bytes, which it copies.
     ///
-    /// Fails with `Custom("path is not hex-prefix encoded")` if the bytes don't begin with a mark,
-    /// and with `Custom("path is that of another node")` if the mark is that of the other kind.
-    /// Fails with `OutOfMemory` if memory is refused.
-    #[tactic(auto, using(crate::specs::Marks::path_faults))]
-    pub fn new(alloc: Global, bytes: &[u8]) -> Result<Path<KIND>, DecoderError>
+    /// Fails with `Custom("path is not hex-prefix encoded")` if the bytes aren't an encoding, and with
+    /// `Custom("path is that of another node")` if they are one of the other kind. Fails with
+    /// `OutOfMemory` if memory is refused.
+    #[tactic(auto, using(crate::specs::HexPrefix::path_faults))]
+    pub fn new(alloc: Global, bytes: &[u8]) -> Result<Path<FLAG>, DecoderError>
         ensures value { IfOk result (λ p. p.bytes.items ≡ bytes.now) }
-        ensures fault { IfErr result (λ e. IsPathFault KIND bytes.now e
-            ⊎ ((e ≡ OutOfMemory) × (path_mark bytes.now ≡ Some KIND))) }
+        ensures fault { IfErr result (λ e. IsPathFault (is_leaf_flag FLAG) bytes.now e
+            ⊎ ((e ≡ OutOfMemory) × (ends_in_leaf bytes.now ≡ Some (is_leaf_flag FLAG)))) }
     {
-        let Some(kind) = mark_of(bytes) else {
+        let Some(leaf) = ends_in_leaf(bytes) else {
             return Err(DecoderError::Custom("path is not hex-prefix encoded"));
         };
-        if kind != KIND {
+        if leaf != (FLAG == 2) {
             return Err(DecoderError::Custom("path is that of another node"));
         }
         match Vec::from_slice(alloc, bytes) {
@@ -49,15 +46,45 @@ impl<const KIND: u8> Path<KIND> {
             Err(_) => Err(DecoderError::OutOfMemory),
         }
     }
+
+    /// The path of these nibbles, each a digit to the base 16.
+    ///
+    /// Fails with `Custom("nibble is above 15")` if a number is no digit, and with `OutOfMemory` if
+    /// memory is refused.
+    #[tactic(auto, using(crate::proofs::PathLemmas::made_of_nibbles))]
+    pub fn from_nibbles(alloc: Global, nibbles: &[u8]) -> Result<Path<FLAG>, DecoderError>
+        ensures value { IfOk result (λ p. AreNibbles nibbles.now
+            × (p.bytes.items ≡ hex_prefix (is_leaf_flag FLAG) nibbles.now)) }
+        ensures back { IfOk result (λ p. path_nibbles p.bytes.items ≡ nibbles.now) }
+        ensures fault { IfErr result (λ e. IsNibbleFault nibbles.now e
+            ⊎ ((e ≡ OutOfMemory) × AreNibbles nibbles.now)) }
+    {
+        if !are_nibbles(nibbles) {
+            return Err(DecoderError::Custom("nibble is above 15"));
+        }
+        match hex_prefix(alloc, FLAG == 2, nibbles) {
+            Ok(bytes) => Ok(Path { bytes }),
+            Err(_) => Err(DecoderError::OutOfMemory),
+        }
+    }
+
+    /// The nibbles of the path. Fails with `AllocError` if memory is refused.
+    pub fn nibbles(&self, alloc: Global) -> Result<Vec<u8>, AllocError>
+        ensures value { IfOk result (λ x. x.items ≡ path_nibbles self.now.bytes.items) }
+        ensures encoded { IfOk result (λ x. AreNibbles x.items
+            × (self.now.bytes.items ≡ hex_prefix (is_leaf_flag FLAG) x.items)) }
+    {
+        path_nibbles(alloc, self.bytes.as_slice())
+    }
 }
 
 /// Written as the string of the bytes.
-impl<const KIND: u8> Encodable for Path<KIND> {
+impl<const FLAG: u8> Encodable for Path<FLAG> {
     ghost use Rattle.rlp_ethereum.specs.Path.{path};
 
-    ghost item = { (path KIND).item };
+    ghost item = { (path FLAG).item };
 
-    ghost fits = { (path KIND).Fits };
+    ghost fits = { (path FLAG).Fits };
 
     ghost at_once = { λ _. ⊤ };
 
@@ -67,17 +94,17 @@ impl<const KIND: u8> Encodable for Path<KIND> {
 }
 
 /// Reads a string, with one copy. Fails as [`Path::new`] does.
-impl<const KIND: u8> Decodable for Path<KIND> {
+impl<const FLAG: u8> Decodable for Path<FLAG> {
     ghost use Rattle.rlp_ethereum.specs.Path.{path};
 
-    ghost gives = { (path KIND).gives };
+    ghost gives = { (path FLAG).gives };
 
-    ghost faults = { (path KIND).faults };
+    ghost faults = { (path FLAG).faults };
 
-    ghost may_lack_memory = { (path KIND).may_lack };
+    ghost may_lack_memory = { (path FLAG).may_lack };
 
     #[tactic(auto, using(crate::specs::Path::path_reading))]
-    fn decode(alloc: Global, rlp: &Rlp<'_>) -> Result<Path<KIND>, DecoderError> {
+    fn decode(alloc: Global, rlp: &Rlp<'_>) -> Result<Path<FLAG>, DecoderError> {
         match rlp.decoder().string() {
             Ok(string) => Path::new(alloc, string),
             Err(fault) => Err(fault),
@@ -85,25 +112,14 @@ impl<const KIND: u8> Decodable for Path<KIND> {
     }
 }
 
-impl<const KIND: u8> RoundTrip for Path<KIND> {
+impl<const FLAG: u8> RoundTrip for Path<FLAG> {
     ghost use Rattle.rlp_ethereum.specs.Path.{path};
 
-    ghost round_trip = { (path KIND).reads_back };
+    ghost round_trip = { (path FLAG).reads_back };
 }
 
-impl<const KIND: u8> StrictRead for Path<KIND> {
+impl<const FLAG: u8> StrictRead for Path<FLAG> {
     ghost use Rattle.rlp_ethereum.specs.Path.{path};
 
-    ghost strict = { (path KIND).reads_strictly };
-}
-
-/// Returns the kind that the mark of a path says, if the path is hex-prefix encoded.
-pub(crate) fn mark_of(path: &[u8]) -> Option<u8>
-    ensures { result ≡ path_mark path.now }
-{
-    match path {
-        [0x00 | 0x10..=0x1f, ..] => Some(0),
-        [0x20 | 0x30..=0x3f, ..] => Some(2),
-        _ => None,
-    }
+    ghost strict = { (path FLAG).reads_strictly };
 }

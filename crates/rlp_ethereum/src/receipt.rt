@@ -2,7 +2,7 @@
 
 ghost use Rattle.rlp_ethereum.specs.Receipt.{receipt};
 
-use crate::{Bloom, Log};
+use crate::{Bloom, Log, ReceiptStatus};
 use rlp::{Decodable, DecoderError, Encodable, ListOf, Rlp, RlpStream, RoundTrip, StrictRead};
 use std::alloc::{AllocError, Global};
 
@@ -13,10 +13,8 @@ use std::alloc::{AllocError, Global};
 /// byte; [`TypedReceipt`](crate::TypedReceipt) does.
 #[derive(Drop)]
 pub struct Receipt {
-    /// Since Byzantium the status, as in EIP-658: the byte 1 for success, and no bytes for failure.
-    /// Before, the 32 bytes of the state's root after the transaction. Reading accepts other
-    /// strings too.
-    pub status_or_state_root: Vec<u8>,
+    /// The status, as in EIP-658, or before Byzantium the root of the state after the transaction.
+    pub status_or_state_root: ReceiptStatus,
     /// The gas that this transaction and those before it in the block used.
     pub cumulative_gas_used: u64,
     /// The filter of the logs.

@@ -6,11 +6,14 @@ ghost use Rattle.rlp_ethereum.specs.AccessListTransaction.{signed_access_list_tr
 ghost use Rattle.rlp_ethereum.specs.Account.{account};
 ghost use Rattle.rlp_ethereum.specs.Address.{address};
 ghost use Rattle.rlp_ethereum.specs.Authorization.{signed_authorization};
+ghost use Rattle.rlp_ethereum.specs.Blob.{blob};
 ghost use Rattle.rlp_ethereum.specs.BlobTransaction.{signed_blob_transaction};
+ghost use Rattle.rlp_ethereum.specs.BlobWrapper.{with_cell_proofs, with_proofs, wrapper_version};
 ghost use Rattle.rlp_ethereum.specs.Block.{block};
 ghost use Rattle.rlp_ethereum.specs.Bloom.{bloom};
 ghost use Rattle.rlp_ethereum.specs.Body.{body};
 ghost use Rattle.rlp_ethereum.specs.ChildLaws.{child};
+ghost use Rattle.rlp_ethereum.specs.DepositTransaction.{deposit_transaction};
 ghost use Rattle.rlp_ethereum.specs.FeeMarketTransaction.{signed_fee_market_transaction};
 ghost use Rattle.rlp_ethereum.specs.Hash.{hash};
 ghost use Rattle.rlp_ethereum.specs.Header.{header};
@@ -20,6 +23,7 @@ ghost use Rattle.rlp_ethereum.specs.NodeFields.{node_fields};
 ghost use Rattle.rlp_ethereum.specs.NodeLaws.{node_record};
 ghost use Rattle.rlp_ethereum.specs.Path.{path};
 ghost use Rattle.rlp_ethereum.specs.Receipt.{receipt};
+ghost use Rattle.rlp_ethereum.specs.ReceiptStatus.{receipt_status};
 ghost use Rattle.rlp_ethereum.specs.Recipient.{recipient};
 ghost use Rattle.rlp_ethereum.specs.SetCodeTransaction.{signed_set_code_transaction};
 ghost use Rattle.rlp_ethereum.specs.Transaction.{transaction};
@@ -30,11 +34,12 @@ ghost use Rattle.rlp_ethereum.specs.UnsignedLegacyTransaction.{unsigned_legacy_t
 ghost use Rattle.rlp_ethereum.specs.Withdrawal.{withdrawal, withdrawals};
 
 use crate::{
-    AccessList, AccessListItem, AccessListTransaction, Account, Address, Authorization,
-    BlobTransaction, Block, Bloom, Body, Branch, Child, Extension, FeeMarketTransaction, Hash,
-    Header, Leaf, LegacyTransaction, Log, NodeFields, NodeRecord, Path, Receipt, Recipient,
+    AccessList, AccessListItem, AccessListTransaction, Account, Address, Authorization, Blob,
+    BlobTransaction, BlobTransactionWithCellProofs, BlobTransactionWithProofs, Block, Bloom, Body,
+    Branch, Child, DepositTransaction, Extension, FeeMarketTransaction, Hash, Header, Leaf,
+    LegacyTransaction, Log, NodeFields, NodeRecord, Path, Receipt, ReceiptStatus, Recipient,
     SetCodeTransaction, Signed, Transaction, TrieNode, TypedReceipt, UnsignedLegacyTransaction,
-    Withdrawal, Withdrawals,
+    Withdrawal, Withdrawals, WrapperVersion,
 };
 use rlp::{StrictRead, Uint};
 
@@ -180,10 +185,10 @@ impl Record for Child {
     ghost told = { child.told };
 }
 
-impl<const KIND: u8> Record for Path<KIND> {
-    ghost same = { (path KIND).Same };
+impl<const FLAG: u8> Record for Path<FLAG> {
+    ghost same = { (path FLAG).Same };
 
-    ghost told = { (path KIND).told };
+    ghost told = { (path FLAG).told };
 }
 
 impl Record for Leaf {
@@ -232,4 +237,40 @@ impl Record for UnsignedLegacyTransaction {
     ghost same = { unsigned_legacy_transaction.Same };
 
     ghost told = { unsigned_legacy_transaction.told };
+}
+
+impl Record for ReceiptStatus {
+    ghost same = { receipt_status.Same };
+
+    ghost told = { receipt_status.told };
+}
+
+impl Record for Blob {
+    ghost same = { blob.Same };
+
+    ghost told = { blob.told };
+}
+
+impl Record for BlobTransactionWithProofs {
+    ghost same = { with_proofs.Same };
+
+    ghost told = { with_proofs.told };
+}
+
+impl Record for BlobTransactionWithCellProofs {
+    ghost same = { with_cell_proofs.Same };
+
+    ghost told = { with_cell_proofs.told };
+}
+
+impl Record for WrapperVersion {
+    ghost same = { wrapper_version.Same };
+
+    ghost told = { wrapper_version.told };
+}
+
+impl Record for DepositTransaction {
+    ghost same = { deposit_transaction.Same };
+
+    ghost told = { deposit_transaction.told };
 }

@@ -24,6 +24,22 @@ use std::alloc::{AllocError, Global};
 pub trait Payload: AppendFields + FixedFields {
     /// What is known of the fields, so that the list that they stand in is read back.
     ghost laws: { FieldLaws Self.items Self.fit Self.reading };
+
+    /// Returns the record with this signature, which isn't checked. The number `v` says which of two
+    /// points belongs to the signature, as in [`Signed`].
+    final fn with_signature<V>(self, v: V, r: Uint<32>, s: Uint<32>) -> Signed<Self, V>
+        ensures payload { result.payload ≡ self }
+        ensures v { result.v ≡ v }
+        ensures r { result.r ≡ r }
+        ensures s { result.s ≡ s }
+    {
+        Signed {
+            payload: self,
+            v,
+            r,
+            s,
+        }
+    }
 }
 
 /// A payload that is signed as the list of its fields after a byte, which says what it is.
@@ -85,6 +101,16 @@ pub struct Signed<T, V = bool> {
     pub r: Uint<32>,
     /// The second number of the signature.
     pub s: Uint<32>,
+}
+
+impl<T, V> Signed<T, V> {
+    /// Returns the fields that are signed, and the numbers `v`, `r` and `s` of the signature.
+    pub fn into_parts(self) -> (T, V, Uint<32>, Uint<32>)
+        ensures { (result.0 ≡ self.payload) × ((result.1 ≡ self.v)
+            × ((result.2 ≡ self.r) × (result.3 ≡ self.s))) }
+    {
+        (self.payload, self.v, self.r, self.s)
+    }
 }
 
 impl<T: TypedTransaction> Signed<T, bool> {

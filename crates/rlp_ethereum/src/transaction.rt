@@ -8,6 +8,7 @@ ghost use Rattle.rlp_ethereum.specs.LegacyTransaction.{signed_legacy_transaction
 ghost use Rattle.rlp_ethereum.specs.Transaction.{transaction, typed_transactions, unknown_type};
 
 mod parts;
+mod signatures;
 
 use crate::envelope::{
     ACCESS_LIST_TYPE, BLOB_TYPE, FEE_MARKET_TYPE, SET_CODE_TYPE, decode_typed, to_envelope,
@@ -40,8 +41,11 @@ pub enum Transaction {
 }
 
 impl Transaction {
-    /// Returns the bytes of the transaction by itself, as it is sent and hashed: the encoding of a
-    /// legacy transaction, or the byte of the type and the encoding of the payload.
+    /// Returns the bytes of the transaction by itself, as it is hashed: the encoding of a legacy
+    /// transaction, or the byte of the type and the encoding of the payload. It is sent so too,
+    /// except a transaction of type 3, which is sent with its blobs, as
+    /// [`BlobTransactionWithProofs`](crate::BlobTransactionWithProofs) or
+    /// [`BlobTransactionWithCellProofs`](crate::BlobTransactionWithCellProofs).
     pub fn to_bytes(&self, alloc: Global) -> Result<BytesMut, AllocError>
         ensures fits { OnOk result (transaction.Fits self.now) }
         ensures bytes { IfOk result (λ b. b.items ≡ bytes_alone (transaction.item self.now)) }

@@ -7,7 +7,7 @@ ghost use Rattle.rlp.specs.Format.WrittenHeader.{AreBytes};
 ghost use Rattle.rlp_ethereum.specs.TrieNode.{IsNodeFault, IsTrieNode, MayLackInNode, begins_as_leaf, node_item};
 ghost use Rattle.rlp_ethereum.specs.TrieNodeLaws.{trie_node};
 
-use crate::path::mark_of;
+use crate::hex_prefix::ends_in_leaf;
 use crate::{Branch, Extension, Leaf};
 use rlp::{Decodable, DecoderError, Encodable, Rlp, RlpStream, RoundTrip, StrictRead};
 use std::alloc::{AllocError, Global};
@@ -15,8 +15,7 @@ use std::alloc::{AllocError, Global};
 /// A node of the Merkle Patricia trie of any kind.
 ///
 /// See appendix D of the yellow paper. A branch is a list of 17 items, and the others are lists of
-/// two, which the mark of the path tells apart: its first digit to the base 16 is 2 or 3 for a
-/// leaf, and 0 or 1 for an extension.
+/// two, which the path tells apart, as [`ends_in_leaf`](crate::ends_in_leaf) explains.
 #[derive(Drop)]
 pub enum TrieNode {
     /// A node that ends a path.
@@ -105,7 +104,7 @@ fn is_leaf(bytes: &[u8]) -> bool
 {
     match Rlp::new_strict(bytes).at(0) {
         Ok(item) => match item.decoder().string() {
-            Ok(path) => mark_of(path) == Some(2),
+            Ok(path) => ends_in_leaf(path).unwrap_or(false),
             Err(_) => false,
         },
         Err(_) => false,

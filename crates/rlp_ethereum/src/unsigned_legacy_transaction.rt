@@ -1,11 +1,17 @@
 //! Transactions without a type, before they are signed.
 
+ghost use Rattle.std.specs.Prelude.{◌≡◌, IfOk};
+ghost use Rattle.rlp.specs.Format.Encoding.{encoding};
+ghost use Rattle.rlp.specs.Format.Item.{list_of};
+ghost use Rattle.rlp_ethereum.specs.Eip155.{v_of};
+ghost use Rattle.rlp_ethereum.specs.Signatures.{number_of};
 ghost use Rattle.rlp_ethereum.specs.UnsignedLegacyTransaction.{unsigned_legacy_transaction};
 
-use crate::LegacyTransaction;
+use crate::{Eip155, LegacyTransaction, Payload, SignedLegacyTransaction};
+use bytes::BytesMut;
 use rlp::{
-    Decodable, DecoderError, Encodable, Field, FieldsOf, Joined, OptionalGroup, Rlp, RlpStream,
-    RoundTrip, StrictRead,
+    AppendFields, Decodable, DecoderError, Encodable, Field, FieldsOf, Joined, OptionalGroup, Rlp,
+    RlpStream, RoundTrip, StrictRead, Uint, write_struct,
 };
 use std::alloc::{AllocError, Global};
 
@@ -19,6 +25,51 @@ pub struct UnsignedLegacyTransaction {
     pub payload: LegacyTransaction,
     /// The number of the chain, or `None` without EIP-155. This type reads numbers of at most 64 bits.
     pub chain_id: Option<u64>,
+}
+
+impl UnsignedLegacyTransaction {
+    /// Returns the transaction with this signature, which isn't checked. Its `v` says the chain and the
+    /// parity of the y value of the signature's point, as in EIP-155.
+    pub fn with_signature(self, y_parity: bool, r: Uint<32>, s: Uint<32>) -> SignedLegacyTransaction
+        ensures payload { result.payload ≡ self.payload }
+        ensures v { number_of result.v
+            ≡ v_of (record { chain_id = self.chain_id; y_parity = y_parity }) }
+        ensures r { result.r ≡ r }
+        ensures s { result.s ≡ s }
+    {
+        let said = Eip155 {
+            chain_id: self.chain_id,
+            y_parity,
+        };
+        self.payload.with_signature(said.to_v(), r, s)
+    }
+}
+
+/// Returns the bytes that are signed of a transaction with these fields.
+pub(crate) fn unsigned_bytes(
+    alloc: Global,
+    payload: &LegacyTransaction,
+    chain_id: Option<u64>,
+) -> Result<BytesMut, AllocError>
+    ensures { IfOk result (λ b. b.items ≡ encoding (unsigned_legacy_transaction.item
+        (record { payload = payload.now; chain_id = chain_id }))) }
+{
+    match &chain_id {
+        None => list_bytes(alloc, &FieldsOf(payload)),
+        Some(chain_id) => {
+            let fields = rlp::append_fields!([FieldsOf(payload), chain_id, &[0u8; 0], &[0u8; 0]]);
+            list_bytes(alloc, &fields)
+        }
+    }
+}
+
+// Returns the encoding of the list of these fields.
+fn list_bytes<F: AppendFields>(alloc: Global, fields: &F) -> Result<BytesMut, AllocError>
+    ensures { IfOk result (λ b. b.items ≡ encoding (list_of (F.items fields.now))) }
+{
+    let mut s = RlpStream::new(alloc)?;
+    write_struct(&mut s, fields)?;
+    Ok(s.out())
 }
 
 impl Encodable for UnsignedLegacyTransaction {

@@ -4,18 +4,19 @@ ghost use Rattle.std.specs.Prelude.{◌≡◌, ◌∷◌, ◌⊎◌, IfErr, IfOk
 ghost use Rattle.rlp.specs.DecoderError.TheVariants.{OutOfMemory};
 ghost use Rattle.rlp.specs.Format.Item.{string};
 ghost use Rattle.rlp_ethereum.specs.Alone.{FaultsAlone, MayLackAlone, PayloadFails, bytes_alone};
+ghost use Rattle.rlp_ethereum.specs.Signatures.{Signs, r_of, s_of};
 ghost use Rattle.rlp_ethereum.specs.Transaction.{unknown_type};
 ghost use Rattle.rlp_ethereum.specs.UnsignedLegacyTransaction.{unsigned_legacy_transaction};
 ghost use Rattle.rlp_ethereum.specs.UnsignedTransaction.{unsigned_transaction, unsigned_types};
 
 use crate::envelope::{ACCESS_LIST_TYPE, BLOB_TYPE, FEE_MARKET_TYPE, SET_CODE_TYPE, decode_typed};
-use crate::signed::{Listed, Tagged};
+use crate::signed::{Listed, Payload, Tagged};
 use crate::{
-    AccessListTransaction, BlobTransaction, FeeMarketTransaction, SetCodeTransaction,
+    AccessListTransaction, BlobTransaction, FeeMarketTransaction, SetCodeTransaction, Transaction,
     UnsignedLegacyTransaction,
 };
 use bytes::BytesMut;
-use rlp::{DecoderError, Envelope, Rlp};
+use rlp::{DecoderError, Envelope, Rlp, Uint};
 use std::alloc::{AllocError, Global};
 
 /// A transaction before it is signed: a legacy transaction, or a transaction of a type as in
@@ -49,6 +50,32 @@ impl UnsignedTransaction {
             UnsignedTransaction::FeeMarket(payload) => payload.signing_payload(alloc),
             UnsignedTransaction::Blob(payload) => payload.signing_payload(alloc),
             UnsignedTransaction::SetCode(payload) => payload.signing_payload(alloc),
+        }
+    }
+
+    /// Returns the transaction with this signature, which isn't checked. The parity is that of the y
+    /// value of the signature's point.
+    pub fn with_signature(self, y_parity: bool, r: Uint<32>, s: Uint<32>) -> Transaction
+        ensures signs { Signs result self y_parity }
+        ensures r { r_of result ≡ r }
+        ensures s { s_of result ≡ s }
+    {
+        match self {
+            UnsignedTransaction::Legacy(tx) => {
+                Transaction::Legacy(tx.with_signature(y_parity, r, s))
+            }
+            UnsignedTransaction::AccessList(payload) => {
+                Transaction::AccessList(payload.with_signature(y_parity, r, s))
+            }
+            UnsignedTransaction::FeeMarket(payload) => {
+                Transaction::FeeMarket(payload.with_signature(y_parity, r, s))
+            }
+            UnsignedTransaction::Blob(payload) => {
+                Transaction::Blob(payload.with_signature(y_parity, r, s))
+            }
+            UnsignedTransaction::SetCode(payload) => {
+                Transaction::SetCode(payload.with_signature(y_parity, r, s))
+            }
         }
     }
 

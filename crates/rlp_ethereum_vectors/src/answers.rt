@@ -3,16 +3,12 @@
 use crate::alone::Payload;
 use crate::reading::{Alone, Item, ways};
 use crate::text::spelled;
-use crate::{fields, messages, node_records, nodes, records, requests, unsigned};
+use crate::{fields, node_records, nodes, records, signing, unsigned};
 use rlp_ethereum::{
     AccessListTransaction, Account, Authorization, BlobTransaction, Block, Body, Branch, Child,
     Extension, FeeMarketTransaction, Hash, Header, Leaf, Log, NodeRecord, SetCodeTransaction,
     Signed, SignedLegacyTransaction, Transaction, TrieNode, TypedReceipt,
     UnsignedLegacyTransaction, UnsignedTransaction, Withdrawal,
-};
-use rlp_messages::{
-    BlockBodies, BlockHeaders, HashOrNumber, Hello, NewBlock, Ping, Pong, Receipts, Transactions,
-    WithRequestId,
 };
 use std::alloc::Global;
 use std::test::Fail;
@@ -36,12 +32,12 @@ pub(crate) fn answer(alloc: Global, call: &str, bytes: &[u8]) -> Result<String, 
         "TrieNode" => ways::<Item<TrieNode>>(alloc, bytes),
         "TypedReceipt" => ways::<Item<TypedReceipt>>(alloc, bytes),
         "Withdrawal" => ways::<Item<Withdrawal>>(alloc, bytes),
-        _ => unsigned_or_message(alloc, call, bytes),
+        _ => before_signing(alloc, call, bytes),
     }
 }
 
-/// Returns what a call answers about the bytes of a transaction before it is signed, or of a message.
-fn unsigned_or_message(alloc: Global, call: &str, bytes: &[u8]) -> Result<String, Fail> {
+/// Returns what a call answers about the bytes of a transaction before it is signed.
+fn before_signing(alloc: Global, call: &str, bytes: &[u8]) -> Result<String, Fail> {
     match call {
         "UnsignedLegacyTransaction" => ways::<Item<UnsignedLegacyTransaction>>(alloc, bytes),
         "signed: type 1" => ways::<Alone<Payload<AccessListTransaction>>>(alloc, bytes),
@@ -49,15 +45,6 @@ fn unsigned_or_message(alloc: Global, call: &str, bytes: &[u8]) -> Result<String
         "signed: type 3" => ways::<Alone<Payload<BlobTransaction>>>(alloc, bytes),
         "signed: type 4" => ways::<Alone<Payload<SetCodeTransaction>>>(alloc, bytes),
         "signed: an authorization" => ways::<Alone<Payload<Authorization>>>(alloc, bytes),
-        "BlockBodies" => ways::<Item<WithRequestId<BlockBodies>>>(alloc, bytes),
-        "BlockHeaders" => ways::<Item<WithRequestId<BlockHeaders>>>(alloc, bytes),
-        "HashOrNumber" => ways::<Item<HashOrNumber>>(alloc, bytes),
-        "Hello" => ways::<Item<Hello>>(alloc, bytes),
-        "NewBlock" => ways::<Item<NewBlock>>(alloc, bytes),
-        "Ping" => ways::<Item<Ping>>(alloc, bytes),
-        "Pong" => ways::<Item<Pong>>(alloc, bytes),
-        "Receipts" => ways::<Item<WithRequestId<Receipts>>>(alloc, bytes),
-        "Transactions" => ways::<Item<Transactions>>(alloc, bytes),
         _ => alone_or_fields(alloc, call, bytes),
     }
 }
@@ -73,30 +60,11 @@ fn alone_or_fields(alloc: Global, call: &str, bytes: &[u8]) -> Result<String, Fa
         "forks of Header" => fields::forks(alloc, bytes),
         "London" => fields::london(alloc, bytes),
         "fields of Block" => fields::block(alloc, bytes),
-        "fields of NewBlock" => {
-            let new = rlp::decode_strict::<NewBlock>(alloc, bytes)?;
-            spelled(alloc, &[new.total_difficulty.bytes.as_slice()])
-        }
         "fields of Body" => fields::body(alloc, bytes),
         "fields of LegacyTransaction" => fields::legacy(alloc, bytes),
         "fields of Transaction alone" => fields::typed(alloc, bytes, false),
         "second authorization" => fields::typed(alloc, bytes, true),
         "parts of Transaction alone" => fields::parts(alloc, bytes),
-        "fields of Transactions" => {
-            let read = rlp::decode_strict::<Transactions>(alloc, bytes)?;
-            fields::transactions(alloc, read.0.as_slice())
-        }
-        "fields of BlockHeaders" => {
-            let read = rlp::decode_strict::<WithRequestId<BlockHeaders>>(alloc, bytes)?;
-            let (id, count) = (read.request_id, read.content.0.len());
-            Ok(format!(in alloc; "{id} {count}")?)
-        }
-        "fields of BlockBodies" => {
-            let read = rlp::decode_strict::<WithRequestId<BlockBodies>>(alloc, bytes)?;
-            let (id, count) = (read.request_id, read.content.0.len());
-            Ok(format!(in alloc; "{id} {count}")?)
-        }
-        "fields of Receipts" => fields::receipts(alloc, bytes),
         "kind of TypedReceipt" => {
             let read = rlp::decode_strict::<TypedReceipt>(alloc, bytes)?;
             Ok(String::from_str(alloc, fields::kind(&read))?)
@@ -110,10 +78,10 @@ fn alone_or_fields(alloc: Global, call: &str, bytes: &[u8]) -> Result<String, Fa
 fn of_a_table(alloc: Global, call: &str, bytes: &[u8]) -> Result<String, Fail> {
     match call.split_once(": ") {
         Some(("record", name)) => records::answer(alloc, name, bytes),
-        Some(("message", name)) => messages::answer(alloc, name, bytes),
         Some(("node", name)) => nodes::answer(alloc, name, bytes),
         Some(("node record", name)) => node_records::answer(alloc, name, bytes),
-        Some(("request", name)) => requests::answer(alloc, name, bytes),
+        Some(("signing", name)) => signing::answer(alloc, name, bytes),
+        Some(("sent", name)) => signing::in_envelope(alloc, name, bytes),
         Some(("signed", name)) => unsigned::answer(alloc, name, bytes),
         _ => Ok(String::from_str(alloc, "no such call")?),
     }

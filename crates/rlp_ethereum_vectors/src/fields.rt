@@ -6,7 +6,6 @@ use rlp_ethereum::{
     BlobTransaction, Block, Body, Child, Hash, Header, London, Recipient, SetCodeTransaction,
     Signed, SignedAuthorization, SignedLegacyTransaction, Transaction, TrieNode, TypedReceipt,
 };
-use rlp_messages::{Receipts, WithRequestId};
 use std::alloc::Global;
 use std::test::Fail;
 
@@ -107,17 +106,15 @@ fn numbers_in(alloc: Global, bytes: &[u8]) -> Result<(u8, u64, u64), DecoderErro
 
 /// Returns the type, the nonce and the limit of gas of a transaction.
 fn numbers(transaction: &Transaction) -> (u8, u64, u64) {
-    match transaction {
-        Transaction::Legacy(tx) => (0, tx.payload.nonce, tx.payload.gas_limit),
-        Transaction::AccessList(tx) => (1, tx.payload.nonce, tx.payload.gas_limit),
-        Transaction::FeeMarket(tx) => (2, tx.payload.nonce, tx.payload.gas_limit),
-        Transaction::Blob(tx) => (3, tx.payload.nonce, tx.payload.gas_limit),
-        Transaction::SetCode(tx) => (4, tx.payload.nonce, tx.payload.gas_limit),
-    }
+    (
+        transaction.transaction_type(),
+        transaction.nonce(),
+        transaction.gas_limit(),
+    )
 }
 
 /// Returns the type, the nonce and the limit of gas of each transaction.
-pub(crate) fn transactions(alloc: Global, all: &[Transaction]) -> Result<String, Fail> {
+fn transactions(alloc: Global, all: &[Transaction]) -> Result<String, Fail> {
     let mut text = String::new(alloc);
     for transaction in all {
         let (kind, nonce, gas) = numbers(transaction);
@@ -240,21 +237,6 @@ pub(crate) fn kind(receipt: &TypedReceipt) -> &'static str {
         TypedReceipt::Blob(_) => "blob",
         TypedReceipt::SetCode(_) => "set code",
     }
-}
-
-/// Returns the number of a request, and the types of the receipts of each block.
-pub(crate) fn receipts(alloc: Global, bytes: &[u8]) -> Result<String, Fail> {
-    let read = rlp::decode_strict::<WithRequestId<Receipts>>(alloc, bytes)?;
-    let id = read.request_id;
-    let mut text = format!(in alloc; "{id}:")?;
-    for block in read.content.0.iter() {
-        for receipt in block.0.iter() {
-            text.push(' ')?;
-            text.push_str(kind(receipt))?;
-        }
-        text.push(';')?;
-    }
-    Ok(text)
 }
 
 /// Returns the kind of a node, its path unless it is a branch, and the hash that it has as child.

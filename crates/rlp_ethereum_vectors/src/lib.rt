@@ -13,9 +13,9 @@ mod answers;
 #[cfg(test)]
 mod fields;
 #[cfg(test)]
-mod laws;
+mod hashes;
 #[cfg(test)]
-mod messages;
+mod laws;
 #[cfg(test)]
 mod named;
 #[cfg(test)]
@@ -27,9 +27,9 @@ mod reading;
 #[cfg(test)]
 mod records;
 #[cfg(test)]
-mod requests;
-#[cfg(test)]
 mod rows;
+#[cfg(test)]
+mod signing;
 #[cfg(test)]
 mod text;
 #[cfg(test)]

@@ -2,10 +2,12 @@
 //! rules of the format.
 
 use crate::reading::{Item, Reading, digits, fault, is_fault, written};
+use crate::text::spelled;
 use bytes::BytesMut;
 use rlp::{DecoderError, Encodable, RawItem};
 use rlp_ethereum::{
-    Branch, Child, Extension, ExtensionPath, Hash, InlineNode, Leaf, LeafPath, TrieNode,
+    Branch, Child, Extension, ExtensionPath, Hash, InlineNode, Leaf, LeafPath, Path, TrieNode,
+    ends_in_leaf,
 };
 use std::alloc::{AllocError, Global};
 use std::test::Fail;
@@ -81,8 +83,8 @@ pub(crate) const ROWS: &str = "
     node: changed | cf85206f727365887374616c6c696f6e | None
     node: branch again | dc808080808080c63584636f696e808080808080808080857075707079
 
-    Bytes that are no node: no list, lists of another number of items, paths of no bytes and with
-    other marks, a path that is a list, an extension with a child of one byte, a leaf whose value has
+    Bytes that are no node: no list, lists of another number of items, paths of no bytes and that
+    aren't encoded, a path that is a list, an extension with a child of one byte, a leaf whose value has
     a longer spelling, and a branch with a child of one byte.
     TrieNode |  | RlpIsTooShort
     TrieNode | 80 | RlpExpectedToBeList
@@ -101,14 +103,24 @@ pub(crate) const ROWS: &str = "
     TrieNode | c3358105 | RlpInvalidIndirection
     TrieNode | d105+80*16 | RlpIsTooShort
 
-    Leaves and extensions whose path has the mark of the other, or none.
+    The examples of hex-prefix encoding in Ethereum's documentation, without the terminators that it
+    writes after the nibbles of a leaf.
+    node: nibbles | 112345 | extension 0102030405 112345
+    node: nibbles | 00012345 | extension 000102030405 00012345
+    node: nibbles | 200f1cb8 | leaf 000f010c0b08 200f1cb8
+    node: nibbles | 3f1cb8 | leaf 0f010c0b08 3f1cb8
+    node: nibbles | 4011 | no path
+    node: of nibbles | 0f | 3f
+    node: of nibbles | 10 | Custom(\"nibble is above 15\")
+
+    Leaves and extensions whose path is that of the other, or none.
     Leaf | c20005 | Custom(\"path is that of another node\")
     Leaf | c22105 | Custom(\"path is not hex-prefix encoded\")
     Extension | c22080 | Custom(\"path is that of another node\")
     Extension | c24080 | Custom(\"path is not hex-prefix encoded\")
 
-    A leaf with a path and the value coin, and an extension with a path to nothing. A path has the
-    mark of its node. The longest path of a key of 32 bytes has 33 bytes.
+    A leaf with a path and the value coin, and an extension with a path to nothing. A path is of the
+    kind of its node. The longest path of a key of 32 bytes has 33 bytes.
     node: leaf by | 00 | Custom(\"path is that of another node\")
     node: leaf by | 10 | Custom(\"path is that of another node\")
     node: leaf by | 1f | Custom(\"path is that of another node\")
@@ -232,11 +244,39 @@ pub(crate) fn answer(alloc: Global, name: &str, bytes: &[u8]) -> Result<String, 
             written::<Branch>(alloc, branch(alloc, last, b"verb"), bytes)
         }
         "branch again" => written::<TrieNode>(alloc, Ok(branch_node(alloc, bytes)?), bytes),
+        "nibbles" => nibbles(alloc, bytes),
+        "of nibbles" => of_nibbles(alloc, bytes),
         "changed" => {
             let place = first_unnoticed(alloc, bytes)?;
             Ok(format!(in alloc; "{place:?}")?)
         }
         _ => short(alloc, name, bytes),
+    }
+}
+
+/// Returns the kind of a path, its nibbles, and the path of these nibbles.
+fn nibbles(alloc: Global, bytes: &[u8]) -> Result<String, Fail> {
+    match ends_in_leaf(bytes) {
+        Some(true) => nibbles_of::<2>(alloc, "leaf", bytes),
+        Some(false) => nibbles_of::<0>(alloc, "extension", bytes),
+        None => Ok(String::from_str(alloc, "no path")?),
+    }
+}
+
+/// Returns the kind, the nibbles of a path of this kind, and the path of these nibbles.
+fn nibbles_of<const FLAG: u8>(alloc: Global, kind: &str, bytes: &[u8]) -> Result<String, Fail> {
+    let path = Path::<FLAG>::new(alloc, bytes)?;
+    let nibbles = path.nibbles(alloc)?;
+    let again = Path::<FLAG>::from_nibbles(alloc, nibbles.as_slice())?;
+    let words = spelled(alloc, &[nibbles.as_slice(), again.bytes.as_slice()])?;
+    Ok(format!(in alloc; "{kind} {words}")?)
+}
+
+/// Returns the digits of the path of a leaf with these nibbles, or the fault.
+fn of_nibbles(alloc: Global, nibbles: &[u8]) -> Result<String, Fail> {
+    match LeafPath::from_nibbles(alloc, nibbles) {
+        Ok(path) => Ok(hex::encode(alloc, path.bytes.as_slice())?),
+        Err(found) => fault(alloc, &found),
     }
 }
 

@@ -3,17 +3,16 @@
 use crate::answers::answer;
 use crate::reading::is_fault;
 use crate::text::bytes_of;
-use crate::{messages, node_records, nodes, records, requests, unsigned};
+use crate::{node_records, nodes, records, signing, unsigned};
 use std::alloc::Global;
 use std::test::Fail;
 
 /// The tables.
-const TABLES: [&str; 6] = [
+const TABLES: [&str; 5] = [
     records::ROWS,
-    messages::ROWS,
     nodes::ROWS,
     node_records::ROWS,
-    requests::ROWS,
+    signing::ROWS,
     unsigned::ROWS,
 ];
 
@@ -41,7 +40,7 @@ fn first_other(alloc: Global, table: &str) -> Result<Option<String>, Fail> {
 }
 
 #[test]
-fn records_and_messages(rt: HostRuntime) -> Result<(), Fail> {
+fn records_both_ways(rt: HostRuntime) -> Result<(), Fail> {
     for table in TABLES {
         assert_eq!(rt; first_other(rt.alloc(), table)?, None);
     }

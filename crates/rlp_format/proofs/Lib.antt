@@ -4,3 +4,5 @@
 pub mod Format
 -- what a view of bytes returns
 pub mod Views
+-- whole trees
+pub mod Trees

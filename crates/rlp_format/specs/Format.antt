@@ -14,3 +14,9 @@ pub mod Split
 pub mod StringReading
 -- bytes that are exactly one item
 pub mod Strict
+-- a tree in flat form
+pub mod Flat
+-- the first fault of bytes that should be a tree
+pub mod TreeFaults
+-- what the walk over a tree has done
+pub mod Walk

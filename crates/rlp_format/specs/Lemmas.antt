@@ -16,3 +16,5 @@ pub mod Views
 pub mod Strings
 -- the items of a view by number
 pub mod Numbered
+-- bytes that are exactly one item
+pub mod WholeItems

@@ -7,6 +7,7 @@ pub mod count;
 pub mod depth;
 pub mod digits;
 pub mod error;
+pub mod flat;
 pub mod framed;
 pub mod header;
 pub mod items;
@@ -14,7 +15,9 @@ pub mod laws;
 pub mod prototype;
 pub mod string_reading;
 pub mod text;
+pub mod walking;
 
 pub use error::DecoderError;
+pub use flat::{FlatItem, TreeFault};
 pub use header::PayloadInfo;
 pub use prototype::Prototype;

@@ -2,8 +2,10 @@
 
 -- greetings
 pub mod Hello
--- messages that keep a connection or end it
+-- messages that keep a connection
 pub mod Session
+-- the end of a connection
+pub mod Disconnect
 -- what a client knows of the chain
 pub mod Status
 -- new blocks and transactions, and the blocks that a client has
@@ -14,5 +16,7 @@ pub mod HashOrNumber
 pub mod Requests
 -- answers with receipts
 pub mod Receipts
+-- answers with receipts since eth/69
+pub mod Receipts69
 -- the number of a request
 pub mod WithRequestId

@@ -6,10 +6,12 @@ use Rattle.rlp_messages.specs.declared.requests.BlockHeaders.{BlockHeaders}
 use Rattle.rlp_messages.specs.declared.requests.GetBlockBodies.{GetBlockBodies}
 use Rattle.rlp_messages.specs.declared.requests.BlockBodies.{BlockBodies}
 use Rattle.rlp_messages.specs.declared.requests.GetPooledTransactions.{GetPooledTransactions}
+use Rattle.rlp_messages.specs.declared.requests.PooledTransactions.{PooledTransactions}
 use Rattle.rlp_messages.specs.declared.requests.GetReceipts.{GetReceipts}
 use Rattle.rlp_ethereum.specs.Body.{body}
 use Rattle.rlp_ethereum.specs.Hash.{hash}
 use Rattle.rlp_ethereum.specs.Header.{header}
+use Rattle.rlp_ethereum.specs.Transaction.{transaction}
 use Rattle.rlp_messages.specs.HashOrNumber.{hash_or_number}
 
 -- the fields, in order
@@ -39,6 +41,10 @@ block_bodies = list_type (λ (b : BlockBodies). vec_items b.0) body
 -- the list of the hashes
 abbrev pub get_pooled_transactions : Codec GetPooledTransactions
 get_pooled_transactions = list_type (λ (g : GetPooledTransactions). vec_items g.0) hash
+
+-- [tx₁, tx₂, ...] of PooledTransactions: the list of the transactions
+abbrev pub pooled_transactions : Codec PooledTransactions
+pooled_transactions = list_type (λ (p : PooledTransactions). vec_items p.0) transaction
 
 -- the list of the hashes
 abbrev pub get_receipts : Codec GetReceipts

@@ -1,8 +1,12 @@
 //! Greetings of the capability `p2p` of RLPx.
 
-ghost use Rattle.rlp_messages.specs.Hello.{node_id, capability, hello};
+ghost use Rattle.std.specs.Prelude.{refl};
+ghost use Rattle.rlp_messages.specs.Hello.{node_id, capability, further_fields, hello};
 
-use rlp::{Decodable, DecoderError, Encodable, ListOf, Rlp, RlpStream, RoundTrip, StrictRead};
+use rlp::{
+    AppendFields, Decodable, DecodeFields, DecoderError, Encodable, FieldFault, Fields,
+    FixedFields, Flattened, ListOf, RawItem, Rlp, RlpStream, RoundTrip, StrictRead,
+};
 use std::alloc::{AllocError, Global};
 
 /// The public key of a client: 64 bytes.
@@ -83,9 +87,56 @@ impl StrictRead for Capability {
     ghost strict = { capability.reads_strictly };
 }
 
-/// The first message of a connection, 0x00 of `p2p`: the list of its five fields.
+/// An item of a greeting after its five fields.
+#[derive(Debug, PartialEq, Eq, Drop)]
+pub struct FurtherItem {
+    /// The item, of any kind.
+    pub item: RawItem,
+}
+
+impl AppendFields for FurtherItem {
+    ghost items = { further_fields.items };
+
+    ghost fit = { further_fields.Fits };
+
+    fn field_count(&self) -> Option<usize> {
+        Some(1)
+    }
+
+    fn append_fields(&self, s: &mut RlpStream) -> Result<(), AllocError> {
+        (&self.item).append_fields(s)
+    }
+}
+
+impl DecodeFields for FurtherItem {
+    ghost reading = { further_fields.reading };
+
+    fn accepts(len: usize) -> bool {
+        len == 1
+    }
+
+    fn decode_fields(
+        alloc: Global,
+        fields: &mut Fields<'_>,
+        len: usize,
+    ) -> Result<FurtherItem, FieldFault> {
+        rlp::decode_fields!(alloc, fields, len, FurtherItem { item })
+    }
+}
+
+impl FixedFields for FurtherItem {
+    fn width() -> Option<usize> {
+        Some(1)
+    }
+
+    ghost none_more = { refl };
+}
+
+/// The first message of a connection, 0x00 of `p2p`: the list of its five fields, and of further
+/// items.
 ///
-/// The protocol asks a reader to ignore items after these. This type reads lists of exactly five.
+/// EIP-8 asks a reader to ignore items after the five fields. They are kept, so that the value is
+/// written as the bytes that it was read from. A client that writes a greeting has none.
 #[derive(Debug, PartialEq, Eq, Drop)]
 pub struct Hello {
     /// The version of the capability `p2p`.
@@ -94,10 +145,13 @@ pub struct Hello {
     pub client_id: Vec<u8>,
     /// The protocols that the client speaks, in order.
     pub capabilities: Vec<Capability>,
-    /// The port that the client listens on, or 0.
-    pub listen_port: u16,
+    /// The port that the client listens on, or 0. RLPx asks a reader to ignore it, and lets it be
+    /// any number; this type reads numbers of at most 64 bits.
+    pub listen_port: u64,
     /// The client's public key.
     pub node_id: NodeId,
+    /// The items after these fields, which a reader ignores.
+    pub further: Vec<FurtherItem>,
 }
 
 impl Encodable for Hello {
@@ -112,7 +166,8 @@ impl Encodable for Hello {
             &self.client_id,
             ListOf(&self.capabilities),
             &self.listen_port,
-            &self.node_id
+            &self.node_id,
+            Flattened(self.further.as_slice())
         )
     }
 }
@@ -133,7 +188,8 @@ impl Decodable for Hello {
                 client_id,
                 capabilities: [..],
                 listen_port,
-                node_id
+                node_id,
+                further: [(..)]
             }
         )
     }

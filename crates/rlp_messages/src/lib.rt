@@ -5,9 +5,11 @@
 #![tactic(auto)]
 
 mod announcements;
+mod disconnect;
 mod hash_or_number;
 mod hello;
 mod receipts;
+mod receipts69;
 mod record;
 mod requests;
 mod session;
@@ -18,12 +20,15 @@ pub use announcements::{
     BlockRangeUpdate, NewBlock, NewBlockHash, NewBlockHashes, NewPooledTransactionHashes,
     Transactions,
 };
+pub use disconnect::{Disconnect, DisconnectReason};
 pub use hash_or_number::HashOrNumber;
-pub use hello::{Capability, Hello, NodeId};
+pub use hello::{Capability, FurtherItem, Hello, NodeId};
 pub use receipts::{BlockReceipts, Receipts};
+pub use receipts69::{BlockReceipts69, Receipt69, Receipts69};
 pub use requests::{
     BlockBodies, BlockHeaders, GetBlockBodies, GetBlockHeaders, GetPooledTransactions, GetReceipts,
+    PooledTransactions,
 };
-pub use session::{Disconnect, Ping, Pong};
+pub use session::{Ping, Pong};
 pub use status::{ForkHash, ForkId, Status68, Status69};
 pub use with_request_id::WithRequestId;

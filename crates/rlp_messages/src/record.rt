@@ -2,11 +2,13 @@
 
 ghost use Rattle.rlp.specs.Codec.{codec_of};
 ghost use Rattle.rlp_messages.specs.Announcements.{block_range_update, new_block, new_block_hash, new_block_hashes, new_pooled_transaction_hashes, transactions};
+ghost use Rattle.rlp_messages.specs.Disconnect.{disconnect, reason};
 ghost use Rattle.rlp_messages.specs.HashOrNumber.{hash_or_number};
 ghost use Rattle.rlp_messages.specs.Hello.{capability, hello, node_id};
 ghost use Rattle.rlp_messages.specs.Receipts.{block_receipts, receipts};
-ghost use Rattle.rlp_messages.specs.Requests.{block_bodies, block_headers, get_block_bodies, get_block_headers, get_pooled_transactions, get_receipts};
-ghost use Rattle.rlp_messages.specs.Session.{disconnect, ping, pong};
+ghost use Rattle.rlp_messages.specs.Receipts69.{block_receipts69, receipt69, receipts69};
+ghost use Rattle.rlp_messages.specs.Requests.{block_bodies, block_headers, get_block_bodies, get_block_headers, get_pooled_transactions, get_receipts, pooled_transactions};
+ghost use Rattle.rlp_messages.specs.Session.{ping, pong};
 ghost use Rattle.rlp_messages.specs.Status.{fork_hash, fork_id, status68, status69};
 ghost use Rattle.rlp_messages.specs.WithRequestId.{SameWithRequestId, with_request_id};
 
@@ -14,13 +16,16 @@ use crate::announcements::{
     BlockRangeUpdate, NewBlock, NewBlockHash, NewBlockHashes, NewPooledTransactionHashes,
     Transactions,
 };
+use crate::disconnect::{Disconnect, DisconnectReason};
 use crate::hash_or_number::HashOrNumber;
 use crate::hello::{Capability, Hello, NodeId};
 use crate::receipts::{BlockReceipts, Receipts};
+use crate::receipts69::{BlockReceipts69, Receipt69, Receipts69};
 use crate::requests::{
     BlockBodies, BlockHeaders, GetBlockBodies, GetBlockHeaders, GetPooledTransactions, GetReceipts,
+    PooledTransactions,
 };
-use crate::session::{Disconnect, Ping, Pong};
+use crate::session::{Ping, Pong};
 use crate::status::{ForkHash, ForkId, Status68, Status69};
 use crate::with_request_id::WithRequestId;
 use rlp_ethereum::Record;
@@ -180,4 +185,34 @@ impl<T: Record> Record for WithRequestId<T> {
 
     ghost told = { (with_request_id (record (codec_of T.fits T.item T.gives T.faults
         T.may_lack_memory T.round_trip T.strict) { Same = T.same; told = T.told })).told };
+}
+
+impl Record for DisconnectReason {
+    ghost same = { reason.Same };
+
+    ghost told = { reason.told };
+}
+
+impl Record for Receipt69 {
+    ghost same = { receipt69.Same };
+
+    ghost told = { receipt69.told };
+}
+
+impl Record for BlockReceipts69 {
+    ghost same = { block_receipts69.Same };
+
+    ghost told = { block_receipts69.told };
+}
+
+impl Record for Receipts69 {
+    ghost same = { receipts69.Same };
+
+    ghost told = { receipts69.told };
+}
+
+impl Record for PooledTransactions {
+    ghost same = { pooled_transactions.Same };
+
+    ghost told = { pooled_transactions.told };
 }

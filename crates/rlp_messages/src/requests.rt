@@ -1,10 +1,10 @@
 //! Requests of the protocol `eth`, and their answers, without the number of the request.
 
-ghost use Rattle.rlp_messages.specs.Requests.{get_block_headers, block_headers, get_block_bodies, block_bodies, get_pooled_transactions, get_receipts};
+ghost use Rattle.rlp_messages.specs.Requests.{get_block_headers, block_headers, get_block_bodies, block_bodies, get_pooled_transactions, get_receipts, pooled_transactions};
 
 use crate::HashOrNumber;
 use rlp::{Decodable, DecoderError, Encodable, Rlp, RlpStream, RoundTrip, StrictRead};
-use rlp_ethereum::{Body, Hash, Header};
+use rlp_ethereum::{Body, Hash, Header, Transaction};
 use std::alloc::{AllocError, Global};
 
 /// Asks for headers, in message 0x03 of `eth`: the list of its four fields.
@@ -206,6 +206,45 @@ impl RoundTrip for GetPooledTransactions {
 
 impl StrictRead for GetPooledTransactions {
     ghost strict = { get_pooled_transactions.reads_strictly };
+}
+
+/// The answer to [`GetPooledTransactions`], in message 0x0a of `eth`: the list of the transactions,
+/// each as in a block. EIP-4844 asks for blob transactions with their blobs, which this type doesn't
+/// read.
+#[derive(Drop)]
+pub struct PooledTransactions(pub Vec<Transaction>);
+
+impl Encodable for PooledTransactions {
+    ghost item = { pooled_transactions.item };
+
+    ghost fits = { pooled_transactions.Fits };
+
+    #[tactic(auto, using(rlp::proofs::Writing::writing))]
+    fn rlp_append(&self, s: &mut RlpStream) -> Result<(), AllocError> {
+        s.append_list(self.0.as_slice())?;
+        Ok(())
+    }
+}
+
+impl Decodable for PooledTransactions {
+    ghost gives = { pooled_transactions.gives };
+
+    ghost faults = { pooled_transactions.faults };
+
+    ghost may_lack_memory = { pooled_transactions.may_lack };
+
+    fn decode(alloc: Global, rlp: &Rlp<'_>) -> Result<PooledTransactions, DecoderError> {
+        let transactions = rlp.as_list(alloc)?;
+        Ok(PooledTransactions(transactions))
+    }
+}
+
+impl RoundTrip for PooledTransactions {
+    ghost round_trip = { pooled_transactions.reads_back };
+}
+
+impl StrictRead for PooledTransactions {
+    ghost strict = { pooled_transactions.reads_strictly };
 }
 
 /// Asks for the receipts of blocks, in message 0x0f of `eth`: the list of the hashes of the blocks.

@@ -1,47 +1,9 @@
-//! Messages of the capability `p2p` of RLPx that keep a connection or end it.
+//! Messages of the capability `p2p` of RLPx that keep a connection.
 
-ghost use Rattle.rlp_messages.specs.Session.{disconnect, ping, pong};
+ghost use Rattle.rlp_messages.specs.Session.{ping, pong};
 
 use rlp::{Decodable, DecoderError, Encodable, Rlp, RlpStream, RoundTrip, StrictRead};
 use std::alloc::{AllocError, Global};
-
-/// The last message of a connection, 0x01 of `p2p`: the list of its one field.
-#[derive(Debug, PartialEq, Eq, Drop)]
-pub struct Disconnect {
-    /// Why the client ends the connection, such as 0x04 for too many peers. This type allows any
-    /// number of one byte.
-    pub reason: u8,
-}
-
-impl Encodable for Disconnect {
-    ghost item = { disconnect.item };
-
-    ghost fits = { disconnect.Fits };
-
-    fn rlp_append(&self, s: &mut RlpStream) -> Result<(), AllocError> {
-        rlp::append_fields!(s, &self.reason)
-    }
-}
-
-impl Decodable for Disconnect {
-    ghost gives = { disconnect.gives };
-
-    ghost faults = { disconnect.faults };
-
-    ghost may_lack_memory = { disconnect.may_lack };
-
-    fn decode(alloc: Global, rlp: &Rlp<'_>) -> Result<Disconnect, DecoderError> {
-        rlp::decode_fields!(alloc, rlp, Disconnect { reason })
-    }
-}
-
-impl RoundTrip for Disconnect {
-    ghost round_trip = { disconnect.reads_back };
-}
-
-impl StrictRead for Disconnect {
-    ghost strict = { disconnect.reads_strictly };
-}
 
 /// Asks for a [`Pong`], message 0x02 of `p2p`: the list of no items.
 #[derive(Debug, Clone, Copy, PartialEq, Eq)]

@@ -1,5 +1,5 @@
 -- The lines of an item, or what is wrong with it. A name says which item it is, as `gas_limit` or `access_list[0].address`. A whole record has no name.
-use Rattle.std.specs.Prelude.{ℕ, zero, suc, ◌+◌, ◌&&◌, ◌==◌, nat_lt, Bool, false, true, if◌then◌else◌, List, [], ◌∷◌, ◌++◌, length, codes, decimal}
+use Rattle.std.specs.Prelude.{ℕ, zero, suc, ◌+◌, ◌&&◌, ◌||◌, ◌==◌, nat_lt, Bool, false, true, if◌then◌else◌, List, [], ◌∷◌, ◌++◌, length, codes, decimal}
 use Rattle.std.specs.Prelude.{Option, Some, None, Result, Ok, Err}
 use Rattle.std.specs.Int.Digits.{number_from_digits}
 use Rattle.rlp.specs.DecoderError.{DecoderError}
@@ -108,6 +108,17 @@ recipient_in (d ∷ ds) = fixed_bytes_in 20 (d ∷ ds)
 -- a recipient
 abbrev pub recipient : Shape
 recipient = string_shape recipient_in
+
+-- the status of a receipt: no bytes, the byte 1, or the 32 bytes of a root
+abbrev pub status_in : List ℕ → Worded
+status_in [] = Ok (bytes_text [])
+status_in (d ∷ ds) =
+    if (length ds == 31) || ((d == 1) && (length ds == 0)) then Ok (bytes_text (d ∷ ds))
+    else Err (codes "Custom(\"unknown receipt status\")")
+
+-- the status of a receipt
+abbrev pub receipt_status : Shape
+receipt_status = string_shape status_in
 
 -- a truth value is the number 0 or 1
 abbrev pub truth_value_in : List ℕ → Worded

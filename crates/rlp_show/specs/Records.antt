@@ -1,12 +1,14 @@
 -- The fields of each record, by their names in `rlp_ethereum`.
-use Rattle.std.specs.Prelude.{ℕ, ◌/◌, ◌%◌, ◌==◌, ◌||◌, ◌&&◌, nat_lt, if◌then◌else◌, Bool, false, List, [], ◌∷◌, ◌++◌, drop, length, codes, Result, Ok, Err}
+use Rattle.std.specs.Prelude.{ℕ, ◌%◌, ◌==◌, ◌||◌, nat_lt, if◌then◌else◌, Bool, false, List, [], ◌∷◌, ◌++◌, drop, length, codes, is_some, Result, Ok, Err}
 use Rattle.rlp.specs.DecoderError.{DecoderError}
 use Rattle.rlp.specs.DecoderError.TheVariants.{RlpIncorrectListLen, RlpIsTooBig, RlpIsTooShort}
 use Rattle.rlp.specs.Format.Split.{begins_as_list}
 use Rattle.rlp.specs.Views.Text.{error_name}
 use Rattle.rlp.specs.Views.View.{View, item_count, item_views, view_string}
+use Rattle.rlp_ethereum.specs.HexPrefix.{ends_in_leaf}
+use Rattle.rlp_ethereum.specs.TrieNode.{is_leaf_string}
 use Rattle.rlp_show.specs.Lines.{Field, Shape, Shown, Worded, byte_string, field, fields_lines, fixed_bytes, fixed_bytes_in, item_within, line, list_of}
-use Rattle.rlp_show.specs.Lines.{list_or_string, number, optional, pairs_lines, prefix, recipient, record_of, string_shape, then_lines, truth_value, typed, wrong}
+use Rattle.rlp_show.specs.Lines.{list_or_string, number, optional, pairs_lines, prefix, receipt_status, recipient, record_of, string_shape, then_lines, truth_value, typed, wrong}
 use Rattle.rlp_show.specs.Text.{bytes_text}
 
 -- addresses
@@ -76,7 +78,7 @@ log = record_of (
 -- receipts, without the byte of a type
 abbrev pub receipt : Shape
 receipt = record_of (
-    field (codes "status_or_state_root") byte_string
+    field (codes "status_or_state_root") receipt_status
     ∷ field (codes "cumulative_gas_used") (number 8)
     ∷ field (codes "logs_bloom") bloom
     ∷ field (codes "logs") (list_of log)
@@ -188,14 +190,6 @@ set_code_transaction = record_of (
 abbrev pub typed_transaction : Shape → Shape
 typed_transaction other = typed 1 access_list_transaction (typed 2 fee_market_transaction (typed 3 blob_transaction (typed 4 set_code_transaction other)))
 
--- transactions by their first byte: an envelope of type 1 to 4, or else a transaction without a type
-abbrev pub any_transaction : Shape
-any_transaction = typed_transaction legacy_transaction
-
--- receipts by their first byte: an envelope of type 1 to 4, or else a receipt without a type
-abbrev pub any_receipt : Shape
-any_receipt = typed 1 receipt (typed 2 receipt (typed 3 receipt (typed 4 receipt receipt)))
-
 -- the fault of an envelope of a transaction whose type isn't known
 abbrev pub unknown_type : List ℕ → List ℕ
 unknown_type [] = error_name RlpIsTooShort
@@ -204,6 +198,18 @@ unknown_type (kind ∷ payload) = codes "Custom(\"unknown transaction type\")"
 -- the envelope of a transaction whose type isn't known, which is always at fault
 abbrev pub unknown_transaction : Shape
 unknown_transaction name v = Err (wrong name (unknown_type v.bytes))
+
+-- bytes that begin as a list are a record of this shape, and others the envelope of an unknown type
+abbrev pub list_or_unknown : Shape → Shape
+list_or_unknown of_list name v = if begins_as_list v.bytes then of_list name v else unknown_transaction name v
+
+-- transactions by their first byte: an envelope of type 1 to 4, or else a transaction without a type
+abbrev pub any_transaction : Shape
+any_transaction = typed_transaction (list_or_unknown legacy_transaction)
+
+-- receipts by their first byte: an envelope of type 1 to 4, or else a receipt without a type
+abbrev pub any_receipt : Shape
+any_receipt = typed 1 receipt (typed 2 receipt (typed 3 receipt (typed 4 receipt (list_or_unknown receipt))))
 
 -- transactions in the list of a block: a list is a transaction without a type, and a string holds the envelope of one of type 1 to 4
 abbrev pub transaction : Shape
@@ -241,15 +247,10 @@ node_record name v = node_record_lines name (item_views v) (item_count v)
 
 -- ---- nodes of the trie
 
--- whether a first byte begins a hex-prefix encoded path: its first four bits are a flag from 0 to 3, and after an even flag the other four are zero
-abbrev pub begins_path : ℕ → Bool
-begins_path first = nat_lt first 0x40 && ((first / 16 % 2 == 1) || (first % 16 == 0))
-
 -- a hex-prefix encoded path
 abbrev pub path_in : List ℕ → Worded
-path_in [] = Err (codes "Custom(\"path is not hex-prefix encoded\")")
-path_in (first ∷ more) =
-    if begins_path first then Ok (bytes_text (first ∷ more))
+path_in d =
+    if is_some (ends_in_leaf d) then Ok (bytes_text d)
     else Err (codes "Custom(\"path is not hex-prefix encoded\")")
 
 -- paths
@@ -299,16 +300,10 @@ branch = record_of (
     ∷ field (codes "value") byte_string
     ∷ [])
 
--- whether a path is that of a leaf: the flag is 2 or 3, so that the first byte is at least 32
-abbrev pub flags_leaf : Result (List ℕ) DecoderError → Bool
-flags_leaf (Ok (first ∷ more)) = nat_lt 0x1f first
-flags_leaf (Ok []) = false
-flags_leaf (Err e) = false
-
--- the same for the items of a node, of which the path is the first
+-- whether the first item of a node is the path of a leaf
 abbrev pub are_leaf : List View → Bool
 are_leaf [] = false
-are_leaf (first ∷ more) = flags_leaf (view_string first)
+are_leaf (first ∷ more) = is_leaf_string (view_string first)
 
 -- the line of the kind of a node, and then the lines of the node
 abbrev pub node_of : List ℕ → Shape → Shape

@@ -1,5 +1,5 @@
 -- What the types of `rlp` give and fault, and what is shown of them.
-use Rattle.std.proofs.Common.{◌≡◌, ◌==◌, ◌&&◌, Bool, true, false, codes, ◌*◌, ℕ, zero, suc, ⊎_elim, ◌^◌, ◌<◌, ◌≤◌, List, [], ◌∷◌, length, refl, sym, ap, ◌∙◌}
+use Rattle.std.proofs.Common.{◌≡◌, ◌≢◌, ◌==◌, ◌&&◌, ◌||◌, Bool, true, false, codes, ◌*◌, ℕ, zero, suc, ⊎_elim, ◌^◌, ◌<◌, ◌≤◌, List, [], ◌∷◌, length, refl, sym, ap, ◌∙◌}
 use Rattle.std.proofs.Common.{subst, arith, Ok, Err, nat_lt}
 use Rattle.std.proofs.Common.{le-ltb, lt-ltb}
 use Rattle.std.specs.Int.Digits.{number_from_digits}
@@ -16,13 +16,16 @@ use Rattle.rlp.specs.Values.ValueReading.{FaultsAsBool, GivesBool, IsCustom, no_
 use Rattle.rlp_ethereum.specs.declared.recipient.Recipient.{Recipient}
 use Rattle.rlp_ethereum.specs.declared.recipient.Recipient.TheVariants.{Creation, Account}
 use Rattle.rlp_ethereum.specs.Recipient.{IsRecipient, IsRecipientFault, recipient_bytes, shorter_recipient, longer_recipient}
+use Rattle.rlp_ethereum.specs.declared.receipt_status.ReceiptStatus.{ReceiptStatus}
+use Rattle.rlp_ethereum.specs.declared.receipt_status.ReceiptStatus.TheVariants.{Failure, StateRoot, Success}
+use Rattle.rlp_ethereum.specs.ReceiptStatus.{IsStatus, IsStatusFault, other_status, status_bytes}
 use Rattle.rlp.specs.Views.Text.{error_name}
 use Rattle.rlp.specs.Views.View.{View, HoldsString, view_string}
 use Rattle.rlp.specs.Lemmas.Digits.{big_endian_value}
 use Rattle.rlp.specs.Lemmas.OneReading.{sound_digits}
 use Rattle.rlp.specs.Lemmas.StringsHeld.{held_only}
 use Rattle.rlp_show.specs.Lines.{Worded, line, wrong, named, in_string, string_shape, number, number_in, fixed_bytes, fixed_bytes_in, begins_with_zero}
-use Rattle.rlp_show.specs.Lines.{byte_string, recipient, recipient_in, truth_value, truth_value_in}
+use Rattle.rlp_show.specs.Lines.{byte_string, receipt_status, recipient, recipient_in, status_in, truth_value, truth_value_in}
 use Rattle.rlp_show.specs.Text.{bytes_text, number_text}
 
 -- what is shown of the string that a view holds
@@ -120,6 +123,41 @@ recipient_faulty name v e few (no_value d f holds faulty) =
     shown_string recipient_in name v d few holds ∙ ap (named name) (recipient_wrong d f faulty)
 
 pub ruleset recipient_strings = (recipient_given, recipient_faulty)
+
+-- ---- statuses of receipts
+
+-- the test of a status that isn't empty
+abbrev is_status : ℕ → List ℕ → Bool
+is_status d ds = (length ds == 31) || ((d == 1) && (length ds == 0))
+
+root_right : (d : List ℕ) → length d ≡ 32 → status_in d ≡ Ok (bytes_text d)
+root_right [] many = refl
+root_right (c ∷ d) many = cond-true (is_status c d) _ _ (let rest : length d ≡ 31 = omega (arith, many) in grind (arith, nat_tests))
+
+status_right : (s : ReceiptStatus) → IsStatus s → status_in (status_bytes s) ≡ Ok (bytes_text (status_bytes s))
+status_right Failure fit = refl
+status_right Success fit = refl
+status_right (StateRoot root) fit = root_right root.0 fit
+
+other_right : (c : ℕ) (d : List ℕ) → (c ∷ d) ≢ 1 ∷ [] → length (c ∷ d) ≢ 32 → is_status c d ≡ false
+other_right c [] one many = let differ : c ≢ 1 = (λ same. one (ap (λ c. c ∷ []) same)) in grind (arith, nat_tests)
+other_right c (d ∷ ds) one many = let differ : length (d ∷ ds) ≢ 31 = (λ same. many (ap suc same)) in grind (arith, nat_tests)
+
+status_wrong : (d : List ℕ) (e : DecoderError) → IsStatusFault d e → status_in d ≡ Err (error_name e)
+status_wrong [] e (other_status none one many custom) = absurd (none refl)
+status_wrong (c ∷ d) e (other_status none one many custom) = cond-false (is_status c d) _ _ (other_right c d one many) ∙ ap (λ t. Err t) (sym custom)
+
+pub status_given : (name : List ℕ) (v : View) (s : ReceiptStatus) → length v.bytes < 2 ^ 64
+    → GivesValue IsStatus (λ s. string (status_bytes s)) v s → receipt_status name v ≡ Ok (line name (bytes_text (status_bytes s)))
+status_given name v s few given =
+    shown_string status_in name v (status_bytes s) few given.begins ∙ ap (named name) (status_right s given.fits)
+
+pub status_faulty : (name : List ℕ) (v : View) (e : DecoderError) → length v.bytes < 2 ^ 64 → FaultsAs IsStatusFault v e
+    → receipt_status name v ≡ Err (wrong name (error_name e))
+status_faulty name v e few (no_string f is) = shown_fault status_in name v f is
+status_faulty name v e few (no_value d f holds faulty) = shown_string status_in name v d few holds ∙ ap (named name) (status_wrong d f faulty)
+
+pub ruleset status_strings = (status_given, status_faulty)
 
 -- ---- truth values
 

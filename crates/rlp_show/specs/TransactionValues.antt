@@ -2,6 +2,7 @@
 use Rattle.std.specs.Prelude.{ℕ, Bool, ◌≡◌, ◌<◌, ◌^◌, List, ◌∷◌, ◌++◌, [], length, codes, true, Some, Ok}
 use Rattle.std.specs.Vec.{vec_items}
 use Rattle.std.proofs.Common.{ap, ◌∙◌, arith}
+use Rattle.std.proofs.lemmas.Bool.{cond-true}
 use Rattle.rlp.specs.Format.Encoding.{IsSized, encoding}
 use Rattle.rlp.specs.Format.Split.{begins_as_list}
 use Rattle.rlp.specs.Views.View.{View, strict_view_of}
@@ -28,7 +29,7 @@ use Rattle.rlp_lines.specs.Digits.{bytes_in}
 use Rattle.rlp_show.specs.Answer.{record_answer}
 use Rattle.rlp_show.specs.ValueLemmas.{encoding_answered}
 use Rattle.rlp_show.specs.Lines.{Shape, line, list_of, prefix, then_lines, typed}
-use Rattle.rlp_show.specs.Records.{access_list_transaction, any_transaction, blob_transaction, block, fee_market_transaction, legacy_transaction, set_code_transaction}
+use Rattle.rlp_show.specs.Records.{access_list_transaction, any_transaction, blob_transaction, block, fee_market_transaction, legacy_transaction, list_or_unknown, set_code_transaction}
 use Rattle.rlp_show.specs.Records.{transaction, typed_transaction, unknown_transaction, withdrawal}
 use Rattle.rlp_show.specs.Text.{number_text}
 use Rattle.rlp_show.specs.EnvelopeLemmas.{after_type, list_held, list_kind, not_of_type, string_held, string_sized}
@@ -93,11 +94,14 @@ not_typed other name v is =
 pub alone_shown : (name : List ℕ) (t : Transaction) → transaction_codec.Fits t → length (bytes_alone (transaction_codec.item t)) < 2 ^ 64
     → any_transaction name (strict_view_of (bytes_alone (transaction_codec.item t))) ≡ Ok (transaction_lines name t)
 alone_shown name (Legacy t) fit few =
-    not_typed legacy_transaction name (strict_view_of (encoding (signed_legacy_transaction.item t))) (list_kind (signed_legacy_transaction_fields.items t) few) ∙ legacy_transaction_display.shown name t fit few
-alone_shown name (AccessList t) fit few = access_list_typed legacy_transaction name t fit (after_type 1 _ few)
-alone_shown name (FeeMarket t) fit few = fee_market_typed legacy_transaction name t fit (after_type 2 _ few)
-alone_shown name (Blob t) fit few = blob_typed legacy_transaction name t fit (after_type 3 _ few)
-alone_shown name (SetCode t) fit few = set_code_typed legacy_transaction name t fit (after_type 4 _ few)
+    let v = strict_view_of (encoding (signed_legacy_transaction.item t)) in
+    let kind = list_kind (signed_legacy_transaction_fields.items t) few in
+    not_typed (list_or_unknown legacy_transaction) name v kind
+    ∙ cond-true (begins_as_list v.bytes) (legacy_transaction name v) (unknown_transaction name v) kind ∙ legacy_transaction_display.shown name t fit few
+alone_shown name (AccessList t) fit few = access_list_typed (list_or_unknown legacy_transaction) name t fit (after_type 1 _ few)
+alone_shown name (FeeMarket t) fit few = fee_market_typed (list_or_unknown legacy_transaction) name t fit (after_type 2 _ few)
+alone_shown name (Blob t) fit few = blob_typed (list_or_unknown legacy_transaction) name t fit (after_type 3 _ few)
+alone_shown name (SetCode t) fit few = set_code_typed (list_or_unknown legacy_transaction) name t fit (after_type 4 _ few)
 
 -- the line of these bytes is answered by the lines
 pub transaction_answered : (l : List ℕ) (t : Transaction) → transaction_codec.Fits t → length (bytes_alone (transaction_codec.item t)) < 2 ^ 64

@@ -47,13 +47,14 @@ use Rattle.rlp_ethereum.specs.declared.hash.Hash.{Hash}
 use Rattle.rlp_ethereum.specs.Address.{address as address_codec}
 use Rattle.rlp_ethereum.specs.Bloom.{bloom as bloom_codec}
 use Rattle.rlp_ethereum.specs.Hash.{hash as hash_codec}
+use Rattle.rlp_ethereum.specs.ReceiptStatus.{receipt_status as status_codec, status_bytes}
 use Rattle.rlp_ethereum.specs.Recipient.{recipient as recipient_codec, recipient_bytes}
 use Rattle.rlp_show.specs.Lines.{Field, Shape, byte_string, field, fields_lines, fixed_bytes, in_field, line, lines_if, list_of, list_value_lines, may_have}
-use Rattle.rlp_show.specs.Lines.{number, optional, prefix, recipient, record_of, truth_value}
+use Rattle.rlp_show.specs.Lines.{number, optional, prefix, receipt_status, recipient, record_of, truth_value}
 use Rattle.rlp_show.specs.Records.{access_list_item, access_list_transaction, account, address, bloom, fee_market_transaction, hash, header, legacy_transaction}
 use Rattle.rlp_show.specs.Records.{authorization, blob_transaction, log, receipt, set_code_transaction, withdrawal}
 use Rattle.rlp_show.specs.Text.{bytes_text, number_text}
-use Rattle.rlp_show.specs.StringLemmas.{bytes_given, fixed_given, number_given, recipient_given, truth_given}
+use Rattle.rlp_show.specs.StringLemmas.{bytes_given, fixed_given, number_given, recipient_given, status_given, truth_given}
 use Rattle.rlp_show.specs.ValueLemmas.{both_shown, first_sized, front_small, group_right, group_shown, joined_small, list_shown, optional_right, optional_shown}
 use Rattle.rlp_show.specs.ValueLemmas.{may_have-append, others_small, part_shown, record_shown, rest_small, views_of}
 
@@ -110,6 +111,13 @@ abbrev pub recipient_display : Display recipient_codec recipient
 recipient_display = record {
   lines = λ name r. line name (bytes_text (recipient_bytes r));
   shown = λ name r fit sized. recipient_given name (strict_view_of (encoding (recipient_codec.item r))) r sized (record { fits = fit; begins = refl });
+}
+
+-- statuses of receipts
+abbrev pub status_display : Display status_codec receipt_status
+status_display = record {
+  lines = λ name s. line name (bytes_text (status_bytes s));
+  shown = λ name s fit sized. status_given name (strict_view_of (encoding (status_codec.item s))) s sized (record { fits = fit; begins = refl });
 }
 
 -- truth values
@@ -219,7 +227,7 @@ log_display = record_display (
 
 abbrev pub receipt_display : Display receipt_codec receipt
 receipt_display = record_display (
-    field_display (codes "status_or_state_root") (λ (r : Receipt). r.status_or_state_root) (bytes_display vec_items) (
+    field_display (codes "status_or_state_root") (λ (r : Receipt). r.status_or_state_root) status_display (
     field_display (codes "cumulative_gas_used") (λ (r : Receipt). r.cumulative_gas_used) (number_display 8) (
     field_display (codes "logs_bloom") (λ (r : Receipt). r.logs_bloom) bloom_display (
     field_display (codes "logs") (λ (r : Receipt). r.logs) (list_display vec_items log_display) end_display))))

@@ -10,6 +10,7 @@ use crate::fault::ShowFault;
 use crate::fields::{joined, prefix_of};
 use crate::numbers::put_number_line;
 use crate::show::Show;
+use crate::transactions::ListOrUnknown;
 use rlp::Rlp;
 use rlp_ethereum::{ACCESS_LIST_TYPE, BLOB_TYPE, FEE_MARKET_TYPE, Receipt, SET_CODE_TYPE};
 use std::alloc::{AllocError, Global};
@@ -29,7 +30,7 @@ pub type AnyReceipt = Typed<
     Typed<
         FEE_MARKET_TYPE,
         Receipt,
-        Typed<BLOB_TYPE, Receipt, Typed<SET_CODE_TYPE, Receipt, Receipt>>,
+        Typed<BLOB_TYPE, Receipt, Typed<SET_CODE_TYPE, Receipt, ListOrUnknown<Receipt>>>,
     >,
 >;
 

@@ -29,5 +29,5 @@ pub use nodes::{Node, Path};
 pub use rlp_lines::{Noted, RunFault, exit_status};
 pub use serving::run;
 pub use show::Show;
-pub use transactions::{AnyTransaction, TypedTransaction, UnknownTransaction};
+pub use transactions::{AnyTransaction, ListOrUnknown, TypedTransaction, UnknownTransaction};
 pub use values::ShowValues;

@@ -4,7 +4,7 @@ ghost use Rattle.std.specs.Prelude.{◌≡◌, ◌++◌, codes, string_bytes, On
 ghost use Rattle.rlp.specs.Views.View.{item_views};
 ghost use Rattle.rlp_show.specs.Answer.{Shows};
 ghost use Rattle.rlp_show.specs.Lines.{line, prefix, string_shape};
-ghost use Rattle.rlp_show.specs.Records.{are_leaf, begins_path, child_hash_in, node_of, path, child, leaf, extension, branch, node};
+ghost use Rattle.rlp_show.specs.Records.{are_leaf, child_hash_in, node_of, path, child, leaf, extension, branch, node};
 
 use crate::any_item::AnyItem;
 use crate::fault::ShowFault;
@@ -12,7 +12,7 @@ use crate::fields::{Label, joined, prefix_of, show_fields, show_record};
 use crate::line::{put_bytes_line, put_line};
 use crate::show::Show;
 use rlp::{DecoderError, Rlp};
-use rlp_ethereum::{Branch, Child, Extension, Leaf};
+use rlp_ethereum::{Branch, Child, Extension, Leaf, ends_in_leaf};
 use std::alloc::{AllocError, Global};
 
 /// A path, for [`Show`]: hex-prefix encoded bytes. It has no values.
@@ -20,13 +20,6 @@ pub struct Path;
 
 /// A node of the trie, for [`Show`]. It has no values.
 pub struct Node;
-
-/// Returns whether a first byte begins a hex-prefix encoded path.
-fn begins_path(first: u8) -> bool
-    ensures { result ≡ begins_path first }
-{
-    first < 0x40 && (first / 16 % 2 == 1 || first % 16 == 0)
-}
 
 /// The bytes of the path, in hexadecimal. Fails with `Custom("path is not hex-prefix encoded")` for
 /// other strings.
@@ -38,13 +31,11 @@ impl Show for Path {
             Ok(bytes) => bytes,
             Err(fault) => return Err(ShowFault::of(alloc, name, fault)),
         };
-        match bytes {
-            [first, ..] if begins_path(*first) => Ok(put_bytes_line(name, bytes, out)?),
-            _ => {
-                let fault = DecoderError::Custom("path is not hex-prefix encoded");
-                Err(ShowFault::of(alloc, name, fault))
-            }
+        if ends_in_leaf(bytes).is_none() {
+            let fault = DecoderError::Custom("path is not hex-prefix encoded");
+            return Err(ShowFault::of(alloc, name, fault));
         }
+        Ok(put_bytes_line(name, bytes, out)?)
     }
 }
 
@@ -139,8 +130,8 @@ fn is_leaf(node: &Rlp<'_>) -> bool
 {
     match node.iter().next() {
         Some(path) => match path.decoder().string() {
-            Ok([first, ..]) => *first > 0x1f,
-            _ => false,
+            Ok(path) => ends_in_leaf(path).unwrap_or(false),
+            Err(_) => false,
         },
         None => false,
     }

@@ -9,8 +9,8 @@ use crate::show::Show;
 use rlp::{Rlp, Uint};
 use rlp_ethereum::{
     AccessListItem, AccessListTransaction, Account, Address, BlobTransaction, Block, Bloom,
-    FeeMarketTransaction, Hash, Header, Log, Receipt, Recipient, SetCodeTransaction, Signed,
-    SignedAuthorization, SignedLegacyTransaction, Transaction, Withdrawal,
+    FeeMarketTransaction, Hash, Header, Log, Receipt, ReceiptStatus, Recipient, SetCodeTransaction,
+    Signed, SignedAuthorization, SignedLegacyTransaction, Transaction, Withdrawal,
 };
 use std::alloc::Global;
 
@@ -107,7 +107,7 @@ impl Show for Receipt {
             name,
             item,
             out,
-            "status_or_state_root": Vec<u8>,
+            "status_or_state_root": ReceiptStatus,
             "cumulative_gas_used": u64,
             "logs_bloom": Bloom,
             "logs": Items<Log>

@@ -2,14 +2,14 @@
 
 ghost use Rattle.std.specs.Prelude.{◌^◌, ◌<◌, string_bytes};
 ghost use Rattle.rlp_show.specs.Answer.{Shows};
-ghost use Rattle.rlp_show.specs.Lines.{fixed_bytes, byte_string, recipient};
+ghost use Rattle.rlp_show.specs.Lines.{fixed_bytes, byte_string, receipt_status, recipient};
 ghost use Rattle.rlp_show.specs.Records.{address, hash, bloom};
 
 use crate::fault::ShowFault;
 use crate::line::put_bytes_line;
 use crate::show::Show;
 use rlp::{DecoderError, Rlp};
-use rlp_ethereum::{Address, Bloom, Hash, Recipient};
+use rlp_ethereum::{Address, Bloom, Hash, ReceiptStatus, Recipient};
 use std::alloc::Global;
 
 /// Appends the line of an item of exactly `N` bytes.
@@ -91,6 +91,27 @@ impl Show for Recipient {
         match recipient {
             Recipient::Creation => put_bytes_line(name, &[], out)?,
             Recipient::Account(address) => put_bytes_line(name, &address.0, out)?,
+        }
+        Ok(())
+    }
+}
+
+impl Show for ReceiptStatus {
+    ghost shape = { receipt_status };
+
+    #[tactic(auto, using(crate::specs::StringLemmas::status_strings))]
+    fn show(alloc: Global, name: &str, item: &Rlp<'_>, out: &mut String) -> Result<(), ShowFault> {
+        // Only the proof needs this: a slice has fewer than 2^64 bytes, each below 256.
+        let _bytes = item.as_raw();
+        let status = match item.as_val::<ReceiptStatus>(alloc) {
+            Ok(status) => status,
+            Err(DecoderError::OutOfMemory) => return Err(ShowFault::OutOfMemory),
+            Err(fault) => return Err(ShowFault::of(alloc, name, fault)),
+        };
+        match status {
+            ReceiptStatus::Failure => put_bytes_line(name, &[], out)?,
+            ReceiptStatus::Success => put_bytes_line(name, &[1], out)?,
+            ReceiptStatus::StateRoot(root) => put_bytes_line(name, &root.0, out)?,
         }
         Ok(())
     }

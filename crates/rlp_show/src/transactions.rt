@@ -14,6 +14,7 @@ use rlp_ethereum::{
     Transaction,
 };
 use std::alloc::Global;
+use std::marker::PhantomData;
 
 /// The envelope of a transaction of any type that `rlp_ethereum` knows, or else a `Q`, for [`Show`].
 pub type TypedTransaction<Q> = Typed<
@@ -31,7 +32,27 @@ pub type TypedTransaction<Q> = Typed<
 >;
 
 /// A transaction by itself, of any type that `rlp_ethereum` knows, for [`Show`].
-pub type AnyTransaction = TypedTransaction<SignedLegacyTransaction>;
+pub type AnyTransaction = TypedTransaction<ListOrUnknown<SignedLegacyTransaction>>;
+
+/// A list that is a `T`, or else the envelope of a transaction of an unknown type, for [`Show`]. It has
+/// no values.
+pub struct ListOrUnknown<T> {
+    list: PhantomData<T>,
+}
+
+impl<T: Show> Show for ListOrUnknown<T> {
+    ghost use Rattle.rlp_show.specs.Records.{list_or_unknown};
+
+    ghost shape = { list_or_unknown T.shape };
+
+    fn show(alloc: Global, name: &str, item: &Rlp<'_>, out: &mut String) -> Result<(), ShowFault> {
+        if item.is_list() {
+            T::show(alloc, name, item, out)
+        } else {
+            UnknownTransaction::show(alloc, name, item, out)
+        }
+    }
+}
 
 /// The envelope of a transaction of an unknown type, for [`Show`]. It is always at fault.
 pub struct UnknownTransaction;

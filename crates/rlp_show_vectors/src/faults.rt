@@ -64,7 +64,7 @@ const FAULTS: [Row; 26] = [
             "090a0b0c0d0e0f1011121314a0dd15fe86affad91249ef0eb713f39ebeaa987b6e6fd2a0",
             "00000000000000000080c0800708",
         ],
-        &["error RlpExpectedToBeList\n"],
+        &["error Custom(\"unknown transaction type\")\n"],
     ),
     (
         Kind::Transaction,

@@ -1,11 +1,17 @@
-//! Tests of what `rlp` writes, and of values that are written and read. The crate has only tests.
+//! Tests of values that are written and read. The crate has only tests.
 #![tactic(auto)]
 
 #[cfg(test)]
+mod raw_items;
+#[cfg(test)]
 mod refused;
 #[cfg(test)]
-mod support;
+mod rows;
 #[cfg(test)]
-mod values;
+mod structs;
 #[cfg(test)]
-mod writing;
+mod types;
+#[cfg(test)]
+mod uses;
+#[cfg(test)]
+mod written;

@@ -1,5 +1,74 @@
-//! Tests for `refusals/run`, which refuses requests for memory.
+//! New streams and encoded values, one of which is refused memory.
+//!
+//! `refusals/run` refuses each request of these tests in turn. A test returns `AllocError` if
+//! nothing else was lost.
 
-mod never;
-pub(crate) mod streams;
-mod values;
+use bytes::BytesMut;
+use rlp::{Encodable, RlpStream, Uint};
+use rlp_fixtures::Pair;
+use std::alloc::{AllocError, Global};
+use std::test::Fail;
+
+/// Returns whether the given buffer is the front of a new list, or is returned if the call is
+/// refused.
+fn buffer_comes_back(alloc: Global) -> Result<bool, AllocError> {
+    let mut junk = BytesMut::new(alloc);
+    junk.extend_from_slice(b"junk")?;
+    match RlpStream::new_list_with_buffer(alloc, junk, 2) {
+        Ok(s) => Ok(s.as_raw() == b"junk\0".as_slice() && s.items_awaited() == Some(2)),
+        Err(buffer) if buffer.as_slice() == b"junk".as_slice() => Err(AllocError),
+        Err(_) => Ok(false),
+    }
+}
+
+/// Returns whether a new stream is empty, and a new list holds no item.
+fn streams_are_new(alloc: Global) -> Result<bool, AllocError> {
+    Ok(
+        RlpStream::new(alloc)?.is_empty()
+            && RlpStream::new_list(alloc, 3)?.as_raw() == [0x00].as_slice(),
+    )
+}
+
+/// Returns whether a value is encoded as these bytes, by both functions for it.
+fn is_encoded<E: Encodable>(alloc: Global, value: &E, want: &[u8]) -> Result<bool, AllocError> {
+    Ok(rlp::encode(alloc, value)?.as_slice() == want && value.rlp_bytes(alloc)?.as_slice() == want)
+}
+
+/// Returns whether a list of values is encoded as these bytes.
+fn is_listed<E: Encodable>(alloc: Global, values: &[E], want: &[u8]) -> Result<bool, AllocError> {
+    Ok(rlp::encode_list(alloc, values)?.as_slice() == want)
+}
+
+#[test]
+fn what_is_made(rt: HostRuntime) -> Result<(), Fail> {
+    let alloc = rt.alloc();
+    assert!(rt; buffer_comes_back(alloc)?);
+    assert!(rt; streams_are_new(alloc)?);
+    assert!(rt; is_encoded(alloc, &"Lorem ipsum", b"\x8bLorem ipsum")?);
+    assert!(rt;
+        is_listed(
+            alloc,
+            &[Pair(1, 2), Pair(3, 4)],
+            b"\xc6\xc2\x01\x02\xc2\x03\x04"
+        )?
+    );
+    Ok(())
+}
+
+/// Returns whether numbers that need more room than a new stream has are encoded as a list.
+fn numbers_are_listed(alloc: Global) -> Result<bool, AllocError> {
+    let numbers = [u64::MAX; 500];
+    Ok(rlp::encode_list(alloc, numbers.as_slice())?.len() == 4_503)
+}
+
+// Strings, each of one request, and an option.
+#[test]
+fn what_is_encoded(rt: HostRuntime) -> Result<(), Fail> {
+    let alloc = rt.alloc();
+    assert!(rt; numbers_are_listed(alloc)?);
+    assert!(rt; is_listed(alloc, &["cat", "dog"], b"\xc8\x83cat\x83dog")?);
+    assert!(rt; rlp::encode(alloc, &[0x61u8; 32])?.len() == 33);
+    assert!(rt; rlp::encode(alloc, &Uint { bytes: [1; 32] })?.len() == 33);
+    assert!(rt; rlp::encode(alloc, &Some(5u64))?.as_slice() == [0xc1, 0x05].as_slice());
+    Ok(())
+}

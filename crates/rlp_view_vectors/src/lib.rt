@@ -4,6 +4,8 @@
 #[cfg(test)]
 mod fields;
 #[cfg(test)]
+mod flattened;
+#[cfg(test)]
 mod items;
 #[cfg(test)]
 mod large;

@@ -14,7 +14,7 @@ rlp_proved.exceptions.DecodingError: RlpInvalidIndirection at 1: there is a shor
 """
 
 from . import exceptions
-from ._core import decode, encode, is_canonical
+from ._core import decode, decode_header, decode_transaction, encode, is_canonical
 from .exceptions import DecodingError, EncodingError, RLPException
 from .lazy import LazyList, decode_lazy
 
@@ -24,7 +24,9 @@ __all__ = [
     "LazyList",
     "RLPException",
     "decode",
+    "decode_header",
     "decode_lazy",
+    "decode_transaction",
     "encode",
     "exceptions",
     "is_canonical",

@@ -8,6 +8,7 @@ FAULTS = {
     2: ("RlpIsTooShort", "the bytes end before the item does"),
     3: ("RlpExpectedToBeList", "there is no list"),
     4: ("RlpExpectedToBeData", "there is a list in place of a string"),
+    5: ("RlpIncorrectListLen", "there is a field too few or too many"),
     6: ("RlpDataLenWithZeroPrefix", "the length of a string begins with a zero byte"),
     7: ("RlpListLenWithZeroPrefix", "the length of a list begins with a zero byte"),
     8: ("RlpInvalidIndirection", "there is a shorter encoding"),
@@ -15,6 +16,7 @@ FAULTS = {
     10: ("RlpInvalidLength", "a header and its string are 2^64 bytes or more"),
     14: ("RlpTooDeep", "there are more lists, one in the other, than allowed"),
     15: ("RlpBadItems", "the items describe no tree"),
+    16: ("RlpUnknownType", "the type of the transaction isn't known"),
 }
 
 

@@ -1,11 +1,10 @@
 -- The fields of a part of a value and others after them, read from items one after another.
 use Rattle.std.specs.Prelude.{IsSomeAnd, MatchOption}
-use Rattle.std.proofs.Common.{◌≡◌, ℕ, ◌+◌, ◌-◌, ◌^◌, ◌<◌, ◌≤◌, ◌⊎◌, inl, inr, ⊎_elim, Option, Some, None, refl, sym, ap, ◌∙◌, subst, arith}
+use Rattle.std.proofs.Common.{◌≡◌, ℕ, ◌+◌, ◌-◌, ◌^◌, ◌<◌, ◌≤◌, inl, inr, ⊎_elim, Option, Some, None, sym, ap, ◌∙◌, subst, arith}
 use Rattle.rlp_format.specs.declared.error.DecoderError.{DecoderError}
-use Rattle.rlp_format.specs.declared.error.DecoderError.TheVariants.{OutOfMemory}
 use Rattle.rlp_format.specs.Views.View.{View}
 use Rattle.rlp.specs.Lemmas.Groups.{group_cases}
-use Rattle.rlp.specs.Lemmas.Parts.{after_is, is_after, is_below}
+use Rattle.rlp.specs.Lemmas.Parts.{is_after, is_below}
 use Rattle.rlp.specs.Values.FieldPlace.{FieldPlace}
 use Rattle.rlp.specs.Values.FieldReading.{FieldsFail, GivesFields, IsCount}
 use Rattle.rlp.specs.Values.ListReading.{FaultsAt}

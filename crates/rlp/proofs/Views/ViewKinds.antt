@@ -15,7 +15,7 @@ use Rattle.rlp_format.specs.Views.View.{item_by, item_count, item_with_place, it
 use Rattle.rlp_format.specs.Lemmas.Encodings.{front_sized}
 use Rattle.rlp_format.specs.Lemmas.Frames.{Frames, framing_is, framing_reads}
 use Rattle.rlp_format.specs.Lemmas.Numbered.{item_count-fault, item_count-told, item_with_place-fault, item_with_place-told, lenient_told}
-use Rattle.rlp.specs.Lemmas.WholeLists.{strict_fault-encoding}
+use Rattle.rlp_format.specs.Lemmas.WholeItems.{strict_fault-encoding}
 
 -- ---- the strict fault
 

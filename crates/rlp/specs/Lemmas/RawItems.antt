@@ -21,7 +21,7 @@ use Rattle.rlp_format.specs.Lemmas.Views.{items_of_list, list_shape}
 use Rattle.rlp_format.proofs.Views.Depths.{depth_of_item, not_list}
 use Rattle.rlp_buffer.specs.Streams.Stream.{State, is_list, put, put_item}
 use Rattle.rlp.specs.Lemmas.StringsHeld.{held_begins, held_read}
-use Rattle.rlp.specs.Lemmas.WholeLists.{strict_fault-encoding}
+use Rattle.rlp_format.specs.Lemmas.WholeItems.{strict_fault-encoding}
 
 -- a list isn't read as a string
 list_unread : (b : List ℕ) → begins_as_list b ≡ true → (e : DecoderError) × (read_string b ≡ Err e)

@@ -1,9 +1,7 @@
 //! A decoder of one string.
 
-ghost use Rattle.std.specs.Prelude.{◌≡◌, ◌≤◌, ◌↔◌, ℕ, List, length, Ok, Err, IsTrue, IfOk, IfErr, IsErrAnd, MatchResult};
+ghost use Rattle.std.specs.Prelude.{◌≡◌, length, Ok, Err, IfOk, IfErr, IsErrAnd, MatchResult};
 ghost use Rattle.std.specs.Fn.{FnReturnsAt};
-ghost use Rattle.rlp_format.specs.Format.Item.{string};
-ghost use Rattle.rlp_format.specs.Format.Encoding.{encoding};
 ghost use Rattle.rlp_format.specs.Views.View.{HoldsNoString, HoldsString, view_of, view_string, View};
 
 use rlp_format::error::DecoderError;
@@ -98,15 +96,5 @@ impl<'a> BasicDecoder<'a> {
             return Err(DecoderError::RlpIsTooBig);
         }
         Ok(string)
-    }
-}
-
-/// Whether the bytes are the encoding of a string.
-pub(crate) fn is_string(bytes: &[u8]) -> bool
-    ensures { IsTrue result ↔ ((d : List ℕ) × (bytes.now ≡ encoding (string d))) }
-{
-    match BasicDecoder::of_kind(bytes, true).string() {
-        Ok(_) => true,
-        Err(_) => false,
     }
 }

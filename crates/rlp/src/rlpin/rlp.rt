@@ -4,22 +4,26 @@ ghost use Rattle.std.specs.Vec.{vec_items};
 ghost use Rattle.std.specs.declared.alloc.Global.{Global};
 ghost use Rattle.std.specs.Prelude.{◌≡◌, ◌≤◌, ◌<◌, ◌^◌, ◌↔◌, ◌⊎◌, List, [], length, true, false, IsTrue, IsOk, None, Some, Ok, Err, IfOk, IfErr, MatchResult, OnOk};
 ghost use Rattle.rlp_format.specs.declared.error.DecoderError.TheVariants.{OutOfMemory};
+ghost use Rattle.rlp_format.specs.Format.Flat.{IsFlat};
 ghost use Rattle.rlp_format.specs.Format.Split.{begins_as_list, items};
 ghost use Rattle.rlp_format.specs.Format.Framing.{framing};
 ghost use Rattle.rlp_format.specs.Format.Strict.{IsCanonicalWithin, strict_list_fault};
+ghost use Rattle.rlp_format.specs.Format.TreeFaults.{IsFlatFault};
 ghost use Rattle.rlp_format.specs.Views.Depth.{depth};
 ghost use Rattle.rlp_format.specs.Views.View.{begins_as_data, begins_as_empty, begins_as_int, data_size, has_nonzero_at, item_at, item_count, item_views, item_with_place, items_fault, list_fault, prototype_of, strict_view_of, view_header, view_of, view_value, View};
 ghost use Rattle.rlp.specs.Values.ListReading.{FaultsAsList, FaultsAt, GivesAt, GivesList, MayLackAsList, MayLackAt, ReadsValue, GivesSomeAt};
 
-use crate::rlpin::decoder::{BasicDecoder, is_string};
+use crate::rlpin::decoder::BasicDecoder;
 use crate::rlpin::iter::RlpIterator;
 use crate::traits::Decodable;
 use rlp_format::Prototype;
 use rlp_format::depth::is_nested_within;
 use rlp_format::error::DecoderError;
+use rlp_format::flat::{FlatItem, TreeFault};
 use rlp_format::framed::{Framed, first_framed, whole_framed};
 use rlp_format::header::PayloadInfo;
 use rlp_format::items::{ItemReader, try_count_items};
+use rlp_format::walking::{flatten, is_canonical};
 use std::alloc::Global;
 use std::marker::Model;
 
@@ -377,8 +381,7 @@ impl<'a> Rlp<'a> {
     /// `max_depth`. A string has depth 0. A list has a depth of 1 more than the deepest of its
     /// items, or 1 without items. The result is the same on lenient and strict views.
     ///
-    /// It reads each header once or a few times, takes no memory, and goes no deeper than
-    /// `max_depth` lists.
+    /// It reads each header once, takes no memory, and goes no deeper than `max_depth` lists.
     ///
     /// ```rust
     /// assert!(rt; rlp::Rlp::new(&[0xc2, 0xc1, 0x05]).is_canonical(2));
@@ -387,25 +390,33 @@ impl<'a> Rlp<'a> {
     pub fn is_canonical(&self, max_depth: usize) -> bool
         ensures { IsTrue result ↔ IsCanonicalWithin max_depth self.now.bytes }
     {
-        if !self.is_list() {
-            return is_string(self.bytes);
-        }
-        if max_depth == 0 {
-            return false;
-        }
-        let Ok(whole) = whole_framed(self.bytes) else {
-            return false;
-        };
-        let mut items = ItemReader::new(whole.content);
-        while !items.rest().is_empty() {
-            let Ok(framed) = items.next_framed() else {
-                return false;
-            };
-            if !Rlp::new(framed.item).is_canonical(max_depth - 1) {
-                return false;
-            }
-        }
-        true
+        is_canonical(self.bytes, max_depth)
+    }
+
+    /// The items of the tree whose encoding the bytes are, from the outside in and from the left to
+    /// the right: each list comes before its items. The result is the same on lenient and strict
+    /// views.
+    ///
+    /// Fails with the first fault, in the order of the bytes, if they aren't the canonical encoding
+    /// of an item of depth at most `max_depth`:
+    ///
+    /// - the fault of [`Rlp::payload_info`] of a strict view, or that of bytes inside a list that
+    ///   aren't an item;
+    /// - `RlpInvalidIndirection` for a byte below `0x80` that has a header;
+    /// - [`TreeFault::TooDeep`] at a list inside `max_depth` others.
+    ///
+    /// Fails with `OutOfMemory` if memory is refused. It reads each header twice, and asks for
+    /// memory once, for just as many items as there are.
+    ///
+    /// ```rust
+    /// let items = rlp::Rlp::new(&[0xc2, 0xc1, 0x05]).flatten(alloc, 2)?;
+    /// assert_eq!(rt; (items[2].place, items[2].depth, items[2].is_list), (2, 2, false));
+    /// ```
+    pub fn flatten(&self, alloc: Global, max_depth: usize) -> Result<Vec<FlatItem>, TreeFault>
+        ensures items { IfOk result (λ v. IsFlat max_depth self.now.bytes v.items) }
+        ensures fault { IfErr result (λ e. IsFlatFault max_depth self.now.bytes e) }
+    {
+        flatten(alloc, self.bytes, max_depth)
     }
 
     /// A view of other bytes, of the same kind.

@@ -2,8 +2,9 @@
 
 ghost use Rattle.std.specs.Prelude.{◌≡◌};
 ghost use Rattle.std.specs.Option.{option_copied};
-ghost use Rattle.rlp_ethereum.specs.TransactionParts.{access_list_of, account_in, gas_limit_of, input_of, nonce_of, recipient_of, value_of};
+ghost use Rattle.rlp_ethereum.specs.TransactionParts.{access_list_of, account_in, gas_limit_of, gas_price_of, input_of, max_fee_of, max_priority_fee_of, nonce_of, recipient_of, type_of, value_of};
 
+use crate::envelope::{ACCESS_LIST_TYPE, BLOB_TYPE, FEE_MARKET_TYPE, SET_CODE_TYPE};
 use crate::{AccessList, Address, Recipient, Transaction};
 use rlp::Uint;
 
@@ -36,6 +37,19 @@ macro_rules! of_payload {
 }
 
 impl Transaction {
+    /// Returns the number of the type, as in EIP-2718, or 0 for a transaction without a type.
+    pub fn transaction_type(&self) -> u8
+        ensures { result ≡ type_of self.now }
+    {
+        match self {
+            Transaction::Legacy(_) => 0,
+            Transaction::AccessList(_) => ACCESS_LIST_TYPE,
+            Transaction::FeeMarket(_) => FEE_MARKET_TYPE,
+            Transaction::Blob(_) => BLOB_TYPE,
+            Transaction::SetCode(_) => SET_CODE_TYPE,
+        }
+    }
+
     /// Returns the number of transactions that the sender has sent before.
     pub fn nonce(&self) -> u64
         ensures { result ≡ nonce_of self.now }
@@ -62,6 +76,46 @@ impl Transaction {
         ensures { result.now ≡ input_of self.now }
     {
         of_payload!(self, payload => payload.data.as_slice())
+    }
+
+    /// Returns the price of a unit of gas, in Wei, for a transaction without a type or of type 1, and
+    /// `None` for the types since EIP-1559, which have two fees.
+    pub fn gas_price(&self) -> Option<&Uint<32>>
+        ensures { option_copied result ≡ gas_price_of self.now }
+    {
+        match self {
+            Transaction::Legacy(tx) => Some(&tx.payload.gas_price),
+            Transaction::AccessList(tx) => Some(&tx.payload.gas_price),
+            Transaction::FeeMarket(_) | Transaction::Blob(_) | Transaction::SetCode(_) => None,
+        }
+    }
+
+    /// Returns the highest total price of a unit of gas that the sender pays, in Wei. As in EIP-1559,
+    /// this is the price of gas if the transaction has no type or is of type 1.
+    pub fn max_fee_per_gas(&self) -> &Uint<32>
+        ensures { result.now ≡ max_fee_of self.now }
+    {
+        match self {
+            Transaction::Legacy(tx) => &tx.payload.gas_price,
+            Transaction::AccessList(tx) => &tx.payload.gas_price,
+            Transaction::FeeMarket(tx) => &tx.payload.max_fee_per_gas,
+            Transaction::Blob(tx) => &tx.payload.max_fee_per_gas,
+            Transaction::SetCode(tx) => &tx.payload.max_fee_per_gas,
+        }
+    }
+
+    /// Returns the highest price of a unit of gas that the sender pays to the block's beneficiary, in
+    /// Wei. As in EIP-1559, this is the price of gas if the transaction has no type or is of type 1.
+    pub fn max_priority_fee_per_gas(&self) -> &Uint<32>
+        ensures { result.now ≡ max_priority_fee_of self.now }
+    {
+        match self {
+            Transaction::Legacy(tx) => &tx.payload.gas_price,
+            Transaction::AccessList(tx) => &tx.payload.gas_price,
+            Transaction::FeeMarket(tx) => &tx.payload.max_priority_fee_per_gas,
+            Transaction::Blob(tx) => &tx.payload.max_priority_fee_per_gas,
+            Transaction::SetCode(tx) => &tx.payload.max_priority_fee_per_gas,
+        }
     }
 
     /// Returns the account that receives the value, or `None` if a contract is created.

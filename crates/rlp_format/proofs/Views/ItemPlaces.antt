@@ -1,13 +1,13 @@
 -- The places of the items of a list, found by going over them.
-use Rattle.std.proofs.Common.{ℕ, zero, suc, ◌+◌, ◌-◌, ◌<◌, ◌≤◌, ◌≡◌, true, false, List, [], ◌∷◌, ◌++◌, length, take, drop, get_or, Some, None, Ok}
-use Rattle.std.proofs.Common.{Err, refl, sym, ◌∙◌, ap, arith, append_assoc, append-nil, length-append, length-drop, length-take-le, add-one, ltb}
+use Rattle.std.proofs.Common.{ℕ, zero, suc, ◌+◌, ◌-◌, ◌<◌, ◌≤◌, ◌≡◌, false, List, [], ◌∷◌, ◌++◌, length, take, drop, get_or, Some, None, Ok}
+use Rattle.std.proofs.Common.{Err, refl, sym, ◌∙◌, ap, arith, append_assoc, append-nil, length-append, length-drop, add-one, ltb}
 use Rattle.std.proofs.Common.{lt-ltb, le-ltb, drop_at}
 use Rattle.std.proofs.lemmas.Bool.{cond-true, cond-false}
 use Rattle.std.specs.List.{concat}
 use Rattle.rlp_format.specs.declared.error.DecoderError.{DecoderError}
 use Rattle.rlp_format.specs.declared.header.PayloadInfo.{PayloadInfo}
-use Rattle.rlp_format.specs.Format.Framing.{fault, fault_in, framing, map_ok, total_len, value}
-use Rattle.rlp_format.specs.Format.Split.{begins_as_list, items, payload, payload_in, rest, split}
+use Rattle.rlp_format.specs.Format.Framing.{fault, fault_in, framing}
+use Rattle.rlp_format.specs.Format.Split.{items, payload, rest, split}
 use Rattle.rlp_format.specs.Views.View.{View, item_with_place, items_fault}
 use Rattle.rlp_format.specs.Lemmas.Numbered.{item_with_place-fault, item_with_place-told}
 use Rattle.rlp_format.proofs.Format.Splits.{drop-next, drop-inside}

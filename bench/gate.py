@@ -1,0 +1,78 @@
+"""Runs `rt ci` in a clean clone of the tree, and writes what each of its parts took.
+
+usage: gate.py ROOT FILE
+
+It looks at the processes of the prover every half a second, and adds up their processor time by crate. What a process takes after the
+last look isn't counted. `docs/calling` makes a table of FILE, which is `bench/gate.tsv`.
+"""
+
+import os
+import re
+import subprocess
+import sys
+import tempfile
+import time
+from collections import defaultdict
+
+from machine import told_of_run
+
+EVERY = 0.5
+TICKS = os.sysconf("SC_CLK_TCK")
+NAME = re.compile(rb"--crate-name\0([^\0]+)")
+HEADS = ["crate", "part", "begins, s", "ends, s", "processor time, s", "memory, MB"]
+
+
+def processes():
+    """The processes of the prover: the number, what it checks, its processor time in seconds and its greatest memory in MB."""
+    for number in filter(str.isdigit, os.listdir("/proc")):
+        try:
+            with open(f"/proc/{number}/cmdline", "rb") as file:
+                command = file.read()
+            name = NAME.search(command)
+            if not name or b"/rattle\0" not in command:
+                continue
+            with open(f"/proc/{number}/stat", encoding="utf-8") as file:
+                fields = file.read().rpartition(")")[2].split()
+            with open(f"/proc/{number}/status", encoding="utf-8") as file:
+                most = re.search(r"VmHWM:\s+(\d+)", file.read())
+            where = os.readlink(f"/proc/{number}/cwd")
+        except OSError:
+            continue
+        part = "mistakes" if "/rt-edit" in where else "tests" if b"\0--test\0" in command else "proof"
+        yield number, (name[1].decode(), part), (int(fields[11]) + int(fields[12])) / TICKS, int(most[1]) / 1024 if most else 0
+
+
+def watched(run):
+    """What each part took until a run ended."""
+    begin, parts, taken = time.time(), defaultdict(lambda: [None, 0, 0]), defaultdict(dict)
+    while run.poll() is None:
+        now = time.time() - begin
+        for number, part, seconds, memory in processes():
+            one = parts[part]
+            one[0] = now if one[0] is None else one[0]
+            one[1], one[2] = now, max(one[2], memory)
+            taken[part][number] = seconds
+        time.sleep(EVERY)
+    return {part: (*times[:2], sum(taken[part].values()), times[2]) for part, times in parts.items()}, time.time() - begin
+
+
+def main():
+    root, to = sys.argv[1:]
+    with tempfile.TemporaryDirectory(prefix="gate-") as folder:
+        clone = os.path.join(folder, "rlp")
+        subprocess.run(["git", "clone", "--quiet", root, clone], check=True)
+        with open(os.path.join(folder, "log"), "w", encoding="utf-8") as log:
+            run = subprocess.Popen(["rt", "ci", "--anew"], cwd=clone, stdin=subprocess.DEVNULL, stdout=log, stderr=subprocess.STDOUT)
+            parts, whole = watched(run)
+        with open(os.path.join(folder, "log"), encoding="utf-8", errors="replace") as log:
+            last = log.read().splitlines()[-1]
+    lines = [*told_of_run(1)[:-1], f"# result\t{last}, in {whole / 60:.1f} minutes", "\t".join(HEADS)]
+    for (crate, part), numbers in sorted(parts.items(), key=lambda it: it[1][0]):
+        lines.append("\t".join([crate, part, *(f"{number:.0f}" for number in numbers)]))
+    with open(to, "w", encoding="utf-8") as file:
+        file.write("\n".join(lines) + "\n")
+    print("\n".join(lines))
+
+
+if __name__ == "__main__":
+    main()

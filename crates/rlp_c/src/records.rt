@@ -1,0 +1,5 @@
+//! The records of Ethereum: where their fields are.
+
+mod calls;
+mod fields;
+mod kinds;

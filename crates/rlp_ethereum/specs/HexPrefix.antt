@@ -1,0 +1,79 @@
+-- Hex-prefix encoding of paths, as in appendix C of the yellow paper.
+use Rattle.std.specs.Prelude.{ℕ, ◌≡◌, ◌≢◌, ◌+◌, ◌*◌, ◌/◌, ◌%◌, ◌<◌, ◌==◌, ◌&&◌, ◌||◌, nat_le, if◌then◌else◌, All, Bool, true, false, List, [], ◌∷◌, length, codes, unwrap_or, Option, Some, None}
+use Rattle.rlp.specs.DecoderError.{DecoderError}
+use Rattle.rlp.specs.Values.ValueReading.{IsCustom}
+
+-- ---- the encoding
+
+-- the numbers are nibbles: digits to the base 16
+abbrev pub AreNibbles : List ℕ → Type 0
+AreNibbles x = All (λ n. n < 16) x
+
+-- nibbles as bytes, two in each
+abbrev pub bytes_of : List ℕ → List ℕ
+bytes_of [] = []
+bytes_of (high ∷ []) = []
+bytes_of (high ∷ low ∷ more) = (16 * high + low) ∷ bytes_of more
+
+-- the flag f(t): 2 for a path that ends in a leaf, and else 0
+abbrev pub flag_of : Bool → ℕ
+flag_of true = 2
+flag_of false = 0
+
+-- the encoding of an odd number of nibbles: the first byte has the flag plus 1 and the first nibble
+abbrev pub odd_prefix : Bool → List ℕ → List ℕ
+odd_prefix leaf [] = []
+odd_prefix leaf (first ∷ more) = (16 * (flag_of leaf + 1) + first) ∷ bytes_of more
+
+-- HP(x, t): the nibbles x, two in each byte, after the flag of t. An even number of nibbles has the flag and 0 in the first byte.
+abbrev pub hex_prefix : Bool → List ℕ → List ℕ
+hex_prefix leaf x = if length x % 2 == 0 then (16 * flag_of leaf) ∷ bytes_of x else odd_prefix leaf x
+
+-- the bytes are the encoding of nibbles, for a path that ends in a leaf or for another
+pub record IsHexPrefix (leaf : Bool) (d : List ℕ) : Type 0 where
+  pub nibbles : List ℕ
+  pub are : AreNibbles nibbles
+  pub is : d ≡ hex_prefix leaf nibbles
+
+-- whether the flag is that of a path that ends in a leaf
+abbrev pub is_leaf_flag : ℕ → Bool
+is_leaf_flag flag = flag == 2
+
+-- ---- reading
+
+-- bytes as nibbles, two of each
+abbrev pub nibbles_of : List ℕ → List ℕ
+nibbles_of [] = []
+nibbles_of (byte ∷ more) = byte / 16 ∷ byte % 16 ∷ nibbles_of more
+
+-- the nibbles of an encoded path: the second digit of the first byte is one of them if the flag is odd
+abbrev pub path_nibbles : List ℕ → List ℕ
+path_nibbles [] = []
+path_nibbles (first ∷ more) = if first / 16 % 2 == 1 then first % 16 ∷ nibbles_of more else nibbles_of more
+
+-- whether a path with this first byte ends in a leaf, if the byte begins an encoded path
+abbrev pub first_ends_in_leaf : ℕ → Option Bool
+first_ends_in_leaf first =
+    if (first == 0x00) || (nat_le 0x10 first && nat_le first 0x1f) then Some false
+    else if (first == 0x20) || (nat_le 0x30 first && nat_le first 0x3f) then Some true
+    else None
+
+-- whether a path ends in a leaf, if it is hex-prefix encoded
+abbrev pub ends_in_leaf : List ℕ → Option Bool
+ends_in_leaf [] = None
+ends_in_leaf (first ∷ more) = first_ends_in_leaf first
+
+-- whether bytes are the path of a leaf
+abbrev pub is_leaf_path : List ℕ → Bool
+is_leaf_path d = unwrap_or (ends_in_leaf d) false
+
+-- Why bytes aren't a path of a leaf, or of an extension: they aren't hex-prefix encoded, or are a path of the other kind.
+pub data IsPathFault (leaf : Bool) (d : List ℕ) (e : DecoderError) : Type 0 where
+  not_encoded : ends_in_leaf d ≡ None → IsCustom (codes "path is not hex-prefix encoded") e → IsPathFault leaf d e
+  other_kind : (other : Bool) → ends_in_leaf d ≡ Some other → other ≢ leaf → IsCustom (codes "path is that of another node") e → IsPathFault leaf d e
+
+-- why numbers aren't those of a path: one isn't a nibble
+pub data IsNibbleFault (x : List ℕ) (e : DecoderError) : Type 0 where
+  above_nibbles : ¬ AreNibbles x → IsCustom (codes "nibble is above 15") e → IsNibbleFault x e
+
+pub ruleset path_faults = (not_encoded, other_kind)

@@ -1,0 +1,188 @@
+//! Signatures of transactions, and transactions as they are sent with what isn't in a block.
+
+use crate::reading::{Alone, Bare, digits, ways};
+use bytes::BytesMut;
+use rlp::DecoderError;
+use rlp_ethereum::{
+    BlobTransactionWithCellProofs, BlobTransactionWithProofs, DepositTransaction, Enveloped,
+    Transaction,
+};
+use std::alloc::{AllocError, Global};
+use std::test::Fail;
+
+/// Transactions with what is signed of them, and others in the forms that are sent.
+pub(crate) const ROWS: &str = "
+    The example of EIP-155. The hash of what is signed is daf5a779..8e53, and that of the
+    transaction 33469b22..0788.
+    signing: payload | f86c098504a817c800825208943535353535353535353535353535353535353535880de0b6b\
+     3a76400008025a028ef61340bd939bc2195fe537567866003e1a15d3c71ff63e1590620aa636276a067cbe9d8997f\
+     761aecb703304b3800ccf555c9f3dc64214b297fb1966a3b6d83 | ec098504a817c8008252089435353535353535\
+     35353535353535353535353535880de0b6b3a764000080018080
+    signing: again | f86c098504a817c800825208943535353535353535353535353535353535353535880de0b6b3a\
+     76400008025a028ef61340bd939bc2195fe537567866003e1a15d3c71ff63e1590620aa636276a067cbe9d8997f76\
+     1aecb703304b3800ccf555c9f3dc64214b297fb1966a3b6d83 | the same
+    signing: numbers | f86c098504a817c800825208943535353535353535353535353535353535353535880de0b6b\
+     3a76400008025a028ef61340bd939bc2195fe537567866003e1a15d3c71ff63e1590620aa636276a067cbe9d8997f\
+     761aecb703304b3800ccf555c9f3dc64214b297fb1966a3b6d83 | 0 Some(1) 8504a817c800 8504a817c800 tr\
+     ue
+    A transaction of type 1 of the tests of go-ethereum. The hash of what is signed is
+    49b486f0..69f3.
+    Transaction alone | 01f8630103018261a894b94f5374fce5edbc8e2a8697c15331677e6ebf0b0a825544c001a0\
+     c9519f4f2b30335884581971573fadf60c6204f59a911df35ee8a540456b2660a032f1e8e2c5dd761f9e4f88f41c8\
+     310aeaba26a8bfcdacfedfa12ec3862d37521
+    signing: payload | 01f8630103018261a894b94f5374fce5edbc8e2a8697c15331677e6ebf0b0a825544c001a0c\
+     9519f4f2b30335884581971573fadf60c6204f59a911df35ee8a540456b2660a032f1e8e2c5dd761f9e4f88f41c83\
+     10aeaba26a8bfcdacfedfa12ec3862d37521 | 01e00103018261a894b94f5374fce5edbc8e2a8697c15331677e6e\
+     bf0b0a825544c0
+    signing: again | 01f8630103018261a894b94f5374fce5edbc8e2a8697c15331677e6ebf0b0a825544c001a0c95\
+     19f4f2b30335884581971573fadf60c6204f59a911df35ee8a540456b2660a032f1e8e2c5dd761f9e4f88f41c8310\
+     aeaba26a8bfcdacfedfa12ec3862d37521 | the same
+    signing: numbers | 01f8630103018261a894b94f5374fce5edbc8e2a8697c15331677e6ebf0b0a825544c001a0c\
+     9519f4f2b30335884581971573fadf60c6204f59a911df35ee8a540456b2660a032f1e8e2c5dd761f9e4f88f41c83\
+     10aeaba26a8bfcdacfedfa12ec3862d37521 | 1 Some(1) 01 01 true
+    The transaction 0ec0b6a2..2ee0 of the main chain, of type 2. The hash of what is signed is
+    0d5688ac..b682.
+    Transaction alone | 02f8b00142843b9aca008504a817c80082ad62946069a6c32cf691f5982febae4faf8a6f3a\
+     b2f0f680b844a22cb4650000000000000000000000005eee75727d804a2b13038928d36f8b188945a57a000000000\
+     0000000000000000000000000000000000000000000000000000000c080a0840cfc572845f5786e702984c2a58252\
+     8cad4b49b2a10b9db1be7fca90058565a025e7109ceb98168d95b09b18bbf6b685130e0562f233877d492b94eee0c\
+     5b6d1
+    signing: payload | 02f8b00142843b9aca008504a817c80082ad62946069a6c32cf691f5982febae4faf8a6f3ab\
+     2f0f680b844a22cb4650000000000000000000000005eee75727d804a2b13038928d36f8b188945a57a0000000000\
+     000000000000000000000000000000000000000000000000000000c080a0840cfc572845f5786e702984c2a582528\
+     cad4b49b2a10b9db1be7fca90058565a025e7109ceb98168d95b09b18bbf6b685130e0562f233877d492b94eee0c5\
+     b6d1 | 02f86d0142843b9aca008504a817c80082ad62946069a6c32cf691f5982febae4faf8a6f3ab2f0f680b844\
+     a22cb4650000000000000000000000005eee75727d804a2b13038928d36f8b188945a57a000000000000000000000\
+     0000000000000000000000000000000000000000000c0
+    signing: again | 02f8b00142843b9aca008504a817c80082ad62946069a6c32cf691f5982febae4faf8a6f3ab2f\
+     0f680b844a22cb4650000000000000000000000005eee75727d804a2b13038928d36f8b188945a57a000000000000\
+     0000000000000000000000000000000000000000000000000000c080a0840cfc572845f5786e702984c2a582528ca\
+     d4b49b2a10b9db1be7fca90058565a025e7109ceb98168d95b09b18bbf6b685130e0562f233877d492b94eee0c5b6\
+     d1 | the same
+    signing: numbers | 02f8b00142843b9aca008504a817c80082ad62946069a6c32cf691f5982febae4faf8a6f3ab\
+     2f0f680b844a22cb4650000000000000000000000005eee75727d804a2b13038928d36f8b188945a57a0000000000\
+     000000000000000000000000000000000000000000000000000000c080a0840cfc572845f5786e702984c2a582528\
+     cad4b49b2a10b9db1be7fca90058565a025e7109ceb98168d95b09b18bbf6b685130e0562f233877d492b94eee0c5\
+     b6d1 | 2 Some(1) 8504a817c800 843b9aca00 false
+    Each number v of EIP-155, and others.
+    signing: payload | c98080808080801b0102 | c6808080808080
+    signing: numbers | c98080808080801b0102 | 0 None 80 80 true
+    signing: again | c98080808080801b0102 | the same
+    signing: again | c98080808080801c0102 | the same
+    signing: payload | c9808080808080230102 | c9808080808080808080
+    signing: numbers | c9808080808080240102 | 0 Some(0) 80 80 true
+    signing: again | c9808080808080240102 | the same
+    signing: payload | d280808080808089+0200000000000000220102 | d180808080808088ffffffffffffffff8\
+     080
+    signing: again | d280808080808089+0200000000000000220102 | the same
+    signing: payload | d280808080808089+0200000000000000230102 | None
+    signing: numbers | d280808080808089+0200000000000000230102 | 0 None 80 80 true
+    signing: payload | c9808080808080800102 | None
+    signing: payload | c98080808080801a0102 | None
+    signing: payload | c98080808080801d0102 | None
+    signing: again | c9808080808080220102 | None
+    With one blob of zeros, as in EIP-4844 and EIP-7594.
+    sent: with proofs | 03fa0200b1+f843018002030494+35*20+0780c008e1a001+00*31+800102+fa020004ba02\
+     0000+00*131072+f1b0c0+00*47+f1b0c0+00*47
+    sent: with cell proofs | 03fa0200e4+f843018002030494+35*20+0780c008e1a001+00*31+800102+01fa020\
+     004ba020000+00*131072+f1b0c0+00*47+f862b0c0+00*47+b0c0+00*47
+    sent: with proofs | 03f848+f843018002030494+35*20+0780c008e1a001+00*31+800102+c0c0c0
+    sent: with cell proofs | 03f849+f843018002030494+35*20+0780c008e1a001+00*31+800102+01c0c0c0
+    sent: with cell proofs | 03f849+f843018002030494+35*20+0780c008e1a001+00*31+800102+02c0c0c\
+     0 | Custom(\"unknown wrapper version\")
+    sent: with cell proofs | 03f848+f843018002030494+35*20+0780c008e1a001+00*31+800102+c0c0c0 | Rl\
+     pIncorrectListLen
+    sent: with proofs | 03f849+f843018002030494+35*20+0780c008e1a001+00*31+800102+01c0c0c0 | RlpIn\
+     correctListLen
+    sent: with proofs | 03f843018002030494+35*20+0780c008e1a001+00*31+800102 | RlpIncorrectListLen
+    sent: with proofs | 02f848+f843018002030494+35*20+0780c008e1a001+00*31+800102+c0c0c0 | Custom(\
+     \"another type\")
+    sent: with proofs | 03fa02004e+f843018002030494+35*20+0780c008e1a001+00*31+800102+fa020003ba01\
+     ffff+00*131071+c0c0 | RlpIsTooShort
+    sent: with proofs | 03f84b+f843018002030494+35*20+0780c008e1a001+00*31+800102+c0c3820000c0 | R\
+     lpIsTooShort
+    A deposit of the OP stack: the attributes of a block below.
+    sent: deposit | 7ef9015aa044bae9d41b8380d781187b426c6fe43df5fb2fb57bd4466ef6a701e1f01e015694de\
+     addeaddeaddeaddeaddeaddeaddeaddead000194420000000000000000000000000000000000001580808408f0d18\
+     001b90104015d8eb90000000000000000000000000000000000000000000000000000000000805765000000000000\
+     0000000000000000000000000000000000000000000063d96d1000000000000000000000000000000000000000000\
+     0000000000000000009f35273d89754a1e0387b89520d989d3be9c37c1f32495a88faf1ea05c61121ab0d19000000\
+     00000000000000000000000000000000000000000000000000000000010000000000000000000000002d679b567db\
+     6187c0c8323fa982cfb88b74dbcc70000000000000000000000000000000000000000000000000000000000000834\
+     00000000000000000000000000000000000000000000000000000000000f4240
+    sent: deposit | 7ec0 | RlpIncorrectListLen
+    sent: deposit | 02c0 | Custom(\"another type\")
+    Statuses of receipts, of which the third is in the trie of the receipts of block 46,147.
+    TypedReceipt | f9010801825208b90100+00*256+c0
+    TypedReceipt | f9010880825208b90100+00*256+c0
+    TypedReceipt | f90128a096a8e009d2b88b1483e6941e6812e32263b05683fac202abc622a3e31aed1957825208b\
+     90100+00*256+c0
+    TypedReceipt | f9010802825208b90100+00*256+c0 | Custom(\"unknown receipt status\")
+    TypedReceipt | f9010800825208b90100+00*256+c0 | Custom(\"unknown receipt status\")
+    TypedReceipt | f901279f+01*31+825208b90100+00*256+c0 | Custom(\"unknown receipt status\")
+    TypedReceipt | f90129a1+01*33+825208b90100+00*256+c0 | Custom(\"unknown receipt status\")
+";
+
+/// A value that is sent after the byte of its type.
+#[derive(Drop)]
+struct Sent<T>(T);
+
+impl<T: Enveloped> Bare for Sent<T> {
+    fn from(alloc: Global, bytes: &[u8]) -> Result<Sent<T>, DecoderError> {
+        Ok(Sent(T::from_bytes(alloc, bytes)?))
+    }
+
+    fn to(&self, alloc: Global) -> Result<BytesMut, AllocError> {
+        self.0.to_bytes(alloc)
+    }
+}
+
+/// Returns what a call about a transaction answers that is sent with what isn't in a block.
+pub(crate) fn in_envelope(alloc: Global, name: &str, bytes: &[u8]) -> Result<String, Fail> {
+    match name {
+        "with proofs" => ways::<Alone<Sent<BlobTransactionWithProofs>>>(alloc, bytes),
+        "with cell proofs" => ways::<Alone<Sent<BlobTransactionWithCellProofs>>>(alloc, bytes),
+        _ => ways::<Alone<Sent<DepositTransaction>>>(alloc, bytes),
+    }
+}
+
+/// Returns what a call about a signature answers.
+pub(crate) fn answer(alloc: Global, name: &str, bytes: &[u8]) -> Result<String, Fail> {
+    let signed = Transaction::from_bytes(alloc, bytes)?;
+    match name {
+        "payload" => match signed.signing_payload(alloc) {
+            Ok(Some(payload)) => digits(alloc, Ok(payload)),
+            Ok(None) => Ok(String::from_str(alloc, "None")?),
+            Err(refused) => digits(alloc, Err(refused)),
+        },
+        "again" => again(alloc, signed, bytes),
+        _ => numbers(alloc, &signed),
+    }
+}
+
+/// Takes the signature off, and returns `the same` if with it the transaction has these bytes again.
+fn again(alloc: Global, signed: Transaction, bytes: &[u8]) -> Result<String, Fail> {
+    let (r, s) = (*signed.r(), *signed.s());
+    let text = match signed.into_unsigned() {
+        Some((unsigned, y_parity)) => {
+            let signed = unsigned.with_signature(y_parity, r, s);
+            let again = signed.to_bytes(alloc)?;
+            if again.as_slice() == bytes {
+                "the same"
+            } else {
+                "other bytes"
+            }
+        }
+        None => "None",
+    };
+    Ok(String::from_str(alloc, text)?)
+}
+
+/// Returns the type, the chain, the two fees as they are written, and whether there is a price of gas.
+fn numbers(alloc: Global, signed: &Transaction) -> Result<String, Fail> {
+    let (kind, chain) = (signed.transaction_type(), signed.chain_id());
+    let fee = digits(alloc, rlp::encode(alloc, signed.max_fee_per_gas()))?;
+    let priority = digits(alloc, rlp::encode(alloc, signed.max_priority_fee_per_gas()))?;
+    let has_price = signed.gas_price().is_some();
+    Ok(format!(in alloc; "{kind} {chain:?} {fee} {priority} {has_price}")?)
+}

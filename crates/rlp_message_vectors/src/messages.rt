@@ -1,0 +1,254 @@
+//! Messages between clients. Unless a comment names an EIP, the expected bytes were written by an
+//! independent program from the values of the fields.
+
+use crate::reading::written;
+use bytes::BytesMut;
+use rlp::Uint;
+use rlp_ethereum::Hash;
+use rlp_messages::{
+    BlockRangeUpdate, Capability, Disconnect, DisconnectReason, ForkHash, ForkId, Hello, NewBlockHash,
+    NewBlockHashes, NewPooledTransactionHashes, NodeId, Ping, Pong, Status68, Status69,
+};
+use std::alloc::{AllocError, Global};
+use std::test::Fail;
+
+/// Rows of messages.
+pub(crate) const ROWS: &str = "
+    A greeting of a client that speaks eth/68 and snap/1.
+    message: greeting | f85f058a726174746c652f312e30cdc58365746844c684736e61700182765fb840777777777\
+     7777777777777777777777777777777777777777777777777777777777777777777777777777777777777777777777\
+     7777777777777777777777777
+
+    The greeting of EIP-8, which has three items after the five fields: its version, its port, and
+    the number of further items. Then a greeting with a port above 65535, and bytes that are none,
+    worked out by hand.
+    Hello | EIP_8
+    fields of Hello | EIP_8 | 55 9999 3
+    Hello | f8498080c083010000b840+77*64
+    fields of Hello | f8498080c083010000b840+77*64 | 0 65536 0
+    Hello | f8468080c080b840+77*64
+    Hello | f84680808080b840+77*64 | RlpExpectedToBeList
+    Hello | f8468080c0c0b840+77*64 | RlpExpectedToBeData
+    Hello | f8488080c080b840+77*64+8105 | refused
+    Hello | c48080c080 | RlpIncorrectListLen
+    Hello | 80 | RlpExpectedToBeList
+
+    The end of a connection, since there are too many peers, as a list and alone, and the messages of
+    no items.
+    message: too many peers | c104
+    message: too many peers, alone | 04
+    Disconnect | c110
+    Disconnect | 80
+    fields of Disconnect | c180 | Listed Requested 0
+    fields of Disconnect | c101 | Listed TcpError 1
+    fields of Disconnect | c102 | Listed ProtocolBreach 2
+    fields of Disconnect | c103 | Listed UselessPeer 3
+    fields of Disconnect | c104 | Listed TooManyPeers 4
+    fields of Disconnect | c105 | Listed AlreadyConnected 5
+    fields of Disconnect | c106 | Listed IncompatibleVersion 6
+    fields of Disconnect | c107 | Listed NullIdentity 7
+    fields of Disconnect | c108 | Listed ClientQuitting 8
+    fields of Disconnect | c109 | Listed UnexpectedIdentity 9
+    fields of Disconnect | c10a | Listed OwnIdentity 10
+    fields of Disconnect | c10b | Listed PingTimeout 11
+    fields of Disconnect | c10c | Listed Other(12) 12
+    fields of Disconnect | c110 | Listed SubprotocolError 16
+    fields of Disconnect | 80 | Bare Requested 0
+    fields of Disconnect | 04 | Bare TooManyPeers 4
+    fields of Disconnect | 81ff | Bare Other(255) 255
+    Disconnect | 00 | RlpInvalidIndirection
+    Disconnect | c100 | RlpInvalidIndirection
+    Disconnect | 820100 | RlpIsTooBig
+    Disconnect | c0 | RlpIncorrectListLen
+    Disconnect | c20405 | RlpIncorrectListLen
+    message: ping | c0
+    message: pong | c0
+    Ping | 80 | RlpExpectedToBeList
+    Ping | c105 | RlpIncorrectListLen
+    Pong | 80 | RlpExpectedToBeList
+    Pong | c105 | RlpIncorrectListLen
+
+    The identifiers of EIP-2124.
+    message: no fork | c6840000000080
+    message: fork of letters | ca84deadbeef84baddcafe
+    message: greatest fork | ce84ffffffff88ffffffffffffffff
+
+    Clients of eth/68 and eth/69 on the main network, and the blocks up to 1,000,000.
+    message: status of eth/68 | f85944018a0c70d815d562d3cfa955a008080808080808080808080808080808080\
+     80808080808080808080808080808a0d4e56740f876aef8c010b86a40d5f56745a118d0906a34e69aec8c0db1cb8fa\
+     3c984fc64ec0483118c30
+    message: status of eth/69 | f8534501a0d4e56740f876aef8c010b86a40d5f56745a118d0906a34e69aec8c0db\
+     1cb8fa3c984fc64ec0483118c3080830f4240a00808080808080808080808080808080808080808080808080808080\
+     808080808
+    message: range | e680830f4240a00808080808080808080808080808080808080808080808080808080808080808
+
+    Two blocks, with the numbers 1 and 2^64 - 1, no blocks, and three transactions, of the types 0, 2
+    and 3.
+    message: two blocks | f84ee2a008080808080808080808080808080808080808080808080808080808080808080\
+     1eaa0090909090909090909090909090909090909090909090909090909090909090988ffffffffffffffff
+    message: no blocks | c0
+    message: three transactions | f87283000203c86e82010083020000f863a001010101010101010101010101010\
+     10101010101010101010101010101010101a0020202020202020202020202020202020202020202020202020202020\
+     2020202a00303030303030303030303030303030303030303030303030303030303030303
+
+    Block 1 of the main network as a new block with the total difficulty 34351349760.
+    NewBlock | f9021ff90216+BLOCK_1+c0c08507ff800000
+    fields of NewBlock | f9021ff90216+BLOCK_1+c0c08507ff800000 | 0000000000000000000000000000000000\
+     0000000000000000000007ff800000
+
+    A legacy transaction and one of type 2, with their nonces and limits of gas, no transactions, and
+    bytes that are no list of transactions.
+    Transactions | f89ff867088504a817c8088302e24894353535353535353535353535353535353535353582020080\
+     25a064b1702d9298fee62dfeccc57d322a463ad55ca201256d01f62b45b2e1c21c12a064b1702d9298fee62dfeccc5\
+     7d322a463ad55ca201256d01f62b45b2e1c21c10b502f30180843b9aca008504a817c8008252089435353535353535\
+     35353535353535353535353535880de0b6b3a764000080c0800102
+    fields of Transactions | f89ff867088504a817c8088302e2489435353535353535353535353535353535353535\
+     358202008025a064b1702d9298fee62dfeccc57d322a463ad55ca201256d01f62b45b2e1c21c12a064b1702d9298fe\
+     e62dfeccc57d322a463ad55ca201256d01f62b45b2e1c21c10b502f30180843b9aca008504a817c800825208943535\
+     353535353535353535353535353535353535880de0b6b3a764000080c0800102 | type 0 8 189000, type 2 0 2\
+     1000,
+    Transactions | c0
+    Transactions | 80 | RlpExpectedToBeList
+    Transactions | c180 | RlpIsTooShort
+    Transactions | c1c0 | RlpIncorrectListLen
+    Transactions | c105 | Custom(\"unknown transaction type\")
+    Transactions | c20505 | Custom(\"unknown transaction type\")
+";
+
+/// Returns the bytes of the greeting.
+fn hello(alloc: Global) -> Result<BytesMut, AllocError> {
+    let eth = Capability {
+        name: Vec::from_slice(alloc, b"eth")?,
+        version: 68,
+    };
+    let snap = Capability {
+        name: Vec::from_slice(alloc, b"snap")?,
+        version: 1,
+    };
+    let hello = Hello {
+        protocol_version: 5,
+        client_id: Vec::from_slice(alloc, b"rattle/1.0")?,
+        capabilities: Vec::from_array(alloc, [eth, snap])?,
+        listen_port: 30303,
+        node_id: NodeId([0x77; 64]),
+        further: Vec::new(alloc),
+    };
+    rlp::encode(alloc, &hello)
+}
+
+/// Returns the bytes of the announcement of three transactions.
+fn three_transactions(alloc: Global) -> Result<BytesMut, AllocError> {
+    let announcement = NewPooledTransactionHashes {
+        types: Vec::from_slice(alloc, &[0, 2, 3])?,
+        sizes: Vec::from_slice(alloc, &[110, 256, 131_072])?,
+        hashes: Vec::from_array(alloc, [Hash([1; 32]), Hash([2; 32]), Hash([3; 32])])?,
+    };
+    rlp::encode(alloc, &announcement)
+}
+
+/// Returns the bytes of the announcement of two blocks.
+fn two_blocks(alloc: Global) -> Result<BytesMut, AllocError> {
+    let blocks = NewBlockHashes(Vec::from_array(alloc, NEW_BLOCKS)?);
+    rlp::encode(alloc, &blocks)
+}
+
+/// The hash of block 0 of Ethereum's main network.
+const GENESIS: Hash = Hash([
+    0xd4, 0xe5, 0x67, 0x40, 0xf8, 0x76, 0xae, 0xf8, 0xc0, 0x10, 0xb8, 0x6a, 0x40, 0xd5, 0xf5, 0x67,
+    0x45, 0xa1, 0x18, 0xd0, 0x90, 0x6a, 0x34, 0xe6, 0x9a, 0xec, 0x8c, 0x0d, 0xb1, 0xcb, 0x8f, 0xa3,
+]);
+
+/// The identifier of the forks of EIP-2124 at block 0 of the main network.
+const FRONTIER: ForkId = ForkId {
+    fork_hash: ForkHash([0xfc, 0x64, 0xec, 0x04]),
+    fork_next: 1_150_000,
+};
+
+/// A status of `eth/68`, with the total difficulty 58750003716598352816469.
+const STATUS_68: Status68 = Status68 {
+    version: 68,
+    network_id: 1,
+    total_difficulty: Uint {
+        bytes: [
+            0, 0, 0, 0, 0, 0, 0, 0, 0, 0, 0, 0, 0, 0, 0, 0, 0, 0, 0, 0, 0, 0, 0x0c, 0x70, 0xd8,
+            0x15, 0xd5, 0x62, 0xd3, 0xcf, 0xa9, 0x55,
+        ],
+    },
+    block_hash: Hash([8; 32]),
+    genesis_hash: GENESIS,
+    fork_id: FRONTIER,
+};
+
+/// A status of `eth/69`.
+const STATUS_69: Status69 = Status69 {
+    version: 69,
+    network_id: 1,
+    genesis_hash: GENESIS,
+    fork_id: FRONTIER,
+    earliest_block: 0,
+    latest_block: 1_000_000,
+    latest_block_hash: Hash([8; 32]),
+};
+
+/// The blocks up to 1,000,000.
+const RANGE: BlockRangeUpdate = BlockRangeUpdate {
+    earliest_block: 0,
+    latest_block: 1_000_000,
+    latest_block_hash: Hash([8; 32]),
+};
+
+/// Two blocks.
+const NEW_BLOCKS: [NewBlockHash; 2] = [
+    NewBlockHash {
+        hash: Hash([8; 32]),
+        number: 1,
+    },
+    NewBlockHash {
+        hash: Hash([9; 32]),
+        number: u64::MAX,
+    },
+];
+
+/// Returns the bytes of an identifier of forks.
+fn fork_id(alloc: Global, fork_hash: [u8; 4], fork_next: u64) -> Result<BytesMut, AllocError> {
+    let fork_hash = ForkHash(fork_hash);
+    rlp::encode(
+        alloc,
+        &ForkId {
+            fork_hash,
+            fork_next,
+        },
+    )
+}
+
+/// Returns what a call about a message answers.
+pub(crate) fn answer(alloc: Global, name: &str, bytes: &[u8]) -> Result<String, Fail> {
+    match name {
+        "greeting" => written::<Hello>(alloc, hello(alloc), bytes),
+        "too many peers" => {
+            let message = Disconnect::Listed(DisconnectReason::TooManyPeers);
+            written::<Disconnect>(alloc, rlp::encode(alloc, &message), bytes)
+        }
+        "too many peers, alone" => {
+            let message = Disconnect::Bare(DisconnectReason::TooManyPeers);
+            written::<Disconnect>(alloc, rlp::encode(alloc, &message), bytes)
+        }
+        "ping" => written::<Ping>(alloc, rlp::encode(alloc, &Ping), bytes),
+        "pong" => written::<Pong>(alloc, rlp::encode(alloc, &Pong), bytes),
+        "no fork" => written::<ForkId>(alloc, fork_id(alloc, [0; 4], 0), bytes),
+        "fork of letters" => {
+            let message = fork_id(alloc, [0xde, 0xad, 0xbe, 0xef], 0xbadd_cafe);
+            written::<ForkId>(alloc, message, bytes)
+        }
+        "greatest fork" => written::<ForkId>(alloc, fork_id(alloc, [0xff; 4], u64::MAX), bytes),
+        "status of eth/68" => { written::<Status68>(alloc, rlp::encode(alloc, &STATUS_68), bytes) }
+        "status of eth/69" => { written::<Status69>(alloc, rlp::encode(alloc, &STATUS_69), bytes) }
+        "range" => written::<BlockRangeUpdate>(alloc, rlp::encode(alloc, &RANGE), bytes),
+        "two blocks" => written::<NewBlockHashes>(alloc, two_blocks(alloc), bytes),
+        "no blocks" => {
+            let none = NewBlockHashes(Vec::new(alloc));
+            written::<NewBlockHashes>(alloc, rlp::encode(alloc, &none), bytes)
+        }
+        _ => written::<NewPooledTransactionHashes>(alloc, three_transactions(alloc), bytes),
+    }
+}

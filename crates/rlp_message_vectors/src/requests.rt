@@ -1,0 +1,180 @@
+//! Requests between clients, and their answers. The expected bytes are the examples of EIP-2481,
+//! unless a comment says otherwise.
+
+use crate::reading::written;
+use bytes::BytesMut;
+use rlp::{Decodable, Encodable};
+use rlp_ethereum::Hash;
+use rlp_messages::{
+    BlockHeaders, GetBlockBodies, GetBlockHeaders, GetPooledTransactions, GetReceipts,
+    HashOrNumber, WithRequestId,
+};
+use std::alloc::{AllocError, Global};
+use std::test::Fail;
+
+/// Rows of requests and answers.
+pub(crate) const ROWS: &str = "
+    Requests for five headers from a block on, every sixth: from the block with a hash, and from that
+    with the number 9999.
+    request: headers by hash | e8820457e4a000000000000000000000000000000000000000000000000000000000\
+     deadc0de050580
+    request: headers by number | ca820457c682270f050580
+
+    The answer 1111 with one header, the header, and the answer with none, which was worked out by
+    hand.
+    BlockHeaders | f90202820457f901fc+HEADER
+    fields of BlockHeaders | f90202820457f901fc+HEADER | 1111 1
+    request: no headers | c4820457c0
+    fields of BlockHeaders | c4820457c0 | 1111 0
+
+    Requests for the bodies of two blocks, for their receipts, and for the transactions with these
+    hashes.
+    request: bodies | f847820457f842a000000000000000000000000000000000000000000000000000000000deadc\
+     0dea000000000000000000000000000000000000000000000000000000000feedbeef
+    request: receipts | f847820457f842a000000000000000000000000000000000000000000000000000000000dea\
+     dc0dea000000000000000000000000000000000000000000000000000000000feedbeef
+    request: transactions | f847820457f842a00000000000000000000000000000000000000000000000000000000\
+     0deadc0dea000000000000000000000000000000000000000000000000000000000feedbeef
+
+    The answer 1111 with two transactions, and that with the body of a block with these transactions
+    and an ommer.
+    PooledTransactions | f8d7820457f8d2+TX_1+TX_2
+    fields of PooledTransactions | f8d7820457f8d2+TX_1+TX_2 | 1111: 8 9
+    BlockBodies | f902dc820457f902d6f902d3f8d2+TX_1+TX_2+f901fc+HEADER
+    fields of BlockBodies | f902dc820457f902d6f902d3f8d2+TX_1+TX_2+f901fc+HEADER | 1111: 2 1;
+
+    The answer 1111 of eth/69 with two blocks, one with receipts of types 0 and 2, the second of
+    which failed and has a log, and one without. The bytes were worked out by hand.
+    Receipts69 | f877820457f872f86fc68001825208c0f866028082a410+LOGS+c0
+    fields of Receipts69 | f877820457f872f86fc68001825208c0f866028082a410+LOGS+c0 | 1111: 0 21000 0, \
+     2 42000 1,;;
+    Receipts69 | c4820457c0
+    Receipts69 | c0 | RlpIncorrectListLen
+    Receipts69 | c6820457c2c180 | RlpExpectedToBeList
+    Receipts69 | c6820457c2c1c0 | RlpIncorrectListLen
+
+    The least number, the greatest number, and a hash, worked out by hand.
+    request: least number | 80
+    request: greatest number | 88ffffffffffffffff
+    request: hash of zeros | a0+00*32
+
+    Bytes that are neither a hash nor a number, worked out by hand. The strings of 9, 31 and 33 bytes
+    are too long for a number, and no hashes.
+    HashOrNumber |  | RlpIsTooShort
+    HashOrNumber | 00 | RlpInvalidIndirection
+    HashOrNumber | 820001 | RlpInvalidIndirection
+    HashOrNumber | c0 | RlpExpectedToBeData
+    HashOrNumber | 89010000000000000000 | RlpIsTooBig
+    HashOrNumber | 9f+01*31 | RlpIsTooBig
+    HashOrNumber | a1+01*33 | RlpIsTooBig
+
+    The answer 2 with a body without and one with a withdrawal, the answer 1111 with the receipt of
+    one legacy transaction that failed, and the answer 3 for three blocks: one with receipts of types
+    0 and 2, one without, and one with a receipt of type 3. An independent program wrote the first and
+    the last.
+    BlockBodies | f9016602f90162f8a2f89ff86780862d79883d2000825208945df9b87991262f6ba471f09758cde1c\
+     0fc1de734827a69801ca088ff6cf0fefd94db46111149ae4bfc179e9b94721fffd821d38d16464b3f71d0a045e0aff\
+     800961cfce805daef7016b9b675c137a6a41a548f7b60a3484c06a33ab502f30180843b9aca008504a817c80082520\
+     8943535353535353535353535353535353535353535880de0b6b3a764000080c0800102c0f8bcf89ff86780862d798\
+     83d2000825208945df9b87991262f6ba471f09758cde1c0fc1de734827a69801ca088ff6cf0fefd94db46111149ae4\
+     bfc179e9b94721fffd821d38d16464b3f71d0a045e0aff800961cfce805daef7016b9b675c137a6a41a548f7b60a34\
+     84c06a33ab502f30180843b9aca008504a817c800825208943535353535353535353535353535353535353535880de\
+     0b6b3a764000080c0800102c0d9d8010294030303030303030303030303030303030303030304
+    fields of BlockBodies | f9016602f90162f8a2f89ff86780862d79883d2000825208945df9b87991262f6ba471f\
+     09758cde1c0fc1de734827a69801ca088ff6cf0fefd94db46111149ae4bfc179e9b94721fffd821d38d16464b3f71d\
+     0a045e0aff800961cfce805daef7016b9b675c137a6a41a548f7b60a3484c06a33ab502f30180843b9aca008504a81\
+     7c800825208943535353535353535353535353535353535353535880de0b6b3a764000080c0800102c0f8bcf89ff86\
+     780862d79883d2000825208945df9b87991262f6ba471f09758cde1c0fc1de734827a69801ca088ff6cf0fefd94db4\
+     6111149ae4bfc179e9b94721fffd821d38d16464b3f71d0a045e0aff800961cfce805daef7016b9b675c137a6a41a5\
+     48f7b60a3484c06a33ab502f30180843b9aca008504a817c8008252089435353535353535353535353535353535353\
+     53535880de0b6b3a764000080c0800102c0d9d80102940303030303030303030303030303030303030303\
+     04 | 2: 2 0; 2 0;
+    Receipts | f90172820457f9016cf90169f901668001b90100+00*256+LOGS
+    fields of Receipts | f90172820457f9016cf90169f901668001b90100+00*256+LOGS | 1111: legacy;
+    Receipts | f9039203f9038ef90278f9010801825208b90100+00*256+c0b9016a02f901668001b90100+00*256+LO\
+     GS+c0f9010fb9010c03f9010801825208b90100+00*256+c0
+    fields of Receipts | f9039203f9038ef90278f9010801825208b90100+00*256+c0b9016a02f901668001b90100\
+     +00*256+LOGS+c0f9010fb9010c03f9010801825208b90100+00*256+c0 | 3: legacy fee market;; blob;
+";
+
+/// Returns the request for headers from this block on.
+fn get_headers(start_block: HashOrNumber) -> WithRequestId<GetBlockHeaders> {
+    WithRequestId {
+        request_id: 1111,
+        content: GetBlockHeaders {
+            start_block,
+            limit: 5,
+            skip: 5,
+            reverse: false,
+        },
+    }
+}
+
+/// The hashes of the examples.
+const HASHES: [Hash; 2] = [
+    Hash([
+        0, 0, 0, 0, 0, 0, 0, 0, 0, 0, 0, 0, 0, 0, 0, 0, 0, 0, 0, 0, 0, 0, 0, 0, 0, 0, 0, 0, 0xde,
+        0xad, 0xc0, 0xde,
+    ]),
+    Hash([
+        0, 0, 0, 0, 0, 0, 0, 0, 0, 0, 0, 0, 0, 0, 0, 0, 0, 0, 0, 0, 0, 0, 0, 0, 0, 0, 0, 0, 0xfe,
+        0xed, 0xbe, 0xef,
+    ]),
+];
+
+/// Returns the bytes of a request or an answer with this content.
+fn with_id<T: Encodable + Decodable>(alloc: Global, content: T) -> Result<BytesMut, AllocError> {
+    let request_id = 1111;
+    rlp::encode(
+        alloc,
+        &WithRequestId {
+            request_id,
+            content,
+        },
+    )
+}
+
+/// Returns what a call about a request answers.
+pub(crate) fn answer(alloc: Global, name: &str, bytes: &[u8]) -> Result<String, Fail> {
+    match name {
+        "headers by hash" => {
+            let request = get_headers(HashOrNumber::Hash(HASHES[0]));
+            let request = rlp::encode(alloc, &request);
+            written::<WithRequestId<GetBlockHeaders>>(alloc, request, bytes)
+        }
+        "headers by number" => {
+            let request = rlp::encode(alloc, &get_headers(HashOrNumber::Number(9999)));
+            written::<WithRequestId<GetBlockHeaders>>(alloc, request, bytes)
+        }
+        "no headers" => {
+            let answer = with_id(alloc, BlockHeaders(Vec::new(alloc)));
+            written::<WithRequestId<BlockHeaders>>(alloc, answer, bytes)
+        }
+        "bodies" => {
+            let request = with_id(alloc, GetBlockBodies(Vec::from_array(alloc, HASHES)?));
+            written::<WithRequestId<GetBlockBodies>>(alloc, request, bytes)
+        }
+        "receipts" => {
+            let request = with_id(alloc, GetReceipts(Vec::from_array(alloc, HASHES)?));
+            written::<WithRequestId<GetReceipts>>(alloc, request, bytes)
+        }
+        "transactions" => {
+            let request = with_id(
+                alloc,
+                GetPooledTransactions(Vec::from_array(alloc, HASHES)?),
+            );
+            written::<WithRequestId<GetPooledTransactions>>(alloc, request, bytes)
+        }
+        _ => hash_or_number(alloc, name, bytes),
+    }
+}
+
+/// Returns what a call about a hash or a number answers.
+fn hash_or_number(alloc: Global, name: &str, bytes: &[u8]) -> Result<String, Fail> {
+    let value = match name {
+        "least number" => HashOrNumber::Number(0),
+        "greatest number" => HashOrNumber::Number(u64::MAX),
+        _ => HashOrNumber::Hash(Hash([0; 32])),
+    };
+    written::<HashOrNumber>(alloc, rlp::encode(alloc, &value), bytes)
+}

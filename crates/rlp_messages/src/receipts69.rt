@@ -1,0 +1,141 @@
+//! Receipts of blocks since `eth/69`, as clients send them to each other.
+
+ghost use Rattle.rlp_messages.specs.Receipts69.{block_receipts69, receipt69, receipts69};
+
+use rlp::{Decodable, DecoderError, Encodable, ListOf, Rlp, RlpStream, RoundTrip, StrictRead};
+use rlp_ethereum::{Log, ReceiptStatus};
+use std::alloc::{AllocError, Global};
+
+/// A receipt since `eth/69`: the list of its four fields, as in EIP-7642. It has no filter of logs,
+/// and its type is its first field.
+#[derive(Debug, PartialEq, Eq, Drop)]
+pub struct Receipt69 {
+    /// The type of the transaction, and 0 for a legacy one. This type allows any number of one byte.
+    pub transaction_type: u8,
+    /// The status or the root of the state, as in a [`Receipt`](rlp_ethereum::Receipt).
+    pub status_or_state_root: ReceiptStatus,
+    /// The gas that this transaction and those before it in the block used.
+    pub cumulative_gas_used: u64,
+    /// The logs that the transaction emitted, in order.
+    pub logs: Vec<Log>,
+}
+
+impl Encodable for Receipt69 {
+    ghost item = { receipt69.item };
+
+    ghost fits = { receipt69.Fits };
+
+    fn rlp_append(&self, s: &mut RlpStream) -> Result<(), AllocError> {
+        rlp::append_fields!(
+            s,
+            &self.transaction_type,
+            &self.status_or_state_root,
+            &self.cumulative_gas_used,
+            ListOf(&self.logs)
+        )
+    }
+}
+
+impl Decodable for Receipt69 {
+    ghost gives = { receipt69.gives };
+
+    ghost faults = { receipt69.faults };
+
+    ghost may_lack_memory = { receipt69.may_lack };
+
+    fn decode(alloc: Global, rlp: &Rlp<'_>) -> Result<Receipt69, DecoderError> {
+        rlp::decode_fields!(
+            alloc,
+            rlp,
+            Receipt69 {
+                transaction_type,
+                status_or_state_root,
+                cumulative_gas_used,
+                logs: [..]
+            }
+        )
+    }
+}
+
+impl RoundTrip for Receipt69 {
+    ghost round_trip = { receipt69.reads_back };
+}
+
+impl StrictRead for Receipt69 {
+    ghost strict = { receipt69.reads_strictly };
+}
+
+/// The receipts of the transactions of a block since `eth/69`, in their order: the list of them.
+#[derive(Debug, PartialEq, Eq, Drop)]
+pub struct BlockReceipts69(pub Vec<Receipt69>);
+
+impl Encodable for BlockReceipts69 {
+    ghost item = { block_receipts69.item };
+
+    ghost fits = { block_receipts69.Fits };
+
+    #[tactic(auto, using(rlp::proofs::Writing::writing))]
+    fn rlp_append(&self, s: &mut RlpStream) -> Result<(), AllocError> {
+        s.append_list(self.0.as_slice())?;
+        Ok(())
+    }
+}
+
+impl Decodable for BlockReceipts69 {
+    ghost gives = { block_receipts69.gives };
+
+    ghost faults = { block_receipts69.faults };
+
+    ghost may_lack_memory = { block_receipts69.may_lack };
+
+    fn decode(alloc: Global, rlp: &Rlp<'_>) -> Result<BlockReceipts69, DecoderError> {
+        let receipts = rlp.as_list(alloc)?;
+        Ok(BlockReceipts69(receipts))
+    }
+}
+
+impl RoundTrip for BlockReceipts69 {
+    ghost round_trip = { block_receipts69.reads_back };
+}
+
+impl StrictRead for BlockReceipts69 {
+    ghost strict = { block_receipts69.reads_strictly };
+}
+
+/// The answer to [`GetReceipts`](crate::GetReceipts), in message 0x10 of `eth/69`: the list of the
+/// receipts of each block, as in EIP-7642.
+#[derive(Debug, PartialEq, Eq, Drop)]
+pub struct Receipts69(pub Vec<BlockReceipts69>);
+
+impl Encodable for Receipts69 {
+    ghost item = { receipts69.item };
+
+    ghost fits = { receipts69.Fits };
+
+    #[tactic(auto, using(rlp::proofs::Writing::writing))]
+    fn rlp_append(&self, s: &mut RlpStream) -> Result<(), AllocError> {
+        s.append_list(self.0.as_slice())?;
+        Ok(())
+    }
+}
+
+impl Decodable for Receipts69 {
+    ghost gives = { receipts69.gives };
+
+    ghost faults = { receipts69.faults };
+
+    ghost may_lack_memory = { receipts69.may_lack };
+
+    fn decode(alloc: Global, rlp: &Rlp<'_>) -> Result<Receipts69, DecoderError> {
+        let blocks = rlp.as_list(alloc)?;
+        Ok(Receipts69(blocks))
+    }
+}
+
+impl RoundTrip for Receipts69 {
+    ghost round_trip = { receipts69.reads_back };
+}
+
+impl StrictRead for Receipts69 {
+    ghost strict = { receipts69.reads_strictly };
+}

@@ -1,0 +1,40 @@
+//! Bytes and numbers of the rows of tests, as text.
+#![tactic(auto)]
+
+use std::alloc::{AllocError, Global};
+
+/// The bytes of a text: of its parts, which are joined by `+`. A part is `'` and letters, or
+/// hexadecimal digits, or such digits, `*`, and the number of times that they are repeated. Fails
+/// with `AllocError` if memory is refused, or if a part has another form.
+pub fn bytes_of(alloc: Global, text: &str) -> Result<Vec<u8>, AllocError> {
+    let mut bytes = Vec::new(alloc);
+    for part in text.split('+') {
+        if let Some(letters) = part.strip_prefix('\'') {
+            bytes.extend_from_slice(letters.as_bytes())?;
+        } else {
+            push_digits(alloc, part, &mut bytes)?;
+        }
+    }
+    Ok(bytes)
+}
+
+/// Appends the bytes of digits, which may be followed by `*` and a number of times.
+fn push_digits(alloc: Global, part: &str, bytes: &mut Vec<u8>) -> Result<(), AllocError> {
+    let (digits, times) = part.split_once('*').unwrap_or((part, "1"));
+    let Ok(once) = hex::decode(alloc, digits.as_bytes()) else {
+        return Err(AllocError);
+    };
+    if let [byte] = once.as_slice() {
+        let all = vec![in alloc; *byte; number(times)]?;
+        return bytes.extend_from_slice(all.as_slice());
+    }
+    for _ in 0..number(times) {
+        bytes.extend_from_slice(once.as_slice())?;
+    }
+    Ok(())
+}
+
+/// The number with these digits, or 0 if they aren't those of a `usize`.
+pub fn number(digits: &str) -> usize {
+    digits.parse::<usize>().unwrap_or(0)
+}

@@ -1,0 +1,264 @@
+//! Scripts: calls on a stream, as text. `; ` stands between two calls. A call is its name and its
+//! arguments, with spaces between them. Bytes are written as `bytes_of` reads them.
+//!
+//! `!` stands before a call that isn't admitted, and `N times` before one that is made N times.
+//! `list`, `over` and `list_over` begin a new stream: a list, over bytes, and a list over bytes.
+//! `raw N BYTES` appends N items, and `within N BYTES` one item within the limit N.
+//! `finalize_up_to N M` closes at most N lists, and M in fact. `is SIZE AWAITED BYTES`, `size SIZE`
+//! and `estimate MORE SIZE` compare the stream.
+
+use crate::guarded::{
+    begin, estimates, finalize, finishes_as, is_as, put_raw, put_raw_within, put_undotted,
+};
+use crate::values::{Pair, Wrapper};
+use bytes::BytesMut;
+use rlp_rows::{bytes_of, number};
+use rlp_streams::RlpStream;
+use std::alloc::{AllocError, Global};
+
+/// A script, and the finished bytes after it: all of them; or their number, `begins`, and the first
+/// bytes; or `open`, if a list is open then.
+pub(crate) type Row = (&'static str, &'static str);
+
+/// Cuts a text at its first space.
+fn cut(text: &str) -> (&str, &str) {
+    text.split_once(' ').unwrap_or((text, ""))
+}
+
+/// Makes a call. Returns `false` if it isn't admitted, or if a stream that is compared is another.
+fn make(alloc: Global, s: &mut RlpStream, call: &str) -> Result<bool, AllocError> {
+    let (name, arguments) = cut(call);
+    let (first, second) = cut(arguments);
+    match name {
+        "list" | "over" | "list_over" => {
+            *s = begun(alloc, name, first, second)?;
+            Ok(true)
+        }
+        "is" => stands(alloc, s, first, second),
+        "size" => Ok(s.len() == number(first) && estimates(s, 0, Some(number(first)))),
+        "estimate" => Ok(estimates(s, number(first), second.parse::<usize>().ok())),
+        "text" => put(s, "string", arguments.as_bytes(), 0),
+        "raw" | "within" => put_bytes(alloc, s, name, second, number(first)),
+        "small" | "smalls" | "string" | "iter" | "undotted" | "encode" | "encode_undotted" => {
+            put_bytes(alloc, s, name, first, 0)
+        }
+        "begin" | "unbounded" | "finalize" | "finalize_up_to" | "clear" => {
+            go_on(s, name, number(first), number(second))
+        }
+        _ => append(s, name, number(first) as u64, number(second) as u64),
+    }
+}
+
+/// Returns a new stream: a list, one over bytes, or a list over bytes.
+fn begun(alloc: Global, name: &str, first: &str, second: &str) -> Result<RlpStream, AllocError> {
+    match name {
+        "list" => RlpStream::new_list(alloc, number(first)),
+        "over" => Ok(RlpStream::new_with_buffer(alloc, buffer_of(alloc, first)?)),
+        _ => {
+            let buffer = buffer_of(alloc, second)?;
+            RlpStream::new_list_with_buffer(alloc, buffer, number(first)).or(Err(AllocError))
+        }
+    }
+}
+
+/// Makes a call that begins or closes lists, or clears the stream.
+fn go_on(s: &mut RlpStream, name: &str, first: usize, second: usize) -> Result<bool, AllocError> {
+    match name {
+        "begin" => begin(s, Some(first))?,
+        "unbounded" => begin(s, None)?,
+        "finalize" => return finalize(s),
+        "finalize_up_to" => return Ok(s.finalize_unbounded_lists(first)? == second),
+        _ => s.clear(),
+    }
+    Ok(true)
+}
+
+/// Makes a call that appends values.
+fn append(s: &mut RlpStream, name: &str, first: u64, second: u64) -> Result<bool, AllocError> {
+    match name {
+        "empty" => {
+            s.append_empty_data()?;
+        }
+        "number" => {
+            s.append(&first)?;
+        }
+        "pair" => {
+            s.append(&Pair(first, second))?;
+        }
+        "internal" => {
+            s.append_internal(&first)?;
+        }
+        "internal_pair" => {
+            s.append_internal(&Pair(first, second))?;
+        }
+        "wrapper" => {
+            s.append(&Wrapper(first))?;
+        }
+        "none" => {
+            s.append_internal(&None::<u8>)?;
+        }
+        "no_numbers" => {
+            s.append_list::<u64>(&[])?;
+        }
+        "pairs" => {
+            s.append_list(&[Pair(1, 2), Pair(3, 4)])?;
+        }
+        _ => return Ok(false),
+    }
+    Ok(true)
+}
+
+/// Makes a call that puts the bytes of a text.
+fn put_bytes(
+    alloc: Global,
+    s: &mut RlpStream,
+    name: &str,
+    text: &str,
+    number: usize,
+) -> Result<bool, AllocError> {
+    let bytes = bytes_of(alloc, text)?;
+    put(s, name, bytes.as_slice(), number)
+}
+
+/// Makes a call that puts bytes. Returns `false` if it isn't admitted. The number is that of the
+/// items of `raw`, or the limit of `within`.
+fn put(s: &mut RlpStream, name: &str, bytes: &[u8], number: usize) -> Result<bool, AllocError> {
+    match name {
+        "raw" => return put_raw(s, bytes, number),
+        "within" => return put_raw_within(s, bytes, 1, number),
+        "undotted" => put_undotted(s, bytes, true)?,
+        "encode_undotted" => put_undotted(s, bytes, false)?,
+        "string" => {
+            s.append(&bytes)?;
+        }
+        "small" => {
+            s.append(bytes.first().unwrap_or(&0))?;
+        }
+        "smalls" => {
+            s.append_list(bytes)?;
+        }
+        "iter" => {
+            s.append_iter(bytes.iter().copied())?;
+        }
+        _ => s.encoder().encode_value(bytes)?,
+    }
+    Ok(true)
+}
+
+/// Returns a buffer that holds these bytes.
+pub(crate) fn buffer_of(alloc: Global, text: &str) -> Result<BytesMut, AllocError> {
+    let bytes = bytes_of(alloc, text)?;
+    let mut buffer = BytesMut::new(alloc);
+    buffer.extend_from_slice(bytes.as_slice())?;
+    Ok(buffer)
+}
+
+/// Returns whether a stream has this state: the size, and then the number of items that the
+/// innermost open list awaits, `any`, or `done`, and the bytes.
+fn stands(alloc: Global, s: &RlpStream, size: &str, more: &str) -> Result<bool, AllocError> {
+    let (awaited, text) = cut(more);
+    let bytes = bytes_of(alloc, text)?;
+    let items = awaited.parse::<usize>().ok();
+    Ok(is_as(s, bytes.as_slice(), number(size), items, awaited == "any"))
+}
+
+/// Makes a call, which isn't admitted if `!` stands before it. A call that is refused memory is made
+/// again. Returns `false` if it isn't admitted, or if a call that isn't made changes the stream.
+fn make_again(
+    alloc: Global,
+    s: &mut RlpStream,
+    call: &str,
+    refused: &mut bool,
+) -> Result<bool, AllocError> {
+    let (call, admitted) = match call.strip_prefix('!') {
+        Some(call) => (call, false),
+        None => (call, true),
+    };
+    let raw = Vec::from_slice(alloc, s.as_raw())?;
+    let (size, awaited, any) = (s.len(), s.items_awaited(), s.can_finalize());
+    let made = make(alloc, s, call);
+    if made != Ok(true) && !is_as(s, raw.as_slice(), size, awaited, any) {
+        return Ok(false);
+    }
+    match made {
+        Ok(made) => Ok(made == admitted),
+        Err(_) => {
+            *refused = true;
+            Ok(make(alloc, s, call)? == admitted)
+        }
+    }
+}
+
+/// The greatest number of times that a call is repeated with a comparison each time.
+const COMPARED: usize = 100;
+
+/// Makes a call as many times as is said before it.
+fn repeat(
+    alloc: Global,
+    s: &mut RlpStream,
+    call: &str,
+    refused: &mut bool,
+) -> Result<bool, AllocError> {
+    let (times, call) = call.split_once(" times ").unwrap_or(("1", call));
+    let times = number(times);
+    for _ in 0..times {
+        let made = if times <= COMPARED {
+            make_again(alloc, s, call, refused)?
+        } else {
+            make(alloc, s, call)?
+        };
+        if !made {
+            return Ok(false);
+        }
+    }
+    Ok(true)
+}
+
+/// Makes the calls of a script. Returns whether all are as wanted, and the finished bytes are.
+/// Returns `AllocError` instead of `true` if a call was refused memory.
+fn is_met(alloc: Global, mut s: RlpStream, row: Row) -> Result<bool, AllocError> {
+    let mut refused = false;
+    for call in row.0.split("; ") {
+        if !repeat(alloc, &mut s, call, &mut refused)? {
+            return Ok(false);
+        }
+    }
+    let met = ends_as(alloc, s, row.1)?;
+    if met && refused {
+        Err(AllocError)
+    } else {
+        Ok(met)
+    }
+}
+
+/// Returns whether the finished bytes are the wanted ones.
+fn ends_as(alloc: Global, s: RlpStream, want: &str) -> Result<bool, AllocError> {
+    if want == "open" {
+        return Ok(!s.is_finished());
+    }
+    let Some((len, front)) = want.split_once(" begins ") else {
+        let want = bytes_of(alloc, want)?;
+        return Ok(finishes_as(s, want.as_slice()));
+    };
+    let front = bytes_of(alloc, front)?;
+    Ok(
+        s.is_finished()
+            && s.as_raw().len() == number(len)
+            && s.as_raw().starts_with(front.as_slice()),
+    )
+}
+
+/// Returns the first script of some tables after which a new stream, or a stream without room, isn't
+/// as wanted.
+pub(crate) fn first_wrong(
+    alloc: Global,
+    tables: &[&[Row]],
+) -> Result<Option<&'static str>, AllocError> {
+    for row in tables.iter().copied().flatten() {
+        let narrow = RlpStream::new_with_buffer(alloc, BytesMut::new(alloc));
+        if !is_met(alloc, RlpStream::new(alloc)?, *row)? || !is_met(alloc, narrow, *row)? {
+            return Ok(Some(row.0));
+        }
+    }
+    Ok(None)
+}

@@ -1,0 +1,80 @@
+//! Values that are appended, or that are refused in the middle of their bytes.
+
+ghost use Rattle.std.specs.Prelude.{⊤, [], ◌∷◌};
+ghost use Rattle.rlp_format.specs.Format.Item.{list_of, string};
+ghost use Rattle.rlp_format.specs.Values.Value.{FitsBytes, number_item};
+
+use rlp_streams::{Encodable, RlpStream, write_struct};
+use std::alloc::AllocError;
+use std::cell::Cell;
+
+/// Two numbers, written as a list of two items.
+#[derive(Clone, Copy)]
+pub(crate) struct Pair(pub(crate) u64, pub(crate) u64);
+
+impl Encodable for Pair {
+    ghost item = { λ p. list_of (number_item p.0 ∷ number_item p.1 ∷ []) };
+
+    ghost fits = { λ p. FitsBytes 8 p.0 × FitsBytes 8 p.1 };
+
+    fn rlp_append(&self, s: &mut RlpStream) -> Result<(), AllocError> {
+        write_struct(s, &(&self.0, &self.1))
+    }
+}
+
+/// A number that is appended by the call that doesn't count strings.
+#[derive(Clone, Copy)]
+pub(crate) struct Wrapper(pub(crate) u64);
+
+impl Encodable for Wrapper {
+    ghost item = { λ w. number_item w.0 };
+
+    ghost fits = { λ w. FitsBytes 8 w.0 };
+
+    #[tactic(auto, using(rlp_streams::proofs::Streams::Growth::growth))]
+    fn rlp_append(&self, s: &mut RlpStream) -> Result<(), AllocError> {
+        s.append_internal(&self.0)?;
+        Ok(())
+    }
+}
+
+/// A list of three items that is refused after the number 1.
+#[derive(Clone, Copy)]
+pub(crate) struct Refused;
+
+impl Encodable for Refused {
+    ghost item = { λ v. list_of (number_item 1 ∷ string [] ∷ string [] ∷ []) };
+
+    ghost fits = { λ v. ⊤ };
+
+    #[tactic(auto, using(rlp_streams::proofs::Streams::Growth::growth, rlp_streams::proofs::Streams::Filling::filling))]
+    fn rlp_append(&self, s: &mut RlpStream) -> Result<(), AllocError> {
+        s.begin_list(3)?.append(&1u64)?;
+        Err(AllocError)
+    }
+}
+
+/// A number, and the number of times that it was written. It is refused the first time, in the
+/// middle of its bytes.
+#[derive(Drop)]
+pub(crate) struct OnceRefused<'a> {
+    pub(crate) number: u64,
+    pub(crate) calls: &'a Cell<usize>,
+}
+
+impl<'a> Encodable for OnceRefused<'a> {
+    ghost item = { λ v. number_item v.number };
+
+    ghost fits = { λ v. FitsBytes 8 v.number };
+
+    #[tactic(auto, using(rlp_streams::proofs::Streams::Growth::growth))]
+    fn rlp_append(&self, s: &mut RlpStream) -> Result<(), AllocError> {
+        let before = self.calls.get();
+        self.calls.set(before.saturating_add(1));
+        if before == 0 {
+            s.encoder().encode_value(&[1, 2, 3])?;
+            return Err(AllocError);
+        }
+        self.number.rlp_append(s)
+    }
+}
