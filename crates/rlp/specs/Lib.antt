@@ -22,3 +22,5 @@ pub use Rattle.rlp_format.specs.declared.header.PayloadInfo
 pub use Rattle.rlp_format.specs.declared.prototype.Prototype
 -- numbers that are kept as n bytes
 pub use Rattle.rlp_streams.specs.declared.impls.uint.Uint
+-- what prints of a number
+pub use Rattle.rlp_streams.specs.NumberText

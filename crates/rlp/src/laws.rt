@@ -34,7 +34,7 @@ pub use strict::{
     lenient_views_ignore_what_follows, strict_fault_is_read, strict_option_is_read,
     strict_values_are_read,
 };
-pub use uints::equal_numbers_are_equal_uints;
+pub use uints::{equal_numbers_are_equal_uints, uints_compare_as_numbers};
 pub use views::{
     items_by_number_are_in_order, iteration_reads_few_headers, joined_items_are_split_off,
     view_of_list_has_its_items,

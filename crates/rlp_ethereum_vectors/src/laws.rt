@@ -26,8 +26,10 @@ fn laws_hold<R: Record>(alloc: Global, text: &str) -> Result<bool, Fail> {
     let again = reading_without_memory_is_total::<R>(alloc, bytes.as_slice())?;
     let back = record_round_trips(alloc, &again)?;
     encodings_tell_records(&value, &back);
-    Ok(record_is_written(alloc, &value)?.as_slice() == bytes.as_slice()
-        && record_is_written(alloc, &back)?.as_slice() == bytes.as_slice())
+    Ok(
+        record_is_written(alloc, &value)?.as_slice() == bytes.as_slice()
+            && record_is_written(alloc, &back)?.as_slice() == bytes.as_slice(),
+    )
 }
 
 #[test]

@@ -33,4 +33,6 @@ mod signing;
 #[cfg(test)]
 mod text;
 #[cfg(test)]
+mod uints;
+#[cfg(test)]
 mod unsigned;

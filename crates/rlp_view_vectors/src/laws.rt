@@ -56,6 +56,7 @@ fn laws_of_views_and_values() {
     laws::list_is_read_back::<u64>(&LIST);
     laws::encodings_are_raw_items(&LIST);
     laws::equal_numbers_are_equal_uints(&Uint { bytes: [0, 1] }, &Uint { bytes: [0, 1] });
+    laws::uints_compare_as_numbers(&Uint { bytes: [0, 1] }, &Uint { bytes: [1, 0] });
     laws::field_is_read::<u64>(&LIST);
     laws::struct_is_read::<TwoNumbers>(&Rlp::new(&LIST));
 }
