@@ -20,6 +20,9 @@ pub use Rattle.rlp_format.specs.declared.error.DecoderError
 pub use Rattle.rlp_format.specs.declared.header.PayloadInfo
 -- what a view begins with
 pub use Rattle.rlp_format.specs.declared.prototype.Prototype
+-- an item of a tree in flat form, and the fault of bytes that have none
+pub use Rattle.rlp_format.specs.declared.flat.FlatItem
+pub use Rattle.rlp_format.specs.declared.flat.TreeFault
 -- numbers that are kept as n bytes
 pub use Rattle.rlp_streams.specs.declared.impls.uint.Uint
 -- what prints of a number

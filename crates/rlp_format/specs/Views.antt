@@ -4,5 +4,7 @@ pub mod View
 pub mod ByItems
 -- the text that a view prints as
 pub mod Text
+-- the text of a fault of a tree
+pub mod FaultText
 -- how deep lists nest
 pub mod Depth

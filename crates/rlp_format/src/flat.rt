@@ -3,6 +3,9 @@
 ghost use Rattle.std.specs.Prelude.{◌≡◌, ◌≤◌, ◌^◌, ◌-◌, ℕ};
 
 use crate::error::DecoderError;
+use std::error::Error;
+use std::fmt;
+use std::fmt::Display;
 
 /// Where an item of a tree is in the bytes of the tree.
 #[derive(Debug, Clone, Copy, PartialEq, Eq)]
@@ -27,6 +30,25 @@ pub enum TreeFault {
     /// A list inside as many lists as the depth allows.
     TooDeep,
 }
+
+/// Prints the text of the fault of decoding, or `TooDeep`. The formatter's flags change nothing.
+impl fmt::Display for TreeFault {
+    ghost use Rattle.std.specs.Prelude.{Some};
+    ghost use Rattle.rlp_format.specs.Views.FaultText.{tree_fault_name};
+
+    ghost output = { λ e. Some (tree_fault_name e) };
+
+    ghost styled_output = { λ e _. Some (tree_fault_name e) };
+
+    fn fmt<W: fmt::Write>(&self, f: &mut fmt::Formatter<W>) -> fmt::Result {
+        match self {
+            TreeFault::Decoding(fault) => fault.fmt(f),
+            TreeFault::TooDeep => f.write_str("TooDeep"),
+        }
+    }
+}
+
+impl Error for TreeFault {}
 
 /// What a walk over a tree writes for each item.
 pub trait FlatRow: Copy {

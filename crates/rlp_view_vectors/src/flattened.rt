@@ -1,7 +1,7 @@
 //! Trees in flat form, worked out by hand.
 
 use crate::rows::{Call, Wrong};
-use rlp::{Rlp, TreeFault};
+use rlp::Rlp;
 use std::alloc::Global;
 use std::fmt;
 use std::fmt::Write;
@@ -19,8 +19,7 @@ impl Call for Flattened {
     ) -> fmt::Result {
         let items = match Rlp::new(input.0).flatten(alloc, input.1) {
             Ok(items) => items,
-            Err(TreeFault::Decoding(fault)) => return write!(out, "{fault}"),
-            Err(TreeFault::TooDeep) => return write!(out, "TooDeep"),
+            Err(fault) => return write!(out, "{fault}"),
         };
         for item in items.iter() {
             let kind = if item.is_list { "list" } else { "string" };
