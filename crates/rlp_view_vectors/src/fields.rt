@@ -23,9 +23,7 @@ impl<T: Decodable + fmt::Debug, const STRICT: bool, const COUNTED: bool> Call
     ) -> fmt::Result {
         match opened(view_of(input.0, STRICT), input.1, COUNTED) {
             Ok(mut fields) => {
-                for step in input.2.bytes() {
-                    tell_step::<T, W>(alloc, &mut fields, step, STRICT, out)?;
-                }
+                tell_steps::<T, W>(alloc, &mut fields, input.2, STRICT, out)?;
                 write!(out, "{:?}", fields.finish())
             }
             Err(fault) => write!(out, "{fault}"),
@@ -40,6 +38,20 @@ fn opened(view: Rlp<'_>, count: usize, counted: bool) -> Result<Fields<'_>, Deco
     } else {
         view.fields()
     }
+}
+
+/// Writes what each step reads.
+fn tell_steps<T: Decodable + fmt::Debug, W: fmt::Write>(
+    alloc: Global,
+    fields: &mut Fields<'_>,
+    steps: &str,
+    strict: bool,
+    out: &mut W,
+) -> fmt::Result {
+    for step in steps.bytes() {
+        tell_step::<T, W>(alloc, fields, step, strict, out)?;
+    }
+    Ok(())
 }
 
 /// Writes what one step reads.

@@ -8,15 +8,9 @@ mod flattened;
 #[cfg(test)]
 mod items;
 #[cfg(test)]
-mod large;
-#[cfg(test)]
-mod laws;
-#[cfg(test)]
 mod lists;
 #[cfg(test)]
 mod never;
-#[cfg(test)]
-mod refused;
 #[cfg(test)]
 mod rows;
 #[cfg(test)]
@@ -25,8 +19,6 @@ mod splitting;
 mod strict;
 #[cfg(test)]
 mod texts;
-#[cfg(test)]
-mod two_bytes;
 #[cfg(test)]
 mod values;
 #[cfg(test)]

@@ -33,24 +33,40 @@ const LONG: [(&[u8], usize); 2] = [
     (b"\xba\xff\xff\xff", 16_777_215),
 ];
 
-#[test]
-fn long_strings(rt: HostRuntime) -> Result<(), Fail> {
-    let alloc = rt.alloc();
+/// Returns the first text that is read otherwise.
+fn first_wrong_text(alloc: Global) -> Result<Option<usize>, AllocError> {
     for (header, len, fault) in &TEXTS {
         let bytes = filled(alloc, header, *len, 0x63)?;
-        let found = rlp::decode::<String>(alloc, bytes.as_slice()).err();
-        assert!(rt; found == *fault, "{len} bytes 63");
+        if rlp::decode::<String>(alloc, bytes.as_slice()).err() != *fault {
+            return Ok(Some(*len));
+        }
     }
-    for (header, len) in LONG {
-        let bytes = filled(alloc, header, len, 0x07)?;
-        let string = rlp::decode_strict::<Vec<u8>>(alloc, bytes.as_slice())?;
-        let want = filled(alloc, b"", len, 0x07)?;
-        assert!(rt; string.as_slice() == want.as_slice(), "{len} bytes 07");
-    }
+    Ok(None)
+}
+
+/// Returns whether a string of bytes 07 behind a header is read.
+fn is_read(alloc: Global, header: &[u8], len: usize) -> Result<bool, Fail> {
+    let bytes = filled(alloc, header, len, 0x07)?;
+    let string = rlp::decode_strict::<Vec<u8>>(alloc, bytes.as_slice())?;
+    Ok(string.len() == len && bytes.as_slice().ends_with(string.as_slice()))
+}
+
+/// Returns whether a string of 70,000 bytes is printed.
+fn is_printed(alloc: Global) -> Result<bool, AllocError> {
     let bytes = filled(alloc, b"\xba\x01\x11\x70", 70_000, 0x5a)?;
     let text = format!(in alloc; "{}", Rlp::new(bytes.as_slice()))?;
     let digits = "5a".repeat(alloc, 70_000)?;
-    assert!(rt; text.as_str() == format!(in alloc; "\"0x{digits}\"")?.as_str());
+    Ok(text.as_str() == format!(in alloc; "\"0x{digits}\"")?.as_str())
+}
+
+#[test]
+fn long_strings(rt: HostRuntime) -> Result<(), Fail> {
+    let alloc = rt.alloc();
+    assert_eq!(rt; first_wrong_text(alloc)?, None);
+    for (header, len) in LONG {
+        assert!(rt; is_read(alloc, header, len)?, "{len} bytes 07");
+    }
+    assert!(rt; is_printed(alloc)?);
     Ok(())
 }
 
@@ -127,17 +143,10 @@ fn has_depth(s: &RlpStream, levels: usize) -> bool {
         && !view.is_canonical(fewer)
 }
 
-// With siblings at every level, a function that tests each item twice wouldn't end in time.
-#[test]
-fn lists_of_many_items_and_levels(rt: HostRuntime) -> Result<(), Fail> {
-    let alloc = rt.alloc();
-    let bytes = filled(alloc, b"\xf9\x27\x10", 10_000, 1)?;
-    let view = Rlp::new(bytes.as_slice());
-    assert!(rt; iterates_ones(&view, 10_000));
-    assert!(rt; ends_with_one(&view, 10_000, 10_002)?);
-    assert!(rt; has_depth(&nested(alloc, 200, false)?, 200));
-    assert!(rt; has_depth(&nested(alloc, 256, true)?, 256));
-    Ok(())
+/// Returns whether lists, one inside another, have their depth.
+fn nest(alloc: Global, levels: usize, siblings: bool) -> Result<bool, AllocError> {
+    let s = nested(alloc, levels, siblings)?;
+    Ok(has_depth(&s, levels))
 }
 
 /// Returns whether the text of a list of `len` items 01 has for each item four characters `0x01`,
@@ -152,14 +161,35 @@ fn prints_ones(alloc: Global, view: &Rlp<'_>, len: usize) -> Result<bool, AllocE
     )
 }
 
+/// Returns whether a list of `len` items 01, the last of them at this place, is read and printed.
+fn has_ones(alloc: Global, view: &Rlp<'_>, len: usize, place: usize) -> Result<bool, Fail> {
+    if !iterates_ones(view, len) || !ends_with_one(view, len, place)? {
+        return Ok(false);
+    }
+    Ok(gives_ones(alloc, view, len)? && prints_ones(alloc, view, len)?)
+}
+
+/// The headers of lists of bytes 01, and the numbers of these.
+const ONES: [(&[u8], usize); 2] = [(b"\xf9\x27\x10", 10_000), (b"\xfa\x0f\x42\x40", 1_000_000)];
+
+/// Returns the number of items of the first list that is read or printed otherwise.
+fn first_wrong_list(alloc: Global) -> Result<Option<usize>, Fail> {
+    for (header, len) in ONES {
+        let bytes = filled(alloc, header, len, 1)?;
+        let place = bytes.len().saturating_sub(1);
+        if !has_ones(alloc, &Rlp::new(bytes.as_slice()), len, place)? {
+            return Ok(Some(len));
+        }
+    }
+    Ok(None)
+}
+
+// With siblings at every level, a function that tests each item twice wouldn't end in time.
 #[test]
-fn a_million_items(rt: HostRuntime) -> Result<(), Fail> {
+fn lists_of_many_items_and_levels(rt: HostRuntime) -> Result<(), Fail> {
     let alloc = rt.alloc();
-    let bytes = filled(alloc, b"\xfa\x0f\x42\x40", 1_000_000, 1)?;
-    let view = Rlp::new(bytes.as_slice());
-    assert!(rt; iterates_ones(&view, 1_000_000));
-    assert!(rt; ends_with_one(&view, 1_000_000, 1_000_003)?);
-    assert!(rt; gives_ones(alloc, &view, 1_000_000)?);
-    assert!(rt; prints_ones(alloc, &view, 1_000_000)?);
+    assert_eq!(rt; first_wrong_list(alloc)?, None);
+    assert!(rt; nest(alloc, 200, false)?);
+    assert!(rt; nest(alloc, 256, true)?);
     Ok(())
 }
