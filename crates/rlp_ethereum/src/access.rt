@@ -8,7 +8,7 @@ use std::alloc::{AllocError, Global};
 
 /// An account and the keys of its storage that a transaction declares. It is written as the list of
 /// both, as in EIP-2930.
-#[derive(Debug, PartialEq, Eq, Drop)]
+#[derive(Debug, Clone, PartialEq, Eq, Drop)]
 pub struct AccessListItem {
     /// The account.
     pub address: Address,
@@ -55,7 +55,7 @@ impl StrictRead for AccessListItem {
 
 /// The accounts that a transaction declares, in order. It is written as the list of its items, as
 /// in EIP-2930.
-#[derive(Debug, PartialEq, Eq, Drop)]
+#[derive(Debug, Clone, PartialEq, Eq, Drop)]
 pub struct AccessList(pub Vec<AccessListItem>);
 
 impl Encodable for AccessList {

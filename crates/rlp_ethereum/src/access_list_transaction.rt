@@ -11,7 +11,7 @@ use std::alloc::{AllocError, Global};
 
 /// A transaction of type 1 without its signature: the list of its eight fields is signed after the
 /// byte 1, as in EIP-2930.
-#[derive(Drop)]
+#[derive(Debug, Clone, PartialEq, Eq, Drop)]
 pub struct AccessListTransaction {
     /// The number of the chain, as in EIP-155. This type reads numbers of at most 64 bits.
     pub chain_id: u64,

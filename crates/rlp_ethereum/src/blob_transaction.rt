@@ -13,7 +13,7 @@ use std::alloc::{AllocError, Global};
 /// byte 3, as in EIP-4844.
 ///
 /// It always has a recipient, and it holds no blobs.
-#[derive(Drop)]
+#[derive(Debug, Clone, PartialEq, Eq, Drop)]
 pub struct BlobTransaction {
     /// The number of the chain, as in EIP-155. This type reads numbers of at most 64 bits.
     pub chain_id: u64,

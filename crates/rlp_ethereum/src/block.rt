@@ -9,7 +9,7 @@ use rlp::{
 use std::alloc::{AllocError, Global};
 
 /// A block: the list of three fields, and of one more since Shanghai, EIP-4895.
-#[derive(Drop)]
+#[derive(Debug, Clone, PartialEq, Eq, Drop)]
 pub struct Block {
     /// The header.
     pub header: Header,

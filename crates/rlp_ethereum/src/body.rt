@@ -9,7 +9,7 @@ use rlp::{
 use std::alloc::{AllocError, Global};
 
 /// The body of a block: the list of two fields, and of one more since Shanghai, EIP-4895.
-#[derive(Drop)]
+#[derive(Debug, Clone, PartialEq, Eq, Drop)]
 pub struct Body {
     /// The transactions, in order.
     pub transactions: Vec<Transaction>,

@@ -11,7 +11,7 @@ use std::alloc::{AllocError, Global};
 
 /// A transaction of type 2 without its signature: the list of its nine fields is signed after the
 /// byte 2, as in EIP-1559.
-#[derive(Drop)]
+#[derive(Debug, Clone, PartialEq, Eq, Drop)]
 pub struct FeeMarketTransaction {
     /// The number of the chain, as in EIP-155. This type reads numbers of at most 64 bits.
     pub chain_id: u64,

@@ -20,7 +20,7 @@ use std::alloc::{AllocError, Global};
 /// of the first forks, and one of 16, 17, 20 or 21 items is a header since [`London`], [`Shanghai`],
 /// [`Cancun`] or Prague. A list with any other number of items fails with `RlpIncorrectListLen`. No
 /// header has the fields of a fork without those of an earlier one: they stand in one another.
-#[derive(Drop)]
+#[derive(Debug, Clone, PartialEq, Eq, Drop)]
 pub struct Header {
     /// The hash of the parent's header.
     pub parent_hash: Hash,

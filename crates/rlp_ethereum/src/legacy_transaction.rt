@@ -16,7 +16,7 @@ pub type SignedLegacyTransaction = Signed<LegacyTransaction, Uint<32>>;
 
 /// A transaction without a type and without its signature: six fields, as in section 4.2 of the yellow
 /// paper. What is signed is a [`UnsignedLegacyTransaction`](crate::UnsignedLegacyTransaction).
-#[derive(Drop)]
+#[derive(Debug, Clone, PartialEq, Eq, Drop)]
 pub struct LegacyTransaction {
     /// The number of transactions that the sender has sent before. As in EIP-2681 it is below 2^64,
     /// and a transaction with 2^64 - 1 is invalid; this type reads it.

@@ -9,7 +9,7 @@ use std::alloc::{AllocError, Global};
 /// A log: the list of its three fields.
 ///
 /// See section 4.4.1 of the yellow paper.
-#[derive(Debug, PartialEq, Eq, Drop)]
+#[derive(Debug, Clone, PartialEq, Eq, Drop)]
 pub struct Log {
     /// The contract that emitted the log.
     pub address: Address,

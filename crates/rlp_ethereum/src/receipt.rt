@@ -11,7 +11,7 @@ use std::alloc::{AllocError, Global};
 /// See section 4.4.1 of the yellow paper, and EIP-658. For types other than legacy, EIP-2718 puts
 /// the byte of the transaction's type before the receipt. This type neither writes nor reads that
 /// byte; [`TypedReceipt`](crate::TypedReceipt) does.
-#[derive(Drop)]
+#[derive(Debug, Clone, PartialEq, Eq, Drop)]
 pub struct Receipt {
     /// The status, as in EIP-658, or before Byzantium the root of the state after the transaction.
     pub status_or_state_root: ReceiptStatus,

@@ -13,7 +13,7 @@ use std::alloc::{AllocError, Global};
 /// byte 4, as in EIP-7702.
 ///
 /// It always has a recipient.
-#[derive(Drop)]
+#[derive(Debug, Clone, PartialEq, Eq, Drop)]
 pub struct SetCodeTransaction {
     /// The number of the chain, as in EIP-155. This type reads numbers of at most 64 bits.
     pub chain_id: u64,

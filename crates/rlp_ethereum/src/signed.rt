@@ -88,7 +88,7 @@ pub trait TypedTransaction: Tagged {}
 /// A payload with its signature: the list of its fields, and of the three numbers after them.
 ///
 /// The signature isn't checked.
-#[derive(Drop)]
+#[derive(Debug, Clone, PartialEq, Eq, Drop)]
 pub struct Signed<T, V = bool> {
     /// The fields that are signed.
     pub payload: T,

@@ -26,7 +26,7 @@ use std::alloc::{AllocError, Global};
 
 /// A signed transaction, as in the list of a block's transactions: a legacy transaction is a list,
 /// and a typed one is the string of its envelope, as in EIP-2718.
-#[derive(Drop)]
+#[derive(Debug, Clone, PartialEq, Eq, Drop)]
 pub enum Transaction {
     /// A transaction without a type.
     Legacy(SignedLegacyTransaction),

@@ -22,7 +22,7 @@ use std::alloc::{AllocError, Global};
 /// A receipt with the type of its transaction, as in the list of a block's receipts: the receipt of
 /// a legacy transaction is a list, and that of a typed one the string of its envelope, as in
 /// EIP-2718.
-#[derive(Drop)]
+#[derive(Debug, Clone, PartialEq, Eq, Drop)]
 pub enum TypedReceipt {
     /// The receipt of a transaction without a type.
     Legacy(Receipt),

@@ -19,7 +19,7 @@ use std::alloc::{AllocError, Global};
 /// the yellow paper. With EIP-155 it is the list of nine: these six, the number of the chain, 0 and 0.
 ///
 /// This list is what is signed.
-#[derive(Drop)]
+#[derive(Debug, Clone, PartialEq, Eq, Drop)]
 pub struct UnsignedLegacyTransaction {
     /// The six fields.
     pub payload: LegacyTransaction,

@@ -23,7 +23,7 @@ use std::alloc::{AllocError, Global};
 /// EIP-2718.
 ///
 /// [`UnsignedTransaction::to_bytes`] returns the bytes that are signed.
-#[derive(Drop)]
+#[derive(Debug, Clone, PartialEq, Eq, Drop)]
 pub enum UnsignedTransaction {
     /// A transaction without a type.
     Legacy(UnsignedLegacyTransaction),

@@ -7,7 +7,7 @@ use rlp::{Decodable, DecoderError, Encodable, Rlp, RlpStream, RoundTrip, StrictR
 use std::alloc::{AllocError, Global};
 
 /// A withdrawal from the beacon chain: the list of its four fields, as in EIP-4895.
-#[derive(Debug, PartialEq, Eq, Drop)]
+#[derive(Debug, Clone, PartialEq, Eq, Drop)]
 pub struct Withdrawal {
     /// The number of the withdrawal, counted over all blocks from 0.
     pub index: u64,
@@ -65,7 +65,7 @@ impl StrictRead for Withdrawal {
 }
 
 /// The withdrawals of a block, in order: the list of them.
-#[derive(Debug, PartialEq, Eq, Drop)]
+#[derive(Debug, Clone, PartialEq, Eq, Drop)]
 pub struct Withdrawals(pub Vec<Withdrawal>);
 
 impl Encodable for Withdrawals {
