@@ -6,8 +6,9 @@ use bytes::BytesMut;
 use rlp::Uint;
 use rlp_ethereum::Hash;
 use rlp_messages::{
-    BlockRangeUpdate, Capability, Disconnect, DisconnectReason, ForkHash, ForkId, Hello, NewBlockHash,
-    NewBlockHashes, NewPooledTransactionHashes, NodeId, Ping, Pong, Status68, Status69,
+    BlockRangeUpdate, Capability, Disconnect, DisconnectReason, ForkHash, ForkId, Hello,
+    NewBlockHash, NewBlockHashes, NewPooledTransactionHashes, NodeId, Ping, Pong, Status68,
+    Status69,
 };
 use std::alloc::{AllocError, Global};
 use std::test::Fail;

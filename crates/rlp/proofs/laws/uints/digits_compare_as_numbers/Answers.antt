@@ -29,7 +29,7 @@ one_more m n x y low small =
     (λ (more : n < m). sym (nat_cmp_is (m * 256 + x) (n * 256 + y) Greater (omega (arith, more, small)))
     ∙ ap (λ o. ordering_then o (nat_cmp x y)) (nat_cmp_is m n Greater more))
     (λ below. let same : m ≡ n = omega (arith, above, below) in
-        last same ∙ ap (λ o. ordering_then o (nat_cmp x y)) (nat_cmp_is m n Equal same))
+    last same ∙ ap (λ o. ordering_then o (nat_cmp x y)) (nat_cmp_is m n Equal same))
     (cases_lt n m))
     (cases_lt m n)
   where
