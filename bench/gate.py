@@ -3,7 +3,7 @@
 usage: gate.py ROOT FILE
 
 It looks at the processes of the prover every half a second, and adds up their processor time by crate. What a process takes after the
-last look isn't counted. `docs/calling` makes a table of FILE, which is `bench/gate.tsv`.
+last look isn't counted. What `rt ci` prints is in `out/bench/gate.log`. `docs/calling` makes a table of FILE, which is `bench/gate.tsv`.
 """
 
 import os
@@ -58,14 +58,16 @@ def watched(run):
 
 def main():
     root, to = sys.argv[1:]
+    printed = os.path.join(root, "out", "bench", "gate.log")
+    os.makedirs(os.path.dirname(printed), exist_ok=True)
     with tempfile.TemporaryDirectory(prefix="gate-") as folder:
         clone = os.path.join(folder, "rlp")
         subprocess.run(["git", "clone", "--quiet", root, clone], check=True)
-        with open(os.path.join(folder, "log"), "w", encoding="utf-8") as log:
+        with open(printed, "w", encoding="utf-8") as log:
             run = subprocess.Popen(["rt", "ci", "--anew"], cwd=clone, stdin=subprocess.DEVNULL, stdout=log, stderr=subprocess.STDOUT)
             parts, whole = watched(run)
-        with open(os.path.join(folder, "log"), encoding="utf-8", errors="replace") as log:
-            last = log.read().splitlines()[-1]
+    with open(printed, encoding="utf-8", errors="replace") as log:
+        last = log.read().splitlines()[-1]
     lines = [*told_of_run(1)[:-1], f"# result\t{last}, in {whole / 60:.1f} minutes", "\t".join(HEADS)]
     for (crate, part), numbers in sorted(parts.items(), key=lambda it: it[1][0]):
         lines.append("\t".join([crate, part, *(f"{number:.0f}" for number in numbers)]))
