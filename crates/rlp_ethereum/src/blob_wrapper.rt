@@ -178,10 +178,7 @@ impl Decodable for WrapperVersion {
 
     #[tactic(auto, using(rlp::proofs::Reading::reading))]
     fn decode(_alloc: Global, rlp: &Rlp<'_>) -> Result<WrapperVersion, DecoderError> {
-        match rlp.decoder().decode_value(version_of) {
-            Ok(version) => Ok(version),
-            Err(fault) => Err(fault),
-        }
+        rlp.decoder().decode_value(version_of)
     }
 }
 

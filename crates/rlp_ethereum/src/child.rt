@@ -85,15 +85,10 @@ fn child_of(alloc: Global, bytes: &[u8]) -> Result<Child, DecoderError>
         if bytes.len() >= 32 {
             return Err(DecoderError::RlpIsTooBig);
         }
-        return match RawItem::new(alloc, bytes) {
-            Ok(item) => Ok(Child::Inline(InlineNode { item })),
-            Err(fault) => Err(fault),
-        };
+        let item = RawItem::new(alloc, bytes)?;
+        return Ok(Child::Inline(InlineNode { item }));
     }
-    let string = match view.decoder().string() {
-        Ok(string) => string,
-        Err(fault) => return Err(fault),
-    };
+    let string = view.decoder().string()?;
     if string.is_empty() {
         return Ok(Child::Nothing);
     }

@@ -48,10 +48,7 @@ impl Decodable for ReceiptStatus {
 
     #[tactic(auto, using(rlp::proofs::Reading::reading))]
     fn decode(_alloc: Global, rlp: &Rlp<'_>) -> Result<ReceiptStatus, DecoderError> {
-        match rlp.decoder().decode_value(status_of) {
-            Ok(status) => Ok(status),
-            Err(fault) => Err(fault),
-        }
+        rlp.decoder().decode_value(status_of)
     }
 }
 

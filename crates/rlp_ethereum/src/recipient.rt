@@ -46,10 +46,7 @@ impl Decodable for Recipient {
 
     #[tactic(auto, using(rlp::proofs::Reading::reading))]
     fn decode(_alloc: Global, rlp: &Rlp<'_>) -> Result<Recipient, DecoderError> {
-        match rlp.decoder().decode_value(recipient_of) {
-            Ok(recipient) => Ok(recipient),
-            Err(fault) => Err(fault),
-        }
+        rlp.decoder().decode_value(recipient_of)
     }
 }
 

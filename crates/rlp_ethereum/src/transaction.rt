@@ -90,10 +90,7 @@ fn read_alone(alloc: Global, bytes: &[u8]) -> Result<Transaction, DecoderError>
         × MayLackAlone signed_legacy_transaction typed_transactions bytes.now)) }
 {
     if Rlp::new(bytes).is_list() {
-        return match rlp::decode_whole(alloc, bytes) {
-            Ok(legacy) => Ok(Transaction::Legacy(legacy)),
-            Err(fault) => Err(fault),
-        };
+        return Ok(Transaction::Legacy(rlp::decode_whole(alloc, bytes)?));
     }
     let envelope = Envelope::split(bytes)?;
     decode_payload(alloc, &envelope)

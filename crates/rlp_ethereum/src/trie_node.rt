@@ -80,21 +80,11 @@ fn node_of(alloc: Global, bytes: &[u8]) -> Result<TrieNode, DecoderError>
     ensures fault { IfErr result (λ e. (IsNodeFault bytes.now e) ⊎ ((e ≡ OutOfMemory)
         × MayLackInNode bytes.now)) }
 {
-    match Rlp::new_strict(bytes).item_count() {
-        Ok(2) if is_leaf(bytes) => match rlp::decode_whole(alloc, bytes) {
-            Ok(leaf) => Ok(TrieNode::Leaf(leaf)),
-            Err(fault) => Err(fault),
-        },
-        Ok(2) => match rlp::decode_whole(alloc, bytes) {
-            Ok(extension) => Ok(TrieNode::Extension(extension)),
-            Err(fault) => Err(fault),
-        },
-        Ok(17) => match rlp::decode_whole(alloc, bytes) {
-            Ok(branch) => Ok(TrieNode::Branch(branch)),
-            Err(fault) => Err(fault),
-        },
-        Ok(_) => Err(DecoderError::RlpIncorrectListLen),
-        Err(fault) => Err(fault),
+    match Rlp::new_strict(bytes).item_count()? {
+        2 if is_leaf(bytes) => Ok(TrieNode::Leaf(rlp::decode_whole(alloc, bytes)?)),
+        2 => Ok(TrieNode::Extension(rlp::decode_whole(alloc, bytes)?)),
+        17 => Ok(TrieNode::Branch(rlp::decode_whole(alloc, bytes)?)),
+        _ => Err(DecoderError::RlpIncorrectListLen),
     }
 }
 

@@ -83,10 +83,7 @@ fn read_alone(alloc: Global, bytes: &[u8]) -> Result<TypedReceipt, DecoderError>
         × MayLackAlone receipt typed_receipts bytes.now)) }
 {
     if Rlp::new(bytes).is_list() {
-        return match rlp::decode_whole(alloc, bytes) {
-            Ok(receipt) => Ok(TypedReceipt::Legacy(receipt)),
-            Err(fault) => Err(fault),
-        };
+        return Ok(TypedReceipt::Legacy(rlp::decode_whole(alloc, bytes)?));
     }
     let envelope = Envelope::split(bytes)?;
     decode_payload(alloc, &envelope)

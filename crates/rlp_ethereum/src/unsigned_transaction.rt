@@ -112,10 +112,7 @@ fn read_alone(alloc: Global, bytes: &[u8]) -> Result<UnsignedTransaction, Decode
         × MayLackAlone unsigned_legacy_transaction unsigned_types bytes.now)) }
 {
     if Rlp::new(bytes).is_list() {
-        return match rlp::decode_whole(alloc, bytes) {
-            Ok(legacy) => Ok(UnsignedTransaction::Legacy(legacy)),
-            Err(fault) => Err(fault),
-        };
+        return Ok(UnsignedTransaction::Legacy(rlp::decode_whole(alloc, bytes)?));
     }
     let envelope = Envelope::split(bytes)?;
     decode_payload(alloc, &envelope)

@@ -47,10 +47,7 @@ impl Decodable for HashOrNumber {
     fn decode(alloc: Global, rlp: &Rlp<'_>) -> Result<HashOrNumber, DecoderError> {
         match rlp.as_val(alloc) {
             Ok(hash) => Ok(HashOrNumber::Hash(hash)),
-            Err(_) => match rlp.as_val(alloc) {
-                Ok(number) => Ok(HashOrNumber::Number(number)),
-                Err(fault) => Err(fault),
-            },
+            Err(_) => Ok(HashOrNumber::Number(rlp.as_val(alloc)?)),
         }
     }
 }
