@@ -34,8 +34,8 @@ def table(root, name):
 
 
 def table_of_times(root):
-    """The times of the library, and those of the program if it was measured."""
-    return table(root, "times") + table(root, "program") + "\n"
+    """The times of the library, those of the program and the instructions of the library, as far as they were measured."""
+    return table(root, "times") + table(root, "program") + table(root, "instructions") + "\n"
 
 
 def place(value):
