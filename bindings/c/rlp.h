@@ -26,8 +26,8 @@ extern "C" {
  * the elements of `out` of functions that find several items, which then have no meaning, and as rlp_transaction says. */
 typedef enum rlp_status {
     RLP_OK = 0,
-    RLP_IS_TOO_BIG = 1,                     /* bytes follow the item, or a number has too many bytes */
-    RLP_IS_TOO_SHORT = 2,                   /* the bytes end before the item does */
+    RLP_IS_TOO_BIG = 1,                     /* bytes follow the item, or a number or an address has too many */
+    RLP_IS_TOO_SHORT = 2,                   /* the bytes end before the item does, or an address has too few */
     RLP_EXPECTED_TO_BE_LIST = 3,            /* a string, or no bytes, in place of a list */
     RLP_EXPECTED_TO_BE_DATA = 4,            /* a list in place of a string */
     RLP_INCORRECT_LIST_LEN = 5,             /* a record of Ethereum has a field too few or too many */
@@ -78,7 +78,7 @@ uint32_t rlp_flatten(const uint8_t *RLP_RESTRICT bytes, size_t len, uint32_t max
  * `*count` of them. `*transaction_type` is 0 for a legacy transaction, which is a list, and else the byte in front of the
  * list: 1 (EIP-2930), 2 (EIP-1559), 3 (EIP-4844) or 4 (EIP-7702). Each field is tested: numbers of at most 8 or 32 bytes,
  * addresses of 20, and the lists in a transaction to their last item. After RLP_NO_ROOM the elements of `out` have no
- * meaning. After a fault `*count` is the number of the field that has it, 1 for the first, and 0 if the whole has it.
+ * meaning. After a fault `*count` is the number of the field that has it or is missing, 1 for the first, and 0 if the whole has it.
  * Status: 0, 1, 2, 3, 4, 5, 6, 7, 8, 13, 16; after 2 for no bytes, and 16, `*transaction_type` is as it was. */
 uint32_t rlp_transaction(const uint8_t *RLP_RESTRICT bytes, size_t len, uint32_t *RLP_RESTRICT transaction_type,
                          rlp_item *RLP_RESTRICT out, size_t cap, size_t *RLP_RESTRICT count);
