@@ -78,7 +78,8 @@ uint32_t rlp_flatten(const uint8_t *RLP_RESTRICT bytes, size_t len, uint32_t max
  * `*count` of them. `*transaction_type` is 0 for a legacy transaction, which is a list, and else the byte in front of the
  * list: 1 (EIP-2930), 2 (EIP-1559), 3 (EIP-4844) or 4 (EIP-7702). Each field is tested: numbers of at most 8 or 32 bytes,
  * addresses of 20, and the lists in a transaction to their last item. After RLP_NO_ROOM the elements of `out` have no
- * meaning. After a fault `*count` is the number of the field that has it or is missing, 1 for the first, and 0 if the whole has it.
+ * meaning. After a fault `*count` is the number of the field that has it or is missing, 1 for the first, and 0 if the
+ * whole has it.
  * Status: 0, 1, 2, 3, 4, 5, 6, 7, 8, 13, 16; after 2 for no bytes, and 16, `*transaction_type` is as it was. */
 uint32_t rlp_transaction(const uint8_t *RLP_RESTRICT bytes, size_t len, uint32_t *RLP_RESTRICT transaction_type,
                          rlp_item *RLP_RESTRICT out, size_t cap, size_t *RLP_RESTRICT count);
