@@ -4,8 +4,8 @@ use keccak::keccak256;
 use std::alloc::Global;
 use std::test::Fail;
 
-/// Messages, and the digits of their hashes. A message is a text, and so many bytes, of which byte
-/// `i` is `i % 256`. The hashes of the texts are published with libraries for Ethereum, and that of
+/// Messages, and the digits of their hashes. A message is a text, and then bytes of this number:
+/// byte `i` is `i % 256`. The hashes of the texts are published with libraries for Ethereum, and that of
 /// no bytes stands in EIP-1052. A second implementation wrote all of them, a Python script by the
 /// algorithms of FIPS 202. With the padding of SHA-3 it agrees with `hashlib.sha3_256` on 301
 /// messages. A block has 136 bytes.

@@ -51,7 +51,7 @@ access = Exactly 20 ∷ list_of Hashes ∷ []
 abbrev pub authorization : List Kind
 authorization = Number 32 ∷ Exactly 20 ∷ Number 8 ∷ Number 1 ∷ Number 32 ∷ Number 32 ∷ []
 
--- The kind of the field with this number, from 0 on, if a record has so many. The items of a list of any length are all of one kind.
+-- The kind of the field with this number, from 0 on, if the record has one. The items of a list of any length are all of one kind.
 abbrev pub kind_at : Record → ℕ → Option Kind
 kind_at Legacy i = slice_get legacy i
 kind_at AccessListPayload i = slice_get access_list_payload i
@@ -65,7 +65,7 @@ kind_at AccessList i = Some (list_of Access)
 kind_at Hashes i = Some (Exactly 32)
 kind_at Authorizations i = Some (list_of Authorization)
 
--- Whether a record of so many fields is complete. A header has no fields of a fork without those of the forks before it.
+-- Whether a record with this number of fields is complete. A header has no fields of a fork without those of the forks before it.
 abbrev pub may_end : Record → ℕ → Bool
 may_end Legacy n = n == 9
 may_end AccessListPayload n = n == 11

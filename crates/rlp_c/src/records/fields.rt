@@ -100,7 +100,7 @@ fn check_text(kind: Kind, text: &[u8]) -> Result<(), DecoderError>
     }
 }
 
-/// Tests the digits of a number of at most so many bytes.
+/// Tests the digits of a number, which may have at most `most` bytes.
 fn check_number(digits: &[u8], most: usize) -> Result<(), DecoderError>
     ensures { MatchResult result (λ _. number_fault most digits.now ≡ None)
         (λ e. number_fault most digits.now ≡ Some e) }

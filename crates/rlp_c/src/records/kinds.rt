@@ -6,11 +6,11 @@ ghost use Rattle.rlp_c.specs.Kinds.{kind_at, may_end};
 /// What a field is.
 #[derive(Clone, Copy)]
 pub enum Kind {
-    /// A number of at most so many bytes.
+    /// A number of at most this many bytes.
     Number(usize),
     /// The number 0 or 1.
     Parity,
-    /// A string of exactly so many bytes.
+    /// A string of exactly this many bytes.
     Exactly(usize),
     /// The address of an account, or the empty string.
     Recipient,
@@ -149,7 +149,7 @@ static AUTHORIZATION: [Kind; 6] = [
     Kind::Number(32),
 ];
 
-/// The kind of the field with this number, or `None` if no record has so many.
+/// The kind of the field with this number, or `None` if records have fewer.
 pub fn kind_at(list: Record, index: usize) -> Option<Kind>
     ensures { result ≡ kind_at list index }
 {
@@ -168,7 +168,7 @@ pub fn kind_at(list: Record, index: usize) -> Option<Kind>
     }
 }
 
-/// Whether a record of so many fields is complete.
+/// Whether a record with this number of fields is complete.
 pub fn may_end(list: Record, count: usize) -> bool
     ensures { result ≡ may_end list count }
 {
