@@ -163,19 +163,14 @@ pub(crate) fn answer(alloc: Global, name: &str, bytes: &[u8]) -> Result<String, 
 /// Takes the signature off, and returns `the same` if with it the transaction has these bytes again.
 fn again(alloc: Global, signed: Transaction, bytes: &[u8]) -> Result<String, Fail> {
     let (r, s) = (*signed.r(), *signed.s());
-    let text = match signed.into_unsigned() {
-        Some((unsigned, y_parity)) => {
-            let signed = unsigned.with_signature(y_parity, r, s);
-            let again = signed.to_bytes(alloc)?;
-            if again.as_slice() == bytes {
-                "the same"
-            } else {
-                "other bytes"
-            }
-        }
-        None => "None",
+    let Some((unsigned, y_parity)) = signed.into_unsigned() else {
+        return Ok(String::from_str(alloc, "None")?);
     };
-    Ok(String::from_str(alloc, text)?)
+    let again = unsigned.with_signature(y_parity, r, s).to_bytes(alloc)?;
+    if again.as_slice() == bytes {
+        return Ok(String::from_str(alloc, "the same")?);
+    }
+    Ok(String::from_str(alloc, "other bytes")?)
 }
 
 /// Returns the type, the chain, the two fees as they are written, and whether there is a price of gas.
