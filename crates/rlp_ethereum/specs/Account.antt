@@ -1,7 +1,7 @@
 -- How accounts are written and read.
 use Rattle.rlp.specs.Codec.{Codec, Fields, end, field, number, struct_of, uint}
 use Rattle.rlp_ethereum.specs.declared.account.Account.{Account}
-use Rattle.rlp_ethereum.specs.Hash.{hash}
+use Rattle.rlp_records.specs.Hash.{hash}
 
 -- the fields, in order
 abbrev pub account_fields : Fields Account

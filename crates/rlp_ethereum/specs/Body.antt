@@ -3,7 +3,7 @@ use Rattle.std.specs.Vec.{vec_items}
 use Rattle.rlp.specs.Codec.{Codec, Fields, field, list_type, optional, struct_of}
 use Rattle.rlp_ethereum.specs.declared.body.Body.{Body}
 use Rattle.rlp_ethereum.specs.Header.{header}
-use Rattle.rlp_ethereum.specs.Transaction.{transaction}
+use Rattle.rlp_transactions.specs.Transaction.{transaction}
 use Rattle.rlp_ethereum.specs.Withdrawal.{withdrawals}
 
 -- the transactions and the ommers, and the withdrawals, which may be missing

@@ -4,7 +4,7 @@ use Rattle.rlp.specs.Codec.{Fields, field, number, optional, optional_group, uin
 use Rattle.rlp_ethereum.specs.declared.header.forks.Cancun.{Cancun}
 use Rattle.rlp_ethereum.specs.declared.header.forks.London.{London}
 use Rattle.rlp_ethereum.specs.declared.header.forks.Shanghai.{Shanghai}
-use Rattle.rlp_ethereum.specs.Hash.{hash}
+use Rattle.rlp_records.specs.Hash.{hash}
 
 -- the fields since Cancun
 abbrev pub cancun_fields : Fields Cancun

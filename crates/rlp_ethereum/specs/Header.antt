@@ -6,10 +6,10 @@ use Rattle.rlp.specs.Codec.{Codec, Fields, byte_array, byte_string, field, numbe
 use Rattle.rlp_ethereum.specs.declared.header.Header.{Header}
 use Rattle.rlp_ethereum.specs.declared.header.forks.Cancun.{Cancun}
 use Rattle.rlp_ethereum.specs.declared.header.forks.Shanghai.{Shanghai}
-use Rattle.rlp_ethereum.specs.Address.{address}
+use Rattle.rlp_records.specs.Address.{address}
 use Rattle.rlp_ethereum.specs.Bloom.{bloom}
 use Rattle.rlp_ethereum.specs.Forks.{london_fields}
-use Rattle.rlp_ethereum.specs.Hash.{hash}
+use Rattle.rlp_records.specs.Hash.{hash}
 
 -- fifteen fields that are always present, and those of the forks
 abbrev pub header_fields : Fields Header

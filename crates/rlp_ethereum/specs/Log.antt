@@ -2,8 +2,8 @@
 use Rattle.std.specs.Vec.{vec_items}
 use Rattle.rlp.specs.Codec.{Codec, Fields, byte_string, end, field, list_type, struct_of}
 use Rattle.rlp_ethereum.specs.declared.log.Log.{Log}
-use Rattle.rlp_ethereum.specs.Address.{address}
-use Rattle.rlp_ethereum.specs.Hash.{hash}
+use Rattle.rlp_records.specs.Address.{address}
+use Rattle.rlp_records.specs.Hash.{hash}
 
 -- the fields, in order
 abbrev pub log_fields : Fields Log

@@ -7,7 +7,7 @@ use Rattle.rlp_ethereum.specs.declared.receipt.Receipt.{Receipt}
 use Rattle.rlp_ethereum.specs.declared.typed_receipt.TypedReceipt.{TypedReceipt}
 use Rattle.rlp_ethereum.specs.declared.typed_receipt.TypedReceipt.TheVariants.{AccessList, Blob, FeeMarket, Legacy, SetCode}
 use Rattle.rlp_ethereum.specs.Receipt.{receipt}
-use Rattle.rlp_ethereum.specs.Transaction.{unknown_type}
+use Rattle.rlp_transactions.specs.Transaction.{unknown_type}
 
 -- the types of EIP-2718, each with its number; all have one payload
 abbrev pub typed_receipts : Cases (Receipt ⊎ (Receipt ⊎ (Receipt ⊎ Receipt)))

@@ -3,7 +3,7 @@ use Rattle.std.specs.Vec.{vec_items}
 use Rattle.rlp.specs.Codec.{Codec, Fields, end, field, list_type, number, struct_of}
 use Rattle.rlp_ethereum.specs.declared.withdrawal.Withdrawal.{Withdrawal}
 use Rattle.rlp_ethereum.specs.declared.withdrawal.Withdrawals.{Withdrawals}
-use Rattle.rlp_ethereum.specs.Address.{address}
+use Rattle.rlp_records.specs.Address.{address}
 
 -- the fields, in order
 abbrev pub withdrawal_fields : Fields Withdrawal

@@ -2,8 +2,8 @@
 
 ghost use Rattle.rlp_ethereum.specs.Account.{account};
 
-use crate::Hash;
 use rlp::{Decodable, DecoderError, Encodable, Rlp, RlpStream, RoundTrip, StrictRead, Uint};
+use rlp_records::Hash;
 use std::alloc::{AllocError, Global};
 
 /// An account in the trie of the state: the list of its four fields.

@@ -2,10 +2,11 @@
 
 ghost use Rattle.rlp_ethereum.specs.Block.{block};
 
-use crate::{Header, Transaction, Withdrawals};
+use crate::{Header, Withdrawals};
 use rlp::{
     Decodable, DecoderError, Encodable, ListOf, Optional, Rlp, RlpStream, RoundTrip, StrictRead,
 };
+use rlp_transactions::Transaction;
 use std::alloc::{AllocError, Global};
 
 /// A block: the list of three fields, and of one more since Shanghai, EIP-4895.

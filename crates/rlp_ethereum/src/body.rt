@@ -2,10 +2,11 @@
 
 ghost use Rattle.rlp_ethereum.specs.Body.{body};
 
-use crate::{Header, Transaction, Withdrawals};
+use crate::{Header, Withdrawals};
 use rlp::{
     Decodable, DecoderError, Encodable, ListOf, Optional, Rlp, RlpStream, RoundTrip, StrictRead,
 };
+use rlp_transactions::Transaction;
 use std::alloc::{AllocError, Global};
 
 /// The body of a block: the list of two fields, and of one more since Shanghai, EIP-4895.

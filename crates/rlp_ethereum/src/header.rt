@@ -1,17 +1,20 @@
 //! Headers of the blocks of all forks up to Prague.
 
 ghost use Rattle.std.specs.Option.{option_copied};
-ghost use Rattle.std.specs.Prelude.{◌≡◌};
+ghost use Rattle.std.specs.Prelude.{◌≡◌, IfOk, OnOk};
+ghost use Rattle.rlp.specs.Format.Encoding.{encoding};
+ghost use Rattle.rlp_records.specs.Hashing.{IsHashOf};
 ghost use Rattle.rlp_ethereum.specs.Header.{since_cancun, since_shanghai, header};
 
 mod forks;
 
-use crate::{Address, Bloom, Hash};
+use crate::Bloom;
 pub use forks::{Cancun, London, Shanghai};
 use rlp::{
     Decodable, DecoderError, Encodable, OptionalGroupOf, Rlp, RlpStream, RoundTrip, StrictRead,
     Uint,
 };
+use rlp_records::{Address, Hash, encoding_hash};
 use std::alloc::{AllocError, Global};
 
 /// The header of a block: the list of fifteen fields, and of those that later forks added.
@@ -145,4 +148,14 @@ impl RoundTrip for Header {
 
 impl StrictRead for Header {
     ghost strict = { header.reads_strictly };
+}
+
+impl Header {
+    /// Returns the hash of the block, which is that of its header's encoding.
+    pub fn hash(&self, alloc: Global) -> Result<Hash, AllocError>
+        ensures fits { OnOk result (header.Fits self.now) }
+        ensures hash { IfOk result (λ h. IsHashOf h (encoding (header.item self.now))) }
+    {
+        encoding_hash::<Header>(alloc, self)
+    }
 }

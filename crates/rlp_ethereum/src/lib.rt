@@ -4,89 +4,43 @@
 //! and nodes of the trie have hashes. The crate checks no signature.
 #![tactic(auto)]
 
-mod access;
-mod access_list_transaction;
 mod account;
-mod address;
-mod authorization;
-mod blob;
-mod blob_transaction;
-mod blob_wrapper;
 mod block;
 mod bloom;
 mod body;
-mod branch;
-mod child;
-mod deposit_transaction;
-mod eip155;
-mod envelope;
-mod enveloped;
-mod extension;
-mod fee_market_transaction;
-mod hash;
-mod hashing;
 mod header;
-mod hex_prefix;
-mod inline_node;
 pub mod laws;
-mod leaf;
-mod legacy_transaction;
 mod log;
-mod node_fields;
-mod node_record;
-mod path;
 mod receipt;
 mod receipt_status;
-mod recipient;
 mod record;
-mod set_code_transaction;
-mod signed;
-mod transaction;
-mod trie_node;
 mod typed_receipt;
-mod unsigned_legacy_transaction;
-mod unsigned_transaction;
 mod withdrawal;
 
-pub use access::{AccessList, AccessListItem};
-pub use access_list_transaction::AccessListTransaction;
 pub use account::Account;
-pub use address::Address;
-pub use authorization::{AUTHORIZATION_MAGIC, Authorization, SignedAuthorization};
-pub use blob::{BLOB_LEN, Blob};
-pub use blob_transaction::BlobTransaction;
-pub use blob_wrapper::{BlobTransactionWithCellProofs, BlobTransactionWithProofs, WrapperVersion};
 pub use block::Block;
 pub use bloom::Bloom;
 pub use body::Body;
-pub use branch::Branch;
-pub use child::Child;
-pub use deposit_transaction::{DEPOSIT_TYPE, DepositTransaction};
-pub use eip155::Eip155;
-pub use envelope::{ACCESS_LIST_TYPE, BLOB_TYPE, FEE_MARKET_TYPE, SET_CODE_TYPE};
-pub use enveloped::Enveloped;
-pub use extension::Extension;
-pub use fee_market_transaction::FeeMarketTransaction;
-pub use hash::Hash;
-pub use hashing::{encoding_hash, signing_hash};
 pub use header::{Cancun, Header, London, Shanghai};
-pub use hex_prefix::ends_in_leaf;
-pub use inline_node::InlineNode;
-pub use leaf::Leaf;
-pub use legacy_transaction::{LegacyTransaction, SignedLegacyTransaction};
 pub use log::Log;
-pub use node_fields::{NodeFields, NodePair};
-pub use node_record::NodeRecord;
-pub use path::{ExtensionPath, LeafPath, Path};
 pub use receipt::Receipt;
 pub use receipt_status::ReceiptStatus;
-pub use recipient::Recipient;
-pub use record::Record;
-pub use set_code_transaction::SetCodeTransaction;
-pub use signed::{Payload, Signed, Tagged, TypedTransaction};
-pub use transaction::Transaction;
-pub use trie_node::TrieNode;
+pub use rlp_node_record::{NodeFields, NodePair, NodeRecord};
+pub use rlp_records::{
+    ACCESS_LIST_TYPE, Address, BLOB_TYPE, Enveloped, FEE_MARKET_TYPE, Hash, Record, SET_CODE_TYPE,
+    encoding_hash,
+};
+pub use rlp_transactions::{
+    AUTHORIZATION_MAGIC, AccessList, AccessListItem, AccessListTransaction, Authorization,
+    BLOB_LEN, Blob, BlobTransaction, BlobTransactionWithCellProofs, BlobTransactionWithProofs,
+    DEPOSIT_TYPE, DepositTransaction, Eip155, FeeMarketTransaction, LegacyTransaction, Payload,
+    Recipient, SetCodeTransaction, Signed, SignedAuthorization, SignedLegacyTransaction, Tagged,
+    Transaction, TypedTransaction, UnsignedLegacyTransaction, UnsignedTransaction, WrapperVersion,
+    signing_hash,
+};
+pub use rlp_trie::{
+    Branch, Child, Extension, ExtensionPath, InlineNode, Leaf, LeafPath, Path, TrieNode,
+    ends_in_leaf,
+};
 pub use typed_receipt::TypedReceipt;
-pub use unsigned_legacy_transaction::UnsignedLegacyTransaction;
-pub use unsigned_transaction::UnsignedTransaction;
 pub use withdrawal::{Withdrawal, Withdrawals};

@@ -2,8 +2,8 @@
 
 ghost use Rattle.rlp_ethereum.specs.Log.{log};
 
-use crate::{Address, Hash};
 use rlp::{Decodable, DecoderError, Encodable, ListOf, Rlp, RlpStream, RoundTrip, StrictRead};
+use rlp_records::{Address, Hash};
 use std::alloc::{AllocError, Global};
 
 /// A log: the list of its three fields.

@@ -3,8 +3,8 @@
 ghost use Rattle.std.specs.Prelude.{◌≡◌, ⊤, IfErr, IfOk};
 ghost use Rattle.rlp_ethereum.specs.ReceiptStatus.{IsStatus, IsStatusFault, receipt_status, status_bytes};
 
-use crate::Hash;
 use rlp::{Decodable, DecoderError, Encodable, Rlp, RlpStream, RoundTrip, StrictRead};
+use rlp_records::Hash;
 use std::alloc::{AllocError, Global};
 
 /// What a receipt says of how its transaction ended: the status since Byzantium, as in EIP-658, or

@@ -3,20 +3,18 @@
 ghost use Rattle.std.specs.Prelude.{◌≡◌, ◌∷◌, ◌⊎◌, IfErr, IfOk, OnOk};
 ghost use Rattle.rlp.specs.DecoderError.TheVariants.{OutOfMemory};
 ghost use Rattle.rlp.specs.Format.Item.{string};
-ghost use Rattle.rlp_ethereum.specs.Alone.{FaultsAlone, MayLackAlone, PayloadFails, bytes_alone};
+ghost use Rattle.rlp_records.specs.Alone.{FaultsAlone, MayLackAlone, PayloadFails, bytes_alone};
 ghost use Rattle.rlp_ethereum.specs.Receipt.{receipt};
-ghost use Rattle.rlp_ethereum.specs.Transaction.{unknown_type};
+ghost use Rattle.rlp_transactions.specs.Transaction.{unknown_type};
 ghost use Rattle.rlp_ethereum.specs.TypedReceipt.{typed_receipt, typed_receipts};
 
 use crate::Receipt;
-use crate::envelope::{
-    ACCESS_LIST_TYPE, BLOB_TYPE, FEE_MARKET_TYPE, SET_CODE_TYPE, decode_typed, to_envelope,
-};
 use bytes::BytesMut;
 use rlp::{
     Decodable, DecoderError, Encodable, Envelope, Rlp, RlpStream, RoundTrip, StrictRead,
     write_envelope,
 };
+use rlp_records::{ACCESS_LIST_TYPE, BLOB_TYPE, FEE_MARKET_TYPE, SET_CODE_TYPE, to_envelope};
 use std::alloc::{AllocError, Global};
 
 /// A receipt with the type of its transaction, as in the list of a block's receipts: the receipt of
@@ -96,15 +94,25 @@ fn decode_payload(alloc: Global, envelope: &Envelope<'_>) -> Result<TypedReceipt
     ensures fault { IfErr result (λ e. PayloadFails unknown_type typed_receipts
         envelope.now.tag envelope.now.payload.now e) }
 {
-    decode_typed!(
-        alloc,
-        envelope,
-        "unknown transaction type",
-        ACCESS_LIST_TYPE => TypedReceipt::AccessList,
-        FEE_MARKET_TYPE => TypedReceipt::FeeMarket,
-        BLOB_TYPE => TypedReceipt::Blob,
-        SET_CODE_TYPE => TypedReceipt::SetCode
-    )
+    match envelope.tag {
+        ACCESS_LIST_TYPE => match envelope.decode(alloc) {
+            Ok(receipt) => Ok(TypedReceipt::AccessList(receipt)),
+            Err(fault) => Err(fault),
+        },
+        FEE_MARKET_TYPE => match envelope.decode(alloc) {
+            Ok(receipt) => Ok(TypedReceipt::FeeMarket(receipt)),
+            Err(fault) => Err(fault),
+        },
+        BLOB_TYPE => match envelope.decode(alloc) {
+            Ok(receipt) => Ok(TypedReceipt::Blob(receipt)),
+            Err(fault) => Err(fault),
+        },
+        SET_CODE_TYPE => match envelope.decode(alloc) {
+            Ok(receipt) => Ok(TypedReceipt::SetCode(receipt)),
+            Err(fault) => Err(fault),
+        },
+        _ => Err(DecoderError::Custom("unknown transaction type")),
+    }
 }
 
 impl Encodable for TypedReceipt {

@@ -2,8 +2,8 @@
 
 ghost use Rattle.rlp_ethereum.specs.Withdrawal.{withdrawal, withdrawals};
 
-use crate::Address;
 use rlp::{Decodable, DecoderError, Encodable, Rlp, RlpStream, RoundTrip, StrictRead};
+use rlp_records::Address;
 use std::alloc::{AllocError, Global};
 
 /// A withdrawal from the beacon chain: the list of its four fields, as in EIP-4895.

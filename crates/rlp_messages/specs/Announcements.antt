@@ -8,8 +8,8 @@ use Rattle.rlp_messages.specs.declared.announcements.BlockRangeUpdate.{BlockRang
 use Rattle.rlp_messages.specs.declared.announcements.NewBlock.{NewBlock}
 use Rattle.rlp_messages.specs.declared.announcements.Transactions.{Transactions}
 use Rattle.rlp_ethereum.specs.Block.{block}
-use Rattle.rlp_ethereum.specs.Hash.{hash}
-use Rattle.rlp_ethereum.specs.Transaction.{transaction}
+use Rattle.rlp_records.specs.Hash.{hash}
+use Rattle.rlp_transactions.specs.Transaction.{transaction}
 
 -- the fields, in order
 abbrev pub new_block_hash_fields : Fields NewBlockHash

@@ -9,9 +9,9 @@ use Rattle.rlp_messages.specs.declared.requests.GetPooledTransactions.{GetPooled
 use Rattle.rlp_messages.specs.declared.requests.PooledTransactions.{PooledTransactions}
 use Rattle.rlp_messages.specs.declared.requests.GetReceipts.{GetReceipts}
 use Rattle.rlp_ethereum.specs.Body.{body}
-use Rattle.rlp_ethereum.specs.Hash.{hash}
+use Rattle.rlp_records.specs.Hash.{hash}
 use Rattle.rlp_ethereum.specs.Header.{header}
-use Rattle.rlp_ethereum.specs.Transaction.{transaction}
+use Rattle.rlp_transactions.specs.Transaction.{transaction}
 use Rattle.rlp_messages.specs.HashOrNumber.{hash_or_number}
 
 -- the fields, in order

@@ -4,7 +4,7 @@ use Rattle.rlp_messages.specs.declared.status.ForkHash.{ForkHash}
 use Rattle.rlp_messages.specs.declared.status.ForkId.{ForkId}
 use Rattle.rlp_messages.specs.declared.status.Status68.{Status68}
 use Rattle.rlp_messages.specs.declared.status.Status69.{Status69}
-use Rattle.rlp_ethereum.specs.Hash.{hash}
+use Rattle.rlp_records.specs.Hash.{hash}
 
 -- the string of its 4 bytes
 abbrev pub fork_hash : Codec ForkHash

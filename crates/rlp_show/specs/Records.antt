@@ -5,8 +5,8 @@ use Rattle.rlp.specs.DecoderError.TheVariants.{RlpIncorrectListLen, RlpIsTooBig,
 use Rattle.rlp.specs.Format.Split.{begins_as_list}
 use Rattle.rlp.specs.Views.Text.{error_name}
 use Rattle.rlp.specs.Views.View.{View, item_count, item_views, view_string}
-use Rattle.rlp_ethereum.specs.HexPrefix.{ends_in_leaf}
-use Rattle.rlp_ethereum.specs.TrieNode.{is_leaf_string}
+use Rattle.rlp_trie.specs.HexPrefix.{ends_in_leaf}
+use Rattle.rlp_trie.specs.TrieNode.{is_leaf_string}
 use Rattle.rlp_show.specs.Lines.{Field, Shape, Shown, Worded, byte_string, field, fields_lines, fixed_bytes, fixed_bytes_in, item_within, line, list_of}
 use Rattle.rlp_show.specs.Lines.{list_or_string, number, optional, pairs_lines, prefix, receipt_status, recipient, record_of, string_shape, then_lines, truth_value, typed, wrong}
 use Rattle.rlp_show.specs.Text.{bytes_text}

@@ -13,9 +13,9 @@ use Rattle.rlp.specs.Values.Value.{FitsBytes, bit}
 use Rattle.rlp.specs.Values.ValueReading.{FaultsAs, no_string, no_value, GivesValue, GivesNumber, FaultsAsNumber, IsDigitsFault, too_long, leading_zero}
 use Rattle.rlp.specs.Values.ValueReading.{IsLengthFault, shorter, longer}
 use Rattle.rlp.specs.Values.ValueReading.{FaultsAsBool, GivesBool, IsCustom, no_number, other_number}
-use Rattle.rlp_ethereum.specs.declared.recipient.Recipient.{Recipient}
-use Rattle.rlp_ethereum.specs.declared.recipient.Recipient.TheVariants.{Creation, Account}
-use Rattle.rlp_ethereum.specs.Recipient.{IsRecipient, IsRecipientFault, recipient_bytes, shorter_recipient, longer_recipient}
+use Rattle.rlp_transactions.specs.declared.recipient.Recipient.{Recipient}
+use Rattle.rlp_transactions.specs.declared.recipient.Recipient.TheVariants.{Creation, Account}
+use Rattle.rlp_transactions.specs.Recipient.{IsRecipient, IsRecipientFault, recipient_bytes, shorter_recipient, longer_recipient}
 use Rattle.rlp_ethereum.specs.declared.receipt_status.ReceiptStatus.{ReceiptStatus}
 use Rattle.rlp_ethereum.specs.declared.receipt_status.ReceiptStatus.TheVariants.{Failure, StateRoot, Success}
 use Rattle.rlp_ethereum.specs.ReceiptStatus.{IsStatus, IsStatusFault, other_status, status_bytes}

@@ -6,23 +6,23 @@ use Rattle.std.proofs.lemmas.Bool.{cond-true}
 use Rattle.rlp.specs.Format.Encoding.{IsSized, encoding}
 use Rattle.rlp.specs.Format.Split.{begins_as_list}
 use Rattle.rlp.specs.Views.View.{View, strict_view_of}
-use Rattle.rlp_ethereum.specs.declared.access_list_transaction.AccessListTransaction.{AccessListTransaction}
-use Rattle.rlp_ethereum.specs.declared.blob_transaction.BlobTransaction.{BlobTransaction}
+use Rattle.rlp_transactions.specs.declared.access_list_transaction.AccessListTransaction.{AccessListTransaction}
+use Rattle.rlp_transactions.specs.declared.blob_transaction.BlobTransaction.{BlobTransaction}
 use Rattle.rlp_ethereum.specs.declared.block.Block.{Block}
-use Rattle.rlp_ethereum.specs.declared.fee_market_transaction.FeeMarketTransaction.{FeeMarketTransaction}
-use Rattle.rlp_ethereum.specs.declared.set_code_transaction.SetCodeTransaction.{SetCodeTransaction}
-use Rattle.rlp_ethereum.specs.declared.signed.Signed.{Signed}
-use Rattle.rlp_ethereum.specs.declared.transaction.Transaction.{Transaction}
-use Rattle.rlp_ethereum.specs.declared.transaction.Transaction.TheVariants.{AccessList, Blob, FeeMarket, Legacy, SetCode}
+use Rattle.rlp_transactions.specs.declared.fee_market_transaction.FeeMarketTransaction.{FeeMarketTransaction}
+use Rattle.rlp_transactions.specs.declared.set_code_transaction.SetCodeTransaction.{SetCodeTransaction}
+use Rattle.rlp_transactions.specs.declared.signed.Signed.{Signed}
+use Rattle.rlp_transactions.specs.declared.transaction.Transaction.{Transaction}
+use Rattle.rlp_transactions.specs.declared.transaction.Transaction.TheVariants.{AccessList, Blob, FeeMarket, Legacy, SetCode}
 use Rattle.rlp_ethereum.specs.declared.withdrawal.Withdrawals.{Withdrawals}
-use Rattle.rlp_ethereum.specs.AccessListTransaction.{signed_access_list_transaction}
-use Rattle.rlp_ethereum.specs.BlobTransaction.{signed_blob_transaction}
+use Rattle.rlp_transactions.specs.AccessListTransaction.{signed_access_list_transaction}
+use Rattle.rlp_transactions.specs.BlobTransaction.{signed_blob_transaction}
 use Rattle.rlp_ethereum.specs.Block.{block as block_codec}
-use Rattle.rlp_ethereum.specs.FeeMarketTransaction.{signed_fee_market_transaction}
-use Rattle.rlp_ethereum.specs.LegacyTransaction.{signed_legacy_transaction, signed_legacy_transaction_fields}
-use Rattle.rlp_ethereum.specs.SetCodeTransaction.{signed_set_code_transaction}
-use Rattle.rlp_ethereum.specs.Alone.{bytes_alone}
-use Rattle.rlp_ethereum.specs.Transaction.{transaction as transaction_codec}
+use Rattle.rlp_transactions.specs.FeeMarketTransaction.{signed_fee_market_transaction}
+use Rattle.rlp_transactions.specs.LegacyTransaction.{signed_legacy_transaction, signed_legacy_transaction_fields}
+use Rattle.rlp_transactions.specs.SetCodeTransaction.{signed_set_code_transaction}
+use Rattle.rlp_records.specs.Alone.{bytes_alone}
+use Rattle.rlp_transactions.specs.Transaction.{transaction as transaction_codec}
 use Rattle.rlp_ethereum.specs.Withdrawal.{withdrawals as withdrawals_codec}
 use Rattle.std.specs.Str.Lines.{strip_carriage_return}
 use Rattle.rlp_lines.specs.Digits.{bytes_in}

@@ -19,36 +19,36 @@ use Rattle.rlp_ethereum.specs.declared.log.Log.{Log}
 use Rattle.rlp_ethereum.specs.Log.{log as log_codec}
 use Rattle.rlp_ethereum.specs.declared.receipt.Receipt.{Receipt}
 use Rattle.rlp_ethereum.specs.Receipt.{receipt as receipt_codec}
-use Rattle.rlp_ethereum.specs.declared.access.AccessListItem.{AccessListItem}
-use Rattle.rlp_ethereum.specs.Access.{access_list_item as access_list_item_codec, access_list as access_list_codec}
-use Rattle.rlp_ethereum.specs.declared.legacy_transaction.LegacyTransaction.{LegacyTransaction}
-use Rattle.rlp_ethereum.specs.LegacyTransaction.{signed_legacy_transaction}
-use Rattle.rlp_ethereum.specs.declared.access_list_transaction.AccessListTransaction.{AccessListTransaction}
-use Rattle.rlp_ethereum.specs.AccessListTransaction.{signed_access_list_transaction}
-use Rattle.rlp_ethereum.specs.declared.fee_market_transaction.FeeMarketTransaction.{FeeMarketTransaction}
-use Rattle.rlp_ethereum.specs.FeeMarketTransaction.{signed_fee_market_transaction}
-use Rattle.rlp_ethereum.specs.declared.blob_transaction.BlobTransaction.{BlobTransaction}
-use Rattle.rlp_ethereum.specs.BlobTransaction.{signed_blob_transaction}
-use Rattle.rlp_ethereum.specs.declared.authorization.Authorization.{Authorization}
-use Rattle.rlp_ethereum.specs.Authorization.{signed_authorization}
-use Rattle.rlp_ethereum.specs.declared.set_code_transaction.SetCodeTransaction.{SetCodeTransaction}
-use Rattle.rlp_ethereum.specs.SetCodeTransaction.{signed_set_code_transaction}
-use Rattle.rlp_ethereum.specs.declared.signed.Signed.{Signed}
-use Rattle.rlp_ethereum.specs.Signed.{signed}
-use Rattle.rlp_ethereum.specs.declared.access.AccessList.{AccessList}
+use Rattle.rlp_transactions.specs.declared.access.AccessListItem.{AccessListItem}
+use Rattle.rlp_transactions.specs.Access.{access_list_item as access_list_item_codec, access_list as access_list_codec}
+use Rattle.rlp_transactions.specs.declared.legacy_transaction.LegacyTransaction.{LegacyTransaction}
+use Rattle.rlp_transactions.specs.LegacyTransaction.{signed_legacy_transaction}
+use Rattle.rlp_transactions.specs.declared.access_list_transaction.AccessListTransaction.{AccessListTransaction}
+use Rattle.rlp_transactions.specs.AccessListTransaction.{signed_access_list_transaction}
+use Rattle.rlp_transactions.specs.declared.fee_market_transaction.FeeMarketTransaction.{FeeMarketTransaction}
+use Rattle.rlp_transactions.specs.FeeMarketTransaction.{signed_fee_market_transaction}
+use Rattle.rlp_transactions.specs.declared.blob_transaction.BlobTransaction.{BlobTransaction}
+use Rattle.rlp_transactions.specs.BlobTransaction.{signed_blob_transaction}
+use Rattle.rlp_transactions.specs.declared.authorization.Authorization.{Authorization}
+use Rattle.rlp_transactions.specs.Authorization.{signed_authorization}
+use Rattle.rlp_transactions.specs.declared.set_code_transaction.SetCodeTransaction.{SetCodeTransaction}
+use Rattle.rlp_transactions.specs.SetCodeTransaction.{signed_set_code_transaction}
+use Rattle.rlp_transactions.specs.declared.signed.Signed.{Signed}
+use Rattle.rlp_transactions.specs.Signed.{signed}
+use Rattle.rlp_transactions.specs.declared.access.AccessList.{AccessList}
 use Rattle.rlp_ethereum.specs.declared.header.Header.{Header}
 use Rattle.rlp_ethereum.specs.declared.header.forks.London.{London}
 use Rattle.rlp_ethereum.specs.declared.header.forks.Shanghai.{Shanghai}
 use Rattle.rlp_ethereum.specs.declared.header.forks.Cancun.{Cancun}
 use Rattle.rlp_ethereum.specs.Header.{header as header_codec}
-use Rattle.rlp_ethereum.specs.declared.address.Address.{Address}
+use Rattle.rlp_records.specs.declared.address.Address.{Address}
 use Rattle.rlp_ethereum.specs.declared.bloom.Bloom.{Bloom}
-use Rattle.rlp_ethereum.specs.declared.hash.Hash.{Hash}
-use Rattle.rlp_ethereum.specs.Address.{address as address_codec}
+use Rattle.rlp_records.specs.declared.hash.Hash.{Hash}
+use Rattle.rlp_records.specs.Address.{address as address_codec}
 use Rattle.rlp_ethereum.specs.Bloom.{bloom as bloom_codec}
-use Rattle.rlp_ethereum.specs.Hash.{hash as hash_codec}
+use Rattle.rlp_records.specs.Hash.{hash as hash_codec}
 use Rattle.rlp_ethereum.specs.ReceiptStatus.{receipt_status as status_codec, status_bytes}
-use Rattle.rlp_ethereum.specs.Recipient.{recipient as recipient_codec, recipient_bytes}
+use Rattle.rlp_transactions.specs.Recipient.{recipient as recipient_codec, recipient_bytes}
 use Rattle.rlp_show.specs.Lines.{Field, Shape, byte_string, field, fields_lines, fixed_bytes, in_field, line, lines_if, list_of, list_value_lines, may_have}
 use Rattle.rlp_show.specs.Lines.{number, optional, prefix, receipt_status, recipient, record_of, truth_value}
 use Rattle.rlp_show.specs.Records.{access_list_item, access_list_transaction, account, address, bloom, fee_market_transaction, hash, header, legacy_transaction}

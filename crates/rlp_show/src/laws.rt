@@ -5,9 +5,9 @@ ghost use Rattle.std.specs.Prelude.{◌≡◌, ◌<◌, ◌^◌, [], Some, lengt
 ghost use Rattle.std.specs.Str.Lines.{strip_carriage_return};
 ghost use Rattle.rlp.specs.Format.Encoding.{IsSized, encoding};
 ghost use Rattle.rlp_lines.specs.Digits.{bytes_in};
-ghost use Rattle.rlp_ethereum.specs.Alone.{bytes_alone};
-ghost use Rattle.rlp_ethereum.specs.Transaction.{transaction};
-ghost use Rattle.rlp_ethereum.specs.declared.transaction.Transaction.{Transaction};
+ghost use Rattle.rlp_records.specs.Alone.{bytes_alone};
+ghost use Rattle.rlp_transactions.specs.Transaction.{transaction};
+ghost use Rattle.rlp_transactions.specs.declared.transaction.Transaction.{Transaction};
 ghost use Rattle.rlp_show.specs.Answer.{kind_answer, record_answer};
 ghost use Rattle.rlp_show.specs.TransactionValues.{transaction_lines};
 ghost use Rattle.rlp_show.specs.declared.kind.Kind.TheVariants as kind;

@@ -5,11 +5,11 @@
 
 ghost use Rattle.rlp_ethereum.specs.Forks.{london_fields, shanghai_fields, cancun_fields};
 
-use crate::Hash;
 use rlp::{
     AppendFields, DecodeFields, Field, FieldFault, Fields, Optional, OptionalGroup,
     OptionalGroupOf, RlpStream, Uint,
 };
+use rlp_records::Hash;
 use std::alloc::{AllocError, Global};
 
 /// What a header has since London: one field, and those of later forks.

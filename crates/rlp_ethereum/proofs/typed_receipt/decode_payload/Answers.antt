@@ -1,6 +1,6 @@
 use Rattle.std.proofs.Common.{refl, rules}
-use Rattle.rlp_ethereum.proofs.Alone.{payload_of_fails, unknown_type_fails}
-use Rattle.rlp_ethereum.specs.Transaction.{unknown_type}
+use Rattle.rlp_records.proofs.Alone.{payload_of_fails, unknown_type_fails}
+use Rattle.rlp_transactions.specs.Transaction.{unknown_type}
 use Rattle.rlp_ethereum.specs.TypedReceipt.{typed_receipts}
 use Rattle.rlp_ethereum.proofs.typed_receipt.decode_payload.Goals as goal
 

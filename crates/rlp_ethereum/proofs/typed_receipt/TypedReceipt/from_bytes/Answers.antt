@@ -1,8 +1,8 @@
 use Rattle.std.proofs.Common.{◌<◌, ◌^◌, length, arith, refl}
 use Rattle.rlp.specs.Lemmas.Reading.{bytes_held}
-use Rattle.rlp_ethereum.proofs.Alone.{AreBelowLists, memory_alone}
+use Rattle.rlp_records.proofs.Alone.{AreBelowLists, memory_alone}
 use Rattle.rlp_ethereum.specs.Receipt.{receipt}
-use Rattle.rlp_ethereum.specs.Transaction.{unknown_type}
+use Rattle.rlp_transactions.specs.Transaction.{unknown_type}
 use Rattle.rlp_ethereum.specs.TypedReceipt.{receipt_as_sum, typed_receipts}
 use Rattle.rlp_ethereum.proofs.typed_receipt.TypedReceipt.from_bytes.Goals as goal
 

@@ -1,8 +1,8 @@
 use Rattle.std.proofs.Common.{◌≡◌, false, refl, sym, ◌∙◌}
 use Rattle.rlp.specs.Format.Split.{begins_as_list}
-use Rattle.rlp_ethereum.proofs.Alone.{typed_view_fails}
+use Rattle.rlp_records.proofs.Alone.{typed_view_fails}
 use Rattle.rlp_ethereum.specs.Receipt.{receipt}
-use Rattle.rlp_ethereum.specs.Transaction.{unknown_type}
+use Rattle.rlp_transactions.specs.Transaction.{unknown_type}
 use Rattle.rlp_ethereum.specs.TypedReceipt.{typed_receipts}
 use Rattle.rlp_ethereum.proofs.typed_receipt.TypedReceiptDecodable.decode.Goals as goal
 

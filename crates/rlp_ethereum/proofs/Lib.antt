@@ -1,5 +1,0 @@
-pub mod AfterByte
-pub mod Alone
-pub mod Parities
-pub mod PathLemmas
-pub mod Signing

@@ -1,0 +1,3 @@
+pub mod NodeFields
+pub mod NodeLaws
+pub mod NodeRecord

@@ -1,0 +1,31 @@
+-- How the fields of a node record are written and read.
+use Rattle.std.specs.Prelude.{◌∷◌, refl}
+use Rattle.std.specs.Vec.{vec_items}
+use Rattle.rlp.specs.Format.Item.{Item, list_of}
+use Rattle.rlp.specs.Values.Value.{number_item}
+use Rattle.rlp.specs.Codec.{Codec, Fields, byte_string, end, field, groups, number, struct_of}
+use Rattle.rlp.specs.Codecs.RawItem.{raw_item}
+use Rattle.rlp.specs.Streams.Fields.{all_items}
+use Rattle.rlp_node_record.specs.declared.node_fields.NodeFields.{NodeFields}
+use Rattle.rlp_node_record.specs.declared.node_fields.NodePair.{NodePair}
+
+-- the fields of a pair: its key, and its value, which is any item
+abbrev pub pair_fields : Fields NodePair
+pair_fields =
+    field (λ (p : NodePair). p.key) (byte_string vec_items) (
+    field (λ (p : NodePair). p.value) raw_item end)
+
+-- the fields, in order; after the first two each pair adds two
+abbrev pub parts_of_node : Fields NodeFields
+parts_of_node =
+    field (λ (f : NodeFields). f.signature) (byte_string vec_items) (
+    field (λ (f : NodeFields). f.sequence) (number 8) (
+    groups (λ (f : NodeFields). vec_items f.pairs) pair_fields (λ p. refl) refl))
+
+-- the list of the fields
+abbrev pub node_fields : Codec NodeFields
+node_fields = struct_of parts_of_node
+
+-- what is signed: the list of the fields after the signature
+abbrev pub signed_item : NodeFields → Item
+signed_item f = list_of (number_item f.sequence ∷ all_items pair_fields.items (vec_items f.pairs))

@@ -1,0 +1,120 @@
+-- Node records are given exactly by their encodings.
+use Rattle.std.proofs.Common.{◌≡◌, ◌≤◌, ◌<◌, ◌^◌, ◌⊎◌, inl, inr, ℕ, List, [], ◌∷◌, length, refl, sym, ap, ◌∙◌, subst, arith, Ok}
+use Rattle.std.proofs.Common.{IsTrue, Bool, true, false, ◌↔◌}
+use Rattle.std.specs.Vec.{vec_items}
+use Rattle.rlp.specs.DecoderError.{DecoderError}
+use Rattle.rlp.specs.DecoderError.TheVariants.{OutOfMemory}
+use Rattle.rlp.specs.Format.Item.{string}
+use Rattle.rlp.specs.Format.Encoding.{encoding}
+use Rattle.rlp.specs.Format.WrittenHeader.{AreBytes}
+use Rattle.rlp.specs.Streams.Fields.{all_items}
+use Rattle.rlp.specs.Views.View.{View, Holds, HoldsItem, strict_view_of}
+use Rattle.rlp.specs.Values.RawItem.{raw_item_of, view_frame}
+use Rattle.rlp.specs.Values.Value.{number_item}
+use Rattle.rlp.specs.Values.ValueReading.{GivesValue}
+use Rattle.rlp.specs.Codec.{Codec}
+use Rattle.rlp.specs.Codecs.Exact.{exact_type}
+use Rattle.rlp.specs.Lemmas.Encodings.{encoding_same}
+use Rattle.rlp.specs.Lemmas.RawItems.{view_frame-held}
+use Rattle.rlp.specs.Lemmas.Structs.{list_same}
+use Rattle.rlp_node_record.specs.NodeFields.{node_fields, pair_fields}
+use Rattle.rlp_node_record.specs.NodeRecord.{AreInOrder, FaultsAsNodeRecord, IsNodeRecord, IsRecordFault, MayLackAsNodeRecord, faulty_fields, faulty_record}
+use Rattle.rlp_node_record.specs.NodeRecord.{fields_too_long, keys_of, keys_rise, longest_record, not_framed, not_rising, too_long}
+use Rattle.rlp_node_record.specs.declared.node_fields.NodeFields.{NodeFields}
+use Rattle.rlp_node_record.specs.declared.node_fields.NodePair.{NodePair}
+
+-- pairs with the same items have the same keys
+same_keys : (gs hs : List NodePair) → all_items pair_fields.items gs ≡ all_items pair_fields.items hs → keys_of gs ≡ keys_of hs
+same_keys [] [] same = refl
+same_keys [] (h ∷ hs) same = absurd (let no : ⊥ = cc in no)
+same_keys (g ∷ gs) [] same = absurd (let no : ⊥ = cc in no)
+same_keys (g ∷ gs) (h ∷ hs) same =
+    let whole : string (vec_items g.key) ∷ raw_item_of g.value ∷ all_items pair_fields.items gs
+    ≡ string (vec_items h.key) ∷ raw_item_of h.value ∷ all_items pair_fields.items hs = same in
+    let first : vec_items g.key ≡ vec_items h.key = cc in
+    let rest : all_items pair_fields.items gs ≡ all_items pair_fields.items hs = cc in
+    let others : keys_of gs ≡ keys_of hs = same_keys gs hs rest in
+    ap (λ key. key ∷ keys_of gs) first ∙ ap (λ keys. vec_items h.key ∷ keys) others
+
+-- records with the same item have the same keys
+record_keys : (f g : NodeFields) → node_fields.item f ≡ node_fields.item g → keys_of (vec_items f.pairs) ≡ keys_of (vec_items g.pairs)
+record_keys f g same =
+    let parts : string (vec_items f.signature) ∷ number_item f.sequence ∷ all_items pair_fields.items (vec_items f.pairs)
+    ≡ string (vec_items g.signature) ∷ number_item g.sequence ∷ all_items pair_fields.items (vec_items g.pairs) = list_same _ _ same in
+    let pairs : all_items pair_fields.items (vec_items f.pairs) ≡ all_items pair_fields.items (vec_items g.pairs) = cc in
+    same_keys (vec_items f.pairs) (vec_items g.pairs) pairs
+
+-- the encoding of a node record has no fault
+record_told : (b : List ℕ) (r : NodeFields) (e : DecoderError) → length b < 2 ^ 64 → IsNodeRecord r → b ≡ encoding (node_fields.item r) → ¬ IsRecordFault b e
+unfolding AreInOrder
+record_told b r e few is whole (too_long long) = omega (arith, is.short, long, ap length whole)
+record_told b r e few is whole (faulty_fields f bytes short bad) = (node_fields.reads_strictly b r bytes few).sound is.fits whole f bad
+record_told b r e few is whole (not_rising f g bytes short given not custom) =
+    let (fit, same) = (node_fields.reads_strictly b f bytes few).exact.0 given in
+    let sized : length (encoding (node_fields.item f)) < 2 ^ 64 = omega (arith, few, ap length same) in
+    let sized_too : length (encoding (node_fields.item r)) < 2 ^ 64 = omega (arith, few, ap length whole) in
+    let one : node_fields.item r ≡ node_fields.item f =
+    encoding_same (node_fields.item r) (node_fields.item f) sized_too sized (sym whole ∙ same) in
+    not (subst (λ keys. IsTrue (keys_rise keys)) (record_keys r f one) is.rising)
+
+-- a view that holds the encoding of a node record has no fault
+pub record_sound : (v : View) (r : NodeFields) → length v.bytes < 2 ^ 64 → IsNodeRecord r → HoldsItem v (node_fields.item r) → (e : DecoderError)
+    → ¬ FaultsAsNodeRecord v e
+record_sound v r fits is holds e (not_framed none) = let framed = view_frame-held v (node_fields.item r) fits holds in cc
+record_sound v r fits is holds e (faulty_record b framed bad) =
+    let whole : view_frame v ≡ Ok (encoding (node_fields.item r)) = view_frame-held v (node_fields.item r) fits holds in
+    let same : b ≡ encoding (node_fields.item r) = cc in
+    record_told b r e (let few : length b < 2 ^ 64 = omega (arith, is.short, ap length same) in few) is same bad
+
+-- A node record, seen as its fields: the list of the fields. It is given exactly by its encoding, also by a lenient view.
+abbrev pub node_record : Codec NodeFields
+node_record = exact_type IsNodeRecord node_fields.item FaultsAsNodeRecord MayLackAsNodeRecord record_sound
+
+-- ---- rules for bodies
+
+-- fields that were read strictly are those of a record, if the keys are in order and the bytes are few
+pub record_read : (b : List ℕ) (f : NodeFields) → AreBytes b → length b ≤ longest_record → node_fields.gives (strict_view_of b) f
+    → AreInOrder (vec_items f.pairs) → IsNodeRecord f × (b ≡ encoding (node_fields.item f))
+record_read b f bytes short given rising =
+    let (fit, whole) = (node_fields.reads_strictly b f bytes (let few : length b < 2 ^ 64 = omega (arith, short) in few)).exact.0 given in (
+      record {
+        fits = fit;
+        rising = rising;
+        short = (let size : length (encoding (node_fields.item f)) ≤ longest_record = omega (arith, short, ap length whole) in
+            size);
+      },
+      whole,
+    )
+
+-- the record that is read from the first item
+pub record_given : (v : View) (b : List ℕ) (f : NodeFields) → Holds v.is_strict v.bytes b → IsNodeRecord f → b ≡ encoding (node_fields.item f)
+    → GivesValue IsNodeRecord node_fields.item v f
+record_given v b f holds is whole = record { fits = is; begins = subst (λ c. Holds v.is_strict v.bytes c) whole holds }
+
+-- why no record is read from the first item
+pub record_fails : (v : View) (b c : List ℕ) (e : DecoderError) → view_frame v ≡ Ok b → c ≡ b
+    → IsRecordFault c e ⊎ ((e ≡ OutOfMemory) × node_fields.may_lack (strict_view_of c))
+    → FaultsAsNodeRecord v e ⊎ ((e ≡ OutOfMemory) × MayLackAsNodeRecord v)
+record_fails v b c e framed same (inl bad) = inl (faulty_record c (framed ∙ ap Ok (sym same)) bad)
+record_fails v b c e framed same (inr (lacks, may)) = inr (lacks, record { bytes = c; framed = framed ∙ ap Ok (sym same); may = may })
+
+-- why no fields are read strictly from few bytes
+pub record_fault : (b : List ℕ) (e : DecoderError) → AreBytes b → length b ≤ longest_record
+    → node_fields.faults (strict_view_of b) e ⊎ ((e ≡ OutOfMemory) × node_fields.may_lack (strict_view_of b))
+    → IsRecordFault b e ⊎ ((e ≡ OutOfMemory) × node_fields.may_lack (strict_view_of b))
+record_fault b e bytes short (inl bad) = inl (faulty_fields e bytes short bad)
+record_fault b e bytes short (inr lacks) = inr lacks
+
+-- the test of the order failed
+pub refused_order : (pairs all : List NodePair) {r : Bool} → all ≡ pairs → (IsTrue r ↔ AreInOrder all) → r ≡ false → ¬ AreInOrder pairs
+refused_order pairs all same told other rising =
+    let passed : IsTrue _ = told.1 (subst AreInOrder (sym same) rising) in let no : true ≡ false = sym passed ∙ other in absurd (let never : ⊥ = cc in never)
+
+-- the test of the order passed
+pub passed_order : (pairs all : List NodePair) {r : Bool} → all ≡ pairs → (IsTrue r ↔ AreInOrder all) → r ≡ true → AreInOrder pairs
+passed_order pairs all same told passed = subst AreInOrder same (told.0 passed)
+
+pub ruleset record_reading = (too_long, faulty_fields, not_rising, record_read, record_given, record_fails, not_framed)
+
+-- for a body that tests the order first
+pub ruleset fields_in_order = (fields_too_long, passed_order)

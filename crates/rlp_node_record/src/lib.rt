@@ -1,0 +1,9 @@
+//! Node records, as in EIP-778.
+#![tactic(auto)]
+
+mod node_fields;
+mod node_record;
+mod record;
+
+pub use node_fields::{NodeFields, NodePair};
+pub use node_record::NodeRecord;

@@ -1,0 +1,117 @@
+//! The fields of a node record.
+
+ghost use Rattle.std.specs.Prelude.{◌≡◌, OnOk, IfOk, refl};
+ghost use Rattle.rlp.specs.Format.Encoding.{encoding};
+ghost use Rattle.rlp_node_record.specs.NodeFields.{pair_fields, node_fields};
+
+use bytes::BytesMut;
+use rlp::{
+    AppendFields, Decodable, DecodeFields, DecoderError, Encodable, FieldFault, Fields,
+    FixedFields, Flattened, RawItem, Rlp, RlpStream, RoundTrip, StrictRead,
+};
+use std::alloc::{AllocError, Global};
+
+/// A key of a node record and its value, as in EIP-778.
+#[derive(Debug, PartialEq, Eq, Drop)]
+pub struct NodePair {
+    /// The key, mostly ASCII text such as `ip` or `secp256k1`.
+    pub key: Vec<u8>,
+    /// The value, which may be any item.
+    pub value: RawItem,
+}
+
+/// The fields of a node record, as in EIP-778. They are one list: the signature, the sequence
+/// number, and then each key and its value, without lists of their own.
+///
+/// The order of the keys and the size aren't tested: [`NodeRecord`](crate::NodeRecord) has fields
+/// that passed these tests.
+#[derive(Debug, PartialEq, Eq, Drop)]
+pub struct NodeFields {
+    /// The signature of the other fields.
+    pub signature: Vec<u8>,
+    /// The number of the record, which grows with each change of it.
+    pub sequence: u64,
+    /// The keys and their values.
+    pub pairs: Vec<NodePair>,
+}
+
+impl AppendFields for NodePair {
+    ghost items = { pair_fields.items };
+
+    ghost fit = { pair_fields.Fits };
+
+    fn field_count(&self) -> Option<usize> {
+        Some(2)
+    }
+
+    fn append_fields(&self, s: &mut RlpStream) -> Result<(), AllocError> {
+        (&self.key, &self.value).append_fields(s)
+    }
+}
+
+impl DecodeFields for NodePair {
+    ghost reading = { pair_fields.reading };
+
+    fn accepts(len: usize) -> bool {
+        len == 2
+    }
+
+    fn decode_fields(
+        alloc: Global,
+        fields: &mut Fields<'_>,
+        len: usize,
+    ) -> Result<NodePair, FieldFault> {
+        rlp::decode_fields!(alloc, fields, len, NodePair { key, value })
+    }
+}
+
+impl FixedFields for NodePair {
+    fn width() -> Option<usize> {
+        Some(2)
+    }
+
+    ghost none_more = { refl };
+}
+
+impl Encodable for NodeFields {
+    ghost item = { node_fields.item };
+
+    ghost fits = { node_fields.Fits };
+
+    fn rlp_append(&self, s: &mut RlpStream) -> Result<(), AllocError> {
+        rlp::append_fields!(
+            s,
+            &self.signature,
+            &self.sequence,
+            Flattened(self.pairs.as_slice())
+        )
+    }
+}
+
+impl Decodable for NodeFields {
+    ghost gives = { node_fields.gives };
+
+    ghost faults = { node_fields.faults };
+
+    ghost may_lack_memory = { node_fields.may_lack };
+
+    fn decode(alloc: Global, rlp: &Rlp<'_>) -> Result<NodeFields, DecoderError> {
+        rlp::decode_fields!(
+            alloc,
+            rlp,
+            NodeFields {
+                signature,
+                sequence,
+                pairs: [(..)]
+            }
+        )
+    }
+}
+
+impl RoundTrip for NodeFields {
+    ghost round_trip = { node_fields.reads_back };
+}
+
+impl StrictRead for NodeFields {
+    ghost strict = { node_fields.reads_strictly };
+}

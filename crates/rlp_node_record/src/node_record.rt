@@ -1,0 +1,177 @@
+//! Node records, whose keys are in order and whose size is within the limit.
+
+ghost use Rattle.std.specs.Prelude.{◌≡◌, ◌⊎◌, ◌↔◌, IfOk, IfErr, OnOk, IsTrue, length};
+ghost use Rattle.std.specs.Vec.{vec_items};
+ghost use Rattle.rlp.specs.DecoderError.TheVariants.{OutOfMemory};
+ghost use Rattle.rlp.specs.Format.Encoding.{encoding};
+ghost use Rattle.rlp.specs.Views.View.{strict_view_of};
+ghost use Rattle.rlp_node_record.specs.NodeFields.{node_fields, signed_item};
+ghost use Rattle.rlp_node_record.specs.NodeRecord.{AreInOrder, IsFieldsFault, IsNodeRecord, IsRecordFault, keys_of, keys_rise};
+ghost use Rattle.rlp_node_record.specs.NodeLaws.{node_record};
+
+use crate::node_fields::{NodeFields, NodePair};
+use bytes::BytesMut;
+use rlp::{
+    Decodable, DecoderError, Encodable, Flattened, Rlp, RlpStream, RoundTrip, StrictRead,
+    write_struct,
+};
+use std::alloc::{AllocError, Global};
+use std::cmp::Ordering;
+use std::marker::Model;
+
+/// A node record, as in EIP-778: what a node tells of itself. Its keys are in order, each once, and
+/// its encoding has at most [`NodeRecord::MAX_LEN`] bytes.
+///
+/// The signature isn't checked, and neither is what the values of known keys are. The identity
+/// scheme of the key `id` says how to check the signature of [`NodeRecord::signed_content`].
+///
+/// Contracts see a record as its fields.
+#[derive(Debug, Drop)]
+pub struct NodeRecord {
+    fields: NodeFields,
+}
+
+impl Model for NodeRecord {
+    ghost use Rattle.rlp_node_record.specs.declared.node_fields.NodeFields.{NodeFields};
+    ghost use Rattle.rlp_node_record.specs.NodeRecord.{IsNodeRecord};
+
+    ghost Value = { NodeFields };
+
+    ghost view = { λ r. r.fields };
+
+    ghost invariant = { λ r. IsNodeRecord r.fields };
+}
+
+impl NodeRecord {
+    /// The greatest number of bytes of a node record.
+    pub const MAX_LEN: usize = 300;
+
+    /// The node record with these fields.
+    ///
+    /// Fails with `Custom("keys are not in order")` if a key isn't after the one before it, in the
+    /// order of their bytes. Else it fails with `RlpIsTooBig` if the encoding has more than
+    /// [`NodeRecord::MAX_LEN`] bytes, and with `OutOfMemory` if memory is refused.
+    #[tactic(auto, using(crate::specs::NodeLaws::fields_in_order))]
+    pub fn new(alloc: Global, fields: NodeFields) -> Result<NodeRecord, DecoderError>
+        ensures value { IfOk result (λ r. (r ≡ fields) × IsNodeRecord fields) }
+        ensures fault { IfErr result (λ e. IsFieldsFault fields e
+            ⊎ ((e ≡ OutOfMemory) × AreInOrder (vec_items fields.pairs))) }
+    {
+        if !are_in_order(fields.pairs.as_slice()) {
+            return Err(DecoderError::Custom("keys are not in order"));
+        }
+        let bytes = match rlp::encode(alloc, &fields) {
+            Ok(bytes) => bytes,
+            Err(_) => return Err(DecoderError::OutOfMemory),
+        };
+        if bytes.len() > NodeRecord::MAX_LEN {
+            return Err(DecoderError::RlpIsTooBig);
+        }
+        Ok(NodeRecord { fields })
+    }
+
+    /// The fields.
+    pub fn fields(&self) -> &NodeFields
+        ensures fields { result.now ≡ self.now }
+        ensures record { IsNodeRecord self.now }
+    {
+        &self.fields
+    }
+
+    /// The bytes that are signed: the encoding of the list of the sequence number and the pairs.
+    /// Fails with `AllocError` if memory is refused.
+    pub fn signed_content(&self, alloc: Global) -> Result<BytesMut, AllocError>
+        ensures { IfOk result (λ b. b.items ≡ encoding (signed_item self.now)) }
+    {
+        let mut s = RlpStream::new(alloc)?;
+        let pairs = self.fields.pairs.as_slice();
+        write_struct(&mut s, &(&self.fields.sequence, Flattened(pairs)))?;
+        Ok(s.out())
+    }
+}
+
+/// Returns whether each key is after the one before it.
+#[tactic(auto, unfolding(crate::specs::NodeRecord::AreInOrder))]
+fn are_in_order(pairs: &[NodePair]) -> bool
+    ensures { IsTrue result ↔ AreInOrder pairs.now }
+{
+    keys_rise(pairs)
+}
+
+/// The same, by the first two keys and then the others.
+fn keys_rise(pairs: &[NodePair]) -> bool
+    ensures { result ≡ keys_rise (keys_of pairs.now) }
+{
+    match pairs {
+        [first, others @ ..] => match others {
+            [next, ..] => {
+                first.key.as_slice().cmp(&next.key.as_slice()) == Ordering::Less
+                    && keys_rise(others)
+            }
+            [] => true,
+        },
+        [] => true,
+    }
+}
+
+/// Reads the fields of a record from bytes that are one item.
+#[tactic(auto, using(crate::specs::NodeLaws::record_reading))]
+fn record_fields(alloc: Global, bytes: &[u8]) -> Result<NodeFields, DecoderError>
+    ensures value { IfOk result
+        (λ f. IsNodeRecord f × (bytes.now ≡ encoding (node_fields.item f))) }
+    ensures fault { IfErr result (λ e. IsRecordFault bytes.now e
+        ⊎ ((e ≡ OutOfMemory) × node_fields.may_lack (strict_view_of bytes.now))) }
+{
+    if NodeRecord::MAX_LEN < bytes.len() {
+        return Err(DecoderError::RlpIsTooBig);
+    }
+    let fields = match rlp::decode_strict::<NodeFields>(alloc, bytes) {
+        Ok(fields) => fields,
+        Err(fault) => return Err(fault),
+    };
+    if !are_in_order(fields.pairs.as_slice()) {
+        return Err(DecoderError::Custom("keys are not in order"));
+    }
+    Ok(fields)
+}
+
+impl Encodable for NodeRecord {
+    ghost item = { node_record.item };
+
+    ghost fits = { node_record.Fits };
+
+    fn rlp_append(&self, s: &mut RlpStream) -> Result<(), AllocError> {
+        self.fields.rlp_append(s)
+    }
+}
+
+/// Reads the whole encoding of a record, also from a lenient view, since the signature is of these
+/// bytes. Only bytes that follow the record are ignored.
+///
+/// Fails as [`Rlp::payload_info`] does, with `RlpIsTooBig` if the record has more than
+/// [`NodeRecord::MAX_LEN`] bytes, with a fault of its fields, and with
+/// `Custom("keys are not in order")`.
+impl Decodable for NodeRecord {
+    ghost gives = { node_record.gives };
+
+    ghost faults = { node_record.faults };
+
+    ghost may_lack_memory = { node_record.may_lack };
+
+    #[tactic(auto, using(crate::specs::NodeLaws::record_reading))]
+    fn decode(alloc: Global, rlp: &Rlp<'_>) -> Result<NodeRecord, DecoderError> {
+        let (item, _) = rlp.split_first()?;
+        match record_fields(alloc, item.as_raw()) {
+            Ok(fields) => Ok(NodeRecord { fields }),
+            Err(fault) => Err(fault),
+        }
+    }
+}
+
+impl RoundTrip for NodeRecord {
+    ghost round_trip = { node_record.reads_back };
+}
+
+impl StrictRead for NodeRecord {
+    ghost strict = { node_record.reads_strictly };
+}

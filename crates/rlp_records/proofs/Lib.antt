@@ -1,0 +1,2 @@
+pub mod AfterByte
+pub mod Alone

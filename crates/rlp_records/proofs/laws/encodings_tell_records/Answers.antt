@@ -1,0 +1,11 @@
+use Rattle.std.proofs.Common.{ap}
+use Rattle.rlp.specs.Format.Encoding.{encoding}
+use Rattle.rlp.specs.Lemmas.Encodings.{encoding_same}
+use Rattle.rlp_records.proofs.laws.encodings_tell_records.Goals as goal
+
+pub returns-clause-alike : goal.returns-clause-alike
+returns-clause-alike g c = λ one other. (encoding_same _ _ one other, ap encoding)
+
+pub returns-clause-fields : goal.returns-clause-fields
+returns-clause-fields g c = λ fit other small little same.
+    g.met.R.Record.told c.args.one.now c.args.other.now fit other (encoding_same _ _ small little same)

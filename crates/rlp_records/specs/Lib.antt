@@ -1,0 +1,5 @@
+pub mod Address
+pub mod Alone
+pub mod Envelope
+pub mod Hash
+pub mod Hashing

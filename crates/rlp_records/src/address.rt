@@ -1,0 +1,49 @@
+//! Addresses of accounts: strings of 20 bytes.
+
+ghost use Rattle.std.specs.Prelude.{⊤};
+ghost use Rattle.rlp_records.specs.Address.{address};
+
+use rlp::{Decodable, DecoderError, Encodable, Rlp, RlpStream, RoundTrip, StrictRead};
+use std::alloc::{AllocError, Global};
+
+/// The address of an account: 20 bytes.
+///
+/// See section 4.1 of the yellow paper.
+#[derive(Debug, Clone, Copy, PartialEq, Eq)]
+pub struct Address(pub [u8; 20]);
+
+/// Written as the array of the bytes is.
+impl Encodable for Address {
+    ghost item = { address.item };
+
+    ghost fits = { address.Fits };
+
+    ghost at_once = { λ _. ⊤ };
+
+    fn rlp_append(&self, s: &mut RlpStream) -> Result<(), AllocError> {
+        self.0.rlp_append(s)
+    }
+}
+
+/// Read as the array of the bytes is. Fails with `RlpIsTooShort` if the string is shorter, and with
+/// `RlpIsTooBig` if it is longer. It takes no memory.
+impl Decodable for Address {
+    ghost gives = { address.gives };
+
+    ghost faults = { address.faults };
+
+    ghost may_lack_memory = { address.may_lack };
+
+    fn decode(alloc: Global, rlp: &Rlp<'_>) -> Result<Address, DecoderError> {
+        let bytes = rlp.as_val(alloc)?;
+        Ok(Address(bytes))
+    }
+}
+
+impl RoundTrip for Address {
+    ghost round_trip = { address.reads_back };
+}
+
+impl StrictRead for Address {
+    ghost strict = { address.reads_strictly };
+}

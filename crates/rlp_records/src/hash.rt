@@ -1,0 +1,49 @@
+//! Hashes: strings of 32 bytes.
+
+ghost use Rattle.std.specs.Prelude.{⊤};
+ghost use Rattle.rlp_records.specs.Hash.{hash};
+
+use rlp::{Decodable, DecoderError, Encodable, Rlp, RlpStream, RoundTrip, StrictRead};
+use std::alloc::{AllocError, Global};
+
+/// A Keccak-256 hash, or the root of a trie: 32 bytes.
+///
+/// See section 4.3 and appendix B of the yellow paper.
+#[derive(Debug, Clone, Copy, PartialEq, Eq)]
+pub struct Hash(pub [u8; 32]);
+
+/// Written as the array of the bytes is.
+impl Encodable for Hash {
+    ghost item = { hash.item };
+
+    ghost fits = { hash.Fits };
+
+    ghost at_once = { λ _. ⊤ };
+
+    fn rlp_append(&self, s: &mut RlpStream) -> Result<(), AllocError> {
+        self.0.rlp_append(s)
+    }
+}
+
+/// Read as the array of the bytes is. Fails with `RlpIsTooShort` if the string is shorter, and with
+/// `RlpIsTooBig` if it is longer. It takes no memory.
+impl Decodable for Hash {
+    ghost gives = { hash.gives };
+
+    ghost faults = { hash.faults };
+
+    ghost may_lack_memory = { hash.may_lack };
+
+    fn decode(alloc: Global, rlp: &Rlp<'_>) -> Result<Hash, DecoderError> {
+        let bytes = rlp.as_val(alloc)?;
+        Ok(Hash(bytes))
+    }
+}
+
+impl RoundTrip for Hash {
+    ghost round_trip = { hash.reads_back };
+}
+
+impl StrictRead for Hash {
+    ghost strict = { hash.reads_strictly };
+}

@@ -1,0 +1,20 @@
+//! What all records of Ethereum have in common: hashes, addresses, envelopes and the laws of records.
+#![tactic(auto)]
+
+mod address;
+mod envelope;
+mod enveloped;
+mod hash;
+mod hashing;
+pub mod laws;
+mod record;
+
+pub use address::Address;
+pub use envelope::{
+    ACCESS_LIST_TYPE, BLOB_TYPE, FEE_MARKET_TYPE, SET_CODE_TYPE, from_envelope, to_envelope,
+    typed_list,
+};
+pub use enveloped::Enveloped;
+pub use hash::Hash;
+pub use hashing::encoding_hash;
+pub use record::Record;

@@ -1,0 +1,25 @@
+-- How transactions of type 1 are written and read.
+use Rattle.std.specs.Prelude.{Bool, refl}
+use Rattle.std.specs.Vec.{vec_items}
+use Rattle.rlp.specs.Codec.{Codec, Fields, byte_string, end, field, number, truth_value, uint}
+use Rattle.rlp_transactions.specs.declared.access_list_transaction.AccessListTransaction.{AccessListTransaction}
+use Rattle.rlp_transactions.specs.Access.{access_list}
+use Rattle.rlp_transactions.specs.Recipient.{recipient}
+use Rattle.rlp_transactions.specs.Signed.{signed}
+use Rattle.rlp_transactions.specs.declared.signed.Signed.{Signed}
+
+-- the fields before the signature, in order
+abbrev pub access_list_transaction_fields : Fields AccessListTransaction
+access_list_transaction_fields =
+    field (λ (a : AccessListTransaction). a.chain_id) (number 8) (
+    field (λ (a : AccessListTransaction). a.nonce) (number 8) (
+    field (λ (a : AccessListTransaction). a.gas_price) (uint 32) (
+    field (λ (a : AccessListTransaction). a.gas_limit) (number 8) (
+    field (λ (a : AccessListTransaction). a.to) recipient (
+    field (λ (a : AccessListTransaction). a.value) (uint 32) (
+    field (λ (a : AccessListTransaction). a.data) (byte_string vec_items) (
+    field (λ (a : AccessListTransaction). a.access_list) access_list end)))))))
+
+-- the list of these fields, and of the signature
+abbrev pub signed_access_list_transaction : Codec (Signed AccessListTransaction Bool)
+signed_access_list_transaction = signed access_list_transaction_fields (λ p. refl) truth_value

@@ -1,0 +1,27 @@
+-- How legacy transactions are written and read.
+use Rattle.std.specs.Prelude.{refl}
+use Rattle.std.specs.Vec.{vec_items}
+use Rattle.rlp.specs.Codec.{Codec, Fields, byte_string, end, field, number, struct_of, uint}
+use Rattle.rlp_transactions.specs.declared.legacy_transaction.LegacyTransaction.{LegacyTransaction}
+use Rattle.rlp_transactions.specs.Recipient.{recipient}
+use Rattle.rlp.specs.Uint.{Uint}
+use Rattle.rlp_transactions.specs.Signed.{signed_fields}
+use Rattle.rlp_transactions.specs.declared.signed.Signed.{Signed}
+
+-- the fields before the signature, in order
+abbrev pub legacy_transaction_fields : Fields LegacyTransaction
+legacy_transaction_fields =
+    field (λ (l : LegacyTransaction). l.nonce) (number 8) (
+    field (λ (l : LegacyTransaction). l.gas_price) (uint 32) (
+    field (λ (l : LegacyTransaction). l.gas_limit) (number 8) (
+    field (λ (l : LegacyTransaction). l.to) recipient (
+    field (λ (l : LegacyTransaction). l.value) (uint 32) (
+    field (λ (l : LegacyTransaction). l.data) (byte_string vec_items) end)))))
+
+-- these fields, and then those of the signature
+abbrev pub signed_legacy_transaction_fields : Fields (Signed LegacyTransaction (Uint 32))
+signed_legacy_transaction_fields = signed_fields legacy_transaction_fields (λ p. refl) (uint 32)
+
+-- the list of all of them
+abbrev pub signed_legacy_transaction : Codec (Signed LegacyTransaction (Uint 32))
+signed_legacy_transaction = struct_of signed_legacy_transaction_fields

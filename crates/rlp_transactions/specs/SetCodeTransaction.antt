@@ -1,0 +1,28 @@
+-- How transactions of type 4 are written and read.
+use Rattle.std.specs.Prelude.{Bool, refl}
+use Rattle.std.specs.Vec.{vec_items}
+use Rattle.rlp.specs.Codec.{Codec, Fields, byte_string, end, field, list_type, number, truth_value, uint}
+use Rattle.rlp_transactions.specs.declared.set_code_transaction.SetCodeTransaction.{SetCodeTransaction}
+use Rattle.rlp_transactions.specs.Access.{access_list}
+use Rattle.rlp_records.specs.Address.{address}
+use Rattle.rlp_transactions.specs.Authorization.{signed_authorization}
+use Rattle.rlp_transactions.specs.Signed.{signed}
+use Rattle.rlp_transactions.specs.declared.signed.Signed.{Signed}
+
+-- the fields before the signature, in order
+abbrev pub set_code_transaction_fields : Fields SetCodeTransaction
+set_code_transaction_fields =
+    field (λ (s : SetCodeTransaction). s.chain_id) (number 8) (
+    field (λ (s : SetCodeTransaction). s.nonce) (number 8) (
+    field (λ (s : SetCodeTransaction). s.max_priority_fee_per_gas) (uint 32) (
+    field (λ (s : SetCodeTransaction). s.max_fee_per_gas) (uint 32) (
+    field (λ (s : SetCodeTransaction). s.gas_limit) (number 8) (
+    field (λ (s : SetCodeTransaction). s.destination) address (
+    field (λ (s : SetCodeTransaction). s.value) (uint 32) (
+    field (λ (s : SetCodeTransaction). s.data) (byte_string vec_items) (
+    field (λ (s : SetCodeTransaction). s.access_list) access_list (
+    field (λ (s : SetCodeTransaction). s.authorization_list) (list_type vec_items signed_authorization) end)))))))))
+
+-- the list of these fields, and of the signature
+abbrev pub signed_set_code_transaction : Codec (Signed SetCodeTransaction Bool)
+signed_set_code_transaction = signed set_code_transaction_fields (λ p. refl) truth_value

@@ -1,0 +1,92 @@
+//! Access lists: the accounts and the storage that a transaction declares.
+
+ghost use Rattle.rlp_transactions.specs.Access.{access_list_item, access_list};
+
+use rlp::{Decodable, DecoderError, Encodable, ListOf, Rlp, RlpStream, RoundTrip, StrictRead};
+use rlp_records::{Address, Hash};
+use std::alloc::{AllocError, Global};
+
+/// An account and the keys of its storage that a transaction declares. It is written as the list of
+/// both, as in EIP-2930.
+#[derive(Debug, Clone, PartialEq, Eq, Drop)]
+pub struct AccessListItem {
+    /// The account.
+    pub address: Address,
+    /// The keys of its storage, of 32 bytes each.
+    pub storage_keys: Vec<Hash>,
+}
+
+impl Encodable for AccessListItem {
+    ghost item = { access_list_item.item };
+
+    ghost fits = { access_list_item.Fits };
+
+    fn rlp_append(&self, s: &mut RlpStream) -> Result<(), AllocError> {
+        rlp::append_fields!(s, &self.address, ListOf(&self.storage_keys))
+    }
+}
+
+impl Decodable for AccessListItem {
+    ghost gives = { access_list_item.gives };
+
+    ghost faults = { access_list_item.faults };
+
+    ghost may_lack_memory = { access_list_item.may_lack };
+
+    fn decode(alloc: Global, rlp: &Rlp<'_>) -> Result<AccessListItem, DecoderError> {
+        rlp::decode_fields!(
+            alloc,
+            rlp,
+            AccessListItem {
+                address,
+                storage_keys: [..]
+            }
+        )
+    }
+}
+
+impl RoundTrip for AccessListItem {
+    ghost round_trip = { access_list_item.reads_back };
+}
+
+impl StrictRead for AccessListItem {
+    ghost strict = { access_list_item.reads_strictly };
+}
+
+/// The accounts that a transaction declares, in order. It is written as the list of its items, as
+/// in EIP-2930.
+#[derive(Debug, Clone, PartialEq, Eq, Drop)]
+pub struct AccessList(pub Vec<AccessListItem>);
+
+impl Encodable for AccessList {
+    ghost item = { access_list.item };
+
+    ghost fits = { access_list.Fits };
+
+    #[tactic(auto, using(rlp::proofs::Writing::writing))]
+    fn rlp_append(&self, s: &mut RlpStream) -> Result<(), AllocError> {
+        s.append_list(self.0.as_slice())?;
+        Ok(())
+    }
+}
+
+impl Decodable for AccessList {
+    ghost gives = { access_list.gives };
+
+    ghost faults = { access_list.faults };
+
+    ghost may_lack_memory = { access_list.may_lack };
+
+    fn decode(alloc: Global, rlp: &Rlp<'_>) -> Result<AccessList, DecoderError> {
+        let items = rlp.as_list(alloc)?;
+        Ok(AccessList(items))
+    }
+}
+
+impl RoundTrip for AccessList {
+    ghost round_trip = { access_list.reads_back };
+}
+
+impl StrictRead for AccessList {
+    ghost strict = { access_list.reads_strictly };
+}

@@ -1,0 +1,107 @@
+//! Transactions of type 1.
+
+ghost use Rattle.std.specs.Prelude.{refl};
+ghost use Rattle.rlp.specs.Codecs.Parts.{laws_of};
+ghost use Rattle.rlp_transactions.specs.AccessListTransaction.{access_list_transaction_fields};
+
+use crate::{AccessList, Payload, Recipient, Tagged, TypedTransaction};
+use rlp::{AppendFields, DecodeFields, FieldFault, Fields, FixedFields, RlpStream, Uint};
+use rlp_records::ACCESS_LIST_TYPE;
+use std::alloc::{AllocError, Global};
+
+/// A transaction of type 1 without its signature: the list of its eight fields is signed after the
+/// byte 1, as in EIP-2930.
+#[derive(Debug, Clone, PartialEq, Eq, Drop)]
+pub struct AccessListTransaction {
+    /// The number of the chain, as in EIP-155. This type reads numbers of at most 64 bits.
+    pub chain_id: u64,
+    /// The number of transactions that the sender has sent before. As in EIP-2681 it is below 2^64,
+    /// and a transaction with 2^64 - 1 is invalid; this type reads it.
+    pub nonce: u64,
+    /// The price of a unit of gas, in Wei.
+    pub gas_price: Uint<32>,
+    /// The gas that the transaction may use at most.
+    pub gas_limit: u64,
+    /// The recipient of the value.
+    pub to: Recipient,
+    /// The value that is sent, in Wei.
+    pub value: Uint<32>,
+    /// The input of the call, or the code that creates the contract.
+    pub data: Vec<u8>,
+    /// The accounts and the keys of storage that the transaction declares.
+    pub access_list: AccessList,
+}
+
+impl AppendFields for AccessListTransaction {
+    ghost items = { access_list_transaction_fields.items };
+
+    ghost fit = { access_list_transaction_fields.Fits };
+
+    fn field_count(&self) -> Option<usize> {
+        Some(8)
+    }
+
+    fn append_fields(&self, s: &mut RlpStream) -> Result<(), AllocError> {
+        rlp::append_fields!([
+            &self.chain_id,
+            &self.nonce,
+            &self.gas_price,
+            &self.gas_limit,
+            &self.to,
+            &self.value,
+            &self.data,
+            &self.access_list
+        ])
+        .append_fields(s)
+    }
+}
+
+impl DecodeFields for AccessListTransaction {
+    ghost reading = { access_list_transaction_fields.reading };
+
+    fn accepts(len: usize) -> bool {
+        len == 8
+    }
+
+    fn decode_fields(
+        alloc: Global,
+        fields: &mut Fields<'_>,
+        len: usize,
+    ) -> Result<AccessListTransaction, FieldFault> {
+        rlp::decode_fields!(
+            alloc,
+            fields,
+            len,
+            AccessListTransaction {
+                chain_id,
+                nonce,
+                gas_price,
+                gas_limit,
+                to,
+                value,
+                data,
+                access_list
+            }
+        )
+    }
+}
+
+impl FixedFields for AccessListTransaction {
+    fn width() -> Option<usize> {
+        Some(8)
+    }
+
+    ghost none_more = { refl };
+}
+
+impl Payload for AccessListTransaction {
+    ghost laws = { laws_of access_list_transaction_fields (λ p. refl) };
+}
+
+impl Tagged for AccessListTransaction {
+    ghost TAG = { 1 };
+
+    const TAG: u8 = ACCESS_LIST_TYPE;
+}
+
+impl TypedTransaction for AccessListTransaction {}

@@ -1,0 +1,86 @@
+//! Authorizations of transactions of type 4.
+
+ghost use Rattle.std.specs.Prelude.{refl};
+ghost use Rattle.rlp.specs.Codecs.Parts.{laws_of};
+ghost use Rattle.rlp_transactions.specs.Authorization.{authorization_fields};
+
+use crate::{Payload, Signed, Tagged};
+use rlp::{AppendFields, DecodeFields, FieldFault, Fields, FixedFields, RlpStream, Uint};
+use rlp_records::Address;
+use std::alloc::{AllocError, Global};
+
+/// The byte before the list of an authorization's fields in what is signed, as in EIP-7702.
+pub const AUTHORIZATION_MAGIC: u8 = 0x05;
+
+/// An authorization with its signature: the list of six fields. The parity of the signature's point
+/// is any number below 256, as in the EIP.
+pub type SignedAuthorization = Signed<Authorization, u8>;
+
+/// The leave of an account to run the code of an address as its own, without its signature: the list
+/// of its three fields is signed after the byte 5, as in EIP-7702.
+#[derive(Debug, Clone, PartialEq, Eq, Drop)]
+pub struct Authorization {
+    /// The number of the chain, or 0 for any chain.
+    pub chain_id: Uint<32>,
+    /// The address of the code.
+    pub address: Address,
+    /// The number of transactions that the account has sent before.
+    pub nonce: u64,
+}
+
+impl AppendFields for Authorization {
+    ghost items = { authorization_fields.items };
+
+    ghost fit = { authorization_fields.Fits };
+
+    fn field_count(&self) -> Option<usize> {
+        Some(3)
+    }
+
+    fn append_fields(&self, s: &mut RlpStream) -> Result<(), AllocError> {
+        rlp::append_fields!([&self.chain_id, &self.address, &self.nonce]).append_fields(s)
+    }
+}
+
+impl DecodeFields for Authorization {
+    ghost reading = { authorization_fields.reading };
+
+    fn accepts(len: usize) -> bool {
+        len == 3
+    }
+
+    fn decode_fields(
+        alloc: Global,
+        fields: &mut Fields<'_>,
+        len: usize,
+    ) -> Result<Authorization, FieldFault> {
+        rlp::decode_fields!(
+            alloc,
+            fields,
+            len,
+            Authorization {
+                chain_id,
+                address,
+                nonce
+            }
+        )
+    }
+}
+
+impl FixedFields for Authorization {
+    fn width() -> Option<usize> {
+        Some(3)
+    }
+
+    ghost none_more = { refl };
+}
+
+impl Payload for Authorization {
+    ghost laws = { laws_of authorization_fields (λ p. refl) };
+}
+
+impl Tagged for Authorization {
+    ghost TAG = { 5 };
+
+    const TAG: u8 = AUTHORIZATION_MAGIC;
+}

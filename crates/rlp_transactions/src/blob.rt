@@ -1,0 +1,90 @@
+//! Blobs of transactions of type 3.
+
+ghost use Rattle.std.specs.Prelude.{◌≡◌, ◌⊎◌, ⊤, IfErr, IfOk, length};
+ghost use Rattle.rlp.specs.DecoderError.TheVariants.{OutOfMemory};
+ghost use Rattle.rlp.specs.Values.ValueReading.{IsLengthFault};
+
+use rlp::{Decodable, DecoderError, Encodable, Rlp, RlpStream, RoundTrip, StrictRead};
+use std::alloc::{AllocError, Global};
+
+/// The number of bytes of a blob, as in EIP-4844: 4,096 numbers of 32 bytes.
+pub const BLOB_LEN: usize = 131_072;
+
+/// A blob: the 131,072 bytes of its 4,096 numbers, as in EIP-4844. That each number is below the
+/// modulus of the curve isn't tested.
+#[derive(Debug, PartialEq, Eq, Drop)]
+pub struct Blob {
+    /// The bytes.
+    pub bytes: Vec<u8>,
+    pub ghost is_whole: { length bytes.items ≡ 131072 },
+}
+
+impl Blob {
+    /// Returns the blob of these bytes, which it copies.
+    ///
+    /// Fails with `RlpIsTooShort` if there are fewer than 131,072, with `RlpIsTooBig` if there are
+    /// more, and with `OutOfMemory` if memory is refused.
+    #[tactic(auto, using(rlp::specs::Lemmas::RoundTrips::length_faults))]
+    pub fn new(alloc: Global, bytes: &[u8]) -> Result<Blob, DecoderError>
+        ensures value { IfOk result (λ b. b.bytes.items ≡ bytes.now) }
+        ensures fault { IfErr result (λ e. IsLengthFault 131072 bytes.now e
+            ⊎ ((e ≡ OutOfMemory) × (length bytes.now ≡ 131072))) }
+    {
+        if bytes.len() < BLOB_LEN {
+            return Err(DecoderError::RlpIsTooShort);
+        }
+        if bytes.len() > BLOB_LEN {
+            return Err(DecoderError::RlpIsTooBig);
+        }
+        match Vec::from_slice(alloc, bytes) {
+            Ok(bytes) => Ok(Blob { bytes }),
+            Err(_) => Err(DecoderError::OutOfMemory),
+        }
+    }
+}
+
+/// Written as the string of the bytes.
+impl Encodable for Blob {
+    ghost use Rattle.rlp_transactions.specs.Blob.{blob};
+
+    ghost item = { blob.item };
+
+    ghost fits = { blob.Fits };
+
+    ghost at_once = { λ _. ⊤ };
+
+    fn rlp_append(&self, s: &mut RlpStream) -> Result<(), AllocError> {
+        self.bytes.rlp_append(s)
+    }
+}
+
+/// Reads a string, with one copy. Fails as [`Blob::new`] does.
+impl Decodable for Blob {
+    ghost use Rattle.rlp_transactions.specs.Blob.{blob};
+
+    ghost gives = { blob.gives };
+
+    ghost faults = { blob.faults };
+
+    ghost may_lack_memory = { blob.may_lack };
+
+    #[tactic(auto, using(crate::specs::Blob::blob_reading))]
+    fn decode(alloc: Global, rlp: &Rlp<'_>) -> Result<Blob, DecoderError> {
+        match rlp.decoder().string() {
+            Ok(string) => Blob::new(alloc, string),
+            Err(fault) => Err(fault),
+        }
+    }
+}
+
+impl RoundTrip for Blob {
+    ghost use Rattle.rlp_transactions.specs.Blob.{blob};
+
+    ghost round_trip = { blob.reads_back };
+}
+
+impl StrictRead for Blob {
+    ghost use Rattle.rlp_transactions.specs.Blob.{blob};
+
+    ghost strict = { blob.reads_strictly };
+}

@@ -1,0 +1,203 @@
+//! Transactions of type 3 with their blobs, as nodes and wallets send them.
+
+ghost use Rattle.std.specs.Prelude.{◌≡◌, ⊤, IfErr, IfOk};
+ghost use Rattle.rlp_transactions.specs.BlobWrapper.{IsVersionFault, version_bytes, with_cell_proofs, with_proofs, wrapper_version};
+
+use crate::{Blob, BlobTransaction, Signed};
+use rlp::{Decodable, DecoderError, Encodable, ListOf, Rlp, RlpStream, RoundTrip, StrictRead};
+use rlp_records::{BLOB_TYPE, Enveloped};
+use std::alloc::{AllocError, Global};
+
+/// A transaction of type 3 with its blobs and a proof for each: the list of its four fields, as in
+/// EIP-4844. It is sent to other nodes and by `eth_sendRawTransaction`; the transaction alone is
+/// hashed, and stands in blocks.
+///
+/// That the numbers of blobs, commitments and proofs agree isn't tested, nor the proofs.
+#[derive(Drop)]
+pub struct BlobTransactionWithProofs {
+    /// The transaction.
+    pub transaction: Signed<BlobTransaction>,
+    /// The blobs.
+    pub blobs: Vec<Blob>,
+    /// The KZG commitment to each blob, of 48 bytes.
+    pub commitments: Vec<[u8; 48]>,
+    /// The KZG proof of each blob, of 48 bytes.
+    pub proofs: Vec<[u8; 48]>,
+}
+
+/// A transaction of type 3 with its blobs and the proofs of their cells: the list of its five
+/// fields, as in EIP-7594. It takes the place of [`BlobTransactionWithProofs`] since Osaka.
+///
+/// That the numbers of blobs, commitments and proofs agree isn't tested, nor the proofs.
+#[derive(Drop)]
+pub struct BlobTransactionWithCellProofs {
+    /// The transaction.
+    pub transaction: Signed<BlobTransaction>,
+    /// The version of the list.
+    pub wrapper_version: WrapperVersion,
+    /// The blobs.
+    pub blobs: Vec<Blob>,
+    /// The KZG commitment to each blob, of 48 bytes.
+    pub commitments: Vec<[u8; 48]>,
+    /// The KZG proofs of the cells, of 48 bytes each: 128 for each blob.
+    pub cell_proofs: Vec<[u8; 48]>,
+}
+
+/// The version of the list that holds a transaction of type 3 and its blobs, as in EIP-7594.
+#[derive(Debug, Clone, Copy, PartialEq, Eq)]
+pub enum WrapperVersion {
+    /// The number 1: the list has proofs of cells.
+    CellProofs,
+}
+
+impl Encodable for BlobTransactionWithProofs {
+    ghost item = { with_proofs.item };
+
+    ghost fits = { with_proofs.Fits };
+
+    fn rlp_append(&self, s: &mut RlpStream) -> Result<(), AllocError> {
+        rlp::append_fields!(
+            s,
+            &self.transaction,
+            ListOf(&self.blobs),
+            ListOf(&self.commitments),
+            ListOf(&self.proofs)
+        )
+    }
+}
+
+impl Decodable for BlobTransactionWithProofs {
+    ghost gives = { with_proofs.gives };
+
+    ghost faults = { with_proofs.faults };
+
+    ghost may_lack_memory = { with_proofs.may_lack };
+
+    fn decode(alloc: Global, rlp: &Rlp<'_>) -> Result<BlobTransactionWithProofs, DecoderError> {
+        rlp::decode_fields!(
+            alloc,
+            rlp,
+            BlobTransactionWithProofs {
+                transaction,
+                blobs: [..],
+                commitments: [..],
+                proofs: [..]
+            }
+        )
+    }
+}
+
+impl RoundTrip for BlobTransactionWithProofs {
+    ghost round_trip = { with_proofs.reads_back };
+}
+
+impl StrictRead for BlobTransactionWithProofs {
+    ghost strict = { with_proofs.reads_strictly };
+}
+
+impl Enveloped for BlobTransactionWithProofs {
+    ghost TYPE = { 3 };
+
+    const TYPE: u8 = BLOB_TYPE;
+}
+
+impl Encodable for BlobTransactionWithCellProofs {
+    ghost item = { with_cell_proofs.item };
+
+    ghost fits = { with_cell_proofs.Fits };
+
+    fn rlp_append(&self, s: &mut RlpStream) -> Result<(), AllocError> {
+        rlp::append_fields!(
+            s,
+            &self.transaction,
+            &self.wrapper_version,
+            ListOf(&self.blobs),
+            ListOf(&self.commitments),
+            ListOf(&self.cell_proofs)
+        )
+    }
+}
+
+impl Decodable for BlobTransactionWithCellProofs {
+    ghost gives = { with_cell_proofs.gives };
+
+    ghost faults = { with_cell_proofs.faults };
+
+    ghost may_lack_memory = { with_cell_proofs.may_lack };
+
+    fn decode(alloc: Global, rlp: &Rlp<'_>) -> Result<BlobTransactionWithCellProofs, DecoderError> {
+        rlp::decode_fields!(
+            alloc,
+            rlp,
+            BlobTransactionWithCellProofs {
+                transaction,
+                wrapper_version,
+                blobs: [..],
+                commitments: [..],
+                cell_proofs: [..]
+            }
+        )
+    }
+}
+
+impl RoundTrip for BlobTransactionWithCellProofs {
+    ghost round_trip = { with_cell_proofs.reads_back };
+}
+
+impl StrictRead for BlobTransactionWithCellProofs {
+    ghost strict = { with_cell_proofs.reads_strictly };
+}
+
+impl Enveloped for BlobTransactionWithCellProofs {
+    ghost TYPE = { 3 };
+
+    const TYPE: u8 = BLOB_TYPE;
+}
+
+impl Encodable for WrapperVersion {
+    ghost item = { wrapper_version.item };
+
+    ghost fits = { wrapper_version.Fits };
+
+    ghost at_once = { λ _. ⊤ };
+
+    #[tactic(auto, using(rlp::proofs::Writing::writing))]
+    fn rlp_append(&self, s: &mut RlpStream) -> Result<(), AllocError> {
+        s.encoder().encode_value(&[1])
+    }
+}
+
+/// Reading fails with `Custom("unknown wrapper version")` if the string isn't the byte 1. It takes
+/// no memory.
+impl Decodable for WrapperVersion {
+    ghost gives = { wrapper_version.gives };
+
+    ghost faults = { wrapper_version.faults };
+
+    ghost may_lack_memory = { wrapper_version.may_lack };
+
+    #[tactic(auto, using(rlp::proofs::Reading::reading))]
+    fn decode(_alloc: Global, rlp: &Rlp<'_>) -> Result<WrapperVersion, DecoderError> {
+        rlp.decoder().decode_value(version_of)
+    }
+}
+
+impl RoundTrip for WrapperVersion {
+    ghost round_trip = { wrapper_version.reads_back };
+}
+
+impl StrictRead for WrapperVersion {
+    ghost strict = { wrapper_version.reads_strictly };
+}
+
+/// Makes the version from a string. Fails as reading it does.
+#[tactic(auto, using(crate::specs::BlobWrapper::version_faults))]
+fn version_of(string: &[u8]) -> Result<WrapperVersion, DecoderError>
+    ensures value { IfOk result (λ v. ⊤ × (version_bytes v ≡ string.now)) }
+    ensures fault { IfErr result (λ e. IsVersionFault string.now e) }
+{
+    match string {
+        [1] => Ok(WrapperVersion::CellProofs),
+        _ => Err(DecoderError::Custom("unknown wrapper version")),
+    }
+}

@@ -1,0 +1,132 @@
+//! Transactions without a type.
+
+ghost use Rattle.std.specs.Prelude.{◌≡◌, ◌+◌, ℕ, IfNone, IfSome, Option, refl};
+ghost use Rattle.rlp.specs.Codecs.Parts.{laws_of};
+ghost use Rattle.rlp.specs.Values.Value.{bit};
+ghost use Rattle.rlp_transactions.specs.Eip155.{even_v, v_of};
+ghost use Rattle.rlp_transactions.specs.LegacyTransaction.{legacy_transaction_fields};
+ghost use Rattle.rlp_transactions.specs.Signatures.{IsNoV, SaysChain, number_of};
+
+use crate::{Eip155, Payload, Recipient, Signed};
+use rlp::{AppendFields, DecodeFields, FieldFault, Fields, FixedFields, RlpStream, Uint};
+use std::alloc::{AllocError, Global};
+
+/// A transaction without a type, with its signature: the list of nine fields. `v` is any number.
+pub type SignedLegacyTransaction = Signed<LegacyTransaction, Uint<32>>;
+
+/// A transaction without a type and without its signature: six fields, as in section 4.2 of the yellow
+/// paper. What is signed is a [`UnsignedLegacyTransaction`](crate::UnsignedLegacyTransaction).
+#[derive(Debug, Clone, PartialEq, Eq, Drop)]
+pub struct LegacyTransaction {
+    /// The number of transactions that the sender has sent before. As in EIP-2681 it is below 2^64,
+    /// and a transaction with 2^64 - 1 is invalid; this type reads it.
+    pub nonce: u64,
+    /// The price of a unit of gas, in Wei.
+    pub gas_price: Uint<32>,
+    /// The gas that the transaction may use at most.
+    pub gas_limit: u64,
+    /// The recipient of the value.
+    pub to: Recipient,
+    /// The value that is sent, in Wei.
+    pub value: Uint<32>,
+    /// The input of the call, or the code that creates the contract.
+    pub data: Vec<u8>,
+}
+
+impl Signed<LegacyTransaction, Uint<32>> {
+    /// Returns what `v` says: the chain that is signed, if there is one, and the parity. Returns `None`
+    /// where [`Eip155::from_v`] does.
+    pub fn eip155(&self) -> Option<Eip155>
+        ensures some { IfSome result (λ x. number_of self.now.v ≡ v_of x) }
+        ensures none { IfNone result (IsNoV (number_of self.now.v)) }
+    {
+        Eip155::from_v(&self.v)
+    }
+
+    /// Returns the number of the chain that is signed, as `v` says it in EIP-155. Returns `None` if `v`
+    /// is 27 or 28, or is none of EIP-155, or if the number has more than 64 bits.
+    #[tactic(auto, using(crate::proofs::Parities::chains))]
+    pub fn chain_id(&self) -> Option<u64>
+        ensures { SaysChain (number_of self.now.v) result }
+    {
+        match self.eip155() {
+            Some(said) => said.chain_id,
+            None => None,
+        }
+    }
+
+    /// Returns the parity of the y value of the signature's point, as `v` says it in EIP-155. Returns
+    /// `None` where [`Eip155::from_v`] does.
+    pub fn y_parity(&self) -> Option<bool>
+        ensures some { IfSome result (λ p. (chain : Option ℕ)
+            × (number_of self.now.v ≡ bit p + even_v chain)) }
+        ensures none { IfNone result (IsNoV (number_of self.now.v)) }
+    {
+        match self.eip155() {
+            Some(said) => Some(said.y_parity),
+            None => None,
+        }
+    }
+}
+
+impl AppendFields for LegacyTransaction {
+    ghost items = { legacy_transaction_fields.items };
+
+    ghost fit = { legacy_transaction_fields.Fits };
+
+    fn field_count(&self) -> Option<usize> {
+        Some(6)
+    }
+
+    fn append_fields(&self, s: &mut RlpStream) -> Result<(), AllocError> {
+        rlp::append_fields!([
+            &self.nonce,
+            &self.gas_price,
+            &self.gas_limit,
+            &self.to,
+            &self.value,
+            &self.data
+        ])
+        .append_fields(s)
+    }
+}
+
+impl DecodeFields for LegacyTransaction {
+    ghost reading = { legacy_transaction_fields.reading };
+
+    fn accepts(len: usize) -> bool {
+        len == 6
+    }
+
+    fn decode_fields(
+        alloc: Global,
+        fields: &mut Fields<'_>,
+        len: usize,
+    ) -> Result<LegacyTransaction, FieldFault> {
+        rlp::decode_fields!(
+            alloc,
+            fields,
+            len,
+            LegacyTransaction {
+                nonce,
+                gas_price,
+                gas_limit,
+                to,
+                value,
+                data
+            }
+        )
+    }
+}
+
+impl FixedFields for LegacyTransaction {
+    fn width() -> Option<usize> {
+        Some(6)
+    }
+
+    ghost none_more = { refl };
+}
+
+impl Payload for LegacyTransaction {
+    ghost laws = { laws_of legacy_transaction_fields (λ p. refl) };
+}

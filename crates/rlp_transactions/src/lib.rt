@@ -1,0 +1,41 @@
+//! Transactions of Ethereum: of all types, signed and unsigned. The crate checks no signature.
+#![tactic(auto)]
+
+mod access;
+mod access_list_transaction;
+mod authorization;
+mod blob;
+mod blob_transaction;
+mod blob_wrapper;
+mod deposit_transaction;
+mod eip155;
+mod fee_market_transaction;
+mod hashing;
+pub mod laws;
+mod legacy_transaction;
+mod recipient;
+mod record;
+mod set_code_transaction;
+mod signed;
+mod transaction;
+mod typed_payload;
+mod unsigned_legacy_transaction;
+mod unsigned_transaction;
+
+pub use access::{AccessList, AccessListItem};
+pub use access_list_transaction::AccessListTransaction;
+pub use authorization::{AUTHORIZATION_MAGIC, Authorization, SignedAuthorization};
+pub use blob::{BLOB_LEN, Blob};
+pub use blob_transaction::BlobTransaction;
+pub use blob_wrapper::{BlobTransactionWithCellProofs, BlobTransactionWithProofs, WrapperVersion};
+pub use deposit_transaction::{DEPOSIT_TYPE, DepositTransaction};
+pub use eip155::Eip155;
+pub use fee_market_transaction::FeeMarketTransaction;
+pub use hashing::signing_hash;
+pub use legacy_transaction::{LegacyTransaction, SignedLegacyTransaction};
+pub use recipient::Recipient;
+pub use set_code_transaction::SetCodeTransaction;
+pub use signed::{Payload, Signed, Tagged, TypedTransaction};
+pub use transaction::Transaction;
+pub use unsigned_legacy_transaction::UnsignedLegacyTransaction;
+pub use unsigned_transaction::UnsignedTransaction;

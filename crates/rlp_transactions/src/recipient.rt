@@ -1,0 +1,76 @@
+//! Recipients of transactions: a string of 20 bytes, or the empty string.
+
+ghost use Rattle.std.specs.Prelude.{◌≡◌, ⊤, IfErr, IfOk};
+ghost use Rattle.rlp_transactions.specs.Recipient.{IsRecipient, IsRecipientFault, recipient_bytes, recipient};
+
+use rlp::{Decodable, DecoderError, Encodable, Rlp, RlpStream, RoundTrip, StrictRead};
+use rlp_records::Address;
+use std::alloc::{AllocError, Global};
+
+/// The recipient of a transaction: the address of an account, or the empty string if the
+/// transaction creates a contract.
+///
+/// See section 4.2 of the yellow paper.
+#[derive(Debug, Clone, Copy, PartialEq, Eq)]
+pub enum Recipient {
+    /// No account: the transaction creates a contract.
+    Creation,
+    /// The account with this address.
+    Account(Address),
+}
+
+impl Encodable for Recipient {
+    ghost item = { recipient.item };
+
+    ghost fits = { recipient.Fits };
+
+    ghost at_once = { λ _. ⊤ };
+
+    #[tactic(auto, using(rlp::proofs::Writing::writing))]
+    fn rlp_append(&self, s: &mut RlpStream) -> Result<(), AllocError> {
+        match self {
+            Recipient::Creation => s.encoder().encode_value(&[]),
+            Recipient::Account(address) => s.encoder().encode_value(&address.0),
+        }
+    }
+}
+
+/// Reading fails with `RlpIsTooShort` if the string has 1 to 19 bytes, and with `RlpIsTooBig` if
+/// it has more than 20. It takes no memory.
+impl Decodable for Recipient {
+    ghost gives = { recipient.gives };
+
+    ghost faults = { recipient.faults };
+
+    ghost may_lack_memory = { recipient.may_lack };
+
+    #[tactic(auto, using(rlp::proofs::Reading::reading))]
+    fn decode(_alloc: Global, rlp: &Rlp<'_>) -> Result<Recipient, DecoderError> {
+        rlp.decoder().decode_value(recipient_of)
+    }
+}
+
+impl RoundTrip for Recipient {
+    ghost round_trip = { recipient.reads_back };
+}
+
+impl StrictRead for Recipient {
+    ghost strict = { recipient.reads_strictly };
+}
+
+/// Makes a recipient from a string of 20 bytes, or from the empty string. Fails as reading a
+/// recipient does.
+#[tactic(auto, using(crate::specs::Recipient::recipient_faults))]
+fn recipient_of(string: &[u8]) -> Result<Recipient, DecoderError>
+    ensures value { IfOk result (λ r. IsRecipient r × (recipient_bytes r ≡ string.now)) }
+    ensures fault { IfErr result (λ e. IsRecipientFault string.now e) }
+{
+    if string.is_empty() {
+        return Ok(Recipient::Creation);
+    }
+    match <[u8; 20]>::try_from(string) {
+        Ok(address) => Ok(Recipient::Account(Address(address))),
+        Err(_) if string.len() < 20 => Err(DecoderError::RlpIsTooShort),
+        Err(_) => Err(DecoderError::RlpIsTooBig),
+    }
+}

@@ -1,0 +1,118 @@
+//! Transactions of type 4.
+
+ghost use Rattle.std.specs.Prelude.{refl};
+ghost use Rattle.rlp.specs.Codecs.Parts.{laws_of};
+ghost use Rattle.rlp_transactions.specs.SetCodeTransaction.{set_code_transaction_fields};
+
+use crate::{AccessList, Payload, SignedAuthorization, Tagged, TypedTransaction};
+use rlp::{AppendFields, DecodeFields, FieldFault, Fields, FixedFields, ListOf, RlpStream, Uint};
+use rlp_records::{Address, SET_CODE_TYPE};
+use std::alloc::{AllocError, Global};
+
+/// A transaction of type 4 without its signature: the list of its ten fields is signed after the
+/// byte 4, as in EIP-7702.
+///
+/// It always has a recipient.
+#[derive(Debug, Clone, PartialEq, Eq, Drop)]
+pub struct SetCodeTransaction {
+    /// The number of the chain, as in EIP-155. This type reads numbers of at most 64 bits.
+    pub chain_id: u64,
+    /// The number of transactions that the sender has sent before. As in EIP-2681 it is below 2^64,
+    /// and a transaction with 2^64 - 1 is invalid; this type reads it.
+    pub nonce: u64,
+    /// The highest price of a unit of gas that the sender pays to the block's beneficiary, in Wei.
+    pub max_priority_fee_per_gas: Uint<32>,
+    /// The highest total price of a unit of gas that the sender pays, in Wei.
+    pub max_fee_per_gas: Uint<32>,
+    /// The gas that the transaction may use at most.
+    pub gas_limit: u64,
+    /// The account that receives the value.
+    pub destination: Address,
+    /// The value that is sent, in Wei.
+    pub value: Uint<32>,
+    /// The input of the call.
+    pub data: Vec<u8>,
+    /// The accounts and the keys of storage that the transaction declares.
+    pub access_list: AccessList,
+    /// The accounts whose code the transaction sets. This type also reads an empty list, which the EIP
+    /// calls invalid.
+    pub authorization_list: Vec<SignedAuthorization>,
+}
+
+impl AppendFields for SetCodeTransaction {
+    ghost items = { set_code_transaction_fields.items };
+
+    ghost fit = { set_code_transaction_fields.Fits };
+
+    fn field_count(&self) -> Option<usize> {
+        Some(10)
+    }
+
+    fn append_fields(&self, s: &mut RlpStream) -> Result<(), AllocError> {
+        rlp::append_fields!([
+            &self.chain_id,
+            &self.nonce,
+            &self.max_priority_fee_per_gas,
+            &self.max_fee_per_gas,
+            &self.gas_limit,
+            &self.destination,
+            &self.value,
+            &self.data,
+            &self.access_list,
+            ListOf(&self.authorization_list)
+        ])
+        .append_fields(s)
+    }
+}
+
+impl DecodeFields for SetCodeTransaction {
+    ghost reading = { set_code_transaction_fields.reading };
+
+    fn accepts(len: usize) -> bool {
+        len == 10
+    }
+
+    fn decode_fields(
+        alloc: Global,
+        fields: &mut Fields<'_>,
+        len: usize,
+    ) -> Result<SetCodeTransaction, FieldFault> {
+        rlp::decode_fields!(
+            alloc,
+            fields,
+            len,
+            SetCodeTransaction {
+                chain_id,
+                nonce,
+                max_priority_fee_per_gas,
+                max_fee_per_gas,
+                gas_limit,
+                destination,
+                value,
+                data,
+                access_list,
+                authorization_list: [..]
+            }
+        )
+    }
+}
+
+impl FixedFields for SetCodeTransaction {
+    fn width() -> Option<usize> {
+        Some(10)
+    }
+
+    ghost none_more = { refl };
+}
+
+impl Payload for SetCodeTransaction {
+    ghost laws = { laws_of set_code_transaction_fields (λ p. refl) };
+}
+
+impl Tagged for SetCodeTransaction {
+    ghost TAG = { 4 };
+
+    const TAG: u8 = SET_CODE_TYPE;
+}
+
+impl TypedTransaction for SetCodeTransaction {}

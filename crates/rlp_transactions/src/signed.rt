@@ -1,0 +1,224 @@
+//! Payloads with their signatures and without.
+
+ghost use Rattle.std.specs.Prelude.{◌≡◌, ◌∷◌, ◌⊎◌, ℕ, Bool, IfErr, IfOk, OnOk};
+ghost use Rattle.rlp.specs.Codec.{codec_of, struct_of};
+ghost use Rattle.rlp.specs.Codecs.Parts.{FieldLaws, fields_of};
+ghost use Rattle.rlp.specs.DecoderError.TheVariants.{OutOfMemory};
+ghost use Rattle.rlp.specs.Format.Encoding.{encoding};
+ghost use Rattle.rlp.specs.Format.Item.{list_of};
+ghost use Rattle.rlp.specs.Values.Parts.{GivesStruct, StructFaults, StructMayLack};
+ghost use Rattle.rlp_records.specs.Envelope.{FaultsAfter, MayLackAfter, another_type};
+ghost use Rattle.rlp_transactions.specs.Signed.{SignedFits, listed, signed, signed_item, signed_reading};
+ghost use Rattle.rlp_transactions.specs.declared.signed.Signed.{Signed};
+
+use bytes::BytesMut;
+use rlp::{
+    AppendFields, Decodable, DecoderError, Encodable, FieldsOf, FixedFields, Rlp, RlpStream,
+    RoundTrip, StrictRead, Uint,
+};
+use rlp_records::{from_envelope, to_envelope, typed_list};
+use std::alloc::{AllocError, Global};
+
+/// The fields of a record before its signature. A type with this trait is the record before it is
+/// signed, and [`Signed`] is the record with its signature.
+pub trait Payload: AppendFields + FixedFields {
+    /// What is known of the fields, so that the list that they stand in is read back.
+    ghost laws: { FieldLaws Self.items Self.fit Self.reading };
+
+    /// Returns the record with this signature, which isn't checked. The number `v` says which of two
+    /// points belongs to the signature, as in [`Signed`].
+    final fn with_signature<V>(self, v: V, r: Uint<32>, s: Uint<32>) -> Signed<Self, V>
+        ensures payload { result.payload ≡ self }
+        ensures v { result.v ≡ v }
+        ensures r { result.r ≡ r }
+        ensures s { result.s ≡ s }
+    {
+        Signed {
+            payload: self,
+            v,
+            r,
+            s,
+        }
+    }
+}
+
+/// A payload that is signed as the list of its fields after a byte, which says what it is.
+pub trait Tagged: Payload {
+    /// The byte.
+    ghost TAG: { ℕ };
+
+    /// The byte: the type of a transaction, or that of EIP-7702 before an authorization.
+    const TAG: u8;
+
+    /// Returns the bytes that are signed: the byte of the payload, and the encoding of the list of
+    /// its fields.
+    final fn signing_payload(&self, alloc: Global) -> Result<BytesMut, AllocError>
+        ensures fits { OnOk result (Self.fit self.now) }
+        ensures bytes { IfOk result
+            (λ b. b.items ≡ TAG ∷ encoding (list_of (Self.items self.now))) }
+    {
+        typed_list(alloc, Self::TAG, &FieldsOf(self))
+    }
+
+    /// Reads a payload strictly from the bytes that are signed. For the bytes of a payload it fails
+    /// only if memory runs out.
+    ///
+    /// Fails with `Custom("another type")` if the bytes are empty or begin with another byte, and
+    /// else with the strict fault of the list.
+    final fn from_signing_payload(alloc: Global, bytes: &[u8]) -> Result<Self, DecoderError>
+        ensures whole { IfOk result
+            (λ p. Self.fit p × (bytes.now ≡ TAG ∷ encoding (list_of (Self.items p)))) }
+        ensures fault { IfErr result
+            (λ e. (FaultsAfter TAG another_type (StructFaults Self.reading) bytes.now e)
+            ⊎ ((e ≡ OutOfMemory) × MayLackAfter TAG (StructMayLack Self.reading) bytes.now)) }
+        ensures memory { (p : Self) → Self.fit p
+            → bytes.now ≡ TAG ∷ encoding (list_of (Self.items p))
+            → IfErr result (λ e. e ≡ OutOfMemory) }
+    {
+        match from_envelope(alloc, Self::TAG, bytes) {
+            Ok(Listed(payload)) => Ok(payload),
+            Err(fault) => Err(fault),
+        }
+    }
+}
+
+/// A payload whose byte is a type of EIP-2718, which also stands before the signed transaction.
+pub trait TypedTransaction: Tagged {}
+
+/// A payload with its signature: the list of its fields, and of the three numbers after them.
+///
+/// The signature isn't checked.
+#[derive(Debug, Clone, PartialEq, Eq, Drop)]
+pub struct Signed<T, V = bool> {
+    /// The fields that are signed.
+    pub payload: T,
+    /// Which of two points belongs to the signature. In transactions of types 1 to 4 this is the
+    /// parity `y_parity`: 0 is `false` and 1 is `true`, and reading fails for other numbers. In an
+    /// authorization it is a parity of one byte. In a transaction without a type it is 27 or 28, or
+    /// with EIP-155 twice the number of the chain plus 35 or 36.
+    pub v: V,
+    /// The first number of the signature.
+    pub r: Uint<32>,
+    /// The second number of the signature.
+    pub s: Uint<32>,
+}
+
+impl<T, V> Signed<T, V> {
+    /// Returns the fields that are signed, and the numbers `v`, `r` and `s` of the signature.
+    pub fn into_parts(self) -> (T, V, Uint<32>, Uint<32>)
+        ensures { (result.0 ≡ self.payload) × ((result.1 ≡ self.v)
+            × ((result.2 ≡ self.r) × (result.3 ≡ self.s))) }
+    {
+        (self.payload, self.v, self.r, self.s)
+    }
+}
+
+impl<T: TypedTransaction> Signed<T, bool> {
+    /// Returns the bytes of the transaction by itself: the byte of its type, and the encoding of the
+    /// list, as in EIP-2718.
+    pub fn to_bytes(&self, alloc: Global) -> Result<BytesMut, AllocError>
+        ensures fits { OnOk result (⟦<Signed<T, bool> as Encodable>⟧.fits self.now) }
+        ensures bytes { IfOk result
+            (λ b. b.items ≡ T.TAG ∷ encoding (⟦<Signed<T, bool> as Encodable>⟧.item self.now)) }
+    {
+        to_envelope(alloc, T::TAG, self)
+    }
+
+    /// Reads a transaction of this type strictly from its bytes, as `to_bytes` returns them. For
+    /// such bytes it fails only if memory runs out.
+    ///
+    /// Fails with `Custom("another type")` if the bytes are empty or begin with another byte, and
+    /// else with the strict fault of the list.
+    pub fn from_bytes(alloc: Global, bytes: &[u8]) -> Result<Signed<T, bool>, DecoderError>
+        ensures whole { IfOk result (λ x. ⟦<Signed<T, bool> as Encodable>⟧.fits x
+            × (bytes.now ≡ T.TAG ∷ encoding (⟦<Signed<T, bool> as Encodable>⟧.item x))) }
+        ensures fault { IfErr result (λ e. (FaultsAfter T.TAG another_type
+            ⟦<Signed<T, bool> as Decodable>⟧.faults bytes.now e)
+            ⊎ ((e ≡ OutOfMemory) × MayLackAfter T.TAG
+            ⟦<Signed<T, bool> as Decodable>⟧.may_lack_memory bytes.now)) }
+        ensures memory { (x : Signed T Bool) → ⟦<Signed<T, bool> as Encodable>⟧.fits x
+            → bytes.now ≡ T.TAG ∷ encoding (⟦<Signed<T, bool> as Encodable>⟧.item x)
+            → IfErr result (λ e. e ≡ OutOfMemory) }
+    {
+        from_envelope(alloc, T::TAG, bytes)
+    }
+}
+
+impl<T: Payload, V: Encodable> Encodable for Signed<T, V> {
+    ghost item = { signed_item T.items V.item };
+
+    ghost fits = { SignedFits T.fit V.fits };
+
+    fn rlp_append(&self, s: &mut RlpStream) -> Result<(), AllocError> {
+        rlp::append_fields!(s, FieldsOf(&self.payload), &self.v, &self.r, &self.s)
+    }
+}
+
+impl<T: Payload, V: Decodable> Decodable for Signed<T, V> {
+    ghost gives = { GivesStruct (signed_reading T.reading V.gives V.faults V.may_lack_memory) };
+
+    ghost faults = { StructFaults (signed_reading T.reading V.gives V.faults V.may_lack_memory) };
+
+    ghost may_lack_memory = { StructMayLack
+        (signed_reading T.reading V.gives V.faults V.may_lack_memory) };
+
+    fn decode(alloc: Global, rlp: &Rlp<'_>) -> Result<Signed<T, V>, DecoderError> {
+        rlp::decode_fields!(
+            alloc,
+            rlp,
+            Signed {
+                payload: (..),
+                v,
+                r,
+                s
+            }
+        )
+    }
+}
+
+impl<T: Payload, V: StrictRead> RoundTrip for Signed<T, V> {
+    ghost round_trip = { (signed (fields_of T.laws) T.laws.fixed (codec_of V.fits V.item V.gives
+        V.faults V.may_lack_memory V.round_trip V.strict)).reads_back };
+}
+
+impl<T: Payload, V: StrictRead> StrictRead for Signed<T, V> {
+    ghost strict = { (signed (fields_of T.laws) T.laws.fixed (codec_of V.fits V.item V.gives
+        V.faults V.may_lack_memory V.round_trip V.strict)).reads_strictly };
+}
+
+// A payload as the list of its fields, which is read after the byte of its type.
+#[derive(Drop)]
+pub(crate) struct Listed<T>(pub T);
+
+impl<T: Payload> Encodable for Listed<T> {
+    ghost item = { λ u. list_of (T.items u.0) };
+
+    ghost fits = { λ u. T.fit u.0 };
+
+    fn rlp_append(&self, s: &mut RlpStream) -> Result<(), AllocError> {
+        rlp::append_fields!(s, FieldsOf(&self.0))
+    }
+}
+
+impl<T: Payload> Decodable for Listed<T> {
+    ghost gives = { λ v u. GivesStruct T.reading v u.0 };
+
+    ghost faults = { StructFaults T.reading };
+
+    ghost may_lack_memory = { StructMayLack T.reading };
+
+    fn decode(alloc: Global, rlp: &Rlp<'_>) -> Result<Listed<T>, DecoderError> {
+        match rlp::decode_struct(alloc, rlp) {
+            Ok(payload) => Ok(Listed(payload)),
+            Err(fault) => Err(fault.fault),
+        }
+    }
+}
+
+impl<T: Payload> RoundTrip for Listed<T> {
+    ghost round_trip = { (listed (fields_of T.laws)).reads_back };
+}
+
+impl<T: Payload> StrictRead for Listed<T> {
+    ghost strict = { (listed (fields_of T.laws)).reads_strictly };
+}

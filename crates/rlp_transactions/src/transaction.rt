@@ -1,0 +1,156 @@
+//! Transactions of every type.
+
+ghost use Rattle.std.specs.Prelude.{◌≡◌, ◌∷◌, ◌⊎◌, IfErr, IfOk, OnOk};
+ghost use Rattle.rlp.specs.DecoderError.TheVariants.{OutOfMemory};
+ghost use Rattle.rlp.specs.Format.Item.{string};
+ghost use Rattle.rlp_records.specs.Alone.{FaultsAlone, MayLackAlone, PayloadFails, bytes_alone};
+ghost use Rattle.rlp_transactions.specs.LegacyTransaction.{signed_legacy_transaction};
+ghost use Rattle.rlp_transactions.specs.Transaction.{transaction, typed_transactions, unknown_type};
+
+mod parts;
+mod signatures;
+
+use crate::typed_payload::decode_typed;
+use crate::{
+    AccessListTransaction, BlobTransaction, FeeMarketTransaction, SetCodeTransaction, Signed,
+    SignedLegacyTransaction,
+};
+use bytes::BytesMut;
+use rlp::{
+    Decodable, DecoderError, Encodable, Envelope, Rlp, RlpStream, RoundTrip, StrictRead,
+    write_envelope,
+};
+use rlp_records::{ACCESS_LIST_TYPE, BLOB_TYPE, FEE_MARKET_TYPE, SET_CODE_TYPE, to_envelope};
+use std::alloc::{AllocError, Global};
+
+/// A signed transaction, as in the list of a block's transactions: a legacy transaction is a list,
+/// and a typed one is the string of its envelope, as in EIP-2718.
+#[derive(Debug, Clone, PartialEq, Eq, Drop)]
+pub enum Transaction {
+    /// A transaction without a type.
+    Legacy(SignedLegacyTransaction),
+    /// A transaction of type 1.
+    AccessList(Signed<AccessListTransaction>),
+    /// A transaction of type 2.
+    FeeMarket(Signed<FeeMarketTransaction>),
+    /// A transaction of type 3.
+    Blob(Signed<BlobTransaction>),
+    /// A transaction of type 4.
+    SetCode(Signed<SetCodeTransaction>),
+}
+
+impl Transaction {
+    /// Returns the bytes of the transaction by itself, as it is hashed: the encoding of a legacy
+    /// transaction, or the byte of the type and the encoding of the payload. It is sent so too,
+    /// except a transaction of type 3, which is sent with its blobs, as
+    /// [`BlobTransactionWithProofs`](crate::BlobTransactionWithProofs) or
+    /// [`BlobTransactionWithCellProofs`](crate::BlobTransactionWithCellProofs).
+    pub fn to_bytes(&self, alloc: Global) -> Result<BytesMut, AllocError>
+        ensures fits { OnOk result (transaction.Fits self.now) }
+        ensures bytes { IfOk result (λ b. b.items ≡ bytes_alone (transaction.item self.now)) }
+    {
+        match self {
+            Transaction::Legacy(payload) => rlp::encode(alloc, payload),
+            Transaction::AccessList(payload) => to_envelope(alloc, ACCESS_LIST_TYPE, payload),
+            Transaction::FeeMarket(payload) => to_envelope(alloc, FEE_MARKET_TYPE, payload),
+            Transaction::Blob(payload) => to_envelope(alloc, BLOB_TYPE, payload),
+            Transaction::SetCode(payload) => to_envelope(alloc, SET_CODE_TYPE, payload),
+        }
+    }
+
+    /// Reads a transaction strictly from its bytes, as [`Transaction::to_bytes`] returns them. For
+    /// such bytes it fails only if memory runs out.
+    ///
+    /// Fails with `Custom("unknown transaction type")` for a first byte below `0xc0` that is no
+    /// type, with `RlpIsTooShort` if there are no bytes, and else with the strict fault of the
+    /// payload.
+    pub fn from_bytes(alloc: Global, bytes: &[u8]) -> Result<Transaction, DecoderError>
+        ensures value { IfOk result (λ t. transaction.Fits t
+            × (bytes.now ≡ bytes_alone (transaction.item t))) }
+        ensures fault { IfErr result (λ e.
+            (FaultsAlone signed_legacy_transaction unknown_type typed_transactions bytes.now e)
+            ⊎ ((e ≡ OutOfMemory)
+            × MayLackAlone signed_legacy_transaction typed_transactions bytes.now)) }
+        ensures memory { (t : Transaction) → transaction.Fits t
+            → bytes.now ≡ bytes_alone (transaction.item t) → IfErr result (λ e. e ≡ OutOfMemory) }
+    {
+        read_alone(alloc, bytes)
+    }
+}
+
+// Reads a transaction from its bytes. That its own bytes have no fault follows in `from_bytes`.
+#[tactic(auto, using(rlp::proofs::Envelopes::envelope_bytes))]
+fn read_alone(alloc: Global, bytes: &[u8]) -> Result<Transaction, DecoderError>
+    ensures value { IfOk result (λ t. transaction.Fits t
+        × (bytes.now ≡ bytes_alone (transaction.item t))) }
+    ensures fault { IfErr result (λ e.
+        (FaultsAlone signed_legacy_transaction unknown_type typed_transactions bytes.now e)
+        ⊎ ((e ≡ OutOfMemory)
+        × MayLackAlone signed_legacy_transaction typed_transactions bytes.now)) }
+{
+    if Rlp::new(bytes).is_list() {
+        return Ok(Transaction::Legacy(rlp::decode_whole(alloc, bytes)?));
+    }
+    let envelope = Envelope::split(bytes)?;
+    decode_payload(alloc, &envelope)
+}
+
+// Reads a transaction of one of the types.
+fn decode_payload(alloc: Global, envelope: &Envelope<'_>) -> Result<Transaction, DecoderError>
+    ensures value { IfOk result (λ t. transaction.Fits t
+        × (transaction.item t ≡ string (envelope.now.tag ∷ envelope.now.payload.now))) }
+    ensures fault { IfErr result (λ e. PayloadFails unknown_type typed_transactions
+        envelope.now.tag envelope.now.payload.now e) }
+{
+    decode_typed!(
+        alloc,
+        envelope,
+        "unknown transaction type",
+        ACCESS_LIST_TYPE => Transaction::AccessList,
+        FEE_MARKET_TYPE => Transaction::FeeMarket,
+        BLOB_TYPE => Transaction::Blob,
+        SET_CODE_TYPE => Transaction::SetCode
+    )
+}
+
+impl Encodable for Transaction {
+    ghost item = { transaction.item };
+
+    ghost fits = { transaction.Fits };
+
+    fn rlp_append(&self, s: &mut RlpStream) -> Result<(), AllocError> {
+        match self {
+            Transaction::Legacy(payload) => payload.rlp_append(s),
+            Transaction::AccessList(payload) => write_envelope(s, ACCESS_LIST_TYPE, payload),
+            Transaction::FeeMarket(payload) => write_envelope(s, FEE_MARKET_TYPE, payload),
+            Transaction::Blob(payload) => write_envelope(s, BLOB_TYPE, payload),
+            Transaction::SetCode(payload) => write_envelope(s, SET_CODE_TYPE, payload),
+        }
+    }
+}
+
+impl Decodable for Transaction {
+    ghost gives = { transaction.gives };
+
+    ghost faults = { transaction.faults };
+
+    ghost may_lack_memory = { transaction.may_lack };
+
+    #[tactic(auto, using(rlp::proofs::Envelopes::envelopes))]
+    fn decode(alloc: Global, rlp: &Rlp<'_>) -> Result<Transaction, DecoderError> {
+        if rlp.is_list() {
+            let legacy = rlp.as_val(alloc)?;
+            return Ok(Transaction::Legacy(legacy));
+        }
+        let envelope = Envelope::of(rlp)?;
+        decode_payload(alloc, &envelope)
+    }
+}
+
+impl RoundTrip for Transaction {
+    ghost round_trip = { transaction.reads_back };
+}
+
+impl StrictRead for Transaction {
+    ghost strict = { transaction.reads_strictly };
+}

@@ -1,0 +1,103 @@
+//! Signatures of transactions of every type.
+
+ghost use Rattle.std.specs.Prelude.{◌≡◌, Bool, IfNone, IfOk, IfSome};
+ghost use Rattle.rlp_transactions.specs.declared.unsigned_transaction.UnsignedTransaction.{UnsignedTransaction};
+ghost use Rattle.rlp_records.specs.Alone.{bytes_alone};
+ghost use Rattle.rlp_transactions.specs.Signatures.{HasNoV, IsChainOf, Signs, r_of, s_of};
+ghost use Rattle.rlp_transactions.specs.UnsignedTransaction.{unsigned_transaction};
+
+use crate::signed::Tagged;
+use crate::unsigned_legacy_transaction::unsigned_bytes;
+use crate::{Transaction, UnsignedLegacyTransaction, UnsignedTransaction};
+use bytes::BytesMut;
+use rlp::Uint;
+use std::alloc::{AllocError, Global};
+
+impl Transaction {
+    /// Returns the number of the chain that the transaction is signed for. A transaction without a
+    /// type may have none: see [`Signed::chain_id`](crate::Signed::chain_id).
+    pub fn chain_id(&self) -> Option<u64>
+        ensures { IsChainOf self.now result }
+    {
+        match self {
+            Transaction::Legacy(tx) => tx.chain_id(),
+            Transaction::AccessList(tx) => Some(tx.payload.chain_id),
+            Transaction::FeeMarket(tx) => Some(tx.payload.chain_id),
+            Transaction::Blob(tx) => Some(tx.payload.chain_id),
+            Transaction::SetCode(tx) => Some(tx.payload.chain_id),
+        }
+    }
+
+    /// Returns the first number of the signature.
+    pub fn r(&self) -> &Uint<32>
+        ensures { result.now ≡ r_of self.now }
+    {
+        match self {
+            Transaction::Legacy(tx) => &tx.r,
+            Transaction::AccessList(tx) => &tx.r,
+            Transaction::FeeMarket(tx) => &tx.r,
+            Transaction::Blob(tx) => &tx.r,
+            Transaction::SetCode(tx) => &tx.r,
+        }
+    }
+
+    /// Returns the second number of the signature.
+    pub fn s(&self) -> &Uint<32>
+        ensures { result.now ≡ s_of self.now }
+    {
+        match self {
+            Transaction::Legacy(tx) => &tx.s,
+            Transaction::AccessList(tx) => &tx.s,
+            Transaction::FeeMarket(tx) => &tx.s,
+            Transaction::Blob(tx) => &tx.s,
+            Transaction::SetCode(tx) => &tx.s,
+        }
+    }
+
+    /// Returns the transaction without its signature, and the parity of the y value of the
+    /// signature's point. Returns `None` if the transaction has no type and its `v` is none of
+    /// EIP-155, or that of a chain of more than 64 bits.
+    pub fn into_unsigned(self) -> Option<(UnsignedTransaction, bool)>
+        ensures some { IfSome result (λ x. Signs self x.0 x.1) }
+        ensures none { IfNone result (HasNoV self) }
+    {
+        match self {
+            Transaction::Legacy(tx) => match tx.eip155() {
+                Some(said) => Some((
+                    UnsignedTransaction::Legacy(UnsignedLegacyTransaction {
+                        payload: tx.payload,
+                        chain_id: said.chain_id,
+                    }),
+                    said.y_parity,
+                )),
+                None => None,
+            },
+            Transaction::AccessList(tx) => {
+                Some((UnsignedTransaction::AccessList(tx.payload), tx.v))
+            }
+            Transaction::FeeMarket(tx) => Some((UnsignedTransaction::FeeMarket(tx.payload), tx.v)),
+            Transaction::Blob(tx) => Some((UnsignedTransaction::Blob(tx.payload), tx.v)),
+            Transaction::SetCode(tx) => Some((UnsignedTransaction::SetCode(tx.payload), tx.v)),
+        }
+    }
+
+    /// Returns the bytes that are hashed and signed, as [`UnsignedTransaction::to_bytes`] does for
+    /// the transaction without its signature. Returns `None` where [`Transaction::into_unsigned`]
+    /// does.
+    pub fn signing_payload(&self, alloc: Global) -> Result<Option<BytesMut>, AllocError>
+        ensures some { IfOk result (λ o. IfSome o (λ b. (u : UnsignedTransaction) × (parity : Bool)
+            × (Signs self.now u parity × (b.items ≡ bytes_alone (unsigned_transaction.item u))))) }
+        ensures none { IfOk result (λ o. IfNone o (HasNoV self.now)) }
+    {
+        match self {
+            Transaction::Legacy(tx) => match tx.eip155() {
+                Some(said) => Ok(Some(unsigned_bytes(alloc, &tx.payload, said.chain_id)?)),
+                None => Ok(None),
+            },
+            Transaction::AccessList(tx) => Ok(Some(tx.payload.signing_payload(alloc)?)),
+            Transaction::FeeMarket(tx) => Ok(Some(tx.payload.signing_payload(alloc)?)),
+            Transaction::Blob(tx) => Ok(Some(tx.payload.signing_payload(alloc)?)),
+            Transaction::SetCode(tx) => Ok(Some(tx.payload.signing_payload(alloc)?)),
+        }
+    }
+}

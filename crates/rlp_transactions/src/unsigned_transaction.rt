@@ -1,0 +1,141 @@
+//! Transactions of every type, before they are signed.
+
+ghost use Rattle.std.specs.Prelude.{◌≡◌, ◌∷◌, ◌⊎◌, IfErr, IfOk, OnOk};
+ghost use Rattle.rlp.specs.DecoderError.TheVariants.{OutOfMemory};
+ghost use Rattle.rlp.specs.Format.Item.{string};
+ghost use Rattle.rlp_records.specs.Alone.{FaultsAlone, MayLackAlone, PayloadFails, bytes_alone};
+ghost use Rattle.rlp_transactions.specs.Signatures.{Signs, r_of, s_of};
+ghost use Rattle.rlp_transactions.specs.Transaction.{unknown_type};
+ghost use Rattle.rlp_transactions.specs.UnsignedLegacyTransaction.{unsigned_legacy_transaction};
+ghost use Rattle.rlp_transactions.specs.UnsignedTransaction.{unsigned_transaction, unsigned_types};
+
+use crate::signed::{Listed, Payload, Tagged};
+use crate::typed_payload::decode_typed;
+use crate::{
+    AccessListTransaction, BlobTransaction, FeeMarketTransaction, SetCodeTransaction, Transaction,
+    UnsignedLegacyTransaction,
+};
+use bytes::BytesMut;
+use rlp::{DecoderError, Envelope, Rlp, Uint};
+use rlp_records::{ACCESS_LIST_TYPE, BLOB_TYPE, FEE_MARKET_TYPE, SET_CODE_TYPE};
+use std::alloc::{AllocError, Global};
+
+/// A transaction before it is signed: a legacy transaction, or a transaction of a type as in
+/// EIP-2718.
+///
+/// [`UnsignedTransaction::to_bytes`] returns the bytes that are signed.
+#[derive(Debug, Clone, PartialEq, Eq, Drop)]
+pub enum UnsignedTransaction {
+    /// A transaction without a type.
+    Legacy(UnsignedLegacyTransaction),
+    /// A transaction of type 1.
+    AccessList(AccessListTransaction),
+    /// A transaction of type 2.
+    FeeMarket(FeeMarketTransaction),
+    /// A transaction of type 3.
+    Blob(BlobTransaction),
+    /// A transaction of type 4.
+    SetCode(SetCodeTransaction),
+}
+
+impl UnsignedTransaction {
+    /// Returns the bytes that are hashed and signed: the encoding of a legacy transaction, or the
+    /// byte of the type and the encoding of the payload.
+    pub fn to_bytes(&self, alloc: Global) -> Result<BytesMut, AllocError>
+        ensures fits { OnOk result (unsigned_transaction.Fits self.now) }
+        ensures bytes { IfOk result (λ b. b.items ≡ bytes_alone (unsigned_transaction.item self.now)) }
+    {
+        match self {
+            UnsignedTransaction::Legacy(payload) => rlp::encode(alloc, payload),
+            UnsignedTransaction::AccessList(payload) => payload.signing_payload(alloc),
+            UnsignedTransaction::FeeMarket(payload) => payload.signing_payload(alloc),
+            UnsignedTransaction::Blob(payload) => payload.signing_payload(alloc),
+            UnsignedTransaction::SetCode(payload) => payload.signing_payload(alloc),
+        }
+    }
+
+    /// Returns the transaction with this signature, which isn't checked. The parity is that of the y
+    /// value of the signature's point.
+    pub fn with_signature(self, y_parity: bool, r: Uint<32>, s: Uint<32>) -> Transaction
+        ensures signs { Signs result self y_parity }
+        ensures r { r_of result ≡ r }
+        ensures s { s_of result ≡ s }
+    {
+        match self {
+            UnsignedTransaction::Legacy(tx) => {
+                Transaction::Legacy(tx.with_signature(y_parity, r, s))
+            }
+            UnsignedTransaction::AccessList(payload) => {
+                Transaction::AccessList(payload.with_signature(y_parity, r, s))
+            }
+            UnsignedTransaction::FeeMarket(payload) => {
+                Transaction::FeeMarket(payload.with_signature(y_parity, r, s))
+            }
+            UnsignedTransaction::Blob(payload) => {
+                Transaction::Blob(payload.with_signature(y_parity, r, s))
+            }
+            UnsignedTransaction::SetCode(payload) => {
+                Transaction::SetCode(payload.with_signature(y_parity, r, s))
+            }
+        }
+    }
+
+    /// Reads a transaction strictly from the bytes that are signed, as
+    /// [`UnsignedTransaction::to_bytes`] returns them. For such bytes it fails only if memory runs
+    /// out.
+    ///
+    /// Fails with `Custom("unknown transaction type")` for a first byte below `0xc0` that is no
+    /// type, with `RlpIsTooShort` if there are no bytes, and else with the strict fault of the
+    /// payload.
+    pub fn from_bytes(alloc: Global, bytes: &[u8]) -> Result<UnsignedTransaction, DecoderError>
+        ensures value { IfOk result (λ t. unsigned_transaction.Fits t
+            × (bytes.now ≡ bytes_alone (unsigned_transaction.item t))) }
+        ensures fault { IfErr result (λ e.
+            (FaultsAlone unsigned_legacy_transaction unknown_type unsigned_types bytes.now e)
+            ⊎ ((e ≡ OutOfMemory)
+            × MayLackAlone unsigned_legacy_transaction unsigned_types bytes.now)) }
+        ensures memory { (t : UnsignedTransaction) → unsigned_transaction.Fits t
+            → bytes.now ≡ bytes_alone (unsigned_transaction.item t)
+            → IfErr result (λ e. e ≡ OutOfMemory) }
+    {
+        read_alone(alloc, bytes)
+    }
+}
+
+// Reads a transaction from its bytes. That its own bytes have no fault follows in `from_bytes`.
+#[tactic(auto, using(rlp::proofs::Envelopes::envelope_bytes))]
+fn read_alone(alloc: Global, bytes: &[u8]) -> Result<UnsignedTransaction, DecoderError>
+    ensures value { IfOk result (λ t. unsigned_transaction.Fits t
+        × (bytes.now ≡ bytes_alone (unsigned_transaction.item t))) }
+    ensures fault { IfErr result (λ e.
+        (FaultsAlone unsigned_legacy_transaction unknown_type unsigned_types bytes.now e)
+        ⊎ ((e ≡ OutOfMemory)
+        × MayLackAlone unsigned_legacy_transaction unsigned_types bytes.now)) }
+{
+    if Rlp::new(bytes).is_list() {
+        return Ok(UnsignedTransaction::Legacy(rlp::decode_whole(alloc, bytes)?));
+    }
+    let envelope = Envelope::split(bytes)?;
+    decode_payload(alloc, &envelope)
+}
+
+// Reads a transaction of one of the types.
+fn decode_payload(
+    alloc: Global,
+    envelope: &Envelope<'_>,
+) -> Result<UnsignedTransaction, DecoderError>
+    ensures value { IfOk result (λ t. unsigned_transaction.Fits t
+        × (unsigned_transaction.item t ≡ string (envelope.now.tag ∷ envelope.now.payload.now))) }
+    ensures fault { IfErr result (λ e. PayloadFails unknown_type unsigned_types
+        envelope.now.tag envelope.now.payload.now e) }
+{
+    decode_typed!(
+        alloc,
+        envelope,
+        "unknown transaction type",
+        ACCESS_LIST_TYPE => UnsignedTransaction::AccessList[Listed],
+        FEE_MARKET_TYPE => UnsignedTransaction::FeeMarket[Listed],
+        BLOB_TYPE => UnsignedTransaction::Blob[Listed],
+        SET_CODE_TYPE => UnsignedTransaction::SetCode[Listed]
+    )
+}

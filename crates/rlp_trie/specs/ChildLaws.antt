@@ -1,0 +1,91 @@
+-- Children are given exactly by their encodings.
+use Rattle.std.proofs.Common.{◌≡◌, ◌<◌, ◌^◌, ◌⊎◌, inl, inr, ℕ, List, [], length, true, sym, ap, ◌∙◌, subst, arith, Ok}
+use Rattle.rlp.specs.DecoderError.{DecoderError}
+use Rattle.rlp.specs.DecoderError.TheVariants.{OutOfMemory}
+use Rattle.rlp.specs.Format.Item.{string}
+use Rattle.rlp.specs.Format.Encoding.{encoding}
+use Rattle.rlp.specs.Format.Split.{begins_as_list}
+use Rattle.rlp.specs.Values.RawItem.{IsRawFault, IsRawItem, raw_item_of, view_frame}
+use Rattle.rlp.specs.Values.ValueReading.{GivesValue}
+use Rattle.rlp.specs.Views.View.{View, Holds, HoldsItem, strict_view_of}
+use Rattle.rlp.specs.Codec.{Codec}
+use Rattle.rlp.specs.Codecs.Exact.{exact_type}
+use Rattle.rlp.specs.Lemmas.RawItems.{raw_encoding, raw_has_no_fault, string_kind, view_frame-held}
+use Rattle.rlp.specs.Lemmas.StringsHeld.{held_begins, held_read, same_held}
+use Rattle.rlp.specs.Lemmas.Encodings.{front_sized}
+use Rattle.rlp_trie.specs.Child.{FaultsAsChild, IsChild, IsChildFault, MayLackAsChild, child_item, faulty_child, faulty_node}
+use Rattle.rlp_trie.specs.Child.{longer_hash, longer_node, no_string, shorter_hash, unframed_child}
+use Rattle.rlp_trie.specs.Inline.{IsInlineNode}
+use Rattle.rlp_trie.specs.declared.child.Child.{Child}
+use Rattle.rlp_trie.specs.declared.child.Child.TheVariants.{Nothing, Node, Inline}
+
+-- a string of no bytes or of 32 has no fault
+string_told : (b s : List ℕ) (e : DecoderError) → length b < 2 ^ 64 → b ≡ encoding (string s) → (length s ≡ 0) ⊎ (length s ≡ 32) → ¬ IsChildFault b e
+string_told b s e fits is long (no_string f kind none) = held_read (strict_view_of b) s f fits is none
+string_told b s e fits is (inl none) (shorter_hash d whole some few) =
+    let same : d ≡ s = same_held (strict_view_of b) d s fits whole is in omega (arith, none, some, ap length same)
+string_told b s e fits is (inr all) (shorter_hash d whole some few) =
+    let same : d ≡ s = same_held (strict_view_of b) d s fits whole is in omega (arith, all, few, ap length same)
+string_told b s e fits is (inl none) (longer_hash d whole more) =
+    let same : d ≡ s = same_held (strict_view_of b) d s fits whole is in omega (arith, none, more, ap length same)
+string_told b s e fits is (inr all) (longer_hash d whole more) =
+    let same : d ≡ s = same_held (strict_view_of b) d s fits whole is in omega (arith, all, more, ap length same)
+string_told b s e fits is long (longer_node kind many) = let other = string_kind b s fits is in cc
+string_told b s e fits is long (faulty_node f kind bad) = let other = string_kind b s fits is in cc
+
+-- a node that is kept in its parent has no fault
+node_told : (b : List ℕ) (e : DecoderError) → IsInlineNode b → ¬ IsChildFault b e
+node_told b e is (no_string f kind none) = let other = is.is_list in cc
+node_told b e is (shorter_hash d whole some few) =
+    let other = string_kind b d (let fits : length b < 2 ^ 64 = omega (arith, is.is_short) in fits) whole in let kind = is.is_list in cc
+node_told b e is (longer_hash d whole more) =
+    let other = string_kind b d (let fits : length b < 2 ^ 64 = omega (arith, is.is_short) in fits) whole in let kind = is.is_list in cc
+node_told b e is (longer_node kind many) = omega (arith, is.is_short, many)
+node_told b e is (faulty_node f kind bad) = raw_has_no_fault b f (let fits : length b < 2 ^ 64 = omega (arith, is.is_short) in fits) is.raw bad
+
+child_told : (b : List ℕ) (c : Child) (e : DecoderError) → length b < 2 ^ 64 → IsChild c → b ≡ encoding (child_item c) → ¬ IsChildFault b e
+child_told b Nothing e fits is whole = string_told b [] e fits whole (inl (let none : length {A = ℕ} [] ≡ 0 = omega arith in none))
+child_told b (Node hash) e fits is whole = string_told b hash.0 e fits whole (inr is)
+child_told b (Inline node) e fits is whole =
+    let same : b ≡ node.item = whole ∙ raw_encoding node.item (let few : length node.item < 2 ^ 64 = omega (arith, node.is_short) in few) is in
+    node_told b e (subst IsInlineNode (sym same) (record { raw = is; is_list = node.is_list; is_short = node.is_short }))
+
+-- a view that holds the encoding of a child has no fault
+pub child_sound : (v : View) (c : Child) → length v.bytes < 2 ^ 64 → IsChild c → HoldsItem v (child_item c) → (e : DecoderError) → ¬ FaultsAsChild v e
+child_sound v c fits is holds e (unframed_child none) = let framed = view_frame-held v (child_item c) fits holds in cc
+child_sound v c fits is holds e (faulty_child b framed bad) =
+    let whole : view_frame v ≡ Ok (encoding (child_item c)) = view_frame-held v (child_item c) fits holds in
+    let same : b ≡ encoding (child_item c) = cc in
+    let (more, begins) = held_begins v (child_item c) holds in
+    let sized : length (encoding (child_item c)) < 2 ^ 64 = front_sized (child_item c) v.bytes more fits begins in
+    child_told b c e (let few : length b < 2 ^ 64 = omega (arith, sized, ap length same) in few) is same bad
+
+-- a child is given exactly by its encoding
+abbrev pub child : Codec Child
+child = exact_type IsChild child_item FaultsAsChild MayLackAsChild child_sound
+
+-- ---- rules for bodies
+
+-- the encoding of the node that is kept is its bytes
+pub inline_given : (b c : List ℕ) → IsRawItem b → length b < 32 → c ≡ b → b ≡ encoding (raw_item_of c)
+inline_given b c raw short same =
+    sym (raw_encoding b (let few : length b < 2 ^ 64 = omega (arith, short) in few) raw) ∙ ap (λ d. encoding (raw_item_of d)) (sym same)
+
+-- the child that is read from the first item
+pub child_given : (v : View) (b : List ℕ) (c : Child) → Holds v.is_strict v.bytes b → IsChild c → b ≡ encoding (child_item c)
+    → GivesValue IsChild child_item v c
+child_given v b c holds is whole = record { fits = is; begins = subst (λ a. Holds v.is_strict v.bytes a) whole holds }
+
+-- why no child is read from the first item
+pub child_fails : (v : View) (b c : List ℕ) (e : DecoderError) → view_frame v ≡ Ok b → c ≡ b → IsChildFault c e ⊎ ((e ≡ OutOfMemory) × IsInlineNode c)
+    → FaultsAsChild v e ⊎ ((e ≡ OutOfMemory) × MayLackAsChild v)
+child_fails v b c e framed same (inl bad) = inl (faulty_child c (framed ∙ ap Ok (sym same)) bad)
+child_fails v b c e framed same (inr (lacks, raw)) = inr (lacks, record { bytes = c; framed = framed ∙ ap Ok (sym same); is = raw })
+
+-- a fault of a raw item that is a short list is one of the child
+pub node_fails : (b : List ℕ) (e : DecoderError) → begins_as_list b ≡ true → length b < 32 → IsRawFault b e ⊎ ((e ≡ OutOfMemory) × IsRawItem b)
+    → IsChildFault b e ⊎ ((e ≡ OutOfMemory) × IsInlineNode b)
+node_fails b e kind short (inl bad) = inl (faulty_node e kind bad)
+node_fails b e kind short (inr (lacks, raw)) = inr (lacks, record { raw = raw; is_list = kind; is_short = short })
+
+pub ruleset child_reading = (no_string, shorter_hash, longer_hash, longer_node, inline_given, child_given, child_fails, node_fails, unframed_child)

@@ -1,0 +1,62 @@
+//! Branches of the trie: the list of sixteen children and a value.
+
+ghost use Rattle.rlp_trie.specs.Trie.{branch};
+
+use crate::Child;
+use rlp::{Decodable, DecoderError, Each, Encodable, Rlp, RlpStream, RoundTrip, StrictRead};
+use std::alloc::{AllocError, Global};
+
+/// A node of the trie with a child for each next digit of the path to the base 16: the list of the
+/// children and a value.
+///
+/// See appendix D of the yellow paper.
+#[derive(Drop)]
+pub struct Branch {
+    /// The child for each next digit of the path.
+    pub children: [Child; 16],
+    /// The value of the path that ends here, or no bytes if there is none.
+    pub value: Vec<u8>,
+}
+
+impl Encodable for Branch {
+    ghost item = { branch.item };
+
+    ghost fits = { branch.Fits };
+
+    #[tactic(auto, using(rlp::proofs::Writing::writing))]
+    fn rlp_append(&self, s: &mut RlpStream) -> Result<(), AllocError> {
+        let children = self.children.as_slice();
+        // This is always so. The test tells the proof the length of the array.
+        if children.len() != 16 {
+            return Err(AllocError);
+        }
+        rlp::append_fields!(s, Each(children), &self.value)
+    }
+}
+
+impl Decodable for Branch {
+    ghost gives = { branch.gives };
+
+    ghost faults = { branch.faults };
+
+    ghost may_lack_memory = { branch.may_lack };
+
+    fn decode(alloc: Global, rlp: &Rlp<'_>) -> Result<Branch, DecoderError> {
+        rlp::decode_fields!(
+            alloc,
+            rlp,
+            Branch {
+                children: [_, _, _, _, _, _, _, _, _, _, _, _, _, _, _, _],
+                value
+            }
+        )
+    }
+}
+
+impl RoundTrip for Branch {
+    ghost round_trip = { branch.reads_back };
+}
+
+impl StrictRead for Branch {
+    ghost strict = { branch.reads_strictly };
+}

@@ -1,0 +1,101 @@
+//! Children of nodes of the trie.
+
+ghost use Rattle.std.specs.Prelude.{◌≡◌, ◌⊎◌, ⊤, IfErr, IfOk};
+ghost use Rattle.rlp.specs.DecoderError.TheVariants.{OutOfMemory};
+ghost use Rattle.rlp.specs.Format.Encoding.{encoding};
+ghost use Rattle.rlp_trie.specs.Child.{IsChild, IsChildFault, child_item};
+ghost use Rattle.rlp_trie.specs.ChildLaws.{child};
+ghost use Rattle.rlp_trie.specs.Inline.{IsInlineNode};
+
+use crate::InlineNode;
+use rlp::{Decodable, DecoderError, Encodable, RawItem, Rlp, RlpStream, RoundTrip, StrictRead};
+use rlp_records::Hash;
+use std::alloc::{AllocError, Global};
+
+/// A child of a branch or of an extension of the trie.
+///
+/// See appendix D of the yellow paper: a node whose encoding has fewer than 32 bytes is kept in its
+/// parent, and any other node is named by its hash.
+#[derive(Debug, PartialEq, Eq, Drop)]
+pub enum Child {
+    /// No node.
+    Nothing,
+    /// The node with this hash.
+    Node(Hash),
+    /// A node that is kept in its parent.
+    Inline(InlineNode),
+}
+
+impl Encodable for Child {
+    ghost item = { child.item };
+
+    ghost fits = { child.Fits };
+
+    ghost at_once = { λ _. ⊤ };
+
+    #[tactic(auto, using(rlp::proofs::Writing::writing))]
+    fn rlp_append(&self, s: &mut RlpStream) -> Result<(), AllocError> {
+        match self {
+            Child::Nothing => s.encoder().encode_value(&[]),
+            Child::Node(hash) => s.encoder().encode_value(&hash.0),
+            Child::Inline(node) => node.item.rlp_append(s),
+        }
+    }
+}
+
+/// Reads the first item, also from a lenient view, with its whole encoding. It takes memory only
+/// for a node that is kept in its parent. What is in such a node isn't tested.
+///
+/// Fails as [`Rlp::payload_info`] does, with `RlpIsTooShort` for a string of 1 to 31 bytes, with
+/// `RlpIsTooBig` for a string of more than 32 bytes or a list of 32 bytes or more, and as
+/// [`RawItem::new`] does.
+impl Decodable for Child {
+    ghost gives = { child.gives };
+
+    ghost faults = { child.faults };
+
+    ghost may_lack_memory = { child.may_lack };
+
+    #[tactic(auto, using(crate::specs::ChildLaws::child_reading))]
+    fn decode(alloc: Global, rlp: &Rlp<'_>) -> Result<Child, DecoderError> {
+        let (item, _) = rlp.split_first()?;
+        match child_of(alloc, item.as_raw()) {
+            Ok(child) => Ok(child),
+            Err(fault) => Err(fault),
+        }
+    }
+}
+
+impl RoundTrip for Child {
+    ghost round_trip = { child.reads_back };
+}
+
+impl StrictRead for Child {
+    ghost strict = { child.reads_strictly };
+}
+
+/// Reads a child from bytes that are one item.
+#[tactic(auto, using(crate::specs::ChildLaws::child_reading))]
+fn child_of(alloc: Global, bytes: &[u8]) -> Result<Child, DecoderError>
+    ensures value { IfOk result (λ c. IsChild c × (bytes.now ≡ encoding (child_item c))) }
+    ensures fault { IfErr result (λ e. IsChildFault bytes.now e
+        ⊎ ((e ≡ OutOfMemory) × IsInlineNode bytes.now)) }
+{
+    let view = Rlp::new_strict(bytes);
+    if view.is_list() {
+        if bytes.len() >= 32 {
+            return Err(DecoderError::RlpIsTooBig);
+        }
+        let item = RawItem::new(alloc, bytes)?;
+        return Ok(Child::Inline(InlineNode { item }));
+    }
+    let string = view.decoder().string()?;
+    if string.is_empty() {
+        return Ok(Child::Nothing);
+    }
+    match <[u8; 32]>::try_from(string) {
+        Ok(hash) => Ok(Child::Node(Hash(hash))),
+        Err(_) if string.len() < 32 => Err(DecoderError::RlpIsTooShort),
+        Err(_) => Err(DecoderError::RlpIsTooBig),
+    }
+}

@@ -1,0 +1,125 @@
+//! Paths of leaves and of extensions of the trie.
+
+ghost use Rattle.std.specs.Prelude.{◌≡◌, ◌⊎◌, ⊤, IfErr, IfOk, Some};
+ghost use Rattle.rlp.specs.DecoderError.TheVariants.{OutOfMemory};
+ghost use Rattle.rlp_trie.specs.HexPrefix.{AreNibbles, IsNibbleFault, IsPathFault, ends_in_leaf, hex_prefix, is_leaf_flag, path_nibbles};
+
+use crate::hex_prefix::{are_nibbles, ends_in_leaf, hex_prefix, path_nibbles};
+use rlp::{Decodable, DecoderError, Encodable, Rlp, RlpStream, RoundTrip, StrictRead};
+use std::alloc::{AllocError, Global};
+
+/// The path of a leaf.
+pub type LeafPath = Path<2>;
+
+/// The path of an extension.
+pub type ExtensionPath = Path<0>;
+
+/// A path of a node of the trie, hex-prefix encoded as in appendix C of the yellow paper. `FLAG` is 2
+/// for the path of a leaf, and 0 for the path of an extension.
+#[derive(Debug, PartialEq, Eq, Drop)]
+pub struct Path<const FLAG: u8> {
+    /// The encoding, as [`ends_in_leaf`] explains it.
+    pub bytes: Vec<u8>,
+    pub ghost encoded: { ends_in_leaf bytes.items ≡ Some (is_leaf_flag FLAG) },
+}
+
+impl<const FLAG: u8> Path<FLAG> {
+    /// The path of these bytes, which it copies.
+    ///
+    /// Fails with `Custom("path is not hex-prefix encoded")` if the bytes aren't an encoding, and with
+    /// `Custom("path is that of another node")` if they are one of the other kind. Fails with
+    /// `OutOfMemory` if memory is refused.
+    #[tactic(auto, using(crate::specs::HexPrefix::path_faults))]
+    pub fn new(alloc: Global, bytes: &[u8]) -> Result<Path<FLAG>, DecoderError>
+        ensures value { IfOk result (λ p. p.bytes.items ≡ bytes.now) }
+        ensures fault { IfErr result (λ e. IsPathFault (is_leaf_flag FLAG) bytes.now e
+            ⊎ ((e ≡ OutOfMemory) × (ends_in_leaf bytes.now ≡ Some (is_leaf_flag FLAG)))) }
+    {
+        let Some(leaf) = ends_in_leaf(bytes) else {
+            return Err(DecoderError::Custom("path is not hex-prefix encoded"));
+        };
+        if leaf != (FLAG == 2) {
+            return Err(DecoderError::Custom("path is that of another node"));
+        }
+        match Vec::from_slice(alloc, bytes) {
+            Ok(bytes) => Ok(Path { bytes }),
+            Err(_) => Err(DecoderError::OutOfMemory),
+        }
+    }
+
+    /// The path of these nibbles, each a digit to the base 16.
+    ///
+    /// Fails with `Custom("nibble is above 15")` if a number is no digit, and with `OutOfMemory` if
+    /// memory is refused.
+    #[tactic(auto, using(crate::proofs::PathLemmas::made_of_nibbles))]
+    pub fn from_nibbles(alloc: Global, nibbles: &[u8]) -> Result<Path<FLAG>, DecoderError>
+        ensures value { IfOk result (λ p. AreNibbles nibbles.now
+            × (p.bytes.items ≡ hex_prefix (is_leaf_flag FLAG) nibbles.now)) }
+        ensures back { IfOk result (λ p. path_nibbles p.bytes.items ≡ nibbles.now) }
+        ensures fault { IfErr result (λ e. IsNibbleFault nibbles.now e
+            ⊎ ((e ≡ OutOfMemory) × AreNibbles nibbles.now)) }
+    {
+        if !are_nibbles(nibbles) {
+            return Err(DecoderError::Custom("nibble is above 15"));
+        }
+        match hex_prefix(alloc, FLAG == 2, nibbles) {
+            Ok(bytes) => Ok(Path { bytes }),
+            Err(_) => Err(DecoderError::OutOfMemory),
+        }
+    }
+
+    /// The nibbles of the path. Fails with `AllocError` if memory is refused.
+    pub fn nibbles(&self, alloc: Global) -> Result<Vec<u8>, AllocError>
+        ensures value { IfOk result (λ x. x.items ≡ path_nibbles self.now.bytes.items) }
+        ensures encoded { IfOk result (λ x. AreNibbles x.items
+            × (self.now.bytes.items ≡ hex_prefix (is_leaf_flag FLAG) x.items)) }
+    {
+        path_nibbles(alloc, self.bytes.as_slice())
+    }
+}
+
+/// Written as the string of the bytes.
+impl<const FLAG: u8> Encodable for Path<FLAG> {
+    ghost use Rattle.rlp_trie.specs.Path.{path};
+
+    ghost item = { (path FLAG).item };
+
+    ghost fits = { (path FLAG).Fits };
+
+    ghost at_once = { λ _. ⊤ };
+
+    fn rlp_append(&self, s: &mut RlpStream) -> Result<(), AllocError> {
+        self.bytes.rlp_append(s)
+    }
+}
+
+/// Reads a string, with one copy. Fails as [`Path::new`] does.
+impl<const FLAG: u8> Decodable for Path<FLAG> {
+    ghost use Rattle.rlp_trie.specs.Path.{path};
+
+    ghost gives = { (path FLAG).gives };
+
+    ghost faults = { (path FLAG).faults };
+
+    ghost may_lack_memory = { (path FLAG).may_lack };
+
+    #[tactic(auto, using(crate::specs::Path::path_reading))]
+    fn decode(alloc: Global, rlp: &Rlp<'_>) -> Result<Path<FLAG>, DecoderError> {
+        match rlp.decoder().string() {
+            Ok(string) => Path::new(alloc, string),
+            Err(fault) => Err(fault),
+        }
+    }
+}
+
+impl<const FLAG: u8> RoundTrip for Path<FLAG> {
+    ghost use Rattle.rlp_trie.specs.Path.{path};
+
+    ghost round_trip = { (path FLAG).reads_back };
+}
+
+impl<const FLAG: u8> StrictRead for Path<FLAG> {
+    ghost use Rattle.rlp_trie.specs.Path.{path};
+
+    ghost strict = { (path FLAG).reads_strictly };
+}

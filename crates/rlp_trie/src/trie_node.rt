@@ -1,0 +1,115 @@
+//! Nodes of the trie of every kind: leaves, extensions and branches.
+
+ghost use Rattle.std.specs.Prelude.{◌≡◌, ◌⊎◌, IfErr, IfOk, OnOk};
+ghost use Rattle.rlp.specs.DecoderError.TheVariants.{OutOfMemory};
+ghost use Rattle.rlp.specs.Format.Encoding.{encoding};
+ghost use Rattle.rlp.specs.Format.WrittenHeader.{AreBytes};
+ghost use Rattle.rlp_records.specs.Hashing.{IsHashOf};
+ghost use Rattle.rlp_trie.specs.TrieNode.{IsNodeFault, IsTrieNode, MayLackInNode, begins_as_leaf, node_item};
+ghost use Rattle.rlp_trie.specs.TrieNodeLaws.{trie_node};
+
+use crate::hex_prefix::ends_in_leaf;
+use crate::{Branch, Extension, Leaf};
+use rlp::{Decodable, DecoderError, Encodable, Rlp, RlpStream, RoundTrip, StrictRead};
+use rlp_records::{Hash, encoding_hash};
+use std::alloc::{AllocError, Global};
+
+/// A node of the Merkle Patricia trie of any kind.
+///
+/// See appendix D of the yellow paper. A branch is a list of 17 items, and the others are lists of
+/// two, which the path tells apart, as [`ends_in_leaf`](crate::ends_in_leaf) explains.
+#[derive(Drop)]
+pub enum TrieNode {
+    /// A node that ends a path.
+    Leaf(Leaf),
+    /// A node with one child.
+    Extension(Extension),
+    /// A node with a child for each next digit of the path.
+    Branch(Branch),
+}
+
+impl Encodable for TrieNode {
+    ghost item = { trie_node.item };
+
+    ghost fits = { trie_node.Fits };
+
+    #[tactic(auto, using(rlp::proofs::Writing::writing))]
+    fn rlp_append(&self, s: &mut RlpStream) -> Result<(), AllocError> {
+        match self {
+            TrieNode::Leaf(leaf) => leaf.rlp_append(s),
+            TrieNode::Extension(extension) => extension.rlp_append(s),
+            TrieNode::Branch(branch) => branch.rlp_append(s),
+        }
+    }
+}
+
+/// Reads the whole encoding of a node, also from a lenient view, since its hash is of these bytes.
+/// Only bytes that follow the node are ignored.
+///
+/// Fails as [`Rlp::payload_info`] and a strict [`Rlp::item_count`] do, with `RlpIncorrectListLen`
+/// for a list that has neither 2 nor 17 items, and else with the strict fault of the branch, the
+/// leaf or the extension. A list of two items is a leaf if it begins with the path of a leaf.
+impl Decodable for TrieNode {
+    ghost gives = { trie_node.gives };
+
+    ghost faults = { trie_node.faults };
+
+    ghost may_lack_memory = { trie_node.may_lack };
+
+    #[tactic(auto, using(crate::specs::TrieNodeLaws::node_reading))]
+    fn decode(alloc: Global, rlp: &Rlp<'_>) -> Result<TrieNode, DecoderError> {
+        let (item, _) = rlp.split_first()?;
+        match node_of(alloc, item.as_raw()) {
+            Ok(node) => Ok(node),
+            Err(fault) => Err(fault),
+        }
+    }
+}
+
+impl RoundTrip for TrieNode {
+    ghost round_trip = { trie_node.reads_back };
+}
+
+impl StrictRead for TrieNode {
+    ghost strict = { trie_node.reads_strictly };
+}
+
+/// Reads a node from bytes that are one item.
+#[tactic(auto, using(crate::specs::TrieNodeLaws::node_reading))]
+fn node_of(alloc: Global, bytes: &[u8]) -> Result<TrieNode, DecoderError>
+    ensures bytes { AreBytes bytes.now }
+    ensures value { IfOk result (λ n. IsTrieNode n × (bytes.now ≡ encoding (node_item n))) }
+    ensures fault { IfErr result (λ e. (IsNodeFault bytes.now e) ⊎ ((e ≡ OutOfMemory)
+        × MayLackInNode bytes.now)) }
+{
+    match Rlp::new_strict(bytes).item_count()? {
+        2 if is_leaf(bytes) => Ok(TrieNode::Leaf(rlp::decode_whole(alloc, bytes)?)),
+        2 => Ok(TrieNode::Extension(rlp::decode_whole(alloc, bytes)?)),
+        17 => Ok(TrieNode::Branch(rlp::decode_whole(alloc, bytes)?)),
+        _ => Err(DecoderError::RlpIncorrectListLen),
+    }
+}
+
+/// Returns whether the first item of a list is the path of a leaf.
+fn is_leaf(bytes: &[u8]) -> bool
+    ensures { result ≡ begins_as_leaf bytes.now }
+{
+    match Rlp::new_strict(bytes).at(0) {
+        Ok(item) => match item.decoder().string() {
+            Ok(path) => ends_in_leaf(path).unwrap_or(false),
+            Err(_) => false,
+        },
+        Err(_) => false,
+    }
+}
+
+impl TrieNode {
+    /// Returns the hash of the node's encoding. It names the root, and each node of 32 bytes or more.
+    /// A shorter node stands in its parent.
+    pub fn hash(&self, alloc: Global) -> Result<Hash, AllocError>
+        ensures fits { OnOk result (trie_node.Fits self.now) }
+        ensures hash { IfOk result (λ h. IsHashOf h (encoding (trie_node.item self.now))) }
+    {
+        encoding_hash::<TrieNode>(alloc, self)
+    }
+}
