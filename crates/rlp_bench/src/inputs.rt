@@ -1,7 +1,9 @@
 //! The inputs of the operations.
 
+use crate::transaction::Transaction;
 use rlp::{Encodable, RlpStream, Uint};
-use rlp_ethereum::{Address, LegacyTransaction, Recipient, Signed, SignedLegacyTransaction};
+use rlp_records::Address;
+use rlp_transactions::Recipient;
 use std::alloc::Global;
 
 /// Values, and encodings. Each encoding is there twice, one after the other.
@@ -12,7 +14,7 @@ pub(crate) struct Inputs {
     /// A text of 1,000 bytes.
     pub text: String,
     /// A transaction whose encoding has 110 bytes.
-    pub transaction: SignedLegacyTransaction,
+    pub transaction: Transaction,
     /// The encodings of a number below 128 and of a number of eight bytes.
     pub small_number: Vec<u8>,
     pub large_number: Vec<u8>,
@@ -82,16 +84,14 @@ fn text(alloc: Global, len: usize) -> Option<String> {
 }
 
 /// Returns a signed transfer.
-fn transaction(alloc: Global) -> SignedLegacyTransaction {
-    Signed {
-        payload: LegacyTransaction {
-            nonce: 9,
-            gas_price: wide(20_000_000_000),
-            gas_limit: 21_000,
-            to: Recipient::Account(Address([0x35; 20])),
-            value: wide(1_000_000_000_000_000_000),
-            data: Vec::new(alloc),
-        },
+fn transaction(alloc: Global) -> Transaction {
+    Transaction {
+        nonce: 9,
+        gas_price: wide(20_000_000_000),
+        gas_limit: 21_000,
+        to: Recipient::Account(Address([0x35; 20])),
+        value: wide(1_000_000_000_000_000_000),
+        data: Vec::new(alloc),
         v: wide(37),
         r: Uint { bytes: [0x28; 32] },
         s: Uint { bytes: [0x67; 32] },

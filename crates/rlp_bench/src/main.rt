@@ -4,6 +4,7 @@
 
 mod inputs;
 mod reading;
+mod transaction;
 mod writing;
 
 use inputs::Inputs;

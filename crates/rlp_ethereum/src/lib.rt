@@ -28,7 +28,7 @@ pub use receipt_status::ReceiptStatus;
 pub use rlp_node_record::{NodeFields, NodePair, NodeRecord};
 pub use rlp_records::{
     ACCESS_LIST_TYPE, Address, BLOB_TYPE, Enveloped, FEE_MARKET_TYPE, Hash, Record, SET_CODE_TYPE,
-    encoding_hash,
+    decode_at_most, encoding_hash,
 };
 pub use rlp_transactions::{
     AUTHORIZATION_MAGIC, AccessList, AccessListItem, AccessListTransaction, Authorization,

@@ -11,6 +11,8 @@ mod alone;
 #[cfg(test)]
 mod answers;
 #[cfg(test)]
+mod bounded;
+#[cfg(test)]
 mod fields;
 #[cfg(test)]
 mod hashes;

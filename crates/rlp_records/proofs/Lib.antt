@@ -1,2 +1,3 @@
 pub mod AfterByte
 pub mod Alone
+pub mod Bounds

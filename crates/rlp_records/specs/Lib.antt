@@ -1,5 +1,6 @@
 pub mod Address
 pub mod Alone
+pub mod Bounded
 pub mod Envelope
 pub mod Hash
 pub mod Hashing

@@ -2,6 +2,7 @@
 #![tactic(auto)]
 
 mod address;
+mod bounded;
 mod envelope;
 mod enveloped;
 mod hash;
@@ -10,6 +11,7 @@ pub mod laws;
 mod record;
 
 pub use address::Address;
+pub use bounded::decode_at_most;
 pub use envelope::{
     ACCESS_LIST_TYPE, BLOB_TYPE, FEE_MARKET_TYPE, SET_CODE_TYPE, from_envelope, to_envelope,
     typed_list,

@@ -1,0 +1,52 @@
+//! Reading with a bound on the number of items.
+
+use crate::text::bytes_of;
+use rlp::DecoderError;
+use rlp_ethereum::{Withdrawal, decode_at_most};
+use std::alloc::Global;
+use std::test::Fail;
+
+/// Rows of the most items, bytes, and the first letters of the answer: `Ok`, or the text of the
+/// fault. A withdrawal has five items: four numbers or strings, and their list.
+const BOUNDS: [(&str, &str, &str); 7] = [
+    (
+        "5",
+        "d8010294030303030303030303030303030303030303030304",
+        "Ok",
+    ),
+    (
+        "6",
+        "d8010294030303030303030303030303030303030303030304",
+        "Ok",
+    ),
+    (
+        "4",
+        "d8010294030303030303030303030303030303030303030304",
+        "too many items",
+    ),
+    ("0", "80", "too many items"),
+    ("5", "d80102", "RlpIsTooShort"),
+    ("3", "c3010203", "too many items"),
+    ("4", "c3010203", "RlpIncorrectListLen"),
+];
+
+/// Returns the answer for a withdrawal with at most this many items.
+fn answer(alloc: Global, most: &str, bytes: &str) -> Result<String, Fail> {
+    let bytes = bytes_of(alloc, bytes)?;
+    let read = decode_at_most::<Withdrawal>(alloc, bytes.as_slice(), most.parse::<usize>()?);
+    Ok(match read {
+        Ok(_) => String::from_str(alloc, "Ok")?,
+        Err(DecoderError::Custom(text)) => String::from_str(alloc, text)?,
+        Err(fault) => format!(in alloc; "{fault}")?,
+    })
+}
+
+#[test]
+fn items_are_bounded(rt: HostRuntime) -> Result<(), Fail> {
+    let alloc = rt.alloc();
+    for (most, bytes, expected) in BOUNDS.iter() {
+        let found = answer(alloc, most, bytes)?;
+        assert_eq!(rt; found.as_str(), *expected, "{most} {bytes}");
+    }
+    Ok(())
+}
