@@ -1,3 +1,4 @@
 pub mod NodeFields
-pub mod NodeLaws
+pub mod NodeKeys
 pub mod NodeRecord
+pub mod NodeLaws
