@@ -1,6 +1,7 @@
 //! Node records, as in EIP-778.
 #![tactic(auto)]
 
+mod keys;
 mod lookup;
 mod node_fields;
 mod node_record;
