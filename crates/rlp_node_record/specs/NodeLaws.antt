@@ -97,20 +97,24 @@ node_record = exact_type IsNodeRecord node_fields.item FaultsAsNodeRecord MayLac
 
 -- ---- rules for bodies
 
+-- fields are those of a record, if the keys are a record's and the encoding is of few bytes
+pub record_made : (b : List ℕ) (f : NodeFields) → node_fields.Fits f → b ≡ encoding (node_fields.item f) → AreRecordKeys (vec_items f.pairs) → AreBytes b
+    → length b ≤ longest_record → IsNodeRecord f
+record_made b f fit whole keys bytes short = record {
+  fits = fit;
+  rising = keys.0;
+  identified = keys.1;
+  bytes = subst AreBytes whole bytes;
+  short = (let size : length (encoding (node_fields.item f)) ≤ longest_record = omega (arith, short, ap length whole) in
+      size);
+}
+
 -- fields that were read strictly are those of a record, if the keys are a record's and the bytes are few
 pub record_read : (b : List ℕ) (f : NodeFields) → AreBytes b → length b ≤ longest_record → node_fields.gives (strict_view_of b) f
     → AreRecordKeys (vec_items f.pairs) → IsNodeRecord f × (b ≡ encoding (node_fields.item f))
 record_read b f bytes short given keys =
-    let (fit, whole) = (node_fields.reads_strictly b f bytes (let few : length b < 2 ^ 64 = omega (arith, short) in few)).exact.0 given in (
-      record {
-        fits = fit;
-        rising = keys.0;
-        identified = keys.1;
-        short = (let size : length (encoding (node_fields.item f)) ≤ longest_record = omega (arith, short, ap length whole) in
-            size);
-      },
-      whole,
-    )
+    let (fit, whole) = (node_fields.reads_strictly b f bytes (let few : length b < 2 ^ 64 = omega (arith, short) in few)).exact.0 given in
+    (record_made b f fit whole keys bytes short, whole)
 
 -- the record that is read from the first item
 pub record_given : (v : View) (b : List ℕ) (f : NodeFields) → Holds v.is_strict v.bytes b → IsNodeRecord f → b ≡ encoding (node_fields.item f)

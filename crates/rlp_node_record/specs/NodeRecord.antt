@@ -33,11 +33,12 @@ keys_of pairs = map (λ (p : NodePair). vec_items p.key) pairs
 unfoldable pub AreInOrder : List NodePair → Type 0
 AreInOrder pairs = IsTrue (keys_rise (keys_of pairs))
 
--- The fields are those of a node record: the keys are in order, `id` is one of them, and the encoding is within the limit.
+-- The fields are those of a node record: the keys are in order, `id` is one of them, and the encoding is of bytes and within the limit.
 pub record IsNodeRecord (f : NodeFields) : Type 0 where
   pub fits : node_fields.Fits f
   pub rising : AreInOrder (vec_items f.pairs)
   pub identified : HasId (vec_items f.pairs)
+  pub bytes : AreBytes (encoding (node_fields.item f))
   pub short : length (encoding (node_fields.item f)) ≤ longest_record
 
 -- Why the keys of pairs aren't those of a node record: they aren't in order, or they are and `id` isn't one of them.

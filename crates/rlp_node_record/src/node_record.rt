@@ -67,7 +67,8 @@ impl NodeRecord {
             Ok(bytes) => bytes,
             Err(_) => return Err(DecoderError::OutOfMemory),
         };
-        if bytes.len() > NodeRecord::MAX_LEN {
+        let written = bytes.as_slice();
+        if written.len() > NodeRecord::MAX_LEN {
             return Err(DecoderError::RlpIsTooBig);
         }
         Ok(NodeRecord { fields })
