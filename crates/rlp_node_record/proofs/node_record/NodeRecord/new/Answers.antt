@@ -1,6 +1,6 @@
 use Rattle.std.proofs.Common.{arith, rules, refl, subst, ◌∙◌}
 use Rattle.rlp.specs.Lemmas.Reading.{bytes_held}
-use Rattle.rlp_node_record.specs.NodeRecord.{AreRecordKeys, IsNodeRecord}
+use Rattle.rlp_node_record.specs.NodeRecord.{AreRecordKeys}
 use Rattle.rlp_node_record.specs.NodeLaws.{record_made}
 use Rattle.rlp_node_record.proofs.node_record.NodeRecord.new.Goals as goal
 
@@ -10,6 +10,9 @@ invariant_of-result c = record_made c.as_slice-written.result.now c.args.fields 
     (bytes_held c.as_slice-written.result.now (search rules)) (omega arith)
 
 pub returns-clause-value : goal.returns-clause-value
-returns-clause-value c = (refl, record_made c.as_slice-written.result.now c.args.fields c.in-Ok-encode.ensures.fits
-    (c.as_slice-written.ensures ∙ c.in-Ok-encode.ensures.bytes) (subst AreRecordKeys c.as_slice.ensures.value c.in-Ok.ensures.keys)
-    (bytes_held c.as_slice-written.result.now (search rules)) (omega arith))
+returns-clause-value c = (
+  refl,
+  record_made c.as_slice-written.result.now c.args.fields c.in-Ok-encode.ensures.fits
+      (c.as_slice-written.ensures ∙ c.in-Ok-encode.ensures.bytes) (subst AreRecordKeys c.as_slice.ensures.value c.in-Ok.ensures.keys)
+      (bytes_held c.as_slice-written.result.now (search rules)) (omega arith),
+)
