@@ -1,4 +1,4 @@
-//! What the keys of a node record give.
+//! The values of the keys of a node record.
 
 ghost use Rattle.std.specs.Option.{option_copied};
 ghost use Rattle.std.specs.Prelude.{◌≡◌, codes};
