@@ -1,6 +1,7 @@
-//! What holds of each type of these crates: the laws of [`rlp_records::laws`] and of
-//! [`rlp_transactions::laws`].
+//! What holds of each type of these crates: the laws of [`rlp_records::laws`],
+//! [`rlp_node_record::laws`] and [`rlp_transactions::laws`].
 
+pub use rlp_node_record::laws::node_text_round_trips;
 pub use rlp_records::laws::{
     encodings_tell_records, reading_without_memory_is_total, record_is_read, record_is_written,
     record_round_trips,

@@ -1,11 +1,13 @@
 //! The laws of `rlp_ethereum`, called for several of its types. What a law says is proved.
 
+use crate::node_records::EXAMPLE;
 use crate::text::bytes_of;
 use rlp_ethereum::laws::{
     bytes_tell_transactions, encodings_tell_records, no_bytes_are_signed_for_two_meanings,
-    reading_without_memory_is_total, record_is_read, record_is_written, record_round_trips,
+    node_text_round_trips, reading_without_memory_is_total, record_is_read, record_is_written,
+    record_round_trips,
 };
-use rlp_ethereum::{Account, Record, Transaction, Withdrawal};
+use rlp_ethereum::{Account, NodeRecord, Record, Transaction, Withdrawal};
 use std::alloc::Global;
 use std::test::Fail;
 
@@ -44,5 +46,8 @@ fn laws_hold_of_records(rt: HostRuntime) -> Result<(), Fail> {
     let transaction = Transaction::from_bytes(alloc, bytes.as_slice())?;
     bytes_tell_transactions(&transaction, &transaction);
     no_bytes_are_signed_for_two_meanings();
+    let node = NodeRecord::from_text(alloc, EXAMPLE)?;
+    let back = node_text_round_trips(alloc, &node)?;
+    assert!(rt; back.fields() == node.fields());
     Ok(())
 }

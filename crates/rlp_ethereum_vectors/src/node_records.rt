@@ -1,4 +1,5 @@
-//! Node records. The record and its fields are those that EIP-778 publishes as its example.
+//! Node records. The first record, its fields and its text are those that EIP-778 publishes as its
+//! example.
 
 use crate::reading::{Item, fault, ways};
 use crate::text::spelled;
@@ -23,20 +24,25 @@ pub(crate) const ROWS: &str = "
      4 827634 6970 847f000001 736563703235366b31 a103ca634cae0d49acb401d8a4c6b6fe8c55b70d115bf40076\
      9cc1400f3258cd3138 756470 82765f
 
-    An odd number of items, the keys b and a, the key a twice, and a value with a longer spelling.
+    An odd number of items, the keys b and a, the key a twice, a value with a longer spelling, only
+    the key a, and no keys.
     NodeRecord | c3800161 | RlpIncorrectListLen
     NodeRecord | c6800162056105 | Custom(\"keys are not in order\")
     NodeRecord | c6800161056105 | Custom(\"keys are not in order\")
     NodeRecord | c58001618105 | Custom(\"item is not canonical\")
+    NodeRecord | c480016105 | Custom(\"key id is missing\")
+    NodeRecord | c28001 | Custom(\"key id is missing\")
 
     A record of 17 pairs.
-    NodeRecord | e48001+6180+6280+6380+6480+6580+6680+6780+6880+6980+6a80+6b80+6c80+6d80+6e80+6f80\
-     +7080+7180
+    NodeRecord | e68001+6180+6280+6380+6480+6580+6680+6780+6880+82696480+6a80+6b80+6c80+6d80+6e80\
+     +6f80+7080+7180
 
-    A record with one key of these bytes: the longest one has 300 bytes. The order of two keys is
-    tested before the length.
-    node record: of the key | 61*291 | both ways, 300
-    node record: of the key | 61*292 | RlpIsTooBig
+    A record with a key of these bytes before id: the longest one has 300 bytes. The order of the
+    keys is tested before id is sought, and that before the length.
+    node record: of the key | 61*287 | both ways, 300
+    node record: of the key | 61*288 | RlpIsTooBig
+    node record: of the key alone | 61 | Custom(\"key id is missing\")
+    node record: of the key alone | 61*300 | Custom(\"key id is missing\")
     node record: of the key, twice | 61 | Custom(\"keys are not in order\")
     node record: of the key, twice | 61*300 | Custom(\"keys are not in order\")
 ";
@@ -45,7 +51,8 @@ pub(crate) const ROWS: &str = "
 pub(crate) fn answer(alloc: Global, name: &str, bytes: &[u8]) -> Result<String, Fail> {
     match name {
         "fields" => fields(alloc, bytes),
-        "of the key" => of_the_keys(alloc, &[bytes]),
+        "of the key" => of_the_keys(alloc, &[bytes, b"id"]),
+        "of the key alone" => of_the_keys(alloc, &[bytes]),
         _ => of_the_keys(alloc, &[bytes, bytes]),
     }
 }
@@ -94,4 +101,116 @@ fn of_the_keys(alloc: Global, keys: &[&[u8]]) -> Result<String, Fail> {
         }
         Err(found) => fault(alloc, &found),
     }
+}
+
+/// The text that EIP-778 publishes as its example.
+pub(crate) const EXAMPLE: &str =
+    "enr:-IS4QHCYrYZbAKWCBRlAy5zzaDZXJBGkcnh4MHcBFZntXNFrdvJjX04jRzjzCBOo\
+    nrkTfj499SZuOh8R33Ls8RRcy5wBgmlkgnY0gmlwhH8AAAGJc2VjcDI1NmsxoQPKY0yuDUmstAHYpMa2_oxVtw0RW_QAdp\
+    zBQA8yWM0xOIN1ZHCCdl8";
+
+/// Texts, each with what the keys of its record give, or the fault. The records are the example, one
+/// with each known key, one whose known keys have values of other shapes, and the shortest one. The
+/// faults are of keys that are missing, out of order or there twice, of bytes that aren't a record,
+/// of a byte more, of the prefix, and of base64 with padding, a last bit or the other alphabet.
+const TEXTS: [(&str, &str); 17] = [
+    (
+        EXAMPLE,
+        "id 7634, secp256k1 03ca634cae0d49acb401d8a4c6b6fe8c55b70d115bf400769cc1400f3258cd3138, \
+         ip 7f000001 None Some(30303), ip6 none None None, udp 82765f Some(Ok(30303))",
+    ),
+    (
+        "enr:-GuAAYJpZIJ2NIJpcIQKAAABg2lwNpAAAQIDBAUGBwgJCgsMDQ4PiXNlY3AyNTZrMaECAAAAAAAAAAAAAAAAAAAA\
+         AAAAAAAAAAAAAAAAAAAAAACDdGNwAYR0Y3A2gv__g3VkcICEdWRwNoIBAA",
+        "id 7634, secp256k1 020000000000000000000000000000000000000000000000000000000000000000, \
+         ip 0a000001 Some(1) Some(0), ip6 000102030405060708090a0b0c0d0e0f Some(65535) Some(256), \
+         udp 80 Some(Ok(0))",
+    ),
+    (
+        "enr:-GGAAYJpZMCCaXCFAAAAAACDaXA2hAAAAACJc2VjcDI1NmsxogIAAAAAAAAAAAAAAAAAAAAAAAAAAAAAAAAAAAAA\
+         AAAAAACDdGNwgwEAAIR0Y3A2ggABg3VkcMCEdWRwNsEB",
+        "id none, secp256k1 none, ip none None None, ip6 none None None, \
+         udp c0 Some(Err(RlpExpectedToBeData))",
+    ),
+    (
+        "enr:yIABgmlkgnY0",
+        "id 7634, secp256k1 none, ip none None None, ip6 none None None, udp none None",
+    ),
+    ("enr:yoABgmlwhAAAAAA", "Custom(\"key id is missing\")"),
+    (
+        "enr:0IABgmlwhAAAAACCaWSCdjQ",
+        "Custom(\"keys are not in order\")",
+    ),
+    (
+        "enr:zoABgmlkgnY0gmlkgnY0",
+        "Custom(\"keys are not in order\")",
+    ),
+    ("enr:xYABgmlk", "RlpIncorrectListLen"),
+    ("enr:BQ", "RlpExpectedToBeList"),
+    ("enr:", "RlpIsTooShort"),
+    ("enr:yIABgmlkgnY0AA", "RlpIsTooBig"),
+    (
+        "ENR:yIABgmlkgnY0",
+        "Custom(\"text does not begin with enr:\")",
+    ),
+    ("", "Custom(\"text does not begin with enr:\")"),
+    ("enr:BQ==", "Custom(\"text is not base64\")"),
+    ("enr:BR", "Custom(\"text is not base64\")"),
+    ("enr:+A", "Custom(\"text is not base64\")"),
+    ("enr:yIABgmlkgnY0 ", "Custom(\"text is not base64\")"),
+];
+
+/// Returns what the keys of the record of a text give, or the fault.
+fn told(alloc: Global, text: &str) -> Result<String, Fail> {
+    match NodeRecord::from_text(alloc, text) {
+        Ok(record) if record.to_text(alloc)?.as_str() == text => keys(alloc, &record),
+        Ok(_) => Ok(String::from_str(alloc, "another text")?),
+        Err(found) => fault(alloc, &found),
+    }
+}
+
+/// Returns what the known keys of a record give, and what is read of the key `udp`.
+fn keys(alloc: Global, record: &NodeRecord) -> Result<String, Fail> {
+    let id = digits(alloc, record.id())?;
+    let key = array_digits(alloc, &record.secp256k1())?;
+    let addresses = addresses(alloc, record)?;
+    let item = match record.value(b"udp") {
+        Some(item) => digits(alloc, Some(item.as_bytes()))?,
+        None => digits(alloc, None)?,
+    };
+    let read = record.get::<u64>(alloc, b"udp");
+    Ok(format!(in alloc; "id {id}, secp256k1 {key}, {addresses}, udp {item} {read:?}")?)
+}
+
+/// Returns the two addresses of a record, each with its ports.
+fn addresses(alloc: Global, record: &NodeRecord) -> Result<String, Fail> {
+    let ip = array_digits(alloc, &record.ip())?;
+    let ip6 = array_digits(alloc, &record.ip6())?;
+    let (tcp, udp) = (record.tcp(), record.udp());
+    let (tcp6, udp6) = (record.tcp6(), record.udp6());
+    Ok(format!(in alloc; "ip {ip} {tcp:?} {udp:?}, ip6 {ip6} {tcp6:?} {udp6:?}")?)
+}
+
+/// Returns the digits of bytes, or `none`.
+fn digits(alloc: Global, bytes: Option<&[u8]>) -> Result<String, Fail> {
+    match bytes {
+        Some(bytes) => Ok(hex::encode(alloc, bytes)?),
+        None => Ok(String::from_str(alloc, "none")?),
+    }
+}
+
+/// Returns the digits of an array, or `none`.
+fn array_digits<const N: usize>(alloc: Global, bytes: &Option<[u8; N]>) -> Result<String, Fail> {
+    match bytes {
+        Some(bytes) => digits(alloc, Some(bytes.as_slice())),
+        None => digits(alloc, None),
+    }
+}
+
+#[test]
+fn texts_of_node_records(rt: HostRuntime) -> Result<(), Fail> {
+    for (text, wanted) in TEXTS {
+        assert_eq!(rt; told(rt.alloc(), text)?.as_str(), wanted);
+    }
+    Ok(())
 }

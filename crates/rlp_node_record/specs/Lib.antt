@@ -1,3 +1,5 @@
 pub mod NodeFields
-pub mod NodeLaws
+pub mod NodeKeys
 pub mod NodeRecord
+pub mod NodeLaws
+pub mod NodeText

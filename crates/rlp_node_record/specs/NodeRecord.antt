@@ -1,4 +1,4 @@
--- Node records whose keys are in order and whose size is within the limit.
+-- Node records whose keys are in order, with `id` among them, and whose size is within the limit.
 use Rattle.std.specs.Prelude.{ℕ, ◌≡◌, ◌≤◌, ◌<◌, ◌&&◌, Bool, true, IsTrue, List, [], ◌∷◌, length, map, codes, Ok, Err}
 use Rattle.std.specs.Cmp.Lexicographic.{slice_cmp}
 use Rattle.std.specs.Ordering.{is_lt, nat_cmp}
@@ -11,6 +11,7 @@ use Rattle.rlp.specs.Values.RawItem.{view_frame}
 use Rattle.rlp.specs.Values.ValueReading.{IsCustom}
 use Rattle.rlp.specs.Views.View.{View, strict_view_of}
 use Rattle.rlp_node_record.specs.NodeFields.{node_fields}
+use Rattle.rlp_node_record.specs.NodeKeys.{HasId}
 use Rattle.rlp_node_record.specs.declared.node_fields.NodeFields.{NodeFields}
 use Rattle.rlp_node_record.specs.declared.node_fields.NodePair.{NodePair}
 
@@ -32,23 +33,34 @@ keys_of pairs = map (λ (p : NodePair). vec_items p.key) pairs
 unfoldable pub AreInOrder : List NodePair → Type 0
 AreInOrder pairs = IsTrue (keys_rise (keys_of pairs))
 
--- The fields are those of a node record: the keys are in order, and the encoding is within the limit.
+-- The fields are those of a node record: the keys are in order, `id` is one of them, and the encoding is of bytes and within the limit.
 pub record IsNodeRecord (f : NodeFields) : Type 0 where
   pub fits : node_fields.Fits f
   pub rising : AreInOrder (vec_items f.pairs)
+  pub identified : HasId (vec_items f.pairs)
+  pub bytes : AreBytes (encoding (node_fields.item f))
   pub short : length (encoding (node_fields.item f)) ≤ longest_record
 
--- Why fields aren't those of a node record: the keys aren't in order, or they are and the encoding is too long.
-pub data IsFieldsFault (f : NodeFields) : DecoderError → Type 0 where
-  fields_too_long : AreInOrder (vec_items f.pairs) → longest_record < length (encoding (node_fields.item f)) → IsFieldsFault f RlpIsTooBig
-  keys_not_rising : (e : DecoderError) → ¬ AreInOrder (vec_items f.pairs) → IsCustom (codes "keys are not in order") e → IsFieldsFault f e
+-- Why the keys of pairs aren't those of a node record: they aren't in order, or they are and `id` isn't one of them.
+pub data IsKeysFault (pairs : List NodePair) (e : DecoderError) : Type 0 where
+  not_rising : ¬ AreInOrder pairs → IsCustom (codes "keys are not in order") e → IsKeysFault pairs e
+  no_id : AreInOrder pairs → ¬ HasId pairs → IsCustom (codes "key id is missing") e → IsKeysFault pairs e
 
--- Why bytes aren't a node record, if they are an item: they are too long, the fields have a fault if they are read strictly, or the keys aren't in order.
+-- the keys are in order, and `id` is one of them
+abbrev pub AreRecordKeys : List NodePair → Type 0
+AreRecordKeys pairs = AreInOrder pairs × HasId pairs
+
+-- Why fields aren't those of a node record: the keys aren't, or they are and the encoding is too long.
+pub data IsFieldsFault (f : NodeFields) : DecoderError → Type 0 where
+  fields_too_long : AreRecordKeys (vec_items f.pairs) → longest_record < length (encoding (node_fields.item f)) → IsFieldsFault f RlpIsTooBig
+  wrong_keys : (e : DecoderError) → IsKeysFault (vec_items f.pairs) e → IsFieldsFault f e
+
+-- Why bytes aren't a node record, if they are an item: they are too long, the fields have a fault if they are read strictly, or the keys aren't those of a record.
 pub data IsRecordFault (b : List ℕ) : DecoderError → Type 0 where
   too_long : longest_record < length b → IsRecordFault b RlpIsTooBig
   faulty_fields : (e : DecoderError) → AreBytes b → length b ≤ longest_record → node_fields.faults (strict_view_of b) e → IsRecordFault b e
-  not_rising : (f : NodeFields) (e : DecoderError) → AreBytes b → length b ≤ longest_record → node_fields.gives (strict_view_of b) f
-      → ¬ AreInOrder (vec_items f.pairs) → IsCustom (codes "keys are not in order") e → IsRecordFault b e
+  faulty_keys : (f : NodeFields) (e : DecoderError) → AreBytes b → length b ≤ longest_record → node_fields.gives (strict_view_of b) f
+      → IsKeysFault (vec_items f.pairs) e → IsRecordFault b e
 
 -- Why a view gives no node record: it doesn't begin with a framed item, or the bytes of that item aren't a node record.
 pub data FaultsAsNodeRecord (v : View) (e : DecoderError) : Type 0 where

@@ -23,8 +23,8 @@ pub struct NodePair {
 /// The fields of a node record, as in EIP-778. They are one list: the signature, the sequence
 /// number, and then each key and its value, without lists of their own.
 ///
-/// The order of the keys and the size aren't tested: [`NodeRecord`](crate::NodeRecord) has fields
-/// that passed these tests.
+/// The order of the keys, the key `id` and the size aren't tested:
+/// [`NodeRecord`](crate::NodeRecord) has fields that passed these tests.
 #[derive(Debug, PartialEq, Eq, Drop)]
 pub struct NodeFields {
     /// The signature of the other fields.

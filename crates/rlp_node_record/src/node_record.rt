@@ -1,4 +1,4 @@
-//! Node records, whose keys are in order and whose size is within the limit.
+//! Node records, whose keys are in order, with `id` among them, and whose size is within the limit.
 
 ghost use Rattle.std.specs.Prelude.{◌≡◌, ◌⊎◌, ◌↔◌, IfOk, IfErr, OnOk, IsTrue, length};
 ghost use Rattle.std.specs.Vec.{vec_items};
@@ -6,9 +6,10 @@ ghost use Rattle.rlp.specs.DecoderError.TheVariants.{OutOfMemory};
 ghost use Rattle.rlp.specs.Format.Encoding.{encoding};
 ghost use Rattle.rlp.specs.Views.View.{strict_view_of};
 ghost use Rattle.rlp_node_record.specs.NodeFields.{node_fields, signed_item};
-ghost use Rattle.rlp_node_record.specs.NodeRecord.{AreInOrder, IsFieldsFault, IsNodeRecord, IsRecordFault, keys_of, keys_rise};
+ghost use Rattle.rlp_node_record.specs.NodeRecord.{AreInOrder, AreRecordKeys, IsFieldsFault, IsKeysFault, IsNodeRecord, IsRecordFault, keys_of, keys_rise};
 ghost use Rattle.rlp_node_record.specs.NodeLaws.{node_record};
 
+use crate::lookup::has_id;
 use crate::node_fields::{NodeFields, NodePair};
 use bytes::BytesMut;
 use rlp::{
@@ -19,8 +20,8 @@ use std::alloc::{AllocError, Global};
 use std::cmp::Ordering;
 use std::marker::Model;
 
-/// A node record, as in EIP-778: what a node tells of itself. Its keys are in order, each once, and
-/// its encoding has at most [`NodeRecord::MAX_LEN`] bytes.
+/// A node record, as in EIP-778: what a node tells of itself. Its keys are in order, each once, `id`
+/// is one of them, and its encoding has at most [`NodeRecord::MAX_LEN`] bytes.
 ///
 /// The signature isn't checked, and neither is what the values of known keys are. The identity
 /// scheme of the key `id` says how to check the signature of [`NodeRecord::signed_content`].
@@ -49,22 +50,25 @@ impl NodeRecord {
     /// The node record with these fields.
     ///
     /// Fails with `Custom("keys are not in order")` if a key isn't after the one before it, in the
-    /// order of their bytes. Else it fails with `RlpIsTooBig` if the encoding has more than
-    /// [`NodeRecord::MAX_LEN`] bytes, and with `OutOfMemory` if memory is refused.
-    #[tactic(auto, using(crate::specs::NodeLaws::fields_in_order))]
+    /// order of their bytes, or else with `Custom("key id is missing")`. Else it fails with
+    /// `RlpIsTooBig` if the encoding has more than [`NodeRecord::MAX_LEN`] bytes, and with
+    /// `OutOfMemory` if memory is refused.
+    #[tactic(auto, using(crate::specs::NodeLaws::fields_tested))]
     pub fn new(alloc: Global, fields: NodeFields) -> Result<NodeRecord, DecoderError>
         ensures value { IfOk result (λ r. (r ≡ fields) × IsNodeRecord fields) }
         ensures fault { IfErr result (λ e. IsFieldsFault fields e
-            ⊎ ((e ≡ OutOfMemory) × AreInOrder (vec_items fields.pairs))) }
+            ⊎ ((e ≡ OutOfMemory) × AreRecordKeys (vec_items fields.pairs))) }
     {
-        if !are_in_order(fields.pairs.as_slice()) {
-            return Err(DecoderError::Custom("keys are not in order"));
+        match test_keys(fields.pairs.as_slice()) {
+            Ok(()) => {}
+            Err(fault) => return Err(fault),
         }
         let bytes = match rlp::encode(alloc, &fields) {
             Ok(bytes) => bytes,
             Err(_) => return Err(DecoderError::OutOfMemory),
         };
-        if bytes.len() > NodeRecord::MAX_LEN {
+        let written = bytes.as_slice();
+        if written.len() > NodeRecord::MAX_LEN {
             return Err(DecoderError::RlpIsTooBig);
         }
         Ok(NodeRecord { fields })
@@ -88,6 +92,21 @@ impl NodeRecord {
         write_struct(&mut s, &(&self.fields.sequence, Flattened(pairs)))?;
         Ok(s.out())
     }
+}
+
+/// Tests that the keys are in order, and that `id` is one of them.
+#[tactic(auto, using(crate::specs::NodeLaws::keys_tested))]
+fn test_keys(pairs: &[NodePair]) -> Result<(), DecoderError>
+    ensures keys { OnOk result (AreRecordKeys pairs.now) }
+    ensures fault { IfErr result (λ e. IsKeysFault pairs.now e) }
+{
+    if !are_in_order(pairs) {
+        return Err(DecoderError::Custom("keys are not in order"));
+    }
+    if !has_id(pairs) {
+        return Err(DecoderError::Custom("key id is missing"));
+    }
+    Ok(())
 }
 
 /// Returns whether each key is after the one before it.
@@ -129,10 +148,10 @@ fn record_fields(alloc: Global, bytes: &[u8]) -> Result<NodeFields, DecoderError
         Ok(fields) => fields,
         Err(fault) => return Err(fault),
     };
-    if !are_in_order(fields.pairs.as_slice()) {
-        return Err(DecoderError::Custom("keys are not in order"));
+    match test_keys(fields.pairs.as_slice()) {
+        Ok(()) => Ok(fields),
+        Err(fault) => Err(fault),
     }
-    Ok(fields)
 }
 
 impl Encodable for NodeRecord {
@@ -150,7 +169,7 @@ impl Encodable for NodeRecord {
 ///
 /// Fails as [`Rlp::payload_info`] does, with `RlpIsTooBig` if the record has more than
 /// [`NodeRecord::MAX_LEN`] bytes, with a fault of its fields, and with
-/// `Custom("keys are not in order")`.
+/// `Custom("keys are not in order")` or `Custom("key id is missing")`.
 impl Decodable for NodeRecord {
     ghost gives = { node_record.gives };
 

@@ -1,8 +1,18 @@
-use Rattle.std.proofs.Common.{inl, refl}
-use Rattle.rlp_node_record.specs.NodeRecord.{keys_not_rising}
-use Rattle.rlp_node_record.specs.NodeLaws.{refused_order}
+use Rattle.std.proofs.Common.{arith, rules, refl, subst, ◌∙◌}
+use Rattle.rlp.specs.Lemmas.Reading.{bytes_held}
+use Rattle.rlp_node_record.specs.NodeRecord.{AreRecordKeys}
+use Rattle.rlp_node_record.specs.NodeLaws.{record_made}
 use Rattle.rlp_node_record.proofs.node_record.NodeRecord.new.Goals as goal
 
-pub returns-then-not-are_in_order-clause-fault : goal.returns-then-not-are_in_order-clause-fault
-returns-then-not-are_in_order-clause-fault c =
-    inl (keys_not_rising _ (refused_order _ _ c.as_slice.ensures.value c.are_in_order.ensures c.if-not-are_in_order.true) refl)
+pub invariant_of-result : goal.invariant_of-result
+invariant_of-result c = record_made c.as_slice-written.result.now c.args.fields c.in-Ok-encode.ensures.fits
+    (c.as_slice-written.ensures ∙ c.in-Ok-encode.ensures.bytes) (subst AreRecordKeys c.as_slice.ensures.value c.in-Ok.ensures.keys)
+    (bytes_held c.as_slice-written.result.now (search rules)) (omega arith)
+
+pub returns-clause-value : goal.returns-clause-value
+returns-clause-value c = (
+  refl,
+  record_made c.as_slice-written.result.now c.args.fields c.in-Ok-encode.ensures.fits
+      (c.as_slice-written.ensures ∙ c.in-Ok-encode.ensures.bytes) (subst AreRecordKeys c.as_slice.ensures.value c.in-Ok.ensures.keys)
+      (bytes_held c.as_slice-written.result.now (search rules)) (omega arith),
+)

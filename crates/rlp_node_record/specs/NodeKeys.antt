@@ -1,0 +1,51 @@
+-- The keys of a node record, and what a key gives.
+use Rattle.std.specs.Prelude.{ℕ, ◌≡◌, ◌≢◌, ⊤, if◌then◌else◌, IsSome, List, [], ◌∷◌, length, codes, Option, Some, None, Result}
+use Rattle.std.specs.Str.{bytes_eq}
+use Rattle.std.specs.Vec.{vec_items}
+use Rattle.rlp.specs.DecoderError.{DecoderError}
+use Rattle.rlp.specs.Format.Item.{Item, string}
+use Rattle.rlp.specs.Format.Encoding.{encoding}
+use Rattle.rlp.specs.Values.Value.{FitsBytes, number_item}
+use Rattle.rlp.specs.Values.ListReading.{ReadsValue}
+use Rattle.rlp.specs.Views.View.{View, strict_view_of}
+use Rattle.rlp_node_record.specs.declared.node_fields.NodeFields.{NodeFields}
+use Rattle.rlp_node_record.specs.declared.node_fields.NodePair.{NodePair}
+
+-- the value of a key among pairs, as the bytes of its item: that of the first pair with the key, if there is one
+abbrev pub value_among : List ℕ → List NodePair → Option (List ℕ)
+value_among key [] = None
+value_among key (pair ∷ pairs) = if bytes_eq (vec_items pair.key) key then Some pair.value else value_among key pairs
+
+-- the value of a key, which stands in a record at most once
+abbrev pub value_of : List ℕ → NodeFields → Option (List ℕ)
+value_of key f = value_among key (vec_items f.pairs)
+
+-- `id` is one of the keys
+unfoldable pub HasId : List NodePair → Type 0
+HasId pairs = IsSome (value_among (codes "id") pairs)
+
+-- What a key gives as a value of any type: nothing if the record hasn't the key, and else what a strict view of the key's value gives, or its fault.
+abbrev pub ReadsKey : {A : Type 0} → (View → A → Type 0) → (View → DecoderError → Type 0) → (View → Type 0) → Option (List ℕ) → Option (Result A DecoderError)
+    → Type 0
+ReadsKey gives faults may_lack None None = ⊤
+ReadsKey gives faults may_lack None (Some answer) = ⊥
+ReadsKey gives faults may_lack (Some b) None = ⊥
+ReadsKey gives faults may_lack (Some b) (Some answer) = ReadsValue gives faults may_lack (strict_view_of b) answer
+
+-- What a known key gives: the value that fits its type and whose encoding is the key's value. It gives nothing if there is no such value: the record hasn't
+-- the key, or the key's value has another shape.
+abbrev pub GivesKnown : {A : Type 0} → (A → Type 0) → (A → Item) → Option (List ℕ) → Option A → Type 0
+GivesKnown Fits item held (Some x) = Fits x × (held ≡ Some (encoding (item x)))
+GivesKnown {A} Fits item held None = (x : A) → Fits x → held ≢ Some (encoding (item x))
+
+-- the bytes of the key's value, if it is a string
+abbrev pub GivesString : List ℕ → NodeFields → Option (List ℕ) → Type 0
+GivesString key f answer = GivesKnown (λ s. ⊤) string (value_of key f) answer
+
+-- the bytes of the key's value, if it is a string of n bytes
+abbrev pub GivesArray : ℕ → List ℕ → NodeFields → Option (List ℕ) → Type 0
+GivesArray n key f answer = GivesKnown (λ s. length s ≡ n) string (value_of key f) answer
+
+-- the number of the key's value, if it is a number of at most two bytes
+abbrev pub GivesPort : List ℕ → NodeFields → Option ℕ → Type 0
+GivesPort key f answer = GivesKnown (FitsBytes 2) number_item (value_of key f) answer

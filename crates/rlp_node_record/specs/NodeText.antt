@@ -1,0 +1,38 @@
+-- Node records as text, as in the section "Text Encoding" of EIP-778.
+use Rattle.std.specs.Prelude.{ℕ, ◌≡◌, ◌≢◌, List, ◌++◌, codes}
+use Rattle.base64.specs.Engines.{url_safe_no_pad}
+use Rattle.base64.specs.GeneralPurpose.{encode_of}
+use Rattle.rlp.specs.DecoderError.{DecoderError}
+use Rattle.rlp.specs.Format.Encoding.{encoding}
+use Rattle.rlp.specs.Format.WrittenHeader.{AreBytes}
+use Rattle.rlp.specs.Values.ValueReading.{IsCustom}
+use Rattle.rlp.specs.Views.View.{strict_view_of}
+use Rattle.rlp_node_record.specs.NodeFields.{node_fields}
+use Rattle.rlp_node_record.specs.NodeLaws.{node_record}
+use Rattle.rlp_node_record.specs.declared.node_fields.NodeFields.{NodeFields}
+
+-- bytes in the URL-safe base64 of section 5 of RFC 4648, without padding
+unfoldable pub base64_of : List ℕ → List ℕ
+base64_of b = encode_of url_safe_no_pad b
+
+-- the text of bytes: `enr:`, and then their base64
+abbrev pub text_of : List ℕ → List ℕ
+text_of b = codes "enr:" ++ base64_of b
+
+-- the text of a record: that of its encoding
+abbrev pub node_text : NodeFields → List ℕ
+node_text f = text_of (encoding (node_fields.item f))
+
+-- the text begins with `enr:`
+abbrev pub HasPrefix : List ℕ → Type 0
+HasPrefix t = (rest : List ℕ) × (t ≡ codes "enr:" ++ rest)
+
+-- no bytes have this base64
+abbrev pub IsNotBase64 : List ℕ → Type 0
+IsNotBase64 digits = (b : List ℕ) → AreBytes b → digits ≢ base64_of b
+
+-- Why a text isn't that of a record: it doesn't begin with `enr:`, what follows isn't base64, or the bytes have a fault if they are read strictly.
+pub data IsNodeTextFault (t : List ℕ) (e : DecoderError) : Type 0 where
+  no_prefix : ¬ HasPrefix t → IsCustom (codes "text does not begin with enr:") e → IsNodeTextFault t e
+  not_base64 : (digits : List ℕ) → t ≡ codes "enr:" ++ digits → IsNotBase64 digits → IsCustom (codes "text is not base64") e → IsNodeTextFault t e
+  faulty_bytes : (b : List ℕ) → AreBytes b → t ≡ text_of b → node_record.faults (strict_view_of b) e → IsNodeTextFault t e

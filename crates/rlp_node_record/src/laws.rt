@@ -1,0 +1,29 @@
+//! What holds of the texts of node records: each record is read back from its text, and no other
+//! record has this text.
+
+ghost use Rattle.std.specs.Prelude.{◌≡◌, IfErr, IfOk};
+ghost use Rattle.rlp.specs.DecoderError.TheVariants.{OutOfMemory};
+ghost use Rattle.rlp_node_record.specs.NodeFields.{node_fields};
+ghost use Rattle.rlp_node_record.specs.NodeRecord.{IsNodeRecord};
+ghost use Rattle.rlp_node_record.specs.NodeText.{node_text};
+ghost use Rattle.rlp_node_record.specs.declared.node_fields.NodeFields.{NodeFields};
+
+use crate::NodeRecord;
+use rlp::DecoderError;
+use std::alloc::{AllocError, Global};
+
+/// The node record that is read from the text of a node record: it has the same fields. The call
+/// fails only if memory runs out. `only` says that any other record has another text, so a text
+/// names one record.
+pub fn node_text_round_trips(alloc: Global, node: &NodeRecord) -> Result<NodeRecord, DecoderError>
+    ensures same { IfOk result (λ r. node_fields.Same r node.now) }
+    ensures memory { IfErr result (λ e. e ≡ OutOfMemory) }
+    ensures only { (other : NodeFields) → IsNodeRecord other → node_text other ≡ node_text node.now
+        → node_fields.Same other node.now }
+{
+    let _fields = node.fields();
+    match node.to_text(alloc) {
+        Ok(text) => NodeRecord::from_text(alloc, text.as_str()),
+        Err(AllocError) => Err(DecoderError::OutOfMemory),
+    }
+}
