@@ -6,6 +6,7 @@ use rlp_rows::Line;
 use std::alloc::Global;
 use std::fmt;
 use std::fmt::Write;
+use std::test::Fail;
 
 /// Tells the place, the header, the payload and the depth of each item, or the fault.
 pub(crate) fn tell_tree(alloc: Global, bytes: &[u8], depth: usize, out: &mut Line) -> fmt::Result {
@@ -54,8 +55,8 @@ const TREES: [Row; 14] = [
 ];
 
 #[test]
-fn trees_in_flat_form(rt: HostRuntime) {
+fn trees_in_flat_form(rt: HostRuntime) -> Result<(), Fail> {
     let mut wrong = Line::new();
     check(rt.alloc(), "lenient tree", &TREES, &mut wrong);
-    assert_eq!(rt; wrong.as_str(), "");
+    wrong.none_noted()
 }

@@ -5,6 +5,7 @@ use rlp::{DecoderError, Rlp};
 use rlp_rows::Line;
 use std::fmt;
 use std::fmt::Write;
+use std::test::Fail;
 
 /// Tells what a view answers about its items and its value.
 pub(crate) fn tell_items(view: Rlp<'_>, call: &str, index: usize, out: &mut Line) -> fmt::Result {
@@ -168,7 +169,7 @@ const STRICT_PAYLOADS: [Row; 2] = [
 const TAKEN: [Row; 1] = [("c88363617483646f67", "Ok(83636174)")];
 
 #[test]
-fn items_and_values(rt: HostRuntime) {
+fn items_and_values(rt: HostRuntime) -> Result<(), Fail> {
     let alloc = rt.alloc();
     let mut wrong = Line::new();
     check(alloc, "lenient item", &ITEMS, &mut wrong);
@@ -180,5 +181,5 @@ fn items_and_values(rt: HostRuntime) {
     check(alloc, "strict iterated", &STRICT_ITERATED, &mut wrong);
     check(alloc, "strict payload", &STRICT_PAYLOADS, &mut wrong);
     check(alloc, "lenient taken", &TAKEN, &mut wrong);
-    assert_eq!(rt; wrong.as_str(), "");
+    wrong.none_noted()
 }

@@ -1,12 +1,13 @@
 //! Values that are read from the items of a list.
 
-use crate::rows::{Row, check, view_of};
+use crate::rows::{Row, check, tell_same, view_of};
 use rlp::{Decodable, DecoderError, Rlp};
 use rlp_fixtures::Odd;
 use rlp_rows::Line;
 use std::alloc::Global;
 use std::fmt;
 use std::fmt::Write;
+use std::test::Fail;
 
 /// Tells what is read as a list of a type from bytes and from a view of them, which is to be the
 /// same.
@@ -39,11 +40,7 @@ fn tell_list_of<T: Decodable + fmt::Debug + PartialEq>(
     } else {
         rlp::decode_list::<T>(alloc, bytes)
     };
-    if decoded == viewed {
-        write!(out, "{decoded:?}")
-    } else {
-        write!(out, "{decoded:?}, of a view {viewed:?}")
-    }
+    tell_same(&decoded, &viewed, out)
 }
 
 /// Lists are read whole. Bytes that aren't a framed list are read as an empty list.
@@ -106,11 +103,7 @@ fn tell_value_of_at<T: Decodable + fmt::Debug + PartialEq>(
         Ok(item) => item.as_val::<T>(alloc),
         Err(fault) => Err(fault),
     };
-    if value == viewed {
-        write!(out, "{value:?}")
-    } else {
-        write!(out, "{value:?}, of a view {viewed:?}")
-    }
+    tell_same(&value, &viewed, out)
 }
 
 /// A list whose length overflows, strings and lists that aren't canonical, and short lists that end
@@ -157,14 +150,17 @@ const NESTED_NUMBERS: [Row; 1] = [("c4c2010203 1", "Ok(3)")];
 /// second is a list, and the third number that the third holds.
 pub(crate) fn tell_third(alloc: Global, view: &Rlp<'_>, out: &mut Line) -> fmt::Result {
     write!(out, "{:?} ", view.item_count())?;
-    write!(out, "{:?} ", second_is_list(view))?;
+    write!(out, "{} ", second_is_list(view))?;
     write!(out, "{:?} ", third_of_third(alloc, view))?;
     write!(out, "{:?}", view.item_count())
 }
 
 /// Returns whether the second item is a list.
-fn second_is_list(view: &Rlp<'_>) -> Result<bool, DecoderError> {
-    Ok(view.at(1)?.is_list())
+fn second_is_list(view: &Rlp<'_>) -> bool {
+    match view.at(1) {
+        Ok(item) => item.is_list(),
+        Err(_) => false,
+    }
 }
 
 /// Returns the third number of the third item.
@@ -176,11 +172,11 @@ fn third_of_third(alloc: Global, view: &Rlp<'_>) -> Result<u16, DecoderError> {
 // its items is the same before and after that is read.
 const LIST: [Row; 1] = [(
     "f83e82022bd79020010db83c4d001500000000abcdef12820cfa8215a8d79020010db885a308d313198a2e037073488208ae82823a8443b9a355c5010203040531b9019afde696e582a78fa8d95ea13ce3297d4afb8ba6433e4154caa5ac6431af1b80ba76023fa4090c408f6b4bc3701562c031041d4702971d102c9ab7fa5eed4cd6bab8f7af956f7d565ee1917084a95398b6a21eac920fe3dd1345ec0a7ef39367ee69ddf092cbfe5b93e5e568ebc491983c09c76d922dc3",
-    "Ok(5) Ok(true) Ok(33338) Ok(5)",
+    "Ok(5) true Ok(33338) Ok(5)",
 )];
 
 #[test]
-fn lists(rt: HostRuntime) {
+fn lists(rt: HostRuntime) -> Result<(), Fail> {
     let alloc = rt.alloc();
     let mut wrong = Line::new();
     check(alloc, "lenient list u64", &NUMBERS, &mut wrong);
@@ -191,5 +187,5 @@ fn lists(rt: HostRuntime) {
     check(alloc, "lenient value_at u64", &NESTED_NUMBERS, &mut wrong);
     check(alloc, "lenient list_at u64", &NESTED_LISTS, &mut wrong);
     check(alloc, "lenient third", &LIST, &mut wrong);
-    assert_eq!(rt; wrong.as_str(), "");
+    wrong.none_noted()
 }

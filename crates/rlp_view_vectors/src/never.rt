@@ -5,6 +5,7 @@
 use crate::rows::{Row, check};
 use rlp::DecoderError;
 use rlp_rows::Line;
+use std::test::Fail;
 
 /// The number of bytes that is requested as the signal. The result of the request makes no
 /// difference.
@@ -19,11 +20,11 @@ const TEXTS: [Row; 4] = [
 ];
 
 #[test]
-fn views_that_need_no_memory(rt: HostRuntime) {
+fn views_that_need_no_memory(rt: HostRuntime) -> Result<(), Fail> {
     let _signal = Vec::<u8>::with_capacity(rt.alloc(), SIGNAL).is_ok();
     let mut wrong = Line::new();
     check(rt.alloc(), "lenient view text", &TEXTS, &mut wrong);
-    assert_eq!(rt; wrong.as_str(), "");
     let fault = DecoderError::Custom("text");
     assert!(rt; fault.clone() == fault);
+    wrong.none_noted()
 }

@@ -6,7 +6,7 @@ use crate::items::{tell_items, tell_taken};
 use crate::lists::{tell_list, tell_list_at, tell_third, tell_value_at};
 use crate::splitting::{tell_first, tell_split};
 use crate::strict::{tell_invalid, tell_whole, tell_whole_list};
-use crate::texts::tell_fault;
+use crate::texts::tell_fault_of;
 use crate::values::{tell_first_byte, tell_value};
 use crate::views::{tell_header, tell_view};
 use rlp::{DecoderError, Rlp};
@@ -37,7 +37,7 @@ fn tell(alloc: Global, call: &str, given: &str, out: &mut Line) -> fmt::Result {
     let (call, of) = cut(call);
     let strict = kind == "strict";
     match call {
-        "fault" => tell_fault(alloc, digits, out),
+        "fault" => tell_fault_of(alloc, digits, out),
         "view" => tell_view(&view_of(bytes, strict), of, number(rest), out),
         "value" => tell_value(alloc, bytes, strict, of, out),
         "list" => tell_list(alloc, bytes, strict, of, out),
@@ -72,6 +72,19 @@ fn tell_other(
         "whole_list" => tell_whole_list(alloc, bytes, out),
         "invalid" => tell_invalid(alloc, bytes, out),
         _ => Err(fmt::Error),
+    }
+}
+
+/// Tells what is read in one way, and by a view if that is something else.
+pub(crate) fn tell_same<T: fmt::Debug + PartialEq>(
+    read: &Result<T, DecoderError>,
+    viewed: &Result<T, DecoderError>,
+    out: &mut Line,
+) -> fmt::Result {
+    if read == viewed {
+        write!(out, "{read:?}")
+    } else {
+        write!(out, "{read:?}, of a view {viewed:?}")
     }
 }
 

@@ -6,6 +6,7 @@ use rlp_rows::Line;
 use std::alloc::Global;
 use std::fmt;
 use std::fmt::Write;
+use std::test::Fail;
 
 /// Tells the items that are split off one after another, and then the fault, and what is left.
 pub(crate) fn tell_split(bytes: &[u8], strict: bool, out: &mut Line) -> fmt::Result {
@@ -88,12 +89,12 @@ const STRICTLY_READ: [Row; 3] = [
 ];
 
 #[test]
-fn first_items(rt: HostRuntime) {
+fn first_items(rt: HostRuntime) -> Result<(), Fail> {
     let alloc = rt.alloc();
     let mut wrong = Line::new();
     check(alloc, "lenient split", &ITEMS, &mut wrong);
     check(alloc, "strict split", &STRICT_ITEMS, &mut wrong);
     check(alloc, "lenient first", &NOT_CANONICAL, &mut wrong);
     check(alloc, "strict first", &STRICTLY_READ, &mut wrong);
-    assert_eq!(rt; wrong.as_str(), "");
+    wrong.none_noted()
 }

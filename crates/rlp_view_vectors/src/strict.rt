@@ -6,6 +6,7 @@ use rlp_rows::Line;
 use std::alloc::Global;
 use std::fmt;
 use std::fmt::Write;
+use std::test::Fail;
 
 /// Bytes after a text are too much, but a fault of its header comes first.
 const TEXTS: [Row; 3] = [
@@ -119,7 +120,7 @@ const WHOLE: [Row; 2] = [("820100", "Ok(256)"), ("0506", "Err(RlpIsTooBig)")];
 const WHOLE_LIST: [Row; 1] = [("c20506", "Ok([5, 6])")];
 
 #[test]
-fn strict_values_and_invalid_encodings(rt: HostRuntime) {
+fn strict_values_and_invalid_encodings(rt: HostRuntime) -> Result<(), Fail> {
     let alloc = rt.alloc();
     let mut wrong = Line::new();
     check(alloc, "strict value String", &TEXTS, &mut wrong);
@@ -131,5 +132,5 @@ fn strict_values_and_invalid_encodings(rt: HostRuntime) {
     check(alloc, "strict invalid", &INVALID, &mut wrong);
     check(alloc, "strict whole", &WHOLE, &mut wrong);
     check(alloc, "strict whole_list", &WHOLE_LIST, &mut wrong);
-    assert_eq!(rt; wrong.as_str(), "");
+    wrong.none_noted()
 }
