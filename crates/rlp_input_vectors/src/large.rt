@@ -1,7 +1,10 @@
 //! Long strings, lists of many items, and lists that nest deep.
 
-use rlp::{DecoderError, Rlp, RlpStream};
+use rlp::{DecoderError, Rlp};
+use rlp_rows::{Line, bytes_of, number, push_header};
 use std::alloc::{AllocError, Global};
+use std::fmt;
+use std::fmt::Write;
 use std::test::Fail;
 
 /// Returns a header, and then `len` times a byte.
@@ -11,44 +14,40 @@ fn filled(alloc: Global, header: &[u8], len: usize, byte: u8) -> Result<Vec<u8>,
     Ok(bytes)
 }
 
-/// Headers of strings, the numbers of bytes 63 after them, and the fault if these end before the
-/// string.
-const TEXTS: [(&[u8], usize, Option<DecoderError>); 3] = [
-    (
-        b"\xb8\xff",
-        253,
-        Some(DecoderError::RlpInconsistentLengthAndData),
-    ),
-    (b"\xb8\xff", 255, None),
-    (
-        b"\xb9\x02\xff",
-        700,
-        Some(DecoderError::RlpInconsistentLengthAndData),
-    ),
+/// Headers of strings and bytes 63 after them, and what is read as a text.
+const TEXTS: [(&str, &str); 3] = [
+    ("b8ff+63*253", "Some(RlpInconsistentLengthAndData)"),
+    ("b8ff+63*255", "None"),
+    ("b902ff+63*700", "Some(RlpInconsistentLengthAndData)"),
 ];
 
-/// The headers of strings of 2 MiB and of 16,777,215 bytes, and their lengths.
-const LONG: [(&[u8], usize); 2] = [
-    (b"\xba\x20\x00\x00", 2_097_152),
-    (b"\xba\xff\xff\xff", 16_777_215),
-];
-
-/// Returns the first text that is read otherwise.
-fn first_wrong_text(alloc: Global) -> Result<Option<usize>, AllocError> {
-    for (header, len, fault) in &TEXTS {
-        let bytes = filled(alloc, header, *len, 0x63)?;
-        if rlp::decode::<String>(alloc, bytes.as_slice()).err() != *fault {
-            return Ok(Some(*len));
-        }
-    }
-    Ok(None)
+/// Tells the fault of reading a text.
+fn tell_text(alloc: Global, text: &str, out: &mut Line) -> fmt::Result {
+    let bytes = bytes_of(alloc, text)?;
+    write!(
+        out,
+        "{:?}",
+        rlp::decode::<String>(alloc, bytes.as_slice()).err()
+    )
 }
 
-/// Returns whether a string of bytes 07 behind a header is read.
-fn is_read(alloc: Global, header: &[u8], len: usize) -> Result<bool, Fail> {
-    let bytes = filled(alloc, header, len, 0x07)?;
-    let string = rlp::decode_strict::<Vec<u8>>(alloc, bytes.as_slice())?;
-    Ok(string.len() == len && bytes.as_slice().ends_with(string.as_slice()))
+/// Strings of bytes 07, of 2 MiB and of 16,777,215 bytes, and their lengths.
+const LONG: [(&str, &str); 2] = [
+    ("ba200000+07*2097152", "Ok(2097152)"),
+    ("baffffff+07*16777215", "Ok(16777215)"),
+];
+
+/// Returns the length of a string that is read strictly, or 0 if it has other bytes.
+fn length_of(alloc: Global, bytes: &[u8]) -> Result<usize, DecoderError> {
+    let string = rlp::decode_strict::<Vec<u8>>(alloc, bytes)?;
+    let is_read = bytes.ends_with(string.as_slice());
+    Ok(if is_read { string.len() } else { 0 })
+}
+
+/// Tells the length of a string.
+fn tell_length(alloc: Global, text: &str, out: &mut Line) -> fmt::Result {
+    let bytes = bytes_of(alloc, text)?;
+    write!(out, "{:?}", length_of(alloc, bytes.as_slice()))
 }
 
 /// Returns whether a string of 70,000 bytes is printed.
@@ -61,33 +60,32 @@ fn is_printed(alloc: Global) -> Result<bool, AllocError> {
 
 #[test]
 fn long_strings(rt: HostRuntime) -> Result<(), Fail> {
-    let alloc = rt.alloc();
-    assert_eq!(rt; first_wrong_text(alloc)?, None);
-    for (header, len) in LONG {
-        assert!(rt; is_read(alloc, header, len)?, "{len} bytes 07");
+    let mut wrong = Line::new();
+    for (text, want) in &TEXTS {
+        let mut said = Line::new();
+        let _ = tell_text(rt.alloc(), text, &mut said);
+        wrong.note("text", text, said.as_str(), want);
     }
-    assert!(rt; is_printed(alloc)?);
-    Ok(())
+    for (text, want) in &LONG {
+        let mut said = Line::new();
+        let _ = tell_length(rt.alloc(), text, &mut said);
+        wrong.note("string", text, said.as_str(), want);
+    }
+    assert!(rt; is_printed(rt.alloc()) == Ok(true));
+    wrong.none_noted()
 }
 
-/// Returns whether a list has `len` items 01, and an iterator gives them and then `None` each time.
-/// `RlpIterator::len` walks what is left.
+/// Returns whether an iterator gives `len` items 01, and then `None` each time. `RlpIterator::len` walks
+/// what is left.
 fn iterates_ones(view: &Rlp<'_>, len: usize) -> bool {
-    let mut count = 0usize;
-    for item in view {
-        count = count.saturating_add(usize::from(item.as_raw() == [0x01].as_slice()));
-    }
     let mut items = view.iter();
     for _ in 1..len {
-        if items.next().is_none() {
-            return false;
+        match items.next() {
+            Some(item) if item.as_raw() == [0x01].as_slice() => {}
+            _ => return false,
         }
     }
-    items.len() == 1
-        && items.next().is_some()
-        && items.next().is_none()
-        && items.next().is_none()
-        && count == len
+    items.len() == 1 && items.next().is_some() && items.next().is_none() && items.next().is_none()
 }
 
 /// Returns whether a list has `len` items, the last of them 01 and at this place.
@@ -101,43 +99,33 @@ fn ends_with_one(view: &Rlp<'_>, len: usize, place: usize) -> Result<bool, Decod
     )
 }
 
-/// Returns whether a list is read as `len` numbers 1.
-fn gives_ones(alloc: Global, view: &Rlp<'_>, len: usize) -> Result<bool, Fail> {
-    let numbers = view.as_list::<u8>(alloc)?;
-    Ok(numbers.as_slice() == filled(alloc, b"", len, 1)?.as_slice())
+/// Returns whether a list is read as `len` numbers, which are the bytes at its end.
+fn gives_ones(alloc: Global, view: &Rlp<'_>, len: usize) -> bool {
+    match view.as_list::<u8>(alloc) {
+        Ok(numbers) => numbers.len() == len && view.as_raw().ends_with(numbers.as_slice()),
+        Err(_) => false,
+    }
 }
 
 /// Returns lists, one inside another. If they have siblings, each but the outermost stands between
-/// the empty string and the empty list.
-fn nested(alloc: Global, levels: usize, siblings: bool) -> Result<RlpStream, AllocError> {
-    let mut s = RlpStream::new(alloc)?;
-    for _ in 1..levels {
-        open(&mut s, siblings)?;
-    }
-    s.begin_list(0)?;
+/// the empty string and the empty list. The bytes are written from the end.
+fn nested(alloc: Global, levels: usize, siblings: bool) -> Result<Vec<u8>, AllocError> {
+    let mut backwards = Vec::from_slice(alloc, &[0xc0])?;
     for _ in 1..levels {
         if siblings {
-            s.begin_list(0)?;
+            backwards.insert(0, 0xc0)?;
+            backwards.extend_from_slice(&[0x80])?;
         }
+        push_header(&mut backwards)?;
     }
-    Ok(s)
+    backwards.as_mut_slice().reverse();
+    Ok(backwards)
 }
 
-/// Begins a list of one item, or one of three whose first is the empty string.
-fn open(s: &mut RlpStream, siblings: bool) -> Result<(), AllocError> {
-    if siblings {
-        s.begin_list(3)?.append_empty_data()?;
-    } else {
-        s.begin_list(1)?;
-    }
-    Ok(())
-}
-
-/// Returns whether the depth of a stream's lists is exactly `levels`.
-fn has_depth(s: &RlpStream, levels: usize) -> bool {
-    let (view, fewer) = (Rlp::new(s.as_raw()), levels.saturating_sub(1));
-    s.is_finished()
-        && view.is_nested_within(levels)
+/// Returns whether the depth of lists is exactly `levels`.
+fn has_depth(bytes: &[u8], levels: usize) -> bool {
+    let (view, fewer) = (Rlp::new(bytes), levels.saturating_sub(1));
+    view.is_nested_within(levels)
         && !view.is_nested_within(fewer)
         && view.is_canonical(levels)
         && !view.is_canonical(fewer)
@@ -145,8 +133,8 @@ fn has_depth(s: &RlpStream, levels: usize) -> bool {
 
 /// Returns whether lists, one inside another, have their depth.
 fn nest(alloc: Global, levels: usize, siblings: bool) -> Result<bool, AllocError> {
-    let s = nested(alloc, levels, siblings)?;
-    Ok(has_depth(&s, levels))
+    let bytes = nested(alloc, levels, siblings)?;
+    Ok(has_depth(bytes.as_slice(), levels))
 }
 
 /// Returns whether the text of a list of `len` items 01 has for each item four characters `0x01`,
@@ -161,35 +149,48 @@ fn prints_ones(alloc: Global, view: &Rlp<'_>, len: usize) -> Result<bool, AllocE
     )
 }
 
-/// Returns whether a list of `len` items 01, the last of them at this place, is read and printed.
-fn has_ones(alloc: Global, view: &Rlp<'_>, len: usize, place: usize) -> Result<bool, Fail> {
-    if !iterates_ones(view, len) || !ends_with_one(view, len, place)? {
-        return Ok(false);
-    }
-    Ok(gives_ones(alloc, view, len)? && prints_ones(alloc, view, len)?)
+/// Tells which calls read or print a list of `len` items 01, the last of them at this place.
+fn tell_ones(
+    alloc: Global,
+    view: &Rlp<'_>,
+    len: usize,
+    place: usize,
+    out: &mut Line,
+) -> fmt::Result {
+    write!(out, "{} ", iterates_ones(view, len))?;
+    write!(out, "{:?} ", ends_with_one(view, len, place))?;
+    write!(out, "{} ", gives_ones(alloc, view, len))?;
+    write!(out, "{:?}", prints_ones(alloc, view, len))
 }
 
 /// The headers of lists of bytes 01, and the numbers of these.
-const ONES: [(&[u8], usize); 2] = [(b"\xf9\x27\x10", 10_000), (b"\xfa\x0f\x42\x40", 1_000_000)];
+const ONES: [(&str, &str); 2] = [
+    ("f92710+01*10000", "10000"),
+    ("fa0f4240+01*1000000", "1000000"),
+];
 
-/// Returns the number of items of the first list that is read or printed otherwise.
-fn first_wrong_list(alloc: Global) -> Result<Option<usize>, Fail> {
-    for (header, len) in ONES {
-        let bytes = filled(alloc, header, len, 1)?;
+/// Notes the lists that are read or printed otherwise.
+fn check_ones(alloc: Global, wrong: &mut Line) -> Result<(), AllocError> {
+    for (text, len) in &ONES {
+        let (bytes, mut said) = (bytes_of(alloc, text)?, Line::new());
         let place = bytes.len().saturating_sub(1);
-        if !has_ones(alloc, &Rlp::new(bytes.as_slice()), len, place)? {
-            return Ok(Some(len));
-        }
+        let _ = tell_ones(
+            alloc,
+            &Rlp::new(bytes.as_slice()),
+            number(len),
+            place,
+            &mut said,
+        );
+        wrong.note("list", text, said.as_str(), "true Ok(true) true Ok(true)");
     }
-    Ok(None)
+    Ok(())
 }
 
 // With siblings at every level, a function that tests each item twice wouldn't end in time.
 #[test]
 fn lists_of_many_items_and_levels(rt: HostRuntime) -> Result<(), Fail> {
-    let alloc = rt.alloc();
-    assert_eq!(rt; first_wrong_list(alloc)?, None);
-    assert!(rt; nest(alloc, 200, false)?);
-    assert!(rt; nest(alloc, 256, true)?);
-    Ok(())
+    let (alloc, mut wrong) = (rt.alloc(), Line::new());
+    check_ones(alloc, &mut wrong)?;
+    assert!(rt; nest(alloc, 200, false) == Ok(true) && nest(alloc, 256, true) == Ok(true));
+    wrong.none_noted()
 }

@@ -3,128 +3,161 @@
 
 use bytes::{Bytes, BytesMut};
 use rlp::{BasicDecoder, Decodable, DecoderError, PayloadInfo, Prototype, Rlp, Uint};
-use std::alloc::{AllocError, Global};
+use rlp_rows::{Line, cut, number};
+use std::alloc::Global;
+use std::fmt;
+use std::fmt::Write;
 use std::test::Fail;
 
 /// The number of inputs with an `Ok` result, then the number of inputs with each fault, in the order
 /// in which the faults are declared, and then the sum of what the results measure.
 type Tally = [usize; 14];
 
-/// Counts one result, which measures so much.
-fn note<T>(tally: &mut Tally, answer: &Result<T, DecoderError>, measure: usize) {
-    let place = match answer {
+/// What a call gives for an input: the place in a tally, and what its result measures.
+type Answer = (usize, usize);
+
+/// A call, and its tally as text, or the sum of what it measures.
+type Row = (&'static str, &'static str);
+
+/// Returns the place of a fault in a tally.
+fn place_of(fault: &DecoderError) -> usize {
+    match fault {
+        DecoderError::RlpIsTooBig => 1,
+        DecoderError::RlpIsTooShort => 2,
+        DecoderError::RlpExpectedToBeList => 3,
+        DecoderError::RlpExpectedToBeData => 4,
+        DecoderError::RlpIncorrectListLen => 5,
+        DecoderError::RlpDataLenWithZeroPrefix => 6,
+        DecoderError::RlpListLenWithZeroPrefix => 7,
+        DecoderError::RlpInvalidIndirection => 8,
+        DecoderError::RlpInconsistentLengthAndData => 9,
+        DecoderError::RlpInvalidLength => 10,
+        DecoderError::Custom(_) => 11,
+        DecoderError::OutOfMemory => 12,
+    }
+}
+
+/// Returns the place of a result in a tally.
+fn place<T>(answer: &Result<T, DecoderError>) -> usize {
+    match answer {
         Ok(_) => 0,
-        Err(DecoderError::RlpIsTooBig) => 1,
-        Err(DecoderError::RlpIsTooShort) => 2,
-        Err(DecoderError::RlpExpectedToBeList) => 3,
-        Err(DecoderError::RlpExpectedToBeData) => 4,
-        Err(DecoderError::RlpIncorrectListLen) => 5,
-        Err(DecoderError::RlpDataLenWithZeroPrefix) => 6,
-        Err(DecoderError::RlpListLenWithZeroPrefix) => 7,
-        Err(DecoderError::RlpInvalidIndirection) => 8,
-        Err(DecoderError::RlpInconsistentLengthAndData) => 9,
-        Err(DecoderError::RlpInvalidLength) => 10,
-        Err(DecoderError::Custom(_)) => 11,
-        Err(DecoderError::OutOfMemory) => 12,
-    };
+        Err(fault) => place_of(fault),
+    }
+}
+
+/// Adds to a number of a tally.
+fn add(tally: &mut Tally, place: usize, more: usize) {
     if let Some(count) = tally.get_mut(place) {
-        *count = count.saturating_add(1);
+        *count = count.saturating_add(more);
     }
-    tally[13] = tally[13].saturating_add(measure);
 }
 
-/// Counts a header, with the sum of the lengths of header and value together.
-fn note_header(tally: &mut Tally, info: &Result<PayloadInfo, DecoderError>) {
-    let total = match info {
-        Ok(info) => info.checked_total().unwrap_or(0),
-        Err(_) => 0,
-    };
-    note(tally, info, total);
-}
-
-/// Counts an item, with the sum of the places.
-fn note_item(tally: &mut Tally, item: &Result<(Rlp<'_>, usize), DecoderError>) {
-    let place = match item {
-        Ok((_, place)) => *place,
-        Err(_) => 0,
-    };
-    note(tally, item, place);
-}
-
-/// Returns the results of `PayloadInfo::from`, of `payload_info` and `data`, and then of the two of
-/// strict views.
-fn headers() -> [Tally; 5] {
-    let [
-        mut header,
-        mut framed,
-        mut value,
-        mut strict,
-        mut strict_value,
-    ] = [[0; 14]; 5];
+/// Counts the answers to all inputs.
+fn counted(alloc: Global, call: &str) -> Tally {
+    let mut tally = [0; 14];
     for word in 0..=u16::MAX {
-        let bytes = word.to_be_bytes();
-        let (view, whole) = (Rlp::new(&bytes), Rlp::new_strict(&bytes));
-        note_header(&mut header, &PayloadInfo::from(&bytes));
-        note_header(&mut framed, &view.payload_info());
-        let data = view.data();
-        let len = match &data {
-            Ok(data) => data.len(),
-            Err(_) => 0,
-        };
-        note(&mut value, &data, len);
-        note(&mut strict, &whole.payload_info(), 0);
-        note(&mut strict_value, &whole.data(), 0);
+        let (place, measure) = answered(alloc, &word.to_be_bytes(), call);
+        add(&mut tally, place, 1);
+        add(&mut tally, 13, measure);
     }
-    [header, framed, value, strict, strict_value]
+    tally
 }
 
-/// Strict views are whole where the input is exactly one framed item: `8100` to `81ff`, `c100` to
-/// `c1ff`.
-const HEADERS: [Tally; 5] = [
-    [61_840, 0, 3_570, 0, 0, 0, 8, 8, 110, 0, 0, 0, 0, 912_920],
-    [33_792, 0, 31_618, 0, 0, 0, 8, 8, 110, 0, 0, 0, 0, 34_304],
-    [33_792, 0, 31_618, 0, 0, 0, 8, 8, 110, 0, 0, 0, 0, 33_280],
-    [512, 33_280, 31_618, 0, 0, 0, 8, 8, 110, 0, 0, 0, 0, 0],
-    [512, 33_280, 31_618, 0, 0, 0, 8, 8, 110, 0, 0, 0, 0, 0],
+/// Writes the numbers of a tally.
+fn tell(tally: &Tally, out: &mut Line) -> fmt::Result {
+    let mut gap = "";
+    for count in tally {
+        write!(out, "{gap}{count}")?;
+        gap = " ";
+    }
+    Ok(())
+}
+
+/// Notes the calls that have another tally.
+fn check(alloc: Global, rows: &[Row], wrong: &mut Line) {
+    for (call, want) in rows {
+        let mut said = Line::new();
+        let _ = tell(&counted(alloc, call), &mut said);
+        wrong.note(call, "", said.as_str(), want);
+    }
+}
+
+/// Returns what a call gives for an input: a call of a lenient or a strict view, or a way to read it.
+fn answered(alloc: Global, bytes: &[u8], call: &str) -> Answer {
+    let (kind, call) = cut(call);
+    match kind {
+        "header" => of_header(PayloadInfo::from(bytes)),
+        "lenient" => of_view(&Rlp::new(bytes), call),
+        "strict" => of_view(&Rlp::new_strict(bytes), call),
+        "decoded" => (decoded(alloc, bytes, call), 0),
+        "listed" => (listed(alloc, &Rlp::new(bytes), call), 0),
+        "decoder" => of_length(BasicDecoder::new(bytes).decode_value(length)),
+        _ => of_length(Rlp::new(bytes).decoder().decode_value(length)),
+    }
+}
+
+/// Returns what a call of a view gives.
+fn of_view(view: &Rlp<'_>, call: &str) -> Answer {
+    match call {
+        "payload_info" => of_header(view.payload_info()),
+        "data" => match view.data() {
+            Ok(data) => (0, data.len()),
+            Err(fault) => (place_of(&fault), 0),
+        },
+        "item_count" => (place(&view.item_count()), 0),
+        "at 0" => (place(&view.at(0)), 0),
+        "at 1" => (place(&view.at(1)), 0),
+        "item 0" => of_item(view.at_with_offset(0)),
+        "item 1" => of_item(view.at_with_offset(1)),
+        _ => of_item(view.at_with_offset(usize::MAX)),
+    }
+}
+
+/// Returns what a header gives, which measures the lengths of header and value together.
+fn of_header(info: Result<PayloadInfo, DecoderError>) -> Answer {
+    match info {
+        Ok(info) => (0, info.checked_total().unwrap_or(0)),
+        Err(fault) => (place_of(&fault), 0),
+    }
+}
+
+/// Returns what an item gives, which measures its place.
+fn of_item(item: Result<(Rlp<'_>, usize), DecoderError>) -> Answer {
+    match item {
+        Ok((_, place)) => (0, place),
+        Err(fault) => (place_of(&fault), 0),
+    }
+}
+
+/// What the calls give that read a header, or the value of a view. Strict views are whole where the
+/// input is exactly one framed item: `8100` to `81ff`, `c100` to `c1ff`.
+const HEADERS: [Row; 5] = [
+    ("header", "61840 0 3570 0 0 0 8 8 110 0 0 0 0 912920"),
+    (
+        "lenient payload_info",
+        "33792 0 31618 0 0 0 8 8 110 0 0 0 0 34304",
+    ),
+    ("lenient data", "33792 0 31618 0 0 0 8 8 110 0 0 0 0 33280"),
+    (
+        "strict payload_info",
+        "512 33280 31618 0 0 0 8 8 110 0 0 0 0 1024",
+    ),
+    ("strict data", "512 33280 31618 0 0 0 8 8 110 0 0 0 0 512"),
 ];
 
-/// Returns the results of counting the items, and for the items 0, 1 and `usize::MAX`, and then of
-/// counting those of strict views, and for their items 0 and 1.
-fn items() -> [Tally; 7] {
-    let [mut count, mut first, mut second, mut last] = [[0; 14]; 4];
-    let [mut strict_count, mut strict_first, mut strict_second] = [[0; 14]; 3];
-    for word in 0..=u16::MAX {
-        let bytes = word.to_be_bytes();
-        let (view, whole) = (Rlp::new(&bytes), Rlp::new_strict(&bytes));
-        note(&mut count, &view.item_count(), 0);
-        note_item(&mut first, &view.at_with_offset(0));
-        note_item(&mut second, &view.at_with_offset(1));
-        note_item(&mut last, &view.at_with_offset(usize::MAX));
-        note(&mut strict_count, &whole.item_count(), 0);
-        note(&mut strict_first, &whole.at(0), 0);
-        note(&mut strict_second, &whole.at(1), 0);
-    }
-    [
-        count,
-        first,
-        second,
-        last,
-        strict_count,
-        strict_first,
-        strict_second,
-    ]
-}
-
-/// Strict views have items where the input is exactly one list of framed items: `c100` to `c180`,
-/// `c1c0`. None of those lists has a second item.
-const ITEMS: [Tally; 7] = [
-    [16_384, 0, 0, 49_152, 0, 0, 0, 0, 0, 0, 0, 0, 0, 0],
-    [130, 0, 16_191, 49_152, 0, 0, 0, 8, 55, 0, 0, 0, 0, 130],
-    [0, 0, 16_321, 49_152, 0, 0, 0, 8, 55, 0, 0, 0, 0, 0],
-    [0, 0, 16_321, 49_152, 0, 0, 0, 8, 55, 0, 0, 0, 0, 0],
-    [130, 256, 15_935, 49_152, 0, 0, 0, 8, 55, 0, 0, 0, 0, 0],
-    [130, 256, 15_935, 49_152, 0, 0, 0, 8, 55, 0, 0, 0, 0, 0],
-    [0, 256, 16_065, 49_152, 0, 0, 0, 8, 55, 0, 0, 0, 0, 0],
+/// What the calls give that count or find items. Strict views have items where the input is exactly
+/// one list of framed items: `c100` to `c180`, `c1c0`. None of those lists has a second item.
+const ITEMS: [Row; 7] = [
+    ("lenient item_count", "16384 0 0 49152 0 0 0 0 0 0 0 0 0 0"),
+    ("lenient item 0", "130 0 16191 49152 0 0 0 8 55 0 0 0 0 130"),
+    ("lenient item 1", "0 0 16321 49152 0 0 0 8 55 0 0 0 0 0"),
+    ("lenient last item", "0 0 16321 49152 0 0 0 8 55 0 0 0 0 0"),
+    (
+        "strict item_count",
+        "130 256 15935 49152 0 0 0 8 55 0 0 0 0 0",
+    ),
+    ("strict at 0", "130 256 15935 49152 0 0 0 8 55 0 0 0 0 0"),
+    ("strict at 1", "0 256 16065 49152 0 0 0 8 55 0 0 0 0 0"),
 ];
 
 /// Returns whether a lenient view and a strict one, and their clones, have these bytes and are of
@@ -138,61 +171,6 @@ fn is_sound(view: &Rlp<'_>, strict: &Rlp<'_>, bytes: &[u8]) -> bool {
         && view.clone().as_raw() == bytes
         && strict.as_raw() == bytes
 }
-
-/// Returns what `kinds` adds up of an input.
-fn numbers_of(view: &Rlp<'_>, strict: &Rlp<'_>) -> [usize; 18] {
-    let (data, items) = match view.prototype() {
-        Ok(Prototype::Data(len)) => (len, 0),
-        Ok(Prototype::List(len)) => (0, len),
-        _ => (usize::MAX, usize::MAX),
-    };
-    [
-        usize::from(view.is_list()),
-        usize::from(view.is_data()),
-        usize::from(view.is_empty()),
-        usize::from(view.is_int()),
-        usize::from(view.is_nested_within(0)),
-        usize::from(view.is_nested_within(1)),
-        usize::from(view.is_nested_within(2)),
-        view.size(),
-        data,
-        items,
-        usize::from(view.is_canonical(0)),
-        usize::from(view.is_canonical(1)),
-        usize::from(view.is_canonical(2)),
-        usize::from(view.is_canonical(3)),
-        usize::from(strict.is_canonical(0)),
-        usize::from(strict.is_canonical(1)),
-        usize::from(strict.is_canonical(2)),
-        usize::from(strict.is_canonical(3)),
-    ]
-}
-
-/// Returns the numbers of inputs that are a list, are a string, are empty, begin with a number, and
-/// nest within 0, 1 and 2 lists; the sums of the sizes, of the lengths in prototypes of strings, and
-/// of the numbers of items in prototypes of lists; and the numbers of inputs that are canonical
-/// within the depths 0 to 3, by a lenient view and by a strict one. An input isn't counted if a view
-/// or its clone has other bytes or is of the other kind.
-fn kinds() -> [usize; 18] {
-    let mut sums = [0usize; 18];
-    for word in 0..=u16::MAX {
-        let bytes = word.to_be_bytes();
-        let (view, strict) = (Rlp::new(&bytes), Rlp::new_strict(&bytes));
-        if is_sound(&view, &strict, &bytes) {
-            for (sum, number) in sums.iter_mut().zip(numbers_of(&view, &strict).iter()) {
-                *sum = sum.saturating_add(*number);
-            }
-        }
-    }
-    sums
-}
-
-/// `8180` to `81ff` are canonical and have depth 0, `c100` to `c17f` and `c180` have depth 1, and
-/// `c1c0` has depth 2.
-const KINDS: [usize; 18] = [
-    16_384, 49_152, 512, 47_049, 65_024, 65_535, 65_536, 33_024, 33_024, 130, 128, 257, 258, 258,
-    128, 257, 258, 258,
-];
 
 /// Returns whether the item of this number has these bytes.
 fn is_item(view: &Rlp<'_>, index: usize, bytes: &[u8]) -> bool {
@@ -222,149 +200,245 @@ fn is_numbered(view: &Rlp<'_>) -> bool {
         && len == view.item_count().unwrap_or(0)
 }
 
-#[test]
-fn views_of_two_bytes(rt: HostRuntime) {
-    assert_eq!(rt; headers(), HEADERS);
-    assert_eq!(rt; items(), ITEMS);
-    assert_eq!(rt; kinds(), KINDS);
-    let unnumbered = (0..=u16::MAX).find(|word| !is_numbered(&Rlp::new(&word.to_be_bytes())));
-    assert_eq!(rt; unnumbered, None);
-}
-
-/// Returns the results of reading the inputs as values of a type.
-fn decoded<T: Decodable>(alloc: Global) -> Tally {
-    let mut tally = [0; 14];
-    for word in 0..=u16::MAX {
-        note(&mut tally, &rlp::decode::<T>(alloc, &word.to_be_bytes()), 0);
+/// Returns what a view measures of an input: 1 if it is so, or a length.
+fn measured(view: &Rlp<'_>, call: &str) -> usize {
+    let (call, limit) = cut(call);
+    match call {
+        "is_list" => usize::from(view.is_list()),
+        "is_data" => usize::from(view.is_data()),
+        "is_empty" => usize::from(view.is_empty()),
+        "is_int" => usize::from(view.is_int()),
+        "within" => usize::from(view.is_nested_within(number(limit))),
+        "canonical" => usize::from(view.is_canonical(number(limit))),
+        "size" => view.size(),
+        "string" => lengths_of(view).0,
+        "items" => lengths_of(view).1,
+        "numbered" => usize::from(is_numbered(view)),
+        "letters" => text_of(view).as_str().len(),
+        _ => usize::from(text_of(view).as_str() == "[]"),
     }
-    tally
 }
 
-/// 256 inputs for each byte from 01 to 80, and `8180` to `81ff`.
-const NUMBERS: Tally = [32_896, 0, 0, 0, 16_384, 0, 0, 0, 440, 15_816, 0, 0, 0, 0];
+/// Returns the lengths in a view's prototype: of a string, and of a list.
+fn lengths_of(view: &Rlp<'_>) -> (usize, usize) {
+    match view.prototype() {
+        Ok(Prototype::Data(len)) => (len, 0),
+        Ok(Prototype::List(len)) => (0, len),
+        _ => (usize::MAX, usize::MAX),
+    }
+}
 
-/// 256 inputs for each of the bytes 01 and 80. Other numbers are no truth values.
-const BOOLS: Tally = [512, 0, 0, 0, 16_384, 0, 0, 0, 440, 15_816, 0, 32_384, 0, 0];
+/// Returns the text of a view.
+fn text_of(view: &Rlp<'_>) -> Line {
+    let mut text = Line::new();
+    let _ = write!(text, "{view}");
+    text
+}
 
-/// 256 inputs for each byte up to 80, and `8180` to `81ff`.
-const STRINGS: Tally = [33_152, 0, 0, 0, 16_384, 0, 0, 0, 184, 15_816, 0, 0, 0, 0];
+/// Returns the sum of what all inputs measure, by a lenient view or a strict one.
+fn summed(call: &str) -> usize {
+    let mut sum = 0usize;
+    let (kind, call) = cut(call);
+    for word in 0..=u16::MAX {
+        let bytes = word.to_be_bytes();
+        let (view, strict) = (Rlp::new(&bytes), Rlp::new_strict(&bytes));
+        let measure = match kind {
+            "sound" => usize::from(is_sound(&view, &strict, &bytes)),
+            "strict" => measured(&strict, call),
+            _ => measured(&view, call),
+        };
+        sum = sum.saturating_add(measure);
+    }
+    sum
+}
 
-/// The same but for the empty string, which is too short.
-const ARRAYS: Tally = [32_896, 0, 256, 0, 16_384, 0, 0, 0, 184, 15_816, 0, 0, 0, 0];
+/// Notes the calls that have another sum.
+fn check_sums(rows: &[Row], wrong: &mut Line) {
+    for (call, want) in rows {
+        let mut said = Line::new();
+        let _ = write!(said, "{}", summed(call));
+        wrong.note(call, "", said.as_str(), want);
+    }
+}
 
-/// 256 inputs for each byte up to 80. The strings of `8180` to `81ff` are no texts.
-const TEXTS: Tally = [33_024, 0, 0, 0, 16_512, 0, 0, 0, 184, 15_816, 0, 0, 0, 0];
+/// The numbers of inputs that are a list, are a string, are empty, begin with a number, and nest
+/// within 0, 1 and 2 lists; the sums of the sizes, of the lengths in prototypes of strings, and of
+/// the numbers of items in prototypes of lists; and the numbers of inputs that are canonical within
+/// the depths 0 to 3, by a lenient view and by a strict one. `8180` to `81ff` are canonical and have
+/// depth 0, `c100` to `c17f` and `c180` have depth 1, and `c1c0` has depth 2.
+const KINDS: [Row; 20] = [
+    ("sound", "65536"),
+    ("lenient is_list", "16384"),
+    ("lenient is_data", "49152"),
+    ("lenient is_empty", "512"),
+    ("lenient is_int", "47049"),
+    ("lenient within 0", "65024"),
+    ("lenient within 1", "65535"),
+    ("lenient within 2", "65536"),
+    ("lenient size", "33024"),
+    ("lenient string", "33024"),
+    ("lenient items", "130"),
+    ("lenient canonical 0", "128"),
+    ("lenient canonical 1", "257"),
+    ("lenient canonical 2", "258"),
+    ("lenient canonical 3", "258"),
+    ("strict canonical 0", "128"),
+    ("strict canonical 1", "257"),
+    ("strict canonical 2", "258"),
+    ("strict canonical 3", "258"),
+    ("lenient numbered", "65536"),
+];
 
-/// Each list but `c100` and `c1c0` is read, most as `None`.
-const OPTIONS: Tally = [16_382, 0, 0, 49_152, 1, 0, 0, 0, 1, 0, 0, 0, 0, 0];
+#[test]
+fn views_of_two_bytes(rt: HostRuntime) -> Result<(), Fail> {
+    let mut wrong = Line::new();
+    check(rt.alloc(), &HEADERS, &mut wrong);
+    check(rt.alloc(), &ITEMS, &mut wrong);
+    check_sums(&KINDS, &mut wrong);
+    wrong.none_noted()
+}
+
+/// Returns the place of what reading an input as a `T` gives.
+fn place_as<T: Decodable>(alloc: Global, bytes: &[u8]) -> usize {
+    place(&rlp::decode::<T>(alloc, bytes))
+}
+
+/// Returns the place of what reading an input as a value of a type gives.
+fn decoded(alloc: Global, bytes: &[u8], of: &str) -> usize {
+    match of {
+        "u8" => place_as::<u8>(alloc, bytes),
+        "u16" => place_as::<u16>(alloc, bytes),
+        "u32" => place_as::<u32>(alloc, bytes),
+        "u64" => place_as::<u64>(alloc, bytes),
+        "u128" => place_as::<u128>(alloc, bytes),
+        "usize" => place_as::<usize>(alloc, bytes),
+        "Uint" => place_as::<Uint<2>>(alloc, bytes),
+        "bool" => place_as::<bool>(alloc, bytes),
+        "Vec" => place_as::<Vec<u8>>(alloc, bytes),
+        "Bytes" => place_as::<Bytes>(alloc, bytes),
+        "BytesMut" => place_as::<BytesMut>(alloc, bytes),
+        "[u8; 1]" => place_as::<[u8; 1]>(alloc, bytes),
+        "String" => place_as::<String>(alloc, bytes),
+        "Box" => place_as::<Box<u8>>(alloc, bytes),
+        _ => place_as::<Option<u8>>(alloc, bytes),
+    }
+}
 
 /// Returns the length of a string.
 fn length(string: &[u8]) -> Result<usize, DecoderError> {
     Ok(string.len())
 }
 
-/// Returns the results of `decode_value`, by the view's decoder and by a new one, and the sum of
-/// the lengths of the strings that the closure is called with.
-fn lengths() -> [Tally; 2] {
-    let [mut by_view, mut by_bytes] = [[0; 14]; 2];
-    for word in 0..=u16::MAX {
-        let bytes = word.to_be_bytes();
-        let len = Rlp::new(&bytes).decoder().decode_value(length);
-        note(&mut by_view, &len, *len.as_ref().unwrap_or(&0));
-        let len = BasicDecoder::new(&bytes).decode_value(length);
-        note(&mut by_bytes, &len, *len.as_ref().unwrap_or(&0));
+/// Returns what `decode_value` gives, which measures the length that its closure returned.
+fn of_length(len: Result<usize, DecoderError>) -> Answer {
+    match len {
+        Ok(len) => (0, len),
+        Err(fault) => (place_of(&fault), 0),
     }
-    [by_view, by_bytes]
 }
 
-/// The sum is 256 for each byte below 80, and 128 for `8180` to `81ff`.
-const LENGTHS: Tally = [
-    33_152, 0, 0, 0, 16_384, 0, 0, 0, 184, 15_816, 0, 0, 0, 32_896,
+/// 256 inputs for each byte from 01 to 80, and `8180` to `81ff`, are numbers. 256 inputs for each of
+/// the bytes 01 and 80 are truth values, and other numbers are none. `decode_value`, by the view's
+/// decoder and by a new one, calls its closure with strings, of which are 256 for each byte up to
+/// 80, and `8180` to `81ff`. The sum of their lengths is 256 for each byte below 80, and 128 for
+/// `8180` to `81ff`.
+const NUMBERS: [Row; 10] = [
+    ("decoded u8", "32896 0 0 0 16384 0 0 0 440 15816 0 0 0 0"),
+    ("decoded u16", "32896 0 0 0 16384 0 0 0 440 15816 0 0 0 0"),
+    ("decoded u32", "32896 0 0 0 16384 0 0 0 440 15816 0 0 0 0"),
+    ("decoded u64", "32896 0 0 0 16384 0 0 0 440 15816 0 0 0 0"),
+    ("decoded u128", "32896 0 0 0 16384 0 0 0 440 15816 0 0 0 0"),
+    ("decoded usize", "32896 0 0 0 16384 0 0 0 440 15816 0 0 0 0"),
+    ("decoded Uint", "32896 0 0 0 16384 0 0 0 440 15816 0 0 0 0"),
+    (
+        "decoded bool",
+        "512 0 0 0 16384 0 0 0 440 15816 0 32384 0 0",
+    ),
+    ("decoder", "33152 0 0 0 16384 0 0 0 184 15816 0 0 0 32896"),
+    (
+        "view's decoder",
+        "33152 0 0 0 16384 0 0 0 184 15816 0 0 0 32896",
+    ),
 ];
 
 #[test]
-fn numbers_of_two_bytes(rt: HostRuntime) {
-    let alloc = rt.alloc();
-    let numbers = [
-        decoded::<u8>(alloc),
-        decoded::<u16>(alloc),
-        decoded::<u32>(alloc),
-        decoded::<u64>(alloc),
-        decoded::<u128>(alloc),
-        decoded::<usize>(alloc),
-        decoded::<Uint<2>>(alloc),
-    ];
-    assert_eq!(rt; numbers, [NUMBERS; 7]);
-    assert_eq!(rt; decoded::<bool>(alloc), BOOLS);
-    assert_eq!(rt; lengths(), [LENGTHS; 2]);
+fn numbers_of_two_bytes(rt: HostRuntime) -> Result<(), Fail> {
+    let mut wrong = Line::new();
+    check(rt.alloc(), &NUMBERS, &mut wrong);
+    wrong.none_noted()
 }
 
-/// Returns the results of reading the inputs as lists of `u8`, their first items as `u8`, and their
-/// first items as lists of `u8`.
-fn lists(alloc: Global) -> [Tally; 3] {
-    let [mut whole, mut first, mut inner] = [[0; 14]; 3];
-    for word in 0..=u16::MAX {
-        let bytes = word.to_be_bytes();
-        let view = Rlp::new(&bytes);
-        note(&mut whole, &view.as_list::<u8>(alloc), 0);
-        note(&mut first, &view.val_at::<u8>(alloc, 0), 0);
-        note(&mut inner, &view.list_at::<u8>(alloc, 0), 0);
+/// Returns the place of what reading an input as a list of `u8` gives, its first item as a `u8`, or
+/// its first item as a list of `u8`.
+fn listed(alloc: Global, view: &Rlp<'_>, call: &str) -> usize {
+    match call {
+        "as_list" => place(&view.as_list::<u8>(alloc)),
+        "val_at" => place(&view.val_at::<u8>(alloc, 0)),
+        _ => place(&view.list_at::<u8>(alloc, 0)),
     }
-    [whole, first, inner]
 }
 
-/// All inputs but `c100` and `c1c0` are read as lists, most as empty ones.
-const LISTS: [Tally; 3] = [
-    [65_534, 0, 0, 0, 1, 0, 0, 0, 1, 0, 0, 0, 0, 0],
-    [128, 0, 16_191, 49_152, 1, 0, 0, 8, 56, 0, 0, 0, 0, 0],
-    [130, 0, 16_191, 49_152, 0, 0, 0, 8, 55, 0, 0, 0, 0, 0],
+/// Strings are 256 inputs for each byte up to 80, and `8180` to `81ff`. The empty string is too
+/// short for an array, and the strings of `8180` to `81ff` are no texts. Each list but `c100` and
+/// `c1c0` is read as an option, most as `None`. All inputs but these two are read as lists, most as
+/// empty ones.
+const STRINGS: [Row; 10] = [
+    ("decoded Vec", "33152 0 0 0 16384 0 0 0 184 15816 0 0 0 0"),
+    ("decoded Bytes", "33152 0 0 0 16384 0 0 0 184 15816 0 0 0 0"),
+    (
+        "decoded BytesMut",
+        "33152 0 0 0 16384 0 0 0 184 15816 0 0 0 0",
+    ),
+    (
+        "decoded [u8; 1]",
+        "32896 0 256 0 16384 0 0 0 184 15816 0 0 0 0",
+    ),
+    (
+        "decoded String",
+        "33024 0 0 0 16512 0 0 0 184 15816 0 0 0 0",
+    ),
+    ("decoded Box", "32896 0 0 0 16384 0 0 0 440 15816 0 0 0 0"),
+    ("decoded Option", "16382 0 0 49152 1 0 0 0 1 0 0 0 0 0"),
+    ("listed as_list", "65534 0 0 0 1 0 0 0 1 0 0 0 0 0"),
+    ("listed val_at", "128 0 16191 49152 1 0 0 8 56 0 0 0 0 0"),
+    ("listed list_at", "130 0 16191 49152 0 0 0 8 55 0 0 0 0 0"),
 ];
 
-/// Returns the number of inputs that print as `[]`, and the sum of the lengths of all texts.
-fn texts(alloc: Global) -> Result<(usize, usize), AllocError> {
-    let (mut empty, mut letters) = (0usize, 0usize);
-    for word in 0..=u16::MAX {
-        let bytes = word.to_be_bytes();
-        let text = format!(in alloc; "{}", Rlp::new(&bytes))?;
-        empty = empty.saturating_add(usize::from(text.as_str() == "[]"));
-        letters = letters.saturating_add(text.len());
+/// The number of inputs that print as `[]`, and the sum of the lengths of all texts.
+const TEXTS: [Row; 2] = [
+    ("lenient printed as []", "382"),
+    ("lenient letters", "614694"),
+];
+
+/// Returns whether an input gives a number and begins with its encoding.
+fn is_begun(alloc: Global, bytes: &[u8]) -> bool {
+    let Ok(number) = rlp::decode::<u8>(alloc, bytes) else {
+        return false;
+    };
+    match rlp::encode(alloc, &number) {
+        Ok(encoding) => bytes.starts_with(encoding.as_slice()),
+        Err(_) => false,
     }
-    Ok((empty, letters))
 }
 
 /// Returns the number of inputs that give a number and begin with its encoding.
-fn begun_by_encodings(alloc: Global) -> Result<usize, AllocError> {
+fn begun_by_encodings(alloc: Global) -> usize {
     let mut count = 0usize;
     for word in 0..=u16::MAX {
-        let bytes = word.to_be_bytes();
-        if let Ok(value) = rlp::decode::<u8>(alloc, &bytes) {
-            let encoding = rlp::encode(alloc, &value)?;
-            let is_begun = bytes.as_slice().starts_with(encoding.as_slice());
-            count = count.saturating_add(usize::from(is_begun));
-        }
+        let is_begun = is_begun(alloc, &word.to_be_bytes());
+        count = count.saturating_add(usize::from(is_begun));
     }
-    Ok(count)
+    count
 }
 
 // The inputs that give a number are exactly the 32,896 that begin with the encoding of a number.
 #[test]
 fn strings_and_lists_of_two_bytes(rt: HostRuntime) -> Result<(), Fail> {
-    let alloc = rt.alloc();
-    let strings = [
-        decoded::<Vec<u8>>(alloc),
-        decoded::<Bytes>(alloc),
-        decoded::<BytesMut>(alloc),
-    ];
-    assert_eq!(rt; strings, [STRINGS; 3]);
-    let others = [
-        decoded::<[u8; 1]>(alloc),
-        decoded::<String>(alloc),
-        decoded::<Box<u8>>(alloc),
-        decoded::<Option<u8>>(alloc),
-    ];
-    assert_eq!(rt; others, [ARRAYS, TEXTS, NUMBERS, OPTIONS]);
-    assert_eq!(rt; lists(alloc), LISTS);
-    assert_eq!(rt; texts(alloc)?, (382, 614_694));
-    assert_eq!(rt; begun_by_encodings(alloc)?, 32_896);
-    Ok(())
+    let mut wrong = Line::new();
+    check(rt.alloc(), &STRINGS, &mut wrong);
+    check_sums(&TEXTS, &mut wrong);
+    let mut said = Line::new();
+    let _ = write!(said, "{}", begun_by_encodings(rt.alloc()));
+    wrong.note("begun by encodings", "", said.as_str(), "32896");
+    wrong.none_noted()
 }

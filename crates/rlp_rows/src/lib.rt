@@ -1,6 +1,9 @@
 //! Bytes and numbers of the rows of tests, as text.
 #![tactic(auto)]
 
+mod line;
+
+pub use line::{Line, bytes_in, cut, push_header};
 use std::alloc::{AllocError, Global};
 
 /// The bytes of a text: of its parts, which are joined by `+`. A part is `'` and letters, or

@@ -3,153 +3,121 @@
 //! The bytes and all expected lines were written by a Python script. The flags of the paths are
 //! those of the yellow paper, appendix C.
 
-use crate::support::{Row, first_other};
-use rlp_show::Kind;
+use crate::support::{Row, check};
 use std::test::Fail;
 
 /// The kind, the digits of a node, and its lines.
 const NODES: [Row; 5] = [
     (
-        Kind::Node,
-        &["cb84200001028576616c7565"],
-        &[
-            "node: leaf\n",
-            "path: 0x20000102\n",
-            "value: 0x76616c7565\n",
-            "\n",
-        ],
+        "node cb84200001028576616c7565",
+        "node: leaf\n\
+         path: 0x20000102\n\
+         value: 0x76616c7565\n\
+         \n",
     ),
     (
-        Kind::Node,
-        &["c23f80"],
-        &["node: leaf\n", "path: 0x3f\n", "value: 0x\n", "\n"],
+        "node c23f80",
+        "node: leaf\n\
+         path: 0x3f\n\
+         value: 0x\n\
+         \n",
     ),
     (
-        Kind::Node,
-        &[
-            "e4820012a0ffffffffffffffffffffffffffffffffffffffffffffffffffffffffffffff",
-            "ff",
-        ],
-        &[
-            "node: extension\n",
-            "path: 0x0012\n",
-            "child: 0xfffffffffffffffffffffffffffffffffffffffffffffffffffffffffffffff",
-            "f\n",
-            "\n",
-        ],
+        "node e4820012a0ffffffffffffffffffffffffffffffffffffffffffffffffffffffffffffff\
+         ff",
+        "node: extension\n\
+         path: 0x0012\n\
+         child: 0xfffffffffffffffffffffffffffffffffffffffffffffffffffffffffffffff\
+         f\n\
+         \n",
     ),
     (
-        Kind::Node,
-        &["c91ac782201183646f67"],
-        &[
-            "node: extension\n",
-            "path: 0x1a\n",
-            "child[0]: 0x2011\n",
-            "child[1]: 0x646f67\n",
-            "\n",
-        ],
+        "node c91ac782201183646f67",
+        "node: extension\n\
+         path: 0x1a\n\
+         child[0]: 0x2011\n\
+         child[1]: 0x646f67\n\
+         \n",
     ),
     (
-        Kind::Node,
-        &[
-            "f6808080a0000102030405060708090a0b0c0d0e0f101112131415161718191a1b1c1d1e",
-            "1f8080808080808080808080c5208363617476",
-        ],
-        &[
-            "node: branch\n",
-            "children[0]: 0x\n",
-            "children[1]: 0x\n",
-            "children[2]: 0x\n",
-            "children[3]: 0x000102030405060708090a0b0c0d0e0f101112131415161718191a1b1",
-            "c1d1e1f\n",
-            "children[4]: 0x\n",
-            "children[5]: 0x\n",
-            "children[6]: 0x\n",
-            "children[7]: 0x\n",
-            "children[8]: 0x\n",
-            "children[9]: 0x\n",
-            "children[10]: 0x\n",
-            "children[11]: 0x\n",
-            "children[12]: 0x\n",
-            "children[13]: 0x\n",
-            "children[14]: 0x\n",
-            "children[15][0]: 0x20\n",
-            "children[15][1]: 0x636174\n",
-            "value: 0x76\n",
-            "\n",
-        ],
+        "node f6808080a0000102030405060708090a0b0c0d0e0f101112131415161718191a1b1c1d1e\
+         1f8080808080808080808080c5208363617476",
+        "node: branch\n\
+         children[0]: 0x\n\
+         children[1]: 0x\n\
+         children[2]: 0x\n\
+         children[3]: 0x000102030405060708090a0b0c0d0e0f101112131415161718191a1b1\
+         c1d1e1f\n\
+         children[4]: 0x\n\
+         children[5]: 0x\n\
+         children[6]: 0x\n\
+         children[7]: 0x\n\
+         children[8]: 0x\n\
+         children[9]: 0x\n\
+         children[10]: 0x\n\
+         children[11]: 0x\n\
+         children[12]: 0x\n\
+         children[13]: 0x\n\
+         children[14]: 0x\n\
+         children[15][0]: 0x20\n\
+         children[15][1]: 0x636174\n\
+         value: 0x76\n\
+         \n",
     ),
 ];
 
 /// The kind, the digits, and what is wrong.
 const FAULTS: [Row; 10] = [
-    (Kind::Node, &["c3206162"], &["error RlpIncorrectListLen\n"]),
+    ("node c3206162", "error RlpIncorrectListLen\n"),
     (
-        Kind::Node,
-        &["c24061"],
-        &["error field 0 (path): Custom(\"path is not hex-prefix encoded\")\n"],
+        "node c24061",
+        "error field 0 (path): Custom(\"path is not hex-prefix encoded\")\n",
     ),
     (
-        Kind::Node,
-        &["c22161"],
-        &["error field 0 (path): Custom(\"path is not hex-prefix encoded\")\n"],
+        "node c22161",
+        "error field 0 (path): Custom(\"path is not hex-prefix encoded\")\n",
     ),
     (
-        Kind::Node,
-        &["e280a0000102030405060708090a0b0c0d0e0f101112131415161718191a1b1c1d1e1f"],
-        &["error field 0 (path): Custom(\"path is not hex-prefix encoded\")\n"],
+        "node e280a0000102030405060708090a0b0c0d0e0f101112131415161718191a1b1c1d1e1f",
+        "error field 0 (path): Custom(\"path is not hex-prefix encoded\")\n",
     ),
     (
-        Kind::Node,
-        &["e3c161a0000102030405060708090a0b0c0d0e0f101112131415161718191a1b1c1d1e1f"],
-        &["error field 0 (path): RlpExpectedToBeData\n"],
+        "node e3c161a0000102030405060708090a0b0c0d0e0f101112131415161718191a1b1c1d1e1f",
+        "error field 0 (path): RlpExpectedToBeData\n",
     ),
     (
-        Kind::Node,
-        &["c320c161"],
-        &["error field 1 (value): RlpExpectedToBeData\n"],
+        "node c320c161",
+        "error field 1 (value): RlpExpectedToBeData\n",
     ),
     (
-        Kind::Node,
-        &["e1009f000102030405060708090a0b0c0d0e0f101112131415161718191a1b1c1d1e"],
-        &["error field 1 (child): RlpIsTooShort\n"],
+        "node e1009f000102030405060708090a0b0c0d0e0f101112131415161718191a1b1c1d1e",
+        "error field 1 (child): RlpIsTooShort\n",
     ),
     (
-        Kind::Node,
-        &[
-            "f8578080a1000102030405060708090a0b0c0d0e0f101112131415161718191a1b1c1d1e",
-            "1f00a0000102030405060708090a0b0c0d0e0f101112131415161718191a1b1c1d1e1f80",
-            "80808080808080808080c5208363617476",
-        ],
-        &["error field 2 (children[2]): RlpIsTooBig\n"],
+        "node f8578080a1000102030405060708090a0b0c0d0e0f101112131415161718191a1b1c1d1e\
+         1f00a0000102030405060708090a0b0c0d0e0f101112131415161718191a1b1c1d1e1f80\
+         80808080808080808080c5208363617476",
+        "error field 2 (children[2]): RlpIsTooBig\n",
     ),
     (
-        Kind::Node,
-        &[
-            "f856808080a0000102030405060708090a0b0c0d0e0f101112131415161718191a1b1c1d",
-            "1e1fe0209e00000000000000000000000000000000000000000000000000000000000080",
-            "808080808080808080c5208363617476",
-        ],
-        &["error field 4 (children[4]): RlpIsTooBig\n"],
+        "node f856808080a0000102030405060708090a0b0c0d0e0f101112131415161718191a1b1c1d\
+         1e1fe0209e00000000000000000000000000000000000000000000000000000000000080\
+         808080808080808080c5208363617476",
+        "error field 4 (children[4]): RlpIsTooBig\n",
     ),
     (
-        Kind::Node,
-        &[
-            "f6808080a0000102030405060708090a0b0c0d0e0f101112131415161718191a1b1c1d1e",
-            "1f8080808080808080808080c52083636174c0",
-        ],
-        &["error field 16 (value): RlpExpectedToBeData\n"],
+        "node f6808080a0000102030405060708090a0b0c0d0e0f101112131415161718191a1b1c1d1e\
+         1f8080808080808080808080c52083636174c0",
+        "error field 16 (value): RlpExpectedToBeData\n",
     ),
 ];
 
 #[test]
 fn nodes_are_shown(rt: HostRuntime) -> Result<(), Fail> {
-    assert_eq!(rt; first_other(rt.alloc(), &NODES)?, None);
-    Ok(())
+    check(rt.alloc(), &NODES)
 }
 
 #[test]
 fn faults_of_nodes_are_named(rt: HostRuntime) -> Result<(), Fail> {
-    assert_eq!(rt; first_other(rt.alloc(), &FAULTS)?, None);
-    Ok(())
+    check(rt.alloc(), &FAULTS)
 }

@@ -1,37 +1,45 @@
 //! What the tests of this crate share.
 
+use rlp_rows::{Line, cut};
 use rlp_show::{Kind, Noted, run};
 use std::alloc::{AllocError, Global};
+use std::test::Fail;
 
-/// A kind, the digits of a line in pieces, and the expected answer in pieces.
-pub(crate) type Row = (Kind, &'static [&'static str], &'static [&'static str]);
+/// The name of a kind and the digits of a line, and the expected answer.
+pub(crate) type Row = (&'static str, &'static str);
 
-/// The pieces joined.
-fn joined(alloc: Global, pieces: &[&str]) -> Result<Vec<u8>, AllocError> {
-    let mut text = Vec::new(alloc);
-    for piece in pieces {
-        text.extend_from_slice(piece.as_bytes())?;
-    }
-    Ok(text)
-}
-
-/// Whether the program answers the digits of a row as expected.
-fn is_answered(alloc: Global, row: &Row) -> Result<bool, AllocError> {
-    let mut line = joined(alloc, row.1)?;
-    line.push(b'\n')?;
-    let expected = joined(alloc, row.2)?;
+/// Returns what the program answers to a line, or nothing if it fails.
+fn answered(alloc: Global, kind: Kind, digits: &str) -> Result<Vec<u8>, AllocError> {
+    let mut line = Vec::from_slice(alloc, digits.as_bytes())?;
+    line.extend_from_slice(b"\n")?;
     let mut input = Noted::new(line.as_slice());
     let mut output = Noted::new(Vec::new(alloc));
-    let outcome = run(alloc, row.0, &mut input, &mut output);
-    Ok(outcome.is_ok() && output.inner().as_slice() == expected.as_slice())
+    if run(alloc, kind, &mut input, &mut output).is_ok() {
+        Vec::from_slice(alloc, output.inner().as_slice())
+    } else {
+        Ok(Vec::new(alloc))
+    }
 }
 
-/// The number of the first row that isn't answered as expected.
-pub(crate) fn first_other(alloc: Global, rows: &[Row]) -> Result<Option<usize>, AllocError> {
-    for (place, row) in rows.iter().enumerate() {
-        if !is_answered(alloc, row)? {
-            return Ok(Some(place));
+/// Notes a row that isn't answered as expected.
+fn check_row(alloc: Global, given: &str, want: &str, wrong: &mut Line) -> Result<(), AllocError> {
+    let (name, digits) = cut(given);
+    match Kind::named(name) {
+        Some(kind) => {
+            let answer = answered(alloc, kind, digits)?;
+            let text = std::str::from_utf8(answer.as_slice()).unwrap_or("no text");
+            wrong.note("show", given, text, want);
         }
+        None => wrong.note("show", given, "no such kind", want),
     }
-    Ok(None)
+    Ok(())
+}
+
+/// Fails with the rows that aren't answered as expected.
+pub(crate) fn check(alloc: Global, rows: &[Row]) -> Result<(), Fail> {
+    let mut wrong = Line::new();
+    for (given, want) in rows {
+        check_row(alloc, given, want, &mut wrong)?;
+    }
+    wrong.none_noted()
 }

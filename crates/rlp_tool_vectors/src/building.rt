@@ -1,90 +1,109 @@
 //! Calls that are read from lines, and the results of calls.
 
+use crate::rows::Row;
 use bytes::BytesMut;
+use rlp::Encodable;
 use rlp_fixtures::{Pair, Refusing, Trio};
-use rlp_tool::{BuildFault, Built, ScriptFault, StreamCall, build, read_calls};
-use std::alloc::{AllocError, Global};
+use rlp_rows::Line;
+use rlp_tool::{BuildFault, Built, StreamCall, build, read_calls};
+use std::alloc::Global;
+use std::fmt;
+use std::fmt::Write;
+use std::test::Fail;
 
-/// Returns whether calls result in these bytes, with no open list.
-fn finishes(built: &Result<Built, BuildFault>, expected: &[u8]) -> bool {
+/// Tells the result of calls: finished bytes, or the size and the bytes with open lists, or the fault.
+fn tell(built: &Result<Built, BuildFault>, out: &mut Line) -> fmt::Result {
     match built {
-        Ok(Built::Finished(bytes)) => bytes.as_slice() == expected,
-        _ => false,
+        Ok(Built::Finished(bytes)) => write!(out, "finished {:?}", bytes.as_slice()),
+        Ok(Built::Open { size, raw }) => write!(out, "open {size} {:?}", raw.as_slice()),
+        Err(fault) => write!(out, "{fault:?}"),
     }
 }
 
-/// Returns whether values and lists of values are written after a front.
-fn pairs_are_built(alloc: Global) -> Result<bool, AllocError> {
+/// Tells the result of calls after a front.
+fn tell_built<E: Encodable>(
+    alloc: Global,
+    front: &str,
+    calls: &[StreamCall<E>],
+    out: &mut Line,
+) -> fmt::Result {
+    let mut buffer = BytesMut::new(alloc);
+    buffer.extend_from_slice(front.as_bytes())?;
+    tell(&build(alloc, buffer, calls), out)
+}
+
+/// A script and its calls, or the place of its fault.
+const READ: [Row; 3] = [
+    ("d:2a r:3:0102", "Ok([Value([42]), Raw([1, 2], 3)])"),
+    ("", "Ok([])"),
+    ("d:2a d:2", "Err(Syntax(2))"),
+];
+
+/// A script and what its calls result in after the bytes of `junk`. Raw bytes that aren't items fail
+/// at their place, after raw bytes that are items. The front stays, and the result has the open
+/// lists.
+const BUILT: [Row; 3] = [
+    (
+        "r:2:01c0 r:1:c100",
+        "finished [106, 117, 110, 107, 1, 192, 193, 0]",
+    ),
+    ("r:2:01c0 r:1:c100 r:1:8105", "RawNotItems(3)"),
+    ("u d:01", "open 2 [106, 117, 110, 107, 0, 1]"),
+];
+
+/// Notes the scripts that are read otherwise.
+fn check_read(alloc: Global, wrong: &mut Line) {
+    for (script, want) in &READ {
+        let mut said = Line::new();
+        let _ = write!(said, "{:?}", read_calls(alloc, script.as_bytes()));
+        wrong.note("read", script, said.as_str(), want);
+    }
+}
+
+/// Notes the scripts whose calls result in something else.
+fn check_built(alloc: Global, wrong: &mut Line) {
+    for (script, want) in &BUILT {
+        let mut said = Line::new();
+        if let Ok(calls) = read_calls(alloc, script.as_bytes()) {
+            let _ = tell_built(alloc, "junk", calls.as_slice(), &mut said);
+        }
+        wrong.note("built", script, said.as_str(), want);
+    }
+}
+
+/// Tells the result of a list of a value and of a list of no values.
+fn tell_pairs(alloc: Global, out: &mut Line) -> fmt::Result {
     let calls = [
         StreamCall::Begin(2),
         StreamCall::Value(Pair(1, 2)),
         StreamCall::Values(Vec::new(alloc)),
     ];
-    let expected = [0xc4, 0xc2, 0x01, 0x02, 0xc0];
-    let built = build(alloc, BytesMut::new(alloc), calls.as_slice());
-    Ok(finishes(&built, expected.as_slice()))
+    tell_built(alloc, "", calls.as_slice(), out)
 }
 
-/// Returns whether the front stays, and the result has the open lists.
-fn front_stays(alloc: Global) -> Result<bool, BuildFault> {
-    let mut front = BytesMut::new(alloc);
-    if front.extend_from_slice(b"junk").is_err() {
-        return Err(BuildFault::OutOfMemory);
-    }
-    let calls = [StreamCall::BeginUnbounded, StreamCall::Value(1u64)];
-    match build(alloc, front, calls.as_slice())? {
-        Built::Finished(_) => Ok(false),
-        Built::Open { size, raw } => Ok(size == 2 && raw.as_slice() == b"junk\x00\x01".as_slice()),
-    }
-}
-
-/// Returns whether raw bytes that aren't items fail at their place, after raw bytes that are items.
-fn raw_bytes_are_checked(alloc: Global) -> Result<bool, AllocError> {
-    let calls: [StreamCall<u64>; 3] = [
-        StreamCall::Raw(Vec::from_slice(alloc, &[0x01, 0xc0])?, 2),
-        StreamCall::Raw(Vec::from_slice(alloc, &[0xc1, 0x00])?, 1),
-        StreamCall::Raw(Vec::from_slice(alloc, &[0x81, 0x05])?, 1),
-    ];
-    let built = build(alloc, BytesMut::new(alloc), &calls[..2]);
-    let refused = build(alloc, BytesMut::new(alloc), calls.as_slice());
-    Ok(
-        finishes(&built, &[0x01, 0xc0, 0xc1, 0x00])
-            && matches!(refused, Err(BuildFault::RawNotItems(3))),
-    )
-}
-
-/// Returns whether calls with a value that is refused fail with `OutOfMemory`.
-fn refused_value_is_told(alloc: Global) -> bool {
+/// Tells the result of a list with a value that is refused.
+fn tell_refused(alloc: Global, out: &mut Line) -> fmt::Result {
     let calls = [
         StreamCall::Begin(1),
         StreamCall::Value(Trio(1, Refusing, 3)),
     ];
-    matches!(
-        build(alloc, BytesMut::new(alloc), calls.as_slice()),
-        Err(BuildFault::OutOfMemory)
-    )
-}
-
-/// Returns whether a script is read, and a wrong one fails at the right place.
-fn scripts_are_read(alloc: Global) -> Result<bool, ScriptFault> {
-    let calls = read_calls(alloc, b"d:2a r:3:0102")?;
-    let none = read_calls(alloc, b"")?;
-    let refused = read_calls(alloc, b"d:2a d:2");
-    Ok(
-        calls.len() == 2
-            && none.is_empty()
-            && matches!(refused, Err(ScriptFault::Syntax(2)))
-            && matches!(&calls[1], StreamCall::Raw(bytes, 3) if bytes.as_slice() == [1, 2].as_slice()),
-    )
+    tell_built(alloc, "", calls.as_slice(), out)
 }
 
 #[test]
-fn calls_are_read_and_built(rt: HostRuntime) -> Result<(), AllocError> {
-    let alloc = rt.alloc();
-    assert!(rt; pairs_are_built(alloc)?, "values and lists of values");
-    assert!(rt; front_stays(alloc) == Ok(true), "a front");
-    assert!(rt; raw_bytes_are_checked(alloc)?, "raw bytes");
-    assert!(rt; refused_value_is_told(alloc), "a refused value");
-    assert!(rt; scripts_are_read(alloc) == Ok(true), "a script");
-    Ok(())
+fn calls_are_read_and_built(rt: HostRuntime) -> Result<(), Fail> {
+    let (alloc, mut wrong) = (rt.alloc(), Line::new());
+    check_read(alloc, &mut wrong);
+    check_built(alloc, &mut wrong);
+    let (mut pairs, mut refused) = (Line::new(), Line::new());
+    let _ = tell_pairs(alloc, &mut pairs);
+    wrong.note(
+        "built",
+        "pairs",
+        pairs.as_str(),
+        "finished [196, 194, 1, 2, 192]",
+    );
+    let _ = tell_refused(alloc, &mut refused);
+    wrong.note("built", "a refused value", refused.as_str(), "OutOfMemory");
+    wrong.none_noted()
 }

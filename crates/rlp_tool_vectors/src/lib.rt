@@ -16,4 +16,6 @@ mod noted;
 #[cfg(test)]
 mod refused;
 #[cfg(test)]
+mod rows;
+#[cfg(test)]
 mod sweeps;

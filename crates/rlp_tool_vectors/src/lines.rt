@@ -1,10 +1,12 @@
 //! The tool's answers to lines, of views and of calls.
 
-use crate::devices::{Plan, SOUND, ran};
+use crate::devices::{Left, Plan, SOUND, ran};
+use crate::rows::{Row, text_of};
+use rlp_rows::Line;
 use std::alloc::{AllocError, Global};
-
-/// Inputs, and the expected output.
-type Row = (&'static str, &'static str);
+use std::fmt;
+use std::fmt::Write;
+use std::test::Fail;
 
 /// Lines of items, and their answers.
 const ITEMS: [Row; 14] = [
@@ -99,193 +101,119 @@ const REFUSED: [Row; 40] = [
     ("+D:61", "error syntax at 1\n"),
 ];
 
-/// Pieces of text, each with the number of times that it is repeated. A piece of `#` and digits
-/// stands for the digits of that many lists, one inside another, around these bytes.
-type Pieces = &'static [(&'static str, usize)];
-
-/// Long inputs, and the expected output.
-const LONG: [(Pieces, Pieces); 18] = [
+/// Long inputs, and the expected output, in pieces.
+const LONG: [Row; 18] = [
     // lists that nest up to the depth that is printed, and deeper, up to the limit of a line
-    (&[("#", 200)], &[("[", 200), ("]", 200), ("\n", 1)]),
-    (&[("#", 256)], &[("[", 256), ("]", 256), ("\n", 1)]),
-    (
-        &[("#", 256), ("\nc0\n", 1)],
-        &[("[", 256), ("]", 256), ("\n[]\n", 1)],
-    ),
-    (&[("#", 257), ("\nc0\n", 1)], &[("error deep\n[]\n", 1)]),
-    (
-        &[("#80", 20_000), ("\nc0\n", 1)],
-        &[("error deep\n[]\n", 1)],
-    ),
+    ("#*200", "[*200|]*200|\n"),
+    ("#*256", "[*256|]*256|\n"),
+    ("#*256|\nc0\n", "[*256|]*256|\n[]\n"),
+    ("#*257|\nc0\n", "error deep\n[]\n"),
+    ("#80*20000|\nc0\n", "error deep\n[]\n"),
     // a list of 1,100 bytes
-    (
-        &[("f9044c", 1), ("01", 1_100)],
-        &[("[\"0x01\"", 1), (", \"0x01\"", 1_099), ("]\n", 1)],
-    ),
+    ("f9044c|01*1100", "[\"0x01\"|, \"0x01\"*1099|]\n"),
     // lists that are opened and finished one by one
-    (
-        &[("+", 1), ("u ", 256), ("e ", 255), ("e", 1)],
-        &[("out f90229", 1), ("#", 255), ("\n", 1)],
-    ),
-    (
-        &[("+", 1), ("u ", 257), ("e ", 256), ("e", 1)],
-        &[("out f9022c", 1), ("#", 256), ("\n", 1)],
-    ),
-    (
-        &[("+c", 1), (" u", 5_000), (" e", 5_000)],
-        &[("out ", 1), ("#", 5_000), ("\n", 1)],
-    ),
+    ("+|u *256|e *255|e", "out f90229|#*255|\n"),
+    ("+|u *257|e *256|e", "out f9022c|#*256|\n"),
+    ("+c| u*5000| e*5000", "out |#*5000|\n"),
     // lists that stay open
-    (
-        &[("+", 1), ("u ", 4_999), ("u", 1)],
-        &[("open 14788 ", 1), ("00", 5_000), ("\n", 1)],
-    ),
-    (
-        &[("+", 1), ("u ", 59_999), ("u", 1)],
-        &[("open 217872 ", 1), ("00", 60_000), ("\n", 1)],
-    ),
+    ("+|u *4999|u", "open 14788 |00*5000|\n"),
+    ("+|u *59999|u", "open 217872 |00*60000|\n"),
     // lists that one call closes, also of more than 70,000 bytes
-    (
-        &[("+", 1), ("l:1 ", 5_000), ("d:", 1)],
-        &[("out f939c4", 1), ("#80", 4_999), ("\n", 1)],
-    ),
-    (
-        &[("+", 1), ("l:1 ", 25_000), ("d:", 1)],
-        &[("out ", 1), ("#80", 25_000), ("\n", 1)],
-    ),
+    ("+|l:1 *5000|d:", "out f939c4|#80*4999|\n"),
+    ("+|l:1 *25000|d:", "out |#80*25000|\n"),
     // many strings, in a list and not
-    (
-        &[("+l:30000", 1), (" d:", 30_000)],
-        &[("out f97530", 1), ("80", 30_000), ("\n", 1)],
-    ),
-    (
-        &[("+d:", 1), (" d:", 19_999)],
-        &[("out ", 1), ("80", 20_000), ("\n", 1)],
-    ),
+    ("+l:30000| d:*30000", "out f97530|80*30000|\n"),
+    ("+d:| d:*19999", "out |80*20000|\n"),
     // raw items up to a depth of 256, and deeper
-    (
-        &[("+r:1:", 1), ("#", 256)],
-        &[("out ", 1), ("#", 256), ("\n", 1)],
-    ),
-    (
-        &[("+r:1:", 1), ("#", 257)],
-        &[("error raw not items at 1\n", 1)],
-    ),
+    ("+r:1:|#*256", "out |#*256|\n"),
+    ("+r:1:|#*257", "error raw not items at 1\n"),
     // a list of 20,000 bytes and 8,000 more lines, whose answers are written at once
-    (
-        AT_ONCE,
-        &[
-            ("[\"0x01\"", 1),
-            (", \"0x01\"", 19_999),
-            ("]\n", 1),
-            ("null\n", 8_000),
-        ],
-    ),
+    (AT_ONCE, "[\"0x01\"|, \"0x01\"*19999|]\n|null\n*8000"),
 ];
 
 /// A list of 20,000 bytes, and 8,000 more lines.
-const AT_ONCE: Pieces = &[("f94e20", 1), ("01", 20_000), ("\n", 8_001)];
+const AT_ONCE: &str = "f94e20|01*20000|\n*8001";
 
-/// Returns the digits of `lists` lists, one inside another, around the bytes of these digits. They
-/// are written from the end.
-fn nested(alloc: Global, inner: &str, lists: usize) -> Result<String, AllocError> {
-    let mut backwards = match inner {
-        "80" => Vec::from_slice(alloc, &[0x80])?,
-        _ => Vec::new(alloc),
-    };
-    for _ in 0..lists {
-        let [.., high, middle, low] = backwards.len().to_be_bytes();
-        if high > 0 {
-            backwards.extend_from_slice(&[low, middle, high, 0xfa])?;
-        } else if middle > 0 {
-            backwards.extend_from_slice(&[low, middle, 0xf9])?;
-        } else if low > 55 {
-            backwards.extend_from_slice(&[low, 0xf8])?;
-        } else {
-            backwards.push(0xc0 | low)?;
-        }
+/// Returns the text that a run wrote, if it ended with no error, and all was flushed.
+fn written(left: &Left) -> &str {
+    if left.outcome == Ok(()) && left.flushed {
+        std::str::from_utf8(left.written.as_slice()).unwrap_or("no text")
+    } else {
+        "a run that failed"
     }
-    backwards.as_mut_slice().reverse();
-    hex::encode(alloc, backwards.as_slice())
 }
 
-/// Returns the text of these pieces.
-fn text_of(alloc: Global, pieces: &[(&str, usize)]) -> Result<String, AllocError> {
-    let mut text = String::new(alloc);
-    for (piece, times) in pieces {
-        match piece.strip_prefix('#') {
-            Some(inner) => text.push_str(nested(alloc, inner, *times)?.as_str())?,
-            None => {
-                for _ in 0..*times {
-                    text.push_str(piece)?;
-                }
-            }
-        }
+/// Notes the rows with another output than expected, over devices that move at most `most` bytes in
+/// each call.
+fn check(alloc: Global, rows: &[Row], most: usize, wrong: &mut Line) -> Result<(), AllocError> {
+    for (input, want) in rows {
+        let left = ran(alloc, input.as_bytes(), &Plan { most, ..SOUND })?;
+        wrong.note("run", input, written(&left), want);
     }
-    Ok(text)
-}
-
-/// Returns whether a run answers with the expected output, over devices that move at most `most`
-/// bytes in each call.
-fn answers(alloc: Global, input: &str, expected: &str, most: usize) -> Result<bool, AllocError> {
-    let left = ran(alloc, input.as_bytes(), &Plan { most, ..SOUND })?;
-    Ok(left.outcome == Ok(()) && left.flushed && left.written.as_slice() == expected.as_bytes())
-}
-
-/// Returns the first row with another output than expected.
-fn first_other(
-    alloc: Global,
-    rows: &[Row],
-    most: usize,
-) -> Result<Option<&'static str>, AllocError> {
-    for (input, expected) in rows {
-        if !answers(alloc, input, expected, most)? {
-            return Ok(Some(input));
-        }
-    }
-    Ok(None)
+    Ok(())
 }
 
 #[test]
-fn run_answers_lines(rt: HostRuntime) -> Result<(), AllocError> {
-    for rows in [ITEMS.as_slice(), CALLS.as_slice(), REFUSED.as_slice()] {
-        assert_eq!(rt; first_other(rt.alloc(), rows, usize::MAX)?, None);
-    }
+fn run_answers_lines(rt: HostRuntime) -> Result<(), Fail> {
+    let mut wrong = Line::new();
+    check(rt.alloc(), &ITEMS, usize::MAX, &mut wrong)?;
+    check(rt.alloc(), &CALLS, usize::MAX, &mut wrong)?;
+    check(rt.alloc(), &REFUSED, usize::MAX, &mut wrong)?;
     // devices that move a few bytes in each call
     for most in [1, 2, 3, 4096] {
-        assert_eq!(rt; first_other(rt.alloc(), &ITEMS[..1], most)?, None);
+        check(rt.alloc(), &ITEMS[..1], most, &mut wrong)?;
     }
-    Ok(())
+    wrong.none_noted()
 }
 
-/// Returns the number of the first row of `LONG` with another output than expected.
-fn first_other_long(alloc: Global) -> Result<Option<usize>, AllocError> {
-    for (row, (input, expected)) in LONG.iter().enumerate() {
-        let (input, expected) = (text_of(alloc, input)?, text_of(alloc, expected)?);
-        if !answers(alloc, input.as_str(), expected.as_str(), usize::MAX)? {
-            return Ok(Some(row));
-        }
-    }
-    Ok(None)
+/// Returns what is left after a run over pieces, whose devices move at most `most` bytes in each
+/// call.
+fn ran_over(alloc: Global, pieces: &str, most: usize) -> Result<Left, AllocError> {
+    let input = text_of(alloc, pieces)?;
+    ran(alloc, input.as_bytes(), &Plan { most, ..SOUND })
+}
+
+/// Returns whether a run over pieces wrote the text of others.
+fn answers(alloc: Global, input: &str, want: &str) -> Result<bool, AllocError> {
+    let want = text_of(alloc, want)?;
+    let left = ran_over(alloc, input, usize::MAX)?;
+    Ok(written(&left) == want.as_str())
 }
 
 #[test]
-fn run_answers_long_lines(rt: HostRuntime) -> Result<(), AllocError> {
-    assert_eq!(rt; first_other_long(rt.alloc())?, None);
-    Ok(())
+fn run_answers_long_lines(rt: HostRuntime) -> Result<(), Fail> {
+    let mut wrong = Line::new();
+    for (input, want) in &LONG {
+        let is_so = answers(rt.alloc(), input, want)?;
+        wrong.note("long", input, if is_so { "so" } else { "otherwise" }, "so");
+    }
+    wrong.none_noted()
 }
 
+/// Tells the number of bytes of the largest write of a run.
+fn tell_largest(alloc: Global, pieces: &str, out: &mut Line) -> fmt::Result {
+    write!(out, "{}", ran_over(alloc, pieces, usize::MAX)?.largest)
+}
+
+/// Tells the number of reads of a run byte by byte, the length of the text that it wrote, and how many
+/// empty lists are in the text.
+fn tell_reads(alloc: Global, pieces: &str, out: &mut Line) -> fmt::Result {
+    let left = ran_over(alloc, pieces, 1)?;
+    let (text, mut lists) = (written(&left), 0usize);
+    for line in text.lines() {
+        lists = lists.saturating_add(usize::from(line == "[]"));
+    }
+    write!(out, "{} {} {lists}", left.reads, text.len())
+}
+
+// The largest write is of the list, and of 8,000 lines with no bytes. The 600 lines are read in 1,800
+// reads, and one finds the end.
 #[test]
-fn run_writes_at_once_and_reads_byte_by_byte(rt: HostRuntime) -> Result<(), AllocError> {
-    let alloc = rt.alloc();
-    let input = text_of(alloc, AT_ONCE)?;
-    let largest = ran(alloc, input.as_bytes(), &SOUND)?.largest;
-    // the list, and 8,000 lines with no bytes
-    assert_eq!(rt; largest, 160_001 + 40_000);
-    let input = text_of(alloc, &[("c0\n", 600)])?;
-    let expected = text_of(alloc, &[("[]\n", 600)])?;
-    let left = ran(alloc, input.as_bytes(), &Plan { most: 1, ..SOUND })?;
-    assert!(rt; left.outcome == Ok(()) && left.written.as_slice() == expected.as_bytes());
-    assert_eq!(rt; left.reads, 1_801);
-    Ok(())
+fn run_writes_at_once_and_reads_byte_by_byte(rt: HostRuntime) -> Result<(), Fail> {
+    let (mut wrong, mut largest, mut reads) = (Line::new(), Line::new(), Line::new());
+    let _ = tell_largest(rt.alloc(), AT_ONCE, &mut largest);
+    wrong.note("largest write", AT_ONCE, largest.as_str(), "200001");
+    let _ = tell_reads(rt.alloc(), "c0\n*600", &mut reads);
+    wrong.note("reads", "c0\n*600", reads.as_str(), "1801 1800 600");
+    wrong.none_noted()
 }

@@ -1,8 +1,12 @@
 //! Runs over devices that move a few bytes in each call, and fail at one of their calls.
 
-use crate::devices::{Left, NEVER, Plan, SOUND as NO_FAILURE, ran};
+use crate::devices::{Left, NEVER, Plan, SOUND, ran};
+use crate::rows::{Row, text_of};
+use rlp_rows::{Line, number};
 use rlp_tool::RunFault;
 use std::alloc::{AllocError, Global};
+use std::fmt;
+use std::fmt::Write;
 use std::io::ErrorKind;
 use std::test::Fail;
 
@@ -70,7 +74,7 @@ fn calls_needed(
             reads,
             writes,
             error,
-            ..NO_FAILURE
+            ..SOUND
         };
         let left = ran(alloc, INPUT, &plan)?;
         if is_whole(&left) {
@@ -89,170 +93,107 @@ fn calls_needed(
     Ok(None)
 }
 
-/// The number of bytes that each call moves, and the numbers of reads and writes. The last read
-/// finds the end of the input.
-const NEEDED: [(usize, usize, usize); 3] = [(1, 42, 52), (2, 22, 28), (4096, 2, 1)];
+/// Tells the first calls at which a failure of the reader, of the writer with an error, and of a
+/// writer that takes no byte make no difference.
+fn tell_needed(alloc: Global, most: usize, out: &mut Line) -> fmt::Result {
+    let error = Some(ErrorKind::BrokenPipe);
+    write!(out, "{:?} ", calls_needed(alloc, most, true, None)?)?;
+    write!(out, "{:?} ", calls_needed(alloc, most, false, error)?)?;
+    write!(out, "{:?}", calls_needed(alloc, most, false, None)?)
+}
+
+/// The number of bytes that each call moves, and the numbers of reads, and of writes for both
+/// failures of the writer. The last read finds the end of the input.
+const NEEDED: [Row; 3] = [
+    ("1", "Some(42) Some(52) Some(52)"),
+    ("2", "Some(22) Some(28) Some(28)"),
+    ("4096", "Some(2) Some(1) Some(1)"),
+];
 
 #[test]
 fn every_call_of_a_device_fails_in_turn(rt: HostRuntime) -> Result<(), Fail> {
-    let error = Some(ErrorKind::BrokenPipe);
-    for (most, reads, writes) in NEEDED {
-        assert_eq!(rt; calls_needed(rt.alloc(), most, true, None)?, Some(reads));
-        assert_eq!(rt; calls_needed(rt.alloc(), most, false, error)?, Some(writes));
-        assert_eq!(rt; calls_needed(rt.alloc(), most, false, None)?, Some(writes));
+    let mut wrong = Line::new();
+    for (most, want) in &NEEDED {
+        let mut said = Line::new();
+        let _ = tell_needed(rt.alloc(), number(most), &mut said);
+        wrong.note("calls needed", most, said.as_str(), want);
     }
-    Ok(())
+    wrong.none_noted()
 }
 
-/// The bytes before and after a byte that is repeated, the result of the run, and the bytes that
-/// are written.
-struct Row {
-    front: &'static [u8],
-    byte: u8,
-    times: usize,
-    rest: &'static [u8],
-    // Whether the reader fails at the end of the bytes.
-    cut: bool,
-    // The number of bytes that the writer takes in all.
-    room: usize,
-    flushes: bool,
-    outcome: Result<(), RunFault>,
-    written: &'static [u8],
-}
-
-/// A row in which no device fails.
-const SOUND: Row = Row {
-    front: b"",
-    byte: b'0',
-    times: 0,
-    rest: b"",
-    cut: false,
-    room: usize::MAX,
-    flushes: true,
-    outcome: Ok(()),
-    written: b"",
-};
-
+/// How the devices behave, and the input in pieces. Then the result of the run, whether the reader
+/// and the writer failed, and what is written. A device that is `cut` fails at the end of the input,
+/// one with a number takes so many bytes in all, and one that is `unflushed` fails at a flush.
 const ROWS: [Row; 12] = [
-    Row {
-        front: b"c0\n80\nc2",
-        cut: true,
-        outcome: Err(RunFault::Read),
-        written: b"[]\n\"0x\"\n",
-        ..SOUND
-    },
-    Row {
-        front: b"c0\n80",
-        written: b"[]\n\"0x\"\n",
-        ..SOUND
-    },
-    Row {
-        front: b"c0\n80\n",
-        room: 3,
-        outcome: Err(RunFault::Write),
-        written: b"[]\n",
-        ..SOUND
-    },
-    Row {
-        front: b"c0\n",
-        flushes: false,
-        outcome: Err(RunFault::Write),
-        written: b"[]\n",
-        ..SOUND
-    },
-    Row {
-        front: INPUT,
-        flushes: false,
-        outcome: Err(RunFault::Write),
-        written: REPLIES,
-        ..SOUND
-    },
-    Row {
-        times: 131_072,
-        written: b"\"0x00\"\n",
-        ..SOUND
-    },
-    Row {
-        times: 131_073,
-        written: b"error long line\n",
-        ..SOUND
-    },
-    Row {
-        times: 131_072,
-        rest: b"\r",
-        written: b"error long line\n",
-        ..SOUND
-    },
-    Row {
-        times: 131_071,
-        rest: b"\r",
-        written: b"error hex\n",
-        ..SOUND
-    },
-    Row {
-        front: b"+",
-        byte: b' ',
-        times: 131_072,
-        rest: b"\nc0",
-        written: b"error long line\n[]\n",
-        ..SOUND
-    },
-    Row {
-        times: 131_073,
-        rest: b"\nc0",
-        written: b"error long line\n[]\n",
-        ..SOUND
-    },
-    Row {
-        times: 131_073,
-        cut: true,
-        outcome: Err(RunFault::Read),
-        ..SOUND
-    },
+    ("cut|c0\n80\nc2", "Err(Read) true false []\n\"0x\"\n"),
+    ("|c0\n80", "Ok(()) false false []\n\"0x\"\n"),
+    ("3|c0\n80\n", "Err(Write) false true []\n"),
+    ("unflushed|c0\n", "Err(Write) false true []\n"),
+    (
+        "unflushed|c20506\nc0\n\n+l:2 l:2 d:636174 d:646f67 d:\n",
+        "Err(Write) false true [\"0x05\", \"0x06\"]\n[]\nnull\nout cac88363617483646f6780\n",
+    ),
+    ("|0*131072", "Ok(()) false false \"0x00\"\n"),
+    ("|0*131073", "Ok(()) false false error long line\n"),
+    ("|0*131072|\r", "Ok(()) false false error long line\n"),
+    ("|0*131071|\r", "Ok(()) false false error hex\n"),
+    (
+        "|+| *131072|\nc0",
+        "Ok(()) false false error long line\n[]\n",
+    ),
+    ("|0*131073|\nc0", "Ok(()) false false error long line\n[]\n"),
+    ("cut|0*131073", "Err(Read) true false "),
 ];
 
-/// Returns the number of the first row with another result, over devices that move at most `most`
-/// bytes in each call, and a writer that fails with this error.
-fn first_other(
+/// Returns how the devices of a row behave that move at most `most` bytes in each call, over an
+/// input of this length.
+fn plan_of(setting: &str, most: usize, error: Option<ErrorKind>, len: usize) -> Plan {
+    let mut plan = Plan {
+        most,
+        error,
+        ..SOUND
+    };
+    match setting {
+        "" => {}
+        "cut" => plan.reads = (len.div_ceil(most.max(1)).saturating_add(1), usize::MAX),
+        "unflushed" => plan.flushes = (1, usize::MAX),
+        _ => plan.room = number(setting),
+    }
+    plan
+}
+
+/// Tells how a run over an input in pieces ends.
+fn tell_run(alloc: Global, input: &[u8], plan: &Plan, out: &mut Line) -> fmt::Result {
+    let left = ran(alloc, input, plan)?;
+    let written = std::str::from_utf8(left.written.as_slice()).unwrap_or("no text");
+    let (reader, writer) = (left.reader_failed, left.writer_failed);
+    write!(out, "{:?} {reader} {writer} {written}", left.outcome)
+}
+
+/// Notes the rows with another result, over devices that move at most `most` bytes in each call,
+/// and a writer that fails with this error.
+fn check(
     alloc: Global,
     most: usize,
     error: Option<ErrorKind>,
-) -> Result<Option<usize>, AllocError> {
-    for (number, row) in ROWS.iter().enumerate() {
-        let mut input = Vec::from_slice(alloc, row.front)?;
-        input.extend_from_slice(vec![in alloc; row.byte; row.times]?.as_slice())?;
-        input.extend_from_slice(row.rest)?;
-        let whole = input.len().div_ceil(most.max(1));
-        let plan = Plan {
-            most,
-            reads: if row.cut {
-                (whole.saturating_add(1), usize::MAX)
-            } else {
-                NEVER
-            },
-            room: row.room,
-            error,
-            flushes: if row.flushes { NEVER } else { (1, usize::MAX) },
-            ..NO_FAILURE
-        };
-        let left = ran(alloc, input.as_slice(), &plan)?;
-        if left.outcome != row.outcome
-            || left.reader_failed != row.cut
-            || left.writer_failed != (row.outcome == Err(RunFault::Write))
-            || left.written.as_slice() != row.written
-        {
-            return Ok(Some(number));
-        }
+    wrong: &mut Line,
+) -> Result<(), AllocError> {
+    for (given, want) in &ROWS {
+        let (setting, pieces) = given.split_once('|').unwrap_or(("", given));
+        let (input, mut said) = (text_of(alloc, pieces)?, Line::new());
+        let plan = plan_of(setting, most, error, input.len());
+        let _ = tell_run(alloc, input.as_bytes(), &plan, &mut said);
+        wrong.note("run", given, said.as_str(), want);
     }
-    Ok(None)
+    Ok(())
 }
 
 #[test]
 fn devices_that_move_a_few_bytes(rt: HostRuntime) -> Result<(), Fail> {
-    for (most, ..) in NEEDED {
-        for error in [Some(ErrorKind::BrokenPipe), None] {
-            assert_eq!(rt; first_other(rt.alloc(), most, error)?, None, "at {most}");
-        }
+    let mut wrong = Line::new();
+    for most in [1, 2, 4096] {
+        check(rt.alloc(), most, Some(ErrorKind::BrokenPipe), &mut wrong)?;
+        check(rt.alloc(), most, None, &mut wrong)?;
     }
-    Ok(())
+    wrong.none_noted()
 }

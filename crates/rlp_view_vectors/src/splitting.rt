@@ -1,103 +1,100 @@
 //! Items that are split off the beginning of bytes.
 
-use crate::rows::{Call, Hex, Wrong, raw, view_of};
+use crate::rows::{Hex, Row, check, raw, view_of};
+use rlp::{DecoderError, Rlp};
+use rlp_rows::Line;
 use std::alloc::Global;
 use std::fmt;
 use std::fmt::Write;
+use std::test::Fail;
 
 /// Tells the items that are split off one after another, and then the fault, and what is left.
-struct Split<const STRICT: bool>;
-
-impl<const STRICT: bool> Call for Split<STRICT> {
-    type Input = &'static [u8];
-
-    fn tell<W: fmt::Write>(_alloc: Global, bytes: &&'static [u8], out: &mut W) -> fmt::Result {
-        let mut left = *bytes;
-        for _ in 0..=bytes.len() {
-            match view_of(left, STRICT).split_first() {
-                Ok((item, rest)) => {
-                    write!(out, "{:?} ", raw(Ok(item), STRICT))?;
-                    left = rest;
-                }
-                Err(fault) => return write!(out, "{fault} {:?}", Hex(left)),
+pub(crate) fn tell_split(bytes: &[u8], strict: bool, out: &mut Line) -> fmt::Result {
+    let mut left = bytes;
+    for _ in 0..=bytes.len() {
+        match view_of(left, strict).split_first() {
+            Ok((item, rest)) => {
+                write!(out, "{:?} ", raw(Ok(item), strict))?;
+                left = rest;
             }
+            Err(fault) => return write!(out, "{fault} {:?}", Hex(left)),
         }
-        Ok(())
     }
+    Ok(())
 }
 
 /// Bytes that consist of items, and bytes that don't begin with one.
-const ITEMS: [(&[u8], &str); 12] = [
-    (b"", "RlpIsTooShort "),
-    (b"\x05", "Ok(05) RlpIsTooShort "),
-    (b"\xc1\x06", "Ok(c106) RlpIsTooShort "),
-    (b"\x05\xc1\x06", "Ok(05) Ok(c106) RlpIsTooShort "),
+const ITEMS: [Row; 12] = [
+    ("", "RlpIsTooShort "),
+    ("05", "Ok(05) RlpIsTooShort "),
+    ("c106", "Ok(c106) RlpIsTooShort "),
+    ("05c106", "Ok(05) Ok(c106) RlpIsTooShort "),
     (
-        b"\x83cat\x80\xc0\x00",
+        "8363617480c000",
         "Ok(83636174) Ok(80) Ok(c0) Ok(00) RlpIsTooShort ",
     ),
-    (b"\x81\x05\x06", "Ok(8105) Ok(06) RlpIsTooShort "),
-    (b"\x83ca", "RlpIsTooShort 836361"),
-    (b"\xc5\x05", "RlpIsTooShort c505"),
-    (b"\xb8", "RlpIsTooShort b8"),
-    (b"\xb8\x38\x00", "RlpIsTooShort b83800"),
-    (b"\xb8\x00\x05", "RlpDataLenWithZeroPrefix b80005"),
-    (b"\xf8\x00\x05", "RlpListLenWithZeroPrefix f80005"),
+    ("810506", "Ok(8105) Ok(06) RlpIsTooShort "),
+    ("836361", "RlpIsTooShort 836361"),
+    ("c505", "RlpIsTooShort c505"),
+    ("b8", "RlpIsTooShort b8"),
+    ("b83800", "RlpIsTooShort b83800"),
+    ("b80005", "RlpDataLenWithZeroPrefix b80005"),
+    ("f80005", "RlpListLenWithZeroPrefix f80005"),
 ];
 
 /// A strict view is split only if it is one item. If it isn't framed, this fault comes first.
-const STRICT_ITEMS: [(&[u8], &str); 7] = [
-    (b"", "RlpIsTooShort "),
-    (b"\xc1\x06", "Ok(c106) RlpIsTooShort "),
-    (b"\x81\x05", "Ok(8105) RlpIsTooShort "),
-    (b"\x05\xc1\x06", "RlpIsTooBig 05c106"),
-    (b"\x83cat\x80", "RlpIsTooBig 8363617480"),
-    (b"\xc5\x05", "RlpIsTooShort c505"),
-    (b"\xb8\x00\x05", "RlpDataLenWithZeroPrefix b80005"),
+const STRICT_ITEMS: [Row; 7] = [
+    ("", "RlpIsTooShort "),
+    ("c106", "Ok(c106) RlpIsTooShort "),
+    ("8105", "Ok(8105) RlpIsTooShort "),
+    ("05c106", "RlpIsTooBig 05c106"),
+    ("8363617480", "RlpIsTooBig 8363617480"),
+    ("c505", "RlpIsTooShort c505"),
+    ("b80005", "RlpDataLenWithZeroPrefix b80005"),
 ];
 
 /// Tells whether the first item is canonical, its fault as a number or as a list of numbers, and
 /// the bytes that follow it.
-struct FirstRead<const STRICT: bool>;
+pub(crate) fn tell_first(alloc: Global, bytes: &[u8], strict: bool, out: &mut Line) -> fmt::Result {
+    match view_of(bytes, strict).split_first() {
+        Ok((item, rest)) => {
+            let (canonical, rest) = (item.is_canonical(9), Hex(rest));
+            write!(out, "{canonical} {:?} {rest:?}", fault_of(alloc, &item))
+        }
+        Err(fault) => write!(out, "{fault}"),
+    }
+}
 
-impl<const STRICT: bool> Call for FirstRead<STRICT> {
-    type Input = &'static [u8];
-
-    fn tell<W: fmt::Write>(alloc: Global, bytes: &&'static [u8], out: &mut W) -> fmt::Result {
-        let (item, rest) = match view_of(bytes, STRICT).split_first() {
-            Ok(found) => found,
-            Err(fault) => return write!(out, "{fault}"),
-        };
-        let fault = if item.is_list() {
-            item.as_list::<u8>(alloc).err()
-        } else {
-            item.as_val::<u8>(alloc).err()
-        };
-        write!(out, "{} {fault:?} {:?}", item.is_canonical(9), Hex(rest))
+/// Returns the fault of an item as a number or as a list of numbers.
+fn fault_of(alloc: Global, item: &Rlp<'_>) -> Option<DecoderError> {
+    if item.is_list() {
+        item.as_list::<u8>(alloc).err()
+    } else {
+        item.as_val::<u8>(alloc).err()
     }
 }
 
 /// Items that are framed but not canonical, with an empty list after them.
-const NOT_CANONICAL: [(&[u8], &str); 3] = [
-    (b"\x81\x05\xc0", "false Some(RlpInvalidIndirection) c0"),
-    (b"\xc2\x81\x05\xc0", "false Some(RlpInvalidIndirection) c0"),
-    (b"\xc3\x05\x82\x00\xc0", "false None c0"),
+const NOT_CANONICAL: [Row; 3] = [
+    ("8105c0", "false Some(RlpInvalidIndirection) c0"),
+    ("c28105c0", "false Some(RlpInvalidIndirection) c0"),
+    ("c3058200c0", "false None c0"),
 ];
 
 /// The same items alone, as strict views.
-const STRICTLY_READ: [(&[u8], &str); 3] = [
-    (b"\x81\x05", "false Some(RlpInvalidIndirection) "),
-    (b"\xc2\x81\x05", "false Some(RlpInvalidIndirection) "),
-    (b"\xc3\x05\x82\x00", "false Some(RlpIsTooShort) "),
+const STRICTLY_READ: [Row; 3] = [
+    ("8105", "false Some(RlpInvalidIndirection) "),
+    ("c28105", "false Some(RlpInvalidIndirection) "),
+    ("c3058200", "false Some(RlpIsTooShort) "),
 ];
 
 #[test]
-fn first_items(rt: HostRuntime) {
+fn first_items(rt: HostRuntime) -> Result<(), Fail> {
     let alloc = rt.alloc();
-    let mut wrong = Wrong::none(alloc);
-    wrong.check::<Split<false>>(alloc, &ITEMS);
-    wrong.check::<Split<true>>(alloc, &STRICT_ITEMS);
-    wrong.check::<FirstRead<false>>(alloc, &NOT_CANONICAL);
-    wrong.check::<FirstRead<true>>(alloc, &STRICTLY_READ);
-    assert_eq!(rt; wrong, Wrong::none(alloc));
+    let mut wrong = Line::new();
+    check(alloc, "lenient split", &ITEMS, &mut wrong);
+    check(alloc, "strict split", &STRICT_ITEMS, &mut wrong);
+    check(alloc, "lenient first", &NOT_CANONICAL, &mut wrong);
+    check(alloc, "strict first", &STRICTLY_READ, &mut wrong);
+    wrong.none_noted()
 }

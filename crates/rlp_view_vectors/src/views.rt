@@ -1,232 +1,203 @@
 //! The calls of a view about all its bytes, and headers at the lengths at which their form changes.
 
-use crate::rows::{Call, Wrong, view_of};
-use rlp::PayloadInfo;
-use std::alloc::Global;
+use crate::rows::{Row, check};
+use rlp::{PayloadInfo, Rlp};
+use rlp_rows::Line;
 use std::fmt;
 use std::fmt::Write;
+use std::test::Fail;
 
 /// Tells the lengths of a header and of its value, and both together if a `usize` can hold it.
-struct Header;
-
-impl Call for Header {
-    type Input = &'static [u8];
-
-    fn tell<W: fmt::Write>(_alloc: Global, bytes: &&'static [u8], out: &mut W) -> fmt::Result {
-        match PayloadInfo::from(bytes) {
-            Ok(info) => {
-                let (header, value, total) = (
-                    info.header_len,
-                    info.value_len,
-                    info.checked_total(),
-                );
-                write!(out, "{header} + {value} = {total:?}")
-            }
-            Err(fault) => write!(out, "{fault}"),
+pub(crate) fn tell_header(bytes: &[u8], out: &mut Line) -> fmt::Result {
+    match PayloadInfo::from(bytes) {
+        Ok(info) => {
+            let (header, value) = (info.header_len, info.value_len);
+            write!(out, "{header} + {value} = {:?}", info.checked_total())
         }
+        Err(fault) => write!(out, "{fault}"),
     }
 }
 
 /// The first bytes of strings, at the least and the greatest length of each form.
-const STRINGS: [(&[u8], &str); 18] = [
-    (b"\x00", "0 + 1 = Some(1)"),
-    (b"\x7f", "0 + 1 = Some(1)"),
-    (b"\x80", "1 + 0 = Some(1)"),
-    (b"\x81", "1 + 1 = Some(2)"),
-    (b"\xb7", "1 + 55 = Some(56)"),
-    (b"\xb8\x38", "2 + 56 = Some(58)"),
-    (b"\xb8\xff", "2 + 255 = Some(257)"),
-    (b"\xb9\x01\x00", "3 + 256 = Some(259)"),
-    (b"\xb9\xff\xff", "3 + 65535 = Some(65538)"),
-    (b"\xba\x01\x00\x00", "4 + 65536 = Some(65540)"),
-    (b"\xba\xff\xff\xff", "4 + 16777215 = Some(16777219)"),
-    (b"\xbb\x01\x00\x00\x00", "5 + 16777216 = Some(16777221)"),
-    (b"\xbb\xff\xff\xff\xff", "5 + 4294967295 = Some(4294967300)"),
+const STRINGS: [Row; 18] = [
+    ("00", "0 + 1 = Some(1)"),
+    ("7f", "0 + 1 = Some(1)"),
+    ("80", "1 + 0 = Some(1)"),
+    ("81", "1 + 1 = Some(2)"),
+    ("b7", "1 + 55 = Some(56)"),
+    ("b838", "2 + 56 = Some(58)"),
+    ("b8ff", "2 + 255 = Some(257)"),
+    ("b90100", "3 + 256 = Some(259)"),
+    ("b9ffff", "3 + 65535 = Some(65538)"),
+    ("ba010000", "4 + 65536 = Some(65540)"),
+    ("baffffff", "4 + 16777215 = Some(16777219)"),
+    ("bb01000000", "5 + 16777216 = Some(16777221)"),
+    ("bbffffffff", "5 + 4294967295 = Some(4294967300)"),
+    ("bc0100000000", "6 + 4294967296 = Some(4294967302)"),
+    ("bfffffffffffffffff", "9 + 18446744073709551615 = None"),
+    ("05ff", "0 + 1 = Some(1)"),
     (
-        b"\xbc\x01\x00\x00\x00\x00",
-        "6 + 4294967296 = Some(4294967302)",
-    ),
-    (
-        b"\xbf\xff\xff\xff\xff\xff\xff\xff\xff",
-        "9 + 18446744073709551615 = None",
-    ),
-    (b"\x05\xff", "0 + 1 = Some(1)"),
-    (
-        b"\xbf\xff\xff\xff\xff\xff\xff\xff\xf6",
+        "bffffffffffffffff6",
         "9 + 18446744073709551606 = Some(18446744073709551615)",
     ),
-    (
-        b"\xbf\xff\xff\xff\xff\xff\xff\xff\xf7",
-        "9 + 18446744073709551607 = None",
-    ),
+    ("bffffffffffffffff7", "9 + 18446744073709551607 = None"),
 ];
 
 /// The first bytes of lists, at the least and the greatest length of each form.
-const LISTS: [(&[u8], &str); 14] = [
-    (b"\xc0", "1 + 0 = Some(1)"),
-    (b"\xc1", "1 + 1 = Some(2)"),
-    (b"\xf7", "1 + 55 = Some(56)"),
-    (b"\xf8\x38", "2 + 56 = Some(58)"),
-    (b"\xf8\xff", "2 + 255 = Some(257)"),
-    (b"\xf9\x01\x00", "3 + 256 = Some(259)"),
-    (b"\xf9\xff\xff", "3 + 65535 = Some(65538)"),
-    (b"\xfa\x01\x00\x00", "4 + 65536 = Some(65540)"),
-    (b"\xfa\xff\xff\xff", "4 + 16777215 = Some(16777219)"),
-    (b"\xfb\x01\x00\x00\x00", "5 + 16777216 = Some(16777221)"),
-    (b"\xfb\xff\xff\xff\xff", "5 + 4294967295 = Some(4294967300)"),
-    (
-        b"\xfc\x01\x00\x00\x00\x00",
-        "6 + 4294967296 = Some(4294967302)",
-    ),
-    (
-        b"\xff\xff\xff\xff\xff\xff\xff\xff\xff",
-        "9 + 18446744073709551615 = None",
-    ),
-    (b"\xc0\x01", "1 + 0 = Some(1)"),
+const LISTS: [Row; 14] = [
+    ("c0", "1 + 0 = Some(1)"),
+    ("c1", "1 + 1 = Some(2)"),
+    ("f7", "1 + 55 = Some(56)"),
+    ("f838", "2 + 56 = Some(58)"),
+    ("f8ff", "2 + 255 = Some(257)"),
+    ("f90100", "3 + 256 = Some(259)"),
+    ("f9ffff", "3 + 65535 = Some(65538)"),
+    ("fa010000", "4 + 65536 = Some(65540)"),
+    ("faffffff", "4 + 16777215 = Some(16777219)"),
+    ("fb01000000", "5 + 16777216 = Some(16777221)"),
+    ("fbffffffff", "5 + 4294967295 = Some(4294967300)"),
+    ("fc0100000000", "6 + 4294967296 = Some(4294967302)"),
+    ("ffffffffffffffffff", "9 + 18446744073709551615 = None"),
+    ("c001", "1 + 0 = Some(1)"),
 ];
 
 /// Bytes that don't begin with a header.
-const FAULTY: [(&[u8], &str); 10] = [
-    (b"", "RlpIsTooShort"),
-    (b"\xb8", "RlpIsTooShort"),
-    (b"\xf8", "RlpIsTooShort"),
-    (b"\xb9\x01", "RlpIsTooShort"),
-    (b"\xb8\x00", "RlpDataLenWithZeroPrefix"),
-    (b"\xb9\x00", "RlpDataLenWithZeroPrefix"),
-    (b"\xf8\x00", "RlpListLenWithZeroPrefix"),
-    (b"\xf9\x00", "RlpListLenWithZeroPrefix"),
-    (b"\xf8\x01", "RlpInvalidIndirection"),
-    (b"\xb8\x37", "RlpInvalidIndirection"),
+const FAULTY: [Row; 10] = [
+    ("", "RlpIsTooShort"),
+    ("b8", "RlpIsTooShort"),
+    ("f8", "RlpIsTooShort"),
+    ("b901", "RlpIsTooShort"),
+    ("b800", "RlpDataLenWithZeroPrefix"),
+    ("b900", "RlpDataLenWithZeroPrefix"),
+    ("f800", "RlpListLenWithZeroPrefix"),
+    ("f900", "RlpListLenWithZeroPrefix"),
+    ("f801", "RlpInvalidIndirection"),
+    ("b837", "RlpInvalidIndirection"),
 ];
 
-/// What is asked of a view.
-#[derive(Drop)]
-pub(crate) enum Ask {
-    /// The results of `is_null`, `is_empty`, `is_list` and `is_data`.
-    Kinds,
-    /// The result of `is_int`.
-    Int,
-    /// Whether its lists nest within a limit.
-    Nested(usize),
-    /// Whether its bytes are the encoding of an item within a depth.
-    Canonical(usize),
-    /// Its prototype and its size.
-    Sizes,
-    /// Its text.
-    Text,
-}
-
-use Ask::{Canonical, Int, Kinds, Nested, Sizes};
-
-/// Tells what a view answers.
-pub(crate) struct View<const STRICT: bool>;
-
-impl<const STRICT: bool> Call for View<STRICT> {
-    type Input = (&'static [u8], Ask);
-
-    fn tell<W: fmt::Write>(
-        _alloc: Global,
-        input: &(&'static [u8], Ask),
-        out: &mut W,
-    ) -> fmt::Result {
-        let view = view_of(input.0, STRICT);
-        let holds = match &input.1 {
-            Ask::Kinds => {
-                let (null, empty) = (view.is_null(), view.is_empty());
-                write!(out, "{null} {empty} {} ", view.is_list())?;
-                view.is_data()
-            }
-            Ask::Int => view.is_int(),
-            Ask::Nested(most) => view.is_nested_within(*most),
-            Ask::Canonical(most) => view.is_canonical(*most),
-            Ask::Sizes => return write!(out, "{:?} {}", view.prototype(), view.size()),
-            Ask::Text => return write!(out, "{view}"),
-        };
-        write!(out, "{holds}")
+/// Tells what a view answers: the results of `is_null`, `is_empty`, `is_list` and `is_data`, its
+/// prototype and its size, its text, or one of what `holds` says.
+pub(crate) fn tell_view(view: &Rlp<'_>, of: &str, limit: usize, out: &mut Line) -> fmt::Result {
+    match of {
+        "kinds" => tell_kinds(view, out),
+        "sizes" => write!(out, "{:?} {}", view.prototype(), view.size()),
+        "text" => write!(out, "{view}"),
+        _ => write!(out, "{}", holds(view, of, limit)),
     }
 }
 
-/// A row of `View`: bytes and what is asked of their view, and the answer.
-pub(crate) type Asked = ((&'static [u8], Ask), &'static str);
+/// Tells of which kinds a view is.
+fn tell_kinds(view: &Rlp<'_>, out: &mut Line) -> fmt::Result {
+    let (null, empty) = (view.is_null(), view.is_empty());
+    let (list, data) = (view.is_list(), view.is_data());
+    write!(out, "{null} {empty} {list} {data}")
+}
 
-/// Among the numbers at the front are the first bytes of the long headers of strings, without other
-/// bytes.
-const VIEWS: [Asked; 34] = [
-    ((b"", Kinds), "true false false false"),
-    ((b"\x80", Kinds), "false true false true"),
-    ((b"\xc0", Kinds), "false true true false"),
-    ((b"\x05", Kinds), "false false false true"),
-    ((b"\xc1\x05", Kinds), "false false true false"),
-    ((b"\xc8\x83cat\x83dog", Kinds), "false false true false"),
-    ((b"", Int), "false"),
-    ((b"\x81", Int), "false"),
-    ((b"\x81\x00", Int), "false"),
-    ((b"\x81\x05", Int), "true"),
-    ((b"\x00", Int), "true"),
-    ((b"\xb8\x38", Int), "false"),
-    ((b"\xb8\x38\x05", Int), "true"),
-    ((b"\xc0", Int), "false"),
-    ((b"\xb8", Int), "false"),
-    ((b"\xb9", Int), "false"),
-    ((b"\xba", Int), "false"),
-    ((b"\xbb", Int), "false"),
-    ((b"\xbc", Int), "false"),
-    ((b"\xbd", Int), "false"),
-    ((b"\xbe", Int), "false"),
-    ((b"\xbf", Int), "false"),
-    ((b"\x80", Nested(0)), "true"),
-    ((b"\xc0", Nested(0)), "false"),
-    ((b"\xc0", Nested(1)), "true"),
-    ((b"\xc2\xc1\x05", Nested(1)), "false"),
-    ((b"\xc2\xc1\x05", Nested(2)), "true"),
-    ((b"\xc5", Nested(0)), "true"),
-    ((b"", Sizes), "Ok(Null) 0"),
-    ((b"\x84cat", Sizes), "Ok(Data(0)) 0"),
-    ((b"\x83cat\x00", Sizes), "Ok(Data(3)) 3"),
-    ((b"\x05", Sizes), "Ok(Data(1)) 1"),
-    ((b"\xc5", Sizes), "Ok(List(0)) 0"),
-    ((b"\xc8\x83cat\x83dog", Sizes), "Ok(List(2)) 0"),
+/// Returns the result of `is_int`, whether a view's lists nest within a limit, or whether its bytes
+/// are the encoding of an item within a depth.
+fn holds(view: &Rlp<'_>, of: &str, limit: usize) -> bool {
+    match of {
+        "int" => view.is_int(),
+        "nested" => view.is_nested_within(limit),
+        _ => view.is_canonical(limit),
+    }
+}
+
+/// A view that is null, empty, a list or a string.
+const KINDS: [Row; 6] = [
+    ("", "true false false false"),
+    ("80", "false true false true"),
+    ("c0", "false true true false"),
+    ("05", "false false false true"),
+    ("c105", "false false true false"),
+    ("c88363617483646f67", "false false true false"),
+];
+
+/// Numbers at the front. Among the others are the first bytes of the long headers of strings,
+/// without other bytes.
+const INTS: [Row; 16] = [
+    ("", "false"),
+    ("81", "false"),
+    ("8100", "false"),
+    ("8105", "true"),
+    ("00", "true"),
+    ("b838", "false"),
+    ("b83805", "true"),
+    ("c0", "false"),
+    ("b8", "false"),
+    ("b9", "false"),
+    ("ba", "false"),
+    ("bb", "false"),
+    ("bc", "false"),
+    ("bd", "false"),
+    ("be", "false"),
+    ("bf", "false"),
+];
+
+/// Lists, and the limit within which they nest.
+const NESTED: [Row; 6] = [
+    ("80 0", "true"),
+    ("c0 0", "false"),
+    ("c0 1", "true"),
+    ("c2c105 1", "false"),
+    ("c2c105 2", "true"),
+    ("c5 0", "true"),
+];
+
+/// Prototypes and sizes.
+const SIZES: [Row; 6] = [
+    ("", "Ok(Null) 0"),
+    ("84636174", "Ok(Data(0)) 0"),
+    ("8363617400", "Ok(Data(3)) 3"),
+    ("05", "Ok(Data(1)) 1"),
+    ("c5", "Ok(List(0)) 0"),
+    ("c88363617483646f67", "Ok(List(2)) 0"),
 ];
 
 /// The prototype of a strict view counts the items as that of a lenient view does.
-const STRICT_VIEWS: [Asked; 1] = [((b"\xc1\x01\x02", Sizes), "Ok(List(1)) 0")];
+const STRICT_SIZES: [Row; 1] = [("c10102", "Ok(List(1)) 0")];
 
-/// A list of 56 numbers 1, whose header has two bytes.
-const LONG_LIST: &[u8] = b"\xf8\x38\x01\x01\x01\x01\x01\x01\x01\x01\x01\x01\x01\x01\x01\x01\x01\x01\
-\x01\x01\x01\x01\x01\x01\x01\x01\x01\x01\x01\x01\x01\x01\x01\x01\x01\x01\x01\x01\x01\x01\
-\x01\x01\x01\x01\x01\x01\x01\x01\x01\x01\x01\x01\x01\x01\x01\x01\x01\x01";
-
-/// Views of both kinds.
-const CANONICAL: [Asked; 12] = [
-    ((b"", Canonical(5)), "false"),
-    ((b"\x81\x05", Canonical(5)), "false"),
-    ((b"\xc2\x81\x05", Canonical(5)), "false"),
-    ((b"\xc1\x01\x02", Canonical(5)), "false"),
-    ((b"\xc3\x05\x82\x00", Canonical(5)), "false"),
-    ((b"\x80", Canonical(0)), "true"),
-    ((b"\xc0", Canonical(0)), "false"),
-    ((b"\xc0", Canonical(1)), "true"),
-    ((b"\xc1\xc0", Canonical(1)), "false"),
-    ((b"\xc1\xc0", Canonical(2)), "true"),
-    ((LONG_LIST, Canonical(1)), "true"),
-    ((LONG_LIST, Canonical(0)), "false"),
+/// Encodings and other bytes, and a depth, for views of both kinds. The last two are a list of 56
+/// numbers 1, whose header has two bytes.
+const CANONICAL: [Row; 12] = [
+    (" 5", "false"),
+    ("8105 5", "false"),
+    ("c28105 5", "false"),
+    ("c10102 5", "false"),
+    ("c3058200 5", "false"),
+    ("80 0", "true"),
+    ("c0 0", "false"),
+    ("c0 1", "true"),
+    ("c1c0 1", "false"),
+    ("c1c0 2", "true"),
+    (
+        "f8380101010101010101010101010101010101010101010101010101010101010101010101010101010101010101010101010101010101010101 1",
+        "true",
+    ),
+    (
+        "f8380101010101010101010101010101010101010101010101010101010101010101010101010101010101010101010101010101010101010101 0",
+        "false",
+    ),
 ];
 
 #[test]
-fn headers_and_views(rt: HostRuntime) {
+fn headers_and_views(rt: HostRuntime) -> Result<(), Fail> {
     let alloc = rt.alloc();
-    let mut wrong = Wrong::none(alloc);
-    wrong.check::<Header>(alloc, &STRINGS);
-    wrong.check::<Header>(alloc, &LISTS);
-    wrong.check::<Header>(alloc, &FAULTY);
+    let mut wrong = Line::new();
+    check(alloc, "lenient header", &STRINGS, &mut wrong);
+    check(alloc, "lenient header", &LISTS, &mut wrong);
+    check(alloc, "lenient header", &FAULTY, &mut wrong);
+    check(alloc, "lenient view kinds", &KINDS, &mut wrong);
+    check(alloc, "lenient view int", &INTS, &mut wrong);
+    check(alloc, "lenient view nested", &NESTED, &mut wrong);
+    check(alloc, "lenient view sizes", &SIZES, &mut wrong);
+    check(alloc, "strict view sizes", &STRICT_SIZES, &mut wrong);
+    check(alloc, "lenient view canonical", &CANONICAL, &mut wrong);
+    check(alloc, "strict view canonical", &CANONICAL, &mut wrong);
     let info = PayloadInfo {
         header_len: 1,
         value_len: 3,
     };
-    assert_eq!(rt; info.total(), 4);
-    wrong.check::<View<false>>(alloc, &VIEWS);
-    wrong.check::<View<true>>(alloc, &STRICT_VIEWS);
-    wrong.check::<View<false>>(alloc, &CANONICAL);
-    wrong.check::<View<true>>(alloc, &CANONICAL);
-    assert_eq!(rt; wrong, Wrong::none(alloc));
+    assert!(rt; info.total() == 4);
+    wrong.none_noted()
 }
