@@ -1,7 +1,7 @@
 //! Calls that are read from lines, and the results of calls.
 
 use bytes::BytesMut;
-use rlp_fixtures::{Pair, Refusing, Trio};
+use rlp_examples::{Pair, Refusing, Trio};
 use rlp_tool::{BuildFault, Built, ScriptFault, StreamCall, build, read_calls};
 use std::alloc::{AllocError, Global};
 

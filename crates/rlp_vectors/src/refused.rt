@@ -5,7 +5,7 @@
 
 use bytes::BytesMut;
 use rlp::{Encodable, RlpStream, Uint};
-use rlp_fixtures::Pair;
+use rlp_examples::Pair;
 use std::alloc::{AllocError, Global};
 use std::test::Fail;
 

@@ -3,8 +3,7 @@
 
 use crate::rows::{Row as Line, first_unread, is_written};
 use rlp::{DecoderError, Each, Flattened, ListOf, RlpStream, Uint};
-use rlp_examples::{Entry, Inner, Message, Nest, Nonce};
-use rlp_fixtures::Row;
+use rlp_examples::{Entry, Inner, Message, Nest, Nonce, Row};
 use rlp_rows::bytes_of;
 use std::alloc::{AllocError, Global};
 use std::test::Fail;

@@ -4,8 +4,7 @@ use crate::rows::{Row, finishes_as, first_unread_again, is_listed, is_written};
 use crate::structs::{Columns, LastField, Tagged};
 use bytes::{Bytes, BytesMut};
 use rlp::{EMPTY_LIST_RLP, Encodable, NULL_RLP, RlpStream};
-use rlp_examples::Nonce;
-use rlp_fixtures::{HalfWritten, Pair, append_one, append_three, bytes_of_three};
+use rlp_examples::{HalfWritten, Nonce, Pair, append_one, append_three, bytes_of_three};
 use rlp_rows::bytes_of;
 use std::alloc::{AllocError, Global};
 use std::test::Fail;
@@ -258,7 +257,7 @@ const APPENDED: [u8; 16] = [
     0x01, 0x83, 0x63, 0x61, 0x74, 0x80, 0x81, 0x80, 0x82, 0x01, 0x00, 0x61, 0x83, 0x64, 0x6f, 0x67,
 ];
 
-/// Returns whether a stream holds the values that are appended by the functions of `rlp_fixtures`.
+/// Returns whether a stream holds the values that are appended by the functions of `rlp_examples`.
 fn holds_appended(alloc: Global) -> Result<bool, AllocError> {
     let mut s = RlpStream::new(alloc)?;
     append_three(&mut s, &1u64, &"cat", &0u64)?;

@@ -2,7 +2,7 @@
 
 use crate::rows::{Call, Wrong, view_of};
 use rlp::{Decodable, Rlp};
-use rlp_fixtures::Odd;
+use rlp_examples::Odd;
 use std::alloc::Global;
 use std::fmt;
 use std::fmt::Write;

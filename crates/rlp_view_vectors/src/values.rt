@@ -3,7 +3,7 @@
 use crate::rows::{Call, Wrong, view_of};
 use bytes::{Bytes, BytesMut};
 use rlp::{BasicDecoder, Decodable, DecoderError, Rlp};
-use rlp_fixtures::Odd;
+use rlp_examples::Odd;
 use std::alloc::Global;
 use std::fmt;
 use std::fmt::Write;
