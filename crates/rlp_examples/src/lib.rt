@@ -3,7 +3,6 @@
 #![tactic(auto)]
 
 mod appends;
-mod entry;
 mod half_written;
 mod message;
 mod nest;
@@ -15,14 +14,13 @@ mod row;
 mod trio;
 mod uses;
 
-pub use appends::{append_one, append_three, bytes_of_three};
-pub use entry::{Entry, entry_back};
+pub use appends::bytes_of_three;
 pub use half_written::HalfWritten;
 pub use message::Message;
-pub use nest::{Inner, Nest};
+pub use nest::Nest;
 pub use nonce::Nonce;
 pub use odd::Odd;
-pub use pair::Pair;
+pub use pair::{Pair, pair_back};
 pub use parcel::{Parcel, items_tell_parcels, renumbered};
 pub use row::Row;
 pub use trio::{Refusing, Trio};
