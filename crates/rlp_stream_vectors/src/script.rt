@@ -22,6 +22,7 @@ use rlp_rows::{bytes_of, number};
 use rlp_streams::{Encodable, RlpStream};
 use std::alloc::{AllocError, Global};
 use std::cell::Cell;
+use std::test::Fail;
 
 /// Cuts a text at its first space.
 pub(crate) fn cut(text: &str) -> (&str, &str) {
@@ -304,22 +305,32 @@ fn ends_as(alloc: Global, s: RlpStream, want: &str) -> Result<bool, AllocError> 
 }
 
 /// Returns whether a row is met by a new stream, and by a stream without room.
-pub(crate) fn is_met_twice(alloc: Global, row: &str) -> Result<bool, AllocError> {
+fn is_met_twice(alloc: Global, row: &str) -> Result<bool, AllocError> {
     let narrow = RlpStream::new_with_buffer(alloc, BytesMut::new(alloc));
     Ok(is_met(alloc, RlpStream::new(alloc)?, row)? && is_met(alloc, narrow, row)?)
 }
 
-/// Returns the first row of some tables that isn't met. A table has a row on each line.
-pub(crate) fn first_wrong<'a>(
-    alloc: Global,
-    tables: &[&'a str],
-) -> Result<Option<&'a str>, AllocError> {
+/// Fails with the first row of some tables that isn't met. A table has a row on each line.
+pub(crate) fn all_met(alloc: Global, tables: &[&str]) -> Result<(), Fail> {
     for table in tables {
         for row in table.lines() {
             if !is_met_twice(alloc, row)? {
-                return Ok(Some(row));
+                return Err(Fail::new(row));
             }
         }
     }
-    Ok(None)
+    Ok(())
+}
+
+/// Fails with the first row that isn't met, of those that a pattern stands for: each number from 1 to the
+/// greatest takes the places of `#`.
+pub(crate) fn all_met_to(alloc: Global, greatest: usize, pattern: &str) -> Result<(), Fail> {
+    for number in 1..=greatest {
+        let digits = format!(in alloc; "{number}")?;
+        let row = pattern.replace(alloc, '#', digits.as_str())?;
+        if !is_met_twice(alloc, row.as_str())? {
+            return Err(Fail::new(row.as_str()));
+        }
+    }
+    Ok(())
 }

@@ -1,8 +1,9 @@
 //! Streams that are written by scripts of calls. The finished bytes were worked out by hand.
 
-use crate::script::{buffer_of, first_wrong, is_met_twice};
+use crate::script::{all_met, all_met_to, buffer_of};
 use rlp_streams::RlpStream;
 use std::alloc::{AllocError, Global};
+use std::test::Fail;
 
 /// Lists that announce their items, unbounded lists, values of each kind, `clear`, and values that are
 /// put uncounted.
@@ -138,8 +139,15 @@ list 2; number 5; direct; is 4 2 00050001 = open";
 const CHAINS: &str = "\
 chain_lists; chain_items; chain_raw 07; finalize; finalize = d0cf0183646f67c20203c2040580c20607";
 
+/// Lists that are opened one inside another, of more than 55 bytes, which have a header of two bytes.
+const DEEPER: &str = "\
+57 times begin 1; is 58 1 00*57; clear; 57 times unbounded; is 58 any 00*57 = open
+58 times begin 1; is 60 1 00*58; clear; 58 times unbounded; is 60 any 00*58 = open
+59 times begin 1; is 62 1 00*59; clear; 59 times unbounded; is 62 any 00*59 = open
+60 times begin 1; is 64 1 00*60; clear; 60 times unbounded; is 64 any 00*60 = open";
+
 /// The tables of scripts.
-const TABLES: [&str; 11] = [
+const TABLES: [&str; 12] = [
     ROWS,
     NOT_ADMITTED,
     ITERATORS,
@@ -151,26 +159,16 @@ const TABLES: [&str; 11] = [
     ESTIMATES,
     REFUSED,
     CHAINS,
+    DEEPER,
 ];
 
-/// Appends single bytes 00 until one more would be over a limit. Then opens as many lists, and at most
-/// sixty, one inside another: lists that await an item, and unbounded ones. Lists of more than 55 bytes
-/// have a header of two bytes. Returns the first limit at which a stream isn't as wanted.
-fn first_wrong_limit(alloc: Global) -> Result<Option<usize>, AllocError> {
-    for limit in 1usize..270 {
-        let depth = limit.min(60);
-        let size = depth.saturating_add(depth.saturating_sub(56));
-        let row = format!(in alloc;
-            "{limit} times within {limit} 00; !within {limit} 00; \
-            is {limit} done 00*{limit}; clear; {depth} times begin 1; is {size} 1 00*{depth}; clear; \
-            {depth} times unbounded; is {size} any 00*{depth} = open"
-        )?;
-        if !is_met_twice(alloc, row.as_str())? {
-            return Ok(Some(limit));
-        }
-    }
-    Ok(None)
-}
+/// Single bytes 00 that are appended until one more would be over a limit.
+const FULL: &str = "# times within # 00; !within # 00; is # done 00*# = 00*#";
+
+/// Lists that are opened one inside another, each with a header of one byte: lists that await an item,
+/// and unbounded ones.
+const DEEP: &str = "\
+# times begin 1; is # 1 00*#; clear; # times unbounded; is # any 00*# = open";
 
 /// Returns whether a stream over the second part of a split buffer writes behind what is there, and
 /// the parts are joined again.
@@ -189,9 +187,21 @@ fn buffers_are_joined(alloc: Global) -> Result<bool, AllocError> {
 }
 
 #[test]
-fn streams_finish_as_worked_out(rt: HostRuntime) {
-    let alloc = rt.alloc();
-    assert_eq!(rt; first_wrong(alloc, &TABLES), Ok(None));
-    assert_eq!(rt; first_wrong_limit(alloc), Ok(None));
-    assert!(rt; buffers_are_joined(alloc) == Ok(true));
+fn streams_finish_as_worked_out(rt: HostRuntime) -> Result<(), Fail> {
+    all_met(rt.alloc(), &TABLES)
+}
+
+#[test]
+fn streams_are_filled(rt: HostRuntime) -> Result<(), Fail> {
+    all_met_to(rt.alloc(), 269, FULL)
+}
+
+#[test]
+fn lists_are_opened(rt: HostRuntime) -> Result<(), Fail> {
+    all_met_to(rt.alloc(), 56, DEEP)
+}
+
+#[test]
+fn split_buffers_are_joined(rt: HostRuntime) {
+    assert!(rt; buffers_are_joined(rt.alloc()) == Ok(true));
 }
