@@ -5,7 +5,7 @@ from crates import crates_of
 from words import RELATIVE, comment_of, words_in
 
 # The crates whose definitions are examples, and have no rows.
-WITHOUT_ROWS = ("rlp_examples", "rlp_fixtures")
+WITHOUT_ROWS = ("rlp_examples",)
 
 
 def crates_with_words(root):

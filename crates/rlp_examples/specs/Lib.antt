@@ -1,4 +1,5 @@
-pub mod Entry
 pub mod Message
 pub mod Nest
+pub mod Pair
 pub mod Parcel
+pub mod Row

@@ -11,13 +11,8 @@ use Rattle.rlp.specs.Values.RoundTrip.{AlwaysReadsBack}
 use Rattle.rlp.specs.Lemmas.Fields.{field_alike, field_sound}
 use Rattle.rlp.specs.Lemmas.WholeStructs.{none_below, none_right, one_more_right, struct_reads_back}
 use Rattle.rlp.specs.Lemmas.ValueLists.{list_reads_back}
-use Rattle.rlp.specs.Codec.{Codec, end, field, list_type, number, struct_of}
-use Rattle.rlp_examples.specs.declared.nest.Inner.{Inner}
+use Rattle.rlp.specs.Codec.{Codec, end, field, list_type, struct_of}
 use Rattle.rlp_examples.specs.declared.nest.Nest.{Nest}
-
--- the list of two numbers
-abbrev pub inner : Codec Inner
-inner = struct_of (field (λ (p : Inner). p.0) (number 8) (field (λ (p : Inner). p.1) (number 8) end))
 
 -- the list of one list of values
 abbrev pub nest : {A : Type 0} → Codec A → Codec (Nest A)

@@ -2,16 +2,26 @@
 //! public contracts and from the lemmas that authors of types cite.
 #![tactic(auto)]
 
-mod entry;
+mod appends;
+mod half_written;
 mod message;
 mod nest;
 mod nonce;
+mod odd;
+mod pair;
 mod parcel;
+mod row;
+mod trio;
 mod uses;
 
-pub use entry::{Entry, entry_back};
+pub use appends::bytes_of_three;
+pub use half_written::HalfWritten;
 pub use message::Message;
-pub use nest::{Inner, Nest};
+pub use nest::Nest;
 pub use nonce::Nonce;
+pub use odd::Odd;
+pub use pair::{Pair, pair_back};
 pub use parcel::{Parcel, items_tell_parcels, renumbered};
+pub use row::Row;
+pub use trio::{Refusing, Trio};
 pub use uses::{append_by_stream, append_each, chain_and_encoder, drained, first_and_text, nested};

@@ -8,7 +8,7 @@ use rlp::{Decodable, DecoderError, Encodable, Rlp, RlpStream, RoundTrip, StrictR
 use std::alloc::{AllocError, Global};
 
 /// The number of transactions that an account has sent.
-#[derive(Debug, PartialEq, Eq, Drop)]
+#[derive(Drop)]
 pub struct Nonce(pub u64);
 
 /// Written as a `u64` is.

@@ -2,15 +2,11 @@
 #![tactic(auto)]
 
 #[cfg(test)]
-mod failing;
-#[cfg(test)]
 mod guarded;
 #[cfg(test)]
 mod limits;
 #[cfg(test)]
 mod never;
-#[cfg(test)]
-mod plain;
 #[cfg(test)]
 mod refused;
 #[cfg(test)]

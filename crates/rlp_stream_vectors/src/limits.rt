@@ -2,62 +2,68 @@
 //! size.
 
 use crate::guarded::{begin, is_as, put_raw, put_raw_within};
+use crate::script::cut;
 use bytes::BytesMut;
+use rlp_rows::number;
 use rlp_streams::RlpStream;
 use std::alloc::{AllocError, Global};
 use std::test::Fail;
 
-/// The number of open lists, one inside another; the number of bytes 00 in the innermost; the
+/// A row has the number of open lists, one inside another; the number of bytes 00 in the innermost; the
 /// number of bytes 00 that are appended; and the closed size after that.
-type Row = (usize, usize, usize, usize);
+const ROWS: &str = "\
+0 0 0 0
+0 0 1 1
+0 55 1 56
+0 255 300 555
+1 0 0 1
+1 0 1 2
+1 0 55 56
+1 0 56 58
+1 54 1 56
+1 55 0 56
+1 55 1 58
+1 56 1 59
+1 254 1 257
+1 255 1 259
+1 65534 1 65538
+1 65535 1 65540
+2 53 1 56
+2 53 2 58
+2 54 1 58
+2 55 1 60
+2 252 1 257
+2 253 1 259
+100 0 0 144
+100 0 1 146
+100 1 1 148
+100 54 1 254
+100 55 1 256
+100 110 1 338
+100 111 1 340
+100 60000 5000 65300
+100 65237 1 65538
+100 65238 1 65540";
 
-const ROWS: [Row; 32] = [
-    (0, 0, 0, 0),
-    (0, 0, 1, 1),
-    (0, 55, 1, 56),
-    (0, 255, 300, 555),
-    (1, 0, 0, 1),
-    (1, 0, 1, 2),
-    (1, 0, 55, 56),
-    (1, 0, 56, 58),
-    (1, 54, 1, 56),
-    (1, 55, 0, 56),
-    (1, 55, 1, 58),
-    (1, 56, 1, 59),
-    (1, 254, 1, 257),
-    (1, 255, 1, 259),
-    (1, 65_534, 1, 65_538),
-    (1, 65_535, 1, 65_540),
-    (2, 53, 1, 56),
-    (2, 53, 2, 58),
-    (2, 54, 1, 58),
-    (2, 55, 1, 60),
-    (2, 252, 1, 257),
-    (2, 253, 1, 259),
-    (100, 0, 0, 144),
-    (100, 0, 1, 146),
-    (100, 1, 1, 148),
-    (100, 54, 1, 254),
-    (100, 55, 1, 256),
-    (100, 110, 1, 338),
-    (100, 111, 1, 340),
-    (100, 60_000, 5000, 65_300),
-    (100, 65_237, 1, 65_538),
-    (100, 65_238, 1, 65_540),
-];
+/// Returns the four numbers of a row.
+fn numbers_of(row: &str) -> (usize, usize, usize, usize) {
+    let (lists, more) = cut(row);
+    let (held, more) = cut(more);
+    let (added, size) = cut(more);
+    (number(lists), number(held), number(added), number(size))
+}
 
 /// Opens lists, and appends the bytes in the innermost as one item. The lists are unbounded (`any`),
 /// await more items than are appended (`more`), or exactly these (`these`): the last of them closes
 /// each list.
 fn open(s: &mut RlpStream, lists: usize, awaited: &str, bytes: &[u8]) -> Result<bool, AllocError> {
+    let (outer, innermost) = match awaited {
+        "any" => (None, None),
+        "more" => (Some(3), Some(3)),
+        _ => (Some(1), Some(2)),
+    };
     for list in 0..lists {
-        let items = match awaited {
-            "any" => None,
-            "more" => Some(3),
-            _ if list + 1 < lists => Some(1),
-            _ => Some(2),
-        };
-        begin(s, items)?;
+        begin(s, if list + 1 < lists { outer } else { innermost })?;
     }
     put_raw(s, bytes, 1)
 }
@@ -69,11 +75,11 @@ fn is_answered(
     alloc: Global,
     front: &[u8],
     zeros: &[u8],
-    row: Row,
+    row: &str,
     awaited: &str,
     limit: usize,
 ) -> Result<bool, AllocError> {
-    let (lists, held, added, size) = row;
+    let (lists, held, added, size) = numbers_of(row);
     let mut buffer = BytesMut::new(alloc);
     buffer.extend_from_slice(front)?;
     let mut s = RlpStream::new_with_buffer(alloc, buffer);
@@ -103,43 +109,32 @@ fn is_answered(
     )
 }
 
-/// Returns the first row that is wrong, with the limit: 0, around the size, around the size with
-/// nine bytes for each header, or the greatest `usize`.
-fn first_wrong(
-    alloc: Global,
-    front: &[u8],
-    awaited: &str,
-) -> Result<Option<(Row, usize)>, AllocError> {
+/// Fails with the first row that is wrong with one of these limits: 0, around the size, around the size
+/// with nine bytes for each header, or the greatest `usize`.
+fn all_answered(alloc: Global, front: &[u8], awaited: &str) -> Result<(), Fail> {
     let zeros = vec![in alloc; 0u8; 65_536]?;
-    for row in ROWS {
-        let (lists, held, added, size) = row;
+    for row in ROWS.lines() {
+        let (lists, held, added, size) = numbers_of(row);
         let most = lists
             .saturating_mul(9)
             .saturating_add(held)
             .saturating_add(added);
         let (below, above) = (size.saturating_sub(1), size.saturating_add(1));
-        for limit in [
-            0,
-            below,
-            size,
-            above,
-            most.saturating_sub(1),
-            most,
-            usize::MAX,
-        ] {
+        let almost = most.saturating_sub(1);
+        for limit in [0, below, size, above, almost, most, usize::MAX] {
             if !is_answered(alloc, front, zeros.as_slice(), row, awaited, limit)? {
-                return Ok(Some((row, limit)));
+                return Err(Fail::new(row));
             }
         }
     }
-    Ok(None)
+    Ok(())
 }
 
 #[test]
 fn limits(rt: HostRuntime) -> Result<(), Fail> {
     for awaited in ["any", "more", "these"] {
         for front in [b"".as_slice(), b"what was handed in".as_slice()] {
-            assert_eq!(rt; first_wrong(rt.alloc(), front, awaited)?, None, "{awaited}");
+            all_answered(rt.alloc(), front, awaited)?;
         }
     }
     Ok(())

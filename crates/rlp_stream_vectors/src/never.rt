@@ -6,7 +6,6 @@ use crate::guarded::{estimates, finishes_as, is_as, put_raw, put_raw_within, put
 use bytes::BytesMut;
 use rlp_streams::RlpStream;
 use std::alloc::{AllocError, Global};
-use std::test::Fail;
 
 /// The number of bytes that is requested as the signal.
 const SIGNAL: usize = 77_777;
@@ -35,26 +34,33 @@ fn refuse_from_here(alloc: Global) {
     drop(Vec::<u8>::with_capacity(alloc, SIGNAL));
 }
 
-#[test]
-fn streams_that_need_no_memory(rt: HostRuntime) -> Result<(), Fail> {
-    let mut list = RlpStream::new_list(rt.alloc(), 3)?;
+/// Returns whether a list and a stream with room need no memory.
+fn streams_answer(alloc: Global) -> Result<bool, AllocError> {
+    let mut list = RlpStream::new_list(alloc, 3)?;
     list.append(&"cat")?;
-    let roomy = RlpStream::new(rt.alloc())?;
-    refuse_from_here(rt.alloc());
-    assert!(rt; list_answers(list) && room_is_used(roomy)?);
-    Ok(())
+    let roomy = RlpStream::new(alloc)?;
+    refuse_from_here(alloc);
+    Ok(list_answers(list) && room_is_used(roomy)?)
 }
 
-// The bytes of iterators are put into room of exactly their size.
-#[test]
-fn buffers_that_need_no_memory(rt: HostRuntime) -> Result<(), Fail> {
-    let mut buffer = BytesMut::with_capacity(rt.alloc(), 12)?;
+/// Returns whether the bytes of iterators are put into room of exactly their size.
+fn buffer_is_used(alloc: Global) -> Result<bool, AllocError> {
+    let mut buffer = BytesMut::with_capacity(alloc, 12)?;
     buffer.extend_from_slice(b"junk")?;
-    refuse_from_here(rt.alloc());
-    let mut s = RlpStream::new_with_buffer(rt.alloc(), buffer);
-    assert!(rt; s.is_empty() && s.as_raw() == b"junk".as_slice());
+    refuse_from_here(alloc);
+    let mut s = RlpStream::new_with_buffer(alloc, buffer);
+    let begun = s.is_empty() && s.as_raw() == b"junk".as_slice();
     put_undotted(&mut s, b"c.a.t", true)?;
     put_undotted(&mut s, b"d.o.g", false)?;
-    assert!(rt; finishes_as(s, b"junk\x83cat\x83dog"));
-    Ok(())
+    Ok(begun && finishes_as(s, b"junk\x83cat\x83dog"))
+}
+
+#[test]
+fn streams_that_need_no_memory(rt: HostRuntime) {
+    assert!(rt; streams_answer(rt.alloc()) == Ok(true));
+}
+
+#[test]
+fn buffers_that_need_no_memory(rt: HostRuntime) {
+    assert!(rt; buffer_is_used(rt.alloc()) == Ok(true));
 }

@@ -1,28 +1,37 @@
 //! Scripts: calls on a stream, as text. `; ` stands between two calls. A call is its name and its
 //! arguments, with spaces between them. Bytes are written as `bytes_of` reads them.
 //!
+//! Behind the calls of a row stands ` = ` and the finished bytes: all of them; or their number,
+//! `begins`, and the first bytes; or `open`, if a list is open then. A row without ` = ` finishes with
+//! no bytes.
+//!
 //! `!` stands before a call that isn't admitted, and `N times` before one that is made N times.
 //! `list`, `over` and `list_over` begin a new stream: a list, over bytes, and a list over bytes.
+//! `refused` appends a value that is refused each time, and `direct` calls the value's own `rlp_append`.
 //! `raw N BYTES` appends N items, and `within N BYTES` one item within the limit N.
 //! `finalize_up_to N M` closes at most N lists, and M in fact. `is SIZE AWAITED BYTES`, `size SIZE`
 //! and `estimate MORE SIZE` compare the stream.
 
 use crate::guarded::{
     begin, estimates, finalize, finishes_as, is_as, put_raw, put_raw_within, put_undotted,
+    takes_items,
 };
-use crate::values::{Pair, Wrapper};
+use crate::values::{Pair, Refused, Wrapper};
 use bytes::BytesMut;
 use rlp_rows::{bytes_of, number};
-use rlp_streams::RlpStream;
+use rlp_streams::{Encodable, RlpStream};
 use std::alloc::{AllocError, Global};
-
-/// A script, and the finished bytes after it: all of them; or their number, `begins`, and the first
-/// bytes; or `open`, if a list is open then.
-pub(crate) type Row = (&'static str, &'static str);
+use std::cell::Cell;
+use std::test::Fail;
 
 /// Cuts a text at its first space.
-fn cut(text: &str) -> (&str, &str) {
+pub(crate) fn cut(text: &str) -> (&str, &str) {
     text.split_once(' ').unwrap_or((text, ""))
+}
+
+/// Cuts a row into its script and the finished bytes.
+pub(crate) fn halves(row: &str) -> (&str, &str) {
+    row.split_once(" = ").unwrap_or((row, ""))
 }
 
 /// Makes a call. Returns `false` if it isn't admitted, or if a stream that is compared is another.
@@ -45,6 +54,10 @@ fn make(alloc: Global, s: &mut RlpStream, call: &str) -> Result<bool, AllocError
         "begin" | "unbounded" | "finalize" | "finalize_up_to" | "clear" => {
             go_on(s, name, number(first), number(second))
         }
+        "chain_lists" => chain_lists(s),
+        "chain_items" => chain_items(s),
+        "chain_raw" => chain_raw(s, bytes_of(alloc, first)?.as_slice()),
+        "refused" | "refused_internal" | "refused_list" | "direct" => Ok(!refuse(s, name)),
         _ => append(s, name, number(first) as u64, number(second) as u64),
     }
 }
@@ -106,6 +119,48 @@ fn append(s: &mut RlpStream, name: &str, first: u64, second: u64) -> Result<bool
         _ => return Ok(false),
     }
     Ok(true)
+}
+
+/// Begins an unbounded list and in it a list of six items, and appends two items, in one chain.
+fn chain_lists(s: &mut RlpStream) -> Result<bool, AllocError> {
+    s.begin_unbounded_list()?
+        .begin_list(6)?
+        .append(&1u64)?
+        .append_iter(b"dog".iter().copied())?;
+    Ok(true)
+}
+
+/// Appends two lists and an empty string, and begins an unbounded list, in one chain.
+fn chain_items(s: &mut RlpStream) -> Result<bool, AllocError> {
+    s.append_list(&[2u64, 3])?
+        .append_internal(&Pair(4, 5))?
+        .append_empty_data()?
+        .begin_unbounded_list()?;
+    Ok(true)
+}
+
+/// Appends a number and a raw item in one chain. Returns `false` if the list awaits no second item.
+fn chain_raw(s: &mut RlpStream, bytes: &[u8]) -> Result<bool, AllocError> {
+    let chain = s.append(&6u64)?;
+    if !takes_items(chain.stream, 1) {
+        return Ok(false);
+    }
+    chain.append_raw(bytes, 1)?;
+    Ok(true)
+}
+
+/// Makes a call that appends a refused value. Returns whether it is refused, after the value was
+/// written once.
+fn refuse(s: &mut RlpStream, name: &str) -> bool {
+    let calls = Cell::new(0usize);
+    let values = [Refused(&calls)];
+    let refused = match name {
+        "refused" => s.append(&values[0]).is_err(),
+        "refused_internal" => s.append_internal(&values[0]).is_err(),
+        "refused_list" => s.append_list(&values).is_err(),
+        _ => values[0].rlp_append(s).is_ok(),
+    };
+    refused && calls.get() == 1
 }
 
 /// Makes a call that puts the bytes of a text.
@@ -214,16 +269,17 @@ fn repeat(
     Ok(true)
 }
 
-/// Makes the calls of a script. Returns whether all are as wanted, and the finished bytes are.
+/// Makes the calls of a row's script. Returns whether all are as wanted, and the finished bytes are.
 /// Returns `AllocError` instead of `true` if a call was refused memory.
-fn is_met(alloc: Global, mut s: RlpStream, row: Row) -> Result<bool, AllocError> {
+fn is_met(alloc: Global, mut s: RlpStream, row: &str) -> Result<bool, AllocError> {
+    let (script, want) = halves(row);
     let mut refused = false;
-    for call in row.0.split("; ") {
+    for call in script.split("; ") {
         if !repeat(alloc, &mut s, call, &mut refused)? {
             return Ok(false);
         }
     }
-    let met = ends_as(alloc, s, row.1)?;
+    let met = ends_as(alloc, s, want)?;
     if met && refused {
         Err(AllocError)
     } else {
@@ -248,17 +304,33 @@ fn ends_as(alloc: Global, s: RlpStream, want: &str) -> Result<bool, AllocError> 
     )
 }
 
-/// Returns the first script of some tables after which a new stream, or a stream without room, isn't
-/// as wanted.
-pub(crate) fn first_wrong(
-    alloc: Global,
-    tables: &[&[Row]],
-) -> Result<Option<&'static str>, AllocError> {
-    for row in tables.iter().copied().flatten() {
-        let narrow = RlpStream::new_with_buffer(alloc, BytesMut::new(alloc));
-        if !is_met(alloc, RlpStream::new(alloc)?, *row)? || !is_met(alloc, narrow, *row)? {
-            return Ok(Some(row.0));
+/// Returns whether a row is met by a new stream, and by a stream without room.
+fn is_met_twice(alloc: Global, row: &str) -> Result<bool, AllocError> {
+    let narrow = RlpStream::new_with_buffer(alloc, BytesMut::new(alloc));
+    Ok(is_met(alloc, RlpStream::new(alloc)?, row)? && is_met(alloc, narrow, row)?)
+}
+
+/// Fails with the first row of some tables that isn't met. A table has a row on each line.
+pub(crate) fn all_met(alloc: Global, tables: &[&str]) -> Result<(), Fail> {
+    for table in tables {
+        for row in table.lines() {
+            if !is_met_twice(alloc, row)? {
+                return Err(Fail::new(row));
+            }
         }
     }
-    Ok(None)
+    Ok(())
+}
+
+/// Fails with the first row that isn't met, of those that a pattern stands for: each number from 1 to the
+/// greatest takes the places of `#`.
+pub(crate) fn all_met_to(alloc: Global, greatest: usize, pattern: &str) -> Result<(), Fail> {
+    for number in 1..=greatest {
+        let digits = format!(in alloc; "{number}")?;
+        let row = pattern.replace(alloc, '#', digits.as_str())?;
+        if !is_met_twice(alloc, row.as_str())? {
+            return Err(Fail::new(row.as_str()));
+        }
+    }
+    Ok(())
 }

@@ -1,357 +1,207 @@
 //! Streams that are written by scripts of calls. The finished bytes were worked out by hand.
 
-use crate::guarded::{begin, finalize, finishes_as, is_as, put_raw_within, takes_items};
-use crate::refused::SIXTY;
-use crate::script::{Row, buffer_of, first_wrong};
-use crate::values::Pair;
-use bytes::BytesMut;
+use crate::script::{all_met, all_met_to, buffer_of};
 use rlp_streams::RlpStream;
 use std::alloc::{AllocError, Global};
 use std::test::Fail;
 
-/// Lists that announce their items, unbounded lists, values of each kind, and `clear`.
-const ROWS: [Row; 23] = [
-    ("list 0", "c0"),
-    ("list 1; begin 0", "c1c0"),
-    ("list 2; pair 1 2; number 3", "c4c2010203"),
-    ("list 1; internal_pair 1 2", "c3c20102"),
-    ("list 1; encode 01; number 2", "c20102"),
-    ("begin 1; encode 01; number 2", "c20102"),
-    ("list 2; internal 1; number 2; number 3", "c3010203"),
-    ("list 2; empty; empty", "c28080"),
-    (
-        "begin 2; begin 2; text cat; text dog; empty",
-        "cac88363617483646f6780",
-    ),
-    ("unbounded; unbounded; finalize; finalize", "c1c0"),
-    ("list 1; raw 0 05; number 6", "c20506"),
-    ("list 3; text cat; clear; text dog", "83646f67"),
-    ("unbounded; clear", ""),
-    ("unbounded; text a; finalize; text b", "c16162"),
-    ("small 02", "02"),
-    ("smalls 010203", "c3010203"),
-    (
-        "unbounded; number 40; number 41; is 3 any 002829; finalize",
-        "c22829",
-    ),
-    ("list 2; no_numbers; number 40", "c2c028"),
-    ("list 2; no_numbers; no_numbers", "c2c0c0"),
-    ("text cat; number 256; text", "8363617482010080"),
-    // values that are put uncounted
-    ("list 2; wrapper 7; number 8", "c20708"),
-    ("list 1; none", "c1c0"),
-    (
-        "list 1; encode 'dog; encode_undotted 'dog; is 9 1 00+83+'dog+83+'dog; empty",
-        "c983646f6783646f6780",
-    ),
-];
+/// Lists that announce their items, unbounded lists, values of each kind, `clear`, and values that are
+/// put uncounted.
+const ROWS: &str = "\
+list 0 = c0
+list 1; begin 0 = c1c0
+list 2; pair 1 2; number 3 = c4c2010203
+list 1; internal_pair 1 2 = c3c20102
+list 1; encode 01; number 2 = c20102
+begin 1; encode 01; number 2 = c20102
+list 2; internal 1; number 2; number 3 = c3010203
+list 2; empty; empty = c28080
+begin 2; begin 2; text cat; text dog; empty = cac88363617483646f6780
+unbounded; unbounded; finalize; finalize = c1c0
+list 1; raw 0 05; number 6 = c20506
+list 3; text cat; clear; text dog = 83646f67
+unbounded; clear
+unbounded; text a; finalize; text b = c16162
+small 02 = 02
+smalls 010203 = c3010203
+unbounded; number 40; number 41; is 3 any 002829; finalize = c22829
+list 2; no_numbers; number 40 = c2c028
+list 2; no_numbers; no_numbers = c2c0c0
+text cat; number 256; text = 8363617482010080
+list 2; wrapper 7; number 8 = c20708
+list 1; none = c1c0
+list 1; encode 'dog; encode_undotted 'dog; is 9 1 00+83+'dog+83+'dog; empty = c983646f6783646f6780";
 
 /// Calls of which one isn't admitted.
-const NOT_ADMITTED: [Row; 6] = [
-    ("!finalize", ""),
-    ("begin 1; number 1; !finalize", "c101"),
-    ("unbounded; begin 1; !finalize", "open"),
-    ("begin 1; !raw 2 0102", "open"),
-    ("begin 1; clear; !finalize", ""),
-    ("begin 2; number 1; !raw 2", "open"),
-];
+const NOT_ADMITTED: &str = "\
+!finalize
+begin 1; number 1; !finalize = c101
+unbounded; begin 1; !finalize = open
+begin 1; !raw 2 0102 = open
+begin 1; clear; !finalize
+begin 2; number 1; !raw 2 = open";
 
 /// Bytes of iterators that don't announce their number, or announce it.
-const ITERATORS: [Row; 7] = [
-    (
-        "list 2; text cat; is 5 1 0083636174; undotted '.d.og.",
-        "c88363617483646f67",
-    ),
-    (
-        "undotted 'd.o..g; undotted '...; undotted '.a",
-        "83646f678061",
-    ),
-    ("iter 00", "00"),
-    ("iter 00*55", "b7+00*55"),
-    ("iter 00*56", "b838+00*56"),
-    ("iter 00*256", "b90100+00*256"),
-    ("iter 00*65536", "ba010000+00*65536"),
-];
+const ITERATORS: &str = "\
+list 2; text cat; is 5 1 0083636174; undotted '.d.og. = c88363617483646f67
+undotted 'd.o..g; undotted '...; undotted '.a = 83646f678061
+iter 00 = 00
+iter 00*55 = b7+00*55
+iter 00*56 = b838+00*56
+iter 00*256 = b90100+00*256
+iter 00*65536 = ba010000+00*65536";
 
 /// Streams with a front: bytes that are handed in, and aren't counted.
-const FRONTS: [Row; 3] = [
-    ("over 'junk; is 0 done 'junk", "'junk"),
-    (
-        "list_over 2 'junk; is 1 2 'junk+00; text cat; text dog",
-        "'junk+c8+83+'cat+83+'dog",
-    ),
-    (
-        "over 'junk; text parrot; clear; is 0 done 'junk; text cat",
-        "6a756e6b83636174",
-    ),
-];
+const FRONTS: &str = "\
+over 'junk; is 0 done 'junk = 'junk
+list_over 2 'junk; is 1 2 'junk+00; text cat; text dog = 'junk+c8+83+'cat+83+'dog
+over 'junk; text parrot; clear; is 0 done 'junk; text cat = 6a756e6b83636174";
 
 /// Lists whose payloads have 16,777,215 and 16,777,216 bytes; lists that await many items, in a new
 /// stream and over a buffer; and lists behind 2 MiB.
-const MANY: [Row; 7] = [
-    (
-        "unbounded; string 07*16777211; finalize",
-        "faffffff+bafffffb+07*16777211",
-    ),
-    (
-        "unbounded; string 07*16777212; finalize",
-        "fb01000000+bafffffc+07*16777212",
-    ),
-    (
-        "string 07*2097152; begin 1; small 05; unbounded; small 06; finalize",
-        "ba200000+07*2097152+c105c106",
-    ),
-    (
-        "begin 1000001; is 1 1000001 00; list_over 1000001; is 1 1000001 00",
-        "open",
-    ),
-    (
-        "begin 4294967296; is 1 4294967296 00; list_over 4294967296; is 1 4294967296 00",
-        "open",
-    ),
-    (
-        "begin 4294967297; is 1 4294967297 00; list_over 4294967297; is 1 4294967297 00",
-        "open",
-    ),
-    (
-        "begin 18446744073709551615; is 1 18446744073709551615 00; \
-         list_over 18446744073709551615; is 1 18446744073709551615 00",
-        "open",
-    ),
-];
+const MANY: &str = "\
+unbounded; string 07*16777211; finalize = faffffff+bafffffb+07*16777211
+unbounded; string 07*16777212; finalize = fb01000000+bafffffc+07*16777212
+string 07*2097152; begin 1; small 05; unbounded; small 06; finalize = ba200000+07*2097152+c105c106
+begin 1000001; is 1 1000001 00; list_over 1000001; is 1 1000001 00 = open
+begin 4294967296; is 1 4294967296 00; list_over 4294967296; is 1 4294967296 00 = open
+begin 4294967297; is 1 4294967297 00; list_over 4294967297; is 1 4294967297 00 = open
+begin 18446744073709551615; is 1 18446744073709551615 00; list_over 18446744073709551615; \
+    is 1 18446744073709551615 00 = open";
 
 /// Lists that their last item closes. A text or a string of 56 bytes has a header of two bytes, and
 /// so has a list of 56 bytes.
-const FILLED: [Row; 5] = [
-    ("list 1; begin 1; string 00*252", "f90100f8feb8fc+00*252"),
-    ("list 1; begin 1; string 00*54", "f838f7b6+00*54"),
-    (
-        "list 2; text cat; begin 1; is 6 1 008363617400; \
-         text Lorem ipsum dolor sit amet, consectetur adipisicing elit",
-        "f84083636174f83ab838+'Lorem ipsum dolor sit amet, consectetur adipisicing elit",
-    ),
-    ("list 56; 56 times number 1", "f838+01*56"),
-    ("5000 times begin 1; empty", "14791 begins f939c4"),
-];
+const FILLED: &str = "\
+list 1; begin 1; string 00*252 = f90100f8feb8fc+00*252
+list 1; begin 1; string 00*54 = f838f7b6+00*54
+list 2; text cat; begin 1; is 6 1 008363617400; \
+    text Lorem ipsum dolor sit amet, consectetur adipisicing elit \
+    = f84083636174f83ab838+'Lorem ipsum dolor sit amet, consectetur adipisicing elit
+list 56; 56 times number 1 = f838+01*56
+5000 times begin 1; empty = 14791 begins f939c4";
 
-/// Unbounded lists that are closed one by one or together, and lists around them that they fill.
-const FINALIZED: [Row; 7] = [
-    (
-        "begin 2; number 1; unbounded; begin 0; raw 2 0203; is 6 any 000100c00203; finalize",
-        "c501c3c00203",
-    ),
-    ("60 times unbounded; empty; finalize_up_to 61 60", SIXTY),
-    (
-        "list 2; 3 times unbounded; number 1; finalize_up_to 0 0; is 5 any 0000000001; \
-         finalize_up_to 1 1; is 5 any 000000c101; finalize_up_to 9 2; is 5 1 00c3c2c101; \
-         finalize_up_to 9 0; is 5 1 00c3c2c101; number 2",
-        "c5c3c2c10102",
-    ),
-    (
-        "unbounded; begin 1; 2 times unbounded; finalize_up_to 9 2; is 4 any 00c2c1c0; \
-         finalize_up_to 9 1",
-        "c3c2c1c0",
-    ),
-    (
-        "5000 times unbounded; finalize_up_to 5000 5000",
-        "14788 begins f939c1",
-    ),
-    (
-        "5000 times unbounded; size 14788; 5000 times finalize",
-        "14788 begins f939c1",
-    ),
-    // 56 headers of one byte, 100 of two bytes, and 944 of three bytes
-    (
-        "1100 times unbounded; 1100 times finalize; size 3088",
-        "3088 begins f90c0d",
-    ),
-];
+/// Unbounded lists that are closed one by one or together, and lists around them that they fill. The
+/// last have 56 headers of one byte, 100 of two bytes, and 944 of three bytes.
+const FINALIZED: &str = "\
+begin 2; number 1; unbounded; begin 0; raw 2 0203; is 6 any 000100c00203; finalize = c501c3c00203
+60 times unbounded; empty; finalize_up_to 61 60 \
+    = f840f83ef83cf83af838f7f6f5f4f3f2f1f0efeeedecebeae9e8e7e6e5e4e3e2e1e0dfdedddcdbdad9d8d7d6d5d\
+    4d3d2d1d0cfcecdcccbcac9c8c7c6c5c4c3c2c180
+list 2; 3 times unbounded; number 1; finalize_up_to 0 0; is 5 any 0000000001; finalize_up_to 1 1; \
+    is 5 any 000000c101; finalize_up_to 9 2; is 5 1 00c3c2c101; finalize_up_to 9 0; \
+    is 5 1 00c3c2c101; number 2 = c5c3c2c10102
+unbounded; begin 1; 2 times unbounded; finalize_up_to 9 2; is 4 any 00c2c1c0; finalize_up_to 9 1 \
+    = c3c2c1c0
+5000 times unbounded; finalize_up_to 5000 5000 = 14788 begins f939c1
+5000 times unbounded; size 14788; 5000 times finalize = 14788 begins f939c1
+1100 times unbounded; 1100 times finalize; size 3088 = 3088 begins f90c0d";
 
 /// Unbounded lists, one inside another, around raw bytes. The size is the same before and after the
 /// lists are closed.
-const NESTED: [Row; 13] = [
-    (
-        "1 times unbounded; raw 1 00*55; size 56; 1 times finalize; size 56",
-        "f7+00*55",
-    ),
-    (
-        "1 times unbounded; raw 1 00*56; size 58; 1 times finalize; size 58",
-        "f838+00*56",
-    ),
-    (
-        "2 times unbounded; raw 1 00*54; size 56; 2 times finalize; size 56",
-        "f7f6+00*54",
-    ),
-    (
-        "2 times unbounded; raw 1 00*55; size 58; 2 times finalize; size 58",
-        "f838f7+00*55",
-    ),
-    (
-        "2 times unbounded; raw 1 00*253; size 257; 2 times finalize; size 257",
-        "f8fff8fd+00*253",
-    ),
-    (
-        "2 times unbounded; raw 1 00*254; size 259; 2 times finalize; size 259",
-        "f90100f8fe+00*254",
-    ),
-    (
-        "3 times unbounded; raw 1 00*251; size 257; 3 times finalize; size 257",
-        "f8fff8fdf8fb+00*251",
-    ),
-    (
-        "3 times unbounded; raw 1 00*252; size 259; 3 times finalize; size 259",
-        "f90100f8fef8fc+00*252",
-    ),
-    (
-        "2 times unbounded; raw 1 00*65532; size 65538; 2 times finalize; size 65538",
-        "f9fffff9fffc+00*65532",
-    ),
-    (
-        "2 times unbounded; raw 1 00*65533; size 65540; 2 times finalize; size 65540",
-        "fa010000f9fffd+00*65533",
-    ),
-    (
-        "2 times unbounded; raw 1 b8fc+00*252; size 259; 2 times finalize; size 259",
-        "f90100f8feb8fc+00*252",
-    ),
-    (
-        "2 times unbounded; raw 1 b9fff9+00*65529; size 65538; 2 times finalize; size 65538",
-        "f9fffff9fffcb9fff9+00*65529",
-    ),
-    (
-        "2 times unbounded; raw 1 b9fffa+00*65530; size 65540; 2 times finalize; size 65540",
-        "fa010000f9fffdb9fffa+00*65530",
-    ),
-];
+const NESTED: &str = "\
+1 times unbounded; raw 1 00*55; size 56; 1 times finalize; size 56 = f7+00*55
+1 times unbounded; raw 1 00*56; size 58; 1 times finalize; size 58 = f838+00*56
+2 times unbounded; raw 1 00*54; size 56; 2 times finalize; size 56 = f7f6+00*54
+2 times unbounded; raw 1 00*55; size 58; 2 times finalize; size 58 = f838f7+00*55
+2 times unbounded; raw 1 00*253; size 257; 2 times finalize; size 257 = f8fff8fd+00*253
+2 times unbounded; raw 1 00*254; size 259; 2 times finalize; size 259 = f90100f8fe+00*254
+3 times unbounded; raw 1 00*251; size 257; 3 times finalize; size 257 = f8fff8fdf8fb+00*251
+3 times unbounded; raw 1 00*252; size 259; 3 times finalize; size 259 = f90100f8fef8fc+00*252
+2 times unbounded; raw 1 00*65532; size 65538; 2 times finalize; size 65538 \
+    = f9fffff9fffc+00*65532
+2 times unbounded; raw 1 00*65533; size 65540; 2 times finalize; size 65540 \
+    = fa010000f9fffd+00*65533
+2 times unbounded; raw 1 b8fc+00*252; size 259; 2 times finalize; size 259 = f90100f8feb8fc+00*252
+2 times unbounded; raw 1 b9fff9+00*65529; size 65538; 2 times finalize; size 65538 \
+    = f9fffff9fffcb9fff9+00*65529
+2 times unbounded; raw 1 b9fffa+00*65530; size 65540; 2 times finalize; size 65540 \
+    = fa010000f9fffdb9fffa+00*65530";
 
 /// Sizes with bytes to come, up to the greatest; raw bytes below and above a limit, which is 1 for a
 /// list alone; and raw bytes of no item.
-const ESTIMATES: [Row; 4] = [
-    (
-        "2 times unbounded; raw 1 b8fc+00*252; size 259; estimate 1 260",
-        "open",
-    ),
-    (
-        "estimate 18446744073709551615 18446744073709551615; unbounded; \
-         estimate 18446744073709551606 18446744073709551615; estimate 18446744073709551607 none",
-        "open",
-    ),
-    (
-        "list 3; is 1 3 00; !within 1 01; is 1 3 00; within 2 01; is 2 2 0001",
-        "open",
-    ),
-    ("list 1; raw 0 05; is 2 1 0005", "open"),
-];
+const ESTIMATES: &str = "\
+2 times unbounded; raw 1 b8fc+00*252; size 259; estimate 1 260 = open
+estimate 18446744073709551615 18446744073709551615; unbounded; \
+    estimate 18446744073709551606 18446744073709551615; estimate 18446744073709551607 none = open
+list 3; is 1 3 00; !within 1 01; is 1 3 00; within 2 01; is 2 2 0001 = open
+list 1; raw 0 05; is 2 1 0005 = open";
+
+/// Values that are refused in the middle of their bytes, each time. A call that appends them leaves the
+/// stream as it was, and a direct call of their own `rlp_append` leaves what they wrote.
+const REFUSED: &str = "\
+list 2; number 5; !refused; is 2 1 0005; number 6 = c20506
+list 2; number 5; !refused_internal; is 2 1 0005; internal 6; is 3 1 000506 = open
+list 2; number 5; !refused_list; is 2 1 0005; smalls 06 = c305c106
+list 2; number 5; direct; is 4 2 00050001 = open";
+
+/// Calls in chains: an unbounded list, in it a list of six items, and in that an unbounded list of two
+/// raw items.
+const CHAINS: &str = "\
+chain_lists; chain_items; chain_raw 07; finalize; finalize = d0cf0183646f67c20203c2040580c20607";
+
+/// Lists that are opened one inside another, of more than 55 bytes, which have a header of two bytes.
+const DEEPER: &str = "\
+57 times begin 1; is 58 1 00*57; clear; 57 times unbounded; is 58 any 00*57 = open
+58 times begin 1; is 60 1 00*58; clear; 58 times unbounded; is 60 any 00*58 = open
+59 times begin 1; is 62 1 00*59; clear; 59 times unbounded; is 62 any 00*59 = open
+60 times begin 1; is 64 1 00*60; clear; 60 times unbounded; is 64 any 00*60 = open";
 
 /// The tables of scripts.
-const TABLES: [&[Row]; 9] = [
-    &ROWS,
-    &NOT_ADMITTED,
-    &ITERATORS,
-    &FRONTS,
-    &MANY,
-    &FILLED,
-    &FINALIZED,
-    &NESTED,
-    &ESTIMATES,
+const TABLES: [&str; 12] = [
+    ROWS,
+    NOT_ADMITTED,
+    ITERATORS,
+    FRONTS,
+    MANY,
+    FILLED,
+    FINALIZED,
+    NESTED,
+    ESTIMATES,
+    REFUSED,
+    CHAINS,
+    DEEPER,
 ];
 
-/// Opens sixty lists, one inside another, that await this number of items or any. Returns the first
-/// number of open lists with which the stream isn't as wanted. Lists of more than 55 bytes have a
-/// header of two bytes.
-fn first_wrong_depth(alloc: Global, awaited: Option<usize>) -> Result<Option<usize>, AllocError> {
-    let mut s = RlpStream::new(alloc)?;
-    for depth in 1usize..=60 {
-        begin(&mut s, awaited)?;
-        let raw = vec![in alloc; 0u8; depth]?;
-        let size = depth.saturating_add(depth.saturating_sub(56));
-        if !is_as(&s, raw.as_slice(), size, awaited, awaited.is_none()) {
-            return Ok(Some(depth));
-        }
-    }
-    Ok(None)
-}
+/// Single bytes 00 that are appended until one more would be over a limit.
+const FULL: &str = "# times within # 00; !within # 00; is # done 00*# = 00*#";
 
-/// Appends single bytes 00 until one more would be over a limit. Returns the first limit at which
-/// the finished length isn't the limit.
-fn first_unfilled(alloc: Global) -> Result<Option<usize>, AllocError> {
-    for limit in 40..270 {
-        let mut s = RlpStream::new(alloc)?;
-        for _ in 0..limit {
-            if !put_raw_within(&mut s, &[0x00], 1, limit)? {
-                return Ok(Some(limit));
-            }
-        }
-        if put_raw_within(&mut s, &[0x00], 1, limit)? || s.as_raw().len() != limit {
-            return Ok(Some(limit));
-        }
-    }
-    Ok(None)
-}
+/// Lists that are opened one inside another, each with a header of one byte: lists that await an item,
+/// and unbounded ones.
+const DEEP: &str = "\
+# times begin 1; is # 1 00*#; clear; # times unbounded; is # any 00*# = open";
 
-/// The bytes of a list of a list of six items. The last item is an unbounded list of two raw items.
-const SIX: [u8; 17] = [
-    0xd0, 0xcf, 0x01, 0x83, 0x64, 0x6f, 0x67, 0xc2, 0x02, 0x03, 0xc2, 0x04, 0x05, 0x80, 0xc2, 0x06,
-    0x07,
-];
-
-/// Begins an unbounded list, and in it a list of six items, and appends the items in one chain.
-/// Returns whether the stream is finished as wanted.
-fn six_finish(alloc: Global) -> Result<bool, AllocError> {
-    let mut s = RlpStream::new(alloc)?;
-    s.begin_unbounded_list()?
-        .begin_list(6)?
-        .append(&1u64)?
-        .append_iter(b"dog".iter().copied())?
-        .append_list(&[2u64, 3])?
-        .append_internal(&Pair(4, 5))?
-        .append_empty_data()?
-        .begin_unbounded_list()?;
-    let chain = s.append(&6u64)?;
-    if !takes_items(chain.stream, 1) {
-        return Ok(false);
-    }
-    chain.append_raw(&[0x07], 1)?;
-    Ok(finalize(&mut s)? && finalize(&mut s)? && finishes_as(s, &SIX))
-}
-
-/// Appends a text behind the bytes of a buffer.
-fn appended(alloc: Global, buffer: BytesMut, text: &str) -> Result<BytesMut, AllocError> {
-    let mut s = RlpStream::new_with_buffer(alloc, buffer);
-    s.append(&text)?;
-    if s.is_finished() {
-        Ok(s.out())
-    } else {
-        Err(AllocError)
-    }
-}
-
-/// Returns two parts of a buffer that is split behind `junk`. The second is `!`.
-fn parts(alloc: Global) -> Result<(BytesMut, BytesMut), AllocError> {
+/// Returns whether a stream over the second part of a split buffer writes behind what is there, and
+/// the parts are joined again.
+fn buffers_are_joined(alloc: Global) -> Result<bool, AllocError> {
     let mut buffer = buffer_of(alloc, "'junk")?;
     let end = buffer.len();
     let mut split = buffer.split_off(end)?;
     split.extend_from_slice(b"!")?;
-    Ok((buffer, split))
-}
-
-/// Returns whether streams over the two parts of a split buffer write behind what is there, and the
-/// parts are joined again.
-fn buffers_are_joined(alloc: Global) -> Result<bool, AllocError> {
-    let (mut buffer, split) = parts(alloc)?;
-    buffer.unsplit(appended(alloc, split, "cat")?)?;
-    buffer.extend_from_slice(b" and ")?;
-    let joined = appended(alloc, buffer, "dog")?;
-    Ok(joined.as_slice() == b"junk!\x83cat and \x83dog".as_slice())
+    let mut s = RlpStream::new_with_buffer(alloc, split);
+    s.append(&"cat")?;
+    if !s.is_finished() {
+        return Ok(false);
+    }
+    buffer.unsplit(s.out())?;
+    Ok(buffer.as_slice() == b"junk!\x83cat".as_slice())
 }
 
 #[test]
 fn streams_finish_as_worked_out(rt: HostRuntime) -> Result<(), Fail> {
-    let alloc = rt.alloc();
-    assert_eq!(rt; first_wrong(alloc, &TABLES)?, None);
-    assert_eq!(rt; first_wrong_depth(alloc, Some(1))?, None);
-    assert_eq!(rt; first_wrong_depth(alloc, None)?, None);
-    assert_eq!(rt; first_unfilled(alloc)?, None);
-    assert!(rt; six_finish(alloc)? && buffers_are_joined(alloc)?);
-    Ok(())
+    all_met(rt.alloc(), &TABLES)
+}
+
+#[test]
+fn streams_are_filled(rt: HostRuntime) -> Result<(), Fail> {
+    all_met_to(rt.alloc(), 269, FULL)
+}
+
+#[test]
+fn lists_are_opened(rt: HostRuntime) -> Result<(), Fail> {
+    all_met_to(rt.alloc(), 56, DEEP)
+}
+
+#[test]
+fn split_buffers_are_joined(rt: HostRuntime) {
+    assert!(rt; buffers_are_joined(rt.alloc()) == Ok(true));
 }

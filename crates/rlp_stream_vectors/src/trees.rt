@@ -1,143 +1,137 @@
-//! Streams compared with a simple recursive writer, for every small tree and for strings of many
-//! lengths.
+//! Streams compared with what the rules of the format give, for every small tree and for strings of
+//! many lengths.
 
-use crate::guarded::{begin, finalize, finishes_as};
-use crate::plain;
+use crate::guarded::finishes_as;
+use crate::script::{all_met, halves};
 use rlp_streams::RlpStream;
 use std::alloc::{AllocError, Global};
+use std::fmt::Write;
 use std::test::Fail;
 
 /// The number of trees of depth at most 3: two strings, the empty list, and the lists of one or two
 /// of the 93 trees of depth at most 2.
 const TREES: usize = 2 + 1 + 93 + 93 * 93;
 
-/// The empty string, the string of a byte 80, or a list of at most two of these.
-#[derive(Drop)]
-enum Tree<'a> {
-    Empty,
-    Byte,
-    NoItems,
-    OneItem(&'a Tree<'a>),
-    TwoItems(&'a Tree<'a>, &'a Tree<'a>),
+/// The rows of two strings: the empty one, and that of a byte 80.
+const STRINGS: &str = "empty = 80\nstring 80 = 8180\n";
+
+/// The row of no item.
+const NONE: &str = "raw 0 = ";
+
+/// How a list of no item, of one, or of two begins, and how it ends.
+#[derive(Clone, Copy)]
+struct Ways {
+    begins: [&'static str; 3],
+    ends: &'static str,
 }
 
-/// Returns the two strings, and the lists of at most two of these trees.
-fn trees_over<'a>(alloc: Global, items: &'a [Tree<'a>]) -> Result<Vec<Tree<'a>>, AllocError> {
-    let mut trees = Vec::new(alloc);
-    trees.push(Tree::Empty)?;
-    trees.push(Tree::Byte)?;
-    trees.push(Tree::NoItems)?;
-    for first in items {
-        trees.push(Tree::OneItem(first))?;
-        for second in items {
-            trees.push(Tree::TwoItems(first, second))?;
-        }
+/// Lists that announce their number of items.
+const ANNOUNCED: Ways = Ways {
+    begins: ["begin 0", "begin 1", "begin 2"],
+    ends: "",
+};
+
+/// Unbounded lists.
+const UNBOUNDED: Ways = Ways {
+    begins: ["unbounded", "unbounded", "unbounded"],
+    ends: "; finalize",
+};
+
+/// Writes the row of a list of the items of two rows. Its payload has fewer than 56 bytes, so its
+/// header has one byte.
+fn push_list(
+    trees: &mut String,
+    begins: &str,
+    ends: &str,
+    first: &str,
+    second: &str,
+) -> Result<(), AllocError> {
+    let (one, bytes) = halves(first);
+    let (two, more) = halves(second);
+    let header = 0xc0usize
+        .saturating_add(bytes.len() / 2)
+        .saturating_add(more.len() / 2);
+    writeln!(
+        trees,
+        "{begins}; {one}; {two}{ends} = {header:02x}{bytes}{more}"
+    )
+}
+
+/// Writes the rows of the lists of one item or two, the first of which has this row.
+fn push_lists(trees: &mut String, ways: Ways, first: &str, rows: &str) -> Result<(), AllocError> {
+    let [_, one, two] = ways.begins;
+    push_list(trees, one, ways.ends, first, NONE)?;
+    for second in rows.lines() {
+        push_list(trees, two, ways.ends, first, second)?;
+    }
+    Ok(())
+}
+
+/// Returns rows of the two strings, of the empty list, and of the lists of one or two of the items of
+/// these rows.
+fn trees_over(alloc: Global, rows: &str, ways: Ways) -> Result<String, AllocError> {
+    let [none, _, _] = ways.begins;
+    let mut trees = String::from_str(alloc, STRINGS)?;
+    push_list(&mut trees, none, ways.ends, NONE, NONE)?;
+    for first in rows.lines() {
+        push_lists(&mut trees, ways, first, rows)?;
     }
     Ok(trees)
 }
 
-/// Writes a tree without a stream: first the payload of a list, and then the header before it.
-fn write(alloc: Global, tree: &Tree<'_>, bytes: &mut Vec<u8>) -> Result<(), AllocError> {
-    let mut payload = Vec::new(alloc);
-    match tree {
-        Tree::Empty => return plain::put(bytes, plain::STRING, &[]),
-        Tree::Byte => return plain::put(bytes, plain::STRING, &[0x80]),
-        Tree::NoItems => {}
-        Tree::OneItem(item) => write(alloc, item, &mut payload)?,
-        Tree::TwoItems(first, second) => {
-            write(alloc, first, &mut payload)?;
-            write(alloc, second, &mut payload)?;
-        }
+/// Fails if a tree of depth at most 3 isn't written as its row says.
+fn trees_are_written(alloc: Global, ways: Ways) -> Result<(), Fail> {
+    let flat = trees_over(alloc, STRINGS, ways)?;
+    let nested = trees_over(alloc, flat.as_str(), ways)?;
+    let deep = trees_over(alloc, nested.as_str(), ways)?;
+    if deep.as_str().lines().count() != TREES {
+        return Err(Fail::new("another number of trees"));
     }
-    plain::put(bytes, plain::LIST, payload.as_slice())
+    all_met(alloc, &[deep.as_str()])
 }
 
-/// Appends a tree with lists that announce their number of items, or with unbounded lists. Returns
-/// `false` if a list can't be closed.
-fn append(s: &mut RlpStream, announced: bool, tree: &Tree<'_>) -> Result<bool, AllocError> {
-    let len = match tree {
-        Tree::Empty => {
-            s.append_empty_data()?;
-            return Ok(true);
-        }
-        Tree::Byte => {
-            s.append(&[0x80].as_slice())?;
-            return Ok(true);
-        }
-        Tree::NoItems => 0,
-        Tree::OneItem(_) => 1,
-        Tree::TwoItems(..) => 2,
-    };
-    begin(s, if announced { Some(len) } else { None })?;
-    let done = match tree {
-        Tree::OneItem(item) => append(s, announced, item)?,
-        Tree::TwoItems(first, second) => {
-            append(s, announced, first)? && append(s, announced, second)?
-        }
-        _ => true,
-    };
-    if announced || !done {
-        Ok(done)
-    } else {
-        finalize(s)
+/// Writes the string of this payload of fewer than 2^24 bytes.
+fn write(bytes: &mut Vec<u8>, payload: &[u8]) -> Result<(), AllocError> {
+    let [_, _, _, _, _, high, middle, low] = payload.len().to_be_bytes();
+    match payload {
+        [byte] if *byte < 0x80 => {}
+        _ if high > 0 => bytes.extend_from_slice(&[0xba, high, middle, low])?,
+        _ if middle > 0 => bytes.extend_from_slice(&[0xb9, middle, low])?,
+        _ if low > 55 => bytes.extend_from_slice(&[0xb8, low])?,
+        _ => bytes.extend_from_slice(&[low.wrapping_add(0x80)])?,
     }
+    bytes.extend_from_slice(payload)
 }
 
-/// Returns the number of trees before the first for which the streams and the simple writer write
-/// other bytes.
-fn count_alike(alloc: Global, trees: &[Tree<'_>]) -> Result<usize, AllocError> {
-    for (count, tree) in trees.iter().enumerate() {
-        let mut bytes = Vec::new(alloc);
-        write(alloc, tree, &mut bytes)?;
-        let mut announced = RlpStream::new(alloc)?;
-        let mut unbounded = RlpStream::new(alloc)?;
-        if !append(&mut announced, true, tree)?
-            || !append(&mut unbounded, false, tree)?
-            || !finishes_as(announced, bytes.as_slice())
-            || !finishes_as(unbounded, bytes.as_slice())
-        {
-            return Ok(count);
-        }
-    }
-    Ok(trees.len())
-}
-
-/// Ranges of lengths, each without its end, and steps.
-const STRETCHES: [(usize, usize, usize); 7] = [
-    (0, 301, 1),
-    (510, 515, 1),
-    (1_020, 1_030, 1),
-    (4_090, 4_100, 1),
-    (65_530, 65_542, 1),
-    (69_998, 70_001, 1),
-    (0, 70_000, 1_000),
-];
-
-/// Returns the first length of a range at which a string of bytes 00 isn't written as plainly.
-fn first_wrong(alloc: Global, range: (usize, usize, usize)) -> Result<Option<usize>, AllocError> {
-    for len in (range.0..range.1).step_by(range.2.max(1)) {
-        let zeros = vec![in alloc; 0u8; len]?;
-        let mut bytes = Vec::new(alloc);
-        plain::put(&mut bytes, plain::STRING, zeros.as_slice())?;
-        let mut s = RlpStream::new(alloc)?;
-        s.append(&zeros)?;
-        if !finishes_as(s, bytes.as_slice()) {
-            return Ok(Some(len));
+/// Returns the first length, of those around headers that get longer and of others, at which a string
+/// of bytes 00 isn't written as the rules say.
+fn first_wrong_len(alloc: Global) -> Result<Option<usize>, AllocError> {
+    for len in 0usize..70_001 {
+        if len < 301 || (len + 2) % 1_000 < 3 || (len + 10) % 512 < 20 {
+            let zeros = vec![in alloc; 0u8; len]?;
+            let mut bytes = Vec::new(alloc);
+            write(&mut bytes, zeros.as_slice())?;
+            let mut s = RlpStream::new(alloc)?;
+            s.append(&zeros)?;
+            if !finishes_as(s, bytes.as_slice()) {
+                return Ok(Some(len));
+            }
         }
     }
     Ok(None)
 }
 
 #[test]
-fn trees_and_strings_are_written_as_plainly(rt: HostRuntime) -> Result<(), Fail> {
-    let alloc = rt.alloc();
-    let strings = [Tree::Empty, Tree::Byte];
-    let flat = trees_over(alloc, &strings)?;
-    let nested = trees_over(alloc, flat.as_slice())?;
-    let deep = trees_over(alloc, nested.as_slice())?;
-    assert_eq!(rt; count_alike(alloc, deep.as_slice())?, TREES);
-    for range in STRETCHES {
-        assert_eq!(rt; first_wrong(alloc, range)?, None);
-    }
-    Ok(())
+fn trees_of_announced_lists(rt: HostRuntime) -> Result<(), Fail> {
+    trees_are_written(rt.alloc(), ANNOUNCED)
+}
+
+#[test]
+fn trees_of_unbounded_lists(rt: HostRuntime) -> Result<(), Fail> {
+    trees_are_written(rt.alloc(), UNBOUNDED)
+}
+
+#[test]
+fn strings_are_written(rt: HostRuntime) {
+    assert_eq!(rt; first_wrong_len(rt.alloc()), Ok(None));
 }

@@ -4,7 +4,7 @@ ghost use Rattle.std.specs.Prelude.{⊤, [], ◌∷◌};
 ghost use Rattle.rlp_format.specs.Format.Item.{list_of, string};
 ghost use Rattle.rlp_format.specs.Values.Value.{FitsBytes, number_item};
 
-use rlp_streams::{Encodable, RlpStream, write_struct};
+use rlp_streams::{Encodable, RlpStream};
 use std::alloc::AllocError;
 use std::cell::Cell;
 
@@ -17,8 +17,10 @@ impl Encodable for Pair {
 
     ghost fits = { λ p. FitsBytes 8 p.0 × FitsBytes 8 p.1 };
 
+    #[tactic(auto, using(rlp_streams::proofs::Streams::Growth::growth, rlp_streams::proofs::Streams::Filling::filling))]
     fn rlp_append(&self, s: &mut RlpStream) -> Result<(), AllocError> {
-        write_struct(s, &(&self.0, &self.1))
+        s.begin_list(2)?.append(&self.0)?.append(&self.1)?;
+        Ok(())
     }
 }
 
@@ -38,43 +40,19 @@ impl Encodable for Wrapper {
     }
 }
 
-/// A list of three items that is refused after the number 1.
-#[derive(Clone, Copy)]
-pub(crate) struct Refused;
+/// A list of three items that is refused after the number 1. It counts how often it is written.
+#[derive(Drop)]
+pub(crate) struct Refused<'a>(pub(crate) &'a Cell<usize>);
 
-impl Encodable for Refused {
+impl<'a> Encodable for Refused<'a> {
     ghost item = { λ v. list_of (number_item 1 ∷ string [] ∷ string [] ∷ []) };
 
     ghost fits = { λ v. ⊤ };
 
     #[tactic(auto, using(rlp_streams::proofs::Streams::Growth::growth, rlp_streams::proofs::Streams::Filling::filling))]
     fn rlp_append(&self, s: &mut RlpStream) -> Result<(), AllocError> {
+        self.0.set(self.0.get().saturating_add(1));
         s.begin_list(3)?.append(&1u64)?;
         Err(AllocError)
-    }
-}
-
-/// A number, and the number of times that it was written. It is refused the first time, in the
-/// middle of its bytes.
-#[derive(Drop)]
-pub(crate) struct OnceRefused<'a> {
-    pub(crate) number: u64,
-    pub(crate) calls: &'a Cell<usize>,
-}
-
-impl<'a> Encodable for OnceRefused<'a> {
-    ghost item = { λ v. number_item v.number };
-
-    ghost fits = { λ v. FitsBytes 8 v.number };
-
-    #[tactic(auto, using(rlp_streams::proofs::Streams::Growth::growth))]
-    fn rlp_append(&self, s: &mut RlpStream) -> Result<(), AllocError> {
-        let before = self.calls.get();
-        self.calls.set(before.saturating_add(1));
-        if before == 0 {
-            s.encoder().encode_value(&[1, 2, 3])?;
-            return Err(AllocError);
-        }
-        self.number.rlp_append(s)
     }
 }

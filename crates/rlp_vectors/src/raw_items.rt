@@ -1,51 +1,77 @@
 //! Raw items. The expected bytes were worked out by hand.
 
-use crate::rows::{Row, finishes_as, first_unread};
+use crate::rows::{finishes_as, is_again, is_read};
 use bytes::BytesMut;
 use rlp::{DecoderError, RawItem, Rlp, RlpStream};
 use rlp_rows::bytes_of;
 use std::alloc::{AllocError, Global};
-use std::test::Fail;
 
-/// Encodings of items: strings, a number, a long string's begin, and lists.
-const ITEMS: [&str; 7] = [
-    "80",
-    "00",
-    "7f",
-    "8180",
-    "83636174",
-    "c0",
-    "c7c0c1c0c3c0c1c0",
-];
+/// Encodings of items: strings, a number, a long string's begin, and lists. And bytes that begin with no
+/// raw item, with the faults of reading them.
+const ROWS: &str = "\
+80
+00
+7f
+8180
+83636174
+c0
+c7c0c1c0c3c0c1c0
+' = RlpIsTooShort
+836361 = RlpIsTooShort
+b800 = RlpDataLenWithZeroPrefix
+8105 = Custom(\"item is not canonical\")
+c28105 = Custom(\"item is not canonical\")
+c181 = Custom(\"item is not canonical\")
+c2c181 = Custom(\"item is not canonical\")";
 
-/// Bytes that begin with no raw item, and the faults of reading them.
-const NO_ITEMS: [Row; 7] = [
-    ("", "RlpIsTooShort"),
-    ("836361", "RlpIsTooShort"),
-    ("b800", "RlpDataLenWithZeroPrefix"),
-    ("8105", "Custom(\"item is not canonical\")"),
-    ("c28105", "Custom(\"item is not canonical\")"),
-    ("c181", "Custom(\"item is not canonical\")"),
-    ("c2c181", "Custom(\"item is not canonical\")"),
-];
-
-/// Returns whether an item is read from bytes, and from a longer input but not strictly.
-fn is_read(alloc: Global, item: &RawItem, bytes: &[u8], longer: &[u8]) -> bool {
-    let more = rlp::decode_strict::<RawItem>(alloc, longer).err();
-    item.as_bytes() == bytes
-        && item.rlp().as_raw() == bytes
-        && more == Some(DecoderError::RlpIsTooBig)
-        && rlp::decode::<RawItem>(alloc, longer).as_ref() == Ok(item)
+/// Returns whether a raw item of these bytes shows them.
+fn is_shown(alloc: Global, bytes: &[u8]) -> bool {
+    match RawItem::new(alloc, bytes) {
+        Ok(item) => item.as_bytes() == bytes && item.rlp().as_raw() == bytes,
+        Err(_) => false,
+    }
 }
 
-/// Returns whether an item is read with other bytes behind it, strictly without them only, and is
-/// written as its bytes.
-fn goes_both_ways(alloc: Global, bytes: &[u8]) -> Result<bool, Fail> {
+/// Returns whether an item is read from bytes, and from a longer input but not strictly. It is written as
+/// the bytes.
+fn goes_both_ways(alloc: Global, bytes: &[u8], longer: &[u8]) -> bool {
+    is_shown(alloc, bytes)
+        && is_again(alloc, rlp::decode_strict::<RawItem>(alloc, bytes), bytes)
+        && is_again(alloc, rlp::decode::<RawItem>(alloc, longer), bytes)
+        && is_read(
+            alloc,
+            rlp::decode_strict::<RawItem>(alloc, longer),
+            "RlpIsTooBig",
+        )
+}
+
+/// Returns these bytes and one more.
+fn with_one_more(alloc: Global, bytes: &[u8]) -> Result<Vec<u8>, AllocError> {
     let mut longer = Vec::from_slice(alloc, bytes)?;
     longer.push(0xff)?;
-    let item = rlp::decode_strict::<RawItem>(alloc, bytes)?;
-    let is_written = rlp::encode(alloc, &item)?.as_slice() == bytes;
-    Ok(is_written && is_read(alloc, &item, bytes, longer.as_slice()))
+    Ok(longer)
+}
+
+/// Returns the first row that isn't met.
+fn first_wrong(alloc: Global) -> Result<Option<&'static str>, AllocError> {
+    for row in ROWS.lines() {
+        let (text, fault) = row.split_once(" = ").unwrap_or((row, ""));
+        let bytes = bytes_of(alloc, text)?;
+        let longer = with_one_more(alloc, bytes.as_slice())?;
+        let is_met = if fault.is_empty() {
+            goes_both_ways(alloc, bytes.as_slice(), longer.as_slice())
+        } else {
+            is_read(
+                alloc,
+                rlp::decode::<RawItem>(alloc, bytes.as_slice()),
+                fault,
+            )
+        };
+        if !is_met {
+            return Ok(Some(row));
+        }
+    }
+    Ok(None)
 }
 
 /// Returns `depth` lists, each of which holds the next.
@@ -59,21 +85,20 @@ fn nested(alloc: Global, depth: usize) -> Result<RlpStream, AllocError> {
 }
 
 /// Returns whether raw items nest to a depth of 256, and no deeper.
-fn nest_to_256(alloc: Global) -> Result<bool, Fail> {
+fn nest_to_256(alloc: Global) -> Result<bool, AllocError> {
     let (deep, deeper) = (nested(alloc, 256)?, nested(alloc, 257)?);
-    let fault = rlp::decode::<RawItem>(alloc, deeper.as_raw()).err();
+    let longer = with_one_more(alloc, deep.as_raw())?;
+    let read = rlp::decode::<RawItem>(alloc, deeper.as_raw());
     Ok(
-        goes_both_ways(alloc, deep.as_raw())?
-            && fault == Some(DecoderError::Custom("item nests too deep")),
+        goes_both_ways(alloc, deep.as_raw(), longer.as_slice())
+            && is_read(alloc, read, "Custom(\"item nests too deep\")"),
     )
 }
 
 /// Appends raw items to a stream. Returns whether they are items of its lists.
 fn are_items(alloc: Global, mut s: RlpStream) -> Result<bool, DecoderError> {
-    let (cat, none) = (
-        RawItem::new(alloc, b"\x83cat")?,
-        RawItem::new(alloc, b"\xc0")?,
-    );
+    let cat = RawItem::new(alloc, b"\x83cat")?;
+    let none = RawItem::new(alloc, b"\xc0")?;
     let appended = append(&mut s, &cat, &none).is_ok();
     Ok(appended && finishes_as(s, b"\xca\x83cat\xc0\xc4\x83cat"))
 }
@@ -85,24 +110,18 @@ fn append(s: &mut RlpStream, first: &RawItem, second: &RawItem) -> Result<(), Al
     Ok(())
 }
 
+/// Returns whether raw items are items of a new stream, and of one over a buffer.
+fn are_items_of_both(alloc: Global) -> Result<bool, AllocError> {
+    let narrow = RlpStream::new_with_buffer(alloc, BytesMut::new(alloc));
+    let roomy = RlpStream::new(alloc)?;
+    Ok(are_items(alloc, roomy) == Ok(true) && are_items(alloc, narrow) == Ok(true))
+}
+
 #[test]
-fn raw_items_go_both_ways(rt: HostRuntime) -> Result<(), Fail> {
+fn raw_items_go_both_ways(rt: HostRuntime) {
     let alloc = rt.alloc();
-    for text in ITEMS {
-        assert!(rt;
-            goes_both_ways(alloc, bytes_of(alloc, text)?.as_slice())?,
-            "{text}"
-        );
-    }
-    assert_eq!(rt; first_unread::<RawItem>(alloc, false, &NO_ITEMS)?, None);
-    assert!(rt; nest_to_256(alloc)?);
-    assert!(rt; are_items(alloc, RlpStream::new(alloc)?)?);
-    assert!(rt;
-        are_items(
-            alloc,
-            RlpStream::new_with_buffer(alloc, BytesMut::new(alloc))
-        )?
-    );
+    assert_eq!(rt; first_wrong(alloc), Ok(None));
+    assert!(rt; nest_to_256(alloc) == Ok(true));
+    assert!(rt; are_items_of_both(alloc) == Ok(true));
     assert!(rt; Rlp::new(b"\xca\x83cat\xc0\xc4\x83cat").is_canonical(2));
-    Ok(())
 }

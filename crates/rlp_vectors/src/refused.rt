@@ -5,9 +5,8 @@
 
 use bytes::BytesMut;
 use rlp::{Encodable, RlpStream, Uint};
-use rlp_fixtures::Pair;
+use rlp_examples::Pair;
 use std::alloc::{AllocError, Global};
-use std::test::Fail;
 
 /// Returns whether the given buffer is the front of a new list, or is returned if the call is
 /// refused.
@@ -40,18 +39,13 @@ fn is_listed<E: Encodable>(alloc: Global, values: &[E], want: &[u8]) -> Result<b
 }
 
 #[test]
-fn what_is_made(rt: HostRuntime) -> Result<(), Fail> {
+fn what_is_made(rt: HostRuntime) -> Result<(), AllocError> {
     let alloc = rt.alloc();
+    let pairs = [Pair(1, 2), Pair(3, 4)];
     assert!(rt; buffer_comes_back(alloc)?);
     assert!(rt; streams_are_new(alloc)?);
     assert!(rt; is_encoded(alloc, &"Lorem ipsum", b"\x8bLorem ipsum")?);
-    assert!(rt;
-        is_listed(
-            alloc,
-            &[Pair(1, 2), Pair(3, 4)],
-            b"\xc6\xc2\x01\x02\xc2\x03\x04"
-        )?
-    );
+    assert!(rt; is_listed(alloc, &pairs, b"\xc6\xc2\x01\x02\xc2\x03\x04")?);
     Ok(())
 }
 
@@ -63,7 +57,7 @@ fn numbers_are_listed(alloc: Global) -> Result<bool, AllocError> {
 
 // Strings, each of one request, and an option.
 #[test]
-fn what_is_encoded(rt: HostRuntime) -> Result<(), Fail> {
+fn what_is_encoded(rt: HostRuntime) -> Result<(), AllocError> {
     let alloc = rt.alloc();
     assert!(rt; numbers_are_listed(alloc)?);
     assert!(rt; is_listed(alloc, &["cat", "dog"], b"\xc8\x83cat\x83dog")?);

@@ -4,6 +4,7 @@ use rlp::{Each, Encodable, Optional, RlpStream, write_envelope, write_struct};
 use std::alloc::AllocError;
 
 /// A struct of any number of fields.
+#[derive(Drop)]
 pub(crate) struct Columns<'a>(pub(crate) &'a [u64]);
 
 impl Encodable for Columns<'_> {
@@ -21,6 +22,7 @@ impl Encodable for Columns<'_> {
 }
 
 /// A struct of one field that may be missing.
+#[derive(Drop)]
 pub(crate) struct LastField(pub(crate) Option<u64>);
 
 impl Encodable for LastField {
@@ -39,6 +41,7 @@ impl Encodable for LastField {
 }
 
 /// A string of a byte and the encoding of a number.
+#[derive(Drop)]
 pub(crate) struct Tagged(pub(crate) u8, pub(crate) u64);
 
 impl Encodable for Tagged {

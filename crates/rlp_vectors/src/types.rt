@@ -1,178 +1,150 @@
 //! Byte arrays, numbers of any width, structs, messages and nests, which go both ways. The expected
 //! bytes were worked out by hand.
 
-use crate::rows::{Row as Line, first_unread, is_written};
+use crate::rows::{cut, is_fault, is_read, is_written};
 use rlp::{DecoderError, Each, Flattened, ListOf, RlpStream, Uint};
-use rlp_examples::{Entry, Inner, Message, Nest, Nonce};
-use rlp_fixtures::Row;
+use rlp_examples::{Message, Nest, Nonce, Pair, Row};
 use rlp_rows::bytes_of;
 use std::alloc::{AllocError, Global};
-use std::test::Fail;
 
-/// Strings that are read as arrays of three bytes, or aren't.
-const TRIPLES: [Line; 5] = [
-    ("83636174ff", "83636174"),
-    ("", "RlpIsTooShort"),
-    ("820102", "RlpIsTooShort"),
-    ("8401020304", "RlpIsTooBig"),
-    ("c3010203", "RlpExpectedToBeData"),
-];
+/// Strings that are read as arrays of three bytes, or aren't; strings that aren't numbers of two bytes;
+/// and a truth value that is neither 0 nor 1.
+///
+/// A row is a type, bytes, and behind ` = ` the bytes as which the value is written, or the fault.
+const VALUES: &str = "\
+triple 83636174ff = 83636174
+triple ' = RlpIsTooShort
+triple 820102 = RlpIsTooShort
+triple 8401020304 = RlpIsTooBig
+triple c3010203 = RlpExpectedToBeData
+uint2 ' = RlpIsTooShort
+uint2 00 = RlpInvalidIndirection
+uint2 820001 = RlpInvalidIndirection
+uint2 83010000 = RlpIsTooBig
+bool 02 = Custom(\"invalid boolean value\")";
 
-/// Strings that aren't numbers of two bytes.
-const NO_NUMBERS: [Line; 4] = [
-    ("", "RlpIsTooShort"),
-    ("00", "RlpInvalidIndirection"),
-    ("820001", "RlpInvalidIndirection"),
-    ("83010000", "RlpIsTooBig"),
-];
+/// Numbers of 32 bytes, and behind ` = ` their digits.
+const NUMBERS: &str = "\
+uint32 80 = 00*32
+uint32 7f = 00*31+7f
+uint32 8180 = 00*31+80
+uint32 820400 = 00*30+0400
+uint32 9101+00*16 = 00*15+01+00*16";
 
-/// The last bytes of numbers of 32 bytes, and their encodings.
-const NUMBERS: [(&str, &str); 5] = [
-    ("", "80"),
-    ("7f", "7f"),
-    ("80", "8180"),
-    ("0400", "820400"),
-    ("01+00*16", "9101+00*16"),
-];
-
-/// Returns whether bytes are read as a number that ends with these bytes, and are written again.
-fn is_number(alloc: Global, last: &[u8], text: &str) -> Result<bool, Fail> {
-    let bytes = bytes_of(alloc, text)?;
-    let number = rlp::decode::<Uint<32>>(alloc, bytes.as_slice())?;
-    let zeros = 32usize.saturating_sub(last.len());
-    let (front, end) = number.bytes.split_at(zeros.min(32));
-    Ok(end == last && front.iter().all(|byte| *byte == 0) && is_written(alloc, &number, text)?)
-}
-
-/// Returns the first row whose bytes aren't read as the number, or are written otherwise.
-fn first_wrong_number(alloc: Global) -> Result<Option<&'static str>, Fail> {
-    for (last, want) in NUMBERS {
-        if !is_number(alloc, bytes_of(alloc, last)?.as_slice(), want)? {
-            return Ok(Some(want));
-        }
-    }
-    Ok(None)
-}
-
-/// A number of a custom type, and strings that aren't such a number.
-const NONCES: [Line; 3] = [
-    ("8401000000", "8401000000"),
-    ("8100", "RlpInvalidIndirection"),
-    ("89000000000000000000", "RlpIsTooBig"),
-];
-
-/// A struct alone, with a byte after it, and with a number that isn't in its shortest form.
-const ENTRIES: [Line; 3] = [
-    ("c20580", "c20580"),
-    ("c2058000", "RlpIsTooBig"),
-    ("c3810580", "RlpInvalidIndirection"),
-];
+/// A number of a custom type, and strings that aren't such a number. A struct alone, with a byte after
+/// it, and with a number that isn't in its shortest form; and two that are read though bytes may follow
+/// them. A struct of 32 fields, eight times the number 5, a hash, no bytes, and an array
+/// of eight bytes; and one of one field, which isn't a `Row`.
+const CUSTOM: &str = "\
+nonce 8401000000 = 8401000000
+nonce 8100 = RlpInvalidIndirection
+nonce 89000000000000000000 = RlpIsTooBig
+pair c20580 = c20580
+pair c2058000 = RlpIsTooBig
+pair c3810580 = RlpInvalidIndirection
+lenient_pair c405828081ff = c405828081
+lenient_pair c20580 = c20580
+row f90160+05a0010101010101010101010101010101010101010101010101010101010101010180880202020202020202*8
+row c105 = RlpIncorrectListLen";
 
 /// Messages: kind 1 with 0 and with 1024, kind 2 with no bytes and with the bytes `ca fe`. And bytes
 /// that are no message: no list, one item and three, a number of two bytes in front, kind 3, a list
 /// as the number of kind 1, and a byte after the list.
-const MESSAGES: [Line; 11] = [
-    ("c20180", "c20180"),
-    ("c401820400", "c401820400"),
-    ("c20280", "c20280"),
-    ("c40282cafe", "c40282cafe"),
-    ("01", "RlpExpectedToBeList"),
-    ("c101", "RlpIncorrectListLen"),
-    ("c3010506", "RlpIncorrectListLen"),
-    ("c482010005", "RlpIsTooBig"),
-    ("c20305", "Custom(\"unknown message\")"),
-    ("c201c0", "RlpExpectedToBeData"),
-    ("c2010500", "RlpIsTooBig"),
-];
+const MESSAGES: &str = "\
+message c20180 = c20180
+message c401820400 = c401820400
+message c20280 = c20280
+message c40282cafe = c40282cafe
+message 01 = RlpExpectedToBeList
+message c101 = RlpIncorrectListLen
+message c3010506 = RlpIncorrectListLen
+message c482010005 = RlpIsTooBig
+message c20305 = Custom(\"unknown message\")
+message c201c0 = RlpExpectedToBeData
+message c2010500 = RlpIsTooBig";
 
-/// A struct of 32 fields: eight times the number 5, a hash, no bytes, and an array of eight bytes.
-const ROW: &str = "f90160+05a001010101010101010101010101010101010101010101010101010101010101018088\
-                   0202020202020202*8";
+/// The list of the list of four pairs, and the list of the list of two such nests.
+const NESTS: &str = "\
+nest cdccc28001c20102c20203c20304
+nests dddccdccc28001c20102c20203c20304cdccc28001c20102c20203c20304";
 
-/// A struct of one field, which isn't a `Row`.
-const NO_ROWS: [Line; 1] = [("c105", "RlpIncorrectListLen")];
-
-/// A truth value that is neither 0 nor 1.
-const NO_TRUTHS: [Line; 1] = [("02", "Custom(\"invalid boolean value\")")];
-
-/// A type that is read. Entries and messages are read strictly.
-#[derive(Clone, Copy)]
-enum Type {
-    Triple,
-    SmallNumber,
-    Truth,
-    Nonce,
-    Entry,
-    Message,
-    Row,
-}
-
-/// The tables, each with its type.
-const TABLES: [(Type, &[Line]); 7] = [
-    (Type::Triple, &TRIPLES),
-    (Type::SmallNumber, &NO_NUMBERS),
-    (Type::Truth, &NO_TRUTHS),
-    (Type::Nonce, &NONCES),
-    (Type::Entry, &ENTRIES),
-    (Type::Message, &MESSAGES),
-    (Type::Row, &NO_ROWS),
-];
-
-/// Returns the first row that isn't met.
-fn first_wrong(alloc: Global, kind: Type, rows: &[Line]) -> Result<Option<&'static str>, Fail> {
+/// Returns whether bytes are read as a value of this kind, which is written as the wanted bytes, or are
+/// read with this fault. Pairs, messages and rows are read strictly.
+fn is_as(alloc: Global, kind: &str, bytes: &[u8], want: &str) -> bool {
     match kind {
-        Type::Triple => first_unread::<[u8; 3]>(alloc, false, rows),
-        Type::SmallNumber => first_unread::<Uint<2>>(alloc, false, rows),
-        Type::Truth => first_unread::<bool>(alloc, false, rows),
-        Type::Nonce => first_unread::<Nonce>(alloc, false, rows),
-        Type::Entry => first_unread::<Entry>(alloc, true, rows),
-        Type::Message => first_unread::<Message>(alloc, true, rows),
-        Type::Row => first_unread::<Row>(alloc, false, rows),
+        "triple" => is_read(alloc, rlp::decode::<[u8; 3]>(alloc, bytes), want),
+        "uint2" => is_read(alloc, rlp::decode::<Uint<2>>(alloc, bytes), want),
+        "bool" => is_read(alloc, rlp::decode::<bool>(alloc, bytes), want),
+        "nonce" => is_read(alloc, rlp::decode::<Nonce>(alloc, bytes), want),
+        "pair" => is_read(alloc, rlp::decode_strict::<Pair>(alloc, bytes), want),
+        "lenient_pair" => is_read(alloc, rlp::decode::<Pair>(alloc, bytes), want),
+        "message" => is_read(alloc, rlp::decode_strict::<Message>(alloc, bytes), want),
+        "row" => is_row(alloc, rlp::decode_strict::<Row>(alloc, bytes), bytes, want),
+        "nest" => is_nest(alloc, bytes),
+        "nests" => are_nests(alloc, bytes),
+        "uint32" => is_number(alloc, rlp::decode::<Uint<32>>(alloc, bytes), bytes, want),
+        _ => false,
     }
 }
 
-/// The list of the list of four pairs.
-const PAIRS: &str = "cdccc28001c20102c20203c20304";
-
-/// The list of the list of two such nests.
-const NESTS: &str = "dddccdccc28001c20102c20203c20304cdccc28001c20102c20203c20304";
-
-/// Returns the nest of four pairs.
-fn pairs(alloc: Global) -> Result<Nest<Inner>, AllocError> {
-    Ok(Nest(Vec::from_array(alloc, [Inner(0, 1), Inner(1, 2), Inner(2, 3), Inner(3, 4)])?))
+/// Returns whether a number was read, has these digits, and is written again.
+fn is_number(
+    alloc: Global,
+    read: Result<Uint<32>, DecoderError>,
+    bytes: &[u8],
+    want: &str,
+) -> bool {
+    let Ok(digits) = bytes_of(alloc, want) else {
+        return false;
+    };
+    match read {
+        Ok(number) => {
+            number.bytes.as_slice() == digits.as_slice() && is_written(alloc, &number, bytes)
+        }
+        Err(_) => false,
+    }
 }
 
-/// Returns whether the nest of four pairs is read and written.
-fn pairs_go_both_ways(alloc: Global) -> Result<bool, Fail> {
-    let bytes = bytes_of(alloc, PAIRS)?;
-    let read = rlp::decode::<Nest<Inner>>(alloc, bytes.as_slice())?;
-    Ok(read == pairs(alloc)? && is_written(alloc, &read, PAIRS)?)
+/// Returns whether a struct of 32 fields is read and written again, or isn't read with this fault.
+fn is_row(alloc: Global, read: Result<Row, DecoderError>, bytes: &[u8], want: &str) -> bool {
+    match read {
+        Ok(row) => {
+            row.column_29 == 5 && row.column_32 == [2; 8] && is_written(alloc, &row, bytes)
+        }
+        Err(fault) => is_fault(alloc, fault, want),
+    }
 }
 
-/// Returns whether the nest of two such nests is read and written.
-fn nests_go_both_ways(alloc: Global) -> Result<bool, Fail> {
-    let bytes = bytes_of(alloc, NESTS)?;
-    let read = rlp::decode::<Nest<Nest<Inner>>>(alloc, bytes.as_slice())?;
-    let pairs = pairs(alloc)?;
-    Ok(
-        read.0.len() == 2
-            && read.0[0] == pairs
-            && read.0[1] == pairs
-            && is_written(alloc, &read, NESTS)?,
-    )
+/// Returns whether a pair is this number and the next.
+fn is_pair(pair: &Pair, first: u64) -> bool {
+    pair.0 == first && pair.1 == first.wrapping_add(1)
 }
 
-/// Returns whether bytes are read as an entry of the number 5 and these bytes.
-fn is_entry(alloc: Global, bytes: &[u8], want: &[u8]) -> Result<bool, DecoderError> {
-    let entry: Entry = rlp::decode(alloc, bytes)?;
-    Ok(entry.number == 5 && entry.bytes.as_slice() == want)
+/// Returns whether a nest has four pairs of a number and the next.
+fn has_pairs(nest: &Nest<Pair>) -> bool {
+    match nest.0.as_slice() {
+        [a, b, c, d] => is_pair(a, 0) && is_pair(b, 1) && is_pair(c, 2) && is_pair(d, 3),
+        _ => false,
+    }
 }
 
-/// Returns whether the struct of 32 fields is read and written.
-fn row_goes_both_ways(alloc: Global) -> Result<bool, Fail> {
-    let bytes = bytes_of(alloc, ROW)?;
-    let row = rlp::decode_strict::<Row>(alloc, bytes.as_slice())?;
-    Ok(row.column_29 == 5 && row.column_32 == [2; 8] && is_written(alloc, &row, ROW) == Ok(true))
+/// Returns whether bytes are read as a nest of four pairs, and are written again.
+fn is_nest(alloc: Global, bytes: &[u8]) -> bool {
+    match rlp::decode::<Nest<Pair>>(alloc, bytes) {
+        Ok(nest) => has_pairs(&nest) && is_written(alloc, &nest, bytes),
+        Err(_) => false,
+    }
+}
+
+/// Returns whether bytes are read as a nest of two nests of four pairs, and are written again.
+fn are_nests(alloc: Global, bytes: &[u8]) -> bool {
+    match rlp::decode::<Nest<Nest<Pair>>>(alloc, bytes) {
+        Ok(nests) => {
+            let has_two = matches!(nests.0.as_slice(), [a, b] if has_pairs(a) && has_pairs(b));
+            has_two && is_written(alloc, &nests, bytes)
+        }
+        Err(_) => false,
+    }
 }
 
 /// Returns whether fields that are slices are written.
@@ -184,26 +156,29 @@ fn slices_are_fields(alloc: Global) -> Result<bool, AllocError> {
 }
 
 /// Returns whether a list of numbers is read from its encoding.
-fn numbers_are_read_back(alloc: Global) -> Result<bool, Fail> {
-    let numbers = [0xffff_ffff, 1u64, 2, 3, 7, 0xff];
-    let bytes = rlp::encode_list(alloc, &numbers)?;
-    let read = rlp::decode_list::<u64>(alloc, bytes.as_slice())?;
-    Ok(read.as_slice() == numbers.as_slice())
+fn numbers_are_read(alloc: Global) -> Result<bool, DecoderError> {
+    let read = rlp::decode_list::<u64>(alloc, b"\xc6\x01\x02\x03\x07\x81\xff")?;
+    Ok(read.as_slice() == [1, 2, 3, 7, 0xff].as_slice())
+}
+
+/// Returns the first row that isn't met.
+fn first_wrong(alloc: Global) -> Result<Option<&'static str>, AllocError> {
+    for table in [VALUES, NUMBERS, CUSTOM, MESSAGES, NESTS] {
+        for row in table.lines() {
+            let (what, want) = row.split_once(" = ").unwrap_or((row, ""));
+            let (kind, text) = cut(what);
+            if !is_as(alloc, kind, bytes_of(alloc, text)?.as_slice(), want) {
+                return Ok(Some(row));
+            }
+        }
+    }
+    Ok(None)
 }
 
 #[test]
-fn types_go_both_ways(rt: HostRuntime) -> Result<(), Fail> {
+fn types_go_both_ways(rt: HostRuntime) {
     let alloc = rt.alloc();
-    for (kind, rows) in TABLES {
-        assert_eq!(rt; first_wrong(alloc, kind, rows)?, None);
-    }
-    assert_eq!(rt; first_wrong_number(alloc)?, None);
-    assert!(rt; pairs_go_both_ways(alloc)?, "a nest");
-    assert!(rt; nests_go_both_ways(alloc)?, "a nest of nests");
-    assert!(rt; is_entry(alloc, &[0xc4, 0x05, 0x82, 0x80, 0x81, 0xff], &[0x80, 0x81])?);
-    assert!(rt; is_entry(alloc, &[0xc2, 0x05, 0x80], &[])?);
-    assert!(rt; row_goes_both_ways(alloc)?, "a row");
-    assert!(rt; slices_are_fields(alloc)?, "slices");
-    assert!(rt; numbers_are_read_back(alloc)?, "numbers");
-    Ok(())
+    assert_eq!(rt; first_wrong(alloc), Ok(None));
+    assert!(rt; slices_are_fields(alloc) == Ok(true), "slices");
+    assert!(rt; numbers_are_read(alloc) == Ok(true), "numbers");
 }

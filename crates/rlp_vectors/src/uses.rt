@@ -5,8 +5,7 @@ use rlp::{DecoderError, Rlp};
 use rlp_examples::{
     append_by_stream, append_each, chain_and_encoder, first_and_text, nested, renumbered,
 };
-use std::alloc::Global;
-use std::test::Fail;
+use std::alloc::{AllocError, Global};
 
 fn views_agree(alloc: Global) -> Result<bool, DecoderError> {
     let view = Rlp::new(&[0xc4, 0xc2, 0x01, 0x02, 0x03]);
@@ -41,21 +40,29 @@ fn parcel_is_renumbered(alloc: Global) -> Result<bool, DecoderError> {
     )
 }
 
-#[test]
-fn examples_as_shown(rt: HostRuntime) -> Result<(), Fail> {
-    let alloc = rt.alloc();
+/// Returns whether a stream holds what the examples append.
+fn stream_holds(alloc: Global) -> Result<bool, AllocError> {
     let mut s = chain_and_encoder(alloc)?;
-    assert_eq!(rt; s.as_raw(), [1, 2, 3, 4].as_slice());
+    let begun = s.as_raw() == [1, 2, 3, 4].as_slice();
     append_by_stream(&mut s)?;
     append_each(&mut s, &[128, 0])?;
-    assert!(rt; finishes_as(s, &[1, 2, 3, 4, 1, 2, 0x81, 0x80, 0x80]));
-    assert!(rt; views_agree(alloc)?);
-    assert!(rt; parcel_is_renumbered(alloc)?);
-    assert_eq!(rt; rlp::decode::<u64>(alloc, &[0x82, 0x01, 0x00])?, 256);
-    let is_right = match nested(alloc)? {
-        Some(bytes) => list_is_read_back(alloc, bytes.as_slice())?,
-        None => false,
-    };
-    assert!(rt; is_right);
-    Ok(())
+    Ok(begun && finishes_as(s, &[1, 2, 3, 4, 1, 2, 0x81, 0x80, 0x80]))
+}
+
+/// Returns whether the list of the example is written, and is read back.
+fn list_is_nested(alloc: Global) -> bool {
+    match nested(alloc) {
+        Ok(Some(bytes)) => list_is_read_back(alloc, bytes.as_slice()) == Ok(true),
+        _ => false,
+    }
+}
+
+#[test]
+fn examples_as_shown(rt: HostRuntime) {
+    let alloc = rt.alloc();
+    assert!(rt; stream_holds(alloc) == Ok(true));
+    assert!(rt; views_agree(alloc) == Ok(true));
+    assert!(rt; parcel_is_renumbered(alloc) == Ok(true));
+    assert!(rt; rlp::decode::<u64>(alloc, &[0x82, 0x01, 0x00]) == Ok(256));
+    assert!(rt; list_is_nested(alloc));
 }

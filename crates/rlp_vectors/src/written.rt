@@ -1,154 +1,207 @@
 //! Values of each type, and the bytes that they are written as. The bytes were worked out by hand.
 
-use crate::rows::{Row, finishes_as, first_unread_again, is_listed, is_written};
+use crate::rows::{cut, finishes_as, is_again, is_listed, is_written};
 use crate::structs::{Columns, LastField, Tagged};
 use bytes::{Bytes, BytesMut};
 use rlp::{EMPTY_LIST_RLP, Encodable, NULL_RLP, RlpStream};
-use rlp_examples::Nonce;
-use rlp_fixtures::{HalfWritten, Pair, append_one, append_three, bytes_of_three};
-use rlp_rows::bytes_of;
+use rlp_examples::{HalfWritten, Nonce, Pair, bytes_of_three};
+use rlp_rows::{bytes_of, number};
 use std::alloc::{AllocError, Global};
-use std::test::Fail;
 
-/// A value that is written: alone, as a list, or that many times in a list.
-enum Value {
-    Truth(bool),
-    U8(u8),
-    U16(u16),
-    U32(u32),
-    /// Under its own name too.
-    U64(u64),
-    U128(u128),
-    Usize(usize),
-    None([u8; 0]),
-    One([u8; 1]),
-    Three([u8; 3]),
-    Option(Option<&'static str>),
-    Nested(Option<Option<&'static str>>),
-    LongOption(Option<[u8; 55]>),
-    Pair(Pair),
-    Columns(Columns<'static>),
-    LastField(LastField),
-    Tagged(Tagged),
-    Numbers(&'static [u64]),
-    U32s(&'static [u32]),
-    Texts(&'static [&'static str]),
-    Pairs(&'static [Pair]),
-    /// The numbers 0, and the empty texts. The bound of the numbers is greater than their length, and
-    /// that of the texts is their length.
-    Empty(usize),
-    Sevens(usize),
-    /// The pairs of 1 and 2, which have no bound.
-    SamePairs(usize),
+/// Numbers, and the bytes that they are written as. A number of eight bytes is written under its own
+/// name too.
+const NUMBERS: &str = "\
+bool false = 80
+bool true = 01
+u8 0 = 80
+u8 1 = 01
+u16 0 = 80
+u16 256 = 820100
+u16 65535 = 82ffff
+u32 0 = 80
+u32 40 = 28
+u32 65536 = 83010000
+u32 16777215 = 83ffffff
+u64 0 = 80
+u64 16777216 = 8401000000
+u64 4294967295 = 84ffffffff
+u64 127 = 7f
+u64 128 = 8180
+u64 256 = 820100
+u64 18446744073709551615 = 88ffffffffffffffff
+u128 0 = 80
+u128 72057594037927936 = 880100000000000000
+u128 18446744073709551615 = 88ffffffffffffffff
+usize 18446744073709551615 = 88ffffffffffffffff";
+
+/// Arrays of no byte, one and three; options, of a text and of an array of 55 bytes; and a pair.
+const PARTS: &str = "\
+no_bytes = 80
+five = 05
+cat = 83636174
+some cat = c483636174
+none = c0
+some_some cat = c5c483636174
+some_array = f838b7+61*55
+pair = c401820100";
+
+/// Structs of no field, one, 55, 56, and 256, which have a header of one, two or three bytes: the
+/// number of each field, and their number. A struct of one field that may be missing. And envelopes,
+/// each with its tag.
+const STRUCTS: &str = "\
+columns 5 0 = c0
+columns 128 1 = c28180
+columns 5 55 = f7+05*55
+columns 5 56 = f838+05*56
+columns 5 256 = f90100+05*256
+last_field = c0
+last_field 256 = c3820100
+tagged 0 5 = 820005
+tagged 4 0 = 820480
+tagged 127 5 = 827f05
+tagged 128 5 = 828005
+tagged 255 256 = 84ff820100";
+
+/// Lists of numbers, of texts, and of pairs.
+const LISTS: &str = "\
+no_numbers = c0
+one_number = c10f
+five_numbers = c60102030781ff
+six_numbers = cb84ffffffff0102030781ff
+no_u32s = c0
+texts = c88363617483646f67
+pairs = c6c20102c20304";
+
+/// Lists of so many numbers 0 and empty texts, numbers 7, or pairs of 1 and 2. The bound of the numbers
+/// is greater than their length, that of the texts is their length, and pairs have no bound.
+const REPEATED: &str = "\
+zeros 0 = c0
+zeros 1 = c1+80
+zeros 55 = f7+80*55
+zeros 56 = f838+80*56
+zeros 255 = f8ff+80*255
+zeros 256 = f90100+80*256
+zeros 1025 = f90401+80*1025
+zeros 65535 = f9ffff+80*65535
+zeros 65536 = fa010000+80*65536
+sevens 65537 = fa010001+07*65537
+same_pairs 600 = f90708+c20102*600";
+
+/// Texts, which are read again. The last has 56 bytes, the shortest length whose header has more than
+/// one byte.
+const TEXTS: &str = "\
+text cat = 83636174
+text dog = 83646f67
+text Marek = 854d6172656b
+text = 80
+text Lorem ipsum dolor sit amet, consectetur adipisicing elit \
+    = b838+'Lorem ipsum dolor sit amet, consectetur adipisicing elit";
+
+/// Strings of bytes, which are read again: single bytes, and lengths at which the header gets longer.
+const STRINGS: &str = "\
+string 00*0 = 80
+string 00 = 00
+string 15 = 15
+string 4000 = 824000
+string 80 = 8180
+string 00*55 = b7+00*55
+string 00*56 = b838+00*56
+string 00*255 = b8ff+00*255
+string 00*256 = b90100+00*256
+string 00*65535 = b9ffff+00*65535
+string 00*65536 = ba010000+00*65536
+string 00*1048576 = ba100000+00*1048576
+string 07*2097152 = ba200000+07*2097152
+string 07*16777215 = baffffff+07*16777215
+string 00*16777216 = bb01000000+00*16777216";
+
+/// Returns whether a number is written as these bytes, if a text is one.
+fn is_parsed<N: Encodable + Drop, E: Drop>(
+    alloc: Global,
+    parsed: Result<N, E>,
+    want: &[u8],
+) -> bool {
+    match parsed {
+        Ok(number) => is_written(alloc, &number, want),
+        Err(_) => false,
+    }
 }
 
-/// Values, and the bytes that they are written as.
-const VALUES: [(Value, &str); 60] = [
-    (Value::Truth(false), "80"),
-    (Value::Truth(true), "01"),
-    (Value::U8(0), "80"),
-    (Value::U8(1), "01"),
-    (Value::U16(0), "80"),
-    (Value::U16(0x100), "820100"),
-    (Value::U16(0xffff), "82ffff"),
-    (Value::U32(0), "80"),
-    (Value::U32(0x28), "28"),
-    (Value::U32(0x10000), "83010000"),
-    (Value::U32(0xffffff), "83ffffff"),
-    (Value::U64(0), "80"),
-    (Value::U64(0x100_0000), "8401000000"),
-    (Value::U64(0xffff_ffff), "84ffffffff"),
-    (Value::U64(127), "7f"),
-    (Value::U64(128), "8180"),
-    (Value::U64(256), "820100"),
-    (Value::U64(u64::MAX), "88ffffffffffffffff"),
-    (Value::U128(0), "80"),
-    (Value::U128(0x100000000000000), "880100000000000000"),
-    (Value::U128(0xffffffffffffffff), "88ffffffffffffffff"),
-    (Value::Usize(usize::MAX), "88ffffffffffffffff"),
-    (Value::None([]), "80"),
-    (Value::One([0x05]), "05"),
-    (Value::Three([0x63, 0x61, 0x74]), "83636174"),
-    (Value::Option(Some("cat")), "c483636174"),
-    (Value::Option(None), "c0"),
-    (Value::Nested(Some(Some("cat"))), "c5c483636174"),
-    (Value::LongOption(Some([0x61; 55])), "f838b7+61*55"),
-    (Value::Pair(Pair(1, 256)), "c401820100"),
-    // Structs of no field, one, 55, 56, and 256, which have a header of one, two or three bytes.
-    (Value::Columns(Columns(&[])), "c0"),
-    (Value::Columns(Columns(&[0x80])), "c28180"),
-    (Value::Columns(Columns(&[5; 55])), "f7+05*55"),
-    (Value::Columns(Columns(&[5; 56])), "f838+05*56"),
-    (Value::Columns(Columns(&[5; 256])), "f90100+05*256"),
-    (Value::LastField(LastField(None)), "c0"),
-    (Value::LastField(LastField(Some(256))), "c3820100"),
-    (Value::Tagged(Tagged(0x00, 5)), "820005"),
-    (Value::Tagged(Tagged(0x04, 0)), "820480"),
-    (Value::Tagged(Tagged(0x7f, 5)), "827f05"),
-    (Value::Tagged(Tagged(0x80, 5)), "828005"),
-    (Value::Tagged(Tagged(0xff, 256)), "84ff820100"),
-    (Value::Numbers(&[]), "c0"),
-    (Value::Numbers(&[0x0f]), "c10f"),
-    (Value::Numbers(&[1, 2, 3, 7, 0xff]), "c60102030781ff"),
-    (
-        Value::Numbers(&[0xffff_ffff, 1, 2, 3, 7, 0xff]),
-        "cb84ffffffff0102030781ff",
-    ),
-    (Value::U32s(&[]), "c0"),
-    (Value::Texts(&["cat", "dog"]), "c88363617483646f67"),
-    (Value::Pairs(&[Pair(1, 2), Pair(3, 4)]), "c6c20102c20304"),
-    (Value::Empty(0), "c0"),
-    (Value::Empty(1), "c1+80"),
-    (Value::Empty(55), "f7+80*55"),
-    (Value::Empty(56), "f838+80*56"),
-    (Value::Empty(255), "f8ff+80*255"),
-    (Value::Empty(256), "f90100+80*256"),
-    (Value::Empty(1_025), "f90401+80*1025"),
-    (Value::Empty(65_535), "f9ffff+80*65535"),
-    (Value::Empty(65_536), "fa010000+80*65536"),
-    (Value::Sevens(65_537), "fa010001+07*65537"),
-    (Value::SamePairs(600), "f90708+c20102*600"),
-];
+/// Returns whether a number is written as these bytes, also under its own name.
+fn is_nonce(alloc: Global, text: &str, want: &[u8]) -> bool {
+    match text.parse::<u64>() {
+        Ok(number) => {
+            is_written(alloc, &number, want) && is_written(alloc, &Nonce(number), want)
+        }
+        Err(_) => false,
+    }
+}
 
-/// Returns whether a value is written as these bytes.
-fn is_right(alloc: Global, value: &Value, want: &str) -> Result<bool, AllocError> {
-    match value {
-        Value::Truth(truth) => is_written(alloc, truth, want),
-        Value::U8(number) => is_written(alloc, number, want),
-        Value::U16(number) => is_written(alloc, number, want),
-        Value::U32(number) => is_written(alloc, number, want),
-        Value::U64(number) => Ok(
-            is_written(alloc, number, want)? && is_written(alloc, &Nonce(*number), want)?,
-        ),
-        Value::U128(number) => is_written(alloc, number, want),
-        Value::Usize(number) => is_written(alloc, number, want),
-        Value::None(array) => is_written(alloc, array, want),
-        Value::One(array) => is_written(alloc, array, want),
-        Value::Three(array) => is_written(alloc, array, want),
-        Value::Option(option) => is_written(alloc, option, want),
-        Value::Nested(option) => is_written(alloc, option, want),
-        Value::LongOption(option) => is_written(alloc, option, want),
-        Value::Pair(pair) => is_written(alloc, pair, want),
-        Value::Columns(columns) => is_written(alloc, columns, want),
-        Value::LastField(field) => is_written(alloc, field, want),
-        Value::Tagged(tagged) => is_written(alloc, tagged, want),
-        _ => is_right_list(alloc, value, want),
+/// Returns whether a value of this kind is written as these bytes.
+fn is_value(alloc: Global, kind: &str, text: &str, want: &[u8]) -> bool {
+    match kind {
+        "bool" => is_written(alloc, &(text == "true"), want),
+        "u8" => is_parsed(alloc, text.parse::<u8>(), want),
+        "u16" => is_parsed(alloc, text.parse::<u16>(), want),
+        "u32" => is_parsed(alloc, text.parse::<u32>(), want),
+        "u64" => is_nonce(alloc, text, want),
+        "u128" => is_parsed(alloc, text.parse::<u128>(), want),
+        "usize" => is_parsed(alloc, text.parse::<usize>(), want),
+        _ => is_part(alloc, kind, text, want),
+    }
+}
+
+/// Returns whether an array, an option or a pair is written as these bytes.
+fn is_part(alloc: Global, kind: &str, text: &str, want: &[u8]) -> bool {
+    match kind {
+        "no_bytes" => is_written(alloc, &[0u8; 0], want),
+        "five" => is_written(alloc, &[5u8], want),
+        "cat" => is_written(alloc, b"cat", want),
+        "some" => is_written(alloc, &Some(text), want),
+        "none" => is_written(alloc, &None::<&str>, want),
+        "some_some" => is_written(alloc, &Some(Some(text)), want),
+        "some_array" => is_written(alloc, &Some([0x61u8; 55]), want),
+        "pair" => is_written(alloc, &Pair(1, 256), want),
+        _ => is_struct(alloc, kind, text, want),
+    }
+}
+
+/// Returns whether a struct or an envelope is written as these bytes.
+fn is_struct(alloc: Global, kind: &str, text: &str, want: &[u8]) -> bool {
+    let (first, second) = cut(text);
+    match kind {
+        "columns" => has_columns(alloc, number(first) as u64, number(second), want),
+        "last_field" => is_written(alloc, &LastField(text.parse::<u64>().ok()), want),
+        "tagged" => match first.parse::<u8>() {
+            Ok(tag) => is_written(alloc, &Tagged(tag, number(second) as u64), want),
+            Err(_) => false,
+        },
+        _ => is_list(alloc, kind, number(first), want),
+    }
+}
+
+/// Returns whether a struct of so many equal fields is written as these bytes.
+fn has_columns(alloc: Global, field: u64, count: usize, want: &[u8]) -> bool {
+    match vec![in alloc; field; count] {
+        Ok(fields) => is_written(alloc, &Columns(fields.as_slice()), want),
+        Err(_) => false,
     }
 }
 
 /// Returns whether a list of values is written as these bytes.
-fn is_right_list(alloc: Global, value: &Value, want: &str) -> Result<bool, AllocError> {
-    match value {
-        Value::Numbers(numbers) => is_listed(alloc, numbers, want),
-        Value::U32s(numbers) => is_listed(alloc, numbers, want),
-        Value::Texts(texts) => is_listed(alloc, texts, want),
-        Value::Pairs(pairs) => is_listed(alloc, pairs, want),
-        Value::Empty(count) => Ok(
-            are_listed(alloc, 0u64, *count, want)? && are_listed(alloc, "", *count, want)?,
-        ),
-        Value::Sevens(count) => are_listed(alloc, 7u8, *count, want),
-        Value::SamePairs(count) => are_listed(alloc, Pair(1, 2), *count, want),
-        _ => Ok(false),
+fn is_list(alloc: Global, kind: &str, count: usize, want: &[u8]) -> bool {
+    match kind {
+        "no_numbers" => is_listed::<u64>(alloc, &[], want),
+        "one_number" => is_listed(alloc, &[0x0fu64], want),
+        "five_numbers" => is_listed(alloc, &[1u64, 2, 3, 7, 0xff], want),
+        "six_numbers" => is_listed(alloc, &[0xffff_ffffu64, 1, 2, 3, 7, 0xff], want),
+        "no_u32s" => is_listed::<u32>(alloc, &[], want),
+        "texts" => is_listed(alloc, &["cat", "dog"], want),
+        "pairs" => is_listed(alloc, &[Pair(1, 2), Pair(3, 4)], want),
+        "zeros" => are_listed(alloc, 0u64, count, want) && are_listed(alloc, "", count, want),
+        "sevens" => are_listed(alloc, 7u8, count, want),
+        "same_pairs" => are_listed(alloc, Pair(1, 2), count, want),
+        _ => false,
     }
 }
 
@@ -157,117 +210,56 @@ fn are_listed<E: Encodable + Copy + Drop>(
     alloc: Global,
     value: E,
     count: usize,
-    want: &str,
-) -> Result<bool, AllocError> {
-    let values = vec![in alloc; value; count]?;
-    is_listed(alloc, values.as_slice(), want)
+    want: &[u8],
+) -> bool {
+    match vec![in alloc; value; count] {
+        Ok(values) => is_listed(alloc, values.as_slice(), want),
+        Err(_) => false,
+    }
 }
 
-/// Texts, and their encodings. The last has 56 bytes, the shortest length whose header has more than
-/// one byte.
-const TEXTS: [Row; 5] = [
-    ("cat", "83636174"),
-    ("dog", "83646f67"),
-    ("Marek", "854d6172656b"),
-    ("", "80"),
-    (
-        "Lorem ipsum dolor sit amet, consectetur adipisicing elit",
-        "b838+'Lorem ipsum dolor sit amet, consectetur adipisicing elit",
-    ),
-];
+/// Returns whether a text is written as these bytes, and is read again.
+fn is_text(alloc: Global, text: &str, want: &[u8]) -> bool {
+    let read = rlp::decode_strict::<String>(alloc, want);
+    is_written(alloc, &text, want) && is_again(alloc, read, want)
+}
 
-/// Strings of bytes, and their encodings: single bytes, and lengths at which the header gets longer.
-const STRINGS: [Row; 11] = [
-    ("", "80"),
-    ("00", "00"),
-    ("15", "15"),
-    ("4000", "824000"),
-    ("80", "8180"),
-    ("00*55", "b7+00*55"),
-    ("00*56", "b838+00*56"),
-    ("00*255", "b8ff+00*255"),
-    ("00*256", "b90100+00*256"),
-    ("00*65535", "b9ffff+00*65535"),
-    ("00*65536", "ba010000+00*65536"),
-];
+/// Returns whether a string is written as these bytes, as a slice and as a vector, and is read again.
+fn is_string(alloc: Global, string: Vec<u8>, want: &[u8]) -> bool {
+    is_written(alloc, &string.as_slice(), want)
+        && is_written(alloc, &string, want)
+        && is_again(alloc, rlp::decode_strict::<Bytes>(alloc, want), want)
+        && is_again(alloc, rlp::decode_strict::<BytesMut>(alloc, want), want)
+}
 
-/// The bytes of long strings, their lengths, and their headers.
-const LONG: [(u8, usize, &[u8]); 4] = [
-    (0x00, 1_048_576, &[0xba, 0x10, 0x00, 0x00]),
-    (0x07, 2_097_152, &[0xba, 0x20, 0x00, 0x00]),
-    (0x07, 16_777_215, &[0xba, 0xff, 0xff, 0xff]),
-    (0x00, 16_777_216, &[0xbb, 0x01, 0x00, 0x00, 0x00]),
-];
-
-/// Returns the length of the first long string that isn't written behind its header.
-fn first_unwritten_long(alloc: Global) -> Result<Option<usize>, AllocError> {
-    for (byte, len, header) in LONG {
-        let string = vec![in alloc; byte; len]?;
-        let bytes = rlp::encode(alloc, &string)?;
-        if bytes.as_slice().strip_prefix(header) != Some(string.as_slice()) {
-            return Ok(Some(len));
+/// Returns the first row that isn't met. A row is a kind of value, what it is made from, and behind
+/// ` = ` its bytes.
+fn first_wrong(alloc: Global) -> Result<Option<&'static str>, AllocError> {
+    for table in [NUMBERS, PARTS, STRUCTS, LISTS, REPEATED, TEXTS, STRINGS] {
+        for row in table.lines() {
+            let (what, want) = row.split_once(" = ").unwrap_or((row, ""));
+            let (kind, text) = cut(what);
+            let want = bytes_of(alloc, want)?;
+            let is_met = match kind {
+                "text" => is_text(alloc, text, want.as_slice()),
+                "string" => is_string(alloc, bytes_of(alloc, text)?, want.as_slice()),
+                _ => is_value(alloc, kind, text, want.as_slice()),
+            };
+            if !is_met {
+                return Ok(Some(row));
+            }
         }
     }
     Ok(None)
 }
 
-/// Returns the wanted bytes of the first value, text or string that is written otherwise. A string is
-/// written as a slice and as a vector.
-fn first_unwritten(alloc: Global) -> Result<Option<&'static str>, AllocError> {
-    for (value, want) in &VALUES {
-        if !is_right(alloc, value, want)? {
-            return Ok(Some(want));
-        }
-    }
-    for (text, want) in TEXTS {
-        if !is_written(alloc, &text, want)? {
-            return Ok(Some(want));
-        }
-    }
-    first_unwritten_string(alloc)
-}
-
-/// Returns the wanted bytes of the first string that isn't written as them, as a slice or as a
-/// vector.
-fn first_unwritten_string(alloc: Global) -> Result<Option<&'static str>, AllocError> {
-    for (string, want) in STRINGS {
-        let owned = bytes_of(alloc, string)?;
-        if is_written(alloc, &owned.as_slice(), want) != Ok(true)
-            || is_written(alloc, &owned, want) != Ok(true)
-        {
-            return Ok(Some(want));
-        }
-    }
-    Ok(None)
-}
-
-#[test]
-fn values_are_written(rt: HostRuntime) -> Result<(), Fail> {
-    let alloc = rt.alloc();
-    assert_eq!(rt; first_unwritten(alloc)?, None);
-    assert_eq!(rt; first_unwritten_long(alloc)?, None);
-    assert_eq!(rt; first_unread_again::<String>(alloc, &TEXTS)?, None);
-    assert_eq!(rt; first_unread_again::<Bytes>(alloc, &STRINGS)?, None);
-    assert_eq!(rt; first_unread_again::<BytesMut>(alloc, &STRINGS)?, None);
-    assert!(rt; NULL_RLP == [0x80] && EMPTY_LIST_RLP == [0xc0]);
-    Ok(())
-}
-
-/// The bytes of a stream of three values, two strings and two texts.
-const APPENDED: [u8; 16] = [
-    0x01, 0x83, 0x63, 0x61, 0x74, 0x80, 0x81, 0x80, 0x82, 0x01, 0x00, 0x61, 0x83, 0x64, 0x6f, 0x67,
-];
-
-/// Returns whether a stream holds the values that are appended by the functions of `rlp_fixtures`.
+/// Returns whether a stream holds values that were appended beside a string that isn't counted.
 fn holds_appended(alloc: Global) -> Result<bool, AllocError> {
     let mut s = RlpStream::new(alloc)?;
-    append_three(&mut s, &1u64, &"cat", &0u64)?;
-    let holds = s.as_raw() == &APPENDED[..6];
+    s.append(&1u64)?.append(&"cat")?.append(&0u64)?;
     s.encoder().encode_value(&[0x80])?;
-    append_one(&mut s, &Nonce(256))?;
-    append_one(&mut s, &"a")?;
-    append_one(&mut s, &"dog")?;
-    Ok(holds && finishes_as(s, &APPENDED))
+    s.append(&Nonce(256))?.append(&"a")?.append(&"dog")?;
+    Ok(finishes_as(s, b"\x01\x83cat\x80\x81\x80\x82\x01\x00a\x83dog"))
 }
 
 /// Returns whether the encodings of three values stand one after another.
@@ -276,22 +268,25 @@ fn three_are_joined(alloc: Global) -> Result<bool, AllocError> {
     Ok(three.as_slice() == b"\x83cat\x81\x80\x80".as_slice())
 }
 
-/// Returns whether a value that is refused in the middle of its bytes leaves the stream, with the
-/// values before it.
+/// Returns whether a value that is refused in the middle of its bytes leaves the stream, and has no
+/// encoding.
 fn refused_value_leaves(alloc: Global) -> Result<bool, AllocError> {
     let mut s = RlpStream::new(alloc)?;
     s.append(&"cat")?;
-    let one = s.append(&HalfWritten).is_err() && s.as_raw() == b"\x83cat".as_slice();
-    let three = append_three(&mut s, &1u64, &HalfWritten, &2u64).is_err();
-    let alone = rlp::encode(alloc, &HalfWritten).is_err();
-    Ok(one && three && alone && finishes_as(s, b"\x83cat\x01"))
+    let refused = s.append(&HalfWritten).is_err();
+    let alone = rlp::encode(alloc, &HalfWritten).is_err() && HalfWritten.rlp_bytes(alloc).is_err();
+    Ok(refused && alone && finishes_as(s, b"\x83cat"))
 }
 
 #[test]
-fn streams_hold_what_was_appended(rt: HostRuntime) -> Result<(), Fail> {
+fn values_are_written(rt: HostRuntime) {
     let alloc = rt.alloc();
-    assert!(rt; holds_appended(alloc)?, "values, strings and texts");
-    assert!(rt; three_are_joined(alloc)?, "three values");
-    assert!(rt; refused_value_leaves(alloc)?, "a refused value");
-    Ok(())
+    assert_eq!(rt; first_wrong(alloc), Ok(None));
+    assert!(rt; NULL_RLP == [0x80] && EMPTY_LIST_RLP == [0xc0]);
+    assert!(rt;
+        holds_appended(alloc) == Ok(true),
+        "values, strings and texts"
+    );
+    assert!(rt; three_are_joined(alloc) == Ok(true), "three values");
+    assert!(rt; refused_value_leaves(alloc) == Ok(true), "a refused value");
 }

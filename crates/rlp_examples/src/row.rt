@@ -1,6 +1,6 @@
 //! A row of a table: the list of its thirty-two columns.
 
-ghost use Rattle.rlp_fixtures.specs.Row.{row};
+ghost use Rattle.rlp_examples.specs.Row.{row};
 
 use rlp::{Decodable, DecoderError, Encodable, Rlp, RlpStream, RoundTrip, StrictRead};
 use std::alloc::{AllocError, Global};

@@ -1,7 +1,7 @@
 -- How values of `Row` are written and read.
 use Rattle.std.specs.Vec.{vec_items}
 use Rattle.rlp.specs.Codec.{Codec, Fields, byte_array, byte_string, end, field, number, struct_of}
-use Rattle.rlp_fixtures.specs.declared.row.Row.{Row}
+use Rattle.rlp_examples.specs.declared.row.Row.{Row}
 
 -- the fields, in order
 abbrev pub row_fields : Fields Row
