@@ -3,7 +3,7 @@
 use crate::rows::Row;
 use bytes::BytesMut;
 use rlp::Encodable;
-use rlp_fixtures::{Pair, Refusing, Trio};
+use rlp_examples::{Pair, Refusing, Trio};
 use rlp_rows::Line;
 use rlp_tool::{BuildFault, Built, StreamCall, build, read_calls};
 use std::alloc::Global;

@@ -2,7 +2,7 @@
 
 use crate::rows::{Row, check, tell_same, view_of};
 use rlp::{Decodable, DecoderError, Rlp};
-use rlp_fixtures::Odd;
+use rlp_examples::Odd;
 use rlp_rows::Line;
 use std::alloc::Global;
 use std::fmt;
