@@ -16,3 +16,7 @@ mod Described
 mod Checking
 -- the answers for transactions and headers
 mod RecordAnswers
+-- what the codecs write has no fault
+mod WrittenFields
+-- the answers for transactions and headers that are written
+mod WrittenRecords

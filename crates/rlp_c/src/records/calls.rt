@@ -1,7 +1,15 @@
 //! What C calls for records.
 
 ghost use Rattle.std.specs.Prelude.{◌≡◌, ◌+◌, ◌≤◌, ◌<◌, ◌^◌, length};
+ghost use Rattle.rlp_format.specs.Format.Encoding.{encoding};
+ghost use Rattle.rlp_records.specs.Alone.{bytes_alone};
+ghost use Rattle.rlp_transactions.specs.Transaction.{transaction};
+ghost use Rattle.rlp_transactions.specs.TransactionParts.{type_of};
+ghost use Rattle.rlp_transactions.specs.declared.transaction.Transaction.{Transaction};
+ghost use Rattle.rlp_ethereum.specs.Header.{header};
+ghost use Rattle.rlp_ethereum.specs.declared.header.Header.{Header as BlockHeader};
 ghost use Rattle.rlp_c.specs.declared.records.kinds.Record.TheVariants.{Header};
+ghost use Rattle.rlp_c.specs.Places.{ArePlaced, fields_of, place_of};
 ghost use Rattle.rlp_c.specs.Records.{IsRecordRead, IsTransactionRead, record_of_type};
 
 use super::fields::check_fields;
@@ -17,6 +25,23 @@ use rlp_format::framed::{begins_as_list, whole_framed};
 /// of them has a fault, its number from 1 on, or else 0.
 #[unsafe(no_mangle)]
 pub extern "C" fn rlp_transaction(
+    bytes: &[u8],
+    transaction_type: &mut u32,
+    out: &mut [RlpItem],
+    count: &mut usize,
+) -> u32
+    ensures answer { IsTransactionRead bytes.now out.old out.new
+        transaction_type.old transaction_type.new count.new result }
+    ensures written { (t : Transaction) → transaction.Fits t
+        → bytes.now ≡ bytes_alone (transaction.item t)
+        → (transaction_type.new ≡ type_of t)
+        × ArePlaced (place_of t) (fields_of t) out.old out.new count.new result }
+{
+    read_transaction(bytes, transaction_type, out, count)
+}
+
+/// Does what [`rlp_transaction`] does.
+fn read_transaction(
     bytes: &[u8],
     transaction_type: &mut u32,
     out: &mut [RlpItem],
@@ -49,7 +74,9 @@ pub extern "C" fn rlp_transaction(
 /// [`rlp_transaction`].
 #[unsafe(no_mangle)]
 pub extern "C" fn rlp_header_fields(bytes: &[u8], out: &mut [RlpItem], count: &mut usize) -> u32
-    ensures { IsRecordRead Header 0 bytes.now out.old out.new count.new result }
+    ensures answer { IsRecordRead Header 0 bytes.now out.old out.new count.new result }
+    ensures written { (h : BlockHeader) → header.Fits h → bytes.now ≡ encoding (header.item h)
+        → ArePlaced 0 (header.item h) out.old out.new count.new result }
 {
     read_record(Record::Header, bytes, 0, out, count)
 }
