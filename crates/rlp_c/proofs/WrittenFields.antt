@@ -39,6 +39,11 @@ abbrev pub AreClean : (Option Kind → List ℕ → Option DecoderError) → Rec
 AreClean field r i [] = may_end r i ≡ true
 AreClean field r i (x ∷ xs) = IsClean field (kind_at r i) x × AreClean field r (i + 1) xs
 
+infixr 60 ◌&◌
+-- a field without a fault, and then others
+pub ◌&◌ : {A B : Type 0} → A → B → A × B
+one & others = (one, others)
+
 -- ---- lists
 
 items_clean : (field : Option Kind → List ℕ → Option DecoderError) (r : Record) (i : ℕ) (xs : List Item) → length (join xs) < 2 ^ 64 → AreClean field r i xs

@@ -55,7 +55,7 @@ use Rattle.rlp_c.specs.Records.{IsRecordRead, IsTransactionRead, record_of_type}
 use Rattle.rlp_c.specs.Records.{filled as read_filled, no_room as read_full, field as read_fault, no_list as read_no_list}
 use Rattle.rlp_c.specs.Records.{legacy as read_legacy, typed as read_typed, unknown as read_unknown, nothing as read_nothing}
 use Rattle.rlp_c.specs.Rows.{header_length, rows_at}
-use Rattle.rlp_c.proofs.WrittenFields.{AreClean, IsClean, bytes_clean, each_clean, exactly_clean, fields_clean, list_clean, number_clean, parity_clean, recipient_clean}
+use Rattle.rlp_c.proofs.WrittenFields.{AreClean, IsClean, ◌&◌, bytes_clean, each_clean, exactly_clean, fields_clean, list_clean, number_clean, parity_clean, recipient_clean}
 
 -- ---- the fields of each type
 
@@ -68,7 +68,7 @@ hashes_clean left vs fit = list_clean left Hashes (map hash.item vs)
     (recursion_from_All hash.Fits vs fit))
 
 access_clean : (a : AccessListItem) → access_list_item.Fits a → CleanIn 2 (a_list Access) (access_list_item.item a)
-access_clean a (address, (keys, none)) = list_clean 1 Access (fields_in (access_list_item.item a)) (exactly_clean 20 _ address, (hashes_clean 0 _ keys, refl))
+access_clean a (address, (keys, none)) = list_clean 1 Access (fields_in (access_list_item.item a)) (exactly_clean 20 _ address & hashes_clean 0 _ keys & refl)
 
 accesses_clean : (a : Accesses) → access_list.Fits a → CleanIn 3 (a_list AccessList) (access_list.item a)
 accesses_clean a fit = list_clean 2 AccessList (map access_list_item.item (vec_items a.0))
@@ -77,7 +77,7 @@ accesses_clean a fit = list_clean 2 AccessList (map access_list_item.item (vec_i
 
 authorization_clean : (a : Signed Authorized ℕ) → signed_authorization.Fits a → CleanIn 2 (a_list Authorization) (signed_authorization.item a)
 authorization_clean a ((chain, (address, (nonce, none))), (v, (r, (s, end)))) = list_clean 1 Authorization (fields_in (signed_authorization.item a))
-    (number_clean 32 _ chain, (exactly_clean 20 _ address, (number_clean 8 _ nonce, (number_clean 1 _ v, (number_clean 32 _ r, (number_clean 32 _ s, refl))))))
+    (number_clean 32 _ chain & exactly_clean 20 _ address & number_clean 8 _ nonce & number_clean 1 _ v & number_clean 32 _ r & number_clean 32 _ s & refl)
 
 authorizations_clean : (vs : List (Signed Authorized ℕ)) → All signed_authorization.Fits vs
     → CleanIn 3 (a_list Authorizations) (list_of (map signed_authorization.item vs))
@@ -89,186 +89,35 @@ abbrev AreCleanFields : Record → Item → Type 0
 AreCleanFields r x = AreClean (field_fault (fields_fault 3)) r 0 (fields_in x)
 
 legacy_clean : (t : Signed LegacyTransaction (Uint 32)) → signed_legacy_transaction.Fits t → AreCleanFields Legacy (signed_legacy_transaction.item t)
-legacy_clean t ((nonce, (price, (limit, (to, (value, (input, none)))))), (v, (r, (s, end)))) = (
-  number_clean 8 _ nonce,
-  (
-    number_clean 32 _ price,
-    (
-      number_clean 8 _ limit,
-      (
-        recipient_clean t.payload.to to,
-        (
-          number_clean 32 _ value,
-          (
-            bytes_clean _,
-            (
-              number_clean 32 _ v,
-              (
-                number_clean 32 _ r,
-                (
-                  number_clean 32 _ s,
-                  refl,
-                ),
-              ),
-            ),
-          ),
-        ),
-      ),
-    ),
-  ),
-)
+legacy_clean t ((nonce, (price, (limit, (to, (value, (input, none)))))), (v, (r, (s, end)))) =
+    number_clean 8 _ nonce & number_clean 32 _ price & number_clean 8 _ limit & recipient_clean t.payload.to to & number_clean 32 _ value & bytes_clean _
+    & number_clean 32 _ v & number_clean 32 _ r & number_clean 32 _ s & refl
 
 access_list_clean : (t : Signed AccessListTransaction Bool) → signed_access_list_transaction.Fits t
     → AreCleanFields AccessListPayload (signed_access_list_transaction.item t)
-access_list_clean t ((chain, (nonce, (price, (limit, (to, (value, (input, (accesses, none)))))))), (v, (r, (s, end)))) = (
-  number_clean 8 _ chain,
-  (
-    number_clean 8 _ nonce,
-    (
-      number_clean 32 _ price,
-      (
-        number_clean 8 _ limit,
-        (
-          recipient_clean t.payload.to to,
-          (
-            number_clean 32 _ value,
-            (
-              bytes_clean _,
-              (
-                accesses_clean t.payload.access_list accesses,
-                (
-                  parity_clean t.v,
-                  (
-                    number_clean 32 _ r,
-                    (
-                      number_clean 32 _ s,
-                      refl,
-                    ),
-                  ),
-                ),
-              ),
-            ),
-          ),
-        ),
-      ),
-    ),
-  ),
-)
+access_list_clean t ((chain, (nonce, (price, (limit, (to, (value, (input, (accesses, none)))))))), (v, (r, (s, end)))) =
+    number_clean 8 _ chain & number_clean 8 _ nonce & number_clean 32 _ price & number_clean 8 _ limit & recipient_clean t.payload.to to
+    & number_clean 32 _ value & bytes_clean _ & accesses_clean t.payload.access_list accesses
+    & parity_clean t.v & number_clean 32 _ r & number_clean 32 _ s & refl
 
 fee_market_clean : (t : Signed FeeMarketTransaction Bool) → signed_fee_market_transaction.Fits t
     → AreCleanFields FeeMarketPayload (signed_fee_market_transaction.item t)
-fee_market_clean t ((chain, (nonce, (tip, (fee, (limit, (to, (value, (input, (accesses, none))))))))), (v, (r, (s, end)))) = (
-  number_clean 8 _ chain,
-  (
-    number_clean 8 _ nonce,
-    (
-      number_clean 32 _ tip,
-      (
-        number_clean 32 _ fee,
-        (
-          number_clean 8 _ limit,
-          (
-            recipient_clean t.payload.to to,
-            (
-              number_clean 32 _ value,
-              (
-                bytes_clean _,
-                (
-                  accesses_clean t.payload.access_list accesses,
-                  (
-                    parity_clean t.v,
-                    (
-                      number_clean 32 _ r,
-                      (number_clean 32 _ s, refl),
-                    ),
-                  ),
-                ),
-              ),
-            ),
-          ),
-        ),
-      ),
-    ),
-  ),
-)
+fee_market_clean t ((chain, (nonce, (tip, (fee, (limit, (to, (value, (input, (accesses, none))))))))), (v, (r, (s, end)))) =
+    number_clean 8 _ chain & number_clean 8 _ nonce & number_clean 32 _ tip & number_clean 32 _ fee & number_clean 8 _ limit
+    & recipient_clean t.payload.to to & number_clean 32 _ value & bytes_clean _ & accesses_clean t.payload.access_list accesses
+    & parity_clean t.v & number_clean 32 _ r & number_clean 32 _ s & refl
 
 blob_clean : (t : Signed BlobTransaction Bool) → signed_blob_transaction.Fits t → AreCleanFields BlobPayload (signed_blob_transaction.item t)
-blob_clean t ((chain, (nonce, (tip, (fee, (limit, (to, (value, (input, (accesses, (blob_fee, (hashes, none))))))))))), (v, (r, (s, end)))) = (
-  number_clean 8 _ chain,
-  (
-    number_clean 8 _ nonce,
-    (
-      number_clean 32 _ tip,
-      (
-        number_clean 32 _ fee,
-        (
-          number_clean 8 _ limit,
-          (
-            exactly_clean 20 _ to,
-            (
-              number_clean 32 _ value,
-              (
-                bytes_clean _,
-                (
-                  accesses_clean t.payload.access_list accesses,
-                  (
-                    number_clean 32 _ blob_fee,
-                    (
-                      hashes_clean 2 (vec_items t.payload.blob_versioned_hashes) hashes,
-                      (parity_clean t.v, (number_clean 32 _ r, (number_clean 32 _ s, refl))),
-                    ),
-                  ),
-                ),
-              ),
-            ),
-          ),
-        ),
-      ),
-    ),
-  ),
-)
+blob_clean t ((chain, (nonce, (tip, (fee, (limit, (to, (value, (input, (accesses, (blob_fee, (hashes, none))))))))))), (v, (r, (s, end)))) =
+    number_clean 8 _ chain & number_clean 8 _ nonce & number_clean 32 _ tip & number_clean 32 _ fee & number_clean 8 _ limit & exactly_clean 20 _ to
+    & number_clean 32 _ value & bytes_clean _ & accesses_clean t.payload.access_list accesses & number_clean 32 _ blob_fee
+    & hashes_clean 2 (vec_items t.payload.blob_versioned_hashes) hashes & parity_clean t.v & number_clean 32 _ r & number_clean 32 _ s & refl
 
 set_code_clean : (t : Signed SetCodeTransaction Bool) → signed_set_code_transaction.Fits t → AreCleanFields SetCodePayload (signed_set_code_transaction.item t)
-set_code_clean t ((chain, (nonce, (tip, (fee, (limit, (to, (value, (input, (accesses, (authorizations, none)))))))))), (v, (r, (s, end)))) = (
-  number_clean 8 _ chain,
-  (
-    number_clean 8 _ nonce,
-    (
-      number_clean 32 _ tip,
-      (
-        number_clean 32 _ fee,
-        (
-          number_clean 8 _ limit,
-          (
-            exactly_clean 20 _ to,
-            (
-              number_clean 32 _ value,
-              (
-                bytes_clean _,
-                (
-                  accesses_clean t.payload.access_list accesses,
-                  (
-                    authorizations_clean (vec_items t.payload.authorization_list) authorizations,
-                    (
-                      parity_clean t.v,
-                      (
-                        number_clean 32 _ r,
-                        (
-                          number_clean 32 _ s,
-                          refl,
-                        ),
-                      ),
-                    ),
-                  ),
-                ),
-              ),
-            ),
-          ),
-        ),
-      ),
-    ),
-  ),
-)
+set_code_clean t ((chain, (nonce, (tip, (fee, (limit, (to, (value, (input, (accesses, (authorizations, none)))))))))), (v, (r, (s, end)))) =
+    number_clean 8 _ chain & number_clean 8 _ nonce & number_clean 32 _ tip & number_clean 32 _ fee & number_clean 8 _ limit & exactly_clean 20 _ to
+    & number_clean 32 _ value & bytes_clean _ & accesses_clean t.payload.access_list accesses
+    & authorizations_clean (vec_items t.payload.authorization_list) authorizations & parity_clean t.v & number_clean 32 _ r & number_clean 32 _ s & refl
 
 -- ---- the fields of a header
 
@@ -282,7 +131,7 @@ requests_clean (Some h) fit = (exactly_clean 32 h.0 fit, refl)
 cancun_clean : (o : Option Cancun) → IfSome o cancun_fields.Fits → AreCleanSince 17 (items_if cancun_fields.items o)
 cancun_clean None fit = refl
 cancun_clean (Some c) (used, (excess, (root, requests))) =
-    (number_clean 8 _ used, (number_clean 8 _ excess, (exactly_clean 32 _ root, requests_clean c.requests_hash requests)))
+    number_clean 8 _ used & number_clean 8 _ excess & exactly_clean 32 _ root & requests_clean c.requests_hash requests
 
 shanghai_clean : (o : Option Shanghai) → IfSome o shanghai_fields.Fits → AreCleanSince 16 (items_if shanghai_fields.items o)
 shanghai_clean None fit = refl
@@ -293,40 +142,10 @@ london_clean None fit = refl
 london_clean (Some l) (fee, shanghai) = (number_clean 32 _ fee, shanghai_clean l.since_shanghai shanghai)
 
 header_clean : (h : BlockHeader) → header.Fits h → AreCleanSince 0 (header_fields.items h)
-header_clean h (parent, (ommers, (beneficiary, (state, (transactions, (receipts, (bloom, (difficulty, (number, (limit, (used, (time, (extra, (mix, (nonce, london))))))))))))))) = (
-  exactly_clean 32 _ parent,
-  (
-    exactly_clean 32 _ ommers,
-    (
-      exactly_clean 20 _ beneficiary,
-      (
-        exactly_clean 32 _ state,
-        (
-          exactly_clean 32 _ transactions,
-          (
-            exactly_clean 32 _ receipts,
-            (
-              exactly_clean 256 _ bloom,
-              (
-                number_clean 32 _ difficulty,
-                (
-                  number_clean 8 _ number,
-                  (
-                    number_clean 8 _ limit,
-                    (
-                      number_clean 8 _ used,
-                      (number_clean 8 _ time, (bytes_clean _, (exactly_clean 32 _ mix, (exactly_clean 8 _ nonce, london_clean h.since_london london)))),
-                    ),
-                  ),
-                ),
-              ),
-            ),
-          ),
-        ),
-      ),
-    ),
-  ),
-)
+header_clean h (parent, (ommers, (beneficiary, (state, (transactions, (receipts, (bloom, (difficulty, (number, (limit, (used, (time, (extra, (mix, (nonce, london))))))))))))))) =
+    exactly_clean 32 _ parent & exactly_clean 32 _ ommers & exactly_clean 20 _ beneficiary & exactly_clean 32 _ state & exactly_clean 32 _ transactions
+    & exactly_clean 32 _ receipts & exactly_clean 256 _ bloom & number_clean 32 _ difficulty & number_clean 8 _ number & number_clean 8 _ limit
+    & number_clean 8 _ used & number_clean 8 _ time & bytes_clean _ & exactly_clean 32 _ mix & exactly_clean 8 _ nonce & london_clean h.since_london london
 
 -- ---- the answer for a list
 
