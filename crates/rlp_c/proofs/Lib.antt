@@ -20,3 +20,7 @@ mod RecordAnswers
 mod WrittenFields
 -- the answers for transactions and headers that are written
 mod WrittenRecords
+-- items without a fault as fields have none of the codecs
+mod ReadFields
+-- the answers for transactions and headers that are read
+mod ReadRecords

@@ -1,5 +1,5 @@
 -- The answers for transactions and headers that are written.
-use Rattle.std.proofs.Common.{◌≡◌, ℕ, ◌+◌, ◌^◌, ◌<◌, ◌≤◌, Bool, true, false, nat_le, List, [], ◌∷◌, length, map, refl, sym, ap, ◌∙◌, suc, IfSome, All, subst, arith, append-nil, Option, Some, None, leb-true}
+use Rattle.std.proofs.Common.{◌≡◌, ℕ, ◌+◌, ◌^◌, ◌<◌, Bool, true, false, nat_le, List, [], ◌∷◌, length, map, refl, sym, ap, ◌∙◌, suc, IfSome, All, subst, arith, append-nil, Option, Some, None, leb-true}
 use Rattle.std.specs.Vec.{vec_items}
 use Rattle.std.proofs.lemmas.Bool.Decides.{nat_tests}
 use Rattle.std.proofs.lemmas.List.{length-map}
@@ -178,14 +178,16 @@ header_written h b old new count status short fit is read = record_placed Header
 
 -- ---- the answer for a transaction
 
-above_unknown : (k : ℕ) → 0xc0 ≤ k → record_of_type k ≡ None
+-- there are four types
+pub above_unknown : (k : ℕ) → 4 < k → record_of_type k ≡ None
 above_unknown k high = grind (arith, nat_tests)
 
 module _ (b : List ℕ) (old new : List RlpItem) (old_type type count status : ℕ) where
   legacy_read : begins_as_list b ≡ true → IsTransactionRead b old new old_type type count status → (type ≡ 0) × IsRecordRead Legacy 0 b old new count status
   legacy_read kind (read_legacy begins is read) = (is, read)
   legacy_read kind (read_typed k p r whole known is read) =
-      let none = above_unknown k (leb-true 0xc0 k (sym (ap begins_as_list whole) ∙ kind)) in absurd (let no : ⊥ = cc in no)
+      let high = leb-true 0xc0 k (sym (ap begins_as_list whole) ∙ kind) in
+      let none = above_unknown k (omega (arith, high)) in absurd (let no : ⊥ = cc in no)
   legacy_read kind (read_unknown k p whole begins none is number done) = absurd (let no : ⊥ = cc in no)
   legacy_read kind (read_nothing none is number done) = let begins = ap begins_as_list none in absurd (let no : ⊥ = cc in no)
 

@@ -1,5 +1,5 @@
 -- Where the fields of a transaction and of a header are, by the codecs of `rlp_ethereum`.
-use Rattle.std.specs.Prelude.{ℕ, ◌≡◌, ◌+◌, ◌<◌, ◌≤◌, List, [], length, map, take}
+use Rattle.std.specs.Prelude.{ℕ, ◌≡◌, ◌+◌, ◌<◌, ◌≤◌, ◌⊎◌, List, [], length, map, take}
 use Rattle.rlp_format.specs.Format.Item.{Item, list, listed, string}
 use Rattle.rlp_format.specs.Format.Encoding.{encoding}
 use Rattle.rlp_format.specs.Format.Framing.{framing}
@@ -41,3 +41,7 @@ place_of (AccessList t) = 1
 place_of (FeeMarket t) = 1
 place_of (Blob t) = 1
 place_of (SetCode t) = 1
+
+-- the status says that all fields were found, though the array may have no room for their places
+abbrev pub IsFound : ℕ → Type 0
+IsFound status = (status ≡ 0) ⊎ (status ≡ 13)
