@@ -16,3 +16,11 @@ mod Described
 mod Checking
 -- the answers for transactions and headers
 mod RecordAnswers
+-- what the codecs write has no fault
+mod WrittenFields
+-- the answers for transactions and headers that are written
+mod WrittenRecords
+-- items without a fault as fields have none of the codecs
+mod ReadFields
+-- the answers for transactions and headers that are read
+mod ReadRecords

@@ -16,3 +16,5 @@ pub mod Kinds
 pub mod Fields
 -- the answers for transactions and headers
 pub mod Records
+-- where the fields of a transaction and of a header are
+pub mod Places

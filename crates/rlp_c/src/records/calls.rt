@@ -1,7 +1,18 @@
 //! What C calls for records.
 
 ghost use Rattle.std.specs.Prelude.{◌≡◌, ◌+◌, ◌≤◌, ◌<◌, ◌^◌, length};
+ghost use Rattle.rlp_format.specs.Format.Encoding.{encoding};
+ghost use Rattle.rlp_format.specs.Views.View.{strict_view_of};
+ghost use Rattle.rlp_format.specs.declared.error.DecoderError.{DecoderError};
+ghost use Rattle.rlp_records.specs.Alone.{FaultsAlone, bytes_alone};
+ghost use Rattle.rlp_transactions.specs.LegacyTransaction.{signed_legacy_transaction};
+ghost use Rattle.rlp_transactions.specs.Transaction.{transaction, typed_transactions, unknown_type};
+ghost use Rattle.rlp_transactions.specs.TransactionParts.{type_of};
+ghost use Rattle.rlp_transactions.specs.declared.transaction.Transaction.{Transaction};
+ghost use Rattle.rlp_ethereum.specs.Header.{header};
+ghost use Rattle.rlp_ethereum.specs.declared.header.Header.{Header as BlockHeader};
 ghost use Rattle.rlp_c.specs.declared.records.kinds.Record.TheVariants.{Header};
+ghost use Rattle.rlp_c.specs.Places.{ArePlaced, IsFound, fields_of, place_of};
 ghost use Rattle.rlp_c.specs.Records.{IsRecordRead, IsTransactionRead, record_of_type};
 
 use super::fields::check_fields;
@@ -14,9 +25,29 @@ use rlp_format::framed::{begins_as_list, whole_framed};
 
 /// Writes a row for each field of the transaction that the bytes are by themselves, as in EIP-2718,
 /// and its type, which is 0 for a legacy transaction. `count` gets the number of fields, or if one
-/// of them has a fault, its number from 1 on, or else 0.
+/// of them has a fault, its number from 1 on, or else 0. The transactions, their fields and their
+/// faults are those of `rlp_transactions`.
 #[unsafe(no_mangle)]
 pub extern "C" fn rlp_transaction(
+    bytes: &[u8],
+    transaction_type: &mut u32,
+    out: &mut [RlpItem],
+    count: &mut usize,
+) -> u32
+    ensures answer { IsTransactionRead bytes.now out.old out.new
+        transaction_type.old transaction_type.new count.new result }
+    ensures written { (t : Transaction) → transaction.Fits t
+        → bytes.now ≡ bytes_alone (transaction.item t)
+        → (transaction_type.new ≡ type_of t)
+        × ArePlaced (place_of t) (fields_of t) out.old out.new count.new result }
+    ensures sound { IsFound result → (e : DecoderError)
+        → ¬ FaultsAlone signed_legacy_transaction unknown_type typed_transactions bytes.now e }
+{
+    read_transaction(bytes, transaction_type, out, count)
+}
+
+/// Does what [`rlp_transaction`] does.
+fn read_transaction(
     bytes: &[u8],
     transaction_type: &mut u32,
     out: &mut [RlpItem],
@@ -45,11 +76,15 @@ pub extern "C" fn rlp_transaction(
     }
 }
 
-/// Writes a row for each field of the header of a block that the bytes are. Otherwise as
-/// [`rlp_transaction`].
+/// Writes a row for each field of the header of a block that the bytes are, a header of
+/// `rlp_ethereum`. Otherwise as [`rlp_transaction`].
 #[unsafe(no_mangle)]
 pub extern "C" fn rlp_header_fields(bytes: &[u8], out: &mut [RlpItem], count: &mut usize) -> u32
-    ensures { IsRecordRead Header 0 bytes.now out.old out.new count.new result }
+    ensures answer { IsRecordRead Header 0 bytes.now out.old out.new count.new result }
+    ensures written { (h : BlockHeader) → header.Fits h → bytes.now ≡ encoding (header.item h)
+        → ArePlaced 0 (header.item h) out.old out.new count.new result }
+    ensures sound { IsFound result → (e : DecoderError)
+        → ¬ header.faults (strict_view_of bytes.now) e }
 {
     read_record(Record::Header, bytes, 0, out, count)
 }

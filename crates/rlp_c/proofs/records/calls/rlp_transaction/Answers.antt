@@ -1,17 +1,14 @@
-use Rattle.std.proofs.Common.{refl, sym, ◌-◌, length, take, drop, slice_index_or}
-use Rattle.rlp_c.specs.Records.{legacy, typed, unknown}
-use Rattle.rlp_c.proofs.RecordAnswers.{first_and_rest}
+use Rattle.std.proofs.Common.{◌<◌, ◌^◌, length, arith}
+use Rattle.rlp_c.proofs.ReadRecords.{transaction_found}
+use Rattle.rlp_c.proofs.WrittenRecords.{transaction_written}
 use Rattle.rlp_c.proofs.records.calls.rlp_transaction.Goals as goal
 
-pub returns-then-begins_as_list : goal.returns-then-begins_as_list
-returns-then-begins_as_list c = legacy (sym c.if-begins_as_list.ensures) refl c.read_record.ensures
+pub returns-clause-written : goal.returns-clause-written
+returns-clause-written c = λ t fit is.
+    let short : length c.args.bytes.now < 2 ^ 64 = omega arith in
+    transaction_written c.args.bytes.now _ _ _ _ _ _ t short fit is c.read_transaction.ensures
 
-pub returns-in-Some : goal.returns-in-Some
-returns-in-Some c =
-    typed (slice_index_or c.args.bytes.now 0 0) (take (length c.args.bytes.now - 1) (drop 1 c.args.bytes.now)) c.in-Some.list (first_and_rest c.args.bytes.now c.in-len1-up.len_at_least)
-    (sym c.in-Some.ensures) refl c.read_record-in-Some.ensures
-
-pub returns-in-None : goal.returns-in-None
-returns-in-None c =
-    unknown (slice_index_or c.args.bytes.now 0 0) (take (length c.args.bytes.now - 1) (drop 1 c.args.bytes.now)) (first_and_rest c.args.bytes.now c.in-len1-up.len_at_least)
-    (sym c.if-begins_as_list.ensures) (sym c.in-None.ensures) refl refl refl
+pub returns-clause-sound : goal.returns-clause-sound
+returns-clause-sound c = λ found.
+    let short : length c.args.bytes.now < 2 ^ 64 = omega arith in
+    transaction_found c.args.bytes.now _ _ _ _ _ _ short found c.read_transaction.ensures
