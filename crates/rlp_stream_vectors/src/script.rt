@@ -8,6 +8,7 @@
 //! `!` stands before a call that isn't admitted, and `N times` before one that is made N times.
 //! `list`, `over` and `list_over` begin a new stream: a list, over bytes, and a list over bytes.
 //! `refused` appends a value that is refused each time, and `direct` calls the value's own `rlp_append`.
+//! `chain_lists`, `chain_items` and `chain_raw BYTES` make several calls in one chain.
 //! `raw N BYTES` appends N items, and `within N BYTES` one item within the limit N.
 //! `finalize_up_to N M` closes at most N lists, and M in fact. `is SIZE AWAITED BYTES`, `size SIZE`
 //! and `estimate MORE SIZE` compare the stream.

@@ -188,20 +188,9 @@ fn buffers_are_joined(alloc: Global) -> Result<bool, AllocError> {
 
 #[test]
 fn streams_finish_as_worked_out(rt: HostRuntime) -> Result<(), Fail> {
-    all_met(rt.alloc(), &TABLES)
-}
-
-#[test]
-fn streams_are_filled(rt: HostRuntime) -> Result<(), Fail> {
-    all_met_to(rt.alloc(), 269, FULL)
-}
-
-#[test]
-fn lists_are_opened(rt: HostRuntime) -> Result<(), Fail> {
-    all_met_to(rt.alloc(), 56, DEEP)
-}
-
-#[test]
-fn split_buffers_are_joined(rt: HostRuntime) {
-    assert!(rt; buffers_are_joined(rt.alloc()) == Ok(true));
+    let alloc = rt.alloc();
+    assert!(rt; buffers_are_joined(alloc) == Ok(true));
+    all_met_to(alloc, 269, FULL)?;
+    all_met_to(alloc, 56, DEEP)?;
+    all_met(alloc, &TABLES)
 }

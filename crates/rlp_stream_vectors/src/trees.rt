@@ -122,16 +122,9 @@ fn first_wrong_len(alloc: Global) -> Result<Option<usize>, AllocError> {
 }
 
 #[test]
-fn trees_of_announced_lists(rt: HostRuntime) -> Result<(), Fail> {
-    trees_are_written(rt.alloc(), ANNOUNCED)
-}
-
-#[test]
-fn trees_of_unbounded_lists(rt: HostRuntime) -> Result<(), Fail> {
-    trees_are_written(rt.alloc(), UNBOUNDED)
-}
-
-#[test]
-fn strings_are_written(rt: HostRuntime) {
-    assert_eq!(rt; first_wrong_len(rt.alloc()), Ok(None));
+fn trees_and_strings_are_written(rt: HostRuntime) -> Result<(), Fail> {
+    let alloc = rt.alloc();
+    assert_eq!(rt; first_wrong_len(alloc), Ok(None));
+    trees_are_written(alloc, ANNOUNCED)?;
+    trees_are_written(alloc, UNBOUNDED)
 }
