@@ -1,4 +1,5 @@
--- The records of Ethereum: the fields of each, in order, as the EIPs and the yellow paper list them.
+-- The records of Ethereum: the fields of each, in order, as the EIPs and the yellow paper list them. By the clauses `written` and `sound` of `rlp_transaction`
+-- and `rlp_header_fields` they agree with the codecs of `rlp_ethereum`.
 use Rattle.std.specs.Prelude.{ℕ, Bool, true, ◌==◌, ◌||◌, List, [], ◌∷◌, Option, Some, slice_get}
 use Rattle.rlp_c.specs.declared.records.kinds.Kind.{Kind}
 use Rattle.rlp_c.specs.declared.records.kinds.Kind.TheVariants.{Number, Parity, Exactly, Recipient, Bytes, List as list_of}
