@@ -1,1 +1,2 @@
+pub mod EmptyString
 pub mod PathLemmas

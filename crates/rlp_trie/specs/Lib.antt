@@ -1,5 +1,7 @@
+pub mod BranchChild
 pub mod Child
 pub mod ChildLaws
+pub mod EmptyString
 pub mod HexPrefix
 pub mod Inline
 pub mod Path

@@ -2,7 +2,9 @@
 #![tactic(auto)]
 
 mod branch;
+mod branch_child;
 mod child;
+mod empty;
 mod extension;
 mod hex_prefix;
 mod inline_node;
@@ -12,6 +14,7 @@ mod record;
 mod trie_node;
 
 pub use branch::Branch;
+pub use branch_child::BranchChild;
 pub use child::Child;
 pub use extension::Extension;
 pub use hex_prefix::ends_in_leaf;
