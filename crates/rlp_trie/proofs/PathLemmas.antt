@@ -39,7 +39,7 @@ nibbles_back (a ∷ b ∷ x) are even =
     cc
 
 -- the digits of bytes are nibbles
-nibbles_are : (d : List ℕ) → AreBytes d → AreNibbles (nibbles_of d)
+pub nibbles_are : (d : List ℕ) → AreBytes d → AreNibbles (nibbles_of d)
 nibbles_are [] are = All-nil IsNibble
 nibbles_are (b ∷ d) are =
     let byte : b < 256 = All-head IsByte b d are in
@@ -178,6 +178,19 @@ ends_again leaf d x are is = ap ends_in_leaf is ∙ (path_again leaf x are).0
 -- the encoding of nibbles is that of an empty path of an extension only if there are none
 pub not_empty_again : (leaf : Bool) (d x : List ℕ) → AreNibbles x → d ≡ hex_prefix leaf x → (leaf ≡ false → x ≢ []) → is_empty_extension d ≡ false
 not_empty_again leaf d x are is some = ap is_empty_extension is ∙ not_empty_of leaf x are some
+
+-- a path of an extension has nibbles, unless it is the empty one
+pub some_nibbles : (d : List ℕ) → ends_in_leaf d ≡ Some false → is_empty_extension d ≡ false → path_nibbles d ≢ []
+some_nibbles [] is some = absurd (let no : ⊥ = cc in no)
+some_nibbles (first ∷ more) is some = λ none.
+    ⊎_elim
+    (λ (even : first ≡ 0). some_by first more even some (sym (path_even first more (ap (λ n. n / 16 % 2) even)) ∙ none))
+    (λ (odd : first / 16 ≡ 1). let no : first % 16 ∷ nibbles_of more ≡ [] = sym (path_odd first more (ap (λ n. n % 2) odd)) ∙ none in cc)
+    (first_told first false is)
+  where
+    some_by : (first : ℕ) (more : List ℕ) → first ≡ 0 → is_empty_extension (first ∷ more) ≡ false → nibbles_of more ≡ [] → ⊥
+    some_by first [] zero some none = let no : is_empty_extension (first ∷ []) ≡ true = ap (λ n. n == 0x00) zero in cc
+    some_by first (next ∷ more) zero some none = cc
 
 -- the nibbles that are read from a path
 pub path_read : (leaf : Bool) (d : List ℕ) (r : Result (Vec ℕ) AllocError) → AreBytes d → ends_in_leaf d ≡ Some leaf → IfOk r (λ x. x.items ≡ path_nibbles d)
