@@ -6,6 +6,7 @@ use rlp_ethereum::laws::{
     reading_without_memory_is_total, record_is_read, record_is_written, record_round_trips,
 };
 use rlp_ethereum::{Account, Record, Transaction, Withdrawal};
+use rlp_trie::laws::paths_have_one_value;
 use std::alloc::Global;
 use std::test::Fail;
 
@@ -44,5 +45,6 @@ fn laws_hold_of_records(rt: HostRuntime) -> Result<(), Fail> {
     let transaction = Transaction::from_bytes(alloc, bytes.as_slice())?;
     bytes_tell_transactions(&transaction, &transaction);
     no_bytes_are_signed_for_two_meanings();
+    paths_have_one_value();
     Ok(())
 }
