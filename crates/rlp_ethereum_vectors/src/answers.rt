@@ -5,9 +5,9 @@ use crate::reading::{Alone, Item, ways};
 use crate::text::spelled;
 use crate::{fields, node_records, nodes, records, signing, unsigned};
 use rlp_ethereum::{
-    AccessListTransaction, Account, Authorization, BlobTransaction, Block, Body, Branch, BranchChild, Child,
-    Extension, FeeMarketTransaction, Hash, Header, Leaf, Log, NodeRecord, SetCodeTransaction,
-    Signed, SignedLegacyTransaction, Transaction, TrieNode, TypedReceipt,
+    AccessListTransaction, Account, Authorization, BlobTransaction, Block, Body, Branch,
+    BranchChild, Child, Extension, FeeMarketTransaction, Hash, Header, Leaf, Log, NodeRecord,
+    SetCodeTransaction, Signed, SignedLegacyTransaction, Transaction, TrieNode, TypedReceipt,
     UnsignedLegacyTransaction, UnsignedTransaction, Withdrawal,
 };
 use std::alloc::Global;

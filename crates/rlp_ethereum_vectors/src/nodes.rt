@@ -6,8 +6,8 @@ use crate::text::spelled;
 use bytes::BytesMut;
 use rlp::{DecoderError, Encodable, RawItem};
 use rlp_ethereum::{
-    Branch, BranchChild, Child, Extension, ExtensionPath, Hash, InlineNode, Leaf, LeafPath, Path, TrieNode,
-    ends_in_leaf,
+    Branch, BranchChild, Child, Extension, ExtensionPath, Hash, InlineNode, Leaf, LeafPath, Path,
+    TrieNode, ends_in_leaf,
 };
 use std::alloc::{AllocError, Global};
 use std::test::Fail;

@@ -17,12 +17,21 @@ use std::test::Fail;
 /// block without ommers, and an independent program computed the others.
 const ROWS: [(&str, &str); 41] = [
     ("PUPPY 646f PUPPY_0 PUPPY_1 PUPPY_2 PUPPY_3", "= 76657262"),
-    ("PUPPY 646f67 PUPPY_0 PUPPY_1 PUPPY_2 PUPPY_3", "= 7075707079"),
-    ("PUPPY 646f6765 PUPPY_0 PUPPY_1 PUPPY_2 PUPPY_3", "= 636f696e"),
+    (
+        "PUPPY 646f67 PUPPY_0 PUPPY_1 PUPPY_2 PUPPY_3",
+        "= 7075707079",
+    ),
+    (
+        "PUPPY 646f6765 PUPPY_0 PUPPY_1 PUPPY_2 PUPPY_3",
+        "= 636f696e",
+    ),
     ("PUPPY 686f727365 PUPPY_0 PUPPY_1", "= 7374616c6c696f6e"),
     ("DOGS 646f65 DOGS_0 DOGS_1", "= 7265696e64656572"),
     ("DOGS 646f67 DOGS_0 DOGS_1 DOGS_2", "= 7075707079"),
-    ("DOGS 646f67676c6573776f727468 DOGS_0 DOGS_1 DOGS_2", "= 636174"),
+    (
+        "DOGS 646f67676c6573776f727468 DOGS_0 DOGS_1 DOGS_2",
+        "= 636174",
+    ),
     ("FOO 666f6f FOO_0", "= 626172"),
     ("FOO 666f6f64 FOO_0", "= 62617373"),
     ("BED 6265 BED_0 BED_1", "= 65"),
@@ -62,7 +71,10 @@ const ROWS: [(&str, &str); 41] = [
     ("NO_CHILD 746f d1+80*6+c0+80*10", "none"),
     ("PUPPY 71 PUPPY_0 PUPPY_1", "NodesLeft"),
     ("EMPTY 646f 80 80", "NodesLeft"),
-    ("PUPPY 686f727365 PUPPY_0 PUPPY_1 cf85206f727365887374616c6c696f6e", "NodesLeft"),
+    (
+        "PUPPY 686f727365 PUPPY_0 PUPPY_1 cf85206f727365887374616c6c696f6e",
+        "NodesLeft",
+    ),
 ];
 
 /// Returns what the trie with a root has for a key, as nodes prove it.
@@ -96,7 +108,10 @@ fn wanted(alloc: Global, text: &str) -> Result<String, Fail> {
 fn proofs(rt: HostRuntime) -> Result<(), Fail> {
     for (proof, text) in ROWS {
         let given = verified(rt.alloc(), proof)?;
-        assert_eq!(rt; (proof, given.as_str()), (proof, wanted(rt.alloc(), text)?.as_str()));
+        assert_eq!(rt;
+            (proof, given.as_str()),
+            (proof, wanted(rt.alloc(), text)?.as_str())
+        );
     }
     Ok(())
 }

@@ -8,7 +8,7 @@ use rlp_show::Kind;
 use std::test::Fail;
 
 /// The kind, the digits of a node, and its lines.
-const NODES: [Row; 5] = [
+const NODES: [Row; 6] = [
     (
         Kind::Node,
         &["cb84200001028576616c7565"],
@@ -19,6 +19,7 @@ const NODES: [Row; 5] = [
             "\n",
         ],
     ),
+    (Kind::Node, &["80"], &["node: empty\n", "\n"]),
     (
         Kind::Node,
         &["c23f80"],
@@ -82,7 +83,7 @@ const NODES: [Row; 5] = [
 ];
 
 /// The kind, the digits, and what is wrong.
-const FAULTS: [Row; 10] = [
+const FAULTS: [Row; 14] = [
     (Kind::Node, &["c3206162"], &["error RlpIncorrectListLen\n"]),
     (
         Kind::Node,
@@ -111,9 +112,21 @@ const FAULTS: [Row; 10] = [
     ),
     (
         Kind::Node,
-        &["e1009f000102030405060708090a0b0c0d0e0f101112131415161718191a1b1c1d1e"],
+        &["e11a9f000102030405060708090a0b0c0d0e0f101112131415161718191a1b1c1d1e"],
         &["error field 1 (child): RlpIsTooShort\n"],
     ),
+    (
+        Kind::Node,
+        &["c21780"],
+        &["error field 1 (child): RlpIsTooShort\n"],
+    ),
+    (
+        Kind::Node,
+        &["e200a0000102030405060708090a0b0c0d0e0f101112131415161718191a1b1c1d1e1f"],
+        &["error field 0 (path): Custom(\"path of an extension is empty\")\n"],
+    ),
+    (Kind::Node, &["05"], &["error RlpExpectedToBeList\n"]),
+    (Kind::Node, &["8180"], &["error RlpExpectedToBeList\n"]),
     (
         Kind::Node,
         &[
