@@ -319,13 +319,20 @@ def some_path(dice):
     return bytes([first]) + dice.randbytes(dice.choice((0, 1, 31)))
 
 
+def extension_path_text(string):
+    if string == b"\x00":
+        raise Answered('Custom("path of an extension is empty")')
+    return path_text(string)
+
+
 PATH = Text(path_text, some_path)
+EXTENSION_PATH = Text(extension_path_text, some_path)
 
 
 class Child:
-    """A child of a node of the trie: a list of fewer than 32 bytes, no bytes, or a hash."""
+    """A child of a node of the trie: a list of fewer than 32 bytes, or a hash."""
 
-    hash = Text(lambda s: fixed_text(32)(s) if s else "0x", lambda dice: dice.randbytes(dice.choice((0, 32))))
+    hash = Text(fixed_text(32), lambda dice: dice.randbytes(dice.choice((0, 32, 32, 32))))
 
     def lines(self, name, data):
         if not data or data[0] < 0xC0:
@@ -341,14 +348,22 @@ class Child:
         return written_list(dice, [encoded_string(b"\x20"), value])
 
 
-class Node:
-    """A node of the trie: a branch of 17 items, or a leaf or an extension, which the path tells apart."""
+class BranchChild(Child):
+    """A child at a place of a branch, or no bytes."""
 
-    branch = Record([(f"children[{digit}]", Child()) for digit in range(16)] + [("value", STRING)])
+    hash = Text(lambda s: fixed_text(32)(s) if s else "0x", lambda dice: dice.randbytes(dice.choice((0, 32))))
+
+
+class Node:
+    """A node of the trie: a branch of 17 items, or a leaf or an extension, which the path tells apart; or the empty trie."""
+
+    branch = Record([(f"children[{digit}]", BranchChild()) for digit in range(16)] + [("value", STRING)])
     leaf = Record([("path", PATH), ("value", STRING)])
-    extension = Record([("path", PATH), ("child", Child())])
+    extension = Record([("path", EXTENSION_PATH), ("child", Child())])
 
     def lines(self, name, data):
+        if data == b"\x80":
+            return [f"{name + '.' if name else ''}node: empty"]
         try:
             items = strict_items(data)
             if len(items) not in (2, 17):
@@ -364,6 +379,8 @@ class Node:
         return [f"{name + '.' if name else ''}node: {kind}"] + getattr(self, kind).lines(name, data)
 
     def written(self, dice):
+        if dice.random() < 0.05:
+            return b"\x80"
         return dice.choice((self.branch, self.leaf, self.extension)).written(dice)
 
 

@@ -39,8 +39,8 @@ pub use rlp_transactions::{
     signing_hash,
 };
 pub use rlp_trie::{
-    Branch, Child, Extension, ExtensionPath, InlineNode, Leaf, LeafPath, Path, TrieNode,
-    ends_in_leaf,
+    Branch, BranchChild, Child, Extension, ExtensionPath, InlineNode, Leaf, LeafPath, Path,
+    ProofFault, TrieNode, ends_in_leaf, verify_proof,
 };
 pub use typed_receipt::TypedReceipt;
 pub use withdrawal::{Withdrawal, Withdrawals};

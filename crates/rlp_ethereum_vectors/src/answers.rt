@@ -5,9 +5,9 @@ use crate::reading::{Alone, Item, ways};
 use crate::text::spelled;
 use crate::{fields, node_records, nodes, records, signing, unsigned};
 use rlp_ethereum::{
-    AccessListTransaction, Account, Authorization, BlobTransaction, Block, Body, Branch, Child,
-    Extension, FeeMarketTransaction, Hash, Header, Leaf, Log, NodeRecord, SetCodeTransaction,
-    Signed, SignedLegacyTransaction, Transaction, TrieNode, TypedReceipt,
+    AccessListTransaction, Account, Authorization, BlobTransaction, Block, Body, Branch,
+    BranchChild, Child, Extension, FeeMarketTransaction, Hash, Header, Leaf, Log, NodeRecord,
+    SetCodeTransaction, Signed, SignedLegacyTransaction, Transaction, TrieNode, TypedReceipt,
     UnsignedLegacyTransaction, UnsignedTransaction, Withdrawal,
 };
 use std::alloc::Global;
@@ -20,6 +20,7 @@ pub(crate) fn answer(alloc: Global, call: &str, bytes: &[u8]) -> Result<String, 
         "Block" => ways::<Item<Block>>(alloc, bytes),
         "Body" => ways::<Item<Body>>(alloc, bytes),
         "Branch" => ways::<Item<Branch>>(alloc, bytes),
+        "BranchChild" => ways::<Item<BranchChild>>(alloc, bytes),
         "Child" => ways::<Item<Child>>(alloc, bytes),
         "Extension" => ways::<Item<Extension>>(alloc, bytes),
         "Hash" => ways::<Item<Hash>>(alloc, bytes),

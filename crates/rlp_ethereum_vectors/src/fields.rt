@@ -243,6 +243,7 @@ pub(crate) fn kind(receipt: &TypedReceipt) -> &'static str {
 pub(crate) fn node(alloc: Global, bytes: &[u8]) -> Result<String, Fail> {
     let node = rlp::decode_strict::<TrieNode>(alloc, bytes)?;
     let (kind, path, child) = match &node {
+        TrieNode::Empty => ("empty", b"".as_slice(), None),
         TrieNode::Leaf(leaf) => ("leaf", leaf.path.bytes.as_slice(), None),
         TrieNode::Extension(extension) => (
             "extension",

@@ -13,8 +13,8 @@ use std::test::Fail;
 /// first transaction of the main network, the example of EIP-155 and a transaction of type 2; what is
 /// signed of a transaction of the tests of `go-ethereum`, of the one of type 2 and of the example; and
 /// the roots of the tries of transactions and receipts of block 46147, which has only the first
-/// transaction.
-const ROWS: [(&str, &str, &str); 13] = [
+/// transaction; and the root of the empty trie.
+const ROWS: [(&str, &str, &str); 14] = [
     (
         "header",
         "GENESIS",
@@ -99,6 +99,11 @@ const ROWS: [(&str, &str, &str); 13] = [
         "f90131822080b9012bf90128a096a8e009d2b88b1483e6941e6812e32263b05683fac202abc622\
          a3e31aed1957825208b90100+00*256+c0",
         "fe2bf2a941abf41d72637e5b91750332a30283efd40c424dc522b77e6f0ed8c4",
+    ),
+    (
+        "node",
+        "80",
+        "56e81f171bcc55a6ff8345e692c0f86e5b48e01b996cadc001622fb5e363b421",
     ),
 ];
 

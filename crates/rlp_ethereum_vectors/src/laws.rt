@@ -8,6 +8,7 @@ use rlp_ethereum::laws::{
     record_round_trips,
 };
 use rlp_ethereum::{Account, NodeRecord, Record, Transaction, Withdrawal};
+use rlp_trie::laws::paths_have_one_value;
 use std::alloc::Global;
 use std::test::Fail;
 
@@ -46,6 +47,7 @@ fn laws_hold_of_records(rt: HostRuntime) -> Result<(), Fail> {
     let transaction = Transaction::from_bytes(alloc, bytes.as_slice())?;
     bytes_tell_transactions(&transaction, &transaction);
     no_bytes_are_signed_for_two_meanings();
+    paths_have_one_value();
     let node = NodeRecord::from_text(alloc, EXAMPLE)?;
     let back = node_text_round_trips(alloc, &node)?;
     assert!(rt; back.fields() == node.fields());

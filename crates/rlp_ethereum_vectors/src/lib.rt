@@ -25,6 +25,8 @@ mod node_records;
 #[cfg(test)]
 mod nodes;
 #[cfg(test)]
+mod proofs;
+#[cfg(test)]
 mod reading;
 #[cfg(test)]
 mod records;

@@ -6,17 +6,17 @@ use crate::text::spelled;
 use bytes::BytesMut;
 use rlp::{DecoderError, Encodable, RawItem};
 use rlp_ethereum::{
-    Branch, Child, Extension, ExtensionPath, Hash, InlineNode, Leaf, LeafPath, Path, TrieNode,
-    ends_in_leaf,
+    Branch, BranchChild, Child, Extension, ExtensionPath, Hash, InlineNode, Leaf, LeafPath, Path,
+    TrieNode, ends_in_leaf,
 };
 use std::alloc::{AllocError, Global};
 use std::test::Fail;
 
 /// Rows of nodes.
 pub(crate) const ROWS: &str = "
-    Children: nothing, a hash, and the longest node that is kept in its parent, of 31 bytes with its
-    header. A longer list and a string are no such node.
-    node: nothing | 80
+    Children: none at a place of a branch, a hash, and the longest node that is kept in its parent, of
+    31 bytes with its header. A longer list and a string are no such node.
+    node: none | 80
     node: hash | a0+11*32
     node: kept | de209c+22*28
     node: kept of | df209d+22*29 | RlpIsTooBig
@@ -25,7 +25,13 @@ pub(crate) const ROWS: &str = "
     Bytes that begin with no child: strings of 1 and 33 bytes, a long list, and a list with a longer
     spelling.
     Child |  | RlpIsTooShort
+    Child | 80 | RlpIsTooShort
     Child | 05 | RlpIsTooShort
+    BranchChild |  | RlpIsTooShort
+    BranchChild | 05 | RlpIsTooShort
+    BranchChild | a1+11*33 | RlpIsTooBig
+    BranchChild | df209d+22*29 | RlpIsTooBig
+    BranchChild | c28105 | Custom(\"item is not canonical\")
     Child | a1+11*33 | RlpIsTooBig
     Child | df209d+22*29 | RlpIsTooBig
     Child | c28105 | Custom(\"item is not canonical\")
@@ -83,11 +89,13 @@ pub(crate) const ROWS: &str = "
     node: changed | cf85206f727365887374616c6c696f6e | None
     node: branch again | dc808080808080c63584636f696e808080808080808080857075707079
 
-    Bytes that are no node: no list, lists of another number of items, paths of no bytes and that
+    The empty trie, and bytes that are no node: another string, lists of another number of items, paths of no bytes and that
     aren't encoded, a path that is a list, an extension with a child of one byte, a leaf whose value has
     a longer spelling, and a branch with a child of one byte.
     TrieNode |  | RlpIsTooShort
-    TrieNode | 80 | RlpExpectedToBeList
+    TrieNode | 80
+    fields of TrieNode | 80 | empty
+    TrieNode | 83636174 | RlpExpectedToBeList
     TrieNode | c0 | RlpIncorrectListLen
     TrieNode | c135 | RlpIncorrectListLen
     TrieNode | c3358080 | RlpIncorrectListLen
@@ -112,15 +120,22 @@ pub(crate) const ROWS: &str = "
     node: nibbles | 4011 | no path
     node: of nibbles | 0f | 3f
     node: of nibbles | 10 | Custom(\"nibble is above 15\")
+    node: of nibbles |  | 20
+    node: of nibbles of an extension | 0f | 1f
+    node: of nibbles of an extension |  | Custom(\"path of an extension is empty\")
 
-    Leaves and extensions whose path is that of the other, or none.
+    Leaves and extensions whose path is that of the other, or none, and extensions with no child.
     Leaf | c20005 | Custom(\"path is that of another node\")
     Leaf | c22105 | Custom(\"path is not hex-prefix encoded\")
     Extension | c22080 | Custom(\"path is that of another node\")
     Extension | c24080 | Custom(\"path is not hex-prefix encoded\")
+    Extension | c20080 | Custom(\"path of an extension is empty\")
+    Extension | e200a0+11*32 | Custom(\"path of an extension is empty\")
+    Extension | c21780 | RlpIsTooShort
+    TrieNode | c21780 | RlpIsTooShort
 
-    A leaf with a path and the value coin, and an extension with a path to nothing. A path is of the
-    kind of its node. The longest path of a key of 32 bytes has 33 bytes.
+    A leaf with a path and the value coin, and an extension with a path to the leaf of cat. A path is
+    of the kind of its node. The longest path of a key of 32 bytes has 33 bytes.
     node: leaf by | 00 | Custom(\"path is that of another node\")
     node: leaf by | 10 | Custom(\"path is that of another node\")
     node: leaf by | 1f | Custom(\"path is that of another node\")
@@ -133,9 +148,10 @@ pub(crate) const ROWS: &str = "
     TrieNode | e7a120+11*32+84636f696e
     node: leaf by | 20+11*32 | e7a120111111111111111111111111111111111111111111111111111111111111111184\
      636f696e
-    node: extension by | 00 | c20080
-    node: extension by | 10 | c21080
-    node: extension by | 1f | c21f80
+    node: extension by | 00 | Custom(\"path of an extension is empty\")
+    node: extension by | 000f | cb82000fc782201283636174
+    node: extension by | 10 | c910c782201283636174
+    node: extension by | 1f | c91fc782201283636174
     node: extension by | 20 | Custom(\"path is that of another node\")
     node: extension by | 30 | Custom(\"path is that of another node\")
     node: extension by | 3f | Custom(\"path is that of another node\")
@@ -177,25 +193,25 @@ fn written_of<T: Encodable + Drop>(
 }
 
 /// Returns the bytes of the branch with a hash at place 1, a child at place 15 and a value.
-fn branch(alloc: Global, last: Child, value: &[u8]) -> Result<BytesMut, AllocError> {
+fn branch(alloc: Global, last: Option<Child>, value: &[u8]) -> Result<BytesMut, AllocError> {
     let branch = Branch {
         children: [
-            Child::Nothing,
-            Child::Node(Hash([0x11; 32])),
-            Child::Nothing,
-            Child::Nothing,
-            Child::Nothing,
-            Child::Nothing,
-            Child::Nothing,
-            Child::Nothing,
-            Child::Nothing,
-            Child::Nothing,
-            Child::Nothing,
-            Child::Nothing,
-            Child::Nothing,
-            Child::Nothing,
-            Child::Nothing,
-            last,
+            BranchChild(None),
+            BranchChild(Some(Child::Node(Hash([0x11; 32])))),
+            BranchChild(None),
+            BranchChild(None),
+            BranchChild(None),
+            BranchChild(None),
+            BranchChild(None),
+            BranchChild(None),
+            BranchChild(None),
+            BranchChild(None),
+            BranchChild(None),
+            BranchChild(None),
+            BranchChild(None),
+            BranchChild(None),
+            BranchChild(None),
+            BranchChild(last),
         ],
         value: Vec::from_slice(alloc, value)?,
     };
@@ -228,7 +244,7 @@ fn first_unnoticed(alloc: Global, bytes: &[u8]) -> Result<Option<usize>, Fail> {
 /// Returns what a call about a node answers.
 pub(crate) fn answer(alloc: Global, name: &str, bytes: &[u8]) -> Result<String, Fail> {
     match name {
-        "nothing" => written::<Child>(alloc, rlp::encode(alloc, &Child::Nothing), bytes),
+        "none" => written::<BranchChild>(alloc, rlp::encode(alloc, &BranchChild(None)), bytes),
         "hash" => {
             let child = Child::Node(Hash([0x11; 32]));
             written::<Child>(alloc, rlp::encode(alloc, &child), bytes)
@@ -238,14 +254,15 @@ pub(crate) fn answer(alloc: Global, name: &str, bytes: &[u8]) -> Result<String, 
             written::<Child>(alloc, rlp::encode(alloc, &child), bytes)
         }
         "kept of" => written_of(alloc, inline(alloc, bytes)),
-        "branch of v" => written::<Branch>(alloc, branch(alloc, Child::Nothing, b"v"), bytes),
+        "branch of v" => written::<Branch>(alloc, branch(alloc, None, b"v"), bytes),
         "branch of verb" => {
-            let last = Child::Node(Hash([0xff; 32]));
+            let last = Some(Child::Node(Hash([0xff; 32])));
             written::<Branch>(alloc, branch(alloc, last, b"verb"), bytes)
         }
         "branch again" => written::<TrieNode>(alloc, Ok(branch_node(alloc, bytes)?), bytes),
         "nibbles" => nibbles(alloc, bytes),
-        "of nibbles" => of_nibbles(alloc, bytes),
+        "of nibbles" => of_nibbles::<2>(alloc, bytes),
+        "of nibbles of an extension" => of_nibbles::<0>(alloc, bytes),
         "changed" => {
             let place = first_unnoticed(alloc, bytes)?;
             Ok(format!(in alloc; "{place:?}")?)
@@ -272,9 +289,9 @@ fn nibbles_of<const FLAG: u8>(alloc: Global, kind: &str, bytes: &[u8]) -> Result
     Ok(format!(in alloc; "{kind} {words}")?)
 }
 
-/// Returns the digits of the path of a leaf with these nibbles, or the fault.
-fn of_nibbles(alloc: Global, nibbles: &[u8]) -> Result<String, Fail> {
-    match LeafPath::from_nibbles(alloc, nibbles) {
+/// Returns the digits of the path of this kind with these nibbles, or the fault.
+fn of_nibbles<const FLAG: u8>(alloc: Global, nibbles: &[u8]) -> Result<String, Fail> {
+    match Path::<FLAG>::from_nibbles(alloc, nibbles) {
         Ok(path) => Ok(hex::encode(alloc, path.bytes.as_slice())?),
         Err(found) => fault(alloc, &found),
     }
@@ -287,14 +304,18 @@ fn short(alloc: Global, name: &str, bytes: &[u8]) -> Result<String, Fail> {
         "leaf of coin" => of_leaf(alloc, &[0x35], b"coin", bytes),
         "leaf of stallion" => of_leaf(alloc, b"\x20\x6f\x72\x73\x65", b"stallion", bytes),
         "extension to the cat" => {
-            let cat = inline(alloc, b"\xc7\x82\x20\x12\x83cat")?;
-            let extension = extension(alloc, &[0x11], cat)?;
+            let extension = extension(alloc, &[0x11], cat(alloc)?)?;
             written::<Extension>(alloc, rlp::encode(alloc, &extension), bytes)
         }
         "leaf by" => written_of(alloc, leaf(alloc, bytes, b"coin")),
-        "extension by" => written_of(alloc, extension(alloc, bytes, Child::Nothing)),
+        "extension by" => written_of(alloc, extension(alloc, bytes, cat(alloc)?)),
         _ => written_of(alloc, extension(alloc, &[0x17], inline(alloc, bytes)?)),
     }
+}
+
+/// Returns the leaf of cat, as a child.
+fn cat(alloc: Global) -> Result<Child, DecoderError> {
+    inline(alloc, b"\xc7\x82\x20\x12\x83cat")
 }
 
 /// Returns what is answered about the bytes of a leaf.

@@ -5,7 +5,7 @@ use Rattle.rlp.specs.DecoderError.TheVariants.{RlpIncorrectListLen, RlpIsTooBig,
 use Rattle.rlp.specs.Format.Split.{begins_as_list}
 use Rattle.rlp.specs.Views.Text.{error_name}
 use Rattle.rlp.specs.Views.View.{View, item_count, item_views, view_string}
-use Rattle.rlp_trie.specs.HexPrefix.{ends_in_leaf}
+use Rattle.rlp_trie.specs.HexPrefix.{ends_in_leaf, is_empty_extension}
 use Rattle.rlp_trie.specs.TrieNode.{is_leaf_string}
 use Rattle.rlp_show.specs.Lines.{Field, Shape, Shown, Worded, byte_string, field, fields_lines, fixed_bytes, fixed_bytes_in, item_within, line, list_of}
 use Rattle.rlp_show.specs.Lines.{list_or_string, number, optional, pairs_lines, prefix, receipt_status, recipient, record_of, string_shape, then_lines, truth_value, typed, wrong}
@@ -253,22 +253,36 @@ path_in d =
     if is_some (ends_in_leaf d) then Ok (bytes_text d)
     else Err (codes "Custom(\"path is not hex-prefix encoded\")")
 
--- paths
+-- paths of leaves
 abbrev pub path : Shape
 path = string_shape path_in
+
+-- the path of an extension, which has a nibble
+abbrev pub extension_path_in : List ℕ → Worded
+extension_path_in d =
+    if is_empty_extension d then Err (codes "Custom(\"path of an extension is empty\")")
+    else path_in d
+
+-- paths of extensions
+abbrev pub extension_path : Shape
+extension_path = string_shape extension_path_in
+
+-- a node that is kept in its parent has fewer than 32 bytes
+abbrev pub inline_node : Shape
+inline_node name v = if nat_lt (length v.bytes) 32 then any_item name v else Err (wrong name (error_name RlpIsTooBig))
+
+-- children: a list is a node that is kept in its parent, and a string is the hash of a node
+abbrev pub child : Shape
+child name v = if begins_as_list v.bytes then inline_node name v else hash name v
 
 -- the hash of a child, or no bytes
 abbrev pub child_hash_in : List ℕ → Worded
 child_hash_in [] = Ok (bytes_text [])
 child_hash_in (d ∷ ds) = fixed_bytes_in 32 (d ∷ ds)
 
--- a node that is kept in its parent has fewer than 32 bytes
-abbrev pub inline_node : Shape
-inline_node name v = if nat_lt (length v.bytes) 32 then any_item name v else Err (wrong name (error_name RlpIsTooBig))
-
--- children: a list is a node that is kept in its parent, and a string is the hash of a node, or empty if there is none
-abbrev pub child : Shape
-child name v = if begins_as_list v.bytes then inline_node name v else string_shape child_hash_in name v
+-- places of a branch: a child, or the empty string if there is none
+abbrev pub branch_child : Shape
+branch_child name v = if begins_as_list v.bytes then inline_node name v else string_shape child_hash_in name v
 
 -- leaves
 abbrev pub leaf : Shape
@@ -276,27 +290,27 @@ leaf = record_of (field (codes "path") path ∷ field (codes "value") byte_strin
 
 -- extensions
 abbrev pub extension : Shape
-extension = record_of (field (codes "path") path ∷ field (codes "child") child ∷ [])
+extension = record_of (field (codes "path") extension_path ∷ field (codes "child") child ∷ [])
 
 -- branches
 abbrev pub branch : Shape
 branch = record_of (
-    field (codes "children[0]") child
-    ∷ field (codes "children[1]") child
-    ∷ field (codes "children[2]") child
-    ∷ field (codes "children[3]") child
-    ∷ field (codes "children[4]") child
-    ∷ field (codes "children[5]") child
-    ∷ field (codes "children[6]") child
-    ∷ field (codes "children[7]") child
-    ∷ field (codes "children[8]") child
-    ∷ field (codes "children[9]") child
-    ∷ field (codes "children[10]") child
-    ∷ field (codes "children[11]") child
-    ∷ field (codes "children[12]") child
-    ∷ field (codes "children[13]") child
-    ∷ field (codes "children[14]") child
-    ∷ field (codes "children[15]") child
+    field (codes "children[0]") branch_child
+    ∷ field (codes "children[1]") branch_child
+    ∷ field (codes "children[2]") branch_child
+    ∷ field (codes "children[3]") branch_child
+    ∷ field (codes "children[4]") branch_child
+    ∷ field (codes "children[5]") branch_child
+    ∷ field (codes "children[6]") branch_child
+    ∷ field (codes "children[7]") branch_child
+    ∷ field (codes "children[8]") branch_child
+    ∷ field (codes "children[9]") branch_child
+    ∷ field (codes "children[10]") branch_child
+    ∷ field (codes "children[11]") branch_child
+    ∷ field (codes "children[12]") branch_child
+    ∷ field (codes "children[13]") branch_child
+    ∷ field (codes "children[14]") branch_child
+    ∷ field (codes "children[15]") branch_child
     ∷ field (codes "value") byte_string
     ∷ [])
 
@@ -317,6 +331,14 @@ node_lines name v (Ok n) =
     else if n == 2 then (if are_leaf (item_views v) then node_of (codes "leaf") leaf name v else node_of (codes "extension") extension name v)
     else Err (wrong name (error_name RlpIncorrectListLen))
 
--- nodes of the trie
+-- whether bytes are the encoding of the empty string
+abbrev pub is_empty_node : List ℕ → Bool
+is_empty_node [] = false
+is_empty_node (first ∷ []) = first == 0x80
+is_empty_node (first ∷ next ∷ more) = false
+
+-- nodes of the trie: the empty string is the empty trie
 abbrev pub node : Shape
-node name v = node_lines name v (item_count v)
+node name v =
+    if is_empty_node v.bytes then Ok (line (prefix name ++ codes "node") (codes "empty"))
+    else node_lines name v (item_count v)

@@ -25,7 +25,7 @@ pub use fault::{ItemFault, ShowFault};
 pub use fields::{Label, ShowFields, show_record};
 pub use kind::{Kind, UNKNOWN_KIND, USAGE};
 pub use lists::Items;
-pub use nodes::{Node, Path};
+pub use nodes::{ExtensionPath, Node, Path};
 pub use rlp_lines::{Noted, RunFault, exit_status};
 pub use serving::run;
 pub use show::Show;

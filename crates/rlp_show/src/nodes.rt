@@ -1,10 +1,11 @@
-//! Nodes of the trie: leaves, extensions and branches.
+//! Nodes of the trie: leaves, extensions, branches and the empty trie.
 
 ghost use Rattle.std.specs.Prelude.{◌≡◌, ◌++◌, codes, string_bytes, OnOk};
 ghost use Rattle.rlp.specs.Views.View.{item_views};
+ghost use Rattle.rlp_trie.specs.HexPrefix.{is_empty_extension};
 ghost use Rattle.rlp_show.specs.Answer.{Shows};
-ghost use Rattle.rlp_show.specs.Lines.{line, prefix, string_shape};
-ghost use Rattle.rlp_show.specs.Records.{are_leaf, child_hash_in, node_of, path, child, leaf, extension, branch, node};
+ghost use Rattle.rlp_show.specs.Lines.{line, named, prefix, string_shape};
+ghost use Rattle.rlp_show.specs.Records.{are_leaf, branch, branch_child, child, child_hash_in, extension, extension_path, inline_node, leaf, node, node_of, path, path_in};
 
 use crate::any_item::AnyItem;
 use crate::fault::ShowFault;
@@ -12,14 +13,29 @@ use crate::fields::{Label, joined, prefix_of, show_fields, show_record};
 use crate::line::{put_bytes_line, put_line};
 use crate::show::Show;
 use rlp::{DecoderError, Rlp};
-use rlp_ethereum::{Branch, Child, Extension, Leaf, ends_in_leaf};
+use rlp_ethereum::{Branch, BranchChild, Child, Extension, Hash, Leaf, ends_in_leaf};
 use std::alloc::{AllocError, Global};
 
-/// A path, for [`Show`]: hex-prefix encoded bytes. It has no values.
+/// The path of a leaf, for [`Show`]: hex-prefix encoded bytes. It has no values.
 pub struct Path;
+
+/// The path of an extension, for [`Show`]. It has no values.
+pub struct ExtensionPath;
 
 /// A node of the trie, for [`Show`]. It has no values.
 pub struct Node;
+
+/// Appends the line of a path. Fails with `Custom("path is not hex-prefix encoded")` for other bytes.
+fn show_path(alloc: Global, name: &str, bytes: &[u8], out: &mut String) -> Result<(), ShowFault>
+    ensures { Shows (named name.now (path_in bytes.now)) (string_bytes out.old)
+        (string_bytes out.new) result }
+{
+    if ends_in_leaf(bytes).is_none() {
+        let fault = DecoderError::Custom("path is not hex-prefix encoded");
+        return Err(ShowFault::of(alloc, name, fault));
+    }
+    Ok(put_bytes_line(name, bytes, out)?)
+}
 
 /// The bytes of the path, in hexadecimal. Fails with `Custom("path is not hex-prefix encoded")` for
 /// other strings.
@@ -27,15 +43,34 @@ impl Show for Path {
     ghost shape = { path };
 
     fn show(alloc: Global, name: &str, item: &Rlp<'_>, out: &mut String) -> Result<(), ShowFault> {
-        let bytes = match item.decoder().string() {
-            Ok(bytes) => bytes,
-            Err(fault) => return Err(ShowFault::of(alloc, name, fault)),
-        };
-        if ends_in_leaf(bytes).is_none() {
-            let fault = DecoderError::Custom("path is not hex-prefix encoded");
-            return Err(ShowFault::of(alloc, name, fault));
+        match item.decoder().string() {
+            Ok(bytes) => show_path(alloc, name, bytes, out),
+            Err(fault) => Err(ShowFault::of(alloc, name, fault)),
         }
-        Ok(put_bytes_line(name, bytes, out)?)
+    }
+}
+
+/// Returns whether bytes are the path of an extension that has no nibbles.
+fn is_empty_extension(path: &[u8]) -> bool
+    ensures { result ≡ is_empty_extension path.now }
+{
+    matches!(path, [0x00])
+}
+
+/// The bytes of the path, in hexadecimal. Fails as the path of a leaf does, and with
+/// `Custom("path of an extension is empty")` for a path of no nibbles.
+impl Show for ExtensionPath {
+    ghost shape = { extension_path };
+
+    fn show(alloc: Global, name: &str, item: &Rlp<'_>, out: &mut String) -> Result<(), ShowFault> {
+        match item.decoder().string() {
+            Ok(bytes) if is_empty_extension(bytes) => {
+                let fault = DecoderError::Custom("path of an extension is empty");
+                Err(ShowFault::of(alloc, name, fault))
+            }
+            Ok(bytes) => show_path(alloc, name, bytes, out),
+            Err(fault) => Err(ShowFault::of(alloc, name, fault)),
+        }
     }
 }
 
@@ -62,19 +97,43 @@ fn show_child_hash(
     Ok(put_bytes_line(name, bytes, out)?)
 }
 
-/// The hash of the child in hexadecimal, `0x` if there is none, or the items of a node that is kept
-/// in its parent.
+/// Appends the lines of the items of a node that is kept in its parent.
+fn show_inline_node(
+    alloc: Global,
+    name: &str,
+    item: &Rlp<'_>,
+    out: &mut String,
+) -> Result<(), ShowFault>
+    ensures { Shows (inline_node name.now item.now) (string_bytes out.old) (string_bytes out.new)
+        result }
+{
+    if item.as_raw().len() >= 32 {
+        return Err(ShowFault::of(alloc, name, DecoderError::RlpIsTooBig));
+    }
+    AnyItem::show(alloc, name, item, out)
+}
+
+/// The hash of the child in hexadecimal, or the items of a node that is kept in its parent.
 impl Show for Child {
     ghost shape = { child };
 
     fn show(alloc: Global, name: &str, item: &Rlp<'_>, out: &mut String) -> Result<(), ShowFault> {
-        if !item.is_list() {
-            return show_child_hash(alloc, name, item, out);
+        if item.is_list() {
+            return show_inline_node(alloc, name, item, out);
         }
-        if item.as_raw().len() >= 32 {
-            return Err(ShowFault::of(alloc, name, DecoderError::RlpIsTooBig));
+        Hash::show(alloc, name, item, out)
+    }
+}
+
+/// The child, or `0x` if there is none.
+impl Show for BranchChild {
+    ghost shape = { branch_child };
+
+    fn show(alloc: Global, name: &str, item: &Rlp<'_>, out: &mut String) -> Result<(), ShowFault> {
+        if item.is_list() {
+            return show_inline_node(alloc, name, item, out);
         }
-        AnyItem::show(alloc, name, item, out)
+        show_child_hash(alloc, name, item, out)
     }
 }
 
@@ -90,7 +149,7 @@ impl Show for Extension {
     ghost shape = { extension };
 
     fn show(alloc: Global, name: &str, item: &Rlp<'_>, out: &mut String) -> Result<(), ShowFault> {
-        show_fields!(alloc, name, item, out, "path": Path, "child": Child)
+        show_fields!(alloc, name, item, out, "path": ExtensionPath, "child": Child)
     }
 }
 
@@ -103,22 +162,22 @@ impl Show for Branch {
             name,
             item,
             out,
-            "children[0]": Child,
-            "children[1]": Child,
-            "children[2]": Child,
-            "children[3]": Child,
-            "children[4]": Child,
-            "children[5]": Child,
-            "children[6]": Child,
-            "children[7]": Child,
-            "children[8]": Child,
-            "children[9]": Child,
-            "children[10]": Child,
-            "children[11]": Child,
-            "children[12]": Child,
-            "children[13]": Child,
-            "children[14]": Child,
-            "children[15]": Child,
+            "children[0]": BranchChild,
+            "children[1]": BranchChild,
+            "children[2]": BranchChild,
+            "children[3]": BranchChild,
+            "children[4]": BranchChild,
+            "children[5]": BranchChild,
+            "children[6]": BranchChild,
+            "children[7]": BranchChild,
+            "children[8]": BranchChild,
+            "children[9]": BranchChild,
+            "children[10]": BranchChild,
+            "children[11]": BranchChild,
+            "children[12]": BranchChild,
+            "children[13]": BranchChild,
+            "children[14]": BranchChild,
+            "children[15]": BranchChild,
             "value": Vec<u8>
         )
     }
@@ -163,12 +222,15 @@ fn show_node<T: Show>(
     T::show(alloc, name, item, out)
 }
 
-/// A node of 17 items is a branch, and one of two is a leaf or an extension, as its path says. Fails
-/// with `RlpIncorrectListLen` for any other number of items.
+/// The empty string is the empty trie. A node of 17 items is a branch, and one of two is a leaf or an
+/// extension, as its path says. Fails with `RlpIncorrectListLen` for any other number of items.
 impl Show for Node {
     ghost shape = { node };
 
     fn show(alloc: Global, name: &str, item: &Rlp<'_>, out: &mut String) -> Result<(), ShowFault> {
+        if matches!(item.as_raw(), [0x80]) {
+            return Ok(put_kind(alloc, name, "empty", out)?);
+        }
         match item.item_count() {
             Ok(17) => show_node::<Branch>(alloc, name, "branch", item, out),
             Ok(2) if is_leaf(item) => show_node::<Leaf>(alloc, name, "leaf", item, out),

@@ -7,7 +7,7 @@ use crate::support::{Row, check};
 use std::test::Fail;
 
 /// The kind, the digits of a node, and its lines.
-const NODES: [Row; 5] = [
+const NODES: [Row; 6] = [
     (
         "node cb84200001028576616c7565",
         "node: leaf\n\
@@ -15,6 +15,7 @@ const NODES: [Row; 5] = [
          value: 0x76616c7565\n\
          \n",
     ),
+    ("node 80", "node: empty\n\n"),
     (
         "node c23f80",
         "node: leaf\n\
@@ -67,7 +68,7 @@ const NODES: [Row; 5] = [
 ];
 
 /// The kind, the digits, and what is wrong.
-const FAULTS: [Row; 10] = [
+const FAULTS: [Row; 14] = [
     ("node c3206162", "error RlpIncorrectListLen\n"),
     (
         "node c24061",
@@ -90,9 +91,16 @@ const FAULTS: [Row; 10] = [
         "error field 1 (value): RlpExpectedToBeData\n",
     ),
     (
-        "node e1009f000102030405060708090a0b0c0d0e0f101112131415161718191a1b1c1d1e",
+        "node e11a9f000102030405060708090a0b0c0d0e0f101112131415161718191a1b1c1d1e",
         "error field 1 (child): RlpIsTooShort\n",
     ),
+    ("node c21780", "error field 1 (child): RlpIsTooShort\n"),
+    (
+        "node e200a0000102030405060708090a0b0c0d0e0f101112131415161718191a1b1c1d1e1f",
+        "error field 0 (path): Custom(\"path of an extension is empty\")\n",
+    ),
+    ("node 05", "error RlpExpectedToBeList\n"),
+    ("node 8180", "error RlpExpectedToBeList\n"),
     (
         "node f8578080a1000102030405060708090a0b0c0d0e0f101112131415161718191a1b1c1d1e\
          1f00a0000102030405060708090a0b0c0d0e0f101112131415161718191a1b1c1d1e1f80\

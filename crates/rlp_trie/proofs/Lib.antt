@@ -1,1 +1,5 @@
+pub mod EmptyString
+pub mod OneValue
 pub mod PathLemmas
+pub mod StepLemmas
+pub mod WalkLemmas

@@ -1,5 +1,5 @@
 -- Hex-prefix encoding goes both ways.
-use Rattle.std.proofs.Common.{◌≡◌, ℕ, ◌+◌, ◌*◌, ◌/◌, ◌%◌, ◌<◌, ◌≤◌, ◌==◌, ◌↔◌, ◌⊎◌, inl, inr, ⊎_elim, if◌then◌else◌, Bool, true, false, List, [], ◌∷◌, length, refl, sym, ap, ◌∙◌, subst, arith, Option, Some, Result, Ok, Err, IfOk, take, drop, not, get_or, ◌++◌, ◌-◌, append_assoc}
+use Rattle.std.proofs.Common.{◌≡◌, ℕ, ◌+◌, ◌*◌, ◌/◌, ◌%◌, ◌<◌, ◌≤◌, ◌≢◌, ◌==◌, ◌↔◌, ◌⊎◌, inl, inr, ⊎_elim, if◌then◌else◌, Bool, true, false, List, [], ◌∷◌, length, refl, sym, ap, ◌∙◌, subst, arith, Option, Some, Result, Ok, Err, IfOk, take, drop, not, get_or, ◌++◌, ◌-◌, append_assoc}
 use mathlib.Core.Bool.{beq}
 use Rattle.std.specs.Global.{Vec}
 use Rattle.std.specs.declared.alloc.AllocError.{AllocError}
@@ -9,7 +9,7 @@ use Rattle.std.proofs.lemmas.List.{take_rest}
 use Rattle.std.proofs.lemmas.List.Elements.{All-cons, All-drop, All-head, All-nil, All-tail, All-take}
 use Rattle.rlp.specs.Format.WrittenHeader.{AreBytes}
 use Rattle.rlp.specs.Lemmas.Reading.{bytes_held}
-use Rattle.rlp_trie.specs.HexPrefix.{AreNibbles, IsHexPrefix, above_nibbles, bytes_of, ends_in_leaf, first_ends_in_leaf, flag_of, hex_prefix, nibbles_of, odd_prefix, path_nibbles}
+use Rattle.rlp_trie.specs.HexPrefix.{AreNibbles, IsHexPrefix, above_nibbles, bytes_of, ends_in_leaf, is_empty_extension, no_nibbles, first_ends_in_leaf, flag_of, hex_prefix, nibbles_of, odd_prefix, path_nibbles}
 
 abbrev IsNibble : ℕ → Type 0
 IsNibble n = n < 16
@@ -39,7 +39,7 @@ nibbles_back (a ∷ b ∷ x) are even =
     cc
 
 -- the digits of bytes are nibbles
-nibbles_are : (d : List ℕ) → AreBytes d → AreNibbles (nibbles_of d)
+pub nibbles_are : (d : List ℕ) → AreBytes d → AreNibbles (nibbles_of d)
 nibbles_are [] are = All-nil IsNibble
 nibbles_are (b ∷ d) are =
     let byte : b < 256 = All-head IsByte b d are in
@@ -113,6 +113,26 @@ path_back (first ∷ more) leaf bytes is =
     ))
     (first_told first leaf is)
 
+not_empty_odd : (leaf : Bool) (x : List ℕ) → length x % 2 ≡ 1 → is_empty_extension (odd_prefix leaf x) ≡ false
+not_empty_odd leaf [] odd = absurd (omega (arith, odd))
+not_empty_odd false (a ∷ []) odd = grind (arith, nat_tests)
+not_empty_odd true (a ∷ []) odd = grind (arith, nat_tests)
+not_empty_odd leaf (a ∷ b ∷ []) odd = absurd (omega (arith, odd))
+not_empty_odd leaf (a ∷ b ∷ c ∷ x) odd = refl
+
+not_empty_even : (leaf : Bool) (x : List ℕ) → length x % 2 ≡ 0 → (leaf ≡ false → x ≢ []) → is_empty_extension ((16 * flag_of leaf) ∷ bytes_of x) ≡ false
+not_empty_even false [] even some = absurd (some refl refl)
+not_empty_even true [] even some = refl
+not_empty_even leaf (a ∷ []) even some = absurd (omega (arith, even))
+not_empty_even leaf (a ∷ b ∷ x) even some = refl
+
+not_empty_of : (leaf : Bool) (x : List ℕ) → AreNibbles x → (leaf ≡ false → x ≢ []) → is_empty_extension (hex_prefix leaf x) ≡ false
+not_empty_of leaf x are some =
+    ⊎_elim
+    (λ below. let even : length x % 2 ≡ 0 = omega (arith, below) in ap is_empty_extension (hex_even leaf x even) ∙ not_empty_even leaf x even some)
+    (λ above. let odd : length x % 2 ≡ 1 = omega (arith, above) in ap is_empty_extension (hex_odd leaf x odd) ∙ not_empty_odd leaf x odd)
+    (cases_lt (length x % 2) 1)
+
 odd_again : (leaf : Bool) (x : List ℕ) → AreNibbles x → length x % 2 ≡ 1 → (ends_in_leaf (odd_prefix leaf x) ≡ Some leaf) × (path_nibbles (odd_prefix leaf x) ≡ x)
 odd_again leaf [] are odd = absurd (omega (arith, odd))
 odd_again leaf (a ∷ x) are odd =
@@ -155,6 +175,23 @@ nibbles_again leaf d x are is = ap path_nibbles is ∙ (path_again leaf x are).1
 pub ends_again : (leaf : Bool) (d x : List ℕ) → AreNibbles x → d ≡ hex_prefix leaf x → ends_in_leaf d ≡ Some leaf
 ends_again leaf d x are is = ap ends_in_leaf is ∙ (path_again leaf x are).0
 
+-- the encoding of nibbles is that of an empty path of an extension only if there are none
+pub not_empty_again : (leaf : Bool) (d x : List ℕ) → AreNibbles x → d ≡ hex_prefix leaf x → (leaf ≡ false → x ≢ []) → is_empty_extension d ≡ false
+not_empty_again leaf d x are is some = ap is_empty_extension is ∙ not_empty_of leaf x are some
+
+-- a path of an extension has nibbles, unless it is the empty one
+pub some_nibbles : (d : List ℕ) → ends_in_leaf d ≡ Some false → is_empty_extension d ≡ false → path_nibbles d ≢ []
+some_nibbles [] is some = absurd (let no : ⊥ = cc in no)
+some_nibbles (first ∷ more) is some = λ none.
+    ⊎_elim
+    (λ (even : first ≡ 0). some_by first more even some (sym (path_even first more (ap (λ n. n / 16 % 2) even)) ∙ none))
+    (λ (odd : first / 16 ≡ 1). let no : first % 16 ∷ nibbles_of more ≡ [] = sym (path_odd first more (ap (λ n. n % 2) odd)) ∙ none in cc)
+    (first_told first false is)
+  where
+    some_by : (first : ℕ) (more : List ℕ) → first ≡ 0 → is_empty_extension (first ∷ more) ≡ false → nibbles_of more ≡ [] → ⊥
+    some_by first [] zero some none = let no : is_empty_extension (first ∷ []) ≡ true = ap (λ n. n == 0x00) zero in cc
+    some_by first (next ∷ more) zero some none = cc
+
 -- the nibbles that are read from a path
 pub path_read : (leaf : Bool) (d : List ℕ) (r : Result (Vec ℕ) AllocError) → AreBytes d → ends_in_leaf d ≡ Some leaf → IfOk r (λ x. x.items ≡ path_nibbles d)
     → IfOk r (λ x. AreNibbles x.items × (d ≡ hex_prefix leaf x.items))
@@ -183,6 +220,6 @@ pair_more n (high ∷ low ∷ more) bs out whole many is pushed kept =
     ap (λ out. out ++ bytes_of (take n more)) pushed ∙ append_assoc bs ((16 * high + low) ∷ []) (bytes_of (take n more))
     ∙ ap (λ rest. bs ++ (16 * high + low) ∷ bytes_of rest) all ∙ kept
 
-pub ruleset made_of_nibbles = (above_nibbles, nibbles_again, ends_again)
+pub ruleset made_of_nibbles = (above_nibbles, no_nibbles, nibbles_again, ends_again, not_empty_again)
 
 pub ruleset told_by_flag = (told_by_path, bytes_held)

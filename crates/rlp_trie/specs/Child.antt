@@ -1,5 +1,5 @@
 -- How children of nodes of the trie are written and read.
-use Rattle.std.specs.Prelude.{ℕ, ◌≡◌, ◌≤◌, ◌<◌, ⊤, true, false, List, [], length, Ok, Err}
+use Rattle.std.specs.Prelude.{ℕ, ◌≡◌, ◌≤◌, ◌<◌, true, false, List, length, Ok, Err}
 use Rattle.rlp.specs.DecoderError.{DecoderError}
 use Rattle.rlp.specs.DecoderError.TheVariants.{RlpIsTooBig, RlpIsTooShort}
 use Rattle.rlp.specs.Format.Item.{Item, string}
@@ -9,25 +9,23 @@ use Rattle.rlp.specs.Values.RawItem.{IsRawFault, IsRawItem, raw_item_of, view_fr
 use Rattle.rlp.specs.Views.View.{View, strict_view_of, view_string}
 use Rattle.rlp_trie.specs.Inline.{IsInlineNode}
 use Rattle.rlp_trie.specs.declared.child.Child.{Child}
-use Rattle.rlp_trie.specs.declared.child.Child.TheVariants.{Nothing, Node, Inline}
+use Rattle.rlp_trie.specs.declared.child.Child.TheVariants.{Node, Inline}
 
--- the empty string, the string of a hash, or the node itself
+-- the string of a hash, or the node itself
 abbrev pub child_item : Child → Item
-child_item Nothing = string []
 child_item (Node hash) = string hash.0
 child_item (Inline node) = raw_item_of node.item
 
 -- a hash has 32 bytes, and a node that is kept is a raw item
 abbrev pub IsChild : Child → Type 0
-IsChild Nothing = ⊤
 IsChild (Node hash) = length hash.0 ≡ 32
 IsChild (Inline node) = IsRawItem node.item
 
--- Why bytes that are an item aren't a child: they aren't a string, or are one of 1 to 31 bytes or of more than 32; or they are a list of 32 bytes or more, or no raw
--- item.
+-- Why bytes that are an item aren't a child: they aren't a string, or are one of fewer than 32 bytes or of more; or they are a list of 32 bytes or more, or no
+-- raw item.
 pub data IsChildFault (b : List ℕ) : DecoderError → Type 0 where
   no_string : (e : DecoderError) → begins_as_list b ≡ false → view_string (strict_view_of b) ≡ Err e → IsChildFault b e
-  shorter_hash : (d : List ℕ) → b ≡ encoding (string d) → 0 < length d → length d < 32 → IsChildFault b RlpIsTooShort
+  shorter_hash : (d : List ℕ) → b ≡ encoding (string d) → length d < 32 → IsChildFault b RlpIsTooShort
   longer_hash : (d : List ℕ) → b ≡ encoding (string d) → 32 < length d → IsChildFault b RlpIsTooBig
   longer_node : begins_as_list b ≡ true → 32 ≤ length b → IsChildFault b RlpIsTooBig
   faulty_node : (e : DecoderError) → begins_as_list b ≡ true → IsRawFault b e → IsChildFault b e

@@ -1,5 +1,5 @@
 -- Children are given exactly by their encodings.
-use Rattle.std.proofs.Common.{◌≡◌, ◌<◌, ◌^◌, ◌⊎◌, inl, inr, ℕ, List, [], length, true, sym, ap, ◌∙◌, subst, arith, Ok}
+use Rattle.std.proofs.Common.{◌≡◌, ◌<◌, ◌^◌, ◌⊎◌, inl, inr, ℕ, List, length, true, sym, ap, ◌∙◌, subst, arith, Ok}
 use Rattle.rlp.specs.DecoderError.{DecoderError}
 use Rattle.rlp.specs.DecoderError.TheVariants.{OutOfMemory}
 use Rattle.rlp.specs.Format.Item.{string}
@@ -17,18 +17,14 @@ use Rattle.rlp_trie.specs.Child.{FaultsAsChild, IsChild, IsChildFault, MayLackAs
 use Rattle.rlp_trie.specs.Child.{longer_hash, longer_node, no_string, shorter_hash, unframed_child}
 use Rattle.rlp_trie.specs.Inline.{IsInlineNode}
 use Rattle.rlp_trie.specs.declared.child.Child.{Child}
-use Rattle.rlp_trie.specs.declared.child.Child.TheVariants.{Nothing, Node, Inline}
+use Rattle.rlp_trie.specs.declared.child.Child.TheVariants.{Node, Inline}
 
--- a string of no bytes or of 32 has no fault
-string_told : (b s : List ℕ) (e : DecoderError) → length b < 2 ^ 64 → b ≡ encoding (string s) → (length s ≡ 0) ⊎ (length s ≡ 32) → ¬ IsChildFault b e
+-- a string of 32 bytes has no fault
+string_told : (b s : List ℕ) (e : DecoderError) → length b < 2 ^ 64 → b ≡ encoding (string s) → length s ≡ 32 → ¬ IsChildFault b e
 string_told b s e fits is long (no_string f kind none) = held_read (strict_view_of b) s f fits is none
-string_told b s e fits is (inl none) (shorter_hash d whole some few) =
-    let same : d ≡ s = same_held (strict_view_of b) d s fits whole is in omega (arith, none, some, ap length same)
-string_told b s e fits is (inr all) (shorter_hash d whole some few) =
+string_told b s e fits is all (shorter_hash d whole few) =
     let same : d ≡ s = same_held (strict_view_of b) d s fits whole is in omega (arith, all, few, ap length same)
-string_told b s e fits is (inl none) (longer_hash d whole more) =
-    let same : d ≡ s = same_held (strict_view_of b) d s fits whole is in omega (arith, none, more, ap length same)
-string_told b s e fits is (inr all) (longer_hash d whole more) =
+string_told b s e fits is all (longer_hash d whole more) =
     let same : d ≡ s = same_held (strict_view_of b) d s fits whole is in omega (arith, all, more, ap length same)
 string_told b s e fits is long (longer_node kind many) = let other = string_kind b s fits is in cc
 string_told b s e fits is long (faulty_node f kind bad) = let other = string_kind b s fits is in cc
@@ -36,7 +32,7 @@ string_told b s e fits is long (faulty_node f kind bad) = let other = string_kin
 -- a node that is kept in its parent has no fault
 node_told : (b : List ℕ) (e : DecoderError) → IsInlineNode b → ¬ IsChildFault b e
 node_told b e is (no_string f kind none) = let other = is.is_list in cc
-node_told b e is (shorter_hash d whole some few) =
+node_told b e is (shorter_hash d whole few) =
     let other = string_kind b d (let fits : length b < 2 ^ 64 = omega (arith, is.is_short) in fits) whole in let kind = is.is_list in cc
 node_told b e is (longer_hash d whole more) =
     let other = string_kind b d (let fits : length b < 2 ^ 64 = omega (arith, is.is_short) in fits) whole in let kind = is.is_list in cc
@@ -44,8 +40,7 @@ node_told b e is (longer_node kind many) = omega (arith, is.is_short, many)
 node_told b e is (faulty_node f kind bad) = raw_has_no_fault b f (let fits : length b < 2 ^ 64 = omega (arith, is.is_short) in fits) is.raw bad
 
 child_told : (b : List ℕ) (c : Child) (e : DecoderError) → length b < 2 ^ 64 → IsChild c → b ≡ encoding (child_item c) → ¬ IsChildFault b e
-child_told b Nothing e fits is whole = string_told b [] e fits whole (inl (let none : length {A = ℕ} [] ≡ 0 = omega arith in none))
-child_told b (Node hash) e fits is whole = string_told b hash.0 e fits whole (inr is)
+child_told b (Node hash) e fits is whole = string_told b hash.0 e fits whole is
 child_told b (Inline node) e fits is whole =
     let same : b ≡ node.item = whole ∙ raw_encoding node.item (let few : length node.item < 2 ^ 64 = omega (arith, node.is_short) in few) is in
     node_told b e (subst IsInlineNode (sym same) (record { raw = is; is_list = node.is_list; is_short = node.is_short }))

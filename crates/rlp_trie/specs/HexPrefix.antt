@@ -67,13 +67,26 @@ ends_in_leaf (first ∷ more) = first_ends_in_leaf first
 abbrev pub is_leaf_path : List ℕ → Bool
 is_leaf_path d = unwrap_or (ends_in_leaf d) false
 
--- Why bytes aren't a path of a leaf, or of an extension: they aren't hex-prefix encoded, or are a path of the other kind.
+-- whether bytes are the path of an extension that has no nibbles
+abbrev pub is_empty_extension : List ℕ → Bool
+is_empty_extension [] = false
+is_empty_extension (first ∷ []) = first == 0x00
+is_empty_extension (first ∷ next ∷ more) = false
+
+-- bytes are the path of a leaf, or of an extension: hex-prefix encoded, of this kind, and with a nibble if it is an extension's
+abbrev pub IsPath : Bool → List ℕ → Type 0
+IsPath leaf d = (ends_in_leaf d ≡ Some leaf) × (is_empty_extension d ≡ false)
+
+-- Why bytes aren't a path of a leaf, or of an extension: they aren't hex-prefix encoded, or are a path of the other kind, or the path of an extension has no
+-- nibbles.
 pub data IsPathFault (leaf : Bool) (d : List ℕ) (e : DecoderError) : Type 0 where
   not_encoded : ends_in_leaf d ≡ None → IsCustom (codes "path is not hex-prefix encoded") e → IsPathFault leaf d e
   other_kind : (other : Bool) → ends_in_leaf d ≡ Some other → other ≢ leaf → IsCustom (codes "path is that of another node") e → IsPathFault leaf d e
+  empty_extension : ends_in_leaf d ≡ Some leaf → is_empty_extension d ≡ true → IsCustom (codes "path of an extension is empty") e → IsPathFault leaf d e
 
--- why numbers aren't those of a path: one isn't a nibble
-pub data IsNibbleFault (x : List ℕ) (e : DecoderError) : Type 0 where
-  above_nibbles : ¬ AreNibbles x → IsCustom (codes "nibble is above 15") e → IsNibbleFault x e
+-- Why numbers aren't those of a path of a leaf, or of an extension: one isn't a nibble, or there are none for an extension.
+pub data IsNibbleFault (leaf : Bool) (x : List ℕ) (e : DecoderError) : Type 0 where
+  above_nibbles : ¬ AreNibbles x → IsCustom (codes "nibble is above 15") e → IsNibbleFault leaf x e
+  no_nibbles : leaf ≡ false → x ≡ [] → IsCustom (codes "path of an extension is empty") e → IsNibbleFault leaf x e
 
-pub ruleset path_faults = (not_encoded, other_kind)
+pub ruleset path_faults = (not_encoded, other_kind, empty_extension)

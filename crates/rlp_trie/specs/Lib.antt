@@ -1,8 +1,13 @@
+pub mod BranchChild
 pub mod Child
 pub mod ChildLaws
+pub mod EmptyString
 pub mod HexPrefix
 pub mod Inline
+pub mod Lookup
+pub mod Next
 pub mod Path
+pub mod ProofWalk
 pub mod Trie
 pub mod TrieNode
 pub mod TrieNodeLaws

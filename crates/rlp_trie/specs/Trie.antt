@@ -1,12 +1,12 @@
 -- How nodes of the trie are written and read.
-use Rattle.std.specs.Prelude.{ℕ, get_or}
+use Rattle.std.specs.Prelude.{ℕ, None, get_or}
 use Rattle.std.specs.Vec.{vec_items}
 use Rattle.rlp.specs.Codec.{Codec, Fields, byte_string, each, end, field, struct_of}
 use Rattle.rlp_trie.specs.declared.branch.Branch.{Branch}
-use Rattle.rlp_trie.specs.declared.child.Child.{Child}
-use Rattle.rlp_trie.specs.declared.child.Child.TheVariants.{Nothing}
+use Rattle.rlp_trie.specs.declared.branch_child.BranchChild.{BranchChild}
 use Rattle.rlp_trie.specs.declared.extension.Extension.{Extension}
 use Rattle.rlp_trie.specs.declared.leaf.Leaf.{Leaf}
+use Rattle.rlp_trie.specs.BranchChild.{branch_child}
 use Rattle.rlp_trie.specs.ChildLaws.{child}
 use Rattle.rlp_trie.specs.Path.{path}
 
@@ -27,12 +27,12 @@ abbrev pub extension : Codec Extension
 extension = struct_of extension_fields
 
 -- the child at place k
-abbrev pub child_at : ℕ → Branch → Child
-child_at k b = get_or b.children k Nothing
+abbrev pub child_at : ℕ → Branch → BranchChild
+child_at k b = get_or b.children k (record { 0 = None })
 
 -- sixteen children, and the value
 abbrev pub branch_fields : Fields Branch
-branch_fields = each child_at child (field (λ (b : Branch). b.value) (byte_string vec_items) end) 0 16
+branch_fields = each child_at branch_child (field (λ (b : Branch). b.value) (byte_string vec_items) end) 0 16
 
 -- the list of the fields
 abbrev pub branch : Codec Branch

@@ -1,26 +1,29 @@
 -- How nodes of the trie of every kind are written and read.
-use Rattle.std.specs.Prelude.{ℕ, ◌≡◌, ◌≢◌, Bool, true, false, List, Result, Ok, Err}
+use Rattle.std.specs.Prelude.{ℕ, ◌≡◌, ◌≢◌, ⊤, Bool, true, false, List, [], Result, Ok, Err}
 use Rattle.rlp.specs.DecoderError.{DecoderError}
 use Rattle.rlp.specs.DecoderError.TheVariants.{RlpIncorrectListLen}
-use Rattle.rlp.specs.Format.Item.{Item}
+use Rattle.rlp.specs.Format.Encoding.{encoding}
+use Rattle.rlp.specs.Format.Item.{Item, string}
 use Rattle.rlp.specs.Format.WrittenHeader.{AreBytes}
 use Rattle.rlp.specs.Values.RawItem.{view_frame}
 use Rattle.rlp.specs.Views.View.{View, item_at, item_count, strict_view_of, view_string}
 use Rattle.rlp_trie.specs.HexPrefix.{is_leaf_path}
 use Rattle.rlp_trie.specs.Trie.{branch, extension, leaf}
 use Rattle.rlp_trie.specs.declared.trie_node.TrieNode.{TrieNode}
-use Rattle.rlp_trie.specs.declared.trie_node.TrieNode.TheVariants.{Branch, Extension, Leaf}
+use Rattle.rlp_trie.specs.declared.trie_node.TrieNode.TheVariants.{Branch, Empty, Extension, Leaf}
 
 -- ---- values
 
--- the item of the leaf, the extension or the branch
+-- the empty string for the empty trie, or the item of the leaf, the extension or the branch
 abbrev pub node_item : TrieNode → Item
+node_item Empty = string []
 node_item (Leaf l) = leaf.item l
 node_item (Extension e) = extension.item e
 node_item (Branch b) = branch.item b
 
 -- the leaf, the extension or the branch fits
 abbrev pub IsTrieNode : TrieNode → Type 0
+IsTrieNode Empty = ⊤
 IsTrieNode (Leaf l) = leaf.Fits l
 IsTrieNode (Extension e) = extension.Fits e
 IsTrieNode (Branch b) = branch.Fits b
@@ -41,10 +44,10 @@ is_leaf_item (Err e) = false
 abbrev pub begins_as_leaf : List ℕ → Bool
 begins_as_leaf b = is_leaf_item (item_at (strict_view_of b) 0)
 
--- Why bytes that are an item aren't a node: they aren't a list, or are one of a length other than 2 and 17. A list of 17 items has a fault of a branch. A list of two
--- has a fault of a leaf if it begins with the path of a leaf, and else one of an extension.
+-- Why bytes that are an item aren't a node: they aren't the empty string or a list, or are a list of a length other than 2 and 17. A list of 17 items has a fault of a
+-- branch. A list of two has a fault of a leaf if it begins with the path of a leaf, and else one of an extension.
 pub data IsNodeFault (b : List ℕ) : DecoderError → Type 0 where
-  no_list : (e : DecoderError) → item_count (strict_view_of b) ≡ Err e → IsNodeFault b e
+  no_list : (e : DecoderError) → b ≢ encoding (string []) → item_count (strict_view_of b) ≡ Err e → IsNodeFault b e
   other_length : (n : ℕ) → item_count (strict_view_of b) ≡ Ok n → n ≢ 2 → n ≢ 17 → IsNodeFault b RlpIncorrectListLen
   faulty_branch : (e : DecoderError) → item_count (strict_view_of b) ≡ Ok 17 → branch.faults (strict_view_of b) e → IsNodeFault b e
   faulty_leaf : (e : DecoderError) → item_count (strict_view_of b) ≡ Ok 2 → begins_as_leaf b ≡ true → leaf.faults (strict_view_of b) e → IsNodeFault b e

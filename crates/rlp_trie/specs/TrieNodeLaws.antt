@@ -1,20 +1,23 @@
 -- Nodes of the trie are given exactly by their encodings.
-use Rattle.std.proofs.Common.{◌≡◌, ◌<◌, ◌^◌, ◌⊎◌, inl, inr, ℕ, true, false, List, length, refl, sym, ap, ◌∙◌, subst, arith, Ok, Err, Result, IsOkAnd, unwrap_or, Some}
+use Rattle.std.proofs.Common.{◌≡◌, ◌<◌, ◌^◌, ◌⊎◌, inl, inr, ℕ, true, false, List, [], length, refl, sym, ap, ◌∙◌, subst, arith, Ok, Err, Result, IsOkAnd, unwrap_or}
 use Rattle.std.specs.Vec.{vec_items}
 use Rattle.rlp.specs.DecoderError.{DecoderError}
-use Rattle.rlp.specs.DecoderError.TheVariants.{OutOfMemory}
+use Rattle.rlp.specs.DecoderError.TheVariants.{OutOfMemory, RlpExpectedToBeList}
 use Rattle.rlp.specs.Format.Encoding.{encoding}
+use Rattle.rlp.specs.Format.Item.{string}
 use Rattle.rlp.specs.Format.WrittenHeader.{AreBytes}
 use Rattle.rlp.specs.Values.RawItem.{view_frame}
 use Rattle.rlp.specs.Values.ValueReading.{GivesValue}
-use Rattle.rlp.specs.Views.View.{View, Holds, HoldsItem, item_at, item_count, strict_view_of}
+use Rattle.rlp.specs.Views.View.{View, Holds, HoldsItem, item_at, item_count, items_fault, strict_view_of}
 use Rattle.rlp.specs.Codec.{Codec}
 use Rattle.rlp.specs.Codecs.Exact.{exact_type}
 use Rattle.rlp.specs.Lemmas.Encodings.{front_sized}
+use Rattle.rlp.specs.Lemmas.Numbered.{item_count-fault}
 use Rattle.rlp.specs.Lemmas.RawItems.{view_frame-held}
 use Rattle.rlp.specs.Lemmas.Reading.{bytes_held}
 use Rattle.rlp.specs.Lemmas.Slices.{part_of_items}
 use Rattle.rlp.specs.Lemmas.StringsHeld.{held_begins, held_only}
+use Rattle.rlp_trie.specs.EmptyString.{empty_string}
 use Rattle.rlp_trie.specs.HexPrefix.{is_leaf_flag}
 use Rattle.rlp_trie.specs.Path.{path}
 use Rattle.rlp_trie.specs.Trie.{branch, extension, leaf}
@@ -43,7 +46,7 @@ module _ (b : List ℕ) (bytes : AreBytes b) (fits : length b < 2 ^ 64) where
       leaf_by e bad many (path_by 2 l.path (item_at (strict_view_of b) 0) refl path_at)
     where
       leaf_by : (e : DecoderError) → IsNodeFault b e → item_count (strict_view_of b) ≡ Ok 2 → begins_as_leaf b ≡ true → ⊥
-      leaf_by e (no_list f none) many is_leaf = cc
+      leaf_by e (no_list f other none) many is_leaf = cc
       leaf_by e (other_length n same not_two not_many) many is_leaf = not_two (let two : n ≡ 2 = cc in two)
       leaf_by e (faulty_branch f same bad) many is_leaf = cc
       leaf_by e (faulty_leaf f same kind bad) many is_leaf = (leaf.reads_strictly b l bytes fits).sound fit is f bad
@@ -55,7 +58,7 @@ module _ (b : List ℕ) (bytes : AreBytes b) (fits : length b < 2 ^ 64) where
       extension_by e bad many (path_by 0 x.path (item_at (strict_view_of b) 0) refl path_at)
     where
       extension_by : (e : DecoderError) → IsNodeFault b e → item_count (strict_view_of b) ≡ Ok 2 → begins_as_leaf b ≡ false → ⊥
-      extension_by e (no_list f none) many is_extension = cc
+      extension_by e (no_list f other none) many is_extension = cc
       extension_by e (other_length n same not_two not_many) many is_extension = not_two (let two : n ≡ 2 = cc in two)
       extension_by e (faulty_branch f same bad) many is_extension = cc
       extension_by e (faulty_leaf f same kind bad) many is_extension = cc
@@ -65,14 +68,28 @@ module _ (b : List ℕ) (bytes : AreBytes b) (fits : length b < 2 ^ 64) where
   branch_told x e fit is bad = branch_by e bad ((branch.reads_strictly b x bytes fits).exact.1 (fit, is)).0
     where
       branch_by : (e : DecoderError) → IsNodeFault b e → item_count (strict_view_of b) ≡ Ok 17 → ⊥
-      branch_by e (no_list f none) many = cc
+      branch_by e (no_list f other none) many = cc
       branch_by e (other_length n same not_two not_many) many = not_many (let all : n ≡ 17 = cc in all)
       branch_by e (faulty_branch f same bad) many = (branch.reads_strictly b x bytes fits).sound fit is f bad
       branch_by e (faulty_leaf f same kind bad) many = cc
       branch_by e (faulty_extension f same kind bad) many = cc
 
+  empty_told : (e : DecoderError) → b ≡ encoding (string []) → ¬ IsNodeFault b e
+  empty_told e whole bad =
+      let no_items : item_count (strict_view_of b) ≡ Err RlpExpectedToBeList = item_count-fault (strict_view_of b) RlpExpectedToBeList
+      (ap (λ b. items_fault (strict_view_of b)) (whole ∙ empty_string)) in
+      empty_by e bad no_items
+    where
+      empty_by : (e : DecoderError) → IsNodeFault b e → item_count (strict_view_of b) ≡ Err RlpExpectedToBeList → ⊥
+      empty_by e (no_list f other none) no_items = other whole
+      empty_by e (other_length n same not_two not_many) no_items = cc
+      empty_by e (faulty_branch f same bad) no_items = cc
+      empty_by e (faulty_leaf f same kind bad) no_items = cc
+      empty_by e (faulty_extension f same kind bad) no_items = cc
+
   -- the encoding of a node has no fault
   node_told : (n : TrieNode) (e : DecoderError) → IsTrieNode n → b ≡ encoding (node_item n) → ¬ IsNodeFault b e
+  node_told node.Empty e is whole = empty_told e whole
   node_told (node.Leaf l) e is whole = leaf_told l e is whole
   node_told (node.Extension x) e is whole = extension_told x e is whole
   node_told (node.Branch x) e is whole = branch_told x e is whole

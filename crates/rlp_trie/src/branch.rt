@@ -2,7 +2,7 @@
 
 ghost use Rattle.rlp_trie.specs.Trie.{branch};
 
-use crate::Child;
+use crate::BranchChild;
 use rlp::{Decodable, DecoderError, Each, Encodable, Rlp, RlpStream, RoundTrip, StrictRead};
 use std::alloc::{AllocError, Global};
 
@@ -13,7 +13,7 @@ use std::alloc::{AllocError, Global};
 #[derive(Drop)]
 pub struct Branch {
     /// The child for each next digit of the path.
-    pub children: [Child; 16],
+    pub children: [BranchChild; 16],
     /// The value of the path that ends here, or no bytes if there is none.
     pub value: Vec<u8>,
 }

@@ -12,14 +12,12 @@ use rlp::{Decodable, DecoderError, Encodable, RawItem, Rlp, RlpStream, RoundTrip
 use rlp_records::Hash;
 use std::alloc::{AllocError, Global};
 
-/// A child of a branch or of an extension of the trie.
+/// A child of a node of the trie.
 ///
 /// See appendix D of the yellow paper: a node whose encoding has fewer than 32 bytes is kept in its
 /// parent, and any other node is named by its hash.
 #[derive(Debug, PartialEq, Eq, Drop)]
 pub enum Child {
-    /// No node.
-    Nothing,
     /// The node with this hash.
     Node(Hash),
     /// A node that is kept in its parent.
@@ -36,7 +34,6 @@ impl Encodable for Child {
     #[tactic(auto, using(rlp::proofs::Writing::writing))]
     fn rlp_append(&self, s: &mut RlpStream) -> Result<(), AllocError> {
         match self {
-            Child::Nothing => s.encoder().encode_value(&[]),
             Child::Node(hash) => s.encoder().encode_value(&hash.0),
             Child::Inline(node) => node.item.rlp_append(s),
         }
@@ -46,8 +43,8 @@ impl Encodable for Child {
 /// Reads the first item, also from a lenient view, with its whole encoding. It takes memory only
 /// for a node that is kept in its parent. What is in such a node isn't tested.
 ///
-/// Fails as [`Rlp::payload_info`] does, with `RlpIsTooShort` for a string of 1 to 31 bytes, with
-/// `RlpIsTooBig` for a string of more than 32 bytes or a list of 32 bytes or more, and as
+/// Fails as [`Rlp::payload_info`] does, with `RlpIsTooShort` for a string of fewer than 32 bytes,
+/// with `RlpIsTooBig` for a string of more than 32 bytes or a list of 32 bytes or more, and as
 /// [`RawItem::new`] does.
 impl Decodable for Child {
     ghost gives = { child.gives };
@@ -76,7 +73,7 @@ impl StrictRead for Child {
 
 /// Reads a child from bytes that are one item.
 #[tactic(auto, using(crate::specs::ChildLaws::child_reading))]
-fn child_of(alloc: Global, bytes: &[u8]) -> Result<Child, DecoderError>
+pub(crate) fn child_of(alloc: Global, bytes: &[u8]) -> Result<Child, DecoderError>
     ensures value { IfOk result (λ c. IsChild c × (bytes.now ≡ encoding (child_item c))) }
     ensures fault { IfErr result (λ e. IsChildFault bytes.now e
         ⊎ ((e ≡ OutOfMemory) × IsInlineNode bytes.now)) }
@@ -90,9 +87,6 @@ fn child_of(alloc: Global, bytes: &[u8]) -> Result<Child, DecoderError>
         return Ok(Child::Inline(InlineNode { item }));
     }
     let string = view.decoder().string()?;
-    if string.is_empty() {
-        return Ok(Child::Nothing);
-    }
     match <[u8; 32]>::try_from(string) {
         Ok(hash) => Ok(Child::Node(Hash(hash))),
         Err(_) if string.len() < 32 => Err(DecoderError::RlpIsTooShort),

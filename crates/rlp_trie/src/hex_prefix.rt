@@ -2,7 +2,7 @@
 
 ghost use Rattle.std.specs.Prelude.{◌≡◌, ◌↔◌, ◌++◌, Bool, Some, IfOk, IsTrue, OnOk};
 ghost use Rattle.rlp.specs.Format.WrittenHeader.{AreBytes};
-ghost use Rattle.rlp_trie.specs.HexPrefix.{AreNibbles, IsHexPrefix, bytes_of, ends_in_leaf, hex_prefix, nibbles_of, path_nibbles};
+ghost use Rattle.rlp_trie.specs.HexPrefix.{AreNibbles, IsHexPrefix, bytes_of, ends_in_leaf, hex_prefix, is_empty_extension, nibbles_of, path_nibbles};
 
 use std::alloc::{AllocError, Global};
 
@@ -22,6 +22,13 @@ pub fn ends_in_leaf(path: &[u8]) -> Option<bool>
         [0x20 | 0x30..=0x3f, ..] => Some(true),
         _ => None,
     }
+}
+
+/// Returns whether bytes are the path of an extension that has no nibbles.
+pub(crate) fn is_empty_extension(path: &[u8]) -> bool
+    ensures { result ≡ is_empty_extension path.now }
+{
+    matches!(path, [0x00])
 }
 
 /// Returns whether each number is a nibble: a digit to the base 16.

@@ -2,20 +2,30 @@
 #![tactic(auto)]
 
 mod branch;
+mod branch_child;
 mod child;
+mod empty;
 mod extension;
 mod hex_prefix;
 mod inline_node;
+pub mod laws;
 mod leaf;
 mod path;
+mod proof;
+mod proof_fault;
 mod record;
+mod step;
 mod trie_node;
+mod walk;
 
 pub use branch::Branch;
+pub use branch_child::BranchChild;
 pub use child::Child;
 pub use extension::Extension;
 pub use hex_prefix::ends_in_leaf;
 pub use inline_node::InlineNode;
 pub use leaf::Leaf;
 pub use path::{ExtensionPath, LeafPath, Path};
+pub use proof::verify_proof;
+pub use proof_fault::ProofFault;
 pub use trie_node::TrieNode;

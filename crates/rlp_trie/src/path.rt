@@ -1,10 +1,10 @@
 //! Paths of leaves and of extensions of the trie.
 
-ghost use Rattle.std.specs.Prelude.{◌≡◌, ◌⊎◌, ⊤, IfErr, IfOk, Some};
+ghost use Rattle.std.specs.Prelude.{◌≡◌, ◌≢◌, ◌⊎◌, ⊤, [], IfErr, IfOk, Some, false};
 ghost use Rattle.rlp.specs.DecoderError.TheVariants.{OutOfMemory};
-ghost use Rattle.rlp_trie.specs.HexPrefix.{AreNibbles, IsNibbleFault, IsPathFault, ends_in_leaf, hex_prefix, is_leaf_flag, path_nibbles};
+ghost use Rattle.rlp_trie.specs.HexPrefix.{AreNibbles, IsNibbleFault, IsPath, IsPathFault, ends_in_leaf, hex_prefix, is_empty_extension, is_leaf_flag, path_nibbles};
 
-use crate::hex_prefix::{are_nibbles, ends_in_leaf, hex_prefix, path_nibbles};
+use crate::hex_prefix::{are_nibbles, ends_in_leaf, hex_prefix, is_empty_extension, path_nibbles};
 use rlp::{Decodable, DecoderError, Encodable, Rlp, RlpStream, RoundTrip, StrictRead};
 use std::alloc::{AllocError, Global};
 
@@ -15,12 +15,14 @@ pub type LeafPath = Path<2>;
 pub type ExtensionPath = Path<0>;
 
 /// A path of a node of the trie, hex-prefix encoded as in appendix C of the yellow paper. `FLAG` is 2
-/// for the path of a leaf, and 0 for the path of an extension.
+/// for the path of a leaf, and 0 for the path of an extension. Only the path of a leaf may have no
+/// nibbles.
 #[derive(Debug, PartialEq, Eq, Drop)]
 pub struct Path<const FLAG: u8> {
     /// The encoding, as [`ends_in_leaf`] explains it.
     pub bytes: Vec<u8>,
     pub ghost encoded: { ends_in_leaf bytes.items ≡ Some (is_leaf_flag FLAG) },
+    pub ghost some_nibble: { is_empty_extension bytes.items ≡ false },
 }
 
 impl<const FLAG: u8> Path<FLAG> {
@@ -28,18 +30,22 @@ impl<const FLAG: u8> Path<FLAG> {
     ///
     /// Fails with `Custom("path is not hex-prefix encoded")` if the bytes aren't an encoding, and with
     /// `Custom("path is that of another node")` if they are one of the other kind. Fails with
-    /// `OutOfMemory` if memory is refused.
+    /// `Custom("path of an extension is empty")` if they are the path of an extension with no nibbles,
+    /// and with `OutOfMemory` if memory is refused.
     #[tactic(auto, using(crate::specs::HexPrefix::path_faults))]
     pub fn new(alloc: Global, bytes: &[u8]) -> Result<Path<FLAG>, DecoderError>
         ensures value { IfOk result (λ p. p.bytes.items ≡ bytes.now) }
         ensures fault { IfErr result (λ e. IsPathFault (is_leaf_flag FLAG) bytes.now e
-            ⊎ ((e ≡ OutOfMemory) × (ends_in_leaf bytes.now ≡ Some (is_leaf_flag FLAG)))) }
+            ⊎ ((e ≡ OutOfMemory) × IsPath (is_leaf_flag FLAG) bytes.now)) }
     {
         let Some(leaf) = ends_in_leaf(bytes) else {
             return Err(DecoderError::Custom("path is not hex-prefix encoded"));
         };
         if leaf != (FLAG == 2) {
             return Err(DecoderError::Custom("path is that of another node"));
+        }
+        if is_empty_extension(bytes) {
+            return Err(DecoderError::Custom("path of an extension is empty"));
         }
         match Vec::from_slice(alloc, bytes) {
             Ok(bytes) => Ok(Path { bytes }),
@@ -49,18 +55,22 @@ impl<const FLAG: u8> Path<FLAG> {
 
     /// The path of these nibbles, each a digit to the base 16.
     ///
-    /// Fails with `Custom("nibble is above 15")` if a number is no digit, and with `OutOfMemory` if
-    /// memory is refused.
+    /// Fails with `Custom("nibble is above 15")` if a number is no digit, with
+    /// `Custom("path of an extension is empty")` if there are none for an extension, and with
+    /// `OutOfMemory` if memory is refused.
     #[tactic(auto, using(crate::proofs::PathLemmas::made_of_nibbles))]
     pub fn from_nibbles(alloc: Global, nibbles: &[u8]) -> Result<Path<FLAG>, DecoderError>
         ensures value { IfOk result (λ p. AreNibbles nibbles.now
             × (p.bytes.items ≡ hex_prefix (is_leaf_flag FLAG) nibbles.now)) }
         ensures back { IfOk result (λ p. path_nibbles p.bytes.items ≡ nibbles.now) }
-        ensures fault { IfErr result (λ e. IsNibbleFault nibbles.now e
+        ensures fault { IfErr result (λ e. IsNibbleFault (is_leaf_flag FLAG) nibbles.now e
             ⊎ ((e ≡ OutOfMemory) × AreNibbles nibbles.now)) }
     {
         if !are_nibbles(nibbles) {
             return Err(DecoderError::Custom("nibble is above 15"));
+        }
+        if FLAG != 2 && nibbles.is_empty() {
+            return Err(DecoderError::Custom("path of an extension is empty"));
         }
         match hex_prefix(alloc, FLAG == 2, nibbles) {
             Ok(bytes) => Ok(Path { bytes }),
@@ -73,6 +83,7 @@ impl<const FLAG: u8> Path<FLAG> {
         ensures value { IfOk result (λ x. x.items ≡ path_nibbles self.now.bytes.items) }
         ensures encoded { IfOk result (λ x. AreNibbles x.items
             × (self.now.bytes.items ≡ hex_prefix (is_leaf_flag FLAG) x.items)) }
+        ensures some { is_leaf_flag FLAG ≡ false → IfOk result (λ x. x.items ≢ []) }
     {
         path_nibbles(alloc, self.bytes.as_slice())
     }

@@ -8,18 +8,21 @@ ghost use Rattle.rlp_records.specs.Hashing.{IsHashOf};
 ghost use Rattle.rlp_trie.specs.TrieNode.{IsNodeFault, IsTrieNode, MayLackInNode, begins_as_leaf, node_item};
 ghost use Rattle.rlp_trie.specs.TrieNodeLaws.{trie_node};
 
+use crate::empty::is_empty_string;
 use crate::hex_prefix::ends_in_leaf;
 use crate::{Branch, Extension, Leaf};
 use rlp::{Decodable, DecoderError, Encodable, Rlp, RlpStream, RoundTrip, StrictRead};
 use rlp_records::{Hash, encoding_hash};
 use std::alloc::{AllocError, Global};
 
-/// A node of the Merkle Patricia trie of any kind.
+/// A node of the Merkle Patricia trie of any kind, or the empty trie.
 ///
-/// See appendix D of the yellow paper. A branch is a list of 17 items, and the others are lists of
-/// two, which the path tells apart, as [`ends_in_leaf`](crate::ends_in_leaf) explains.
+/// See appendix D of the yellow paper. A branch is a list of 17 items, and leaves and extensions are
+/// lists of two, which the path tells apart, as [`ends_in_leaf`](crate::ends_in_leaf) explains.
 #[derive(Drop)]
 pub enum TrieNode {
+    /// The empty trie, which has no node: the empty string.
+    Empty,
     /// A node that ends a path.
     Leaf(Leaf),
     /// A node with one child.
@@ -36,6 +39,7 @@ impl Encodable for TrieNode {
     #[tactic(auto, using(rlp::proofs::Writing::writing))]
     fn rlp_append(&self, s: &mut RlpStream) -> Result<(), AllocError> {
         match self {
+            TrieNode::Empty => s.encoder().encode_value(&[]),
             TrieNode::Leaf(leaf) => leaf.rlp_append(s),
             TrieNode::Extension(extension) => extension.rlp_append(s),
             TrieNode::Branch(branch) => branch.rlp_append(s),
@@ -46,8 +50,8 @@ impl Encodable for TrieNode {
 /// Reads the whole encoding of a node, also from a lenient view, since its hash is of these bytes.
 /// Only bytes that follow the node are ignored.
 ///
-/// Fails as [`Rlp::payload_info`] and a strict [`Rlp::item_count`] do, with `RlpIncorrectListLen`
-/// for a list that has neither 2 nor 17 items, and else with the strict fault of the branch, the
+/// The empty string is read as the empty trie. For other bytes reading fails as [`Rlp::payload_info`]
+/// and a strict [`Rlp::item_count`] do, with `RlpIncorrectListLen` for a list that has neither 2 nor 17 items, and else with the strict fault of the branch, the
 /// leaf or the extension. A list of two items is a leaf if it begins with the path of a leaf.
 impl Decodable for TrieNode {
     ghost gives = { trie_node.gives };
@@ -82,6 +86,9 @@ fn node_of(alloc: Global, bytes: &[u8]) -> Result<TrieNode, DecoderError>
     ensures fault { IfErr result (λ e. (IsNodeFault bytes.now e) ⊎ ((e ≡ OutOfMemory)
         × MayLackInNode bytes.now)) }
 {
+    if is_empty_string(bytes) {
+        return Ok(TrieNode::Empty);
+    }
     match Rlp::new_strict(bytes).item_count()? {
         2 if is_leaf(bytes) => Ok(TrieNode::Leaf(rlp::decode_whole(alloc, bytes)?)),
         2 => Ok(TrieNode::Extension(rlp::decode_whole(alloc, bytes)?)),

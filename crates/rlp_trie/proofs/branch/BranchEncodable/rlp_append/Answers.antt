@@ -1,12 +1,11 @@
-use Rattle.std.proofs.Common.{◌≡◌, List, ◌++◌, length, map, ap, sym, ◌∙◌, rules}
+use Rattle.std.proofs.Common.{◌≡◌, None, List, ◌++◌, length, map, ap, sym, ◌∙◌, rules}
 use Rattle.std.specs.Vec.{vec_items}
 use Rattle.rlp.specs.Codec.{byte_string, end, field}
 use Rattle.rlp.specs.Format.Item.{Item, list_of}
 use Rattle.rlp.specs.Streams.Stream.{put_item}
 use Rattle.rlp_trie.specs.declared.branch.Branch.{Branch}
-use Rattle.rlp_trie.specs.declared.child.Child.{Child}
-use Rattle.rlp_trie.specs.declared.child.Child.TheVariants.{Nothing}
-use Rattle.rlp_trie.specs.ChildLaws.{child}
+use Rattle.rlp_trie.specs.declared.branch_child.BranchChild.{BranchChild}
+use Rattle.rlp_trie.specs.BranchChild.{branch_child}
 use Rattle.rlp.specs.Codecs.EachField.{each_items}
 use Rattle.rlp_trie.proofs.branch.BranchEncodable.rlp_append.Goals as goal
 
@@ -17,7 +16,7 @@ returns-in-Ok-append_fields-clause-ok c =
     let same : c.as_slice-children.result.now ≡ c.args.self.now.children = search rules in
     let many : length c.args.self.now.children ≡ 16 = ap length (sym same) ∙ c.if-children-ne16.false in
     let written : c.append_fields-write_struct.new.s.state ≡ put_item
-    (list_of (map child.item c.as_slice-children.result.now ++ last.items branch)) c.args.s.now.state = search rules in
+    (list_of (map branch_child.item c.as_slice-children.result.now ++ last.items branch)) c.args.s.now.state = search rules in
     written
-    ∙ ap (λ (xs : List Child). put_item (list_of (map child.item xs ++ last.items branch)) c.args.s.now.state) same
-    ∙ ap (λ (xs : List Item). put_item (list_of xs) c.args.s.now.state) (each_items Nothing (λ (b : Branch). b.children) child last branch 16 many)
+    ∙ ap (λ (xs : List BranchChild). put_item (list_of (map branch_child.item xs ++ last.items branch)) c.args.s.now.state) same
+    ∙ ap (λ (xs : List Item). put_item (list_of xs) c.args.s.now.state) (each_items (record { 0 = None }) (λ (b : Branch). b.children) branch_child last branch 16 many)

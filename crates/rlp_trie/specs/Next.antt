@@ -1,0 +1,36 @@
+-- What a step of the walk over a proof gives, and the whole walk.
+use Rattle.std.specs.Prelude.{ℕ, ◌≡◌, ◌⊎◌, List, Option, Result, Ok, Err, option_map}
+use Rattle.std.specs.Global.{Vec}
+use Rattle.std.specs.Vec.{vec_items}
+use Rattle.rlp.specs.DecoderError.{DecoderError}
+use Rattle.rlp.specs.DecoderError.TheVariants as decoder
+use Rattle.rlp.specs.Format.Item.{Item}
+use Rattle.rlp_trie.specs.Child.{child_item}
+use Rattle.rlp_trie.specs.Lookup.{Step, ends, goes}
+use Rattle.rlp_trie.specs.ProofWalk.{IsSameKind, Walk}
+use Rattle.rlp_trie.specs.declared.proof_fault.ProofFault.{ProofFault}
+use Rattle.rlp_trie.specs.declared.proof_fault.ProofFault.TheVariants.{FaultyNode, OutOfMemory}
+use Rattle.rlp_trie.specs.declared.step.Next.{Next}
+use Rattle.rlp_trie.specs.declared.step.Next.TheVariants.{Below, Value}
+
+-- the value, or the reference to the node below and the rest of the path
+abbrev pub next_step : Next → Step
+next_step (Value value) = ends (option_map vec_items value)
+next_step (Below child rest) = goes (child_item child) rest.now
+
+-- what a fault of reading a node is for its proof
+abbrev pub read_fault : DecoderError → ProofFault
+read_fault decoder.OutOfMemory = OutOfMemory
+read_fault fault = FaultyNode fault
+
+-- the walk ends with this result, unless memory ran out
+abbrev pub IsEnd : List (List ℕ) → Item → List ℕ → Result (Option (Vec ℕ)) ProofFault → Type 0
+IsEnd nodes reference path (Ok value) = Walk nodes reference path (Ok (option_map vec_items value))
+IsEnd nodes reference path (Err e) = Walk nodes reference path (Err e) ⊎ (e ≡ OutOfMemory)
+
+-- a result agrees with how the walk ends, unless memory ran out
+abbrev pub Agrees : Result (Option (Vec ℕ)) ProofFault → Result (Option (List ℕ)) ProofFault → Type 0
+Agrees (Ok value) (Ok wanted) = option_map vec_items value ≡ wanted
+Agrees (Ok value) (Err f) = ⊥
+Agrees (Err e) (Ok wanted) = e ≡ OutOfMemory
+Agrees (Err e) (Err f) = IsSameKind e f ⊎ (e ≡ OutOfMemory)

@@ -1,0 +1,62 @@
+//! The places of branches of the trie: a child or none.
+
+ghost use Rattle.std.specs.Prelude.{⊤};
+ghost use Rattle.rlp_trie.specs.BranchChild.{branch_child};
+
+use crate::Child;
+use crate::child::child_of;
+use crate::empty::is_empty_string;
+use rlp::{Decodable, DecoderError, Encodable, Rlp, RlpStream, RoundTrip, StrictRead};
+use std::alloc::{AllocError, Global};
+
+/// The child of a branch for one digit of the path, or `None`, which is written as the empty string.
+///
+/// See appendix D of the yellow paper.
+#[derive(Debug, PartialEq, Eq, Drop)]
+pub struct BranchChild(pub Option<Child>);
+
+impl Encodable for BranchChild {
+    ghost item = { branch_child.item };
+
+    ghost fits = { branch_child.Fits };
+
+    ghost at_once = { λ _. ⊤ };
+
+    #[tactic(auto, using(rlp::proofs::Writing::writing))]
+    fn rlp_append(&self, s: &mut RlpStream) -> Result<(), AllocError> {
+        match &self.0 {
+            Some(child) => child.rlp_append(s),
+            None => s.encoder().encode_value(&[]),
+        }
+    }
+}
+
+/// Reads the first item as a [`Child`] is read, or the empty string as none. Fails as reading a child
+/// does.
+impl Decodable for BranchChild {
+    ghost gives = { branch_child.gives };
+
+    ghost faults = { branch_child.faults };
+
+    ghost may_lack_memory = { branch_child.may_lack };
+
+    #[tactic(auto, using(crate::specs::BranchChild::place_reading))]
+    fn decode(alloc: Global, rlp: &Rlp<'_>) -> Result<BranchChild, DecoderError> {
+        let (item, _) = rlp.split_first()?;
+        if is_empty_string(item.as_raw()) {
+            return Ok(BranchChild(None));
+        }
+        match child_of(alloc, item.as_raw()) {
+            Ok(child) => Ok(BranchChild(Some(child))),
+            Err(fault) => Err(fault),
+        }
+    }
+}
+
+impl RoundTrip for BranchChild {
+    ghost round_trip = { branch_child.reads_back };
+}
+
+impl StrictRead for BranchChild {
+    ghost strict = { branch_child.reads_strictly };
+}

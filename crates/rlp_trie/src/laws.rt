@@ -1,0 +1,18 @@
+//! What holds of the trie and of proofs from it.
+
+ghost use Rattle.std.specs.Prelude.{ℕ, ◌≡◌, List, Option};
+ghost use Rattle.rlp.specs.Format.Item.{Item};
+ghost use Rattle.rlp_trie.specs.HexPrefix.{AreNibbles};
+ghost use Rattle.rlp_trie.specs.Lookup.{HasValue};
+ghost use Rattle.rlp_trie.specs.ProofWalk.{IsKnown, TellApart};
+
+/// A path has one value, or none, below one reference, whichever nodes are known: if no two of them
+/// with one hash differ. So what [`crate::verify_proof`] returns for a root is what the whole trie with
+/// this root has, unless the hash of a node of the proof is that of another node of the trie.
+#[tactic(auto, using(crate::proofs::OneValue::one_value))]
+pub fn paths_have_one_value()
+    ensures { (nodes others : List (List ℕ)) → TellApart (IsKnown nodes) (IsKnown others)
+        → (reference : Item) (path : List ℕ) → AreNibbles path → (value other : Option (List ℕ))
+        → HasValue (IsKnown nodes) reference path value
+        → HasValue (IsKnown others) reference path other → value ≡ other }
+{}

@@ -1,0 +1,138 @@
+//! The walk over the nodes of a proof.
+
+ghost use Rattle.std.specs.Prelude.{ℕ, ◌≡◌, ◌⊎◌, IfErr, IfOk, List, Err, Ok, Option, Result, map};
+ghost use Rattle.std.specs.Str.{bytes_eq};
+ghost use Rattle.std.specs.Vec.{vec_items};
+ghost use Rattle.keccak.specs.Keccak.{keccak256};
+ghost use Rattle.rlp.specs.Format.Item.{string};
+ghost use Rattle.rlp_trie.specs.Child.{child_item};
+ghost use Rattle.rlp_trie.specs.HexPrefix.{AreNibbles};
+ghost use Rattle.rlp_trie.specs.Lookup.{Encodes};
+ghost use Rattle.rlp_trie.specs.Next.{Agrees, IsEnd, read_fault};
+ghost use Rattle.rlp_trie.specs.ProofWalk.{IsNoNode, IsUnread, TakesNode, Walk, next_node};
+ghost use Rattle.rlp_trie.specs.declared.proof_fault.ProofFault.TheVariants.{OutOfMemory};
+
+use crate::step::{Next, step};
+use crate::{Child, ProofFault, TrieNode};
+use keccak::keccak256;
+use rlp::{DecoderError, NULL_RLP};
+use rlp_records::Hash;
+use std::alloc::Global;
+
+/// Walks from a child along a path, over the nodes of a proof. Returns the value that the trie has for
+/// the path, or `None` if it has none.
+pub(crate) fn walk(
+    alloc: Global,
+    first: Child,
+    path: &[u8],
+    nodes: &[Vec<u8>],
+) -> Result<Option<Vec<u8>>, ProofFault>
+    requires { AreNibbles path.now }
+    ensures ends { IsEnd (map vec_items nodes.now) (child_item first) path.now result }
+    ensures only { (outcome : Result (Option (List ℕ)) ProofFault)
+        → Walk (map vec_items nodes.now) (child_item first) path.now outcome
+        → Agrees result outcome }
+{
+    let mut child = first;
+    let mut rest = path;
+    let mut left = nodes;
+    loop {
+        let (node, others) = match take_node(alloc, &child, left) {
+            Ok(found) => found,
+            Err(fault) => return Err(fault),
+        };
+        match step(alloc, node, rest)? {
+            Next::Value(value) => {
+                if others.is_empty() {
+                    return Ok(value);
+                }
+                return Err(ProofFault::NodesLeft);
+            }
+            Next::Below(below, more) => {
+                child = below;
+                rest = more;
+                left = others;
+            }
+        }
+    }
+}
+
+/// Reads the node of a child. Returns it, and the nodes of the proof that are left.
+fn take_node<'a>(
+    alloc: Global,
+    child: &Child,
+    nodes: &'a [Vec<u8>],
+) -> Result<(TrieNode, &'a [Vec<u8>]), ProofFault>
+    ensures value { IfOk result (λ r. TakesNode (child_item child.now) (map vec_items nodes.now)
+        r.0 (map vec_items r.1.now)) }
+    ensures fault { IfErr result (λ e. (IsNoNode (child_item child.now) (map vec_items nodes.now) e)
+        ⊎ (e ≡ OutOfMemory)) }
+{
+    match child {
+        Child::Node(hash) => {
+            let (bytes, left) = next_named(hash, nodes)?;
+            match read_node(alloc, bytes) {
+                Ok(node) => Ok((node, left)),
+                Err(fault) => Err(fault),
+            }
+        }
+        Child::Inline(inline) => match read_node(alloc, inline.item.as_bytes()) {
+            Ok(node) => Ok((node, nodes)),
+            Err(fault) => Err(fault),
+        },
+    }
+}
+
+/// Returns the encoding that a hash names, and the nodes of the proof that are left.
+fn next_named<'a>(
+    hash: &Hash,
+    nodes: &'a [Vec<u8>],
+) -> Result<(&'a [u8], &'a [Vec<u8>]), ProofFault>
+    ensures value { IfOk result (λ r. next_node (string hash.now.0) (map vec_items nodes.now)
+        ≡ Ok (r.0.now, map vec_items r.1.now)) }
+    ensures fault { IfErr result (λ e. next_node (string hash.now.0) (map vec_items nodes.now)
+        ≡ Err e) }
+{
+    match nodes {
+        [next, left @ ..] => {
+            if !is_hash_of(hash, next.as_slice()) {
+                return Err(ProofFault::OtherHash);
+            }
+            Ok((next.as_slice(), left))
+        }
+        [] => {
+            if !is_hash_of(hash, &NULL_RLP) {
+                return Err(ProofFault::MissingNode);
+            }
+            Ok((&NULL_RLP, nodes))
+        }
+    }
+}
+
+/// Returns whether a hash is that of bytes.
+fn is_hash_of(hash: &Hash, bytes: &[u8]) -> bool
+    ensures { result ≡ bytes_eq hash.now.0 (keccak256 bytes.now) }
+{
+    hash.0 == keccak256(bytes)
+}
+
+/// Reads a node from its encoding.
+fn read_node(alloc: Global, bytes: &[u8]) -> Result<TrieNode, ProofFault>
+    ensures value { IfOk result (λ n. Encodes bytes.now n) }
+    ensures fault { IfErr result (λ e. IsUnread bytes.now e ⊎ (e ≡ OutOfMemory)) }
+{
+    match rlp::decode_whole(alloc, bytes) {
+        Ok(node) => Ok(node),
+        Err(fault) => Err(read_fault(fault)),
+    }
+}
+
+/// Returns what a fault of reading a node is for its proof.
+fn read_fault(fault: DecoderError) -> ProofFault
+    ensures { result ≡ read_fault fault }
+{
+    match fault {
+        DecoderError::OutOfMemory => ProofFault::OutOfMemory,
+        fault => ProofFault::FaultyNode(fault),
+    }
+}
