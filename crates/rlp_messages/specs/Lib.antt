@@ -20,3 +20,7 @@ pub mod Receipts
 pub mod Receipts69
 -- the number of a request
 pub mod WithRequestId
+-- messages with their ids
+pub mod Message
+-- the messages of p2p
+pub mod P2pMessage

@@ -8,6 +8,8 @@ mod announcements;
 mod disconnect;
 mod hash_or_number;
 mod hello;
+mod message;
+mod p2p_message;
 mod receipts;
 mod receipts69;
 mod record;
@@ -23,6 +25,7 @@ pub use announcements::{
 pub use disconnect::{Disconnect, DisconnectReason};
 pub use hash_or_number::HashOrNumber;
 pub use hello::{Capability, FurtherItem, Hello, NodeId};
+pub use p2p_message::P2pMessage;
 pub use receipts::{BlockReceipts, Receipts};
 pub use receipts69::{BlockReceipts69, Receipt69, Receipts69};
 pub use requests::{
