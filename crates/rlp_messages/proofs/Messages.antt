@@ -28,16 +28,17 @@ large_other : (tags : List ℕ) (k : ℕ) → 0x100 ≤ k → AreSmall tags → 
 large_other [] k large small = tt
 large_other (tag ∷ tags) k large small = (λ same. let below : tag < 0x100 = small.0 in omega (arith, same, large, below), large_other tags k large small.1)
 
-module _ {B : Type 0} (offset : ℕ) (cases : Cases B) where
-  -- ---- what bodies know
+-- ---- what bodies know
 
-  abbrev BodyOf : ℕ → List ℕ → DecoderError → Type 0
-  BodyOf n body e = (AreBytes body × (cases.case n).faults (strict_view_of body) e) ⊎ ((e ≡ OutOfMemory) × (cases.case n).may_lack (strict_view_of body))
+module _ {B : Type 0} (cases : Cases B) (number : ℕ) (body : List ℕ) (e : DecoderError) where
+  abbrev BodyOf : ℕ → Type 0
+  BodyOf n = (AreBytes body × (cases.case n).faults (strict_view_of body) e) ⊎ ((e ≡ OutOfMemory) × (cases.case n).may_lack (strict_view_of body))
 
   -- the body of the message with this number fails
-  pub body_of_fails : (number : ℕ) (body : List ℕ) (e : DecoderError) (n : ℕ) → number ≡ n → BodyOf n body e → BodyFails cases number body e
-  body_of_fails number body e n same h = inr (subst (λ n. BodyOf n body e) (sym same) h)
+  pub body_of_fails : (n : ℕ) → number ≡ n → BodyOf n → BodyFails cases number body e
+  body_of_fails n same h = inr (subst BodyOf (sym same) h)
 
+module _ {B : Type 0} (offset : ℕ) (cases : Cases B) where
   -- the bytes begin with no id of a message
   pub id_fails : (d : List ℕ) (e : DecoderError) → FaultsAsNumber 8 (view_of d) e
       ⊎ ((id : ℕ) × (GivesNumber 8 (view_of d) id × ((id < offset) × IsCustom unknown_message e))) → MessageFails offset cases d e

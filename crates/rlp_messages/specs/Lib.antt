@@ -24,3 +24,9 @@ pub mod WithRequestId
 pub mod Message
 -- the messages of p2p
 pub mod P2pMessage
+-- the messages that eth/68 and eth/69 have in common
+pub mod EthMessage
+-- the messages of eth/68
+pub mod Eth68Message
+-- the messages of eth/69
+pub mod Eth69Message

@@ -6,6 +6,8 @@
 
 mod announcements;
 mod disconnect;
+mod eth68_message;
+mod eth69_message;
 mod hash_or_number;
 mod hello;
 mod message;
@@ -23,6 +25,8 @@ pub use announcements::{
     Transactions,
 };
 pub use disconnect::{Disconnect, DisconnectReason};
+pub use eth68_message::Eth68Message;
+pub use eth69_message::Eth69Message;
 pub use hash_or_number::HashOrNumber;
 pub use hello::{Capability, FurtherItem, Hello, NodeId};
 pub use p2p_message::P2pMessage;
