@@ -1,7 +1,7 @@
 //! Messages between Ethereum's clients: of the capability `p2p` of RLPx, and of the protocol `eth`.
 //!
-//! The types are the contents of messages. The number of a message goes before its content, and the
-//! content is compressed; this crate does neither.
+//! The types are the bodies of messages. [`P2pMessage`], [`Eth68Message`] and [`Eth69Message`] are
+//! messages of any number, with their ids. This crate neither compresses messages nor makes frames.
 #![tactic(auto)]
 
 mod announcements;
@@ -10,6 +10,7 @@ mod eth68_message;
 mod eth69_message;
 mod hash_or_number;
 mod hello;
+pub mod laws;
 mod message;
 mod p2p_message;
 mod receipts;
