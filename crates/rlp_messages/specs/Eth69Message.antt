@@ -19,14 +19,14 @@ use Rattle.rlp_messages.specs.WithRequestId.{with_request_id}
 abbrev pub Eth69Body : Type 0
 Eth69Body = Status69 ⊎ (WithRequestId Receipts69 ⊎ (BlockRangeUpdate ⊎ EthBody))
 
--- the messages of this version with their numbers, and those of both versions
+-- the messages of eth/69 with their numbers: Status (0x00), Receipts (0x10) and BlockRangeUpdate (0x11) of EIP-7642, and those of both versions
 abbrev pub eth69_messages : Cases Eth69Body
 eth69_messages =
     and_case 0x00 status69 (
     and_case 0x10 (with_request_id receipts69) (
     and_case 0x11 block_range_update eth_messages))
 
--- the body of a message
+-- the body of a message of eth/69
 abbrev pub eth69_body : Eth69Message → Eth69Body
 eth69_body (message.Status m) = inl m
 eth69_body (message.Receipts m) = inr (inl m)
@@ -43,14 +43,14 @@ eth69_body (message.GetPooledTransactions m) = inr (inr (inr (inr (inr (inr (inr
 eth69_body (message.PooledTransactions m) = inr (inr (inr (inr (inr (inr (inr (inr (inr (inr (inr (inr (inl m))))))))))))
 eth69_body (message.GetReceipts m) = inr (inr (inr (inr (inr (inr (inr (inr (inr (inr (inr (inr (inr m))))))))))))
 
--- the body fits
+-- the body of a message of eth/69 fits
 abbrev pub FitsEth69 : Eth69Message → Type 0
 FitsEth69 m = FitsCase eth69_messages (eth69_body m)
 
--- the id after this offset, and the body
+-- the bytes of a message of eth/69 after this offset: the id, and the body
 abbrev pub eth69_bytes : ℕ → Eth69Message → List ℕ
 eth69_bytes offset m = message_bytes offset eth69_messages (eth69_body m)
 
--- both have one number, and each field of the bodies is the same
+-- both messages of eth/69 have one number, and each field of the bodies is the same
 abbrev pub SameEth69 : Eth69Message → Eth69Message → Type 0
 SameEth69 m n = SameCase eth69_messages (eth69_body m) (eth69_body n)

@@ -17,7 +17,7 @@ use Rattle.rlp_messages.specs.Session.{ping, pong}
 abbrev pub P2pBody : Type 0
 P2pBody = Hello ⊎ (Disconnect ⊎ (Ping ⊎ Pong))
 
--- "p2p" capability of RLPx: Hello (0x00), Disconnect (0x01), Ping (0x02), Pong (0x03)
+-- the messages of p2p with their numbers: Hello (0x00), Disconnect (0x01), Ping (0x02) and Pong (0x03) of RLPx
 abbrev pub p2p_messages : Cases P2pBody
 p2p_messages =
     and_case 0x00 hello (
@@ -25,21 +25,21 @@ p2p_messages =
     and_case 0x02 ping (
     last_case 0x03 pong)))
 
--- the body of a message
+-- the body of a message of p2p
 abbrev pub p2p_body : P2pMessage → P2pBody
 p2p_body (message.Hello m) = inl m
 p2p_body (message.Disconnect m) = inr (inl m)
 p2p_body (message.Ping m) = inr (inr (inl m))
 p2p_body (message.Pong m) = inr (inr (inr m))
 
--- the body fits
+-- the body of a message of p2p fits
 abbrev pub FitsP2p : P2pMessage → Type 0
 FitsP2p m = FitsCase p2p_messages (p2p_body m)
 
--- the id after this offset, and the body
+-- the bytes of a message of p2p after this offset: the id, and the body
 abbrev pub p2p_bytes : ℕ → P2pMessage → List ℕ
 p2p_bytes offset m = message_bytes offset p2p_messages (p2p_body m)
 
--- both have one number, and each field of the bodies is the same
+-- both messages of p2p have one number, and each field of the bodies is the same
 abbrev pub SameP2p : P2pMessage → P2pMessage → Type 0
 SameP2p m n = SameCase p2p_messages (p2p_body m) (p2p_body n)
