@@ -1,7 +1,7 @@
 //! The calls that the rows of tables name.
 
 use crate::reading::{Item, ways};
-use crate::{fields, messages, requests};
+use crate::{fields, ids, messages, requests};
 use rlp_messages::{
     BlockBodies, BlockHeaders, Disconnect, HashOrNumber, Hello, NewBlock, Ping, Pong,
     PooledTransactions, Receipts, Receipts69, Transactions, WithRequestId,
@@ -32,6 +32,7 @@ pub(crate) fn answer(alloc: Global, call: &str, bytes: &[u8]) -> Result<String, 
 fn of_fields(alloc: Global, call: &str, bytes: &[u8]) -> Result<String, Fail> {
     match call.split_once(": ") {
         None => fields::answer(alloc, call, bytes),
+        Some(("id", name)) => ids::answer(alloc, name, bytes),
         Some(("message", name)) => messages::answer(alloc, name, bytes),
         Some(("request", name)) => requests::answer(alloc, name, bytes),
         _ => Ok(String::from_str(alloc, "no such call")?),

@@ -11,6 +11,10 @@ mod answers;
 #[cfg(test)]
 mod fields;
 #[cfg(test)]
+mod ids;
+#[cfg(test)]
+mod laws;
+#[cfg(test)]
 mod messages;
 #[cfg(test)]
 mod named;

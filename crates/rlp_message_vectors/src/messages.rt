@@ -75,13 +75,9 @@ pub(crate) const ROWS: &str = "
     message: greatest fork | ce84ffffffff88ffffffffffffffff
 
     Clients of eth/68 and eth/69 on the main network, and the blocks up to 1,000,000.
-    message: status of eth/68 | f85944018a0c70d815d562d3cfa955a008080808080808080808080808080808080\
-     80808080808080808080808080808a0d4e56740f876aef8c010b86a40d5f56745a118d0906a34e69aec8c0db1cb8fa\
-     3c984fc64ec0483118c30
-    message: status of eth/69 | f8534501a0d4e56740f876aef8c010b86a40d5f56745a118d0906a34e69aec8c0db\
-     1cb8fa3c984fc64ec0483118c3080830f4240a00808080808080808080808080808080808080808080808080808080\
-     808080808
-    message: range | e680830f4240a00808080808080808080808080808080808080808080808080808080808080808
+    message: status of eth/68 | STATUS_68
+    message: status of eth/69 | STATUS_69
+    message: range | RANGE
 
     Two blocks, with the numbers 1 and 2^64 - 1, no blocks, and three transactions, of the types 0, 2
     and 3.

@@ -3,12 +3,12 @@
 use crate::answers::answer;
 use crate::reading::is_fault;
 use crate::text::bytes_of;
-use crate::{messages, requests};
+use crate::{ids, messages, requests};
 use std::alloc::Global;
 use std::test::Fail;
 
 /// The tables.
-const TABLES: [&str; 2] = [messages::ROWS, requests::ROWS];
+const TABLES: [&str; 3] = [ids::ROWS, messages::ROWS, requests::ROWS];
 
 /// Returns what the call of a row answers, if it isn't what the row wants. The answer `refused` is
 /// any fault.

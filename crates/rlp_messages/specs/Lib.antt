@@ -20,3 +20,13 @@ pub mod Receipts
 pub mod Receipts69
 -- the number of a request
 pub mod WithRequestId
+-- messages with their ids
+pub mod Message
+-- the messages of p2p
+pub mod P2pMessage
+-- the messages that eth/68 and eth/69 have in common
+pub mod EthMessage
+-- the messages of eth/68
+pub mod Eth68Message
+-- the messages of eth/69
+pub mod Eth69Message

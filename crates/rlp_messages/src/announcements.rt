@@ -190,7 +190,7 @@ impl StrictRead for BlockRangeUpdate {
     ghost strict = { block_range_update.reads_strictly };
 }
 
-/// A whole block that a client announces, message 0x07 of `eth/68`: the list of both fields.
+/// A whole block that a client announces, message 0x07 of `eth`: the list of both fields.
 #[derive(Drop)]
 pub struct NewBlock {
     /// The block.

@@ -1,0 +1,52 @@
+-- How the messages of eth/68 are written and read.
+use Rattle.std.specs.Prelude.{ℕ, ◌⊎◌, List}
+use Rattle.std.proofs.Common.{inl, inr}
+use Rattle.rlp.specs.Codecs.Sums.{Cases, FitsCase, SameCase, and_case}
+use Rattle.rlp_messages.specs.declared.receipts.Receipts.{Receipts}
+use Rattle.rlp_messages.specs.declared.status.Status68.{Status68}
+use Rattle.rlp_messages.specs.declared.eth68_message.Eth68Message.{Eth68Message}
+use Rattle.rlp_messages.specs.declared.eth68_message.Eth68Message.TheVariants as message
+use Rattle.rlp_messages.specs.declared.with_request_id.WithRequestId.{WithRequestId}
+use Rattle.rlp_messages.specs.EthMessage.{EthBody, eth_messages}
+use Rattle.rlp_messages.specs.Message.{message_bytes}
+use Rattle.rlp_messages.specs.Receipts.{receipts}
+use Rattle.rlp_messages.specs.Status.{status68}
+use Rattle.rlp_messages.specs.WithRequestId.{with_request_id}
+
+-- the bodies of the messages
+abbrev pub Eth68Body : Type 0
+Eth68Body = Status68 ⊎ (WithRequestId Receipts ⊎ EthBody)
+
+-- the messages of eth/68 with their numbers: Status (0x00) and Receipts (0x10) of eth/68, and those of both versions
+abbrev pub eth68_messages : Cases Eth68Body
+eth68_messages =
+    and_case 0x00 status68 (
+    and_case 0x10 (with_request_id receipts) eth_messages)
+
+-- the body of a message of eth/68
+abbrev pub eth68_body : Eth68Message → Eth68Body
+eth68_body (message.Status m) = inl m
+eth68_body (message.Receipts m) = inr (inl m)
+eth68_body (message.NewBlockHashes m) = inr (inr (inl m))
+eth68_body (message.Transactions m) = inr (inr (inr (inl m)))
+eth68_body (message.GetBlockHeaders m) = inr (inr (inr (inr (inl m))))
+eth68_body (message.BlockHeaders m) = inr (inr (inr (inr (inr (inl m)))))
+eth68_body (message.GetBlockBodies m) = inr (inr (inr (inr (inr (inr (inl m))))))
+eth68_body (message.BlockBodies m) = inr (inr (inr (inr (inr (inr (inr (inl m)))))))
+eth68_body (message.NewBlock m) = inr (inr (inr (inr (inr (inr (inr (inr (inl m))))))))
+eth68_body (message.NewPooledTransactionHashes m) = inr (inr (inr (inr (inr (inr (inr (inr (inr (inl m)))))))))
+eth68_body (message.GetPooledTransactions m) = inr (inr (inr (inr (inr (inr (inr (inr (inr (inr (inl m))))))))))
+eth68_body (message.PooledTransactions m) = inr (inr (inr (inr (inr (inr (inr (inr (inr (inr (inr (inl m)))))))))))
+eth68_body (message.GetReceipts m) = inr (inr (inr (inr (inr (inr (inr (inr (inr (inr (inr (inr m)))))))))))
+
+-- the body of a message of eth/68 fits
+abbrev pub FitsEth68 : Eth68Message → Type 0
+FitsEth68 m = FitsCase eth68_messages (eth68_body m)
+
+-- the bytes of a message of eth/68 after this offset: the id, and the body
+abbrev pub eth68_bytes : ℕ → Eth68Message → List ℕ
+eth68_bytes offset m = message_bytes offset eth68_messages (eth68_body m)
+
+-- both messages of eth/68 have one number, and each field of the bodies is the same
+abbrev pub SameEth68 : Eth68Message → Eth68Message → Type 0
+SameEth68 m n = SameCase eth68_messages (eth68_body m) (eth68_body n)

@@ -1,0 +1,145 @@
+//! Messages of `eth/68`, with their ids.
+
+ghost use Rattle.std.specs.Prelude.{◌≡◌, IfErr, IfOk, OnOk};
+ghost use Rattle.rlp.specs.DecoderError.TheVariants.{OutOfMemory};
+ghost use Rattle.rlp.specs.Format.Encoding.{encoding};
+ghost use Rattle.rlp.specs.Codecs.Sums.{case_item};
+ghost use Rattle.rlp_messages.specs.Eth68Message.{FitsEth68, eth68_body, eth68_bytes, eth68_messages};
+ghost use Rattle.rlp_messages.specs.Message.{BodyFails, MessageFails};
+
+use crate::message::{Numbered, decode_numbered, write};
+use crate::{
+    BlockBodies, BlockHeaders, GetBlockBodies, GetBlockHeaders, GetPooledTransactions, GetReceipts,
+    NewBlock, NewBlockHashes, NewPooledTransactionHashes, PooledTransactions, Receipts, Status68,
+    Transactions, WithRequestId,
+};
+use bytes::BytesMut;
+use rlp::DecoderError;
+use std::alloc::{AllocError, Global};
+
+/// A message of `eth/68`. Clients agree on the capability's offset by their `Hello` messages; it is
+/// mostly 0x10.
+#[derive(Drop)]
+pub enum Eth68Message {
+    /// 0x00.
+    Status(Status68),
+    /// 0x01.
+    NewBlockHashes(NewBlockHashes),
+    /// 0x02.
+    Transactions(Transactions),
+    /// 0x03.
+    GetBlockHeaders(WithRequestId<GetBlockHeaders>),
+    /// 0x04.
+    BlockHeaders(WithRequestId<BlockHeaders>),
+    /// 0x05.
+    GetBlockBodies(WithRequestId<GetBlockBodies>),
+    /// 0x06.
+    BlockBodies(WithRequestId<BlockBodies>),
+    /// 0x07.
+    NewBlock(NewBlock),
+    /// 0x08.
+    NewPooledTransactionHashes(NewPooledTransactionHashes),
+    /// 0x09.
+    GetPooledTransactions(WithRequestId<GetPooledTransactions>),
+    /// 0x0a.
+    PooledTransactions(WithRequestId<PooledTransactions>),
+    /// 0x0f.
+    GetReceipts(WithRequestId<GetReceipts>),
+    /// 0x10.
+    Receipts(WithRequestId<Receipts>),
+}
+
+impl Eth68Message {
+    /// Returns the number of the message within the capability.
+    pub fn number(&self) -> u8
+        ensures { result ≡ eth68_messages.tag (eth68_body self.now) }
+    {
+        match self {
+            Eth68Message::Status(_) => 0x00,
+            Eth68Message::NewBlockHashes(_) => 0x01,
+            Eth68Message::Transactions(_) => 0x02,
+            Eth68Message::GetBlockHeaders(_) => 0x03,
+            Eth68Message::BlockHeaders(_) => 0x04,
+            Eth68Message::GetBlockBodies(_) => 0x05,
+            Eth68Message::BlockBodies(_) => 0x06,
+            Eth68Message::NewBlock(_) => 0x07,
+            Eth68Message::NewPooledTransactionHashes(_) => 0x08,
+            Eth68Message::GetPooledTransactions(_) => 0x09,
+            Eth68Message::PooledTransactions(_) => 0x0a,
+            Eth68Message::GetReceipts(_) => 0x0f,
+            Eth68Message::Receipts(_) => 0x10,
+        }
+    }
+
+    /// Returns the bytes of the message: the encoding of its id, which is the number after the
+    /// offset, and the encoding of its body. RLPx compresses the body and sends both in a frame; this
+    /// crate does neither.
+    pub fn to_message(&self, alloc: Global, offset: u8) -> Result<BytesMut, AllocError>
+        ensures fits { OnOk result (FitsEth68 self.now) }
+        ensures bytes { IfOk result (λ b. b.items ≡ eth68_bytes offset self.now) }
+    {
+        match self {
+            Eth68Message::Status(body) => write(alloc, offset, 0x00, body),
+            Eth68Message::NewBlockHashes(body) => write(alloc, offset, 0x01, body),
+            Eth68Message::Transactions(body) => write(alloc, offset, 0x02, body),
+            Eth68Message::GetBlockHeaders(body) => write(alloc, offset, 0x03, body),
+            Eth68Message::BlockHeaders(body) => write(alloc, offset, 0x04, body),
+            Eth68Message::GetBlockBodies(body) => write(alloc, offset, 0x05, body),
+            Eth68Message::BlockBodies(body) => write(alloc, offset, 0x06, body),
+            Eth68Message::NewBlock(body) => write(alloc, offset, 0x07, body),
+            Eth68Message::NewPooledTransactionHashes(body) => write(alloc, offset, 0x08, body),
+            Eth68Message::GetPooledTransactions(body) => write(alloc, offset, 0x09, body),
+            Eth68Message::PooledTransactions(body) => write(alloc, offset, 0x0a, body),
+            Eth68Message::GetReceipts(body) => write(alloc, offset, 0x0f, body),
+            Eth68Message::Receipts(body) => write(alloc, offset, 0x10, body),
+        }
+    }
+
+    /// Reads a message strictly from its bytes, as [`Eth68Message::to_message`] returns them. For such
+    /// bytes it fails only if memory runs out.
+    ///
+    /// Fails as reading a `u64` does if the bytes begin with no id, with `Custom("unknown message")`
+    /// for an id below the offset or without a message, and else with the strict fault of the body.
+    pub fn from_message(
+        alloc: Global,
+        offset: u8,
+        bytes: &[u8],
+    ) -> Result<Eth68Message, DecoderError>
+        ensures value { IfOk result (λ m. FitsEth68 m × (bytes.now ≡ eth68_bytes offset m)) }
+        ensures fault { IfErr result (λ e. MessageFails offset eth68_messages bytes.now e) }
+        ensures memory { (m : Eth68Message) → FitsEth68 m → bytes.now ≡ eth68_bytes offset m
+            → IfErr result (λ e. e ≡ OutOfMemory) }
+    {
+        match Numbered::of(alloc, offset, bytes) {
+            Ok(message) => decode_body(alloc, &message),
+            Err(fault) => Err(fault),
+        }
+    }
+}
+
+// Reads the body of a message by its number.
+fn decode_body(alloc: Global, message: &Numbered<'_>) -> Result<Eth68Message, DecoderError>
+    ensures value { IfOk result (λ m. FitsEth68 m
+        × ((message.now.number ≡ eth68_messages.tag (eth68_body m))
+        × (message.now.body.now ≡ encoding (case_item eth68_messages (eth68_body m))))) }
+    ensures fault { IfErr result
+        (λ e. BodyFails eth68_messages message.now.number message.now.body.now e) }
+{
+    decode_numbered!(
+        alloc,
+        message,
+        0x00 => Eth68Message::Status,
+        0x01 => Eth68Message::NewBlockHashes,
+        0x02 => Eth68Message::Transactions,
+        0x03 => Eth68Message::GetBlockHeaders,
+        0x04 => Eth68Message::BlockHeaders,
+        0x05 => Eth68Message::GetBlockBodies,
+        0x06 => Eth68Message::BlockBodies,
+        0x07 => Eth68Message::NewBlock,
+        0x08 => Eth68Message::NewPooledTransactionHashes,
+        0x09 => Eth68Message::GetPooledTransactions,
+        0x0a => Eth68Message::PooledTransactions,
+        0x0f => Eth68Message::GetReceipts,
+        0x10 => Eth68Message::Receipts,
+    )
+}

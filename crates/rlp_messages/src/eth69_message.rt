@@ -1,0 +1,150 @@
+//! Messages of `eth/69`, with their ids.
+
+ghost use Rattle.std.specs.Prelude.{◌≡◌, IfErr, IfOk, OnOk};
+ghost use Rattle.rlp.specs.DecoderError.TheVariants.{OutOfMemory};
+ghost use Rattle.rlp.specs.Format.Encoding.{encoding};
+ghost use Rattle.rlp.specs.Codecs.Sums.{case_item};
+ghost use Rattle.rlp_messages.specs.Eth69Message.{FitsEth69, eth69_body, eth69_bytes, eth69_messages};
+ghost use Rattle.rlp_messages.specs.Message.{BodyFails, MessageFails};
+
+use crate::message::{Numbered, decode_numbered, write};
+use crate::{
+    BlockBodies, BlockHeaders, BlockRangeUpdate, GetBlockBodies, GetBlockHeaders,
+    GetPooledTransactions, GetReceipts, NewBlock, NewBlockHashes, NewPooledTransactionHashes,
+    PooledTransactions, Receipts69, Status69, Transactions, WithRequestId,
+};
+use bytes::BytesMut;
+use rlp::DecoderError;
+use std::alloc::{AllocError, Global};
+
+/// A message of `eth/69`. Clients agree on the capability's offset by their `Hello` messages; it is
+/// mostly 0x10.
+#[derive(Drop)]
+pub enum Eth69Message {
+    /// 0x00.
+    Status(Status69),
+    /// 0x01.
+    NewBlockHashes(NewBlockHashes),
+    /// 0x02.
+    Transactions(Transactions),
+    /// 0x03.
+    GetBlockHeaders(WithRequestId<GetBlockHeaders>),
+    /// 0x04.
+    BlockHeaders(WithRequestId<BlockHeaders>),
+    /// 0x05.
+    GetBlockBodies(WithRequestId<GetBlockBodies>),
+    /// 0x06.
+    BlockBodies(WithRequestId<BlockBodies>),
+    /// 0x07.
+    NewBlock(NewBlock),
+    /// 0x08.
+    NewPooledTransactionHashes(NewPooledTransactionHashes),
+    /// 0x09.
+    GetPooledTransactions(WithRequestId<GetPooledTransactions>),
+    /// 0x0a.
+    PooledTransactions(WithRequestId<PooledTransactions>),
+    /// 0x0f.
+    GetReceipts(WithRequestId<GetReceipts>),
+    /// 0x10.
+    Receipts(WithRequestId<Receipts69>),
+    /// 0x11.
+    BlockRangeUpdate(BlockRangeUpdate),
+}
+
+impl Eth69Message {
+    /// Returns the number of the message within the capability.
+    pub fn number(&self) -> u8
+        ensures { result ≡ eth69_messages.tag (eth69_body self.now) }
+    {
+        match self {
+            Eth69Message::Status(_) => 0x00,
+            Eth69Message::NewBlockHashes(_) => 0x01,
+            Eth69Message::Transactions(_) => 0x02,
+            Eth69Message::GetBlockHeaders(_) => 0x03,
+            Eth69Message::BlockHeaders(_) => 0x04,
+            Eth69Message::GetBlockBodies(_) => 0x05,
+            Eth69Message::BlockBodies(_) => 0x06,
+            Eth69Message::NewBlock(_) => 0x07,
+            Eth69Message::NewPooledTransactionHashes(_) => 0x08,
+            Eth69Message::GetPooledTransactions(_) => 0x09,
+            Eth69Message::PooledTransactions(_) => 0x0a,
+            Eth69Message::GetReceipts(_) => 0x0f,
+            Eth69Message::Receipts(_) => 0x10,
+            Eth69Message::BlockRangeUpdate(_) => 0x11,
+        }
+    }
+
+    /// Returns the bytes of the message: the encoding of its id, which is the number after the
+    /// offset, and the encoding of its body. RLPx compresses the body and sends both in a frame; this
+    /// crate does neither.
+    pub fn to_message(&self, alloc: Global, offset: u8) -> Result<BytesMut, AllocError>
+        ensures fits { OnOk result (FitsEth69 self.now) }
+        ensures bytes { IfOk result (λ b. b.items ≡ eth69_bytes offset self.now) }
+    {
+        match self {
+            Eth69Message::Status(body) => write(alloc, offset, 0x00, body),
+            Eth69Message::NewBlockHashes(body) => write(alloc, offset, 0x01, body),
+            Eth69Message::Transactions(body) => write(alloc, offset, 0x02, body),
+            Eth69Message::GetBlockHeaders(body) => write(alloc, offset, 0x03, body),
+            Eth69Message::BlockHeaders(body) => write(alloc, offset, 0x04, body),
+            Eth69Message::GetBlockBodies(body) => write(alloc, offset, 0x05, body),
+            Eth69Message::BlockBodies(body) => write(alloc, offset, 0x06, body),
+            Eth69Message::NewBlock(body) => write(alloc, offset, 0x07, body),
+            Eth69Message::NewPooledTransactionHashes(body) => write(alloc, offset, 0x08, body),
+            Eth69Message::GetPooledTransactions(body) => write(alloc, offset, 0x09, body),
+            Eth69Message::PooledTransactions(body) => write(alloc, offset, 0x0a, body),
+            Eth69Message::GetReceipts(body) => write(alloc, offset, 0x0f, body),
+            Eth69Message::Receipts(body) => write(alloc, offset, 0x10, body),
+            Eth69Message::BlockRangeUpdate(body) => write(alloc, offset, 0x11, body),
+        }
+    }
+
+    /// Reads a message strictly from its bytes, as [`Eth69Message::to_message`] returns them. For such
+    /// bytes it fails only if memory runs out.
+    ///
+    /// Fails as reading a `u64` does if the bytes begin with no id, with `Custom("unknown message")`
+    /// for an id below the offset or without a message, and else with the strict fault of the body.
+    pub fn from_message(
+        alloc: Global,
+        offset: u8,
+        bytes: &[u8],
+    ) -> Result<Eth69Message, DecoderError>
+        ensures value { IfOk result (λ m. FitsEth69 m × (bytes.now ≡ eth69_bytes offset m)) }
+        ensures fault { IfErr result (λ e. MessageFails offset eth69_messages bytes.now e) }
+        ensures memory { (m : Eth69Message) → FitsEth69 m → bytes.now ≡ eth69_bytes offset m
+            → IfErr result (λ e. e ≡ OutOfMemory) }
+    {
+        match Numbered::of(alloc, offset, bytes) {
+            Ok(message) => decode_body(alloc, &message),
+            Err(fault) => Err(fault),
+        }
+    }
+}
+
+// Reads the body of a message by its number.
+fn decode_body(alloc: Global, message: &Numbered<'_>) -> Result<Eth69Message, DecoderError>
+    ensures value { IfOk result (λ m. FitsEth69 m
+        × ((message.now.number ≡ eth69_messages.tag (eth69_body m))
+        × (message.now.body.now ≡ encoding (case_item eth69_messages (eth69_body m))))) }
+    ensures fault { IfErr result
+        (λ e. BodyFails eth69_messages message.now.number message.now.body.now e) }
+{
+    decode_numbered!(
+        alloc,
+        message,
+        0x00 => Eth69Message::Status,
+        0x01 => Eth69Message::NewBlockHashes,
+        0x02 => Eth69Message::Transactions,
+        0x03 => Eth69Message::GetBlockHeaders,
+        0x04 => Eth69Message::BlockHeaders,
+        0x05 => Eth69Message::GetBlockBodies,
+        0x06 => Eth69Message::BlockBodies,
+        0x07 => Eth69Message::NewBlock,
+        0x08 => Eth69Message::NewPooledTransactionHashes,
+        0x09 => Eth69Message::GetPooledTransactions,
+        0x0a => Eth69Message::PooledTransactions,
+        0x0f => Eth69Message::GetReceipts,
+        0x10 => Eth69Message::Receipts,
+        0x11 => Eth69Message::BlockRangeUpdate,
+    )
+}

@@ -1,0 +1,22 @@
+//! What holds of messages: their bytes tell them apart.
+
+ghost use Rattle.std.specs.Prelude.{◌≡◌, ◌<◌, ◌^◌, ℕ, length};
+ghost use Rattle.rlp_messages.specs.Eth68Message.{FitsEth68, SameEth68, eth68_bytes};
+ghost use Rattle.rlp_messages.specs.Eth69Message.{FitsEth69, SameEth69, eth69_bytes};
+ghost use Rattle.rlp_messages.specs.P2pMessage.{FitsP2p, SameP2p, p2p_bytes};
+
+use crate::{Eth68Message, Eth69Message, P2pMessage};
+
+/// Two messages of one protocol that are written as the same bytes, fewer than 2^64, after one offset
+/// have the same number, and each of their fields is the same.
+pub fn bytes_tell_messages()
+    ensures p2p { (offset : ℕ) (one other : P2pMessage) → FitsP2p one → FitsP2p other
+        → length (p2p_bytes offset one) < 2 ^ 64 → p2p_bytes offset one ≡ p2p_bytes offset other
+        → SameP2p one other }
+    ensures eth68 { (offset : ℕ) (one other : Eth68Message) → FitsEth68 one → FitsEth68 other
+        → length (eth68_bytes offset one) < 2 ^ 64
+        → eth68_bytes offset one ≡ eth68_bytes offset other → SameEth68 one other }
+    ensures eth69 { (offset : ℕ) (one other : Eth69Message) → FitsEth69 one → FitsEth69 other
+        → length (eth69_bytes offset one) < 2 ^ 64
+        → eth69_bytes offset one ≡ eth69_bytes offset other → SameEth69 one other }
+{}
