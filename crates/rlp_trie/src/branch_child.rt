@@ -31,8 +31,8 @@ impl Encodable for BranchChild {
     }
 }
 
-/// Reads the first item as a [`Child`] is read, or the empty string as none. Fails as reading a child
-/// does.
+/// Reads the first item as a [`Child`] is read, or the empty string as none. Fails as reading a
+/// child does.
 impl Decodable for BranchChild {
     ghost gives = { branch_child.gives };
 

@@ -6,9 +6,9 @@ ghost use Rattle.rlp_trie.specs.HexPrefix.{AreNibbles};
 ghost use Rattle.rlp_trie.specs.Lookup.{HasValue};
 ghost use Rattle.rlp_trie.specs.ProofWalk.{IsKnown, TellApart};
 
-/// A path has one value, or none, below one reference, whichever nodes are known: if no two of them
-/// with one hash differ. So what [`crate::verify_proof`] returns for a root is what the whole trie with
-/// this root has, unless the hash of a node of the proof is that of another node of the trie.
+/// A path has one value below a reference, or none, whichever nodes are known, if no two of them with
+/// one hash differ. So what [`crate::verify_proof`] returns is what the whole trie with this root has,
+/// unless the hash of a node of the proof is that of another node of the trie.
 #[tactic(auto, using(crate::proofs::OneValue::one_value))]
 pub fn paths_have_one_value()
     ensures { (nodes others : List (List ℕ)) → TellApart (IsKnown nodes) (IsKnown others)

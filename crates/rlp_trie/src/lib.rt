@@ -1,4 +1,4 @@
-//! Nodes of the trie, as in appendix D of the yellow paper.
+//! Nodes of the trie, and proofs of what it has, as in appendix D of the yellow paper.
 #![tactic(auto)]
 
 mod branch;

@@ -1,4 +1,4 @@
-//! Proofs of what the trie has for a key, as the call `eth_getProof` of Ethereum's clients gives them.
+//! Proofs of what the trie has for a key, as `eth_getProof` of Ethereum's clients gives them.
 
 ghost use Rattle.std.specs.Prelude.{ℕ, ◌≡◌, ◌⊎◌, IfErr, IfOk, IsErrAnd, List, Err, Ok, Option, map, option_map};
 ghost use Rattle.std.specs.Vec.{vec_items};
@@ -16,8 +16,8 @@ use rlp_records::Hash;
 use std::alloc::Global;
 
 /// Returns the value that the trie with this root has for a key, or `None` if it has none, as these
-/// encodings of its nodes prove: those on the way from the root down, in order. A node that is kept in
-/// its parent is in the parent's encoding. The empty trie needs no node.
+/// encodings of nodes prove: those on the way from the root down, in order. A node that is kept in
+/// its parent isn't one of them. The empty trie needs no node.
 ///
 /// The keys of the tries of Ethereum's state are hashes: of an address, or of a place in storage.
 ///

@@ -50,9 +50,10 @@ impl Encodable for TrieNode {
 /// Reads the whole encoding of a node, also from a lenient view, since its hash is of these bytes.
 /// Only bytes that follow the node are ignored.
 ///
-/// The empty string is read as the empty trie. For other bytes reading fails as [`Rlp::payload_info`]
-/// and a strict [`Rlp::item_count`] do, with `RlpIncorrectListLen` for a list that has neither 2 nor 17 items, and else with the strict fault of the branch, the
-/// leaf or the extension. A list of two items is a leaf if it begins with the path of a leaf.
+/// The empty string is read as the empty trie. Other bytes fail as [`Rlp::payload_info`] and a strict
+/// [`Rlp::item_count`] do, with `RlpIncorrectListLen` for a list that has neither 2 nor 17 items, and
+/// else with the strict fault of the branch, the leaf or the extension. A list of two items is a leaf
+/// if it begins with the path of a leaf.
 impl Decodable for TrieNode {
     ghost gives = { trie_node.gives };
 

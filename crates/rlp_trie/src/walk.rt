@@ -19,8 +19,8 @@ use rlp::{DecoderError, NULL_RLP};
 use rlp_records::Hash;
 use std::alloc::Global;
 
-/// Walks from a child along a path, over the nodes of a proof. Returns the value that the trie has for
-/// the path, or `None` if it has none.
+/// Walks from a child along a path, over the nodes of a proof. Returns the value that the trie has
+/// for the path, or `None` if it has none.
 pub(crate) fn walk(
     alloc: Global,
     first: Child,
