@@ -15,67 +15,49 @@ use std::test::Fail;
 /// nodes that end early, are in another order, belong to another trie, are no nodes, or are too many.
 /// Of the roots of what is no node, the first two are published, as the hashes of no bytes and of a
 /// block without ommers, and an independent program computed the others.
-const ROWS: [(&str, &str); 41] = [
-    ("PUPPY 646f PUPPY_0 PUPPY_1 PUPPY_2 PUPPY_3", "= 76657262"),
-    (
-        "PUPPY 646f67 PUPPY_0 PUPPY_1 PUPPY_2 PUPPY_3",
-        "= 7075707079",
-    ),
-    (
-        "PUPPY 646f6765 PUPPY_0 PUPPY_1 PUPPY_2 PUPPY_3",
-        "= 636f696e",
-    ),
-    ("PUPPY 686f727365 PUPPY_0 PUPPY_1", "= 7374616c6c696f6e"),
-    ("DOGS 646f65 DOGS_0 DOGS_1", "= 7265696e64656572"),
-    ("DOGS 646f67 DOGS_0 DOGS_1 DOGS_2", "= 7075707079"),
-    (
-        "DOGS 646f67676c6573776f727468 DOGS_0 DOGS_1 DOGS_2",
-        "= 636174",
-    ),
-    ("FOO 666f6f FOO_0", "= 626172"),
-    ("FOO 666f6f64 FOO_0", "= 62617373"),
-    ("BED 6265 BED_0 BED_1", "= 65"),
-    ("BED 626564 BED_0 BED_1", "= 64"),
-    ("LETTER 41 LETTER_0", "= 61*50"),
-    ("TRANSACTIONS 80 f86e822080b869+FIRST", "= FIRST"),
-    ("PUPPY 71 PUPPY_0", "none"),
-    ("PUPPY 6470 PUPPY_0 PUPPY_1 PUPPY_2", "none"),
-    ("PUPPY 64 PUPPY_0 PUPPY_1 PUPPY_2", "none"),
-    ("PUPPY 00*0 PUPPY_0", "none"),
-    ("TWO 11 TWO_0 TWO_1", "none"),
-    ("PUPPY 61 PUPPY_0 PUPPY_1", "none"),
-    ("PUPPY 646f6778 PUPPY_0 PUPPY_1 PUPPY_2 PUPPY_3", "none"),
-    ("PUPPY 646f6768 PUPPY_0 PUPPY_1 PUPPY_2 PUPPY_3", "none"),
-    ("PUPPY 646f676565 PUPPY_0 PUPPY_1 PUPPY_2 PUPPY_3", "none"),
-    ("LETTER 4141 LETTER_0", "none"),
-    ("LETTER 00*0 LETTER_0", "none"),
-    ("EMPTY 646f", "none"),
-    ("EMPTY 00*0", "none"),
-    ("EMPTY 646f 80", "none"),
-    ("PUPPY 646f", "MissingNode"),
-    ("PUPPY 646f PUPPY_0 PUPPY_1 PUPPY_2", "MissingNode"),
-    ("PUPPY 646f PUPPY_1 PUPPY_0 PUPPY_2 PUPPY_3", "OtherHash"),
-    ("PUPPY 646f PUPPY_0 PUPPY_2 PUPPY_3", "OtherHash"),
-    ("DOGS 646f PUPPY_0 PUPPY_1 PUPPY_2 PUPPY_3", "OtherHash"),
-    ("PUPPY 646f 80", "OtherHash"),
-    ("NO_BYTES 646f 00*0", "FaultyNode(RlpIsTooShort)"),
-    ("NO_ITEMS 646f c0", "FaultyNode(RlpIncorrectListLen)"),
-    (
-        "EMPTY_PATH 646f e200a0+11*32",
-        "FaultyNode(Custom(\"path of an extension is empty\"))",
-    ),
-    (
-        "NO_CHILD 646f d1+80*6+c0+80*10",
-        "FaultyNode(RlpIncorrectListLen)",
-    ),
-    ("NO_CHILD 746f d1+80*6+c0+80*10", "none"),
-    ("PUPPY 71 PUPPY_0 PUPPY_1", "NodesLeft"),
-    ("EMPTY 646f 80 80", "NodesLeft"),
-    (
-        "PUPPY 686f727365 PUPPY_0 PUPPY_1 cf85206f727365887374616c6c696f6e",
-        "NodesLeft",
-    ),
-];
+const ROWS: &str = "
+    PUPPY 646f PUPPY_0 PUPPY_1 PUPPY_2 PUPPY_3 | = 76657262
+    PUPPY 646f67 PUPPY_0 PUPPY_1 PUPPY_2 PUPPY_3 | = 7075707079
+    PUPPY 646f6765 PUPPY_0 PUPPY_1 PUPPY_2 PUPPY_3 | = 636f696e
+    PUPPY 686f727365 PUPPY_0 PUPPY_1 | = 7374616c6c696f6e
+    DOGS 646f65 DOGS_0 DOGS_1 | = 7265696e64656572
+    DOGS 646f67 DOGS_0 DOGS_1 DOGS_2 | = 7075707079
+    DOGS 646f67676c6573776f727468 DOGS_0 DOGS_1 DOGS_2 | = 636174
+    FOO 666f6f FOO_0 | = 626172
+    FOO 666f6f64 FOO_0 | = 62617373
+    BED 6265 BED_0 BED_1 | = 65
+    BED 626564 BED_0 BED_1 | = 64
+    LETTER 41 LETTER_0 | = 61*50
+    TRANSACTIONS 80 f86e822080b869+FIRST | = FIRST
+    PUPPY 71 PUPPY_0 | none
+    PUPPY 6470 PUPPY_0 PUPPY_1 PUPPY_2 | none
+    PUPPY 64 PUPPY_0 PUPPY_1 PUPPY_2 | none
+    PUPPY 00*0 PUPPY_0 | none
+    TWO 11 TWO_0 TWO_1 | none
+    PUPPY 61 PUPPY_0 PUPPY_1 | none
+    PUPPY 646f6778 PUPPY_0 PUPPY_1 PUPPY_2 PUPPY_3 | none
+    PUPPY 646f6768 PUPPY_0 PUPPY_1 PUPPY_2 PUPPY_3 | none
+    PUPPY 646f676565 PUPPY_0 PUPPY_1 PUPPY_2 PUPPY_3 | none
+    LETTER 4141 LETTER_0 | none
+    LETTER 00*0 LETTER_0 | none
+    EMPTY 646f | none
+    EMPTY 00*0 | none
+    EMPTY 646f 80 | none
+    PUPPY 646f | MissingNode
+    PUPPY 646f PUPPY_0 PUPPY_1 PUPPY_2 | MissingNode
+    PUPPY 646f PUPPY_1 PUPPY_0 PUPPY_2 PUPPY_3 | OtherHash
+    PUPPY 646f PUPPY_0 PUPPY_2 PUPPY_3 | OtherHash
+    DOGS 646f PUPPY_0 PUPPY_1 PUPPY_2 PUPPY_3 | OtherHash
+    PUPPY 646f 80 | OtherHash
+    NO_BYTES 646f 00*0 | FaultyNode(RlpIsTooShort)
+    NO_ITEMS 646f c0 | FaultyNode(RlpIncorrectListLen)
+    EMPTY_PATH 646f e200a0+11*32 | FaultyNode(Custom(\"path of an extension is empty\"))
+    NO_CHILD 646f d1+80*6+c0+80*10 | FaultyNode(RlpIncorrectListLen)
+    NO_CHILD 746f d1+80*6+c0+80*10 | none
+    PUPPY 71 PUPPY_0 PUPPY_1 | NodesLeft
+    EMPTY 646f 80 80 | NodesLeft
+    PUPPY 686f727365 PUPPY_0 PUPPY_1 cf85206f727365887374616c6c696f6e | NodesLeft
+";
 
 /// Returns what the trie with a root has for a key, as nodes prove it.
 fn verified(alloc: Global, text: &str) -> Result<String, Fail> {
@@ -106,12 +88,12 @@ fn wanted(alloc: Global, text: &str) -> Result<String, Fail> {
 
 #[test]
 fn proofs(rt: HostRuntime) -> Result<(), Fail> {
-    for (proof, text) in ROWS {
-        let given = verified(rt.alloc(), proof)?;
-        assert_eq!(rt;
-            (proof, given.as_str()),
-            (proof, wanted(rt.alloc(), text)?.as_str())
-        );
+    for line in ROWS.lines() {
+        if let Some((proof, text)) = line.trim().split_once(" | ") {
+            let given = verified(rt.alloc(), proof)?;
+            let wanted = wanted(rt.alloc(), text)?;
+            assert_eq!(rt; given.as_str(), wanted.as_str(), "{line}");
+        }
     }
     Ok(())
 }
