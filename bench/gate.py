@@ -2,8 +2,8 @@
 
 usage: gate.py ROOT FILE
 
-It looks at the processes of the prover every half a second, and adds up their processor time by crate. What a process takes after the
-last look isn't counted. What `rt ci` prints is in `out/bench/gate.log`. `docs/calling` makes a table of FILE, which is `bench/gate.tsv`.
+It looks at the run's processes of the prover every half a second, and adds up their processor time by crate. What a process takes
+after the last look isn't counted. What `rt ci` prints is in `out/bench/gate.log`. `docs/calling` makes a table of FILE, which is `bench/gate.tsv`.
 """
 
 import os
@@ -22,17 +22,29 @@ NAME = re.compile(rb"--crate-name\0([^\0]+)")
 HEADS = ["crate", "part", "begins, s", "ends, s", "processor time, s", "memory, MB"]
 
 
-def processes():
-    """The processes of the prover: the number, what it checks, its processor time in seconds and its greatest memory in MB."""
+def status_of(number):
+    """The fields of a process behind its name: its state, its parent, and so on."""
+    with open(f"/proc/{number}/stat", encoding="utf-8") as file:
+        return file.read().rpartition(")")[2].split()
+
+
+def is_below(number, run):
+    """Whether a run started a process, itself or by others."""
+    while int(number) > 1 and int(number) != run:
+        number = status_of(number)[1]
+    return int(number) == run
+
+
+def processes(run):
+    """The run's processes of the prover: the number, what it checks, its processor time in seconds and its greatest memory in MB."""
     for number in filter(str.isdigit, os.listdir("/proc")):
         try:
             with open(f"/proc/{number}/cmdline", "rb") as file:
                 command = file.read()
             name = NAME.search(command)
-            if not name or b"/rattle\0" not in command:
+            if not name or b"/rattle\0" not in command or not is_below(number, run):
                 continue
-            with open(f"/proc/{number}/stat", encoding="utf-8") as file:
-                fields = file.read().rpartition(")")[2].split()
+            fields = status_of(number)
             with open(f"/proc/{number}/status", encoding="utf-8") as file:
                 most = re.search(r"VmHWM:\s+(\d+)", file.read())
             where = os.readlink(f"/proc/{number}/cwd")
@@ -47,7 +59,7 @@ def watched(run):
     begin, parts, taken = time.time(), defaultdict(lambda: [None, 0, 0]), defaultdict(dict)
     while run.poll() is None:
         now = time.time() - begin
-        for number, part, seconds, memory in processes():
+        for number, part, seconds, memory in processes(run.pid):
             one = parts[part]
             one[0] = now if one[0] is None else one[0]
             one[1], one[2] = now, max(one[2], memory)
