@@ -18,7 +18,7 @@ def list_of(items):
 
 
 def number(source, most):
-    """The digits of a number of up to so many bytes."""
+    """The digits of a number of at most `most` bytes."""
     return source.randbytes(source.randint(0, most)).lstrip(b"\0")
 
 

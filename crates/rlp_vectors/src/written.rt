@@ -72,8 +72,8 @@ no_u32s = c0
 texts = c88363617483646f67
 pairs = c6c20102c20304";
 
-/// Lists of so many numbers 0 and empty texts, numbers 7, or pairs of 1 and 2. The bound of the numbers
-/// is greater than their length, that of the texts is their length, and pairs have no bound.
+/// Lists of equal values: what they are, their number, and the encoding. The values are 0 and the empty
+/// text, the number 7, or a pair of 1 and 2.
 const REPEATED: &str = "\
 zeros 0 = c0
 zeros 1 = c1+80
@@ -180,7 +180,7 @@ fn is_struct(alloc: Global, kind: &str, text: &str, want: &[u8]) -> bool {
     }
 }
 
-/// Returns whether a struct of so many equal fields is written as these bytes.
+/// Returns whether a struct of `count` equal fields is written as these bytes.
 fn has_columns(alloc: Global, field: u64, count: usize, want: &[u8]) -> bool {
     match vec![in alloc; field; count] {
         Ok(fields) => is_written(alloc, &Columns(fields.as_slice()), want),
@@ -205,7 +205,7 @@ fn is_list(alloc: Global, kind: &str, count: usize, want: &[u8]) -> bool {
     }
 }
 
-/// Returns whether the list of so many times a value is written as these bytes.
+/// Returns whether the list of `count` times a value is written as these bytes.
 fn are_listed<E: Encodable + Copy + Drop>(
     alloc: Global,
     value: E,
