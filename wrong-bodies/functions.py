@@ -121,4 +121,6 @@ def methods_of(function, crate, verdicts):
         [name for name, block in blocks if block == whole + function.trait]
         or [name for name, block in blocks if block == first + function.trait]
         or [name for name, block in blocks if function.trait and block.startswith(first) and block.endswith(function.trait)]
+        # A trait with parameters, as `From<u64>`, has them behind its name.
+        or [name for name, block in blocks if function.trait and block.startswith((whole + function.trait, first + function.trait))]
     )
