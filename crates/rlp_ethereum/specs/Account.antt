@@ -3,7 +3,7 @@ use Rattle.rlp.specs.Codec.{Codec, Fields, end, field, number, struct_of, uint}
 use Rattle.rlp_ethereum.specs.declared.account.Account.{Account}
 use Rattle.rlp_records.specs.Hash.{hash}
 
--- the fields, in order
+-- section 4.1 of the yellow paper: (nonce, balance, storageRoot, codeHash)
 abbrev pub account_fields : Fields Account
 account_fields =
     field (λ (a : Account). a.nonce) (number 8) (

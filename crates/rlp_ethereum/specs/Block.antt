@@ -6,7 +6,7 @@ use Rattle.rlp_ethereum.specs.Header.{header}
 use Rattle.rlp_transactions.specs.Transaction.{transaction}
 use Rattle.rlp_ethereum.specs.Withdrawal.{withdrawals}
 
--- the header, the transactions and the ommers, and the withdrawals, which may be missing
+-- EIP-4895: rlp([header, transactions, ommers, withdrawals]), without the withdrawals before Shanghai
 abbrev pub block_fields : Fields Block
 block_fields =
     field (λ (b : Block). b.header) header (

@@ -6,7 +6,7 @@ use Rattle.rlp_ethereum.specs.Header.{header}
 use Rattle.rlp_transactions.specs.Transaction.{transaction}
 use Rattle.rlp_ethereum.specs.Withdrawal.{withdrawals}
 
--- the transactions and the ommers, and the withdrawals, which may be missing
+-- the protocol eth: [transactions, ommers, withdrawals], without the withdrawals before Shanghai
 abbrev pub body_fields : Fields Body
 body_fields =
     field (λ (b : Body). b.transactions) (list_type vec_items transaction) (

@@ -11,7 +11,8 @@ use Rattle.rlp_ethereum.specs.Bloom.{bloom}
 use Rattle.rlp_ethereum.specs.Forks.{london_fields}
 use Rattle.rlp_records.specs.Hash.{hash}
 
--- fifteen fields that are always present, and those of the forks
+-- The protocol eth: [parent-hash, ommers-hash, coinbase, state-root, txs-root, receipts-root, bloom, difficulty, number, gas-limit, gas-used, time, extradata,
+-- mix-digest, block-nonce, ...]. After these fifteen fields come those of the forks.
 abbrev pub header_fields : Fields Header
 header_fields =
     field (λ (h : Header). h.parent_hash) hash (

@@ -5,7 +5,7 @@ use Rattle.rlp_ethereum.specs.declared.log.Log.{Log}
 use Rattle.rlp_records.specs.Address.{address}
 use Rattle.rlp_records.specs.Hash.{hash}
 
--- the fields, in order
+-- section 4.4.1 of the yellow paper: (address, (topic, topic, ...), data)
 abbrev pub log_fields : Fields Log
 log_fields =
     field (λ (l : Log). l.address) address (

@@ -5,7 +5,7 @@ use Rattle.rlp_ethereum.specs.declared.withdrawal.Withdrawal.{Withdrawal}
 use Rattle.rlp_ethereum.specs.declared.withdrawal.Withdrawals.{Withdrawals}
 use Rattle.rlp_records.specs.Address.{address}
 
--- the fields, in order
+-- EIP-4895: [index, validator_index, address, amount]
 abbrev pub withdrawal_fields : Fields Withdrawal
 withdrawal_fields =
     field (λ (w : Withdrawal). w.index) (number 8) (

@@ -11,7 +11,7 @@ use Rattle.rlp_ethereum.specs.Block.{block}
 use Rattle.rlp_records.specs.Hash.{hash}
 use Rattle.rlp_transactions.specs.Transaction.{transaction}
 
--- the fields, in order
+-- [blockhash: B_32, number: P] of NewBlockHashes
 abbrev pub new_block_hash_fields : Fields NewBlockHash
 new_block_hash_fields =
     field (λ (n : NewBlockHash). n.hash) hash (
@@ -25,7 +25,7 @@ new_block_hash = struct_of new_block_hash_fields
 abbrev pub new_block_hashes : Codec NewBlockHashes
 new_block_hashes = list_type (λ (n : NewBlockHashes). vec_items n.0) new_block_hash
 
--- the fields, in order
+-- [txtypes: B, [txsize₁: P, txsize₂: P, ...], [txhash₁: B_32, txhash₂: B_32, ...]] of NewPooledTransactionHashes
 abbrev pub new_pooled_transaction_hashes_fields : Fields NewPooledTransactionHashes
 new_pooled_transaction_hashes_fields =
     field (λ (n : NewPooledTransactionHashes). n.types) (byte_string vec_items) (
@@ -36,7 +36,7 @@ new_pooled_transaction_hashes_fields =
 abbrev pub new_pooled_transaction_hashes : Codec NewPooledTransactionHashes
 new_pooled_transaction_hashes = struct_of new_pooled_transaction_hashes_fields
 
--- the fields, in order
+-- [earliestBlock: P, latestBlock: P, latestBlockHash: B_32] of EIP-7642
 abbrev pub block_range_update_fields : Fields BlockRangeUpdate
 block_range_update_fields =
     field (λ (b : BlockRangeUpdate). b.earliest_block) (number 8) (
@@ -47,7 +47,7 @@ block_range_update_fields =
 abbrev pub block_range_update : Codec BlockRangeUpdate
 block_range_update = struct_of block_range_update_fields
 
--- the fields, in order
+-- [block, td: P] of NewBlock
 abbrev pub new_block_fields : Fields NewBlock
 new_block_fields =
     field (λ (n : NewBlock). n.block) block (

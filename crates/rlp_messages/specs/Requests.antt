@@ -14,7 +14,7 @@ use Rattle.rlp_ethereum.specs.Header.{header}
 use Rattle.rlp_transactions.specs.Transaction.{transaction}
 use Rattle.rlp_messages.specs.HashOrNumber.{hash_or_number}
 
--- the fields, in order
+-- [startblock: {P, B_32}, limit: P, skip: P, reverse: {0, 1}] of GetBlockHeaders
 abbrev pub get_block_headers_fields : Fields GetBlockHeaders
 get_block_headers_fields =
     field (λ (g : GetBlockHeaders). g.start_block) hash_or_number (

@@ -10,7 +10,7 @@ use Rattle.rlp_records.specs.Hash.{hash}
 abbrev pub fork_hash : Codec ForkHash
 fork_hash = newtype (λ (f : ForkHash). f.0) (byte_array 4)
 
--- the fields, in order
+-- EIP-2124: [FORK_HASH, FORK_NEXT]
 abbrev pub fork_id_fields : Fields ForkId
 fork_id_fields =
     field (λ (f : ForkId). f.fork_hash) fork_hash (
@@ -20,7 +20,7 @@ fork_id_fields =
 abbrev pub fork_id : Codec ForkId
 fork_id = struct_of fork_id_fields
 
--- the fields, in order
+-- [version: P, networkid: P, td: P, blockhash: B_32, genesis: B_32, forkid] of eth/68
 abbrev pub status68_fields : Fields Status68
 status68_fields =
     field (λ (s : Status68). s.version) (number 8) (
@@ -34,7 +34,7 @@ status68_fields =
 abbrev pub status68 : Codec Status68
 status68 = struct_of status68_fields
 
--- the fields, in order
+-- [version, networkid, genesis, forkid, earliestBlock, latestBlock, latestBlockHash] of EIP-7642
 abbrev pub status69_fields : Fields Status69
 status69_fields =
     field (λ (s : Status69). s.version) (number 8) (

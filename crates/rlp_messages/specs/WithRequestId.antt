@@ -8,7 +8,7 @@ use Rattle.rlp.specs.Values.FieldReading.{FaultsAsStruct, MayLackAsStruct, NoMor
 use Rattle.rlp.specs.Codec.{Codec, Fields, end, field, number, struct_of}
 use Rattle.rlp_messages.specs.declared.with_request_id.WithRequestId.{WithRequestId}
 
--- the fields, in order
+-- EIP-2481: [request-id: P, content]
 abbrev pub with_request_id_fields : {A : Type 0} → Codec A → Fields (WithRequestId A)
 with_request_id_fields {A} c = field (λ (w : WithRequestId A). w.request_id) (number 8) (field (λ (w : WithRequestId A). w.content) c end)
 

@@ -15,7 +15,7 @@ pair_fields =
     field (λ (p : NodePair). p.key) (byte_string vec_items) (
     field (λ (p : NodePair). p.value) raw_item end)
 
--- the fields, in order; after the first two each pair adds two
+-- EIP-778: [signature, seq, k, v, ...]; after the first two fields each pair adds two
 abbrev pub parts_of_node : Fields NodeFields
 parts_of_node =
     field (λ (f : NodeFields). f.signature) (byte_string vec_items) (
@@ -26,6 +26,6 @@ parts_of_node =
 abbrev pub node_fields : Codec NodeFields
 node_fields = struct_of parts_of_node
 
--- what is signed: the list of the fields after the signature
+-- EIP-778, what is signed: [seq, k, v, ...]
 abbrev pub signed_item : NodeFields → Item
 signed_item f = list_of (number_item f.sequence ∷ all_items pair_fields.items (vec_items f.pairs))

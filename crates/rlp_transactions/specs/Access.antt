@@ -6,7 +6,7 @@ use Rattle.rlp_transactions.specs.declared.access.AccessListItem.{AccessListItem
 use Rattle.rlp_records.specs.Address.{address}
 use Rattle.rlp_records.specs.Hash.{hash}
 
--- the fields, in order
+-- EIP-2930: [{20 bytes}, [{32 bytes}...]]
 abbrev pub access_list_item_fields : Fields AccessListItem
 access_list_item_fields =
     field (λ (a : AccessListItem). a.address) address (

@@ -8,7 +8,8 @@ use Rattle.rlp_transactions.specs.Recipient.{recipient}
 use Rattle.rlp_transactions.specs.Signed.{signed}
 use Rattle.rlp_transactions.specs.declared.signed.Signed.{Signed}
 
--- the fields before the signature, in order
+-- EIP-2930: rlp([chainId, nonce, gasPrice, gasLimit, to, value, data, accessList, signatureYParity, signatureR, signatureS]). Here are the fields before the
+-- signature.
 abbrev pub access_list_transaction_fields : Fields AccessListTransaction
 access_list_transaction_fields =
     field (λ (a : AccessListTransaction). a.chain_id) (number 8) (

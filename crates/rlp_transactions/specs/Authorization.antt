@@ -6,7 +6,7 @@ use Rattle.rlp_records.specs.Address.{address}
 use Rattle.rlp_transactions.specs.Signed.{signed}
 use Rattle.rlp_transactions.specs.declared.signed.Signed.{Signed}
 
--- the fields before the signature, in order
+-- EIP-7702: [chain_id, address, nonce, y_parity, r, s]. Here are the fields before the signature.
 abbrev pub authorization_fields : Fields Authorization
 authorization_fields =
     field (λ (a : Authorization). a.chain_id) (uint 32) (

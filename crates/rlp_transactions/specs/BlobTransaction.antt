@@ -9,7 +9,8 @@ use Rattle.rlp_records.specs.Hash.{hash}
 use Rattle.rlp_transactions.specs.Signed.{signed}
 use Rattle.rlp_transactions.specs.declared.signed.Signed.{Signed}
 
--- the fields before the signature, in order
+-- EIP-4844: rlp([chain_id, nonce, max_priority_fee_per_gas, max_fee_per_gas, gas_limit, to, value, data, access_list, max_fee_per_blob_gas,
+-- blob_versioned_hashes, y_parity, r, s]). Here are the fields before the signature.
 abbrev pub blob_transaction_fields : Fields BlobTransaction
 blob_transaction_fields =
     field (λ (b : BlobTransaction). b.chain_id) (number 8) (

@@ -8,7 +8,8 @@ use Rattle.rlp_transactions.specs.Recipient.{recipient}
 use Rattle.rlp_transactions.specs.Signed.{signed}
 use Rattle.rlp_transactions.specs.declared.signed.Signed.{Signed}
 
--- the fields before the signature, in order
+-- EIP-1559: rlp([chain_id, nonce, max_priority_fee_per_gas, max_fee_per_gas, gas_limit, destination, amount, data, access_list, signature_y_parity,
+-- signature_r, signature_s]). Here are the fields before the signature.
 abbrev pub fee_market_transaction_fields : Fields FeeMarketTransaction
 fee_market_transaction_fields =
     field (λ (f : FeeMarketTransaction). f.chain_id) (number 8) (

@@ -8,7 +8,7 @@ use Rattle.rlp.specs.Uint.{Uint}
 use Rattle.rlp_transactions.specs.Signed.{signed_fields}
 use Rattle.rlp_transactions.specs.declared.signed.Signed.{Signed}
 
--- the fields before the signature, in order
+-- EIP-2718: rlp([nonce, gasPrice, gasLimit, to, value, data, v, r, s]). Here are the fields before the signature.
 abbrev pub legacy_transaction_fields : Fields LegacyTransaction
 legacy_transaction_fields =
     field (λ (l : LegacyTransaction). l.nonce) (number 8) (

@@ -9,7 +9,8 @@ use Rattle.rlp_transactions.specs.Authorization.{signed_authorization}
 use Rattle.rlp_transactions.specs.Signed.{signed}
 use Rattle.rlp_transactions.specs.declared.signed.Signed.{Signed}
 
--- the fields before the signature, in order
+-- EIP-7702: rlp([chain_id, nonce, max_priority_fee_per_gas, max_fee_per_gas, gas_limit, destination, value, data, access_list, authorization_list,
+-- signature_y_parity, signature_r, signature_s]). Here are the fields before the signature.
 abbrev pub set_code_transaction_fields : Fields SetCodeTransaction
 set_code_transaction_fields =
     field (λ (s : SetCodeTransaction). s.chain_id) (number 8) (
