@@ -1,9 +1,8 @@
 //! The inputs of the operations.
 
-use crate::transaction::Transaction;
 use rlp::{Encodable, RlpStream, Uint};
 use rlp_records::Address;
-use rlp_transactions::Recipient;
+use rlp_transactions::{LegacyTransaction, Payload, Recipient, SignedLegacyTransaction};
 use std::alloc::Global;
 
 /// Values, and encodings. Each encoding is there twice, one after the other.
@@ -14,7 +13,7 @@ pub(crate) struct Inputs {
     /// A text of 1,000 bytes.
     pub text: String,
     /// A transaction whose encoding has 110 bytes.
-    pub transaction: Transaction,
+    pub transaction: SignedLegacyTransaction,
     /// The encodings of a number below 128 and of a number of eight bytes.
     pub small_number: Vec<u8>,
     pub large_number: Vec<u8>,
@@ -84,27 +83,18 @@ fn text(alloc: Global, len: usize) -> Option<String> {
 }
 
 /// Returns a signed transfer.
-fn transaction(alloc: Global) -> Transaction {
-    Transaction {
+fn transaction(alloc: Global) -> SignedLegacyTransaction {
+    let payload = LegacyTransaction {
         nonce: 9,
-        gas_price: wide(20_000_000_000),
+        gas_price: Uint::from(20_000_000_000),
         gas_limit: 21_000,
         to: Recipient::Account(Address([0x35; 20])),
-        value: wide(1_000_000_000_000_000_000),
+        value: Uint::from(1_000_000_000_000_000_000),
         data: Vec::new(alloc),
-        v: wide(37),
-        r: Uint { bytes: [0x28; 32] },
-        s: Uint { bytes: [0x67; 32] },
-    }
-}
-
-/// Returns `n` as a number of 256 bits.
-fn wide(n: u64) -> Uint<32> {
-    let mut bytes = [0; 32];
-    for (place, byte) in bytes[24..].iter_mut().zip(n.to_be_bytes().as_slice()) {
-        *place = *byte;
-    }
-    Uint { bytes }
+    };
+    let r = Uint { bytes: [0x28; 32] };
+    let s = Uint { bytes: [0x67; 32] };
+    payload.with_signature(Uint::from(37), r, s)
 }
 
 /// Returns the encoding of a value.

@@ -4,7 +4,6 @@
 
 mod inputs;
 mod reading;
-mod transaction;
 mod writing;
 
 use inputs::Inputs;

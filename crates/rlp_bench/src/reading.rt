@@ -1,9 +1,9 @@
 //! Operations that read.
 
 use crate::inputs::Inputs;
-use crate::transaction::Transaction;
 use keccak::keccak256;
 use rlp::{Decodable, Rlp, decode, decode_list};
+use rlp_transactions::SignedLegacyTransaction;
 use std::alloc::Global;
 
 /// Runs an operation that reads, and returns the sum of the lengths or numbers that it read.
@@ -84,8 +84,8 @@ fn decode_transaction(alloc: Global, inputs: &Inputs, times: usize) -> Option<us
     let mut sum: usize = 0;
     for turn in 0..times {
         let bytes = turned(inputs.transaction_bytes.as_slice(), turn)?;
-        let transaction = decode::<Transaction>(alloc, bytes).ok()?;
-        sum = sum.wrapping_add(transaction.gas_limit as usize);
+        let transaction = decode::<SignedLegacyTransaction>(alloc, bytes).ok()?;
+        sum = sum.wrapping_add(transaction.payload.gas_limit as usize);
     }
     Some(sum)
 }

@@ -22,6 +22,7 @@ impl<const N: usize> Decodable for Uint<N> {
 
     ghost may_lack_memory = { λ v. ⊥ };
 
+    #[inline(always)]
     fn decode(_alloc: Global, rlp: &Rlp<'_>) -> Result<Uint<N>, DecoderError> {
         let bytes = padded(number_digits(rlp, N)?);
         Ok(Uint { bytes })
