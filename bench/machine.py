@@ -18,5 +18,5 @@ def told_of_run(runs):
         f"# version\t{version}",
         f"# date\t{day.day} {day:%B %Y}",
         f"# machine\t{model[1] if model else platform.machine()}, {os.cpu_count()} cores",
-        f"# runs\tmedian of {runs}",
+        f"# runs\tmedian of {runs} runs",
     ]

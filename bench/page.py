@@ -28,7 +28,7 @@ def table(root, name):
     about, heads, rows = measured(root, name)
     if not rows:
         return ""
-    text = f"\nVersion {about['version']}, {about['date']}, {about['machine']}; {about['runs']} runs.\n\n"
+    text = f"\nVersion {about['version']}, {about['date']}, {about['machine']}; {about['runs']}.\n\n"
     text += "| " + " | ".join(head[0].upper() + head[1:] if head == heads[0] else head for head in heads) + " |\n|---" + "|---:" * (len(heads) - 1) + "|\n"
     return text + "".join(f"| {first} | {' | '.join(number(cell) for cell in others)} |\n" for first, *others in rows)
 
