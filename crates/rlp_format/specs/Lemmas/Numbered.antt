@@ -208,5 +208,3 @@ item_at-list_item before after x b sized begins =
     (lenient_item_at b (view_of (encoding x)) (length before)).1
     (ap (λ vs. slice_get vs (length before)) (item_views-list (before ++ x ∷ after) b sized begins)
     ∙ slice_get-middle (λ (y : Item). view_of (encoding y)) before after x)
-
-pub ruleset items_numbered = (lenient_item_at, item_at-past_same, item_count-list, item_views-list, item_at-list_item)
