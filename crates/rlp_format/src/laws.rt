@@ -24,6 +24,7 @@ pub fn digits_are_canonical()
 {}
 
 /// No written header begins another.
+#[tactic(auto, using(crate::specs::Lemmas::Headers::written_header_prefix_free))]
 pub fn headers_are_prefix_free()
     ensures { (base1 base2 m n : ℕ) (x y : List ℕ) → IsBase base1 → IsBase base2 → m < 2 ^ 64
         → n < 2 ^ 64
@@ -31,12 +32,14 @@ pub fn headers_are_prefix_free()
 {}
 
 /// The encoding of a list is a header and the joined encodings of its items.
+#[tactic(auto, using(crate::specs::Lemmas::Encodings::encoding_list))]
 pub fn list_is_header_and_items()
     ensures { (xs : List Item)
         → encoding (list_of xs) ≡ written_header 0xc0 (length (join xs)) ++ join xs }
 {}
 
 /// Bytes begin with at most one header. `header` reads it, or says why there is none.
+#[tactic(auto, using(crate::specs::Lemmas::Reading::bytes_held, crate::specs::Lemmas::Reading::header_reads, crate::specs::Lemmas::Reading::header_unique))]
 pub fn header_is_read(bytes: &[u8])
     ensures read { ReadsHeader bytes.now (header bytes.now) }
     ensures unique { (h n k m : ℕ) → HasHeader bytes.now h n → HasHeader bytes.now k m → (h ≡ k)
@@ -55,6 +58,7 @@ pub fn framing_is_read(bytes: &[u8])
 {}
 
 /// `frame` gives a result only for framed bytes. Framed items are those that are their own frame.
+#[tactic(auto, using(crate::specs::Lemmas::Reading::bytes_held, crate::specs::Lemmas::Frames::frame_framed, crate::specs::Lemmas::Frames::frame_whole))]
 pub fn frame_is_of_framed(bytes: &[u8])
     ensures framed { IsTrue (is_ok (frame bytes.now)) ↔ IsFramed bytes.now }
     ensures item { (frame bytes.now ≡ Ok bytes.now) ↔ IsFramedItem bytes.now }
@@ -62,6 +66,7 @@ pub fn frame_is_of_framed(bytes: &[u8])
 
 /// For items with encodings shorter than 2^64 bytes, no encoding begins another, whatever follows
 /// them.
+#[tactic(auto, using(crate::specs::Lemmas::Encodings::prefix_free))]
 pub fn encoding_is_prefix_free()
     ensures { (x y : Item) (p q : List ℕ) → IsSized x → IsSized y
         → encoding x ++ p ≡ encoding y ++ q → x ≡ y }
@@ -74,6 +79,7 @@ pub fn encoding_in_front_is_unique(bytes: &[u8])
 {}
 
 /// The joined encodings of two lists of items are equal exactly if the lists are.
+#[tactic(auto, using(crate::specs::Lemmas::Encodings::join_same))]
 pub fn join_is_injective()
     ensures { (xs ys : List Item) → All IsSized xs → All IsSized ys → (join xs ≡ join ys)
         ↔ (xs ≡ ys) }
@@ -99,6 +105,7 @@ pub fn split_is_longest(bytes: &[u8])
 
 /// The split goes one framed item at a time. If the bytes are framed, it is their frame and the
 /// split of what follows. Otherwise it has no item.
+#[tactic(auto, using(crate::specs::Lemmas::Reading::bytes_held, crate::specs::Lemmas::Frames::split_framed, crate::specs::Lemmas::Frames::split_unframed))]
 pub fn split_goes_by_frames(bytes: &[u8])
     ensures framed { (h n : ℕ) → framing bytes.now ≡ Ok (payload_info h n)
         → split bytes.now ≡ take (h + n) bytes.now ∷ split (drop (h + n) bytes.now) }
@@ -107,12 +114,14 @@ pub fn split_goes_by_frames(bytes: &[u8])
 
 /// If the encoding of a list is shorter than 2^64 bytes, so are those of its items. The same holds
 /// for items whose joined encodings are shorter than that.
+#[tactic(auto, using(crate::specs::Lemmas::Encodings::encoding_list, crate::specs::Lemmas::Encodings::small_payload, crate::specs::Lemmas::Views::sized_items))]
 pub fn parts_of_sized_are_sized()
     ensures list { (xs : List Item) → IsSized (list_of xs) → All IsSized xs }
     ensures join { (xs : List Item) → length (join xs) < 2 ^ 64 → All IsSized xs }
 {}
 
 /// Joined encodings split into themselves, and nothing is left.
+#[tactic(auto, using(crate::specs::Lemmas::Frames::split_join, crate::specs::Lemmas::Frames::join_is))]
 pub fn join_splits_into_encodings()
     ensures { (xs : List Item) → All IsSized xs → (split (join xs) ≡ map encoding xs)
         × (concat (split (join xs)) ≡ join xs) }
@@ -133,6 +142,7 @@ pub fn rest_is_not_framed(bytes: &[u8])
 {}
 
 /// The text and the depth of bytes follow from those of their items.
+#[tactic(auto, using(crate::proofs::Views::Texts::text_is, crate::proofs::Views::Texts::depth_is))]
 pub fn text_and_depth_go_by_items(bytes: &[u8])
     ensures text { text bytes.now ≡ text_by text bytes.now }
     ensures depth { depth bytes.now ≡ depth_by depth bytes.now }
@@ -140,6 +150,7 @@ pub fn text_and_depth_go_by_items(bytes: &[u8])
 
 /// What follows a framed item doesn't change its framing, value, items, text and depth. `c0ff`
 /// reads as `c0`, and `8005` as `80`.
+#[tactic(auto, using(crate::proofs::Format::Following::followed))]
 pub fn what_follows_makes_no_difference()
     ensures framing { (f more : List ℕ) → IsFramedItem f → framing (f ++ more) ≡ framing f }
     ensures value { (f more : List ℕ) → IsFramedItem f → value (f ++ more) ≡ value f }
@@ -149,6 +160,7 @@ pub fn what_follows_makes_no_difference()
 {}
 
 /// Bytes that begin with an encoding have the depth of its item.
+#[tactic(auto, using(crate::proofs::Views::Depths::depth_of_item, crate::specs::Lemmas::Encodings::front_sized))]
 pub fn encoding_has_its_depth(bytes: &[u8])
     ensures { (x : Item) → BeginsWith bytes.now (encoding x) → depth bytes.now ≡ item_depth x }
 {}

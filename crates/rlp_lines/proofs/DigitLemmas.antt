@@ -4,7 +4,7 @@ use Rattle.std.proofs.Common.{List, [], ◌∷◌, ◌++◌, length, take, drop,
 use Rattle.std.proofs.Common.{arith, take-add, take-append-drop}
 use Rattle.std.specs.List.{list_all}
 use Rattle.std.specs.Char.{digit_value, is_ascii_digit}
-use Rattle.std.specs.Str.Parse.{digits_value, digits_value_after}
+use Rattle.std.specs.Str.Parse.{digits_value_after}
 use Rattle.std.proofs.lemmas.Bool.{and_parts, cases_lt, eqb-true}
 use Rattle.std.proofs.lemmas.Bool.Decides.{nat_tests}
 use Rattle.std.specs.Option.{IsSomeAnd}
@@ -15,16 +15,11 @@ use Rattle.std.proofs.lemmas.List.Sums.{AllPass-from_list_all, list_all-from_All
 use Rattle.std.proofs.lemmas.List.{append-nil, drop_all}
 use Rattle.hex.proofs.Pairs.{prepend}
 use Rattle.hex.proofs.HexLemmas.{decode_of-ok, decode_of-digits, decode_of-odd}
-use Rattle.rlp_lines.specs.Digits.{number_in, with_digit}
+use Rattle.rlp_lines.specs.Digits.{with_digit}
 
 -- the number that digits write when they follow those of n
 abbrev pub number_after : ℕ → List ℕ → Option ℕ
 number_after n text = cond (list_all is_ascii_digit text && nat_lt (digits_value_after 10 n text) (2 ^ 64)) (Some (digits_value_after 10 n text)) None
-
-pub number_in-begin : (text : List ℕ) → 0 < length text → number_in text ≡ number_after 0 text
-number_in-begin text h =
-    let some : nat_lt 0 (length text) ≡ true = grind (arith, nat_tests) in
-    ap (λ (b : Bool). cond (b && (list_all is_ascii_digit text && nat_lt (digits_value 10 text) (2 ^ 64))) (Some (digits_value 10 text)) None) some
 
 both_true : (a b : Bool) (n m : ℕ) → cond (a && b) (Some n) None ≡ Some m → (a ≡ true) × (b ≡ true) × (n ≡ m)
 both_true true true n m e = (refl, refl, cc)
@@ -40,13 +35,6 @@ not_both false b rest more n m e f = refl
 digits_value_after-ge : (n : ℕ) (text : List ℕ) → n ≤ digits_value_after 10 n text
 digits_value_after-ge n [] = omega arith
 digits_value_after-ge n (c ∷ text) = omega (arith, digits_value_after-ge (n * 10 + digit_value c) text)
-
-pub number_after-more : (n m c : ℕ) (rest text : List ℕ) → rest ≡ c ∷ text → with_digit n c ≡ Some m → number_after n rest ≡ number_after m text
-number_after-more n m c rest text is e =
-    let both = both_true (is_ascii_digit c) (nat_lt (n * 10 + digit_value c) (2 ^ 64)) (n * 10 + digit_value c) m e in
-    ap (number_after n) is ∙ ap (λ (b : Bool). cond
-    ((b && list_all is_ascii_digit text) && nat_lt (digits_value_after 10 (n * 10 + digit_value c) text) (2 ^ 64))
-    (Some (digits_value_after 10 (n * 10 + digit_value c) text)) None) both.0 ∙ ap (λ (k : ℕ). number_after k text) both.2
 
 too_large : (n m : ℕ) → n ≤ m → nat_lt n (2 ^ 64) ≡ false → nat_lt m (2 ^ 64) ≡ false
 too_large n m h e = grind (arith, nat_tests)
@@ -69,9 +57,6 @@ no_digits (c ∷ text) h = absurd (omega arith)
 
 pub number_after-end : (n : ℕ) (text : List ℕ) → n < 2 ^ 64 → length text ≡ 0 → number_after n text ≡ Some n
 number_after-end n text small h = ap (number_after n) (no_digits text h) ∙ number_after-nil n small
-
-pub number_in-nil : (text : List ℕ) → length text ≡ 0 → number_in text ≡ None
-number_in-nil text h = ap number_in (no_digits text h)
 
 small : (a b : Bool) (k m : ℕ) → (b ≡ true → k < 2 ^ 64) → cond (a && b) (Some k) None ≡ Some m → m < 2 ^ 64
 small a b k m h e =

@@ -1,5 +1,5 @@
 -- Steps of the loop over the input.
-use Rattle.std.proofs.Common.{ℕ, ◌≡◌, ◌<◌, ◌≤◌, Bool, true, false, List, [], ◌∷◌, ◌++◌, length, take, drop, get_or, nat_eq, ◌+◌, ◌-◌, ◌==◌, arith}
+use Rattle.std.proofs.Common.{ℕ, ◌≡◌, ◌<◌, ◌≤◌, Bool, true, false, List, [], ◌∷◌, ◌++◌, length, take, drop, get_or, ◌+◌, ◌-◌, ◌==◌, arith}
 use Rattle.std.proofs.Common.{◌≢◌, Option, Some, None, Result, Ok, Err, OnOk, OnErr, IfErr, inl, inr, refl, sym, ap, ◌∙◌, append_assoc, append-nil}
 use Rattle.std.proofs.Common.{subst, take-append-drop}
 use Rattle.std.proofs.Math.Seq.{take-append_seam}
@@ -8,7 +8,7 @@ use Rattle.std.specs.Io.KnownBytes.{Appends, Consumes, Keeps, IsAtEnd}
 use Rattle.rlp_lines.specs.Run.{AppendsBefore, AppendsPart, AreRepliesBefore, RunLeaves, longest_read}
 use Rattle.rlp_lines.specs.Watched.{Watched}
 use Rattle.rlp_lines.specs.declared.serving.RunFault.{RunFault}
-use Rattle.rlp_lines.specs.declared.serving.RunFault.TheVariants.{Memory, Read, Write}
+use Rattle.rlp_lines.specs.declared.serving.RunFault.TheVariants.{Write}
 use Rattle.std.specs.List.{position}
 use Rattle.std.proofs.lemmas.List.{take_rest, drop_more}
 use Rattle.std.proofs.lemmas.List.Quantifiers.{position-Some}

@@ -11,6 +11,7 @@ ghost use Rattle.rlp_streams.specs.Streams.Growth.{GrowsTo};
 use crate::{EMPTY_LIST_RLP, NULL_RLP};
 
 /// The constants are the encodings of the empty string and of the list of no items.
+#[tactic(auto, unfolding(rlp_format::specs::Format::Encoding::encoding, rlp_format::specs::Format::WrittenHeader::written_header, rlp_format::specs::Format::WrittenHeader::big_endian))]
 pub fn constants_are_encodings()
     ensures null { NULL_RLP ≡ encoding (string []) }
     ensures empty_list { EMPTY_LIST_RLP ≡ encoding (list_of []) }
@@ -18,6 +19,7 @@ pub fn constants_are_encodings()
 
 /// Closing the innermost list doesn't change the bytes that there are once every list is closed.
 /// Neither does counting.
+#[tactic(auto, using(rlp_buffer::proofs::Streams::States::states))]
 pub fn closing_keeps_what_is_closed()
     ensures shut { (s : State) → closed_text (shut s) ≡ closed_text s }
     ensures count { (k : ℕ) (s : State) → closed_text (count k s) ≡ closed_text s }
@@ -25,11 +27,13 @@ pub fn closing_keeps_what_is_closed()
 {}
 
 /// The closed size with more bytes put depends only on the number of these bytes.
+#[tactic(auto, using(rlp_buffer::proofs::Streams::States::states))]
 pub fn closed_size_goes_by_length()
     ensures { (x : List ℕ) (s : State) → closed_size (put x s) ≡ closed_size_with (length x) s }
 {}
 
 /// Bytes are put at the end of the buffer, and a new list opens there with a byte 0.
+#[tactic(auto, using(rlp_buffer::proofs::Streams::States::states))]
 pub fn bytes_go_to_the_end()
     ensures put { (x : List ℕ) (s : State) → raw_text (put x s) ≡ raw_text s ++ x }
     ensures opened { (awaits : Option ℕ) (s : State)
@@ -38,6 +42,7 @@ pub fn bytes_go_to_the_end()
 
 /// With no list open, an item that is appended or written by its value adds its encoding to the
 /// top, and no list is open after it.
+#[tactic(auto, using(rlp_buffer::proofs::Streams::States::states))]
 pub fn finished_streams_gain_encodings()
     ensures add { (x : Item) (s : State) → IsFinished s
         → add x s
@@ -47,6 +52,7 @@ pub fn finished_streams_gain_encodings()
 {}
 
 /// With no list open, the bytes are the front and the closed text.
+#[tactic(auto, using(rlp_buffer::proofs::Streams::States::out_size))]
 pub fn finished_streams_have_their_closed_size()
     ensures { (s : State) → IsFinished s
         → length (s.front ++ s.stack.inner) ≡ length s.front + closed_size s }
@@ -54,6 +60,7 @@ pub fn finished_streams_have_their_closed_size()
 
 /// A state grows to itself. If it grows to a second state, and that to a third, it grows to the
 /// third.
+#[tactic(auto, using(crate::proofs::Streams::Growth::growth))]
 pub fn growth_is_an_order()
     ensures same { (s : State) → GrowsTo s s }
     ensures onward { (s t u : State) → GrowsTo s t → GrowsTo t u → GrowsTo s u }
@@ -66,6 +73,7 @@ pub fn growth_of_moves()
 {}
 
 /// A bounded list is open only while it awaits an item. No call leaves one open that awaits none.
+#[tactic(auto, using(rlp_buffer::proofs::Streams::Awaits::awaiting))]
 pub fn open_lists_await_items()
     ensures { (c : Call) (s : State) → AllAwait s.stack.lists → AllAwait (effect c s).stack.lists }
 {}

@@ -10,7 +10,6 @@ use Rattle.std.proofs.lemmas.List.Sums.{fails_before_first, position_or_len_is}
 use Rattle.std.proofs.lemmas.Bool.{eqb-true}
 use Rattle.std.proofs.lemmas.Bool.Decides.{nat_tests}
 use Rattle.std.specs.Borrow.{Bor}
-use Rattle.memchr.specs.Find.{IsFirstByte, is_byte}
 use Rattle.rlp.specs.Streams.Calls.{Call}
 use Rattle.rlp_lines.specs.Digits.{number_in, bytes_in}
 use Rattle.rlp_tool.specs.Pieces.{pieces_left, spaces}
@@ -21,19 +20,6 @@ use Rattle.rlp_tool.specs.declared.script.ScriptFault.TheVariants.{Syntax, OutOf
 is-false : (b : Bool) → (b ≡ true → ⊥) → b ≡ false
 is-false true other = absurd (other refl)
 is-false false other = refl
-
--- the first such byte that a search finds
-pub first_byte : (a : ℕ) (bytes : List ℕ) (r : Option ℕ) → IsFirstByte (is_byte a) bytes r → r ≡ position (λ b. b == a) bytes
-first_byte a bytes None h =
-    let all : position_or_len (λ b. b == a) bytes ≡ length bytes = position_or_len_is (λ b. b == a) bytes (length bytes) 0 (omega arith)
-    (λ k lt. is-false (get_or bytes k 0 == a) (h k (omega arith) lt)) (λ lt. absurd (omega arith)) in
-    grind (arith, all)
-first_byte a bytes (Some at) h =
-    let first = h.0 in
-    let found : position_or_len (λ b. b == a) bytes ≡ at = position_or_len_is (λ b. b == a) bytes at 0 (omega (arith, first.high))
-    (λ k lt. is-false (get_or bytes k 0 == a) (first.before k (omega arith) lt)) (λ lt. h.1) in
-    let inside : at < length bytes = first.high in
-    grind (arith, found, inside)
 
 -- the first such byte that a loop finds
 pub first_near : (a : ℕ) (bytes : List ℕ) (at : ℕ) → at < length bytes → ((k : ℕ) → k < at → get_or bytes k 0 ≢ a) → get_or bytes at 0 ≡ a

@@ -20,7 +20,7 @@ use Rattle.rlp_tool.specs.Pieces.{ArePairs, HasPairs, IsRead, bytes_of, left_len
 use Rattle.rlp_tool.specs.Script.{AddsCall, call_in, calls_in, is_call, script}
 use Rattle.rlp_lines.proofs.DigitLemmas.{read-nothing, read-some}
 use Rattle.rlp_tool.proofs.CallsLemmas.{made_more, made_none}
-use Rattle.rlp_tool.proofs.CutLemmas.{left, left_by-unread, reading_begin, reading_end, reading_next}
+use Rattle.rlp_tool.proofs.CutLemmas.{left, left_by-unread, reading_begin, reading_next}
 
 -- ---- calls that wait
 
@@ -259,11 +259,6 @@ reads_stopped text rest place waiting s fault all r =
       says = r.decide ∙ ap (λ b. cond b (Ok (r.calls ++ later)) (Err (length r.calls + 1 + prefix_len is_call (pieces_left rest)))) all;
       stops = r.goes later;
     }
-
--- no piece is left
-pub reads_end : (text : List ℕ) (all : Option (Bor (List ℕ))) (place waiting : ℕ) (s : State) (outcome : Result (Unit {0}) BuildFault) → all ≡ None
-    → (r : IsReading text all place waiting s outcome) → script text ≡ Ok r.calls
-reads_end text all place waiting s outcome none r = reading_end text r.calls (r.decide ∙ ap (λ o. left r.calls (pieces_left o)) none)
 
 -- fewer calls wait than were read
 pub waits_within : (front : List ℕ) (calls : List Call) (place waiting : ℕ) (s : State) → place ≡ length calls + 1 → AreMadeBut front calls waiting s

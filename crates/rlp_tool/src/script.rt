@@ -26,7 +26,7 @@ pub enum ScriptFault {
 const NEAR: usize = 16;
 
 /// The place of the first such byte.
-#[tactic(auto, using(crate::proofs::CutLemmas::first_byte))]
+#[tactic(auto, using(rlp_lines::proofs::LinesLemmas::first_byte))]
 pub(crate) fn place_of(byte: u8, text: &[u8]) -> Option<usize>
     ensures { result ≡ position (λ b. b == byte) text.now }
 {

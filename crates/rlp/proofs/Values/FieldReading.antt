@@ -4,7 +4,7 @@ use Rattle.std.proofs.Common.{◌≡◌, ℕ, zero, suc, ◌+◌, ◌-◌, ◌^�
 use Rattle.rlp_format.specs.declared.error.DecoderError.{DecoderError}
 use Rattle.rlp_format.specs.declared.error.DecoderError.TheVariants.{OutOfMemory}
 use Rattle.rlp_format.specs.Views.View.{View, item_count}
-use Rattle.rlp.specs.Lemmas.WholeStructs.{none_right, only_more}
+use Rattle.rlp.specs.Lemmas.WholeStructs.{only_more}
 use Rattle.rlp.specs.Values.FieldPlace.{FieldPlace, field_place}
 use Rattle.rlp.specs.Values.FieldReading.{FaultsAsStruct, FieldsFail, GivesFields, IsCount, MayLackAsStruct, NoMore, NoneOr, StructFails}
 use Rattle.rlp.specs.Values.FieldReading.{by_place, fails_at, faulty_item, has_other_number, is_no_list, no_items, other_number}

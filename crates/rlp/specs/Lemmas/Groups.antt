@@ -10,6 +10,7 @@ use Rattle.rlp_format.specs.declared.error.DecoderError.{DecoderError}
 use Rattle.rlp_format.specs.Format.Item.{Item}
 use Rattle.rlp_format.specs.Format.Encoding.{encoding}
 use Rattle.rlp_format.specs.Views.View.{View}
+use Rattle.rlp_format.specs.Lemmas.Lists.{same_front}
 use Rattle.rlp_streams.specs.Streams.Fields.{all_items}
 use Rattle.rlp.specs.Values.ListReading.{FaultsAt}
 use Rattle.rlp.specs.Values.FieldReading.{GivesGroups, HoldsFrom, PartsFrom, in_group}
@@ -31,17 +32,7 @@ groups_right width n some =
     let plain : n * width ≡ n * width + 0 = omega arith in
     ap (λ m. m % width) plain ∙ mul-add-mod_self_right n width 0 ∙ mod-eq_of_lt some
 
--- ---- lists that begin one list
-
-pub fronts_same : {A : Type 0} (a b x y : List A) → length a ≡ length b → a ++ x ≡ b ++ y → (a ≡ b) × (x ≡ y)
-fronts_same [] [] x y l e = (refl, e)
-fronts_same [] (d ∷ b) x y l e = absurd (omega arith)
-fronts_same (c ∷ a) [] x y l e = absurd (omega arith)
-fronts_same (c ∷ a) (d ∷ b) x y l e =
-    let heads : c ≡ d = cc in
-    let tails : a ++ x ≡ b ++ y = cc in
-    let below = fronts_same a b x y (omega arith) tails in
-    (let front : a ≡ b = below.0 in cc, below.1)
+-- ---- places
 
 next_place : (i n : ℕ) → suc i + n ≡ i + suc n
 next_place i n = omega arith
@@ -105,7 +96,7 @@ module _ {G : Type 0} (width : ℕ) (Fits : G → Type 0) (items_of : G → List
             All-cons Fits h hs x.0 y.0,
             ap (λ s. s ++ all_items items_of hs) x.1 ∙ ap (λ s. items_of g ++ s) y.1,
           ),
-          λ (fits, same). let both = fronts_same (items_of h) (items_of g) (all_items items_of hs) (all_items items_of gs)
+          λ (fits, same). let both = same_front (items_of h) (items_of g) (all_items items_of hs) (all_items items_of gs)
               (counted h ∙ sym (counted g)) same in
               (one.1 (All-head Fits h hs fits, both.0), more.1 (All-tail Fits h hs fits, both.1)),
         )
@@ -133,7 +124,7 @@ module _ {G : Type 0} (width : ℕ) (Fits : G → Type 0) (items_of : G → List
             All-cons Fits g gs x.0 y.0,
             sym whole ∙ ap (λ s. s ++ drop width parts) x.1 ∙ ap (λ s. map encoding (items_of g) ++ s) y.1 ∙ sym split,
           ),
-          λ (fits, same). let both = fronts_same (take width parts) (map encoding (items_of g)) (drop width parts)
+          λ (fits, same). let both = same_front (take width parts) (map encoding (items_of g)) (drop width parts)
               (map encoding (all_items items_of gs)) (few ∙ sym (counted g) ∙ sym (length-map (items_of g) encoding)) (whole ∙ same ∙ split) in
               (one.1 (All-head Fits g gs fits, both.0), more.1 (All-tail Fits g gs fits, both.1)),
         )

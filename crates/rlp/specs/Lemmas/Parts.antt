@@ -5,11 +5,12 @@ use Rattle.std.proofs.lemmas.List.{length-drop, length-map, length-take-le, map-
 use Rattle.rlp_format.specs.declared.error.DecoderError.{DecoderError}
 use Rattle.rlp_format.specs.Format.Encoding.{encoding}
 use Rattle.rlp_format.specs.Views.View.{View}
+use Rattle.rlp_format.specs.Lemmas.Lists.{same_front}
 use Rattle.rlp.specs.Codec.{Fields, IsFixed}
 use Rattle.rlp.specs.Values.ListReading.{FaultsAt}
 use Rattle.rlp.specs.Values.FieldReading.{HoldsFrom, IsCount, PartsFrom}
 use Rattle.rlp.specs.Values.Parts.{placed}
-use Rattle.rlp.specs.Lemmas.Groups.{below_same, fronts_same, group_cases, held_parts, holds_parts}
+use Rattle.rlp.specs.Lemmas.Groups.{below_same, group_cases, held_parts, holds_parts}
 
 -- ---- places of the first fields and of the others
 
@@ -65,7 +66,7 @@ module _ {A P : Type 0} (value : P → A) (f : Fields A) where
     pub part_told : (more : Fields P) (p q : P) → f.Fits (value p) × more.Fits p → f.Fits (value q) × more.Fits q
         → f.items (value p) ++ more.items p ≡ f.items (value q) ++ more.items q → f.Same (value p) (value q) × more.Same p q
     part_told more p q fit other same =
-        let both = fronts_same (f.items (value p)) (f.items (value q)) (more.items p) (more.items q) (one_width (value p) (value q)) same in
+        let both = same_front (f.items (value p)) (f.items (value q)) (more.items p) (more.items q) (one_width (value p) (value q)) same in
         (f.told (value p) (value q) fit.0 other.0 both.0, more.told p q fit.1 other.1 both.1)
 
     -- what a view holds of the part, and of the others after it
@@ -92,7 +93,7 @@ module _ {A P : Type 0} (value : P → A) (f : Fields A) where
             (x.0, y.0),
             ap (λ s. s ++ more.items q) x.1 ∙ ap (λ s. f.items (value p) ++ s) y.1,
           ),
-          λ (fits, whole). let both = fronts_same (f.items (value q)) (f.items (value p)) (more.items q) (more.items p) same whole in
+          λ (fits, whole). let both = same_front (f.items (value q)) (f.items (value p)) (more.items q) (more.items p) same whole in
               (one.1 (fits.0, both.0), rest.1 (fits.1, both.1)),
         )
 
@@ -144,7 +145,7 @@ module _ {A P : Type 0} (value : P → A) (f : Fields A) where
             (x.0, y.0),
             sym whole ∙ ap (λ s. s ++ drop f.reading.least parts) x.1 ∙ ap (λ s. map encoding (f.items (value p)) ++ s) y.1 ∙ sym split,
           ),
-          λ (fits, same). let both = fronts_same (take f.reading.least parts) (map encoding (f.items (value p))) (drop f.reading.least parts)
+          λ (fits, same). let both = same_front (take f.reading.least parts) (map encoding (f.items (value p))) (drop f.reading.least parts)
               (map encoding (more.items p)) (few ∙ sym (wide (value p)) ∙ sym (length-map (f.items (value p)) encoding)) (whole ∙ same ∙ split) in
               (one.1 (fits.0, both.0), rest.1 (fits.1, both.1)),
         )

@@ -5,7 +5,7 @@ use Rattle.rlp_format.specs.declared.error.DecoderError.{DecoderError}
 use Rattle.rlp_format.specs.declared.error.DecoderError.TheVariants.{OutOfMemory, RlpExpectedToBeData}
 use Rattle.rlp_format.specs.Format.Item.{Item, Items, string, list, no_items, item_and, items_from, listed, list_of, item_depth, items_depth}
 use Rattle.rlp_format.specs.Format.Encoding.{BeginsWith, encoding, IsSized}
-use Rattle.rlp_format.specs.Format.Framing.{IsFramedItem, frame}
+use Rattle.rlp_format.specs.Format.Framing.{frame}
 use Rattle.rlp_format.specs.Format.Split.{begins_as_list, items}
 use Rattle.rlp_format.specs.Format.Strict.{IsCanonical, IsCanonicalWithin, unless}
 use Rattle.rlp_format.specs.Format.StringReading.{read_string}
@@ -15,7 +15,7 @@ use Rattle.rlp.specs.Values.RawItem.{FaultsAsRaw, IsRawFault, IsRawItem, MayLack
 use Rattle.rlp.specs.Values.RawItem.{not_canonical, not_framed, raw_item_of, string_or_none, too_deep, view_frame}
 use Rattle.rlp.specs.Values.ValueReading.{GivesValue}
 use Rattle.rlp_format.specs.Lemmas.Encodings.{AllSized, front_sized, items_from-listed, list_written, parts_sized}
-use Rattle.rlp_format.specs.Lemmas.Frames.{encoding_framed, frame_front}
+use Rattle.rlp_format.specs.Lemmas.Frames.{encoding_framed}
 use Rattle.rlp_format.specs.Lemmas.Strings.{string_list, string_only}
 use Rattle.rlp_format.specs.Lemmas.Views.{items_of_list, list_shape}
 use Rattle.rlp_format.proofs.Views.Depths.{depth_of_item, not_list}
@@ -135,10 +135,6 @@ raw_sound v b fits fit holds e (faulty_frame f framed bad) =
     raw_told f (raw_item_of b) e (front_sized (raw_item_of b) v.bytes more fits begins) same (shallow_within deepest_raw_item b) bad
 
 -- ---- rules for bodies
-
--- bytes that are one framed item are their own frame
-pub whole_frame : (b : List ℕ) → IsFramedItem b → frame b ≡ Ok b
-whole_frame b framed = ap frame (sym (append-nil b)) ∙ frame_front b [] framed
 
 -- bytes that nest within the depth and aren't a raw item aren't canonical
 pub not_canonical_if : (b : List ℕ) → length b < 2 ^ 64 → ¬ IsRawItem b → depth b ≤ deepest_raw_item → ¬ IsCanonical b

@@ -14,7 +14,7 @@ use Rattle.rlp_format.specs.Format.WrittenHeader.{big_endian}
 use Rattle.rlp_streams.specs.Streams.Fields.{all_items, items_if}
 use Rattle.rlp.specs.Values.Same.{HaveOneTag, SameOption, SameSum}
 use Rattle.rlp.specs.Values.Sums.{OnSum, sum_item}
-use Rattle.rlp.specs.Lemmas.Groups.{fronts_same}
+use Rattle.rlp_format.specs.Lemmas.Lists.{same_front}
 use Rattle.rlp.specs.Lemmas.Structs.{cons_same, list_same}
 
 -- values that fit and have equal items agree
@@ -114,7 +114,7 @@ module _ {A : Type 0} (Fits : A → Type 0) (items_of : A → List Item) (Same :
   groups_told width some counted (x ∷ xs) [] fit other same =
       absurd (omega (arith, ap length same, length-append (items_of x) (all_items items_of xs), counted x, some))
   groups_told width some counted (x ∷ xs) (y ∷ ys) fit other same =
-      let both = fronts_same (items_of x) (items_of y) (all_items items_of xs) (all_items items_of ys) (counted x ∙ sym (counted y)) same in (
+      let both = same_front (items_of x) (items_of y) (all_items items_of xs) (all_items items_of ys) (counted x ∙ sym (counted y)) same in (
         told x y (All-head Fits x xs fit) (All-head Fits y ys other) both.0,
         groups_told width some counted xs ys (All-tail Fits x xs fit) (All-tail Fits y ys other) both.1,
       )

@@ -22,6 +22,7 @@ use std::alloc::Global;
 
 /// Why bytes aren't exactly one framed item: they aren't framed, or bytes follow the framed item.
 /// Canonical bytes have no such fault.
+#[tactic(auto, using(rlp_format::specs::Lemmas::Reading::bytes_held, crate::proofs::Views::ViewKinds::strict_canonical, crate::proofs::Views::ViewKinds::strict_followed, crate::proofs::Views::ViewKinds::strict_unframed, crate::proofs::Views::ViewKinds::strict_whole))]
 pub fn strict_fault_is_read(bytes: &[u8])
     ensures whole { (h n : ℕ) → HasHeader bytes.now h n → h + n ≡ length bytes.now
         → strict_fault bytes.now ≡ None }
@@ -33,6 +34,7 @@ pub fn strict_fault_is_read(bytes: &[u8])
 
 /// Each definition over a lenient view equals the one over its bytes, whatever follows the first
 /// item.
+#[tactic(auto, using(crate::proofs::Views::ViewKinds::lenient_count, crate::proofs::Views::ViewKinds::lenient_place))]
 pub fn lenient_views_ignore_what_follows(bytes: &[u8])
     ensures header { view_header (view_of bytes.now) ≡ framing bytes.now }
     ensures value { view_value (view_of bytes.now) ≡ value bytes.now }

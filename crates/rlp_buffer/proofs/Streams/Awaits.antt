@@ -53,3 +53,5 @@ await-effect clear s all = tt
 pub all_await-effect : (c : Call) (s : State) → AllAwait s.stack.lists → AllAwait (effect c s).stack.lists
 all_await-effect c s all =
     All-from_recursion Awaits (effect c s).stack.lists (await-effect c s (recursion_from_All Awaits s.stack.lists all))
+
+pub ruleset awaiting = (all_await-effect)

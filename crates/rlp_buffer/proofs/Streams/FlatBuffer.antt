@@ -1,7 +1,6 @@
 -- How putting, opening and counting change the state that a stream's bytes represent.
 use Rattle.std.proofs.Common.{◌≡◌, ℕ, zero, suc, nat_eq, nat_lt, ◌+◌, ◌<◌, ◌≤◌, Bool, true, false, cond, List, [], ◌∷◌, ◌++◌, Option, length, take}
 use Rattle.std.proofs.Common.{drop, None, Some, is_none, refl, sym, ◌∙◌, ap, arith, append_assoc, append-nil, length-append, length-drop, subst}
-use Rattle.std.proofs.lemmas.Bool.{cond_both}
 use Rattle.std.proofs.lemmas.Bool.Decides.{nat_tests}
 use Rattle.std.proofs.lemmas.List.{take-take, take-append-le, drop-append-le, take_at, drop_all, length-take-le, length_push, take-append-drop}
 use Rattle.rlp_buffer.specs.declared.open_lists.Placeholder.{Placeholder}
@@ -165,14 +164,6 @@ is_counted_laid k start b p ps m = by_full (is_last k p.awaits) (filled 1 ps)
     by_full : (full : Bool) (n : ℕ) → full ≡ nat_lt 0 (cond full (suc n) 0)
     by_full true n = grind (arith, nat_tests)
     by_full false n = refl
-
--- a count opens no list
-pub length_counted : (k : ℕ) (ps : List Placeholder) → length (counted k ps) ≤ length ps
-length_counted k [] = omega arith
-length_counted k (p ∷ ps) =
-    cond_both (is_last k p.awaits) (counted 1 ps) (record p { awaits = awaits_after k p.awaits } ∷ ps) (λ (qs : List Placeholder). length qs ≤ length (p ∷ ps))
-    (λ _. let less = length_counted 1 ps in omega arith)
-    (λ _. omega arith)
 
 -- ---- the bytes moved
 

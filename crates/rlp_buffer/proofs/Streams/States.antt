@@ -167,3 +167,5 @@ put_item_with x f p (l ∷ ls) m e = absurd (let no : ⊥ = cc in no)
 -- an item that is put in a finished stream
 pub put_item-finished : (x : Item) (s : State) → IsFinished s → (put_item x s).stack ≡ record { inner = s.stack.inner ++ encoding x; lists = [] }
 put_item-finished x s e = put_item_with x s.front s.stack.inner s.stack.lists s.is_counted e
+
+pub ruleset states = (raw_text-put, raw_text-with_list, closed_size-put, closed_text-shut, closed_text-count, add-finished, put_item-finished)

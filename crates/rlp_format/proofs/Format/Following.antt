@@ -80,3 +80,5 @@ depth_by-followed f more is =
 -- nor its depth
 pub depth-followed : (f more : List ℕ) → IsFramedItem f → depth (f ++ more) ≡ depth f
 depth-followed f more is = depth_is (f ++ more) ∙ depth_by-followed f more is ∙ sym (depth_is f)
+
+pub ruleset followed = (framing-followed, value-followed, items-followed, text-followed, depth-followed)

@@ -10,5 +10,4 @@ returns-in-Err-decode_fields-clause-fault g c =
     let F = g.F.DecodeFields.reading in
     let counted : item_count c.args.rlp.now ≡ Ok c.in-Ok.count = grind (arith, common_steps) in
     let right : IsCount F.least F.IsMore c.in-Ok.count = grind (arith, common_steps) in
-    struct_faulty F.least F.IsMore F.some F.faults F.may_lack c.args.rlp.now c.in-Ok.count _ c.in-Err-decode_fields.fault.place
-    c.in-Err-decode_fields.fault.fault counted right c.over-fields.ensures c.in-Err-decode_fields.ensures.fault
+    struct_faulty F.least F.IsMore F.some F.faults F.may_lack _ _ _ _ _ counted right c.over-fields.ensures c.in-Err-decode_fields.ensures.fault

@@ -5,12 +5,9 @@ use Rattle.rlp_lines.proofs.DigitLemmas.{decoded, pair_read}
 use Rattle.rlp_lines.proofs.decoding.put_bytes.Goals as goal
 
 pub loop-i-preserved : goal.loop-i-preserved
-loop-i-preserved c =
-    decode_step c.args.digits.now c.loop-i.out c.loop-i.i (c.value_of.result * 16 + c.value_of-in-loop-i.result) (omega arith) (omega arith)
-    (pair_read (slice_index c.args.digits.now (2 * c.loop-i.i)) (slice_index c.args.digits.now (2 * c.loop-i.i + 1)) c.value_of.result
-    c.value_of-in-loop-i.result (2 * c.loop-i.i) c.value_of.ensures.value c.value_of-in-loop-i.ensures.value) c.loop-i.invariant
+loop-i-preserved c = decode_step _ _ _ (c.value_of.result * 16 + c.value_of-in-loop-i.result) (omega arith) (omega arith)
+    (pair_read (slice_index c.args.digits.now (2 * c.loop-i.i)) (slice_index c.args.digits.now (2 * c.loop-i.i + 1)) _
+    _ (2 * c.loop-i.i) c.value_of.ensures.value c.value_of-in-loop-i.ensures.value) c.loop-i.invariant
 
 pub returns : goal.returns
-returns c =
-    decode_of-even c.args.digits.now c.requires.two
-    ∙ decoded c.args.digits.now c.loop-i.out c.loop-i.i (length c.args.digits.now / 2) (omega arith) (omega arith) c.loop-i.invariant
+returns c = decode_of-even _ c.requires.two ∙ decoded _ _ _ (length c.args.digits.now / 2) (omega arith) (omega arith) c.loop-i.invariant

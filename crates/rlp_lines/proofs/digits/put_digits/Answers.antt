@@ -4,9 +4,7 @@ use Rattle.hex.proofs.Pairs.{encode_done, encode_step}
 use Rattle.rlp_lines.proofs.digits.put_digits.Goals as goal
 
 pub loop-i-preserved : goal.loop-i-preserved
-loop-i-preserved c =
-    encode_step lower_digits c.args.bytes.now c.loop-i.out c.loop-i.i c.digit_of.result c.digit_of-in-loop-i.result (omega arith) (omega arith)
-    c.digit_of.ensures c.digit_of-in-loop-i.ensures c.loop-i.invariant
+loop-i-preserved c = encode_step lower_digits _ _ _ _ _ (omega arith) (omega arith) c.digit_of.ensures c.digit_of-in-loop-i.ensures c.loop-i.invariant
 
 pub returns : goal.returns
 returns c = encode_done lower_digits c.args.bytes.now c.loop-i.out c.loop-i.i (omega arith) (omega arith) c.loop-i.invariant

@@ -10,5 +10,4 @@ returns-then-is_empty-clause-gives c =
 pub returns-in_err-bytes-clause-refused : goal.returns-in_err-bytes-clause-refused
 returns-in_err-bytes-clause-refused c =
     let pairs = c.are_pairs.ensures.some (search rules) in
-    OnErr-always c.from_residual.result (rw c.without_prefix-digits.ensures at (read-some c.without_prefix-digits.result.now pairs.0
-    c.if-is_empty.ensures pairs.1))
+    OnErr-always c.from_residual.result (rw c.without_prefix-digits.ensures at (read-some _ pairs.0 c.if-is_empty.ensures pairs.1))

@@ -3,8 +3,7 @@ use Rattle.rlp_lines.proofs.DigitLemmas.{number_after-none, number_after-end}
 use Rattle.rlp_lines.proofs.digits.read_number.Goals as goal
 
 pub returns-in_default-put_digit : goal.returns-in_default-put_digit
-returns-in_default-put_digit c =
-    sym (c.loop-byte.invariant.decide ∙ number_after-none c.loop-byte.value c.in-Some.byte.now c.loop-byte.rest.now c.in-Some.others.now
+returns-in_default-put_digit c = sym (c.loop-byte.invariant.decide ∙ number_after-none _ _ _ _
     c.in-Some.ensures.cases.0 (sym c.put_digit.ensures ∙ c.in_default-put_digit.is))
 
 pub returns : goal.returns

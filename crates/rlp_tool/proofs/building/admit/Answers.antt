@@ -3,8 +3,7 @@ use Rattle.rlp_tool.proofs.CallsLemmas.{admitted_other, step_finish, step_other,
 use Rattle.rlp_tool.proofs.building.admit.Goals as goal
 
 pub returns-in-Raw-clause-brings : goal.returns-in-Raw-clause-brings
-returns-in-Raw-clause-brings g c =
-    step_tested c.admit_raw.result g.E.Encodable.item c.args.call.now c.in-Raw.bytes c.in-Raw.count c.as_slice.result.now c.args.stream.now.state
+returns-in-Raw-clause-brings g c = step_tested _ _ _ _ _ _ _
     c.in-Raw.is c.as_slice.ensures.value c.parts_of_sized_are_sized.ensures.join (omega arith) c.admit_raw.ensures.brings
 
 pub returns-then-can_finalize-clause-brings : goal.returns-then-can_finalize-clause-brings

@@ -10,9 +10,8 @@ loop-waiting-preserved c =
     let n = c.in-Ok.finished in
     let is = c.in-Ok.ensures.number in
     record {
-      made = λ front calls m.
-          subst (λ t. AreMadeBut front calls (w - n) t) (sym c.in-Ok.ensures.ok)
-          (made_some c.unbounded_lists_are_finalized_in_turn.ensures.admitted front calls w n c.loop-waiting.stream.state (omega (arith, is))
+      made = λ front calls m. subst (λ t. AreMadeBut front calls (w - n) t) (sym c.in-Ok.ensures.ok)
+          (made_some c.unbounded_lists_are_finalized_in_turn.ensures.admitted front calls w n _ (omega (arith, is))
           (omega (arith, is)) (c.loop-waiting.invariant.made front calls m));
       within = omega (arith, c.loop-waiting.invariant.within);
     }

@@ -12,24 +12,20 @@ loop-rest-init c = record { walked = (λ a. a, λ a. a); fits = omega arith }
 
 pub returns-in_default : goal.returns-in_default
 returns-in_default c =
-    let some : 0 < length c.loop-rest.rest.now = not_empty c.loop-rest.rest.now c.loop-rest-test.ensures in
-    refuted c.args.bytes.now c.args.item_count c.loop-rest.rest.now c.loop-rest.awaited c.loop-rest.invariant.walked
-    (stray_bytes c.loop-rest.rest.now c.loop-rest.awaited c.encoding_is_framed.ensures some c.in_default.ensures)
+    let some : 0 < length c.loop-rest.rest.now = not_empty _ c.loop-rest-test.ensures in
+    refuted _ _ _ _ c.loop-rest.invariant.walked (stray_bytes _ _ c.encoding_is_framed.ensures some c.in_default.ensures)
 
 pub returns-then-awaited-eq0 : goal.returns-then-awaited-eq0
-returns-then-awaited-eq0 c =
-    elim c.then-awaited-eq0.branch [
-      | then-awaited-eq0-via-then-awaited-eq0 w ↦
-          let some : 0 < length c.loop-rest.rest.now = not_empty c.loop-rest.rest.now c.loop-rest-test.ensures in
-          refuted c.args.bytes.now c.args.item_count c.loop-rest.rest.now c.loop-rest.awaited c.loop-rest.invariant.walked
-          (stray_rest c.loop-rest.rest.now c.loop-rest.awaited some w.if-awaited-eq0.true)
-      | then-awaited-eq0-via-else-awaited-eq0+then-not-is_canonical w ↦
-          let other : IsCanonicalWithin deepest_raw_item c.in-Some.item.now → ⊥ = not_true (rw w.new.ensures at w.if-not-is_canonical.ensures.1) in
-          let some : 0 < length c.loop-rest.rest.now = not_empty c.loop-rest.rest.now c.loop-rest-test.ensures in
-          refuted c.args.bytes.now c.args.item_count c.loop-rest.rest.now c.loop-rest.awaited c.loop-rest.invariant.walked
-          (stray_item c.loop-rest.rest.now c.in-Some.item.now c.in-Some.others.now c.loop-rest.awaited c.encoding_is_framed.ensures some
-          c.in-Some.ensures.0 c.in-Some.ensures.1 other)
-    ]
+returns-then-awaited-eq0 c = elim c.then-awaited-eq0.branch [
+  | then-awaited-eq0-via-then-awaited-eq0 w ↦
+      let some : 0 < length c.loop-rest.rest.now = not_empty _ c.loop-rest-test.ensures in
+      refuted _ _ _ _ c.loop-rest.invariant.walked (stray_rest _ _ some w.if-awaited-eq0.true)
+  | then-awaited-eq0-via-else-awaited-eq0+then-not-is_canonical w ↦
+      let other : IsCanonicalWithin deepest_raw_item c.in-Some.item.now → ⊥ = not_true (rw w.new.ensures at w.if-not-is_canonical.ensures.1) in
+      let some : 0 < length c.loop-rest.rest.now = not_empty _ c.loop-rest-test.ensures in
+      refuted _ _ _ _ c.loop-rest.invariant.walked (stray_item _ _ _ _ c.encoding_is_framed.ensures some
+      c.in-Some.ensures.0 c.in-Some.ensures.1 other)
+]
 
 pub loop-rest-preserved : goal.loop-rest-preserved
 loop-rest-preserved c =
@@ -44,7 +40,6 @@ loop-rest-preserved c =
 
 pub returns : goal.returns
 returns c =
-    let none = no_bytes c.loop-rest.rest.now c.loop-rest-test.ensures in
-    at_end c.args.bytes.now c.args.item_count c.loop-rest.rest.now c.loop-rest.awaited (nat_eq c.loop-rest.awaited 0)
-    (none_brought c.loop-rest.rest.now c.loop-rest.awaited c.parts_of_sized_are_sized.ensures.join c.join_is_injective.ensures
-    c.loop-rest.invariant.fits none) c.loop-rest.invariant.walked none (zero_test c.loop-rest.awaited)
+    let none = no_bytes _ c.loop-rest-test.ensures in
+    at_end _ _ _ _ (nat_eq c.loop-rest.awaited 0) (none_brought _ _ c.parts_of_sized_are_sized.ensures.join c.join_is_injective.ensures
+    c.loop-rest.invariant.fits none) c.loop-rest.invariant.walked none (zero_test _)

@@ -15,13 +15,11 @@ returns-in-Some-digits_in c =
     let bytes = bytes_in (take (length back - 1) (drop 1 back)) in
     let count = c.in-Some-read_number.count in (
       c.in-Some-digits_in.ensures.0,
-      sym (raw_parts-cut c.args.text.now c.split_at.result.0.now back c.in-Some.colon (Some count) bytes c.in-Some.ensures c.split_at.ensures.front
-          c.split_at.ensures.back c.in-Some-read_number.ensures refl)
-          ∙ raw_of count bytes
+      sym (raw_parts-cut _ _ back _ (Some count) bytes c.in-Some.ensures c.split_at.ensures.front
+          c.split_at.ensures.back c.in-Some-read_number.ensures refl) ∙ raw_of count bytes
           ∙ ap (option_map (λ xs. append_raw xs count)) c.in-Some-digits_in.ensures.1,
     )
 
 pub returns-in-None : goal.returns-in-None
-returns-in-None c =
-    sym (raw_parts-cut c.args.text.now c.split_at.result.0.now c.split_at.result.1.now c.in-Some.colon (Some c.in-Some-read_number.count) None
+returns-in-None c = sym (raw_parts-cut _ _ _ _ (Some c.in-Some-read_number.count) None
     c.in-Some.ensures c.split_at.ensures.front c.split_at.ensures.back c.in-Some-read_number.ensures (sym c.in-None.ensures))

@@ -1,14 +1,7 @@
-use Rattle.std.proofs.Common.{◌<◌, ◌^◌, length, arith}
-use Rattle.rlp_format.specs.Values.Value.{option_item}
-use Rattle.rlp.specs.Values.ListReading.{GivesOption, FaultsAsOption}
-use Rattle.rlp_format.specs.Views.View.{view_of}
+use Rattle.std.proofs.Common.{arith}
 use Rattle.rlp_format.specs.Lemmas.Reading.{bytes_held}
 use Rattle.rlp.proofs.Values.ListReadings.{option_reading}
 use Rattle.rlp.proofs.laws.reading.option_of_option_is_read.Goals as goal
 
 pub returns : goal.returns
-returns g c =
-    let fits : length c.args.bytes.now < 2 ^ 64 = omega arith in
-    λ law. option_reading (option_item g.T.Encodable.item) (λ v o. GivesOption g.T.Decodable.gives v o) (λ v e. FaultsAsOption g.T.Decodable.faults v e)
-    (λ v bytes short. option_reading g.T.Encodable.item g.T.Decodable.gives g.T.Decodable.faults law v bytes short)
-    (view_of c.args.bytes.now) (bytes_held c.args.bytes.now c.type_inv.bytes) fits
+returns g c = λ law. option_reading _ _ _ (λ v bytes short. option_reading _ _ _ law v bytes short) _ (bytes_held _ c.type_inv.bytes) (omega arith)

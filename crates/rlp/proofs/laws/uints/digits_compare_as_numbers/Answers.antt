@@ -56,7 +56,5 @@ digits_after (x ∷ xs) (y ∷ ys) m n many bs cs =
     ∙ digits_after xs ys (m * 256 + x) (n * 256 + y) (omega arith) bs.1 cs.1
 
 pub returns : goal.returns
-returns c =
-    digits_after c.args.one.now c.args.other.now 0 0 c.requires
-    (recursion_from_All (λ byte. byte < 2 ^ 8) c.args.one.now (bytes_held c.args.one.now c.type_inv.one))
-    (recursion_from_All (λ byte. byte < 2 ^ 8) c.args.other.now (bytes_held c.args.other.now c.type_inv.other))
+returns c = digits_after _ _ 0 0 c.requires (recursion_from_All (λ byte. byte < 2 ^ 8) c.args.one.now (bytes_held _ c.type_inv.one))
+    (recursion_from_All (λ byte. byte < 2 ^ 8) c.args.other.now (bytes_held _ c.type_inv.other))

@@ -18,7 +18,5 @@ same_digits (x ∷ xs) (y ∷ ys) m n many (low, bs) (low', cs) same =
     (omega arith, (let whole : x ∷ xs ≡ y ∷ ys = cc in whole))
 
 pub returns : goal.returns
-returns c same =
-    (same_digits c.args.one.now c.args.other.now 0 0 c.requires
-    (recursion_from_All (λ byte. byte < 2 ^ 8) c.args.one.now (bytes_held c.args.one.now c.type_inv.one))
-    (recursion_from_All (λ byte. byte < 2 ^ 8) c.args.other.now (bytes_held c.args.other.now c.type_inv.other)) same).1
+returns c same = (same_digits _ _ 0 0 c.requires (recursion_from_All (λ byte. byte < 2 ^ 8) c.args.one.now (bytes_held _ c.type_inv.one))
+    (recursion_from_All (λ byte. byte < 2 ^ 8) c.args.other.now (bytes_held _ c.type_inv.other)) same).1

@@ -13,8 +13,7 @@ loop-at-preserved g c =
 pub returns-in_err-end-clause-refused : goal.returns-in_err-end-clause-refused
 returns-in_err-end-clause-refused g c text written before =
     OnErr-always c.from_residual.result (IsFeeding-refused (answer_by g.A.LineAnswers.answer_within) c.loop-at.rest.now (string_bytes c.end.new.out)
-    c.loop-at.invariant
-    c.in_err-end.ensures.refused text written before (some_byte c.loop-at.rest.now c.in-Some.at (sym c.in-Some.ensures)))
+    c.loop-at.invariant c.in_err-end.ensures.refused text written before (some_byte _ _ (sym c.in-Some.ensures)))
 
 pub returns-clause-refused : goal.returns-clause-refused
 returns-clause-refused g c text written before =

@@ -2,5 +2,4 @@ use Rattle.rlp.specs.Lemmas.RawItems.{raw_fails}
 use Rattle.rlp.proofs.impls.raw_item.RawItemDecodable.decode.Goals as goal
 
 pub returns-in-Err-clause-fault : goal.returns-in-Err-clause-fault
-returns-in-Err-clause-fault c =
-    raw_fails c.args.rlp.now c.in_ok-item.item.bytes c.as_raw.result.now c.in-Err.fault c.in_ok-item.ensures.item.0 c.as_raw.ensures c.in-Err.ensures.fault
+returns-in-Err-clause-fault c = raw_fails _ _ _ _ c.in_ok-item.ensures.item.0 c.as_raw.ensures c.in-Err.ensures.fault

@@ -20,8 +20,7 @@ pub returns-in-Ok-clause-count : goal.returns-in-Ok-clause-count
 returns-in-Ok-clause-count c =
     let same : c.self.inside.bytes.now ≡ c.args.self.now.bytes = ap (λ (v : View). v.bytes) c.self.view_is in
     subst (λ fs. IfOk c.try_count_items.result (λ n. n ≡ length fs))
-    (value-items c.args.self.now.bytes c.in-Ok.list.content.now c.if-not-is_list.ensures (ap value (sym same) ∙ c.in-Ok.ensures.value))
-    c.try_count_items.ensures.count
+    (value-items _ _ c.if-not-is_list.ensures (ap value (sym same) ∙ c.in-Ok.ensures.value)) c.try_count_items.ensures.count
 
 pub returns-in-Err-clause-fault : goal.returns-in-Err-clause-fault
 returns-in-Err-clause-fault c =

@@ -35,8 +35,7 @@ loop-read-preserved g c =
     let sized = c.in-Some.ensures.2 (omega (arith, few)) in
     let f : FieldPlace = c.loop-read.fields in
     record {
-      read = rw c.in-Ok-push.ensures.items (read_more G.least G.gives G.some c.args.fields.now c.loop-read.fields c.decode_fields.new.fields
-          c.loop-read.groups.items c.in-Ok.group c.loop-read.invariant.read c.in-Ok.ensures.value
+      read = rw c.in-Ok-push.ensures.items (read_more G.least G.gives G.some _ _ _ _ _ c.loop-read.invariant.read c.in-Ok.ensures.value
           (subst (λ n. GivesFields n G.some c.loop-read.fields.view c.loop-read.fields.place) sized.0 c.in-Ok.ensures.some)
           (c.in-Ok.ensures.next ∙ ap (λ n. record c.loop-read.fields { place = c.loop-read.fields.place + n }) sized.0));
       many = ap length c.in-Ok-push.ensures.items ∙ length_push c.loop-read.groups.items c.in-Ok.group ∙ ap (λ n. n + 1) c.loop-read.invariant.many;
