@@ -35,39 +35,18 @@ lane_after_block b n i over under =
       zero_after b n (8 * i + 7) (omega arith) (omega arith),
     ) refl
 
-untouched : (b : List ℕ) (n i x : ℕ) → length b ≤ 8 * i → 8 * i + 8 ≤ length b + n → bit_xor x (lane_of_bytes (b ++ replicate n 0) i) ≡ x
-untouched b n i x over under = ap (bit_xor x) (lane_after_block b n i over under) ∙ xor_zero_r x
+-- what is xored into a lane: that lane of the block, or nothing
+held : (b : List ℕ) (x i : ℕ) → length b ≡ 136 → i < 17 → bit_xor x (lane_of_bytes (b ++ replicate 64 0) i) ≡ bit_xor x (lane_of_bytes b i)
+held b x i len low = ap (bit_xor x) (lane_in_block b (replicate 64 0) i (omega arith))
+
+kept : (b : List ℕ) (x i : ℕ) → length b ≡ 136 → 17 ≤ i → i < 25 → bit_xor x (lane_of_bytes (b ++ replicate 64 0) i) ≡ x
+kept b x i len over low = ap (bit_xor x) (lane_after_block b 64 i (omega arith) (omega arith)) ∙ xor_zero_r x
 
 -- the state with a block xored into it: the last eight lanes stay
 pub block_xored : (a b : List ℕ) → length b ≡ 136 → xor_bytes a (b ++ replicate 64 0) ≡
     bit_xor (slice_index a 0) (lane_of_bytes b 0) ∷ bit_xor (slice_index a 1) (lane_of_bytes b 1) ∷ bit_xor (slice_index a 2) (lane_of_bytes b 2) ∷ bit_xor (slice_index a 3) (lane_of_bytes b 3) ∷ bit_xor (slice_index a 4) (lane_of_bytes b 4) ∷ bit_xor (slice_index a 5) (lane_of_bytes b 5) ∷ bit_xor (slice_index a 6) (lane_of_bytes b 6) ∷ bit_xor (slice_index a 7) (lane_of_bytes b 7) ∷ bit_xor (slice_index a 8) (lane_of_bytes b 8) ∷ bit_xor (slice_index a 9) (lane_of_bytes b 9) ∷ bit_xor (slice_index a 10) (lane_of_bytes b 10) ∷ bit_xor (slice_index a 11) (lane_of_bytes b 11) ∷ bit_xor (slice_index a 12) (lane_of_bytes b 12) ∷ bit_xor (slice_index a 13) (lane_of_bytes b 13) ∷ bit_xor (slice_index a 14) (lane_of_bytes b 14) ∷ bit_xor (slice_index a 15) (lane_of_bytes b 15) ∷ bit_xor (slice_index a 16) (lane_of_bytes b 16) ∷ slice_index a 17 ∷ slice_index a 18 ∷ slice_index a 19 ∷ slice_index a 20 ∷ slice_index a 21 ∷ slice_index a 22 ∷ slice_index a 23 ∷ slice_index a 24 ∷ []
 block_xored a b len =
-    let e0 = lane_in_block b (replicate 64 0) 0 (omega arith) in
-    let e1 = lane_in_block b (replicate 64 0) 1 (omega arith) in
-    let e2 = lane_in_block b (replicate 64 0) 2 (omega arith) in
-    let e3 = lane_in_block b (replicate 64 0) 3 (omega arith) in
-    let e4 = lane_in_block b (replicate 64 0) 4 (omega arith) in
-    let e5 = lane_in_block b (replicate 64 0) 5 (omega arith) in
-    let e6 = lane_in_block b (replicate 64 0) 6 (omega arith) in
-    let e7 = lane_in_block b (replicate 64 0) 7 (omega arith) in
-    let e8 = lane_in_block b (replicate 64 0) 8 (omega arith) in
-    let e9 = lane_in_block b (replicate 64 0) 9 (omega arith) in
-    let e10 = lane_in_block b (replicate 64 0) 10 (omega arith) in
-    let e11 = lane_in_block b (replicate 64 0) 11 (omega arith) in
-    let e12 = lane_in_block b (replicate 64 0) 12 (omega arith) in
-    let e13 = lane_in_block b (replicate 64 0) 13 (omega arith) in
-    let e14 = lane_in_block b (replicate 64 0) 14 (omega arith) in
-    let e15 = lane_in_block b (replicate 64 0) 15 (omega arith) in
-    let e16 = lane_in_block b (replicate 64 0) 16 (omega arith) in
-    let e17 = untouched b 64 17 (slice_index a 17) (omega arith) (omega arith) in
-    let e18 = untouched b 64 18 (slice_index a 18) (omega arith) (omega arith) in
-    let e19 = untouched b 64 19 (slice_index a 19) (omega arith) (omega arith) in
-    let e20 = untouched b 64 20 (slice_index a 20) (omega arith) (omega arith) in
-    let e21 = untouched b 64 21 (slice_index a 21) (omega arith) (omega arith) in
-    let e22 = untouched b 64 22 (slice_index a 22) (omega arith) (omega arith) in
-    let e23 = untouched b 64 23 (slice_index a 23) (omega arith) (omega arith) in
-    let e24 = untouched b 64 24 (slice_index a 24) (omega arith) (omega arith) in
-    λ t. bit_xor (slice_index a 0) (e0 t) ∷ bit_xor (slice_index a 1) (e1 t) ∷ bit_xor (slice_index a 2) (e2 t) ∷ bit_xor (slice_index a 3) (e3 t) ∷ bit_xor (slice_index a 4) (e4 t) ∷ bit_xor (slice_index a 5) (e5 t) ∷ bit_xor (slice_index a 6) (e6 t) ∷ bit_xor (slice_index a 7) (e7 t) ∷ bit_xor (slice_index a 8) (e8 t) ∷ bit_xor (slice_index a 9) (e9 t) ∷ bit_xor (slice_index a 10) (e10 t) ∷ bit_xor (slice_index a 11) (e11 t) ∷ bit_xor (slice_index a 12) (e12 t) ∷ bit_xor (slice_index a 13) (e13 t) ∷ bit_xor (slice_index a 14) (e14 t) ∷ bit_xor (slice_index a 15) (e15 t) ∷ bit_xor (slice_index a 16) (e16 t) ∷ e17 t ∷ e18 t ∷ e19 t ∷ e20 t ∷ e21 t ∷ e22 t ∷ e23 t ∷ e24 t ∷ []
+    λ t. held b (slice_index a 0) 0 len (omega arith) t ∷ held b (slice_index a 1) 1 len (omega arith) t ∷ held b (slice_index a 2) 2 len (omega arith) t ∷ held b (slice_index a 3) 3 len (omega arith) t ∷ held b (slice_index a 4) 4 len (omega arith) t ∷ held b (slice_index a 5) 5 len (omega arith) t ∷ held b (slice_index a 6) 6 len (omega arith) t ∷ held b (slice_index a 7) 7 len (omega arith) t ∷ held b (slice_index a 8) 8 len (omega arith) t ∷ held b (slice_index a 9) 9 len (omega arith) t ∷ held b (slice_index a 10) 10 len (omega arith) t ∷ held b (slice_index a 11) 11 len (omega arith) t ∷ held b (slice_index a 12) 12 len (omega arith) t ∷ held b (slice_index a 13) 13 len (omega arith) t ∷ held b (slice_index a 14) 14 len (omega arith) t ∷ held b (slice_index a 15) 15 len (omega arith) t ∷ held b (slice_index a 16) 16 len (omega arith) t ∷ kept b (slice_index a 17) 17 len (omega arith) (omega arith) t ∷ kept b (slice_index a 18) 18 len (omega arith) (omega arith) t ∷ kept b (slice_index a 19) 19 len (omega arith) (omega arith) t ∷ kept b (slice_index a 20) 20 len (omega arith) (omega arith) t ∷ kept b (slice_index a 21) 21 len (omega arith) (omega arith) t ∷ kept b (slice_index a 22) 22 len (omega arith) (omega arith) t ∷ kept b (slice_index a 23) 23 len (omega arith) (omega arith) t ∷ kept b (slice_index a 24) 24 len (omega arith) (omega arith) t ∷ []
 
 zeros_more : (k : ℕ) → replicate {A = ℕ} (suc k) 0 ≡ replicate k 0 ++ 0 ∷ []
 zeros_more k = sym (replicate_more {X = ℕ} k 0 ∙ rw add-one refl)

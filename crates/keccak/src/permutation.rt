@@ -31,48 +31,30 @@ const ROUND_CONSTANTS: [u64; 24] = [
     0x8000_0000_8000_8008,
 ];
 
+// θ of a state whose rows have these names.
+macro_rules! theta_of_rows {
+    ($state:ident: $($a:ident $b:ident $c:ident $d:ident $e:ident),+) => {{
+        let [$($a, $b, $c, $d, $e),+] = $state;
+        let c0 = $($a)^+;
+        let c1 = $($b)^+;
+        let c2 = $($c)^+;
+        let c3 = $($d)^+;
+        let c4 = $($e)^+;
+        let d0 = c4 ^ c1.rotate_left(1);
+        let d1 = c0 ^ c2.rotate_left(1);
+        let d2 = c1 ^ c3.rotate_left(1);
+        let d3 = c2 ^ c4.rotate_left(1);
+        let d4 = c3 ^ c0.rotate_left(1);
+        [$($a ^ d0, $b ^ d1, $c ^ d2, $d ^ d3, $e ^ d4),+]
+    }};
+}
+
 #[tactic(auto, unfolding(crate::specs::Keccak::theta))]
 #[inline(always)]
 fn theta(a: [u64; 25]) -> [u64; 25]
     ensures { result ≡ theta a }
 {
-    let c0 = a[0] ^ a[5] ^ a[10] ^ a[15] ^ a[20];
-    let c1 = a[1] ^ a[6] ^ a[11] ^ a[16] ^ a[21];
-    let c2 = a[2] ^ a[7] ^ a[12] ^ a[17] ^ a[22];
-    let c3 = a[3] ^ a[8] ^ a[13] ^ a[18] ^ a[23];
-    let c4 = a[4] ^ a[9] ^ a[14] ^ a[19] ^ a[24];
-    let d0 = c4 ^ c1.rotate_left(1);
-    let d1 = c0 ^ c2.rotate_left(1);
-    let d2 = c1 ^ c3.rotate_left(1);
-    let d3 = c2 ^ c4.rotate_left(1);
-    let d4 = c3 ^ c0.rotate_left(1);
-    [
-        a[0] ^ d0,
-        a[1] ^ d1,
-        a[2] ^ d2,
-        a[3] ^ d3,
-        a[4] ^ d4,
-        a[5] ^ d0,
-        a[6] ^ d1,
-        a[7] ^ d2,
-        a[8] ^ d3,
-        a[9] ^ d4,
-        a[10] ^ d0,
-        a[11] ^ d1,
-        a[12] ^ d2,
-        a[13] ^ d3,
-        a[14] ^ d4,
-        a[15] ^ d0,
-        a[16] ^ d1,
-        a[17] ^ d2,
-        a[18] ^ d3,
-        a[19] ^ d4,
-        a[20] ^ d0,
-        a[21] ^ d1,
-        a[22] ^ d2,
-        a[23] ^ d3,
-        a[24] ^ d4,
-    ]
+    theta_of_rows!(a: a0 a1 a2 a3 a4, a5 a6 a7 a8 a9, a10 a11 a12 a13 a14, a15 a16 a17 a18 a19, a20 a21 a22 a23 a24)
 }
 
 #[tactic(auto, unfolding(crate::specs::Keccak::rho))]
@@ -120,38 +102,26 @@ fn pi(a: [u64; 25]) -> [u64; 25]
     ]
 }
 
+// χ of a state whose rows have these names.
+macro_rules! chi_of_rows {
+    ($state:ident: $($a:ident $b:ident $c:ident $d:ident $e:ident),+) => {{
+        let [$($a, $b, $c, $d, $e),+] = $state;
+        [$(
+            $a ^ (!$b & $c),
+            $b ^ (!$c & $d),
+            $c ^ (!$d & $e),
+            $d ^ (!$e & $a),
+            $e ^ (!$a & $b),
+        )+]
+    }};
+}
+
 #[tactic(auto, unfolding(crate::specs::Keccak::chi))]
 #[inline(always)]
 fn chi(a: [u64; 25]) -> [u64; 25]
     ensures { result ≡ chi a }
 {
-    [
-        a[0] ^ (!a[1] & a[2]),
-        a[1] ^ (!a[2] & a[3]),
-        a[2] ^ (!a[3] & a[4]),
-        a[3] ^ (!a[4] & a[0]),
-        a[4] ^ (!a[0] & a[1]),
-        a[5] ^ (!a[6] & a[7]),
-        a[6] ^ (!a[7] & a[8]),
-        a[7] ^ (!a[8] & a[9]),
-        a[8] ^ (!a[9] & a[5]),
-        a[9] ^ (!a[5] & a[6]),
-        a[10] ^ (!a[11] & a[12]),
-        a[11] ^ (!a[12] & a[13]),
-        a[12] ^ (!a[13] & a[14]),
-        a[13] ^ (!a[14] & a[10]),
-        a[14] ^ (!a[10] & a[11]),
-        a[15] ^ (!a[16] & a[17]),
-        a[16] ^ (!a[17] & a[18]),
-        a[17] ^ (!a[18] & a[19]),
-        a[18] ^ (!a[19] & a[15]),
-        a[19] ^ (!a[15] & a[16]),
-        a[20] ^ (!a[21] & a[22]),
-        a[21] ^ (!a[22] & a[23]),
-        a[22] ^ (!a[23] & a[24]),
-        a[23] ^ (!a[24] & a[20]),
-        a[24] ^ (!a[20] & a[21]),
-    ]
+    chi_of_rows!(a: a0 a1 a2 a3 a4, a5 a6 a7 a8 a9, a10 a11 a12 a13 a14, a15 a16 a17 a18 a19, a20 a21 a22 a23 a24)
 }
 
 #[inline(always)]

@@ -4,7 +4,7 @@
 ghost use Rattle.rlp_messages.specs.Announcements.{new_block_hash, new_block_hashes, new_pooled_transaction_hashes, block_range_update, new_block, transactions};
 
 use rlp::{
-    Decodable, DecoderError, Encodable, ListOf, Rlp, RlpStream, RoundTrip, StrictRead, Uint,
+    Decodable, DecoderError, Each, Encodable, ListOf, Rlp, RlpStream, RoundTrip, StrictRead, Uint,
 };
 use rlp_ethereum::{Block, Hash, Transaction};
 use std::alloc::{AllocError, Global};
@@ -57,10 +57,8 @@ impl Encodable for NewBlockHashes {
 
     ghost fits = { new_block_hashes.Fits };
 
-    #[tactic(auto, using(rlp::proofs::Writing::writing))]
     fn rlp_append(&self, s: &mut RlpStream) -> Result<(), AllocError> {
-        s.append_list(self.0.as_slice())?;
-        Ok(())
+        rlp::append_fields!(s, Each(&self.0))
     }
 }
 
@@ -246,10 +244,8 @@ impl Encodable for Transactions {
 
     ghost fits = { transactions.Fits };
 
-    #[tactic(auto, using(rlp::proofs::Writing::writing))]
     fn rlp_append(&self, s: &mut RlpStream) -> Result<(), AllocError> {
-        s.append_list(self.0.as_slice())?;
-        Ok(())
+        rlp::append_fields!(s, Each(&self.0))
     }
 }
 

@@ -2,7 +2,7 @@
 
 ghost use Rattle.rlp_messages.specs.Receipts.{block_receipts, receipts};
 
-use rlp::{Decodable, DecoderError, Encodable, Rlp, RlpStream, RoundTrip, StrictRead};
+use rlp::{Decodable, DecoderError, Each, Encodable, Rlp, RlpStream, RoundTrip, StrictRead};
 use rlp_ethereum::TypedReceipt;
 use std::alloc::{AllocError, Global};
 
@@ -15,10 +15,8 @@ impl Encodable for BlockReceipts {
 
     ghost fits = { block_receipts.Fits };
 
-    #[tactic(auto, using(rlp::proofs::Writing::writing))]
     fn rlp_append(&self, s: &mut RlpStream) -> Result<(), AllocError> {
-        s.append_list(self.0.as_slice())?;
-        Ok(())
+        rlp::append_fields!(s, Each(&self.0))
     }
 }
 
@@ -53,10 +51,8 @@ impl Encodable for Receipts {
 
     ghost fits = { receipts.Fits };
 
-    #[tactic(auto, using(rlp::proofs::Writing::writing))]
     fn rlp_append(&self, s: &mut RlpStream) -> Result<(), AllocError> {
-        s.append_list(self.0.as_slice())?;
-        Ok(())
+        rlp::append_fields!(s, Each(&self.0))
     }
 }
 

@@ -2,7 +2,9 @@
 
 ghost use Rattle.rlp_messages.specs.Receipts69.{block_receipts69, receipt69, receipts69};
 
-use rlp::{Decodable, DecoderError, Encodable, ListOf, Rlp, RlpStream, RoundTrip, StrictRead};
+use rlp::{
+    Decodable, DecoderError, Each, Encodable, ListOf, Rlp, RlpStream, RoundTrip, StrictRead,
+};
 use rlp_ethereum::{Log, ReceiptStatus};
 use std::alloc::{AllocError, Global};
 
@@ -74,10 +76,8 @@ impl Encodable for BlockReceipts69 {
 
     ghost fits = { block_receipts69.Fits };
 
-    #[tactic(auto, using(rlp::proofs::Writing::writing))]
     fn rlp_append(&self, s: &mut RlpStream) -> Result<(), AllocError> {
-        s.append_list(self.0.as_slice())?;
-        Ok(())
+        rlp::append_fields!(s, Each(&self.0))
     }
 }
 
@@ -112,10 +112,8 @@ impl Encodable for Receipts69 {
 
     ghost fits = { receipts69.Fits };
 
-    #[tactic(auto, using(rlp::proofs::Writing::writing))]
     fn rlp_append(&self, s: &mut RlpStream) -> Result<(), AllocError> {
-        s.append_list(self.0.as_slice())?;
-        Ok(())
+        rlp::append_fields!(s, Each(&self.0))
     }
 }
 
