@@ -34,6 +34,7 @@ impl Kind {
     ghost use Rattle.rlp_show.specs.Answer.{kind_named};
 
     /// The kind of this name, if there is one.
+    #[tactic(auto, unfolding(crate::specs::Answer::kind_named))]
     pub fn named(name: &str) -> Option<Kind>
         ensures { result ≡ kind_named name.now }
     {
