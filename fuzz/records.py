@@ -169,6 +169,17 @@ class ListOf:
         return written_list(dice, [self.one.written(dice) for _ in range(dice.choice((0, 1, 1, 2, 3)))])
 
 
+class Alone:
+    """What is shown under this name, also by itself."""
+
+    def __init__(self, name, one):
+        self.name, self.one = name, one
+        self.written = one.written
+
+    def lines(self, _, data):
+        return self.one.lines(self.name, data)
+
+
 class Record:
     """A list of named fields. Where `counts` is given, only the first of them are there, as many as one of its numbers."""
 
@@ -435,8 +446,11 @@ BLOCK = "header:header transactions:transactions ommers:headers withdrawals:with
 RECEIPT = Record(fields("status_or_state_root:status cumulative_gas_used:u64 logs_bloom:bloom logs:logs", TYPES))
 
 KINDS = {
+    "access_list": Alone("access_list", TYPES["access_list"]),
     "account": Record(fields("nonce:u64 balance:u256 storage_root:hash code_hash:hash", TYPES)),
+    "authorization": TYPES["authorization"],
     "block": Record(fields(BLOCK, TYPES), counts=(3, 4)),
+    "body": Record(fields(BLOCK, TYPES)[1:], counts=(2, 3)),
     "header": TYPES["header"],
     "node": Node(),
     "receipt": Typed(dict.fromkeys((1, 2, 3, 4), RECEIPT), RECEIPT),

@@ -7,9 +7,9 @@ use Rattle.rlp_lines.specs.Digits.{bytes_in}
 use Rattle.rlp_lines.specs.Status.{status_of}
 use Rattle.rlp_lines.specs.declared.serving.RunFault.{RunFault}
 use Rattle.rlp_show.specs.Lines.{Fault, Shape, Shown, fault_text}
-use Rattle.rlp_show.specs.Records.{account, any_receipt, any_transaction, block, header, node, node_record, withdrawal}
+use Rattle.rlp_show.specs.Records.{access_list, account, any_receipt, any_transaction, authorization, block, body, header, node, node_record, withdrawal}
 use Rattle.rlp_show.specs.declared.kind.Kind.{Kind}
-use Rattle.rlp_show.specs.declared.kind.Kind.TheVariants.{Account, Block, Header, Node, NodeRecord, Receipt, Transaction, Withdrawal}
+use Rattle.rlp_show.specs.declared.kind.Kind.TheVariants.{AccessList, Account, Authorization, Block, Body, Header, Node, NodeRecord, Receipt, Transaction, Withdrawal}
 use Rattle.rlp_show.specs.declared.fault.ItemFault.{ItemFault}
 use Rattle.rlp_show.specs.declared.fault.ShowFault.{ShowFault}
 use Rattle.rlp_show.specs.declared.fault.ShowFault.TheVariants.{Wrong, OutOfMemory}
@@ -33,8 +33,11 @@ record_answer shape line = bytes_answer shape (bytes_in (strip_carriage_return l
 -- the kind of a name
 unfoldable pub kind_named : List ℕ → Option Kind
 kind_named name =
-    if bytes_eq name (codes "account") then Some Account
+    if bytes_eq name (codes "access_list") then Some AccessList
+    else if bytes_eq name (codes "account") then Some Account
+    else if bytes_eq name (codes "authorization") then Some Authorization
     else if bytes_eq name (codes "block") then Some Block
+    else if bytes_eq name (codes "body") then Some Body
     else if bytes_eq name (codes "header") then Some Header
     else if bytes_eq name (codes "node") then Some Node
     else if bytes_eq name (codes "receipt") then Some Receipt
@@ -45,8 +48,11 @@ kind_named name =
 
 -- the shape of the records of a kind
 abbrev pub kind_shape : Kind → Shape
+kind_shape AccessList = access_list
 kind_shape Account = account
+kind_shape Authorization = authorization
 kind_shape Block = block
+kind_shape Body = body
 kind_shape Header = header
 kind_shape Node = node
 kind_shape Receipt = any_receipt

@@ -95,6 +95,10 @@ access_list_item = record_of (
     ∷ field (codes "storage_keys") (list_of hash)
     ∷ [])
 
+-- access lists by themselves, with the names that their items have in a transaction
+abbrev pub access_list : Shape
+access_list name v = list_of access_list_item (codes "access_list") v
+
 -- transactions without a type
 abbrev pub legacy_transaction : Shape
 legacy_transaction = record_of (
@@ -224,6 +228,14 @@ abbrev pub block : Shape
 block = record_of (
     field (codes "header") header
     ∷ field (codes "transactions") (list_of transaction)
+    ∷ field (codes "ommers") (list_of header)
+    ∷ optional (field (codes "withdrawals") (list_of withdrawal))
+    ∷ [])
+
+-- bodies of blocks: the withdrawals may be missing
+abbrev pub body : Shape
+body = record_of (
+    field (codes "transactions") (list_of transaction)
     ∷ field (codes "ommers") (list_of header)
     ∷ optional (field (codes "withdrawals") (list_of withdrawal))
     ∷ [])

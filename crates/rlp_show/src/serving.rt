@@ -10,10 +10,11 @@ use crate::envelopes::AnyReceipt;
 use crate::fault::ShowFault;
 use crate::kind::Kind;
 use crate::nodes::Node;
+use crate::records::AccessListAlone;
 use crate::show::Show;
 use crate::transactions::AnyTransaction;
 use rlp::Rlp;
-use rlp_ethereum::{Account, Block, Header, NodeRecord, Withdrawal};
+use rlp_ethereum::{Account, Block, Body, Header, NodeRecord, SignedAuthorization, Withdrawal};
 use rlp_lines::{LineAnswers, Noted, RunFault, answer_lines, read_bytes, without_carriage_return};
 use std::alloc::{AllocError, Global};
 use std::io::{Read, Write};
@@ -80,8 +81,15 @@ pub fn run<R: Read, W: Write>(
         (R.remaining input.old.inner) (R.remaining input.new.inner)) }
 {
     match kind {
+        Kind::AccessList => {
+            answer_lines::<RecordAnswers<AccessListAlone>, R, W>(alloc, input, output)
+        }
         Kind::Account => answer_lines::<RecordAnswers<Account>, R, W>(alloc, input, output),
+        Kind::Authorization => {
+            answer_lines::<RecordAnswers<SignedAuthorization>, R, W>(alloc, input, output)
+        }
         Kind::Block => answer_lines::<RecordAnswers<Block>, R, W>(alloc, input, output),
+        Kind::Body => answer_lines::<RecordAnswers<Body>, R, W>(alloc, input, output),
         Kind::Header => answer_lines::<RecordAnswers<Header>, R, W>(alloc, input, output),
         Kind::Node => answer_lines::<RecordAnswers<Node>, R, W>(alloc, input, output),
         Kind::Receipt => answer_lines::<RecordAnswers<AnyReceipt>, R, W>(alloc, input, output),
