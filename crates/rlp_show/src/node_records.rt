@@ -11,7 +11,7 @@ ghost use Rattle.rlp_show.specs.Records.{any_item, by_keys, first_fields, keys_i
 
 use crate::any_item::AnyItem;
 use crate::fault::ShowFault;
-use crate::fields::{Label, ShowFields, joined, prefix_of, show_field, show_fields};
+use crate::fields::{Label, ShowFields, name_in, prefix_of, show_field, show_fields};
 use crate::lists::place_in;
 use crate::show::Show;
 use rlp::{DecoderError, Rlp, RlpIterator};
@@ -46,11 +46,11 @@ fn by_keys(
     if shown.is_err() {
         return shown;
     }
-    if !are_in_order(item) {
+    if !are_in_order(&mut pairs_of(item)) {
         let fault = DecoderError::Custom("keys are not in order");
         return Err(ShowFault::of(alloc, name, fault));
     }
-    if !have_id(item) {
+    if !have_id(&mut pairs_of(item)) {
         return Err(ShowFault::of(alloc, name, DecoderError::Custom("key id is missing")));
     }
     shown
@@ -67,17 +67,14 @@ fn next_key<'a>(pairs: &mut RlpIterator<'a, '_>) -> Option<&'a [u8]>
     Some(key.decoder().string().unwrap_or(&[]))
 }
 
-/// Whether the keys of a record are in order, each once.
-fn are_in_order(item: &Rlp<'_>) -> bool
-    ensures { result ≡ keys_rise (keys_in (drop 2 (item_views item.now))) }
+/// Whether the keys of the pairs that are the next items are in order, each once.
+fn are_in_order(pairs: &mut RlpIterator<'_, '_>) -> bool
+    ensures { result ≡ keys_rise (keys_in pairs.old.left) }
 {
-    let mut pairs = item.iter();
-    skip(&mut pairs);
-    skip(&mut pairs);
-    let Some(mut last) = next_key(&mut pairs) else {
+    let Some(mut last) = next_key(pairs) else {
         return true;
     };
-    while let Some(key) = next_key(&mut pairs) {
+    while let Some(key) = next_key(pairs) {
         if last.cmp(key) != Ordering::Less {
             return false;
         }
@@ -86,15 +83,11 @@ fn are_in_order(item: &Rlp<'_>) -> bool
     true
 }
 
-/// Whether `id` is one of the keys of a record.
-fn have_id(item: &Rlp<'_>) -> bool
-    ensures { result ≡ list_any (λ key. bytes_eq key (codes "id"))
-        (keys_in (drop 2 (item_views item.now))) }
+/// Whether `id` is one of the keys of the pairs that are the next items.
+fn have_id(pairs: &mut RlpIterator<'_, '_>) -> bool
+    ensures { result ≡ list_any (λ key. bytes_eq key (codes "id")) (keys_in pairs.old.left) }
 {
-    let mut pairs = item.iter();
-    skip(&mut pairs);
-    skip(&mut pairs);
-    while let Some(key) = next_key(&mut pairs) {
+    while let Some(key) = next_key(pairs) {
         if key == b"id".as_slice() {
             return true;
         }
@@ -162,12 +155,19 @@ fn show_pairs(alloc: Global, name: &str, item: &Rlp<'_>, out: &mut String) -> Re
     ensures { Shows (pairs_lines any_item (prefix name.now ++ codes "pairs") 0 2
         (drop 2 (item_views item.now))) (string_bytes out.old) (string_bytes out.new) result }
 {
-    let before = prefix_of(alloc, name)?;
-    let label = joined(alloc, before.as_str(), "pairs")?;
+    let label = name_in(alloc, name, "pairs")?;
+    show_next_pairs(alloc, label.as_str(), &mut pairs_of(item), out)
+}
+
+/// The items of a record after the first two.
+fn pairs_of<'a, 'view>(item: &'view Rlp<'a>) -> RlpIterator<'a, 'view>
+    ensures left { result.left ≡ drop 2 (item_views item.now) }
+    ensures few { length result.left < 2 ^ 64 - 2 }
+{
     let mut items = item.iter();
     skip(&mut items);
     skip(&mut items);
-    show_next_pairs(alloc, label.as_str(), &mut items, out)
+    items
 }
 
 /// Goes past the next item, if there is one.
