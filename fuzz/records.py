@@ -2,7 +2,7 @@
 answers of `rlp_show`, after crates/rlp_show/CALLING.md. It shares no code with the program.
 """
 
-from answers import Answered, LONGEST_LINE, bytes_of, encoded_string, framing, written_header
+from answers import Answered, bytes_of, encoded_string, framing, written_header
 from lines import digits, spoiled
 
 # ---- strict reading
@@ -169,6 +169,17 @@ class ListOf:
         return written_list(dice, [self.one.written(dice) for _ in range(dice.choice((0, 1, 1, 2, 3)))])
 
 
+class Alone:
+    """What is shown under this name, also by itself."""
+
+    def __init__(self, name, one):
+        self.name, self.one = name, one
+        self.written = one.written
+
+    def lines(self, _, data):
+        return self.one.lines(self.name, data)
+
+
 class Record:
     """A list of named fields. Where `counts` is given, only the first of them are there, as many as one of its numbers."""
 
@@ -272,11 +283,13 @@ class AnyItem:
 
 
 class NodeRecord:
-    """A list of a signature, a number, and then keys and values."""
+    """A list of a signature, a number, and then keys and values: at most 300 bytes, and keys in order with `id`."""
 
     first = Record([("signature", STRING), ("sequence", number(8))])
 
     def lines(self, name, data):
+        if len(data) > 300:
+            raise Wrong(name, Answered("RlpIsTooBig"))
         try:
             items = strict_items(data)
             if len(items) < 2 or len(items) % 2 == 1:
@@ -296,12 +309,20 @@ class NodeRecord:
             except Wrong as wrong:
                 wrong.place = place
                 raise
+        keys = [strict_string(key) for key in items[2::2]]
+        if keys != sorted(set(keys)):
+            raise Wrong(name, Answered('Custom("keys are not in order")'))
+        if b"id" not in keys:
+            raise Wrong(name, Answered('Custom("key id is missing")'))
         return lines
 
     def written(self, dice):
         items = [one.written(dice) for _, one in self.first.fields]
-        for _ in range(dice.choice((0, 1, 2, 3))):
-            items += [STRING.written(dice), AnyItem(256).written(dice)]
+        keys = sorted({dice.randbytes(dice.randint(0, 2)) for _ in range(dice.randint(0, 2))} | {b"id"})
+        if dice.random() < 0.2:
+            keys = [dice.choice(keys + [b"ie"]) for _ in keys]
+        for key in keys:
+            items += [encoded_string(key), AnyItem(256).written(dice)]
         if dice.random() < 0.05:
             items = items[: dice.randint(0, len(items))]
         return written_list(dice, items)
@@ -425,8 +446,11 @@ BLOCK = "header:header transactions:transactions ommers:headers withdrawals:with
 RECEIPT = Record(fields("status_or_state_root:status cumulative_gas_used:u64 logs_bloom:bloom logs:logs", TYPES))
 
 KINDS = {
+    "access_list": Alone("access_list", TYPES["access_list"]),
     "account": Record(fields("nonce:u64 balance:u256 storage_root:hash code_hash:hash", TYPES)),
+    "authorization": TYPES["authorization"],
     "block": Record(fields(BLOCK, TYPES), counts=(3, 4)),
+    "body": Record(fields(BLOCK, TYPES)[1:], counts=(2, 3)),
     "header": TYPES["header"],
     "node": Node(),
     "receipt": Typed(dict.fromkeys((1, 2, 3, 4), RECEIPT), RECEIPT),
@@ -449,7 +473,7 @@ def line(dice, kind):
 
 def answer(kind, text):
     """What is answered to a line, as one text: the lines of the record and an empty line, or the fault."""
-    if len(text) > LONGEST_LINE:
+    if len(text) > 32 << 20:
         return "error long line\n"
     data = bytes_of(text[:-1] if text.endswith("\r") else text)
     if data is None:

@@ -1,19 +1,23 @@
 -- What is written for the lines of a text, by the answer to each line.
-use Rattle.std.specs.Prelude.{ℕ, nat_lt, if◌then◌else◌, List, [], ◌∷◌, ◌++◌, length, codes}
-use Rattle.std.specs.List.{flat_map}
+use Rattle.std.specs.Prelude.{ℕ, Bool, nat_eq, nat_lt, if◌then◌else◌, List, [], ◌∷◌, ◌++◌, length, codes}
+use Rattle.std.specs.List.{flat_map, list_any, starts_with}
 use Rattle.rlp_lines.specs.Lines.{lines}
 
--- the most bytes that a line may have, without its newline
-abbrev pub longest_line : ℕ
-longest_line = 131072
-
--- the answer to any line, by that to a line that isn't too long
-unfoldable pub answer_by : (List ℕ → List ℕ) → List ℕ → List ℕ
-answer_by within line = if nat_lt longest_line (length line) then codes "error long line" else within line
+-- the answer to any line, by the most bytes that a line may have without its newline, and the answer to a line that isn't longer
+unfoldable pub answer_by : ℕ → (List ℕ → List ℕ) → List ℕ → List ℕ
+answer_by longest within line = if nat_lt longest (length line) then codes "error long line" else within line
 
 -- the answer to a line, and a newline
 abbrev pub reply : (List ℕ → List ℕ) → List ℕ → List ℕ
 reply answer line = answer line ++ 10 ∷ []
+
+-- whether the answer to a line says that the line is at fault
+abbrev pub is_fault : (List ℕ → List ℕ) → List ℕ → Bool
+is_fault answer line = starts_with nat_eq (answer line) (codes "error")
+
+-- whether one of some lines is at fault
+abbrev pub has_fault : (List ℕ → List ℕ) → List (List ℕ) → Bool
+has_fault answer some_lines = list_any (is_fault answer) some_lines
 
 -- the replies to some lines, one after another
 unfoldable pub replies_to : (List ℕ → List ℕ) → List (List ℕ) → List ℕ

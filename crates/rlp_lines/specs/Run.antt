@@ -1,9 +1,9 @@
 -- What a run leaves. `answer` is the answer to each line. in0 and in1 are the bytes that the reader had left before and after the run.
 -- out0 and out1 are the bytes that the writer held.
-use Rattle.std.specs.Prelude.{ℕ, ◌≡◌, ◌<◌, ◌≤◌, ◌-◌, ◌^◌, ◌⊎◌, true, false, List, ◌++◌, length, take, Option, Result, Ok, Err}
+use Rattle.std.specs.Prelude.{ℕ, Bool, ◌≡◌, ◌<◌, ◌≤◌, ◌-◌, ◌^◌, ◌⊎◌, true, false, List, ◌++◌, length, take, Option, Result, Ok, Err}
 use Rattle.std.specs.Io.KnownBytes.{Consumes, Appends, IsAtEnd}
 use Rattle.rlp_lines.specs.Lines.{lines, ended_lines}
-use Rattle.rlp_lines.specs.Replies.{replies_to, replies}
+use Rattle.rlp_lines.specs.Replies.{has_fault, replies_to, replies}
 use Rattle.rlp_lines.specs.Watched.{Watched}
 use Rattle.rlp_lines.specs.declared.serving.RunFault.{RunFault}
 use Rattle.rlp_lines.specs.declared.serving.RunFault.TheVariants.{Memory, Read, Write}
@@ -51,6 +51,12 @@ pub record AnswersEnded (answer : List ℕ → List ℕ) (in0 in1 out0 out1 : Op
   pub read : Consumes in0 in1 took
   pub wrote : Appends out0 out1 (replies_to answer (ended_lines took))
 
+-- whether one of the lines of an input that was read was at fault
+pub record TellsFault (answer : List ℕ → List ℕ) (in0 in1 : Option (List ℕ)) (faulty : Bool) : Type 0 where
+  pub took : List ℕ
+  pub read : Consumes in0 in1 took
+  pub told : faulty ≡ has_fault answer (lines took)
+
 -- a beginning of the replies to what was read was written
 pub record AnswersPart (answer : List ℕ → List ℕ) (in0 in1 out0 out1 : Option (List ℕ)) : Type 0 where
   pub took : List ℕ
@@ -59,8 +65,8 @@ pub record AnswersPart (answer : List ℕ → List ℕ) (in0 in1 out0 out1 : Opt
 
 -- What a run leaves, by its result: what it wrote, and which device has failed. `remaining` is what a reader has left, and `contents` is what a writer holds.
 -- After `Ok` neither device has failed, and the output was flushed after its last write. After `Read` the reader failed, or its count of reads is at its end.
-abbrev pub RunLeaves : {R W : Type 0} → (List ℕ → List ℕ) → (R → Option (List ℕ)) → (W → Option (List ℕ)) → Watched R → Watched R → Watched W → Watched W
-    → Result (Unit {0}) RunFault → Type 0
+abbrev pub RunLeaves : {R W T : Type 0} → (List ℕ → List ℕ) → (R → Option (List ℕ)) → (W → Option (List ℕ)) → Watched R → Watched R → Watched W → Watched W
+    → Result T RunFault → Type 0
 RunLeaves answer remaining contents in0 in1 out0 out1 (Ok end) =
     AnswersAll answer (remaining in0.inner) (remaining in1.inner) (contents out0.inner) (contents out1.inner)
     × (in1.failed ≡ false) × (out1.failed ≡ false) × (out1.flushed ≡ true)

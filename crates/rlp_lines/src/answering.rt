@@ -6,10 +6,17 @@ use std::alloc::{AllocError, Global};
 
 /// What answers the lines of an input, for [`answer_lines`](crate::answer_lines).
 pub trait LineAnswers {
-    /// The answer to a line of at most 131,072 bytes.
+    /// The most bytes that a line may have, without its newline.
+    ghost longest: { ℕ };
+
+    /// The answer to a line that isn't longer.
     ghost answer_within: { List ℕ → List ℕ };
 
-    /// Appends the answer to a line of at most 131,072 bytes, without its newline. Fails with
+    /// The most bytes that a line may have, without its newline.
+    fn longest() -> usize
+        ensures { result ≡ longest };
+
+    /// Appends the answer to a line that isn't longer, without its newline. Fails with
     /// `AllocError` if memory is refused. `out` may then hold anything: the caller drops it.
     fn put_answer(alloc: Global, line: &[u8], out: &mut String) -> Result<(), AllocError>
         ensures { OnOk result

@@ -1,7 +1,7 @@
 //! The current line of the input.
-ghost use Rattle.std.specs.Prelude.{◌≡◌, ◌++◌, ◌+◌, ◌≢◌, ◌<◌, ◌≤◌, ◌==◌, ℕ, List, [], ◌∷◌, length, position, string_bytes, OnOk, OnErr, IsTrue, ◌↔◌};
+ghost use Rattle.std.specs.Prelude.{◌≡◌, ◌++◌, ◌≢◌, ◌==◌, ℕ, List, [], ◌∷◌, length, position, string_bytes, OnOk, OnErr, IsTrue, ◌↔◌, ◌||◌, false};
 ghost use Rattle.std.specs.Str.Lines.{strip_carriage_return};
-ghost use Rattle.rlp_lines.specs.Replies.{answer_by, reply, replies_to};
+ghost use Rattle.rlp_lines.specs.Replies.{answer_by, has_fault, is_fault, reply, replies_to};
 ghost use Rattle.rlp_lines.specs.Lines.{last_piece, unended_line};
 ghost use Rattle.rlp_lines.specs.Progress.{IsOnePiece, IsLine, IsAfter};
 ghost use Rattle.rlp_lines.specs.Run.{AreRepliesBefore};
@@ -10,40 +10,41 @@ use crate::answering::LineAnswers;
 use memchr::memchr;
 use std::alloc::{AllocError, Global};
 
-/// The most bytes that a line may have, without its newline.
-const LONGEST_LINE: usize = 131_072;
-
-/// The bytes of the current line, or the fact that it is too long.
+/// The bytes of the current line, or the fact that it is too long, and whether a line before it was
+/// at fault.
 #[derive(Drop)]
 pub(crate) struct Line {
     bytes: Vec<u8>,
     over: bool,
+    faulty: bool,
     // A reply is built here, and then added to others whole or not at all.
     reply: String,
-    ghost within: { length bytes.items ≤ 131072 },
 }
 
 impl Line {
     pub(crate) fn new(alloc: Global) -> Line
-        ensures { IsLine result.bytes.items result.over [] }
+        ensures empty { (longest : ℕ) → IsLine longest result.bytes.items result.over [] }
+        ensures none { result.faulty ≡ false }
     {
         Line {
             bytes: Vec::new(alloc),
             over: false,
+            faulty: false,
             reply: String::new(alloc),
         }
     }
 
     /// Adds bytes without a newline.
-    fn extend(&mut self, run: &[u8]) -> Result<(), AllocError>
-        ensures ok { (begun : List ℕ) → IsLine self.old.bytes.items self.old.over begun
-            → OnOk result (IsLine self.new.bytes.items self.new.over (begun ++ run.now)) }
+    fn extend<A: LineAnswers>(&mut self, run: &[u8]) -> Result<(), AllocError>
+        ensures ok { (begun : List ℕ) → IsLine A.longest self.old.bytes.items self.old.over begun
+            → OnOk result (IsLine A.longest self.new.bytes.items self.new.over (begun ++ run.now)) }
         ensures refused { OnErr result (run.now ≢ []) }
+        ensures kept { self.new.faulty ≡ self.old.faulty }
     {
         if self.over || run.is_empty() {
             return Ok(());
         }
-        if run.len() > LONGEST_LINE - self.bytes.len() {
+        if run.len() > A::longest().saturating_sub(self.bytes.len()) {
             self.over = true;
             return Ok(());
         }
@@ -53,8 +54,9 @@ impl Line {
     /// Builds the answer in the buffer for replies.
     #[tactic(auto, unfolding(crate::specs::Replies::answer_by))]
     fn put_answer<A: LineAnswers>(&mut self, alloc: Global) -> Result<(), AllocError>
-        ensures { (begun : List ℕ) → IsLine self.old.bytes.items self.old.over begun
-            → OnOk result (string_bytes self.new.reply ≡ answer_by A.answer_within begun) }
+        ensures reply { (begun : List ℕ) → IsLine A.longest self.old.bytes.items self.old.over begun
+            → OnOk result (string_bytes self.new.reply ≡ answer_by A.longest A.answer_within begun) }
+        ensures kept { self.new.faulty ≡ self.old.faulty }
     {
         self.reply.clear();
         if self.over {
@@ -63,26 +65,39 @@ impl Line {
         A::put_answer(alloc, self.bytes.as_slice(), &mut self.reply)
     }
 
-    /// Appends the answer and a newline, or nothing.
+    /// Appends the answer and a newline, or nothing. Notes a line that is at fault.
     fn reply<A: LineAnswers>(&mut self, alloc: Global, out: &mut String) -> Result<(), AllocError>
-        ensures ok { (begun : List ℕ) → IsLine self.old.bytes.items self.old.over begun
-            → OnOk result (string_bytes out.new ≡ string_bytes out.old ++ reply (answer_by A.answer_within) begun) }
+        ensures ok { (begun : List ℕ) → IsLine A.longest self.old.bytes.items self.old.over begun
+            → OnOk result (string_bytes out.new
+            ≡ string_bytes out.old ++ reply (answer_by A.longest A.answer_within) begun) }
+        ensures noted { (begun : List ℕ) → IsLine A.longest self.old.bytes.items self.old.over begun
+            → OnOk result (self.new.faulty
+            ≡ (self.old.faulty || is_fault (answer_by A.longest A.answer_within) begun)) }
         ensures refused { OnErr result (string_bytes out.new ≡ string_bytes out.old) }
     {
         self.put_answer::<A>(alloc)?;
+        self.faulty |= self.reply.as_str().starts_with("error");
         self.reply.push('\n')?;
         out.push_str(self.reply.as_str())
     }
 
+    /// Whether a line before the current one was at fault.
+    pub(crate) fn is_faulty(&self) -> bool
+        ensures { result ≡ self.now.faulty }
+    {
+        self.faulty
+    }
+
     fn is_empty(&self) -> bool
-        ensures { (begun : List ℕ) → IsLine self.now.bytes.items self.now.over begun
+        ensures { (longest : ℕ) (begun : List ℕ) → IsLine longest self.now.bytes.items self.now.over begun
             → IsTrue result ↔ (begun ≡ []) }
     {
         !self.over && self.bytes.is_empty()
     }
 
     fn clear(&mut self)
-        ensures { IsLine self.new.bytes.items self.new.over [] }
+        ensures empty { (longest : ℕ) → IsLine longest self.new.bytes.items self.new.over [] }
+        ensures kept { self.new.faulty ≡ self.old.faulty }
     {
         self.bytes.clear();
         self.over = false;
@@ -96,13 +111,15 @@ impl Line {
         out: &mut String,
     ) -> Result<(), AllocError>
         ensures ok { (text written : List ℕ)
-            → IsAfter (answer_by A.answer_within) text written (string_bytes out.old) self.old.bytes.items self.old.over
+            → IsAfter A.longest (answer_by A.longest A.answer_within) text written
+            (string_bytes out.old) self.old.bytes.items self.old.over self.old.faulty
             → IsOnePiece run.now
-            → OnOk result (IsAfter (answer_by A.answer_within) (text ++ run.now ++ 10 ∷ []) written (string_bytes out.new)
-            self.new.bytes.items self.new.over) }
+            → OnOk result (IsAfter A.longest (answer_by A.longest A.answer_within)
+            (text ++ run.now ++ 10 ∷ []) written (string_bytes out.new)
+            self.new.bytes.items self.new.over self.new.faulty) }
         ensures refused { OnErr result (string_bytes out.new ≡ string_bytes out.old) }
     {
-        self.extend(run)?;
+        self.extend::<A>(run)?;
         self.reply::<A>(alloc, out)?;
         self.clear();
         Ok(())
@@ -117,12 +134,15 @@ impl Line {
         out: &mut String,
     ) -> Result<(), AllocError>
         ensures ok { (text written : List ℕ)
-            → IsAfter (answer_by A.answer_within) text written (string_bytes out.old) self.old.bytes.items self.old.over
-            → OnOk result (IsAfter (answer_by A.answer_within) (text ++ bytes.now) written (string_bytes out.new)
-            self.new.bytes.items self.new.over) }
+            → IsAfter A.longest (answer_by A.longest A.answer_within) text written
+            (string_bytes out.old) self.old.bytes.items self.old.over self.old.faulty
+            → OnOk result (IsAfter A.longest (answer_by A.longest A.answer_within)
+            (text ++ bytes.now) written (string_bytes out.new)
+            self.new.bytes.items self.new.over self.new.faulty) }
         ensures refused { (text written : List ℕ)
-            → IsAfter (answer_by A.answer_within) text written (string_bytes out.old) self.old.bytes.items self.old.over
-            → OnErr result (AreRepliesBefore (answer_by A.answer_within) text (text ++ bytes.now)
+            → IsAfter A.longest (answer_by A.longest A.answer_within) text written
+            (string_bytes out.old) self.old.bytes.items self.old.over self.old.faulty
+            → OnErr result (AreRepliesBefore (answer_by A.longest A.answer_within) text (text ++ bytes.now)
             (written ++ string_bytes out.new)) }
     {
         let mut rest = bytes;
@@ -131,7 +151,7 @@ impl Line {
             self.end::<A>(alloc, run, out)?;
             rest = &others[1..];
         }
-        self.extend(rest)
+        self.extend::<A>(rest)
     }
 
     /// Appends the reply to the last line, if it isn't empty.
@@ -141,10 +161,14 @@ impl Line {
         alloc: Global,
         out: &mut String,
     ) -> Result<(), AllocError>
-        ensures ok { (text : List ℕ) → IsLine self.old.bytes.items self.old.over (last_piece text)
+        ensures ok { (text : List ℕ) → IsLine A.longest self.old.bytes.items self.old.over (last_piece text)
             → OnOk result (string_bytes out.new
-            ≡ string_bytes out.old ++ replies_to (answer_by A.answer_within) (unended_line text)) }
-        ensures refused { (begun : List ℕ) → IsLine self.old.bytes.items self.old.over begun
+            ≡ string_bytes out.old
+            ++ replies_to (answer_by A.longest A.answer_within) (unended_line text)) }
+        ensures noted { (text : List ℕ) → IsLine A.longest self.old.bytes.items self.old.over (last_piece text)
+            → OnOk result (self.new.faulty ≡ (self.old.faulty
+            || has_fault (answer_by A.longest A.answer_within) (unended_line text))) }
+        ensures refused { (begun : List ℕ) → IsLine A.longest self.old.bytes.items self.old.over begun
             → OnErr result (begun ≢ []) }
     {
         if self.is_empty() {

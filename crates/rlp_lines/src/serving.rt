@@ -1,9 +1,10 @@
 //! The loop over the input.
-ghost use Rattle.std.specs.Prelude.{◌≡◌, ◌-◌, ◌^◌, ◌++◌, ◌<◌, ◌⊎◌, ℕ, List, OnOk, OnErr, IfErr, Option, string_bytes, true, false};
+ghost use Rattle.std.specs.Prelude.{◌≡◌, ◌-◌, ◌^◌, ◌++◌, ◌<◌, ◌⊎◌, ℕ, List, OnOk, OnErr, IfErr, IfOk, Option, string_bytes, true, false};
 ghost use Rattle.std.specs.Io.KnownBytes.{Appends};
-ghost use Rattle.rlp_lines.specs.Replies.{answer_by, replies};
+ghost use Rattle.rlp_lines.specs.Lines.{lines};
+ghost use Rattle.rlp_lines.specs.Replies.{answer_by, has_fault, replies};
 ghost use Rattle.rlp_lines.specs.Progress.{IsServed, IsStop};
-ghost use Rattle.rlp_lines.specs.Run.{AppendsPart, RunLeaves};
+ghost use Rattle.rlp_lines.specs.Run.{AppendsPart, RunLeaves, TellsFault};
 
 use crate::answering::LineAnswers;
 use crate::line::Line;
@@ -91,13 +92,15 @@ fn serve<A: LineAnswers, W: Write>(
     bytes: &[u8],
 ) -> Result<(), RunFault>
     ensures ok { (start : Option (List ℕ)) (text : List ℕ)
-        → IsServed (answer_by A.answer_within) start (W.contents output.old.inner) text line.old.bytes.items line.old.over
-        → OnOk result (IsServed (answer_by A.answer_within) start (W.contents output.new.inner) (text ++ bytes.now)
-        line.new.bytes.items line.new.over) }
+        → IsServed A.longest (answer_by A.longest A.answer_within) start
+        (W.contents output.old.inner) text line.old.bytes.items line.old.over line.old.faulty
+        → OnOk result (IsServed A.longest (answer_by A.longest A.answer_within) start
+        (W.contents output.new.inner) (text ++ bytes.now) line.new.bytes.items line.new.over line.new.faulty) }
     ensures kept { OnOk result (output.new.failed ≡ output.old.failed) }
     ensures stop { (start : Option (List ℕ)) (text : List ℕ)
-        → IsServed (answer_by A.answer_within) start (W.contents output.old.inner) text line.old.bytes.items line.old.over
-        → IfErr result (λ fault. IsStop (answer_by A.answer_within) fault start
+        → IsServed A.longest (answer_by A.longest A.answer_within) start
+        (W.contents output.old.inner) text line.old.bytes.items line.old.over line.old.faulty
+        → IfErr result (λ fault. IsStop (answer_by A.longest A.answer_within) fault start
         (W.contents output.new.inner) text (text ++ bytes.now) output.new.failed) }
 
     // The finished replies are written even if memory was refused after them.
@@ -122,13 +125,21 @@ fn finish<A: LineAnswers, W: Write>(
     output: &mut Noted<W>,
 ) -> Result<(), RunFault>
     ensures ok { (start : Option (List ℕ)) (text : List ℕ)
-        → IsServed (answer_by A.answer_within) start (W.contents output.old.inner) text line.old.bytes.items line.old.over
-        → OnOk result (Appends start (W.contents output.new.inner) (replies (answer_by A.answer_within) text)) }
+        → IsServed A.longest (answer_by A.longest A.answer_within) start
+        (W.contents output.old.inner) text line.old.bytes.items line.old.over line.old.faulty
+        → OnOk result (Appends start (W.contents output.new.inner)
+        (replies (answer_by A.longest A.answer_within) text)) }
+    ensures noted { (start : Option (List ℕ)) (text : List ℕ)
+        → IsServed A.longest (answer_by A.longest A.answer_within) start
+        (W.contents output.old.inner) text line.old.bytes.items line.old.over line.old.faulty
+        → OnOk result (line.new.faulty
+        ≡ has_fault (answer_by A.longest A.answer_within) (lines text)) }
     ensures kept { OnOk result (output.new.failed ≡ output.old.failed) }
     ensures flushed { OnOk result (output.new.flushed ≡ true) }
     ensures stop { (start : Option (List ℕ)) (text : List ℕ)
-        → IsServed (answer_by A.answer_within) start (W.contents output.old.inner) text line.old.bytes.items line.old.over
-        → IfErr result (λ fault. IsStop (answer_by A.answer_within) fault start
+        → IsServed A.longest (answer_by A.longest A.answer_within) start
+        (W.contents output.old.inner) text line.old.bytes.items line.old.over line.old.faulty
+        → IfErr result (λ fault. IsStop (answer_by A.longest A.answer_within) fault start
         (W.contents output.new.inner) text text output.new.failed) }
 {
     answers.clear();
@@ -138,17 +149,20 @@ fn finish<A: LineAnswers, W: Write>(
     }
 }
 
-/// Answers each line of the input as `A` says, until its end. The answer to a line of more than
-/// 131,072 bytes is `error long line`. Fails with the [`RunFault`] that stopped it.
+/// Answers each line of the input as `A` says, until its end. The answer to a line of more bytes than
+/// `A` takes is `error long line`. Returns whether the answer to a line begins with `error`, and fails
+/// with the [`RunFault`] that stopped it.
 pub fn answer_lines<A: LineAnswers, R: Read, W: Write>(
     alloc: Global,
     input: &mut Noted<R>,
     output: &mut Noted<W>,
-) -> Result<(), RunFault>
+) -> Result<bool, RunFault>
     requires input { input.old.failed ≡ false }
     requires output { output.old.failed ≡ false }
-    ensures { RunLeaves (answer_by A.answer_within) R.remaining W.contents
+    ensures leaves { RunLeaves (answer_by A.longest A.answer_within) R.remaining W.contents
         input.old input.new output.old output.new result }
+    ensures faulty { IfOk result (TellsFault (answer_by A.longest A.answer_within)
+        (R.remaining input.old.inner) (R.remaining input.new.inner)) }
 {
     let mut line = Line::new(alloc);
     let mut answers = String::new(alloc);
@@ -159,7 +173,10 @@ pub fn answer_lines<A: LineAnswers, R: Read, W: Write>(
             Err(_) => return Err(RunFault::Read),
         };
         if count == 0 {
-            return finish::<A, W>(alloc, &mut line, &mut answers, output);
+            if let Err(fault) = finish::<A, W>(alloc, &mut line, &mut answers, output) {
+                return Err(fault);
+            }
+            return Ok(line.is_faulty());
         }
         let chunk = &buffer[..count];
         if let Err(fault) = serve::<A, W>(alloc, &mut line, &mut answers, output, chunk) {

@@ -1,11 +1,14 @@
 -- Node records, and their pairs.
-use Rattle.std.proofs.Common.{◌≡◌, ◌≢◌, ◌==◌, ◌||◌, ◌≤◌, ◌+◌, ◌%◌, ℕ, List, ◌∷◌, ◌++◌, codes, drop, nat_lt, ap, ◌∙◌, arith, Ok}
-use Rattle.std.proofs.lemmas.Bool.{cond-false}
+use Rattle.std.proofs.Common.{◌≡◌, ◌≢◌, ◌==◌, ◌||◌, ◌≤◌, ◌+◌, ◌%◌, ℕ, List, ◌∷◌, ◌++◌, codes, drop, length, nat_lt, ap, refl, ◌∙◌, arith, true, false, Ok, Err}
+use Rattle.std.specs.List.{list_any}
+use Rattle.std.specs.Str.{bytes_eq}
+use Rattle.std.proofs.lemmas.Bool.{cond-false, cond-true}
 use Rattle.std.proofs.lemmas.Bool.Decides.{nat_tests}
 use Rattle.rlp.specs.Views.View.{View, item_count, item_views}
 use Rattle.rlp_show.specs.Answer.{after_text}
-use Rattle.rlp_show.specs.Lines.{Shape, fields_lines, pair_lines, pairs_lines, place, prefix, then_lines}
-use Rattle.rlp_show.specs.Records.{any_item, first_fields, node_record, node_record_lines}
+use Rattle.rlp_node_record.specs.NodeRecord.{keys_rise, longest_record}
+use Rattle.rlp_show.specs.Lines.{Fault, Shape, Shown, fields_lines, pair_lines, pairs_lines, place, prefix, then_lines, wrong}
+use Rattle.rlp_show.specs.Records.{any_item, by_keys, first_fields, keys_in, node_fields, node_fields_lines, node_record}
 use Rattle.rlp_show.proofs.FieldLemmas.{after_both}
 
 -- the lines of a pair, and then those of the pairs after it
@@ -18,7 +21,39 @@ pairs_step shape name k i vs after rest key value old new is next shown =
 
 -- a record of two items, and two for each pair
 pub record_right : (name : List ℕ) (v : View) (n : ℕ) → item_count v ≡ Ok n → 2 ≤ n → n % 2 ≢ 1
-    → node_record name v ≡ then_lines (fields_lines (prefix name) 0 first_fields (item_views v))
+    → node_fields name v ≡ then_lines (fields_lines (prefix name) 0 first_fields (item_views v))
     (pairs_lines any_item (prefix name ++ codes "pairs") 0 2 (drop 2 (item_views v)))
 record_right name v n is enough even =
-    ap (node_record_lines name (item_views v)) is ∙ cond-false (nat_lt n 2 || (n % 2 == 1)) _ _ (grind (arith, nat_tests))
+    ap (node_fields_lines name (item_views v)) is ∙ cond-false (nat_lt n 2 || (n % 2 == 1)) _ _ (grind (arith, nat_tests))
+
+-- ---- the rules of keys
+
+-- a record that isn't too long
+pub record_short : (name : List ℕ) (v : View) → length v.bytes ≤ longest_record
+    → node_record name v ≡ by_keys name (keys_in (drop 2 (item_views v))) (node_fields name v)
+record_short name v few = cond-false (nat_lt longest_record (length v.bytes)) _ _ (grind (arith, nat_tests))
+
+-- what was at fault before the keys
+pub keys-fault : (name : List ℕ) (keys : List (List ℕ)) (s : Shown) (fault : Fault) → s ≡ Err fault → by_keys name keys s ≡ Err fault
+keys-fault name keys s fault is = ap (by_keys name keys) is
+
+-- keys that break no rule
+pub keys-right : (name : List ℕ) (keys : List (List ℕ)) (s : Shown) → keys_rise keys ≡ true → list_any (λ key. bytes_eq key (codes "id")) keys ≡ true
+    → by_keys name keys s ≡ s
+keys-right name keys (Err fault) rise id = refl
+keys-right name keys (Ok lines) rise id = cond-true (keys_rise keys) _ _ rise ∙ cond-true (list_any (λ key. bytes_eq key (codes "id")) keys) _ _ id
+
+-- keys that aren't in order
+pub keys-unordered : (name : List ℕ) (keys : List (List ℕ)) (s : Shown) (old new : List ℕ) → after_text old s ≡ Ok new → keys_rise keys ≡ false
+    → by_keys name keys s ≡ Err (wrong name (codes "Custom(\"keys are not in order\")"))
+keys-unordered name keys (Err fault) old new shown falls = absurd (cc)
+keys-unordered name keys (Ok lines) old new shown falls = cond-false (keys_rise keys) _ _ falls
+
+-- keys in order without `id`
+pub keys-nameless : (name : List ℕ) (keys : List (List ℕ)) (s : Shown) (old new : List ℕ) → after_text old s ≡ Ok new → keys_rise keys ≡ true
+    → list_any (λ key. bytes_eq key (codes "id")) keys ≡ false → by_keys name keys s ≡ Err (wrong name (codes "Custom(\"key id is missing\")"))
+keys-nameless name keys (Err fault) old new shown rise none = absurd (cc)
+keys-nameless name keys (Ok lines) old new shown rise none =
+    cond-true (keys_rise keys) _ _ rise ∙ cond-false (list_any (λ key. bytes_eq key (codes "id")) keys) _ _ none
+
+pub ruleset rules_of_keys = (keys-fault, keys-right, keys-unordered, keys-nameless)

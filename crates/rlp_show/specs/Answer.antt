@@ -1,13 +1,15 @@
 -- The answer to a line of input.
-use Rattle.std.specs.Prelude.{ℕ, ◌≡◌, ⊤, List, [], ◌++◌, codes, bytes_eq, if◌then◌else◌, string_bytes, Option, Some, None, Result, Ok, Err}
+use Rattle.std.specs.Prelude.{ℕ, Bool, false, true, ◌≡◌, ⊤, List, [], ◌++◌, codes, bytes_eq, if◌then◌else◌, string_bytes, Option, Some, None, Result, Ok, Err}
 use Rattle.std.specs.Str.Lines.{strip_carriage_return}
 use Rattle.rlp.specs.Views.Text.{error_name}
 use Rattle.rlp.specs.Views.View.{strict_view_of}
 use Rattle.rlp_lines.specs.Digits.{bytes_in}
+use Rattle.rlp_lines.specs.Status.{status_of}
+use Rattle.rlp_lines.specs.declared.serving.RunFault.{RunFault}
 use Rattle.rlp_show.specs.Lines.{Fault, Shape, Shown, fault_text}
-use Rattle.rlp_show.specs.Records.{account, any_receipt, any_transaction, block, header, node, node_record, withdrawal}
+use Rattle.rlp_show.specs.Records.{access_list, account, any_receipt, any_transaction, authorization, block, body, header, node, node_record, withdrawal}
 use Rattle.rlp_show.specs.declared.kind.Kind.{Kind}
-use Rattle.rlp_show.specs.declared.kind.Kind.TheVariants.{Account, Block, Header, Node, NodeRecord, Receipt, Transaction, Withdrawal}
+use Rattle.rlp_show.specs.declared.kind.Kind.TheVariants.{AccessList, Account, Authorization, Block, Body, Header, Node, NodeRecord, Receipt, Transaction, Withdrawal}
 use Rattle.rlp_show.specs.declared.fault.ItemFault.{ItemFault}
 use Rattle.rlp_show.specs.declared.fault.ShowFault.{ShowFault}
 use Rattle.rlp_show.specs.declared.fault.ShowFault.TheVariants.{Wrong, OutOfMemory}
@@ -29,10 +31,13 @@ record_answer shape line = bytes_answer shape (bytes_in (strip_carriage_return l
 -- ---- kinds
 
 -- the kind of a name
-abbrev pub kind_named : List ℕ → Option Kind
+unfoldable pub kind_named : List ℕ → Option Kind
 kind_named name =
-    if bytes_eq name (codes "account") then Some Account
+    if bytes_eq name (codes "access_list") then Some AccessList
+    else if bytes_eq name (codes "account") then Some Account
+    else if bytes_eq name (codes "authorization") then Some Authorization
     else if bytes_eq name (codes "block") then Some Block
+    else if bytes_eq name (codes "body") then Some Body
     else if bytes_eq name (codes "header") then Some Header
     else if bytes_eq name (codes "node") then Some Node
     else if bytes_eq name (codes "receipt") then Some Receipt
@@ -43,8 +48,11 @@ kind_named name =
 
 -- the shape of the records of a kind
 abbrev pub kind_shape : Kind → Shape
+kind_shape AccessList = access_list
 kind_shape Account = account
+kind_shape Authorization = authorization
 kind_shape Block = block
+kind_shape Body = body
 kind_shape Header = header
 kind_shape Node = node
 kind_shape Receipt = any_receipt
@@ -52,9 +60,19 @@ kind_shape NodeRecord = node_record
 kind_shape Transaction = any_transaction
 kind_shape Withdrawal = withdrawal
 
+-- the most bytes that a line may have, without its newline: 32 MiB
+abbrev pub longest_line : ℕ
+longest_line = 33554432
+
 -- the answer to a line that isn't too long, for records of a kind
 abbrev pub kind_answer : Kind → List ℕ → List ℕ
 kind_answer kind = record_answer (kind_shape kind)
+
+-- the exit status after a run, which tells whether a line was at fault
+abbrev pub exit_status : Result Bool RunFault → ℕ
+exit_status (Ok false) = 0
+exit_status (Ok true) = 5
+exit_status (Err fault) = status_of fault
 
 -- ---- what only clauses of private functions and of `Show` cite
 

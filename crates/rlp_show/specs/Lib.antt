@@ -18,3 +18,5 @@ pub mod Values
 pub mod EnvelopeLemmas
 -- the lines of transactions of every type, and of blocks
 pub mod TransactionValues
+-- the lines of bodies of blocks
+pub mod BodyValues

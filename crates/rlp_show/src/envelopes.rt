@@ -7,7 +7,7 @@ ghost use Rattle.rlp_show.specs.Lines.{line, prefix, then_lines};
 ghost use Rattle.rlp_show.specs.Text.{number_text};
 
 use crate::fault::ShowFault;
-use crate::fields::{joined, prefix_of};
+use crate::fields::name_in;
 use crate::numbers::put_number_line;
 use crate::show::Show;
 use crate::transactions::ListOrUnknown;
@@ -51,8 +51,7 @@ fn put_type(alloc: Global, name: &str, kind: u8, out: &mut String) -> Result<(),
     ensures { OnOk result (string_bytes out.new
         ≡ string_bytes out.old ++ line (prefix name.now ++ codes "type") (number_text kind)) }
 {
-    let before = prefix_of(alloc, name)?;
-    let label = joined(alloc, before.as_str(), "type")?;
+    let label = name_in(alloc, name, "type")?;
     let mut digits = [kind];
     put_number_line(label.as_str(), &mut digits, out)
 }

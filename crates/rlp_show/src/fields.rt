@@ -136,6 +136,14 @@ pub(crate) fn prefix_of(alloc: Global, name: &str) -> Result<String, AllocError>
     joined(alloc, name, ".")
 }
 
+/// The name of a field of the record with this name.
+pub(crate) fn name_in(alloc: Global, name: &str, field: &str) -> Result<String, AllocError>
+    ensures { IfOk result (λ text. string_bytes text ≡ prefix name.now ++ field.now) }
+{
+    let before = prefix_of(alloc, name)?;
+    joined(alloc, before.as_str(), field)
+}
+
 /// Appends the lines of a record whose fields have these types and labels.
 ///
 /// Fails with `Wrong` if the item isn't a list, if a record may not have its number of items, or if

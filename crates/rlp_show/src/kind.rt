@@ -4,7 +4,7 @@ ghost use Rattle.std.specs.Prelude.{◌≡◌};
 
 /// What the program prints for arguments that aren't one known kind.
 pub const USAGE: &str =
-    "usage: rlp_show KIND, where KIND is account, block, header, node, receipt, record, transaction or withdrawal";
+    "usage: rlp_show KIND, where KIND is access_list, account, authorization, block, body, header, node, receipt, record, transaction or withdrawal";
 
 /// The exit status of the program for such arguments.
 pub const UNKNOWN_KIND: u8 = 4;
@@ -12,10 +12,16 @@ pub const UNKNOWN_KIND: u8 = 4;
 /// A kind of records that the program shows.
 #[derive(Debug, Clone, Copy, PartialEq, Eq)]
 pub enum Kind {
+    /// Access lists of transactions.
+    AccessList,
     /// Accounts of the trie of the state.
     Account,
+    /// Signed authorizations of transactions of type 4.
+    Authorization,
     /// Blocks.
     Block,
+    /// Bodies of blocks.
+    Body,
     /// Headers of blocks.
     Header,
     /// Nodes of the trie.
@@ -34,12 +40,16 @@ impl Kind {
     ghost use Rattle.rlp_show.specs.Answer.{kind_named};
 
     /// The kind of this name, if there is one.
+    #[tactic(auto, unfolding(crate::specs::Answer::kind_named))]
     pub fn named(name: &str) -> Option<Kind>
         ensures { result ≡ kind_named name.now }
     {
         match name {
+            "access_list" => Some(Kind::AccessList),
             "account" => Some(Kind::Account),
+            "authorization" => Some(Kind::Authorization),
             "block" => Some(Kind::Block),
+            "body" => Some(Kind::Body),
             "header" => Some(Kind::Header),
             "node" => Some(Kind::Node),
             "receipt" => Some(Kind::Receipt),

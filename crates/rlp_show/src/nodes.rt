@@ -9,7 +9,7 @@ ghost use Rattle.rlp_show.specs.Records.{are_leaf, branch, branch_child, child, 
 
 use crate::any_item::AnyItem;
 use crate::fault::ShowFault;
-use crate::fields::{Label, joined, prefix_of, show_fields, show_record};
+use crate::fields::{Label, name_in, show_fields, show_record};
 use crate::line::{put_bytes_line, put_line};
 use crate::show::Show;
 use rlp::{DecoderError, Rlp};
@@ -201,8 +201,7 @@ fn put_kind(alloc: Global, name: &str, kind: &str, out: &mut String) -> Result<(
     ensures { OnOk result (string_bytes out.new
         ≡ string_bytes out.old ++ line (prefix name.now ++ codes "node") kind.now) }
 {
-    let before = prefix_of(alloc, name)?;
-    let label = joined(alloc, before.as_str(), "node")?;
+    let label = name_in(alloc, name, "node")?;
     put_line(label.as_str(), kind, out)
 }
 

@@ -1,6 +1,6 @@
 //! Ethereum's records.
 
-ghost use Rattle.rlp_show.specs.Records.{withdrawal, account, header, log, receipt, access_list_item, legacy_transaction, access_list_transaction, fee_market_transaction, blob_transaction, authorization, set_code_transaction, block};
+ghost use Rattle.rlp_show.specs.Records.{withdrawal, account, header, log, receipt, access_list, access_list_item, legacy_transaction, access_list_transaction, fee_market_transaction, blob_transaction, authorization, set_code_transaction, block, body};
 
 use crate::fault::ShowFault;
 use crate::fields::{Label, show_fields, show_record};
@@ -8,7 +8,7 @@ use crate::lists::Items;
 use crate::show::Show;
 use rlp::{Rlp, Uint};
 use rlp_ethereum::{
-    AccessListItem, AccessListTransaction, Account, Address, BlobTransaction, Block, Bloom,
+    AccessListItem, AccessListTransaction, Account, Address, BlobTransaction, Block, Bloom, Body,
     FeeMarketTransaction, Hash, Header, Log, Receipt, ReceiptStatus, Recipient, SetCodeTransaction,
     Signed, SignedAuthorization, SignedLegacyTransaction, Transaction, Withdrawal,
 };
@@ -269,6 +269,34 @@ impl Show for Signed<SetCodeTransaction> {
             "y_parity": bool,
             "r": Uint<32>,
             "s": Uint<32>
+        )
+    }
+}
+
+/// An access list by itself, for [`Show`]. Its items have the names that they have in a transaction.
+/// It has no values.
+pub struct AccessListAlone;
+
+impl Show for AccessListAlone {
+    ghost shape = { access_list };
+
+    fn show(alloc: Global, _name: &str, item: &Rlp<'_>, out: &mut String) -> Result<(), ShowFault> {
+        Items::<AccessListItem>::show(alloc, "access_list", item, out)
+    }
+}
+
+impl Show for Body {
+    ghost shape = { body };
+
+    fn show(alloc: Global, name: &str, item: &Rlp<'_>, out: &mut String) -> Result<(), ShowFault> {
+        show_fields!(
+            alloc,
+            name,
+            item,
+            out,
+            "transactions": Items<Transaction>,
+            "ommers": Items<Header>,
+            "withdrawals" ? Items<Withdrawal>
         )
     }
 }

@@ -1,23 +1,27 @@
 //! The loop over the input.
 
-ghost use Rattle.std.specs.Prelude.{◌≡◌, ◌++◌, [], string_bytes, false, OnOk};
+ghost use Rattle.std.specs.Prelude.{◌≡◌, ◌++◌, [], string_bytes, false, OnOk, IfOk};
 ghost use Rattle.rlp.specs.Views.View.{strict_view_of};
 ghost use Rattle.rlp_lines.specs.Replies.{answer_by};
-ghost use Rattle.rlp_lines.specs.Run.{RunLeaves};
-ghost use Rattle.rlp_show.specs.Answer.{kind_answer, shown_answer};
+ghost use Rattle.rlp_lines.specs.Run.{RunLeaves, TellsFault};
+ghost use Rattle.rlp_show.specs.Answer.{exit_status, kind_answer, longest_line, shown_answer};
 
 use crate::envelopes::AnyReceipt;
 use crate::fault::ShowFault;
 use crate::kind::Kind;
 use crate::nodes::Node;
+use crate::records::AccessListAlone;
 use crate::show::Show;
 use crate::transactions::AnyTransaction;
 use rlp::Rlp;
-use rlp_ethereum::{Account, Block, Header, NodeFields, Withdrawal};
+use rlp_ethereum::{Account, Block, Body, Header, NodeRecord, SignedAuthorization, Withdrawal};
 use rlp_lines::{LineAnswers, Noted, RunFault, answer_lines, read_bytes, without_carriage_return};
 use std::alloc::{AllocError, Global};
 use std::io::{Read, Write};
 use std::marker::PhantomData;
+
+/// The most bytes that a line may have, without its newline.
+const LONGEST_LINE: usize = 33_554_432;
 
 /// The answers to lines of digits, each a whole record of type `T`.
 struct RecordAnswers<T> {
@@ -25,9 +29,15 @@ struct RecordAnswers<T> {
 }
 
 impl<T: Show> LineAnswers for RecordAnswers<T> {
-    ghost use Rattle.rlp_show.specs.Answer.{record_answer};
+    ghost use Rattle.rlp_show.specs.Answer.{longest_line, record_answer};
+
+    ghost longest = { longest_line };
 
     ghost answer_within = { record_answer T.shape };
+
+    fn longest() -> usize {
+        LONGEST_LINE
+    }
 
     fn put_answer(alloc: Global, line: &[u8], out: &mut String) -> Result<(), AllocError> {
         match read_bytes(alloc, without_carriage_return(line))? {
@@ -54,29 +64,51 @@ fn put_record<T: Show>(alloc: Global, bytes: &[u8], out: &mut String) -> Result<
 }
 
 /// Answers each line of the input, until its end, with the lines of the record that its digits
-/// encode, or with what is wrong with it. The answer to a line of more than 131,072 bytes is
-/// `error long line`. Fails with the [`RunFault`] that stopped it.
+/// encode, or with what is wrong with it. The answer to a line of more than 32 MiB is
+/// `error long line`. Returns whether an answer begins with `error`, and fails with the [`RunFault`]
+/// that stopped it.
 pub fn run<R: Read, W: Write>(
     alloc: Global,
     kind: Kind,
     input: &mut Noted<R>,
     output: &mut Noted<W>,
-) -> Result<(), RunFault>
+) -> Result<bool, RunFault>
     requires input { input.old.failed ≡ false }
     requires output { output.old.failed ≡ false }
-    ensures { RunLeaves (answer_by (kind_answer kind)) R.remaining W.contents
+    ensures leaves { RunLeaves (answer_by longest_line (kind_answer kind)) R.remaining W.contents
         input.old input.new output.old output.new result }
+    ensures faulty { IfOk result (TellsFault (answer_by longest_line (kind_answer kind))
+        (R.remaining input.old.inner) (R.remaining input.new.inner)) }
 {
     match kind {
+        Kind::AccessList => {
+            answer_lines::<RecordAnswers<AccessListAlone>, R, W>(alloc, input, output)
+        }
         Kind::Account => answer_lines::<RecordAnswers<Account>, R, W>(alloc, input, output),
+        Kind::Authorization => {
+            answer_lines::<RecordAnswers<SignedAuthorization>, R, W>(alloc, input, output)
+        }
         Kind::Block => answer_lines::<RecordAnswers<Block>, R, W>(alloc, input, output),
+        Kind::Body => answer_lines::<RecordAnswers<Body>, R, W>(alloc, input, output),
         Kind::Header => answer_lines::<RecordAnswers<Header>, R, W>(alloc, input, output),
         Kind::Node => answer_lines::<RecordAnswers<Node>, R, W>(alloc, input, output),
         Kind::Receipt => answer_lines::<RecordAnswers<AnyReceipt>, R, W>(alloc, input, output),
-        Kind::NodeRecord => answer_lines::<RecordAnswers<NodeFields>, R, W>(alloc, input, output),
+        Kind::NodeRecord => answer_lines::<RecordAnswers<NodeRecord>, R, W>(alloc, input, output),
         Kind::Transaction => {
             answer_lines::<RecordAnswers<AnyTransaction>, R, W>(alloc, input, output)
         }
         Kind::Withdrawal => answer_lines::<RecordAnswers<Withdrawal>, R, W>(alloc, input, output),
+    }
+}
+
+/// The exit status of the program after a run: 0 if no line was at fault, 5 if one was, or else the
+/// status of the fault that stopped it.
+pub fn exit_status(outcome: &Result<bool, RunFault>) -> u8
+    ensures { result ≡ exit_status outcome.now }
+{
+    match outcome {
+        Ok(false) => 0,
+        Ok(true) => 5,
+        Err(fault) => fault.status(),
     }
 }

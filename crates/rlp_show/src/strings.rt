@@ -1,6 +1,8 @@
 //! Items that are one string of bytes.
 
-ghost use Rattle.std.specs.Prelude.{◌^◌, ◌<◌, string_bytes};
+ghost use Rattle.std.specs.Prelude.{◌≡◌, ◌^◌, ◌<◌, string_bytes};
+ghost use Rattle.rlp_ethereum.specs.ReceiptStatus.{status_bytes};
+ghost use Rattle.rlp_transactions.specs.Recipient.{recipient_bytes};
 ghost use Rattle.rlp_show.specs.Answer.{Shows};
 ghost use Rattle.rlp_show.specs.Lines.{fixed_bytes, byte_string, receipt_status, recipient};
 ghost use Rattle.rlp_show.specs.Records.{address, hash, bloom};
@@ -83,16 +85,21 @@ impl Show for Recipient {
     fn show(alloc: Global, name: &str, item: &Rlp<'_>, out: &mut String) -> Result<(), ShowFault> {
         // Only the proof needs this: a slice has fewer than 2^64 bytes, each below 256.
         let _bytes = item.as_raw();
-        let recipient = match item.as_val::<Recipient>(alloc) {
-            Ok(recipient) => recipient,
-            Err(DecoderError::OutOfMemory) => return Err(ShowFault::OutOfMemory),
-            Err(fault) => return Err(ShowFault::of(alloc, name, fault)),
-        };
-        match recipient {
-            Recipient::Creation => put_bytes_line(name, &[], out)?,
-            Recipient::Account(address) => put_bytes_line(name, &address.0, out)?,
+        match item.as_val::<Recipient>(alloc) {
+            Ok(recipient) => Ok(put_bytes_line(name, bytes_of(&recipient), out)?),
+            Err(DecoderError::OutOfMemory) => Err(ShowFault::OutOfMemory),
+            Err(fault) => Err(ShowFault::of(alloc, name, fault)),
         }
-        Ok(())
+    }
+}
+
+/// The bytes of a recipient: none if the transaction creates a contract.
+fn bytes_of(recipient: &Recipient) -> &[u8]
+    ensures { result.now ≡ recipient_bytes recipient.now }
+{
+    match recipient {
+        Recipient::Creation => &[],
+        Recipient::Account(address) => &address.0,
     }
 }
 
@@ -103,16 +110,21 @@ impl Show for ReceiptStatus {
     fn show(alloc: Global, name: &str, item: &Rlp<'_>, out: &mut String) -> Result<(), ShowFault> {
         // Only the proof needs this: a slice has fewer than 2^64 bytes, each below 256.
         let _bytes = item.as_raw();
-        let status = match item.as_val::<ReceiptStatus>(alloc) {
-            Ok(status) => status,
-            Err(DecoderError::OutOfMemory) => return Err(ShowFault::OutOfMemory),
-            Err(fault) => return Err(ShowFault::of(alloc, name, fault)),
-        };
-        match status {
-            ReceiptStatus::Failure => put_bytes_line(name, &[], out)?,
-            ReceiptStatus::Success => put_bytes_line(name, &[1], out)?,
-            ReceiptStatus::StateRoot(root) => put_bytes_line(name, &root.0, out)?,
+        match item.as_val::<ReceiptStatus>(alloc) {
+            Ok(status) => Ok(put_bytes_line(name, bytes_in(&status), out)?),
+            Err(DecoderError::OutOfMemory) => Err(ShowFault::OutOfMemory),
+            Err(fault) => Err(ShowFault::of(alloc, name, fault)),
         }
-        Ok(())
+    }
+}
+
+/// The bytes of a status.
+fn bytes_in(status: &ReceiptStatus) -> &[u8]
+    ensures { result.now ≡ status_bytes status.now }
+{
+    match status {
+        ReceiptStatus::Failure => &[],
+        ReceiptStatus::Success => &[1],
+        ReceiptStatus::StateRoot(root) => &root.0,
     }
 }

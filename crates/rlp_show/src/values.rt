@@ -4,12 +4,13 @@ ghost use Rattle.std.specs.Prelude.{◌≡◌, ℕ, List, Ok};
 ghost use Rattle.rlp.specs.Format.Encoding.{IsSized, encoding};
 ghost use Rattle.rlp.specs.Views.View.{strict_view_of};
 ghost use Rattle.rlp_show.specs.Values.{withdrawal_display, account_display, header_display, log_display, receipt_display, access_list_item_display, legacy_transaction_display, authorization_display};
+ghost use Rattle.rlp_show.specs.BodyValues.{body_display};
 ghost use Rattle.rlp_show.specs.TransactionValues.{transaction_display, block_display};
 
 use crate::show::Show;
 use rlp::Encodable;
 use rlp_ethereum::{
-    AccessListItem, Account, Block, Header, Log, Receipt, SignedAuthorization,
+    AccessListItem, Account, Block, Body, Header, Log, Receipt, SignedAuthorization,
     SignedLegacyTransaction, Transaction, Withdrawal,
 };
 
@@ -82,4 +83,10 @@ impl ShowValues for Block {
     ghost lines = { block_display.lines };
 
     ghost shown = { block_display.shown };
+}
+
+impl ShowValues for Body {
+    ghost lines = { body_display.lines };
+
+    ghost shown = { body_display.shown };
 }

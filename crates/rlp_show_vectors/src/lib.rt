@@ -12,6 +12,8 @@ mod node_records;
 #[cfg(test)]
 mod nodes;
 #[cfg(test)]
+mod parts;
+#[cfg(test)]
 mod records;
 #[cfg(test)]
 mod support;

@@ -18,8 +18,8 @@ use Rattle.rlp_tool.specs.Building.{AreRefused, AreTaken, BringsItems, BringsNoI
 use Rattle.rlp_tool.specs.Making.{AppendsFault, IsLineFault, MakesScript}
 use Rattle.rlp_tool.specs.RawItems.{IsShallow, are_raw_items}
 use Rattle.rlp_tool.specs.Script.{script}
-use Rattle.rlp_lines.specs.Replies.{answer_by, longest_line}
-use Rattle.rlp_tool.specs.Answer.{SaysCalls, answer, answer_within, brings_items, text_answer, finished_answer, open_answer}
+use Rattle.rlp_lines.specs.Replies.{answer_by}
+use Rattle.rlp_tool.specs.Answer.{SaysCalls, answer, answer_within, longest_line, brings_items, text_answer, finished_answer, open_answer}
 use Rattle.rlp_tool.specs.Answer.{state_answer, refusal_name, outcome_answer, calls_answer}
 use Rattle.rlp_tool.proofs.CallsLemmas.{Leaves, refused_for}
 use Rattle.rlp_tool.proofs.SaidLemmas.{EndFinished, end_finished, length-stripped, script_said}

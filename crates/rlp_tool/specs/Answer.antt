@@ -11,7 +11,7 @@ use Rattle.rlp.specs.Streams.Stream.{State, initial_state, closed_size, raw_text
 use Rattle.rlp.specs.Streams.Calls.{Call, append_raw, effect, is_admitted}
 use Rattle.rlp_tool.specs.Building.{is_raw}
 use Rattle.rlp_lines.specs.Digits.{bytes_in}
-use Rattle.rlp_lines.specs.Replies.{answer_by, longest_line}
+use Rattle.rlp_lines.specs.Replies.{answer_by}
 use Rattle.rlp_tool.specs.RawItems.{are_raw_items}
 use Rattle.rlp_tool.specs.Script.{script}
 
@@ -75,13 +75,17 @@ abbrev pub text_answer : List ℕ → List ℕ
 text_answer [] = digits_answer (bytes_in [])
 text_answer (b ∷ rest) = if b == byte "+" then calls_answer (script rest) else digits_answer (bytes_in (b ∷ rest))
 
+-- the most bytes that a line may have, without its newline
+abbrev pub longest_line : ℕ
+longest_line = 131072
+
 -- the answer to a line that isn't too long: one carriage return at its end is dropped first
 abbrev pub answer_within : List ℕ → List ℕ
 answer_within line = text_answer (strip_carriage_return line)
 
 -- the answer to a line
 abbrev pub answer : List ℕ → List ℕ
-answer = answer_by answer_within
+answer = answer_by longest_line answer_within
 
 -- a line that isn't too long has these calls: without one carriage return at its end, it is a `+` and a script of them
 pub record SaysCalls (line : List ℕ) (calls : List Call) : Type 0 where

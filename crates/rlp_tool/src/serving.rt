@@ -12,9 +12,15 @@ use std::io::{Read, Write};
 struct ToolAnswers;
 
 impl LineAnswers for ToolAnswers {
-    ghost use Rattle.rlp_tool.specs.Answer.{answer_within};
+    ghost use Rattle.rlp_tool.specs.Answer.{answer_within, longest_line};
+
+    ghost longest = { longest_line };
 
     ghost answer_within = { answer_within };
+
+    fn longest() -> usize {
+        131_072
+    }
 
     fn put_answer(alloc: Global, line: &[u8], out: &mut String) -> Result<(), AllocError> {
         answer_within(alloc, line, out)
@@ -33,5 +39,8 @@ pub fn run<R: Read, W: Write>(
     ensures { RunLeaves answer R.remaining W.contents
         input.old input.new output.old output.new result }
 {
-    answer_lines::<ToolAnswers, R, W>(alloc, input, output)
+    match answer_lines::<ToolAnswers, R, W>(alloc, input, output) {
+        Ok(_) => Ok(()),
+        Err(fault) => Err(fault),
+    }
 }

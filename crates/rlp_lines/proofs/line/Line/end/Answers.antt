@@ -1,10 +1,12 @@
-use Rattle.rlp_lines.specs.Replies.{answer_by}
+use Rattle.rlp_lines.specs.Replies.{answer_by, is_fault}
 use Rattle.rlp_lines.specs.Lines.{last_piece}
-use Rattle.std.proofs.Common.{◌++◌}
+use Rattle.std.proofs.Common.{◌++◌, ◌∙◌, ◌||◌, ap}
 use Rattle.rlp_lines.proofs.ProgressLemmas.{IsAfter-line}
 use Rattle.rlp_lines.proofs.line.Line.end.Goals as goal
 
 pub returns-clause-ok : goal.returns-clause-ok
 returns-clause-ok g c text written before one =
-    IsAfter-line (answer_by g.A.LineAnswers.answer_within) c.args.run.now before one (c.in_ok-reply.ensures.ok (last_piece text ++ c.args.run.now)
-    (c.in_ok-extend.ensures.ok (last_piece text) before.line)) c.clear.ensures
+    IsAfter-line g.A.LineAnswers.longest (answer_by g.A.LineAnswers.longest g.A.LineAnswers.answer_within) c.args.run.now before one (c.in_ok-reply.ensures.ok (last_piece text ++ c.args.run.now)
+    (c.in_ok-extend.ensures.ok (last_piece text) before.line)) (c.clear.ensures.empty g.A.LineAnswers.longest)
+    (c.clear.ensures.kept ∙ c.in_ok-reply.ensures.noted (last_piece text ++ c.args.run.now) (c.in_ok-extend.ensures.ok (last_piece text) before.line)
+    ∙ ap (λ b. b || is_fault (answer_by g.A.LineAnswers.longest g.A.LineAnswers.answer_within) (last_piece text ++ c.args.run.now)) c.extend.ensures.kept)
