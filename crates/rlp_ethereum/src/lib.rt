@@ -34,9 +34,9 @@ pub use rlp_transactions::{
     AUTHORIZATION_MAGIC, AccessList, AccessListItem, AccessListTransaction, AnyTransaction,
     Authorization, BLOB_LEN, Blob, BlobTransaction, BlobTransactionWithCellProofs,
     BlobTransactionWithProofs, DEPOSIT_TYPE, DepositTransaction, Eip155, FeeMarketTransaction,
-    LegacyTransaction, Payload, Recipient, SetCodeTransaction, Signed, SignedAuthorization,
-    SignedLegacyTransaction, Tagged, Transaction, TypedTransaction, UnsignedLegacyTransaction,
-    UnsignedTransaction, WrapperVersion, signing_hash,
+    LegacyTransaction, OtherTransaction, Payload, Recipient, SetCodeTransaction, Signed,
+    SignedAuthorization, SignedLegacyTransaction, Tagged, Transaction, TypedTransaction,
+    UnsignedLegacyTransaction, UnsignedTransaction, WrapperVersion, signing_hash,
 };
 pub use rlp_trie::{
     Branch, BranchChild, Child, Extension, ExtensionPath, InlineNode, Leaf, LeafPath, Path,
