@@ -3,14 +3,14 @@ use Rattle.std.specs.Vec.{vec_items}
 use Rattle.rlp.specs.Codec.{Codec, Fields, field, list_type, optional, struct_of}
 use Rattle.rlp_ethereum.specs.declared.block.Block.{Block}
 use Rattle.rlp_ethereum.specs.Header.{header}
-use Rattle.rlp_transactions.specs.Transaction.{transaction}
+use Rattle.rlp_transactions.specs.AnyTransaction.{any_transaction}
 use Rattle.rlp_ethereum.specs.Withdrawal.{withdrawals}
 
 -- EIP-4895: rlp([header, transactions, ommers, withdrawals]), without the withdrawals before Shanghai
 abbrev pub block_fields : Fields Block
 block_fields =
     field (λ (b : Block). b.header) header (
-    field (λ (b : Block). b.transactions) (list_type vec_items transaction) (
+    field (λ (b : Block). b.transactions) (list_type vec_items any_transaction) (
     field (λ (b : Block). b.ommers) (list_type vec_items header) (
     optional (λ (b : Block). b.withdrawals) withdrawals)))
 

@@ -3,13 +3,13 @@ use Rattle.std.specs.Vec.{vec_items}
 use Rattle.rlp.specs.Codec.{Codec, Fields, field, list_type, optional, struct_of}
 use Rattle.rlp_ethereum.specs.declared.body.Body.{Body}
 use Rattle.rlp_ethereum.specs.Header.{header}
-use Rattle.rlp_transactions.specs.Transaction.{transaction}
+use Rattle.rlp_transactions.specs.AnyTransaction.{any_transaction}
 use Rattle.rlp_ethereum.specs.Withdrawal.{withdrawals}
 
 -- the protocol eth: [transactions, ommers, withdrawals], without the withdrawals before Shanghai
 abbrev pub body_fields : Fields Body
 body_fields =
-    field (λ (b : Body). b.transactions) (list_type vec_items transaction) (
+    field (λ (b : Body). b.transactions) (list_type vec_items any_transaction) (
     field (λ (b : Body). b.ommers) (list_type vec_items header) (
     optional (λ (b : Body). b.withdrawals) withdrawals))
 

@@ -6,7 +6,7 @@ use crate::{Header, Withdrawals};
 use rlp::{
     Decodable, DecoderError, Encodable, ListOf, Optional, Rlp, RlpStream, RoundTrip, StrictRead,
 };
-use rlp_transactions::Transaction;
+use rlp_transactions::AnyTransaction;
 use std::alloc::{AllocError, Global};
 
 /// A block: the list of three fields, and of one more since Shanghai, EIP-4895.
@@ -15,7 +15,7 @@ pub struct Block {
     /// The header.
     pub header: Header,
     /// The transactions, in order.
-    pub transactions: Vec<Transaction>,
+    pub transactions: Vec<AnyTransaction>,
     /// The headers of the ommers. There are none since EIP-3675.
     pub ommers: Vec<Header>,
     /// The withdrawals from the beacon chain, in order, or `None` in blocks before Shanghai.

@@ -6,14 +6,14 @@ use crate::{Header, Withdrawals};
 use rlp::{
     Decodable, DecoderError, Encodable, ListOf, Optional, Rlp, RlpStream, RoundTrip, StrictRead,
 };
-use rlp_transactions::Transaction;
+use rlp_transactions::AnyTransaction;
 use std::alloc::{AllocError, Global};
 
 /// The body of a block: the list of two fields, and of one more since Shanghai, EIP-4895.
 #[derive(Debug, Clone, PartialEq, Eq, Drop)]
 pub struct Body {
     /// The transactions, in order.
-    pub transactions: Vec<Transaction>,
+    pub transactions: Vec<AnyTransaction>,
     /// The headers of the ommers. There are none since EIP-3675.
     pub ommers: Vec<Header>,
     /// The withdrawals from the beacon chain, in order, or `None` in blocks before Shanghai.

@@ -31,12 +31,12 @@ pub use rlp_records::{
     decode_at_most, encoding_hash,
 };
 pub use rlp_transactions::{
-    AUTHORIZATION_MAGIC, AccessList, AccessListItem, AccessListTransaction, Authorization,
-    BLOB_LEN, Blob, BlobTransaction, BlobTransactionWithCellProofs, BlobTransactionWithProofs,
-    DEPOSIT_TYPE, DepositTransaction, Eip155, FeeMarketTransaction, LegacyTransaction, Payload,
-    Recipient, SetCodeTransaction, Signed, SignedAuthorization, SignedLegacyTransaction, Tagged,
-    Transaction, TypedTransaction, UnsignedLegacyTransaction, UnsignedTransaction, WrapperVersion,
-    signing_hash,
+    AUTHORIZATION_MAGIC, AccessList, AccessListItem, AccessListTransaction, AnyTransaction,
+    Authorization, BLOB_LEN, Blob, BlobTransaction, BlobTransactionWithCellProofs,
+    BlobTransactionWithProofs, DEPOSIT_TYPE, DepositTransaction, Eip155, FeeMarketTransaction,
+    LegacyTransaction, OtherTransaction, Payload, Recipient, SetCodeTransaction, Signed,
+    SignedAuthorization, SignedLegacyTransaction, Tagged, Transaction, TypedTransaction,
+    UnsignedLegacyTransaction, UnsignedTransaction, WrapperVersion, signing_hash,
 };
 pub use rlp_trie::{
     Branch, BranchChild, Child, Extension, ExtensionPath, InlineNode, Leaf, LeafPath, Path,

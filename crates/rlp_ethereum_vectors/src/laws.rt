@@ -7,7 +7,7 @@ use rlp_ethereum::laws::{
     node_text_round_trips, reading_without_memory_is_total, record_is_read, record_is_written,
     record_round_trips,
 };
-use rlp_ethereum::{Account, NodeRecord, Record, Transaction, Withdrawal};
+use rlp_ethereum::{Account, AnyTransaction, NodeRecord, Record, Withdrawal};
 use rlp_trie::laws::paths_have_one_value;
 use std::alloc::Global;
 use std::test::Fail;
@@ -41,10 +41,10 @@ fn laws_hold_of_records(rt: HostRuntime) -> Result<(), Fail> {
     assert!(rt;
         laws_hold::<Withdrawal>(alloc, WITHDRAWAL)?
             && laws_hold::<Account>(alloc, ACCOUNT)?
-            && laws_hold::<Transaction>(alloc, TRANSACTION)?
+            && laws_hold::<AnyTransaction>(alloc, TRANSACTION)?
     );
     let bytes = bytes_of(alloc, "FEE_MARKET")?;
-    let transaction = Transaction::from_bytes(alloc, bytes.as_slice())?;
+    let transaction = AnyTransaction::from_bytes(alloc, bytes.as_slice())?;
     bytes_tell_transactions(&transaction, &transaction);
     no_bytes_are_signed_for_two_meanings();
     paths_have_one_value();

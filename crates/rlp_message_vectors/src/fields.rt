@@ -1,7 +1,7 @@
 //! The fields of messages that were read, as text.
 
 use crate::text::spelled;
-use rlp_ethereum::{Transaction, TypedReceipt};
+use rlp_ethereum::{AnyTransaction, TypedReceipt};
 use rlp_messages::{
     BlockBodies, BlockHeaders, Disconnect, Hello, NewBlock, PooledTransactions, Receipts,
     Receipts69, Transactions, WithRequestId,
@@ -9,14 +9,12 @@ use rlp_messages::{
 use std::alloc::Global;
 use std::test::Fail;
 
-/// Returns the type, the nonce and the limit of gas of a transaction.
-fn numbers(transaction: &Transaction) -> (u8, u64, u64) {
+/// Returns the type, the nonce and the limit of gas of a transaction. One whose type isn't known has
+/// zeros.
+fn numbers(transaction: &AnyTransaction) -> (u8, u64, u64) {
     match transaction {
-        Transaction::Legacy(tx) => (0, tx.payload.nonce, tx.payload.gas_limit),
-        Transaction::AccessList(tx) => (1, tx.payload.nonce, tx.payload.gas_limit),
-        Transaction::FeeMarket(tx) => (2, tx.payload.nonce, tx.payload.gas_limit),
-        Transaction::Blob(tx) => (3, tx.payload.nonce, tx.payload.gas_limit),
-        Transaction::SetCode(tx) => (4, tx.payload.nonce, tx.payload.gas_limit),
+        AnyTransaction::Known(tx) => (tx.transaction_type(), tx.nonce(), tx.gas_limit()),
+        AnyTransaction::Other(tx) => (tx.transaction_type(), 0, 0),
     }
 }
 
@@ -56,7 +54,7 @@ fn pooled(alloc: Global, bytes: &[u8]) -> Result<String, Fail> {
     let id = read.request_id;
     let mut text = format!(in alloc; "{id}:")?;
     for transaction in read.content.0.iter() {
-        let nonce = transaction.nonce();
+        let (_, nonce, _) = numbers(transaction);
         text.push_str(format!(in alloc; " {nonce}")?.as_str())?;
     }
     Ok(text)

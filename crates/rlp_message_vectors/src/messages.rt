@@ -108,8 +108,11 @@ pub(crate) const ROWS: &str = "
     Transactions | 80 | RlpExpectedToBeList
     Transactions | c180 | RlpIsTooShort
     Transactions | c1c0 | RlpIncorrectListLen
-    Transactions | c105 | Custom(\"unknown transaction type\")
-    Transactions | c20505 | Custom(\"unknown transaction type\")
+    Transactions | c28180 | Custom(\"unknown transaction type\")
+
+    Two transactions of types that aren't known, of which the first has no payload.
+    Transactions | c40582067f
+    fields of Transactions | c40582067f | type 5 0 0, type 6 0 0,
 ";
 
 /// Returns the bytes of the greeting.

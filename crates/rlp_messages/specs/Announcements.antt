@@ -9,7 +9,7 @@ use Rattle.rlp_messages.specs.declared.announcements.NewBlock.{NewBlock}
 use Rattle.rlp_messages.specs.declared.announcements.Transactions.{Transactions}
 use Rattle.rlp_ethereum.specs.Block.{block}
 use Rattle.rlp_records.specs.Hash.{hash}
-use Rattle.rlp_transactions.specs.Transaction.{transaction}
+use Rattle.rlp_transactions.specs.AnyTransaction.{any_transaction}
 
 -- [blockhash: B_32, number: P] of NewBlockHashes
 abbrev pub new_block_hash_fields : Fields NewBlockHash
@@ -59,4 +59,4 @@ new_block = struct_of new_block_fields
 
 -- the list of the transactions
 abbrev pub transactions : Codec Transactions
-transactions = list_type (λ (t : Transactions). vec_items t.0) transaction
+transactions = list_type (λ (t : Transactions). vec_items t.0) any_transaction

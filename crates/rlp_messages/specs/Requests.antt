@@ -11,7 +11,7 @@ use Rattle.rlp_messages.specs.declared.requests.GetReceipts.{GetReceipts}
 use Rattle.rlp_ethereum.specs.Body.{body}
 use Rattle.rlp_records.specs.Hash.{hash}
 use Rattle.rlp_ethereum.specs.Header.{header}
-use Rattle.rlp_transactions.specs.Transaction.{transaction}
+use Rattle.rlp_transactions.specs.AnyTransaction.{any_transaction}
 use Rattle.rlp_messages.specs.HashOrNumber.{hash_or_number}
 
 -- [startblock: {P, B_32}, limit: P, skip: P, reverse: {0, 1}] of GetBlockHeaders
@@ -44,7 +44,7 @@ get_pooled_transactions = list_type (λ (g : GetPooledTransactions). vec_items g
 
 -- [tx₁, tx₂, ...] of PooledTransactions: the list of the transactions
 abbrev pub pooled_transactions : Codec PooledTransactions
-pooled_transactions = list_type (λ (p : PooledTransactions). vec_items p.0) transaction
+pooled_transactions = list_type (λ (p : PooledTransactions). vec_items p.0) any_transaction
 
 -- the list of the hashes
 abbrev pub get_receipts : Codec GetReceipts

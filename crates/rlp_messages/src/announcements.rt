@@ -6,7 +6,7 @@ ghost use Rattle.rlp_messages.specs.Announcements.{new_block_hash, new_block_has
 use rlp::{
     Decodable, DecoderError, Each, Encodable, ListOf, Rlp, RlpStream, RoundTrip, StrictRead, Uint,
 };
-use rlp_ethereum::{Block, Hash, Transaction};
+use rlp_ethereum::{AnyTransaction, Block, Hash};
 use std::alloc::{AllocError, Global};
 
 /// A block that a client announces: the list of both fields.
@@ -237,7 +237,7 @@ impl StrictRead for NewBlock {
 /// Transactions that a client sends to others, message 0x02 of `eth`: the list of them, each as in a
 /// block. EIP-4844 forbids to send blob transactions in this message; this type doesn't check that.
 #[derive(Drop)]
-pub struct Transactions(pub Vec<Transaction>);
+pub struct Transactions(pub Vec<AnyTransaction>);
 
 impl Encodable for Transactions {
     ghost item = { transactions.item };

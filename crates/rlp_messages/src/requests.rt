@@ -4,7 +4,7 @@ ghost use Rattle.rlp_messages.specs.Requests.{get_block_headers, block_headers, 
 
 use crate::HashOrNumber;
 use rlp::{Decodable, DecoderError, Each, Encodable, Rlp, RlpStream, RoundTrip, StrictRead};
-use rlp_ethereum::{Body, Hash, Header, Transaction};
+use rlp_ethereum::{AnyTransaction, Body, Hash, Header};
 use std::alloc::{AllocError, Global};
 
 /// Asks for headers, in message 0x03 of `eth`: the list of its four fields.
@@ -204,7 +204,7 @@ impl StrictRead for GetPooledTransactions {
 /// each as in a block. EIP-4844 asks for blob transactions with their blobs, which this type doesn't
 /// read.
 #[derive(Drop)]
-pub struct PooledTransactions(pub Vec<Transaction>);
+pub struct PooledTransactions(pub Vec<AnyTransaction>);
 
 impl Encodable for PooledTransactions {
     ghost item = { pooled_transactions.item };

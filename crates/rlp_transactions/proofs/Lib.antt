@@ -1,2 +1,3 @@
+pub mod OtherTypes
 pub mod Parities
 pub mod Signing

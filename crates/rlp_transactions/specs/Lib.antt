@@ -1,5 +1,6 @@
 pub mod Access
 pub mod AccessListTransaction
+pub mod AnyTransaction
 pub mod Authorization
 pub mod Blob
 pub mod BlobTransaction
@@ -8,6 +9,8 @@ pub mod DepositTransaction
 pub mod Eip155
 pub mod FeeMarketTransaction
 pub mod LegacyTransaction
+pub mod OtherStrings
+pub mod OtherTransaction
 pub mod Recipient
 pub mod SetCodeTransaction
 pub mod Signatures

@@ -3,8 +3,7 @@ use Rattle.std.specs.Prelude.{ℕ, Bool, List, ◌⊎◌, codes, refl}
 use Rattle.std.proofs.Common.{inl, inr}
 use Rattle.rlp.specs.Codec.{Codec, newtype}
 use Rattle.rlp.specs.Uint.{Uint}
-use Rattle.rlp.specs.Codecs.Sums.{Cases, SameCase, and_case, enveloped, last_case, list_or_string}
-use Rattle.rlp.specs.Values.Same.{SameSum}
+use Rattle.rlp.specs.Codecs.Sums.{Cases, and_case, enveloped, last_case, list_or_string}
 use Rattle.rlp_transactions.specs.declared.access_list_transaction.AccessListTransaction.{AccessListTransaction}
 use Rattle.rlp_transactions.specs.declared.blob_transaction.BlobTransaction.{BlobTransaction}
 use Rattle.rlp_transactions.specs.declared.fee_market_transaction.FeeMarketTransaction.{FeeMarketTransaction}
@@ -44,7 +43,3 @@ unknown_type = codes "unknown transaction type"
 abbrev pub transaction : Codec Transaction
 transaction = newtype as_sum
     (list_or_string signed_legacy_transaction (enveloped unknown_type typed_transactions) (λ t. refl) (λ t. refl))
-
--- both are of one type, and each field is the same
-abbrev pub HaveSameFields : Transaction → Transaction → Type 0
-HaveSameFields t u = SameSum signed_legacy_transaction.Same (SameCase typed_transactions) (as_sum t) (as_sum u)

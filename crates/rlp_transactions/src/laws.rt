@@ -3,17 +3,17 @@
 ghost use Rattle.std.specs.Prelude.{◌≡◌, ◌<◌, ◌^◌, length};
 ghost use Rattle.rlp_records.specs.Alone.{bytes_alone};
 ghost use Rattle.rlp_transactions.specs.Signing.{FitsSigning, HaveOneMeaning, Signable, signed_bytes};
-ghost use Rattle.rlp_transactions.specs.Transaction.{HaveSameFields, transaction};
+ghost use Rattle.rlp_transactions.specs.AnyTransaction.{HaveSameFields, any_transaction};
 
-use crate::Transaction;
+use crate::AnyTransaction;
 
-/// Two transactions that [`Transaction::to_bytes`] writes as the same bytes, fewer than 2^64, have
-/// the same type, and each of their fields is the same. So the hash of these bytes names one
+/// Two transactions that [`AnyTransaction::to_bytes`] writes as the same bytes, fewer than 2^64,
+/// have the same type, and each of their fields is the same. So the hash of these bytes names one
 /// transaction, as far as no two strings have the same hash.
-pub fn bytes_tell_transactions(one: &Transaction, other: &Transaction)
-    ensures { transaction.Fits one.now → transaction.Fits other.now
-        → length (bytes_alone (transaction.item one.now)) < 2 ^ 64
-        → bytes_alone (transaction.item one.now) ≡ bytes_alone (transaction.item other.now)
+pub fn bytes_tell_transactions(one: &AnyTransaction, other: &AnyTransaction)
+    ensures { any_transaction.Fits one.now → any_transaction.Fits other.now
+        → length (bytes_alone (any_transaction.item one.now)) < 2 ^ 64
+        → bytes_alone (any_transaction.item one.now) ≡ bytes_alone (any_transaction.item other.now)
         → HaveSameFields one.now other.now }
 {}
 

@@ -3,6 +3,7 @@
 
 mod access;
 mod access_list_transaction;
+mod any_transaction;
 mod authorization;
 mod blob;
 mod blob_transaction;
@@ -13,6 +14,7 @@ mod fee_market_transaction;
 mod hashing;
 pub mod laws;
 mod legacy_transaction;
+mod other_transaction;
 mod recipient;
 mod record;
 mod set_code_transaction;
@@ -24,6 +26,7 @@ mod unsigned_transaction;
 
 pub use access::{AccessList, AccessListItem};
 pub use access_list_transaction::AccessListTransaction;
+pub use any_transaction::AnyTransaction;
 pub use authorization::{AUTHORIZATION_MAGIC, Authorization, SignedAuthorization};
 pub use blob::{BLOB_LEN, Blob};
 pub use blob_transaction::BlobTransaction;
@@ -33,6 +36,7 @@ pub use eip155::Eip155;
 pub use fee_market_transaction::FeeMarketTransaction;
 pub use hashing::signing_hash;
 pub use legacy_transaction::{LegacyTransaction, SignedLegacyTransaction};
+pub use other_transaction::OtherTransaction;
 pub use recipient::Recipient;
 pub use set_code_transaction::SetCodeTransaction;
 pub use signed::{Payload, Signed, Tagged, TypedTransaction};

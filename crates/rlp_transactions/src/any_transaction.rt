@@ -1,0 +1,158 @@
+//! Transactions of every type, also of those that this crate doesn't know.
+
+ghost use Rattle.std.specs.Prelude.{◌≡◌, ◌⊎◌, IfErr, IfNone, IfOk, IfSome, OnOk};
+ghost use Rattle.rlp.specs.DecoderError.TheVariants.{OutOfMemory};
+ghost use Rattle.rlp.specs.Values.ValueReading.{GivesSome};
+ghost use Rattle.rlp_records.specs.Alone.{FaultsAlone, MayLackAlone, bytes_alone};
+ghost use Rattle.rlp_records.specs.Hashing.{IsHashOf};
+ghost use Rattle.rlp_transactions.specs.AnyTransaction.{any_transaction, any_type};
+ghost use Rattle.rlp_transactions.specs.LegacyTransaction.{signed_legacy_transaction};
+ghost use Rattle.rlp_transactions.specs.OtherTransaction.{GivesOther, IsOther};
+ghost use Rattle.rlp_transactions.specs.Transaction.{typed_transactions, unknown_type};
+
+use crate::other_transaction::is_other;
+use crate::{OtherTransaction, Transaction};
+use bytes::BytesMut;
+use keccak::keccak256;
+use rlp::{Decodable, DecoderError, Encodable, Rlp, RlpStream, RoundTrip, StrictRead};
+use rlp_records::{Hash, Record};
+use std::alloc::{AllocError, Global};
+
+/// A transaction in the list of a block's transactions, of any type: one of a type that isn't known
+/// is kept, and is written back as it was read.
+#[derive(Debug, Clone, PartialEq, Eq, Drop)]
+pub enum AnyTransaction {
+    /// A transaction without a type, or of a type that is known.
+    Known(Transaction),
+    /// A transaction of another type.
+    Other(OtherTransaction),
+}
+
+impl AnyTransaction {
+    /// Returns the bytes of the transaction by itself, as [`Transaction::to_bytes`] does.
+    pub fn to_bytes(&self, alloc: Global) -> Result<BytesMut, AllocError>
+        ensures fits { OnOk result (any_transaction.Fits self.now) }
+        ensures bytes { IfOk result
+            (λ b. b.items ≡ bytes_alone (any_transaction.item self.now)) }
+    {
+        match self {
+            AnyTransaction::Known(tx) => tx.to_bytes(alloc),
+            AnyTransaction::Other(tx) => BytesMut::copy_from_slice(alloc, tx.as_bytes()),
+        }
+    }
+
+    /// Reads a transaction strictly from its bytes, as [`AnyTransaction::to_bytes`] returns them.
+    /// For such bytes it fails only if memory runs out.
+    ///
+    /// Fails as [`Transaction::from_bytes`] does, but not for a type below 0x80 that isn't known.
+    pub fn from_bytes(alloc: Global, bytes: &[u8]) -> Result<AnyTransaction, DecoderError>
+        ensures value { IfOk result (λ t. any_transaction.Fits t
+            × (bytes.now ≡ bytes_alone (any_transaction.item t))) }
+        ensures fault { IfErr result (λ e. ((¬ IsOther bytes.now)
+            × FaultsAlone signed_legacy_transaction unknown_type typed_transactions bytes.now e)
+            ⊎ ((e ≡ OutOfMemory) × (IsOther bytes.now
+            ⊎ MayLackAlone signed_legacy_transaction typed_transactions bytes.now))) }
+        ensures memory { (t : AnyTransaction) → any_transaction.Fits t
+            → bytes.now ≡ bytes_alone (any_transaction.item t)
+            → IfErr result (λ e. e ≡ OutOfMemory) }
+    {
+        if is_other(bytes) {
+            return match OtherTransaction::from_bytes(alloc, bytes) {
+                Ok(other) => Ok(AnyTransaction::Other(other)),
+                Err(_) => Err(DecoderError::OutOfMemory),
+            };
+        }
+        let known = Transaction::from_bytes(alloc, bytes)?;
+        Ok(AnyTransaction::Known(known))
+    }
+
+    /// Returns the hash that names the transaction: that of [`AnyTransaction::to_bytes`]. Fails as
+    /// it does.
+    pub fn hash(&self, alloc: Global) -> Result<Hash, AllocError>
+        ensures fits { OnOk result (any_transaction.Fits self.now) }
+        ensures hash { IfOk result
+            (λ h. IsHashOf h (bytes_alone (any_transaction.item self.now))) }
+    {
+        match self {
+            AnyTransaction::Known(tx) => tx.hash(alloc),
+            AnyTransaction::Other(tx) => Ok(Hash(keccak256(tx.as_bytes()))),
+        }
+    }
+
+    /// Returns the number of the type, as in EIP-2718, or 0 for a transaction without a type.
+    pub fn transaction_type(&self) -> u8
+        ensures { result ≡ any_type self.now }
+    {
+        match self {
+            AnyTransaction::Known(tx) => tx.transaction_type(),
+            AnyTransaction::Other(tx) => tx.transaction_type(),
+        }
+    }
+}
+
+impl Encodable for AnyTransaction {
+    ghost item = { any_transaction.item };
+
+    ghost fits = { any_transaction.Fits };
+
+    fn rlp_append(&self, s: &mut RlpStream) -> Result<(), AllocError> {
+        match self {
+            AnyTransaction::Known(tx) => tx.rlp_append(s),
+            AnyTransaction::Other(tx) => tx.as_bytes().rlp_append(s),
+        }
+    }
+}
+
+/// Reading fails as reading a [`Transaction`] does, but not for the string of a type below 0x80 that
+/// isn't known.
+impl Decodable for AnyTransaction {
+    ghost gives = { any_transaction.gives };
+
+    ghost faults = { any_transaction.faults };
+
+    ghost may_lack_memory = { any_transaction.may_lack };
+
+    #[tactic(auto, using(crate::proofs::OtherTypes::known_fails))]
+    fn decode(alloc: Global, rlp: &Rlp<'_>) -> Result<AnyTransaction, DecoderError> {
+        if let Some(bytes) = other_string(rlp) {
+            return match OtherTransaction::from_bytes(alloc, bytes) {
+                Ok(other) => Ok(AnyTransaction::Other(other)),
+                Err(_) => Err(DecoderError::OutOfMemory),
+            };
+        }
+        let known = rlp.as_val(alloc)?;
+        Ok(AnyTransaction::Known(known))
+    }
+}
+
+/// The string that a view holds, if it is a transaction of another type.
+fn other_string<'a>(rlp: &Rlp<'a>) -> Option<&'a [u8]>
+    ensures some { IfSome result (λ d. GivesOther rlp.now d.now) }
+    ensures none { IfNone result (¬ GivesSome GivesOther rlp.now) }
+{
+    // Only the proof needs this: a slice has fewer than 2^64 bytes.
+    let _bytes = rlp.as_raw();
+    match rlp.decoder().string() {
+        Ok(bytes) => {
+            if is_other(bytes) {
+                return Some(bytes);
+            }
+            None
+        }
+        Err(_) => None,
+    }
+}
+
+impl RoundTrip for AnyTransaction {
+    ghost round_trip = { any_transaction.reads_back };
+}
+
+impl StrictRead for AnyTransaction {
+    ghost strict = { any_transaction.reads_strictly };
+}
+
+impl Record for AnyTransaction {
+    ghost same = { any_transaction.Same };
+
+    ghost told = { any_transaction.told };
+}
