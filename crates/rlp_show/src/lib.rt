@@ -29,5 +29,5 @@ pub use nodes::{ExtensionPath, Node, Path};
 pub use rlp_lines::{Noted, RunFault, exit_status};
 pub use serving::run;
 pub use show::Show;
-pub use transactions::{AnyTransaction, ListOrUnknown, TypedTransaction, UnknownTransaction};
+pub use transactions::{ListOr, TransactionAlone, TypedTransaction, UnknownTransaction};
 pub use values::ShowValues;
