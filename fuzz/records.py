@@ -210,15 +210,15 @@ class Record:
 
 
 class Typed:
-    """An envelope of EIP-2718 by its first byte, or else a record without a type."""
+    """An envelope of EIP-2718 by its first byte, or else a record without a type. `unknown` is an envelope of another type."""
 
-    def __init__(self, types, other):
-        self.types, self.other = types, other
+    def __init__(self, types, other, unknown):
+        self.types, self.other, self.unknown = types, other, unknown
 
     def lines(self, name, data):
         if data and data[0] in self.types:
             return [f"{name + '.' if name else ''}type: {data[0]}"] + self.types[data[0]].lines(name, data[1:])
-        return (self.other if data and data[0] >= 0xC0 else Unknown()).lines(name, data)
+        return (self.other if data and data[0] >= 0xC0 else self.unknown).lines(name, data)
 
     def written(self, dice):
         kind = dice.choice([None, *self.types])
@@ -237,11 +237,21 @@ class Unknown:
         return dice.randbytes(dice.choice((0, 1, 40)))
 
 
+class Kept(Unknown):
+    """The same, but a type below 0x80 is shown, and the bytes after it."""
+
+    def lines(self, name, data):
+        if not data or data[0] >= 0x80:
+            return super().lines(name, data)
+        before = f"{name}." if name else ""
+        return [f"{before}type: {data[0]}", f"{before}payload: 0x{data[1:].hex()}"]
+
+
 class Held:
     """An item of a block's list: a list is a record without a type, and a string holds an envelope."""
 
     def __init__(self, types, other):
-        self.alone, self.typed = Typed(types, other), Typed(types, Unknown())
+        self.alone, self.typed = Typed(types, other, Kept()), Typed(types, Kept(), Kept())
 
     def lines(self, name, data):
         if data and data[0] >= 0xC0:
@@ -439,7 +449,7 @@ TYPE_4 = f"""{FEES} gas_limit:u64 destination:address value:u256 data:string acc
 TYPES["header"] = Record(fields(HEADER, TYPES), counts=(15, 16, 17, 20, 21))
 TYPES["withdrawal"] = Record(fields("index:u64 validator_index:u64 address:address amount:u64", TYPES))
 PAYLOADS = {kind: Record(fields(text, TYPES)) for kind, text in enumerate((TYPE_1, TYPE_2, TYPE_3, TYPE_4), 1)}
-TRANSACTION = Typed(PAYLOADS, Record(fields(LEGACY, TYPES)))
+TRANSACTION = Typed(PAYLOADS, Record(fields(LEGACY, TYPES)), Kept())
 TYPES["transactions"] = ListOf(Held(PAYLOADS, TRANSACTION.other))
 TYPES |= {"headers": ListOf(TYPES["header"]), "withdrawals": ListOf(TYPES["withdrawal"])}
 BLOCK = "header:header transactions:transactions ommers:headers withdrawals:withdrawals"
@@ -453,7 +463,7 @@ KINDS = {
     "body": Record(fields(BLOCK, TYPES)[1:], counts=(2, 3)),
     "header": TYPES["header"],
     "node": Node(),
-    "receipt": Typed(dict.fromkeys((1, 2, 3, 4), RECEIPT), RECEIPT),
+    "receipt": Typed(dict.fromkeys((1, 2, 3, 4), RECEIPT), RECEIPT, Unknown()),
     "record": NodeRecord(),
     "transaction": TRANSACTION,
     "withdrawal": TYPES["withdrawal"],

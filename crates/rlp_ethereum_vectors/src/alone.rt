@@ -4,13 +4,24 @@ use crate::reading::Bare;
 use bytes::BytesMut;
 use rlp::DecoderError;
 use rlp_ethereum::{
-    FeeMarketTransaction, Signed, Tagged, Transaction, TypedReceipt, UnsignedTransaction,
+    AnyTransaction, FeeMarketTransaction, Signed, Tagged, Transaction, TypedReceipt,
+    UnsignedTransaction,
 };
 use std::alloc::{AllocError, Global};
 
 impl Bare for Transaction {
     fn from(alloc: Global, bytes: &[u8]) -> Result<Transaction, DecoderError> {
         Transaction::from_bytes(alloc, bytes)
+    }
+
+    fn to(&self, alloc: Global) -> Result<BytesMut, AllocError> {
+        self.to_bytes(alloc)
+    }
+}
+
+impl Bare for AnyTransaction {
+    fn from(alloc: Global, bytes: &[u8]) -> Result<AnyTransaction, DecoderError> {
+        AnyTransaction::from_bytes(alloc, bytes)
     }
 
     fn to(&self, alloc: Global) -> Result<BytesMut, AllocError> {

@@ -5,10 +5,10 @@ use crate::reading::{Alone, Item, ways};
 use crate::text::spelled;
 use crate::{fields, node_records, nodes, records, signing, unsigned};
 use rlp_ethereum::{
-    AccessListTransaction, Account, Authorization, BlobTransaction, Block, Body, Branch,
-    BranchChild, Child, Extension, FeeMarketTransaction, Hash, Header, Leaf, Log, NodeRecord,
-    SetCodeTransaction, Signed, SignedLegacyTransaction, Transaction, TrieNode, TypedReceipt,
-    UnsignedLegacyTransaction, UnsignedTransaction, Withdrawal,
+    AccessListTransaction, Account, AnyTransaction, Authorization, BlobTransaction, Block, Body,
+    Branch, BranchChild, Child, Extension, FeeMarketTransaction, Hash, Header, Leaf, Log,
+    NodeRecord, SetCodeTransaction, Signed, SignedLegacyTransaction, Transaction, TrieNode,
+    TypedReceipt, UnsignedLegacyTransaction, UnsignedTransaction, Withdrawal,
 };
 use std::alloc::Global;
 use std::test::Fail;
@@ -17,6 +17,7 @@ use std::test::Fail;
 pub(crate) fn answer(alloc: Global, call: &str, bytes: &[u8]) -> Result<String, Fail> {
     match call {
         "Account" => ways::<Item<Account>>(alloc, bytes),
+        "AnyTransaction" => ways::<Item<AnyTransaction>>(alloc, bytes),
         "Block" => ways::<Item<Block>>(alloc, bytes),
         "Body" => ways::<Item<Body>>(alloc, bytes),
         "Branch" => ways::<Item<Branch>>(alloc, bytes),
@@ -53,6 +54,7 @@ fn before_signing(alloc: Global, call: &str, bytes: &[u8]) -> Result<String, Fai
 /// Returns what a call answers about the bytes of an envelope by itself, or about fields.
 fn alone_or_fields(alloc: Global, call: &str, bytes: &[u8]) -> Result<String, Fail> {
     match call {
+        "AnyTransaction alone" => ways::<Alone<AnyTransaction>>(alloc, bytes),
         "Transaction alone" => ways::<Alone<Transaction>>(alloc, bytes),
         "TypedReceipt alone" => ways::<Alone<TypedReceipt>>(alloc, bytes),
         "UnsignedTransaction alone" => ways::<Alone<UnsignedTransaction>>(alloc, bytes),

@@ -3,8 +3,9 @@
 use crate::text::spelled;
 use rlp::{DecoderError, Rlp};
 use rlp_ethereum::{
-    BlobTransaction, Block, Body, Child, Hash, Header, London, Recipient, SetCodeTransaction,
-    Signed, SignedAuthorization, SignedLegacyTransaction, Transaction, TrieNode, TypedReceipt,
+    AnyTransaction, BlobTransaction, Block, Body, Child, Hash, Header, London, Recipient,
+    SetCodeTransaction, Signed, SignedAuthorization, SignedLegacyTransaction, Transaction,
+    TrieNode, TypedReceipt,
 };
 use std::alloc::Global;
 use std::test::Fail;
@@ -113,12 +114,22 @@ fn numbers(transaction: &Transaction) -> (u8, u64, u64) {
     )
 }
 
-/// Returns the type, the nonce and the limit of gas of each transaction.
-fn transactions(alloc: Global, all: &[Transaction]) -> Result<String, Fail> {
+/// Returns the type, the nonce and the limit of gas of each transaction, or of one whose type isn't
+/// known the number of bytes of its payload.
+fn transactions(alloc: Global, all: &[AnyTransaction]) -> Result<String, Fail> {
     let mut text = String::new(alloc);
     for transaction in all {
-        let (kind, nonce, gas) = numbers(transaction);
-        text.push_str(format!(in alloc; "type {kind} {nonce} {gas}, ")?.as_str())?;
+        let next = match transaction {
+            AnyTransaction::Known(known) => {
+                let (kind, nonce, gas) = numbers(known);
+                format!(in alloc; "type {kind} {nonce} {gas}, ")?
+            }
+            AnyTransaction::Other(other) => {
+                let (kind, len) = (other.transaction_type(), other.payload().len());
+                format!(in alloc; "other type {kind} {len}, ")?
+            }
+        };
+        text.push_str(next.as_str())?;
     }
     Ok(text)
 }

@@ -2,7 +2,7 @@
 
 use crate::text::bytes_of;
 use rlp_ethereum::{
-    AccessListTransaction, FeeMarketTransaction, Hash, Header, Signed, Transaction, TrieNode,
+    AccessListTransaction, AnyTransaction, FeeMarketTransaction, Hash, Header, Signed, TrieNode,
     UnsignedLegacyTransaction, UnsignedTransaction, encoding_hash, signing_hash,
 };
 use std::alloc::Global;
@@ -64,7 +64,7 @@ fn hash(alloc: Global, kind: &str, bytes: &[u8]) -> Result<Hash, Fail> {
             let unsigned = rlp::decode_strict::<UnsignedLegacyTransaction>(alloc, bytes)?;
             encoding_hash(alloc, &unsigned)?
         }
-        "transaction" => Transaction::from_bytes(alloc, bytes)?.hash(alloc)?,
+        "transaction" => AnyTransaction::from_bytes(alloc, bytes)?.hash(alloc)?,
         "unsigned transaction" => {
             UnsignedTransaction::from_bytes(alloc, bytes)?.signing_hash(alloc)?
         }

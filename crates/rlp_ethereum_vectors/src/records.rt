@@ -189,6 +189,15 @@ pub(crate) const ROWS: &str = "
     Body | c4c180c0c0 | RlpIsTooShort
     Body | c4c0c0c105 | RlpExpectedToBeList
 
+    The block of go-ethereum's test of EIP-2718, and the same with another type than 1: it is kept.
+    Block | f90319+BERLIN_HEADER+f90101+BERLIN_LEGACY+b89e01+BERLIN_PAYLOAD+c0
+    Block | f90319+BERLIN_HEADER+f90101+BERLIN_LEGACY+b89e7d+BERLIN_PAYLOAD+c0
+    Body | f90105f90101+BERLIN_LEGACY+b89e7d+BERLIN_PAYLOAD+c0
+    fields of Body | f90105f90101+BERLIN_LEGACY+b89e01+BERLIN_PAYLOAD+c0 | type 0 0 50000, type 1 0 1\
+     23457, 0 false
+    fields of Body | f90105f90101+BERLIN_LEGACY+b89e7d+BERLIN_PAYLOAD+c0 | type 0 0 50000, other type \
+     125 157, 0 false
+
     Receipts of transactions of each type that succeeded and used 21,000 units of gas, as items and
     by themselves. The byte before the list is the type. An independent program wrote the bytes.
     TypedReceipt | f9010801825208b90100+00*256+c0

@@ -1,5 +1,5 @@
 -- Records in envelopes, and strings that hold records.
-use Rattle.std.proofs.Common.{◌≡◌, ◌==◌, ◌^◌, ◌<◌, ◌≤◌, ℕ, List, [], ◌∷◌, length, true, refl, sym, ap, ◌∙◌, ⊎_elim, arith, append-nil}
+use Rattle.std.proofs.Common.{◌≡◌, ◌≢◌, ◌==◌, ◌^◌, ◌<◌, ◌≤◌, ℕ, List, [], ◌∷◌, length, true, refl, sym, ap, ◌∙◌, ⊎_elim, arith, append-nil}
 use Rattle.std.proofs.lemmas.Bool.{cond-false, cond-true}
 use Rattle.std.proofs.lemmas.Bool.Decides.{nat_tests}
 use Rattle.rlp.specs.Format.Encoding.{IsSized, encoding}
@@ -37,6 +37,11 @@ not_of_type kind shape other name v low is = by v.bytes is
     by : (b : List ℕ) → begins_as_list b ≡ true → typed_lines kind shape name other v b ≡ other name v
     by [] is = refl
     by (first ∷ payload) is = cond-false (first == kind) _ _ (let high : 0xc0 ≤ first = grind (arith, nat_tests) in grind (arith, nat_tests))
+
+-- bytes that begin with another byte aren't either
+pub other_than : (kind : ℕ) (shape other : Shape) (name : List ℕ) (first : ℕ) (payload : List ℕ) → first ≢ kind
+    → typed kind shape other name (strict_view_of (first ∷ payload)) ≡ other name (strict_view_of (first ∷ payload))
+other_than kind shape other name first payload differs = cond-false (first == kind) _ _ (grind (arith, nat_tests, differs))
 
 -- ---- lists or strings
 

@@ -13,7 +13,7 @@ use Rattle.rlp_trie.specs.HexPrefix.{ends_in_leaf, is_empty_extension}
 use Rattle.rlp_trie.specs.TrieNode.{is_leaf_string}
 use Rattle.rlp_show.specs.Lines.{Field, Shape, Shown, Worded, byte_string, field, fields_lines, fixed_bytes, fixed_bytes_in, item_within, line, list_of}
 use Rattle.rlp_show.specs.Lines.{list_or_string, number, optional, pairs_lines, prefix, receipt_status, recipient, record_of, string_shape, then_lines, truth_value, typed, wrong}
-use Rattle.rlp_show.specs.Text.{bytes_text}
+use Rattle.rlp_show.specs.Text.{bytes_text, number_text}
 
 -- addresses
 abbrev pub address : Shape
@@ -207,21 +207,32 @@ unknown_type (kind ∷ payload) = codes "Custom(\"unknown transaction type\")"
 abbrev pub unknown_transaction : Shape
 unknown_transaction name v = Err (wrong name (unknown_type v.bytes))
 
--- bytes that begin as a list are a record of this shape, and others the envelope of an unknown type
-abbrev pub list_or_unknown : Shape → Shape
-list_or_unknown of_list name v = if begins_as_list v.bytes then of_list name v else unknown_transaction name v
+-- the lines of a transaction whose type isn't known, by its bytes: the type and the payload; an empty string, and a first byte that is no type, are at fault
+abbrev pub other_lines : List ℕ → List ℕ → Shown
+other_lines name [] = Err (wrong name (unknown_type []))
+other_lines name (kind ∷ payload) =
+    if nat_lt kind 0x80 then Ok (line (prefix name ++ codes "type") (number_text kind) ++ line (prefix name ++ codes "payload") (bytes_text payload))
+    else Err (wrong name (unknown_type (kind ∷ payload)))
 
--- transactions by their first byte: an envelope of type 1 to 4, or else a transaction without a type
+-- the envelope of a transaction whose type isn't known
+abbrev pub other_transaction : Shape
+other_transaction name v = other_lines name v.bytes
+
+-- bytes that begin as a list are a record of the first shape, and others of the second
+abbrev pub list_or : Shape → Shape → Shape
+list_or of_list other name v = if begins_as_list v.bytes then of_list name v else other name v
+
+-- transactions by their first byte: an envelope of type 1 to 4 or of another type, or else a transaction without a type
 abbrev pub any_transaction : Shape
-any_transaction = typed_transaction (list_or_unknown legacy_transaction)
+any_transaction = typed_transaction (list_or legacy_transaction other_transaction)
 
 -- receipts by their first byte: an envelope of type 1 to 4, or else a receipt without a type
 abbrev pub any_receipt : Shape
-any_receipt = typed 1 receipt (typed 2 receipt (typed 3 receipt (typed 4 receipt (list_or_unknown receipt))))
+any_receipt = typed 1 receipt (typed 2 receipt (typed 3 receipt (typed 4 receipt (list_or receipt unknown_transaction))))
 
--- transactions in the list of a block: a list is a transaction without a type, and a string holds the envelope of one of type 1 to 4
+-- transactions in the list of a block: a list is a transaction without a type, and a string holds the envelope of one with a type
 abbrev pub transaction : Shape
-transaction = list_or_string legacy_transaction (typed_transaction unknown_transaction)
+transaction = list_or_string legacy_transaction (typed_transaction other_transaction)
 
 -- blocks: the withdrawals may be missing
 abbrev pub block : Shape

@@ -1,8 +1,9 @@
 -- The lines of transactions of every type, and of blocks.
-use Rattle.std.specs.Prelude.{ℕ, Bool, ◌≡◌, ◌<◌, ◌^◌, List, ◌∷◌, ◌++◌, [], length, codes, true, Some, Ok}
+use Rattle.std.specs.Prelude.{ℕ, Bool, ◌≡◌, ◌<◌, ◌^◌, List, ◌∷◌, ◌++◌, [], length, codes, nat_lt, true, false, Some, Ok}
 use Rattle.std.specs.Vec.{vec_items}
-use Rattle.std.proofs.Common.{ap, ◌∙◌, arith}
-use Rattle.std.proofs.lemmas.Bool.{cond-true}
+use Rattle.std.proofs.Common.{ap, ◌∙◌, arith, refl}
+use Rattle.std.proofs.lemmas.Bool.{cond-false, cond-true, lt-leb}
+use Rattle.std.proofs.lemmas.Bool.Decides.{nat_tests}
 use Rattle.rlp.specs.Format.Encoding.{IsSized, encoding}
 use Rattle.rlp.specs.Format.Split.{begins_as_list}
 use Rattle.rlp.specs.Views.View.{View, strict_view_of}
@@ -22,17 +23,21 @@ use Rattle.rlp_transactions.specs.FeeMarketTransaction.{signed_fee_market_transa
 use Rattle.rlp_transactions.specs.LegacyTransaction.{signed_legacy_transaction, signed_legacy_transaction_fields}
 use Rattle.rlp_transactions.specs.SetCodeTransaction.{signed_set_code_transaction}
 use Rattle.rlp_records.specs.Alone.{bytes_alone}
+use Rattle.rlp_transactions.specs.AnyTransaction.{any_transaction as any_codec}
+use Rattle.rlp_transactions.specs.OtherTransaction.{IsOther}
 use Rattle.rlp_transactions.specs.Transaction.{transaction as transaction_codec}
+use Rattle.rlp_transactions.specs.declared.any_transaction.AnyTransaction.{AnyTransaction}
+use Rattle.rlp_transactions.specs.declared.any_transaction.AnyTransaction.TheVariants.{Known, Other}
 use Rattle.rlp_ethereum.specs.Withdrawal.{withdrawals as withdrawals_codec}
 use Rattle.std.specs.Str.Lines.{strip_carriage_return}
 use Rattle.rlp_lines.specs.Digits.{bytes_in}
 use Rattle.rlp_show.specs.Answer.{record_answer}
 use Rattle.rlp_show.specs.ValueLemmas.{encoding_answered}
 use Rattle.rlp_show.specs.Lines.{Shape, line, list_of, prefix, then_lines, typed}
-use Rattle.rlp_show.specs.Records.{access_list_transaction, any_transaction, blob_transaction, block, fee_market_transaction, legacy_transaction, list_or_unknown, set_code_transaction}
-use Rattle.rlp_show.specs.Records.{transaction, typed_transaction, unknown_transaction, withdrawal}
-use Rattle.rlp_show.specs.Text.{number_text}
-use Rattle.rlp_show.specs.EnvelopeLemmas.{after_type, list_held, list_kind, not_of_type, string_held, string_sized}
+use Rattle.rlp_show.specs.Records.{access_list_transaction, any_transaction, blob_transaction, block, fee_market_transaction, legacy_transaction, list_or, set_code_transaction}
+use Rattle.rlp_show.specs.Records.{other_transaction, transaction, typed_transaction, withdrawal}
+use Rattle.rlp_show.specs.Text.{bytes_text, number_text}
+use Rattle.rlp_show.specs.EnvelopeLemmas.{after_type, list_held, list_kind, not_of_type, other_than, string_held, string_sized}
 use Rattle.rlp_show.specs.Values.{Display, access_list_transaction_display, blob_transaction_display, fee_market_transaction_display, field_display}
 use Rattle.rlp_show.specs.Values.{header_display, legacy_transaction_display, list_display, optional_display, record_display}
 use Rattle.rlp_show.specs.Values.{set_code_transaction_display, withdrawal_display}
@@ -48,6 +53,16 @@ transaction_lines name (AccessList t) = typed_value 1 name (access_list_transact
 transaction_lines name (FeeMarket t) = typed_value 2 name (fee_market_transaction_display.lines name t)
 transaction_lines name (Blob t) = typed_value 3 name (blob_transaction_display.lines name t)
 transaction_lines name (SetCode t) = typed_value 4 name (set_code_transaction_display.lines name t)
+
+-- the lines of the bytes of another type
+abbrev pub other_value : List ℕ → List ℕ → List ℕ
+other_value name [] = []
+other_value name (kind ∷ payload) = typed_value kind name (line (prefix name ++ codes "payload") (bytes_text payload))
+
+-- the lines of a transaction of any type
+abbrev pub any_lines : List ℕ → AnyTransaction → List ℕ
+any_lines name (Known t) = transaction_lines name t
+any_lines name (Other d) = other_value name d
 
 -- ---- envelopes by their first byte
 
@@ -88,50 +103,77 @@ not_typed other name v is =
     ∙ not_of_type 3 blob_transaction three name v (omega arith) is
     ∙ not_of_type 4 set_code_transaction other name v (omega arith) is
 
+-- the bytes of another type are shown as its lines
+other_typed : (list : Shape) (name d : List ℕ) → IsOther d → ((v : View) → begins_as_list v.bytes ≡ false → list name v ≡ other_transaction name v)
+    → typed_transaction list name (strict_view_of d) ≡ Ok (other_value name d)
+other_typed list name [] is shown = absurd is
+other_typed list name (kind ∷ payload) (low, others) shown =
+    let v = strict_view_of (kind ∷ payload) in
+    let three = typed 4 set_code_transaction list in
+    let two = typed 3 blob_transaction three in
+    other_than 1 access_list_transaction (typed 2 fee_market_transaction two) name kind payload others.0
+    ∙ other_than 2 fee_market_transaction two name kind payload others.1.0
+    ∙ other_than 3 blob_transaction three name kind payload others.1.1.0
+    ∙ other_than 4 set_code_transaction list name kind payload others.1.1.1.0
+    ∙ shown v (lt-leb 0xc0 kind (omega (arith, low)))
+    ∙ cond-true (nat_lt kind 0x80) _ _ (grind (arith, nat_tests, low))
+
 -- ---- transactions by themselves
 
 -- the bytes of a transaction by itself are shown as its lines
-pub alone_shown : (name : List ℕ) (t : Transaction) → transaction_codec.Fits t → length (bytes_alone (transaction_codec.item t)) < 2 ^ 64
+alone_shown : (name : List ℕ) (t : Transaction) → transaction_codec.Fits t → length (bytes_alone (transaction_codec.item t)) < 2 ^ 64
     → any_transaction name (strict_view_of (bytes_alone (transaction_codec.item t))) ≡ Ok (transaction_lines name t)
 alone_shown name (Legacy t) fit few =
     let v = strict_view_of (encoding (signed_legacy_transaction.item t)) in
     let kind = list_kind (signed_legacy_transaction_fields.items t) few in
-    not_typed (list_or_unknown legacy_transaction) name v kind
-    ∙ cond-true (begins_as_list v.bytes) (legacy_transaction name v) (unknown_transaction name v) kind ∙ legacy_transaction_display.shown name t fit few
-alone_shown name (AccessList t) fit few = access_list_typed (list_or_unknown legacy_transaction) name t fit (after_type 1 _ few)
-alone_shown name (FeeMarket t) fit few = fee_market_typed (list_or_unknown legacy_transaction) name t fit (after_type 2 _ few)
-alone_shown name (Blob t) fit few = blob_typed (list_or_unknown legacy_transaction) name t fit (after_type 3 _ few)
-alone_shown name (SetCode t) fit few = set_code_typed (list_or_unknown legacy_transaction) name t fit (after_type 4 _ few)
+    not_typed (list_or legacy_transaction other_transaction) name v kind
+    ∙ cond-true (begins_as_list v.bytes) (legacy_transaction name v) (other_transaction name v) kind ∙ legacy_transaction_display.shown name t fit few
+alone_shown name (AccessList t) fit few = access_list_typed (list_or legacy_transaction other_transaction) name t fit (after_type 1 _ few)
+alone_shown name (FeeMarket t) fit few = fee_market_typed (list_or legacy_transaction other_transaction) name t fit (after_type 2 _ few)
+alone_shown name (Blob t) fit few = blob_typed (list_or legacy_transaction other_transaction) name t fit (after_type 3 _ few)
+alone_shown name (SetCode t) fit few = set_code_typed (list_or legacy_transaction other_transaction) name t fit (after_type 4 _ few)
+
+-- so are those of a transaction of any type
+any_alone : (name : List ℕ) (t : AnyTransaction) → any_codec.Fits t → length (bytes_alone (any_codec.item t)) < 2 ^ 64
+    → any_transaction name (strict_view_of (bytes_alone (any_codec.item t))) ≡ Ok (any_lines name t)
+any_alone name (Known t) fit few = alone_shown name t fit few
+any_alone name (Other d) fit few =
+    other_typed (list_or legacy_transaction other_transaction) name d fit (λ v kind. cond-false (begins_as_list v.bytes) _ _ kind)
 
 -- the line of these bytes is answered by the lines
-pub transaction_answered : (l : List ℕ) (t : Transaction) → transaction_codec.Fits t → length (bytes_alone (transaction_codec.item t)) < 2 ^ 64
-    → bytes_in (strip_carriage_return l) ≡ Some (bytes_alone (transaction_codec.item t)) → record_answer any_transaction l ≡ transaction_lines [] t
-transaction_answered l t fit few is =
-    encoding_answered any_transaction l (bytes_alone (transaction_codec.item t)) (transaction_lines [] t) is (alone_shown [] t fit few)
+pub transaction_answered : (l : List ℕ) (t : AnyTransaction) → any_codec.Fits t → length (bytes_alone (any_codec.item t)) < 2 ^ 64
+    → bytes_in (strip_carriage_return l) ≡ Some (bytes_alone (any_codec.item t)) → record_answer any_transaction l ≡ any_lines [] t
+transaction_answered l t fit few is = encoding_answered any_transaction l (bytes_alone (any_codec.item t)) (any_lines [] t) is (any_alone [] t fit few)
 
 -- ---- transactions in the list of a block
 
 -- the encoding of a transaction is shown as its lines
-pub held_shown : (name : List ℕ) (t : Transaction) → transaction_codec.Fits t → IsSized (transaction_codec.item t)
+held_shown : (name : List ℕ) (t : Transaction) → transaction_codec.Fits t → IsSized (transaction_codec.item t)
     → transaction name (strict_view_of (encoding (transaction_codec.item t))) ≡ Ok (transaction_lines name t)
 held_shown name (Legacy t) fit sized =
-    list_held legacy_transaction (typed_transaction unknown_transaction) name (signed_legacy_transaction_fields.items t) sized
+    list_held legacy_transaction (typed_transaction other_transaction) name (signed_legacy_transaction_fields.items t) sized
     ∙ legacy_transaction_display.shown name t fit sized
 held_shown name (AccessList t) fit sized =
-    string_held legacy_transaction (typed_transaction unknown_transaction) name _ sized
-    ∙ access_list_typed unknown_transaction name t fit (after_type 1 _ (string_sized _ sized))
+    string_held legacy_transaction (typed_transaction other_transaction) name _ sized
+    ∙ access_list_typed other_transaction name t fit (after_type 1 _ (string_sized _ sized))
 held_shown name (FeeMarket t) fit sized =
-    string_held legacy_transaction (typed_transaction unknown_transaction) name _ sized
-    ∙ fee_market_typed unknown_transaction name t fit (after_type 2 _ (string_sized _ sized))
+    string_held legacy_transaction (typed_transaction other_transaction) name _ sized
+    ∙ fee_market_typed other_transaction name t fit (after_type 2 _ (string_sized _ sized))
 held_shown name (Blob t) fit sized =
-    string_held legacy_transaction (typed_transaction unknown_transaction) name _ sized
-    ∙ blob_typed unknown_transaction name t fit (after_type 3 _ (string_sized _ sized))
+    string_held legacy_transaction (typed_transaction other_transaction) name _ sized
+    ∙ blob_typed other_transaction name t fit (after_type 3 _ (string_sized _ sized))
 held_shown name (SetCode t) fit sized =
-    string_held legacy_transaction (typed_transaction unknown_transaction) name _ sized
-    ∙ set_code_typed unknown_transaction name t fit (after_type 4 _ (string_sized _ sized))
+    string_held legacy_transaction (typed_transaction other_transaction) name _ sized
+    ∙ set_code_typed other_transaction name t fit (after_type 4 _ (string_sized _ sized))
 
-abbrev pub transaction_display : Display transaction_codec transaction
-transaction_display = record { lines = transaction_lines; shown = held_shown }
+pub any_held : (name : List ℕ) (t : AnyTransaction) → any_codec.Fits t → IsSized (any_codec.item t)
+    → transaction name (strict_view_of (encoding (any_codec.item t))) ≡ Ok (any_lines name t)
+any_held name (Known t) fit sized = held_shown name t fit sized
+any_held name (Other d) fit sized =
+    string_held legacy_transaction (typed_transaction other_transaction) name d sized ∙ other_typed other_transaction name d fit (λ v kind. refl)
+
+abbrev pub transaction_display : Display any_codec transaction
+transaction_display = record { lines = any_lines; shown = any_held }
 
 -- ---- blocks
 

@@ -10,7 +10,7 @@ use crate::fault::ShowFault;
 use crate::fields::name_in;
 use crate::numbers::put_number_line;
 use crate::show::Show;
-use crate::transactions::ListOrUnknown;
+use crate::transactions::{ListOr, UnknownTransaction};
 use rlp::Rlp;
 use rlp_ethereum::{ACCESS_LIST_TYPE, BLOB_TYPE, FEE_MARKET_TYPE, Receipt, SET_CODE_TYPE};
 use std::alloc::{AllocError, Global};
@@ -30,7 +30,11 @@ pub type AnyReceipt = Typed<
     Typed<
         FEE_MARKET_TYPE,
         Receipt,
-        Typed<BLOB_TYPE, Receipt, Typed<SET_CODE_TYPE, Receipt, ListOrUnknown<Receipt>>>,
+        Typed<
+            BLOB_TYPE,
+            Receipt,
+            Typed<SET_CODE_TYPE, Receipt, ListOr<Receipt, UnknownTransaction>>,
+        >,
     >,
 >;
 
@@ -47,7 +51,12 @@ fn payload_of(kind: u8, bytes: &[u8]) -> Option<&[u8]>
 
 /// Appends the line of a type.
 #[tactic(auto, using(crate::proofs::DigitLemmas::one_digit))]
-fn put_type(alloc: Global, name: &str, kind: u8, out: &mut String) -> Result<(), AllocError>
+pub(crate) fn put_type(
+    alloc: Global,
+    name: &str,
+    kind: u8,
+    out: &mut String,
+) -> Result<(), AllocError>
     ensures { OnOk result (string_bytes out.new
         ≡ string_bytes out.old ++ line (prefix name.now ++ codes "type") (number_text kind)) }
 {

@@ -6,10 +6,10 @@ ghost use Rattle.std.specs.Str.Lines.{strip_carriage_return};
 ghost use Rattle.rlp.specs.Format.Encoding.{IsSized, encoding};
 ghost use Rattle.rlp_lines.specs.Digits.{bytes_in};
 ghost use Rattle.rlp_records.specs.Alone.{bytes_alone};
-ghost use Rattle.rlp_transactions.specs.Transaction.{transaction};
-ghost use Rattle.rlp_transactions.specs.declared.transaction.Transaction.{Transaction};
+ghost use Rattle.rlp_transactions.specs.AnyTransaction.{any_transaction};
+ghost use Rattle.rlp_transactions.specs.declared.any_transaction.AnyTransaction.{AnyTransaction};
 ghost use Rattle.rlp_show.specs.Answer.{kind_answer, record_answer};
-ghost use Rattle.rlp_show.specs.TransactionValues.{transaction_lines};
+ghost use Rattle.rlp_show.specs.TransactionValues.{any_lines};
 ghost use Rattle.rlp_show.specs.declared.kind.Kind.TheVariants as kind;
 
 use crate::values::ShowValues;
@@ -23,11 +23,11 @@ pub fn encodings_are_shown<T: ShowValues>(line: &[u8])
         → record_answer T.shape line.now ≡ T.lines [] x }
 {}
 
-/// If the digits of a line are the bytes of a transaction by itself, as `Transaction::to_bytes` of
+/// If the digits of a line are the bytes of a transaction by itself, as `AnyTransaction::to_bytes` of
 /// `rlp_ethereum` returns them, the answer is the lines of the transaction.
 pub fn transactions_are_shown(line: &[u8])
-    ensures { (t : Transaction) → transaction.Fits t
-        → length (bytes_alone (transaction.item t)) < 2 ^ 64
-        → bytes_in (strip_carriage_return line.now) ≡ Some (bytes_alone (transaction.item t))
-        → kind_answer kind.Transaction line.now ≡ transaction_lines [] t }
+    ensures { (t : AnyTransaction) → any_transaction.Fits t
+        → length (bytes_alone (any_transaction.item t)) < 2 ^ 64
+        → bytes_in (strip_carriage_return line.now) ≡ Some (bytes_alone (any_transaction.item t))
+        → kind_answer kind.Transaction line.now ≡ any_lines [] t }
 {}

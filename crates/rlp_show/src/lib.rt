@@ -30,5 +30,5 @@ pub use records::AccessListAlone;
 pub use rlp_lines::{Noted, RunFault};
 pub use serving::{exit_status, run};
 pub use show::Show;
-pub use transactions::{AnyTransaction, ListOrUnknown, TypedTransaction, UnknownTransaction};
+pub use transactions::{ListOr, TransactionAlone, TypedTransaction, UnknownTransaction};
 pub use values::ShowValues;

@@ -8,9 +8,9 @@ use crate::lists::Items;
 use crate::show::Show;
 use rlp::{Rlp, Uint};
 use rlp_ethereum::{
-    AccessListItem, AccessListTransaction, Account, Address, BlobTransaction, Block, Bloom, Body,
-    FeeMarketTransaction, Hash, Header, Log, Receipt, ReceiptStatus, Recipient, SetCodeTransaction,
-    Signed, SignedAuthorization, SignedLegacyTransaction, Transaction, Withdrawal,
+    AccessListItem, AccessListTransaction, Account, Address, AnyTransaction, BlobTransaction,
+    Block, Bloom, Body, FeeMarketTransaction, Hash, Header, Log, Receipt, ReceiptStatus, Recipient,
+    SetCodeTransaction, Signed, SignedAuthorization, SignedLegacyTransaction, Withdrawal,
 };
 use std::alloc::Global;
 
@@ -311,7 +311,7 @@ impl Show for Block {
             item,
             out,
             "header": Header,
-            "transactions": Items<Transaction>,
+            "transactions": Items<AnyTransaction>,
             "ommers": Items<Header>,
             "withdrawals" ? Items<Withdrawal>
         )

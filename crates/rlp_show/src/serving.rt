@@ -12,7 +12,7 @@ use crate::kind::Kind;
 use crate::nodes::Node;
 use crate::records::AccessListAlone;
 use crate::show::Show;
-use crate::transactions::AnyTransaction;
+use crate::transactions::TransactionAlone;
 use rlp::Rlp;
 use rlp_ethereum::{Account, Block, Body, Header, NodeRecord, SignedAuthorization, Withdrawal};
 use rlp_lines::{LineAnswers, Noted, RunFault, answer_lines, read_bytes, without_carriage_return};
@@ -95,7 +95,7 @@ pub fn run<R: Read, W: Write>(
         Kind::Receipt => answer_lines::<RecordAnswers<AnyReceipt>, R, W>(alloc, input, output),
         Kind::NodeRecord => answer_lines::<RecordAnswers<NodeRecord>, R, W>(alloc, input, output),
         Kind::Transaction => {
-            answer_lines::<RecordAnswers<AnyTransaction>, R, W>(alloc, input, output)
+            answer_lines::<RecordAnswers<TransactionAlone>, R, W>(alloc, input, output)
         }
         Kind::Withdrawal => answer_lines::<RecordAnswers<Withdrawal>, R, W>(alloc, input, output),
     }

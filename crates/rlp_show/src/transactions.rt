@@ -2,16 +2,18 @@
 
 ghost use Rattle.std.specs.Prelude.{codes, string_bytes};
 ghost use Rattle.rlp_show.specs.Answer.{Shows};
-ghost use Rattle.rlp_show.specs.Records.{unknown_transaction, transaction};
+ghost use Rattle.rlp_show.specs.Records.{other_transaction, transaction, unknown_transaction};
 
-use crate::envelopes::Typed;
+use crate::envelopes::{Typed, put_type};
 use crate::fault::ShowFault;
+use crate::fields::{joined, prefix_of};
+use crate::line::put_bytes_line;
 use crate::show::Show;
 use rlp::{DecoderError, Rlp};
 use rlp_ethereum::{
-    ACCESS_LIST_TYPE, AccessListTransaction, BLOB_TYPE, BlobTransaction, FEE_MARKET_TYPE,
-    FeeMarketTransaction, SET_CODE_TYPE, SetCodeTransaction, Signed, SignedLegacyTransaction,
-    Transaction,
+    ACCESS_LIST_TYPE, AccessListTransaction, AnyTransaction, BLOB_TYPE, BlobTransaction,
+    FEE_MARKET_TYPE, FeeMarketTransaction, OtherTransaction, SET_CODE_TYPE, SetCodeTransaction,
+    Signed, SignedLegacyTransaction,
 };
 use std::alloc::Global;
 use std::marker::PhantomData;
@@ -31,25 +33,44 @@ pub type TypedTransaction<Q> = Typed<
     >,
 >;
 
-/// A transaction by itself, of any type that `rlp_ethereum` knows, for [`Show`].
-pub type AnyTransaction = TypedTransaction<ListOrUnknown<SignedLegacyTransaction>>;
+/// A transaction by itself, of any type, for [`Show`].
+pub type TransactionAlone = TypedTransaction<ListOr<SignedLegacyTransaction, OtherTransaction>>;
 
-/// A list that is a `T`, or else the envelope of a transaction of an unknown type, for [`Show`]. It has
-/// no values.
-pub struct ListOrUnknown<T> {
+/// A list that is a `T`, or else a `Q`, for [`Show`]. It has no values.
+pub struct ListOr<T, Q> {
     list: PhantomData<T>,
+    other: PhantomData<Q>,
 }
 
-impl<T: Show> Show for ListOrUnknown<T> {
-    ghost use Rattle.rlp_show.specs.Records.{list_or_unknown};
+impl<T: Show, Q: Show> Show for ListOr<T, Q> {
+    ghost use Rattle.rlp_show.specs.Records.{list_or};
 
-    ghost shape = { list_or_unknown T.shape };
+    ghost shape = { list_or T.shape Q.shape };
 
     fn show(alloc: Global, name: &str, item: &Rlp<'_>, out: &mut String) -> Result<(), ShowFault> {
         if item.is_list() {
             T::show(alloc, name, item, out)
         } else {
-            UnknownTransaction::show(alloc, name, item, out)
+            Q::show(alloc, name, item, out)
+        }
+    }
+}
+
+/// The envelope of a transaction of an unknown type: the lines of the type and of the payload.
+///
+/// Fails as [`UnknownTransaction`] does if there are no bytes or the first is no type.
+impl Show for OtherTransaction {
+    ghost shape = { other_transaction };
+
+    fn show(alloc: Global, name: &str, item: &Rlp<'_>, out: &mut String) -> Result<(), ShowFault> {
+        match item.as_raw() {
+            [kind, payload @ ..] if *kind < 0x80 => {
+                put_type(alloc, name, *kind, out)?;
+                let before = prefix_of(alloc, name)?;
+                let label = joined(alloc, before.as_str(), "payload")?;
+                Ok(put_bytes_line(label.as_str(), payload, out)?)
+            }
+            _ => UnknownTransaction::show(alloc, name, item, out),
         }
     }
 }
@@ -73,7 +94,7 @@ impl Show for UnknownTransaction {
 
 /// An item of the list of a block's transactions: a list is a transaction without a type, and a
 /// string holds an envelope.
-impl Show for Transaction {
+impl Show for AnyTransaction {
     ghost shape = { transaction };
 
     fn show(alloc: Global, name: &str, item: &Rlp<'_>, out: &mut String) -> Result<(), ShowFault> {
@@ -83,7 +104,7 @@ impl Show for Transaction {
         match item.decoder().string() {
             Ok(bytes) => {
                 let envelope = Rlp::new_strict(bytes);
-                TypedTransaction::<UnknownTransaction>::show(alloc, name, &envelope, out)
+                TypedTransaction::<OtherTransaction>::show(alloc, name, &envelope, out)
             }
             Err(fault) => Err(ShowFault::of(alloc, name, fault)),
         }

@@ -10,8 +10,8 @@ ghost use Rattle.rlp_show.specs.TransactionValues.{transaction_display, block_di
 use crate::show::Show;
 use rlp::Encodable;
 use rlp_ethereum::{
-    AccessListItem, Account, Block, Body, Header, Log, Receipt, SignedAuthorization,
-    SignedLegacyTransaction, Transaction, Withdrawal,
+    AccessListItem, Account, AnyTransaction, Block, Body, Header, Log, Receipt,
+    SignedAuthorization, SignedLegacyTransaction, Withdrawal,
 };
 
 /// A type of which the encoding of each value that fits is shown as the lines of the value. It has
@@ -73,7 +73,7 @@ impl ShowValues for SignedAuthorization {
     ghost shown = { authorization_display.shown };
 }
 
-impl ShowValues for Transaction {
+impl ShowValues for AnyTransaction {
     ghost lines = { transaction_display.lines };
 
     ghost shown = { transaction_display.shown };

@@ -1,4 +1,4 @@
-//! Blocks, a header of 21 fields, and transactions of types 3 and 4.
+//! Blocks, a header of 21 fields, and transactions of types 3 and 4 and of types that aren't known.
 //!
 //! The bytes and all expected lines were written by a Python script from the fields of the records,
 //! in the order of the EIPs and the yellow paper.
@@ -7,7 +7,9 @@ use crate::support::{Row, check};
 use std::test::Fail;
 
 /// The kind, the digits of a record, and its lines.
-const BLOCKS: [Row; 6] = [
+const BLOCKS: [Row; 8] = [
+    ("transaction 7d8001", "type: 125\npayload: 0x8001\n\n"),
+    ("transaction 00", "type: 0\npayload: 0x\n\n"),
     (
         "transaction 03f8c5010780843b9aca00830f4240945df9b87991262f6ba471f09758cde1c0fc1de734\
          8080f838f7940102030405060708090a0b0c0d0e0f1011121314e1a00001020304050607\

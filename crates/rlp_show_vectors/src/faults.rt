@@ -43,7 +43,7 @@ const FAULTS: [Row; 26] = [
         "error field 5 (to): RlpIsTooShort\n",
     ),
     (
-        "transaction 05f853818988ffffffffffffffff80880de0b6b3a7640000827530940102030405060708\
+        "transaction 85f853818988ffffffffffffffff80880de0b6b3a7640000827530940102030405060708\
          090a0b0c0d0e0f1011121314a0dd15fe86affad91249ef0eb713f39ebeaa987b6e6fd2a0\
          00000000000000000080c0800708",
         "error Custom(\"unknown transaction type\")\n",
@@ -144,7 +144,7 @@ const FAULTS: [Row; 26] = [
          000000000000000000000000000000000000808083c5d4888401ca35428084610bdaa682\
          6869a0ffffffffffffffffffffffffffffffffffffffffffffffffffffffffffffffff88\
          0000000000000000843b9aca00a0000102030405060708090a0b0c0d0e0f101112131415\
-         161718191a1b1c1d1e1fe29002ce01800102825208808060c00103049005ce0180010282\
+         161718191a1b1c1d1e1fe29002ce01800102825208808060c00103049085ce0180010282\
          5208808060c0010304c0c0",
         "error field 1 (transactions[1]): Custom(\"unknown transaction type\")\n",
     ),
