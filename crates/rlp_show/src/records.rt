@@ -294,7 +294,7 @@ impl Show for Body {
             name,
             item,
             out,
-            "transactions": Items<Transaction>,
+            "transactions": Items<AnyTransaction>,
             "ommers": Items<Header>,
             "withdrawals" ? Items<Withdrawal>
         )
