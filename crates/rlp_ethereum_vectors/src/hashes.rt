@@ -1,12 +1,15 @@
 //! Hashes of records, as the network, the EIPs or the tests of clients name them.
 
-use crate::text::bytes_of;
+use crate::reading::fault;
+use rlp::DecoderError;
 use rlp_ethereum::{
     AccessListTransaction, AnyTransaction, FeeMarketTransaction, Hash, Header, Signed, TrieNode,
-    UnsignedLegacyTransaction, UnsignedTransaction, encoding_hash, signing_hash,
+    TypedTransaction, UnsignedLegacyTransaction, UnsignedTransaction, encoding_hash, signing_hash,
 };
+use rlp_rows::{Hex, Line};
 use std::alloc::Global;
-use std::test::Fail;
+use std::fmt;
+use std::fmt::Write;
 
 /// What is hashed, its bytes as text, and the digits of its hash: the headers of the first two blocks
 /// of the main network, of block 0 of the network Holesky and of block 1 of a test of EIP-1559; the
@@ -14,81 +17,103 @@ use std::test::Fail;
 /// signed of a transaction of the tests of `go-ethereum`, of the one of type 2 and of the example; and
 /// the roots of the tries of transactions and receipts of block 46147, which has only the first
 /// transaction; and the root of the empty trie.
-const ROWS: &str = "
-    header | GENESIS | d4e56740f876aef8c010b86a40d5f56745a118d0906a34e69aec8c0db1cb8fa3
-    header | BLOCK_1 | 88e96d4537bea4d9c05d12549907b32561d3bf31f45aae734cdc119f13406cb6
-    header | f901faa0+00*32+a01dcc4de8dec75d7aab85b567b6ccd41ad312451b948a7413f0a142fd40d4934794\
+pub(crate) const ROWS: &str = "
+    hash: header | GENESIS | d4e56740f876aef8c010b86a40d5f56745a118d0906a34e69aec8c0db1cb8fa3
+    hash: header | BLOCK_1 | 88e96d4537bea4d9c05d12549907b32561d3bf31f45aae734cdc119f13406cb6
+    hash: header | f901faa0+00*32+a01dcc4de8dec75d7aab85b567b6ccd41ad312451b948a7413f0a142fd40d4934794\
      +00*20+a069d8c9d72f6fa4ad42d4702b433707212f90db395eb54dc20bc85de253788783a056e81f171bcc55a6\
      ff8345e692c0f86e5b48e01b996cadc001622fb5e363b421a056e81f171bcc55a6ff8345e692c0f86e5b48e01b9\
      96cadc001622fb5e363b421b90100+00*256+018084017d784080846515699480a0+00*32+88000000000000123\
      4843b9aca00 | b5f7f912443c940f21fd611f12828d75b534364ed9e95ca4e307729a4661bde4
-    header | f90200a0e0a94a7a3c9617401586b1a27025d2d9671332d22d540e0af72b069170380f2aa01dcc4de8d\
+    hash: header | f90200a0e0a94a7a3c9617401586b1a27025d2d9671332d22d540e0af72b069170380f2aa01dcc4de8d\
      ec75d7aab85b567b6ccd41ad312451b948a7413f0a142fd40d4934794ba5e000000000000000000000000000000\
      000000a0ec3c94b18b8a1cff7d60f8d258ec723312932928626b4c9355eb4ab3568ec7f7a050f738580ed699f04\
      69702c7ccc63ed2e51bc034be9479b7bff4e68dee84accfa029b0562f7140574dd0d50dee8a271b22e1a0a7b78f\
      ca58f7c60370d8317ba2a9b90100+00*256+830200000188016345785d8a00008301553482079e42a0+00*32+88\
      +00*8+82036b | 6a251c7c3c5dca7b42407a3752ff48f3bbca1fab7f9868371d9918daf1988d1f
-    transaction | FIRST | 5c504ed432cb51138bcf09aa5e8a410dd4a1e204ef84bfed1be16dfba1b22060
-    transaction | SIGNED | 33469b22e9f636356c4160a87eb19df52b7412e8eac32a4a55ffe88ea8350788
-    transaction | 02f8b00142843b9aca008504a817c80082ad62946069a6c32cf691f5982febae4faf8a6f3ab2f0\
+    hash: transaction | FIRST | 5c504ed432cb51138bcf09aa5e8a410dd4a1e204ef84bfed1be16dfba1b22060
+    hash: transaction | SIGNED | 33469b22e9f636356c4160a87eb19df52b7412e8eac32a4a55ffe88ea8350788
+    hash: transaction | 02f8b00142843b9aca008504a817c80082ad62946069a6c32cf691f5982febae4faf8a6f3ab2f0\
      f680b844a22cb4650000000000000000000000005eee75727d804a2b13038928d36f8b188945a57a00000000000\
      00000000000000000000000000000000000000000000000000000c080a0840cfc572845f5786e702984c2a58252\
      8cad4b49b2a10b9db1be7fca90058565a025e7109ceb98168d95b09b18bbf6b685130e0562f233877d492b94eee\
      0c5b6d1 | 0ec0b6a2df4d87424e5f6ad2a654e27aaeb7dac20ae9e8385cc09087ad532ee0
-    payload of type 1 | 01f8630103018261a894b94f5374fce5edbc8e2a8697c15331677e6ebf0b0a825544c001\
+    hash: payload of type 1 | 01f8630103018261a894b94f5374fce5edbc8e2a8697c15331677e6ebf0b0a825544c001\
      a0c9519f4f2b30335884581971573fadf60c6204f59a911df35ee8a540456b2660a032f1e8e2c5dd761f9e4f88f\
      41c8310aeaba26a8bfcdacfedfa12ec3862d37521 | 49b486f0ec0a60dfbbca2d30cb07c9e8ffb2a2ff41f29a1\
      ab6737475f6ff69f3
-    payload of type 2 | 02f8b00142843b9aca008504a817c80082ad62946069a6c32cf691f5982febae4faf8a6f\
+    hash: payload of type 2 | 02f8b00142843b9aca008504a817c80082ad62946069a6c32cf691f5982febae4faf8a6f\
      3ab2f0f680b844a22cb4650000000000000000000000005eee75727d804a2b13038928d36f8b188945a57a00000\
      00000000000000000000000000000000000000000000000000000000000c080a0840cfc572845f5786e702984c2\
      a582528cad4b49b2a10b9db1be7fca90058565a025e7109ceb98168d95b09b18bbf6b685130e0562f233877d492\
      b94eee0c5b6d1 | 0d5688ac3897124635b6cf1bc0e29d6dfebceebdc10a54d74f2ef8b56535b682
-    unsigned transaction | EXAMPLE | daf5a779ae972f972197303d7b574746c7ef83eadac0f2791ad23db92e4\
+    hash: unsigned transaction | EXAMPLE | daf5a779ae972f972197303d7b574746c7ef83eadac0f2791ad23db92e4\
      c8e53
-    unsigned legacy transaction | EXAMPLE | daf5a779ae972f972197303d7b574746c7ef83eadac0f2791ad2\
+    hash: unsigned legacy transaction | EXAMPLE | daf5a779ae972f972197303d7b574746c7ef83eadac0f2791ad2\
      3db92e4c8e53
-    node | f86e822080b869+FIRST | 4513310fcb9f6f616972a3b948dc5d547f280849a87ebb5af0191f98b87be5\
+    hash: node | f86e822080b869+FIRST | 4513310fcb9f6f616972a3b948dc5d547f280849a87ebb5af0191f98b87be5\
      98
-    node | f90131822080b9012bf90128a096a8e009d2b88b1483e6941e6812e32263b05683fac202abc622a3e31ae\
+    hash: node | f90131822080b9012bf90128a096a8e009d2b88b1483e6941e6812e32263b05683fac202abc622a3e31ae\
      d1957825208b90100+00*256+c0 | fe2bf2a941abf41d72637e5b91750332a30283efd40c424dc522b77e6f0ed\
      8c4
-    node | 80 | 56e81f171bcc55a6ff8345e692c0f86e5b48e01b996cadc001622fb5e363b421
+    hash: node | 80 | 56e81f171bcc55a6ff8345e692c0f86e5b48e01b996cadc001622fb5e363b421
 ";
 
-/// Returns the hash of the record that these bytes encode.
-fn hash(alloc: Global, kind: &str, bytes: &[u8]) -> Result<Hash, Fail> {
-    Ok(match kind {
-        "header" => rlp::decode_strict::<Header>(alloc, bytes)?.hash(alloc)?,
-        "unsigned legacy transaction" => {
-            let unsigned = rlp::decode_strict::<UnsignedLegacyTransaction>(alloc, bytes)?;
-            encoding_hash(alloc, &unsigned)?
-        }
-        "transaction" => AnyTransaction::from_bytes(alloc, bytes)?.hash(alloc)?,
-        "unsigned transaction" => {
-            UnsignedTransaction::from_bytes(alloc, bytes)?.signing_hash(alloc)?
-        }
-        "payload of type 1" => {
-            let signed = Signed::<AccessListTransaction>::from_bytes(alloc, bytes)?;
-            signing_hash(alloc, &signed.payload)?
-        }
-        "payload of type 2" => {
-            let signed = Signed::<FeeMarketTransaction>::from_bytes(alloc, bytes)?;
-            signing_hash(alloc, &signed.payload)?
-        }
-        _ => rlp::decode_strict::<TrieNode>(alloc, bytes)?.hash(alloc)?,
-    })
+/// Returns the hash of a header.
+fn header(alloc: Global, bytes: &[u8]) -> Result<Hash, DecoderError> {
+    let header = rlp::decode_strict::<Header>(alloc, bytes)?;
+    header.hash(alloc).or(Err(DecoderError::OutOfMemory))
 }
 
-#[test]
-fn hashes(rt: HostRuntime) -> Result<(), Fail> {
-    let alloc = rt.alloc();
-    for line in ROWS.lines() {
-        if let Some((kind, rest)) = line.trim().split_once(" | ") {
-            let (text, wanted) = rest.split_once(" | ").unwrap_or((rest, ""));
-            let Hash(found) = hash(alloc, kind, bytes_of(alloc, text)?.as_slice())?;
-            assert_eq!(rt; hex::encode(alloc, &found)?.as_str(), wanted, "{kind}");
-        }
+/// Returns the hash of a node.
+fn node(alloc: Global, bytes: &[u8]) -> Result<Hash, DecoderError> {
+    let node = rlp::decode_strict::<TrieNode>(alloc, bytes)?;
+    node.hash(alloc).or(Err(DecoderError::OutOfMemory))
+}
+
+/// Returns the hash of a transaction.
+fn transaction(alloc: Global, bytes: &[u8]) -> Result<Hash, DecoderError> {
+    let transaction = AnyTransaction::from_bytes(alloc, bytes)?;
+    transaction.hash(alloc).or(Err(DecoderError::OutOfMemory))
+}
+
+/// Returns the hash of what is signed of a transaction before it is signed.
+fn unsigned(alloc: Global, bytes: &[u8]) -> Result<Hash, DecoderError> {
+    let unsigned = UnsignedTransaction::from_bytes(alloc, bytes)?;
+    unsigned
+        .signing_hash(alloc)
+        .or(Err(DecoderError::OutOfMemory))
+}
+
+/// Returns the hash of a legacy transaction before it is signed.
+fn legacy(alloc: Global, bytes: &[u8]) -> Result<Hash, DecoderError> {
+    let unsigned = rlp::decode_strict::<UnsignedLegacyTransaction>(alloc, bytes)?;
+    encoding_hash(alloc, &unsigned).or(Err(DecoderError::OutOfMemory))
+}
+
+/// Returns the hash of what is signed of a transaction of a type.
+fn payload<T: TypedTransaction>(alloc: Global, bytes: &[u8]) -> Result<Hash, DecoderError> {
+    let signed = Signed::<T>::from_bytes(alloc, bytes)?;
+    signing_hash(alloc, &signed.payload).or(Err(DecoderError::OutOfMemory))
+}
+
+/// Returns the hash of the record that these bytes encode.
+fn hash(alloc: Global, kind: &str, bytes: &[u8]) -> Result<Hash, DecoderError> {
+    match kind {
+        "header" => header(alloc, bytes),
+        "unsigned legacy transaction" => legacy(alloc, bytes),
+        "transaction" => transaction(alloc, bytes),
+        "unsigned transaction" => unsigned(alloc, bytes),
+        "payload of type 1" => payload::<AccessListTransaction>(alloc, bytes),
+        "payload of type 2" => payload::<FeeMarketTransaction>(alloc, bytes),
+        _ => node(alloc, bytes),
     }
-    Ok(())
+}
+
+/// Tells the hash of the record that these bytes encode.
+pub(crate) fn tell(alloc: Global, kind: &str, bytes: &[u8], out: &mut Line) -> fmt::Result {
+    match hash(alloc, kind, bytes) {
+        Ok(hash) => write!(out, "{:?}", Hex(hash.0.as_slice())),
+        Err(found) => fault(&found, out),
+    }
 }

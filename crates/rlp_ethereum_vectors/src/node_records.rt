@@ -1,11 +1,14 @@
 //! Node records. The first record, its fields and its text are those that EIP-778 publishes as its
 //! example.
 
+use crate::fields::tell_words;
 use crate::reading::{Item, fault, ways};
-use crate::text::spelled;
-use rlp::RawItem;
+use rlp::{DecoderError, RawItem};
 use rlp_ethereum::{NodeFields, NodePair, NodeRecord};
+use rlp_rows::{Hex, Line};
 use std::alloc::Global;
+use std::fmt;
+use std::fmt::Write;
 use std::test::Fail;
 
 /// Rows of node records.
@@ -47,46 +50,61 @@ pub(crate) const ROWS: &str = "
     node record: of the key, twice | 61*300 | Custom(\"keys are not in order\")
 ";
 
-/// Returns what a call about a node record answers.
-pub(crate) fn answer(alloc: Global, name: &str, bytes: &[u8]) -> Result<String, Fail> {
+/// Tells what a call about a node record answers.
+pub(crate) fn tell(alloc: Global, name: &str, bytes: &[u8], out: &mut Line) -> fmt::Result {
     match name {
-        "fields" => fields(alloc, bytes),
-        "of the key" => of_the_keys(alloc, &[bytes, b"id"]),
-        "of the key alone" => of_the_keys(alloc, &[bytes]),
-        _ => of_the_keys(alloc, &[bytes, bytes]),
+        "fields" => tell_read(alloc, bytes, out),
+        "of the key" => tell_keys_of(alloc, &[bytes, b"id"], out),
+        "of the key alone" => tell_keys_of(alloc, &[bytes], out),
+        _ => tell_keys_of(alloc, &[bytes, bytes], out),
     }
 }
 
-/// Returns the sequence number, the signature, the content that is signed, and the pairs.
-fn fields(alloc: Global, bytes: &[u8]) -> Result<String, Fail> {
-    let record = rlp::decode::<NodeRecord>(alloc, bytes)?;
-    let fields = record.fields();
-    let signed = record.signed_content(alloc)?;
-    let words = spelled(alloc, &[fields.signature.as_slice(), signed.as_slice()])?;
-    let pairs = spelled_pairs(alloc, fields.pairs.as_slice())?;
-    let sequence = fields.sequence;
-    Ok(format!(in alloc; "{sequence} {words} {pairs}")?)
-}
-
-/// Returns the digits of keys, each before those of its value.
-fn spelled_pairs(alloc: Global, pairs: &[NodePair]) -> Result<String, Fail> {
-    let mut words = Vec::new(alloc);
-    for pair in pairs {
-        words.push(pair.key.as_slice())?;
-        words.push(pair.value.as_bytes())?;
+/// Tells the fields of a record that is read.
+fn tell_read(alloc: Global, bytes: &[u8], out: &mut Line) -> fmt::Result {
+    match rlp::decode::<NodeRecord>(alloc, bytes) {
+        Ok(record) => tell_fields(alloc, &record, out),
+        Err(found) => fault(&found, out),
     }
-    spelled(alloc, words.as_slice())
 }
 
-/// Returns what is answered about a record with these keys, whose values are empty lists.
-fn of_the_keys(alloc: Global, keys: &[&[u8]]) -> Result<String, Fail> {
+/// Tells the sequence number, the signature, the content that is signed, and the pairs.
+fn tell_fields(alloc: Global, record: &NodeRecord, out: &mut Line) -> fmt::Result {
+    let (fields, signed) = (record.fields(), record.signed_content(alloc)?);
+    write!(out, "{} ", fields.sequence)?;
+    tell_words(&[fields.signature.as_slice(), signed.as_slice()], out)?;
+    for pair in fields.pairs.iter() {
+        let (key, value) = (Hex(pair.key.as_slice()), Hex(pair.value.as_bytes()));
+        write!(out, " {key:?} {value:?}")?;
+    }
+    Ok(())
+}
+
+/// Returns the pair of a key and an empty list.
+fn pair(alloc: Global, key: &[u8]) -> Result<NodePair, DecoderError> {
+    let value = RawItem::new(alloc, &[0xc0])?;
+    match Vec::from_slice(alloc, key) {
+        Ok(key) => Ok(NodePair { key, value }),
+        Err(_) => Err(DecoderError::OutOfMemory),
+    }
+}
+
+/// Returns the pairs of these keys.
+fn pairs_of(alloc: Global, keys: &[&[u8]]) -> Result<Vec<NodePair>, DecoderError> {
     let mut pairs = Vec::new(alloc);
     for key in keys {
-        pairs.push(NodePair {
-            key: Vec::from_slice(alloc, *key)?,
-            value: RawItem::new(alloc, &[0xc0])?,
-        })?;
+        let pushed = pairs.push(pair(alloc, key)?);
+        pushed.or(Err(DecoderError::OutOfMemory))?;
     }
+    Ok(pairs)
+}
+
+/// Tells of the record with these keys whether it goes both ways, and the number of its bytes, or the
+/// fault.
+fn tell_keys_of(alloc: Global, keys: &[&[u8]], out: &mut Line) -> fmt::Result {
+    let Ok(pairs) = pairs_of(alloc, keys) else {
+        return Err(fmt::Error);
+    };
     let fields = NodeFields {
         signature: Vec::new(alloc),
         sequence: 1,
@@ -95,122 +113,96 @@ fn of_the_keys(alloc: Global, keys: &[&[u8]]) -> Result<String, Fail> {
     match NodeRecord::new(alloc, fields) {
         Ok(record) => {
             let written = rlp::encode(alloc, &record)?;
-            let ways = ways::<Item<NodeRecord>>(alloc, written.as_slice())?;
-            let len = written.len();
-            Ok(format!(in alloc; "{ways}, {len}")?)
+            ways::<Item<NodeRecord>>(alloc, written.as_slice(), out)?;
+            write!(out, ", {}", written.len())
         }
-        Err(found) => fault(alloc, &found),
+        Err(found) => fault(&found, out),
     }
 }
 
-/// The text that EIP-778 publishes as its example.
-pub(crate) const EXAMPLE: &str =
-    "enr:-IS4QHCYrYZbAKWCBRlAy5zzaDZXJBGkcnh4MHcBFZntXNFrdvJjX04jRzjzCBOo\
-    nrkTfj499SZuOh8R33Ls8RRcy5wBgmlkgnY0gmlwhH8AAAGJc2VjcDI1NmsxoQPKY0yuDUmstAHYpMa2_oxVtw0RW_QAdp\
-    zBQA8yWM0xOIN1ZHCCdl8";
-
-/// Texts, each with what the keys of its record give, or the fault. The records are the example, one
-/// with each known key, one whose known keys have values of other shapes, and the shortest one. The
+/// Texts, each with what the keys of its record give, or the fault. The records are that which EIP-778
+/// publishes as its example, one with each known key, one whose known keys have values of other shapes, and the shortest one. The
 /// faults are of keys that are missing, out of order or there twice, of bytes that aren't a record,
 /// of a byte more, of the prefix, and of base64 with padding, a last bit or the other alphabet.
-const TEXTS: [(&str, &str); 17] = [
-    (
-        EXAMPLE,
-        "id 7634, secp256k1 03ca634cae0d49acb401d8a4c6b6fe8c55b70d115bf400769cc1400f3258cd3138, \
-         ip 7f000001 None Some(30303), ip6 none None None, udp 82765f Some(Ok(30303))",
-    ),
-    (
-        "enr:-GuAAYJpZIJ2NIJpcIQKAAABg2lwNpAAAQIDBAUGBwgJCgsMDQ4PiXNlY3AyNTZrMaECAAAAAAAAAAAAAAAAAAAA\
-         AAAAAAAAAAAAAAAAAAAAAACDdGNwAYR0Y3A2gv__g3VkcICEdWRwNoIBAA",
-        "id 7634, secp256k1 020000000000000000000000000000000000000000000000000000000000000000, \
-         ip 0a000001 Some(1) Some(0), ip6 000102030405060708090a0b0c0d0e0f Some(65535) Some(256), \
-         udp 80 Some(Ok(0))",
-    ),
-    (
-        "enr:-GGAAYJpZMCCaXCFAAAAAACDaXA2hAAAAACJc2VjcDI1NmsxogIAAAAAAAAAAAAAAAAAAAAAAAAAAAAAAAAAAAAA\
-         AAAAAACDdGNwgwEAAIR0Y3A2ggABg3VkcMCEdWRwNsEB",
-        "id none, secp256k1 none, ip none None None, ip6 none None None, \
-         udp c0 Some(Err(RlpExpectedToBeData))",
-    ),
-    (
-        "enr:yIABgmlkgnY0",
-        "id 7634, secp256k1 none, ip none None None, ip6 none None None, udp none None",
-    ),
-    ("enr:yoABgmlwhAAAAAA", "Custom(\"key id is missing\")"),
-    (
-        "enr:0IABgmlwhAAAAACCaWSCdjQ",
-        "Custom(\"keys are not in order\")",
-    ),
-    (
-        "enr:zoABgmlkgnY0gmlkgnY0",
-        "Custom(\"keys are not in order\")",
-    ),
-    ("enr:xYABgmlk", "RlpIncorrectListLen"),
-    ("enr:BQ", "RlpExpectedToBeList"),
-    ("enr:", "RlpIsTooShort"),
-    ("enr:yIABgmlkgnY0AA", "RlpIsTooBig"),
-    (
-        "ENR:yIABgmlkgnY0",
-        "Custom(\"text does not begin with enr:\")",
-    ),
-    ("", "Custom(\"text does not begin with enr:\")"),
-    ("enr:BQ==", "Custom(\"text is not base64\")"),
-    ("enr:BR", "Custom(\"text is not base64\")"),
-    ("enr:+A", "Custom(\"text is not base64\")"),
-    ("enr:yIABgmlkgnY0 ", "Custom(\"text is not base64\")"),
-];
+pub(crate) const TEXTS: &str = "\
+enr:-IS4QHCYrYZbAKWCBRlAy5zzaDZXJBGkcnh4MHcBFZntXNFrdvJjX04jRzjzCBOonrkTfj499SZuOh8R33Ls8RRcy5wBgml\
+    kgnY0gmlwhH8AAAGJc2VjcDI1NmsxoQPKY0yuDUmstAHYpMa2_oxVtw0RW_QAdpzBQA8yWM0xOIN1ZHCCdl8 | id 7634\
+    , secp256k1 03ca634cae0d49acb401d8a4c6b6fe8c55b70d115bf400769cc1400f3258cd3138, ip 7f000001 Non\
+    e Some(30303), ip6 none None None, udp 82765f Some(Ok(30303))
+enr:-GuAAYJpZIJ2NIJpcIQKAAABg2lwNpAAAQIDBAUGBwgJCgsMDQ4PiXNlY3AyNTZrMaECAAAAAAAAAAAAAAAAAAAAAAAAAAA\
+    AAAAAAAAAAAAAAACDdGNwAYR0Y3A2gv__g3VkcICEdWRwNoIBAA | id 7634, secp256k1 0200000000000000000000\
+    00000000000000000000000000000000000000000000, ip 0a000001 Some(1) Some(0), ip6 0001020304050607\
+    08090a0b0c0d0e0f Some(65535) Some(256), udp 80 Some(Ok(0))
+enr:-GGAAYJpZMCCaXCFAAAAAACDaXA2hAAAAACJc2VjcDI1NmsxogIAAAAAAAAAAAAAAAAAAAAAAAAAAAAAAAAAAAAAAAAAAAC\
+    DdGNwgwEAAIR0Y3A2ggABg3VkcMCEdWRwNsEB | id none, secp256k1 none, ip none None None, ip6 none No\
+    ne None, udp c0 Some(Err(RlpExpectedToBeData))
+enr:yIABgmlkgnY0 | id 7634, secp256k1 none, ip none None None, ip6 none None None, udp none None
+enr:yoABgmlwhAAAAAA | Custom(\"key id is missing\")
+enr:0IABgmlwhAAAAACCaWSCdjQ | Custom(\"keys are not in order\")
+enr:zoABgmlkgnY0gmlkgnY0 | Custom(\"keys are not in order\")
+enr:xYABgmlk | RlpIncorrectListLen
+enr:BQ | RlpExpectedToBeList
+enr: | RlpIsTooShort
+enr:yIABgmlkgnY0AA | RlpIsTooBig
+ENR:yIABgmlkgnY0 | Custom(\"text does not begin with enr:\")
+ | Custom(\"text does not begin with enr:\")
+enr:BQ== | Custom(\"text is not base64\")
+enr:BR | Custom(\"text is not base64\")
+enr:+A | Custom(\"text is not base64\")
+enr:yIABgmlkgnY0  | Custom(\"text is not base64\")";
 
-/// Returns what the keys of the record of a text give, or the fault.
-fn told(alloc: Global, text: &str) -> Result<String, Fail> {
+/// Tells what the keys of the record of a text give, or the fault.
+fn tell_text(alloc: Global, text: &str, out: &mut Line) -> fmt::Result {
     match NodeRecord::from_text(alloc, text) {
-        Ok(record) if record.to_text(alloc)?.as_str() == text => keys(alloc, &record),
-        Ok(_) => Ok(String::from_str(alloc, "another text")?),
-        Err(found) => fault(alloc, &found),
+        Ok(record) => {
+            if record.to_text(alloc)?.as_str() != text {
+                return write!(out, "another text");
+            }
+            tell_keys(alloc, &record, out)
+        }
+        Err(found) => fault(&found, out),
     }
 }
 
-/// Returns what the known keys of a record give, and what is read of the key `udp`.
-fn keys(alloc: Global, record: &NodeRecord) -> Result<String, Fail> {
-    let id = digits(alloc, record.id())?;
-    let key = array_digits(alloc, &record.secp256k1())?;
-    let addresses = addresses(alloc, record)?;
-    let item = match record.value(b"udp") {
-        Some(item) => digits(alloc, Some(item.as_bytes()))?,
-        None => digits(alloc, None)?,
-    };
-    let read = record.get::<u64>(alloc, b"udp");
-    Ok(format!(in alloc; "id {id}, secp256k1 {key}, {addresses}, udp {item} {read:?}")?)
+/// Tells what the known keys of a record give, and what is read of the key `udp`.
+fn tell_keys(alloc: Global, record: &NodeRecord, out: &mut Line) -> fmt::Result {
+    tell_bytes("id ", record.id(), out)?;
+    tell_array(", secp256k1 ", record.secp256k1(), out)?;
+    tell_array(", ip ", record.ip(), out)?;
+    write!(out, " {:?} {:?}", record.tcp(), record.udp())?;
+    tell_array(", ip6 ", record.ip6(), out)?;
+    write!(out, " {:?} {:?}", record.tcp6(), record.udp6())?;
+    tell_bytes(
+        ", udp ",
+        record.value(b"udp").map(|item| item.as_bytes()),
+        out,
+    )?;
+    write!(out, " {:?}", record.get::<u64>(alloc, b"udp"))
 }
 
-/// Returns the two addresses of a record, each with its ports.
-fn addresses(alloc: Global, record: &NodeRecord) -> Result<String, Fail> {
-    let ip = array_digits(alloc, &record.ip())?;
-    let ip6 = array_digits(alloc, &record.ip6())?;
-    let (tcp, udp) = (record.tcp(), record.udp());
-    let (tcp6, udp6) = (record.tcp6(), record.udp6());
-    Ok(format!(in alloc; "ip {ip} {tcp:?} {udp:?}, ip6 {ip6} {tcp6:?} {udp6:?}")?)
-}
-
-/// Returns the digits of bytes, or `none`.
-fn digits(alloc: Global, bytes: Option<&[u8]>) -> Result<String, Fail> {
+/// Tells a name, and the digits of bytes or `none`.
+fn tell_bytes(name: &str, bytes: Option<&[u8]>, out: &mut Line) -> fmt::Result {
     match bytes {
-        Some(bytes) => Ok(hex::encode(alloc, bytes)?),
-        None => Ok(String::from_str(alloc, "none")?),
+        Some(bytes) => write!(out, "{name}{:?}", Hex(bytes)),
+        None => write!(out, "{name}none"),
     }
 }
 
-/// Returns the digits of an array, or `none`.
-fn array_digits<const N: usize>(alloc: Global, bytes: &Option<[u8; N]>) -> Result<String, Fail> {
+/// Tells a name, and the digits of an array or `none`.
+fn tell_array<const N: usize>(name: &str, bytes: Option<[u8; N]>, out: &mut Line) -> fmt::Result {
     match bytes {
-        Some(bytes) => digits(alloc, Some(bytes.as_slice())),
-        None => digits(alloc, None),
+        Some(bytes) => tell_bytes(name, Some(bytes.as_slice()), out),
+        None => tell_bytes(name, None, out),
     }
 }
 
 #[test]
 fn texts_of_node_records(rt: HostRuntime) -> Result<(), Fail> {
-    for (text, wanted) in TEXTS {
-        assert_eq!(rt; told(rt.alloc(), text)?.as_str(), wanted);
+    let mut wrong = Line::new();
+    for row in TEXTS.lines() {
+        let ((text, want), mut said) = (row.split_once(" | ").unwrap_or((row, "")), Line::new());
+        let _ = tell_text(rt.alloc(), text, &mut said);
+        wrong.note("text", text, said.as_str(), want);
     }
-    Ok(())
+    wrong.none_noted()
 }

@@ -1,16 +1,16 @@
 //! Nodes of the trie. Unless a comment says otherwise, the expected bytes were worked out by the
 //! rules of the format.
 
-use crate::reading::{Item, Reading, digits, fault, is_fault, written};
-use crate::text::spelled;
-use bytes::BytesMut;
-use rlp::{DecoderError, Encodable, RawItem};
+use crate::reading::{Item, Reading, fault, made, made_of};
+use rlp::{DecoderError, RawItem};
 use rlp_ethereum::{
     Branch, BranchChild, Child, Extension, ExtensionPath, Hash, InlineNode, Leaf, LeafPath, Path,
     TrieNode, ends_in_leaf,
 };
+use rlp_rows::{Hex, Line};
 use std::alloc::{AllocError, Global};
-use std::test::Fail;
+use std::fmt;
+use std::fmt::Write;
 
 /// Rows of nodes.
 pub(crate) const ROWS: &str = "
@@ -175,151 +175,125 @@ fn leaf(alloc: Global, path: &[u8], value: &[u8]) -> Result<Leaf, DecoderError> 
     }
 }
 
-/// Returns the extension by a path to a child.
-fn extension(alloc: Global, path: &[u8], child: Child) -> Result<Extension, DecoderError> {
+/// Returns the extension by a path to the child with these bytes.
+fn extension(alloc: Global, path: &[u8], child: &[u8]) -> Result<Extension, DecoderError> {
+    let child = inline(alloc, child)?;
     let path = ExtensionPath::new(alloc, path)?;
     Ok(Extension { path, child })
 }
 
-/// Returns the digits of what a value is written as, or the fault that there is in its place.
-fn written_of<T: Encodable + Drop>(
-    alloc: Global,
-    value: Result<T, DecoderError>,
-) -> Result<String, Fail> {
-    match value {
-        Ok(value) => digits(alloc, rlp::encode(alloc, &value)),
-        Err(found) => fault(alloc, &found),
+/// Returns the branch with a hash at place 1, a child at place 15 and a value. It is made from the
+/// branch of none of these.
+fn branch(alloc: Global, last: Option<Child>, value: &[u8]) -> Result<Branch, DecoderError> {
+    let mut empty = [0x80; 18];
+    empty[0] = 0xd1;
+    let mut branch = rlp::decode_strict::<Branch>(alloc, &empty)?;
+    branch.children[1] = BranchChild(Some(Child::Node(Hash([0x11; 32]))));
+    branch.children[15] = BranchChild(last);
+    match branch.value.extend_from_slice(value) {
+        Ok(()) => Ok(branch),
+        Err(_) => Err(DecoderError::OutOfMemory),
     }
 }
 
-/// Returns the bytes of the branch with a hash at place 1, a child at place 15 and a value.
-fn branch(alloc: Global, last: Option<Child>, value: &[u8]) -> Result<BytesMut, AllocError> {
-    let branch = Branch {
-        children: [
-            BranchChild(None),
-            BranchChild(Some(Child::Node(Hash([0x11; 32])))),
-            BranchChild(None),
-            BranchChild(None),
-            BranchChild(None),
-            BranchChild(None),
-            BranchChild(None),
-            BranchChild(None),
-            BranchChild(None),
-            BranchChild(None),
-            BranchChild(None),
-            BranchChild(None),
-            BranchChild(None),
-            BranchChild(None),
-            BranchChild(None),
-            BranchChild(last),
-        ],
-        value: Vec::from_slice(alloc, value)?,
-    };
-    rlp::encode(alloc, &branch)
-}
-
-/// Returns the bytes of the branch with these bytes, as a node.
-fn branch_node(alloc: Global, bytes: &[u8]) -> Result<BytesMut, Fail> {
+/// Returns the branch with these bytes, as a node.
+fn branch_node(alloc: Global, bytes: &[u8]) -> Result<TrieNode, DecoderError> {
     let branch = rlp::decode_strict::<Branch>(alloc, bytes)?;
-    Ok(rlp::encode(alloc, &TrieNode::Branch(branch))?)
+    Ok(TrieNode::Branch(branch))
 }
 
 /// Returns the number of the first byte whose change is not noticed: the changed bytes are neither
 /// refused nor read as the node that is written so.
-fn first_unnoticed(alloc: Global, bytes: &[u8]) -> Result<Option<usize>, Fail> {
+fn first_unnoticed(alloc: Global, bytes: &[u8]) -> Result<Option<usize>, AllocError> {
     for place in 0..bytes.len() {
         let mut changed = Vec::from_slice(alloc, bytes)?;
         if let Some(byte) = changed.get_mut(place) {
             *byte ^= 0x20;
         }
-        let again = Item::<TrieNode>::again(alloc, changed.as_slice())?;
-        let digits = hex::encode(alloc, changed.as_slice())?;
-        if !is_fault(&again) && again.as_str() != digits.as_str() {
+        if is_read_otherwise(alloc, changed.as_slice()) {
             return Ok(Some(place));
         }
     }
     Ok(None)
 }
 
-/// Returns what a call about a node answers.
-pub(crate) fn answer(alloc: Global, name: &str, bytes: &[u8]) -> Result<String, Fail> {
+/// Returns whether bytes are read as a node that is written as others.
+fn is_read_otherwise(alloc: Global, bytes: &[u8]) -> bool {
+    match Item::<TrieNode>::again(alloc, bytes) {
+        Ok(again) => again.as_slice() != bytes,
+        Err(found) => found == DecoderError::OutOfMemory,
+    }
+}
+
+/// Tells what a call about a node answers.
+pub(crate) fn tell(alloc: Global, name: &str, bytes: &[u8], out: &mut Line) -> fmt::Result {
     match name {
-        "none" => written::<BranchChild>(alloc, rlp::encode(alloc, &BranchChild(None)), bytes),
-        "hash" => {
-            let child = Child::Node(Hash([0x11; 32]));
-            written::<Child>(alloc, rlp::encode(alloc, &child), bytes)
-        }
-        "kept" => {
-            let child = inline(alloc, bytes)?;
-            written::<Child>(alloc, rlp::encode(alloc, &child), bytes)
-        }
-        "kept of" => written_of(alloc, inline(alloc, bytes)),
-        "branch of v" => written::<Branch>(alloc, branch(alloc, None, b"v"), bytes),
+        "none" => made(alloc, &BranchChild(None), bytes, out),
+        "hash" => made(alloc, &Child::Node(Hash([0x11; 32])), bytes, out),
+        "kept" | "kept of" => made_of(alloc, inline(alloc, bytes), bytes, out),
+        "branch of v" => made_of(alloc, branch(alloc, None, b"v"), bytes, out),
         "branch of verb" => {
             let last = Some(Child::Node(Hash([0xff; 32])));
-            written::<Branch>(alloc, branch(alloc, last, b"verb"), bytes)
+            made_of(alloc, branch(alloc, last, b"verb"), bytes, out)
         }
-        "branch again" => written::<TrieNode>(alloc, Ok(branch_node(alloc, bytes)?), bytes),
-        "nibbles" => nibbles(alloc, bytes),
-        "of nibbles" => of_nibbles::<2>(alloc, bytes),
-        "of nibbles of an extension" => of_nibbles::<0>(alloc, bytes),
-        "changed" => {
-            let place = first_unnoticed(alloc, bytes)?;
-            Ok(format!(in alloc; "{place:?}")?)
-        }
-        _ => short(alloc, name, bytes),
+        "branch again" => made_of(alloc, branch_node(alloc, bytes), bytes, out),
+        "nibbles" => tell_nibbles(alloc, bytes, out),
+        "of nibbles" => tell_path::<2>(alloc, bytes, out),
+        "of nibbles of an extension" => tell_path::<0>(alloc, bytes, out),
+        "changed" => write!(out, "{:?}", first_unnoticed(alloc, bytes)?),
+        _ => tell_short(alloc, name, bytes, out),
     }
 }
 
-/// Returns the kind of a path, its nibbles, and the path of these nibbles.
-fn nibbles(alloc: Global, bytes: &[u8]) -> Result<String, Fail> {
+/// Tells the kind of a path, its nibbles, and the path of these nibbles.
+fn tell_nibbles(alloc: Global, bytes: &[u8], out: &mut Line) -> fmt::Result {
     match ends_in_leaf(bytes) {
-        Some(true) => nibbles_of::<2>(alloc, "leaf", bytes),
-        Some(false) => nibbles_of::<0>(alloc, "extension", bytes),
-        None => Ok(String::from_str(alloc, "no path")?),
+        Some(true) => tell_nibbles_of::<2>(alloc, "leaf", bytes, out),
+        Some(false) => tell_nibbles_of::<0>(alloc, "extension", bytes, out),
+        None => write!(out, "no path"),
     }
 }
 
-/// Returns the kind, the nibbles of a path of this kind, and the path of these nibbles.
-fn nibbles_of<const FLAG: u8>(alloc: Global, kind: &str, bytes: &[u8]) -> Result<String, Fail> {
-    let path = Path::<FLAG>::new(alloc, bytes)?;
-    let nibbles = path.nibbles(alloc)?;
-    let again = Path::<FLAG>::from_nibbles(alloc, nibbles.as_slice())?;
-    let words = spelled(alloc, &[nibbles.as_slice(), again.bytes.as_slice()])?;
-    Ok(format!(in alloc; "{kind} {words}")?)
-}
-
-/// Returns the digits of the path of this kind with these nibbles, or the fault.
-fn of_nibbles<const FLAG: u8>(alloc: Global, nibbles: &[u8]) -> Result<String, Fail> {
-    match Path::<FLAG>::from_nibbles(alloc, nibbles) {
-        Ok(path) => Ok(hex::encode(alloc, path.bytes.as_slice())?),
-        Err(found) => fault(alloc, &found),
-    }
-}
-
-/// Returns what a call about a leaf or an extension answers.
-fn short(alloc: Global, name: &str, bytes: &[u8]) -> Result<String, Fail> {
-    match name {
-        "leaf of cat" => of_leaf(alloc, &[0x20, 0x12], b"cat", bytes),
-        "leaf of coin" => of_leaf(alloc, &[0x35], b"coin", bytes),
-        "leaf of stallion" => of_leaf(alloc, b"\x20\x6f\x72\x73\x65", b"stallion", bytes),
-        "extension to the cat" => {
-            let extension = extension(alloc, &[0x11], cat(alloc)?)?;
-            written::<Extension>(alloc, rlp::encode(alloc, &extension), bytes)
+/// Tells the kind, the nibbles of a path of this kind, and the path of these nibbles.
+fn tell_nibbles_of<const FLAG: u8>(
+    alloc: Global,
+    kind: &str,
+    bytes: &[u8],
+    out: &mut Line,
+) -> fmt::Result {
+    match Path::<FLAG>::new(alloc, bytes) {
+        Ok(path) => {
+            let nibbles = path.nibbles(alloc)?;
+            write!(out, "{kind} {:?} ", Hex(nibbles.as_slice()))?;
+            tell_path::<FLAG>(alloc, nibbles.as_slice(), out)
         }
-        "leaf by" => written_of(alloc, leaf(alloc, bytes, b"coin")),
-        "extension by" => written_of(alloc, extension(alloc, bytes, cat(alloc)?)),
-        _ => written_of(alloc, extension(alloc, &[0x17], inline(alloc, bytes)?)),
+        Err(found) => fault(&found, out),
     }
 }
 
-/// Returns the leaf of cat, as a child.
-fn cat(alloc: Global) -> Result<Child, DecoderError> {
-    inline(alloc, b"\xc7\x82\x20\x12\x83cat")
+/// Tells the digits of the path of this kind with these nibbles, or the fault.
+fn tell_path<const FLAG: u8>(alloc: Global, nibbles: &[u8], out: &mut Line) -> fmt::Result {
+    match Path::<FLAG>::from_nibbles(alloc, nibbles) {
+        Ok(path) => write!(out, "{:?}", Hex(path.bytes.as_slice())),
+        Err(found) => fault(&found, out),
+    }
 }
 
-/// Returns what is answered about the bytes of a leaf.
-fn of_leaf(alloc: Global, path: &[u8], value: &[u8], bytes: &[u8]) -> Result<String, Fail> {
-    let leaf = leaf(alloc, path, value)?;
-    written::<Leaf>(alloc, rlp::encode(alloc, &leaf), bytes)
+/// The leaf of cat.
+const CAT: &[u8] = b"\xc7\x82\x20\x12\x83cat";
+
+/// Tells what a call about a leaf or an extension answers.
+fn tell_short(alloc: Global, name: &str, bytes: &[u8], out: &mut Line) -> fmt::Result {
+    match name {
+        "leaf of cat" => made_of(alloc, leaf(alloc, b"\x20\x12", b"cat"), bytes, out),
+        "leaf of coin" => made_of(alloc, leaf(alloc, b"\x35", b"coin"), bytes, out),
+        "leaf of stallion" => {
+            let leaf = leaf(alloc, b"\x20\x6f\x72\x73\x65", b"stallion");
+            made_of(alloc, leaf, bytes, out)
+        }
+        "extension to the cat" => made_of(alloc, extension(alloc, b"\x11", CAT), bytes, out),
+        "leaf by" => made_of(alloc, leaf(alloc, bytes, b"coin"), bytes, out),
+        "extension by" => made_of(alloc, extension(alloc, bytes, CAT), bytes, out),
+        _ => made_of(alloc, extension(alloc, b"\x17", bytes), bytes, out),
+    }
 }

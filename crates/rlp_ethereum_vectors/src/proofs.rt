@@ -2,7 +2,10 @@
 
 use crate::text::bytes_of;
 use rlp_ethereum::{Hash, verify_proof};
-use std::alloc::Global;
+use rlp_rows::{Hex, Line};
+use std::alloc::{AllocError, Global};
+use std::fmt;
+use std::fmt::Write;
 use std::test::Fail;
 
 /// Roots, keys and nodes as text, with blanks between, and what the trie has: a value after `=`, none,
@@ -59,41 +62,48 @@ const ROWS: &str = "
     PUPPY 686f727365 PUPPY_0 PUPPY_1 cf85206f727365887374616c6c696f6e | NodesLeft
 ";
 
-/// Returns what the trie with a root has for a key, as nodes prove it.
-fn verified(alloc: Global, text: &str) -> Result<String, Fail> {
-    let mut words = text.split(' ');
-    let root = bytes_of(alloc, words.next().unwrap_or(""))?;
-    let key = bytes_of(alloc, words.next().unwrap_or(""))?;
-    let mut nodes = Vec::new(alloc);
-    for word in words {
-        nodes.push(bytes_of(alloc, word)?)?;
-    }
-    let Ok(root) = <[u8; 32]>::try_from(root.as_slice()) else {
-        return Ok(String::from_str(alloc, "no root")?);
+/// Tells what the trie with a root has for a key, as nodes prove it.
+fn tell(alloc: Global, root: &[u8], key: &[u8], nodes: &[Vec<u8>], out: &mut Line) -> fmt::Result {
+    let Ok(root) = <[u8; 32]>::try_from(root) else {
+        return write!(out, "no root");
     };
-    match verify_proof(alloc, &Hash(root), key.as_slice(), nodes.as_slice()) {
-        Ok(Some(value)) => Ok(hex::encode(alloc, value.as_slice())?),
-        Ok(None) => Ok(String::from_str(alloc, "none")?),
-        Err(fault) => Ok(format!(in alloc; "{fault}")?),
+    match verify_proof(alloc, &Hash(root), key, nodes) {
+        Ok(Some(value)) => write!(out, "= {:?}", Hex(value.as_slice())),
+        Ok(None) => write!(out, "none"),
+        Err(fault) => write!(out, "{fault}"),
     }
 }
 
-/// Returns the text that a row wants: of a value, its digits.
-fn wanted(alloc: Global, text: &str) -> Result<String, Fail> {
+/// Tells what the root, the key and the nodes of a row prove.
+fn tell_row(alloc: Global, words: &str, out: &mut Line) -> Result<(), AllocError> {
+    let mut parts = Vec::new(alloc);
+    for word in words.split(' ') {
+        parts.push(bytes_of(alloc, word)?)?;
+    }
+    if let [root, key, nodes @ ..] = parts.as_slice() {
+        let _ = tell(alloc, root.as_slice(), key.as_slice(), nodes, out);
+    }
+    Ok(())
+}
+
+/// Tells what a row wants: of a value, its digits.
+fn tell_wanted(alloc: Global, text: &str, out: &mut Line) -> fmt::Result {
     match text.strip_prefix("= ") {
-        Some(value) => Ok(hex::encode(alloc, bytes_of(alloc, value)?.as_slice())?),
-        None => Ok(String::from_str(alloc, text)?),
+        Some(value) => write!(out, "= {:?}", Hex(bytes_of(alloc, value)?.as_slice())),
+        None => out.write_str(text),
     }
 }
 
 #[test]
 fn proofs(rt: HostRuntime) -> Result<(), Fail> {
+    let mut wrong = Line::new();
     for line in ROWS.lines() {
-        if let Some((proof, text)) = line.trim().split_once(" | ") {
-            let given = verified(rt.alloc(), proof)?;
-            let wanted = wanted(rt.alloc(), text)?;
-            assert_eq!(rt; given.as_str(), wanted.as_str(), "{line}");
+        if let Some((words, text)) = line.trim().split_once(" | ") {
+            let (mut said, mut wanted) = (Line::new(), Line::new());
+            tell_row(rt.alloc(), words, &mut said)?;
+            let _ = tell_wanted(rt.alloc(), text, &mut wanted);
+            wrong.note("proof", words, said.as_str(), wanted.as_str());
         }
     }
-    Ok(())
+    wrong.none_noted()
 }

@@ -1,14 +1,14 @@
 //! Records by themselves: headers, blocks, receipts, accounts and their parts.
 
-use crate::reading::{digits, fault, written};
-use crate::text::wide;
-use bytes::BytesMut;
+use crate::reading::{digits, made, made_of};
+use rlp::Uint;
 use rlp_ethereum::{
     AccessList, AccessListItem, AccessListTransaction, Address, Bloom, FeeMarketTransaction, Hash,
     Log, Receipt, ReceiptStatus, Recipient, Signed,
 };
+use rlp_rows::Line;
 use std::alloc::{AllocError, Global};
-use std::test::Fail;
+use std::fmt;
 
 /// Rows of headers, blocks, receipts, accounts and their parts.
 pub(crate) const ROWS: &str = "
@@ -239,19 +239,19 @@ fn payment(alloc: Global) -> Signed<FeeMarketTransaction> {
     let payload = FeeMarketTransaction {
         chain_id: 1,
         nonce: 0,
-        max_priority_fee_per_gas: wide(1_000_000_000),
-        max_fee_per_gas: wide(20_000_000_000),
+        max_priority_fee_per_gas: Uint::<32>::from(1_000_000_000),
+        max_fee_per_gas: Uint::<32>::from(20_000_000_000),
         gas_limit: 21_000,
         to: Recipient::Account(Address([0x35; 20])),
-        value: wide(1_000_000_000_000_000_000),
+        value: Uint::<32>::from(1_000_000_000_000_000_000),
         data: Vec::new(alloc),
         access_list: AccessList(Vec::new(alloc)),
     };
     Signed {
         payload,
         v: false,
-        r: wide(1),
-        s: wide(2),
+        r: Uint::<32>::from(1),
+        s: Uint::<32>::from(2),
     }
 }
 
@@ -264,18 +264,18 @@ fn creation(alloc: Global) -> Result<Signed<AccessListTransaction>, AllocError> 
     let payload = AccessListTransaction {
         chain_id: 1,
         nonce: 0,
-        gas_price: wide(1_000_000_000),
+        gas_price: Uint::<32>::from(1_000_000_000),
         gas_limit: 21_000,
         to: Recipient::Creation,
-        value: wide(0),
+        value: Uint::<32>::from(0),
         data: Vec::from_array(alloc, *b"cat")?,
         access_list: AccessList(Vec::from_array(alloc, [item])?),
     };
     Ok(Signed {
         payload,
         v: true,
-        r: wide(1),
-        s: wide(2),
+        r: Uint::<32>::from(1),
+        s: Uint::<32>::from(2),
     })
 }
 
@@ -288,69 +288,63 @@ fn log(alloc: Global) -> Result<Log, AllocError> {
     })
 }
 
-/// Returns the bytes of the receipt of a transaction that succeeded, with one log.
-fn receipt(alloc: Global) -> Result<BytesMut, AllocError> {
-    let receipt = Receipt {
+/// Returns the receipt of a transaction that succeeded, with one log.
+fn receipt(alloc: Global) -> Result<Receipt, AllocError> {
+    Ok(Receipt {
         status_or_state_root: ReceiptStatus::Success,
         cumulative_gas_used: 21_000,
         logs_bloom: Bloom([0; 256]),
         logs: Vec::from_array(alloc, [log(alloc)?])?,
-    };
-    rlp::encode(alloc, &receipt)
+    })
 }
 
 /// The hash whose digits stand in the row.
-const HASH: Hash = Hash([
-    0x28, 0xef, 0x61, 0x34, 0x0b, 0xd9, 0x39, 0xbc, 0x21, 0x95, 0xfe, 0x53, 0x75, 0x67, 0x86, 0x60,
-    0x03, 0xe1, 0xa1, 0x5d, 0x3c, 0x71, 0xff, 0x63, 0xe1, 0x59, 0x06, 0x20, 0xaa, 0x63, 0x62, 0x76,
-]);
+const HASH: Hash = Hash(
+    *b"\x28\xef\x61\x34\x0b\xd9\x39\xbc\x21\x95\xfe\x53\x75\x67\x86\x60\
+    \x03\xe1\xa1\x5d\x3c\x71\xff\x63\xe1\x59\x06\x20\xaa\x63\x62\x76",
+);
 
 /// The addresses of the example of EIP-2930.
-const FIRST: [u8; 20] = [
-    0xde, 0x0b, 0x29, 0x56, 0x69, 0xa9, 0xfd, 0x93, 0xd5, 0xf2, 0x8d, 0x9e, 0xc8, 0x5e, 0x40, 0xf4,
-    0xcb, 0x69, 0x7b, 0xae,
-];
+const FIRST: [u8; 20] =
+    *b"\xde\x0b\x29\x56\x69\xa9\xfd\x93\xd5\xf2\x8d\x9e\xc8\x5e\x40\xf4\xcb\x69\x7b\xae";
 
-const SECOND: [u8; 20] = [
-    0xbb, 0x9b, 0xc2, 0x44, 0xd7, 0x98, 0x12, 0x3f, 0xde, 0x78, 0x3f, 0xcc, 0x1c, 0x72, 0xd3, 0xbb,
-    0x8c, 0x18, 0x94, 0x13,
-];
+const SECOND: [u8; 20] =
+    *b"\xbb\x9b\xc2\x44\xd7\x98\x12\x3f\xde\x78\x3f\xcc\x1c\x72\xd3\xbb\x8c\x18\x94\x13";
 
-/// Returns the bytes of the example of EIP-2930: an account with the keys 3 and 7, and another with
+/// Returns the example of EIP-2930: an account with the keys 3 and 7, and another with
 /// none.
-fn access_list(alloc: Global) -> Result<BytesMut, AllocError> {
+fn access_list(alloc: Global) -> Result<AccessList, AllocError> {
     let first = AccessListItem {
         address: Address(FIRST),
-        storage_keys: Vec::from_array(alloc, [Hash(wide(3).bytes), Hash(wide(7).bytes)])?,
+        storage_keys: Vec::from_array(
+            alloc,
+            [
+                Hash(Uint::<32>::from(3).bytes),
+                Hash(Uint::<32>::from(7).bytes),
+            ],
+        )?,
     };
     let second = AccessListItem {
         address: Address(SECOND),
         storage_keys: Vec::new(alloc),
     };
-    let accesses = AccessList(Vec::from_array(alloc, [first, second])?);
-    rlp::encode(alloc, &accesses)
+    Ok(AccessList(Vec::from_array(alloc, [first, second])?))
 }
 
-/// Returns what a call of this page answers.
-pub(crate) fn answer(alloc: Global, name: &str, bytes: &[u8]) -> Result<String, Fail> {
+/// Tells what a call of this page answers.
+pub(crate) fn tell(alloc: Global, name: &str, bytes: &[u8], out: &mut Line) -> fmt::Result {
     match name {
-        "hash" => written::<Hash>(alloc, rlp::encode(alloc, &HASH), bytes),
-        "log" => written::<Log>(alloc, rlp::encode(alloc, &log(alloc)?), bytes),
-        "receipt" => written::<Receipt>(alloc, receipt(alloc), bytes),
-        "access list" => written::<AccessList>(alloc, access_list(alloc), bytes),
-        "payment" => {
-            let payment = rlp::encode(alloc, &payment(alloc));
-            written::<Signed<FeeMarketTransaction>>(alloc, payment, bytes)
+        "hash" => made(alloc, &HASH, bytes, out),
+        "log" => made_of(alloc, log(alloc), bytes, out),
+        "receipt" => made_of(alloc, receipt(alloc), bytes, out),
+        "access list" => made_of(alloc, access_list(alloc), bytes, out),
+        "payment" => made(alloc, &payment(alloc), bytes, out),
+        "creation" => made_of(alloc, creation(alloc), bytes, out),
+        "envelope of the payment" => digits(payment(alloc).to_bytes(alloc), out),
+        "envelope of the creation" => digits(creation(alloc)?.to_bytes(alloc), out),
+        _ => {
+            let read = Signed::<AccessListTransaction>::from_bytes(alloc, bytes);
+            made_of(alloc, read, bytes, out)
         }
-        "creation" => {
-            let creation = rlp::encode(alloc, &creation(alloc)?);
-            written::<Signed<AccessListTransaction>>(alloc, creation, bytes)
-        }
-        "envelope of the payment" => digits(alloc, payment(alloc).to_bytes(alloc)),
-        "envelope of the creation" => digits(alloc, creation(alloc)?.to_bytes(alloc)),
-        _ => match Signed::<AccessListTransaction>::from_bytes(alloc, bytes) {
-            Ok(payment) => digits(alloc, rlp::encode(alloc, &payment)),
-            Err(found) => fault(alloc, &found),
-        },
     }
 }

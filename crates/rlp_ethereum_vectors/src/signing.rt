@@ -7,21 +7,23 @@ use rlp_ethereum::{
     BlobTransactionWithCellProofs, BlobTransactionWithProofs, DepositTransaction, Enveloped,
     Transaction,
 };
+use rlp_rows::{Hex, Line};
 use std::alloc::{AllocError, Global};
-use std::test::Fail;
+use std::fmt;
+use std::fmt::Write;
 
 /// Transactions with what is signed of them, and others in the forms that are sent.
 pub(crate) const ROWS: &str = "
     The example of EIP-155. The hash of what is signed is daf5a779..8e53, and that of the
     transaction 33469b22..0788.
-    signing: payload | f86c098504a817c800825208943535353535353535353535353535353535353535880de0b6b\
+    signing: what is signed | f86c098504a817c800825208943535353535353535353535353535353535353535880de0b6b\
      3a76400008025a028ef61340bd939bc2195fe537567866003e1a15d3c71ff63e1590620aa636276a067cbe9d8997f\
      761aecb703304b3800ccf555c9f3dc64214b297fb1966a3b6d83 | ec098504a817c8008252089435353535353535\
      35353535353535353535353535880de0b6b3a764000080018080
-    signing: again | f86c098504a817c800825208943535353535353535353535353535353535353535880de0b6b3a\
+    signing: signature again | f86c098504a817c800825208943535353535353535353535353535353535353535880de0b6b3a\
      76400008025a028ef61340bd939bc2195fe537567866003e1a15d3c71ff63e1590620aa636276a067cbe9d8997f76\
      1aecb703304b3800ccf555c9f3dc64214b297fb1966a3b6d83 | the same
-    signing: numbers | f86c098504a817c800825208943535353535353535353535353535353535353535880de0b6b\
+    signing: fees | f86c098504a817c800825208943535353535353535353535353535353535353535880de0b6b\
      3a76400008025a028ef61340bd939bc2195fe537567866003e1a15d3c71ff63e1590620aa636276a067cbe9d8997f\
      761aecb703304b3800ccf555c9f3dc64214b297fb1966a3b6d83 | 0 Some(1) 8504a817c800 8504a817c800 tr\
      ue
@@ -30,14 +32,14 @@ pub(crate) const ROWS: &str = "
     Transaction alone | 01f8630103018261a894b94f5374fce5edbc8e2a8697c15331677e6ebf0b0a825544c001a0\
      c9519f4f2b30335884581971573fadf60c6204f59a911df35ee8a540456b2660a032f1e8e2c5dd761f9e4f88f41c8\
      310aeaba26a8bfcdacfedfa12ec3862d37521
-    signing: payload | 01f8630103018261a894b94f5374fce5edbc8e2a8697c15331677e6ebf0b0a825544c001a0c\
+    signing: what is signed | 01f8630103018261a894b94f5374fce5edbc8e2a8697c15331677e6ebf0b0a825544c001a0c\
      9519f4f2b30335884581971573fadf60c6204f59a911df35ee8a540456b2660a032f1e8e2c5dd761f9e4f88f41c83\
      10aeaba26a8bfcdacfedfa12ec3862d37521 | 01e00103018261a894b94f5374fce5edbc8e2a8697c15331677e6e\
      bf0b0a825544c0
-    signing: again | 01f8630103018261a894b94f5374fce5edbc8e2a8697c15331677e6ebf0b0a825544c001a0c95\
+    signing: signature again | 01f8630103018261a894b94f5374fce5edbc8e2a8697c15331677e6ebf0b0a825544c001a0c95\
      19f4f2b30335884581971573fadf60c6204f59a911df35ee8a540456b2660a032f1e8e2c5dd761f9e4f88f41c8310\
      aeaba26a8bfcdacfedfa12ec3862d37521 | the same
-    signing: numbers | 01f8630103018261a894b94f5374fce5edbc8e2a8697c15331677e6ebf0b0a825544c001a0c\
+    signing: fees | 01f8630103018261a894b94f5374fce5edbc8e2a8697c15331677e6ebf0b0a825544c001a0c\
      9519f4f2b30335884581971573fadf60c6204f59a911df35ee8a540456b2660a032f1e8e2c5dd761f9e4f88f41c83\
      10aeaba26a8bfcdacfedfa12ec3862d37521 | 1 Some(1) 01 01 true
     The transaction 0ec0b6a2..2ee0 of the main chain, of type 2. The hash of what is signed is
@@ -47,40 +49,40 @@ pub(crate) const ROWS: &str = "
      0000000000000000000000000000000000000000000000000000000c080a0840cfc572845f5786e702984c2a58252\
      8cad4b49b2a10b9db1be7fca90058565a025e7109ceb98168d95b09b18bbf6b685130e0562f233877d492b94eee0c\
      5b6d1
-    signing: payload | 02f8b00142843b9aca008504a817c80082ad62946069a6c32cf691f5982febae4faf8a6f3ab\
+    signing: what is signed | 02f8b00142843b9aca008504a817c80082ad62946069a6c32cf691f5982febae4faf8a6f3ab\
      2f0f680b844a22cb4650000000000000000000000005eee75727d804a2b13038928d36f8b188945a57a0000000000\
      000000000000000000000000000000000000000000000000000000c080a0840cfc572845f5786e702984c2a582528\
      cad4b49b2a10b9db1be7fca90058565a025e7109ceb98168d95b09b18bbf6b685130e0562f233877d492b94eee0c5\
      b6d1 | 02f86d0142843b9aca008504a817c80082ad62946069a6c32cf691f5982febae4faf8a6f3ab2f0f680b844\
      a22cb4650000000000000000000000005eee75727d804a2b13038928d36f8b188945a57a000000000000000000000\
      0000000000000000000000000000000000000000000c0
-    signing: again | 02f8b00142843b9aca008504a817c80082ad62946069a6c32cf691f5982febae4faf8a6f3ab2f\
+    signing: signature again | 02f8b00142843b9aca008504a817c80082ad62946069a6c32cf691f5982febae4faf8a6f3ab2f\
      0f680b844a22cb4650000000000000000000000005eee75727d804a2b13038928d36f8b188945a57a000000000000\
      0000000000000000000000000000000000000000000000000000c080a0840cfc572845f5786e702984c2a582528ca\
      d4b49b2a10b9db1be7fca90058565a025e7109ceb98168d95b09b18bbf6b685130e0562f233877d492b94eee0c5b6\
      d1 | the same
-    signing: numbers | 02f8b00142843b9aca008504a817c80082ad62946069a6c32cf691f5982febae4faf8a6f3ab\
+    signing: fees | 02f8b00142843b9aca008504a817c80082ad62946069a6c32cf691f5982febae4faf8a6f3ab\
      2f0f680b844a22cb4650000000000000000000000005eee75727d804a2b13038928d36f8b188945a57a0000000000\
      000000000000000000000000000000000000000000000000000000c080a0840cfc572845f5786e702984c2a582528\
      cad4b49b2a10b9db1be7fca90058565a025e7109ceb98168d95b09b18bbf6b685130e0562f233877d492b94eee0c5\
      b6d1 | 2 Some(1) 8504a817c800 843b9aca00 false
     Each number v of EIP-155, and others.
-    signing: payload | c98080808080801b0102 | c6808080808080
-    signing: numbers | c98080808080801b0102 | 0 None 80 80 true
-    signing: again | c98080808080801b0102 | the same
-    signing: again | c98080808080801c0102 | the same
-    signing: payload | c9808080808080230102 | c9808080808080808080
-    signing: numbers | c9808080808080240102 | 0 Some(0) 80 80 true
-    signing: again | c9808080808080240102 | the same
-    signing: payload | d280808080808089+0200000000000000220102 | d180808080808088ffffffffffffffff8\
+    signing: what is signed | c98080808080801b0102 | c6808080808080
+    signing: fees | c98080808080801b0102 | 0 None 80 80 true
+    signing: signature again | c98080808080801b0102 | the same
+    signing: signature again | c98080808080801c0102 | the same
+    signing: what is signed | c9808080808080230102 | c9808080808080808080
+    signing: fees | c9808080808080240102 | 0 Some(0) 80 80 true
+    signing: signature again | c9808080808080240102 | the same
+    signing: what is signed | d280808080808089+0200000000000000220102 | d180808080808088ffffffffffffffff8\
      080
-    signing: again | d280808080808089+0200000000000000220102 | the same
-    signing: payload | d280808080808089+0200000000000000230102 | None
-    signing: numbers | d280808080808089+0200000000000000230102 | 0 None 80 80 true
-    signing: payload | c9808080808080800102 | None
-    signing: payload | c98080808080801a0102 | None
-    signing: payload | c98080808080801d0102 | None
-    signing: again | c9808080808080220102 | None
+    signing: signature again | d280808080808089+0200000000000000220102 | the same
+    signing: what is signed | d280808080808089+0200000000000000230102 | None
+    signing: fees | d280808080808089+0200000000000000230102 | 0 None 80 80 true
+    signing: what is signed | c9808080808080800102 | None
+    signing: what is signed | c98080808080801a0102 | None
+    signing: what is signed | c98080808080801d0102 | None
+    signing: signature again | c9808080808080220102 | None
     With one blob of zeros, as in EIP-4844 and EIP-7594.
     sent: with proofs | 03fa0200b1+f843018002030494+35*20+0780c008e1a001+00*31+800102+fa020004ba02\
      0000+00*131072+f1b0c0+00*47+f1b0c0+00*47
@@ -137,47 +139,49 @@ impl<T: Enveloped> Bare for Sent<T> {
     }
 }
 
-/// Returns what a call about a transaction answers that is sent with what isn't in a block.
-pub(crate) fn in_envelope(alloc: Global, name: &str, bytes: &[u8]) -> Result<String, Fail> {
+/// Tells what a call about a transaction answers that is sent with what isn't in a block.
+pub(crate) fn tell_sent(alloc: Global, name: &str, bytes: &[u8], out: &mut Line) -> fmt::Result {
     match name {
-        "with proofs" => ways::<Alone<Sent<BlobTransactionWithProofs>>>(alloc, bytes),
-        "with cell proofs" => ways::<Alone<Sent<BlobTransactionWithCellProofs>>>(alloc, bytes),
-        _ => ways::<Alone<Sent<DepositTransaction>>>(alloc, bytes),
+        "with proofs" => ways::<Alone<Sent<BlobTransactionWithProofs>>>(alloc, bytes, out),
+        "with cell proofs" => {
+            ways::<Alone<Sent<BlobTransactionWithCellProofs>>>(alloc, bytes, out)
+        }
+        _ => ways::<Alone<Sent<DepositTransaction>>>(alloc, bytes, out),
     }
 }
 
-/// Returns what a call about a signature answers.
-pub(crate) fn answer(alloc: Global, name: &str, bytes: &[u8]) -> Result<String, Fail> {
-    let signed = Transaction::from_bytes(alloc, bytes)?;
-    match name {
-        "payload" => match signed.signing_payload(alloc) {
-            Ok(Some(payload)) => digits(alloc, Ok(payload)),
-            Ok(None) => Ok(String::from_str(alloc, "None")?),
-            Err(refused) => digits(alloc, Err(refused)),
-        },
-        "again" => again(alloc, signed, bytes),
-        _ => numbers(alloc, &signed),
+/// Tells what is signed of a transaction.
+pub(crate) fn tell_payload(alloc: Global, signed: &Transaction, out: &mut Line) -> fmt::Result {
+    match signed.signing_payload(alloc)? {
+        Some(payload) => write!(out, "{:?}", Hex(payload.as_slice())),
+        None => write!(out, "None"),
     }
 }
 
-/// Takes the signature off, and returns `the same` if with it the transaction has these bytes again.
-fn again(alloc: Global, signed: Transaction, bytes: &[u8]) -> Result<String, Fail> {
+/// Takes the signature off, and tells whether with it the transaction has these bytes again.
+pub(crate) fn tell_again(
+    alloc: Global,
+    signed: Transaction,
+    bytes: &[u8],
+    out: &mut Line,
+) -> fmt::Result {
     let (r, s) = (*signed.r(), *signed.s());
-    let Some((unsigned, y_parity)) = signed.into_unsigned() else {
-        return Ok(String::from_str(alloc, "None")?);
-    };
-    let again = unsigned.with_signature(y_parity, r, s).to_bytes(alloc)?;
-    if again.as_slice() == bytes {
-        return Ok(String::from_str(alloc, "the same")?);
+    match signed.into_unsigned() {
+        Some((unsigned, y_parity)) => {
+            let again = unsigned.with_signature(y_parity, r, s).to_bytes(alloc)?;
+            let is_same = again.as_slice() == bytes;
+            out.write_str(if is_same { "the same" } else { "other bytes" })
+        }
+        None => write!(out, "None"),
     }
-    Ok(String::from_str(alloc, "other bytes")?)
 }
 
-/// Returns the type, the chain, the two fees as they are written, and whether there is a price of gas.
-fn numbers(alloc: Global, signed: &Transaction) -> Result<String, Fail> {
+/// Tells the type, the chain, the two fees as they are written, and whether there is a price of gas.
+pub(crate) fn tell_fees(alloc: Global, signed: &Transaction, out: &mut Line) -> fmt::Result {
     let (kind, chain) = (signed.transaction_type(), signed.chain_id());
-    let fee = digits(alloc, rlp::encode(alloc, signed.max_fee_per_gas()))?;
-    let priority = digits(alloc, rlp::encode(alloc, signed.max_priority_fee_per_gas()))?;
-    let has_price = signed.gas_price().is_some();
-    Ok(format!(in alloc; "{kind} {chain:?} {fee} {priority} {has_price}")?)
+    write!(out, "{kind} {chain:?} ")?;
+    digits(rlp::encode(alloc, signed.max_fee_per_gas()), out)?;
+    write!(out, " ")?;
+    digits(rlp::encode(alloc, signed.max_priority_fee_per_gas()), out)?;
+    write!(out, " {}", signed.gas_price().is_some())
 }

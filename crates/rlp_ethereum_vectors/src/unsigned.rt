@@ -2,15 +2,18 @@
 //! Python, made the expected bytes from the values of the fields. Those of the example of EIP-155
 //! are in the EIP.
 
-use crate::reading::{Alone, digits, ways, written};
-use crate::text::{spelled, wide};
-use bytes::BytesMut;
+use crate::fields::{second, tell_parts, tell_second, tell_typed};
+use crate::reading::{Alone, digits, fault, made, ways};
+use crate::signing::{tell_again, tell_fees, tell_payload};
+use rlp::Uint;
 use rlp_ethereum::{
     Address, Authorization, LegacyTransaction, Recipient, Tagged, Transaction,
     UnsignedLegacyTransaction, UnsignedTransaction,
 };
-use std::alloc::{AllocError, Global};
-use std::test::Fail;
+use rlp_rows::{Hex, Line};
+use std::alloc::Global;
+use std::fmt;
+use std::fmt::Write;
 
 /// Rows of transactions.
 pub(crate) const ROWS: &str = "
@@ -273,82 +276,95 @@ pub(crate) const ROWS: &str = "
 fn example(alloc: Global, chain_id: Option<u64>) -> UnsignedLegacyTransaction {
     let payload = LegacyTransaction {
         nonce: 9,
-        gas_price: wide(20_000_000_000),
+        gas_price: Uint::<32>::from(20_000_000_000),
         gas_limit: 21_000,
         to: Recipient::Account(Address([0x35; 20])),
-        value: wide(1_000_000_000_000_000_000),
+        value: Uint::<32>::from(1_000_000_000_000_000_000),
         data: Vec::new(alloc),
     };
     UnsignedLegacyTransaction { payload, chain_id }
 }
 
-/// Returns what a call about a transaction that is signed answers.
-pub(crate) fn answer(alloc: Global, name: &str, bytes: &[u8]) -> Result<String, Fail> {
+/// Tells what a call about a transaction that is signed answers.
+pub(crate) fn tell(alloc: Global, name: &str, bytes: &[u8], out: &mut Line) -> fmt::Result {
     match name {
-        "example for chain 1" => {
-            let example = rlp::encode(alloc, &example(alloc, Some(1)));
-            written::<UnsignedLegacyTransaction>(alloc, example, bytes)
-        },
-        "example" => {
-            let example = rlp::encode(alloc, &example(alloc, None));
-            written::<UnsignedLegacyTransaction>(alloc, example, bytes)
-        },
+        "example for chain 1" => made(alloc, &example(alloc, Some(1)), bytes, out),
+        "example" => made(alloc, &example(alloc, None), bytes, out),
         "bytes of the example for chain 1" => {
             let unsigned = UnsignedTransaction::Legacy(example(alloc, Some(1)));
-            digits(alloc, unsigned.to_bytes(alloc))
+            digits(unsigned.to_bytes(alloc), out)
         }
-        "numbers" => numbers(alloc, bytes),
-        "authorization" => {
-            let read = Authorization::from_signing_payload(alloc, bytes)?;
-            let text = spelled(alloc, &[&read.chain_id.bytes, &read.address.0])?;
-            let nonce = read.nonce;
-            Ok(format!(in alloc; "{text} {nonce}")?)
-        }
-        "payload, both ways" => {
-            let signed = Transaction::from_bytes(alloc, bytes)?;
-            let payload = payload(alloc, name, signed)?;
-            let ways = ways::<Alone<UnsignedTransaction>>(alloc, payload.as_slice())?;
-            let len = payload.len();
-            Ok(format!(in alloc; "{ways}, {len}")?)
-        }
-        "without its signature" => {
-            let unsigned = without_signature(Transaction::from_bytes(alloc, bytes)?, Some(1));
-            digits(alloc, unsigned.to_bytes(alloc))
-        }
-        _ => {
-            let signed = Transaction::from_bytes(alloc, bytes)?;
-            digits(alloc, payload(alloc, name, signed))
-        }
+        "numbers" => match UnsignedTransaction::from_bytes(alloc, bytes) {
+            Ok(unsigned) => tell_numbers(&unsigned, out),
+            Err(found) => fault(&found, out),
+        },
+        "authorization" => match Authorization::from_signing_payload(alloc, bytes) {
+            Ok(read) => tell_authorization(&read, out),
+            Err(found) => fault(&found, out),
+        },
+        _ => tell_signed(alloc, name, bytes, out),
     }
 }
 
-/// Returns the number of the chain, the nonce and the limit of gas of a transaction.
-fn numbers(alloc: Global, bytes: &[u8]) -> Result<String, Fail> {
-    let (chain, nonce, gas) = match UnsignedTransaction::from_bytes(alloc, bytes)? {
+/// Tells the number of the chain, the address and the nonce of an authorization.
+fn tell_authorization(read: &Authorization, out: &mut Line) -> fmt::Result {
+    let (chain, address) = (Hex(&read.chain_id.bytes), Hex(&read.address.0));
+    write!(out, "{chain:?} {address:?} {}", read.nonce)
+}
+
+/// Tells the number of the chain, the nonce and the limit of gas of a transaction.
+fn tell_numbers(unsigned: &UnsignedTransaction, out: &mut Line) -> fmt::Result {
+    let (chain, nonce, gas) = match unsigned {
         UnsignedTransaction::Legacy(tx) => (tx.chain_id, tx.payload.nonce, tx.payload.gas_limit),
         UnsignedTransaction::AccessList(tx) => (Some(tx.chain_id), tx.nonce, tx.gas_limit),
         UnsignedTransaction::FeeMarket(tx) => (Some(tx.chain_id), tx.nonce, tx.gas_limit),
         UnsignedTransaction::Blob(tx) => (Some(tx.chain_id), tx.nonce, tx.gas_limit),
         UnsignedTransaction::SetCode(tx) => (Some(tx.chain_id), tx.nonce, tx.gas_limit),
     };
-    Ok(format!(in alloc; "{chain:?} {nonce} {gas}")?)
+    write!(out, "{chain:?} {nonce} {gas}")
 }
 
-/// Returns what is signed of a transaction, or of its second authorization.
-fn payload(alloc: Global, name: &str, signed: Transaction) -> Result<BytesMut, AllocError> {
-    if let Transaction::SetCode(tx) = &signed {
-        if name == "second authorization" {
-            if let Some(second) = tx.payload.authorization_list.get(1) {
-                return second.payload.signing_payload(alloc);
+/// Tells what a call about a signed transaction answers.
+pub(crate) fn tell_signed(alloc: Global, name: &str, bytes: &[u8], out: &mut Line) -> fmt::Result {
+    match Transaction::from_bytes(alloc, bytes) {
+        Ok(signed) => match name {
+            "payload" => tell_unsigned(alloc, without_signature(signed, None), out),
+            "payload for chain 1" | "without its signature" => {
+                tell_unsigned(alloc, without_signature(signed, Some(1)), out)
             }
-        }
+            "payload, both ways" => tell_ways(alloc, without_signature(signed, None), out),
+            "signature again" => tell_again(alloc, signed, bytes, out),
+            _ => tell_of(alloc, name, &signed, out),
+        },
+        Err(found) => fault(&found, out),
     }
-    let chain_id = if name == "payload for chain 1" {
-        Some(1)
-    } else {
-        None
-    };
-    without_signature(signed, chain_id).to_bytes(alloc)
+}
+
+/// Tells a part of a transaction.
+fn tell_of(alloc: Global, name: &str, signed: &Transaction, out: &mut Line) -> fmt::Result {
+    match name {
+        "fields" => tell_typed(signed, out),
+        "fields of the second authorization" => tell_second(signed, out),
+        "parts" => tell_parts(signed, out),
+        "what is signed" => tell_payload(alloc, signed, out),
+        "fees" => tell_fees(alloc, signed, out),
+        _ => match second(signed) {
+            Some(second) => digits(second.payload.signing_payload(alloc), out),
+            None => Err(fmt::Error),
+        },
+    }
+}
+
+/// Tells what is signed of a transaction.
+fn tell_unsigned(alloc: Global, unsigned: UnsignedTransaction, out: &mut Line) -> fmt::Result {
+    digits(unsigned.to_bytes(alloc), out)
+}
+
+/// Tells whether what is signed of a transaction goes both ways, and the number of its bytes.
+fn tell_ways(alloc: Global, unsigned: UnsignedTransaction, out: &mut Line) -> fmt::Result {
+    let payload = unsigned.to_bytes(alloc)?;
+    ways::<Alone<UnsignedTransaction>>(alloc, payload.as_slice(), out)?;
+    write!(out, ", {}", payload.len())
 }
 
 /// Returns a signed transaction without its signature. A legacy transaction is for this chain.

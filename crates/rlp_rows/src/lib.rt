@@ -3,7 +3,7 @@
 
 mod line;
 
-pub use line::{Line, bytes_in, cut, push_header};
+pub use line::{Hex, Line, bytes_in, cut, push_header};
 use std::alloc::{AllocError, Global};
 
 /// The bytes of a text: of its parts, which are joined by `+`. A part is `'` and letters, or

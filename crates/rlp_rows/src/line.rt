@@ -62,6 +62,19 @@ impl fmt::Write for Line {
     }
 }
 
+/// Bytes that print as hexadecimal digits.
+#[derive(Drop)]
+pub struct Hex<'a>(pub &'a [u8]);
+
+impl<'a> fmt::Debug for Hex<'a> {
+    fn fmt<W: fmt::Write>(&self, f: &mut fmt::Formatter<W>) -> fmt::Result {
+        for byte in self.0 {
+            write!(f, "{byte:02x}")?;
+        }
+        Ok(())
+    }
+}
+
 /// The front of a text, for a message.
 fn front(text: &str) -> &str {
     text.get(..200).unwrap_or(text)

@@ -17,16 +17,11 @@ pub(crate) fn takes_items(s: &RlpStream, items: usize) -> bool
 }
 
 /// Begins a list that awaits this number of items, or any.
-pub(crate) fn begin(s: &mut RlpStream, items: Option<usize>) -> Result<(), AllocError> {
+pub(crate) fn begin(s: &mut RlpStream, items: Option<usize>) -> Result<bool, AllocError> {
     match items {
-        Some(items) => {
-            s.begin_list(items)?;
-        }
-        None => {
-            s.begin_unbounded_list()?;
-        }
+        Some(items) => s.begin_list(items).and(Ok(true)),
+        None => s.begin_unbounded_list().and(Ok(true)),
     }
-    Ok(())
 }
 
 /// Appends raw bytes. Returns `false` if the innermost open list awaits fewer items.
@@ -34,8 +29,7 @@ pub(crate) fn put_raw(s: &mut RlpStream, bytes: &[u8], items: usize) -> Result<b
     if !takes_items(s, items) {
         return Ok(false);
     }
-    s.append_raw(bytes, items)?;
-    Ok(true)
+    s.append_raw(bytes, items).and(Ok(true))
 }
 
 /// Appends raw bytes within a size limit. Returns `false` if the closed size would be over the
@@ -57,8 +51,7 @@ pub(crate) fn finalize(s: &mut RlpStream) -> Result<bool, AllocError> {
     if !s.can_finalize() {
         return Ok(false);
     }
-    s.finalize_unbounded_list()?;
-    Ok(true)
+    s.finalize_unbounded_list().and(Ok(true))
 }
 
 /// Returns whether no list is open, and these are the bytes.
@@ -81,13 +74,12 @@ pub(crate) fn put_undotted(
     s: &mut RlpStream,
     dotted: &[u8],
     is_item: bool,
-) -> Result<(), AllocError> {
+) -> Result<bool, AllocError> {
     let bytes = dotted.iter().copied().filter(|byte| *byte != b'.');
     if is_item {
-        s.append_iter(bytes)?;
-        Ok(())
+        s.append_iter(bytes).and(Ok(true))
     } else {
-        s.encoder().encode_iter(bytes)
+        s.encoder().encode_iter(bytes).and(Ok(true))
     }
 }
 

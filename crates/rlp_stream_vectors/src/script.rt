@@ -14,8 +14,7 @@
 //! and `estimate MORE SIZE` compare the stream.
 
 use crate::guarded::{
-    begin, estimates, finalize, finishes_as, is_as, put_raw, put_raw_within, put_undotted,
-    takes_items,
+    estimates, finalize, finishes_as, is_as, put_raw, put_raw_within, put_undotted, takes_items,
 };
 use crate::values::{Pair, Refused, Wrapper};
 use bytes::BytesMut;
@@ -49,16 +48,29 @@ fn make(alloc: Global, s: &mut RlpStream, call: &str) -> Result<bool, AllocError
         "estimate" => Ok(estimates(s, number(first), second.parse::<usize>().ok())),
         "text" => put(s, "string", arguments.as_bytes(), 0),
         "raw" | "within" => put_bytes(alloc, s, name, second, number(first)),
+        "chain_lists" => chain_lists(s),
+        "chain_items" => chain_items(s),
+        "refused" | "refused_internal" | "refused_list" | "direct" => Ok(!refuse(s, name)),
+        _ => make_other(alloc, s, name, first, second),
+    }
+}
+
+/// Makes a call that puts bytes or values, or begins or closes lists.
+fn make_other(
+    alloc: Global,
+    s: &mut RlpStream,
+    name: &str,
+    first: &str,
+    second: &str,
+) -> Result<bool, AllocError> {
+    match name {
         "small" | "smalls" | "string" | "iter" | "undotted" | "encode" | "encode_undotted" => {
             put_bytes(alloc, s, name, first, 0)
         }
         "begin" | "unbounded" | "finalize" | "finalize_up_to" | "clear" => {
             go_on(s, name, number(first), number(second))
         }
-        "chain_lists" => chain_lists(s),
-        "chain_items" => chain_items(s),
         "chain_raw" => chain_raw(s, bytes_of(alloc, first)?.as_slice()),
-        "refused" | "refused_internal" | "refused_list" | "direct" => Ok(!refuse(s, name)),
         _ => append(s, name, number(first) as u64, number(second) as u64),
     }
 }
@@ -78,48 +90,31 @@ fn begun(alloc: Global, name: &str, first: &str, second: &str) -> Result<RlpStre
 /// Makes a call that begins or closes lists, or clears the stream.
 fn go_on(s: &mut RlpStream, name: &str, first: usize, second: usize) -> Result<bool, AllocError> {
     match name {
-        "begin" => begin(s, Some(first))?,
-        "unbounded" => begin(s, None)?,
-        "finalize" => return finalize(s),
-        "finalize_up_to" => return Ok(s.finalize_unbounded_lists(first)? == second),
-        _ => s.clear(),
+        "begin" => s.begin_list(first).and(Ok(true)),
+        "unbounded" => s.begin_unbounded_list().and(Ok(true)),
+        "finalize" => finalize(s),
+        "finalize_up_to" => Ok(s.finalize_unbounded_lists(first)? == second),
+        _ => {
+            s.clear();
+            Ok(true)
+        }
     }
-    Ok(true)
 }
 
 /// Makes a call that appends values.
 fn append(s: &mut RlpStream, name: &str, first: u64, second: u64) -> Result<bool, AllocError> {
     match name {
-        "empty" => {
-            s.append_empty_data()?;
-        }
-        "number" => {
-            s.append(&first)?;
-        }
-        "pair" => {
-            s.append(&Pair(first, second))?;
-        }
-        "internal" => {
-            s.append_internal(&first)?;
-        }
-        "internal_pair" => {
-            s.append_internal(&Pair(first, second))?;
-        }
-        "wrapper" => {
-            s.append(&Wrapper(first))?;
-        }
-        "none" => {
-            s.append_internal(&None::<u8>)?;
-        }
-        "no_numbers" => {
-            s.append_list::<u64>(&[])?;
-        }
-        "pairs" => {
-            s.append_list(&[Pair(1, 2), Pair(3, 4)])?;
-        }
-        _ => return Ok(false),
+        "empty" => s.append_empty_data().and(Ok(true)),
+        "number" => s.append(&first).and(Ok(true)),
+        "pair" => s.append(&Pair(first, second)).and(Ok(true)),
+        "internal" => s.append_internal(&first).and(Ok(true)),
+        "internal_pair" => s.append_internal(&Pair(first, second)).and(Ok(true)),
+        "wrapper" => s.append(&Wrapper(first)).and(Ok(true)),
+        "none" => s.append_internal(&None::<u8>).and(Ok(true)),
+        "no_numbers" => s.append_list::<u64>(&[]).and(Ok(true)),
+        "pairs" => s.append_list(&[Pair(1, 2), Pair(3, 4)]).and(Ok(true)),
+        _ => Ok(false),
     }
-    Ok(true)
 }
 
 /// Begins an unbounded list and in it a list of six items, and appends two items, in one chain.
@@ -180,25 +175,16 @@ fn put_bytes(
 /// items of `raw`, or the limit of `within`.
 fn put(s: &mut RlpStream, name: &str, bytes: &[u8], number: usize) -> Result<bool, AllocError> {
     match name {
-        "raw" => return put_raw(s, bytes, number),
-        "within" => return put_raw_within(s, bytes, 1, number),
-        "undotted" => put_undotted(s, bytes, true)?,
-        "encode_undotted" => put_undotted(s, bytes, false)?,
-        "string" => {
-            s.append(&bytes)?;
-        }
-        "small" => {
-            s.append(bytes.first().unwrap_or(&0))?;
-        }
-        "smalls" => {
-            s.append_list(bytes)?;
-        }
-        "iter" => {
-            s.append_iter(bytes.iter().copied())?;
-        }
-        _ => s.encoder().encode_value(bytes)?,
+        "raw" => put_raw(s, bytes, number),
+        "within" => put_raw_within(s, bytes, 1, number),
+        "undotted" => put_undotted(s, bytes, true),
+        "encode_undotted" => put_undotted(s, bytes, false),
+        "string" => s.append(&bytes).and(Ok(true)),
+        "small" => s.append(bytes.first().unwrap_or(&0)).and(Ok(true)),
+        "smalls" => s.append_list(bytes).and(Ok(true)),
+        "iter" => s.append_iter(bytes.iter().copied()).and(Ok(true)),
+        _ => s.encoder().encode_value(bytes).and(Ok(true)),
     }
-    Ok(true)
 }
 
 /// Returns a buffer that holds these bytes.

@@ -1,6 +1,6 @@
 //! Raw items. The expected bytes were worked out by hand.
 
-use crate::rows::{finishes_as, is_again, is_read};
+use crate::compare::{finishes_as, is_again, is_read};
 use bytes::BytesMut;
 use rlp::{DecoderError, RawItem, Rlp, RlpStream};
 use rlp_rows::bytes_of;

@@ -1,94 +1,159 @@
-//! Rows of values and bytes. A table is a text with a row on each line.
+//! The tests of the tables.
 
-use bytes::BytesMut;
-use rlp::{Decodable, DecoderError, Encodable, RlpStream};
-use rlp_rows::bytes_of;
-use std::alloc::{AllocError, Global};
+use crate::fields::tell_fields;
+use crate::flattened::tell_tree;
+use crate::items::{tell_items, tell_taken};
+use crate::lists::{tell_list, tell_list_at, tell_third, tell_value_at};
+use crate::splitting::{tell_first, tell_split};
+use crate::strict::{tell_invalid, tell_whole, tell_whole_list};
+use crate::texts::{tell_fault, tell_flagged};
+use crate::values::{tell_first_byte, tell_value};
+use crate::views::{tell_header, tell_view};
+use crate::{fields, flattened, items, lists, splitting, strict, texts, values, views};
+use rlp::{DecoderError, Rlp};
+use rlp_rows::{Hex, Line, bytes_in, cut, number};
+use std::alloc::Global;
+use std::fmt;
+use std::fmt::Write;
+use std::test::Fail;
 
-/// Cuts a text at its first space.
-pub(crate) fn cut(text: &str) -> (&str, &str) {
-    text.split_once(' ').unwrap_or((text, ""))
-}
+/// The tables whose calls take no memory.
+const WITHOUT_MEMORY: [&str; 2] = [items::ROWS, views::ROWS];
 
-/// Returns whether no list is open, and these are the bytes.
-pub(crate) fn finishes_as(s: RlpStream, want: &[u8]) -> bool {
-    s.is_finished() && s.out().as_slice() == want
-}
+/// The other tables.
+const WITH_MEMORY: [&str; 7] = [
+    fields::ROWS,
+    flattened::ROWS,
+    lists::ROWS,
+    splitting::ROWS,
+    strict::ROWS,
+    texts::ROWS,
+    values::ROWS,
+];
 
-/// Returns whether these bytes were made.
-fn is_made(made: Result<BytesMut, AllocError>, want: &[u8]) -> bool {
-    match made {
-        Ok(bytes) => bytes.as_slice() == want,
-        Err(_) => false,
+/// Tries the rows of a table, and notes those that have another answer. A blank line stands between
+/// two parts of a table. The line that ends with a colon has the calls of the rows below it, and the
+/// lines above it are comments. `strict` or `lenient` stands before a call, and a type or what is
+/// asked of a view may stand after it. A row has what a call is given, which begins with bytes as
+/// hexadecimal digits or with `none`, and what it answers.
+pub(crate) fn check(alloc: Global, table: &str, wrong: &mut Line) {
+    for part in table.split("\n\n") {
+        let (head, rows) = part.split_once(":\n").unwrap_or(("", part));
+        let (_, calls) = head.rsplit_once('\n').unwrap_or(("", head));
+        for row in rows.lines() {
+            let (given, want) = row.trim().split_once(" | ").unwrap_or((row, ""));
+            check_row(alloc, calls.trim(), given, want, wrong);
+        }
     }
 }
 
-/// Returns the bytes of a value that is appended to a stream.
-fn appended<E: Encodable>(alloc: Global, value: &E) -> Result<BytesMut, AllocError> {
-    let mut s = RlpStream::new(alloc)?;
-    s.append(value)?;
-    if s.is_finished() {
-        Ok(s.out())
-    } else {
-        Err(AllocError)
+/// Notes the calls that have another answer than a row.
+pub(crate) fn check_row(alloc: Global, calls: &str, given: &str, want: &str, wrong: &mut Line) {
+    for call in calls.split(", ") {
+        let mut said = Line::new();
+        let _ = tell(alloc, call, given, &mut said);
+        wrong.note(call, given, said.as_str().trim_end(), want);
     }
 }
 
-/// Returns whether a value is written as these bytes: alone, by both functions for it, and in a
-/// stream.
-pub(crate) fn is_written<E: Encodable>(alloc: Global, value: &E, want: &[u8]) -> bool {
-    is_made(rlp::encode(alloc, value), want)
-        && is_made(value.rlp_bytes(alloc), want)
-        && is_made(appended(alloc, value), want)
+/// Tries the rows of tables.
+fn check_all(alloc: Global, tables: &[&str]) -> Result<(), Fail> {
+    let mut wrong = Line::new();
+    for table in tables {
+        check(alloc, table, &mut wrong);
+    }
+    wrong.none_noted()
 }
 
-/// Returns the bytes of the list of the values in a stream.
-fn listed<E: Encodable>(alloc: Global, values: &[E]) -> Result<BytesMut, AllocError> {
-    let mut s = RlpStream::new(alloc)?;
-    s.append_list(values)?;
-    if s.is_finished() {
-        Ok(s.out())
-    } else {
-        Err(AllocError)
+#[test]
+fn without_memory(rt: HostRuntime) -> Result<(), Fail> {
+    check_all(rt.alloc(), &WITHOUT_MEMORY)
+}
+
+#[test]
+fn with_memory(rt: HostRuntime) -> Result<(), Fail> {
+    check_all(rt.alloc(), &WITH_MEMORY)
+}
+
+/// Writes what a call answers.
+fn tell(alloc: Global, call: &str, given: &str, out: &mut Line) -> fmt::Result {
+    let mut buffer = [0; 256];
+    let (digits, rest) = cut(given);
+    let bytes = bytes_in(digits, &mut buffer);
+    let (kind, call) = cut(call);
+    let (call, of) = cut(call);
+    let strict = kind == "strict";
+    match call {
+        "fault" => tell_fault(alloc, digits, out),
+        "view" => tell_view(&view_of(bytes, strict), of, number(rest), out),
+        "value" => tell_value(alloc, bytes, strict, of, out),
+        "list" => tell_list(alloc, bytes, strict, of, out),
+        "fields" => tell_fields(alloc, view_of(bytes, strict), false, rest, out),
+        "fields_of" => tell_fields(alloc, view_of(bytes, strict), true, rest, out),
+        "value_at" => tell_value_at(alloc, &view_of(bytes, strict), of, number(rest), out),
+        "list_at" => tell_list_at(alloc, &view_of(bytes, strict), of, number(rest), out),
+        "split" => tell_split(bytes, strict, out),
+        "first" => tell_first(alloc, bytes, strict, out),
+        "item" | "count" | "iterated" | "payload" => {
+            tell_items(view_of(bytes, strict).clone(), call, number(rest), out)
+        }
+        _ => tell_other(alloc, bytes, call, number(rest), out),
     }
 }
 
-/// Returns whether the list of values is written as these bytes, alone and in a stream.
-pub(crate) fn is_listed<E: Encodable>(alloc: Global, values: &[E], want: &[u8]) -> bool {
-    is_made(rlp::encode_list(alloc, values), want) && is_made(listed(alloc, values), want)
-}
-
-/// Returns whether a value was read, and is written as these bytes.
-pub(crate) fn is_again<T: Decodable + Encodable>(
+/// Writes what a call answers that is made in one way only.
+fn tell_other(
     alloc: Global,
-    read: Result<T, DecoderError>,
-    want: &[u8],
-) -> bool {
-    match read {
-        Ok(value) => is_written(alloc, &value, want),
-        Err(_) => false,
+    bytes: &[u8],
+    call: &str,
+    number: usize,
+    out: &mut Line,
+) -> fmt::Result {
+    match call {
+        "flags" => tell_flagged(out),
+        "header" => tell_header(bytes, out),
+        "taken" => tell_taken(bytes, out),
+        "tree" => tell_tree(alloc, bytes, number, out),
+        "first_byte" => tell_first_byte(bytes, out),
+        "third" => tell_third(alloc, &Rlp::new(bytes), out),
+        "whole" => tell_whole(alloc, bytes, out),
+        "whole_list" => tell_whole_list(alloc, bytes, out),
+        "invalid" => tell_invalid(alloc, bytes, out),
+        _ => Err(fmt::Error),
     }
 }
 
-/// Returns whether a fault has this text.
-pub(crate) fn is_fault(alloc: Global, fault: DecoderError, want: &str) -> bool {
-    match format!(in alloc; "{fault:?}") {
-        Ok(text) => text.as_str() == want,
-        Err(_) => false,
+/// Tells what is read in one way, and by a view if that is something else.
+pub(crate) fn tell_same<T: fmt::Debug + PartialEq>(
+    read: &Result<T, DecoderError>,
+    viewed: &Result<T, DecoderError>,
+    out: &mut Line,
+) -> fmt::Result {
+    if read == viewed {
+        write!(out, "{read:?}")
+    } else {
+        write!(out, "{read:?}, of a view {viewed:?}")
     }
 }
 
-/// Returns whether a value that is read is written as the wanted bytes, or the text is that of the fault.
-pub(crate) fn is_read<T: Decodable + Encodable>(
-    alloc: Global,
-    read: Result<T, DecoderError>,
-    want: &str,
-) -> bool {
-    match read {
-        Ok(value) => match bytes_of(alloc, want) {
-            Ok(bytes) => is_written(alloc, &value, bytes.as_slice()),
-            Err(_) => false,
-        },
-        Err(fault) => is_fault(alloc, fault, want),
+/// Returns a view of the bytes.
+pub(crate) fn view_of<'a>(bytes: &'a [u8], strict: bool) -> Rlp<'a> {
+    if strict {
+        Rlp::new_strict(bytes)
+    } else {
+        Rlp::new(bytes)
+    }
+}
+
+/// Returns the bytes of a view, which is to be of this kind.
+pub(crate) fn raw<'a>(
+    view: Result<Rlp<'a>, DecoderError>,
+    strict: bool,
+) -> Result<Hex<'a>, DecoderError> {
+    let view = view?;
+    if view.is_strict() == strict {
+        Ok(Hex(view.as_raw()))
+    } else {
+        Err(DecoderError::Custom("a view of the other kind"))
     }
 }

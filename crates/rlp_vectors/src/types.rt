@@ -1,10 +1,10 @@
 //! Byte arrays, numbers of any width, structs, messages and nests, which go both ways. The expected
 //! bytes were worked out by hand.
 
-use crate::rows::{cut, is_fault, is_read, is_written};
+use crate::compare::{is_fault, is_read, is_written};
 use rlp::{DecoderError, Each, Flattened, ListOf, RlpStream, Uint};
 use rlp_examples::{Message, Nest, Nonce, Pair, Row};
-use rlp_rows::bytes_of;
+use rlp_rows::{bytes_of, cut};
 use std::alloc::{AllocError, Global};
 
 /// Strings that are read as arrays of three bytes, or aren't; strings that aren't numbers of two bytes;

@@ -1,6 +1,6 @@
 //! The examples of calls, some of which the pages show.
 
-use crate::rows::finishes_as;
+use crate::compare::finishes_as;
 use rlp::{DecoderError, Rlp};
 use rlp_examples::{
     append_by_stream, append_each, chain_and_encoder, first_and_text, nested, renumbered,

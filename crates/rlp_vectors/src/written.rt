@@ -1,11 +1,11 @@
 //! Values of each type, and the bytes that they are written as. The bytes were worked out by hand.
 
-use crate::rows::{cut, finishes_as, is_again, is_listed, is_written};
+use crate::compare::{finishes_as, is_again, is_listed, is_written};
 use crate::structs::{Columns, LastField, Tagged};
 use bytes::{Bytes, BytesMut};
 use rlp::{EMPTY_LIST_RLP, Encodable, NULL_RLP, RlpStream};
 use rlp_examples::{HalfWritten, Nonce, Pair, bytes_of_three};
-use rlp_rows::{bytes_of, number};
+use rlp_rows::{bytes_of, cut, number};
 use std::alloc::{AllocError, Global};
 
 /// Numbers, and the bytes that they are written as. A number of eight bytes is written under its own

@@ -1,13 +1,75 @@
 //! Values that are read from the items of a list.
 
-use crate::rows::{Row, check, tell_same, view_of};
+use crate::rows::{tell_same, view_of};
 use rlp::{Decodable, DecoderError, Rlp};
 use rlp_examples::Odd;
 use rlp_rows::Line;
 use std::alloc::Global;
 use std::fmt;
 use std::fmt::Write;
-use std::test::Fail;
+
+/// Rows of lists.
+pub(crate) const ROWS: &str = "
+    Lists are read whole. Bytes that aren't a framed list are read as an empty list.
+    lenient list u64:
+    c0 | Ok([])
+    c10f | Ok([15])
+    c60102030781ff | Ok([1, 2, 3, 7, 255])
+    cb84ffffffff0102030781ff | Ok([4294967295, 1, 2, 3, 7, 255])
+    c5 | Ok([])
+    05 | Ok([])
+    c3058105 | Err(RlpInvalidIndirection)
+
+    The same holds for numbers of one byte.
+    lenient list u8:
+    c5 | Ok([])
+    05 | Ok([])
+    c3058105 | Err(RlpInvalidIndirection)
+
+    A list of texts is read.
+    lenient list String:
+    c88363617483646f67 | Ok([\"cat\", \"dog\"])
+
+    The first faulty item gives its fault, and a cut item ends the list.
+    lenient list Odd:
+    c401030205 | Err(Custom(\"even\"))
+    c50103028105 | Err(Custom(\"even\"))
+    c50103810502 | Err(RlpInvalidIndirection)
+    c401038200 | Ok([Odd(1), Odd(3)])
+
+    A list whose length overflows, strings and lists that aren't canonical, and short lists that
+    end before or after their item.
+    lenient value_at String:
+    c88363617483646f67 0 | Ok(\"cat\")
+    c88363617483646f67 1 | Ok(\"dog\")
+    ffffffffffffffffff000000 0 | Err(RlpIsTooShort)
+    c4b8026162 0 | Err(RlpInvalidIndirection)
+    f803826162 0 | Err(RlpInvalidIndirection)
+    c0826162 0 | Err(RlpIsTooShort)
+    c1826162 0 | Err(RlpIsTooShort)
+    c2826162 0 | Err(RlpIsTooShort)
+    c3826162 0 | Ok(\"ab\")
+    c4826162 0 | Err(RlpIsTooShort)
+
+    The items of a list of the list of 1 and 2, and 3, as lists and as numbers.
+    lenient list_at u64:
+    c4c2010203 0 | Ok([1, 2])
+    c4c2010203 1 | Ok([])
+    c4c2010203 2 | Err(RlpIsTooShort)
+
+    One of them is a number.
+    lenient value_at u64:
+    c4c2010203 1 | Ok(3)
+
+    A list, and then bytes that aren't part of it. Its third item holds a number, and the number
+    of its items is the same before and after that is read.
+    lenient third:
+    f83e82022bd79020010db83c4d001500000000abcdef12820cfa8215a8d79020010db885a308d313198a2e037073488\
+     208ae82823a8443b9a355c5010203040531b9019afde696e582a78fa8d95ea13ce3297d4afb8ba6433e4154caa5ac6\
+     431af1b80ba76023fa4090c408f6b4bc3701562c031041d4702971d102c9ab7fa5eed4cd6bab8f7af956f7d565ee19\
+     17084a95398b6a21eac920fe3dd1345ec0a7ef39367ee69ddf092cbfe5b93e5e568ebc491983c09c76d922dc3 | Ok\
+     (5) true Ok(33338) Ok(5)
+";
 
 /// Tells what is read as a list of a type from bytes and from a view of them, which is to be the
 /// same.
@@ -43,38 +105,6 @@ fn tell_list_of<T: Decodable + fmt::Debug + PartialEq>(
     tell_same(&decoded, &viewed, out)
 }
 
-/// Lists are read whole. Bytes that aren't a framed list are read as an empty list.
-const NUMBERS: [Row; 7] = [
-    ("c0", "Ok([])"),
-    ("c10f", "Ok([15])"),
-    ("c60102030781ff", "Ok([1, 2, 3, 7, 255])"),
-    (
-        "cb84ffffffff0102030781ff",
-        "Ok([4294967295, 1, 2, 3, 7, 255])",
-    ),
-    ("c5", "Ok([])"),
-    ("05", "Ok([])"),
-    ("c3058105", "Err(RlpInvalidIndirection)"),
-];
-
-/// The same holds for numbers of one byte.
-const SMALL_NUMBERS: [Row; 3] = [
-    ("c5", "Ok([])"),
-    ("05", "Ok([])"),
-    ("c3058105", "Err(RlpInvalidIndirection)"),
-];
-
-/// A list of texts is read.
-const WORDS: [Row; 1] = [("c88363617483646f67", "Ok([\"cat\", \"dog\"])")];
-
-/// The first faulty item gives its fault, and a cut item ends the list.
-const ODD: [Row; 4] = [
-    ("c401030205", "Err(Custom(\"even\"))"),
-    ("c50103028105", "Err(Custom(\"even\"))"),
-    ("c50103810502", "Err(RlpInvalidIndirection)"),
-    ("c401038200", "Ok([Odd(1), Odd(3)])"),
-];
-
 /// Tells what is read as a value from the item of a number, by `val_at` and from the item's view,
 /// which is to be the same.
 pub(crate) fn tell_value_at(
@@ -106,21 +136,6 @@ fn tell_value_of_at<T: Decodable + fmt::Debug + PartialEq>(
     tell_same(&value, &viewed, out)
 }
 
-/// A list whose length overflows, strings and lists that aren't canonical, and short lists that end
-/// before or after their item.
-const TEXTS: [Row; 10] = [
-    ("c88363617483646f67 0", "Ok(\"cat\")"),
-    ("c88363617483646f67 1", "Ok(\"dog\")"),
-    ("ffffffffffffffffff000000 0", "Err(RlpIsTooShort)"),
-    ("c4b8026162 0", "Err(RlpInvalidIndirection)"),
-    ("f803826162 0", "Err(RlpInvalidIndirection)"),
-    ("c0826162 0", "Err(RlpIsTooShort)"),
-    ("c1826162 0", "Err(RlpIsTooShort)"),
-    ("c2826162 0", "Err(RlpIsTooShort)"),
-    ("c3826162 0", "Ok(\"ab\")"),
-    ("c4826162 0", "Err(RlpIsTooShort)"),
-];
-
 /// Tells what is read as a list of numbers from the item of a number.
 pub(crate) fn tell_list_at(
     alloc: Global,
@@ -135,16 +150,6 @@ pub(crate) fn tell_list_at(
         write!(out, "{:?}", view.list_at::<u64>(alloc, index))
     }
 }
-
-/// The items of a list of the list of 1 and 2, and 3, as lists and as numbers.
-const NESTED_LISTS: [Row; 3] = [
-    ("c4c2010203 0", "Ok([1, 2])"),
-    ("c4c2010203 1", "Ok([])"),
-    ("c4c2010203 2", "Err(RlpIsTooShort)"),
-];
-
-/// One of them is a number.
-const NESTED_NUMBERS: [Row; 1] = [("c4c2010203 1", "Ok(3)")];
 
 /// Tells the number of the items of a list before and after its third item is read, whether the
 /// second is a list, and the third number that the third holds.
@@ -166,26 +171,4 @@ fn second_is_list(view: &Rlp<'_>) -> bool {
 /// Returns the third number of the third item.
 fn third_of_third(alloc: Global, view: &Rlp<'_>) -> Result<u16, DecoderError> {
     view.at(2)?.val_at::<u16>(alloc, 2)
-}
-
-// A list, and then bytes that aren't part of it. Its third item holds a number, and the number of
-// its items is the same before and after that is read.
-const LIST: [Row; 1] = [(
-    "f83e82022bd79020010db83c4d001500000000abcdef12820cfa8215a8d79020010db885a308d313198a2e037073488208ae82823a8443b9a355c5010203040531b9019afde696e582a78fa8d95ea13ce3297d4afb8ba6433e4154caa5ac6431af1b80ba76023fa4090c408f6b4bc3701562c031041d4702971d102c9ab7fa5eed4cd6bab8f7af956f7d565ee1917084a95398b6a21eac920fe3dd1345ec0a7ef39367ee69ddf092cbfe5b93e5e568ebc491983c09c76d922dc3",
-    "Ok(5) true Ok(33338) Ok(5)",
-)];
-
-#[test]
-fn lists(rt: HostRuntime) -> Result<(), Fail> {
-    let alloc = rt.alloc();
-    let mut wrong = Line::new();
-    check(alloc, "lenient list u64", &NUMBERS, &mut wrong);
-    check(alloc, "lenient list u8", &SMALL_NUMBERS, &mut wrong);
-    check(alloc, "lenient list String", &WORDS, &mut wrong);
-    check(alloc, "lenient list Odd", &ODD, &mut wrong);
-    check(alloc, "lenient value_at String", &TEXTS, &mut wrong);
-    check(alloc, "lenient value_at u64", &NESTED_NUMBERS, &mut wrong);
-    check(alloc, "lenient list_at u64", &NESTED_LISTS, &mut wrong);
-    check(alloc, "lenient third", &LIST, &mut wrong);
-    wrong.none_noted()
 }

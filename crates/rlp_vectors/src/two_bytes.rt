@@ -16,9 +16,6 @@ type Tally = [usize; 14];
 /// What a call gives for an input: the place in a tally, and what its result measures.
 type Answer = (usize, usize);
 
-/// A call, and its tally as text, or the sum of what it measures.
-type Row = (&'static str, &'static str);
-
 /// Returns the place of a fault in a tally.
 fn place_of(fault: &DecoderError) -> usize {
     match fault {
@@ -64,7 +61,7 @@ fn counted(alloc: Global, call: &str) -> Tally {
 }
 
 /// Writes the numbers of a tally.
-fn tell(tally: &Tally, out: &mut Line) -> fmt::Result {
+fn tell_tally(tally: &Tally, out: &mut Line) -> fmt::Result {
     let mut gap = "";
     for count in tally {
         write!(out, "{gap}{count}")?;
@@ -73,13 +70,26 @@ fn tell(tally: &Tally, out: &mut Line) -> fmt::Result {
     Ok(())
 }
 
-/// Notes the calls that have another tally.
-fn check(alloc: Global, rows: &[Row], wrong: &mut Line) {
-    for (call, want) in rows {
-        let mut said = Line::new();
-        let _ = tell(&counted(alloc, call), &mut said);
-        wrong.note(call, "", said.as_str(), want);
+/// Writes the tally of a call, or behind `sum: ` the sum of what it measures.
+fn tell(alloc: Global, call: &str, out: &mut Line) -> fmt::Result {
+    match call.strip_prefix("sum: ") {
+        Some(call) => write!(out, "{}", summed(alloc, call)),
+        None => tell_tally(&counted(alloc, call), out),
     }
+}
+
+/// Fails with the calls of a table that have another tally or sum. A row has a call, a bar, and what
+/// is told of it. Other lines are comments.
+fn check(alloc: Global, table: &str) -> Result<(), Fail> {
+    let mut wrong = Line::new();
+    for line in table.lines() {
+        if let Some((call, want)) = line.trim().split_once(" | ") {
+            let mut said = Line::new();
+            let _ = tell(alloc, call, &mut said);
+            wrong.note(call, "", said.as_str(), want);
+        }
+    }
+    wrong.none_noted()
 }
 
 /// Returns what a call gives for an input: a call of a lenient or a strict view, or a way to read it.
@@ -129,36 +139,54 @@ fn of_item(item: Result<(Rlp<'_>, usize), DecoderError>) -> Answer {
     }
 }
 
-/// What the calls give that read a header, or the value of a view. Strict views are whole where the
-/// input is exactly one framed item: `8100` to `81ff`, `c100` to `c1ff`.
-const HEADERS: [Row; 5] = [
-    ("header", "61840 0 3570 0 0 0 8 8 110 0 0 0 0 912920"),
-    (
-        "lenient payload_info",
-        "33792 0 31618 0 0 0 8 8 110 0 0 0 0 34304",
-    ),
-    ("lenient data", "33792 0 31618 0 0 0 8 8 110 0 0 0 0 33280"),
-    (
-        "strict payload_info",
-        "512 33280 31618 0 0 0 8 8 110 0 0 0 0 1024",
-    ),
-    ("strict data", "512 33280 31618 0 0 0 8 8 110 0 0 0 0 512"),
-];
+/// Rows of views.
+const VIEWS: &str = "
+    What the calls give that read a header, or the value of a view. Strict views are whole where
+    the input is exactly one framed item: `8100` to `81ff`, `c100` to `c1ff`.
+    header | 61840 0 3570 0 0 0 8 8 110 0 0 0 0 912920
+    lenient payload_info | 33792 0 31618 0 0 0 8 8 110 0 0 0 0 34304
+    lenient data | 33792 0 31618 0 0 0 8 8 110 0 0 0 0 33280
+    strict payload_info | 512 33280 31618 0 0 0 8 8 110 0 0 0 0 1024
+    strict data | 512 33280 31618 0 0 0 8 8 110 0 0 0 0 512
 
-/// What the calls give that count or find items. Strict views have items where the input is exactly
-/// one list of framed items: `c100` to `c180`, `c1c0`. None of those lists has a second item.
-const ITEMS: [Row; 7] = [
-    ("lenient item_count", "16384 0 0 49152 0 0 0 0 0 0 0 0 0 0"),
-    ("lenient item 0", "130 0 16191 49152 0 0 0 8 55 0 0 0 0 130"),
-    ("lenient item 1", "0 0 16321 49152 0 0 0 8 55 0 0 0 0 0"),
-    ("lenient last item", "0 0 16321 49152 0 0 0 8 55 0 0 0 0 0"),
-    (
-        "strict item_count",
-        "130 256 15935 49152 0 0 0 8 55 0 0 0 0 0",
-    ),
-    ("strict at 0", "130 256 15935 49152 0 0 0 8 55 0 0 0 0 0"),
-    ("strict at 1", "0 256 16065 49152 0 0 0 8 55 0 0 0 0 0"),
-];
+    What the calls give that count or find items. Strict views have items where the input is
+    exactly one list of framed items: `c100` to `c180`, `c1c0`. None of those lists has a second
+    item.
+    lenient item_count | 16384 0 0 49152 0 0 0 0 0 0 0 0 0 0
+    lenient item 0 | 130 0 16191 49152 0 0 0 8 55 0 0 0 0 130
+    lenient item 1 | 0 0 16321 49152 0 0 0 8 55 0 0 0 0 0
+    lenient last item | 0 0 16321 49152 0 0 0 8 55 0 0 0 0 0
+    strict item_count | 130 256 15935 49152 0 0 0 8 55 0 0 0 0 0
+    strict at 0 | 130 256 15935 49152 0 0 0 8 55 0 0 0 0 0
+    strict at 1 | 0 256 16065 49152 0 0 0 8 55 0 0 0 0 0
+
+    The numbers of inputs that are a list, are a string, are empty, begin with a number, and
+    nest within 0, 1 and 2 lists; the sums of the sizes, of the lengths in prototypes of
+    strings, and of the numbers of items in prototypes of lists; and the numbers of inputs that
+    are canonical within the depths 0 to 3, by a lenient view and by a strict one. `8180` to
+    `81ff` are canonical and have depth 0, `c100` to `c17f` and `c180` have depth 1, and `c1c0`
+    has depth 2.
+    sum: sound | 65536
+    sum: lenient is_list | 16384
+    sum: lenient is_data | 49152
+    sum: lenient is_empty | 512
+    sum: lenient is_int | 47049
+    sum: lenient within 0 | 65024
+    sum: lenient within 1 | 65535
+    sum: lenient within 2 | 65536
+    sum: lenient size | 33024
+    sum: lenient string | 33024
+    sum: lenient items | 130
+    sum: lenient canonical 0 | 128
+    sum: lenient canonical 1 | 257
+    sum: lenient canonical 2 | 258
+    sum: lenient canonical 3 | 258
+    sum: strict canonical 0 | 128
+    sum: strict canonical 1 | 257
+    sum: strict canonical 2 | 258
+    sum: strict canonical 3 | 258
+    sum: lenient numbered | 65536
+";
 
 /// Returns whether a lenient view and a strict one, and their clones, have these bytes and are of
 /// their kinds.
@@ -236,7 +264,7 @@ fn text_of(view: &Rlp<'_>) -> Line {
 }
 
 /// Returns the sum of what all inputs measure, by a lenient view or a strict one.
-fn summed(call: &str) -> usize {
+fn summed(alloc: Global, call: &str) -> usize {
     let mut sum = 0usize;
     let (kind, call) = cut(call);
     for word in 0..=u16::MAX {
@@ -244,6 +272,7 @@ fn summed(call: &str) -> usize {
         let (view, strict) = (Rlp::new(&bytes), Rlp::new_strict(&bytes));
         let measure = match kind {
             "sound" => usize::from(is_sound(&view, &strict, &bytes)),
+            "begun" => usize::from(is_begun(alloc, &bytes)),
             "strict" => measured(&strict, call),
             _ => measured(&view, call),
         };
@@ -252,50 +281,9 @@ fn summed(call: &str) -> usize {
     sum
 }
 
-/// Notes the calls that have another sum.
-fn check_sums(rows: &[Row], wrong: &mut Line) {
-    for (call, want) in rows {
-        let mut said = Line::new();
-        let _ = write!(said, "{}", summed(call));
-        wrong.note(call, "", said.as_str(), want);
-    }
-}
-
-/// The numbers of inputs that are a list, are a string, are empty, begin with a number, and nest
-/// within 0, 1 and 2 lists; the sums of the sizes, of the lengths in prototypes of strings, and of
-/// the numbers of items in prototypes of lists; and the numbers of inputs that are canonical within
-/// the depths 0 to 3, by a lenient view and by a strict one. `8180` to `81ff` are canonical and have
-/// depth 0, `c100` to `c17f` and `c180` have depth 1, and `c1c0` has depth 2.
-const KINDS: [Row; 20] = [
-    ("sound", "65536"),
-    ("lenient is_list", "16384"),
-    ("lenient is_data", "49152"),
-    ("lenient is_empty", "512"),
-    ("lenient is_int", "47049"),
-    ("lenient within 0", "65024"),
-    ("lenient within 1", "65535"),
-    ("lenient within 2", "65536"),
-    ("lenient size", "33024"),
-    ("lenient string", "33024"),
-    ("lenient items", "130"),
-    ("lenient canonical 0", "128"),
-    ("lenient canonical 1", "257"),
-    ("lenient canonical 2", "258"),
-    ("lenient canonical 3", "258"),
-    ("strict canonical 0", "128"),
-    ("strict canonical 1", "257"),
-    ("strict canonical 2", "258"),
-    ("strict canonical 3", "258"),
-    ("lenient numbered", "65536"),
-];
-
 #[test]
 fn views_of_two_bytes(rt: HostRuntime) -> Result<(), Fail> {
-    let mut wrong = Line::new();
-    check(rt.alloc(), &HEADERS, &mut wrong);
-    check(rt.alloc(), &ITEMS, &mut wrong);
-    check_sums(&KINDS, &mut wrong);
-    wrong.none_noted()
+    check(rt.alloc(), VIEWS)
 }
 
 /// Returns the place of what reading an input as a `T` gives.
@@ -337,35 +325,28 @@ fn of_length(len: Result<usize, DecoderError>) -> Answer {
     }
 }
 
-/// 256 inputs for each byte from 01 to 80, and `8180` to `81ff`, are numbers. 256 inputs for each of
-/// the bytes 01 and 80 are truth values, and other numbers are none. `decode_value`, by the view's
-/// decoder and by a new one, calls its closure with strings, of which are 256 for each byte up to
-/// 80, and `8180` to `81ff`. The sum of their lengths is 256 for each byte below 80, and 128 for
-/// `8180` to `81ff`.
-const NUMBERS: [Row; 10] = [
-    ("decoded u8", "32896 0 0 0 16384 0 0 0 440 15816 0 0 0 0"),
-    ("decoded u16", "32896 0 0 0 16384 0 0 0 440 15816 0 0 0 0"),
-    ("decoded u32", "32896 0 0 0 16384 0 0 0 440 15816 0 0 0 0"),
-    ("decoded u64", "32896 0 0 0 16384 0 0 0 440 15816 0 0 0 0"),
-    ("decoded u128", "32896 0 0 0 16384 0 0 0 440 15816 0 0 0 0"),
-    ("decoded usize", "32896 0 0 0 16384 0 0 0 440 15816 0 0 0 0"),
-    ("decoded Uint", "32896 0 0 0 16384 0 0 0 440 15816 0 0 0 0"),
-    (
-        "decoded bool",
-        "512 0 0 0 16384 0 0 0 440 15816 0 32384 0 0",
-    ),
-    ("decoder", "33152 0 0 0 16384 0 0 0 184 15816 0 0 0 32896"),
-    (
-        "view's decoder",
-        "33152 0 0 0 16384 0 0 0 184 15816 0 0 0 32896",
-    ),
-];
+/// Rows of numbers.
+const NUMBERS: &str = "
+    256 inputs for each byte from 01 to 80, and `8180` to `81ff`, are numbers. 256 inputs for
+    each of the bytes 01 and 80 are truth values, and other numbers are none. `decode_value`, by
+    the view's decoder and by a new one, calls its closure with strings, of which are 256 for
+    each byte up to 80, and `8180` to `81ff`. The sum of their lengths is 256 for each byte
+    below 80, and 128 for `8180` to `81ff`.
+    decoded u8 | 32896 0 0 0 16384 0 0 0 440 15816 0 0 0 0
+    decoded u16 | 32896 0 0 0 16384 0 0 0 440 15816 0 0 0 0
+    decoded u32 | 32896 0 0 0 16384 0 0 0 440 15816 0 0 0 0
+    decoded u64 | 32896 0 0 0 16384 0 0 0 440 15816 0 0 0 0
+    decoded u128 | 32896 0 0 0 16384 0 0 0 440 15816 0 0 0 0
+    decoded usize | 32896 0 0 0 16384 0 0 0 440 15816 0 0 0 0
+    decoded Uint | 32896 0 0 0 16384 0 0 0 440 15816 0 0 0 0
+    decoded bool | 512 0 0 0 16384 0 0 0 440 15816 0 32384 0 0
+    decoder | 33152 0 0 0 16384 0 0 0 184 15816 0 0 0 32896
+    view's decoder | 33152 0 0 0 16384 0 0 0 184 15816 0 0 0 32896
+";
 
 #[test]
 fn numbers_of_two_bytes(rt: HostRuntime) -> Result<(), Fail> {
-    let mut wrong = Line::new();
-    check(rt.alloc(), &NUMBERS, &mut wrong);
-    wrong.none_noted()
+    check(rt.alloc(), NUMBERS)
 }
 
 /// Returns the place of what reading an input as a list of `u8` gives, its first item as a `u8`, or
@@ -378,37 +359,30 @@ fn listed(alloc: Global, view: &Rlp<'_>, call: &str) -> usize {
     }
 }
 
-/// Strings are 256 inputs for each byte up to 80, and `8180` to `81ff`. The empty string is too
-/// short for an array, and the strings of `8180` to `81ff` are no texts. Each list but `c100` and
-/// `c1c0` is read as an option, most as `None`. All inputs but these two are read as lists, most as
-/// empty ones.
-const STRINGS: [Row; 10] = [
-    ("decoded Vec", "33152 0 0 0 16384 0 0 0 184 15816 0 0 0 0"),
-    ("decoded Bytes", "33152 0 0 0 16384 0 0 0 184 15816 0 0 0 0"),
-    (
-        "decoded BytesMut",
-        "33152 0 0 0 16384 0 0 0 184 15816 0 0 0 0",
-    ),
-    (
-        "decoded [u8; 1]",
-        "32896 0 256 0 16384 0 0 0 184 15816 0 0 0 0",
-    ),
-    (
-        "decoded String",
-        "33024 0 0 0 16512 0 0 0 184 15816 0 0 0 0",
-    ),
-    ("decoded Box", "32896 0 0 0 16384 0 0 0 440 15816 0 0 0 0"),
-    ("decoded Option", "16382 0 0 49152 1 0 0 0 1 0 0 0 0 0"),
-    ("listed as_list", "65534 0 0 0 1 0 0 0 1 0 0 0 0 0"),
-    ("listed val_at", "128 0 16191 49152 1 0 0 8 56 0 0 0 0 0"),
-    ("listed list_at", "130 0 16191 49152 0 0 0 8 55 0 0 0 0 0"),
-];
+/// Rows of strings and lists.
+const STRINGS: &str = "
+    Strings are 256 inputs for each byte up to 80, and `8180` to `81ff`. The empty string is too
+    short for an array, and the strings of `8180` to `81ff` are no texts. Each list but `c100`
+    and `c1c0` is read as an option, most as `None`. All inputs but these two are read as lists,
+    most as empty ones.
+    decoded Vec | 33152 0 0 0 16384 0 0 0 184 15816 0 0 0 0
+    decoded Bytes | 33152 0 0 0 16384 0 0 0 184 15816 0 0 0 0
+    decoded BytesMut | 33152 0 0 0 16384 0 0 0 184 15816 0 0 0 0
+    decoded [u8; 1] | 32896 0 256 0 16384 0 0 0 184 15816 0 0 0 0
+    decoded String | 33024 0 0 0 16512 0 0 0 184 15816 0 0 0 0
+    decoded Box | 32896 0 0 0 16384 0 0 0 440 15816 0 0 0 0
+    decoded Option | 16382 0 0 49152 1 0 0 0 1 0 0 0 0 0
+    listed as_list | 65534 0 0 0 1 0 0 0 1 0 0 0 0 0
+    listed val_at | 128 0 16191 49152 1 0 0 8 56 0 0 0 0 0
+    listed list_at | 130 0 16191 49152 0 0 0 8 55 0 0 0 0 0
 
-/// The number of inputs that print as `[]`, and the sum of the lengths of all texts.
-const TEXTS: [Row; 2] = [
-    ("lenient printed as []", "382"),
-    ("lenient letters", "614694"),
-];
+    The number of inputs that print as `[]`, and the sum of the lengths of all texts.
+    sum: lenient printed as [] | 382
+    sum: lenient letters | 614694
+
+    The inputs that give a number are exactly the 32,896 that begin with the encoding of a number.
+    sum: begun | 32896
+";
 
 /// Returns whether an input gives a number and begins with its encoding.
 fn is_begun(alloc: Global, bytes: &[u8]) -> bool {
@@ -421,24 +395,7 @@ fn is_begun(alloc: Global, bytes: &[u8]) -> bool {
     }
 }
 
-/// Returns the number of inputs that give a number and begin with its encoding.
-fn begun_by_encodings(alloc: Global) -> usize {
-    let mut count = 0usize;
-    for word in 0..=u16::MAX {
-        let is_begun = is_begun(alloc, &word.to_be_bytes());
-        count = count.saturating_add(usize::from(is_begun));
-    }
-    count
-}
-
-// The inputs that give a number are exactly the 32,896 that begin with the encoding of a number.
 #[test]
 fn strings_and_lists_of_two_bytes(rt: HostRuntime) -> Result<(), Fail> {
-    let mut wrong = Line::new();
-    check(rt.alloc(), &STRINGS, &mut wrong);
-    check_sums(&TEXTS, &mut wrong);
-    let mut said = Line::new();
-    let _ = write!(said, "{}", begun_by_encodings(rt.alloc()));
-    wrong.note("begun by encodings", "", said.as_str(), "32896");
-    wrong.none_noted()
+    check(rt.alloc(), STRINGS)
 }

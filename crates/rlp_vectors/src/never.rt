@@ -2,7 +2,7 @@
 //!
 //! `refusals/run` refuses every request after a signal. The signal is a request for `SIGNAL` bytes.
 
-use crate::rows::{Row, check};
+use crate::rows::check;
 use rlp::DecoderError;
 use rlp_rows::Line;
 use std::test::Fail;
@@ -12,18 +12,19 @@ use std::test::Fail;
 const SIGNAL: usize = 77_777;
 
 /// A view of each kind.
-const TEXTS: [Row; 4] = [
-    ("", "null"),
-    ("c20506", "[\"0x05\", \"0x06\"]"),
-    ("c405c20182", "[\"0x05\", [\"0x01\"]]"),
-    ("84636174", "RlpIsTooShort"),
-];
+const TEXTS: &str = "
+    lenient view text:
+    none | null
+    c20506 | [\"0x05\", \"0x06\"]
+    c405c20182 | [\"0x05\", [\"0x01\"]]
+    84636174 | RlpIsTooShort
+";
 
 #[test]
 fn views_that_need_no_memory(rt: HostRuntime) -> Result<(), Fail> {
     let _signal = Vec::<u8>::with_capacity(rt.alloc(), SIGNAL).is_ok();
     let mut wrong = Line::new();
-    check(rt.alloc(), "lenient view text", &TEXTS, &mut wrong);
+    check(rt.alloc(), TEXTS, &mut wrong);
     let fault = DecoderError::Custom("text");
     assert!(rt; fault.clone() == fault);
     wrong.none_noted()

@@ -1,0 +1,149 @@
+//! The items of a list and the value of an item, by the calls of a view.
+
+use crate::rows::raw;
+use rlp::{DecoderError, Rlp};
+use rlp_rows::{Hex, Line};
+use std::fmt;
+use std::fmt::Write;
+
+/// Rows of items and values.
+pub(crate) const ROWS: &str = "
+    Items are found up to the first that isn't framed. Past them is the fault of what follows.
+    lenient item:
+    c88363617483646f67 0 | Ok(83636174) Ok(83636174) 1
+    c88363617483646f67 1 | Ok(83646f67) Ok(83646f67) 5
+    c10102 0 | Ok(01) Ok(01) 1
+    c88363617483646f 0 | Err(RlpIsTooShort) RlpIsTooShort
+    c88363617483646f 1 | Err(RlpIsTooShort) RlpIsTooShort
+    none 0 | Err(RlpExpectedToBeList) RlpExpectedToBeList
+    05 0 | Err(RlpExpectedToBeList) RlpExpectedToBeList
+    c10102 1 | Err(RlpIsTooShort) RlpIsTooShort
+    c20582 1 | Err(RlpIsTooShort) RlpIsTooShort
+    c20582 7 | Err(RlpIsTooShort) RlpIsTooShort
+    c3058200 1 | Err(RlpIsTooShort) RlpIsTooShort
+    c305b800 1 | Err(RlpDataLenWithZeroPrefix) RlpDataLenWithZeroPrefix
+    c305b800 2 | Err(RlpDataLenWithZeroPrefix) RlpDataLenWithZeroPrefix
+
+    The framed items are counted.
+    lenient count:
+    c88363617483646f67 | 2 2
+    c88363617483646f | 0 0
+    c10102 | 1 1
+    c3058200 | 1 1
+    c305b800 | 1 1
+    ffffffffffffffffff | 0 0
+    c5 | 0 0
+    none | RlpExpectedToBeList
+    05 | RlpExpectedToBeList
+
+    An iterator gives the framed items.
+    lenient iterated:
+    c88363617483646f67 | 2 (2, Some(2)) Ok(83636174); 1 (1, Some(1)) Ok(83646f67); 0 (0, Some(0)); \
+     0 (0, Some(0));
+    c5 | 0 (0, Some(0)); 0 (0, Some(0));
+    05 | 0 (0, Some(0)); 0 (0, Some(0));
+
+    A value may be followed by other bytes, and needn't be canonical.
+    lenient payload:
+    c88363617483646f67 | 1 8 8363617483646f67 of Ok(c88363617483646f67)
+    c3830102 | 1 3 830102 of Ok(c3830102)
+    0506 | 0 1 05 of Ok(0506)
+    8105 | 1 1 05 of Ok(8105)
+
+    A strict view has items only if it is exactly one list of framed items, and they are strict.
+    strict item:
+    c101 0 | Ok(01) Ok(01) 1
+    c10102 0 | Err(RlpIsTooBig) RlpIsTooBig
+    c10102 1 | Err(RlpIsTooBig) RlpIsTooBig
+    c3058200 0 | Err(RlpIsTooShort) RlpIsTooShort
+    c305b800 0 | Err(RlpDataLenWithZeroPrefix) RlpDataLenWithZeroPrefix
+    c101 1 | Err(RlpIsTooShort) RlpIsTooShort
+
+    So does a strict view count items.
+    strict count:
+    c10102 | RlpIsTooBig
+    c3058200 | RlpIsTooShort
+    c28105 | 1 1
+
+    An iterator of a strict view gives them.
+    strict iterated:
+    c101 | 1 (1, Some(1)) Ok(01); 0 (0, Some(0)); 0 (0, Some(0));
+
+    Bytes after the value of a strict view are too much.
+    strict payload:
+    8105 | 1 1 05 of Ok(8105)
+    810500 | Some(RlpIsTooBig) Some(RlpIsTooBig)
+
+    An item stays after the view that it is taken from.
+    lenient taken:
+    c88363617483646f67 | Ok(83636174)
+";
+
+/// Tells what a view answers about its items and its value.
+pub(crate) fn tell_items(view: Rlp<'_>, call: &str, index: usize, out: &mut Line) -> fmt::Result {
+    let strict = view.is_strict();
+    match call {
+        "item" => tell_item(&view, strict, index, out),
+        "count" => tell_count(&view, out),
+        "iterated" => tell_iterated(&view, strict, out),
+        _ => tell_payload(view, strict, out),
+    }
+}
+
+/// Tells the item of a number, by `at`, and by `at_with_offset` with its place.
+fn tell_item(view: &Rlp<'_>, strict: bool, index: usize, out: &mut Line) -> fmt::Result {
+    let item = raw(view.at(index), strict);
+    match view.at_with_offset(index) {
+        Ok((same, place)) => write!(out, "{item:?} {:?} {place}", raw(Ok(same), strict)),
+        Err(fault) => write!(out, "{item:?} {fault}"),
+    }
+}
+
+/// Tells the number of items, and how many an iterator gives.
+fn tell_count(view: &Rlp<'_>, out: &mut Line) -> fmt::Result {
+    match view.item_count() {
+        Ok(count) => write!(out, "{count} {}", view.iter().count()),
+        Err(fault) => write!(out, "{fault}"),
+    }
+}
+
+/// Tells what an iterator announces and gives, and twice what it announces once it has ended.
+fn tell_iterated(view: &Rlp<'_>, strict: bool, out: &mut Line) -> fmt::Result {
+    let mut items = view.iter();
+    for _ in 0..items.len().saturating_add(2) {
+        let (len, hint) = (items.len(), items.size_hint());
+        match items.next() {
+            Some(item) => write!(out, "{len} {hint:?} {:?}; ", raw(Ok(item), strict))?,
+            None => write!(out, "{len} {hint:?}; ")?,
+        }
+    }
+    Ok(())
+}
+
+/// Tells the lengths of the header and of the value, the value, and the bytes of the view.
+fn tell_payload(view: Rlp<'_>, strict: bool, out: &mut Line) -> fmt::Result {
+    match (view.payload_info(), view.data()) {
+        (Ok(info), Ok(value)) => {
+            let (header, len, value) = (info.header_len, info.value_len, Hex(value));
+            write!(
+                out,
+                "{header} {len} {value:?} of {:?}",
+                raw(Ok(view), strict)
+            )
+        }
+        (info, value) => write!(out, "{:?} {:?}", info.err(), value.err()),
+    }
+}
+
+/// Tells the first item of a list. The view that it is taken from is dropped before the item is
+/// read.
+pub(crate) fn tell_taken(bytes: &[u8], out: &mut Line) -> fmt::Result {
+    write!(out, "{:?}", raw(taken(bytes), false))
+}
+
+/// Returns the first item of a list.
+fn taken<'a>(bytes: &'a [u8]) -> Result<Rlp<'a>, DecoderError> {
+    let view = Rlp::new(bytes);
+    let mut items = view.iter();
+    items.next().ok_or(DecoderError::Custom("no item"))
+}

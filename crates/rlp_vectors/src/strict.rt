@@ -1,0 +1,106 @@
+//! Strict decoding, and the invalid encodings that the public standard lists.
+
+use rlp::Rlp;
+use rlp_rows::Line;
+use std::alloc::Global;
+use std::fmt;
+use std::fmt::Write;
+
+/// Rows of strict values and invalid encodings.
+pub(crate) const ROWS: &str = "
+    Bytes after a text are too much, but a fault of its header comes first.
+    strict value String:
+    83636174 | Ok(\"cat\")
+    8363617400 | Err(RlpIsTooBig)
+    b802616200 | Err(RlpInvalidIndirection)
+
+    Bytes after a number are too much, also after one with a leading zero.
+    strict value u16:
+    820100 | Ok(256)
+    82000100 | Err(RlpIsTooBig)
+    820001 | Err(RlpInvalidIndirection)
+
+    No bytes are too few.
+    strict value u8:
+    none | Err(RlpIsTooShort)
+
+    A list or an item that isn't framed is too short, and two items are a wrong number.
+    strict value Option u8:
+    c105 | Ok(Some(5))
+    c0 | Ok(None)
+    c5 | Err(RlpIsTooShort)
+    c20582 | Err(RlpIsTooShort)
+    c20506 | Err(RlpIncorrectListLen)
+
+    A list is read only if it is exactly one list of framed items.
+    strict list u8:
+    c20506 | Ok([5, 6])
+    none | Err(RlpExpectedToBeList)
+    05 | Err(RlpExpectedToBeList)
+    c28105 | Err(RlpInvalidIndirection)
+    c10102 | Err(RlpIsTooBig)
+    c3058200 | Err(RlpIsTooShort)
+    c305b800 | Err(RlpDataLenWithZeroPrefix)
+
+    The item of a strict view is read strictly.
+    strict list_at u8:
+    c101 0 | Err(RlpExpectedToBeList)
+
+    Bytes that the public standard lists as invalid encodings.
+    strict invalid:
+    bf0f000000000000021111 | false Some(RlpInconsistentLengthAndData)
+    ff0f000000000000021111 | false Some(RlpIsTooShort)
+    f80180 | false Some(RlpInvalidIndirection)
+    f80100 | false Some(RlpInvalidIndirection)
+    8100 | false Some(RlpInvalidIndirection)
+    8101 | false Some(RlpInvalidIndirection)
+    817f | false Some(RlpInvalidIndirection)
+    b800 | false Some(RlpInvalidIndirection)
+    b90040 | false Some(RlpInvalidIndirection)
+    f800 | false Some(RlpListLenWithZeroPrefix)
+    fb00000040 | false Some(RlpListLenWithZeroPrefix)
+    b81000112233445566778899aabbccddeeff | false Some(RlpInvalidIndirection)
+    b801ff | false Some(RlpInvalidIndirection)
+    f810000102030405060708090a0b0c0d0e0f | false Some(RlpInvalidIndirection)
+    f803112233 | false Some(RlpInvalidIndirection)
+    none | false Some(RlpIsTooShort)
+    81 | false Some(RlpInconsistentLengthAndData)
+    c5010203 | false Some(RlpIsTooShort)
+    e201020304050607 | false Some(RlpIsTooShort)
+    ba010000aabbccddeeff | false Some(RlpInconsistentLengthAndData)
+    f90180 | false Some(RlpIsTooShort)
+    ffffffffffffffffff0001020304050607 | false Some(RlpIsTooShort)
+    c000 | false Some(RlpIsTooBig)
+    0000 | false Some(RlpIsTooBig)
+
+    A number, and one with a byte after it.
+    strict whole:
+    820100 | Ok(256)
+    0506 | Err(RlpIsTooBig)
+
+    A list of numbers.
+    strict whole_list:
+    c20506 | Ok([5, 6])
+";
+
+/// Tells whether the bytes are canonical, and the fault of reading them strictly: as a list if they
+/// begin as one, else as a string.
+pub(crate) fn tell_invalid(alloc: Global, bytes: &[u8], out: &mut Line) -> fmt::Result {
+    let view = Rlp::new_strict(bytes);
+    let fault = if view.is_list() {
+        view.item_count().err()
+    } else {
+        view.as_val::<Vec<u8>>(alloc).err()
+    };
+    write!(out, "{} {fault:?}", Rlp::new(bytes).is_canonical(9))
+}
+
+/// Tells what is read as a number from bytes that are to be whole.
+pub(crate) fn tell_whole(alloc: Global, bytes: &[u8], out: &mut Line) -> fmt::Result {
+    write!(out, "{:?}", rlp::decode_whole::<u64>(alloc, bytes))
+}
+
+/// Tells what is read as a list of numbers from bytes that are to be whole.
+pub(crate) fn tell_whole_list(alloc: Global, bytes: &[u8], out: &mut Line) -> fmt::Result {
+    write!(out, "{:?}", rlp::decode_list_whole::<u64>(alloc, bytes))
+}

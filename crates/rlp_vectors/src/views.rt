@@ -1,0 +1,177 @@
+//! The calls of a view about all its bytes, and headers at the lengths at which their form changes.
+
+use rlp::{PayloadInfo, Rlp};
+use rlp_rows::Line;
+use std::fmt;
+use std::fmt::Write;
+
+/// Rows of headers and views.
+pub(crate) const ROWS: &str = "
+    The first bytes of strings, at the least and the greatest length of each form.
+    lenient header:
+    00 | 0 + 1 = Some(1)
+    7f | 0 + 1 = Some(1)
+    80 | 1 + 0 = Some(1)
+    81 | 1 + 1 = Some(2)
+    b7 | 1 + 55 = Some(56)
+    b838 | 2 + 56 = Some(58)
+    b8ff | 2 + 255 = Some(257)
+    b90100 | 3 + 256 = Some(259)
+    b9ffff | 3 + 65535 = Some(65538)
+    ba010000 | 4 + 65536 = Some(65540)
+    baffffff | 4 + 16777215 = Some(16777219)
+    bb01000000 | 5 + 16777216 = Some(16777221)
+    bbffffffff | 5 + 4294967295 = Some(4294967300)
+    bc0100000000 | 6 + 4294967296 = Some(4294967302)
+    bfffffffffffffffff | 9 + 18446744073709551615 = None
+    05ff | 0 + 1 = Some(1)
+    bffffffffffffffff6 | 9 + 18446744073709551606 = Some(18446744073709551615)
+    bffffffffffffffff7 | 9 + 18446744073709551607 = None
+
+    The first bytes of lists, at the least and the greatest length of each form.
+    lenient header:
+    c0 | 1 + 0 = Some(1)
+    c1 | 1 + 1 = Some(2)
+    f7 | 1 + 55 = Some(56)
+    f838 | 2 + 56 = Some(58)
+    f8ff | 2 + 255 = Some(257)
+    f90100 | 3 + 256 = Some(259)
+    f9ffff | 3 + 65535 = Some(65538)
+    fa010000 | 4 + 65536 = Some(65540)
+    faffffff | 4 + 16777215 = Some(16777219)
+    fb01000000 | 5 + 16777216 = Some(16777221)
+    fbffffffff | 5 + 4294967295 = Some(4294967300)
+    fc0100000000 | 6 + 4294967296 = Some(4294967302)
+    ffffffffffffffffff | 9 + 18446744073709551615 = None
+    c001 | 1 + 0 = Some(1)
+
+    Bytes that don't begin with a header.
+    lenient header:
+    none | RlpIsTooShort
+    b8 | RlpIsTooShort
+    f8 | RlpIsTooShort
+    b901 | RlpIsTooShort
+    b800 | RlpDataLenWithZeroPrefix
+    b900 | RlpDataLenWithZeroPrefix
+    f800 | RlpListLenWithZeroPrefix
+    f900 | RlpListLenWithZeroPrefix
+    f801 | RlpInvalidIndirection
+    b837 | RlpInvalidIndirection
+
+    A view that is null, empty, a list or a string.
+    lenient view kinds:
+    none | true false false false
+    80 | false true false true
+    c0 | false true true false
+    05 | false false false true
+    c105 | false false true false
+    c88363617483646f67 | false false true false
+
+    Numbers at the front. Among the others are the first bytes of the long headers of strings,
+    without other bytes.
+    lenient view int:
+    none | false
+    81 | false
+    8100 | false
+    8105 | true
+    00 | true
+    b838 | false
+    b83805 | true
+    c0 | false
+    b8 | false
+    b9 | false
+    ba | false
+    bb | false
+    bc | false
+    bd | false
+    be | false
+    bf | false
+
+    Lists, and the limit within which they nest.
+    lenient view nested:
+    80 0 | true
+    c0 0 | false
+    c0 1 | true
+    c2c105 1 | false
+    c2c105 2 | true
+    c5 0 | true
+
+    Prototypes and sizes.
+    lenient view sizes:
+    none | Ok(Null) 0
+    84636174 | Ok(Data(0)) 0
+    8363617400 | Ok(Data(3)) 3
+    05 | Ok(Data(1)) 1
+    c5 | Ok(List(0)) 0
+    c88363617483646f67 | Ok(List(2)) 0
+
+    The prototype of a strict view counts the items as that of a lenient view does.
+    strict view sizes:
+    c10102 | Ok(List(1)) 0
+
+    Encodings and other bytes, and a depth, for views of both kinds. The last two are a list of
+    56 numbers 1, whose header has two bytes.
+    lenient view canonical, strict view canonical:
+    none 5 | false
+    8105 5 | false
+    c28105 5 | false
+    c10102 5 | false
+    c3058200 5 | false
+    80 0 | true
+    c0 0 | false
+    c0 1 | true
+    c1c0 1 | false
+    c1c0 2 | true
+    f8380101010101010101010101010101010101010101010101010101010101010101010101010101010101010101010\
+     101010101010101010101 1 | true
+    f8380101010101010101010101010101010101010101010101010101010101010101010101010101010101010101010\
+     101010101010101010101 0 | false
+";
+
+/// Tells the lengths of a header and of its value, and both together if a `usize` can hold it.
+pub(crate) fn tell_header(bytes: &[u8], out: &mut Line) -> fmt::Result {
+    match PayloadInfo::from(bytes) {
+        Ok(info) => {
+            let (header, value) = (info.header_len, info.value_len);
+            write!(out, "{header} + {value} = {:?}", info.checked_total())
+        }
+        Err(fault) => write!(out, "{fault}"),
+    }
+}
+
+/// Tells what a view answers: the results of `is_null`, `is_empty`, `is_list` and `is_data`, its
+/// prototype and its size, its text, or one of what `holds` says.
+pub(crate) fn tell_view(view: &Rlp<'_>, of: &str, limit: usize, out: &mut Line) -> fmt::Result {
+    match of {
+        "kinds" => tell_kinds(view, out),
+        "sizes" => write!(out, "{:?} {}", view.prototype(), view.size()),
+        "text" => write!(out, "{view}"),
+        _ => write!(out, "{}", holds(view, of, limit)),
+    }
+}
+
+/// Tells of which kinds a view is.
+fn tell_kinds(view: &Rlp<'_>, out: &mut Line) -> fmt::Result {
+    let (null, empty) = (view.is_null(), view.is_empty());
+    let (list, data) = (view.is_list(), view.is_data());
+    write!(out, "{null} {empty} {list} {data}")
+}
+
+/// Returns the result of `is_int`, whether a view's lists nest within a limit, or whether its bytes
+/// are the encoding of an item within a depth.
+fn holds(view: &Rlp<'_>, of: &str, limit: usize) -> bool {
+    match of {
+        "int" => view.is_int(),
+        "nested" => view.is_nested_within(limit),
+        _ => view.is_canonical(limit),
+    }
+}
+
+#[test]
+fn total_of_a_header(rt: HostRuntime) {
+    let info = PayloadInfo {
+        header_len: 1,
+        value_len: 3,
+    };
+    assert!(rt; info.total() == 4);
+}
