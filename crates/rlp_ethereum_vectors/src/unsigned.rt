@@ -137,15 +137,15 @@ pub(crate) const ROWS: &str = "
     Transaction | 9e02db0108843b9aca008504a817c800825208800600c08082333382444400 | RlpIsTooBig
 
     Transactions of types that aren't known, in a block: types 5, 0 and 0x7f, two without a payload.
-    By themselves they have any payload. Then strings whose first byte is no type, and a known type
-    whose payload is at fault.
+    By themselves they have any payload, also with a byte more. Then strings whose first byte is no
+    type, and a known type whose payload is at fault.
     AnyTransaction | 8205c0
     AnyTransaction | 00
     AnyTransaction | 7f
     AnyTransaction | 9d+FEE_MARKET
     AnyTransaction | SIGNED
     AnyTransaction alone | FEE_MARKET
-    AnyTransaction alone | 05c0 | read with a byte more or less
+    AnyTransaction alone | 05c0 | 05c0
     AnyTransaction | 80 | RlpIsTooShort
     AnyTransaction | 8180 | Custom(\"unknown transaction type\")
     AnyTransaction | 82ffc0 | Custom(\"unknown transaction type\")
