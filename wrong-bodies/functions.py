@@ -119,6 +119,8 @@ def methods_of(function, crate, verdicts):
     first = camel(re.sub("<.*", "", function.kind), function.parameters)
     return (
         [name for name, block in blocks if block == whole + function.trait]
+        # A type with chosen parameters, as `Signed<T, bool>`, is written `Signed+T+bool`.
+        or [name for name, block in blocks if not function.trait and block == "+".join(re.findall(r"\w+", function.kind))]
         or [name for name, block in blocks if block == first + function.trait]
         or [name for name, block in blocks if function.trait and block.startswith(first) and block.endswith(function.trait)]
         # A trait with parameters, as `From<u64>`, has them behind its name.
