@@ -5,15 +5,15 @@ pub use Rattle.rlp_format.specs.Format
 -- the results of a view's methods
 pub use Rattle.rlp_format.specs.Views
 -- values, their items, and which bytes give them
-pub mod Values
+pub use Rattle.rlp_views.specs.Values
 -- streams: their states, and what each call makes of one
 pub mod Streams
 -- lemmas for the laws of traits and for authors of types; readers of definitions don't need them
-pub mod Lemmas
+pub use Rattle.rlp_views.specs.Lemmas
 -- the codec of a custom type, from those of its fields
-pub mod Codec
+pub use Rattle.rlp_views.specs.Codec
 -- codecs of raw items, and of types whose values are of several types
-pub mod Codecs
+pub use Rattle.rlp_views.specs.Codecs
 -- the faults of decoding
 pub use Rattle.rlp_format.specs.declared.error.DecoderError
 -- the lengths that a header announces
@@ -24,6 +24,6 @@ pub use Rattle.rlp_format.specs.declared.prototype.Prototype
 pub use Rattle.rlp_format.specs.declared.flat.FlatItem
 pub use Rattle.rlp_format.specs.declared.flat.TreeFault
 -- numbers that are kept as n bytes
-pub use Rattle.rlp_streams.specs.declared.impls.uint.Uint
+pub use Rattle.rlp_format.specs.declared.uint.Uint
 -- what prints of a number
-pub use Rattle.rlp_streams.specs.NumberText
+pub use Rattle.rlp_format.specs.Values.NumberText

@@ -1,7 +1,5 @@
-//! The traits of types that are read.
+//! The traits of types that are read back.
 
-mod decodable;
 mod round_trip;
 
-pub use decodable::Decodable;
 pub use round_trip::{RoundTrip, Scalar, StrictRead};

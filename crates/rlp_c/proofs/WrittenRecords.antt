@@ -36,7 +36,7 @@ use Rattle.rlp_transactions.specs.LegacyTransaction.{signed_legacy_transaction}
 use Rattle.rlp_transactions.specs.SetCodeTransaction.{signed_set_code_transaction}
 use Rattle.rlp_transactions.specs.Transaction.{transaction}
 use Rattle.rlp_transactions.specs.TransactionParts.{type_of}
-use Rattle.rlp.specs.Streams.Fields.{items_if}
+use Rattle.rlp.specs.Values.Value.{items_if}
 use Rattle.rlp_ethereum.specs.declared.header.Header.{Header as BlockHeader}
 use Rattle.rlp_ethereum.specs.declared.header.forks.Cancun.{Cancun}
 use Rattle.rlp_ethereum.specs.declared.header.forks.London.{London}

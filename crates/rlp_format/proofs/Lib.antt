@@ -4,5 +4,5 @@
 pub mod Format
 -- what a view of bytes returns
 pub mod Views
--- whole trees
-pub mod Trees
+-- values, and what prints of them
+pub mod Values

@@ -4,9 +4,5 @@ pub mod Fronts
 pub mod ItemPlaces
 -- text and depth, by those of the items
 pub mod Texts
--- text and depth of each kind of bytes
-pub mod Printing
 -- the depth of an item's bytes
 pub mod Depths
--- hexadecimal digits
-pub mod HexDigits

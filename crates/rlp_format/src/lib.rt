@@ -1,10 +1,9 @@
-//! The format: definitions, and the functions that read headers, items, strings, text and depth
-//! from a slice. It depends only on the standard library, and only `rlp`'s own crates list it.
-//! Users list `rlp`, which re-exports what they need.
+//! The format: definitions, and the functions that read headers, items and strings from a slice. It
+//! depends only on the standard library, and only `rlp`'s own crates list it. Users list `rlp`,
+//! which re-exports what they need.
 #![tactic(auto)]
 
 pub mod count;
-pub mod depth;
 pub mod digits;
 pub mod error;
 pub mod flat;
@@ -14,10 +13,10 @@ pub mod items;
 pub mod laws;
 pub mod prototype;
 pub mod string_reading;
-pub mod text;
-pub mod walking;
+pub mod uint;
 
 pub use error::DecoderError;
 pub use flat::{FlatItem, TreeFault};
 pub use header::PayloadInfo;
 pub use prototype::Prototype;
+pub use uint::Uint;

@@ -5,7 +5,7 @@ use Rattle.rlp.specs.Format.Item.{Item, list_of}
 use Rattle.rlp.specs.Values.Value.{number_item}
 use Rattle.rlp.specs.Codec.{Codec, Fields, byte_string, end, field, groups, number, struct_of}
 use Rattle.rlp.specs.Codecs.RawItem.{raw_item}
-use Rattle.rlp.specs.Streams.Fields.{all_items}
+use Rattle.rlp.specs.Values.Value.{all_items}
 use Rattle.rlp_node_record.specs.declared.node_fields.NodeFields.{NodeFields}
 use Rattle.rlp_node_record.specs.declared.node_fields.NodePair.{NodePair}
 

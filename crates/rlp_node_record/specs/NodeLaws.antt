@@ -8,7 +8,7 @@ use Rattle.rlp.specs.DecoderError.TheVariants.{OutOfMemory}
 use Rattle.rlp.specs.Format.Item.{string}
 use Rattle.rlp.specs.Format.Encoding.{encoding}
 use Rattle.rlp.specs.Format.WrittenHeader.{AreBytes}
-use Rattle.rlp.specs.Streams.Fields.{all_items}
+use Rattle.rlp.specs.Values.Value.{all_items}
 use Rattle.rlp.specs.Views.View.{View, Holds, HoldsItem, strict_view_of}
 use Rattle.rlp.specs.Values.RawItem.{raw_item_of, view_frame}
 use Rattle.rlp.specs.Values.Value.{number_item}

@@ -9,7 +9,7 @@ use Rattle.rlp.specs.Format.Item.{Item, list, string}
 use Rattle.rlp.specs.Format.Encoding.{IsSized, encoding}
 use Rattle.rlp.specs.Format.Split.{begins_as_list}
 use Rattle.rlp.specs.Format.WrittenHeader.{AreBytes}
-use Rattle.rlp.specs.Streams.Stream.{is_list}
+use Rattle.rlp.specs.Format.Item.{is_list}
 use Rattle.rlp.specs.Views.View.{View, HoldsString, strict_view_of}
 use Rattle.rlp.specs.Codec.{Codec}
 use Rattle.rlp.specs.Codecs.Sums.{Cases, FitsCase, SameCase, case_item, envelope}

@@ -15,7 +15,7 @@ use Rattle.rlp_show.specs.Answer.{bytes_answer, record_answer, shown_answer}
 use Rattle.rlp_show.specs.Lines.{Field, Shape, Shown, field, fields_lines, in_field, items_lines, lines_if, list_lines, may_have, optional, place, prefix, record_lines}
 use Rattle.rlp_show.specs.Lines.{list_of as list_shape_of, list_value_lines, record_of, then_lines, value_lines}
 use Rattle.rlp.specs.Values.FieldReading.{count_if}
-use Rattle.rlp.specs.Streams.Fields.{items_if}
+use Rattle.rlp.specs.Values.Value.{items_if}
 
 -- the strict views of the encodings of items
 abbrev pub views_of : List Item → List View

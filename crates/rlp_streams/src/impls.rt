@@ -10,5 +10,3 @@ mod number;
 mod option;
 mod text;
 mod uint;
-
-pub use uint::Uint;

@@ -12,13 +12,12 @@ mod traits;
 mod whole_list;
 
 pub use envelope::write_envelope;
-pub use impls::Uint;
 pub use stream::{BasicEncoder, Chain, RlpStream, append_list_encoding};
 pub use structs::{
-    AppendFields, Each, Flattened, ListOf, Optional, OptionalGroupOf, OptionalListOf, write_struct,
+    AppendFields, Each, FieldsOf, Flattened, ListOf, Optional, OptionalGroupOf, OptionalListOf, write_struct,
 };
 pub use traits::Encodable;
-pub use whole_list::encode_list;
+pub use whole_list::{encode, encode_list};
 
 /// The encoding of the empty string.
 pub const NULL_RLP: [u8; 1] = [0x80];

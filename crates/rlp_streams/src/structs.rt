@@ -7,11 +7,13 @@ ghost use Rattle.rlp_streams.specs.Streams.Growth.{GrowsTo};
 ghost use Rattle.rlp_streams.specs.Streams.Fields.{AppendsSome};
 
 mod optional;
+mod parts;
 mod slices;
 
 use crate::stream::RlpStream;
 use crate::traits::Encodable;
 pub use optional::{Optional, OptionalGroupOf, OptionalListOf};
+pub use parts::FieldsOf;
 pub use slices::{Each, Flattened, ListOf};
 use std::alloc::AllocError;
 

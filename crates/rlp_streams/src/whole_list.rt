@@ -1,4 +1,4 @@
-//! Lists of values, each encoded alone.
+//! Values that are encoded alone, and lists of them.
 
 ghost use Rattle.std.specs.Prelude.{◌≡◌, ◌++◌, IfOk, OnOk, map, All};
 ghost use Rattle.rlp_format.specs.Format.Item.{list_of};
@@ -13,6 +13,20 @@ use std::alloc::{AllocError, Global};
 
 // The number of bytes for which room is made at first.
 const STARTING_CAPACITY: usize = 1024;
+
+/// The encoding of a value. Fails with `AllocError` if memory is refused, or if the value's own
+/// [`Encodable::rlp_append`] fails.
+///
+/// ```rust
+/// assert_eq!(rt; rlp::encode(alloc, &256u64)?.as_slice(), [0x82, 0x01, 0x00]);
+/// assert_eq!(rt; rlp::encode(alloc, &"cat")?.as_slice(), [0x83, 0x63, 0x61, 0x74]);
+/// ```
+pub fn encode<E: Encodable>(alloc: Global, object: &E) -> Result<BytesMut, AllocError>
+    ensures fits { OnOk result (E.fits object.now) }
+    ensures bytes { IfOk result (λ b. b.items ≡ encoding (E.item object.now)) }
+{
+    object.rlp_bytes(alloc)
+}
 
 /// Puts the encoding of each value at the end of the top. No list may be open.
 fn put_each<E: Encodable>(s: &mut RlpStream, values: &[E]) -> Result<(), AllocError>

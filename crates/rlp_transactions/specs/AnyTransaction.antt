@@ -1,8 +1,7 @@
 -- How transactions of every type are written and read, also of those that this crate doesn't know.
 use Rattle.std.specs.Prelude.{ℕ, ◌≡◌, ◌⊎◌, List, [], ◌∷◌, true, false}
 use Rattle.std.proofs.Common.{inl, inr, sym, ap, ◌∙◌, subst}
-use Rattle.rlp.specs.Format.Item.{string}
-use Rattle.rlp.specs.Streams.Stream.{is_list}
+use Rattle.rlp.specs.Format.Item.{string, is_list}
 use Rattle.rlp.specs.Codec.{Codec, newtype}
 use Rattle.rlp.specs.Codecs.Sums.{SameCase, envelope}
 use Rattle.rlp.specs.Lemmas.Told.{string_told, sum_told}

@@ -29,7 +29,7 @@ impl Encodable for LastField {
     ghost use Rattle.std.specs.Prelude.{[], ◌∷◌, IfSome};
     ghost use Rattle.rlp.specs.Format.Item.{list_of};
     ghost use Rattle.rlp.specs.Values.Value.{FitsBytes, number_item};
-    ghost use Rattle.rlp.specs.Streams.Fields.{items_if};
+    ghost use Rattle.rlp.specs.Values.Value.{items_if};
 
     ghost item = { λ v. list_of (items_if (λ n. number_item n ∷ []) v.0) };
 

@@ -1,7 +1,7 @@
 -- The state of a stream of encodings, and its moves.
 use Rattle.std.specs.Prelude.{ℕ, ◌≡◌, ◌+◌, ◌^◌, ◌<◌, ◌≤◌, Bool, true, false, ◌||◌, if◌then◌else◌, List, [], ◌∷◌, ◌++◌, Option, length, flat_map, replicate}
 use Rattle.rlp_format.specs.Format.WrittenHeader.{written_header}
-use Rattle.rlp_format.specs.Format.Item.{Item, string, list}
+use Rattle.rlp_format.specs.Format.Item.{Item, is_list}
 use Rattle.rlp_format.specs.Format.Encoding.{encoding}
 use Rattle.rlp_buffer.specs.Streams.Stack.{Stack, empty_stack, top, levels, stack_put, stack_with_list, stack_shut, stack_count, closed_payload, is_counted_after}
 
@@ -61,11 +61,6 @@ abbrev pub with_list : Option ℕ → State → State
 with_list awaits s = record { front = s.front; stack = stack_with_list awaits s.stack; is_counted = false }
 
 -- ---- the effect of items
-
--- whether an item is a list
-abbrev pub is_list : Item → Bool
-is_list (string s) = false
-is_list (list xs) = true
 
 -- an appended item: `is_counted` is false, the encoding is put, one is counted, and `is_counted` is true if the item is a list
 abbrev pub add : Item → State → State

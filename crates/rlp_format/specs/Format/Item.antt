@@ -1,5 +1,5 @@
 -- What is encoded: a byte string, or a list of items.
-use Rattle.std.specs.Prelude.{ℕ, suc, max, List, [], ◌∷◌}
+use Rattle.std.specs.Prelude.{ℕ, suc, max, Bool, true, false, List, [], ◌∷◌}
 
 -- An item is a byte string or a list of items. A type can't hold itself inside `List`, so a list holds `Items`. `list_of` makes a list of a `List Item`.
 mutual
@@ -24,6 +24,11 @@ listed (item_and x xs) = x ∷ listed xs
 -- the item that is the list of these items
 abbrev pub list_of : List Item → Item
 list_of xs = list (items_from xs)
+
+-- whether an item is a list
+abbrev pub is_list : Item → Bool
+is_list (string s) = false
+is_list (list xs) = true
 
 -- How deep lists nest. A string has depth 0. A list has a depth of 1 more than the deepest of its items, or 1 without items.
 abbrev mutual

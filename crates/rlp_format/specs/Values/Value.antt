@@ -1,5 +1,5 @@
 -- Which item a value is.
-use Rattle.std.specs.Prelude.{ℕ, ◌≡◌, ◌*◌, ◌^◌, ◌<◌, Bool, true, false, Option, Some, None, [], ◌∷◌}
+use Rattle.std.specs.Prelude.{ℕ, ◌≡◌, ◌*◌, ◌^◌, ◌<◌, Bool, true, false, Option, Some, None, List, [], ◌∷◌, ◌++◌}
 use Rattle.rlp_format.specs.Format.Item.{Item, string, list_of}
 use Rattle.rlp_format.specs.Format.WrittenHeader.{big_endian}
 
@@ -24,3 +24,13 @@ FitsBytes width n = n < 2 ^ (8 * width)
 -- two values of a type are alike if their items are equal; the type says which item a value is
 abbrev pub AreAlike : {T : Type 0} → (T → Item) → T → T → Type 0
 AreAlike item v w = item v ≡ item w
+
+-- the items of all values, one after another
+abbrev pub all_items : {A : Type 0} → (A → List Item) → List A → List Item
+all_items items [] = []
+all_items items (x ∷ xs) = items x ++ all_items items xs
+
+-- the items of a value, if it is present
+abbrev pub items_if : {A : Type 0} → (A → List Item) → Option A → List Item
+items_if items None = []
+items_if items (Some x) = items x

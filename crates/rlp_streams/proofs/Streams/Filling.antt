@@ -2,10 +2,10 @@
 use Rattle.std.proofs.Common.{◌≡◌, ℕ, zero, suc, ◌+◌, ◌-◌, ◌<◌, ◌≤◌, ◌||◌, Bool, false, List, [], ◌∷◌, ◌++◌, length, Some}
 use Rattle.std.proofs.Common.{refl, sym, ◌∙◌, ap, subst, arith, append_assoc, append-nil}
 use Rattle.rlp_format.specs.Format.WrittenHeader.{written_header}
-use Rattle.rlp_format.specs.Format.Item.{Item, list, Items, no_items, item_and, list_of}
+use Rattle.rlp_format.specs.Format.Item.{Item, list, Items, no_items, item_and, list_of, is_list}
 use Rattle.rlp_format.specs.Format.Encoding.{encoding, join_items}
 use Rattle.rlp_buffer.specs.Streams.Stack.{OpenList}
-use Rattle.rlp_buffer.specs.Streams.Stream.{State, add, put_item, with_list, is_list, add_all}
+use Rattle.rlp_buffer.specs.Streams.Stream.{State, add, put_item, with_list, add_all}
 use Rattle.rlp_buffer.specs.Streams.Calls.{with_list_of}
 use Rattle.rlp_buffer.proofs.Streams.Rooms.{retains_same, retains_trans}
 use Rattle.rlp_streams.specs.Streams.Growth.{GrowsTo}

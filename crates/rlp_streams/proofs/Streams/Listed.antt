@@ -2,10 +2,10 @@
 use Rattle.std.proofs.Common.{◌≡◌, ℕ, suc, ◌-◌, ◌||◌, nat_le, Bool, true, false, List, [], ◌∷◌, ◌++◌, length, Some, refl, sym, ◌∙◌, ap, arith}
 use Rattle.std.proofs.Common.{append_assoc, append-nil}
 use Rattle.std.proofs.lemmas.Bool.Decides.{nat_tests}
-use Rattle.rlp_format.specs.Format.Item.{Item, list_of}
+use Rattle.rlp_format.specs.Format.Item.{Item, list_of, is_list}
 use Rattle.rlp_format.specs.Format.Encoding.{encoding, join}
 use Rattle.rlp_buffer.specs.Streams.Stack.{OpenList, count_around}
-use Rattle.rlp_buffer.specs.Streams.Stream.{State, list_encoding, add, put_item, with_list, is_list, add_all}
+use Rattle.rlp_buffer.specs.Streams.Stream.{State, list_encoding, add, put_item, with_list, add_all}
 use Rattle.rlp_format.specs.Lemmas.Encodings.{encoding_list}
 
 -- `b || true` is true

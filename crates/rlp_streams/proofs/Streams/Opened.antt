@@ -1,9 +1,9 @@
 -- A list that is opened, or is written at once: from its encoding, or since it has no items.
 use Rattle.std.proofs.Common.{◌≡◌, ℕ, zero, suc, ◌<◌, true, IsTrue, List, [], ◌∷◌, length, Some, refl, sym, ◌∙◌, ap, arith}
 use Rattle.rlp_format.specs.Format.WrittenHeader.{big_endian, written_header}
-use Rattle.rlp_format.specs.Format.Item.{Item, string, list, list_of}
+use Rattle.rlp_format.specs.Format.Item.{Item, string, list, list_of, is_list}
 use Rattle.rlp_format.specs.Format.Encoding.{encoding, join_items}
-use Rattle.rlp_buffer.specs.Streams.Stream.{State, Seen, HasRoomFor, raw_text, put, put_item, is_list, count, with_list, with_is_counted}
+use Rattle.rlp_buffer.specs.Streams.Stream.{State, Seen, HasRoomFor, raw_text, put, put_item, count, with_list, with_is_counted}
 use Rattle.rlp_buffer.specs.Streams.Calls.{with_list_of}
 
 -- the encoding of the list of no items

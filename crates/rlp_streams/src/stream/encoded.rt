@@ -1,9 +1,9 @@
 //! Lists that are written from their encodings.
 
 ghost use Rattle.std.specs.Prelude.{◌≡◌, IsTrue, IsOk, OnOk, OnErr};
-ghost use Rattle.rlp_format.specs.Format.Item.{Item};
+ghost use Rattle.rlp_format.specs.Format.Item.{Item, is_list};
 ghost use Rattle.rlp_format.specs.Format.Encoding.{encoding};
-ghost use Rattle.rlp_buffer.specs.Streams.Stream.{HasRoomFor, IsAsBefore, Retains, is_list, put_item};
+ghost use Rattle.rlp_buffer.specs.Streams.Stream.{HasRoomFor, IsAsBefore, Retains, put_item};
 
 use crate::stream::RlpStream;
 use std::alloc::AllocError;

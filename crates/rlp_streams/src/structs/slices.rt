@@ -2,7 +2,7 @@
 
 ghost use Rattle.std.specs.Prelude.{◌≡◌, ◌∷◌, [], All, map};
 ghost use Rattle.rlp_format.specs.Format.Item.{list_of};
-ghost use Rattle.rlp_streams.specs.Streams.Fields.{all_items};
+ghost use Rattle.rlp_format.specs.Values.Value.{all_items};
 
 use crate::stream::RlpStream;
 use crate::structs::AppendFields;

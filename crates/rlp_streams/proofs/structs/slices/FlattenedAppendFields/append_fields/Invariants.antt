@@ -1,7 +1,7 @@
 use Rattle.std.proofs.Common.{◌≡◌, take}
 use Rattle.std.specs.List.{All}
 use Rattle.rlp_buffer.specs.Streams.Stream.{Retains, add_all}
-use Rattle.rlp_streams.specs.Streams.Fields.{all_items}
+use Rattle.rlp_format.specs.Values.Value.{all_items}
 use Rattle.rlp_streams.proofs.structs.slices.FlattenedAppendFields.append_fields.Given as goal
 
 abbrev pub invariant-loop-value : goal.invariant-loop-value

@@ -1,5 +1,5 @@
 use Rattle.std.proofs.Common.{◌≡◌, length, take}
-use Rattle.rlp_streams.specs.Streams.Fields.{all_items}
+use Rattle.rlp_format.specs.Values.Value.{all_items}
 use Rattle.rlp_streams.proofs.structs.slices.FlattenedAppendFields.field_count.Given as goal
 
 abbrev pub invariant-loop-value : goal.invariant-loop-value

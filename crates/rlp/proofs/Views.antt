@@ -1,6 +1,0 @@
--- lenient and strict views
-pub mod ViewKinds
--- items that are split off bytes
-pub mod SplitOff
--- fields in order
-pub mod InOrder

@@ -1,0 +1,2 @@
+-- the digits of a number in a base
+pub mod NumberTexts

@@ -1,0 +1,10 @@
+-- lenient and strict views
+pub mod ViewKinds
+-- items that are split off bytes
+pub mod SplitOff
+-- fields in order
+pub mod InOrder
+-- text and depth of each kind of bytes
+pub mod Printing
+-- hexadecimal digits
+pub mod HexDigits

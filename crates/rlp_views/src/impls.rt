@@ -1,0 +1,12 @@
+//! The types that are read.
+
+mod boolean;
+mod boxed;
+mod byte_array;
+mod byte_string;
+mod bytes_mut;
+mod bytes_shared;
+mod number;
+mod option;
+mod text;
+mod uint;

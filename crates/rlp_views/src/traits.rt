@@ -1,0 +1,5 @@
+//! The trait of types that are read.
+
+mod decodable;
+
+pub use decodable::Decodable;
