@@ -14,7 +14,7 @@ use Rattle.rlp_format.specs.Views.View.{View, strict_view_of}
 use Rattle.rlp.specs.Values.FieldReading.{IsCount, NoMore, NoneOr}
 use Rattle.rlp.specs.Values.ListReading.{FaultsAsList}
 use Rattle.rlp.specs.Values.Sums.{IsEnvelopeFault, IsOtherTag, faulty_payload, no_tag, other_tag}
-use Rattle.rlp_records.specs.Alone.{FaultsAlone}
+use Rattle.rlp_records.specs.Alone.{FaultsAlone, unknown_type}
 use Rattle.rlp_records.specs.Hash.{hash}
 use Rattle.rlp_transactions.specs.Access.{access_list, access_list_item}
 use Rattle.rlp_transactions.specs.AccessListTransaction.{signed_access_list_transaction}
@@ -23,8 +23,8 @@ use Rattle.rlp_transactions.specs.BlobTransaction.{signed_blob_transaction}
 use Rattle.rlp_transactions.specs.FeeMarketTransaction.{signed_fee_market_transaction}
 use Rattle.rlp_transactions.specs.LegacyTransaction.{signed_legacy_transaction}
 use Rattle.rlp_transactions.specs.SetCodeTransaction.{signed_set_code_transaction}
-use Rattle.rlp_transactions.specs.Transaction.{typed_transactions, unknown_type}
-use Rattle.rlp_ethereum.specs.Header.{header}
+use Rattle.rlp_transactions.specs.Transaction.{typed_transactions}
+use Rattle.rlp_headers.specs.Header.{header}
 use Rattle.rlp_c.specs.declared.item.RlpItem.{RlpItem}
 use Rattle.rlp_c.specs.declared.records.kinds.Kind.TheVariants.{Exactly, List as a_list}
 use Rattle.rlp_c.specs.declared.records.kinds.Record.{Record}

@@ -37,12 +37,12 @@ use Rattle.rlp_transactions.specs.SetCodeTransaction.{signed_set_code_transactio
 use Rattle.rlp_transactions.specs.Transaction.{transaction}
 use Rattle.rlp_transactions.specs.TransactionParts.{type_of}
 use Rattle.rlp.specs.Values.Value.{items_if}
-use Rattle.rlp_ethereum.specs.declared.header.Header.{Header as BlockHeader}
-use Rattle.rlp_ethereum.specs.declared.header.forks.Cancun.{Cancun}
-use Rattle.rlp_ethereum.specs.declared.header.forks.London.{London}
-use Rattle.rlp_ethereum.specs.declared.header.forks.Shanghai.{Shanghai}
-use Rattle.rlp_ethereum.specs.Forks.{cancun_fields, london_fields, shanghai_fields}
-use Rattle.rlp_ethereum.specs.Header.{header, header_fields}
+use Rattle.rlp_headers.specs.declared.header.Header.{Header as BlockHeader}
+use Rattle.rlp_headers.specs.declared.header.forks.Cancun.{Cancun}
+use Rattle.rlp_headers.specs.declared.header.forks.London.{London}
+use Rattle.rlp_headers.specs.declared.header.forks.Shanghai.{Shanghai}
+use Rattle.rlp_headers.specs.Forks.{cancun_fields, london_fields, shanghai_fields}
+use Rattle.rlp_headers.specs.Header.{header, header_fields}
 use Rattle.rlp_c.specs.declared.item.RlpItem.{RlpItem}
 use Rattle.rlp_c.specs.declared.records.kinds.Kind.{Kind}
 use Rattle.rlp_c.specs.declared.records.kinds.Kind.TheVariants.{Exactly, List as a_list}

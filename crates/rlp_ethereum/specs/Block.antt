@@ -2,9 +2,9 @@
 use Rattle.std.specs.Vec.{vec_items}
 use Rattle.rlp.specs.Codec.{Codec, Fields, field, list_type, optional, struct_of}
 use Rattle.rlp_ethereum.specs.declared.block.Block.{Block}
-use Rattle.rlp_ethereum.specs.Header.{header}
+use Rattle.rlp_headers.specs.Header.{header}
 use Rattle.rlp_transactions.specs.AnyTransaction.{any_transaction}
-use Rattle.rlp_ethereum.specs.Withdrawal.{withdrawals}
+use Rattle.rlp_headers.specs.Withdrawal.{withdrawals}
 
 -- EIP-4895: rlp([header, transactions, ommers, withdrawals]), without the withdrawals before Shanghai
 abbrev pub block_fields : Fields Block

@@ -1,11 +1,2 @@
-pub mod Account
 pub mod Block
-pub mod Bloom
 pub mod Body
-pub mod Forks
-pub mod Header
-pub mod Log
-pub mod Receipt
-pub mod ReceiptStatus
-pub mod TypedReceipt
-pub mod Withdrawal

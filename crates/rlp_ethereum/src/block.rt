@@ -2,10 +2,10 @@
 
 ghost use Rattle.rlp_ethereum.specs.Block.{block};
 
-use crate::{Header, Withdrawals};
 use rlp::{
     Decodable, DecoderError, Encodable, ListOf, Optional, Rlp, RlpStream, RoundTrip, StrictRead,
 };
+use rlp_headers::{Header, Withdrawals};
 use rlp_transactions::AnyTransaction;
 use std::alloc::{AllocError, Global};
 

@@ -1,45 +1,10 @@
 //! The records of this crate.
 
-ghost use Rattle.rlp_ethereum.specs.Account.{account};
 ghost use Rattle.rlp_ethereum.specs.Block.{block};
-ghost use Rattle.rlp_ethereum.specs.Bloom.{bloom};
 ghost use Rattle.rlp_ethereum.specs.Body.{body};
-ghost use Rattle.rlp_ethereum.specs.Header.{header};
-ghost use Rattle.rlp_ethereum.specs.Log.{log};
-ghost use Rattle.rlp_ethereum.specs.Receipt.{receipt};
-ghost use Rattle.rlp_ethereum.specs.ReceiptStatus.{receipt_status};
-ghost use Rattle.rlp_ethereum.specs.TypedReceipt.{typed_receipt};
-ghost use Rattle.rlp_ethereum.specs.Withdrawal.{withdrawal, withdrawals};
 
-use crate::{
-    Account, Block, Bloom, Body, Header, Log, Receipt, ReceiptStatus, TypedReceipt, Withdrawal,
-    Withdrawals,
-};
+use crate::{Block, Body};
 use rlp_records::Record;
-
-impl Record for Bloom {
-    ghost same = { bloom.Same };
-
-    ghost told = { bloom.told };
-}
-
-impl Record for Header {
-    ghost same = { header.Same };
-
-    ghost told = { header.told };
-}
-
-impl Record for Withdrawal {
-    ghost same = { withdrawal.Same };
-
-    ghost told = { withdrawal.told };
-}
-
-impl Record for Withdrawals {
-    ghost same = { withdrawals.Same };
-
-    ghost told = { withdrawals.told };
-}
 
 impl Record for Body {
     ghost same = { body.Same };
@@ -51,34 +16,4 @@ impl Record for Block {
     ghost same = { block.Same };
 
     ghost told = { block.told };
-}
-
-impl Record for Log {
-    ghost same = { log.Same };
-
-    ghost told = { log.told };
-}
-
-impl Record for Receipt {
-    ghost same = { receipt.Same };
-
-    ghost told = { receipt.told };
-}
-
-impl Record for Account {
-    ghost same = { account.Same };
-
-    ghost told = { account.told };
-}
-
-impl Record for TypedReceipt {
-    ghost same = { typed_receipt.Same };
-
-    ghost told = { typed_receipt.told };
-}
-
-impl Record for ReceiptStatus {
-    ghost same = { receipt_status.Same };
-
-    ghost told = { receipt_status.told };
 }

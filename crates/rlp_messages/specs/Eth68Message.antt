@@ -8,7 +8,7 @@ use Rattle.rlp_messages.specs.declared.eth68_message.Eth68Message.{Eth68Message}
 use Rattle.rlp_messages.specs.declared.eth68_message.Eth68Message.TheVariants as message
 use Rattle.rlp_messages.specs.declared.with_request_id.WithRequestId.{WithRequestId}
 use Rattle.rlp_messages.specs.EthMessage.{EthBody, eth_messages}
-use Rattle.rlp_messages.specs.Message.{message_bytes}
+use Rattle.rlp_p2p.specs.Message.{message_bytes}
 use Rattle.rlp_messages.specs.Receipts.{receipts}
 use Rattle.rlp_messages.specs.Status.{status68}
 use Rattle.rlp_messages.specs.WithRequestId.{with_request_id}

@@ -10,7 +10,7 @@ use Rattle.rlp_messages.specs.declared.eth69_message.Eth69Message.TheVariants as
 use Rattle.rlp_messages.specs.declared.with_request_id.WithRequestId.{WithRequestId}
 use Rattle.rlp_messages.specs.Announcements.{block_range_update}
 use Rattle.rlp_messages.specs.EthMessage.{EthBody, eth_messages}
-use Rattle.rlp_messages.specs.Message.{message_bytes}
+use Rattle.rlp_p2p.specs.Message.{message_bytes}
 use Rattle.rlp_messages.specs.Receipts69.{receipts69}
 use Rattle.rlp_messages.specs.Status.{status69}
 use Rattle.rlp_messages.specs.WithRequestId.{with_request_id}

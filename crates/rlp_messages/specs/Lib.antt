@@ -1,11 +1,11 @@
 -- How messages between clients are written and read.
 
 -- greetings
-pub mod Hello
+pub use Rattle.rlp_p2p.specs.Hello
 -- messages that keep a connection
-pub mod Session
+pub use Rattle.rlp_p2p.specs.Session
 -- the end of a connection
-pub mod Disconnect
+pub use Rattle.rlp_p2p.specs.Disconnect
 -- what a client knows of the chain
 pub mod Status
 -- new blocks and transactions, and the blocks that a client has
@@ -21,9 +21,9 @@ pub mod Receipts69
 -- the number of a request
 pub mod WithRequestId
 -- messages with their ids
-pub mod Message
+pub use Rattle.rlp_p2p.specs.Message
 -- the messages of p2p
-pub mod P2pMessage
+pub use Rattle.rlp_p2p.specs.P2pMessage
 -- the messages that eth/68 and eth/69 have in common
 pub mod EthMessage
 -- the messages of eth/68

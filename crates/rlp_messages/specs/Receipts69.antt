@@ -4,8 +4,8 @@ use Rattle.rlp.specs.Codec.{Codec, Fields, end, field, list_type, number, struct
 use Rattle.rlp_messages.specs.declared.receipts69.BlockReceipts69.{BlockReceipts69}
 use Rattle.rlp_messages.specs.declared.receipts69.Receipt69.{Receipt69}
 use Rattle.rlp_messages.specs.declared.receipts69.Receipts69.{Receipts69}
-use Rattle.rlp_ethereum.specs.Log.{log}
-use Rattle.rlp_ethereum.specs.ReceiptStatus.{receipt_status}
+use Rattle.rlp_headers.specs.Log.{log}
+use Rattle.rlp_headers.specs.ReceiptStatus.{receipt_status}
 
 -- [tx-type, post-state-or-status, cumulative-gas, logs] of EIP-7642: the fields, in order
 abbrev pub receipt69_fields : Fields Receipt69

@@ -10,7 +10,7 @@ use Rattle.rlp_messages.specs.declared.requests.PooledTransactions.{PooledTransa
 use Rattle.rlp_messages.specs.declared.requests.GetReceipts.{GetReceipts}
 use Rattle.rlp_ethereum.specs.Body.{body}
 use Rattle.rlp_records.specs.Hash.{hash}
-use Rattle.rlp_ethereum.specs.Header.{header}
+use Rattle.rlp_headers.specs.Header.{header}
 use Rattle.rlp_transactions.specs.AnyTransaction.{any_transaction}
 use Rattle.rlp_messages.specs.HashOrNumber.{hash_or_number}
 

@@ -5,9 +5,8 @@ ghost use Rattle.rlp.specs.DecoderError.TheVariants.{OutOfMemory};
 ghost use Rattle.rlp.specs.Format.Encoding.{encoding};
 ghost use Rattle.rlp.specs.Codecs.Sums.{case_item};
 ghost use Rattle.rlp_messages.specs.Eth69Message.{FitsEth69, eth69_body, eth69_bytes, eth69_messages};
-ghost use Rattle.rlp_messages.specs.Message.{BodyFails, MessageFails};
+ghost use Rattle.rlp_p2p.specs.Message.{BodyFails, MessageFails};
 
-use crate::message::{Numbered, decode_numbered, write};
 use crate::{
     BlockBodies, BlockHeaders, BlockRangeUpdate, GetBlockBodies, GetBlockHeaders,
     GetPooledTransactions, GetReceipts, NewBlock, NewBlockHashes, NewPooledTransactionHashes,
@@ -15,6 +14,7 @@ use crate::{
 };
 use bytes::BytesMut;
 use rlp::DecoderError;
+use rlp_p2p::message::{Numbered, write};
 use std::alloc::{AllocError, Global};
 
 /// A message of `eth/69`. Clients agree on the capability's offset by their `Hello` messages; it is
@@ -129,7 +129,7 @@ fn decode_body(alloc: Global, message: &Numbered<'_>) -> Result<Eth69Message, De
     ensures fault { IfErr result
         (λ e. BodyFails eth69_messages message.now.number message.now.body.now e) }
 {
-    decode_numbered!(
+    rlp_p2p::decode_numbered!(
         alloc,
         message,
         0x00 => Eth69Message::Status,

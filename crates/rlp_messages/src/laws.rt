@@ -3,9 +3,10 @@
 ghost use Rattle.std.specs.Prelude.{◌≡◌, ◌<◌, ◌^◌, ℕ, length};
 ghost use Rattle.rlp_messages.specs.Eth68Message.{FitsEth68, SameEth68, eth68_bytes};
 ghost use Rattle.rlp_messages.specs.Eth69Message.{FitsEth69, SameEth69, eth69_bytes};
-ghost use Rattle.rlp_messages.specs.P2pMessage.{FitsP2p, SameP2p, p2p_bytes};
+ghost use Rattle.rlp_p2p.specs.P2pMessage.{FitsP2p, SameP2p, p2p_bytes};
 
-use crate::{Eth68Message, Eth69Message, P2pMessage};
+use crate::{Eth68Message, Eth69Message};
+use rlp_p2p::P2pMessage;
 
 /// Two messages of one protocol that are written as the same bytes, fewer than 2^64, after one offset
 /// have the same number, and each of their fields is the same.

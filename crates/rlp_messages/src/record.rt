@@ -2,13 +2,10 @@
 
 ghost use Rattle.rlp.specs.Codec.{codec_of};
 ghost use Rattle.rlp_messages.specs.Announcements.{block_range_update, new_block, new_block_hash, new_block_hashes, new_pooled_transaction_hashes, transactions};
-ghost use Rattle.rlp_messages.specs.Disconnect.{disconnect, reason};
 ghost use Rattle.rlp_messages.specs.HashOrNumber.{hash_or_number};
-ghost use Rattle.rlp_messages.specs.Hello.{capability, hello, node_id};
 ghost use Rattle.rlp_messages.specs.Receipts.{block_receipts, receipts};
 ghost use Rattle.rlp_messages.specs.Receipts69.{block_receipts69, receipt69, receipts69};
 ghost use Rattle.rlp_messages.specs.Requests.{block_bodies, block_headers, get_block_bodies, get_block_headers, get_pooled_transactions, get_receipts, pooled_transactions};
-ghost use Rattle.rlp_messages.specs.Session.{ping, pong};
 ghost use Rattle.rlp_messages.specs.Status.{fork_hash, fork_id, status68, status69};
 ghost use Rattle.rlp_messages.specs.WithRequestId.{SameWithRequestId, with_request_id};
 
@@ -16,16 +13,13 @@ use crate::announcements::{
     BlockRangeUpdate, NewBlock, NewBlockHash, NewBlockHashes, NewPooledTransactionHashes,
     Transactions,
 };
-use crate::disconnect::{Disconnect, DisconnectReason};
 use crate::hash_or_number::HashOrNumber;
-use crate::hello::{Capability, Hello, NodeId};
 use crate::receipts::{BlockReceipts, Receipts};
 use crate::receipts69::{BlockReceipts69, Receipt69, Receipts69};
 use crate::requests::{
     BlockBodies, BlockHeaders, GetBlockBodies, GetBlockHeaders, GetPooledTransactions, GetReceipts,
     PooledTransactions,
 };
-use crate::session::{Ping, Pong};
 use crate::status::{ForkHash, ForkId, Status68, Status69};
 use crate::with_request_id::WithRequestId;
 use rlp_ethereum::Record;
@@ -66,24 +60,6 @@ impl Record for HashOrNumber {
     ghost told = { hash_or_number.told };
 }
 
-impl Record for Capability {
-    ghost same = { capability.Same };
-
-    ghost told = { capability.told };
-}
-
-impl Record for Hello {
-    ghost same = { hello.Same };
-
-    ghost told = { hello.told };
-}
-
-impl Record for NodeId {
-    ghost same = { node_id.Same };
-
-    ghost told = { node_id.told };
-}
-
 impl Record for BlockBodies {
     ghost same = { block_bodies.Same };
 
@@ -106,24 +82,6 @@ impl Record for GetBlockHeaders {
     ghost same = { get_block_headers.Same };
 
     ghost told = { get_block_headers.told };
-}
-
-impl Record for Disconnect {
-    ghost same = { disconnect.Same };
-
-    ghost told = { disconnect.told };
-}
-
-impl Record for Ping {
-    ghost same = { ping.Same };
-
-    ghost told = { ping.told };
-}
-
-impl Record for Pong {
-    ghost same = { pong.Same };
-
-    ghost told = { pong.told };
 }
 
 impl Record for ForkHash {
@@ -185,12 +143,6 @@ impl<T: Record> Record for WithRequestId<T> {
 
     ghost told = { (with_request_id (record (codec_of T.fits T.item T.gives T.faults
         T.may_lack_memory T.round_trip T.strict) { Same = T.same; told = T.told })).told };
-}
-
-impl Record for DisconnectReason {
-    ghost same = { reason.Same };
-
-    ghost told = { reason.told };
 }
 
 impl Record for Receipt69 {

@@ -1,6 +1,6 @@
 -- How values of several types stand by themselves, outside a list, as in EIP-2718. `bare` is the codec of the type without a number: its items are lists.
 -- `cases` has the types with numbers, and `unknown` is the text of the fault of any other number.
-use Rattle.std.specs.Prelude.{ℕ, List, ◌≡◌, ◌⊎◌, ◌∷◌, true, false}
+use Rattle.std.specs.Prelude.{ℕ, List, ◌≡◌, ◌⊎◌, ◌∷◌, true, false, codes}
 use Rattle.rlp.specs.DecoderError.{DecoderError}
 use Rattle.rlp.specs.DecoderError.TheVariants.{OutOfMemory}
 use Rattle.rlp.specs.Format.Item.{Item, list, string}
@@ -11,6 +11,10 @@ use Rattle.rlp.specs.Views.View.{strict_view_of}
 use Rattle.rlp.specs.Values.Sums.{IsEnvelopeFault, MayLackAfterTag}
 use Rattle.rlp.specs.Codec.{Codec}
 use Rattle.rlp.specs.Codecs.Sums.{Cases}
+
+-- the text of the fault of a type of transaction that isn't in a table
+abbrev pub unknown_type : List ℕ
+unknown_type = codes "unknown transaction type"
 
 -- A value by itself, as it is sent, hashed or signed: a list is written as its encoding, and of a string only the bytes.
 abbrev pub bytes_alone : Item → List ℕ

@@ -16,9 +16,9 @@ use Rattle.rlp.specs.Values.ValueReading.{FaultsAsBool, GivesBool, IsCustom, no_
 use Rattle.rlp_transactions.specs.declared.recipient.Recipient.{Recipient}
 use Rattle.rlp_transactions.specs.declared.recipient.Recipient.TheVariants.{Creation, Account}
 use Rattle.rlp_transactions.specs.Recipient.{IsRecipient, IsRecipientFault, recipient_bytes, shorter_recipient, longer_recipient}
-use Rattle.rlp_ethereum.specs.declared.receipt_status.ReceiptStatus.{ReceiptStatus}
-use Rattle.rlp_ethereum.specs.declared.receipt_status.ReceiptStatus.TheVariants.{Failure, StateRoot, Success}
-use Rattle.rlp_ethereum.specs.ReceiptStatus.{IsStatus, IsStatusFault, other_status, status_bytes}
+use Rattle.rlp_headers.specs.declared.receipt_status.ReceiptStatus.{ReceiptStatus}
+use Rattle.rlp_headers.specs.declared.receipt_status.ReceiptStatus.TheVariants.{Failure, StateRoot, Success}
+use Rattle.rlp_headers.specs.ReceiptStatus.{IsStatus, IsStatusFault, other_status, status_bytes}
 use Rattle.rlp.specs.Views.Text.{error_name}
 use Rattle.rlp.specs.Views.View.{View, HoldsString, view_string}
 use Rattle.rlp.specs.Lemmas.Digits.{big_endian_value}

@@ -15,7 +15,7 @@ use Rattle.rlp_transactions.specs.declared.set_code_transaction.SetCodeTransacti
 use Rattle.rlp_transactions.specs.declared.signed.Signed.{Signed}
 use Rattle.rlp_transactions.specs.declared.transaction.Transaction.{Transaction}
 use Rattle.rlp_transactions.specs.declared.transaction.Transaction.TheVariants.{AccessList, Blob, FeeMarket, Legacy, SetCode}
-use Rattle.rlp_ethereum.specs.declared.withdrawal.Withdrawals.{Withdrawals}
+use Rattle.rlp_headers.specs.declared.withdrawal.Withdrawals.{Withdrawals}
 use Rattle.rlp_transactions.specs.AccessListTransaction.{signed_access_list_transaction}
 use Rattle.rlp_transactions.specs.BlobTransaction.{signed_blob_transaction}
 use Rattle.rlp_ethereum.specs.Block.{block as block_codec}
@@ -28,7 +28,7 @@ use Rattle.rlp_transactions.specs.OtherTransaction.{IsOther}
 use Rattle.rlp_transactions.specs.Transaction.{transaction as transaction_codec}
 use Rattle.rlp_transactions.specs.declared.any_transaction.AnyTransaction.{AnyTransaction}
 use Rattle.rlp_transactions.specs.declared.any_transaction.AnyTransaction.TheVariants.{Known, Other}
-use Rattle.rlp_ethereum.specs.Withdrawal.{withdrawals as withdrawals_codec}
+use Rattle.rlp_headers.specs.Withdrawal.{withdrawals as withdrawals_codec}
 use Rattle.std.specs.Str.Lines.{strip_carriage_return}
 use Rattle.rlp_lines.specs.Digits.{bytes_in}
 use Rattle.rlp_show.specs.Answer.{record_answer}

@@ -11,14 +11,14 @@ use Rattle.rlp.specs.Format.Encoding.{IsSized, encoding, join}
 use Rattle.rlp.specs.Lemmas.RoundTrips.{bit_below}
 use Rattle.rlp.specs.Values.Value.{bit}
 use Rattle.rlp.specs.Views.View.{strict_view_of}
-use Rattle.rlp_ethereum.specs.declared.withdrawal.Withdrawal.{Withdrawal}
-use Rattle.rlp_ethereum.specs.Withdrawal.{withdrawal as withdrawal_codec}
-use Rattle.rlp_ethereum.specs.declared.account.Account.{Account}
-use Rattle.rlp_ethereum.specs.Account.{account as account_codec}
-use Rattle.rlp_ethereum.specs.declared.log.Log.{Log}
-use Rattle.rlp_ethereum.specs.Log.{log as log_codec}
-use Rattle.rlp_ethereum.specs.declared.receipt.Receipt.{Receipt}
-use Rattle.rlp_ethereum.specs.Receipt.{receipt as receipt_codec}
+use Rattle.rlp_headers.specs.declared.withdrawal.Withdrawal.{Withdrawal}
+use Rattle.rlp_headers.specs.Withdrawal.{withdrawal as withdrawal_codec}
+use Rattle.rlp_headers.specs.declared.account.Account.{Account}
+use Rattle.rlp_headers.specs.Account.{account as account_codec}
+use Rattle.rlp_headers.specs.declared.log.Log.{Log}
+use Rattle.rlp_headers.specs.Log.{log as log_codec}
+use Rattle.rlp_headers.specs.declared.receipt.Receipt.{Receipt}
+use Rattle.rlp_headers.specs.Receipt.{receipt as receipt_codec}
 use Rattle.rlp_transactions.specs.declared.access.AccessListItem.{AccessListItem}
 use Rattle.rlp_transactions.specs.Access.{access_list_item as access_list_item_codec, access_list as access_list_codec}
 use Rattle.rlp_transactions.specs.declared.legacy_transaction.LegacyTransaction.{LegacyTransaction}
@@ -36,18 +36,18 @@ use Rattle.rlp_transactions.specs.SetCodeTransaction.{signed_set_code_transactio
 use Rattle.rlp_transactions.specs.declared.signed.Signed.{Signed}
 use Rattle.rlp_transactions.specs.Signed.{signed}
 use Rattle.rlp_transactions.specs.declared.access.AccessList.{AccessList}
-use Rattle.rlp_ethereum.specs.declared.header.Header.{Header}
-use Rattle.rlp_ethereum.specs.declared.header.forks.London.{London}
-use Rattle.rlp_ethereum.specs.declared.header.forks.Shanghai.{Shanghai}
-use Rattle.rlp_ethereum.specs.declared.header.forks.Cancun.{Cancun}
-use Rattle.rlp_ethereum.specs.Header.{header as header_codec}
+use Rattle.rlp_headers.specs.declared.header.Header.{Header}
+use Rattle.rlp_headers.specs.declared.header.forks.London.{London}
+use Rattle.rlp_headers.specs.declared.header.forks.Shanghai.{Shanghai}
+use Rattle.rlp_headers.specs.declared.header.forks.Cancun.{Cancun}
+use Rattle.rlp_headers.specs.Header.{header as header_codec}
 use Rattle.rlp_records.specs.declared.address.Address.{Address}
-use Rattle.rlp_ethereum.specs.declared.bloom.Bloom.{Bloom}
+use Rattle.rlp_headers.specs.declared.bloom.Bloom.{Bloom}
 use Rattle.rlp_records.specs.declared.hash.Hash.{Hash}
 use Rattle.rlp_records.specs.Address.{address as address_codec}
-use Rattle.rlp_ethereum.specs.Bloom.{bloom as bloom_codec}
+use Rattle.rlp_headers.specs.Bloom.{bloom as bloom_codec}
 use Rattle.rlp_records.specs.Hash.{hash as hash_codec}
-use Rattle.rlp_ethereum.specs.ReceiptStatus.{receipt_status as status_codec, status_bytes}
+use Rattle.rlp_headers.specs.ReceiptStatus.{receipt_status as status_codec, status_bytes}
 use Rattle.rlp_transactions.specs.Recipient.{recipient as recipient_codec, recipient_bytes}
 use Rattle.rlp_show.specs.Lines.{Field, Shape, byte_string, field, fields_lines, fixed_bytes, in_field, line, lines_if, list_of, list_value_lines, may_have}
 use Rattle.rlp_show.specs.Lines.{number, optional, prefix, receipt_status, recipient, record_of, truth_value}

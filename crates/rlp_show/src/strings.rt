@@ -1,7 +1,7 @@
 //! Items that are one string of bytes.
 
 ghost use Rattle.std.specs.Prelude.{◌≡◌, ◌^◌, ◌<◌, string_bytes};
-ghost use Rattle.rlp_ethereum.specs.ReceiptStatus.{status_bytes};
+ghost use Rattle.rlp_headers.specs.ReceiptStatus.{status_bytes};
 ghost use Rattle.rlp_transactions.specs.Recipient.{recipient_bytes};
 ghost use Rattle.rlp_show.specs.Answer.{Shows};
 ghost use Rattle.rlp_show.specs.Lines.{fixed_bytes, byte_string, receipt_status, recipient};

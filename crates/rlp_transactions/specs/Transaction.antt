@@ -1,9 +1,10 @@
 -- How transactions of every type are written and read.
-use Rattle.std.specs.Prelude.{ℕ, Bool, List, ◌⊎◌, codes, refl}
+use Rattle.std.specs.Prelude.{Bool, ◌⊎◌, refl}
 use Rattle.std.proofs.Common.{inl, inr}
 use Rattle.rlp.specs.Codec.{Codec, newtype}
 use Rattle.rlp.specs.Uint.{Uint}
 use Rattle.rlp.specs.Codecs.Sums.{Cases, and_case, enveloped, last_case, list_or_string}
+use Rattle.rlp_records.specs.Alone.{unknown_type}
 use Rattle.rlp_transactions.specs.declared.access_list_transaction.AccessListTransaction.{AccessListTransaction}
 use Rattle.rlp_transactions.specs.declared.blob_transaction.BlobTransaction.{BlobTransaction}
 use Rattle.rlp_transactions.specs.declared.fee_market_transaction.FeeMarketTransaction.{FeeMarketTransaction}
@@ -34,10 +35,6 @@ as_sum (AccessList t) = inr (inl t)
 as_sum (FeeMarket t) = inr (inr (inl t))
 as_sum (Blob t) = inr (inr (inr (inl t)))
 as_sum (SetCode t) = inr (inr (inr (inr t)))
-
--- the text of the fault of a type of transaction that isn't in the table
-abbrev pub unknown_type : List ℕ
-unknown_type = codes "unknown transaction type"
 
 -- a legacy transaction is a list, and a typed one the string of its type and its payload
 abbrev pub transaction : Codec Transaction

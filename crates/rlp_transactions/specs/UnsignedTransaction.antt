@@ -4,7 +4,7 @@ use Rattle.std.proofs.Common.{inl, inr}
 use Rattle.rlp.specs.Codec.{Codec, newtype, struct_of}
 use Rattle.rlp.specs.Codecs.Sums.{Cases, SameCase, and_case, enveloped, last_case, list_or_string}
 use Rattle.rlp.specs.Values.Same.{SameSum}
-use Rattle.rlp_transactions.specs.Transaction.{unknown_type}
+use Rattle.rlp_records.specs.Alone.{unknown_type}
 use Rattle.rlp_transactions.specs.declared.access_list_transaction.AccessListTransaction.{AccessListTransaction}
 use Rattle.rlp_transactions.specs.declared.blob_transaction.BlobTransaction.{BlobTransaction}
 use Rattle.rlp_transactions.specs.declared.fee_market_transaction.FeeMarketTransaction.{FeeMarketTransaction}

@@ -3,12 +3,12 @@
 ghost use Rattle.std.specs.Prelude.{◌≡◌, ◌⊎◌, IfErr, IfNone, IfOk, IfSome, OnOk};
 ghost use Rattle.rlp.specs.DecoderError.TheVariants.{OutOfMemory};
 ghost use Rattle.rlp.specs.Values.ValueReading.{GivesSome};
-ghost use Rattle.rlp_records.specs.Alone.{FaultsAlone, MayLackAlone, bytes_alone};
+ghost use Rattle.rlp_records.specs.Alone.{FaultsAlone, MayLackAlone, bytes_alone, unknown_type};
 ghost use Rattle.rlp_records.specs.Hashing.{IsHashOf};
 ghost use Rattle.rlp_transactions.specs.AnyTransaction.{any_transaction, any_type};
 ghost use Rattle.rlp_transactions.specs.LegacyTransaction.{signed_legacy_transaction};
 ghost use Rattle.rlp_transactions.specs.OtherTransaction.{GivesOther, IsOther};
-ghost use Rattle.rlp_transactions.specs.Transaction.{typed_transactions, unknown_type};
+ghost use Rattle.rlp_transactions.specs.Transaction.{typed_transactions};
 
 use crate::other_transaction::is_other;
 use crate::{OtherTransaction, Transaction};

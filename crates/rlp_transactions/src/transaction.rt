@@ -3,9 +3,9 @@
 ghost use Rattle.std.specs.Prelude.{◌≡◌, ◌∷◌, ◌⊎◌, IfErr, IfOk, OnOk};
 ghost use Rattle.rlp.specs.DecoderError.TheVariants.{OutOfMemory};
 ghost use Rattle.rlp.specs.Format.Item.{string};
-ghost use Rattle.rlp_records.specs.Alone.{FaultsAlone, MayLackAlone, PayloadFails, bytes_alone};
+ghost use Rattle.rlp_records.specs.Alone.{FaultsAlone, MayLackAlone, PayloadFails, bytes_alone, unknown_type};
 ghost use Rattle.rlp_transactions.specs.LegacyTransaction.{signed_legacy_transaction};
-ghost use Rattle.rlp_transactions.specs.Transaction.{transaction, typed_transactions, unknown_type};
+ghost use Rattle.rlp_transactions.specs.Transaction.{transaction, typed_transactions};
 
 mod parts;
 mod signatures;

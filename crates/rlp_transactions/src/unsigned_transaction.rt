@@ -3,9 +3,8 @@
 ghost use Rattle.std.specs.Prelude.{◌≡◌, ◌∷◌, ◌⊎◌, IfErr, IfOk, OnOk};
 ghost use Rattle.rlp.specs.DecoderError.TheVariants.{OutOfMemory};
 ghost use Rattle.rlp.specs.Format.Item.{string};
-ghost use Rattle.rlp_records.specs.Alone.{FaultsAlone, MayLackAlone, PayloadFails, bytes_alone};
+ghost use Rattle.rlp_records.specs.Alone.{FaultsAlone, MayLackAlone, PayloadFails, bytes_alone, unknown_type};
 ghost use Rattle.rlp_transactions.specs.Signatures.{Signs, r_of, s_of};
-ghost use Rattle.rlp_transactions.specs.Transaction.{unknown_type};
 ghost use Rattle.rlp_transactions.specs.UnsignedLegacyTransaction.{unsigned_legacy_transaction};
 ghost use Rattle.rlp_transactions.specs.UnsignedTransaction.{unsigned_transaction, unsigned_types};
 

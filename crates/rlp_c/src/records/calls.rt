@@ -4,13 +4,13 @@ ghost use Rattle.std.specs.Prelude.{◌≡◌, ◌+◌, ◌≤◌, ◌<◌, ◌^
 ghost use Rattle.rlp_format.specs.Format.Encoding.{encoding};
 ghost use Rattle.rlp_format.specs.Views.View.{strict_view_of};
 ghost use Rattle.rlp_format.specs.declared.error.DecoderError.{DecoderError};
-ghost use Rattle.rlp_records.specs.Alone.{FaultsAlone, bytes_alone};
+ghost use Rattle.rlp_records.specs.Alone.{FaultsAlone, bytes_alone, unknown_type};
 ghost use Rattle.rlp_transactions.specs.LegacyTransaction.{signed_legacy_transaction};
-ghost use Rattle.rlp_transactions.specs.Transaction.{transaction, typed_transactions, unknown_type};
+ghost use Rattle.rlp_transactions.specs.Transaction.{transaction, typed_transactions};
 ghost use Rattle.rlp_transactions.specs.TransactionParts.{type_of};
 ghost use Rattle.rlp_transactions.specs.declared.transaction.Transaction.{Transaction};
-ghost use Rattle.rlp_ethereum.specs.Header.{header};
-ghost use Rattle.rlp_ethereum.specs.declared.header.Header.{Header as BlockHeader};
+ghost use Rattle.rlp_headers.specs.Header.{header};
+ghost use Rattle.rlp_headers.specs.declared.header.Header.{Header as BlockHeader};
 ghost use Rattle.rlp_c.specs.declared.records.kinds.Record.TheVariants.{Header};
 ghost use Rattle.rlp_c.specs.Places.{ArePlaced, IsFound, fields_of, place_of};
 ghost use Rattle.rlp_c.specs.Records.{IsRecordRead, IsTransactionRead, record_of_type};

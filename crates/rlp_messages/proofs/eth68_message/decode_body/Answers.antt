@@ -1,4 +1,4 @@
-use Rattle.rlp_messages.proofs.Messages.{body_of_fails}
+use Rattle.rlp_p2p.proofs.Messages.{body_of_fails}
 use Rattle.rlp_messages.specs.Eth68Message.{eth68_messages}
 use Rattle.rlp_messages.proofs.eth68_message.decode_body.Goals as goal
 

@@ -1,4 +1,4 @@
-use Rattle.rlp_messages.proofs.Messages.{body_of_fails}
+use Rattle.rlp_p2p.proofs.Messages.{body_of_fails}
 use Rattle.rlp_messages.specs.Eth69Message.{eth69_messages}
 use Rattle.rlp_messages.proofs.eth69_message.decode_body.Goals as goal
 

@@ -1,7 +1,7 @@
-use Rattle.rlp_messages.proofs.Messages.{message_told}
+use Rattle.rlp_p2p.proofs.Messages.{message_told}
 use Rattle.rlp_messages.specs.Eth68Message.{eth68_body, eth68_messages}
 use Rattle.rlp_messages.specs.Eth69Message.{eth69_body, eth69_messages}
-use Rattle.rlp_messages.specs.P2pMessage.{p2p_body, p2p_messages}
+use Rattle.rlp_p2p.specs.P2pMessage.{p2p_body, p2p_messages}
 use Rattle.rlp_messages.proofs.laws.bytes_tell_messages.Goals as goal
 
 pub returns-clause-p2p : goal.returns-clause-p2p

@@ -1,6 +1,7 @@
 use Rattle.std.proofs.Common.{refl, rules}
 use Rattle.rlp_records.proofs.Alone.{payload_of_fails, unknown_type_fails}
-use Rattle.rlp_transactions.specs.Transaction.{typed_transactions, unknown_type}
+use Rattle.rlp_transactions.specs.Transaction.{typed_transactions}
+use Rattle.rlp_records.specs.Alone.{unknown_type}
 use Rattle.rlp_transactions.proofs.transaction.decode_payload.Goals as goal
 
 pub returns-in-Err-clause-fault : goal.returns-in-Err-clause-fault

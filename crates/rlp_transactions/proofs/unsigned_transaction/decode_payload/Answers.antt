@@ -1,6 +1,6 @@
 use Rattle.std.proofs.Common.{refl, rules}
 use Rattle.rlp_records.proofs.Alone.{payload_of_fails, unknown_type_fails}
-use Rattle.rlp_transactions.specs.Transaction.{unknown_type}
+use Rattle.rlp_records.specs.Alone.{unknown_type}
 use Rattle.rlp_transactions.specs.UnsignedTransaction.{unsigned_types}
 use Rattle.rlp_transactions.proofs.unsigned_transaction.decode_payload.Goals as goal
 

@@ -1,5 +1,5 @@
 use Rattle.std.proofs.Common.{ℕ, ◌<◌, ◌^◌, length, arith, Err}
-use Rattle.rlp_messages.proofs.Messages.{AreSmall, id_fails, memory_message, message_fails}
+use Rattle.rlp_p2p.proofs.Messages.{AreSmall, id_fails, memory_message, message_fails}
 use Rattle.rlp_messages.specs.Eth69Message.{eth69_body, eth69_messages}
 use Rattle.rlp_messages.proofs.eth69_message.Eth69Message.from_message.Goals as goal
 

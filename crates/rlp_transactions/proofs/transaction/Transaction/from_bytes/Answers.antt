@@ -2,7 +2,8 @@ use Rattle.std.proofs.Common.{◌<◌, ◌^◌, length, arith, refl}
 use Rattle.rlp.specs.Lemmas.Reading.{bytes_held}
 use Rattle.rlp_records.proofs.Alone.{AreBelowLists, memory_alone}
 use Rattle.rlp_transactions.specs.LegacyTransaction.{signed_legacy_transaction}
-use Rattle.rlp_transactions.specs.Transaction.{as_sum, typed_transactions, unknown_type}
+use Rattle.rlp_transactions.specs.Transaction.{as_sum, typed_transactions}
+use Rattle.rlp_records.specs.Alone.{unknown_type}
 use Rattle.rlp_transactions.proofs.transaction.Transaction.from_bytes.Goals as goal
 
 pub returns-clause-memory : goal.returns-clause-memory

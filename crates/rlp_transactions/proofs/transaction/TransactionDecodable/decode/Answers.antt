@@ -2,7 +2,8 @@ use Rattle.std.proofs.Common.{◌≡◌, false, refl, sym, ◌∙◌}
 use Rattle.rlp.specs.Format.Split.{begins_as_list}
 use Rattle.rlp_records.proofs.Alone.{typed_view_fails}
 use Rattle.rlp_transactions.specs.LegacyTransaction.{signed_legacy_transaction}
-use Rattle.rlp_transactions.specs.Transaction.{typed_transactions, unknown_type}
+use Rattle.rlp_transactions.specs.Transaction.{typed_transactions}
+use Rattle.rlp_records.specs.Alone.{unknown_type}
 use Rattle.rlp_transactions.proofs.transaction.TransactionDecodable.decode.Goals as goal
 
 pub returns-clause-fault : goal.returns-clause-fault

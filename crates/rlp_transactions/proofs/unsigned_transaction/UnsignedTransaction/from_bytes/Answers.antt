@@ -2,7 +2,7 @@ use Rattle.std.proofs.Common.{◌<◌, ◌^◌, length, arith, refl}
 use Rattle.rlp.specs.Lemmas.Reading.{bytes_held}
 use Rattle.rlp_records.proofs.Alone.{AreBelowLists, memory_alone}
 use Rattle.rlp_transactions.specs.UnsignedLegacyTransaction.{unsigned_legacy_transaction}
-use Rattle.rlp_transactions.specs.Transaction.{unknown_type}
+use Rattle.rlp_records.specs.Alone.{unknown_type}
 use Rattle.rlp_transactions.specs.UnsignedTransaction.{unsigned_sum, unsigned_types}
 use Rattle.rlp_transactions.proofs.unsigned_transaction.UnsignedTransaction.from_bytes.Goals as goal
 

@@ -1,0 +1,20 @@
+use Rattle.std.proofs.Common.{refl, rules}
+use Rattle.rlp_records.proofs.Alone.{payload_of_fails, unknown_type_fails}
+use Rattle.rlp_records.specs.Alone.{unknown_type}
+use Rattle.rlp_headers.specs.TypedReceipt.{typed_receipts}
+use Rattle.rlp_headers.proofs.typed_receipt.decode_payload.Goals as goal
+
+pub returns-in-Err-clause-fault : goal.returns-in-Err-clause-fault
+returns-in-Err-clause-fault c = payload_of_fails unknown_type typed_receipts _ _ _ 1 c.in-1.is c.in-Err.ensures.fault
+
+pub returns-in-Err-decode-clause-fault : goal.returns-in-Err-decode-clause-fault
+returns-in-Err-decode-clause-fault c = payload_of_fails unknown_type typed_receipts _ _ _ 2 c.in-2.is c.in-Err-decode.ensures.fault
+
+pub returns-in-Err-decode-2-clause-fault : goal.returns-in-Err-decode-2-clause-fault
+returns-in-Err-decode-2-clause-fault c = payload_of_fails unknown_type typed_receipts _ _ _ 3 c.in-3.is c.in-Err-decode-2.ensures.fault
+
+pub returns-in-Err-decode-3-clause-fault : goal.returns-in-Err-decode-3-clause-fault
+returns-in-Err-decode-3-clause-fault c = payload_of_fails unknown_type typed_receipts _ _ _ 4 c.in-4.is c.in-Err-decode-3.ensures.fault
+
+pub returns-in_default-clause-fault : goal.returns-in_default-clause-fault
+returns-in_default-clause-fault c = unknown_type_fails unknown_type typed_receipts _ _ _ (search rules) refl

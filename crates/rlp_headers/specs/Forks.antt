@@ -1,0 +1,27 @@
+-- How the fields that forks added to headers are written and read.
+use Rattle.std.specs.Prelude.{refl}
+use Rattle.rlp.specs.Codec.{Fields, field, number, optional, optional_group, uint}
+use Rattle.rlp_headers.specs.declared.header.forks.Cancun.{Cancun}
+use Rattle.rlp_headers.specs.declared.header.forks.London.{London}
+use Rattle.rlp_headers.specs.declared.header.forks.Shanghai.{Shanghai}
+use Rattle.rlp_records.specs.Hash.{hash}
+
+-- the fields since Cancun: two of EIP-4844 and one of EIP-4788, and since Prague that of EIP-7685
+abbrev pub cancun_fields : Fields Cancun
+cancun_fields =
+    field (λ (x : Cancun). x.blob_gas_used) (number 8) (
+    field (λ (x : Cancun). x.excess_blob_gas) (number 8) (
+    field (λ (x : Cancun). x.parent_beacon_block_root) hash (
+    optional (λ (x : Cancun). x.requests_hash) hash)))
+
+-- the fields since Shanghai: that of EIP-4895, and those above
+abbrev pub shanghai_fields : Fields Shanghai
+shanghai_fields =
+    field (λ (x : Shanghai). x.withdrawals_root) hash (
+    optional_group (λ (x : Shanghai). x.since_cancun) cancun_fields refl)
+
+-- the fields since London: that of EIP-1559, and those above
+abbrev pub london_fields : Fields London
+london_fields =
+    field (λ (x : London). x.base_fee_per_gas) (uint 32) (
+    optional_group (λ (x : London). x.since_shanghai) shanghai_fields refl)

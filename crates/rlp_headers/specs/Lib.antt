@@ -1,0 +1,9 @@
+pub mod Account
+pub mod Bloom
+pub mod Forks
+pub mod Header
+pub mod Log
+pub mod Receipt
+pub mod ReceiptStatus
+pub mod TypedReceipt
+pub mod Withdrawal

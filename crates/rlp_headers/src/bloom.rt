@@ -1,0 +1,49 @@
+//! Filters of logs: strings of 256 bytes.
+
+ghost use Rattle.std.specs.Prelude.{⊤};
+ghost use Rattle.rlp_headers.specs.Bloom.{bloom};
+
+use rlp::{Decodable, DecoderError, Encodable, Rlp, RlpStream, RoundTrip, StrictRead};
+use std::alloc::{AllocError, Global};
+
+/// The Bloom filter of logs: 256 bytes.
+///
+/// See section 4.4.1 of the yellow paper. The library computes no filter.
+#[derive(Debug, Clone, PartialEq, Eq, Drop)]
+pub struct Bloom(pub [u8; 256]);
+
+/// Written as the array of the bytes is.
+impl Encodable for Bloom {
+    ghost item = { bloom.item };
+
+    ghost fits = { bloom.Fits };
+
+    ghost at_once = { λ _. ⊤ };
+
+    fn rlp_append(&self, s: &mut RlpStream) -> Result<(), AllocError> {
+        self.0.rlp_append(s)
+    }
+}
+
+/// Read as the array of the bytes is. Fails with `RlpIsTooShort` if the string is shorter, and with
+/// `RlpIsTooBig` if it is longer. It takes no memory.
+impl Decodable for Bloom {
+    ghost gives = { bloom.gives };
+
+    ghost faults = { bloom.faults };
+
+    ghost may_lack_memory = { bloom.may_lack };
+
+    fn decode(alloc: Global, rlp: &Rlp<'_>) -> Result<Bloom, DecoderError> {
+        let bytes = rlp.as_val(alloc)?;
+        Ok(Bloom(bytes))
+    }
+}
+
+impl RoundTrip for Bloom {
+    ghost round_trip = { bloom.reads_back };
+}
+
+impl StrictRead for Bloom {
+    ghost strict = { bloom.reads_strictly };
+}

@@ -1,0 +1,161 @@
+//! Headers of the blocks of all forks up to Prague.
+
+ghost use Rattle.std.specs.Option.{option_copied};
+ghost use Rattle.std.specs.Prelude.{◌≡◌, IfOk, OnOk};
+ghost use Rattle.rlp.specs.Format.Encoding.{encoding};
+ghost use Rattle.rlp_records.specs.Hashing.{IsHashOf};
+ghost use Rattle.rlp_headers.specs.Header.{since_cancun, since_shanghai, header};
+
+mod forks;
+
+use crate::Bloom;
+pub use forks::{Cancun, London, Shanghai};
+use rlp::{
+    Decodable, DecoderError, Encodable, OptionalGroupOf, Rlp, RlpStream, RoundTrip, StrictRead,
+    Uint,
+};
+use rlp_records::{Address, Hash, encoding_hash};
+use std::alloc::{AllocError, Global};
+
+/// The header of a block: the list of fifteen fields, and of those that later forks added.
+///
+/// See section 4.4 of the yellow paper, and the EIPs of the fields. A list of 15 items is a header
+/// of the first forks, and one of 16, 17, 20 or 21 items is a header since [`London`], [`Shanghai`],
+/// [`Cancun`] or Prague. A list with any other number of items fails with `RlpIncorrectListLen`. No
+/// header has the fields of a fork without those of an earlier one: they stand in one another.
+#[derive(Debug, Clone, PartialEq, Eq, Drop)]
+pub struct Header {
+    /// The hash of the parent's header.
+    pub parent_hash: Hash,
+    /// The hash of the list of ommers.
+    pub ommers_hash: Hash,
+    /// The account that receives the fees of the block.
+    pub beneficiary: Address,
+    /// The root of the trie of the state, after the block.
+    pub state_root: Hash,
+    /// The root of the trie of the block's transactions.
+    pub transactions_root: Hash,
+    /// The root of the trie of the block's receipts.
+    pub receipts_root: Hash,
+    /// The filter of the logs of the block's receipts.
+    pub logs_bloom: Bloom,
+    /// The difficulty of the block, and 0 since EIP-3675.
+    pub difficulty: Uint<32>,
+    /// The number of blocks before this one.
+    pub number: u64,
+    /// The gas that the block's transactions may use at most.
+    pub gas_limit: u64,
+    /// The gas that the block's transactions used.
+    pub gas_used: u64,
+    /// The time of the block, in seconds since the beginning of 1970.
+    pub timestamp: u64,
+    /// Bytes that the block's maker chose. The protocol allows at most 32; this type has no limit.
+    pub extra_data: Vec<u8>,
+    /// A hash of the proof of work, and since EIP-4399 the random value of the beacon chain.
+    pub mix_hash: Hash,
+    /// The nonce of the proof of work: 8 bytes.
+    pub nonce: [u8; 8],
+    /// What came with London and later, or `None` in blocks before London.
+    pub since_london: Option<London>,
+}
+
+impl Header {
+    /// What came with Shanghai and later, or `None` in blocks before Shanghai.
+    pub fn shanghai(&self) -> Option<&Shanghai>
+        ensures { option_copied result ≡ since_shanghai self.now }
+    {
+        match &self.since_london {
+            Some(london) => london.since_shanghai.as_ref(),
+            None => None,
+        }
+    }
+
+    /// What came with Cancun and later, or `None` in blocks before Cancun.
+    pub fn cancun(&self) -> Option<&Cancun>
+        ensures { option_copied result ≡ since_cancun self.now }
+    {
+        match self.shanghai() {
+            Some(shanghai) => shanghai.since_cancun.as_ref(),
+            None => None,
+        }
+    }
+}
+
+impl Encodable for Header {
+    ghost item = { header.item };
+
+    ghost fits = { header.Fits };
+
+    fn rlp_append(&self, s: &mut RlpStream) -> Result<(), AllocError> {
+        rlp::append_fields!(
+            s,
+            &self.parent_hash,
+            &self.ommers_hash,
+            &self.beneficiary,
+            &self.state_root,
+            &self.transactions_root,
+            &self.receipts_root,
+            &self.logs_bloom,
+            &self.difficulty,
+            &self.number,
+            &self.gas_limit,
+            &self.gas_used,
+            &self.timestamp,
+            &self.extra_data,
+            &self.mix_hash,
+            &self.nonce,
+            OptionalGroupOf(&self.since_london)
+        )
+    }
+}
+
+impl Decodable for Header {
+    ghost gives = { header.gives };
+
+    ghost faults = { header.faults };
+
+    ghost may_lack_memory = { header.may_lack };
+
+    fn decode(alloc: Global, rlp: &Rlp<'_>) -> Result<Header, DecoderError> {
+        rlp::decode_fields!(
+            alloc,
+            rlp,
+            Header {
+                parent_hash,
+                ommers_hash,
+                beneficiary,
+                state_root,
+                transactions_root,
+                receipts_root,
+                logs_bloom,
+                difficulty,
+                number,
+                gas_limit,
+                gas_used,
+                timestamp,
+                extra_data,
+                mix_hash,
+                nonce,
+                since_london: (..)?
+            }
+        )
+    }
+}
+
+impl RoundTrip for Header {
+    ghost round_trip = { header.reads_back };
+}
+
+impl StrictRead for Header {
+    ghost strict = { header.reads_strictly };
+}
+
+impl Header {
+    /// Returns the hash of the block, which is that of its header's encoding.
+    pub fn hash(&self, alloc: Global) -> Result<Hash, AllocError>
+        ensures fits { OnOk result (header.Fits self.now) }
+        ensures hash { IfOk result (λ h. IsHashOf h (encoding (header.item self.now))) }
+    {
+        encoding_hash::<Header>(alloc, self)
+    }
+}

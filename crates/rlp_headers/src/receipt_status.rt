@@ -1,0 +1,77 @@
+//! Statuses of receipts: a string of one byte, of none, or of 32.
+
+ghost use Rattle.std.specs.Prelude.{◌≡◌, ⊤, IfErr, IfOk};
+ghost use Rattle.rlp_headers.specs.ReceiptStatus.{IsStatus, IsStatusFault, receipt_status, status_bytes};
+
+use rlp::{Decodable, DecoderError, Encodable, Rlp, RlpStream, RoundTrip, StrictRead};
+use rlp_records::Hash;
+use std::alloc::{AllocError, Global};
+
+/// What a receipt says of how its transaction ended: the status since Byzantium, as in EIP-658, or
+/// the root of the state before.
+#[derive(Debug, Clone, Copy, PartialEq, Eq)]
+pub enum ReceiptStatus {
+    /// The transaction failed: the number 0, written as the empty string.
+    Failure,
+    /// The transaction succeeded: the number 1.
+    Success,
+    /// The root of the state after the transaction, in receipts before Byzantium. They don't say
+    /// whether it succeeded.
+    StateRoot(Hash),
+}
+
+impl Encodable for ReceiptStatus {
+    ghost item = { receipt_status.item };
+
+    ghost fits = { receipt_status.Fits };
+
+    ghost at_once = { λ _. ⊤ };
+
+    #[tactic(auto, using(rlp::proofs::Writing::writing))]
+    fn rlp_append(&self, s: &mut RlpStream) -> Result<(), AllocError> {
+        match self {
+            ReceiptStatus::Failure => s.encoder().encode_value(&[]),
+            ReceiptStatus::Success => s.encoder().encode_value(&[1]),
+            ReceiptStatus::StateRoot(root) => s.encoder().encode_value(&root.0),
+        }
+    }
+}
+
+/// Reading fails with `Custom("unknown receipt status")` if the string isn't empty, isn't the byte
+/// 1, and hasn't 32 bytes. It takes no memory.
+impl Decodable for ReceiptStatus {
+    ghost gives = { receipt_status.gives };
+
+    ghost faults = { receipt_status.faults };
+
+    ghost may_lack_memory = { receipt_status.may_lack };
+
+    #[tactic(auto, using(rlp::proofs::Reading::reading))]
+    fn decode(_alloc: Global, rlp: &Rlp<'_>) -> Result<ReceiptStatus, DecoderError> {
+        rlp.decoder().decode_value(status_of)
+    }
+}
+
+impl RoundTrip for ReceiptStatus {
+    ghost round_trip = { receipt_status.reads_back };
+}
+
+impl StrictRead for ReceiptStatus {
+    ghost strict = { receipt_status.reads_strictly };
+}
+
+/// Makes a status from a string. Fails as reading a status does.
+#[tactic(auto, using(crate::specs::ReceiptStatus::status_faults))]
+fn status_of(string: &[u8]) -> Result<ReceiptStatus, DecoderError>
+    ensures value { IfOk result (λ s. IsStatus s × (status_bytes s ≡ string.now)) }
+    ensures fault { IfErr result (λ e. IsStatusFault string.now e) }
+{
+    match string {
+        [] => Ok(ReceiptStatus::Failure),
+        [1] => Ok(ReceiptStatus::Success),
+        _ => match <[u8; 32]>::try_from(string) {
+            Ok(root) => Ok(ReceiptStatus::StateRoot(Hash(root))),
+            Err(_) => Err(DecoderError::Custom("unknown receipt status")),
+        },
+    }
+}

@@ -1,0 +1,102 @@
+//! Withdrawals from the beacon chain.
+
+ghost use Rattle.rlp_headers.specs.Withdrawal.{withdrawal, withdrawals};
+
+use rlp::{Decodable, DecoderError, Encodable, Rlp, RlpStream, RoundTrip, StrictRead};
+use rlp_records::Address;
+use std::alloc::{AllocError, Global};
+
+/// A withdrawal from the beacon chain: the list of its four fields, as in EIP-4895.
+#[derive(Debug, Clone, PartialEq, Eq, Drop)]
+pub struct Withdrawal {
+    /// The number of the withdrawal, counted over all blocks from 0.
+    pub index: u64,
+    /// The number of the validator that the amount comes from.
+    pub validator_index: u64,
+    /// The account that receives the amount.
+    pub address: Address,
+    /// The amount, in Gwei (10^9 Wei).
+    pub amount: u64,
+}
+
+impl Encodable for Withdrawal {
+    ghost item = { withdrawal.item };
+
+    ghost fits = { withdrawal.Fits };
+
+    fn rlp_append(&self, s: &mut RlpStream) -> Result<(), AllocError> {
+        rlp::append_fields!(
+            s,
+            &self.index,
+            &self.validator_index,
+            &self.address,
+            &self.amount
+        )
+    }
+}
+
+impl Decodable for Withdrawal {
+    ghost gives = { withdrawal.gives };
+
+    ghost faults = { withdrawal.faults };
+
+    ghost may_lack_memory = { withdrawal.may_lack };
+
+    fn decode(alloc: Global, rlp: &Rlp<'_>) -> Result<Withdrawal, DecoderError> {
+        rlp::decode_fields!(
+            alloc,
+            rlp,
+            Withdrawal {
+                index,
+                validator_index,
+                address,
+                amount
+            }
+        )
+    }
+}
+
+impl RoundTrip for Withdrawal {
+    ghost round_trip = { withdrawal.reads_back };
+}
+
+impl StrictRead for Withdrawal {
+    ghost strict = { withdrawal.reads_strictly };
+}
+
+/// The withdrawals of a block, in order: the list of them.
+#[derive(Debug, Clone, PartialEq, Eq, Drop)]
+pub struct Withdrawals(pub Vec<Withdrawal>);
+
+impl Encodable for Withdrawals {
+    ghost item = { withdrawals.item };
+
+    ghost fits = { withdrawals.Fits };
+
+    #[tactic(auto, using(rlp::proofs::Writing::writing))]
+    fn rlp_append(&self, s: &mut RlpStream) -> Result<(), AllocError> {
+        s.append_list(self.0.as_slice())?;
+        Ok(())
+    }
+}
+
+impl Decodable for Withdrawals {
+    ghost gives = { withdrawals.gives };
+
+    ghost faults = { withdrawals.faults };
+
+    ghost may_lack_memory = { withdrawals.may_lack };
+
+    fn decode(alloc: Global, rlp: &Rlp<'_>) -> Result<Withdrawals, DecoderError> {
+        let withdrawals = rlp.as_list(alloc)?;
+        Ok(Withdrawals(withdrawals))
+    }
+}
+
+impl RoundTrip for Withdrawals {
+    ghost round_trip = { withdrawals.reads_back };
+}
+
+impl StrictRead for Withdrawals {
+    ghost strict = { withdrawals.reads_strictly };
+}

@@ -1,0 +1,45 @@
+-- How the messages of `p2p` are written and read.
+use Rattle.std.specs.Prelude.{ℕ, ◌⊎◌, List}
+use Rattle.std.proofs.Common.{inl, inr}
+use Rattle.rlp.specs.Codecs.Sums.{Cases, FitsCase, SameCase, and_case, last_case}
+use Rattle.rlp_p2p.specs.declared.disconnect.Disconnect.{Disconnect}
+use Rattle.rlp_p2p.specs.declared.hello.Hello.{Hello}
+use Rattle.rlp_p2p.specs.declared.p2p_message.P2pMessage.{P2pMessage}
+use Rattle.rlp_p2p.specs.declared.p2p_message.P2pMessage.TheVariants as message
+use Rattle.rlp_p2p.specs.declared.session.Ping.{Ping}
+use Rattle.rlp_p2p.specs.declared.session.Pong.{Pong}
+use Rattle.rlp_p2p.specs.Disconnect.{disconnect}
+use Rattle.rlp_p2p.specs.Hello.{hello}
+use Rattle.rlp_p2p.specs.Message.{message_bytes}
+use Rattle.rlp_p2p.specs.Session.{ping, pong}
+
+-- the bodies of the messages
+abbrev pub P2pBody : Type 0
+P2pBody = Hello ⊎ (Disconnect ⊎ (Ping ⊎ Pong))
+
+-- the messages of p2p with their numbers: Hello (0x00), Disconnect (0x01), Ping (0x02) and Pong (0x03) of RLPx
+abbrev pub p2p_messages : Cases P2pBody
+p2p_messages =
+    and_case 0x00 hello (
+    and_case 0x01 disconnect (
+    and_case 0x02 ping (
+    last_case 0x03 pong)))
+
+-- the body of a message of p2p
+abbrev pub p2p_body : P2pMessage → P2pBody
+p2p_body (message.Hello m) = inl m
+p2p_body (message.Disconnect m) = inr (inl m)
+p2p_body (message.Ping m) = inr (inr (inl m))
+p2p_body (message.Pong m) = inr (inr (inr m))
+
+-- the body of a message of p2p fits
+abbrev pub FitsP2p : P2pMessage → Type 0
+FitsP2p m = FitsCase p2p_messages (p2p_body m)
+
+-- the bytes of a message of p2p after this offset: the id, and the body
+abbrev pub p2p_bytes : ℕ → P2pMessage → List ℕ
+p2p_bytes offset m = message_bytes offset p2p_messages (p2p_body m)
+
+-- both messages of p2p have one number, and each field of the bodies is the same
+abbrev pub SameP2p : P2pMessage → P2pMessage → Type 0
+SameP2p m n = SameCase p2p_messages (p2p_body m) (p2p_body n)

@@ -1,0 +1,188 @@
+//! The end of a connection of the capability `p2p` of RLPx.
+
+ghost use Rattle.std.specs.Prelude.{◌≡◌};
+ghost use Rattle.rlp_p2p.specs.Disconnect.{NamedIfPossible, disconnect, reason, reason_number, told_reason};
+
+use rlp::{Decodable, DecoderError, Encodable, Field, Rlp, RlpStream, RoundTrip, StrictRead};
+use std::alloc::{AllocError, Global};
+
+/// Why a client ends a connection: a number of one byte, by its name in RLPx.
+#[derive(Debug, Clone, Copy, PartialEq, Eq)]
+pub enum DisconnectReason {
+    /// 0x00: the end was requested.
+    Requested,
+    /// 0x01: an error of the connection below, of TCP.
+    TcpError,
+    /// 0x02: the other client broke the protocol, as by a message that can't be read.
+    ProtocolBreach,
+    /// 0x03: the other client is of no use.
+    UselessPeer,
+    /// 0x04: the client has too many peers.
+    TooManyPeers,
+    /// 0x05: the clients are connected already.
+    AlreadyConnected,
+    /// 0x06: the versions of `p2p` don't fit together.
+    IncompatibleVersion,
+    /// 0x07: the other client has no identity.
+    NullIdentity,
+    /// 0x08: the client ends.
+    ClientQuitting,
+    /// 0x09: the identity isn't the one that was expected.
+    UnexpectedIdentity,
+    /// 0x0a: the client is connected to itself.
+    OwnIdentity,
+    /// 0x0b: a [`Ping`](crate::Ping) had no answer in time.
+    PingTimeout,
+    /// 0x10: a reason of another protocol on this connection.
+    SubprotocolError,
+    /// A number that has no name.
+    Other(u8),
+}
+
+impl DisconnectReason {
+    /// Returns the reason with this number. It is `Other` only for a number that has no name.
+    pub fn of(number: u8) -> DisconnectReason
+        ensures number { reason_number result ≡ number }
+        ensures name { NamedIfPossible result }
+    {
+        match number {
+            0x00 => DisconnectReason::Requested,
+            0x01 => DisconnectReason::TcpError,
+            0x02 => DisconnectReason::ProtocolBreach,
+            0x03 => DisconnectReason::UselessPeer,
+            0x04 => DisconnectReason::TooManyPeers,
+            0x05 => DisconnectReason::AlreadyConnected,
+            0x06 => DisconnectReason::IncompatibleVersion,
+            0x07 => DisconnectReason::NullIdentity,
+            0x08 => DisconnectReason::ClientQuitting,
+            0x09 => DisconnectReason::UnexpectedIdentity,
+            0x0a => DisconnectReason::OwnIdentity,
+            0x0b => DisconnectReason::PingTimeout,
+            0x10 => DisconnectReason::SubprotocolError,
+            other => DisconnectReason::Other(other),
+        }
+    }
+
+    /// Returns the number of the reason.
+    pub fn number(self) -> u8
+        ensures { result ≡ reason_number self }
+    {
+        match self {
+            DisconnectReason::Requested => 0x00,
+            DisconnectReason::TcpError => 0x01,
+            DisconnectReason::ProtocolBreach => 0x02,
+            DisconnectReason::UselessPeer => 0x03,
+            DisconnectReason::TooManyPeers => 0x04,
+            DisconnectReason::AlreadyConnected => 0x05,
+            DisconnectReason::IncompatibleVersion => 0x06,
+            DisconnectReason::NullIdentity => 0x07,
+            DisconnectReason::ClientQuitting => 0x08,
+            DisconnectReason::UnexpectedIdentity => 0x09,
+            DisconnectReason::OwnIdentity => 0x0a,
+            DisconnectReason::PingTimeout => 0x0b,
+            DisconnectReason::SubprotocolError => 0x10,
+            DisconnectReason::Other(number) => number,
+        }
+    }
+}
+
+/// Written as its number is.
+impl Encodable for DisconnectReason {
+    ghost item = { reason.item };
+
+    ghost fits = { reason.Fits };
+
+    fn rlp_append(&self, s: &mut RlpStream) -> Result<(), AllocError> {
+        self.number().rlp_append(s)
+    }
+}
+
+/// Read as its number is. It takes no memory.
+impl Decodable for DisconnectReason {
+    ghost gives = { reason.gives };
+
+    ghost faults = { reason.faults };
+
+    ghost may_lack_memory = { reason.may_lack };
+
+    fn decode(alloc: Global, rlp: &Rlp<'_>) -> Result<DisconnectReason, DecoderError> {
+        let number = rlp.as_val(alloc)?;
+        Ok(DisconnectReason::of(number))
+    }
+}
+
+impl RoundTrip for DisconnectReason {
+    ghost round_trip = { reason.reads_back };
+}
+
+impl StrictRead for DisconnectReason {
+    ghost strict = { reason.reads_strictly };
+}
+
+/// The last message of a connection, 0x01 of `p2p`, in one of two forms.
+///
+/// RLPx says that it is the list of the reason. Some clients send the reason alone.
+#[derive(Debug, Clone, Copy, PartialEq, Eq)]
+pub enum Disconnect {
+    /// The list of the reason.
+    Listed(DisconnectReason),
+    /// The reason alone.
+    Bare(DisconnectReason),
+}
+
+impl Disconnect {
+    /// Returns the reason, in either form.
+    pub fn reason(self) -> DisconnectReason
+        ensures { result ≡ told_reason self }
+    {
+        match self {
+            Disconnect::Listed(reason) => reason,
+            Disconnect::Bare(reason) => reason,
+        }
+    }
+}
+
+impl Encodable for Disconnect {
+    ghost item = { disconnect.item };
+
+    ghost fits = { disconnect.Fits };
+
+    fn rlp_append(&self, s: &mut RlpStream) -> Result<(), AllocError> {
+        match self {
+            Disconnect::Listed(reason) => rlp::append_fields!(s, reason),
+            Disconnect::Bare(reason) => reason.rlp_append(s),
+        }
+    }
+}
+
+/// Reading a list fails as reading a struct of one field does, and else as reading a number does.
+impl Decodable for Disconnect {
+    ghost gives = { disconnect.gives };
+
+    ghost faults = { disconnect.faults };
+
+    ghost may_lack_memory = { disconnect.may_lack };
+
+    fn decode(alloc: Global, rlp: &Rlp<'_>) -> Result<Disconnect, DecoderError> {
+        if rlp.is_list() {
+            return match rlp::decode_struct(alloc, rlp) {
+                Ok(fields) => {
+                    let (Field(reason), no_more) = fields;
+                    let () = no_more;
+                    Ok(Disconnect::Listed(reason))
+                }
+                Err(fault) => Err(fault.fault),
+            };
+        }
+        let reason = rlp.as_val(alloc)?;
+        Ok(Disconnect::Bare(reason))
+    }
+}
+
+impl RoundTrip for Disconnect {
+    ghost round_trip = { disconnect.reads_back };
+}
+
+impl StrictRead for Disconnect {
+    ghost strict = { disconnect.reads_strictly };
+}

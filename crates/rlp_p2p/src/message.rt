@@ -1,0 +1,91 @@
+//! Messages with their ids: the encoding of the id, and then the encoding of the body.
+
+ghost use Rattle.std.specs.Prelude.{◌≡◌, ◌+◌, ◌++◌, ◌⊎◌, ◌<◌, ℕ, IfErr, IfOk, OnOk};
+ghost use Rattle.rlp.specs.Format.Encoding.{encoding};
+ghost use Rattle.rlp.specs.Values.Value.{number_item};
+ghost use Rattle.rlp.specs.Values.ValueReading.{FaultsAsNumber, GivesNumber, IsCustom};
+ghost use Rattle.rlp.specs.Views.View.{view_of};
+ghost use Rattle.rlp_p2p.specs.Message.{unknown_message};
+
+use bytes::BytesMut;
+use rlp::{DecoderError, Encodable, Rlp, RlpStream};
+use std::alloc::{AllocError, Global};
+
+/// Returns the bytes of a message: the encoding of its id, which is the number after the offset, and
+/// the encoding of its body.
+pub fn write<T: Encodable>(
+    alloc: Global,
+    offset: u8,
+    number: u8,
+    body: &T,
+) -> Result<BytesMut, AllocError>
+    ensures fits { OnOk result (T.fits body.now) }
+    ensures bytes { IfOk result (λ b. b.items
+        ≡ encoding (number_item (offset + number)) ++ encoding (T.item body.now)) }
+{
+    let id = u64::from(offset) + u64::from(number);
+    let mut s = RlpStream::new_with_buffer(alloc, rlp::encode(alloc, &id)?);
+    s.append(body)?;
+    Ok(s.out())
+}
+
+/// A message whose id is read.
+#[derive(Clone, Copy)]
+pub struct Numbered<'a> {
+    /// The number of the message, which is the id without the offset.
+    pub number: u64,
+    /// The bytes after the id.
+    pub body: &'a [u8],
+}
+
+impl<'a> Numbered<'a> {
+    /// Reads the id that the bytes begin with. It takes no memory.
+    ///
+    /// Fails as reading a `u64` does, and with `Custom("unknown message")` for an id below the
+    /// offset.
+    pub fn of(
+        alloc: Global,
+        offset: u8,
+        bytes: &'a [u8],
+    ) -> Result<Numbered<'a>, DecoderError>
+        ensures id { IfOk result
+            (λ m. GivesNumber 8 (view_of bytes.now) (offset + m.number)) }
+        ensures value { IfOk result (λ m. bytes.now
+            ≡ encoding (number_item (offset + m.number)) ++ m.body.now) }
+        ensures fault { IfErr result (λ e. FaultsAsNumber 8 (view_of bytes.now) e
+            ⊎ ((id : ℕ) × (GivesNumber 8 (view_of bytes.now) id
+            × ((id < offset) × IsCustom unknown_message e)))) }
+    {
+        let view = Rlp::new(bytes);
+        let id: u64 = view.as_val(alloc)?;
+        let first = u64::from(offset);
+        if id < first {
+            return Err(DecoderError::Custom("unknown message"));
+        }
+        match view.split_first() {
+            Ok((_, body)) => Ok(Numbered {
+                number: id - first,
+                body,
+            }),
+            Err(fault) => Err(fault),
+        }
+    }
+}
+
+/// Reads the body of a message by its number. The arguments are the allocator, the message, and then
+/// for each number the variant that holds the body. It is the whole body of a function.
+///
+/// Fails with `Custom("unknown message")` for another number, and else with the strict fault of the
+/// body.
+#[macro_export]
+macro_rules! decode_numbered {
+    ($alloc:expr, $message:expr, $($number:literal => $variant:path),+ $(,)?) => {
+        match $message.number {
+            $($number => match rlp::decode_whole($alloc, $message.body) {
+                Ok(body) => Ok($variant(body)),
+                Err(fault) => Err(fault),
+            },)+
+            _ => Err(DecoderError::Custom("unknown message")),
+        }
+    };
+}

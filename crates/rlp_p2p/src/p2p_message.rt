@@ -1,0 +1,91 @@
+//! Messages of the capability `p2p` of RLPx, with their ids.
+
+ghost use Rattle.std.specs.Prelude.{◌≡◌, IfErr, IfOk, OnOk};
+ghost use Rattle.rlp.specs.DecoderError.TheVariants.{OutOfMemory};
+ghost use Rattle.rlp.specs.Format.Encoding.{encoding};
+ghost use Rattle.rlp.specs.Codecs.Sums.{case_item};
+ghost use Rattle.rlp_p2p.specs.Message.{BodyFails, MessageFails};
+ghost use Rattle.rlp_p2p.specs.P2pMessage.{FitsP2p, p2p_body, p2p_bytes, p2p_messages};
+
+use crate::message::{Numbered, write};
+use crate::{Disconnect, Hello, Ping, Pong};
+use bytes::BytesMut;
+use rlp::DecoderError;
+use std::alloc::{AllocError, Global};
+
+/// A message of `p2p`. RLPx gives this capability the offset 0.
+#[derive(Debug, PartialEq, Eq, Drop)]
+pub enum P2pMessage {
+    /// 0x00.
+    Hello(Hello),
+    /// 0x01.
+    Disconnect(Disconnect),
+    /// 0x02.
+    Ping(Ping),
+    /// 0x03.
+    Pong(Pong),
+}
+
+impl P2pMessage {
+    /// Returns the number of the message within the capability.
+    pub fn number(&self) -> u8
+        ensures { result ≡ p2p_messages.tag (p2p_body self.now) }
+    {
+        match self {
+            P2pMessage::Hello(_) => 0x00,
+            P2pMessage::Disconnect(_) => 0x01,
+            P2pMessage::Ping(_) => 0x02,
+            P2pMessage::Pong(_) => 0x03,
+        }
+    }
+
+    /// Returns the bytes of the message: the encoding of its id, which is the number after the
+    /// offset, and the encoding of its body. RLPx sends them in a frame, and compresses the body of
+    /// each message after `Hello`; this crate does neither.
+    pub fn to_message(&self, alloc: Global, offset: u8) -> Result<BytesMut, AllocError>
+        ensures fits { OnOk result (FitsP2p self.now) }
+        ensures bytes { IfOk result (λ b. b.items ≡ p2p_bytes offset self.now) }
+    {
+        match self {
+            P2pMessage::Hello(body) => write(alloc, offset, 0x00, body),
+            P2pMessage::Disconnect(body) => write(alloc, offset, 0x01, body),
+            P2pMessage::Ping(body) => write(alloc, offset, 0x02, body),
+            P2pMessage::Pong(body) => write(alloc, offset, 0x03, body),
+        }
+    }
+
+    /// Reads a message strictly from its bytes, as [`P2pMessage::to_message`] returns them. For such
+    /// bytes it fails only if memory runs out.
+    ///
+    /// Fails as reading a `u64` does if the bytes begin with no id, with `Custom("unknown message")`
+    /// for an id below the offset or without a message, and else with the strict fault of the body.
+    pub fn from_message(alloc: Global, offset: u8, bytes: &[u8]) -> Result<P2pMessage, DecoderError>
+        ensures value { IfOk result (λ m. FitsP2p m × (bytes.now ≡ p2p_bytes offset m)) }
+        ensures fault { IfErr result (λ e. MessageFails offset p2p_messages bytes.now e) }
+        ensures memory { (m : P2pMessage) → FitsP2p m → bytes.now ≡ p2p_bytes offset m
+            → IfErr result (λ e. e ≡ OutOfMemory) }
+    {
+        match Numbered::of(alloc, offset, bytes) {
+            Ok(message) => decode_body(alloc, &message),
+            Err(fault) => Err(fault),
+        }
+    }
+}
+
+// Reads the body of a message by its number.
+fn decode_body(alloc: Global, message: &Numbered<'_>) -> Result<P2pMessage, DecoderError>
+    ensures value { IfOk result (λ m. FitsP2p m
+        × ((message.now.number ≡ p2p_messages.tag (p2p_body m))
+        × (message.now.body.now ≡ encoding (case_item p2p_messages (p2p_body m))))) }
+    ensures fault { IfErr result
+        (λ e. BodyFails p2p_messages message.now.number message.now.body.now e) }
+{
+    crate::decode_numbered!(
+        alloc,
+        message,
+        0x00 => P2pMessage::Hello,
+        0x01 => P2pMessage::Disconnect,
+        0x02 => P2pMessage::Ping,
+        0x03 => P2pMessage::Pong,
+    )
+}
