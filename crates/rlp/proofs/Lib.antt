@@ -6,10 +6,10 @@ pub mod Streams
 pub mod RawWriting
 -- for authors of types: the rules for bodies that write and that read
 pub mod Writing
-pub use Rattle.rlp_views.proofs.Reading
-pub use Rattle.rlp_views.proofs.Envelopes
-pub use Rattle.rlp_views.proofs.Tagged
--- the same rules in smaller sets: for a type that is read from one string, and those that are passed on from `rlp_streams`
-pub use Rattle.rlp_views.proofs.OneString
+pub mod Reading
+pub mod Envelopes
+pub mod Tagged
+-- the same rules in smaller sets, passed on from `rlp_views` and `rlp_streams`
+pub mod OneString
 pub mod Growth
 pub mod Filling

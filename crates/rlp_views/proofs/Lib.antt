@@ -6,9 +6,5 @@ pub mod Views
 pub mod Trees
 -- values, and which bytes give them
 pub mod Values
--- for authors of types: the rules for bodies that read
-pub mod Reading
-pub mod Envelopes
-pub mod Tagged
--- the same rules in a smaller set, for a type that is read from one string
+-- for authors of types: the rules for a body that reads one string
 pub mod OneString
