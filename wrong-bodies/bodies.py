@@ -4,6 +4,8 @@ import re
 from pathlib import Path
 
 MARGIN = "    "
+# A comma between names, and not between the parts of a tuple.
+COMMA = re.compile(r", (?![^(]*\))")
 
 
 class Unfit(Exception):
@@ -11,12 +13,12 @@ class Unfit(Exception):
 
 
 class Body:
-    """A wrong body: the function that it changes, what is wrong, and the texts that it replaces."""
+    """A wrong body: the function that it changes, what is wrong, the functions of the same form, and the texts that it replaces."""
 
     def __init__(self, crate, page, line, heading):
         self.crate, self.page, self.line = crate, page, line
         self.function, _, self.what = heading.partition(": ")
-        self.pairs = []
+        self.like, self.pairs = [], []
         # What the check calls the function.
         self.verdict = None
         # The written answers that don't fit the body, by file; whether one names what the body took away; how often some were found.
@@ -71,6 +73,8 @@ def read(page, crate):
         if line.startswith("# "):
             bodies.append(Body(crate, page, number, line[2:]))
             block = None
+        elif line.startswith("like ") and bodies and not bodies[-1].pairs:
+            bodies[-1].like += COMMA.split(line[5:])
         elif line == "replace" and bodies:
             bodies[-1].pairs.append(([], []))
             block = bodies[-1].pairs[-1][0]
@@ -79,7 +83,7 @@ def read(page, crate):
         elif line.startswith(MARGIN) and block is not None:
             block.append(line[len(MARGIN) :])
         elif line.strip() or (line and block is None):
-            raise Unfit(f"{page}:{number}: neither a heading, `replace`, `by`, nor a text with {len(MARGIN)} spaces in front")
+            raise Unfit(f"{page}:{number}: neither a heading, `like`, `replace`, `by`, nor a text with {len(MARGIN)} spaces in front")
         elif block is not None:
             block.append("")
     for body in bodies:

@@ -1,5 +1,6 @@
 """Copies of the tree, in which bodies are checked."""
 
+import os
 import shutil
 import subprocess
 from pathlib import Path
@@ -24,6 +25,16 @@ def with_lower(crates, names):
     return found
 
 
+def copied(one, other):
+    """Copies a file, or gives what was proved a second name: a check replaces such a file, and changes none."""
+    if one.endswith(".oantt"):
+        try:
+            return os.link(one, other)
+        except OSError:
+            pass  # Where the copy is on another disk.
+    return shutil.copy2(one, other)
+
+
 class Copy:
     """A copy of the tree. It takes over the work that was kept of a crate when it is first checked."""
 
@@ -40,24 +51,27 @@ class Copy:
 
     def take(self, path):
         """Copies a file or a folder of the tree."""
-        place = self.root / path
+        begin, place = self.origin / path, self.root / path
         place.parent.mkdir(parents=True, exist_ok=True)
-        subprocess.run(["cp", "-a", "--reflink=auto", "-T", self.origin / path, place], check=True)
+        if begin.is_dir():
+            shutil.copytree(begin, place, symlinks=True, copy_function=copied)
+        else:
+            shutil.copy2(begin, place)
 
-    def fetch(self, crate, whole):
-        """Takes over the work that was kept of a crate; if not whole, only its built library."""
-        out = Path("crates") / crate / "out"
-        path = out if whole else out / "rlib"
-        if path not in self.held and out not in self.held and (self.origin / path).exists():
-            if whole and out / "rlib" in self.held:
-                shutil.rmtree(self.root / out)
+    def fetch(self, crate, part):
+        """Takes over a part of the work that was kept of a crate: what was proved (`incremental`), or its built library (`rlib`)."""
+        path = Path("crates") / crate / "out" / part
+        if (crate, part) not in self.held and (self.origin / path).exists():
+            shutil.rmtree(self.root / path, ignore_errors=True)
             self.take(path)
-        self.held.add(path)
+        self.held.add((crate, part))
 
     def prepare(self, crate):
-        """Takes over the work that was kept of a crate, and the libraries that it rests on."""
-        for lower in with_lower(self.crates, [crate]):
-            self.fetch(lower, lower == crate)
+        """Takes over the libraries that a crate rests on, and anew the work that was kept of it: a check of bodies loses a part of that."""
+        for lower in with_lower(self.crates, [crate])[:-1]:
+            self.fetch(lower, "rlib")
+        self.held.discard((crate, "incremental"))
+        self.fetch(crate, "incremental")
 
     def check(self, crate, texts=None, jobs=1):
         """Checks a crate with other texts in some of its files, which are as before afterwards."""

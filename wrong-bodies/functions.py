@@ -11,9 +11,11 @@ IMPL = re.compile(r"^(?P<sort>impl|(?:pub )?trait)\b(?P<head>[^{]*?)\s*\{\n(?P<i
 class Function:
     """A function: its name, the type, the trait and the parameters of the block around it, and where it stands in the text."""
 
-    def __init__(self, name, block, is_public, begin, end):
+    def __init__(self, name, block, in_trait, is_public, begin, end):
         self.name = name
         self.kind, self.trait, self.parameters = block
+        # The trait that it is a method of, also if it stands in the trait itself.
+        self.of_trait = self.kind if in_trait else self.trait
         self.is_public, self.begin, self.end = is_public, begin, end
 
     @property
@@ -50,15 +52,16 @@ def block_of(head):
 
 def functions_of(text):
     """The functions of a source file, in order."""
-    blocks = [(m.start(), m.end(), block_of(m["head"]), m["sort"] == "pub trait") for m in IMPL.finditer(text)]
+    blocks = [(m.start(), m.end(), block_of(m["head"]), m["sort"]) for m in IMPL.finditer(text)]
     heads = list(FUNCTION.finditer(text))
     found = []
     for m, later in zip(heads, [*heads[1:], None]):
-        block, of_trait = next((block[2:] for block in blocks if block[0] <= m.start() < block[1]), (("", "", []), False))
+        block, sort = next((block[2:] for block in blocks if block[0] <= m.start() < block[1]), (("", "", []), ""))
         last = re.compile(rf"^{m[1]}\}}$", re.M).search(text, m.end(), later.start() if later else len(text))
         end = last.end() if last else text.find("\n", m.end())
         has_body = bool(last) or text[:end].endswith("}")
-        found.append(Function(m["name"], block, has_body and bool(m["public"] or block[1] or of_trait), m.start(), end))
+        is_public = has_body and bool(m["public"] or block[1] or sort == "pub trait")
+        found.append(Function(m["name"], block, "trait" in sort, is_public, m.start(), end))
     return found
 
 
@@ -73,9 +76,11 @@ def changed(before, after):
 
 def function_of(body, text):
     """The function that a body names, and whether the body changes nothing else."""
-    named = [f for f in functions_of(text) if f.is_called(body.function)]
-    if not named:
-        raise Unfit(f"{body.source} has no function `{body.function}`")
+    functions = functions_of(text)
+    for name in (body.function, *body.like):
+        if not any(f.is_called(name) for f in functions):
+            raise Unfit(f"{body.source} has no function `{name}`")
+    named = [f for f in functions if f.is_called(body.function)]
     begin, end = changed(text, body.apply(text))
     around = [f for f in named if f.begin <= begin and end <= f.end]
     near = around or [f for f in named if f.begin <= end and begin <= f.end] or named

@@ -9,7 +9,7 @@ from copies import Copy, with_lower
 from functions import function_of, verdict_of
 from verdicts import Report, declarations, judge, without
 
-TOGETHER = 16
+FEWEST, MOST = 4, 16
 ROUNDS = 4
 
 
@@ -36,9 +36,8 @@ class Queue:
             body.verdict != other.verdict and frozenset((body, other)) not in self.clashes and not (body.cuts & other.cuts) for other in pack
         )
 
-    def take(self, jobs):
+    def take(self, most):
         """The bodies of the next check, and the texts of the files that they change."""
-        most = min(TOGETHER, max(4, -(-len(self.todo) // jobs)))
         pack, texts = [], {}
         for body in [body for body in self.todo if body not in self.alone] or self.todo[:1]:
             if len(pack) < most and self.fits(body, pack):
@@ -141,7 +140,7 @@ class Tries:
                 full = [queue for queue in self.queues if queue.todo]
                 if full:
                     queue = last if last in full else max(full, key=lambda one: len(one.todo))
-                    return self.try_together, (queue, *queue.take(self.jobs))
+                    return self.try_together, (queue, *queue.take(self.most()))
                 if not self.todo and not any(queue.running for queue in self.queues) and self.checked.issuperset(self.bodies):
                     break
                 self.waiting += 1
@@ -149,6 +148,13 @@ class Tries:
                 self.waiting -= 1
             self.lock.notify_all()
             return None, ()
+
+    def most(self):
+        """How many bodies may share a check: many, unless a worker would have nothing to do meanwhile."""
+        left = sum(len(queue.todo) for queue in self.queues)
+        if not self.waiting:
+            left += sum(len(bodies) for crate, bodies in self.bodies.items() if crate not in self.checked)
+        return min(MOST, max(FEWEST, -(-left // self.jobs)))
 
     def work(self, number):
         copy, last = Copy(self.folder / f"copy-{number}", self.base.root, self.base.crates), None
@@ -162,7 +168,8 @@ class Tries:
     def check(self, _, crate, jobs):
         """Checks a crate as it stands, with this number of jobs."""
         begin = time.time()
-        self.base.fetch(crate, True)
+        self.base.fetch(crate, "incremental")
+        self.base.fetch(crate, "rlib")
         report = Report(self.base.check(crate, jobs=jobs))
         self.base.build(crate)
         with self.lock:
