@@ -31,13 +31,13 @@ pub use envelope::Envelope;
 pub use impls::RawItem;
 pub use rlp_format::{DecoderError, FlatItem, PayloadInfo, Prototype, TreeFault, Uint};
 pub use rlp_streams::{
-    AppendFields, BasicEncoder, Chain, EMPTY_LIST_RLP, Each, Encodable, FieldsOf, Flattened, ListOf,
-    NULL_RLP, Optional, OptionalGroupOf, OptionalListOf, RlpStream, encode, encode_list,
+    AppendFields, BasicEncoder, Chain, EMPTY_LIST_RLP, Each, Encodable, FieldsOf, Flattened,
+    ListOf, NULL_RLP, Optional, OptionalGroupOf, OptionalListOf, RlpStream, encode, encode_list,
     write_envelope, write_struct,
 };
 pub use rlp_views::{
-    BasicDecoder, DecodeField, DecodeFields, Decodable, Field, FieldFault, Fields,
-    FixedFields, Groups, Joined, ListField, OptionalGroup, Rlp, RlpIterator, decode, decode_list,
+    BasicDecoder, Decodable, DecodeField, DecodeFields, Field, FieldFault, Fields, FixedFields,
+    Groups, Joined, ListField, OptionalGroup, Rlp, RlpIterator, decode, decode_list,
     decode_list_strict, decode_strict, decode_struct,
 };
 use std::alloc::Global;

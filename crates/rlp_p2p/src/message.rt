@@ -43,11 +43,7 @@ impl<'a> Numbered<'a> {
     ///
     /// Fails as reading a `u64` does, and with `Custom("unknown message")` for an id below the
     /// offset.
-    pub fn of(
-        alloc: Global,
-        offset: u8,
-        bytes: &'a [u8],
-    ) -> Result<Numbered<'a>, DecoderError>
+    pub fn of(alloc: Global, offset: u8, bytes: &'a [u8]) -> Result<Numbered<'a>, DecoderError>
         ensures id { IfOk result
             (λ m. GivesNumber 8 (view_of bytes.now) (offset + m.number)) }
         ensures value { IfOk result (λ m. bytes.now

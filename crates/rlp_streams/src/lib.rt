@@ -14,7 +14,8 @@ mod whole_list;
 pub use envelope::write_envelope;
 pub use stream::{BasicEncoder, Chain, RlpStream, append_list_encoding};
 pub use structs::{
-    AppendFields, Each, FieldsOf, Flattened, ListOf, Optional, OptionalGroupOf, OptionalListOf, write_struct,
+    AppendFields, Each, FieldsOf, Flattened, ListOf, Optional, OptionalGroupOf, OptionalListOf,
+    write_struct,
 };
 pub use traits::Encodable;
 pub use whole_list::{encode, encode_list};

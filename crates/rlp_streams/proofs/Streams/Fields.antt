@@ -13,7 +13,6 @@ use Rattle.rlp_buffer.proofs.Streams.Rooms.{raw_add, raw_add_all}
 use Rattle.rlp_buffer.specs.Streams.Calls.{with_list_of}
 use Rattle.rlp_streams.specs.Streams.Growth.{GrowsTo}
 use Rattle.rlp_streams.specs.Streams.Fields.{AppendsSome}
-
 use Rattle.rlp_format.specs.Values.Value.{all_items}
 use Rattle.rlp_streams.proofs.Streams.Filling.{filled_list, grows_filling}
 use Rattle.rlp_streams.proofs.Streams.Growth.{grows_same, retains_same, retains_trans}

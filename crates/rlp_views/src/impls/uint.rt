@@ -7,8 +7,8 @@ ghost use Rattle.rlp_views.specs.Values.ValueReading.{FaultsAsNumber, GivesNumbe
 use crate::impls::number::number_digits;
 use crate::rlpin::Rlp;
 use crate::traits::Decodable;
-use rlp_format::error::DecoderError;
 use rlp_format::Uint;
+use rlp_format::error::DecoderError;
 use std::alloc::Global;
 
 /// Reads a number of at most `N` bytes. Fails with the same errors as for `u64`.

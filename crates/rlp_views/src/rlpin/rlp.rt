@@ -13,17 +13,17 @@ ghost use Rattle.rlp_format.specs.Views.Depth.{depth};
 ghost use Rattle.rlp_format.specs.Views.View.{begins_as_data, begins_as_empty, begins_as_int, data_size, has_nonzero_at, item_at, item_count, item_views, item_with_place, items_fault, list_fault, prototype_of, strict_view_of, view_header, view_of, view_value, View};
 ghost use Rattle.rlp_views.specs.Values.ListReading.{FaultsAsList, FaultsAt, GivesAt, GivesList, MayLackAsList, MayLackAt, ReadsValue, GivesSomeAt};
 
+use crate::depth::is_nested_within;
 use crate::rlpin::decoder::BasicDecoder;
 use crate::rlpin::iter::RlpIterator;
 use crate::traits::Decodable;
+use crate::walking::{flatten, is_canonical};
 use rlp_format::Prototype;
-use crate::depth::is_nested_within;
 use rlp_format::error::DecoderError;
 use rlp_format::flat::{FlatItem, TreeFault};
 use rlp_format::framed::{Framed, first_framed, whole_framed};
 use rlp_format::header::PayloadInfo;
 use rlp_format::items::{ItemReader, try_count_items};
-use crate::walking::{flatten, is_canonical};
 use std::alloc::Global;
 use std::marker::Model;
 
