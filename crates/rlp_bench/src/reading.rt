@@ -41,7 +41,10 @@ pub(crate) fn run(alloc: Global, inputs: &Inputs, operation: &str, times: usize)
 /// Returns one of the two encodings in the bytes. Each turn takes the other one, so that a turn
 /// can't reuse the work of the turn before.
 fn turned(bytes: &[u8], turn: usize) -> Option<&[u8]> {
-    bytes.get(turn % 2 * (bytes.len() / 2)..)
+    if turn % 2 == 0 {
+        return Some(bytes);
+    }
+    bytes.get(bytes.len() / 2..)
 }
 
 fn decode_number(alloc: Global, bytes: &[u8], times: usize) -> Option<usize> {
