@@ -23,25 +23,58 @@ fn answered(alloc: Global, kind: Option<Kind>, digits: &str) -> Result<Vec<u8>, 
     }
 }
 
-/// Notes a row that isn't answered as expected.
-fn check_row(alloc: Global, given: &str, want: &str, wrong: &mut Line) -> Result<(), AllocError> {
-    let (name, digits) = cut(given);
-    let kind = Kind::named(name);
-    if kind.is_none() && name != "any" {
-        wrong.note("show", given, "no such kind", want);
-        return Ok(());
-    }
-    let answer = answered(alloc, kind, digits)?;
+/// Notes an answer that isn't as expected.
+fn note_answer(
+    alloc: Global,
+    kind: Option<Kind>,
+    row: &Row,
+    wrong: &mut Line,
+) -> Result<(), AllocError> {
+    let (given, want) = row;
+    let (_, text) = cut(given);
+    let answer = answered(alloc, kind, text)?;
     let text = std::str::from_utf8(answer.as_slice()).unwrap_or("no text");
     wrong.note("show", given, text, want);
     Ok(())
 }
 
-/// Fails with the rows that aren't answered as expected.
+/// Notes a record that isn't shown under the name of its kind if that is guessed.
+fn note_guess(alloc: Global, given: &str, wrong: &mut Line) -> Result<(), AllocError> {
+    let (name, text) = cut(given);
+    let answer = answered(alloc, None, text)?;
+    if !answer.as_slice().starts_with(name.as_bytes()) {
+        let text = std::str::from_utf8(answer.as_slice()).unwrap_or("no text");
+        wrong.note("guess", given, text, name);
+    }
+    Ok(())
+}
+
+/// Notes what is wrong with a row.
+fn check_row(alloc: Global, row: &Row, wrong: &mut Line) -> Result<(), AllocError> {
+    let (given, want) = row;
+    let (name, _) = cut(given);
+    match Kind::named(name) {
+        None if name == "any" => note_answer(alloc, None, row, wrong),
+        None => {
+            wrong.note("show", given, "no such kind", want);
+            Ok(())
+        }
+        Some(kind) => {
+            note_answer(alloc, Some(kind), row, wrong)?;
+            if want.starts_with("error") {
+                return Ok(());
+            }
+            note_guess(alloc, given, wrong)
+        }
+    }
+}
+
+/// Fails with the rows that aren't answered as expected, and the records that aren't guessed to be of
+/// their kind.
 pub(crate) fn check(alloc: Global, rows: &[Row]) -> Result<(), Fail> {
     let mut wrong = Line::new();
-    for (given, want) in rows {
-        check_row(alloc, given, want, &mut wrong)?;
+    for row in rows {
+        check_row(alloc, row, &mut wrong)?;
     }
     wrong.none_noted()
 }
