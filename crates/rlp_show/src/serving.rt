@@ -9,7 +9,7 @@ ghost use Rattle.rlp_show.specs.Guess.{answer_of};
 
 use crate::envelopes::AnyReceipt;
 use crate::fault::ShowFault;
-use crate::guess::AnyRecord;
+use crate::guessing::AnyRecord;
 use crate::input::{is_node_text, read_record};
 use crate::kind::Kind;
 use crate::nodes::Node;

@@ -75,14 +75,14 @@ fn show_as(alloc: Global, kind: Kind, item: &Rlp<'_>, out: &mut String) -> Resul
 ///
 /// Fails as [`Rlp::item_count`] does if the first byte is that of a list.
 #[tactic(auto, unfolding(crate::specs::Guess::guess))]
-pub fn guess(record: &Rlp<'_>) -> Result<Option<Kind>, DecoderError>
-    ensures { result ≡ guess record.now }
+pub fn guess(item: &Rlp<'_>) -> Result<Option<Kind>, DecoderError>
+    ensures { result ≡ guess item.now }
 {
-    match record.as_raw() {
+    match item.as_raw() {
         [] => Ok(None),
         [kind, payload @ ..] if *kind < 0x80 => Ok(Some(envelope_kind(payload))),
         [0x80, ..] => Ok(Some(Kind::Node)),
-        [first, ..] if *first >= LIST => guess_list(record),
+        [first, ..] if *first >= LIST => guess_list(item),
         _ => Ok(None),
     }
 }
