@@ -34,7 +34,7 @@ is_address first = first == 0x94
 abbrev pub is_hash : ℕ → Bool
 is_hash first = first == 0xa0
 
--- whether it is a string of at most 55 bytes; a signature is longer
+-- whether it is a string of at most 55 bytes
 abbrev pub is_short : ℕ → Bool
 is_short first = nat_lt first 0xb8
 
@@ -53,38 +53,32 @@ lists_kind count inner =
     else if (count == 2) || (count == 3) then Some Body
     else None
 
--- a list of four items whose first is a string, by the first bytes of the first and the third
-abbrev pub four_kind : ℕ → ℕ → Kind
-four_kind first third =
+-- a list of four items whose first is a string, by the first byte of the third; a bloom is longer than a key
+abbrev pub four_kind : ℕ → Kind
+four_kind third =
     if is_hash third then Account
     else if is_address third then Withdrawal
-    else if is_short first then Receipt
-    else NodeRecord
+    else if is_short third then NodeRecord
+    else Receipt
 
--- a list of more than four items whose first is a string, by the first bytes of the first three
-abbrev pub many_kind : ℕ → ℕ → ℕ → ℕ → Option Kind
-many_kind count first second third =
-    if count == 9 then Some Transaction
+-- a list whose first item is a string, by the first bytes of the second and the third
+abbrev pub strings_kind : ℕ → ℕ → ℕ → Option Kind
+strings_kind count second third =
+    if count == 2 then Some Node
+    else if count == 4 then Some (four_kind third)
     else if (count == 6) && is_address second then Some Authorization
-    else if (count == 17) && is_address third then Some Header
+    else if count == 9 then Some Transaction
+    else if nat_le 15 count && (nat_le count 21 && is_address third) then Some Header
     else if count == 17 then Some Node
-    else if nat_le 15 count && (nat_le count 21 && is_short first) then Some Header
     else if nat_le 6 count && (count % 2 == 0) then Some NodeRecord
     else None
-
--- a list whose first item is a string
-abbrev pub strings_kind : ℕ → ℕ → ℕ → ℕ → Option Kind
-strings_kind count first second third =
-    if count == 2 then Some Node
-    else if count == 4 then Some (four_kind first third)
-    else many_kind count first second third
 
 -- a list of these items
 abbrev pub list_kind : List View → ℕ → Option Kind
 list_kind vs count =
     if count == 0 then Some AccessList
     else if is_list (first_of vs) then lists_kind count (inner_of vs)
-    else strings_kind count (first_of vs) (first_of (drop 1 vs)) (first_of (drop 2 vs))
+    else strings_kind count (first_of (drop 1 vs)) (first_of (drop 2 vs))
 
 -- ---- the kind of a record
 

@@ -4,7 +4,7 @@ ghost use Rattle.std.specs.Prelude.{◌≡◌, drop, string_bytes};
 ghost use Rattle.rlp.specs.Format.Framing.{map_ok};
 ghost use Rattle.rlp.specs.Views.View.{item_count, item_views, strict_view_of};
 ghost use Rattle.rlp_show.specs.Answer.{Shows, kind_name, kind_shape};
-ghost use Rattle.rlp_show.specs.Guess.{any_record, envelope_kind, first_byte, first_of, four_kind, guess, inner_of, list_kind, lists_kind, many_kind, strings_kind};
+ghost use Rattle.rlp_show.specs.Guess.{any_record, envelope_kind, first_byte, first_of, four_kind, guess, inner_of, list_kind, lists_kind, strings_kind};
 
 use crate::envelopes::AnyReceipt;
 use crate::fault::ShowFault;
@@ -23,7 +23,7 @@ const ADDRESS: u8 = 0x94;
 /// The first byte of a string of 32 bytes, such as a hash.
 const HASH: u8 = 0xa0;
 
-/// The first byte from which on a string has more than 55 bytes, as a signature has.
+/// The first byte from which on a string has more than 55 bytes.
 const LONG: u8 = 0xb8;
 
 /// The first byte from which on an item is a list.
@@ -115,13 +115,12 @@ fn list_kind(list: &Rlp<'_>, count: usize) -> Option<Kind>
         return Some(Kind::AccessList);
     }
     let mut items = list.iter();
-    let first = first_of_next(&mut items);
-    if first >= LIST {
+    if first_of_next(&mut items) >= LIST {
         return lists_kind(count, inner_of(list));
     }
     let second = first_of_next(&mut items);
     let third = first_of_next(&mut items);
-    strings_kind(count, first, second, third)
+    strings_kind(count, second, third)
 }
 
 /// The first byte of the next item, or 0 if there is none.
@@ -173,50 +172,41 @@ fn lists_kind(count: usize, inner: u8) -> Option<Kind>
     }
 }
 
-/// The kind of a list of this many items, of which the first is a string. The others are the first
-/// bytes of three items.
-fn strings_kind(count: usize, first: u8, second: u8, third: u8) -> Option<Kind>
-    ensures { result ≡ strings_kind count first second third }
+/// The kind of a list of this many items, of which the first is a string. The other two are the first
+/// bytes of the second and the third item.
+fn strings_kind(count: usize, second: u8, third: u8) -> Option<Kind>
+    ensures { result ≡ strings_kind count second third }
 {
-    match count {
-        2 => Some(Kind::Node),
-        4 => Some(four_kind(first, third)),
-        _ => many_kind(count, first, second, third),
+    if count == 2 {
+        Some(Kind::Node)
+    } else if count == 4 {
+        Some(four_kind(third))
+    } else if count == 6 && second == ADDRESS {
+        Some(Kind::Authorization)
+    } else if count == 9 {
+        Some(Kind::Transaction)
+    } else if count >= 15 && count <= 21 && third == ADDRESS {
+        Some(Kind::Header)
+    } else if count == 17 {
+        Some(Kind::Node)
+    } else if count >= 6 && count % 2 == 0 {
+        Some(Kind::NodeRecord)
+    } else {
+        None
     }
 }
 
 /// The kind of a list of four items, of which the first is a string.
-fn four_kind(first: u8, third: u8) -> Kind
-    ensures { result ≡ four_kind first third }
+fn four_kind(third: u8) -> Kind
+    ensures { result ≡ four_kind third }
 {
     if third == HASH {
         Kind::Account
     } else if third == ADDRESS {
         Kind::Withdrawal
-    } else if first < LONG {
-        Kind::Receipt
-    } else {
+    } else if third < LONG {
         Kind::NodeRecord
-    }
-}
-
-/// The kind of a list of another number of items, of which the first is a string.
-fn many_kind(count: usize, first: u8, second: u8, third: u8) -> Option<Kind>
-    ensures { result ≡ many_kind count first second third }
-{
-    if count == 9 {
-        Some(Kind::Transaction)
-    } else if count == 6 && second == ADDRESS {
-        Some(Kind::Authorization)
-    } else if count == 17 && third == ADDRESS {
-        Some(Kind::Header)
-    } else if count == 17 {
-        Some(Kind::Node)
-    } else if count >= 15 && count <= 21 && first < LONG {
-        Some(Kind::Header)
-    } else if count >= 6 && count % 2 == 0 {
-        Some(Kind::NodeRecord)
     } else {
-        None
+        Kind::Receipt
     }
 }

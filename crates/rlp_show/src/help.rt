@@ -15,32 +15,33 @@ rlp_show shows records of Ethereum by the names of their fields.
 
 usage: rlp_show [KIND] [RECORD]
 
-RECORD is the whole encoding in hexadecimal digits after 0x, or the text of a
-node record, which begins with enr:. Without RECORD, each line of standard input
-is a record, where 0x may be left out.
+RECORD is the whole encoding in hexadecimal digits after 0x, or the text of a node
+record, which begins with enr:. Without RECORD, each line of standard input is a
+record, where 0x may be left out.
 
 KIND is one of
-  access_list authorization receipt transaction       with or without a type
-  block body header withdrawal                        and their parts
-  account node                                        of the trie
-  record                                              a node record of EIP-778
+  transaction, receipt            with or without a type
+  access_list, authorization      parts of transactions
+  block, body, header, withdrawal
+  account, node                   of the trie of the state, and of any trie
+  record                          a node record of EIP-778
 
 Without KIND the kind is guessed, and its name comes before those of the fields:
-  first byte below 0x80   transaction; receipt if the list after it has 4 items
-  0x80                    node, the empty trie
-  list of 0 items         access_list
-  list of lists           access_list if the first item of the first has 20 bytes;
-                          else block (3 or 4 lists) if it has 32 bytes,
-                          body (2 or 3), node (17)
-  other lists, by their number of items:
-    2                     node
-    4                     account if the third has 32 bytes, withdrawal if it has
-                          20, record if the first has more than 55, else receipt
-    6                     authorization if the second has 20 bytes, else record
-    9                     transaction
-    17                    header if the third has 20 bytes, else node
-    15 to 21              header if the first has at most 55 bytes, else as below
-    8 or more, even       record
+  first byte below 0x80  transaction, or receipt if the list after it has 4 items
+  0x80                   node: the empty trie
+  list of no items       access_list
+  list whose first item is a list
+                         access_list if the first item of that has 20 bytes; else
+                         block (of 3 or 4 items) if it has 32, body (2 or 3),
+                         node (17)
+  other list, by its number of items:
+    2                    node
+    4                    by the third item: account (of 32 bytes), withdrawal (20),
+                         receipt (more than 55), else record
+    6                    authorization if the second has 20 bytes, else record
+    9                    transaction
+    15 to 21             header if the third has 20 bytes; else as below, or node (17)
+    8 and all even ones  record
 
 An answer is a line for each field and an empty line, or one line that begins with
 error. The exit status is
@@ -52,5 +53,5 @@ error. The exit status is
   5  if a record was at fault
 
 Examples:
-  rlp_show 0xe2808203e8945df9b87991262f6ba471f09758cde1c0fc1de73405
+  rlp_show 0xda808203e8945df9b87991262f6ba471f09758cde1c0fc1de73405
   rlp_show header < headers.txt";
