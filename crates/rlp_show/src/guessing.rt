@@ -3,7 +3,7 @@
 ghost use Rattle.std.specs.Prelude.{◌≡◌, drop, string_bytes};
 ghost use Rattle.rlp.specs.Format.Framing.{map_ok};
 ghost use Rattle.rlp.specs.Views.View.{item_count, item_views, strict_view_of};
-ghost use Rattle.rlp_show.specs.Answer.{Shows, kind_name, kind_shape};
+ghost use Rattle.rlp_show.specs.Answer.{Shows, kind_shape};
 ghost use Rattle.rlp_show.specs.Guess.{any_record, envelope_kind, first_byte, first_of, four_kind, guess, inner_of, list_kind, lists_kind, strings_kind};
 
 use crate::envelopes::AnyReceipt;
@@ -39,7 +39,7 @@ impl Show for AnyRecord {
 
     fn show(alloc: Global, name: &str, item: &Rlp<'_>, out: &mut String) -> Result<(), ShowFault> {
         match guess(item) {
-            Ok(Some(kind)) => show_as(alloc, kind, item, out),
+            Ok(Some(kind)) => show_as(alloc, kind, kind.name(), item, out),
             Ok(None) => {
                 let fault = DecoderError::Custom("unknown kind");
                 Err(ShowFault::of(alloc, name, fault))
@@ -49,12 +49,17 @@ impl Show for AnyRecord {
     }
 }
 
-/// Appends the lines of a record of a kind, under its name.
-fn show_as(alloc: Global, kind: Kind, item: &Rlp<'_>, out: &mut String) -> Result<(), ShowFault>
-    ensures { Shows (kind_shape kind (kind_name kind) item.now) (string_bytes out.old)
+/// Appends the lines of a record of a kind.
+fn show_as(
+    alloc: Global,
+    kind: Kind,
+    name: &str,
+    item: &Rlp<'_>,
+    out: &mut String,
+) -> Result<(), ShowFault>
+    ensures { Shows (kind_shape kind name.now item.now) (string_bytes out.old)
         (string_bytes out.new) result }
 {
-    let name = kind.name();
     match kind {
         Kind::AccessList => AccessListAlone::show(alloc, name, item, out),
         Kind::Account => Account::show(alloc, name, item, out),

@@ -4,7 +4,7 @@ ghost use Rattle.std.specs.Prelude.{◌≡◌, ◌++◌, [], string_bytes, false
 ghost use Rattle.rlp.specs.Views.View.{strict_view_of};
 ghost use Rattle.rlp_lines.specs.Replies.{answer_by};
 ghost use Rattle.rlp_lines.specs.Run.{RunLeaves, TellsFault};
-ghost use Rattle.rlp_show.specs.Answer.{exit_status, longest_line, shown_answer, text_answer};
+ghost use Rattle.rlp_show.specs.Answer.{exit_status, kind_answer, longest_line, shown_answer, text_answer};
 ghost use Rattle.rlp_show.specs.Guess.{answer_of};
 
 use crate::envelopes::AnyReceipt;
@@ -93,30 +93,43 @@ pub fn run<R: Read, W: Write>(
         (R.remaining input.old.inner) (R.remaining input.new.inner)) }
 {
     match kind {
+        Some(kind) => run_kind(alloc, kind, input, output),
         None => answer_lines::<RecordAnswers<AnyRecord>, R, W>(alloc, input, output),
-        Some(Kind::AccessList) => {
+    }
+}
+
+/// Answers each line of the input as [`run`] does, for records of a kind.
+fn run_kind<R: Read, W: Write>(
+    alloc: Global,
+    kind: Kind,
+    input: &mut Noted<R>,
+    output: &mut Noted<W>,
+) -> Result<bool, RunFault>
+    requires input { input.old.failed ≡ false }
+    requires output { output.old.failed ≡ false }
+    ensures leaves { RunLeaves (answer_by longest_line (kind_answer kind)) R.remaining W.contents
+        input.old input.new output.old output.new result }
+    ensures faulty { IfOk result (TellsFault (answer_by longest_line (kind_answer kind))
+        (R.remaining input.old.inner) (R.remaining input.new.inner)) }
+{
+    match kind {
+        Kind::AccessList => {
             answer_lines::<RecordAnswers<AccessListAlone>, R, W>(alloc, input, output)
         }
-        Some(Kind::Account) => answer_lines::<RecordAnswers<Account>, R, W>(alloc, input, output),
-        Some(Kind::Authorization) => {
+        Kind::Account => answer_lines::<RecordAnswers<Account>, R, W>(alloc, input, output),
+        Kind::Authorization => {
             answer_lines::<RecordAnswers<SignedAuthorization>, R, W>(alloc, input, output)
         }
-        Some(Kind::Block) => answer_lines::<RecordAnswers<Block>, R, W>(alloc, input, output),
-        Some(Kind::Body) => answer_lines::<RecordAnswers<Body>, R, W>(alloc, input, output),
-        Some(Kind::Header) => answer_lines::<RecordAnswers<Header>, R, W>(alloc, input, output),
-        Some(Kind::Node) => answer_lines::<RecordAnswers<Node>, R, W>(alloc, input, output),
-        Some(Kind::Receipt) => {
-            answer_lines::<RecordAnswers<AnyReceipt>, R, W>(alloc, input, output)
-        }
-        Some(Kind::NodeRecord) => {
-            answer_lines::<RecordAnswers<NodeRecord>, R, W>(alloc, input, output)
-        }
-        Some(Kind::Transaction) => {
+        Kind::Block => answer_lines::<RecordAnswers<Block>, R, W>(alloc, input, output),
+        Kind::Body => answer_lines::<RecordAnswers<Body>, R, W>(alloc, input, output),
+        Kind::Header => answer_lines::<RecordAnswers<Header>, R, W>(alloc, input, output),
+        Kind::Node => answer_lines::<RecordAnswers<Node>, R, W>(alloc, input, output),
+        Kind::Receipt => answer_lines::<RecordAnswers<AnyReceipt>, R, W>(alloc, input, output),
+        Kind::NodeRecord => answer_lines::<RecordAnswers<NodeRecord>, R, W>(alloc, input, output),
+        Kind::Transaction => {
             answer_lines::<RecordAnswers<TransactionAlone>, R, W>(alloc, input, output)
         }
-        Some(Kind::Withdrawal) => {
-            answer_lines::<RecordAnswers<Withdrawal>, R, W>(alloc, input, output)
-        }
+        Kind::Withdrawal => answer_lines::<RecordAnswers<Withdrawal>, R, W>(alloc, input, output),
     }
 }
 
