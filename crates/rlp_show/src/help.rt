@@ -42,6 +42,7 @@ Without KIND the kind is guessed, and its name comes before those of the fields:
     9                    transaction
     15 to 21             header if the third has 20 bytes; else as below, or node (17)
     8 and all even ones  record
+Where two kinds fit, the commoner one is taken.
 
 An answer is a line for each field and an empty line, or one line that begins with
 error. The exit status is
