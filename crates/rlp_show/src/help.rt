@@ -36,11 +36,11 @@ Without KIND the kind is guessed, and its name comes before those of the fields:
                          node (17)
   other list, by its number of items:
     2                    node
-    4                    by the third item: account (of 32 bytes), withdrawal (20),
+    4                    by the third: account (of 32 bytes), withdrawal (20),
                          receipt (more than 55), else record
     6                    authorization if the second has 20 bytes, else record
     9                    transaction
-    15 to 21             header if the third has 20 bytes; else as below, or node (17)
+    15 to 21             header if the third has 20 bytes, else node (17), record
     8 and all even ones  record
 Where two kinds fit, the commoner one is taken.
 
