@@ -3,56 +3,9 @@ answers of `rlp_show`, after crates/rlp_show/CALLING.md. It shares no code with 
 """
 
 from answers import Answered, bytes_of, encoded_string, framing, written_header
+from guess import guess
 from lines import digits, spoiled
-
-# ---- strict reading
-
-
-def strict_string(data):
-    """The string that is all of data, or its fault."""
-    if not data:
-        raise Answered("RlpIsTooShort")
-    first = data[0]
-    if first >= 0xC0:
-        raise Answered("RlpExpectedToBeData")
-    if first < 0x80:
-        begin, size = 0, 1
-    elif first < 0xB8:
-        begin, size = 1, first - 0x80
-        if len(data) < begin + size:
-            raise Answered("RlpInconsistentLengthAndData")
-        if size == 1 and data[1] < 0x80:
-            raise Answered("RlpInvalidIndirection")
-    else:
-        begin = first - 0xB6
-        if len(data) < begin:
-            raise Answered("RlpInconsistentLengthAndData")
-        size = int.from_bytes(data[1:begin], "big")
-        if data[1] == 0 or size <= 55:
-            raise Answered("RlpInvalidIndirection")
-        if begin + size >= 1 << 64:
-            raise Answered("RlpInvalidLength")
-        if len(data) < begin + size:
-            raise Answered("RlpInconsistentLengthAndData")
-    if len(data) > begin + size:
-        raise Answered("RlpIsTooBig")
-    return data[begin : begin + size]
-
-
-def strict_items(data):
-    """The items of the list that is all of data, or its fault."""
-    if not data or data[0] < 0xC0:
-        raise Answered("RlpExpectedToBeList")
-    place, end = framing(data, 0, len(data))
-    if end < len(data):
-        raise Answered("RlpIsTooBig")
-    items = []
-    while place < end:
-        _, stop = framing(data, place, end)
-        items.append(data[place:stop])
-        place = stop
-    return items
-
+from strict import bytes_of_node_text, node_text, strict_items, strict_string
 
 # ---- types: how an item is shown under a name, and how a random one is written
 
@@ -470,26 +423,48 @@ KINDS = {
 }
 
 
+# ---- lines and their answers
+
+
 def line(dice, kind):
-    """A line for a kind, without its newline."""
+    """A line for a kind, or for a guessed one, without its newline."""
+    kind = kind or dice.choice(list(KINDS))
     data = KINDS[kind].written(dice)
     for _ in range(dice.choice((0, 0, 0, 0, 1))):
         data = spoiled(dice, data)
     text = digits(dice, data)
+    if dice.random() < (0.5 if kind == "record" else 0.02):
+        text = node_text(data)
     if dice.random() < 0.03:
-        text += dice.choice(("\r", "\r\r", " ", "0", "g"))
+        text += dice.choice(("\r", "\r\r", " ", "0", "g", "="))
     return text
+
+
+def lines_of(kind, data):
+    """The lines of a record of a kind, or of a guessed one under the name of its kind."""
+    if kind:
+        return KINDS[kind].lines("", data)
+    try:
+        kind = guess(data)
+    except Answered as answered:
+        raise Wrong("", answered) from None
+    if kind is None:
+        raise Wrong("", 'Custom("unknown kind")')
+    return KINDS[kind].lines(kind, data)
 
 
 def answer(kind, text):
     """What is answered to a line, as one text: the lines of the record and an empty line, or the fault."""
     if len(text) > 32 << 20:
         return "error long line\n"
-    data = bytes_of(text[:-1] if text.endswith("\r") else text)
+    text = text[:-1] if text.endswith("\r") else text
+    data = bytes_of(text)
     if data is None:
-        return "error hex\n"
+        data = bytes_of_node_text(text)
+    if data is None:
+        return "error base64\n" if text.startswith("enr:") else "error hex\n"
     try:
-        return "\n".join(KINDS[kind].lines("", data)) + "\n\n"
+        return "\n".join(lines_of(kind, data)) + "\n\n"
     except Wrong as wrong:
         return f"error {wrong}\n"
 

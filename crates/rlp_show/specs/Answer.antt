@@ -1,6 +1,10 @@
 -- The answer to a line of input.
-use Rattle.std.specs.Prelude.{ℕ, Bool, false, true, ◌≡◌, ⊤, List, [], ◌++◌, codes, bytes_eq, if◌then◌else◌, string_bytes, Option, Some, None, Result, Ok, Err}
+use Rattle.std.specs.Prelude.{ℕ, Bool, false, true, nat_eq, ◌≡◌, ◌||◌, ⊤, List, [], ◌++◌, drop, codes, bytes_eq, if◌then◌else◌, string_bytes, Option, Some, None, Result, Ok, Err}
+use Rattle.std.specs.List.{starts_with}
+use Rattle.std.specs.Result.{result_ok}
 use Rattle.std.specs.Str.Lines.{strip_carriage_return}
+use Rattle.base64.specs.Engines.{url_safe_no_pad}
+use Rattle.base64.specs.GeneralPurpose.{decode_of}
 use Rattle.rlp.specs.Views.Text.{error_name}
 use Rattle.rlp.specs.Views.View.{strict_view_of}
 use Rattle.rlp_lines.specs.Digits.{bytes_in}
@@ -19,14 +23,39 @@ abbrev pub shown_answer : Shown → List ℕ
 shown_answer (Ok lines) = lines
 shown_answer (Err fault) = codes "error " ++ fault_text fault.field fault.name fault.what
 
--- the answer for bytes that are read strictly as a whole record, or `error hex` if the line has no digits
-abbrev pub bytes_answer : Shape → Option (List ℕ) → List ℕ
-bytes_answer shape (Some bytes) = shown_answer (shape [] (strict_view_of bytes))
-bytes_answer shape None = codes "error hex"
+-- the bytes that have this URL-safe base64 without padding, if there are any
+unfoldable pub base64_bytes : List ℕ → Option (List ℕ)
+base64_bytes text = result_ok (decode_of url_safe_no_pad text)
+
+-- whether a text is that of a node record, which begins with `enr:`
+abbrev pub is_node_text : List ℕ → Bool
+is_node_text text = starts_with nat_eq text (codes "enr:")
+
+-- whether an argument is a record: it begins with `0x`, or is the text of a node record
+abbrev pub is_record : List ℕ → Bool
+is_record word = starts_with nat_eq word (codes "0x") || is_node_text word
+
+-- the bytes of digits, or else those of the text of a node record
+abbrev pub bytes_or_node : List ℕ → Option (List ℕ) → Option (List ℕ)
+bytes_or_node text (Some bytes) = Some bytes
+bytes_or_node text None = if is_node_text text then base64_bytes (drop 4 text) else None
+
+-- the bytes of a record that is given as digits or as the text of a node record
+abbrev pub record_bytes : List ℕ → Option (List ℕ)
+record_bytes text = bytes_or_node text (bytes_in text)
+
+-- the answer for bytes that are read strictly as a whole record, or what is wrong with a text that has none
+abbrev pub bytes_answer : Shape → List ℕ → Option (List ℕ) → List ℕ
+bytes_answer shape text (Some bytes) = shown_answer (shape [] (strict_view_of bytes))
+bytes_answer shape text None = if is_node_text text then codes "error base64" else codes "error hex"
+
+-- the answer to a text for records of a shape
+abbrev pub text_answer : Shape → List ℕ → List ℕ
+text_answer shape text = bytes_answer shape text (record_bytes text)
 
 -- the answer to a line for records of a shape
 abbrev pub record_answer : Shape → List ℕ → List ℕ
-record_answer shape line = bytes_answer shape (bytes_in (strip_carriage_return line))
+record_answer shape line = text_answer shape (strip_carriage_return line)
 
 -- ---- kinds
 
@@ -45,6 +74,20 @@ kind_named name =
     else if bytes_eq name (codes "transaction") then Some Transaction
     else if bytes_eq name (codes "withdrawal") then Some Withdrawal
     else None
+
+-- the name of a kind
+abbrev pub kind_name : Kind → List ℕ
+kind_name AccessList = codes "access_list"
+kind_name Account = codes "account"
+kind_name Authorization = codes "authorization"
+kind_name Block = codes "block"
+kind_name Body = codes "body"
+kind_name Header = codes "header"
+kind_name Node = codes "node"
+kind_name Receipt = codes "receipt"
+kind_name NodeRecord = codes "record"
+kind_name Transaction = codes "transaction"
+kind_name Withdrawal = codes "withdrawal"
 
 -- the shape of the records of a kind
 abbrev pub kind_shape : Kind → Shape

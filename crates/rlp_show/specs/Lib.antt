@@ -8,6 +8,10 @@ pub mod Fields
 pub mod Records
 -- the answer to a line of input
 pub mod Answer
+-- the kind of a record that isn't named
+pub mod Guess
+-- what the arguments of the program ask for
+pub mod Request
 -- lemmas on what types read and what is shown of it
 pub mod StringLemmas
 -- lemmas on the encodings of values

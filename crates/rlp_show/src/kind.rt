@@ -1,13 +1,6 @@
 //! The kinds of records.
 
-ghost use Rattle.std.specs.Prelude.{◌≡◌};
-
-/// What the program prints for arguments that aren't one known kind.
-pub const USAGE: &str =
-    "usage: rlp_show KIND, where KIND is access_list, account, authorization, block, body, header, node, receipt, record, transaction or withdrawal";
-
-/// The exit status of the program for such arguments.
-pub const UNKNOWN_KIND: u8 = 4;
+ghost use Rattle.std.specs.Prelude.{◌≡◌, Some};
 
 /// A kind of records that the program shows.
 #[derive(Debug, Clone, Copy, PartialEq, Eq)]
@@ -37,7 +30,7 @@ pub enum Kind {
 }
 
 impl Kind {
-    ghost use Rattle.rlp_show.specs.Answer.{kind_named};
+    ghost use Rattle.rlp_show.specs.Answer.{kind_name, kind_named};
 
     /// The kind of this name, if there is one.
     #[tactic(auto, unfolding(crate::specs::Answer::kind_named))]
@@ -57,6 +50,27 @@ impl Kind {
             "transaction" => Some(Kind::Transaction),
             "withdrawal" => Some(Kind::Withdrawal),
             _ => None,
+        }
+    }
+
+    /// The name of the kind.
+    #[tactic(auto, unfolding(crate::specs::Answer::kind_named))]
+    pub fn name(self) -> &'static str
+        ensures name { result.now ≡ kind_name self }
+        ensures named { kind_named result.now ≡ Some self }
+    {
+        match self {
+            Kind::AccessList => "access_list",
+            Kind::Account => "account",
+            Kind::Authorization => "authorization",
+            Kind::Block => "block",
+            Kind::Body => "body",
+            Kind::Header => "header",
+            Kind::Node => "node",
+            Kind::Receipt => "receipt",
+            Kind::NodeRecord => "record",
+            Kind::Transaction => "transaction",
+            Kind::Withdrawal => "withdrawal",
         }
     }
 }

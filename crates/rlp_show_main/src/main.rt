@@ -1,28 +1,61 @@
-//! Shows each line of standard input, a record in hexadecimal digits, by the names of its fields.
+//! Shows records of Ethereum by the names of their fields: that of an argument, or each line of
+//! standard input.
 #![tactic(auto)]
 
-use rlp_show::{Kind, Noted, UNKNOWN_KIND, USAGE, exit_status, run};
+use rlp_show::{
+    HELP, Kind, Noted, Request, RunFault, UNKNOWN_ARGUMENTS, USAGE, VERSION, exit_status, run,
+};
 use std::env;
+use std::io::Read;
 use std::process::ExitCode;
 
-/// The kind that the arguments name. They are the program's name and one kind.
-fn kind_in(rt: &HostRuntime) -> Option<Kind> {
-    let mut words = env::args(rt).ok()?;
-    words.next()?;
-    let name = words.next()?;
-    match words.next() {
-        Some(_) => None,
-        None => Kind::named(name.as_str()),
+/// The arguments after the name of the program.
+fn words_in(rt: &HostRuntime) -> Option<Vec<String>> {
+    let mut words = Vec::new(rt.alloc());
+    let mut given = env::args(rt).ok()?;
+    let _program = given.next();
+    for word in given {
+        words.push(word).ok()?;
+    }
+    Some(words)
+}
+
+/// Prints a text, and returns the exit status.
+fn print(rt: &HostRuntime, text: &str) -> u8 {
+    match println!(rt; "{text}") {
+        Ok(()) => 0,
+        Err(_) => RunFault::Write.status(),
+    }
+}
+
+/// Answers the lines of an input, and returns the exit status.
+fn answer<R: Read + Drop>(rt: &HostRuntime, kind: Option<Kind>, input: R) -> u8 {
+    let mut input = Noted::new(input);
+    let mut output = Noted::new(rt.stdout());
+    exit_status(&run(rt.alloc(), kind, &mut input, &mut output))
+}
+
+/// Says on standard error how the program is called, and returns the exit status.
+fn refuse(rt: &HostRuntime) -> u8 {
+    let _told = eprintln!(rt; "{USAGE}");
+    UNKNOWN_ARGUMENTS
+}
+
+/// Does what the arguments ask for, and returns the exit status.
+fn serve(rt: &HostRuntime, words: &[String]) -> u8 {
+    match (Request::of(words), words.last()) {
+        (Request::Help, _) => print(rt, HELP),
+        (Request::Version, _) => print(rt, VERSION),
+        (Request::Lines(kind), _) => answer(rt, kind, rt.stdin()),
+        (Request::Record(kind), Some(word)) => answer(rt, kind, word.as_bytes()),
+        _ => refuse(rt),
     }
 }
 
 fn main(rt: HostRuntime) -> ExitCode {
-    let Some(kind) = kind_in(&rt) else {
-        let _told = eprintln!(rt; "{USAGE}");
-        return ExitCode::from(UNKNOWN_KIND);
+    let status = match words_in(&rt) {
+        Some(words) => serve(&rt, words.as_slice()),
+        None => refuse(&rt),
     };
-    let mut input = Noted::new(rt.stdin());
-    let mut output = Noted::new(rt.stdout());
-    let outcome = run(rt.alloc(), kind, &mut input, &mut output);
-    ExitCode::from(exit_status(&outcome))
+    ExitCode::from(status)
 }

@@ -6,6 +6,8 @@ mod blocks;
 #[cfg(test)]
 mod faults;
 #[cfg(test)]
+mod guessed;
+#[cfg(test)]
 mod laws;
 #[cfg(test)]
 mod node_records;
@@ -15,5 +17,7 @@ mod nodes;
 mod parts;
 #[cfg(test)]
 mod records;
+#[cfg(test)]
+mod requests;
 #[cfg(test)]
 mod support;

@@ -5,12 +5,12 @@ use rlp_show::{Kind, Noted, run};
 use std::alloc::{AllocError, Global};
 use std::test::Fail;
 
-/// The name of a kind and the digits of a line, and the expected answer.
+/// The name of a kind, or `any` if it is guessed, and the text of a line, and the expected answer.
 pub(crate) type Row = (&'static str, &'static str);
 
 /// Returns what the program answers to a line, or nothing if it fails or tells wrongly whether the
 /// line is at fault.
-fn answered(alloc: Global, kind: Kind, digits: &str) -> Result<Vec<u8>, AllocError> {
+fn answered(alloc: Global, kind: Option<Kind>, digits: &str) -> Result<Vec<u8>, AllocError> {
     let mut line = Vec::from_slice(alloc, digits.as_bytes())?;
     line.extend_from_slice(b"\n")?;
     let mut input = Noted::new(line.as_slice());
@@ -23,25 +23,58 @@ fn answered(alloc: Global, kind: Kind, digits: &str) -> Result<Vec<u8>, AllocErr
     }
 }
 
-/// Notes a row that isn't answered as expected.
-fn check_row(alloc: Global, given: &str, want: &str, wrong: &mut Line) -> Result<(), AllocError> {
-    let (name, digits) = cut(given);
-    match Kind::named(name) {
-        Some(kind) => {
-            let answer = answered(alloc, kind, digits)?;
-            let text = std::str::from_utf8(answer.as_slice()).unwrap_or("no text");
-            wrong.note("show", given, text, want);
-        }
-        None => wrong.note("show", given, "no such kind", want),
+/// Notes an answer that isn't as expected.
+fn note_answer(
+    alloc: Global,
+    kind: Option<Kind>,
+    row: &Row,
+    wrong: &mut Line,
+) -> Result<(), AllocError> {
+    let (given, want) = row;
+    let (_, text) = cut(given);
+    let answer = answered(alloc, kind, text)?;
+    let text = std::str::from_utf8(answer.as_slice()).unwrap_or("no text");
+    wrong.note("show", given, text, want);
+    Ok(())
+}
+
+/// Notes a record that isn't shown under the name of its kind if that is guessed.
+fn note_guess(alloc: Global, given: &str, wrong: &mut Line) -> Result<(), AllocError> {
+    let (name, text) = cut(given);
+    let answer = answered(alloc, None, text)?;
+    if !answer.as_slice().starts_with(name.as_bytes()) {
+        let text = std::str::from_utf8(answer.as_slice()).unwrap_or("no text");
+        wrong.note("guess", given, text, name);
     }
     Ok(())
 }
 
-/// Fails with the rows that aren't answered as expected.
+/// Notes what is wrong with a row.
+fn check_row(alloc: Global, row: &Row, wrong: &mut Line) -> Result<(), AllocError> {
+    let (given, want) = row;
+    let (name, _) = cut(given);
+    match Kind::named(name) {
+        None if name == "any" => note_answer(alloc, None, row, wrong),
+        None => {
+            wrong.note("show", given, "no such kind", want);
+            Ok(())
+        }
+        Some(kind) => {
+            note_answer(alloc, Some(kind), row, wrong)?;
+            if want.starts_with("error") {
+                return Ok(());
+            }
+            note_guess(alloc, given, wrong)
+        }
+    }
+}
+
+/// Fails with the rows that aren't answered as expected, and the records that aren't guessed to be of
+/// their kind.
 pub(crate) fn check(alloc: Global, rows: &[Row]) -> Result<(), Fail> {
     let mut wrong = Line::new();
-    for (given, want) in rows {
-        check_row(alloc, given, want, &mut wrong)?;
+    for row in rows {
+        check_row(alloc, row, &mut wrong)?;
     }
     wrong.none_noted()
 }

@@ -1,0 +1,217 @@
+//! The kind of a record that isn't named.
+
+ghost use Rattle.std.specs.Prelude.{◌≡◌, drop, string_bytes};
+ghost use Rattle.rlp.specs.Format.Framing.{map_ok};
+ghost use Rattle.rlp.specs.Views.View.{item_count, item_views, strict_view_of};
+ghost use Rattle.rlp_show.specs.Answer.{Shows, kind_shape};
+ghost use Rattle.rlp_show.specs.Guess.{any_record, envelope_kind, first_byte, first_of, four_kind, guess, inner_of, list_kind, lists_kind, strings_kind};
+
+use crate::envelopes::AnyReceipt;
+use crate::fault::ShowFault;
+use crate::kind::Kind;
+use crate::nodes::Node;
+use crate::records::AccessListAlone;
+use crate::show::Show;
+use crate::transactions::TransactionAlone;
+use rlp::{DecoderError, Rlp, RlpIterator};
+use rlp_ethereum::{Account, Block, Body, Header, NodeRecord, SignedAuthorization, Withdrawal};
+use std::alloc::Global;
+
+/// The first byte of a string of 20 bytes, such as an address.
+const ADDRESS: u8 = 0x94;
+
+/// The first byte of a string of 32 bytes, such as a hash.
+const HASH: u8 = 0xa0;
+
+/// The first byte from which on a string has more than 55 bytes.
+const LONG: u8 = 0xb8;
+
+/// The first byte from which on an item is a list.
+const LIST: u8 = 0xc0;
+
+/// A record whose kind is guessed, for [`Show`]. It has no values.
+pub struct AnyRecord;
+
+/// The record is shown under the name of its kind, whatever its own name. Fails as [`guess`] does,
+/// with `Custom("unknown kind")` if no rule applies, and else as the kind does.
+impl Show for AnyRecord {
+    ghost shape = { any_record };
+
+    fn show(alloc: Global, name: &str, item: &Rlp<'_>, out: &mut String) -> Result<(), ShowFault> {
+        match guess(item) {
+            Ok(Some(kind)) => show_as(alloc, kind, kind.name(), item, out),
+            Ok(None) => {
+                let fault = DecoderError::Custom("unknown kind");
+                Err(ShowFault::of(alloc, name, fault))
+            }
+            Err(fault) => Err(ShowFault::of(alloc, name, fault)),
+        }
+    }
+}
+
+/// Appends the lines of a record of a kind.
+fn show_as(
+    alloc: Global,
+    kind: Kind,
+    name: &str,
+    item: &Rlp<'_>,
+    out: &mut String,
+) -> Result<(), ShowFault>
+    ensures { Shows (kind_shape kind name.now item.now) (string_bytes out.old)
+        (string_bytes out.new) result }
+{
+    match kind {
+        Kind::AccessList => AccessListAlone::show(alloc, name, item, out),
+        Kind::Account => Account::show(alloc, name, item, out),
+        Kind::Authorization => SignedAuthorization::show(alloc, name, item, out),
+        Kind::Block => Block::show(alloc, name, item, out),
+        Kind::Body => Body::show(alloc, name, item, out),
+        Kind::Header => Header::show(alloc, name, item, out),
+        Kind::Node => Node::show(alloc, name, item, out),
+        Kind::Receipt => AnyReceipt::show(alloc, name, item, out),
+        Kind::NodeRecord => NodeRecord::show(alloc, name, item, out),
+        Kind::Transaction => TransactionAlone::show(alloc, name, item, out),
+        Kind::Withdrawal => Withdrawal::show(alloc, name, item, out),
+    }
+}
+
+/// The kind of a record by its first byte, and for a list by the number of its items and the first
+/// bytes of some of them. Returns `None` if no rule applies.
+///
+/// Fails as [`Rlp::item_count`] does if the first byte is that of a list.
+#[tactic(auto, unfolding(crate::specs::Guess::guess))]
+pub fn guess(item: &Rlp<'_>) -> Result<Option<Kind>, DecoderError>
+    ensures { result ≡ guess item.now }
+{
+    match item.as_raw() {
+        [] => Ok(None),
+        [kind, payload @ ..] if *kind < 0x80 => Ok(Some(envelope_kind(payload))),
+        [0x80, ..] => Ok(Some(Kind::Node)),
+        [first, ..] if *first >= LIST => guess_list(item),
+        _ => Ok(None),
+    }
+}
+
+/// The kind of the envelope with this payload.
+fn envelope_kind(payload: &[u8]) -> Kind
+    ensures { result ≡ envelope_kind (item_count (strict_view_of payload.now)) }
+{
+    match Rlp::new_strict(payload).item_count() {
+        Ok(4) => Kind::Receipt,
+        _ => Kind::Transaction,
+    }
+}
+
+/// The kind of a list.
+fn guess_list(list: &Rlp<'_>) -> Result<Option<Kind>, DecoderError>
+    ensures { result ≡ map_ok (list_kind (item_views list.now)) (item_count list.now) }
+{
+    match list.item_count() {
+        Ok(count) => Ok(list_kind(list, count)),
+        Err(fault) => Err(fault),
+    }
+}
+
+/// The kind of a list of this many items.
+fn list_kind(list: &Rlp<'_>, count: usize) -> Option<Kind>
+    ensures { result ≡ list_kind (item_views list.now) count }
+{
+    if count == 0 {
+        return Some(Kind::AccessList);
+    }
+    let mut items = list.iter();
+    if first_of_next(&mut items) >= LIST {
+        return lists_kind(count, inner_of(list));
+    }
+    let second = first_of_next(&mut items);
+    let third = first_of_next(&mut items);
+    strings_kind(count, second, third)
+}
+
+/// The first byte of the next item, or 0 if there is none.
+fn first_of_next(items: &mut RlpIterator<'_, '_>) -> u8
+    ensures byte { result ≡ first_of items.old.left }
+    ensures left { items.new.left ≡ drop 1 items.old.left }
+{
+    match items.next() {
+        Some(item) => first_byte(item.as_raw()),
+        None => 0,
+    }
+}
+
+/// The first byte of an item, or 0 if there is none.
+fn first_byte(item: &[u8]) -> u8
+    ensures { result ≡ first_byte item.now }
+{
+    match item {
+        [] => 0,
+        [first, ..] => *first,
+    }
+}
+
+/// The first byte of the first item in the first item, or 0 if there is none.
+fn inner_of(list: &Rlp<'_>) -> u8
+    ensures { result ≡ inner_of (item_views list.now) }
+{
+    match list.iter().next() {
+        Some(first) => first_of_next(&mut first.iter()),
+        None => 0,
+    }
+}
+
+/// The kind of a list of this many items, of which the first is a list. `inner` is the first byte of
+/// the first item in that.
+fn lists_kind(count: usize, inner: u8) -> Option<Kind>
+    ensures { result ≡ lists_kind count inner }
+{
+    if inner == ADDRESS {
+        Some(Kind::AccessList)
+    } else if count == 17 {
+        Some(Kind::Node)
+    } else if inner == HASH && (count == 3 || count == 4) {
+        Some(Kind::Block)
+    } else if count == 2 || count == 3 {
+        Some(Kind::Body)
+    } else {
+        None
+    }
+}
+
+/// The kind of a list of this many items, of which the first is a string. The other two are the first
+/// bytes of the second and the third item.
+fn strings_kind(count: usize, second: u8, third: u8) -> Option<Kind>
+    ensures { result ≡ strings_kind count second third }
+{
+    if count == 2 {
+        Some(Kind::Node)
+    } else if count == 4 {
+        Some(four_kind(third))
+    } else if count == 6 && second == ADDRESS {
+        Some(Kind::Authorization)
+    } else if count == 9 {
+        Some(Kind::Transaction)
+    } else if count >= 15 && count <= 21 && third == ADDRESS {
+        Some(Kind::Header)
+    } else if count == 17 {
+        Some(Kind::Node)
+    } else if count >= 6 && count % 2 == 0 {
+        Some(Kind::NodeRecord)
+    } else {
+        None
+    }
+}
+
+/// The kind of a list of four items, of which the first is a string.
+fn four_kind(third: u8) -> Kind
+    ensures { result ≡ four_kind third }
+{
+    if third == HASH {
+        Kind::Account
+    } else if third == ADDRESS {
+        Kind::Withdrawal
+    } else if third < LONG {
+        Kind::NodeRecord
+    } else {
+        Kind::Receipt
+    }
+}

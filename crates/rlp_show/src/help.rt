@@ -1,0 +1,58 @@
+//! What the program prints of itself.
+
+/// What the program prints for `--version`.
+pub const VERSION: &str = "rlp_show 0.6.1";
+
+/// What the program prints for arguments that it doesn't know.
+pub const USAGE: &str = "usage: rlp_show [KIND] [RECORD]\nrlp_show --help says more.";
+
+/// The exit status of the program for such arguments.
+pub const UNKNOWN_ARGUMENTS: u8 = 4;
+
+/// What the program prints for `--help`.
+pub const HELP: &str = "\
+rlp_show shows records of Ethereum by the names of their fields.
+
+usage: rlp_show [KIND] [RECORD]
+
+RECORD is the whole encoding in hexadecimal digits after 0x, or the text of a node
+record, which begins with enr:. Without RECORD, each line of standard input is a
+record, where 0x may be left out.
+
+KIND is one of
+  transaction, receipt            with or without a type
+  access_list, authorization      parts of transactions
+  block, body, header, withdrawal
+  account, node                   of the trie of the state, and of any trie
+  record                          a node record of EIP-778
+
+Without KIND the kind is guessed, and its name comes before those of the fields:
+  first byte below 0x80  transaction, or receipt if the list after it has 4 items
+  0x80                   node: the empty trie
+  list of no items       access_list
+  list whose first item is a list
+                         access_list if the first item of that has 20 bytes; else
+                         block (of 3 or 4 items) if it has 32, body (2 or 3),
+                         node (17)
+  other list, by its number of items:
+    2                    node
+    4                    by the third: account (of 32 bytes), withdrawal (20),
+                         receipt (more than 55), else record
+    6                    authorization if the second has 20 bytes, else record
+    9                    transaction
+    15 to 21             header if the third has 20 bytes, else node (17), record
+    8 and all even ones  record
+Where two kinds fit, the commoner one is taken.
+
+An answer is a line for each field and an empty line, or one line that begins with
+error. The exit status is
+  0  if all records were shown
+  1  if memory was refused
+  2  if reading failed
+  3  if writing failed
+  4  if the arguments aren't as above
+  5  if a record was at fault
+
+Examples:
+  rlp_show 0xda808203e8945df9b87991262f6ba471f09758cde1c0fc1de73405
+  rlp_show header < headers.txt";

@@ -1,0 +1,77 @@
+//! What arguments ask for.
+
+use crate::support::Row;
+use rlp_rows::Line;
+use rlp_show::{Kind, Request};
+use std::alloc::{AllocError, Global};
+use std::fmt::Write;
+use std::test::Fail;
+
+/// Arguments, and what they ask for: `lines` or `record`, and the name of the kind.
+const REQUESTS: [Row; 22] = [
+    ("", "lines"),
+    ("header", "lines header"),
+    ("record", "lines record"),
+    ("0xc0", "record"),
+    ("0x", "record"),
+    ("0xzz", "record"),
+    ("enr:-IS4", "record"),
+    ("header 0xc0", "record header"),
+    ("record enr:-IS4", "record record"),
+    ("--help", "help"),
+    ("-h", "help"),
+    ("--version", "version"),
+    ("-V", "version"),
+    ("headers", "unknown"),
+    ("Header", "unknown"),
+    ("c0", "unknown"),
+    ("0Xc0", "unknown"),
+    ("--json", "unknown"),
+    ("header block", "unknown"),
+    ("0xc0 header", "unknown"),
+    ("header --help", "unknown"),
+    ("header 0xc0 0xc0", "unknown"),
+];
+
+/// The arguments of a row.
+fn words_of(alloc: Global, text: &str) -> Result<Vec<String>, AllocError> {
+    let mut words = Vec::new(alloc);
+    for word in text.split(' ') {
+        if !word.is_empty() {
+            words.push(String::from_str(alloc, word)?)?;
+        }
+    }
+    Ok(words)
+}
+
+/// Writes what is asked for, and the name of a kind after it.
+fn write_of(line: &mut Line, what: &str, kind: Option<Kind>) {
+    let _ = match kind {
+        Some(kind) => write!(line, "{what} {}", kind.name()),
+        None => write!(line, "{what}"),
+    };
+}
+
+/// What a request is, as text.
+fn text_of(request: Request) -> Line {
+    let mut line = Line::new();
+    match request {
+        Request::Help => write_of(&mut line, "help", None),
+        Request::Version => write_of(&mut line, "version", None),
+        Request::Lines(kind) => write_of(&mut line, "lines", kind),
+        Request::Record(kind) => write_of(&mut line, "record", kind),
+        Request::Unknown => write_of(&mut line, "unknown", None),
+    }
+    line
+}
+
+#[test]
+fn arguments_are_requests(rt: HostRuntime) -> Result<(), Fail> {
+    let mut wrong = Line::new();
+    for (given, want) in &REQUESTS {
+        let words = words_of(rt.alloc(), given)?;
+        let request = text_of(Request::of(words.as_slice()));
+        wrong.note("request", given, request.as_str(), want);
+    }
+    wrong.none_noted()
+}
