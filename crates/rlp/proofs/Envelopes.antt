@@ -4,8 +4,8 @@ use Rattle.rlp_format.specs.declared.error.DecoderError.{DecoderError}
 use Rattle.rlp_format.specs.declared.error.DecoderError.TheVariants.{OutOfMemory, RlpIsTooShort}
 use Rattle.rlp_format.specs.Format.WrittenHeader.{AreBytes}
 use Rattle.rlp_format.specs.Views.View.{View, HoldsString, strict_view_of}
-use Rattle.rlp_views.specs.Values.ValueReading.{FaultsAs, IsCustom, no_string, no_value}
-use Rattle.rlp_views.specs.Values.Sums.{IsEnvelopeFault, IsOtherTag, MayLackAfterTag, MayLackInEnvelope, faulty_payload, no_tag, other_tag}
+use Rattle.rlp_values.specs.Values.ValueReading.{FaultsAs, IsCustom, no_string, no_value}
+use Rattle.rlp_values.specs.Values.Sums.{IsEnvelopeFault, IsOtherTag, MayLackAfterTag, MayLackInEnvelope, faulty_payload, no_tag, other_tag}
 
 -- ---- lists and strings
 

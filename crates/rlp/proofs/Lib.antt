@@ -9,7 +9,7 @@ pub mod Writing
 pub mod Reading
 pub mod Envelopes
 pub mod Tagged
--- the same rules in smaller sets, passed on from `rlp_views` and `rlp_streams`
+-- the same rules in smaller sets, passed on from `rlp_values` and `rlp_streams`
 pub mod OneString
 pub mod Growth
 pub mod Filling

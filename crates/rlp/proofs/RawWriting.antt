@@ -4,8 +4,8 @@ use Rattle.rlp_format.specs.Format.Item.{Item, is_list, string, list}
 use Rattle.rlp_format.specs.Format.Encoding.{encoding}
 use Rattle.rlp_format.specs.Format.Split.{begins_as_list}
 use Rattle.rlp_buffer.specs.Streams.Stream.{State, put, put_item}
-use Rattle.rlp_views.specs.Values.RawItem.{IsRawItem, raw_item_of}
-use Rattle.rlp_views.specs.Lemmas.RawItems.{list_by, raw_encoding, raw_is_list, raw_list, raw_string_read}
+use Rattle.rlp_values.specs.Values.RawItem.{IsRawItem, raw_item_of}
+use Rattle.rlp_values.specs.Lemmas.RawItems.{list_by, raw_encoding, raw_is_list, raw_list, raw_string_read}
 
 put_string : (x : Item) (s : State) → is_list x ≡ false → put (encoding x) s ≡ put_item x s
 put_string (string d) s is = refl

@@ -3,9 +3,9 @@ use Rattle.std.proofs.Common.{◌≡◌, ◌≢◌, ℕ, List, ◌⊎◌, inl, i
 use Rattle.rlp_format.specs.declared.error.DecoderError.{DecoderError}
 use Rattle.rlp_format.specs.declared.error.DecoderError.TheVariants.{OutOfMemory, RlpIncorrectListLen}
 use Rattle.rlp_format.specs.Views.View.{View, item_at, item_count}
-use Rattle.rlp_views.specs.Values.ValueReading.{FaultsAsNumber, GivesNumber, IsCustom}
-use Rattle.rlp_views.specs.Values.ListReading.{FaultsAt, GivesAt, MayLackAt}
-use Rattle.rlp_views.specs.Values.Sums.{FaultsAsTagged, IsOtherTag, MayLackAsTagged, faulty_second, faulty_tag, no_pair, other_pair, unknown_tag}
+use Rattle.rlp_values.specs.Values.ValueReading.{FaultsAsNumber, GivesNumber, IsCustom}
+use Rattle.rlp_values.specs.Values.ListReading.{FaultsAt, GivesAt, MayLackAt}
+use Rattle.rlp_values.specs.Values.Sums.{FaultsAsTagged, IsOtherTag, MayLackAsTagged, faulty_second, faulty_tag, no_pair, other_pair, unknown_tag}
 
 none_lacks : (r : Result View DecoderError) → IsOkAnd r (λ item. ⊥) → ⊥
 none_lacks (Ok v) may = may

@@ -5,15 +5,15 @@ pub use Rattle.rlp_format.specs.Format
 -- the results of a view's methods
 pub use Rattle.rlp_format.specs.Views
 -- values, their items, and which bytes give them
-pub use Rattle.rlp_views.specs.Values
+pub use Rattle.rlp_values.specs.Values
 -- streams: their states, and what each call makes of one
 pub mod Streams
 -- lemmas for the laws of traits and for authors of types; readers of definitions don't need them
-pub use Rattle.rlp_views.specs.Lemmas
+pub use Rattle.rlp_values.specs.Lemmas
 -- the codec of a custom type, from those of its fields
-pub use Rattle.rlp_views.specs.Codec
+pub use Rattle.rlp_values.specs.Codec
 -- codecs of raw items, and of types whose values are of several types
-pub use Rattle.rlp_views.specs.Codecs
+pub use Rattle.rlp_values.specs.Codecs
 -- the faults of decoding
 pub use Rattle.rlp_format.specs.declared.error.DecoderError
 -- the lengths that a header announces

@@ -1,6 +1,15 @@
 //! The types that are written and read.
 
+mod boolean;
+mod boxed;
+mod byte_array;
+mod byte_string;
+mod bytes_mut;
+mod bytes_shared;
+mod number;
+mod option;
 mod raw_item;
-mod read_back;
+mod text;
+mod uint;
 
 pub use raw_item::RawItem;

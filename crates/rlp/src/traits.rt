@@ -1,5 +1,7 @@
-//! The traits of types that are read back.
+//! The traits of types that are read.
 
+mod decodable;
 mod round_trip;
 
+pub use decodable::Decodable;
 pub use round_trip::{RoundTrip, Scalar, StrictRead};

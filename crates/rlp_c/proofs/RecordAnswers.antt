@@ -14,9 +14,9 @@ use Rattle.rlp_c.specs.Records.{IsRecordRead, filled, no_room, field}
 use Rattle.rlp_c.specs.Rows.{header_length, rows_at}
 use Rattle.rlp_c.specs.Status.{fault_status}
 use Rattle.rlp_format.specs.Format.Walk.{Extends}
-use Rattle.rlp_views.proofs.Trees.Needless.{whole_item}
+use Rattle.rlp_values.proofs.Trees.Needless.{whole_item}
 use Rattle.rlp_c.proofs.Splitting.{rows_counted}
-use Rattle.rlp_views.proofs.Trees.Walks.{content_payload}
+use Rattle.rlp_values.proofs.Trees.Walks.{content_payload}
 
 module _ (r : Record) (place : ℕ) (b q : List ℕ) (h : PayloadInfo) (old new : List RlpItem) (kind : true ≡ begins_as_list b) (found : value b ≡ Ok q) where
   -- the payload ends within the bytes

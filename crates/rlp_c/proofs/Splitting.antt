@@ -12,7 +12,7 @@ use Rattle.rlp_c.specs.declared.item.RlpItem.{RlpItem}
 use Rattle.rlp_c.specs.Rows.{IsItemized, header_length, row, row_by, rows_at}
 use Rattle.rlp_c.specs.Status.{fault_status}
 use Rattle.rlp_format.specs.Format.Walk.{Extends}
-use Rattle.rlp_views.proofs.Trees.Rows.{extends_both}
+use Rattle.rlp_values.proofs.Trees.Rows.{extends_both}
 use Rattle.std.specs.List.{concat}
 
 -- the first items have rows, and the others are those of the rest

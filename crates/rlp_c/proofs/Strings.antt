@@ -4,7 +4,7 @@ use Rattle.rlp_format.specs.declared.error.DecoderError.{DecoderError}
 use Rattle.rlp_format.specs.declared.header.PayloadInfo.{PayloadInfo}
 use Rattle.rlp_format.specs.Format.Header.{header, payload_info}
 use Rattle.rlp_format.specs.Format.StringReading.{IsString}
-use Rattle.rlp_views.proofs.Trees.Placed.{Ok_same, string_placed}
+use Rattle.rlp_values.proofs.Trees.Placed.{Ok_same, string_placed}
 
 -- a row with the header that was read points at the string
 pub row_there : (b d : List ℕ) (info : PayloadInfo) → length b < 2 ^ 64 → IsString b d → Ok info ≡ header b → take (length d) (drop (0 + info.header_len) b) ≡ d

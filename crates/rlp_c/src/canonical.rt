@@ -3,7 +3,7 @@
 ghost use Rattle.std.specs.Prelude.{◌≡◌, ◌↔◌, IsTrue, min};
 ghost use Rattle.rlp_format.specs.Format.Strict.{IsCanonicalWithin};
 
-use rlp_views::walking::is_canonical;
+use rlp_values::walking::is_canonical;
 
 /// The greatest depth of lists that any function goes to, whatever the caller allows. It bounds the
 /// stack that a call takes.

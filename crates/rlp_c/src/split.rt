@@ -10,7 +10,7 @@ use crate::item::{RlpItem, bit};
 use crate::status::{RLP_NO_ROOM, RLP_OK, status_of};
 use rlp::DecoderError;
 use rlp_format::framed::{begins_as_list, first_framed, whole_framed};
-use rlp_views::walking::put;
+use rlp_values::walking::put;
 
 /// Writes a row for each item of the list that the bytes are. It doesn't look into the items.
 /// `count` gets the number of items. If the array has fewer elements, the status is

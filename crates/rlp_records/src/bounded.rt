@@ -10,7 +10,7 @@ ghost use Rattle.rlp_records.specs.Bounded.{IsBounded, IsBoundFault};
 
 use crate::Record;
 use rlp::{DecoderError, FlatItem, TreeFault};
-use rlp_views::walking::walk_whole;
+use rlp_values::walking::walk_whole;
 use std::alloc::Global;
 
 /// How deep lists may nest in what [`decode_at_most`] reads.

@@ -1,6 +1,6 @@
 use Rattle.std.proofs.Common.{arith}
 use Rattle.rlp_format.specs.Lemmas.Reading.{bytes_held}
-use Rattle.rlp_views.proofs.Values.StrictDecoding.{strict_alike, strict_fault_of, strict_memory, strict_only, strict_whole}
+use Rattle.rlp_values.proofs.Values.StrictDecoding.{strict_alike, strict_fault_of, strict_memory, strict_only, strict_whole}
 use Rattle.rlp.proofs.decode_whole.Goals as goal
 
 pub returns-clause-only : goal.returns-clause-only

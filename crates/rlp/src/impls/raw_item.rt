@@ -7,15 +7,15 @@ ghost use Rattle.rlp_format.specs.declared.error.DecoderError.TheVariants.{OutOf
 ghost use Rattle.rlp_format.specs.Views.View.{strict_view_of};
 ghost use Rattle.rlp_format.specs.Format.Encoding.{encoding};
 ghost use Rattle.rlp_format.specs.Format.Strict.{IsCanonicalWithin};
-ghost use Rattle.rlp_views.specs.Values.RawItem.{IsRawFault, IsRawItem, deepest_raw_item, raw_item_of};
-ghost use Rattle.rlp_views.specs.Codecs.RawItem.{raw_item};
-ghost use Rattle.rlp_views.specs.Lemmas.RoundTrips.{itself};
+ghost use Rattle.rlp_values.specs.Values.RawItem.{IsRawFault, IsRawItem, deepest_raw_item, raw_item_of};
+ghost use Rattle.rlp_values.specs.Codecs.RawItem.{raw_item};
+ghost use Rattle.rlp_values.specs.Lemmas.RoundTrips.{itself};
 
-use crate::traits::{RoundTrip, Scalar, StrictRead};
+use crate::rlpin::Rlp;
+use crate::traits::{Decodable, RoundTrip, Scalar, StrictRead};
 use bytes::BytesMut;
 use rlp_format::error::DecoderError;
 use rlp_streams::{Encodable, RlpStream, append_list_encoding};
-use rlp_views::{Decodable, Rlp};
 use std::alloc::{AllocError, Global};
 use std::marker::Model;
 
@@ -36,7 +36,7 @@ pub struct RawItem {
 
 impl Model for RawItem {
     ghost use Rattle.std.specs.Prelude.{List, ℕ};
-    ghost use Rattle.rlp_views.specs.Values.RawItem.{IsRawItem};
+    ghost use Rattle.rlp_values.specs.Values.RawItem.{IsRawItem};
 
     ghost Value = { List ℕ };
 
@@ -60,7 +60,7 @@ impl RawItem {
     /// let item = rlp::RawItem::new(alloc, &[0xc1, 0x05])?;
     /// assert!(rt; rlp::RawItem::new(alloc, &[0x81, 0x05]).is_err());
     /// ```
-    #[tactic(auto, using(rlp_views::specs::Lemmas::RawItems::raw_faults))]
+    #[tactic(auto, using(rlp_values::specs::Lemmas::RawItems::raw_faults))]
     pub fn new(alloc: Global, bytes: &[u8]) -> Result<RawItem, DecoderError>
         ensures value { IfOk result (λ r. (r ≡ bytes.now) × IsRawItem bytes.now) }
         ensures fault { IfErr result (λ e. IsRawFault bytes.now e
@@ -80,7 +80,7 @@ impl RawItem {
     }
 
     /// The bytes: the encoding of the item.
-    #[tactic(auto, using(rlp_views::specs::Lemmas::RawItems::raw_bytes))]
+    #[tactic(auto, using(rlp_values::specs::Lemmas::RawItems::raw_bytes))]
     pub fn as_bytes(&self) -> &[u8]
         ensures bytes { result.now ≡ self.now }
         ensures canonical { IsRawItem self.now × IsCanonicalWithin deepest_raw_item self.now }
@@ -152,7 +152,7 @@ impl Decodable for RawItem {
 
     ghost may_lack_memory = { raw_item.may_lack };
 
-    #[tactic(auto, using(rlp_views::specs::Lemmas::RawItems::raw_reading))]
+    #[tactic(auto, using(rlp_values::specs::Lemmas::RawItems::raw_reading))]
     fn decode(alloc: Global, rlp: &Rlp<'_>) -> Result<RawItem, DecoderError> {
         let (item, _) = rlp.split_first()?;
         match RawItem::new(alloc, item.as_raw()) {

@@ -4,8 +4,8 @@ ghost use Rattle.std.specs.Prelude.{◌≡◌, ◌↔◌, ◌++◌, ◌∷◌, �
 ghost use Rattle.rlp_format.specs.declared.error.DecoderError.TheVariants.{OutOfMemory};
 ghost use Rattle.rlp_format.specs.Format.Encoding.{BeginsWith, encoding};
 ghost use Rattle.rlp_format.specs.Format.Item.{list_of};
-ghost use Rattle.rlp_views.specs.Values.ListReading.{FaultsAt, GivesAt, GivesList, MayLackAsList};
-ghost use Rattle.rlp_views.specs.Values.RoundTrip.{ReadsBack};
+ghost use Rattle.rlp_values.specs.Values.ListReading.{FaultsAt, GivesAt, GivesList, MayLackAsList};
+ghost use Rattle.rlp_values.specs.Values.RoundTrip.{ReadsBack};
 ghost use Rattle.rlp_format.specs.Format.Split.{items};
 ghost use Rattle.rlp_format.specs.Values.Value.{AreAlike};
 ghost use Rattle.rlp_format.specs.Views.View.{view_of};

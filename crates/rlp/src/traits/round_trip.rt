@@ -2,12 +2,12 @@
 
 ghost use Rattle.std.specs.Prelude.{◌↔◌, ◌<◌, ◌^◌, ℕ, List, length};
 ghost use Rattle.rlp_format.specs.Format.WrittenHeader.{AreBytes};
-ghost use Rattle.rlp_views.specs.Values.RoundTrip.{ReadsBack, ReadsStrictly};
-ghost use Rattle.rlp_views.specs.Values.ValueReading.{GivesValue};
+ghost use Rattle.rlp_values.specs.Values.RoundTrip.{ReadsBack, ReadsStrictly};
+ghost use Rattle.rlp_values.specs.Values.ValueReading.{GivesValue};
 ghost use Rattle.rlp_format.specs.Views.View.{HoldsItem, view_of};
 
+use crate::traits::decodable::Decodable;
 use rlp_streams::Encodable;
-use rlp_views::Decodable;
 
 /// A type whose values are read back from their encodings, even if other bytes follow.
 pub trait RoundTrip: Encodable + Decodable {

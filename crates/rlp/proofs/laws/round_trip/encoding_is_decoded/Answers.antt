@@ -1,5 +1,5 @@
 use Rattle.std.proofs.Common.{arith}
-use Rattle.rlp_views.proofs.Values.Decoding.{decoded_alike, decoded_memory}
+use Rattle.rlp_values.proofs.Values.Decoding.{decoded_alike, decoded_memory}
 use Rattle.rlp.proofs.laws.round_trip.encoding_is_decoded.Goals as goal
 
 pub returns-clause-alike : goal.returns-clause-alike

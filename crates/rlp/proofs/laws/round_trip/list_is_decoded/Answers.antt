@@ -1,6 +1,6 @@
 use Rattle.std.proofs.Common.{arith}
 use Rattle.std.specs.Vec.{vec_items}
-use Rattle.rlp_views.proofs.Values.Decoding.{list_alike, list_memory}
+use Rattle.rlp_values.proofs.Values.Decoding.{list_alike, list_memory}
 use Rattle.rlp.proofs.laws.round_trip.list_is_decoded.Goals as goal
 
 pub returns-clause-alike : goal.returns-clause-alike

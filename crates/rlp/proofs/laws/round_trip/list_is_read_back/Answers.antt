@@ -1,6 +1,6 @@
 use Rattle.std.proofs.Common.{arith}
-use Rattle.rlp_views.specs.Lemmas.ListRoundTrips.{list_item_reads_back}
-use Rattle.rlp_views.proofs.Values.Decoding.{list_items, list_given}
+use Rattle.rlp_values.specs.Lemmas.ListRoundTrips.{list_item_reads_back}
+use Rattle.rlp_values.proofs.Values.Decoding.{list_items, list_given}
 use Rattle.rlp.proofs.laws.round_trip.list_is_read_back.Goals as goal
 
 pub returns-clause-items : goal.returns-clause-items

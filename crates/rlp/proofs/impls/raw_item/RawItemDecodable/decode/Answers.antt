@@ -1,4 +1,4 @@
-use Rattle.rlp_views.specs.Lemmas.RawItems.{raw_fails}
+use Rattle.rlp_values.specs.Lemmas.RawItems.{raw_fails}
 use Rattle.rlp.proofs.impls.raw_item.RawItemDecodable.decode.Goals as goal
 
 pub returns-in-Err-clause-fault : goal.returns-in-Err-clause-fault

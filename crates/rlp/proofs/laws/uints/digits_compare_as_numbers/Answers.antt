@@ -1,0 +1,60 @@
+use Rattle.std.proofs.Common.{◌≡◌, ℕ, ◌*◌, ◌+◌, ◌<◌, ◌^◌, ◌⊎◌, ⊎_elim, List, [], ◌∷◌, length, refl, sym, ap, ◌∙◌, arith, Ordering}
+use Rattle.std.specs.Cmp.{nat_cmp_is}
+use Rattle.std.specs.Cmp.Lexicographic.{slice_cmp}
+use Rattle.std.specs.Ordering.{nat_cmp, ordering_then}
+use Rattle.std.specs.declared.cmp.Ordering.TheVariants.{Less, Equal, Greater}
+use Rattle.std.specs.Int.Digits.{number_from_digits_after}
+use Rattle.std.proofs.lemmas.Bool.{cases_lt}
+use Rattle.std.proofs.lemmas.List.Elements.{recursion_from_All}
+use Rattle.rlp_format.specs.Lemmas.Reading.{Bytes, bytes_held}
+use Rattle.rlp.proofs.laws.uints.digits_compare_as_numbers.Goals as goal
+
+-- a third answer after two
+then_then : (o p q : Ordering) → ordering_then (ordering_then o p) q ≡ ordering_then o (ordering_then p q)
+then_then Less p q = refl
+then_then Equal p q = refl
+then_then Greater p q = refl
+
+then_equal : (o : Ordering) → o ≡ ordering_then o Equal
+then_equal Less = refl
+then_equal Equal = refl
+then_equal Greater = refl
+
+-- one more digit after each of two numbers
+one_more : (m n x y : ℕ) → x < 256 → y < 256 → nat_cmp (m * 256 + x) (n * 256 + y) ≡ ordering_then (nat_cmp m n) (nat_cmp x y)
+one_more m n x y low small =
+    ⊎_elim
+    (λ (less : m < n). sym (nat_cmp_is (m * 256 + x) (n * 256 + y) Less (omega (arith, less, low))) ∙ ap (λ o. ordering_then o (nat_cmp x y)) (nat_cmp_is m n Less less))
+    (λ above. ⊎_elim
+    (λ (more : n < m). sym (nat_cmp_is (m * 256 + x) (n * 256 + y) Greater (omega (arith, more, small)))
+    ∙ ap (λ o. ordering_then o (nat_cmp x y)) (nat_cmp_is m n Greater more))
+    (λ below. let same : m ≡ n = omega (arith, above, below) in
+    last same ∙ ap (λ o. ordering_then o (nat_cmp x y)) (nat_cmp_is m n Equal same))
+    (cases_lt n m))
+    (cases_lt m n)
+  where
+    last : m ≡ n → nat_cmp (m * 256 + x) (n * 256 + y) ≡ nat_cmp x y
+    last same =
+        ⊎_elim
+        (λ (less : x < y). sym (nat_cmp_is (m * 256 + x) (n * 256 + y) Less (omega (arith, same, less))) ∙ nat_cmp_is x y Less less)
+        (λ above. ⊎_elim
+        (λ (more : y < x). sym (nat_cmp_is (m * 256 + x) (n * 256 + y) Greater (omega (arith, same, more))) ∙ nat_cmp_is x y Greater more)
+        (λ below. sym (nat_cmp_is (m * 256 + x) (n * 256 + y) Equal (omega (arith, same, above, below)))
+        ∙ nat_cmp_is x y Equal (omega (arith, above, below)))
+        (cases_lt y x))
+        (cases_lt x y)
+
+-- as many digits after each of two numbers
+digits_after : (xs ys : List ℕ) (m n : ℕ) → length xs ≡ length ys → Bytes xs → Bytes ys
+    → ordering_then (nat_cmp m n) (slice_cmp nat_cmp xs ys) ≡ nat_cmp (number_from_digits_after 256 m xs) (number_from_digits_after 256 n ys)
+digits_after [] [] m n many bs cs = sym (then_equal (nat_cmp m n))
+digits_after [] (y ∷ ys) m n many bs cs = absurd (omega arith)
+digits_after (x ∷ xs) [] m n many bs cs = absurd (omega arith)
+digits_after (x ∷ xs) (y ∷ ys) m n many bs cs =
+    sym (then_then (nat_cmp m n) (nat_cmp x y) (slice_cmp nat_cmp xs ys))
+    ∙ ap (λ o. ordering_then o (slice_cmp nat_cmp xs ys)) (sym (one_more m n x y bs.0 cs.0))
+    ∙ digits_after xs ys (m * 256 + x) (n * 256 + y) (omega arith) bs.1 cs.1
+
+pub returns : goal.returns
+returns c = digits_after _ _ 0 0 c.requires (recursion_from_All (λ byte. byte < 2 ^ 8) c.args.one.now (bytes_held _ c.type_inv.one))
+    (recursion_from_All (λ byte. byte < 2 ^ 8) c.args.other.now (bytes_held _ c.type_inv.other))

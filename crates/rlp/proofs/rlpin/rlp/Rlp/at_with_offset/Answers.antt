@@ -1,0 +1,94 @@
+use Rattle.std.proofs.Common.{◌≡◌, length, Ok, Err, sym, ◌∙◌, ap, arith, subst}
+use Rattle.std.proofs.lemmas.Result.{err_from_is_err_and}
+use Rattle.rlp_format.specs.Format.Framing.{framing, value}
+use Rattle.rlp_format.specs.Format.Split.{payload}
+use Rattle.rlp_format.specs.Views.View.{View}
+use Rattle.rlp_format.specs.Lemmas.Numbered.{told_begins}
+use Rattle.rlp_format.proofs.Views.ItemPlaces.{IsWalked, walked-none, walked-one, walked-item, walked-past, walked-length, not_framed_item, not_told_item}
+use Rattle.rlp_format.proofs.Format.StrictLists.{value-payload}
+use Rattle.rlp.proofs.rlpin.rlp.Rlp.at_with_offset.Goals as goal
+
+pub returns-in_err-check_items : goal.returns-in_err-check_items
+returns-in_err-check_items c =
+    let p = err_from_is_err_and c.from_residual.result c.from_residual.ensures.1 in
+    rw (p.1, p.2) (not_told_item c.args.self.now c.args.index c.in_err-check_items.field-0.0 c.in_err-check_items.ensures)
+
+pub returns-in_err-list : goal.returns-in_err-list
+returns-in_err-list c =
+    let same : c.self.inside.bytes.now ≡ c.args.self.now.bytes = ap (λ (v : View). v.bytes) c.self.view_is in
+    let framed : framing c.args.self.now.bytes ≡ Err c.in_err-list.field-0.0 = ap framing (sym same) ∙ c.in_err-list.ensures.header in
+    let p = err_from_is_err_and c.from_residual-in_err-list.result c.from_residual-in_err-list.ensures.1 in
+    rw (p.1, p.2) (not_framed_item c.args.self.now c.args.index c.in_err-list.field-0.0 c.in_ok-check_items.ensures framed)
+
+pub loop-walked-init : goal.loop-walked-init
+loop-walked-init c =
+    let same : c.self.inside.bytes.now ≡ c.args.self.now.bytes = ap (λ (v : View). v.bytes) c.self.view_is in
+    let content : c.in_ok-list.list.content.now ≡ payload c.args.self.now.bytes =
+    value-payload c.args.self.now.bytes c.in_ok-list.list.content.now (sym (told_begins c.args.self.now c.in_ok-check_items.ensures))
+    (ap value (sym same) ∙ c.in_ok-list.ensures.value) in
+    walked-none c.args.self.now.bytes c.new-items.result.rest (c.new-items.ensures.rest ∙ content)
+
+pub loop-walked-preserved : goal.loop-walked-preserved
+loop-walked-preserved c =
+    walked-one c.args.self.now.bytes c.in_ok-next_framed.field-0.item.now c.next_framed.new.self.rest c.loop-walked.items.rest c.loop-walked._walked
+    c.loop-walked.invariant c.in_ok-next_framed.ensures.parts c.in_ok-next_framed.ensures.whole
+
+pub returns-in_err-next_framed : goal.returns-in_err-next_framed
+returns-in_err-next_framed c =
+    let same : c.self.inside.bytes.now ≡ c.args.self.now.bytes = ap (λ (v : View). v.bytes) c.self.view_is in
+    let framed : framing c.args.self.now.bytes ≡ Ok c.in_ok-list.list.header = ap framing (sym same) ∙ c.in_ok-list.ensures.header in
+    let p = err_from_is_err_and c.from_residual-in_err-next_framed.result c.from_residual-in_err-next_framed.ensures.1 in
+    rw (p.1, p.2) (walked-past c.args.self.now c.args.index c.loop-walked._walked c.in_ok-list.list.header c.loop-walked.items.rest
+    c.in_err-next_framed.field-0.0 c.in_ok-check_items.ensures framed c.loop-walked.invariant c.in_err-next_framed.ensures.parts
+    c.in_err-next_framed.ensures.whole (omega arith))
+
+pub returns-in_err-item : goal.returns-in_err-item
+returns-in_err-item c =
+    let same : c.self.inside.bytes.now ≡ c.args.self.now.bytes = ap (λ (v : View). v.bytes) c.self.view_is in
+    let framed : framing c.args.self.now.bytes ≡ Ok c.in_ok-list.list.header = ap framing (sym same) ∙ c.in_ok-list.ensures.header in
+    let p = err_from_is_err_and c.from_residual-in_err-item.result c.from_residual-in_err-item.ensures.1 in
+    rw (p.1, p.2) (walked-past c.args.self.now c.args.index c.loop-walked._walked c.in_ok-list.list.header c.loop-walked.items.rest
+    c.in_err-item.field-0.0 c.in_ok-check_items.ensures framed c.loop-walked.invariant c.in_err-item.ensures.parts c.in_err-item.ensures.whole
+    (omega arith))
+
+pub overflow_sub-before : goal.overflow_sub-before
+overflow_sub-before c =
+    let same : c.self.inside.bytes.now ≡ c.args.self.now.bytes = ap (λ (v : View). v.bytes) c.self.view_is in
+    let content : c.in_ok-list.list.content.now ≡ payload c.args.self.now.bytes =
+    value-payload c.args.self.now.bytes c.in_ok-list.list.content.now (sym (told_begins c.args.self.now c.in_ok-check_items.ensures))
+    (ap value (sym same) ∙ c.in_ok-list.ensures.value) in
+    omega (
+      arith,
+      ap length c.rest.ensures,
+      walked-length c.args.self.now.bytes c.in_ok-item.field-0.item.now c.next_framed-2.new.self.rest
+          c.loop-walked.items.rest c.loop-walked._walked (length c.in_ok-list.list.content.now) c.loop-walked.invariant c.in_ok-item.ensures.whole
+          (ap length content),
+    )
+
+pub overflow_sub-before-2 : goal.overflow_sub-before-2
+overflow_sub-before-2 c =
+    let same : c.self.inside.bytes.now ≡ c.args.self.now.bytes = ap (λ (v : View). v.bytes) c.self.view_is in
+    let content : c.in_ok-list.list.content.now ≡ payload c.args.self.now.bytes =
+    value-payload c.args.self.now.bytes c.in_ok-list.list.content.now (sym (told_begins c.args.self.now c.in_ok-check_items.ensures))
+    (ap value (sym same) ∙ c.in_ok-list.ensures.value) in
+    omega (
+      arith,
+      ap length c.rest.ensures,
+      walked-length c.args.self.now.bytes c.in_ok-item.field-0.item.now c.next_framed-2.new.self.rest
+          c.loop-walked.items.rest c.loop-walked._walked (length c.in_ok-list.list.content.now) c.loop-walked.invariant c.in_ok-item.ensures.whole
+          (ap length content),
+    )
+
+pub returns : goal.returns
+returns c =
+    let same : c.self.inside.bytes.now ≡ c.args.self.now.bytes = ap (λ (v : View). v.bytes) c.self.view_is in
+    let framed : framing c.args.self.now.bytes ≡ Ok c.in_ok-list.list.header = ap framing (sym same) ∙ c.in_ok-list.ensures.header in
+    let content : c.in_ok-list.list.content.now ≡ payload c.args.self.now.bytes =
+    value-payload c.args.self.now.bytes c.in_ok-list.list.content.now (sym (told_begins c.args.self.now c.in_ok-check_items.ensures))
+    (ap value (sym same) ∙ c.in_ok-list.ensures.value) in
+    let here : IsWalked c.args.self.now.bytes c.args.index c.loop-walked.items.rest =
+    subst (λ k. IsWalked c.args.self.now.bytes k c.loop-walked.items.rest) (omega arith) c.loop-walked.invariant in
+    rw (c.with_bytes.ensures, c.rest.ensures)
+    (walked-item c.args.self.now c.in_ok-item.field-0.item.now c.args.index
+    (length c.in_ok-list.list.content.now) c.in_ok-list.list.header c.next_framed-2.new.self.rest c.loop-walked.items.rest
+    c.in_ok-check_items.ensures framed (ap length content) here c.in_ok-item.ensures.parts c.in_ok-item.ensures.whole)

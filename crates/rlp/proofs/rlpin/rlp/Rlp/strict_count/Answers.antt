@@ -1,0 +1,28 @@
+use Rattle.std.proofs.Common.{◌≡◌, Option, Some, None, IfOk, MatchResult, length, ap, subst, sym, ◌∙◌}
+use Rattle.rlp_format.specs.declared.error.DecoderError.{DecoderError}
+use Rattle.rlp_format.specs.Format.Framing.{value}
+use Rattle.rlp_format.specs.Format.Strict.{strict_fault}
+use Rattle.rlp_format.specs.Views.View.{View}
+use Rattle.rlp_format.proofs.Format.StrictLists.{strict_not_begun, strict_not_whole, strict_whole, value-items}
+use Rattle.rlp.proofs.rlpin.rlp.Rlp.strict_count.Goals as goal
+
+pub returns-then-not-is_list-clause-fault : goal.returns-then-not-is_list-clause-fault
+returns-then-not-is_list-clause-fault c = strict_not_begun c.args.self.now.bytes c.if-not-is_list.ensures
+
+pub returns-in-Ok-clause-fault : goal.returns-in-Ok-clause-fault
+returns-in-Ok-clause-fault c =
+    let same : c.self.inside.bytes.now ≡ c.args.self.now.bytes = ap (λ (v : View). v.bytes) c.self.view_is in
+    let whole = strict_whole c.args.self.now.bytes c.in-Ok.list.content.now c.if-not-is_list.ensures
+    (ap strict_fault (sym same) ∙ c.in-Ok.ensures.fault) (ap value (sym same) ∙ c.in-Ok.ensures.value) in
+    subst (λ (o : Option DecoderError). MatchResult c.try_count_items.result (λ _. o ≡ None) (λ e. o ≡ Some e)) whole c.try_count_items.ensures.fault
+
+pub returns-in-Ok-clause-count : goal.returns-in-Ok-clause-count
+returns-in-Ok-clause-count c =
+    let same : c.self.inside.bytes.now ≡ c.args.self.now.bytes = ap (λ (v : View). v.bytes) c.self.view_is in
+    subst (λ fs. IfOk c.try_count_items.result (λ n. n ≡ length fs))
+    (value-items _ _ c.if-not-is_list.ensures (ap value (sym same) ∙ c.in-Ok.ensures.value)) c.try_count_items.ensures.count
+
+pub returns-in-Err-clause-fault : goal.returns-in-Err-clause-fault
+returns-in-Err-clause-fault c =
+    let same : c.self.inside.bytes.now ≡ c.args.self.now.bytes = ap (λ (v : View). v.bytes) c.self.view_is in
+    strict_not_whole c.args.self.now.bytes c.in-Err.fault c.if-not-is_list.ensures (ap strict_fault (sym same) ∙ c.in-Err.ensures.fault)

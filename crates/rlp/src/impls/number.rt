@@ -1,0 +1,323 @@
+//! Numbers: written as the string of their digits to the base 256, the most significant first.
+
+ghost use Rattle.std.specs.Prelude.{◌≡◌, ◌≤◌, ◌<◌, length, Ok, Err, IfOk, IfErr, IfSome, IsTrue};
+ghost use Rattle.std.specs.Int.Digits.{number_from_digits};
+ghost use Rattle.rlp_format.specs.Format.WrittenHeader.{big_endian};
+ghost use Rattle.rlp_format.specs.Values.Value.{FitsBytes};
+ghost use Rattle.rlp_values.specs.Values.ValueReading.{AreShortest, IsDigitsFault, GivesNumber, FaultsAsNumber};
+ghost use Rattle.rlp_values.specs.Lemmas.RoundTrips.{number_reads_back, itself};
+ghost use Rattle.rlp_values.specs.Lemmas.StrictReads.{number_strict};
+
+use crate::rlpin::Rlp;
+use crate::traits::{Decodable, RoundTrip, Scalar, StrictRead};
+use rlp_format::digits::{number_of, wide_number_of};
+use rlp_format::error::DecoderError;
+use std::alloc::Global;
+
+/// Reads a number of at most one byte. Fails with the same errors as for `u64`.
+impl Decodable for u8 {
+    ghost gives = { λ v n. GivesNumber 1 v n };
+
+    ghost faults = { λ v e. FaultsAsNumber 1 v e };
+
+    ghost may_lack_memory = { λ v. ⊥ };
+
+    fn decode(_alloc: Global, rlp: &Rlp<'_>) -> Result<u8, DecoderError> {
+        Ok(number_within(rlp, 1)? as u8)
+    }
+}
+
+/// Reads a number of at most two bytes. Fails with the same errors as for `u64`.
+impl Decodable for u16 {
+    ghost gives = { λ v n. GivesNumber 2 v n };
+
+    ghost faults = { λ v e. FaultsAsNumber 2 v e };
+
+    ghost may_lack_memory = { λ v. ⊥ };
+
+    fn decode(_alloc: Global, rlp: &Rlp<'_>) -> Result<u16, DecoderError> {
+        Ok(number_within(rlp, 2)? as u16)
+    }
+}
+
+/// Reads a number of at most four bytes. Fails with the same errors as for `u64`.
+impl Decodable for u32 {
+    ghost gives = { λ v n. GivesNumber 4 v n };
+
+    ghost faults = { λ v e. FaultsAsNumber 4 v e };
+
+    ghost may_lack_memory = { λ v. ⊥ };
+
+    fn decode(_alloc: Global, rlp: &Rlp<'_>) -> Result<u32, DecoderError> {
+        Ok(number_within(rlp, 4)? as u32)
+    }
+}
+
+/// Reads a number of at most eight bytes. It takes no memory.
+///
+/// Fails with `RlpIsTooBig` if the string has more bytes, and with `RlpInvalidIndirection` if it
+/// begins with a zero byte. The number zero is the empty string.
+impl Decodable for u64 {
+    ghost gives = { λ v n. GivesNumber 8 v n };
+
+    ghost faults = { λ v e. FaultsAsNumber 8 v e };
+
+    ghost may_lack_memory = { λ v. ⊥ };
+
+    fn decode(_alloc: Global, rlp: &Rlp<'_>) -> Result<u64, DecoderError> {
+        Ok(number_within(rlp, 8)? as u64)
+    }
+}
+
+/// Reads a number as `u64` does.
+impl Decodable for usize {
+    ghost gives = { λ v n. GivesNumber 8 v n };
+
+    ghost faults = { λ v e. FaultsAsNumber 8 v e };
+
+    ghost may_lack_memory = { λ v. ⊥ };
+
+    fn decode(_alloc: Global, rlp: &Rlp<'_>) -> Result<usize, DecoderError> {
+        number_within(rlp, 8)
+    }
+}
+
+/// Reads a number of at most sixteen bytes. Fails with the same errors as for `u64`.
+impl Decodable for u128 {
+    ghost gives = { λ v n. GivesNumber 16 v n };
+
+    ghost faults = { λ v e. FaultsAsNumber 16 v e };
+
+    ghost may_lack_memory = { λ v. ⊥ };
+
+    fn decode(_alloc: Global, rlp: &Rlp<'_>) -> Result<u128, DecoderError> {
+        Ok(wide_number_of(number_digits(rlp, 16)?))
+    }
+}
+
+/// Reads a number of at most `width` bytes, from 1 to 8. A number that is its own encoding is read
+/// at once. Others are read out of line.
+#[inline(always)]
+fn number_within(rlp: &Rlp<'_>, width: usize) -> Result<usize, DecoderError>
+    requires some { 1 ≤ width }
+    requires few { width ≤ 8 }
+    ensures value { IfOk result (λ n. GivesNumber width rlp.now n) }
+    ensures fault { IfErr result (λ e. FaultsAsNumber width rlp.now e) }
+{
+    match rlp.as_raw() {
+        [digit @ 0x01..=0x7f, ..] if may_end_at(rlp, 1) => Ok(*digit as usize),
+        _ => match short_number(rlp, width) {
+            Some(number) => Ok(number),
+            None => number_of_string(rlp, width),
+        },
+    }
+}
+
+/// Reads a number of at most `width` bytes, at most 8, if its header is one byte and nothing is
+/// wrong with it. `None` says nothing about the bytes.
+#[inline(never)]
+fn short_number(rlp: &Rlp<'_>, width: usize) -> Option<usize>
+    requires { width ≤ 8 }
+    ensures { IfSome result (λ n. GivesNumber width rlp.now n) }
+{
+    match short_digits(rlp, width) {
+        Some(digits) => Some(few_digits(digits)),
+        None => None,
+    }
+}
+
+/// The number of up to eight digits, without a loop for up to seven.
+#[inline(always)]
+fn few_digits(digits: &[u8]) -> usize
+    requires { length digits.now ≤ 8 }
+    ensures { result ≡ number_from_digits 256 digits.now }
+{
+    match digits {
+        [a] => *a as usize,
+        [a, b] => u16::from_be_bytes([*a, *b]) as usize,
+        [a, b, c] => u32::from_be_bytes([0, *a, *b, *c]) as usize,
+        [a, b, c, d] => u32::from_be_bytes([*a, *b, *c, *d]) as usize,
+        [a, b, c, d, e] => u64::from_be_bytes([0, 0, 0, *a, *b, *c, *d, *e]) as usize,
+        [a, b, c, d, e, f] => u64::from_be_bytes([0, 0, *a, *b, *c, *d, *e, *f]) as usize,
+        [a, b, c, d, e, f, g] => u64::from_be_bytes([0, *a, *b, *c, *d, *e, *f, *g]) as usize,
+        _ => number_of(digits),
+    }
+}
+
+/// Whether the view's item may end at `len`: nothing follows the item in a strict view.
+#[inline(always)]
+fn may_end_at(rlp: &Rlp<'_>, len: usize) -> bool
+    ensures { IsTrue result → IsTrue rlp.now.is_strict → length rlp.now.bytes ≡ len }
+{
+    !rlp.is_strict() || rlp.as_raw().len() == len
+}
+
+/// Reads a number of at most `width` bytes, at most 8, by the string of any length that the view
+/// begins with.
+#[inline(never)]
+fn number_of_string(rlp: &Rlp<'_>, width: usize) -> Result<usize, DecoderError>
+    requires { width ≤ 8 }
+    ensures value { IfOk result (λ n. GivesNumber width rlp.now n) }
+    ensures fault { IfErr result (λ e. FaultsAsNumber width rlp.now e) }
+{
+    Ok(number_of(digits_of_string(rlp, width)?))
+}
+
+/// Returns the digits of the number of at most `width` bytes that the view begins with.
+pub(crate) fn number_digits<'a>(rlp: &Rlp<'a>, width: usize) -> Result<&'a [u8], DecoderError>
+    ensures few { IfOk result (λ d. length d.now ≤ width) }
+    ensures value { IfOk result (λ d. GivesNumber width rlp.now (number_from_digits 256 d.now)) }
+    ensures fault { IfErr result (λ e. FaultsAsNumber width rlp.now e) }
+{
+    match short_digits(rlp, width) {
+        Some(digits) => Ok(digits),
+        None => digits_of_string(rlp, width),
+    }
+}
+
+/// The digits after a header of one byte, if they are those of a number of at most `width` bytes.
+/// The canonical encodings of zero and of all numbers from 0x80 to 2^440 - 1 have such a header.
+#[inline(always)]
+fn short_digits<'a>(rlp: &Rlp<'a>, width: usize) -> Option<&'a [u8]>
+    ensures few { IfSome result (λ d. length d.now ≤ width) }
+    ensures value { IfSome result (λ d. GivesNumber width rlp.now (number_from_digits 256 d.now)) }
+{
+    match rlp.as_raw() {
+        [header @ 0x80..=0xb7, rest @ ..] => {
+            let len = (*header - 0x80) as usize;
+            if len > width || len > rest.len() || !may_end_at(rlp, 1 + len) {
+                return None;
+            }
+            let digits = &rest[..len];
+            if are_shortest(digits) {
+                Some(digits)
+            } else {
+                None
+            }
+        }
+        _ => None,
+    }
+}
+
+/// Whether these are the digits of a number whose encoding has a header: not one digit below 0x80,
+/// and no zero first.
+#[inline(always)]
+#[tactic(auto, using(rlp_values::specs::Lemmas::Numbers::shortest_tests))]
+fn are_shortest(digits: &[u8]) -> bool
+    ensures { IsTrue result → AreShortest digits.now }
+{
+    match digits {
+        [] => true,
+        [digit] => *digit >= 0x80,
+        [first, ..] => *first != 0,
+    }
+}
+
+/// Returns the digits of the number of at most `width` bytes that the view begins with, by the
+/// string of any length that it begins with.
+#[inline(never)]
+#[tactic(auto, using(rlp_values::specs::Lemmas::Numbers::number_answers))]
+fn digits_of_string<'a>(rlp: &Rlp<'a>, width: usize) -> Result<&'a [u8], DecoderError>
+    ensures few { IfOk result (λ d. length d.now ≤ width) }
+    ensures value { IfOk result (λ d. GivesNumber width rlp.now (number_from_digits 256 d.now)) }
+    ensures fault { IfErr result (λ e. FaultsAsNumber width rlp.now e) }
+{
+    let digits = rlp.decoder().string()?;
+    check_digits(digits, width)?;
+    Ok(digits)
+}
+
+/// Tests whether these are the digits of a number of at most `width` bytes: first their number, and
+/// then the first digit.
+#[tactic(auto, using(rlp_values::specs::Lemmas::Numbers::digit_faults))]
+fn check_digits(digits: &[u8], width: usize) -> Result<(), DecoderError>
+    ensures few { IfOk result (λ _. length digits.now ≤ width) }
+    ensures value { IfOk result (λ _. FitsBytes width (number_from_digits 256 digits.now)
+        × (big_endian (number_from_digits 256 digits.now) ≡ digits.now)) }
+    ensures fault { IfErr result (λ e. IsDigitsFault width digits.now e) }
+{
+    if digits.len() > width {
+        return Err(DecoderError::RlpIsTooBig);
+    }
+    match digits {
+        [] => Ok(()),
+        [first, ..] => {
+            if *first == 0 {
+                return Err(DecoderError::RlpInvalidIndirection);
+            }
+            Ok(())
+        }
+    }
+}
+
+impl RoundTrip for u8 {
+    ghost round_trip = { number_reads_back 1 };
+}
+
+impl Scalar for u8 {
+    ghost exact = { λ b v. itself };
+}
+
+impl StrictRead for u8 {
+    ghost strict = { number_strict 1 };
+}
+
+impl RoundTrip for u16 {
+    ghost round_trip = { number_reads_back 2 };
+}
+
+impl Scalar for u16 {
+    ghost exact = { λ b v. itself };
+}
+
+impl StrictRead for u16 {
+    ghost strict = { number_strict 2 };
+}
+
+impl RoundTrip for u32 {
+    ghost round_trip = { number_reads_back 4 };
+}
+
+impl Scalar for u32 {
+    ghost exact = { λ b v. itself };
+}
+
+impl StrictRead for u32 {
+    ghost strict = { number_strict 4 };
+}
+
+impl RoundTrip for u64 {
+    ghost round_trip = { number_reads_back 8 };
+}
+
+impl Scalar for u64 {
+    ghost exact = { λ b v. itself };
+}
+
+impl StrictRead for u64 {
+    ghost strict = { number_strict 8 };
+}
+
+impl RoundTrip for usize {
+    ghost round_trip = { number_reads_back 8 };
+}
+
+impl Scalar for usize {
+    ghost exact = { λ b v. itself };
+}
+
+impl StrictRead for usize {
+    ghost strict = { number_strict 8 };
+}
+
+impl RoundTrip for u128 {
+    ghost round_trip = { number_reads_back 16 };
+}
+
+impl Scalar for u128 {
+    ghost exact = { λ b v. itself };
+}
+
+impl StrictRead for u128 {
+    ghost strict = { number_strict 16 };
+}

@@ -1,0 +1,54 @@
+//! Numbers of any width, kept as their bytes.
+
+ghost use Rattle.std.specs.Prelude.{◌≡◌, ◌≤◌, length};
+ghost use Rattle.std.specs.Int.Digits.{number_from_digits};
+ghost use Rattle.rlp_format.specs.Values.Value.{FitsBytes, number_item};
+ghost use Rattle.rlp_values.specs.Values.ValueReading.{FaultsAsNumber, GivesNumber};
+ghost use Rattle.rlp_values.specs.Codec.{uint};
+ghost use Rattle.rlp_values.specs.Lemmas.RoundTrips.{given_through};
+
+use crate::impls::number::number_digits;
+use crate::rlpin::Rlp;
+use crate::traits::{Decodable, RoundTrip, Scalar, StrictRead};
+use rlp_format::Uint;
+use rlp_format::error::DecoderError;
+use std::alloc::Global;
+
+/// Reads a number of at most `N` bytes. Fails with the same errors as for `u64`.
+impl<const N: usize> Decodable for Uint<N> {
+    ghost gives = { λ v n. GivesNumber N v (number_from_digits 256 n.bytes) };
+
+    ghost faults = { λ v e. FaultsAsNumber N v e };
+
+    ghost may_lack_memory = { λ v. ⊥ };
+
+    #[inline(always)]
+    fn decode(_alloc: Global, rlp: &Rlp<'_>) -> Result<Uint<N>, DecoderError> {
+        let bytes = padded(number_digits(rlp, N)?);
+        Ok(Uint { bytes })
+    }
+}
+
+/// Returns the digits with zeros before them.
+fn padded<const N: usize>(digits: &[u8]) -> [u8; N]
+    requires { length digits.now ≤ N }
+    ensures { number_from_digits 256 result ≡ number_from_digits 256 digits.now }
+{
+    let mut bytes = [0; N];
+    let all = &mut bytes[..];
+    all[N - digits.len()..].copy_from_slice(digits);
+    bytes
+}
+
+impl<const N: usize> RoundTrip for Uint<N> {
+    ghost round_trip = { (uint N).reads_back };
+}
+
+impl<const N: usize> Scalar for Uint<N> {
+    ghost exact = { given_through (FitsBytes N) number_item
+        (λ (n : Self). number_from_digits 256 n.bytes) };
+}
+
+impl<const N: usize> StrictRead for Uint<N> {
+    ghost strict = { (uint N).reads_strictly };
+}

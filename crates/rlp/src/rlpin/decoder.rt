@@ -1,0 +1,100 @@
+//! A decoder of one string.
+
+ghost use Rattle.std.specs.Prelude.{◌≡◌, length, Ok, Err, IfOk, IfErr, IsErrAnd, MatchResult};
+ghost use Rattle.std.specs.Fn.{FnReturnsAt};
+ghost use Rattle.rlp_format.specs.Views.View.{HoldsNoString, HoldsString, view_of, view_string, View};
+
+use rlp_format::error::DecoderError;
+use rlp_format::framed::is_followed;
+use rlp_format::string_reading::string_in;
+use std::marker::Model;
+
+/// A decoder of the string that bytes begin with. Contracts see it as the record `View` of its
+/// bytes and its kind.
+#[derive(Drop)]
+pub struct BasicDecoder<'a> {
+    rlp: &'a [u8],
+    strict: bool,
+}
+
+impl<'a> Model for BasicDecoder<'a> {
+    ghost Value = { View };
+
+    ghost view = { λ d. record { bytes = d.rlp.now; is_strict = d.strict } };
+}
+
+impl<'a> BasicDecoder<'a> {
+    /// A lenient decoder of these bytes. It doesn't read them yet.
+    pub fn new(rlp: &'a [u8]) -> BasicDecoder<'a>
+        ensures { result ≡ view_of rlp.now }
+    {
+        BasicDecoder::of_kind(rlp, false)
+    }
+
+    /// A decoder of these bytes, lenient or strict.
+    pub(crate) fn of_kind(rlp: &'a [u8], strict: bool) -> BasicDecoder<'a>
+        ensures { result ≡ record { bytes = rlp.now; is_strict = strict } }
+    {
+        BasicDecoder { rlp, strict }
+    }
+
+    /// Calls `f` with the string that the bytes begin with, without its header, and returns its
+    /// result. A lenient decoder ignores what follows the string. A strict one fails with
+    /// `RlpIsTooBig` if bytes follow it.
+    ///
+    /// If the bytes begin with no string, `f` isn't called. The call then fails with:
+    ///
+    /// - `RlpIsTooShort` if there are no bytes;
+    /// - `RlpExpectedToBeData` for a list;
+    /// - `RlpInconsistentLengthAndData` if the bytes end before the string or its length does;
+    /// - `RlpInvalidLength` if header and string would be longer than 2^64 - 1 bytes;
+    /// - `RlpInvalidIndirection` if the canonical form of the string or of its length is shorter.
+    ///
+    /// ```rust
+    /// let decoder = rlp::BasicDecoder::new(&[0x83, b'c', b'a', b't']);
+    /// let len = decoder.decode_value(|string: &[u8]| -> Result<usize, rlp::DecoderError> { Ok(string.len()) })?;
+    /// assert_eq!(rt; len, 3);
+    /// ```
+    pub fn decode_value<T, E, F>(&self, f: F) -> Result<T, E>
+    where
+        E: From<DecoderError>,
+        F: Fn(&[u8]) -> Result<T, E> + Drop,
+        requires { F.IsAlwaysCallable f }
+        ensures found { IfOk (view_string self.now) (λ d. HoldsString self.now d
+            × FnReturnsAt F.Fn f d result) }
+        ensures missing { IfErr (view_string self.now) (λ e. HoldsNoString self.now
+            × IsErrAnd result (λ x. E.from_gives e x)) }
+    {
+        match self.string() {
+            Ok(string) => f(string),
+            Err(fault) => Err(E::from(fault)),
+        }
+    }
+
+    /// The string that the bytes begin with, without its header. It is a part of these bytes, so no
+    /// memory is taken.
+    ///
+    /// The faults are those of [`BasicDecoder::decode_value`]. A strict decoder fails with the fault
+    /// of the string, or else with `RlpIsTooBig` if bytes follow it.
+    ///
+    /// ```rust
+    /// let decoder = rlp::BasicDecoder::new(&[0x83, b'c', b'a', b't']);
+    /// assert_eq!(rt; decoder.string()?, b"cat".as_slice());
+    /// ```
+    #[tactic(auto, using(rlp_values::specs::Lemmas::StringsHeld::held_strings))]
+    pub fn string(&self) -> Result<&'a [u8], DecoderError>
+        ensures exact { MatchResult result (λ d. view_string self.now ≡ Ok d.now)
+            (λ e. view_string self.now ≡ Err e) }
+        ensures held { MatchResult (view_string self.now) (λ d. HoldsString self.now d)
+            (λ _. HoldsNoString self.now) }
+    {
+        let string = match string_in(self.rlp) {
+            Ok(string) => string,
+            Err(fault) => return Err(fault),
+        };
+        if self.strict && is_followed(self.rlp) {
+            return Err(DecoderError::RlpIsTooBig);
+        }
+        Ok(string)
+    }
+}

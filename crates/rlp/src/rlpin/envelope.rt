@@ -1,0 +1,66 @@
+//! Strings that hold a tag and the encoding of a payload.
+
+ghost use Rattle.std.specs.Prelude.{◌≡◌, ◌∷◌, ◌⊎◌, [], IfErr, IfOk};
+ghost use Rattle.rlp_format.specs.declared.error.DecoderError.TheVariants.{OutOfMemory, RlpIsTooShort};
+ghost use Rattle.rlp_format.specs.Format.Encoding.{encoding};
+ghost use Rattle.rlp_format.specs.Format.WrittenHeader.{AreBytes};
+ghost use Rattle.rlp_format.specs.Views.View.{HoldsString, strict_view_of};
+ghost use Rattle.rlp_values.specs.Values.ValueReading.{FaultsAs};
+
+use crate::decode_whole;
+use crate::rlpin::Rlp;
+use crate::traits::StrictRead;
+use rlp_format::error::DecoderError;
+use std::alloc::Global;
+
+/// A string whose first byte is a tag: the tag, and the bytes after it, which should be the
+/// encoding of a payload. Typed transactions of EIP-2718 are such strings.
+#[derive(Debug, Clone, Copy)]
+pub struct Envelope<'a> {
+    /// The first byte of the string.
+    pub tag: u8,
+    /// The bytes after the tag.
+    pub payload: &'a [u8],
+}
+
+impl<'a> Envelope<'a> {
+    /// Reads the string that a view begins with, and splits off its first byte. It takes no memory.
+    ///
+    /// Fails as [`crate::BasicDecoder::string`] does, or with `RlpIsTooShort` if the string is
+    /// empty.
+    #[tactic(auto, using(rlp_values::proofs::OneString::one_string))]
+    pub fn of(rlp: &Rlp<'a>) -> Result<Envelope<'a>, DecoderError>
+        ensures value { IfOk result (λ x. HoldsString rlp.now (x.tag ∷ x.payload.now)) }
+        ensures fault { IfErr result
+            (λ e. FaultsAs (λ d e. (d ≡ []) × (e ≡ RlpIsTooShort)) rlp.now e) }
+    {
+        match rlp.decoder().string() {
+            Ok([tag, payload @ ..]) => Ok(Envelope { tag: *tag, payload }),
+            Ok([]) => Err(DecoderError::RlpIsTooShort),
+            Err(fault) => Err(fault),
+        }
+    }
+
+    /// Splits an envelope that isn't in a string: the first byte, and the bytes after it. Fails with
+    /// `RlpIsTooShort` if there are no bytes.
+    pub fn split(bytes: &'a [u8]) -> Result<Envelope<'a>, DecoderError>
+        ensures value { IfOk result (λ x. bytes.now ≡ x.tag ∷ x.payload.now) }
+        ensures fault { IfErr result (λ e. (bytes.now ≡ []) × (e ≡ RlpIsTooShort)) }
+    {
+        match bytes {
+            [tag, payload @ ..] => Ok(Envelope { tag: *tag, payload }),
+            [] => Err(DecoderError::RlpIsTooShort),
+        }
+    }
+
+    /// Reads the payload strictly: the bytes after the tag must be its whole encoding.
+    pub fn decode<T: StrictRead>(&self, alloc: Global) -> Result<T, DecoderError>
+        ensures value { IfOk result
+            (λ v. T.fits v × (self.now.payload.now ≡ encoding (T.item v))) }
+        ensures fault { IfErr result (λ e. (AreBytes self.now.payload.now
+            × T.faults (strict_view_of self.now.payload.now) e) ⊎ ((e ≡ OutOfMemory)
+            × T.may_lack_memory (strict_view_of self.now.payload.now))) }
+    {
+        decode_whole(alloc, self.payload)
+    }
+}

@@ -1,0 +1,502 @@
+//! A view of bytes, and its methods on their first item.
+
+ghost use Rattle.std.specs.Vec.{vec_items};
+ghost use Rattle.std.specs.declared.alloc.Global.{Global};
+ghost use Rattle.std.specs.Prelude.{◌≡◌, ◌≤◌, ◌<◌, ◌^◌, ◌↔◌, ◌⊎◌, List, [], length, true, false, IsTrue, IsOk, None, Some, Ok, Err, IfOk, IfErr, MatchResult, OnOk};
+ghost use Rattle.rlp_format.specs.declared.error.DecoderError.TheVariants.{OutOfMemory};
+ghost use Rattle.rlp_format.specs.Format.Flat.{IsFlat};
+ghost use Rattle.rlp_format.specs.Format.Split.{begins_as_list, items};
+ghost use Rattle.rlp_format.specs.Format.Framing.{framing};
+ghost use Rattle.rlp_format.specs.Format.Strict.{IsCanonicalWithin, strict_list_fault};
+ghost use Rattle.rlp_format.specs.Format.TreeFaults.{IsFlatFault};
+ghost use Rattle.rlp_format.specs.Views.Depth.{depth};
+ghost use Rattle.rlp_format.specs.Views.View.{begins_as_data, begins_as_empty, begins_as_int, data_size, has_nonzero_at, item_at, item_count, item_views, item_with_place, items_fault, list_fault, prototype_of, strict_view_of, view_header, view_of, view_value, View};
+ghost use Rattle.rlp_values.specs.Values.ListReading.{FaultsAsList, FaultsAt, GivesAt, GivesList, MayLackAsList, MayLackAt, ReadsValue, GivesSomeAt};
+
+use crate::rlpin::decoder::BasicDecoder;
+use crate::rlpin::iter::RlpIterator;
+use crate::traits::Decodable;
+use rlp_format::Prototype;
+use rlp_format::error::DecoderError;
+use rlp_format::flat::{FlatItem, TreeFault};
+use rlp_format::framed::{Framed, first_framed, whole_framed};
+use rlp_format::header::PayloadInfo;
+use rlp_format::items::{ItemReader, try_count_items};
+use rlp_values::depth::is_nested_within;
+use rlp_values::walking::{flatten, is_canonical};
+use std::alloc::Global;
+use std::marker::Model;
+
+/// A view of bytes that may begin with an item.
+///
+/// It holds only the bytes and whether it is strict, so the same call always returns the same
+/// result. Contracts see a view as the record `View` of its bytes and its kind. A lenient view
+/// ignores the bytes after the first item. A strict view has a fault if there are any.
+#[derive(Debug, Drop)]
+pub struct Rlp<'a> {
+    bytes: &'a [u8],
+    strict: bool,
+}
+
+impl<'a> Model for Rlp<'a> {
+    ghost Value = { View };
+
+    ghost view = { λ r. record { bytes = r.bytes.now; is_strict = r.strict } };
+}
+
+impl<'a> Rlp<'a> {
+    /// A view of these bytes. It doesn't read them yet.
+    pub fn new(bytes: &'a [u8]) -> Rlp<'a>
+        ensures { result ≡ view_of bytes.now }
+    {
+        Rlp::of_kind(bytes, false)
+    }
+
+    /// A strict view of these bytes, which should be exactly one item. Methods that read the item
+    /// fail if bytes follow it. Its items are strict too. It doesn't read the bytes yet.
+    ///
+    /// ```rust
+    /// let view = rlp::Rlp::new_strict(&[0xc1, 0x05, 0x06]);
+    /// assert!(rt; view.item_count() == Err(rlp::DecoderError::RlpIsTooBig));
+    /// ```
+    pub fn new_strict(bytes: &'a [u8]) -> Rlp<'a>
+        ensures { result ≡ strict_view_of bytes.now }
+    {
+        Rlp::of_kind(bytes, true)
+    }
+
+    /// Whether the view is strict.
+    pub fn is_strict(&self) -> bool
+        ensures { result ≡ self.now.is_strict }
+    {
+        self.strict
+    }
+
+    /// Another view of the same bytes. It takes no memory.
+    pub fn clone(&self) -> Rlp<'a>
+        ensures { result ≡ self.now }
+    {
+        self.with_bytes(self.bytes)
+    }
+
+    /// All the bytes, including those after the first item.
+    pub fn as_raw(&self) -> &'a [u8]
+        ensures { result.now ≡ self.now.bytes }
+    {
+        self.bytes
+    }
+
+    /// What the view begins with: no bytes, a string with its [`Rlp::size`], or a list with the
+    /// number of its items. It never fails. Bytes that aren't framed are a string of size 0 or a
+    /// list of no items, depending on their first byte.
+    #[tactic(auto, unfolding(rlp_format::specs::Format::Split::items))]
+    pub fn prototype(&self) -> Result<Prototype, DecoderError>
+        ensures { result ≡ Ok (prototype_of self.now.bytes) }
+    {
+        if self.is_null() {
+            return Ok(Prototype::Null);
+        }
+        if self.is_list() {
+            return Ok(Prototype::List(self.iter().len()));
+        }
+        Ok(Prototype::Data(self.size()))
+    }
+
+    /// The header of the first item, if header and value lie within the bytes.
+    ///
+    /// Fails as [`PayloadInfo::from`] does, or with `RlpIsTooShort` if the value is cut. A strict
+    /// view fails with `RlpIsTooBig` if bytes follow the item.
+    pub fn payload_info(&self) -> Result<PayloadInfo, DecoderError>
+        ensures { result ≡ view_header self.now }
+    {
+        Ok(self.framed()?.header)
+    }
+
+    /// The bytes of the first item after its header: the bytes of a string, or the payload of a
+    /// list.
+    ///
+    /// Fails as [`Rlp::payload_info`] does.
+    pub fn data(&self) -> Result<&'a [u8], DecoderError>
+        ensures { MatchResult result (λ d. view_value self.now ≡ Ok d.now)
+            (λ e. view_value self.now ≡ Err e) }
+    {
+        Ok(self.framed()?.content)
+    }
+
+    /// The number of items in the list that the view begins with.
+    ///
+    /// Fails with `RlpExpectedToBeList` if there is no byte, or the first byte begins a string. A
+    /// list that isn't framed has no items. A strict view must be exactly one list. After the first
+    /// fault come those of [`Rlp::payload_info`] and of bytes that follow the items in the list.
+    #[tactic(auto, unfolding(rlp_format::specs::Views::View::item_count, rlp_format::specs::Format::Split::items))]
+    pub fn item_count(&self) -> Result<usize, DecoderError>
+        ensures { result ≡ item_count self.now }
+    {
+        if self.strict {
+            return self.strict_count();
+        }
+        if !self.is_list() {
+            return Err(DecoderError::RlpExpectedToBeList);
+        }
+        Ok(self.iter().len())
+    }
+
+    /// The length of the string that the view begins with, or 0 if it begins with no framed string.
+    pub fn size(&self) -> usize
+        ensures { result ≡ data_size self.now.bytes }
+    {
+        if !self.is_data() {
+            return 0;
+        }
+        match first_framed(self.bytes) {
+            Ok((framed, _)) => framed.content.len(),
+            Err(_) => 0,
+        }
+    }
+
+    /// The item at `index`, counted from 0.
+    ///
+    /// Fails as [`Rlp::at_with_offset`] does.
+    ///
+    /// ```rust
+    /// let list = rlp::Rlp::new(&[0xc4, 0x83, b'c', b'a', b't']);
+    /// assert_eq!(rt; list.at(0)?.as_raw(), [0x83, b'c', b'a', b't'].as_slice());
+    /// assert_eq!(rt; list.at(1).err(), Some(rlp::DecoderError::RlpIsTooShort));
+    /// ```
+    pub fn at(&self, index: usize) -> Result<Rlp<'a>, DecoderError>
+        ensures { result ≡ item_at self.now index }
+    {
+        let (item, _) = self.at_with_offset(index)?;
+        Ok(item)
+    }
+
+    /// The item at `index`, counted from 0, and its place, counted from the view's first byte.
+    ///
+    /// Fails with the first of these:
+    ///
+    /// - `RlpExpectedToBeList` if there is no byte, or the first byte begins a string;
+    /// - the fault of [`Rlp::payload_info`] if the list isn't framed;
+    /// - past the last item, the fault of the bytes that follow the items in the list, which is
+    ///   `RlpIsTooShort` if there are none.
+    ///
+    /// It reads the list's header and at most `index + 1` more. A strict view has the faults of
+    /// [`Rlp::item_count`] first, and reads the header of each item to find them.
+    pub fn at_with_offset(&self, index: usize) -> Result<(Rlp<'a>, usize), DecoderError>
+        ensures { result ≡ item_with_place self.now index }
+    {
+        self.check_items()?;
+        let (list, _) = first_framed(self.bytes)?;
+        let mut items = ItemReader::new(list.content);
+        for _walked in 0..index {
+            items.next_framed()?;
+        }
+        let item = items.next_framed()?.item;
+        let before = list.content.len() - items.rest().len() - item.len();
+        Ok((self.with_bytes(item), list.header.header_len + before))
+    }
+
+    /// Whether there are no bytes.
+    pub fn is_null(&self) -> bool
+        ensures { IsTrue result ↔ (self.now.bytes ≡ []) }
+    {
+        matches!(self.bytes, [])
+    }
+
+    /// Whether the first byte is the encoding of the empty string or of the empty list.
+    pub fn is_empty(&self) -> bool
+        ensures { result ≡ begins_as_empty self.now.bytes }
+    {
+        match self.bytes {
+            [] => false,
+            [first, ..] => *first == 0x80 || *first == 0xc0,
+        }
+    }
+
+    /// Whether the first byte begins a list: it is `0xc0` or above.
+    pub fn is_list(&self) -> bool
+        ensures { result ≡ begins_as_list self.now.bytes }
+    {
+        match self.bytes {
+            [] => false,
+            [first, ..] => *first >= 0xc0,
+        }
+    }
+
+    /// Whether the first byte begins a string: it is below `0xc0`.
+    pub fn is_data(&self) -> bool
+        ensures { result ≡ begins_as_data self.now.bytes }
+    {
+        match self.bytes {
+            [] => false,
+            [first, ..] => *first < 0xc0,
+        }
+    }
+
+    /// Whether the bytes begin as a number does. They begin with one byte up to `0x80`, or with the
+    /// header of a string and a first byte of it that isn't zero.
+    ///
+    /// It looks no further than that byte. So it is true for `00`, and for a string that is cut.
+    pub fn is_int(&self) -> bool
+        ensures { result ≡ begins_as_int self.now.bytes }
+    {
+        match self.bytes {
+            [] => false,
+            [first, rest @ ..] => match *first {
+                0x00..=0x80 => true,
+                0x81..=0xb7 => is_nonzero_at(rest, 0),
+                first @ 0xb8..=0xbf => is_nonzero_at(rest, (first - 0xb7) as usize),
+                0xc0..=0xff => false,
+            },
+        }
+    }
+
+    /// An iterator over views of the items of the list that the view begins with.
+    ///
+    /// Anything but a framed list has no items. The items end with the list's value, or before it
+    /// at the first bytes that aren't framed. The items may outlive the view.
+    ///
+    /// ```rust
+    /// let list = rlp::Rlp::new(&[0xc2, 0x05, 0x06]);
+    /// for item in list.iter() {
+    ///     assert_eq!(rt; item.as_raw().len(), 1);
+    /// }
+    /// ```
+    pub fn iter<'view>(&'view self) -> RlpIterator<'a, 'view>
+        ensures items { result.left ≡ item_views self.now }
+        ensures few { length result.left < 2 ^ 64 }
+        ensures header { result.headers ≤ 1 }
+        ensures ended { result.has_ended ≡ false → (begins_as_list self.now.bytes ≡ true)
+            × IsOk (framing self.now.bytes) }
+    {
+        RlpIterator::over(self)
+    }
+
+    /// The value that the view begins with, read by [`Decodable::decode`] of its type.
+    pub fn as_val<T: Decodable>(&self, alloc: Global) -> Result<T, DecoderError>
+        ensures value { IfOk result (λ v. T.gives self.now v) }
+        ensures fault { IfErr result (λ e. (T.faults self.now e) ⊎ ((e ≡ OutOfMemory)
+            × T.may_lack_memory self.now)) }
+    {
+        T::decode(alloc, self)
+    }
+
+    /// The values of the items, in order.
+    ///
+    /// Fails with the fault of an item if all items before it give values. Fails with `OutOfMemory`
+    /// if memory is refused for the value of an item, or for room for it. Anything but a framed
+    /// list has no items, and gives an empty list. A strict view fails then as [`Rlp::item_count`]
+    /// does.
+    ///
+    /// ```rust
+    /// let list = rlp::Rlp::new(&[0xc2, 0x05, 0x06]);
+    /// assert_eq!(rt; list.as_list::<u64>(alloc)?.as_slice(), [5, 6].as_slice());
+    /// ```
+    pub fn as_list<T: Decodable>(&self, alloc: Global) -> Result<Vec<T>, DecoderError>
+        ensures value { IfOk result (λ values. GivesList T.gives self.now values.items) }
+        ensures fault { IfErr result (λ e. (FaultsAsList T.gives T.faults self.now e)
+            ⊎ ((e ≡ OutOfMemory) × MayLackAsList T.gives T.may_lack_memory self.now)) }
+    {
+        self.check_list()?;
+        let mut values = Vec::new(alloc);
+        for item in self.iter() {
+            let value = match T::decode(alloc, &item) {
+                Ok(value) => value,
+                Err(fault) => return Err(fault),
+            };
+            match values.push(value) {
+                Ok(()) => {}
+                Err(_) => return Err(DecoderError::OutOfMemory),
+            }
+        }
+        Ok(values)
+    }
+
+    /// The value of the item at `index`, counted from 0: [`Rlp::at`], and then [`Rlp::as_val`].
+    ///
+    /// Fails as either of them does.
+    #[tactic(auto, using(rlp_values::proofs::Values::ListValues::some_given))]
+    pub fn val_at<T: Decodable>(&self, alloc: Global, index: usize) -> Result<T, DecoderError>
+        ensures exact { MatchResult (item_at self.now index)
+            (λ item. ReadsValue T.gives T.faults T.may_lack_memory item result)
+            (λ e. result ≡ Err e) }
+        ensures value { IfOk result (λ x. GivesAt T.gives self.now index x) }
+        ensures some { OnOk result (GivesSomeAt T.gives self.now index) }
+        ensures fault { IfErr result (λ e. (FaultsAt T.faults self.now index e)
+            ⊎ ((e ≡ OutOfMemory) × MayLackAt T.may_lack_memory self.now index)) }
+    {
+        self.at(index)?.as_val(alloc)
+    }
+
+    /// The values of the items of the item at `index`, counted from 0: [`Rlp::at`], and then
+    /// [`Rlp::as_list`].
+    ///
+    /// Fails as either of them does.
+    #[tactic(auto, using(rlp_values::proofs::Values::ListValues::some_given))]
+    pub fn list_at<T: Decodable>(&self, alloc: Global, index: usize) -> Result<Vec<T>, DecoderError>
+        ensures exact { MatchResult (item_at self.now index)
+            (λ item. MatchResult result (λ values. GivesList T.gives item values.items)
+            (λ e. (FaultsAsList T.gives T.faults item e)
+            ⊎ ((e ≡ OutOfMemory) × MayLackAsList T.gives T.may_lack_memory item)))
+            (λ e. result ≡ Err e) }
+        ensures value { IfOk result (λ values.
+            GivesAt (λ item xs. GivesList T.gives item xs) self.now index values.items) }
+        ensures some { OnOk result (GivesSomeAt (λ item values.
+            GivesList T.gives item (vec_items {X = T} {Z = Global} values)) self.now index) }
+        ensures fault { IfErr result (λ e.
+            (FaultsAt (λ item f. FaultsAsList T.gives T.faults item f) self.now index e)
+            ⊎ ((e ≡ OutOfMemory)
+            × MayLackAt (λ item. MayLackAsList T.gives T.may_lack_memory item) self.now index)) }
+    {
+        self.at(index)?.as_list(alloc)
+    }
+
+    /// A decoder of the view's bytes, of the same kind. A strict decoder fails with `RlpIsTooBig`
+    /// if bytes follow the string.
+    pub fn decoder(&self) -> BasicDecoder<'a>
+        ensures { result ≡ self.now }
+    {
+        BasicDecoder::of_kind(self.bytes, self.strict)
+    }
+
+    /// Whether the depth is at most `limit`. A framed list has a depth of 1 more than the deepest
+    /// of its items, or 1 without items. Anything else has depth 0.
+    ///
+    /// It goes no deeper than `limit` lists. [`Display`](std::fmt::Display) goes as deep as the
+    /// lists nest, so test untrusted bytes by this call before you print them.
+    ///
+    /// ```rust
+    /// let list = rlp::Rlp::new(&[0xc2, 0xc1, 0x05]);
+    /// assert!(rt; !list.is_nested_within(1) && list.is_nested_within(2));
+    /// ```
+    pub fn is_nested_within(&self, limit: usize) -> bool
+        ensures { IsTrue result ↔ (depth self.now.bytes ≤ limit) }
+    {
+        match first_framed(self.bytes) {
+            Ok((framed, _)) => is_nested_within(&framed, limit),
+            Err(_) => true,
+        }
+    }
+
+    /// Whether the bytes are exactly the canonical encoding of an item of depth at most
+    /// `max_depth`. A string has depth 0. A list has a depth of 1 more than the deepest of its
+    /// items, or 1 without items. The result is the same on lenient and strict views.
+    ///
+    /// It reads each header once, takes no memory, and goes no deeper than `max_depth` lists.
+    ///
+    /// ```rust
+    /// assert!(rt; rlp::Rlp::new(&[0xc2, 0xc1, 0x05]).is_canonical(2));
+    /// assert!(rt; !rlp::Rlp::new(&[0xc2, 0x81, 0x05]).is_canonical(2));
+    /// ```
+    pub fn is_canonical(&self, max_depth: usize) -> bool
+        ensures { IsTrue result ↔ IsCanonicalWithin max_depth self.now.bytes }
+    {
+        is_canonical(self.bytes, max_depth)
+    }
+
+    /// The items of the tree whose encoding the bytes are, from the outside in and from the left to
+    /// the right: each list comes before its items. The result is the same on lenient and strict
+    /// views.
+    ///
+    /// Fails with the first fault, in the order of the bytes, if they aren't the canonical encoding
+    /// of an item of depth at most `max_depth`:
+    ///
+    /// - the fault of [`Rlp::payload_info`] of a strict view, or that of bytes inside a list that
+    ///   aren't an item;
+    /// - `RlpInvalidIndirection` for a byte below `0x80` that has a header;
+    /// - [`TreeFault::TooDeep`] at a list inside `max_depth` others.
+    ///
+    /// Fails with `OutOfMemory` if memory is refused. It reads each header twice, and asks for
+    /// memory once, for just as many items as there are.
+    ///
+    /// ```rust
+    /// let items = rlp::Rlp::new(&[0xc2, 0xc1, 0x05]).flatten(alloc, 2)?;
+    /// assert_eq!(rt; (items[2].place, items[2].depth, items[2].is_list), (2, 2, false));
+    /// ```
+    pub fn flatten(&self, alloc: Global, max_depth: usize) -> Result<Vec<FlatItem>, TreeFault>
+        ensures items { IfOk result (λ v. IsFlat max_depth self.now.bytes v.items) }
+        ensures fault { IfErr result (λ e. IsFlatFault max_depth self.now.bytes e) }
+    {
+        flatten(alloc, self.bytes, max_depth)
+    }
+
+    /// A view of other bytes, of the same kind.
+    pub(crate) fn with_bytes(&self, bytes: &'a [u8]) -> Rlp<'a>
+        ensures { result ≡ record self.now { bytes = bytes.now } }
+    {
+        Rlp::of_kind(bytes, self.strict)
+    }
+
+    /// A view of these bytes, lenient or strict.
+    fn of_kind(bytes: &'a [u8], strict: bool) -> Rlp<'a>
+        ensures { result ≡ record { bytes = bytes.now; is_strict = strict } }
+    {
+        Rlp { bytes, strict }
+    }
+
+    /// The item that the view begins with, or the fault of [`Rlp::payload_info`].
+    fn framed(&self) -> Result<Framed<'a>, DecoderError>
+        ensures header { MatchResult result (λ f. view_header self.now ≡ Ok f.header)
+            (λ e. view_header self.now ≡ Err e) }
+        ensures value { MatchResult result (λ f. view_value self.now ≡ Ok f.content.now)
+            (λ e. view_value self.now ≡ Err e) }
+    {
+        if self.strict {
+            return whole_framed(self.bytes);
+        }
+        let (framed, _) = first_framed(self.bytes)?;
+        Ok(framed)
+    }
+
+    /// The number of items of a list that is all of the bytes, by one walk over it.
+    #[tactic(auto, using(rlp_format::proofs::Format::StrictLists::list_checks), unfolding(rlp_format::specs::Format::Split::items))]
+    fn strict_count(&self) -> Result<usize, DecoderError>
+        ensures fault { MatchResult result (λ _. strict_list_fault self.now.bytes ≡ None)
+            (λ e. strict_list_fault self.now.bytes ≡ Some e) }
+        ensures count { IfOk result (λ n. n ≡ length (items self.now.bytes)) }
+    {
+        if !self.is_list() {
+            return Err(DecoderError::RlpExpectedToBeList);
+        }
+        match whole_framed(self.bytes) {
+            Ok(list) => try_count_items(list.content),
+            Err(fault) => Err(fault),
+        }
+    }
+
+    /// Fails if the view can't be read as a list.
+    #[tactic(auto, using(rlp_format::proofs::Format::StrictLists::list_checks))]
+    pub(crate) fn check_list(&self) -> Result<(), DecoderError>
+        ensures { MatchResult result (λ _. list_fault self.now ≡ None)
+            (λ e. list_fault self.now ≡ Some e) }
+    {
+        if !self.strict {
+            return Ok(());
+        }
+        match self.strict_count() {
+            Ok(_) => Ok(()),
+            Err(fault) => Err(fault),
+        }
+    }
+
+    /// Fails if the view has no items by number.
+    #[tactic(auto, using(rlp_format::proofs::Format::StrictLists::items_checks))]
+    pub(crate) fn check_items(&self) -> Result<(), DecoderError>
+        ensures { MatchResult result (λ _. items_fault self.now ≡ None)
+            (λ e. items_fault self.now ≡ Some e) }
+    {
+        if !self.is_list() {
+            return Err(DecoderError::RlpExpectedToBeList);
+        }
+        self.check_list()
+    }
+}
+
+/// Whether there is a byte at this place, and it isn't zero.
+fn is_nonzero_at(bytes: &[u8], place: usize) -> bool
+    ensures { result ≡ has_nonzero_at place bytes.now }
+{
+    match bytes.get(place) {
+        Some(byte) => *byte != 0,
+        None => false,
+    }
+}

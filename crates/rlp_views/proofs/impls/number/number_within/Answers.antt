@@ -1,6 +1,0 @@
-use Rattle.std.proofs.Common.{rules}
-use Rattle.rlp_views.specs.Lemmas.Numbers.{lone_digit}
-use Rattle.rlp_views.proofs.impls.number.number_within.Goals as goal
-
-pub returns-in-1-to-127-clause-value : goal.returns-in-1-to-127-clause-value
-returns-in-1-to-127-clause-value c = lone_digit _ _ _ c.as_raw.ensures (search rules) (search rules) (search rules) (search rules) (search rules)
