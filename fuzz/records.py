@@ -85,7 +85,7 @@ class Text:
         return encoded_string(self.some(dice))
 
 
-def number_text(width):
+def number_text(width, shown=str):
     """The text of numbers of at most so many bytes."""
 
     def text(string):
@@ -93,7 +93,7 @@ def number_text(width):
             raise Answered("RlpIsTooBig")
         if string[:1] == b"\0":
             raise Answered("RlpInvalidIndirection")
-        return str(int.from_bytes(string, "big"))
+        return shown(int.from_bytes(string, "big"))
 
     return text
 
@@ -115,12 +115,26 @@ def truth_text(string):
     return number_text(1)(string)
 
 
-def number(width):
+def number(width, shown=str, often=()):
     def some(dice):
         value = dice.getrandbits(8 * dice.choice((0, 1, 1, 2, width, width)))
+        if often and dice.random() < 0.7:
+            value = dice.choice(often)
         return value.to_bytes((value.bit_length() + 7) // 8, "big")
 
-    return Text(number_text(width), some)
+    return Text(number_text(width, shown), some)
+
+
+def v_text(value):
+    """The `v` of a transaction without a type, and what it says."""
+    if value in (27, 28):
+        return f"{value} (parity {value - 27})"
+    chain, parity = divmod(value - 35, 2)
+    return f"{value} (chain {chain}, parity {parity})" if 0 <= chain < 1 << 64 else str(value)
+
+
+def bloom_text(string):
+    return "256 zero bytes" if string == bytes(256) else fixed_text(256)(string)
 
 
 def status_text(string):
@@ -134,7 +148,8 @@ def fixed(size):
     return Text(fixed_text(size), lambda dice: dice.randbytes(size))
 
 
-HASH, ADDRESS, BLOOM = fixed(32), fixed(20), fixed(256)
+HASH, ADDRESS = fixed(32), fixed(20)
+BLOOM = Text(bloom_text, lambda dice: bytes(256) if dice.random() < 0.5 else dice.randbytes(256))
 STRING = Text(lambda string: "0x" + string.hex(), lambda dice: dice.randbytes(dice.choice((0, 1, 4, 32, 60))))
 TRUTH = Text(truth_text, lambda dice: dice.choice((b"", b"\1")))
 RECIPIENT = Text(lambda s: fixed_text(20)(s) if s else "0x", lambda dice: dice.randbytes(dice.choice((0, 20))))
@@ -424,10 +439,11 @@ def fields(text, types):
 
 
 TYPES = {"u8": number(1), "u64": number(8), "u256": number(32), "hash": HASH, "address": ADDRESS, "bloom": BLOOM, "string": STRING}
+TYPES |= {"scalar": number(32, hex), "v": number(32, v_text, (27, 28, 35, 36, 37, 38, (2 << 64) + 34, (2 << 64) + 35))}
 TYPES |= {"truth": TRUTH, "recipient": RECIPIENT, "status": STATUS, "nonce": fixed(8), "hashes": ListOf(HASH)}
 TYPES["log"] = Record(fields("address:address topics:hashes data:string", TYPES))
 TYPES["access"] = Record(fields("address:address storage_keys:hashes", TYPES))
-TYPES["authorization"] = Record(fields("chain_id:u256 address:address nonce:u64 y_parity:u8 r:u256 s:u256", TYPES))
+TYPES["authorization"] = Record(fields("chain_id:u256 address:address nonce:u64 y_parity:u8 r:scalar s:scalar", TYPES))
 TYPES |= {"logs": ListOf(TYPES["log"]), "access_list": ListOf(TYPES["access"])}
 TYPES["authorizations"] = ListOf(TYPES["authorization"])
 
@@ -436,9 +452,9 @@ HEADER = """parent_hash:hash ommers_hash:hash beneficiary:address state_root:has
     extra_data:string mix_hash:hash nonce:nonce base_fee_per_gas:u256 withdrawals_root:hash blob_gas_used:u64
     excess_blob_gas:u64 parent_beacon_block_root:hash requests_hash:hash"""
 CALL = "gas_limit:u64 to:recipient value:u256 data:string"
-POINT = "y_parity:truth r:u256 s:u256"
+POINT = "y_parity:truth r:scalar s:scalar"
 SIGNED = f"access_list:access_list {POINT}"
-LEGACY = f"nonce:u64 gas_price:u256 {CALL} v:u256 r:u256 s:u256"
+LEGACY = f"nonce:u64 gas_price:u256 {CALL} v:v r:scalar s:scalar"
 TYPE_1 = f"chain_id:u64 nonce:u64 gas_price:u256 {CALL} {SIGNED}"
 FEES = "chain_id:u64 nonce:u64 max_priority_fee_per_gas:u256 max_fee_per_gas:u256"
 TYPE_2 = f"{FEES} {CALL} {SIGNED}"

@@ -74,27 +74,35 @@ abbrev pub begins_with_zero : List ℕ → Bool
 begins_with_zero [] = false
 begins_with_zero (d ∷ ds) = d == 0
 
--- the number of a string of at most `width` bytes, in decimal; it has no leading zero
-abbrev pub number_in : ℕ → List ℕ → Worded
-number_in width string =
+-- the text of the number of a string of at most `width` bytes; it has no leading zero
+abbrev pub number_in : (ℕ → List ℕ) → ℕ → List ℕ → Worded
+number_in text width string =
     if nat_lt width (length string) then Err (error_name RlpIsTooBig)
     else if begins_with_zero string then Err (error_name RlpInvalidIndirection)
-    else Ok (number_text (number_from_digits 256 string))
+    else Ok (text (number_from_digits 256 string))
 
--- a number of at most `width` bytes
+-- a number of at most `width` bytes, as its text
+abbrev pub number_as : (ℕ → List ℕ) → ℕ → Shape
+number_as text width = string_shape (number_in text width)
+
+-- a number of at most `width` bytes, in decimal
 abbrev pub number : ℕ → Shape
-number width = string_shape (number_in width)
+number = number_as number_text
 
--- the bytes of a string of exactly n bytes
-abbrev pub fixed_bytes_in : ℕ → List ℕ → Worded
-fixed_bytes_in n string =
+-- the text of a string of exactly n bytes
+abbrev pub fixed_bytes_in : (List ℕ → List ℕ) → ℕ → List ℕ → Worded
+fixed_bytes_in text n string =
     if nat_lt (length string) n then Err (error_name RlpIsTooShort)
     else if nat_lt n (length string) then Err (error_name RlpIsTooBig)
-    else Ok (bytes_text string)
+    else Ok (text string)
 
--- exactly n bytes
+-- exactly n bytes, as their text
+abbrev pub fixed_bytes_as : (List ℕ → List ℕ) → ℕ → Shape
+fixed_bytes_as text n = string_shape (fixed_bytes_in text n)
+
+-- exactly n bytes, in hexadecimal
 abbrev pub fixed_bytes : ℕ → Shape
-fixed_bytes n = string_shape (fixed_bytes_in n)
+fixed_bytes = fixed_bytes_as bytes_text
 
 -- any bytes
 abbrev pub byte_string : Shape
@@ -103,7 +111,7 @@ byte_string = string_shape (λ string. Ok (bytes_text string))
 -- the recipient of a transaction: the bytes of an address, or no bytes
 abbrev pub recipient_in : List ℕ → Worded
 recipient_in [] = Ok (bytes_text [])
-recipient_in (d ∷ ds) = fixed_bytes_in 20 (d ∷ ds)
+recipient_in (d ∷ ds) = fixed_bytes_in bytes_text 20 (d ∷ ds)
 
 -- a recipient
 abbrev pub recipient : Shape
@@ -124,7 +132,7 @@ receipt_status = string_shape status_in
 abbrev pub truth_value_in : List ℕ → Worded
 truth_value_in string =
     if nat_lt 1 (number_from_digits 256 string) && nat_lt (length string) 2 then Err (codes "Custom(\"invalid boolean value\")")
-    else number_in 1 string
+    else number_in number_text 1 string
 
 -- a truth value
 abbrev pub truth_value : Shape

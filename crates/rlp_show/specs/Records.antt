@@ -11,9 +11,9 @@ use Rattle.rlp.specs.Views.View.{View, item_count, item_views, view_string}
 use Rattle.rlp_node_record.specs.NodeRecord.{keys_rise, longest_record}
 use Rattle.rlp_trie.specs.HexPrefix.{ends_in_leaf, is_empty_extension}
 use Rattle.rlp_trie.specs.TrieNode.{is_leaf_string}
-use Rattle.rlp_show.specs.Lines.{Field, Shape, Shown, Worded, byte_string, field, fields_lines, fixed_bytes, fixed_bytes_in, item_within, line, list_of}
-use Rattle.rlp_show.specs.Lines.{list_or_string, number, optional, pairs_lines, prefix, receipt_status, recipient, record_of, string_shape, then_lines, truth_value, typed, wrong}
-use Rattle.rlp_show.specs.Text.{bytes_text, number_text}
+use Rattle.rlp_show.specs.Lines.{Field, Shape, Shown, Worded, byte_string, field, fields_lines, fixed_bytes, fixed_bytes_as, fixed_bytes_in, item_within, line, list_of}
+use Rattle.rlp_show.specs.Lines.{list_or_string, number, number_as, optional, pairs_lines, prefix, receipt_status, recipient, record_of, string_shape, then_lines, truth_value, typed, wrong}
+use Rattle.rlp_show.specs.Text.{bloom_text, bytes_text, hex_text, number_text, v_text}
 
 -- addresses
 abbrev pub address : Shape
@@ -25,7 +25,15 @@ hash = fixed_bytes 32
 
 -- filters of logs
 abbrev pub bloom : Shape
-bloom = fixed_bytes 256
+bloom = fixed_bytes_as bloom_text 256
+
+-- the numbers r and s of a signature, in hexadecimal
+abbrev pub signature_number : Shape
+signature_number = number_as hex_text 32
+
+-- the number v of the signature of a transaction without a type
+abbrev pub legacy_v : Shape
+legacy_v = number_as v_text 32
 
 -- withdrawals
 abbrev pub withdrawal : Shape
@@ -108,9 +116,9 @@ legacy_transaction = record_of (
     ∷ field (codes "to") recipient
     ∷ field (codes "value") (number 32)
     ∷ field (codes "data") byte_string
-    ∷ field (codes "v") (number 32)
-    ∷ field (codes "r") (number 32)
-    ∷ field (codes "s") (number 32)
+    ∷ field (codes "v") legacy_v
+    ∷ field (codes "r") signature_number
+    ∷ field (codes "s") signature_number
     ∷ [])
 
 -- transactions of type 1, without the byte of the type
@@ -125,8 +133,8 @@ access_list_transaction = record_of (
     ∷ field (codes "data") byte_string
     ∷ field (codes "access_list") (list_of access_list_item)
     ∷ field (codes "y_parity") truth_value
-    ∷ field (codes "r") (number 32)
-    ∷ field (codes "s") (number 32)
+    ∷ field (codes "r") signature_number
+    ∷ field (codes "s") signature_number
     ∷ [])
 
 -- transactions of type 2, without the byte of the type
@@ -142,8 +150,8 @@ fee_market_transaction = record_of (
     ∷ field (codes "data") byte_string
     ∷ field (codes "access_list") (list_of access_list_item)
     ∷ field (codes "y_parity") truth_value
-    ∷ field (codes "r") (number 32)
-    ∷ field (codes "s") (number 32)
+    ∷ field (codes "r") signature_number
+    ∷ field (codes "s") signature_number
     ∷ [])
 
 -- transactions of type 3, without the byte of the type
@@ -161,8 +169,8 @@ blob_transaction = record_of (
     ∷ field (codes "max_fee_per_blob_gas") (number 32)
     ∷ field (codes "blob_versioned_hashes") (list_of hash)
     ∷ field (codes "y_parity") truth_value
-    ∷ field (codes "r") (number 32)
-    ∷ field (codes "s") (number 32)
+    ∷ field (codes "r") signature_number
+    ∷ field (codes "s") signature_number
     ∷ [])
 
 -- authorizations of transactions of type 4
@@ -172,8 +180,8 @@ authorization = record_of (
     ∷ field (codes "address") address
     ∷ field (codes "nonce") (number 8)
     ∷ field (codes "y_parity") (number 1)
-    ∷ field (codes "r") (number 32)
-    ∷ field (codes "s") (number 32)
+    ∷ field (codes "r") signature_number
+    ∷ field (codes "s") signature_number
     ∷ [])
 
 -- transactions of type 4, without the byte of the type
@@ -190,8 +198,8 @@ set_code_transaction = record_of (
     ∷ field (codes "access_list") (list_of access_list_item)
     ∷ field (codes "authorization_list") (list_of authorization)
     ∷ field (codes "y_parity") truth_value
-    ∷ field (codes "r") (number 32)
-    ∷ field (codes "s") (number 32)
+    ∷ field (codes "r") signature_number
+    ∷ field (codes "s") signature_number
     ∷ [])
 
 -- the envelope of a transaction by its first byte, which is its type, or else another shape
@@ -325,7 +333,7 @@ child name v = if begins_as_list v.bytes then inline_node name v else hash name 
 -- the hash of a child, or no bytes
 abbrev pub child_hash_in : List ℕ → Worded
 child_hash_in [] = Ok (bytes_text [])
-child_hash_in (d ∷ ds) = fixed_bytes_in 32 (d ∷ ds)
+child_hash_in (d ∷ ds) = fixed_bytes_in bytes_text 32 (d ∷ ds)
 
 -- places of a branch: a child, or the empty string if there is none
 abbrev pub branch_child : Shape

@@ -26,6 +26,7 @@ pub use fields::{Label, ShowFields, show_record};
 pub use kind::{Kind, UNKNOWN_KIND, USAGE};
 pub use lists::Items;
 pub use nodes::{ExtensionPath, Node, Path};
+pub use numbers::{LegacyV, SignatureNumber};
 pub use records::AccessListAlone;
 pub use rlp_lines::{Noted, RunFault};
 pub use serving::{exit_status, run};

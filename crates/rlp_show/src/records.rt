@@ -5,6 +5,7 @@ ghost use Rattle.rlp_show.specs.Records.{withdrawal, account, header, log, recei
 use crate::fault::ShowFault;
 use crate::fields::{Label, show_fields, show_record};
 use crate::lists::Items;
+use crate::numbers::{LegacyV, SignatureNumber};
 use crate::show::Show;
 use rlp::{Rlp, Uint};
 use rlp_ethereum::{
@@ -145,9 +146,9 @@ impl Show for SignedLegacyTransaction {
             "to": Recipient,
             "value": Uint<32>,
             "data": Vec<u8>,
-            "v": Uint<32>,
-            "r": Uint<32>,
-            "s": Uint<32>
+            "v": LegacyV,
+            "r": SignatureNumber,
+            "s": SignatureNumber
         )
     }
 }
@@ -170,8 +171,8 @@ impl Show for Signed<AccessListTransaction> {
             "data": Vec<u8>,
             "access_list": Items<AccessListItem>,
             "y_parity": bool,
-            "r": Uint<32>,
-            "s": Uint<32>
+            "r": SignatureNumber,
+            "s": SignatureNumber
         )
     }
 }
@@ -195,8 +196,8 @@ impl Show for Signed<FeeMarketTransaction> {
             "data": Vec<u8>,
             "access_list": Items<AccessListItem>,
             "y_parity": bool,
-            "r": Uint<32>,
-            "s": Uint<32>
+            "r": SignatureNumber,
+            "s": SignatureNumber
         )
     }
 }
@@ -222,8 +223,8 @@ impl Show for Signed<BlobTransaction> {
             "max_fee_per_blob_gas": Uint<32>,
             "blob_versioned_hashes": Items<Hash>,
             "y_parity": bool,
-            "r": Uint<32>,
-            "s": Uint<32>
+            "r": SignatureNumber,
+            "s": SignatureNumber
         )
     }
 }
@@ -241,8 +242,8 @@ impl Show for SignedAuthorization {
             "address": Address,
             "nonce": u64,
             "y_parity": u8,
-            "r": Uint<32>,
-            "s": Uint<32>
+            "r": SignatureNumber,
+            "s": SignatureNumber
         )
     }
 }
@@ -267,8 +268,8 @@ impl Show for Signed<SetCodeTransaction> {
             "access_list": Items<AccessListItem>,
             "authorization_list": Items<SignedAuthorization>,
             "y_parity": bool,
-            "r": Uint<32>,
-            "s": Uint<32>
+            "r": SignatureNumber,
+            "s": SignatureNumber
         )
     }
 }

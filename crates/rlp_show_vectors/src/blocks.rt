@@ -35,9 +35,8 @@ const BLOCKS: [Row; 8] = [
          blob_versioned_hashes[1]: 0x01eeeeeeeeeeeeeeeeeeeeeeeeeeeeeeeeeeeeeeeeee\
          eeeeeeeeeeeeeeeeeeee\n\
          y_parity: 0\n\
-         r: 578960446186580977117854925043439539266349923328202820197287920039565\
-         64819968\n\
-         s: 1\n\
+         r: 0x8000000000000000000000000000000000000000000000000000000000000000\n\
+         s: 0x1\n\
          \n",
     ),
     (
@@ -61,20 +60,19 @@ const BLOCKS: [Row; 8] = [
          4\n\
          authorization_list[0].nonce: 5\n\
          authorization_list[0].y_parity: 255\n\
-         authorization_list[0].r: 9\n\
-         authorization_list[0].s: 10\n\
+         authorization_list[0].r: 0x9\n\
+         authorization_list[0].s: 0xa\n\
          authorization_list[1].chain_id: 1157920892373161954235709850086879078532\
          69984665640564039457584007913129639935\n\
          authorization_list[1].address: 0x0102030405060708090a0b0c0d0e0f101112131\
          4\n\
          authorization_list[1].nonce: 0\n\
          authorization_list[1].y_parity: 0\n\
-         authorization_list[1].r: 0\n\
-         authorization_list[1].s: 0\n\
+         authorization_list[1].r: 0x0\n\
+         authorization_list[1].s: 0x0\n\
          y_parity: 1\n\
-         r: 0\n\
-         s: 115792089237316195423570985008687907853269984665640564039457584007913\
-         129639935\n\
+         r: 0x0\n\
+         s: 0xffffffffffffffffffffffffffffffffffffffffffffffffffffffffffffffff\n\
          \n",
     ),
     (
@@ -230,9 +228,9 @@ const BLOCKS: [Row; 8] = [
          transactions[0].to: 0x3535353535353535353535353535353535353535\n\
          transactions[0].value: 1000000000000000000\n\
          transactions[0].data: 0x\n\
-         transactions[0].v: 37\n\
-         transactions[0].r: 1\n\
-         transactions[0].s: 2\n\
+         transactions[0].v: 37 (chain 1, parity 0)\n\
+         transactions[0].r: 0x1\n\
+         transactions[0].s: 0x2\n\
          transactions[1].type: 3\n\
          transactions[1].chain_id: 1\n\
          transactions[1].nonce: 7\n\
@@ -252,9 +250,9 @@ const BLOCKS: [Row; 8] = [
          transactions[1].blob_versioned_hashes[1]: 0x01eeeeeeeeeeeeeeeeeeeeeeeeee\
          eeeeeeeeeeeeeeeeeeeeeeeeeeeeeeeeeeee\n\
          transactions[1].y_parity: 0\n\
-         transactions[1].r: 57896044618658097711785492504343953926634992332820282\
-         019728792003956564819968\n\
-         transactions[1].s: 1\n\
+         transactions[1].r: 0x800000000000000000000000000000000000000000000000000\
+         0000000000000\n\
+         transactions[1].s: 0x1\n\
          transactions[2].type: 2\n\
          transactions[2].chain_id: 1\n\
          transactions[2].nonce: 0\n\
@@ -266,8 +264,8 @@ const BLOCKS: [Row; 8] = [
          transactions[2].data: 0x60\n\
          transactions[2].access_list: []\n\
          transactions[2].y_parity: 1\n\
-         transactions[2].r: 3\n\
-         transactions[2].s: 4\n\
+         transactions[2].r: 0x3\n\
+         transactions[2].s: 0x4\n\
          ommers: []\n\
          withdrawals[0].index: 0\n\
          withdrawals[0].validator_index: 1000\n\

@@ -18,11 +18,11 @@ const PARTS: [Row; 6] = [
          transactions[0].to: 0x5df9b87991262f6ba471f09758cde1c0fc1de734\n\
          transactions[0].value: 31337\n\
          transactions[0].data: 0x\n\
-         transactions[0].v: 28\n\
-         transactions[0].r: 619658452946890097701563721563747600227878869653237438659\
-         86648153755601564112\n\
-         transactions[0].s: 316065747864949536922911019147099267555457652815818088217\
-         04454381804773090106\n\
+         transactions[0].v: 28 (parity 1)\n\
+         transactions[0].r: 0x88ff6cf0fefd94db46111149ae4bfc179e9b94721fffd821d38\
+         d16464b3f71d0\n\
+         transactions[0].s: 0x45e0aff800961cfce805daef7016b9b675c137a6a41a548f7b6\
+         0a3484c06a33a\n\
          ommers: []\n\
          \n",
     ),
@@ -32,8 +32,8 @@ const PARTS: [Row; 6] = [
          address: 0x5df9b87991262f6ba471f09758cde1c0fc1de734\n\
          nonce: 5\n\
          y_parity: 255\n\
-         r: 9\n\
-         s: 10\n\
+         r: 0x9\n\
+         s: 0xa\n\
          \n",
     ),
     (
