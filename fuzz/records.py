@@ -3,6 +3,7 @@ answers of `rlp_show`, after crates/rlp_show/CALLING.md. It shares no code with 
 """
 
 from answers import Answered, bytes_of, encoded_string, framing, written_header
+from keccak import keccak256
 from lines import digits, spoiled
 
 # ---- strict reading
@@ -224,6 +225,17 @@ class Record:
         return written_list(dice, [(self.fields + self.fields)[place][1].written(dice) for place in range(count)])
 
 
+class Hashed:
+    """The hash of the bytes of an item, and then the item."""
+
+    def __init__(self, one):
+        self.one, self.written = one, one.written
+
+    def lines(self, name, data):
+        before = f"{name}." if name else ""
+        return [f"{before}hash: 0x{keccak256(data).hex()}"] + self.one.lines(name, data)
+
+
 class Typed:
     """An envelope of EIP-2718 by its first byte, or else a record without a type. `unknown` is an envelope of another type."""
 
@@ -270,12 +282,12 @@ class Held:
 
     def lines(self, name, data):
         if data and data[0] >= 0xC0:
-            return self.alone.other.lines(name, data)
+            return Hashed(self.alone.other).lines(name, data)
         try:
             held = strict_string(data)
         except Answered as answered:
             raise Wrong(name, answered) from None
-        return self.typed.lines(name, held)
+        return Hashed(self.typed).lines(name, held)
 
     def written(self, dice):
         if dice.random() < 0.3:
@@ -356,7 +368,8 @@ class NodeRecord:
 def path_text(string):
     if not string or string[0] not in (0x00, *range(0x10, 0x21), *range(0x30, 0x40)):
         raise Answered('Custom("path is not hex-prefix encoded")')
-    return "0x" + string.hex()
+    digits = string.hex()
+    return f"0x{digits} (nibbles [{digits[1 if string[0] & 0x10 else 2 :]}])"
 
 
 def some_path(dice):
@@ -376,22 +389,27 @@ EXTENSION_PATH = Text(extension_path_text, some_path)
 
 
 class Child:
-    """A child of a node of the trie: a list of fewer than 32 bytes, or a hash."""
+    """A child of a node of the trie: a list of fewer than 32 bytes, or a hash. A list is of a type."""
 
     hash = Text(fixed_text(32), lambda dice: dice.randbytes(dice.choice((0, 32, 32, 32))))
+
+    def __init__(self, kept):
+        self.kept = kept
 
     def lines(self, name, data):
         if not data or data[0] < 0xC0:
             return self.hash.lines(name, data)
         if len(data) >= 32:
             raise Wrong(name, "RlpIsTooBig")
-        return AnyItem(256).lines(name, data)
+        return self.kept.lines(name, data)
 
     def written(self, dice):
         if dice.random() < 0.7:
             return self.hash.written(dice)
+        if dice.random() < 0.3:
+            return written_list(dice, [encoded_string(b"\x1a"), Child(self.kept).written(dice)])
         value = encoded_string(dice.randbytes(dice.choice((1, 20, 28, 29, 30, 40))))
-        return written_list(dice, [encoded_string(b"\x20"), value])
+        return written_list(dice, [encoded_string(dice.choice((b"\x20", b"\x20", b"\x00"))), value])
 
 
 class BranchChild(Child):
@@ -401,11 +419,17 @@ class BranchChild(Child):
 
 
 class Node:
-    """A node of the trie: a branch of 17 items, or a leaf or an extension, which the path tells apart; or the empty trie."""
+    """A node of the trie: a branch of 17 items, or a leaf or an extension, which the path tells apart; or the empty trie.
 
-    branch = Record([(f"children[{digit}]", BranchChild()) for digit in range(16)] + [("value", STRING)])
+    So many nodes are shown one in another. Of others the items are shown.
+    """
+
     leaf = Record([("path", PATH), ("value", STRING)])
-    extension = Record([("path", EXTENSION_PATH), ("child", Child())])
+
+    def __init__(self, nodes_left):
+        kept = Node(nodes_left - 1) if nodes_left > 1 else AnyItem(256)
+        self.branch = Record([(f"children[{digit}]", BranchChild(kept)) for digit in range(16)] + [("value", STRING)])
+        self.extension = Record([("path", EXTENSION_PATH), ("child", Child(kept))])
 
     def lines(self, name, data):
         if data == b"\x80":
@@ -462,7 +486,7 @@ TYPE_3 = f"""{FEES} gas_limit:u64 to:address value:u256 data:string access_list:
     blob_versioned_hashes:hashes {POINT}"""
 TYPE_4 = f"""{FEES} gas_limit:u64 destination:address value:u256 data:string access_list:access_list
     authorization_list:authorizations {POINT}"""
-TYPES["header"] = Record(fields(HEADER, TYPES), counts=(15, 16, 17, 20, 21))
+TYPES["header"] = Hashed(Record(fields(HEADER, TYPES), counts=(15, 16, 17, 20, 21)))
 TYPES["withdrawal"] = Record(fields("index:u64 validator_index:u64 address:address amount:u64", TYPES))
 PAYLOADS = {kind: Record(fields(text, TYPES)) for kind, text in enumerate((TYPE_1, TYPE_2, TYPE_3, TYPE_4), 1)}
 TRANSACTION = Typed(PAYLOADS, Record(fields(LEGACY, TYPES)), Kept())
@@ -478,10 +502,10 @@ KINDS = {
     "block": Record(fields(BLOCK, TYPES), counts=(3, 4)),
     "body": Record(fields(BLOCK, TYPES)[1:], counts=(2, 3)),
     "header": TYPES["header"],
-    "node": Node(),
+    "node": Hashed(Node(4)),
     "receipt": Typed(dict.fromkeys((1, 2, 3, 4), RECEIPT), RECEIPT, Unknown()),
     "record": NodeRecord(),
-    "transaction": TRANSACTION,
+    "transaction": Hashed(TRANSACTION),
     "withdrawal": TYPES["withdrawal"],
 }
 

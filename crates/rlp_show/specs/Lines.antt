@@ -2,6 +2,7 @@
 use Rattle.std.specs.Prelude.{ℕ, zero, suc, ◌+◌, ◌&&◌, ◌||◌, ◌==◌, nat_lt, Bool, false, true, if◌then◌else◌, List, [], ◌∷◌, ◌++◌, length, codes, decimal}
 use Rattle.std.specs.Prelude.{Option, Some, None, Result, Ok, Err}
 use Rattle.std.specs.Int.Digits.{number_from_digits}
+use Rattle.keccak.specs.Keccak.{keccak256}
 use Rattle.rlp.specs.DecoderError.{DecoderError}
 use Rattle.rlp.specs.DecoderError.TheVariants.{RlpIsTooBig, RlpIsTooShort, RlpInvalidIndirection, RlpIncorrectListLen}
 use Rattle.rlp.specs.Format.Split.{begins_as_list}
@@ -235,6 +236,16 @@ typed_lines kind shape name other v (first ∷ payload) =
 -- bytes that begin with this byte are the envelope (EIP-2718) of a record of a shape; other bytes are of another shape
 abbrev pub typed : ℕ → Shape → Shape → Shape
 typed kind shape other name v = typed_lines kind shape name other v v.bytes
+
+-- ---- hashes
+
+-- the line of the hash of these bytes
+abbrev pub hash_line : List ℕ → List ℕ → List ℕ
+hash_line name bytes = line (prefix name ++ codes "hash") (bytes_text (keccak256 bytes))
+
+-- the hash of the bytes of an item, and then its lines
+abbrev pub hashed : Shape → Shape
+hashed shape name v = then_lines (Ok (hash_line name v.bytes)) (shape name v)
 
 -- ---- strings that hold records
 

@@ -49,8 +49,8 @@ use Rattle.rlp_ethereum.specs.Bloom.{bloom as bloom_codec}
 use Rattle.rlp_records.specs.Hash.{hash as hash_codec}
 use Rattle.rlp_ethereum.specs.ReceiptStatus.{receipt_status as status_codec, status_bytes}
 use Rattle.rlp_transactions.specs.Recipient.{recipient as recipient_codec, recipient_bytes}
-use Rattle.rlp_show.specs.Lines.{Field, Shape, byte_string, field, fields_lines, fixed_bytes, fixed_bytes_as, in_field, line, lines_if, list_of, list_value_lines, may_have}
-use Rattle.rlp_show.specs.Lines.{number, number_as, optional, prefix, receipt_status, recipient, record_of, truth_value}
+use Rattle.rlp_show.specs.Lines.{Field, Shape, byte_string, field, fields_lines, fixed_bytes, fixed_bytes_as, hash_line, hashed, in_field, line, lines_if, list_of, list_value_lines, may_have}
+use Rattle.rlp_show.specs.Lines.{number, number_as, optional, prefix, receipt_status, recipient, record_of, then_lines, truth_value}
 use Rattle.rlp_show.specs.Records.{access_list_item, access_list_transaction, account, address, bloom, fee_market_transaction, hash, header, legacy_transaction, legacy_v, signature_number}
 use Rattle.rlp_show.specs.Records.{authorization, blob_transaction, log, receipt, set_code_transaction, withdrawal}
 use Rattle.rlp_show.specs.Text.{bloom_text, bytes_text, hex_text, number_text, v_text}
@@ -223,6 +223,13 @@ signed_display {T} {V} fixed many name v d = record_display (part_display (λ (x
     field_display (codes "r") (λ (x : Signed T V). x.r) signature_number_display (
     field_display (codes "s") (λ (x : Signed T V). x.s) signature_number_display end_display))))
 
+-- a value after the hash of its encoding
+abbrev pub hashed_display : {A : Type 0} {c : Codec A} {s : Shape} → Display c s → Display c (hashed s)
+hashed_display {c = c} d = record {
+  lines = λ name x. hash_line name (encoding (c.item x)) ++ d.lines name x;
+  shown = λ name x fit sized. ap (then_lines (Ok (hash_line name (encoding (c.item x))))) (d.shown name x fit sized);
+}
+
 abbrev pub withdrawal_display : Display withdrawal_codec withdrawal
 withdrawal_display = record_display (
     field_display (codes "index") (λ (w : Withdrawal). w.index) (number_display 8) (
@@ -324,7 +331,7 @@ set_code_transaction_display = signed_display (λ p. refl) refl (codes "y_parity
     field_display (codes "authorization_list") (λ (s : SetCodeTransaction). s.authorization_list) (list_display vec_items authorization_display) end_display))))))))))
 
 abbrev pub header_display : Display header_codec header
-header_display = record_display (
+header_display = hashed_display (record_display (
     field_display (codes "parent_hash") (λ (h : Header). h.parent_hash) hash_display (
     field_display (codes "ommers_hash") (λ (h : Header). h.ommers_hash) hash_display (
     field_display (codes "beneficiary") (λ (h : Header). h.beneficiary) address_display (
@@ -348,4 +355,4 @@ header_display = record_display (
     field_display (codes "blob_gas_used") (λ (c : Cancun). c.blob_gas_used) (number_display 8) (
     field_display (codes "excess_blob_gas") (λ (c : Cancun). c.excess_blob_gas) (number_display 8) (
     field_display (codes "parent_beacon_block_root") (λ (c : Cancun). c.parent_beacon_block_root) hash_display (
-    optional_display (codes "requests_hash") (λ (c : Cancun). c.requests_hash) hash_display)))) refl)) refl)) refl))))))))))))))))
+    optional_display (codes "requests_hash") (λ (c : Cancun). c.requests_hash) hash_display)))) refl)) refl)) refl)))))))))))))))))

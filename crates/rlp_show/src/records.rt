@@ -4,6 +4,7 @@ ghost use Rattle.rlp_show.specs.Records.{withdrawal, account, header, log, recei
 
 use crate::fault::ShowFault;
 use crate::fields::{Label, show_fields, show_record};
+use crate::hashes::put_hash;
 use crate::lists::Items;
 use crate::numbers::{LegacyV, SignatureNumber};
 use crate::show::Show;
@@ -49,10 +50,13 @@ impl Show for Account {
     }
 }
 
+/// The hash of the header, and then its fields.
 impl Show for Header {
     ghost shape = { header };
 
+    #[tactic(auto, using(crate::proofs::FieldLemmas::fields_in_order))]
     fn show(alloc: Global, name: &str, item: &Rlp<'_>, out: &mut String) -> Result<(), ShowFault> {
+        put_hash(alloc, name, item.as_raw(), out)?;
         show_fields!(
             alloc,
             name,

@@ -8,8 +8,14 @@ use std::test::Fail;
 
 /// The kind, the digits of a record, and its lines.
 const BLOCKS: [Row; 8] = [
-    ("transaction 7d8001", "type: 125\npayload: 0x8001\n\n"),
-    ("transaction 00", "type: 0\npayload: 0x\n\n"),
+    ("transaction 7d8001", "hash: 0x53565816e2969d9eecc47ff49e3297dceb138d5bc8128ea9b79e7bd7c9860ed6\n\
+         type: 125\n\
+         payload: 0x8001\n\
+         \n"),
+    ("transaction 00", "hash: 0xbc36789e7a1e281436464229828f817d6612f7b477d66591ff96a9e064bcc98a\n\
+         type: 0\n\
+         payload: 0x\n\
+         \n"),
     (
         "transaction 03f8c5010780843b9aca00830f4240945df9b87991262f6ba471f09758cde1c0fc1de734\
          8080f838f7940102030405060708090a0b0c0d0e0f1011121314e1a00001020304050607\
@@ -17,7 +23,8 @@ const BLOCKS: [Row; 8] = [
          08090a0b0c0d0e0f101112131415161718191a1b1c1d1e1fa001eeeeeeeeeeeeeeeeeeee\
          eeeeeeeeeeeeeeeeeeeeeeeeeeeeeeeeeeeeeeeeee80a080000000000000000000000000\
          0000000000000000000000000000000000000001",
-        "type: 3\n\
+        "hash: 0x7c22d700cdb412833c52829a8dd6e2a8d9d077bcb7750ddfdde9ea2f3f02a9e2\n\
+         type: 3\n\
          chain_id: 1\n\
          nonce: 7\n\
          max_priority_fee_per_gas: 0\n\
@@ -45,7 +52,8 @@ const BLOCKS: [Row; 8] = [
          c0fc1de7340581ff090af83aa0ffffffffffffffffffffffffffffffffffffffffffffff\
          ffffffffffffffffff940102030405060708090a0b0c0d0e0f1011121314808080800180\
          a0ffffffffffffffffffffffffffffffffffffffffffffffffffffffffffffffff",
-        "type: 4\n\
+        "hash: 0x7bf3094a09621c43aab54107f8b33b696e0c25b85596d2266365b18b9f27701a\n\
+         type: 4\n\
          chain_id: 18446744073709551615\n\
          nonce: 0\n\
          max_priority_fee_per_gas: 1\n\
@@ -105,7 +113,9 @@ const BLOCKS: [Row; 8] = [
          000000000000000000000000000000000000000000000000000000808083c5d4888401ca\
          35428084610bdaa6826869a0ffffffffffffffffffffffffffffffffffffffffffffffff\
          ffffffffffffffff880000000000000000843b9aca00",
-        "header.parent_hash: 0x000102030405060708090a0b0c0d0e0f101112131415161718\
+        "header.hash: 0x4757c25f4d78e9f10ca9f0e3624097db9ff8fb33a783cf61ac4abadbc\
+         a1d316d\n\
+         header.parent_hash: 0x000102030405060708090a0b0c0d0e0f101112131415161718\
          191a1b1c1d1e1f\n\
          header.ommers_hash: 0xffffffffffffffffffffffffffffffffffffffffffffffffff\
          ffffffffffffff\n\
@@ -134,6 +144,8 @@ const BLOCKS: [Row; 8] = [
          fffffffffff\n\
          header.nonce: 0x0000000000000000\n\
          transactions: []\n\
+         ommers[0].hash: 0x81aec941d00bf958ebcb1c31052f3dc2ca4382457eea1e71d2de93\
+         ca381c6892\n\
          ommers[0].parent_hash: 0x000102030405060708090a0b0c0d0e0f101112131415161\
          718191a1b1c1d1e1f\n\
          ommers[0].ommers_hash: 0xfffffffffffffffffffffffffffffffffffffffffffffff\
@@ -191,7 +203,9 @@ const BLOCKS: [Row; 8] = [
          00000000000000019002ce01800102825208808060c0010304c0f83cda808203e8945df9\
          b87991262f6ba471f09758cde1c0fc1de73405e088ffffffffffffffff80940102030405\
          060708090a0b0c0d0e0f101112131480",
-        "header.parent_hash: 0x000102030405060708090a0b0c0d0e0f101112131415161718\
+        "header.hash: 0x83eb44e4cfb51ab6dd5aee4357d7b1420ce02b21ea4e3b8ea53c5f07d\
+         39c2e74\n\
+         header.parent_hash: 0x000102030405060708090a0b0c0d0e0f101112131415161718\
          191a1b1c1d1e1f\n\
          header.ommers_hash: 0xffffffffffffffffffffffffffffffffffffffffffffffffff\
          ffffffffffffff\n\
@@ -222,6 +236,8 @@ const BLOCKS: [Row; 8] = [
          header.base_fee_per_gas: 1000000000\n\
          header.withdrawals_root: 0x000102030405060708090a0b0c0d0e0f1011121314151\
          61718191a1b1c1d1e1f\n\
+         transactions[0].hash: 0xda921c1b0e307b15ee41cc637f88b916d48bb1c359bf19ea\
+         26e69f559de49dbb\n\
          transactions[0].nonce: 9\n\
          transactions[0].gas_price: 20000000000\n\
          transactions[0].gas_limit: 21000\n\
@@ -231,6 +247,8 @@ const BLOCKS: [Row; 8] = [
          transactions[0].v: 37 (chain 1, parity 0)\n\
          transactions[0].r: 0x1\n\
          transactions[0].s: 0x2\n\
+         transactions[1].hash: 0x7c22d700cdb412833c52829a8dd6e2a8d9d077bcb7750ddf\
+         dde9ea2f3f02a9e2\n\
          transactions[1].type: 3\n\
          transactions[1].chain_id: 1\n\
          transactions[1].nonce: 7\n\
@@ -253,6 +271,8 @@ const BLOCKS: [Row; 8] = [
          transactions[1].r: 0x800000000000000000000000000000000000000000000000000\
          0000000000000\n\
          transactions[1].s: 0x1\n\
+         transactions[2].hash: 0x6d59cecad6b04f04eb49a8362429dfe8cab909294ef32dde\
+         ea52368bcb421a91\n\
          transactions[2].type: 2\n\
          transactions[2].chain_id: 1\n\
          transactions[2].nonce: 0\n\
@@ -294,7 +314,9 @@ const BLOCKS: [Row; 8] = [
          6869a0ffffffffffffffffffffffffffffffffffffffffffffffffffffffffffffffff88\
          0000000000000000843b9aca00a0000102030405060708090a0b0c0d0e0f101112131415\
          161718191a1b1c1d1e1fc0c0c0",
-        "header.parent_hash: 0x000102030405060708090a0b0c0d0e0f101112131415161718\
+        "header.hash: 0x83eb44e4cfb51ab6dd5aee4357d7b1420ce02b21ea4e3b8ea53c5f07d\
+         39c2e74\n\
+         header.parent_hash: 0x000102030405060708090a0b0c0d0e0f101112131415161718\
          191a1b1c1d1e1f\n\
          header.ommers_hash: 0xffffffffffffffffffffffffffffffffffffffffffffffffff\
          ffffffffffffff\n\
@@ -349,7 +371,8 @@ const BLOCKS: [Row; 8] = [
          191a1b1c1d1e1f8302000080a0000102030405060708090a0b0c0d0e0f10111213141516\
          1718191a1b1c1d1e1fa0e3b0c44298fc1c149afbf4c8996fb92427ae41e4649b934ca495\
          991b7852b855",
-        "parent_hash: 0x000102030405060708090a0b0c0d0e0f101112131415161718191a1b1\
+        "hash: 0xcc5bf6377a8fb490b48dfcc7ee63e3658e2fa050d76c9f8032cf3d67389274f9\n\
+         parent_hash: 0x000102030405060708090a0b0c0d0e0f101112131415161718191a1b1\
          c1d1e1f\n\
          ommers_hash: 0xfffffffffffffffffffffffffffffffffffffffffffffffffffffffff\
          fffffff\n\

@@ -12,7 +12,9 @@ const PARTS: [Row; 6] = [
         "body f86cf869f86780862d79883d2000825208945df9b87991262f6ba471f09758cde1c0fc1\
          de734827a69801ca088ff6cf0fefd94db46111149ae4bfc179e9b94721fffd821d38d16464b3\
          f71d0a045e0aff800961cfce805daef7016b9b675c137a6a41a548f7b60a3484c06a33ac0",
-        "transactions[0].nonce: 0\n\
+        "transactions[0].hash: 0x5c504ed432cb51138bcf09aa5e8a410dd4a1e204ef84bfed\
+         1be16dfba1b22060\n\
+         transactions[0].nonce: 0\n\
          transactions[0].gas_price: 50000000000000\n\
          transactions[0].gas_limit: 21000\n\
          transactions[0].to: 0x5df9b87991262f6ba471f09758cde1c0fc1de734\n\
