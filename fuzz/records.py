@@ -2,6 +2,9 @@
 answers of `rlp_show`, after crates/rlp_show/CALLING.md. It shares no code with the program.
 """
 
+import ipaddress
+import re
+
 from answers import Answered, bytes_of, encoded_string, framing, written_header
 from keccak import keccak256
 from lines import digits, spoiled
@@ -319,6 +322,48 @@ class AnyItem:
         return written_list(dice, [self.written(dice) for _ in range(dice.choice((0, 1, 1, 2)))])
 
 
+def is_word(string):
+    """Whether a string is lower-case letters and digits, with a letter first."""
+    return re.fullmatch(rb"[a-z][a-z0-9]*", string) is not None
+
+
+def word_text(string):
+    return string.decode("ascii") if is_word(string) else "0x" + string.hex()
+
+
+def known_text(key, string):
+    """The text of the value of a key that EIP-778 defines, or None for another value."""
+    if key == b"id" and is_word(string):
+        return word_text(string)
+    if key == b"ip" and len(string) == 4:
+        return ".".join(map(str, string))
+    if key == b"ip6" and len(string) == 16:
+        mapped = ipaddress.IPv6Address(string).ipv4_mapped
+        return str(ipaddress.IPv6Address(string)) if mapped is None else f"::ffff:{mapped}"
+    if key in (b"tcp", b"udp", b"tcp6", b"udp6") and len(string) <= 2 and string[:1] != b"\0":
+        return str(int.from_bytes(string, "big"))
+    return None
+
+
+class NodeValue:
+    """The value of a key: its text, or an item of any kind."""
+
+    def __init__(self, key):
+        self.key = key
+
+    def lines(self, name, data):
+        try:
+            text = known_text(strict_string(self.key), strict_string(data))
+        except Answered:
+            text = None
+        return AnyItem(256).lines(name, data) if text is None else [f"{name}: {text}"]
+
+
+NODE_KEY = Text(word_text, None)
+NODE_VALUES = {b"id": (b"v4", b"v4", b"V4"), b"ip": (b"\x7f\0\0\1", b"\7"), b"udp": (b"", b"\0", b"\x76\x5f", b"123"), b"tcp6": (b"P",)}
+NODE_VALUES[b"ip6"] = (bytes(15) + b"\1", bytes(10) + b"\xff\xff\x7f\0\0\1", b"\x20\1\r\xb8" + bytes(4) + b"\1" * 8)
+
+
 class NodeRecord:
     """A list of a signature, a number, and then keys and values: at most 300 bytes, and keys in order with `id`."""
 
@@ -339,7 +384,7 @@ class NodeRecord:
             field, one = (
                 self.first.fields[place]
                 if place < 2
-                else (pair + "key", STRING) if place % 2 == 0 else (pair + "value", AnyItem(256))
+                else (pair + "key", NODE_KEY) if place % 2 == 0 else (pair + "value", NodeValue(items[place - 1]))
             )
             try:
                 lines += one.lines(before + field, item)
@@ -355,11 +400,12 @@ class NodeRecord:
 
     def written(self, dice):
         items = [one.written(dice) for _, one in self.first.fields]
-        keys = sorted({dice.randbytes(dice.randint(0, 2)) for _ in range(dice.randint(0, 2))} | {b"id"})
+        keys = sorted({dice.randbytes(dice.randint(0, 2)) for _ in range(dice.randint(0, 2))} | {b"id", dice.choice([*NODE_VALUES])})
         if dice.random() < 0.2:
             keys = [dice.choice(keys + [b"ie"]) for _ in keys]
         for key in keys:
-            items += [encoded_string(key), AnyItem(256).written(dice)]
+            known = NODE_VALUES.get(key) if dice.random() < 0.8 else None
+            items += [encoded_string(key), encoded_string(dice.choice(known)) if known else AnyItem(256).written(dice)]
         if dice.random() < 0.05:
             items = items[: dice.randint(0, len(items))]
         return written_list(dice, items)

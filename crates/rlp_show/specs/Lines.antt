@@ -211,19 +211,6 @@ abbrev pub item_within : ℕ → Shape
 item_within zero name v = if begins_as_list v.bytes then Err (wrong name (codes "Custom(\"item nests too deep\")")) else byte_string name v
 item_within (suc most) name v = if begins_as_list v.bytes then list_of (item_within most) name v else byte_string name v
 
--- ---- pairs of a key and a value, which stand in a record one after another
-
--- the lines of a key and a value, of which the key is item i of the record
-abbrev pub pair_lines : Shape → List ℕ → ℕ → View → View → Shown
-pair_lines shape name i key value =
-    then_lines (in_field i (byte_string (name ++ codes ".key") key)) (in_field (i + 1) (shape (name ++ codes ".value") value))
-
--- the lines of pairs, the first of which has place k among the pairs and begins with item i of the record
-abbrev pub pairs_lines : Shape → List ℕ → ℕ → ℕ → List View → Shown
-pairs_lines shape name k i [] = Ok []
-pairs_lines shape name k i (key ∷ []) = Ok []
-pairs_lines shape name k i (key ∷ value ∷ vs) = then_lines (pair_lines shape (place name k) i key value) (pairs_lines shape name (k + 1) (i + 2) vs)
-
 -- ---- envelopes
 
 -- the lines of a typed record: the type, and then the record that the other bytes encode exactly

@@ -1,18 +1,14 @@
 -- The fields of each record, by their names in `rlp_ethereum`.
-use Rattle.std.specs.List.{list_any}
-use Rattle.std.specs.Result.{result_unwrap_or}
-use Rattle.std.specs.Str.{bytes_eq}
-use Rattle.std.specs.Prelude.{ℕ, ◌%◌, ◌==◌, ◌||◌, nat_lt, if◌then◌else◌, Bool, false, List, [], ◌∷◌, ◌++◌, drop, length, codes, is_some, Result, Ok, Err}
+use Rattle.std.specs.Prelude.{ℕ, ◌==◌, nat_lt, if◌then◌else◌, Bool, false, List, [], ◌∷◌, ◌++◌, length, codes, is_some, Result, Ok, Err}
 use Rattle.rlp.specs.DecoderError.{DecoderError}
 use Rattle.rlp.specs.DecoderError.TheVariants.{RlpIncorrectListLen, RlpIsTooBig, RlpIsTooShort}
 use Rattle.rlp.specs.Format.Split.{begins_as_list}
 use Rattle.rlp.specs.Views.Text.{error_name}
 use Rattle.rlp.specs.Views.View.{View, item_count, item_views, view_string}
-use Rattle.rlp_node_record.specs.NodeRecord.{keys_rise, longest_record}
 use Rattle.rlp_trie.specs.HexPrefix.{ends_in_leaf, is_empty_extension}
 use Rattle.rlp_trie.specs.TrieNode.{is_leaf_string}
-use Rattle.rlp_show.specs.Lines.{Field, Shape, Shown, Worded, byte_string, field, fields_lines, fixed_bytes, fixed_bytes_as, fixed_bytes_in, hashed, item_within, line, list_of}
-use Rattle.rlp_show.specs.Lines.{list_or_string, number, number_as, optional, pairs_lines, prefix, receipt_status, recipient, record_of, string_shape, then_lines, truth_value, typed, wrong}
+use Rattle.rlp_show.specs.Lines.{Field, Shape, Shown, Worded, byte_string, field, fixed_bytes, fixed_bytes_as, fixed_bytes_in, hashed, item_within, line, list_of}
+use Rattle.rlp_show.specs.Lines.{list_or_string, number, number_as, optional, prefix, receipt_status, recipient, record_of, string_shape, then_lines, truth_value, typed, wrong}
 use Rattle.rlp_show.specs.Text.{bloom_text, bytes_text, hex_text, number_text, path_text, v_text}
 
 -- addresses
@@ -263,46 +259,11 @@ body = record_of (
     ∷ optional (field (codes "withdrawals") (list_of withdrawal))
     ∷ [])
 
--- ---- node records
+-- ---- items of any kind
 
 -- an item of any kind, through at most 256 nested lists
 unfoldable pub any_item : Shape
 any_item = item_within 256
-
--- the fields of a node record before its pairs
-abbrev pub first_fields : List Field
-first_fields = field (codes "signature") byte_string ∷ field (codes "sequence") (number 8) ∷ []
-
--- the lines of the fields of a node record by its number of items: two, and two for each pair
-abbrev pub node_fields_lines : List ℕ → List View → Result ℕ DecoderError → Shown
-node_fields_lines name vs (Err e) = Err (wrong name (error_name e))
-node_fields_lines name vs (Ok n) =
-    if nat_lt n 2 || (n % 2 == 1) then Err (wrong name (error_name RlpIncorrectListLen))
-    else then_lines (fields_lines (prefix name) 0 first_fields vs) (pairs_lines any_item (prefix name ++ codes "pairs") 0 2 (drop 2 vs))
-
--- the fields of a node record: the signature, the number of the record, and then each key and its value
-abbrev pub node_fields : Shape
-node_fields name v = node_fields_lines name (item_views v) (item_count v)
-
--- the keys of pairs; a key that isn't a string counts as the empty one
-abbrev pub keys_in : List View → List (List ℕ)
-keys_in [] = []
-keys_in (key ∷ []) = []
-keys_in (key ∷ value ∷ vs) = result_unwrap_or (view_string key) [] ∷ keys_in vs
-
--- what was shown of a record with these keys, or the rule of `rlp_node_record` that they break: they are in order, each once, and `id` is one of them
-abbrev pub by_keys : List ℕ → List (List ℕ) → Shown → Shown
-by_keys name keys (Err fault) = Err fault
-by_keys name keys (Ok lines) =
-    if keys_rise keys
-    then (if list_any (λ key. bytes_eq key (codes "id")) keys then Ok lines else Err (wrong name (codes "Custom(\"key id is missing\")")))
-    else Err (wrong name (codes "Custom(\"keys are not in order\")"))
-
--- node records: of at most 300 bytes, and then as their fields and keys say
-abbrev pub node_record : Shape
-node_record name v =
-    if nat_lt longest_record (length v.bytes) then Err (wrong name (error_name RlpIsTooBig))
-    else by_keys name (keys_in (drop 2 (item_views v))) (node_fields name v)
 
 -- ---- nodes of the trie
 

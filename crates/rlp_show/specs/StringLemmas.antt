@@ -75,6 +75,7 @@ pub bloom_faulty : (n : ℕ) (name : List ℕ) (v : View) (e : DecoderError) →
 bloom_faulty = fixed_as_faulty bloom_text
 
 pub ruleset fixed_strings = (fixed_given, fixed_faulty)
+
 pub ruleset bloom_strings = (bloom_given, bloom_faulty)
 
 -- ---- numbers
@@ -137,7 +138,9 @@ pub v_faulty : (width : ℕ) (name : List ℕ) (v : View) (e : DecoderError) →
 v_faulty = number_as_faulty v_text
 
 pub ruleset number_strings = (number_given, number_faulty)
+
 pub ruleset hex_strings = (hex_given, hex_faulty)
+
 pub ruleset v_strings = (v_given, v_faulty)
 
 -- ---- recipients

@@ -35,8 +35,9 @@ pub type TypedTransaction<Q> = Typed<
 >;
 
 /// A transaction by itself, of any type, for [`Show`], with its hash.
-pub type TransactionAlone =
-    Hashed<TypedTransaction<ListOr<SignedLegacyTransaction, OtherTransaction>>>;
+pub type TransactionAlone = Hashed<
+    TypedTransaction<ListOr<SignedLegacyTransaction, OtherTransaction>>,
+>;
 
 /// A list that is a `T`, or else a `Q`, for [`Show`]. It has no values.
 pub struct ListOr<T, Q> {

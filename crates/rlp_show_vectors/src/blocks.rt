@@ -8,14 +8,20 @@ use std::test::Fail;
 
 /// The kind, the digits of a record, and its lines.
 const BLOCKS: [Row; 8] = [
-    ("transaction 7d8001", "hash: 0x53565816e2969d9eecc47ff49e3297dceb138d5bc8128ea9b79e7bd7c9860ed6\n\
+    (
+        "transaction 7d8001",
+        "hash: 0x53565816e2969d9eecc47ff49e3297dceb138d5bc8128ea9b79e7bd7c9860ed6\n\
          type: 125\n\
          payload: 0x8001\n\
-         \n"),
-    ("transaction 00", "hash: 0xbc36789e7a1e281436464229828f817d6612f7b477d66591ff96a9e064bcc98a\n\
+         \n",
+    ),
+    (
+        "transaction 00",
+        "hash: 0xbc36789e7a1e281436464229828f817d6612f7b477d66591ff96a9e064bcc98a\n\
          type: 0\n\
          payload: 0x\n\
-         \n"),
+         \n",
+    ),
     (
         "transaction 03f8c5010780843b9aca00830f4240945df9b87991262f6ba471f09758cde1c0fc1de734\
          8080f838f7940102030405060708090a0b0c0d0e0f1011121314e1a00001020304050607\

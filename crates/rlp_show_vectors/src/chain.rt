@@ -1,15 +1,16 @@
 //! Records of the chain, with the hashes that name them there.
 //!
 //! The headers are those of the first two blocks of the main network, and of block 1 of
-//! `bcEIP1559/baseFee` of Ethereum's tests. The transaction is of the main network, and the node is
-//! the root of the trie of the transactions of its block 46147. The hashes were published with them.
-//! The other lines were written by a Python script.
+//! `bcEIP1559/baseFee` of Ethereum's tests. The transaction is of the main network. The nodes are
+//! the root of the trie of do, dog, doge and horse of the public tests of Ethereum's clients, the node
+//! in it that keeps three others, and the root of the trie of the transactions of block 46147 of the
+//! main network. The hashes were published with them. The other lines were written by a Python script.
 
 use crate::support::{Row, check};
 use std::test::Fail;
 
 /// The kind, the digits of a record, and its lines.
-const CHAIN: [Row; 5] = [
+const CHAIN: [Row; 7] = [
     (
         "header f90214a00000000000000000000000000000000000000000000000000000000000000000a01dc\
          c4de8dec75d7aab85b567b6ccd41ad312451b948a7413f0a142fd40d4934794000000000000000000000\
@@ -147,6 +148,60 @@ const CHAIN: [Row; 5] = [
          y_parity: 0\n\
          r: 0x840cfc572845f5786e702984c2a582528cad4b49b2a10b9db1be7fca90058565\n\
          s: 0x25e7109ceb98168d95b09b18bbf6b685130e0562f233877d492b94eee0c5b6d1\n\
+         \n",
+    ),
+    (
+        "node e216a0bd3ee507e6c67cfefca98f84be47c1bbc009315fabc4405db4ba32190374572a",
+        "hash: 0x5991bb8c6514148a29db676a14ac506cd2cd5775ace63c30a4fe457715e9ac84\n\
+         node: extension\n\
+         path: 0x16 (nibbles [6])\n\
+         child: 0xbd3ee507e6c67cfefca98f84be47c1bbc009315fabc4405db4ba32190374572\
+         a\n\
+         \n",
+    ),
+    (
+        "node f3808080808080de17dc808080808080c63584636f696e808080808080808080857075707079808\
+         0808080808080808476657262",
+        "hash: 0xd43b87fdcd4217013ccc92d04662e12d36e4cc25dc690077cd821a1956fc3e36\n\
+         node: branch\n\
+         children[0]: 0x\n\
+         children[1]: 0x\n\
+         children[2]: 0x\n\
+         children[3]: 0x\n\
+         children[4]: 0x\n\
+         children[5]: 0x\n\
+         children[6].node: extension\n\
+         children[6].path: 0x17 (nibbles [7])\n\
+         children[6].child.node: branch\n\
+         children[6].child.children[0]: 0x\n\
+         children[6].child.children[1]: 0x\n\
+         children[6].child.children[2]: 0x\n\
+         children[6].child.children[3]: 0x\n\
+         children[6].child.children[4]: 0x\n\
+         children[6].child.children[5]: 0x\n\
+         children[6].child.children[6].node: leaf\n\
+         children[6].child.children[6].path: 0x35 (nibbles [5])\n\
+         children[6].child.children[6].value: 0x636f696e\n\
+         children[6].child.children[7]: 0x\n\
+         children[6].child.children[8]: 0x\n\
+         children[6].child.children[9]: 0x\n\
+         children[6].child.children[10]: 0x\n\
+         children[6].child.children[11]: 0x\n\
+         children[6].child.children[12]: 0x\n\
+         children[6].child.children[13]: 0x\n\
+         children[6].child.children[14]: 0x\n\
+         children[6].child.children[15]: 0x\n\
+         children[6].child.value: 0x7075707079\n\
+         children[7]: 0x\n\
+         children[8]: 0x\n\
+         children[9]: 0x\n\
+         children[10]: 0x\n\
+         children[11]: 0x\n\
+         children[12]: 0x\n\
+         children[13]: 0x\n\
+         children[14]: 0x\n\
+         children[15]: 0x\n\
+         value: 0x76657262\n\
          \n",
     ),
     (

@@ -16,9 +16,12 @@ const NODES: [Row; 6] = [
          value: 0x76616c7565\n\
          \n",
     ),
-    ("node 80", "hash: 0x56e81f171bcc55a6ff8345e692c0f86e5b48e01b996cadc001622fb5e363b421\n\
+    (
+        "node 80",
+        "hash: 0x56e81f171bcc55a6ff8345e692c0f86e5b48e01b996cadc001622fb5e363b421\n\
          node: empty\n\
-         \n"),
+         \n",
+    ),
     (
         "node c23f80",
         "hash: 0x065179176b24114ac0c387e917fb52904c3196ca4efba3b34fecd769383cf6a0\n\
