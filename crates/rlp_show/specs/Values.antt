@@ -51,7 +51,7 @@ use Rattle.rlp_ethereum.specs.ReceiptStatus.{receipt_status as status_codec, sta
 use Rattle.rlp_transactions.specs.Recipient.{recipient as recipient_codec, recipient_bytes}
 use Rattle.rlp_show.specs.Lines.{Field, Shape, byte_string, field, fields_lines, fixed_bytes, fixed_bytes_as, hash_line, hashed, in_field, line, lines_if, list_of, list_value_lines, may_have}
 use Rattle.rlp_show.specs.Lines.{number, number_as, optional, prefix, receipt_status, recipient, record_of, then_lines, truth_value}
-use Rattle.rlp_show.specs.Records.{access_list_item, access_list_transaction, account, address, bloom, fee_market_transaction, hash, header, legacy_transaction, legacy_v, signature_number}
+use Rattle.rlp_show.specs.Records.{access_list, access_list_item, access_list_transaction, account, address, bloom, fee_market_transaction, hash, header, legacy_transaction, legacy_v, signature_number}
 use Rattle.rlp_show.specs.Records.{authorization, blob_transaction, log, receipt, set_code_transaction, withdrawal}
 use Rattle.rlp_show.specs.Text.{bloom_text, bytes_text, hex_text, number_text, v_text}
 use Rattle.rlp_show.specs.StringLemmas.{bytes_given, fixed_as_given, number_as_given, recipient_given, status_given, truth_given}
@@ -264,6 +264,13 @@ access_list_item_display = record_display (
 
 abbrev pub access_list_display : Display access_list_codec (list_of access_list_item)
 access_list_display = list_display (λ (a : AccessList). vec_items a.0) access_list_item_display
+
+-- an access list by itself has the name that it has in a transaction
+abbrev pub access_list_alone_display : Display access_list_codec access_list
+access_list_alone_display = record {
+  lines = λ name a. access_list_display.lines (codes "access_list") a;
+  shown = λ name. access_list_display.shown (codes "access_list");
+}
 
 abbrev pub legacy_transaction_display : Display signed_legacy_transaction legacy_transaction
 legacy_transaction_display = signed_display (λ p. refl) refl (codes "v") legacy_v_display (

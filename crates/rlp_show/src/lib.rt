@@ -33,7 +33,6 @@ pub use nodes::{BranchChildOf, BranchOf, ChildOf, ExtensionOf, Node, NodeKeeping
 pub use numbers::{LegacyV, SignatureNumber};
 pub use pairs::NodeKey;
 pub use paths::{ExtensionPath, Path};
-pub use records::AccessListAlone;
 pub use rlp_lines::{Noted, RunFault};
 pub use serving::{exit_status, run};
 pub use show::Show;

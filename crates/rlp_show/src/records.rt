@@ -10,7 +10,7 @@ use crate::numbers::{LegacyV, SignatureNumber};
 use crate::show::Show;
 use rlp::{Rlp, Uint};
 use rlp_ethereum::{
-    AccessListItem, AccessListTransaction, Account, Address, AnyTransaction, BlobTransaction,
+    AccessList, AccessListItem, AccessListTransaction, Account, Address, AnyTransaction, BlobTransaction,
     Block, Bloom, Body, FeeMarketTransaction, Hash, Header, Log, Receipt, ReceiptStatus, Recipient,
     SetCodeTransaction, Signed, SignedAuthorization, SignedLegacyTransaction, Withdrawal,
 };
@@ -278,11 +278,8 @@ impl Show for Signed<SetCodeTransaction> {
     }
 }
 
-/// An access list by itself, for [`Show`]. Its items have the names that they have in a transaction.
-/// It has no values.
-pub struct AccessListAlone;
-
-impl Show for AccessListAlone {
+/// An access list by itself. Its items have the names that they have in a transaction.
+impl Show for AccessList {
     ghost shape = { access_list };
 
     fn show(alloc: Global, _name: &str, item: &Rlp<'_>, out: &mut String) -> Result<(), ShowFault> {
