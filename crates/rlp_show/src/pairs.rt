@@ -173,6 +173,7 @@ fn text_of(alloc: Global, key: &[u8], value: &[u8]) -> Result<Option<String>, Al
 }
 
 /// Appends the lines of the value of a key: its text, or those of an item of any kind.
+#[tactic(auto, using(crate::proofs::PairLemmas::values_of_keys))]
 fn show_value_of(
     alloc: Global,
     key: &[u8],

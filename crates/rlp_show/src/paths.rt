@@ -56,6 +56,7 @@ fn put_digits(path: &[u8], out: &mut String) -> Result<(), AllocError>
     };
     if first / 16 % 2 == 1 {
         put_nibble(first % 16, out)?;
+        return put_pairs(rest, out);
     }
     put_pairs(rest, out)
 }

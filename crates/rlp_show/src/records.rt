@@ -10,9 +10,10 @@ use crate::numbers::{LegacyV, SignatureNumber};
 use crate::show::Show;
 use rlp::{Rlp, Uint};
 use rlp_ethereum::{
-    AccessList, AccessListItem, AccessListTransaction, Account, Address, AnyTransaction, BlobTransaction,
-    Block, Bloom, Body, FeeMarketTransaction, Hash, Header, Log, Receipt, ReceiptStatus, Recipient,
-    SetCodeTransaction, Signed, SignedAuthorization, SignedLegacyTransaction, Withdrawal,
+    AccessList, AccessListItem, AccessListTransaction, Account, Address, AnyTransaction,
+    BlobTransaction, Block, Bloom, Body, FeeMarketTransaction, Hash, Header, Log, Receipt,
+    ReceiptStatus, Recipient, SetCodeTransaction, Signed, SignedAuthorization,
+    SignedLegacyTransaction, Withdrawal,
 };
 use std::alloc::Global;
 

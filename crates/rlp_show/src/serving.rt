@@ -13,7 +13,9 @@ use crate::nodes::Node;
 use crate::show::Show;
 use crate::transactions::TransactionAlone;
 use rlp::Rlp;
-use rlp_ethereum::{AccessList, Account, Block, Body, Header, NodeRecord, SignedAuthorization, Withdrawal};
+use rlp_ethereum::{
+    AccessList, Account, Block, Body, Header, NodeRecord, SignedAuthorization, Withdrawal,
+};
 use rlp_lines::{LineAnswers, Noted, RunFault, answer_lines, read_bytes, without_carriage_return};
 use std::alloc::{AllocError, Global};
 use std::io::{Read, Write};
