@@ -44,28 +44,33 @@ said v (Some chain) p is fits = said_chain v chain p is fits
 pub v_says : (v : ℕ) (x : Eip155) → v ≡ v_of x → FitsChain x.chain_id → said_by v ≡ Some x
 v_says v x is fits = said v x.chain_id x.y_parity is fits
 
+parity : (n : ℕ) → n < 2 → (n ≡ 0) ⊎ (n ≡ 1)
+parity zero low = inl refl
+parity (suc zero) low = inr refl
+parity (suc (suc n)) low = absurd (omega arith)
+
+-- a number from 35 on says something
+says_some : (v : ℕ) → ((x : Eip155) → FitsChain x.chain_id → v ≢ v_of x) → v < 36893488147419103267 → 35 ≤ v → ⊥
+says_some v none few from =
+    let half : (v - 35) / 2 < 2 ^ 64 = omega arith in
+    ⊎_elim
+    (λ low. let is : v ≡ 0 + ((v - 35) / 2 * 2 + 35) = omega arith in none (record { chain_id = Some ((v - 35) / 2); y_parity = false }) half is)
+    (λ high. let is : v ≡ 1 + ((v - 35) / 2 * 2 + 35) = omega arith in none (record { chain_id = Some ((v - 35) / 2); y_parity = true }) half is)
+    (parity ((v - 35) % 2) (omega arith))
+
 -- other numbers
 pub v_says_nothing : (v : ℕ) → ((x : Eip155) → FitsChain x.chain_id → v ≢ v_of x) → said_by v ≡ None
 v_says_nothing v none =
-    let even : v ≢ 27 = none (record { chain_id = None; y_parity = false }) tt in
-    let odd : v ≢ 28 = none (record { chain_id = None; y_parity = true }) tt in
+    let no_even : v ≢ 27 = none (record { chain_id = None; y_parity = false }) tt in
+    let no_odd : v ≢ 28 = none (record { chain_id = None; y_parity = true }) tt in
     cond-false ((v == 27) || (v == 28)) _ _ (grind (arith, nat_tests))
-    ∙ cond-true (nat_lt v 35 || nat_lt (2 ^ 65 + 34) v) _ _
-    (⊎_elim
-    (λ low. grind (arith, nat_tests))
-    (λ from. ⊎_elim (λ few. absurd (within few from)) (λ high. grind (arith, nat_tests)) (cases_lt v (2 ^ 65 + 35)))
-    (cases_lt v 35))
-  where
-    within : v < 2 ^ 65 + 35 → 35 ≤ v → ⊥
-    within few from =
-        ⊎_elim
-        (λ even. none (record { chain_id = Some ((v - 35) / 2); y_parity = false }) (omega arith) (omega arith))
-        (λ odd. none (record { chain_id = Some ((v - 35) / 2); y_parity = true }) (omega arith) (omega arith))
-        (parity ((v - 35) % 2) (omega arith))
-
-    parity : (n : ℕ) → n < 2 → (n ≡ 0) ⊎ (n ≡ 1)
-    parity zero low = inl refl
-    parity (suc zero) low = inr refl
-    parity (suc (suc n)) low = absurd (omega arith)
+    ∙ ⊎_elim
+    (λ low. cond-true (nat_lt v 35 || nat_lt (2 ^ 65 + 34) v) _ _ (grind (arith, nat_tests)))
+    (λ from.
+    ⊎_elim
+    (λ few. absurd (says_some v none few from))
+    (λ high. cond-true (nat_lt v 35 || nat_lt (2 ^ 65 + 34) v) _ _ (grind (arith, nat_tests)))
+    (cases_lt v 36893488147419103267))
+    (cases_lt v 35)
 
 pub ruleset what_v_says = (v_says, v_says_nothing)

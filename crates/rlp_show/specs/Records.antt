@@ -49,9 +49,9 @@ account = record_of (
     ∷ field (codes "code_hash") hash
     ∷ [])
 
--- headers of blocks: the hash, fifteen fields, and those that forks added, of which Cancun added three together
-abbrev pub header : Shape
-header = hashed (record_of (
+-- the fields of headers of blocks: fifteen, and those that forks added, of which Cancun added three together
+abbrev pub header_fields : Shape
+header_fields = record_of (
     field (codes "parent_hash") hash
     ∷ field (codes "ommers_hash") hash
     ∷ field (codes "beneficiary") address
@@ -73,7 +73,11 @@ header = hashed (record_of (
     ∷ field (codes "excess_blob_gas") (number 8)
     ∷ field (codes "parent_beacon_block_root") hash
     ∷ optional (field (codes "requests_hash") hash)
-    ∷ []))
+    ∷ [])
+
+-- headers of blocks, with their hash
+abbrev pub header : Shape
+header = hashed header_fields
 
 -- logs
 abbrev pub log : Shape

@@ -18,12 +18,7 @@ pub struct Hashed<T> {
 }
 
 /// Appends the line of the hash of these bytes.
-pub(crate) fn put_hash(
-    alloc: Global,
-    name: &str,
-    bytes: &[u8],
-    out: &mut String,
-) -> Result<(), AllocError>
+fn put_hash(alloc: Global, name: &str, bytes: &[u8], out: &mut String) -> Result<(), AllocError>
     ensures { OnOk result
         (string_bytes out.new ≡ string_bytes out.old ++ hash_line name.now bytes.now) }
 {

@@ -8,7 +8,7 @@ ghost use Rattle.std.specs.Net.Text.{ipv4_text, ipv6_text};
 ghost use Rattle.std.specs.Prelude.{◌≡◌, ◌==◌, ◌+◌, ◌<◌, ◌^◌, ◌++◌, if◌then◌else◌, codes, length, string_bytes, true, IfOk, OnOk, Some, None};
 ghost use Rattle.rlp_show.specs.Answer.{Shows};
 ghost use Rattle.rlp_show.specs.Lines.{in_field, line, place};
-ghost use Rattle.rlp_show.specs.NodeRecords.{is_port_key, is_word, is_word_byte, key_of, node_key, node_value, pair_lines, port_text, value_text, word_text};
+ghost use Rattle.rlp_show.specs.NodeRecords.{begins_with_letter, is_port_key, is_word, is_word_byte, key_of, node_key, node_value, pair_lines, port_text, value_text, word_text};
 ghost use Rattle.rlp_show.specs.Text.{number_text};
 
 use crate::any_item::AnyItem;
@@ -33,14 +33,28 @@ fn is_word_byte(byte: u8) -> bool
     byte.is_ascii_lowercase() || byte.is_ascii_digit()
 }
 
+/// Returns whether all bytes are lower-case letters and digits.
+fn are_word_bytes(bytes: &[u8]) -> bool
+    ensures { result ≡ list_all is_word_byte bytes.now }
+{
+    bytes.iter().all(|byte| is_word_byte(*byte))
+}
+
+/// Returns whether bytes begin with a lower-case letter.
+fn begins_with_letter(bytes: &[u8]) -> bool
+    ensures { result ≡ begins_with_letter bytes.now }
+{
+    match bytes {
+        [first, ..] => first.is_ascii_lowercase(),
+        [] => false,
+    }
+}
+
 /// Returns whether bytes are a word, which begins with a letter.
 fn is_word(bytes: &[u8]) -> bool
     ensures { result ≡ is_word bytes.now }
 {
-    match bytes {
-        [first, ..] if first.is_ascii_lowercase() => bytes.iter().all(|byte| is_word_byte(*byte)),
-        _ => false,
-    }
+    begins_with_letter(bytes) && are_word_bytes(bytes)
 }
 
 /// Appends the letters and digits of a word.
@@ -92,7 +106,7 @@ impl Show for NodeKey {
 /// Returns the text of a number of one or two bytes.
 fn number_of<const N: usize>(alloc: Global, bytes: [u8; N]) -> Result<Option<String>, AllocError>
     ensures { IfOk result
-        (λ o. option_map string_bytes o ≡ Some (number_text (number_from_digits 256 bytes))) }
+        (λ o. option_map string_bytes o ≡ Some (number_text (number_from_digits 256 bytes.entry))) }
 {
     Ok(Some(format!(in alloc; "{}", Uint { bytes })?))
 }

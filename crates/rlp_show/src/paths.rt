@@ -61,17 +61,26 @@ fn put_digits(path: &[u8], out: &mut String) -> Result<(), AllocError>
     put_pairs(rest, out)
 }
 
+/// Appends the bytes of an encoded path, and its nibbles in brackets.
+fn put_path(path: &[u8], out: &mut String) -> Result<(), AllocError>
+    ensures { OnOk result (string_bytes out.new ≡ string_bytes out.old ++ path_text path.now) }
+{
+    out.push_str("0x")?;
+    push_bytes(path, out)?;
+    out.push_str(" (nibbles [")?;
+    put_digits(path, out)?;
+    out.push_str("])")
+}
+
 /// Appends the line of an encoded path.
 fn put_path_line(name: &str, path: &[u8], out: &mut String) -> Result<(), AllocError>
     ensures { OnOk result (string_bytes out.new
         ≡ string_bytes out.old ++ line name.now (path_text path.now)) }
 {
     out.push_str(name)?;
-    out.push_str(": 0x")?;
-    push_bytes(path, out)?;
-    out.push_str(" (nibbles [")?;
-    put_digits(path, out)?;
-    out.push_str("])\n")
+    out.push_str(": ")?;
+    put_path(path, out)?;
+    out.push('\n')
 }
 
 /// Appends the line of a path. Fails with `Custom("path is not hex-prefix encoded")` for other bytes.

@@ -1,10 +1,10 @@
 //! Ethereum's records.
 
-ghost use Rattle.rlp_show.specs.Records.{withdrawal, account, header, log, receipt, access_list, access_list_item, legacy_transaction, access_list_transaction, fee_market_transaction, blob_transaction, authorization, set_code_transaction, block, body};
+ghost use Rattle.rlp_show.specs.Records.{withdrawal, account, header, header_fields, log, receipt, access_list, access_list_item, legacy_transaction, access_list_transaction, fee_market_transaction, blob_transaction, authorization, set_code_transaction, block, body};
 
 use crate::fault::ShowFault;
 use crate::fields::{Label, show_fields, show_record};
-use crate::hashes::put_hash;
+use crate::hashes::Hashed;
 use crate::lists::Items;
 use crate::numbers::{LegacyV, SignatureNumber};
 use crate::show::Show;
@@ -51,13 +51,13 @@ impl Show for Account {
     }
 }
 
-/// The hash of the header, and then its fields.
-impl Show for Header {
-    ghost shape = { header };
+/// The fields of a header, for [`Show`]. It has no values.
+struct HeaderFields;
 
-    #[tactic(auto, using(crate::proofs::FieldLemmas::fields_in_order))]
+impl Show for HeaderFields {
+    ghost shape = { header_fields };
+
     fn show(alloc: Global, name: &str, item: &Rlp<'_>, out: &mut String) -> Result<(), ShowFault> {
-        put_hash(alloc, name, item.as_raw(), out)?;
         show_fields!(
             alloc,
             name,
@@ -85,6 +85,15 @@ impl Show for Header {
             "parent_beacon_block_root": Hash,
             "requests_hash" ? Hash
         )
+    }
+}
+
+/// The hash of the header, and then its fields.
+impl Show for Header {
+    ghost shape = { header };
+
+    fn show(alloc: Global, name: &str, item: &Rlp<'_>, out: &mut String) -> Result<(), ShowFault> {
+        Hashed::<HeaderFields>::show(alloc, name, item, out)
     }
 }
 
