@@ -418,10 +418,14 @@ def path_text(string):
     return f"0x{digits} (nibbles [{digits[1 if string[0] & 0x10 else 2 :]}])"
 
 
-def some_path(dice):
-    """A random path, mostly with a right flag."""
-    first = dice.choice((0x00, 0x13, 0x20, 0x3F, 0x20, dice.randrange(256)))
-    return bytes([first]) + dice.randbytes(dice.choice((0, 1, 31)))
+def some_path(*firsts):
+    """Random paths, mostly with one of these first bytes."""
+
+    def some(dice):
+        first = dice.choice(firsts) if dice.random() < 0.9 else dice.randrange(256)
+        return bytes([first]) + dice.randbytes(dice.choice((0, 1, 31)))
+
+    return some
 
 
 def extension_path_text(string):
@@ -430,14 +434,15 @@ def extension_path_text(string):
     return path_text(string)
 
 
-PATH = Text(path_text, some_path)
-EXTENSION_PATH = Text(extension_path_text, some_path)
+PATH = Text(path_text, some_path(0x20, 0x20, 0x3F))
+EXTENSION_PATH = Text(extension_path_text, some_path(0x00, 0x13, 0x1A))
 
 
 class Child:
     """A child of a node of the trie: a list of fewer than 32 bytes, or a hash. A list is of a type."""
 
     hash = Text(fixed_text(32), lambda dice: dice.randbytes(dice.choice((0, 32, 32, 32))))
+    often_kept = 0.5
 
     def __init__(self, kept):
         self.kept = kept
@@ -450,11 +455,11 @@ class Child:
         return self.kept.lines(name, data)
 
     def written(self, dice):
-        if dice.random() < 0.7:
+        if dice.random() > self.often_kept:
             return self.hash.written(dice)
         if dice.random() < 0.3:
             return written_list(dice, [encoded_string(b"\x1a"), Child(self.kept).written(dice)])
-        value = encoded_string(dice.randbytes(dice.choice((1, 20, 28, 29, 30, 40))))
+        value = encoded_string(dice.randbytes(dice.choice((1, 1, 1, 20, 28, 28, 29, 40))))
         return written_list(dice, [encoded_string(dice.choice((b"\x20", b"\x20", b"\x00"))), value])
 
 
@@ -462,6 +467,7 @@ class BranchChild(Child):
     """A child at a place of a branch, or no bytes."""
 
     hash = Text(lambda s: fixed_text(32)(s) if s else "0x", lambda dice: dice.randbytes(dice.choice((0, 32))))
+    often_kept = 0.05
 
 
 class Node:

@@ -5,7 +5,7 @@ ghost use Rattle.rlp_trie.specs.HexPrefix.{is_empty_extension, nibbles_of, path_
 ghost use Rattle.rlp_show.specs.Answer.{Shows};
 ghost use Rattle.rlp_show.specs.Lines.{line, named};
 ghost use Rattle.rlp_show.specs.Records.{extension_path, path, path_in};
-ghost use Rattle.rlp_show.specs.Text.{digits_text, path_text};
+ghost use Rattle.rlp_show.specs.Text.{digits_text, nibbles_text, path_text};
 
 use crate::fault::ShowFault;
 use crate::show::Show;
@@ -61,15 +61,23 @@ fn put_digits(path: &[u8], out: &mut String) -> Result<(), AllocError>
     put_pairs(rest, out)
 }
 
-/// Appends the bytes of an encoded path, and its nibbles in brackets.
+/// Appends the nibbles of an encoded path, in brackets.
+fn put_nibbles(path: &[u8], out: &mut String) -> Result<(), AllocError>
+    ensures { OnOk result (string_bytes out.new
+        ≡ string_bytes out.old ++ nibbles_text (path_nibbles path.now)) }
+{
+    out.push_str(" (nibbles [")?;
+    put_digits(path, out)?;
+    out.push_str("])")
+}
+
+/// Appends the bytes of an encoded path, and its nibbles.
 fn put_path(path: &[u8], out: &mut String) -> Result<(), AllocError>
     ensures { OnOk result (string_bytes out.new ≡ string_bytes out.old ++ path_text path.now) }
 {
     out.push_str("0x")?;
     push_bytes(path, out)?;
-    out.push_str(" (nibbles [")?;
-    put_digits(path, out)?;
-    out.push_str("])")
+    put_nibbles(path, out)
 }
 
 /// Appends the line of an encoded path.
