@@ -2,8 +2,12 @@
 answers of `rlp_show`, after crates/rlp_show/CALLING.md. It shares no code with the program.
 """
 
+import ipaddress
+import re
+
 from answers import Answered, bytes_of, encoded_string, framing, written_header
 from guess import guess
+from keccak import keccak256
 from lines import digits, spoiled
 from strict import bytes_of_node_text, node_text, strict_items, strict_string
 
@@ -38,7 +42,7 @@ class Text:
         return encoded_string(self.some(dice))
 
 
-def number_text(width):
+def number_text(width, shown=str):
     """The text of numbers of at most so many bytes."""
 
     def text(string):
@@ -46,7 +50,7 @@ def number_text(width):
             raise Answered("RlpIsTooBig")
         if string[:1] == b"\0":
             raise Answered("RlpInvalidIndirection")
-        return str(int.from_bytes(string, "big"))
+        return shown(int.from_bytes(string, "big"))
 
     return text
 
@@ -68,12 +72,26 @@ def truth_text(string):
     return number_text(1)(string)
 
 
-def number(width):
+def number(width, shown=str, often=()):
     def some(dice):
         value = dice.getrandbits(8 * dice.choice((0, 1, 1, 2, width, width)))
+        if often and dice.random() < 0.7:
+            value = dice.choice(often)
         return value.to_bytes((value.bit_length() + 7) // 8, "big")
 
-    return Text(number_text(width), some)
+    return Text(number_text(width, shown), some)
+
+
+def v_text(value):
+    """The `v` of a transaction without a type, and what it says."""
+    if value in (27, 28):
+        return f"{value} (parity {value - 27})"
+    chain, parity = divmod(value - 35, 2)
+    return f"{value} (chain {chain}, parity {parity})" if 0 <= chain < 1 << 64 else str(value)
+
+
+def bloom_text(string):
+    return "256 zero bytes" if string == bytes(256) else fixed_text(256)(string)
 
 
 def status_text(string):
@@ -87,7 +105,8 @@ def fixed(size):
     return Text(fixed_text(size), lambda dice: dice.randbytes(size))
 
 
-HASH, ADDRESS, BLOOM = fixed(32), fixed(20), fixed(256)
+HASH, ADDRESS = fixed(32), fixed(20)
+BLOOM = Text(bloom_text, lambda dice: bytes(256) if dice.random() < 0.5 else dice.randbytes(256))
 STRING = Text(lambda string: "0x" + string.hex(), lambda dice: dice.randbytes(dice.choice((0, 1, 4, 32, 60))))
 TRUTH = Text(truth_text, lambda dice: dice.choice((b"", b"\1")))
 RECIPIENT = Text(lambda s: fixed_text(20)(s) if s else "0x", lambda dice: dice.randbytes(dice.choice((0, 20))))
@@ -162,6 +181,17 @@ class Record:
         return written_list(dice, [(self.fields + self.fields)[place][1].written(dice) for place in range(count)])
 
 
+class Hashed:
+    """The hash of the bytes of an item, and then the item."""
+
+    def __init__(self, one):
+        self.one, self.written = one, one.written
+
+    def lines(self, name, data):
+        before = f"{name}." if name else ""
+        return [f"{before}hash: 0x{keccak256(data).hex()}"] + self.one.lines(name, data)
+
+
 class Typed:
     """An envelope of EIP-2718 by its first byte, or else a record without a type. `unknown` is an envelope of another type."""
 
@@ -208,12 +238,12 @@ class Held:
 
     def lines(self, name, data):
         if data and data[0] >= 0xC0:
-            return self.alone.other.lines(name, data)
+            return Hashed(self.alone.other).lines(name, data)
         try:
             held = strict_string(data)
         except Answered as answered:
             raise Wrong(name, answered) from None
-        return self.typed.lines(name, held)
+        return Hashed(self.typed).lines(name, held)
 
     def written(self, dice):
         if dice.random() < 0.3:
@@ -245,6 +275,48 @@ class AnyItem:
         return written_list(dice, [self.written(dice) for _ in range(dice.choice((0, 1, 1, 2)))])
 
 
+def is_word(string):
+    """Whether a string is lower-case letters and digits, with a letter first."""
+    return re.fullmatch(rb"[a-z][a-z0-9]*", string) is not None
+
+
+def word_text(string):
+    return string.decode("ascii") if is_word(string) else "0x" + string.hex()
+
+
+def known_text(key, string):
+    """The text of the value of a key that EIP-778 defines, or None for another value."""
+    if key == b"id" and is_word(string):
+        return word_text(string)
+    if key == b"ip" and len(string) == 4:
+        return ".".join(map(str, string))
+    if key == b"ip6" and len(string) == 16:
+        mapped = ipaddress.IPv6Address(string).ipv4_mapped
+        return str(ipaddress.IPv6Address(string)) if mapped is None else f"::ffff:{mapped}"
+    if key in (b"tcp", b"udp", b"tcp6", b"udp6") and len(string) <= 2 and string[:1] != b"\0":
+        return str(int.from_bytes(string, "big"))
+    return None
+
+
+class NodeValue:
+    """The value of a key: its text, or an item of any kind."""
+
+    def __init__(self, key):
+        self.key = key
+
+    def lines(self, name, data):
+        try:
+            text = known_text(strict_string(self.key), strict_string(data))
+        except Answered:
+            text = None
+        return AnyItem(256).lines(name, data) if text is None else [f"{name}: {text}"]
+
+
+NODE_KEY = Text(word_text, None)
+NODE_VALUES = {b"id": (b"v4", b"v4", b"V4"), b"ip": (b"\x7f\0\0\1", b"\7"), b"udp": (b"", b"\0", b"\x76\x5f", b"123"), b"tcp6": (b"P",)}
+NODE_VALUES[b"ip6"] = (bytes(15) + b"\1", bytes(10) + b"\xff\xff\x7f\0\0\1", b"\x20\1\r\xb8" + bytes(4) + b"\1" * 8)
+
+
 class NodeRecord:
     """A list of a signature, a number, and then keys and values: at most 300 bytes, and keys in order with `id`."""
 
@@ -265,7 +337,7 @@ class NodeRecord:
             field, one = (
                 self.first.fields[place]
                 if place < 2
-                else (pair + "key", STRING) if place % 2 == 0 else (pair + "value", AnyItem(256))
+                else (pair + "key", NODE_KEY) if place % 2 == 0 else (pair + "value", NodeValue(items[place - 1]))
             )
             try:
                 lines += one.lines(before + field, item)
@@ -281,11 +353,12 @@ class NodeRecord:
 
     def written(self, dice):
         items = [one.written(dice) for _, one in self.first.fields]
-        keys = sorted({dice.randbytes(dice.randint(0, 2)) for _ in range(dice.randint(0, 2))} | {b"id"})
+        keys = sorted({dice.randbytes(dice.randint(0, 2)) for _ in range(dice.randint(0, 2))} | {b"id", dice.choice([*NODE_VALUES])})
         if dice.random() < 0.2:
             keys = [dice.choice(keys + [b"ie"]) for _ in keys]
         for key in keys:
-            items += [encoded_string(key), AnyItem(256).written(dice)]
+            known = NODE_VALUES.get(key) if dice.random() < 0.8 else None
+            items += [encoded_string(key), encoded_string(dice.choice(known)) if known else AnyItem(256).written(dice)]
         if dice.random() < 0.05:
             items = items[: dice.randint(0, len(items))]
         return written_list(dice, items)
@@ -294,13 +367,18 @@ class NodeRecord:
 def path_text(string):
     if not string or string[0] not in (0x00, *range(0x10, 0x21), *range(0x30, 0x40)):
         raise Answered('Custom("path is not hex-prefix encoded")')
-    return "0x" + string.hex()
+    digits = string.hex()
+    return f"0x{digits} (nibbles [{digits[1 if string[0] & 0x10 else 2 :]}])"
 
 
-def some_path(dice):
-    """A random path, mostly with a right flag."""
-    first = dice.choice((0x00, 0x13, 0x20, 0x3F, 0x20, dice.randrange(256)))
-    return bytes([first]) + dice.randbytes(dice.choice((0, 1, 31)))
+def some_path(*firsts):
+    """Random paths, mostly with one of these first bytes."""
+
+    def some(dice):
+        first = dice.choice(firsts) if dice.random() < 0.9 else dice.randrange(256)
+        return bytes([first]) + dice.randbytes(dice.choice((0, 1, 31)))
+
+    return some
 
 
 def extension_path_text(string):
@@ -309,41 +387,54 @@ def extension_path_text(string):
     return path_text(string)
 
 
-PATH = Text(path_text, some_path)
-EXTENSION_PATH = Text(extension_path_text, some_path)
+PATH = Text(path_text, some_path(0x20, 0x20, 0x3F))
+EXTENSION_PATH = Text(extension_path_text, some_path(0x00, 0x13, 0x1A))
 
 
 class Child:
-    """A child of a node of the trie: a list of fewer than 32 bytes, or a hash."""
+    """A child of a node of the trie: a list of fewer than 32 bytes, or a hash. A list is of a type."""
 
     hash = Text(fixed_text(32), lambda dice: dice.randbytes(dice.choice((0, 32, 32, 32))))
+    often_kept = 0.5
+
+    def __init__(self, kept):
+        self.kept = kept
 
     def lines(self, name, data):
         if not data or data[0] < 0xC0:
             return self.hash.lines(name, data)
         if len(data) >= 32:
             raise Wrong(name, "RlpIsTooBig")
-        return AnyItem(256).lines(name, data)
+        return self.kept.lines(name, data)
 
     def written(self, dice):
-        if dice.random() < 0.7:
+        if dice.random() > self.often_kept:
             return self.hash.written(dice)
-        value = encoded_string(dice.randbytes(dice.choice((1, 20, 28, 29, 30, 40))))
-        return written_list(dice, [encoded_string(b"\x20"), value])
+        if dice.random() < 0.3:
+            return written_list(dice, [encoded_string(b"\x1a"), Child(self.kept).written(dice)])
+        value = encoded_string(dice.randbytes(dice.choice((1, 1, 1, 20, 28, 28, 29, 40))))
+        return written_list(dice, [encoded_string(dice.choice((b"\x20", b"\x20", b"\x00"))), value])
 
 
 class BranchChild(Child):
     """A child at a place of a branch, or no bytes."""
 
     hash = Text(lambda s: fixed_text(32)(s) if s else "0x", lambda dice: dice.randbytes(dice.choice((0, 32))))
+    often_kept = 0.05
 
 
 class Node:
-    """A node of the trie: a branch of 17 items, or a leaf or an extension, which the path tells apart; or the empty trie."""
+    """A node of the trie: a branch of 17 items, or a leaf or an extension, which the path tells apart; or the empty trie.
 
-    branch = Record([(f"children[{digit}]", BranchChild()) for digit in range(16)] + [("value", STRING)])
+    So many nodes are shown one in another. Of others the items are shown.
+    """
+
     leaf = Record([("path", PATH), ("value", STRING)])
-    extension = Record([("path", EXTENSION_PATH), ("child", Child())])
+
+    def __init__(self, nodes_left):
+        kept = Node(nodes_left - 1) if nodes_left > 1 else AnyItem(256)
+        self.branch = Record([(f"children[{digit}]", BranchChild(kept)) for digit in range(16)] + [("value", STRING)])
+        self.extension = Record([("path", EXTENSION_PATH), ("child", Child(kept))])
 
     def lines(self, name, data):
         if data == b"\x80":
@@ -377,10 +468,11 @@ def fields(text, types):
 
 
 TYPES = {"u8": number(1), "u64": number(8), "u256": number(32), "hash": HASH, "address": ADDRESS, "bloom": BLOOM, "string": STRING}
+TYPES |= {"scalar": number(32, hex), "v": number(32, v_text, (27, 28, 35, 36, 37, 38, (2 << 64) + 34, (2 << 64) + 35))}
 TYPES |= {"truth": TRUTH, "recipient": RECIPIENT, "status": STATUS, "nonce": fixed(8), "hashes": ListOf(HASH)}
 TYPES["log"] = Record(fields("address:address topics:hashes data:string", TYPES))
 TYPES["access"] = Record(fields("address:address storage_keys:hashes", TYPES))
-TYPES["authorization"] = Record(fields("chain_id:u256 address:address nonce:u64 y_parity:u8 r:u256 s:u256", TYPES))
+TYPES["authorization"] = Record(fields("chain_id:u256 address:address nonce:u64 y_parity:u8 r:scalar s:scalar", TYPES))
 TYPES |= {"logs": ListOf(TYPES["log"]), "access_list": ListOf(TYPES["access"])}
 TYPES["authorizations"] = ListOf(TYPES["authorization"])
 
@@ -389,9 +481,9 @@ HEADER = """parent_hash:hash ommers_hash:hash beneficiary:address state_root:has
     extra_data:string mix_hash:hash nonce:nonce base_fee_per_gas:u256 withdrawals_root:hash blob_gas_used:u64
     excess_blob_gas:u64 parent_beacon_block_root:hash requests_hash:hash"""
 CALL = "gas_limit:u64 to:recipient value:u256 data:string"
-POINT = "y_parity:truth r:u256 s:u256"
+POINT = "y_parity:truth r:scalar s:scalar"
 SIGNED = f"access_list:access_list {POINT}"
-LEGACY = f"nonce:u64 gas_price:u256 {CALL} v:u256 r:u256 s:u256"
+LEGACY = f"nonce:u64 gas_price:u256 {CALL} v:v r:scalar s:scalar"
 TYPE_1 = f"chain_id:u64 nonce:u64 gas_price:u256 {CALL} {SIGNED}"
 FEES = "chain_id:u64 nonce:u64 max_priority_fee_per_gas:u256 max_fee_per_gas:u256"
 TYPE_2 = f"{FEES} {CALL} {SIGNED}"
@@ -399,7 +491,7 @@ TYPE_3 = f"""{FEES} gas_limit:u64 to:address value:u256 data:string access_list:
     blob_versioned_hashes:hashes {POINT}"""
 TYPE_4 = f"""{FEES} gas_limit:u64 destination:address value:u256 data:string access_list:access_list
     authorization_list:authorizations {POINT}"""
-TYPES["header"] = Record(fields(HEADER, TYPES), counts=(15, 16, 17, 20, 21))
+TYPES["header"] = Hashed(Record(fields(HEADER, TYPES), counts=(15, 16, 17, 20, 21)))
 TYPES["withdrawal"] = Record(fields("index:u64 validator_index:u64 address:address amount:u64", TYPES))
 PAYLOADS = {kind: Record(fields(text, TYPES)) for kind, text in enumerate((TYPE_1, TYPE_2, TYPE_3, TYPE_4), 1)}
 TRANSACTION = Typed(PAYLOADS, Record(fields(LEGACY, TYPES)), Kept())
@@ -415,10 +507,10 @@ KINDS = {
     "block": Record(fields(BLOCK, TYPES), counts=(3, 4)),
     "body": Record(fields(BLOCK, TYPES)[1:], counts=(2, 3)),
     "header": TYPES["header"],
-    "node": Node(),
+    "node": Hashed(Node(4)),
     "receipt": Typed(dict.fromkeys((1, 2, 3, 4), RECEIPT), RECEIPT, Unknown()),
     "record": NodeRecord(),
-    "transaction": TRANSACTION,
+    "transaction": Hashed(TRANSACTION),
     "withdrawal": TYPES["withdrawal"],
 }
 

@@ -1,7 +1,7 @@
 -- Lemmas, in a file for each subject.
 
--- the decimal digits of a number
-pub mod DigitLemmas
+-- numbers
+pub mod NumberLemmas
 -- fields in order
 pub mod FieldLemmas
 -- items of any kind

@@ -11,7 +11,8 @@ use Rattle.rlp_lines.specs.Digits.{bytes_in}
 use Rattle.rlp_lines.specs.Status.{status_of}
 use Rattle.rlp_lines.specs.declared.serving.RunFault.{RunFault}
 use Rattle.rlp_show.specs.Lines.{Fault, Shape, Shown, fault_text}
-use Rattle.rlp_show.specs.Records.{access_list, account, any_receipt, any_transaction, authorization, block, body, header, node, node_record, withdrawal}
+use Rattle.rlp_show.specs.NodeRecords.{node_record}
+use Rattle.rlp_show.specs.Records.{access_list, account, any_receipt, any_transaction, authorization, block, body, header, node, withdrawal}
 use Rattle.rlp_show.specs.declared.kind.Kind.{Kind}
 use Rattle.rlp_show.specs.declared.kind.Kind.TheVariants.{AccessList, Account, Authorization, Block, Body, Header, Node, NodeRecord, Receipt, Transaction, Withdrawal}
 use Rattle.rlp_show.specs.declared.fault.ItemFault.{ItemFault}

@@ -6,6 +6,8 @@ pub mod Lines
 pub mod Fields
 -- the fields of each record
 pub mod Records
+-- the lines of node records
+pub mod NodeRecords
 -- the answer to a line of input
 pub mod Answer
 -- the kind of a record that isn't named

@@ -2,6 +2,7 @@
 use Rattle.std.specs.Prelude.{ℕ, zero, suc, ◌+◌, ◌&&◌, ◌||◌, ◌==◌, nat_lt, Bool, false, true, if◌then◌else◌, List, [], ◌∷◌, ◌++◌, length, codes, decimal}
 use Rattle.std.specs.Prelude.{Option, Some, None, Result, Ok, Err}
 use Rattle.std.specs.Int.Digits.{number_from_digits}
+use Rattle.keccak.specs.Keccak.{keccak256}
 use Rattle.rlp.specs.DecoderError.{DecoderError}
 use Rattle.rlp.specs.DecoderError.TheVariants.{RlpIsTooBig, RlpIsTooShort, RlpInvalidIndirection, RlpIncorrectListLen}
 use Rattle.rlp.specs.Format.Split.{begins_as_list}
@@ -74,27 +75,35 @@ abbrev pub begins_with_zero : List ℕ → Bool
 begins_with_zero [] = false
 begins_with_zero (d ∷ ds) = d == 0
 
--- the number of a string of at most `width` bytes, in decimal; it has no leading zero
-abbrev pub number_in : ℕ → List ℕ → Worded
-number_in width string =
+-- the text of the number of a string of at most `width` bytes; it has no leading zero
+abbrev pub number_in : (ℕ → List ℕ) → ℕ → List ℕ → Worded
+number_in text width string =
     if nat_lt width (length string) then Err (error_name RlpIsTooBig)
     else if begins_with_zero string then Err (error_name RlpInvalidIndirection)
-    else Ok (number_text (number_from_digits 256 string))
+    else Ok (text (number_from_digits 256 string))
 
--- a number of at most `width` bytes
+-- a number of at most `width` bytes, as its text
+abbrev pub number_as : (ℕ → List ℕ) → ℕ → Shape
+number_as text width = string_shape (number_in text width)
+
+-- a number of at most `width` bytes, in decimal
 abbrev pub number : ℕ → Shape
-number width = string_shape (number_in width)
+number = number_as number_text
 
--- the bytes of a string of exactly n bytes
-abbrev pub fixed_bytes_in : ℕ → List ℕ → Worded
-fixed_bytes_in n string =
+-- the text of a string of exactly n bytes
+abbrev pub fixed_bytes_in : (List ℕ → List ℕ) → ℕ → List ℕ → Worded
+fixed_bytes_in text n string =
     if nat_lt (length string) n then Err (error_name RlpIsTooShort)
     else if nat_lt n (length string) then Err (error_name RlpIsTooBig)
-    else Ok (bytes_text string)
+    else Ok (text string)
 
--- exactly n bytes
+-- exactly n bytes, as their text
+abbrev pub fixed_bytes_as : (List ℕ → List ℕ) → ℕ → Shape
+fixed_bytes_as text n = string_shape (fixed_bytes_in text n)
+
+-- exactly n bytes, in hexadecimal
 abbrev pub fixed_bytes : ℕ → Shape
-fixed_bytes n = string_shape (fixed_bytes_in n)
+fixed_bytes = fixed_bytes_as bytes_text
 
 -- any bytes
 abbrev pub byte_string : Shape
@@ -103,7 +112,7 @@ byte_string = string_shape (λ string. Ok (bytes_text string))
 -- the recipient of a transaction: the bytes of an address, or no bytes
 abbrev pub recipient_in : List ℕ → Worded
 recipient_in [] = Ok (bytes_text [])
-recipient_in (d ∷ ds) = fixed_bytes_in 20 (d ∷ ds)
+recipient_in (d ∷ ds) = fixed_bytes_in bytes_text 20 (d ∷ ds)
 
 -- a recipient
 abbrev pub recipient : Shape
@@ -124,7 +133,7 @@ receipt_status = string_shape status_in
 abbrev pub truth_value_in : List ℕ → Worded
 truth_value_in string =
     if nat_lt 1 (number_from_digits 256 string) && nat_lt (length string) 2 then Err (codes "Custom(\"invalid boolean value\")")
-    else number_in 1 string
+    else number_in number_text 1 string
 
 -- a truth value
 abbrev pub truth_value : Shape
@@ -202,19 +211,6 @@ abbrev pub item_within : ℕ → Shape
 item_within zero name v = if begins_as_list v.bytes then Err (wrong name (codes "Custom(\"item nests too deep\")")) else byte_string name v
 item_within (suc most) name v = if begins_as_list v.bytes then list_of (item_within most) name v else byte_string name v
 
--- ---- pairs of a key and a value, which stand in a record one after another
-
--- the lines of a key and a value, of which the key is item i of the record
-abbrev pub pair_lines : Shape → List ℕ → ℕ → View → View → Shown
-pair_lines shape name i key value =
-    then_lines (in_field i (byte_string (name ++ codes ".key") key)) (in_field (i + 1) (shape (name ++ codes ".value") value))
-
--- the lines of pairs, the first of which has place k among the pairs and begins with item i of the record
-abbrev pub pairs_lines : Shape → List ℕ → ℕ → ℕ → List View → Shown
-pairs_lines shape name k i [] = Ok []
-pairs_lines shape name k i (key ∷ []) = Ok []
-pairs_lines shape name k i (key ∷ value ∷ vs) = then_lines (pair_lines shape (place name k) i key value) (pairs_lines shape name (k + 1) (i + 2) vs)
-
 -- ---- envelopes
 
 -- the lines of a typed record: the type, and then the record that the other bytes encode exactly
@@ -227,6 +223,16 @@ typed_lines kind shape name other v (first ∷ payload) =
 -- bytes that begin with this byte are the envelope (EIP-2718) of a record of a shape; other bytes are of another shape
 abbrev pub typed : ℕ → Shape → Shape → Shape
 typed kind shape other name v = typed_lines kind shape name other v v.bytes
+
+-- ---- hashes
+
+-- the line of the hash of these bytes
+abbrev pub hash_line : List ℕ → List ℕ → List ℕ
+hash_line name bytes = line (prefix name ++ codes "hash") (bytes_text (keccak256 bytes))
+
+-- the hash of the bytes of an item, and then its lines
+abbrev pub hashed : Shape → Shape
+hashed shape name v = then_lines (Ok (hash_line name v.bytes)) (shape name v)
 
 -- ---- strings that hold records
 

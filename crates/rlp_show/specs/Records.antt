@@ -1,19 +1,15 @@
 -- The fields of each record, by their names in `rlp_ethereum`.
-use Rattle.std.specs.List.{list_any}
-use Rattle.std.specs.Result.{result_unwrap_or}
-use Rattle.std.specs.Str.{bytes_eq}
-use Rattle.std.specs.Prelude.{ℕ, ◌%◌, ◌==◌, ◌||◌, nat_lt, if◌then◌else◌, Bool, false, List, [], ◌∷◌, ◌++◌, drop, length, codes, is_some, Result, Ok, Err}
+use Rattle.std.specs.Prelude.{ℕ, ◌==◌, nat_lt, if◌then◌else◌, Bool, false, List, [], ◌∷◌, ◌++◌, length, codes, is_some, Result, Ok, Err}
 use Rattle.rlp.specs.DecoderError.{DecoderError}
 use Rattle.rlp.specs.DecoderError.TheVariants.{RlpIncorrectListLen, RlpIsTooBig, RlpIsTooShort}
 use Rattle.rlp.specs.Format.Split.{begins_as_list}
 use Rattle.rlp.specs.Views.Text.{error_name}
 use Rattle.rlp.specs.Views.View.{View, item_count, item_views, view_string}
-use Rattle.rlp_node_record.specs.NodeRecord.{keys_rise, longest_record}
 use Rattle.rlp_trie.specs.HexPrefix.{ends_in_leaf, is_empty_extension}
 use Rattle.rlp_trie.specs.TrieNode.{is_leaf_string}
-use Rattle.rlp_show.specs.Lines.{Field, Shape, Shown, Worded, byte_string, field, fields_lines, fixed_bytes, fixed_bytes_in, item_within, line, list_of}
-use Rattle.rlp_show.specs.Lines.{list_or_string, number, optional, pairs_lines, prefix, receipt_status, recipient, record_of, string_shape, then_lines, truth_value, typed, wrong}
-use Rattle.rlp_show.specs.Text.{bytes_text, number_text}
+use Rattle.rlp_show.specs.Lines.{Field, Shape, Shown, Worded, byte_string, field, fixed_bytes, fixed_bytes_as, fixed_bytes_in, hashed, item_within, line, list_of}
+use Rattle.rlp_show.specs.Lines.{list_or_string, number, number_as, optional, prefix, receipt_status, recipient, record_of, string_shape, then_lines, truth_value, typed, wrong}
+use Rattle.rlp_show.specs.Text.{bloom_text, bytes_text, hex_text, number_text, path_text, v_text}
 
 -- addresses
 abbrev pub address : Shape
@@ -25,7 +21,15 @@ hash = fixed_bytes 32
 
 -- filters of logs
 abbrev pub bloom : Shape
-bloom = fixed_bytes 256
+bloom = fixed_bytes_as bloom_text 256
+
+-- the numbers r and s of a signature, in hexadecimal
+abbrev pub signature_number : Shape
+signature_number = number_as hex_text 32
+
+-- the number v of the signature of a transaction without a type
+abbrev pub legacy_v : Shape
+legacy_v = number_as v_text 32
 
 -- withdrawals
 abbrev pub withdrawal : Shape
@@ -45,9 +49,9 @@ account = record_of (
     ∷ field (codes "code_hash") hash
     ∷ [])
 
--- headers of blocks: fifteen fields, and those that forks added, of which Cancun added three together
-abbrev pub header : Shape
-header = record_of (
+-- the fields of headers of blocks: fifteen, and those that forks added, of which Cancun added three together
+abbrev pub header_fields : Shape
+header_fields = record_of (
     field (codes "parent_hash") hash
     ∷ field (codes "ommers_hash") hash
     ∷ field (codes "beneficiary") address
@@ -70,6 +74,10 @@ header = record_of (
     ∷ field (codes "parent_beacon_block_root") hash
     ∷ optional (field (codes "requests_hash") hash)
     ∷ [])
+
+-- headers of blocks, with their hash
+abbrev pub header : Shape
+header = hashed header_fields
 
 -- logs
 abbrev pub log : Shape
@@ -108,9 +116,9 @@ legacy_transaction = record_of (
     ∷ field (codes "to") recipient
     ∷ field (codes "value") (number 32)
     ∷ field (codes "data") byte_string
-    ∷ field (codes "v") (number 32)
-    ∷ field (codes "r") (number 32)
-    ∷ field (codes "s") (number 32)
+    ∷ field (codes "v") legacy_v
+    ∷ field (codes "r") signature_number
+    ∷ field (codes "s") signature_number
     ∷ [])
 
 -- transactions of type 1, without the byte of the type
@@ -125,8 +133,8 @@ access_list_transaction = record_of (
     ∷ field (codes "data") byte_string
     ∷ field (codes "access_list") (list_of access_list_item)
     ∷ field (codes "y_parity") truth_value
-    ∷ field (codes "r") (number 32)
-    ∷ field (codes "s") (number 32)
+    ∷ field (codes "r") signature_number
+    ∷ field (codes "s") signature_number
     ∷ [])
 
 -- transactions of type 2, without the byte of the type
@@ -142,8 +150,8 @@ fee_market_transaction = record_of (
     ∷ field (codes "data") byte_string
     ∷ field (codes "access_list") (list_of access_list_item)
     ∷ field (codes "y_parity") truth_value
-    ∷ field (codes "r") (number 32)
-    ∷ field (codes "s") (number 32)
+    ∷ field (codes "r") signature_number
+    ∷ field (codes "s") signature_number
     ∷ [])
 
 -- transactions of type 3, without the byte of the type
@@ -161,8 +169,8 @@ blob_transaction = record_of (
     ∷ field (codes "max_fee_per_blob_gas") (number 32)
     ∷ field (codes "blob_versioned_hashes") (list_of hash)
     ∷ field (codes "y_parity") truth_value
-    ∷ field (codes "r") (number 32)
-    ∷ field (codes "s") (number 32)
+    ∷ field (codes "r") signature_number
+    ∷ field (codes "s") signature_number
     ∷ [])
 
 -- authorizations of transactions of type 4
@@ -172,8 +180,8 @@ authorization = record_of (
     ∷ field (codes "address") address
     ∷ field (codes "nonce") (number 8)
     ∷ field (codes "y_parity") (number 1)
-    ∷ field (codes "r") (number 32)
-    ∷ field (codes "s") (number 32)
+    ∷ field (codes "r") signature_number
+    ∷ field (codes "s") signature_number
     ∷ [])
 
 -- transactions of type 4, without the byte of the type
@@ -190,8 +198,8 @@ set_code_transaction = record_of (
     ∷ field (codes "access_list") (list_of access_list_item)
     ∷ field (codes "authorization_list") (list_of authorization)
     ∷ field (codes "y_parity") truth_value
-    ∷ field (codes "r") (number 32)
-    ∷ field (codes "s") (number 32)
+    ∷ field (codes "r") signature_number
+    ∷ field (codes "s") signature_number
     ∷ [])
 
 -- the envelope of a transaction by its first byte, which is its type, or else another shape
@@ -223,16 +231,20 @@ abbrev pub list_or : Shape → Shape → Shape
 list_or of_list other name v = if begins_as_list v.bytes then of_list name v else other name v
 
 -- transactions by their first byte: an envelope of type 1 to 4 or of another type, or else a transaction without a type
+abbrev pub plain_transaction : Shape
+plain_transaction = typed_transaction (list_or legacy_transaction other_transaction)
+
+-- transactions by themselves, with their hash
 abbrev pub any_transaction : Shape
-any_transaction = typed_transaction (list_or legacy_transaction other_transaction)
+any_transaction = hashed plain_transaction
 
 -- receipts by their first byte: an envelope of type 1 to 4, or else a receipt without a type
 abbrev pub any_receipt : Shape
 any_receipt = typed 1 receipt (typed 2 receipt (typed 3 receipt (typed 4 receipt (list_or receipt unknown_transaction))))
 
--- transactions in the list of a block: a list is a transaction without a type, and a string holds the envelope of one with a type
+-- transactions in the list of a block: a list is a transaction without a type, and a string holds the envelope of one with a type; each with its hash
 abbrev pub transaction : Shape
-transaction = list_or_string legacy_transaction (typed_transaction other_transaction)
+transaction = list_or_string (hashed legacy_transaction) (hashed (typed_transaction other_transaction))
 
 -- blocks: the withdrawals may be missing
 abbrev pub block : Shape
@@ -251,53 +263,18 @@ body = record_of (
     ∷ optional (field (codes "withdrawals") (list_of withdrawal))
     ∷ [])
 
--- ---- node records
+-- ---- items of any kind
 
 -- an item of any kind, through at most 256 nested lists
 unfoldable pub any_item : Shape
 any_item = item_within 256
 
--- the fields of a node record before its pairs
-abbrev pub first_fields : List Field
-first_fields = field (codes "signature") byte_string ∷ field (codes "sequence") (number 8) ∷ []
-
--- the lines of the fields of a node record by its number of items: two, and two for each pair
-abbrev pub node_fields_lines : List ℕ → List View → Result ℕ DecoderError → Shown
-node_fields_lines name vs (Err e) = Err (wrong name (error_name e))
-node_fields_lines name vs (Ok n) =
-    if nat_lt n 2 || (n % 2 == 1) then Err (wrong name (error_name RlpIncorrectListLen))
-    else then_lines (fields_lines (prefix name) 0 first_fields vs) (pairs_lines any_item (prefix name ++ codes "pairs") 0 2 (drop 2 vs))
-
--- the fields of a node record: the signature, the number of the record, and then each key and its value
-abbrev pub node_fields : Shape
-node_fields name v = node_fields_lines name (item_views v) (item_count v)
-
--- the keys of pairs; a key that isn't a string counts as the empty one
-abbrev pub keys_in : List View → List (List ℕ)
-keys_in [] = []
-keys_in (key ∷ []) = []
-keys_in (key ∷ value ∷ vs) = result_unwrap_or (view_string key) [] ∷ keys_in vs
-
--- what was shown of a record with these keys, or the rule of `rlp_node_record` that they break: they are in order, each once, and `id` is one of them
-abbrev pub by_keys : List ℕ → List (List ℕ) → Shown → Shown
-by_keys name keys (Err fault) = Err fault
-by_keys name keys (Ok lines) =
-    if keys_rise keys
-    then (if list_any (λ key. bytes_eq key (codes "id")) keys then Ok lines else Err (wrong name (codes "Custom(\"key id is missing\")")))
-    else Err (wrong name (codes "Custom(\"keys are not in order\")"))
-
--- node records: of at most 300 bytes, and then as their fields and keys say
-abbrev pub node_record : Shape
-node_record name v =
-    if nat_lt longest_record (length v.bytes) then Err (wrong name (error_name RlpIsTooBig))
-    else by_keys name (keys_in (drop 2 (item_views v))) (node_fields name v)
-
 -- ---- nodes of the trie
 
--- a hex-prefix encoded path
+-- a hex-prefix encoded path, with its nibbles
 abbrev pub path_in : List ℕ → Worded
 path_in d =
-    if is_some (ends_in_leaf d) then Ok (bytes_text d)
+    if is_some (ends_in_leaf d) then Ok (path_text d)
     else Err (codes "Custom(\"path is not hex-prefix encoded\")")
 
 -- paths of leaves
@@ -314,50 +291,50 @@ extension_path_in d =
 abbrev pub extension_path : Shape
 extension_path = string_shape extension_path_in
 
--- a node that is kept in its parent has fewer than 32 bytes
-abbrev pub inline_node : Shape
-inline_node name v = if nat_lt (length v.bytes) 32 then any_item name v else Err (wrong name (error_name RlpIsTooBig))
+-- a node that is kept in its parent is of this shape, and has fewer than 32 bytes
+abbrev pub inline_node : Shape → Shape
+inline_node kept name v = if nat_lt (length v.bytes) 32 then kept name v else Err (wrong name (error_name RlpIsTooBig))
 
 -- children: a list is a node that is kept in its parent, and a string is the hash of a node
-abbrev pub child : Shape
-child name v = if begins_as_list v.bytes then inline_node name v else hash name v
+abbrev pub child : Shape → Shape
+child kept name v = if begins_as_list v.bytes then inline_node kept name v else hash name v
 
 -- the hash of a child, or no bytes
 abbrev pub child_hash_in : List ℕ → Worded
 child_hash_in [] = Ok (bytes_text [])
-child_hash_in (d ∷ ds) = fixed_bytes_in 32 (d ∷ ds)
+child_hash_in (d ∷ ds) = fixed_bytes_in bytes_text 32 (d ∷ ds)
 
 -- places of a branch: a child, or the empty string if there is none
-abbrev pub branch_child : Shape
-branch_child name v = if begins_as_list v.bytes then inline_node name v else string_shape child_hash_in name v
+abbrev pub branch_child : Shape → Shape
+branch_child kept name v = if begins_as_list v.bytes then inline_node kept name v else string_shape child_hash_in name v
 
 -- leaves
 abbrev pub leaf : Shape
 leaf = record_of (field (codes "path") path ∷ field (codes "value") byte_string ∷ [])
 
 -- extensions
-abbrev pub extension : Shape
-extension = record_of (field (codes "path") extension_path ∷ field (codes "child") child ∷ [])
+abbrev pub extension : Shape → Shape
+extension kept = record_of (field (codes "path") extension_path ∷ field (codes "child") (child kept) ∷ [])
 
 -- branches
-abbrev pub branch : Shape
-branch = record_of (
-    field (codes "children[0]") branch_child
-    ∷ field (codes "children[1]") branch_child
-    ∷ field (codes "children[2]") branch_child
-    ∷ field (codes "children[3]") branch_child
-    ∷ field (codes "children[4]") branch_child
-    ∷ field (codes "children[5]") branch_child
-    ∷ field (codes "children[6]") branch_child
-    ∷ field (codes "children[7]") branch_child
-    ∷ field (codes "children[8]") branch_child
-    ∷ field (codes "children[9]") branch_child
-    ∷ field (codes "children[10]") branch_child
-    ∷ field (codes "children[11]") branch_child
-    ∷ field (codes "children[12]") branch_child
-    ∷ field (codes "children[13]") branch_child
-    ∷ field (codes "children[14]") branch_child
-    ∷ field (codes "children[15]") branch_child
+abbrev pub branch : Shape → Shape
+branch kept = record_of (
+    field (codes "children[0]") (branch_child kept)
+    ∷ field (codes "children[1]") (branch_child kept)
+    ∷ field (codes "children[2]") (branch_child kept)
+    ∷ field (codes "children[3]") (branch_child kept)
+    ∷ field (codes "children[4]") (branch_child kept)
+    ∷ field (codes "children[5]") (branch_child kept)
+    ∷ field (codes "children[6]") (branch_child kept)
+    ∷ field (codes "children[7]") (branch_child kept)
+    ∷ field (codes "children[8]") (branch_child kept)
+    ∷ field (codes "children[9]") (branch_child kept)
+    ∷ field (codes "children[10]") (branch_child kept)
+    ∷ field (codes "children[11]") (branch_child kept)
+    ∷ field (codes "children[12]") (branch_child kept)
+    ∷ field (codes "children[13]") (branch_child kept)
+    ∷ field (codes "children[14]") (branch_child kept)
+    ∷ field (codes "children[15]") (branch_child kept)
     ∷ field (codes "value") byte_string
     ∷ [])
 
@@ -370,12 +347,12 @@ are_leaf (first ∷ more) = is_leaf_string (view_string first)
 abbrev pub node_of : List ℕ → Shape → Shape
 node_of kind shape name v = then_lines (Ok (line (prefix name ++ codes "node") kind)) (shape name v)
 
--- a node by its number of items: 17 for a branch, and 2 for a leaf or an extension, which the path tells apart
-abbrev pub node_lines : List ℕ → View → Result ℕ DecoderError → Shown
-node_lines name v (Err e) = Err (wrong name (error_name e))
-node_lines name v (Ok n) =
-    if n == 17 then node_of (codes "branch") branch name v
-    else if n == 2 then (if are_leaf (item_views v) then node_of (codes "leaf") leaf name v else node_of (codes "extension") extension name v)
+-- a node by its number of items: 17 for a branch, and 2 for a leaf or an extension, which the path tells apart; nodes that are kept in it are of this shape
+abbrev pub node_lines : Shape → List ℕ → View → Result ℕ DecoderError → Shown
+node_lines kept name v (Err e) = Err (wrong name (error_name e))
+node_lines kept name v (Ok n) =
+    if n == 17 then node_of (codes "branch") (branch kept) name v
+    else if n == 2 then (if are_leaf (item_views v) then node_of (codes "leaf") leaf name v else node_of (codes "extension") (extension kept) name v)
     else Err (wrong name (error_name RlpIncorrectListLen))
 
 -- whether bytes are the encoding of the empty string
@@ -384,8 +361,12 @@ is_empty_node [] = false
 is_empty_node (first ∷ []) = first == 0x80
 is_empty_node (first ∷ next ∷ more) = false
 
--- nodes of the trie: the empty string is the empty trie
-abbrev pub node : Shape
-node name v =
+-- a node without its hash: the empty string is the empty trie
+abbrev pub node_keeping : Shape → Shape
+node_keeping kept name v =
     if is_empty_node v.bytes then Ok (line (prefix name ++ codes "node") (codes "empty"))
-    else node_lines name v (item_count v)
+    else node_lines kept name v (item_count v)
+
+-- Nodes of the trie, with their hash. In a trie at most three nodes are kept one in another: an extension, a branch and a leaf. The items of others are shown.
+abbrev pub node : Shape
+node = hashed (node_keeping (node_keeping (node_keeping (node_keeping any_item))))

@@ -24,9 +24,9 @@ use Rattle.rlp.specs.Views.View.{View, HoldsString, view_string}
 use Rattle.rlp.specs.Lemmas.Digits.{big_endian_value}
 use Rattle.rlp.specs.Lemmas.OneReading.{sound_digits}
 use Rattle.rlp.specs.Lemmas.StringsHeld.{held_only}
-use Rattle.rlp_show.specs.Lines.{Worded, line, wrong, named, in_string, string_shape, number, number_in, fixed_bytes, fixed_bytes_in, begins_with_zero}
+use Rattle.rlp_show.specs.Lines.{Worded, line, wrong, named, in_string, string_shape, number, number_as, number_in, fixed_bytes, fixed_bytes_as, fixed_bytes_in, begins_with_zero}
 use Rattle.rlp_show.specs.Lines.{byte_string, receipt_status, recipient, recipient_in, status_in, truth_value, truth_value_in}
-use Rattle.rlp_show.specs.Text.{bytes_text, number_text}
+use Rattle.rlp_show.specs.Text.{bloom_text, bytes_text, hex_text, number_text, v_text}
 
 -- what is shown of the string that a view holds
 shown_string : (text_in : List ℕ → Worded) (name : List ℕ) (v : View) (d : List ℕ) → length v.bytes < 2 ^ 64 → HoldsString v d
@@ -39,25 +39,44 @@ shown_fault text_in name v e is = ap (λ r. named name (in_string text_in r)) is
 
 -- ---- strings of n bytes
 
-fixed_right : (n : ℕ) (d : List ℕ) → length d ≡ n → fixed_bytes_in n d ≡ Ok (bytes_text d)
-fixed_right n d many = cond-false (nat_lt (length d) n) _ _ (le-ltb _ _ (omega (arith, many)))
+fixed_right : (text : List ℕ → List ℕ) (n : ℕ) (d : List ℕ) → length d ≡ n → fixed_bytes_in text n d ≡ Ok (text d)
+fixed_right text n d many = cond-false (nat_lt (length d) n) _ _ (le-ltb _ _ (omega (arith, many)))
     ∙ cond-false (nat_lt n (length d)) _ _ (le-ltb _ _ (omega (arith, many)))
 
-fixed_wrong : (n : ℕ) (d : List ℕ) (e : DecoderError) → IsLengthFault n d e → fixed_bytes_in n d ≡ Err (error_name e)
-fixed_wrong n d e (shorter few) = cond-true (nat_lt (length d) n) _ _ (lt-ltb _ _ few)
-fixed_wrong n d e (longer many) = cond-false (nat_lt (length d) n) _ _ (le-ltb _ _ (omega arith)) ∙ cond-true (nat_lt n (length d)) _ _ (lt-ltb _ _ many)
+fixed_wrong : (text : List ℕ → List ℕ) (n : ℕ) (d : List ℕ) (e : DecoderError) → IsLengthFault n d e → fixed_bytes_in text n d ≡ Err (error_name e)
+fixed_wrong text n d e (shorter few) = cond-true (nat_lt (length d) n) _ _ (lt-ltb _ _ few)
+fixed_wrong text n d e (longer many) = cond-false (nat_lt (length d) n) _ _ (le-ltb _ _ (omega arith)) ∙ cond-true (nat_lt n (length d)) _ _ (lt-ltb _ _ many)
+
+pub fixed_as_given : (text : List ℕ → List ℕ) (n : ℕ) (name : List ℕ) (v : View) (d : List ℕ) → length v.bytes < 2 ^ 64
+    → GivesValue (λ a. length a ≡ n) string v d → fixed_bytes_as text n name v ≡ Ok (line name (text d))
+fixed_as_given text n name v d few given =
+    shown_string (fixed_bytes_in text n) name v d few given.begins ∙ ap (named name) (fixed_right text n d given.fits)
+
+fixed_as_faulty : (text : List ℕ → List ℕ) (n : ℕ) (name : List ℕ) (v : View) (e : DecoderError) → length v.bytes < 2 ^ 64
+    → FaultsAs (IsLengthFault n) v e → fixed_bytes_as text n name v ≡ Err (wrong name (error_name e))
+fixed_as_faulty text n name v e few (no_string f is) = shown_fault (fixed_bytes_in text n) name v f is
+fixed_as_faulty text n name v e few (no_value d f holds faulty) =
+    shown_string (fixed_bytes_in text n) name v d few holds ∙ ap (named name) (fixed_wrong text n d f faulty)
 
 pub fixed_given : (n : ℕ) (name : List ℕ) (v : View) (d : List ℕ) → length v.bytes < 2 ^ 64 → GivesValue (λ a. length a ≡ n) string v d
     → fixed_bytes n name v ≡ Ok (line name (bytes_text d))
-fixed_given n name v d few given = shown_string (fixed_bytes_in n) name v d few given.begins ∙ ap (named name) (fixed_right n d given.fits)
+fixed_given = fixed_as_given bytes_text
 
 pub fixed_faulty : (n : ℕ) (name : List ℕ) (v : View) (e : DecoderError) → length v.bytes < 2 ^ 64 → FaultsAs (IsLengthFault n) v e
     → fixed_bytes n name v ≡ Err (wrong name (error_name e))
-fixed_faulty n name v e few (no_string f is) = shown_fault (fixed_bytes_in n) name v f is
-fixed_faulty n name v e few (no_value d f holds faulty) =
-    shown_string (fixed_bytes_in n) name v d few holds ∙ ap (named name) (fixed_wrong n d f faulty)
+fixed_faulty = fixed_as_faulty bytes_text
+
+pub bloom_given : (n : ℕ) (name : List ℕ) (v : View) (d : List ℕ) → length v.bytes < 2 ^ 64 → GivesValue (λ a. length a ≡ n) string v d
+    → fixed_bytes_as bloom_text n name v ≡ Ok (line name (bloom_text d))
+bloom_given = fixed_as_given bloom_text
+
+pub bloom_faulty : (n : ℕ) (name : List ℕ) (v : View) (e : DecoderError) → length v.bytes < 2 ^ 64 → FaultsAs (IsLengthFault n) v e
+    → fixed_bytes_as bloom_text n name v ≡ Err (wrong name (error_name e))
+bloom_faulty = fixed_as_faulty bloom_text
 
 pub ruleset fixed_strings = (fixed_given, fixed_faulty)
+
+pub ruleset bloom_strings = (bloom_given, bloom_faulty)
 
 -- ---- numbers
 
@@ -68,32 +87,61 @@ few_by width n d is fit =
     (λ few. few)
     (cases_lt width (length d))
 
-number_right_by : (width n : ℕ) (d : List ℕ) → d ≡ big_endian n → FitsBytes width n → number_in width d ≡ Ok (number_text n)
-number_right_by width n [] is fit =
-    cond-false (nat_lt width 0) _ _ (le-ltb _ _ (omega arith)) ∙ ap (λ n. Ok (number_text n)) (ap (number_from_digits 256) is ∙ big_endian_value n)
-number_right_by width n (zero ∷ more) is fit =
+number_right_by : (text : ℕ → List ℕ) (width n : ℕ) (d : List ℕ) → d ≡ big_endian n → FitsBytes width n → number_in text width d ≡ Ok (text n)
+number_right_by text width n [] is fit =
+    cond-false (nat_lt width 0) _ _ (le-ltb _ _ (omega arith)) ∙ ap (λ n. Ok (text n)) (ap (number_from_digits 256) is ∙ big_endian_value n)
+number_right_by text width n (zero ∷ more) is fit =
     absurd (sound_digits width n RlpInvalidIndirection fit (leading_zero more (few_by width n (big_endian n) refl fit) (sym is)))
-number_right_by width n (suc first ∷ more) is fit =
+number_right_by text width n (suc first ∷ more) is fit =
     cond-false (nat_lt width (length (suc first ∷ more))) _ _ (le-ltb _ _ (few_by width n (suc first ∷ more) is fit))
-    ∙ cond-false (suc first == 0) _ _ (grind (arith, nat_tests)) ∙ ap (λ n. Ok (number_text n)) (ap (number_from_digits 256) is ∙ big_endian_value n)
+    ∙ cond-false (suc first == 0) _ _ (grind (arith, nat_tests)) ∙ ap (λ n. Ok (text n)) (ap (number_from_digits 256) is ∙ big_endian_value n)
 
-number_wrong : (width : ℕ) (d : List ℕ) (e : DecoderError) → IsDigitsFault width d e → number_in width d ≡ Err (error_name e)
-number_wrong width d e (too_long many) = cond-true (nat_lt width (length d)) _ _ (lt-ltb _ _ many)
-number_wrong width d e (leading_zero more few is) =
+number_wrong : (text : ℕ → List ℕ) (width : ℕ) (d : List ℕ) (e : DecoderError) → IsDigitsFault width d e → number_in text width d ≡ Err (error_name e)
+number_wrong text width d e (too_long many) = cond-true (nat_lt width (length d)) _ _ (lt-ltb _ _ many)
+number_wrong text width d e (leading_zero more few is) =
     cond-false (nat_lt width (length d)) _ _ (le-ltb _ _ few) ∙ cond-true (begins_with_zero d) _ _ (ap begins_with_zero is)
+
+pub number_as_given : (text : ℕ → List ℕ) (width n : ℕ) (name : List ℕ) (v : View) → length v.bytes < 2 ^ 64 → GivesNumber width v n
+    → number_as text width name v ≡ Ok (line name (text n))
+number_as_given text width n name v few given =
+    shown_string (number_in text width) name v (big_endian n) few given.begins
+    ∙ ap (named name) (number_right_by text width n (big_endian n) refl given.fits)
+
+number_as_faulty : (text : ℕ → List ℕ) (width : ℕ) (name : List ℕ) (v : View) (e : DecoderError) → length v.bytes < 2 ^ 64 → FaultsAsNumber width v e
+    → number_as text width name v ≡ Err (wrong name (error_name e))
+number_as_faulty text width name v e few (no_string f is) = shown_fault (number_in text width) name v f is
+number_as_faulty text width name v e few (no_value d f holds faulty) =
+    shown_string (number_in text width) name v d few holds ∙ ap (named name) (number_wrong text width d f faulty)
 
 pub number_given : (width n : ℕ) (name : List ℕ) (v : View) → length v.bytes < 2 ^ 64 → GivesNumber width v n
     → number width name v ≡ Ok (line name (number_text n))
-number_given width n name v few given =
-    shown_string (number_in width) name v (big_endian n) few given.begins ∙ ap (named name) (number_right_by width n (big_endian n) refl given.fits)
+number_given = number_as_given number_text
 
 pub number_faulty : (width : ℕ) (name : List ℕ) (v : View) (e : DecoderError) → length v.bytes < 2 ^ 64 → FaultsAsNumber width v e
     → number width name v ≡ Err (wrong name (error_name e))
-number_faulty width name v e few (no_string f is) = shown_fault (number_in width) name v f is
-number_faulty width name v e few (no_value d f holds faulty) =
-    shown_string (number_in width) name v d few holds ∙ ap (named name) (number_wrong width d f faulty)
+number_faulty = number_as_faulty number_text
+
+pub hex_given : (width n : ℕ) (name : List ℕ) (v : View) → length v.bytes < 2 ^ 64 → GivesNumber width v n
+    → number_as hex_text width name v ≡ Ok (line name (hex_text n))
+hex_given = number_as_given hex_text
+
+pub hex_faulty : (width : ℕ) (name : List ℕ) (v : View) (e : DecoderError) → length v.bytes < 2 ^ 64 → FaultsAsNumber width v e
+    → number_as hex_text width name v ≡ Err (wrong name (error_name e))
+hex_faulty = number_as_faulty hex_text
+
+pub v_given : (width n : ℕ) (name : List ℕ) (v : View) → length v.bytes < 2 ^ 64 → GivesNumber width v n
+    → number_as v_text width name v ≡ Ok (line name (v_text n))
+v_given = number_as_given v_text
+
+pub v_faulty : (width : ℕ) (name : List ℕ) (v : View) (e : DecoderError) → length v.bytes < 2 ^ 64 → FaultsAsNumber width v e
+    → number_as v_text width name v ≡ Err (wrong name (error_name e))
+v_faulty = number_as_faulty v_text
 
 pub ruleset number_strings = (number_given, number_faulty)
+
+pub ruleset hex_strings = (hex_given, hex_faulty)
+
+pub ruleset v_strings = (v_given, v_faulty)
 
 -- ---- recipients
 
@@ -103,13 +151,13 @@ recipient_right (Account address) fit = by address.0 fit
   where
     by : (d : List ℕ) → length d ≡ 20 → recipient_in d ≡ Ok (bytes_text d)
     by [] many = refl
-    by (c ∷ d) many = fixed_right 20 (c ∷ d) many
+    by (c ∷ d) many = fixed_right bytes_text 20 (c ∷ d) many
 
 recipient_wrong : (d : List ℕ) (e : DecoderError) → IsRecipientFault d e → recipient_in d ≡ Err (error_name e)
 recipient_wrong [] e (shorter_recipient some few) = absurd (omega arith)
 recipient_wrong [] e (longer_recipient many) = absurd (omega arith)
-recipient_wrong (c ∷ d) e (shorter_recipient some few) = fixed_wrong 20 (c ∷ d) RlpIsTooShort (shorter few)
-recipient_wrong (c ∷ d) e (longer_recipient many) = fixed_wrong 20 (c ∷ d) RlpIsTooBig (longer many)
+recipient_wrong (c ∷ d) e (shorter_recipient some few) = fixed_wrong bytes_text 20 (c ∷ d) RlpIsTooShort (shorter few)
+recipient_wrong (c ∷ d) e (longer_recipient many) = fixed_wrong bytes_text 20 (c ∷ d) RlpIsTooBig (longer many)
 
 pub recipient_given : (name : List ℕ) (v : View) (r : Recipient) → length v.bytes < 2 ^ 64
     → GivesValue IsRecipient (λ r. string (recipient_bytes r)) v r → recipient name v ≡ Ok (line name (bytes_text (recipient_bytes r)))
@@ -171,7 +219,7 @@ small_number d low = grind (arith, nat_tests)
 truth_right : (b : Bool) (d : List ℕ) → d ≡ big_endian (bit b) → truth_value_in d ≡ Ok (number_text (bit b))
 truth_right b d is =
     let value : number_from_digits 256 d ≡ bit b = ap (number_from_digits 256) is ∙ big_endian_value (bit b) in
-    cond-false (is_other d) _ _ (small_number d (omega (arith, value, low_bit b))) ∙ number_right_by 1 (bit b) d is (small_bit b)
+    cond-false (is_other d) _ _ (small_number d (omega (arith, value, low_bit b))) ∙ number_right_by number_text 1 (bit b) d is (small_bit b)
   where
     low_bit : (b : Bool) → bit b ≤ 1
     low_bit true = omega arith
@@ -183,10 +231,10 @@ truth_right b d is =
 
 no_number_in : (d : List ℕ) (e : DecoderError) → IsDigitsFault 1 d e → truth_value_in d ≡ Err (error_name e)
 no_number_in d e (too_long many) =
-    cond-false (is_other d) _ _ (let long : 2 ≤ length d = omega arith in grind (arith, nat_tests)) ∙ number_wrong 1 d RlpIsTooBig (too_long many)
+    cond-false (is_other d) _ _ (let long : 2 ≤ length d = omega arith in grind (arith, nat_tests)) ∙ number_wrong number_text 1 d RlpIsTooBig (too_long many)
 no_number_in d e (leading_zero [] few is) =
     cond-false (is_other d) _ _ (small_number d (omega (arith, ap (number_from_digits 256) is)))
-    ∙ number_wrong 1 d RlpInvalidIndirection (leading_zero [] few is)
+    ∙ number_wrong number_text 1 d RlpInvalidIndirection (leading_zero [] few is)
 no_number_in d e (leading_zero (c ∷ more) few is) = absurd (omega (arith, ap length is))
 
 other_in : (n : ℕ) (d : List ℕ) (e : DecoderError) → d ≡ big_endian n → FitsBytes 1 n → 1 < n → IsCustom (codes "invalid boolean value") e

@@ -33,8 +33,8 @@ use Rattle.std.specs.Str.Lines.{strip_carriage_return}
 use Rattle.rlp_lines.specs.Digits.{bytes_in}
 use Rattle.rlp_show.specs.Answer.{record_answer}
 use Rattle.rlp_show.specs.ValueLemmas.{encoding_answered}
-use Rattle.rlp_show.specs.Lines.{Shape, line, list_of, prefix, then_lines, typed}
-use Rattle.rlp_show.specs.Records.{access_list_transaction, any_transaction, blob_transaction, block, fee_market_transaction, legacy_transaction, list_or, set_code_transaction}
+use Rattle.rlp_show.specs.Lines.{Shape, hash_line, hashed, line, list_of, prefix, then_lines, typed}
+use Rattle.rlp_show.specs.Records.{access_list_transaction, any_transaction, blob_transaction, block, fee_market_transaction, legacy_transaction, list_or, plain_transaction, set_code_transaction}
 use Rattle.rlp_show.specs.Records.{other_transaction, transaction, typed_transaction, withdrawal}
 use Rattle.rlp_show.specs.Text.{bytes_text, number_text}
 use Rattle.rlp_show.specs.EnvelopeLemmas.{after_type, list_held, list_kind, not_of_type, other_than, string_held, string_sized}
@@ -63,6 +63,10 @@ other_value name (kind ∷ payload) = typed_value kind name (line (prefix name +
 abbrev pub any_lines : List ℕ → AnyTransaction → List ℕ
 any_lines name (Known t) = transaction_lines name t
 any_lines name (Other d) = other_value name d
+
+-- the hash of a transaction, and its lines
+abbrev pub hashed_lines : List ℕ → AnyTransaction → List ℕ
+hashed_lines name t = hash_line name (bytes_alone (any_codec.item t)) ++ any_lines name t
 
 -- ---- envelopes by their first byte
 
@@ -120,60 +124,79 @@ other_typed list name (kind ∷ payload) (low, others) shown =
 
 -- ---- transactions by themselves
 
--- the bytes of a transaction by itself are shown as its lines
-alone_shown : (name : List ℕ) (t : Transaction) → transaction_codec.Fits t → length (bytes_alone (transaction_codec.item t)) < 2 ^ 64
-    → any_transaction name (strict_view_of (bytes_alone (transaction_codec.item t))) ≡ Ok (transaction_lines name t)
-alone_shown name (Legacy t) fit few =
+-- the bytes of a transaction by itself are shown as its lines, without the hash
+plain_shown : (name : List ℕ) (t : Transaction) → transaction_codec.Fits t → length (bytes_alone (transaction_codec.item t)) < 2 ^ 64
+    → plain_transaction name (strict_view_of (bytes_alone (transaction_codec.item t))) ≡ Ok (transaction_lines name t)
+plain_shown name (Legacy t) fit few =
     let v = strict_view_of (encoding (signed_legacy_transaction.item t)) in
     let kind = list_kind (signed_legacy_transaction_fields.items t) few in
     not_typed (list_or legacy_transaction other_transaction) name v kind
     ∙ cond-true (begins_as_list v.bytes) (legacy_transaction name v) (other_transaction name v) kind ∙ legacy_transaction_display.shown name t fit few
-alone_shown name (AccessList t) fit few = access_list_typed (list_or legacy_transaction other_transaction) name t fit (after_type 1 _ few)
-alone_shown name (FeeMarket t) fit few = fee_market_typed (list_or legacy_transaction other_transaction) name t fit (after_type 2 _ few)
-alone_shown name (Blob t) fit few = blob_typed (list_or legacy_transaction other_transaction) name t fit (after_type 3 _ few)
-alone_shown name (SetCode t) fit few = set_code_typed (list_or legacy_transaction other_transaction) name t fit (after_type 4 _ few)
+plain_shown name (AccessList t) fit few = access_list_typed (list_or legacy_transaction other_transaction) name t fit (after_type 1 _ few)
+plain_shown name (FeeMarket t) fit few = fee_market_typed (list_or legacy_transaction other_transaction) name t fit (after_type 2 _ few)
+plain_shown name (Blob t) fit few = blob_typed (list_or legacy_transaction other_transaction) name t fit (after_type 3 _ few)
+plain_shown name (SetCode t) fit few = set_code_typed (list_or legacy_transaction other_transaction) name t fit (after_type 4 _ few)
 
 -- so are those of a transaction of any type
-any_alone : (name : List ℕ) (t : AnyTransaction) → any_codec.Fits t → length (bytes_alone (any_codec.item t)) < 2 ^ 64
-    → any_transaction name (strict_view_of (bytes_alone (any_codec.item t))) ≡ Ok (any_lines name t)
-any_alone name (Known t) fit few = alone_shown name t fit few
-any_alone name (Other d) fit few =
+any_plain : (name : List ℕ) (t : AnyTransaction) → any_codec.Fits t → length (bytes_alone (any_codec.item t)) < 2 ^ 64
+    → plain_transaction name (strict_view_of (bytes_alone (any_codec.item t))) ≡ Ok (any_lines name t)
+any_plain name (Known t) fit few = plain_shown name t fit few
+any_plain name (Other d) fit few =
     other_typed (list_or legacy_transaction other_transaction) name d fit (λ v kind. cond-false (begins_as_list v.bytes) _ _ kind)
+
+-- and with the hash
+any_alone : (name : List ℕ) (t : AnyTransaction) → any_codec.Fits t → length (bytes_alone (any_codec.item t)) < 2 ^ 64
+    → any_transaction name (strict_view_of (bytes_alone (any_codec.item t))) ≡ Ok (hashed_lines name t)
+any_alone name t fit few = ap (then_lines (Ok (hash_line name (bytes_alone (any_codec.item t))))) (any_plain name t fit few)
 
 -- the line of these bytes is answered by the lines
 pub transaction_answered : (l : List ℕ) (t : AnyTransaction) → any_codec.Fits t → length (bytes_alone (any_codec.item t)) < 2 ^ 64
-    → bytes_in (strip_carriage_return l) ≡ Some (bytes_alone (any_codec.item t)) → record_answer any_transaction l ≡ any_lines [] t
-transaction_answered l t fit few is = encoding_answered any_transaction l (bytes_alone (any_codec.item t)) (any_lines [] t) is (any_alone [] t fit few)
+    → bytes_in (strip_carriage_return l) ≡ Some (bytes_alone (any_codec.item t))
+    → record_answer any_transaction l ≡ hashed_lines [] t
+transaction_answered l t fit few is =
+    let bytes = bytes_alone (any_codec.item t) in
+    encoding_answered any_transaction l bytes (hashed_lines [] t) is (any_alone [] t fit few)
 
 -- ---- transactions in the list of a block
 
+-- the hash of these bytes, and what is shown of them
+with_hash : (shape : Shape) (name bytes : List ℕ) {lines : List ℕ} → shape name (strict_view_of bytes) ≡ Ok lines
+    → hashed shape name (strict_view_of bytes) ≡ Ok (hash_line name bytes ++ lines)
+with_hash shape name bytes shown = ap (then_lines (Ok (hash_line name bytes))) shown
+
 -- the encoding of a transaction is shown as its lines
 held_shown : (name : List ℕ) (t : Transaction) → transaction_codec.Fits t → IsSized (transaction_codec.item t)
-    → transaction name (strict_view_of (encoding (transaction_codec.item t))) ≡ Ok (transaction_lines name t)
+    → transaction name (strict_view_of (encoding (transaction_codec.item t)))
+    ≡ Ok (hash_line name (bytes_alone (transaction_codec.item t)) ++ transaction_lines name t)
 held_shown name (Legacy t) fit sized =
-    list_held legacy_transaction (typed_transaction other_transaction) name (signed_legacy_transaction_fields.items t) sized
-    ∙ legacy_transaction_display.shown name t fit sized
+    list_held (hashed legacy_transaction) (hashed (typed_transaction other_transaction)) name (signed_legacy_transaction_fields.items t) sized
+    ∙ with_hash legacy_transaction name (encoding (signed_legacy_transaction.item t)) (legacy_transaction_display.shown name t fit sized)
 held_shown name (AccessList t) fit sized =
-    string_held legacy_transaction (typed_transaction other_transaction) name _ sized
-    ∙ access_list_typed other_transaction name t fit (after_type 1 _ (string_sized _ sized))
+    string_held (hashed legacy_transaction) (hashed (typed_transaction other_transaction)) name _ sized
+    ∙ with_hash (typed_transaction other_transaction) name (1 ∷ encoding (signed_access_list_transaction.item t))
+    (access_list_typed other_transaction name t fit (after_type 1 _ (string_sized _ sized)))
 held_shown name (FeeMarket t) fit sized =
-    string_held legacy_transaction (typed_transaction other_transaction) name _ sized
-    ∙ fee_market_typed other_transaction name t fit (after_type 2 _ (string_sized _ sized))
+    string_held (hashed legacy_transaction) (hashed (typed_transaction other_transaction)) name _ sized
+    ∙ with_hash (typed_transaction other_transaction) name (2 ∷ encoding (signed_fee_market_transaction.item t))
+    (fee_market_typed other_transaction name t fit (after_type 2 _ (string_sized _ sized)))
 held_shown name (Blob t) fit sized =
-    string_held legacy_transaction (typed_transaction other_transaction) name _ sized
-    ∙ blob_typed other_transaction name t fit (after_type 3 _ (string_sized _ sized))
+    string_held (hashed legacy_transaction) (hashed (typed_transaction other_transaction)) name _ sized
+    ∙ with_hash (typed_transaction other_transaction) name (3 ∷ encoding (signed_blob_transaction.item t))
+    (blob_typed other_transaction name t fit (after_type 3 _ (string_sized _ sized)))
 held_shown name (SetCode t) fit sized =
-    string_held legacy_transaction (typed_transaction other_transaction) name _ sized
-    ∙ set_code_typed other_transaction name t fit (after_type 4 _ (string_sized _ sized))
+    string_held (hashed legacy_transaction) (hashed (typed_transaction other_transaction)) name _ sized
+    ∙ with_hash (typed_transaction other_transaction) name (4 ∷ encoding (signed_set_code_transaction.item t))
+    (set_code_typed other_transaction name t fit (after_type 4 _ (string_sized _ sized)))
 
 pub any_held : (name : List ℕ) (t : AnyTransaction) → any_codec.Fits t → IsSized (any_codec.item t)
-    → transaction name (strict_view_of (encoding (any_codec.item t))) ≡ Ok (any_lines name t)
+    → transaction name (strict_view_of (encoding (any_codec.item t))) ≡ Ok (hashed_lines name t)
 any_held name (Known t) fit sized = held_shown name t fit sized
 any_held name (Other d) fit sized =
-    string_held legacy_transaction (typed_transaction other_transaction) name d sized ∙ other_typed other_transaction name d fit (λ v kind. refl)
+    string_held (hashed legacy_transaction) (hashed (typed_transaction other_transaction)) name d sized
+    ∙ with_hash (typed_transaction other_transaction) name d (other_typed other_transaction name d fit (λ v kind. refl))
 
 abbrev pub transaction_display : Display any_codec transaction
-transaction_display = record { lines = any_lines; shown = any_held }
+transaction_display = record { lines = hashed_lines; shown = any_held }
 
 -- ---- blocks
 

@@ -49,12 +49,12 @@ use Rattle.rlp_headers.specs.Bloom.{bloom as bloom_codec}
 use Rattle.rlp_records.specs.Hash.{hash as hash_codec}
 use Rattle.rlp_headers.specs.ReceiptStatus.{receipt_status as status_codec, status_bytes}
 use Rattle.rlp_transactions.specs.Recipient.{recipient as recipient_codec, recipient_bytes}
-use Rattle.rlp_show.specs.Lines.{Field, Shape, byte_string, field, fields_lines, fixed_bytes, in_field, line, lines_if, list_of, list_value_lines, may_have}
-use Rattle.rlp_show.specs.Lines.{number, optional, prefix, receipt_status, recipient, record_of, truth_value}
-use Rattle.rlp_show.specs.Records.{access_list_item, access_list_transaction, account, address, bloom, fee_market_transaction, hash, header, legacy_transaction}
+use Rattle.rlp_show.specs.Lines.{Field, Shape, byte_string, field, fields_lines, fixed_bytes, fixed_bytes_as, hash_line, hashed, in_field, line, lines_if, list_of, list_value_lines, may_have}
+use Rattle.rlp_show.specs.Lines.{number, number_as, optional, prefix, receipt_status, recipient, record_of, then_lines, truth_value}
+use Rattle.rlp_show.specs.Records.{access_list, access_list_item, access_list_transaction, account, address, bloom, fee_market_transaction, hash, header, legacy_transaction, legacy_v, signature_number}
 use Rattle.rlp_show.specs.Records.{authorization, blob_transaction, log, receipt, set_code_transaction, withdrawal}
-use Rattle.rlp_show.specs.Text.{bytes_text, number_text}
-use Rattle.rlp_show.specs.StringLemmas.{bytes_given, fixed_given, number_given, recipient_given, status_given, truth_given}
+use Rattle.rlp_show.specs.Text.{bloom_text, bytes_text, hex_text, number_text, v_text}
+use Rattle.rlp_show.specs.StringLemmas.{bytes_given, fixed_as_given, number_as_given, recipient_given, status_given, truth_given}
 use Rattle.rlp_show.specs.ValueLemmas.{both_shown, first_sized, front_small, group_right, group_shown, joined_small, list_shown, optional_right, optional_shown}
 use Rattle.rlp_show.specs.ValueLemmas.{may_have-append, others_small, part_shown, record_shown, rest_small, views_of}
 
@@ -65,30 +65,48 @@ pub record Display {A : Type 0} (codec : Codec A) (shape : Shape) : Type 0 where
 
 -- ---- strings
 
+-- numbers, as their text
+abbrev pub number_as_display : (text : ℕ → List ℕ) (width : ℕ) → Display (number_codec width) (number_as text width)
+number_as_display text width = record {
+  lines = λ name n. line name (text n);
+  shown = λ name n fit sized. number_as_given text width n name (strict_view_of (encoding ((number_codec width).item n))) sized
+      (record { fits = fit; begins = refl });
+}
+
 -- numbers
 abbrev pub number_display : (width : ℕ) → Display (number_codec width) (number width)
-number_display width = record {
-  lines = λ name n. line name (number_text n);
-  shown = λ name n fit sized. number_given width n name (strict_view_of (encoding ((number_codec width).item n))) sized (record { fits = fit; begins = refl });
-}
+number_display = number_as_display number_text
 
 -- a type whose values contracts see as values of another type
 abbrev pub newtype_display : {A B : Type 0} {c : Codec A} {s : Shape} (value : B → A) → Display c s → Display (newtype value c) s
 newtype_display value d = record { lines = λ name b. d.lines name (value b); shown = λ name b. d.shown name (value b) }
 
 -- numbers that are kept as n bytes
+abbrev pub uint_as_display : (text : ℕ → List ℕ) (n : ℕ) → Display (uint n) (number_as text n)
+uint_as_display text n = record {
+  lines = λ name u. line name (text (number_from_digits 256 u.bytes));
+  shown = λ name u. (number_as_display text n).shown name (number_from_digits 256 u.bytes);
+}
+
 abbrev pub uint_display : (n : ℕ) → Display (uint n) (number n)
-uint_display n = record {
-  lines = λ name u. line name (number_text (number_from_digits 256 u.bytes));
-  shown = λ name u. (number_display n).shown name (number_from_digits 256 u.bytes);
+uint_display = uint_as_display number_text
+
+abbrev pub signature_number_display : Display (uint 32) signature_number
+signature_number_display = uint_as_display hex_text 32
+
+abbrev pub legacy_v_display : Display (uint 32) legacy_v
+legacy_v_display = uint_as_display v_text 32
+
+-- exactly n bytes, as their text
+abbrev pub fixed_as_display : (text : List ℕ → List ℕ) (n : ℕ) → Display (byte_array n) (fixed_bytes_as text n)
+fixed_as_display text n = record {
+  lines = λ name d. line name (text d);
+  shown = λ name d fit sized. fixed_as_given text n name (strict_view_of (encoding ((byte_array n).item d))) d sized (record { fits = fit; begins = refl });
 }
 
 -- exactly n bytes
 abbrev pub fixed_display : (n : ℕ) → Display (byte_array n) (fixed_bytes n)
-fixed_display n = record {
-  lines = λ name d. line name (bytes_text d);
-  shown = λ name d fit sized. fixed_given n name (strict_view_of (encoding ((byte_array n).item d))) d sized (record { fits = fit; begins = refl });
-}
+fixed_display = fixed_as_display bytes_text
 
 abbrev pub address_display : Display address_codec address
 address_display = newtype_display (λ (a : Address). a.0) (fixed_display 20)
@@ -97,7 +115,7 @@ abbrev pub hash_display : Display hash_codec hash
 hash_display = newtype_display (λ (h : Hash). h.0) (fixed_display 32)
 
 abbrev pub bloom_display : Display bloom_codec bloom
-bloom_display = newtype_display (λ (b : Bloom). b.0) (fixed_display 256)
+bloom_display = newtype_display (λ (b : Bloom). b.0) (fixed_as_display bloom_text 256)
 
 -- any bytes
 abbrev pub bytes_display : {B : Type 0} (bytes : B → List ℕ) → Display (byte_string_codec bytes) byte_string
@@ -199,11 +217,18 @@ part_display {f = f} {more = more} {first = first} {others = others} value fixed
 -- a payload with its signature, by the name of what comes before its two numbers
 abbrev pub signed_display : {T V : Type 0} {f : Fields T} {c : Codec V} {s : Shape} {first : List Field} (fixed : IsFixed f) → length first ≡ f.reading.least
     → (name : List ℕ) → Display c s → FieldsDisplay f first
-    → Display (signed f fixed c) (record_of (first ++ field name s ∷ field (codes "r") (number 32) ∷ field (codes "s") (number 32) ∷ []))
+    → Display (signed f fixed c) (record_of (first ++ field name s ∷ field (codes "r") signature_number ∷ field (codes "s") signature_number ∷ []))
 signed_display {T} {V} fixed many name v d = record_display (part_display (λ (x : Signed T V). x.payload) fixed many d (
     field_display name (λ (x : Signed T V). x.v) v (
-    field_display (codes "r") (λ (x : Signed T V). x.r) (uint_display 32) (
-    field_display (codes "s") (λ (x : Signed T V). x.s) (uint_display 32) end_display))))
+    field_display (codes "r") (λ (x : Signed T V). x.r) signature_number_display (
+    field_display (codes "s") (λ (x : Signed T V). x.s) signature_number_display end_display))))
+
+-- a value after the hash of its encoding
+abbrev pub hashed_display : {A : Type 0} {c : Codec A} {s : Shape} → Display c s → Display c (hashed s)
+hashed_display {c = c} d = record {
+  lines = λ name x. hash_line name (encoding (c.item x)) ++ d.lines name x;
+  shown = λ name x fit sized. ap (then_lines (Ok (hash_line name (encoding (c.item x))))) (d.shown name x fit sized);
+}
 
 abbrev pub withdrawal_display : Display withdrawal_codec withdrawal
 withdrawal_display = record_display (
@@ -240,8 +265,15 @@ access_list_item_display = record_display (
 abbrev pub access_list_display : Display access_list_codec (list_of access_list_item)
 access_list_display = list_display (λ (a : AccessList). vec_items a.0) access_list_item_display
 
+-- an access list by itself has the name that it has in a transaction
+abbrev pub access_list_alone_display : Display access_list_codec access_list
+access_list_alone_display = record {
+  lines = λ name a. access_list_display.lines (codes "access_list") a;
+  shown = λ name. access_list_display.shown (codes "access_list");
+}
+
 abbrev pub legacy_transaction_display : Display signed_legacy_transaction legacy_transaction
-legacy_transaction_display = signed_display (λ p. refl) refl (codes "v") (uint_display 32) (
+legacy_transaction_display = signed_display (λ p. refl) refl (codes "v") legacy_v_display (
     field_display (codes "nonce") (λ (l : LegacyTransaction). l.nonce) (number_display 8) (
     field_display (codes "gas_price") (λ (l : LegacyTransaction). l.gas_price) (uint_display 32) (
     field_display (codes "gas_limit") (λ (l : LegacyTransaction). l.gas_limit) (number_display 8) (
@@ -306,7 +338,7 @@ set_code_transaction_display = signed_display (λ p. refl) refl (codes "y_parity
     field_display (codes "authorization_list") (λ (s : SetCodeTransaction). s.authorization_list) (list_display vec_items authorization_display) end_display))))))))))
 
 abbrev pub header_display : Display header_codec header
-header_display = record_display (
+header_display = hashed_display (record_display (
     field_display (codes "parent_hash") (λ (h : Header). h.parent_hash) hash_display (
     field_display (codes "ommers_hash") (λ (h : Header). h.ommers_hash) hash_display (
     field_display (codes "beneficiary") (λ (h : Header). h.beneficiary) address_display (
@@ -330,4 +362,4 @@ header_display = record_display (
     field_display (codes "blob_gas_used") (λ (c : Cancun). c.blob_gas_used) (number_display 8) (
     field_display (codes "excess_blob_gas") (λ (c : Cancun). c.excess_blob_gas) (number_display 8) (
     field_display (codes "parent_beacon_block_root") (λ (c : Cancun). c.parent_beacon_block_root) hash_display (
-    optional_display (codes "requests_hash") (λ (c : Cancun). c.requests_hash) hash_display)))) refl)) refl)) refl))))))))))))))))
+    optional_display (codes "requests_hash") (λ (c : Cancun). c.requests_hash) hash_display)))) refl)) refl)) refl)))))))))))))))))

@@ -11,7 +11,7 @@ use crate::fields::name_in;
 use crate::numbers::put_number_line;
 use crate::show::Show;
 use crate::transactions::{ListOr, UnknownTransaction};
-use rlp::Rlp;
+use rlp::{Rlp, Uint};
 use rlp_ethereum::{ACCESS_LIST_TYPE, BLOB_TYPE, FEE_MARKET_TYPE, Receipt, SET_CODE_TYPE};
 use std::alloc::{AllocError, Global};
 use std::marker::PhantomData;
@@ -50,7 +50,7 @@ fn payload_of(kind: u8, bytes: &[u8]) -> Option<&[u8]>
 }
 
 /// Appends the line of a type.
-#[tactic(auto, using(crate::proofs::DigitLemmas::one_digit))]
+#[tactic(auto, using(crate::proofs::NumberLemmas::one_digit))]
 pub(crate) fn put_type(
     alloc: Global,
     name: &str,
@@ -61,8 +61,7 @@ pub(crate) fn put_type(
         ≡ string_bytes out.old ++ line (prefix name.now ++ codes "type") (number_text kind)) }
 {
     let label = name_in(alloc, name, "type")?;
-    let mut digits = [kind];
-    put_number_line(label.as_str(), &mut digits, out)
+    put_number_line(label.as_str(), &Uint { bytes: [kind] }, out)
 }
 
 /// Appends the line of a type, and then the lines of the record that the payload encodes.

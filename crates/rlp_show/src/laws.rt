@@ -9,7 +9,7 @@ ghost use Rattle.rlp_records.specs.Alone.{bytes_alone};
 ghost use Rattle.rlp_transactions.specs.AnyTransaction.{any_transaction};
 ghost use Rattle.rlp_transactions.specs.declared.any_transaction.AnyTransaction.{AnyTransaction};
 ghost use Rattle.rlp_show.specs.Answer.{kind_answer, record_answer};
-ghost use Rattle.rlp_show.specs.TransactionValues.{any_lines};
+ghost use Rattle.rlp_show.specs.TransactionValues.{hashed_lines};
 ghost use Rattle.rlp_show.specs.declared.kind.Kind.TheVariants as kind;
 
 use crate::values::ShowValues;
@@ -29,5 +29,5 @@ pub fn transactions_are_shown(line: &[u8])
     ensures { (t : AnyTransaction) → any_transaction.Fits t
         → length (bytes_alone (any_transaction.item t)) < 2 ^ 64
         → bytes_in (strip_carriage_return line.now) ≡ Some (bytes_alone (any_transaction.item t))
-        → kind_answer kind.Transaction line.now ≡ any_lines [] t }
+        → kind_answer kind.Transaction line.now ≡ hashed_lines [] t }
 {}

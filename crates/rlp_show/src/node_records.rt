@@ -6,13 +6,12 @@ ghost use Rattle.std.specs.Str.{bytes_eq};
 ghost use Rattle.rlp.specs.Views.View.{item_views};
 ghost use Rattle.rlp_show.specs.Answer.{Shows};
 ghost use Rattle.rlp_node_record.specs.NodeRecord.{keys_rise};
-ghost use Rattle.rlp_show.specs.Lines.{Shown, fields_lines, pair_lines, pairs_lines, place, prefix, then_lines};
-ghost use Rattle.rlp_show.specs.Records.{any_item, by_keys, first_fields, keys_in, node_fields, node_record};
+ghost use Rattle.rlp_show.specs.Lines.{Shown, fields_lines, prefix, then_lines};
+ghost use Rattle.rlp_show.specs.NodeRecords.{by_keys, first_fields, keys_in, node_fields, node_record, pairs_lines};
 
-use crate::any_item::AnyItem;
 use crate::fault::ShowFault;
-use crate::fields::{Label, ShowFields, name_in, prefix_of, show_field, show_fields};
-use crate::lists::place_in;
+use crate::fields::{Label, ShowFields, name_in, prefix_of, show_fields};
+use crate::pairs::show_pair;
 use crate::show::Show;
 use rlp::{DecoderError, Rlp, RlpIterator};
 use rlp_ethereum::{NodeFields, NodeRecord};
@@ -118,7 +117,7 @@ impl Show for NodeFields {
 fn show_parts(alloc: Global, name: &str, item: &Rlp<'_>, out: &mut String) -> Result<(), ShowFault>
     ensures { Shows (then_lines (fields_lines (prefix name.now) 0 first_fields
         (item_views item.now))
-        (pairs_lines any_item (prefix name.now ++ codes "pairs") 0 2 (drop 2 (item_views item.now))))
+        (pairs_lines (prefix name.now ++ codes "pairs") 0 2 (drop 2 (item_views item.now))))
         (string_bytes out.old) (string_bytes out.new) result }
 {
     show_first_fields(alloc, name, item, out)?;
@@ -152,7 +151,7 @@ fn show_first_fields(
 
 /// Appends the lines of the pairs, which begin with the third item.
 fn show_pairs(alloc: Global, name: &str, item: &Rlp<'_>, out: &mut String) -> Result<(), ShowFault>
-    ensures { Shows (pairs_lines any_item (prefix name.now ++ codes "pairs") 0 2
+    ensures { Shows (pairs_lines (prefix name.now ++ codes "pairs") 0 2
         (drop 2 (item_views item.now))) (string_bytes out.old) (string_bytes out.new) result }
 {
     let label = name_in(alloc, name, "pairs")?;
@@ -186,7 +185,7 @@ fn show_next_pairs(
     out: &mut String,
 ) -> Result<(), ShowFault>
     requires { length items.old.left < 2 ^ 64 - 2 }
-    ensures { Shows (pairs_lines any_item name.now 0 2 items.old.left) (string_bytes out.old)
+    ensures { Shows (pairs_lines name.now 0 2 items.old.left) (string_bytes out.old)
         (string_bytes out.new) result }
 {
     let mut index = 0;
@@ -200,25 +199,4 @@ fn show_next_pairs(
         first += 2;
     }
     Ok(())
-}
-
-/// Appends the lines of a pair. `index` is its place among the pairs, and `first` that of its key
-/// among the items.
-#[tactic(auto, using(crate::proofs::FieldLemmas::fields_in_order))]
-fn show_pair(
-    alloc: Global,
-    name: &str,
-    index: usize,
-    first: usize,
-    key: &Rlp<'_>,
-    value: &Rlp<'_>,
-    out: &mut String,
-) -> Result<(), ShowFault>
-    requires { first + 1 < 2 ^ 64 }
-    ensures { Shows (pair_lines any_item (place name.now index) first key.now value.now)
-        (string_bytes out.old) (string_bytes out.new) result }
-{
-    let pair = place_in(alloc, name, index)?;
-    show_field::<Vec<u8>>(alloc, pair.as_str(), first, ".key", key, out)?;
-    show_field::<AnyItem>(alloc, pair.as_str(), first + 1, ".value", value, out)
 }

@@ -2,77 +2,52 @@
 
 ghost use Rattle.std.specs.Prelude.{◌≡◌, ◌++◌, codes, string_bytes, OnOk};
 ghost use Rattle.rlp.specs.Views.View.{item_views};
-ghost use Rattle.rlp_trie.specs.HexPrefix.{is_empty_extension};
 ghost use Rattle.rlp_show.specs.Answer.{Shows};
-ghost use Rattle.rlp_show.specs.Lines.{line, named, prefix, string_shape};
-ghost use Rattle.rlp_show.specs.Records.{are_leaf, branch, branch_child, child, child_hash_in, extension, extension_path, inline_node, leaf, node, node_of, path, path_in};
+ghost use Rattle.rlp_show.specs.Lines.{line, prefix, string_shape};
+ghost use Rattle.rlp_show.specs.Records.{are_leaf, branch, branch_child, child, child_hash_in, extension, inline_node, leaf, node_keeping, node_of};
 
 use crate::any_item::AnyItem;
 use crate::fault::ShowFault;
 use crate::fields::{Label, name_in, show_fields, show_record};
+use crate::hashes::Hashed;
 use crate::line::{put_bytes_line, put_line};
+use crate::paths::{ExtensionPath, Path};
 use crate::show::Show;
 use rlp::{DecoderError, Rlp};
-use rlp_ethereum::{Branch, BranchChild, Child, Extension, Hash, Leaf, ends_in_leaf};
+use rlp_ethereum::{Hash, Leaf, ends_in_leaf};
 use std::alloc::{AllocError, Global};
+use std::marker::PhantomData;
 
-/// The path of a leaf, for [`Show`]: hex-prefix encoded bytes. It has no values.
-pub struct Path;
-
-/// The path of an extension, for [`Show`]. It has no values.
-pub struct ExtensionPath;
-
-/// A node of the trie, for [`Show`]. It has no values.
-pub struct Node;
-
-/// Appends the line of a path. Fails with `Custom("path is not hex-prefix encoded")` for other bytes.
-fn show_path(alloc: Global, name: &str, bytes: &[u8], out: &mut String) -> Result<(), ShowFault>
-    ensures { Shows (named name.now (path_in bytes.now)) (string_bytes out.old)
-        (string_bytes out.new) result }
-{
-    if ends_in_leaf(bytes).is_none() {
-        let fault = DecoderError::Custom("path is not hex-prefix encoded");
-        return Err(ShowFault::of(alloc, name, fault));
-    }
-    Ok(put_bytes_line(name, bytes, out)?)
+/// A child of an extension, for [`Show`]. A node that is kept in its parent is a `K`. It has no
+/// values.
+pub struct ChildOf<K> {
+    kept: PhantomData<K>,
 }
 
-/// The bytes of the path, in hexadecimal. Fails with `Custom("path is not hex-prefix encoded")` for
-/// other strings.
-impl Show for Path {
-    ghost shape = { path };
-
-    fn show(alloc: Global, name: &str, item: &Rlp<'_>, out: &mut String) -> Result<(), ShowFault> {
-        match item.decoder().string() {
-            Ok(bytes) => show_path(alloc, name, bytes, out),
-            Err(fault) => Err(ShowFault::of(alloc, name, fault)),
-        }
-    }
+/// A place of a branch, for [`Show`]: a child, or nothing. It has no values.
+pub struct BranchChildOf<K> {
+    kept: PhantomData<K>,
 }
 
-/// Returns whether bytes are the path of an extension that has no nibbles.
-fn is_empty_extension(path: &[u8]) -> bool
-    ensures { result ≡ is_empty_extension path.now }
-{
-    matches!(path, [0x00])
+/// An extension, for [`Show`]. It has no values.
+pub struct ExtensionOf<K> {
+    kept: PhantomData<K>,
 }
 
-/// The bytes of the path, in hexadecimal. Fails as the path of a leaf does, and with
-/// `Custom("path of an extension is empty")` for a path of no nibbles.
-impl Show for ExtensionPath {
-    ghost shape = { extension_path };
-
-    fn show(alloc: Global, name: &str, item: &Rlp<'_>, out: &mut String) -> Result<(), ShowFault> {
-        match item.decoder().string() {
-            Ok(bytes) if is_empty_extension(bytes) => {
-                let fault = DecoderError::Custom("path of an extension is empty");
-                Err(ShowFault::of(alloc, name, fault))
-            }
-            Ok(bytes) => show_path(alloc, name, bytes, out),
-            Err(fault) => Err(ShowFault::of(alloc, name, fault)),
-        }
-    }
+/// A branch, for [`Show`]. It has no values.
+pub struct BranchOf<K> {
+    kept: PhantomData<K>,
 }
+
+/// A node of the trie without its hash, for [`Show`]. A node that is kept in it is a `K`. It has no
+/// values.
+pub struct NodeKeeping<K> {
+    kept: PhantomData<K>,
+}
+
+/// A node of the trie, for [`Show`], with its hash. In a trie at most three nodes are kept one in
+/// another: an extension, a branch and a leaf. The items of others are shown.
+pub type Node = Hashed<NodeKeeping<NodeKeeping<NodeKeeping<NodeKeeping<AnyItem>>>>>;
 
 /// Appends the line of the hash of a child, or of no bytes.
 fn show_child_hash(
@@ -97,41 +72,41 @@ fn show_child_hash(
     Ok(put_bytes_line(name, bytes, out)?)
 }
 
-/// Appends the lines of the items of a node that is kept in its parent.
-fn show_inline_node(
+/// Appends the lines of a node that is kept in its parent.
+fn show_inline_node<K: Show>(
     alloc: Global,
     name: &str,
     item: &Rlp<'_>,
     out: &mut String,
 ) -> Result<(), ShowFault>
-    ensures { Shows (inline_node name.now item.now) (string_bytes out.old) (string_bytes out.new)
+    ensures { Shows (inline_node K.shape name.now item.now) (string_bytes out.old) (string_bytes out.new)
         result }
 {
     if item.as_raw().len() >= 32 {
         return Err(ShowFault::of(alloc, name, DecoderError::RlpIsTooBig));
     }
-    AnyItem::show(alloc, name, item, out)
+    K::show(alloc, name, item, out)
 }
 
-/// The hash of the child in hexadecimal, or the items of a node that is kept in its parent.
-impl Show for Child {
-    ghost shape = { child };
+/// The hash of the child in hexadecimal, or a node that is kept in its parent.
+impl<K: Show> Show for ChildOf<K> {
+    ghost shape = { child K.shape };
 
     fn show(alloc: Global, name: &str, item: &Rlp<'_>, out: &mut String) -> Result<(), ShowFault> {
         if item.is_list() {
-            return show_inline_node(alloc, name, item, out);
+            return show_inline_node::<K>(alloc, name, item, out);
         }
         Hash::show(alloc, name, item, out)
     }
 }
 
 /// The child, or `0x` if there is none.
-impl Show for BranchChild {
-    ghost shape = { branch_child };
+impl<K: Show> Show for BranchChildOf<K> {
+    ghost shape = { branch_child K.shape };
 
     fn show(alloc: Global, name: &str, item: &Rlp<'_>, out: &mut String) -> Result<(), ShowFault> {
         if item.is_list() {
-            return show_inline_node(alloc, name, item, out);
+            return show_inline_node::<K>(alloc, name, item, out);
         }
         show_child_hash(alloc, name, item, out)
     }
@@ -145,16 +120,16 @@ impl Show for Leaf {
     }
 }
 
-impl Show for Extension {
-    ghost shape = { extension };
+impl<K: Show> Show for ExtensionOf<K> {
+    ghost shape = { extension K.shape };
 
     fn show(alloc: Global, name: &str, item: &Rlp<'_>, out: &mut String) -> Result<(), ShowFault> {
-        show_fields!(alloc, name, item, out, "path": ExtensionPath, "child": Child)
+        show_fields!(alloc, name, item, out, "path": ExtensionPath, "child": ChildOf<K>)
     }
 }
 
-impl Show for Branch {
-    ghost shape = { branch };
+impl<K: Show> Show for BranchOf<K> {
+    ghost shape = { branch K.shape };
 
     fn show(alloc: Global, name: &str, item: &Rlp<'_>, out: &mut String) -> Result<(), ShowFault> {
         show_fields!(
@@ -162,22 +137,22 @@ impl Show for Branch {
             name,
             item,
             out,
-            "children[0]": BranchChild,
-            "children[1]": BranchChild,
-            "children[2]": BranchChild,
-            "children[3]": BranchChild,
-            "children[4]": BranchChild,
-            "children[5]": BranchChild,
-            "children[6]": BranchChild,
-            "children[7]": BranchChild,
-            "children[8]": BranchChild,
-            "children[9]": BranchChild,
-            "children[10]": BranchChild,
-            "children[11]": BranchChild,
-            "children[12]": BranchChild,
-            "children[13]": BranchChild,
-            "children[14]": BranchChild,
-            "children[15]": BranchChild,
+            "children[0]": BranchChildOf<K>,
+            "children[1]": BranchChildOf<K>,
+            "children[2]": BranchChildOf<K>,
+            "children[3]": BranchChildOf<K>,
+            "children[4]": BranchChildOf<K>,
+            "children[5]": BranchChildOf<K>,
+            "children[6]": BranchChildOf<K>,
+            "children[7]": BranchChildOf<K>,
+            "children[8]": BranchChildOf<K>,
+            "children[9]": BranchChildOf<K>,
+            "children[10]": BranchChildOf<K>,
+            "children[11]": BranchChildOf<K>,
+            "children[12]": BranchChildOf<K>,
+            "children[13]": BranchChildOf<K>,
+            "children[14]": BranchChildOf<K>,
+            "children[15]": BranchChildOf<K>,
             "value": Vec<u8>
         )
     }
@@ -223,17 +198,17 @@ fn show_node<T: Show>(
 
 /// The empty string is the empty trie. A node of 17 items is a branch, and one of two is a leaf or an
 /// extension, as its path says. Fails with `RlpIncorrectListLen` for any other number of items.
-impl Show for Node {
-    ghost shape = { node };
+impl<K: Show> Show for NodeKeeping<K> {
+    ghost shape = { node_keeping K.shape };
 
     fn show(alloc: Global, name: &str, item: &Rlp<'_>, out: &mut String) -> Result<(), ShowFault> {
         if matches!(item.as_raw(), [0x80]) {
             return Ok(put_kind(alloc, name, "empty", out)?);
         }
         match item.item_count() {
-            Ok(17) => show_node::<Branch>(alloc, name, "branch", item, out),
+            Ok(17) => show_node::<BranchOf<K>>(alloc, name, "branch", item, out),
             Ok(2) if is_leaf(item) => show_node::<Leaf>(alloc, name, "leaf", item, out),
-            Ok(2) => show_node::<Extension>(alloc, name, "extension", item, out),
+            Ok(2) => show_node::<ExtensionOf<K>>(alloc, name, "extension", item, out),
             Ok(_) => Err(ShowFault::of(alloc, name, DecoderError::RlpIncorrectListLen)),
             Err(fault) => Err(ShowFault::of(alloc, name, fault)),
         }

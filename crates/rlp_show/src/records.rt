@@ -1,16 +1,19 @@
 //! Ethereum's records.
 
-ghost use Rattle.rlp_show.specs.Records.{withdrawal, account, header, log, receipt, access_list, access_list_item, legacy_transaction, access_list_transaction, fee_market_transaction, blob_transaction, authorization, set_code_transaction, block, body};
+ghost use Rattle.rlp_show.specs.Records.{withdrawal, account, header, header_fields, log, receipt, access_list, access_list_item, legacy_transaction, access_list_transaction, fee_market_transaction, blob_transaction, authorization, set_code_transaction, block, body};
 
 use crate::fault::ShowFault;
 use crate::fields::{Label, show_fields, show_record};
+use crate::hashes::Hashed;
 use crate::lists::Items;
+use crate::numbers::{LegacyV, SignatureNumber};
 use crate::show::Show;
 use rlp::{Rlp, Uint};
 use rlp_ethereum::{
-    AccessListItem, AccessListTransaction, Account, Address, AnyTransaction, BlobTransaction,
-    Block, Bloom, Body, FeeMarketTransaction, Hash, Header, Log, Receipt, ReceiptStatus, Recipient,
-    SetCodeTransaction, Signed, SignedAuthorization, SignedLegacyTransaction, Withdrawal,
+    AccessList, AccessListItem, AccessListTransaction, Account, Address, AnyTransaction,
+    BlobTransaction, Block, Bloom, Body, FeeMarketTransaction, Hash, Header, Log, Receipt,
+    ReceiptStatus, Recipient, SetCodeTransaction, Signed, SignedAuthorization,
+    SignedLegacyTransaction, Withdrawal,
 };
 use std::alloc::Global;
 
@@ -48,8 +51,11 @@ impl Show for Account {
     }
 }
 
-impl Show for Header {
-    ghost shape = { header };
+/// The fields of a header, for [`Show`]. It has no values.
+struct HeaderFields;
+
+impl Show for HeaderFields {
+    ghost shape = { header_fields };
 
     fn show(alloc: Global, name: &str, item: &Rlp<'_>, out: &mut String) -> Result<(), ShowFault> {
         show_fields!(
@@ -79,6 +85,15 @@ impl Show for Header {
             "parent_beacon_block_root": Hash,
             "requests_hash" ? Hash
         )
+    }
+}
+
+/// The hash of the header, and then its fields.
+impl Show for Header {
+    ghost shape = { header };
+
+    fn show(alloc: Global, name: &str, item: &Rlp<'_>, out: &mut String) -> Result<(), ShowFault> {
+        Hashed::<HeaderFields>::show(alloc, name, item, out)
     }
 }
 
@@ -145,9 +160,9 @@ impl Show for SignedLegacyTransaction {
             "to": Recipient,
             "value": Uint<32>,
             "data": Vec<u8>,
-            "v": Uint<32>,
-            "r": Uint<32>,
-            "s": Uint<32>
+            "v": LegacyV,
+            "r": SignatureNumber,
+            "s": SignatureNumber
         )
     }
 }
@@ -170,8 +185,8 @@ impl Show for Signed<AccessListTransaction> {
             "data": Vec<u8>,
             "access_list": Items<AccessListItem>,
             "y_parity": bool,
-            "r": Uint<32>,
-            "s": Uint<32>
+            "r": SignatureNumber,
+            "s": SignatureNumber
         )
     }
 }
@@ -195,8 +210,8 @@ impl Show for Signed<FeeMarketTransaction> {
             "data": Vec<u8>,
             "access_list": Items<AccessListItem>,
             "y_parity": bool,
-            "r": Uint<32>,
-            "s": Uint<32>
+            "r": SignatureNumber,
+            "s": SignatureNumber
         )
     }
 }
@@ -222,8 +237,8 @@ impl Show for Signed<BlobTransaction> {
             "max_fee_per_blob_gas": Uint<32>,
             "blob_versioned_hashes": Items<Hash>,
             "y_parity": bool,
-            "r": Uint<32>,
-            "s": Uint<32>
+            "r": SignatureNumber,
+            "s": SignatureNumber
         )
     }
 }
@@ -241,8 +256,8 @@ impl Show for SignedAuthorization {
             "address": Address,
             "nonce": u64,
             "y_parity": u8,
-            "r": Uint<32>,
-            "s": Uint<32>
+            "r": SignatureNumber,
+            "s": SignatureNumber
         )
     }
 }
@@ -267,17 +282,14 @@ impl Show for Signed<SetCodeTransaction> {
             "access_list": Items<AccessListItem>,
             "authorization_list": Items<SignedAuthorization>,
             "y_parity": bool,
-            "r": Uint<32>,
-            "s": Uint<32>
+            "r": SignatureNumber,
+            "s": SignatureNumber
         )
     }
 }
 
-/// An access list by itself, for [`Show`]. Its items have the names that they have in a transaction.
-/// It has no values.
-pub struct AccessListAlone;
-
-impl Show for AccessListAlone {
+/// An access list by itself. Its items have the names that they have in a transaction.
+impl Show for AccessList {
     ghost shape = { access_list };
 
     fn show(alloc: Global, _name: &str, item: &Rlp<'_>, out: &mut String) -> Result<(), ShowFault> {

@@ -13,11 +13,12 @@ use crate::guessing::AnyRecord;
 use crate::input::{is_node_text, read_record};
 use crate::kind::Kind;
 use crate::nodes::Node;
-use crate::records::AccessListAlone;
 use crate::show::Show;
 use crate::transactions::TransactionAlone;
 use rlp::Rlp;
-use rlp_ethereum::{Account, Block, Body, Header, NodeRecord, SignedAuthorization, Withdrawal};
+use rlp_ethereum::{
+    AccessList, Account, Block, Body, Header, NodeRecord, SignedAuthorization, Withdrawal,
+};
 use rlp_lines::{LineAnswers, Noted, RunFault, answer_lines, without_carriage_return};
 use std::alloc::{AllocError, Global};
 use std::io::{Read, Write};
@@ -114,7 +115,7 @@ fn run_kind<R: Read, W: Write>(
 {
     match kind {
         Kind::AccessList => {
-            answer_lines::<RecordAnswers<AccessListAlone>, R, W>(alloc, input, output)
+            answer_lines::<RecordAnswers<AccessList>, R, W>(alloc, input, output)
         }
         Kind::Account => answer_lines::<RecordAnswers<Account>, R, W>(alloc, input, output),
         Kind::Authorization => {

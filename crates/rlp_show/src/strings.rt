@@ -1,18 +1,20 @@
 //! Items that are one string of bytes.
 
-ghost use Rattle.std.specs.Prelude.{◌≡◌, ◌^◌, ◌<◌, string_bytes};
+ghost use Rattle.std.specs.List.{list_all};
+ghost use Rattle.std.specs.Prelude.{◌≡◌, ◌==◌, ◌++◌, ◌^◌, ◌<◌, string_bytes, OnOk};
 ghost use Rattle.rlp_headers.specs.ReceiptStatus.{status_bytes};
 ghost use Rattle.rlp_transactions.specs.Recipient.{recipient_bytes};
 ghost use Rattle.rlp_show.specs.Answer.{Shows};
-ghost use Rattle.rlp_show.specs.Lines.{fixed_bytes, byte_string, receipt_status, recipient};
+ghost use Rattle.rlp_show.specs.Lines.{fixed_bytes, byte_string, line, receipt_status, recipient};
 ghost use Rattle.rlp_show.specs.Records.{address, hash, bloom};
+ghost use Rattle.rlp_show.specs.Text.{bloom_text};
 
 use crate::fault::ShowFault;
-use crate::line::put_bytes_line;
+use crate::line::{put_bytes_line, put_line};
 use crate::show::Show;
 use rlp::{DecoderError, Rlp};
 use rlp_ethereum::{Address, Bloom, Hash, ReceiptStatus, Recipient};
-use std::alloc::Global;
+use std::alloc::{AllocError, Global};
 
 /// Appends the line of an item of exactly `N` bytes.
 #[tactic(auto, using(crate::specs::StringLemmas::fixed_strings))]
@@ -51,11 +53,36 @@ impl Show for Hash {
     }
 }
 
+/// Returns whether all bytes are zero.
+fn are_zero(bytes: &[u8]) -> bool
+    ensures { result ≡ list_all (λ byte. byte == 0) bytes.now }
+{
+    bytes.iter().all(|byte| *byte == 0)
+}
+
+/// Appends the line of a filter of logs, in short if all its bytes are zero.
+fn put_bloom_line(name: &str, bloom: &[u8], out: &mut String) -> Result<(), AllocError>
+    ensures { OnOk result
+        (string_bytes out.new ≡ string_bytes out.old ++ line name.now (bloom_text bloom.now)) }
+{
+    if are_zero(bloom) {
+        return put_line(name, "256 zero bytes", out);
+    }
+    put_bytes_line(name, bloom, out)
+}
+
 impl Show for Bloom {
     ghost shape = { bloom };
 
+    #[tactic(auto, using(crate::specs::StringLemmas::bloom_strings))]
     fn show(alloc: Global, name: &str, item: &Rlp<'_>, out: &mut String) -> Result<(), ShowFault> {
-        show_fixed::<256>(alloc, name, item, out)
+        // Only the proof needs this: a slice has fewer than 2^64 bytes, each below 256.
+        let _bytes = item.as_raw();
+        match item.as_val::<[u8; 256]>(alloc) {
+            Ok(bytes) => Ok(put_bloom_line(name, &bytes, out)?),
+            Err(DecoderError::OutOfMemory) => Err(ShowFault::OutOfMemory),
+            Err(fault) => Err(ShowFault::of(alloc, name, fault)),
+        }
     }
 }
 

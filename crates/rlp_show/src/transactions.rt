@@ -7,6 +7,7 @@ ghost use Rattle.rlp_show.specs.Records.{other_transaction, transaction, unknown
 use crate::envelopes::{Typed, put_type};
 use crate::fault::ShowFault;
 use crate::fields::{joined, prefix_of};
+use crate::hashes::Hashed;
 use crate::line::put_bytes_line;
 use crate::show::Show;
 use rlp::{DecoderError, Rlp};
@@ -33,8 +34,10 @@ pub type TypedTransaction<Q> = Typed<
     >,
 >;
 
-/// A transaction by itself, of any type, for [`Show`].
-pub type TransactionAlone = TypedTransaction<ListOr<SignedLegacyTransaction, OtherTransaction>>;
+/// A transaction by itself, of any type, for [`Show`], with its hash.
+pub type TransactionAlone = Hashed<
+    TypedTransaction<ListOr<SignedLegacyTransaction, OtherTransaction>>,
+>;
 
 /// A list that is a `T`, or else a `Q`, for [`Show`]. It has no values.
 pub struct ListOr<T, Q> {
@@ -93,18 +96,18 @@ impl Show for UnknownTransaction {
 }
 
 /// An item of the list of a block's transactions: a list is a transaction without a type, and a
-/// string holds an envelope.
+/// string holds an envelope. Its hash comes first.
 impl Show for AnyTransaction {
     ghost shape = { transaction };
 
     fn show(alloc: Global, name: &str, item: &Rlp<'_>, out: &mut String) -> Result<(), ShowFault> {
         if item.is_list() {
-            return SignedLegacyTransaction::show(alloc, name, item, out);
+            return Hashed::<SignedLegacyTransaction>::show(alloc, name, item, out);
         }
         match item.decoder().string() {
             Ok(bytes) => {
                 let envelope = Rlp::new_strict(bytes);
-                TypedTransaction::<OtherTransaction>::show(alloc, name, &envelope, out)
+                Hashed::<TypedTransaction<OtherTransaction>>::show(alloc, name, &envelope, out)
             }
             Err(fault) => Err(ShowFault::of(alloc, name, fault)),
         }

@@ -3,14 +3,14 @@
 ghost use Rattle.std.specs.Prelude.{◌≡◌, ℕ, List, Ok};
 ghost use Rattle.rlp.specs.Format.Encoding.{IsSized, encoding};
 ghost use Rattle.rlp.specs.Views.View.{strict_view_of};
-ghost use Rattle.rlp_show.specs.Values.{withdrawal_display, account_display, header_display, log_display, receipt_display, access_list_item_display, legacy_transaction_display, authorization_display};
+ghost use Rattle.rlp_show.specs.Values.{withdrawal_display, account_display, header_display, log_display, receipt_display, access_list_item_display, access_list_alone_display, legacy_transaction_display, authorization_display};
 ghost use Rattle.rlp_show.specs.BodyValues.{body_display};
 ghost use Rattle.rlp_show.specs.TransactionValues.{transaction_display, block_display};
 
 use crate::show::Show;
 use rlp::Encodable;
 use rlp_ethereum::{
-    AccessListItem, Account, AnyTransaction, Block, Body, Header, Log, Receipt,
+    AccessList, AccessListItem, Account, AnyTransaction, Block, Body, Header, Log, Receipt,
     SignedAuthorization, SignedLegacyTransaction, Withdrawal,
 };
 
@@ -59,6 +59,12 @@ impl ShowValues for AccessListItem {
     ghost lines = { access_list_item_display.lines };
 
     ghost shown = { access_list_item_display.shown };
+}
+
+impl ShowValues for AccessList {
+    ghost lines = { access_list_alone_display.lines };
+
+    ghost shown = { access_list_alone_display.shown };
 }
 
 impl ShowValues for SignedLegacyTransaction {

@@ -8,8 +8,20 @@ use std::test::Fail;
 
 /// The kind, the digits of a record, and its lines.
 const BLOCKS: [Row; 8] = [
-    ("transaction 7d8001", "type: 125\npayload: 0x8001\n\n"),
-    ("transaction 00", "type: 0\npayload: 0x\n\n"),
+    (
+        "transaction 7d8001",
+        "hash: 0x53565816e2969d9eecc47ff49e3297dceb138d5bc8128ea9b79e7bd7c9860ed6\n\
+         type: 125\n\
+         payload: 0x8001\n\
+         \n",
+    ),
+    (
+        "transaction 00",
+        "hash: 0xbc36789e7a1e281436464229828f817d6612f7b477d66591ff96a9e064bcc98a\n\
+         type: 0\n\
+         payload: 0x\n\
+         \n",
+    ),
     (
         "transaction 03f8c5010780843b9aca00830f4240945df9b87991262f6ba471f09758cde1c0fc1de734\
          8080f838f7940102030405060708090a0b0c0d0e0f1011121314e1a00001020304050607\
@@ -17,7 +29,8 @@ const BLOCKS: [Row; 8] = [
          08090a0b0c0d0e0f101112131415161718191a1b1c1d1e1fa001eeeeeeeeeeeeeeeeeeee\
          eeeeeeeeeeeeeeeeeeeeeeeeeeeeeeeeeeeeeeeeee80a080000000000000000000000000\
          0000000000000000000000000000000000000001",
-        "type: 3\n\
+        "hash: 0x7c22d700cdb412833c52829a8dd6e2a8d9d077bcb7750ddfdde9ea2f3f02a9e2\n\
+         type: 3\n\
          chain_id: 1\n\
          nonce: 7\n\
          max_priority_fee_per_gas: 0\n\
@@ -35,9 +48,8 @@ const BLOCKS: [Row; 8] = [
          blob_versioned_hashes[1]: 0x01eeeeeeeeeeeeeeeeeeeeeeeeeeeeeeeeeeeeeeeeee\
          eeeeeeeeeeeeeeeeeeee\n\
          y_parity: 0\n\
-         r: 578960446186580977117854925043439539266349923328202820197287920039565\
-         64819968\n\
-         s: 1\n\
+         r: 0x8000000000000000000000000000000000000000000000000000000000000000\n\
+         s: 0x1\n\
          \n",
     ),
     (
@@ -46,7 +58,8 @@ const BLOCKS: [Row; 8] = [
          c0fc1de7340581ff090af83aa0ffffffffffffffffffffffffffffffffffffffffffffff\
          ffffffffffffffffff940102030405060708090a0b0c0d0e0f1011121314808080800180\
          a0ffffffffffffffffffffffffffffffffffffffffffffffffffffffffffffffff",
-        "type: 4\n\
+        "hash: 0x7bf3094a09621c43aab54107f8b33b696e0c25b85596d2266365b18b9f27701a\n\
+         type: 4\n\
          chain_id: 18446744073709551615\n\
          nonce: 0\n\
          max_priority_fee_per_gas: 1\n\
@@ -61,20 +74,19 @@ const BLOCKS: [Row; 8] = [
          4\n\
          authorization_list[0].nonce: 5\n\
          authorization_list[0].y_parity: 255\n\
-         authorization_list[0].r: 9\n\
-         authorization_list[0].s: 10\n\
+         authorization_list[0].r: 0x9\n\
+         authorization_list[0].s: 0xa\n\
          authorization_list[1].chain_id: 1157920892373161954235709850086879078532\
          69984665640564039457584007913129639935\n\
          authorization_list[1].address: 0x0102030405060708090a0b0c0d0e0f101112131\
          4\n\
          authorization_list[1].nonce: 0\n\
          authorization_list[1].y_parity: 0\n\
-         authorization_list[1].r: 0\n\
-         authorization_list[1].s: 0\n\
+         authorization_list[1].r: 0x0\n\
+         authorization_list[1].s: 0x0\n\
          y_parity: 1\n\
-         r: 0\n\
-         s: 115792089237316195423570985008687907853269984665640564039457584007913\
-         129639935\n\
+         r: 0x0\n\
+         s: 0xffffffffffffffffffffffffffffffffffffffffffffffffffffffffffffffff\n\
          \n",
     ),
     (
@@ -107,7 +119,9 @@ const BLOCKS: [Row; 8] = [
          000000000000000000000000000000000000000000000000000000808083c5d4888401ca\
          35428084610bdaa6826869a0ffffffffffffffffffffffffffffffffffffffffffffffff\
          ffffffffffffffff880000000000000000843b9aca00",
-        "header.parent_hash: 0x000102030405060708090a0b0c0d0e0f101112131415161718\
+        "header.hash: 0x4757c25f4d78e9f10ca9f0e3624097db9ff8fb33a783cf61ac4abadbc\
+         a1d316d\n\
+         header.parent_hash: 0x000102030405060708090a0b0c0d0e0f101112131415161718\
          191a1b1c1d1e1f\n\
          header.ommers_hash: 0xffffffffffffffffffffffffffffffffffffffffffffffffff\
          ffffffffffffff\n\
@@ -136,6 +150,8 @@ const BLOCKS: [Row; 8] = [
          fffffffffff\n\
          header.nonce: 0x0000000000000000\n\
          transactions: []\n\
+         ommers[0].hash: 0x81aec941d00bf958ebcb1c31052f3dc2ca4382457eea1e71d2de93\
+         ca381c6892\n\
          ommers[0].parent_hash: 0x000102030405060708090a0b0c0d0e0f101112131415161\
          718191a1b1c1d1e1f\n\
          ommers[0].ommers_hash: 0xfffffffffffffffffffffffffffffffffffffffffffffff\
@@ -193,7 +209,9 @@ const BLOCKS: [Row; 8] = [
          00000000000000019002ce01800102825208808060c0010304c0f83cda808203e8945df9\
          b87991262f6ba471f09758cde1c0fc1de73405e088ffffffffffffffff80940102030405\
          060708090a0b0c0d0e0f101112131480",
-        "header.parent_hash: 0x000102030405060708090a0b0c0d0e0f101112131415161718\
+        "header.hash: 0x83eb44e4cfb51ab6dd5aee4357d7b1420ce02b21ea4e3b8ea53c5f07d\
+         39c2e74\n\
+         header.parent_hash: 0x000102030405060708090a0b0c0d0e0f101112131415161718\
          191a1b1c1d1e1f\n\
          header.ommers_hash: 0xffffffffffffffffffffffffffffffffffffffffffffffffff\
          ffffffffffffff\n\
@@ -224,15 +242,19 @@ const BLOCKS: [Row; 8] = [
          header.base_fee_per_gas: 1000000000\n\
          header.withdrawals_root: 0x000102030405060708090a0b0c0d0e0f1011121314151\
          61718191a1b1c1d1e1f\n\
+         transactions[0].hash: 0xda921c1b0e307b15ee41cc637f88b916d48bb1c359bf19ea\
+         26e69f559de49dbb\n\
          transactions[0].nonce: 9\n\
          transactions[0].gas_price: 20000000000\n\
          transactions[0].gas_limit: 21000\n\
          transactions[0].to: 0x3535353535353535353535353535353535353535\n\
          transactions[0].value: 1000000000000000000\n\
          transactions[0].data: 0x\n\
-         transactions[0].v: 37\n\
-         transactions[0].r: 1\n\
-         transactions[0].s: 2\n\
+         transactions[0].v: 37 (chain 1, parity 0)\n\
+         transactions[0].r: 0x1\n\
+         transactions[0].s: 0x2\n\
+         transactions[1].hash: 0x7c22d700cdb412833c52829a8dd6e2a8d9d077bcb7750ddf\
+         dde9ea2f3f02a9e2\n\
          transactions[1].type: 3\n\
          transactions[1].chain_id: 1\n\
          transactions[1].nonce: 7\n\
@@ -252,9 +274,11 @@ const BLOCKS: [Row; 8] = [
          transactions[1].blob_versioned_hashes[1]: 0x01eeeeeeeeeeeeeeeeeeeeeeeeee\
          eeeeeeeeeeeeeeeeeeeeeeeeeeeeeeeeeeee\n\
          transactions[1].y_parity: 0\n\
-         transactions[1].r: 57896044618658097711785492504343953926634992332820282\
-         019728792003956564819968\n\
-         transactions[1].s: 1\n\
+         transactions[1].r: 0x800000000000000000000000000000000000000000000000000\
+         0000000000000\n\
+         transactions[1].s: 0x1\n\
+         transactions[2].hash: 0x6d59cecad6b04f04eb49a8362429dfe8cab909294ef32dde\
+         ea52368bcb421a91\n\
          transactions[2].type: 2\n\
          transactions[2].chain_id: 1\n\
          transactions[2].nonce: 0\n\
@@ -266,8 +290,8 @@ const BLOCKS: [Row; 8] = [
          transactions[2].data: 0x60\n\
          transactions[2].access_list: []\n\
          transactions[2].y_parity: 1\n\
-         transactions[2].r: 3\n\
-         transactions[2].s: 4\n\
+         transactions[2].r: 0x3\n\
+         transactions[2].s: 0x4\n\
          ommers: []\n\
          withdrawals[0].index: 0\n\
          withdrawals[0].validator_index: 1000\n\
@@ -296,7 +320,9 @@ const BLOCKS: [Row; 8] = [
          6869a0ffffffffffffffffffffffffffffffffffffffffffffffffffffffffffffffff88\
          0000000000000000843b9aca00a0000102030405060708090a0b0c0d0e0f101112131415\
          161718191a1b1c1d1e1fc0c0c0",
-        "header.parent_hash: 0x000102030405060708090a0b0c0d0e0f101112131415161718\
+        "header.hash: 0x83eb44e4cfb51ab6dd5aee4357d7b1420ce02b21ea4e3b8ea53c5f07d\
+         39c2e74\n\
+         header.parent_hash: 0x000102030405060708090a0b0c0d0e0f101112131415161718\
          191a1b1c1d1e1f\n\
          header.ommers_hash: 0xffffffffffffffffffffffffffffffffffffffffffffffffff\
          ffffffffffffff\n\
@@ -351,7 +377,8 @@ const BLOCKS: [Row; 8] = [
          191a1b1c1d1e1f8302000080a0000102030405060708090a0b0c0d0e0f10111213141516\
          1718191a1b1c1d1e1fa0e3b0c44298fc1c149afbf4c8996fb92427ae41e4649b934ca495\
          991b7852b855",
-        "parent_hash: 0x000102030405060708090a0b0c0d0e0f101112131415161718191a1b1\
+        "hash: 0xcc5bf6377a8fb490b48dfcc7ee63e3658e2fa050d76c9f8032cf3d67389274f9\n\
+         parent_hash: 0x000102030405060708090a0b0c0d0e0f101112131415161718191a1b1\
          c1d1e1f\n\
          ommers_hash: 0xfffffffffffffffffffffffffffffffffffffffffffffffffffffffff\
          fffffff\n\

@@ -10,40 +10,51 @@ use std::test::Fail;
 const NODES: [Row; 6] = [
     (
         "node cb84200001028576616c7565",
-        "node: leaf\n\
-         path: 0x20000102\n\
+        "hash: 0x67b3fe7dbd84e59e4d7ad413c6de3f271737d761b852be49a86c1668be08710d\n\
+         node: leaf\n\
+         path: 0x20000102 (nibbles [000102])\n\
          value: 0x76616c7565\n\
          \n",
     ),
-    ("node 80", "node: empty\n\n"),
+    (
+        "node 80",
+        "hash: 0x56e81f171bcc55a6ff8345e692c0f86e5b48e01b996cadc001622fb5e363b421\n\
+         node: empty\n\
+         \n",
+    ),
     (
         "node c23f80",
-        "node: leaf\n\
-         path: 0x3f\n\
+        "hash: 0x065179176b24114ac0c387e917fb52904c3196ca4efba3b34fecd769383cf6a0\n\
+         node: leaf\n\
+         path: 0x3f (nibbles [f])\n\
          value: 0x\n\
          \n",
     ),
     (
         "node e4820012a0ffffffffffffffffffffffffffffffffffffffffffffffffffffffffffffff\
          ff",
-        "node: extension\n\
-         path: 0x0012\n\
+        "hash: 0x959a82737ba19609127e1935a6c5702c5589e9ac7cb088796ab1f142a5cb5961\n\
+         node: extension\n\
+         path: 0x0012 (nibbles [12])\n\
          child: 0xfffffffffffffffffffffffffffffffffffffffffffffffffffffffffffffff\
          f\n\
          \n",
     ),
     (
         "node c91ac782201183646f67",
-        "node: extension\n\
-         path: 0x1a\n\
-         child[0]: 0x2011\n\
-         child[1]: 0x646f67\n\
+        "hash: 0x0314f24d71c05e53e3de71206245b312d3070253482d8b9ed6b1c34d3448849b\n\
+         node: extension\n\
+         path: 0x1a (nibbles [a])\n\
+         child.node: leaf\n\
+         child.path: 0x2011 (nibbles [11])\n\
+         child.value: 0x646f67\n\
          \n",
     ),
     (
         "node f6808080a0000102030405060708090a0b0c0d0e0f101112131415161718191a1b1c1d1e\
          1f8080808080808080808080c5208363617476",
-        "node: branch\n\
+        "hash: 0x29be39063c556037fa10ea17a1349292150ae0f5a0a4fd53f107dc4e8fcd2df4\n\
+         node: branch\n\
          children[0]: 0x\n\
          children[1]: 0x\n\
          children[2]: 0x\n\
@@ -60,8 +71,9 @@ const NODES: [Row; 6] = [
          children[12]: 0x\n\
          children[13]: 0x\n\
          children[14]: 0x\n\
-         children[15][0]: 0x20\n\
-         children[15][1]: 0x636174\n\
+         children[15].node: leaf\n\
+         children[15].path: 0x20 (nibbles [])\n\
+         children[15].value: 0x636174\n\
          value: 0x76\n\
          \n",
     ),

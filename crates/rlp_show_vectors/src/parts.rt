@@ -12,17 +12,19 @@ const PARTS: [Row; 6] = [
         "body f86cf869f86780862d79883d2000825208945df9b87991262f6ba471f09758cde1c0fc1\
          de734827a69801ca088ff6cf0fefd94db46111149ae4bfc179e9b94721fffd821d38d16464b3\
          f71d0a045e0aff800961cfce805daef7016b9b675c137a6a41a548f7b60a3484c06a33ac0",
-        "transactions[0].nonce: 0\n\
+        "transactions[0].hash: 0x5c504ed432cb51138bcf09aa5e8a410dd4a1e204ef84bfed\
+         1be16dfba1b22060\n\
+         transactions[0].nonce: 0\n\
          transactions[0].gas_price: 50000000000000\n\
          transactions[0].gas_limit: 21000\n\
          transactions[0].to: 0x5df9b87991262f6ba471f09758cde1c0fc1de734\n\
          transactions[0].value: 31337\n\
          transactions[0].data: 0x\n\
-         transactions[0].v: 28\n\
-         transactions[0].r: 619658452946890097701563721563747600227878869653237438659\
-         86648153755601564112\n\
-         transactions[0].s: 316065747864949536922911019147099267555457652815818088217\
-         04454381804773090106\n\
+         transactions[0].v: 28 (parity 1)\n\
+         transactions[0].r: 0x88ff6cf0fefd94db46111149ae4bfc179e9b94721fffd821d38\
+         d16464b3f71d0\n\
+         transactions[0].s: 0x45e0aff800961cfce805daef7016b9b675c137a6a41a548f7b6\
+         0a3484c06a33a\n\
          ommers: []\n\
          \n",
     ),
@@ -32,8 +34,8 @@ const PARTS: [Row; 6] = [
          address: 0x5df9b87991262f6ba471f09758cde1c0fc1de734\n\
          nonce: 5\n\
          y_parity: 255\n\
-         r: 9\n\
-         s: 10\n\
+         r: 0x9\n\
+         s: 0xa\n\
          \n",
     ),
     (

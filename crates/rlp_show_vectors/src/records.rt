@@ -14,34 +14,32 @@ const RECORDS: [Row; 8] = [
          b6b3a76400008025a028ef61340bd939bc2195fe537567866003e1a15d3c71ff63e15906\
          20aa636276a067cbe9d8997f761aecb703304b3800ccf555c9f3dc64214b297fb1966a3b\
          6d83",
-        "nonce: 9\n\
+        "hash: 0x33469b22e9f636356c4160a87eb19df52b7412e8eac32a4a55ffe88ea8350788\n\
+         nonce: 9\n\
          gas_price: 20000000000\n\
          gas_limit: 21000\n\
          to: 0x3535353535353535353535353535353535353535\n\
          value: 1000000000000000000\n\
          data: 0x\n\
-         v: 37\n\
-         r: 185154612643733513732000026658530286124510565785457116405581773401818\
-         47433846\n\
-         s: 469485073046389475099407636490303587599099025760259006025471688206025\
-         76006531\n\
+         v: 37 (chain 1, parity 0)\n\
+         r: 0x28ef61340bd939bc2195fe537567866003e1a15d3c71ff63e1590620aa636276\n\
+         s: 0x67cbe9d8997f761aecb703304b3800ccf555c9f3dc64214b297fb1966a3b6d83\n\
          \n",
     ),
     (
         "transaction f86780862d79883d2000825208945df9b87991262f6ba471f09758cde1c0fc1de734827a\
          69801ca088ff6cf0fefd94db46111149ae4bfc179e9b94721fffd821d38d16464b3f71d0\
          a045e0aff800961cfce805daef7016b9b675c137a6a41a548f7b60a3484c06a33a",
-        "nonce: 0\n\
+        "hash: 0x5c504ed432cb51138bcf09aa5e8a410dd4a1e204ef84bfed1be16dfba1b22060\n\
+         nonce: 0\n\
          gas_price: 50000000000000\n\
          gas_limit: 21000\n\
          to: 0x5df9b87991262f6ba471f09758cde1c0fc1de734\n\
          value: 31337\n\
          data: 0x\n\
-         v: 28\n\
-         r: 619658452946890097701563721563747600227878869653237438659866481537556\
-         01564112\n\
-         s: 316065747864949536922911019147099267555457652815818088217044543818047\
-         73090106\n\
+         v: 28 (parity 1)\n\
+         r: 0x88ff6cf0fefd94db46111149ae4bfc179e9b94721fffd821d38d16464b3f71d0\n\
+         s: 0x45e0aff800961cfce805daef7016b9b675c137a6a41a548f7b60a3484c06a33a\n\
          \n",
     ),
     (
@@ -51,7 +49,8 @@ const RECORDS: [Row; 8] = [
          ffffffd6940102030405060708090a0b0c0d0e0f1011121314c001a0ffffffffffffffff\
          ffffffffffffffffffffffffffffffffffffffffffffffff9b184f03e93ff9f4daa797ed\
          6e38ed64bf6a1f010000000000000000",
-        "type: 1\n\
+        "hash: 0x9e7267fa945d6ad029a6842ffc373347dd4022c34285d55658fb9a8bf6bd31c9\n\
+         type: 1\n\
          chain_id: 1\n\
          nonce: 0\n\
          gas_price: 1000000000\n\
@@ -67,16 +66,16 @@ const RECORDS: [Row; 8] = [
          access_list[1].address: 0x0102030405060708090a0b0c0d0e0f1011121314\n\
          access_list[1].storage_keys: []\n\
          y_parity: 1\n\
-         r: 115792089237316195423570985008687907853269984665640564039457584007913\
-         129639935\n\
-         s: 10000000000000000000000000000000000000000000000000000000000000000\n\
+         r: 0xffffffffffffffffffffffffffffffffffffffffffffffffffffffffffffffff\n\
+         s: 0x184f03e93ff9f4daa797ed6e38ed64bf6a1f010000000000000000\n\
          \n",
     ),
     (
         "transaction 02f853818988ffffffffffffffff80880de0b6b3a7640000827530940102030405060708\
          090a0b0c0d0e0f1011121314a0dd15fe86affad91249ef0eb713f39ebeaa987b6e6fd2a0\
          00000000000000000080c0800708",
-        "type: 2\n\
+        "hash: 0x5dee307d02f1ab622662781b95cd36c8d82b30da092a99d4fb3a2efc9c48cd1b\n\
+         type: 2\n\
          chain_id: 137\n\
          nonce: 18446744073709551615\n\
          max_priority_fee_per_gas: 0\n\
@@ -88,8 +87,8 @@ const RECORDS: [Row; 8] = [
          data: 0x\n\
          access_list: []\n\
          y_parity: 0\n\
-         r: 7\n\
-         s: 8\n\
+         r: 0x7\n\
+         s: 0x8\n\
          \n",
     ),
     (
@@ -129,14 +128,7 @@ const RECORDS: [Row; 8] = [
         "type: 2\n\
          status_or_state_root: 0x01\n\
          cumulative_gas_used: 21000\n\
-         logs_bloom: 0x0000000000000000000000000000000000000000000000000000000000\
-         000000000000000000000000000000000000000000000000000000000000000000000000\
-         000000000000000000000000000000000000000000000000000000000000000000000000\
-         000000000000000000000000000000000000000000000000000000000000000000000000\
-         000000000000000000000000000000000000000000000000000000000000000000000000\
-         000000000000000000000000000000000000000000000000000000000000000000000000\
-         000000000000000000000000000000000000000000000000000000000000000000000000\
-         0000000000000000000000\n\
+         logs_bloom: 256 zero bytes\n\
          logs[0].address: 0x5df9b87991262f6ba471f09758cde1c0fc1de734\n\
          logs[0].topics[0]: 0x000102030405060708090a0b0c0d0e0f1011121314151617181\
          91a1b1c1d1e1f\n\

@@ -1,6 +1,6 @@
 use Rattle.std.proofs.Common.{◌≡◌, ◌∷◌, length}
 use Rattle.rlp_node_record.specs.NodeRecord.{keys_rise}
-use Rattle.rlp_show.specs.Records.{keys_in}
+use Rattle.rlp_show.specs.NodeRecords.{keys_in}
 use Rattle.rlp_show.proofs.node_records.are_in_order.Given as goal
 
 -- whether all keys rise is whether those do that are left, after the last one

@@ -1,7 +1,7 @@
 use Rattle.std.proofs.Common.{◌≡◌, codes, length}
 use Rattle.std.specs.List.{list_any}
 use Rattle.std.specs.Str.{bytes_eq}
-use Rattle.rlp_show.specs.Records.{keys_in}
+use Rattle.rlp_show.specs.NodeRecords.{keys_in}
 use Rattle.rlp_show.proofs.node_records.have_id.Given as goal
 
 -- whether `id` is one of all keys is whether it is one of those that are left

@@ -1,5 +1,4 @@
 use Rattle.std.proofs.Common.{◌≡◌, ◌∷◌, ◌∙◌, ap, arith, length, rules, string_bytes}
-use Rattle.rlp_show.specs.Records.{any_item}
 use Rattle.rlp_show.proofs.PairLemmas.{pairs_step}
 use Rattle.rlp_show.proofs.node_records.show_next_pairs.Goals as goal
 
@@ -9,7 +8,7 @@ loop-key-preserved c =
     let next : c.next.new.self.left ≡ c.in-Some-next.value ∷ c.next-in-Some.new.self.left = search rules in
     record {
       left = c.loop-key.invariant.left
-          ∙ pairs_step any_item c.args.name.now c.loop-key.index c.loop-key.first c.loop-key.items.left c.next.new.self.left
+          ∙ pairs_step c.args.name.now c.loop-key.index c.loop-key.first c.loop-key.items.left c.next.new.self.left
           c.next-in-Some.new.self.left c.in-Some.key c.in-Some-next.value (string_bytes c.loop-key.out) (string_bytes c.show_pair.new.out) is next
           (search rules);
       few = omega (arith, c.loop-key.invariant.few, ap length is, ap length next);
