@@ -3,7 +3,7 @@ use Rattle.rlp_format.specs.Format.Framing.{value}
 use Rattle.rlp_format.specs.Views.Depth.{depth}
 use Rattle.rlp_format.specs.Views.View.{View}
 use Rattle.rlp_format.proofs.Format.Following.{depth-followed}
-use Rattle.rlp_format.proofs.Views.Printing.{depth-fault, shallow-other}
+use Rattle.rlp_values.proofs.Views.Printing.{depth-fault, shallow-other}
 use Rattle.rlp.proofs.rlpin.rlp.Rlp.is_nested_within.Goals as goal
 
 pub returns-in-Ok : goal.returns-in-Ok
