@@ -43,7 +43,7 @@ pub extern "C" fn rlp_decode_u64(alloc: Global, bytes: &[u8], strict: bool, out:
 /// Finds the digits of a number of at most `width` bytes, the greatest first and without leading
 /// zeros. If strict, nothing may follow it.
 #[unsafe(no_mangle)]
-#[tactic(auto, using(rlp::specs::Lemmas::Numbers::number_answers))]
+#[tactic(auto, using(rlp_values::specs::Lemmas::Numbers::number_answers))]
 pub extern "C" fn rlp_decode_uint(
     bytes: &[u8],
     strict: bool,
@@ -101,7 +101,7 @@ fn string_row(bytes: &[u8], string: &[u8]) -> RlpItem
 
 /// Tests whether these are the digits of a number of at most `width` bytes: first their number, and
 /// then the first digit.
-#[tactic(auto, using(rlp::specs::Lemmas::Numbers::digit_faults))]
+#[tactic(auto, using(rlp_values::specs::Lemmas::Numbers::digit_faults))]
 fn check_digits(digits: &[u8], width: usize) -> Result<(), DecoderError>
     ensures few { IfOk result (λ _. length digits.now ≤ width) }
     ensures value { IfOk result (λ _. FitsBytes width (number_from_digits 256 digits.now)

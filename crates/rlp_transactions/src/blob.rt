@@ -24,7 +24,7 @@ impl Blob {
     ///
     /// Fails with `RlpIsTooShort` if there are fewer than 131,072, with `RlpIsTooBig` if there are
     /// more, and with `OutOfMemory` if memory is refused.
-    #[tactic(auto, using(rlp::specs::Lemmas::RoundTrips::length_faults))]
+    #[tactic(auto, using(rlp_values::specs::Lemmas::RoundTrips::length_faults))]
     pub fn new(alloc: Global, bytes: &[u8]) -> Result<Blob, DecoderError>
         ensures value { IfOk result (λ b. b.bytes.items ≡ bytes.now) }
         ensures fault { IfErr result (λ e. IsLengthFault 131072 bytes.now e
