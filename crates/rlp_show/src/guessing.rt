@@ -10,11 +10,12 @@ use crate::envelopes::AnyReceipt;
 use crate::fault::ShowFault;
 use crate::kind::Kind;
 use crate::nodes::Node;
-use crate::records::AccessListAlone;
 use crate::show::Show;
 use crate::transactions::TransactionAlone;
 use rlp::{DecoderError, Rlp, RlpIterator};
-use rlp_ethereum::{Account, Block, Body, Header, NodeRecord, SignedAuthorization, Withdrawal};
+use rlp_ethereum::{
+    AccessList, Account, Block, Body, Header, NodeRecord, SignedAuthorization, Withdrawal,
+};
 use std::alloc::Global;
 
 /// The first byte of a string of 20 bytes, such as an address.
@@ -61,7 +62,7 @@ fn show_as(
         (string_bytes out.new) result }
 {
     match kind {
-        Kind::AccessList => AccessListAlone::show(alloc, name, item, out),
+        Kind::AccessList => AccessList::show(alloc, name, item, out),
         Kind::Account => Account::show(alloc, name, item, out),
         Kind::Authorization => SignedAuthorization::show(alloc, name, item, out),
         Kind::Block => Block::show(alloc, name, item, out),
