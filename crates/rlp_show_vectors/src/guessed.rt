@@ -12,34 +12,38 @@ const GUESSED: [Row; 9] = [
         "any f86780862d79883d2000825208945df9b87991262f6ba471f09758cde1c0fc1de734827a\
          69801ca088ff6cf0fefd94db46111149ae4bfc179e9b94721fffd821d38d16464b3f71d0a045\
          e0aff800961cfce805daef7016b9b675c137a6a41a548f7b60a3484c06a33a",
-        "transaction.nonce: 0\n\
+        "transaction.hash: 0x5c504ed432cb51138bcf09aa5e8a410dd4a1e204ef84bfed1be16dfb\
+         a1b22060\n\
+         transaction.nonce: 0\n\
          transaction.gas_price: 50000000000000\n\
          transaction.gas_limit: 21000\n\
          transaction.to: 0x5df9b87991262f6ba471f09758cde1c0fc1de734\n\
          transaction.value: 31337\n\
          transaction.data: 0x\n\
-         transaction.v: 28\n\
-         transaction.r: 6196584529468900977015637215637476002278788696532374386598664\
-         8153755601564112\n\
-         transaction.s: 3160657478649495369229110191470992675554576528158180882170445\
-         4381804773090106\n\
+         transaction.v: 28 (parity 1)\n\
+         transaction.r: 0x88ff6cf0fefd94db46111149ae4bfc179e9b94721fffd821d38d16464b3\
+         f71d0\n\
+         transaction.s: 0x45e0aff800961cfce805daef7016b9b675c137a6a41a548f7b60a3484c0\
+         6a33a\n\
          \n",
     ),
     (
         "any 0xf86780862d79883d2000825208945df9b87991262f6ba471f09758cde1c0fc1de73482\
          7a69801ca088ff6cf0fefd94db46111149ae4bfc179e9b94721fffd821d38d16464b3f71d0a0\
          45e0aff800961cfce805daef7016b9b675c137a6a41a548f7b60a3484c06a33a",
-        "transaction.nonce: 0\n\
+        "transaction.hash: 0x5c504ed432cb51138bcf09aa5e8a410dd4a1e204ef84bfed1be16dfb\
+         a1b22060\n\
+         transaction.nonce: 0\n\
          transaction.gas_price: 50000000000000\n\
          transaction.gas_limit: 21000\n\
          transaction.to: 0x5df9b87991262f6ba471f09758cde1c0fc1de734\n\
          transaction.value: 31337\n\
          transaction.data: 0x\n\
-         transaction.v: 28\n\
-         transaction.r: 6196584529468900977015637215637476002278788696532374386598664\
-         8153755601564112\n\
-         transaction.s: 3160657478649495369229110191470992675554576528158180882170445\
-         4381804773090106\n\
+         transaction.v: 28 (parity 1)\n\
+         transaction.r: 0x88ff6cf0fefd94db46111149ae4bfc179e9b94721fffd821d38d16464b3\
+         f71d0\n\
+         transaction.s: 0x45e0aff800961cfce805daef7016b9b675c137a6a41a548f7b60a3484c0\
+         6a33a\n\
          \n",
     ),
     (
@@ -49,15 +53,15 @@ const GUESSED: [Row; 9] = [
         "signature: 0x7098ad865b00a582051940cb9cf36836572411a47278783077011599ed5cd16\
          b76f2635f4e234738f30813a89eb9137e3e3df5266e3a1f11df72ecf1145ccb9c\n\
          sequence: 1\n\
-         pairs[0].key: 0x6964\n\
-         pairs[0].value: 0x7634\n\
-         pairs[1].key: 0x6970\n\
-         pairs[1].value: 0x7f000001\n\
-         pairs[2].key: 0x736563703235366b31\n\
+         pairs[0].key: id\n\
+         pairs[0].value: v4\n\
+         pairs[1].key: ip\n\
+         pairs[1].value: 127.0.0.1\n\
+         pairs[2].key: secp256k1\n\
          pairs[2].value: 0x03ca634cae0d49acb401d8a4c6b6fe8c55b70d115bf400769cc1400f32\
          58cd3138\n\
-         pairs[3].key: 0x756470\n\
-         pairs[3].value: 0x765f\n\
+         pairs[3].key: udp\n\
+         pairs[3].value: 30303\n\
          \n",
     ),
     (
@@ -67,15 +71,15 @@ const GUESSED: [Row; 9] = [
         "record.signature: 0x7098ad865b00a582051940cb9cf36836572411a47278783077011599\
          ed5cd16b76f2635f4e234738f30813a89eb9137e3e3df5266e3a1f11df72ecf1145ccb9c\n\
          record.sequence: 1\n\
-         record.pairs[0].key: 0x6964\n\
-         record.pairs[0].value: 0x7634\n\
-         record.pairs[1].key: 0x6970\n\
-         record.pairs[1].value: 0x7f000001\n\
-         record.pairs[2].key: 0x736563703235366b31\n\
+         record.pairs[0].key: id\n\
+         record.pairs[0].value: v4\n\
+         record.pairs[1].key: ip\n\
+         record.pairs[1].value: 127.0.0.1\n\
+         record.pairs[2].key: secp256k1\n\
          record.pairs[2].value: 0x03ca634cae0d49acb401d8a4c6b6fe8c55b70d115bf400769cc\
          1400f3258cd3138\n\
-         record.pairs[3].key: 0x756470\n\
-         record.pairs[3].value: 0x765f\n\
+         record.pairs[3].key: udp\n\
+         record.pairs[3].value: 30303\n\
          \n",
     ),
     (
@@ -94,7 +98,9 @@ const GUESSED: [Row; 9] = [
          01ca35428084610bdaa6826869a0ffffffffffffffffffffffffffffffffffffffffffffffff\
          ffffffffffffffff880000000000000000843b9aca00a0000102030405060708090a0b0c0d0e\
          0f101112131415161718191a1b1c1d1e1f",
-        "header.parent_hash: 0x000102030405060708090a0b0c0d0e0f101112131415161718191a\
+        "header.hash: 0x37219dcde0b5fb73fb3ff4924f787c2f20eb59eae6acc66e86ccf700480a6\
+         283\n\
+         header.parent_hash: 0x000102030405060708090a0b0c0d0e0f101112131415161718191a\
          1b1c1d1e1f\n\
          header.ommers_hash: 0xffffffffffffffffffffffffffffffffffffffffffffffffffffff\
          ffffffffff\n\
@@ -105,14 +111,7 @@ const GUESSED: [Row; 9] = [
          ffffffffffffffff\n\
          header.receipts_root: 0x000102030405060708090a0b0c0d0e0f10111213141516171819\
          1a1b1c1d1e1f\n\
-         header.logs_bloom: 0x0000000000000000000000000000000000000000000000000000000\
-         0000000000000000000000000000000000000000000000000000000000000000000000000000\
-         0000000000000000000000000000000000000000000000000000000000000000000000000000\
-         0000000000000000000000000000000000000000000000000000000000000000000000000000\
-         0000000000000000000000000000000000000000000000000000000000000000000000000000\
-         0000000000000000000000000000000000000000000000000000000000000000000000000000\
-         0000000000000000000000000000000000000000000000000000000000000000000000000000\
-         0\n\
+         header.logs_bloom: 256 zero bytes\n\
          header.difficulty: 0\n\
          header.number: 12965000\n\
          header.gas_limit: 30029122\n\
@@ -129,13 +128,17 @@ const GUESSED: [Row; 9] = [
     ),
     (
         "any 80",
-        "node.node: empty\n\
+        "node.hash: 0x56e81f171bcc55a6ff8345e692c0f86e5b48e01b996cadc001622fb5e363b42\
+         1\n\
+         node.node: empty\n\
          \n",
     ),
     (
         "any c23f80",
-        "node.node: leaf\n\
-         node.path: 0x3f\n\
+        "node.hash: 0x065179176b24114ac0c387e917fb52904c3196ca4efba3b34fecd769383cf6a\
+         0\n\
+         node.node: leaf\n\
+         node.path: 0x3f (nibbles [f])\n\
          node.value: 0x\n\
          \n",
     ),
