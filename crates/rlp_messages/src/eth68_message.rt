@@ -7,6 +7,7 @@ ghost use Rattle.rlp.specs.Codecs.Sums.{case_item};
 ghost use Rattle.rlp_messages.specs.Eth68Message.{FitsEth68, eth68_body, eth68_bytes, eth68_messages};
 ghost use Rattle.rlp_p2p.specs.Message.{BodyFails, MessageFails};
 
+use crate::numbered::decode_numbered;
 use crate::{
     BlockBodies, BlockHeaders, GetBlockBodies, GetBlockHeaders, GetPooledTransactions, GetReceipts,
     NewBlock, NewBlockHashes, NewPooledTransactionHashes, PooledTransactions, Receipts, Status68,
@@ -125,7 +126,7 @@ fn decode_body(alloc: Global, message: &Numbered<'_>) -> Result<Eth68Message, De
     ensures fault { IfErr result
         (λ e. BodyFails eth68_messages message.now.number message.now.body.now e) }
 {
-    rlp_p2p::decode_numbered!(
+    decode_numbered!(
         alloc,
         message,
         0x00 => Eth68Message::Status,

@@ -7,6 +7,7 @@ ghost use Rattle.rlp.specs.Codecs.Sums.{case_item};
 ghost use Rattle.rlp_messages.specs.Eth69Message.{FitsEth69, eth69_body, eth69_bytes, eth69_messages};
 ghost use Rattle.rlp_p2p.specs.Message.{BodyFails, MessageFails};
 
+use crate::numbered::decode_numbered;
 use crate::{
     BlockBodies, BlockHeaders, BlockRangeUpdate, GetBlockBodies, GetBlockHeaders,
     GetPooledTransactions, GetReceipts, NewBlock, NewBlockHashes, NewPooledTransactionHashes,
@@ -129,7 +130,7 @@ fn decode_body(alloc: Global, message: &Numbered<'_>) -> Result<Eth69Message, De
     ensures fault { IfErr result
         (λ e. BodyFails eth69_messages message.now.number message.now.body.now e) }
 {
-    rlp_p2p::decode_numbered!(
+    decode_numbered!(
         alloc,
         message,
         0x00 => Eth69Message::Status,

@@ -9,6 +9,7 @@ mod eth68_message;
 mod eth69_message;
 mod hash_or_number;
 pub mod laws;
+mod numbered;
 mod receipts;
 mod receipts69;
 mod record;
