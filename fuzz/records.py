@@ -5,6 +5,7 @@ answers of `rlp_show`, after crates/rlp_show/CALLING.md. It shares no code with 
 import ipaddress
 import re
 
+import objects
 from answers import Answered, bytes_of, encoded_string, framing, written_header
 from guess import guess
 from keccak import keccak256
@@ -532,10 +533,10 @@ def line(dice, kind):
     return text
 
 
-def lines_of(kind, data):
-    """The lines of a record of a kind, or of a guessed one under the name of its kind."""
+def lines_of(kind, data, name):
+    """The lines of a record of a kind under a name, or of a guessed one under the name of its kind."""
     if kind:
-        return KINDS[kind].lines("", data)
+        return KINDS[kind].lines(name, data)
     try:
         kind = guess(data)
     except Answered as answered:
@@ -545,8 +546,8 @@ def lines_of(kind, data):
     return KINDS[kind].lines(kind, data)
 
 
-def answer(kind, text):
-    """What is answered to a line, as one text: the lines of the record and an empty line, or the fault."""
+def answer(kind, text, is_json):
+    """What is answered to a line, as one text: the lines of the record and an empty line, or one line of JSON, or the fault."""
     if len(text) > 32 << 20:
         return "error long line\n"
     text = text[:-1] if text.endswith("\r") else text
@@ -556,7 +557,9 @@ def answer(kind, text):
     if data is None:
         return "error base64\n" if text.startswith("enr:") else "error hex\n"
     try:
-        return "\n".join(lines_of(kind, data)) + "\n\n"
+        if is_json:
+            return objects.answer(lines_of(kind, data, kind)) + "\n"
+        return "\n".join(lines_of(kind, data, "")) + "\n\n"
     except Wrong as wrong:
         return f"error {wrong}\n"
 
@@ -566,7 +569,7 @@ def answers_in(output):
     found, lines = [], []
     for one in output.split("\n")[:-1]:
         lines.append(one)
-        if not one or (len(lines) == 1 and one.startswith("error ")):
+        if not one or (len(lines) == 1 and one.startswith(("error ", "{"))):
             found.append("\n".join(lines) + "\n")
             lines = []
     return found + (["\n".join(lines)] if lines else [])

@@ -10,7 +10,7 @@ pub trait LineAnswers {
     ghost longest: { ℕ };
 
     /// The answer to a line that isn't longer.
-    ghost answer_within: { List ℕ → List ℕ };
+    ghost answer_within: { Self → List ℕ → List ℕ };
 
     /// The most bytes that a line may have, without its newline.
     fn longest() -> usize
@@ -18,7 +18,7 @@ pub trait LineAnswers {
 
     /// Appends the answer to a line that isn't longer, without its newline. Fails with
     /// `AllocError` if memory is refused. `out` may then hold anything: the caller drops it.
-    fn put_answer(alloc: Global, line: &[u8], out: &mut String) -> Result<(), AllocError>
+    fn put_answer(&self, alloc: Global, line: &[u8], out: &mut String) -> Result<(), AllocError>
         ensures { OnOk result
-            (string_bytes out.new ≡ string_bytes out.old ++ answer_within line.now) };
+            (string_bytes out.new ≡ string_bytes out.old ++ answer_within self.now line.now) };
 }

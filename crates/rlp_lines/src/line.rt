@@ -53,29 +53,34 @@ impl Line {
 
     /// Builds the answer in the buffer for replies.
     #[tactic(auto, unfolding(crate::specs::Replies::answer_by))]
-    fn put_answer<A: LineAnswers>(&mut self, alloc: Global) -> Result<(), AllocError>
+    fn put_answer<A: LineAnswers>(&mut self, alloc: Global, answers: &A) -> Result<(), AllocError>
         ensures reply { (begun : List ℕ) → IsLine A.longest self.old.bytes.items self.old.over begun
-            → OnOk result (string_bytes self.new.reply ≡ answer_by A.longest A.answer_within begun) }
+            → OnOk result (string_bytes self.new.reply ≡ answer_by A.longest (A.answer_within answers.now) begun) }
         ensures kept { self.new.faulty ≡ self.old.faulty }
     {
         self.reply.clear();
         if self.over {
             return self.reply.push_str("error long line");
         }
-        A::put_answer(alloc, self.bytes.as_slice(), &mut self.reply)
+        answers.put_answer(alloc, self.bytes.as_slice(), &mut self.reply)
     }
 
     /// Appends the answer and a newline, or nothing. Notes a line that is at fault.
-    fn reply<A: LineAnswers>(&mut self, alloc: Global, out: &mut String) -> Result<(), AllocError>
+    fn reply<A: LineAnswers>(
+        &mut self,
+        alloc: Global,
+        answers: &A,
+        out: &mut String,
+    ) -> Result<(), AllocError>
         ensures ok { (begun : List ℕ) → IsLine A.longest self.old.bytes.items self.old.over begun
             → OnOk result (string_bytes out.new
-            ≡ string_bytes out.old ++ reply (answer_by A.longest A.answer_within) begun) }
+            ≡ string_bytes out.old ++ reply (answer_by A.longest (A.answer_within answers.now)) begun) }
         ensures noted { (begun : List ℕ) → IsLine A.longest self.old.bytes.items self.old.over begun
             → OnOk result (self.new.faulty
-            ≡ (self.old.faulty || is_fault (answer_by A.longest A.answer_within) begun)) }
+            ≡ (self.old.faulty || is_fault (answer_by A.longest (A.answer_within answers.now)) begun)) }
         ensures refused { OnErr result (string_bytes out.new ≡ string_bytes out.old) }
     {
-        self.put_answer::<A>(alloc)?;
+        self.put_answer(alloc, answers)?;
         self.faulty |= self.reply.as_str().starts_with("error");
         self.reply.push('\n')?;
         out.push_str(self.reply.as_str())
@@ -107,20 +112,21 @@ impl Line {
     fn end<A: LineAnswers>(
         &mut self,
         alloc: Global,
+        answers: &A,
         run: &[u8],
         out: &mut String,
     ) -> Result<(), AllocError>
         ensures ok { (text written : List ℕ)
-            → IsAfter A.longest (answer_by A.longest A.answer_within) text written
+            → IsAfter A.longest (answer_by A.longest (A.answer_within answers.now)) text written
             (string_bytes out.old) self.old.bytes.items self.old.over self.old.faulty
             → IsOnePiece run.now
-            → OnOk result (IsAfter A.longest (answer_by A.longest A.answer_within)
+            → OnOk result (IsAfter A.longest (answer_by A.longest (A.answer_within answers.now))
             (text ++ run.now ++ 10 ∷ []) written (string_bytes out.new)
             self.new.bytes.items self.new.over self.new.faulty) }
         ensures refused { OnErr result (string_bytes out.new ≡ string_bytes out.old) }
     {
         self.extend::<A>(run)?;
-        self.reply::<A>(alloc, out)?;
+        self.reply(alloc, answers, out)?;
         self.clear();
         Ok(())
     }
@@ -130,25 +136,26 @@ impl Line {
     pub(crate) fn feed<A: LineAnswers>(
         &mut self,
         alloc: Global,
+        answers: &A,
         bytes: &[u8],
         out: &mut String,
     ) -> Result<(), AllocError>
         ensures ok { (text written : List ℕ)
-            → IsAfter A.longest (answer_by A.longest A.answer_within) text written
+            → IsAfter A.longest (answer_by A.longest (A.answer_within answers.now)) text written
             (string_bytes out.old) self.old.bytes.items self.old.over self.old.faulty
-            → OnOk result (IsAfter A.longest (answer_by A.longest A.answer_within)
+            → OnOk result (IsAfter A.longest (answer_by A.longest (A.answer_within answers.now))
             (text ++ bytes.now) written (string_bytes out.new)
             self.new.bytes.items self.new.over self.new.faulty) }
         ensures refused { (text written : List ℕ)
-            → IsAfter A.longest (answer_by A.longest A.answer_within) text written
+            → IsAfter A.longest (answer_by A.longest (A.answer_within answers.now)) text written
             (string_bytes out.old) self.old.bytes.items self.old.over self.old.faulty
-            → OnErr result (AreRepliesBefore (answer_by A.longest A.answer_within) text (text ++ bytes.now)
+            → OnErr result (AreRepliesBefore (answer_by A.longest (A.answer_within answers.now)) text (text ++ bytes.now)
             (written ++ string_bytes out.new)) }
     {
         let mut rest = bytes;
         while let Some(at) = newline_at(rest) {
             let (run, others) = rest.split_at(at);
-            self.end::<A>(alloc, run, out)?;
+            self.end(alloc, answers, run, out)?;
             rest = &others[1..];
         }
         self.extend::<A>(rest)
@@ -159,22 +166,23 @@ impl Line {
     pub(crate) fn finish<A: LineAnswers>(
         &mut self,
         alloc: Global,
+        answers: &A,
         out: &mut String,
     ) -> Result<(), AllocError>
         ensures ok { (text : List ℕ) → IsLine A.longest self.old.bytes.items self.old.over (last_piece text)
             → OnOk result (string_bytes out.new
             ≡ string_bytes out.old
-            ++ replies_to (answer_by A.longest A.answer_within) (unended_line text)) }
+            ++ replies_to (answer_by A.longest (A.answer_within answers.now)) (unended_line text)) }
         ensures noted { (text : List ℕ) → IsLine A.longest self.old.bytes.items self.old.over (last_piece text)
             → OnOk result (self.new.faulty ≡ (self.old.faulty
-            || has_fault (answer_by A.longest A.answer_within) (unended_line text))) }
+            || has_fault (answer_by A.longest (A.answer_within answers.now)) (unended_line text))) }
         ensures refused { (begun : List ℕ) → IsLine A.longest self.old.bytes.items self.old.over begun
             → OnErr result (begun ≢ []) }
     {
         if self.is_empty() {
             return Ok(());
         }
-        self.reply::<A>(alloc, out)
+        self.reply(alloc, answers, out)
     }
 }
 

@@ -86,31 +86,32 @@ fn write_last<W: Write>(output: &mut Noted<W>, bytes: &[u8]) -> Result<(), RunFa
 /// refused.
 fn serve<A: LineAnswers, W: Write>(
     alloc: Global,
+    answers: &A,
     line: &mut Line,
-    answers: &mut String,
+    pending: &mut String,
     output: &mut Noted<W>,
     bytes: &[u8],
 ) -> Result<(), RunFault>
     ensures ok { (start : Option (List ℕ)) (text : List ℕ)
-        → IsServed A.longest (answer_by A.longest A.answer_within) start
+        → IsServed A.longest (answer_by A.longest (A.answer_within answers.now)) start
         (W.contents output.old.inner) text line.old.bytes.items line.old.over line.old.faulty
-        → OnOk result (IsServed A.longest (answer_by A.longest A.answer_within) start
+        → OnOk result (IsServed A.longest (answer_by A.longest (A.answer_within answers.now)) start
         (W.contents output.new.inner) (text ++ bytes.now) line.new.bytes.items line.new.over line.new.faulty) }
     ensures kept { OnOk result (output.new.failed ≡ output.old.failed) }
     ensures stop { (start : Option (List ℕ)) (text : List ℕ)
-        → IsServed A.longest (answer_by A.longest A.answer_within) start
+        → IsServed A.longest (answer_by A.longest (A.answer_within answers.now)) start
         (W.contents output.old.inner) text line.old.bytes.items line.old.over line.old.faulty
-        → IfErr result (λ fault. IsStop (answer_by A.longest A.answer_within) fault start
+        → IfErr result (λ fault. IsStop (answer_by A.longest (A.answer_within answers.now)) fault start
         (W.contents output.new.inner) text (text ++ bytes.now) output.new.failed) }
 
     // The finished replies are written even if memory was refused after them.
     ensures waiting { result ≡ Err RunFault.Memory → Appends (W.contents output.old.inner)
-        (W.contents output.new.inner) (string_bytes answers.new) }
+        (W.contents output.new.inner) (string_bytes pending.new) }
 {
-    answers.clear();
-    match line.feed::<A>(alloc, bytes, answers) {
-        Ok(()) => write_whole(output, answers.as_bytes()),
-        Err(_) => match write_whole(output, answers.as_bytes()) {
+    pending.clear();
+    match line.feed(alloc, answers, bytes, pending) {
+        Ok(()) => write_whole(output, pending.as_bytes()),
+        Err(_) => match write_whole(output, pending.as_bytes()) {
             Ok(()) => Err(RunFault::Memory),
             Err(fault) => Err(fault),
         },
@@ -120,52 +121,54 @@ fn serve<A: LineAnswers, W: Write>(
 /// Answers a last line without a newline, and flushes.
 fn finish<A: LineAnswers, W: Write>(
     alloc: Global,
+    answers: &A,
     line: &mut Line,
-    answers: &mut String,
+    pending: &mut String,
     output: &mut Noted<W>,
 ) -> Result<(), RunFault>
     ensures ok { (start : Option (List ℕ)) (text : List ℕ)
-        → IsServed A.longest (answer_by A.longest A.answer_within) start
+        → IsServed A.longest (answer_by A.longest (A.answer_within answers.now)) start
         (W.contents output.old.inner) text line.old.bytes.items line.old.over line.old.faulty
         → OnOk result (Appends start (W.contents output.new.inner)
-        (replies (answer_by A.longest A.answer_within) text)) }
+        (replies (answer_by A.longest (A.answer_within answers.now)) text)) }
     ensures noted { (start : Option (List ℕ)) (text : List ℕ)
-        → IsServed A.longest (answer_by A.longest A.answer_within) start
+        → IsServed A.longest (answer_by A.longest (A.answer_within answers.now)) start
         (W.contents output.old.inner) text line.old.bytes.items line.old.over line.old.faulty
         → OnOk result (line.new.faulty
-        ≡ has_fault (answer_by A.longest A.answer_within) (lines text)) }
+        ≡ has_fault (answer_by A.longest (A.answer_within answers.now)) (lines text)) }
     ensures kept { OnOk result (output.new.failed ≡ output.old.failed) }
     ensures flushed { OnOk result (output.new.flushed ≡ true) }
     ensures stop { (start : Option (List ℕ)) (text : List ℕ)
-        → IsServed A.longest (answer_by A.longest A.answer_within) start
+        → IsServed A.longest (answer_by A.longest (A.answer_within answers.now)) start
         (W.contents output.old.inner) text line.old.bytes.items line.old.over line.old.faulty
-        → IfErr result (λ fault. IsStop (answer_by A.longest A.answer_within) fault start
+        → IfErr result (λ fault. IsStop (answer_by A.longest (A.answer_within answers.now)) fault start
         (W.contents output.new.inner) text text output.new.failed) }
 {
-    answers.clear();
-    match line.finish::<A>(alloc, answers) {
-        Ok(()) => write_last(output, answers.as_bytes()),
+    pending.clear();
+    match line.finish(alloc, answers, pending) {
+        Ok(()) => write_last(output, pending.as_bytes()),
         Err(_) => Err(RunFault::Memory),
     }
 }
 
-/// Answers each line of the input as `A` says, until its end. The answer to a line of more bytes than
+/// Answers each line of the input as `answers` says, until its end. The answer to a line of more bytes than
 /// `A` takes is `error long line`. Returns whether the answer to a line begins with `error`, and fails
 /// with the [`RunFault`] that stopped it.
 pub fn answer_lines<A: LineAnswers, R: Read, W: Write>(
     alloc: Global,
+    answers: &A,
     input: &mut Noted<R>,
     output: &mut Noted<W>,
 ) -> Result<bool, RunFault>
     requires input { input.old.failed ≡ false }
     requires output { output.old.failed ≡ false }
-    ensures leaves { RunLeaves (answer_by A.longest A.answer_within) R.remaining W.contents
+    ensures leaves { RunLeaves (answer_by A.longest (A.answer_within answers.now)) R.remaining W.contents
         input.old input.new output.old output.new result }
-    ensures faulty { IfOk result (TellsFault (answer_by A.longest A.answer_within)
+    ensures faulty { IfOk result (TellsFault (answer_by A.longest (A.answer_within answers.now))
         (R.remaining input.old.inner) (R.remaining input.new.inner)) }
 {
     let mut line = Line::new(alloc);
-    let mut answers = String::new(alloc);
+    let mut pending = String::new(alloc);
     let mut buffer = [0u8; CHUNK];
     'reading: while input.reads() < u64::MAX {
         let count = match input.read(&mut buffer) {
@@ -173,13 +176,13 @@ pub fn answer_lines<A: LineAnswers, R: Read, W: Write>(
             Err(_) => return Err(RunFault::Read),
         };
         if count == 0 {
-            if let Err(fault) = finish::<A, W>(alloc, &mut line, &mut answers, output) {
+            if let Err(fault) = finish(alloc, answers, &mut line, &mut pending, output) {
                 return Err(fault);
             }
             return Ok(line.is_faulty());
         }
         let chunk = &buffer[..count];
-        if let Err(fault) = serve::<A, W>(alloc, &mut line, &mut answers, output, chunk) {
+        if let Err(fault) = serve(alloc, answers, &mut line, &mut pending, output, chunk) {
             return Err(fault);
         }
     }

@@ -7,6 +7,7 @@ use Rattle.base64.specs.Engines.{url_safe_no_pad}
 use Rattle.base64.specs.GeneralPurpose.{decode_of}
 use Rattle.rlp.specs.Views.Text.{error_name}
 use Rattle.rlp.specs.Views.View.{strict_view_of}
+use Rattle.rlp_json.specs.Json.{json_of}
 use Rattle.rlp_lines.specs.Digits.{bytes_in}
 use Rattle.rlp_lines.specs.Status.{status_of}
 use Rattle.rlp_lines.specs.declared.serving.RunFault.{RunFault}
@@ -23,6 +24,11 @@ use Rattle.rlp_show.specs.declared.fault.ShowFault.TheVariants.{Wrong, OutOfMemo
 abbrev pub shown_answer : Shown → List ℕ
 shown_answer (Ok lines) = lines
 shown_answer (Err fault) = codes "error " ++ fault_text fault.field fault.name fault.what
+
+-- the lines as JSON, or `error` and what is wrong
+abbrev pub json_answer : Shown → List ℕ
+json_answer (Ok lines) = json_of lines
+json_answer (Err fault) = shown_answer (Err fault)
 
 -- the bytes that have this URL-safe base64 without padding, if there are any
 unfoldable pub base64_bytes : List ℕ → Option (List ℕ)
@@ -46,17 +52,17 @@ abbrev pub record_bytes : List ℕ → Option (List ℕ)
 record_bytes text = bytes_or_node text (bytes_in text)
 
 -- the answer for bytes that are read strictly as a whole record, or what is wrong with a text that has none
-abbrev pub bytes_answer : Shape → List ℕ → Option (List ℕ) → List ℕ
-bytes_answer shape text (Some bytes) = shown_answer (shape [] (strict_view_of bytes))
-bytes_answer shape text None = if is_node_text text then codes "error base64" else codes "error hex"
+abbrev pub bytes_answer : (Shown → List ℕ) → Shape → List ℕ → Option (List ℕ) → List ℕ
+bytes_answer answer shape text (Some bytes) = answer (shape [] (strict_view_of bytes))
+bytes_answer answer shape text None = if is_node_text text then codes "error base64" else codes "error hex"
 
 -- the answer to a text for records of a shape
-abbrev pub text_answer : Shape → List ℕ → List ℕ
-text_answer shape text = bytes_answer shape text (record_bytes text)
+abbrev pub text_answer : (Shown → List ℕ) → Shape → List ℕ → List ℕ
+text_answer answer shape text = bytes_answer answer shape text (record_bytes text)
 
 -- the answer to a line for records of a shape
 abbrev pub record_answer : Shape → List ℕ → List ℕ
-record_answer shape line = text_answer shape (strip_carriage_return line)
+record_answer shape line = text_answer shown_answer shape (strip_carriage_return line)
 
 -- ---- kinds
 

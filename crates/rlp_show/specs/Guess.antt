@@ -1,10 +1,10 @@
--- The kind of a record that isn't named, and the answers to lines of such records.
+-- The kind of a record that isn't named.
 use Rattle.std.specs.Prelude.{ℕ, Bool, ◌%◌, ◌==◌, ◌&&◌, ◌||◌, nat_le, nat_lt, if◌then◌else◌, List, [], ◌∷◌, codes, drop, Option, Some, None, Result, Ok, Err}
 use Rattle.rlp.specs.DecoderError.{DecoderError}
 use Rattle.rlp.specs.Format.Framing.{map_ok}
 use Rattle.rlp.specs.Views.Text.{error_name}
 use Rattle.rlp.specs.Views.View.{View, item_count, item_views, strict_view_of}
-use Rattle.rlp_show.specs.Answer.{kind_answer, kind_name, kind_shape, record_answer}
+use Rattle.rlp_show.specs.Answer.{kind_name, kind_shape}
 use Rattle.rlp_show.specs.Lines.{Shape, Shown, wrong}
 use Rattle.rlp_show.specs.declared.kind.Kind.{Kind}
 use Rattle.rlp_show.specs.declared.kind.Kind.TheVariants.{AccessList, Account, Authorization, Block, Body, Header, Node, NodeRecord, Receipt, Transaction, Withdrawal}
@@ -109,8 +109,3 @@ guessed_lines name v (Err fault) = Err (wrong name (error_name fault))
 -- records whose kind is guessed
 abbrev pub any_record : Shape
 any_record name v = guessed_lines name v (guess v)
-
--- the answer to a line that isn't too long, for records of a kind, or of guessed kinds
-abbrev pub answer_of : Option Kind → List ℕ → List ℕ
-answer_of (Some kind) = kind_answer kind
-answer_of None = record_answer any_record

@@ -12,6 +12,8 @@ pub mod NodeRecords
 pub mod Answer
 -- the kind of a record that isn't named
 pub mod Guess
+-- the answers to lines, of a kind and in a form
+pub mod LineAnswer
 -- what the arguments of the program ask for
 pub mod Request
 -- lemmas on what types read and what is shown of it

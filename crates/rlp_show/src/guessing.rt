@@ -51,7 +51,7 @@ impl Show for AnyRecord {
 }
 
 /// Appends the lines of a record of a kind.
-fn show_as(
+pub(crate) fn show_as(
     alloc: Global,
     kind: Kind,
     name: &str,

@@ -4,7 +4,7 @@
 pub const VERSION: &str = "rlp_show 0.6.1";
 
 /// What the program prints for arguments that it doesn't know.
-pub const USAGE: &str = "usage: rlp_show [KIND] [RECORD]\nrlp_show --help says more.";
+pub const USAGE: &str = "usage: rlp_show [--json] [KIND] [RECORD]\nrlp_show --help says more.";
 
 /// The exit status of the program for such arguments.
 pub const UNKNOWN_ARGUMENTS: u8 = 4;
@@ -13,11 +13,15 @@ pub const UNKNOWN_ARGUMENTS: u8 = 4;
 pub const HELP: &str = "\
 rlp_show shows records of Ethereum by the names of their fields.
 
-usage: rlp_show [KIND] [RECORD]
+usage: rlp_show [--json] [KIND] [RECORD]
 
 RECORD is the whole encoding in hexadecimal digits after 0x, or the text of a node
 record, which begins with enr:. Without RECORD, each line of standard input is a
 record, where 0x may be left out.
+
+With --json an answer is one JSON object in one line. Its only key is the kind, and
+the names and values below it are those of Ethereum's execution API: numbers are in
+hexadecimal, and the fields of a header stand in its block.
 
 KIND is one of
   transaction, receipt            with or without a type
@@ -44,8 +48,8 @@ Without KIND the kind is guessed, and its name comes before those of the fields:
     8 and all even ones  record
 Where two kinds fit, the commoner one is taken.
 
-An answer is a line for each field and an empty line, or one line that begins with
-error. The exit status is
+An answer is a line for each field and an empty line, or with --json one line. For a
+record at fault it is one line that begins with error. The exit status is
   0  if all records were shown
   1  if memory was refused
   2  if reading failed
@@ -55,4 +59,4 @@ error. The exit status is
 
 Examples:
   rlp_show 0xda808203e8945df9b87991262f6ba471f09758cde1c0fc1de73405
-  rlp_show header < headers.txt";
+  rlp_show --json header < headers.txt";

@@ -8,7 +8,12 @@ ghost use Rattle.rlp_lines.specs.Digits.{bytes_in};
 ghost use Rattle.rlp_records.specs.Alone.{bytes_alone};
 ghost use Rattle.rlp_transactions.specs.AnyTransaction.{any_transaction};
 ghost use Rattle.rlp_transactions.specs.declared.any_transaction.AnyTransaction.{AnyTransaction};
-ghost use Rattle.rlp_show.specs.Answer.{kind_answer, record_answer};
+ghost use Rattle.rlp_json.specs.Json.{json_of};
+ghost use Rattle.rlp_show.specs.Answer.{kind_answer, kind_name, kind_shape, record_answer};
+ghost use Rattle.rlp_show.specs.LineAnswer.{answer_of};
+ghost use Rattle.rlp_show.specs.Request.{answers};
+ghost use Rattle.rlp_show.specs.declared.answers.Form.TheVariants.{Json};
+ghost use Rattle.rlp_show.specs.declared.kind.Kind.{Kind};
 ghost use Rattle.rlp_show.specs.TransactionValues.{hashed_lines};
 ghost use Rattle.rlp_show.specs.declared.kind.Kind.TheVariants as kind;
 
@@ -21,6 +26,15 @@ pub fn encodings_are_shown<T: ShowValues>(line: &[u8])
     ensures { (x : T) → T.fits x → IsSized (T.item x)
         → bytes_in (strip_carriage_return line.now) ≡ Some (encoding (T.item x))
         → record_answer T.shape line.now ≡ T.lines [] x }
+{}
+
+/// If the digits of a line are the encoding of a value that fits, the answer in JSON is that of the
+/// lines of the value under the name of the kind. The kind is the one that shows such values.
+#[tactic(auto, using(crate::specs::ValueLemmas::encoding_in_json))]
+pub fn encodings_are_shown_in_json<T: ShowValues>(line: &[u8])
+    ensures { (kind : Kind) (x : T) → kind_shape kind ≡ T.shape → T.fits x → IsSized (T.item x)
+        → bytes_in (strip_carriage_return line.now) ≡ Some (encoding (T.item x))
+        → answer_of (answers (Some kind) Json) line.now ≡ json_of (T.lines (kind_name kind) x) }
 {}
 
 /// If the digits of a line are the bytes of a transaction by itself, as `AnyTransaction::to_bytes` of

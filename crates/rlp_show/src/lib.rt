@@ -2,6 +2,7 @@
 #![tactic(auto)]
 
 mod any_item;
+mod answers;
 mod envelopes;
 mod fault;
 mod fields;
@@ -27,6 +28,7 @@ mod transactions;
 mod values;
 
 pub use any_item::AnyItem;
+pub use answers::{Answers, Form};
 pub use envelopes::{AnyReceipt, Typed};
 pub use fault::{ItemFault, ShowFault};
 pub use fields::{Label, ShowFields, show_record};

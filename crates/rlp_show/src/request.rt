@@ -2,6 +2,7 @@
 
 ghost use Rattle.std.specs.Prelude.{◌≡◌, map, string_bytes};
 
+use crate::answers::{Answers, Form};
 use crate::input::is_record;
 use crate::kind::Kind;
 
@@ -12,60 +13,70 @@ pub enum Request {
     Help,
     /// The name and the version of the program.
     Version,
-    /// The answers to the lines of standard input, which are records of this kind, or of kinds that
-    /// are guessed.
-    Lines(Option<Kind>),
-    /// The answer to the last argument, which is a record of this kind, or of one that is guessed.
-    Record(Option<Kind>),
+    /// These answers to the lines of standard input.
+    Lines(Answers),
+    /// This answer to the last argument, which is a record.
+    Record(Answers),
     /// Nothing that the program knows.
     Unknown,
 }
 
 impl Request {
     ghost use Rattle.rlp_show.specs.Answer.{kind_named};
-    ghost use Rattle.rlp_show.specs.Request.{one_request, request_of, two_request, word_request};
+    ghost use Rattle.rlp_show.specs.Request.{form_request, one_request, request_of, two_request, word_request};
 
     /// What these arguments ask for, without the name of the program. They are a kind, a record, or
-    /// a kind and then a record; or one of `--help`, `-h`, `--version` and `-V`.
+    /// a kind and then a record, all after `--json` if the answers are to be in JSON; or one of
+    /// `--help`, `-h`, `--version` and `-V`.
     pub fn of(words: &[String]) -> Request
         ensures { result ≡ request_of (map string_bytes words.now) }
     {
         match words {
-            [] => Request::Lines(None),
-            [word] => Request::of_one(word.as_str()),
-            [first, word] => Request::of_two(first.as_str(), word.as_str()),
+            [first, rest @ ..] if first.as_str() == "--json" => Request::in_form(Form::Json, rest),
+            _ => Request::in_form(Form::Text, words),
+        }
+    }
+
+    /// What arguments ask for, with answers in this form.
+    fn in_form(form: Form, words: &[String]) -> Request
+        ensures { result ≡ form_request form (map string_bytes words.now) }
+    {
+        match words {
+            [] => Request::Lines(Answers { kind: None, form }),
+            [word] => Request::of_one(form, word.as_str()),
+            [first, word] => Request::of_two(form, first.as_str(), word.as_str()),
             _ => Request::Unknown,
         }
     }
 
     /// What one argument asks for.
-    fn of_one(word: &str) -> Request
-        ensures { result ≡ one_request (kind_named word.now) word.now }
+    fn of_one(form: Form, word: &str) -> Request
+        ensures { result ≡ one_request form (kind_named word.now) word.now }
     {
         match Kind::named(word) {
-            Some(kind) => Request::Lines(Some(kind)),
-            None => Request::of_word(word),
+            Some(kind) => Request::Lines(Answers { kind: Some(kind), form }),
+            None => Request::of_word(form, word),
         }
     }
 
     /// What one argument asks for, if it isn't the name of a kind.
-    fn of_word(word: &str) -> Request
-        ensures { result ≡ word_request word.now }
+    fn of_word(form: Form, word: &str) -> Request
+        ensures { result ≡ word_request form word.now }
     {
         match word {
             "--help" | "-h" => Request::Help,
             "--version" | "-V" => Request::Version,
-            _ if is_record(word) => Request::Record(None),
+            _ if is_record(word) => Request::Record(Answers { kind: None, form }),
             _ => Request::Unknown,
         }
     }
 
     /// What two arguments ask for.
-    fn of_two(first: &str, word: &str) -> Request
-        ensures { result ≡ two_request (kind_named first.now) word.now }
+    fn of_two(form: Form, first: &str, word: &str) -> Request
+        ensures { result ≡ two_request form (kind_named first.now) word.now }
     {
         match Kind::named(first) {
-            Some(kind) if is_record(word) => Request::Record(Some(kind)),
+            Some(kind) if is_record(word) => Request::Record(Answers { kind: Some(kind), form }),
             _ => Request::Unknown,
         }
     }

@@ -3,21 +3,22 @@
 #![tactic(auto)]
 
 use rlp_show::{
-    HELP, Kind, Noted, Request, RunFault, UNKNOWN_ARGUMENTS, USAGE, VERSION, exit_status, run,
+    Answers, HELP, Noted, Request, RunFault, UNKNOWN_ARGUMENTS, USAGE, VERSION, exit_status, run,
 };
 use std::env;
+use std::io;
 use std::io::Read;
 use std::process::ExitCode;
 
 /// The arguments after the name of the program.
-fn words_in(rt: &HostRuntime) -> Option<Vec<String>> {
+fn words_in(rt: &HostRuntime) -> io::Result<Vec<String>> {
     let mut words = Vec::new(rt.alloc());
-    let mut given = env::args(rt).ok()?;
+    let mut given = env::args(rt)?;
     let _program = given.next();
     for word in given {
-        words.push(word).ok()?;
+        words.push(word)?;
     }
-    Some(words)
+    Ok(words)
 }
 
 /// Prints a text, and returns the exit status.
@@ -29,10 +30,10 @@ fn print(rt: &HostRuntime, text: &str) -> u8 {
 }
 
 /// Answers the lines of an input, and returns the exit status.
-fn answer<R: Read + Drop>(rt: &HostRuntime, kind: Option<Kind>, input: R) -> u8 {
+fn answer<R: Read + Drop>(rt: &HostRuntime, answers: &Answers, input: R) -> u8 {
     let mut input = Noted::new(input);
     let mut output = Noted::new(rt.stdout());
-    exit_status(&run(rt.alloc(), kind, &mut input, &mut output))
+    exit_status(&run(rt.alloc(), answers, &mut input, &mut output))
 }
 
 /// Says on standard error how the program is called, and returns the exit status.
@@ -46,16 +47,17 @@ fn serve(rt: &HostRuntime, words: &[String]) -> u8 {
     match (Request::of(words), words.last()) {
         (Request::Help, _) => print(rt, HELP),
         (Request::Version, _) => print(rt, VERSION),
-        (Request::Lines(kind), _) => answer(rt, kind, rt.stdin()),
-        (Request::Record(kind), Some(word)) => answer(rt, kind, word.as_bytes()),
+        (Request::Lines(answers), _) => answer(rt, &answers, rt.stdin()),
+        (Request::Record(answers), Some(word)) => answer(rt, &answers, word.as_bytes()),
         _ => refuse(rt),
     }
 }
 
 fn main(rt: HostRuntime) -> ExitCode {
     let status = match words_in(&rt) {
-        Some(words) => serve(&rt, words.as_slice()),
-        None => refuse(&rt),
+        Ok(words) => serve(&rt, words.as_slice()),
+        Err(fault) if fault.kind() == io::ErrorKind::OutOfMemory => RunFault::Memory.status(),
+        Err(_) => refuse(&rt),
     };
     ExitCode::from(status)
 }

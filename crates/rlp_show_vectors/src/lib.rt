@@ -10,6 +10,8 @@ mod faults;
 #[cfg(test)]
 mod guessed;
 #[cfg(test)]
+mod json;
+#[cfg(test)]
 mod laws;
 #[cfg(test)]
 mod node_records;

@@ -2,13 +2,14 @@
 
 use crate::support::Row;
 use rlp_rows::Line;
-use rlp_show::{Kind, Request};
+use rlp_show::{Answers, Form, Request};
 use std::alloc::{AllocError, Global};
+use std::fmt;
 use std::fmt::Write;
 use std::test::Fail;
 
-/// Arguments, and what they ask for: `lines` or `record`, and the name of the kind.
-const REQUESTS: [Row; 22] = [
+/// Arguments, and what they ask for: `json`, `lines` or `record`, and the name of the kind.
+const REQUESTS: [Row; 28] = [
     ("", "lines"),
     ("header", "lines header"),
     ("record", "lines record"),
@@ -26,7 +27,13 @@ const REQUESTS: [Row; 22] = [
     ("Header", "unknown"),
     ("c0", "unknown"),
     ("0Xc0", "unknown"),
-    ("--json", "unknown"),
+    ("--json", "json lines"),
+    ("--json header", "json lines header"),
+    ("--json 0xc0", "json record"),
+    ("--json header 0xc0", "json record header"),
+    ("--json --help", "help"),
+    ("--json --json", "unknown"),
+    ("header --json", "unknown"),
     ("header block", "unknown"),
     ("0xc0 header", "unknown"),
     ("header --help", "unknown"),
@@ -44,24 +51,33 @@ fn words_of(alloc: Global, text: &str) -> Result<Vec<String>, AllocError> {
     Ok(words)
 }
 
+/// What comes before other words in JSON.
+fn form_text(form: Form) -> &'static str {
+    match form {
+        Form::Json => "json ",
+        Form::Text => "",
+    }
+}
+
 /// Writes what is asked for, and the name of a kind after it.
-fn write_of(line: &mut Line, what: &str, kind: Option<Kind>) {
-    let _ = match kind {
-        Some(kind) => write!(line, "{what} {}", kind.name()),
-        None => write!(line, "{what}"),
-    };
+fn write_of(line: &mut Line, what: &str, answers: &Answers) -> fmt::Result {
+    let form = form_text(answers.form);
+    match answers.kind {
+        Some(kind) => write!(line, "{form}{what} {}", kind.name()),
+        None => write!(line, "{form}{what}"),
+    }
 }
 
 /// What a request is, as text.
 fn text_of(request: Request) -> Line {
     let mut line = Line::new();
-    match request {
-        Request::Help => write_of(&mut line, "help", None),
-        Request::Version => write_of(&mut line, "version", None),
-        Request::Lines(kind) => write_of(&mut line, "lines", kind),
-        Request::Record(kind) => write_of(&mut line, "record", kind),
-        Request::Unknown => write_of(&mut line, "unknown", None),
-    }
+    let _ = match &request {
+        Request::Help => write!(line, "help"),
+        Request::Version => write!(line, "version"),
+        Request::Lines(answers) => write_of(&mut line, "lines", answers),
+        Request::Record(answers) => write_of(&mut line, "record", answers),
+        Request::Unknown => write!(line, "unknown"),
+    };
     line
 }
 

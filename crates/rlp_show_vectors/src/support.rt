@@ -1,7 +1,7 @@
 //! What the tests of this crate share.
 
 use rlp_rows::{Line, cut};
-use rlp_show::{Kind, Noted, run};
+use rlp_show::{Answers, Form, Kind, Noted, run};
 use std::alloc::{AllocError, Global};
 use std::test::Fail;
 
@@ -10,12 +10,12 @@ pub(crate) type Row = (&'static str, &'static str);
 
 /// Returns what the program answers to a line, or nothing if it fails or tells wrongly whether the
 /// line is at fault.
-fn answered(alloc: Global, kind: Option<Kind>, digits: &str) -> Result<Vec<u8>, AllocError> {
+fn answered(alloc: Global, answers: &Answers, digits: &str) -> Result<Vec<u8>, AllocError> {
     let mut line = Vec::from_slice(alloc, digits.as_bytes())?;
     line.extend_from_slice(b"\n")?;
     let mut input = Noted::new(line.as_slice());
     let mut output = Noted::new(Vec::new(alloc));
-    match run(alloc, kind, &mut input, &mut output) {
+    match run(alloc, answers, &mut input, &mut output) {
         Ok(faulty) if faulty == output.inner().as_slice().starts_with(b"error") => {
             Vec::from_slice(alloc, output.inner().as_slice())
         }
@@ -23,16 +23,24 @@ fn answered(alloc: Global, kind: Option<Kind>, digits: &str) -> Result<Vec<u8>, 
     }
 }
 
+/// Answers in text.
+fn as_text(kind: Option<Kind>) -> Answers {
+    Answers {
+        kind,
+        form: Form::Text,
+    }
+}
+
 /// Notes an answer that isn't as expected.
 fn note_answer(
     alloc: Global,
-    kind: Option<Kind>,
+    answers: &Answers,
     row: &Row,
     wrong: &mut Line,
 ) -> Result<(), AllocError> {
     let (given, want) = row;
     let (_, text) = cut(given);
-    let answer = answered(alloc, kind, text)?;
+    let answer = answered(alloc, answers, text)?;
     let text = std::str::from_utf8(answer.as_slice()).unwrap_or("no text");
     wrong.note("show", given, text, want);
     Ok(())
@@ -41,7 +49,7 @@ fn note_answer(
 /// Notes a record that isn't shown under the name of its kind if that is guessed.
 fn note_guess(alloc: Global, given: &str, wrong: &mut Line) -> Result<(), AllocError> {
     let (name, text) = cut(given);
-    let answer = answered(alloc, None, text)?;
+    let answer = answered(alloc, &as_text(None), text)?;
     if !answer.as_slice().starts_with(name.as_bytes()) {
         let text = std::str::from_utf8(answer.as_slice()).unwrap_or("no text");
         wrong.note("guess", given, text, name);
@@ -54,13 +62,13 @@ fn check_row(alloc: Global, row: &Row, wrong: &mut Line) -> Result<(), AllocErro
     let (given, want) = row;
     let (name, _) = cut(given);
     match Kind::named(name) {
-        None if name == "any" => note_answer(alloc, None, row, wrong),
+        None if name == "any" => note_answer(alloc, &as_text(None), row, wrong),
         None => {
             wrong.note("show", given, "no such kind", want);
             Ok(())
         }
         Some(kind) => {
-            note_answer(alloc, Some(kind), row, wrong)?;
+            note_answer(alloc, &as_text(Some(kind)), row, wrong)?;
             if want.starts_with("error") {
                 return Ok(());
             }
@@ -75,6 +83,20 @@ pub(crate) fn check(alloc: Global, rows: &[Row]) -> Result<(), Fail> {
     let mut wrong = Line::new();
     for row in rows {
         check_row(alloc, row, &mut wrong)?;
+    }
+    wrong.none_noted()
+}
+
+/// Fails with the rows that aren't answered as expected in JSON.
+pub(crate) fn check_json(alloc: Global, rows: &[Row]) -> Result<(), Fail> {
+    let mut wrong = Line::new();
+    for row in rows {
+        let (name, _) = cut(row.0);
+        let answers = Answers {
+            kind: Kind::named(name),
+            form: Form::Json,
+        };
+        note_answer(alloc, &answers, row, &mut wrong)?;
     }
     wrong.none_noted()
 }

@@ -16,13 +16,13 @@ impl LineAnswers for ToolAnswers {
 
     ghost longest = { longest_line };
 
-    ghost answer_within = { answer_within };
+    ghost answer_within = { λ _. answer_within };
 
     fn longest() -> usize {
         131_072
     }
 
-    fn put_answer(alloc: Global, line: &[u8], out: &mut String) -> Result<(), AllocError> {
+    fn put_answer(&self, alloc: Global, line: &[u8], out: &mut String) -> Result<(), AllocError> {
         answer_within(alloc, line, out)
     }
 }
@@ -39,7 +39,7 @@ pub fn run<R: Read, W: Write>(
     ensures { RunLeaves answer R.remaining W.contents
         input.old input.new output.old output.new result }
 {
-    match answer_lines::<ToolAnswers, R, W>(alloc, input, output) {
+    match answer_lines(alloc, &ToolAnswers, input, output) {
         Ok(_) => Ok(()),
         Err(fault) => Err(fault),
     }
