@@ -1,0 +1,10 @@
+//! The answers of the program `rlp_show` as JSON.
+#![tactic(auto)]
+
+mod names;
+mod numbers;
+mod object;
+mod paths;
+mod values;
+
+pub use object::put_json;
