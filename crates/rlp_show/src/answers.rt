@@ -70,7 +70,7 @@ impl Answers {
     {
         let mut lines = String::new(alloc);
         match self.show(alloc, &Rlp::new_strict(bytes), &mut lines) {
-            Ok(()) => self.put_lines(alloc, lines.as_str(), out),
+            Ok(()) => self.put_lines(lines.as_str(), out),
             Err(ShowFault::Wrong(fault)) => {
                 out.push_str("error ")?;
                 fault.put(out)
@@ -92,13 +92,13 @@ impl Answers {
     }
 
     /// Appends lines in the form of the answers.
-    fn put_lines(&self, alloc: Global, lines: &str, out: &mut String) -> Result<(), AllocError>
+    fn put_lines(&self, lines: &str, out: &mut String) -> Result<(), AllocError>
         ensures { OnOk result (string_bytes out.new ≡ string_bytes out.old
             ++ answer_in self.now.form (Ok lines.now)) }
     {
         match self.form {
             Form::Text => out.push_str(lines),
-            Form::Json => put_json(alloc, lines, out),
+            Form::Json => put_json(lines, out),
         }
     }
 }

@@ -1,8 +1,8 @@
 //! Shows Ethereum's records by the names of their fields.
 #![tactic(auto)]
 
-mod any_item;
 mod answers;
+mod any_item;
 mod envelopes;
 mod fault;
 mod fields;
@@ -27,8 +27,8 @@ mod strings;
 mod transactions;
 mod values;
 
-pub use any_item::AnyItem;
 pub use answers::{Answers, Form};
+pub use any_item::AnyItem;
 pub use envelopes::{AnyReceipt, Typed};
 pub use fault::{ItemFault, ShowFault};
 pub use fields::{Label, ShowFields, show_record};

@@ -54,7 +54,10 @@ impl Request {
         ensures { result ≡ one_request form (kind_named word.now) word.now }
     {
         match Kind::named(word) {
-            Some(kind) => Request::Lines(Answers { kind: Some(kind), form }),
+            Some(kind) => Request::Lines(Answers {
+                kind: Some(kind),
+                form,
+            }),
             None => Request::of_word(form, word),
         }
     }
@@ -76,7 +79,10 @@ impl Request {
         ensures { result ≡ two_request form (kind_named first.now) word.now }
     {
         match Kind::named(first) {
-            Some(kind) if is_record(word) => Request::Record(Answers { kind: Some(kind), form }),
+            Some(kind) if is_record(word) => Request::Record(Answers {
+                kind: Some(kind),
+                form,
+            }),
             _ => Request::Unknown,
         }
     }

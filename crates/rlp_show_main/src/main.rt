@@ -5,10 +5,9 @@
 use rlp_show::{
     Answers, HELP, Noted, Request, RunFault, UNKNOWN_ARGUMENTS, USAGE, VERSION, exit_status, run,
 };
-use std::env;
-use std::io;
 use std::io::Read;
 use std::process::ExitCode;
+use std::{env, io};
 
 /// The arguments after the name of the program.
 fn words_in(rt: &HostRuntime) -> io::Result<Vec<String>> {

@@ -88,10 +88,7 @@ const JSON: [Row; 11] = [
          geKeys\":[\"0x000102030405060708090a0b0c0d0e0f101112131415161718191a1b1c1d1e1f\"]}]}\
          \n",
     ),
-    (
-        "access_list c0",
-        "{\"accessList\":[]}\n",
-    ),
+    ("access_list c0", "{\"accessList\":[]}\n"),
     (
         "receipt f9010880825208b9010000000000000000000000000000000000000000000000000000000000\
          000000000000000000000000000000000000000000000000000000000000000000000000000000000000\
@@ -114,14 +111,8 @@ const JSON: [Row; 11] = [
         "{\"withdrawal\":{\"index\":\"0x0\",\"validatorIndex\":\"0x3e8\",\"address\":\"0x5df9\
          b87991262f6ba471f09758cde1c0fc1de734\",\"amount\":\"0xffffffffffffffff\"}}\n",
     ),
-    (
-        "transaction c0",
-        "error transaction: RlpIncorrectListLen\n",
-    ),
-    (
-        "header zz",
-        "error hex\n",
-    ),
+    ("transaction c0", "error transaction: RlpIncorrectListLen\n"),
+    ("header zz", "error hex\n"),
 ];
 
 #[test]
