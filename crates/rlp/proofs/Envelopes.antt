@@ -1,9 +1,9 @@
 -- For authors of types: the rules for a body of `decode` that reads a list or a string, and an envelope by its tag.
 use Rattle.std.proofs.Common.{◌≡◌, ℕ, List, [], ◌∷◌, ◌⊎◌, inl, inr, ⊎_elim, refl, sym, subst, Bool, true, false}
-use Rattle.rlp_format.specs.declared.error.DecoderError.{DecoderError}
-use Rattle.rlp_format.specs.declared.error.DecoderError.TheVariants.{OutOfMemory, RlpIsTooShort}
+use Rattle.rlp_values.specs.declared.error.DecoderError.{DecoderError}
+use Rattle.rlp_values.specs.declared.error.DecoderError.TheVariants.{OutOfMemory, RlpIsTooShort}
 use Rattle.rlp_format.specs.Format.WrittenHeader.{AreBytes}
-use Rattle.rlp_format.specs.Views.View.{View, HoldsString, strict_view_of}
+use Rattle.rlp_values.specs.Views.View.{View, HoldsString, strict_view_of}
 use Rattle.rlp_values.specs.Values.ValueReading.{FaultsAs, IsCustom, no_string, no_value}
 use Rattle.rlp_values.specs.Values.Sums.{IsEnvelopeFault, IsOtherTag, MayLackAfterTag, MayLackInEnvelope, faulty_payload, no_tag, other_tag}
 

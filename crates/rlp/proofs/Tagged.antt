@@ -1,8 +1,8 @@
 -- For authors of types: the rules for a body of `decode` that reads a list of a tag and a payload.
 use Rattle.std.proofs.Common.{◌≡◌, ◌≢◌, ℕ, List, ◌⊎◌, inl, inr, ⊎_elim, sym, subst, Result, Ok, Err, IsOkAnd}
-use Rattle.rlp_format.specs.declared.error.DecoderError.{DecoderError}
-use Rattle.rlp_format.specs.declared.error.DecoderError.TheVariants.{OutOfMemory, RlpIncorrectListLen}
-use Rattle.rlp_format.specs.Views.View.{View, item_at, item_count}
+use Rattle.rlp_values.specs.declared.error.DecoderError.{DecoderError}
+use Rattle.rlp_values.specs.declared.error.DecoderError.TheVariants.{OutOfMemory, RlpIncorrectListLen}
+use Rattle.rlp_values.specs.Views.View.{View, item_at, item_count}
 use Rattle.rlp_values.specs.Values.ValueReading.{FaultsAsNumber, GivesNumber, IsCustom}
 use Rattle.rlp_values.specs.Values.ListReading.{FaultsAt, GivesAt, MayLackAt}
 use Rattle.rlp_values.specs.Values.Sums.{FaultsAsTagged, IsOtherTag, MayLackAsTagged, faulty_second, faulty_tag, no_pair, other_pair, unknown_tag}

@@ -1,9 +1,9 @@
 -- The definitions, in reading order. Each folder lists its files in that order, with a line on each. Each word is defined before it is used.
 
 -- items, and the bytes that they are written as
-pub use Rattle.rlp_format.specs.Format
+pub use Rattle.rlp_values.specs.Format
 -- the results of a view's methods
-pub use Rattle.rlp_format.specs.Views
+pub use Rattle.rlp_values.specs.Views
 -- values, their items, and which bytes give them
 pub use Rattle.rlp_values.specs.Values
 -- streams: their states, and what each call makes of one
@@ -15,14 +15,14 @@ pub use Rattle.rlp_values.specs.Codec
 -- codecs of raw items, and of types whose values are of several types
 pub use Rattle.rlp_values.specs.Codecs
 -- the faults of decoding
-pub use Rattle.rlp_format.specs.declared.error.DecoderError
+pub use Rattle.rlp_values.specs.declared.error.DecoderError
 -- the lengths that a header announces
-pub use Rattle.rlp_format.specs.declared.header.PayloadInfo
+pub use Rattle.rlp_values.specs.declared.header.PayloadInfo
 -- what a view begins with
-pub use Rattle.rlp_format.specs.declared.prototype.Prototype
+pub use Rattle.rlp_values.specs.declared.prototype.Prototype
 -- an item of a tree in flat form, and the fault of bytes that have none
-pub use Rattle.rlp_format.specs.declared.flat.FlatItem
-pub use Rattle.rlp_format.specs.declared.flat.TreeFault
+pub use Rattle.rlp_values.specs.declared.flat.FlatItem
+pub use Rattle.rlp_values.specs.declared.flat.TreeFault
 -- numbers that are kept as n bytes
 pub use Rattle.rlp_format.specs.declared.uint.Uint
 -- what prints of a number

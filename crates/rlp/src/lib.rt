@@ -17,9 +17,9 @@ ghost use Rattle.rlp_format.specs.Format.Item.{list_of};
 ghost use Rattle.rlp_format.specs.Format.Encoding.{encoding};
 ghost use Rattle.rlp_format.specs.Format.WrittenHeader.{AreBytes};
 ghost use Rattle.rlp_format.specs.Values.Value.{AreAlike};
-ghost use Rattle.rlp_format.specs.declared.error.DecoderError.TheVariants.{OutOfMemory};
+ghost use Rattle.rlp_values.specs.declared.error.DecoderError.TheVariants.{OutOfMemory};
 ghost use Rattle.rlp_values.specs.Values.ListReading.{FaultsAsList, GivesList, MayLackAsList};
-ghost use Rattle.rlp_format.specs.Views.View.{strict_view_of, view_of};
+ghost use Rattle.rlp_values.specs.Views.View.{strict_view_of, view_of};
 
 mod impls;
 pub mod laws;
@@ -28,12 +28,13 @@ mod structs;
 mod traits;
 
 pub use impls::RawItem;
-pub use rlp_format::{DecoderError, FlatItem, PayloadInfo, Prototype, TreeFault, Uint};
+pub use rlp_format::Uint;
 pub use rlp_streams::{
     AppendFields, BasicEncoder, Chain, EMPTY_LIST_RLP, Each, Encodable, FieldsOf, Flattened,
     ListOf, NULL_RLP, Optional, OptionalGroupOf, OptionalListOf, RlpStream, encode, encode_list,
     write_envelope, write_struct,
 };
+pub use rlp_values::{DecoderError, FlatItem, PayloadInfo, Prototype, TreeFault};
 pub use rlpin::{BasicDecoder, Envelope, Fields, Rlp, RlpIterator};
 use std::alloc::Global;
 pub use structs::{

@@ -1,13 +1,13 @@
 -- The walk over the fields of a record.
 use Rattle.std.proofs.Common.{◌≡◌, ◌≢◌, ℕ, zero, suc, ◌+◌, ◌-◌, ◌<◌, ◌≤◌, true, false, List, [], ◌∷◌, ◌++◌, length, refl, sym, ap, ◌∙◌, arith, Option, Some, None, Ok, length-append}
 use Rattle.std.proofs.lemmas.Bool.{cond-true}
-use Rattle.rlp_format.specs.declared.error.DecoderError.{DecoderError}
-use Rattle.rlp_format.specs.declared.error.DecoderError.TheVariants.{RlpExpectedToBeData, RlpIncorrectListLen}
-use Rattle.rlp_format.specs.Format.Framing.{fault, value}
-use Rattle.rlp_format.specs.Format.Split.{begins_as_list, split}
-use Rattle.rlp_format.specs.Format.Strict.{after_items, fault_of_some}
-use Rattle.rlp_format.proofs.Format.Splits.{split-nil}
-use Rattle.rlp_format.proofs.Format.StrictLists.{after_items-next, after_items-nil, after_items-none, fault_of_some-some, value-payload}
+use Rattle.rlp_values.specs.declared.error.DecoderError.{DecoderError}
+use Rattle.rlp_values.specs.declared.error.DecoderError.TheVariants.{RlpExpectedToBeData, RlpIncorrectListLen}
+use Rattle.rlp_values.specs.Format.Framing.{fault, value}
+use Rattle.rlp_values.specs.Format.Split.{begins_as_list, split}
+use Rattle.rlp_values.specs.Format.Strict.{after_items, fault_of_some}
+use Rattle.rlp_values.proofs.Format.Splits.{split-nil}
+use Rattle.rlp_values.proofs.Format.StrictLists.{after_items-next, after_items-nil, after_items-none, fault_of_some-some, value-payload}
 use Rattle.rlp_c.specs.declared.records.kinds.Kind.{Kind}
 use Rattle.rlp_c.specs.declared.records.kinds.Kind.TheVariants.{List as list_of}
 use Rattle.rlp_c.specs.declared.records.kinds.Record.{Record}

@@ -2,7 +2,7 @@
 use Rattle.std.proofs.Common.{◌≡◌, ℕ, ◌<◌, ◌≤◌, List, length, take, refl, ap, ◌∙◌, arith}
 use Rattle.rlp_c.specs.declared.item.RlpItem.{RlpItem}
 use Rattle.rlp_c.specs.Flat.{IsFlattened, filled, flat, no_room, row_of}
-use Rattle.rlp_format.specs.Format.Walk.{IsWalked}
+use Rattle.rlp_values.specs.Format.Walk.{IsWalked}
 
 pub flattened : (most : ℕ) (b : List ℕ) (old new : List RlpItem) (old_count n : ℕ) → IsWalked row_of b 0 0 most old 0 new n → n ≤ length old
     → IsFlattened most b old new old_count n 0

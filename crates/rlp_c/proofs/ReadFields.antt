@@ -7,23 +7,23 @@ use Rattle.std.proofs.lemmas.Bool.Decides.{nat_tests}
 use Rattle.std.proofs.lemmas.Bool.{cases_Bool, cond-false, cond-true}
 use Rattle.std.proofs.lemmas.List.{length-map}
 use Rattle.std.proofs.lemmas.List.Elements.{All-get_or}
-use Rattle.rlp_format.specs.declared.error.DecoderError.{DecoderError}
-use Rattle.rlp_format.specs.declared.error.DecoderError.TheVariants.{RlpExpectedToBeList, RlpIsTooBig, RlpInvalidIndirection}
+use Rattle.rlp_values.specs.declared.error.DecoderError.{DecoderError}
+use Rattle.rlp_values.specs.declared.error.DecoderError.TheVariants.{RlpExpectedToBeList, RlpIsTooBig, RlpInvalidIndirection}
 use Rattle.rlp_format.specs.Format.Item.{string}
 use Rattle.rlp_format.specs.Format.Encoding.{encoding}
-use Rattle.rlp_format.specs.Format.Framing.{IsFramedItem}
-use Rattle.rlp_format.specs.Format.Split.{begins_as_list, items, payload, rest, split}
-use Rattle.rlp_format.specs.Format.Strict.{after_items, fault_of_some, first_fault, strict_fault, strict_fault_in, strict_list_fault}
-use Rattle.rlp_format.specs.Format.StringReading.{ReadsString, read_string}
+use Rattle.rlp_values.specs.Format.Framing.{IsFramedItem}
+use Rattle.rlp_values.specs.Format.Split.{begins_as_list, items, payload, rest, split}
+use Rattle.rlp_values.specs.Format.Strict.{after_items, fault_of_some, first_fault, strict_fault, strict_fault_in, strict_list_fault}
+use Rattle.rlp_values.specs.Format.StringReading.{ReadsString, read_string}
 use Rattle.rlp_format.specs.Format.WrittenHeader.{AreBytes, big_endian}
-use Rattle.rlp_format.specs.Views.View.{View, item_at, items_fault, strict_view_of}
+use Rattle.rlp_values.specs.Views.View.{View, item_at, items_fault, strict_view_of}
 use Rattle.rlp_format.specs.Lemmas.Digits.{big_endian_digit}
 use Rattle.rlp_format.specs.Lemmas.Encodings.{front_sized}
-use Rattle.rlp_format.specs.Lemmas.Frames.{encoding_item, framed_same, framing_is, split_longest}
-use Rattle.rlp_format.specs.Lemmas.Numbered.{Numbered, item_count-told, item_there, no_item, not_told, numbered, slice_get-item_at}
-use Rattle.rlp_format.specs.Lemmas.Strings.{string_reads}
-use Rattle.rlp_format.specs.Lemmas.Views.{payload_bytes}
-use Rattle.rlp_format.proofs.Format.StrictLists.{rest-after}
+use Rattle.rlp_values.specs.Lemmas.Frames.{encoding_item, framed_same, framing_is, split_longest}
+use Rattle.rlp_values.specs.Lemmas.Numbered.{Numbered, item_count-told, item_there, no_item, not_told, numbered, slice_get-item_at}
+use Rattle.rlp_values.specs.Lemmas.Strings.{string_reads}
+use Rattle.rlp_values.specs.Lemmas.Views.{payload_bytes}
+use Rattle.rlp_values.proofs.Format.StrictLists.{rest-after}
 use Rattle.rlp.specs.Values.FieldReading.{FaultsAsStruct, IsCount, by_place, faulty_item, no_items, other_number}
 use Rattle.rlp.specs.Values.ListReading.{FaultsAsList, faulty_in_list, not_list}
 use Rattle.rlp.specs.Values.Parts.{placed}

@@ -2,15 +2,15 @@
 use Rattle.std.proofs.Common.{◌≡◌, ℕ, zero, suc, ◌+◌, ◌^◌, ◌<◌, ◌==◌, ◌||◌, ◌⊎◌, inl, inr, ⊎_elim, Bool, true, false, List, ◌∷◌, length, refl, sym, ap, ◌∙◌, subst}
 use Rattle.std.proofs.Common.{arith, Some, None, leb-true}
 use Rattle.std.proofs.lemmas.Bool.{eqb-true}
-use Rattle.rlp_format.specs.declared.error.DecoderError.{DecoderError}
-use Rattle.rlp_format.specs.declared.error.DecoderError.TheVariants.{RlpIsTooBig, RlpIsTooShort, RlpExpectedToBeList, RlpExpectedToBeData}
-use Rattle.rlp_format.specs.declared.error.DecoderError.TheVariants.{RlpIncorrectListLen, RlpDataLenWithZeroPrefix, RlpListLenWithZeroPrefix}
-use Rattle.rlp_format.specs.declared.error.DecoderError.TheVariants.{RlpInvalidIndirection, RlpInconsistentLengthAndData, RlpInvalidLength, Custom}
-use Rattle.rlp_format.specs.declared.error.DecoderError.TheVariants.{OutOfMemory}
-use Rattle.rlp_format.specs.Format.Split.{begins_as_list, payload}
-use Rattle.rlp_format.specs.Format.Strict.{strict_list_fault}
+use Rattle.rlp_values.specs.declared.error.DecoderError.{DecoderError}
+use Rattle.rlp_values.specs.declared.error.DecoderError.TheVariants.{RlpIsTooBig, RlpIsTooShort, RlpExpectedToBeList, RlpExpectedToBeData}
+use Rattle.rlp_values.specs.declared.error.DecoderError.TheVariants.{RlpIncorrectListLen, RlpDataLenWithZeroPrefix, RlpListLenWithZeroPrefix}
+use Rattle.rlp_values.specs.declared.error.DecoderError.TheVariants.{RlpInvalidIndirection, RlpInconsistentLengthAndData, RlpInvalidLength, Custom}
+use Rattle.rlp_values.specs.declared.error.DecoderError.TheVariants.{OutOfMemory}
+use Rattle.rlp_values.specs.Format.Split.{begins_as_list, payload}
+use Rattle.rlp_values.specs.Format.Strict.{strict_list_fault}
 use Rattle.rlp_format.specs.Format.WrittenHeader.{AreBytes}
-use Rattle.rlp_format.specs.Views.View.{View, strict_view_of}
+use Rattle.rlp_values.specs.Views.View.{View, strict_view_of}
 use Rattle.rlp.specs.Values.FieldReading.{IsCount, NoMore, NoneOr}
 use Rattle.rlp.specs.Values.ListReading.{FaultsAsList}
 use Rattle.rlp.specs.Values.Sums.{IsEnvelopeFault, IsOtherTag, faulty_payload, no_tag, other_tag}

@@ -1,19 +1,19 @@
 -- The answers for transactions and headers.
 use Rattle.std.proofs.Common.{◌≡◌, ℕ, ◌+◌, ◌-◌, ◌<◌, ◌≤◌, ◌^◌, true, List, [], ◌∷◌, length, take, drop, slice_index_or, refl, sym, ap, ◌∙◌, arith, Option, Some, None, Ok}
 use Rattle.std.proofs.lemmas.List.{take_all}
-use Rattle.rlp_format.specs.declared.error.DecoderError.{DecoderError}
-use Rattle.rlp_format.specs.declared.header.PayloadInfo.{PayloadInfo}
-use Rattle.rlp_format.specs.Format.Framing.{IsFramedItem, framing, value}
-use Rattle.rlp_format.specs.Format.Split.{begins_as_list, payload, split}
-use Rattle.rlp_format.specs.Format.Strict.{after_items, fault_of_some, strict_fault, strict_list_fault}
-use Rattle.rlp_format.proofs.Format.StrictLists.{strict_whole, value-items, value-payload}
+use Rattle.rlp_values.specs.declared.error.DecoderError.{DecoderError}
+use Rattle.rlp_values.specs.declared.header.PayloadInfo.{PayloadInfo}
+use Rattle.rlp_values.specs.Format.Framing.{IsFramedItem, framing, value}
+use Rattle.rlp_values.specs.Format.Split.{begins_as_list, payload, split}
+use Rattle.rlp_values.specs.Format.Strict.{after_items, fault_of_some, strict_fault, strict_list_fault}
+use Rattle.rlp_values.proofs.Format.StrictLists.{strict_whole, value-items, value-payload}
 use Rattle.rlp_c.specs.declared.item.RlpItem.{RlpItem}
 use Rattle.rlp_c.specs.declared.records.kinds.Record.{Record}
 use Rattle.rlp_c.specs.Fields.{fields_fault}
 use Rattle.rlp_c.specs.Records.{IsRecordRead, filled, no_room, field}
 use Rattle.rlp_c.specs.Rows.{header_length, rows_at}
 use Rattle.rlp_c.specs.Status.{fault_status}
-use Rattle.rlp_format.specs.Format.Walk.{Extends}
+use Rattle.rlp_values.specs.Format.Walk.{Extends}
 use Rattle.rlp_values.proofs.Trees.Needless.{whole_item}
 use Rattle.rlp_c.proofs.Splitting.{rows_counted}
 use Rattle.rlp_values.proofs.Trees.Walks.{content_payload}

@@ -1,17 +1,17 @@
 -- The walk over the items of one list.
 use Rattle.std.proofs.Common.{◌≡◌, ℕ, ◌+◌, ◌-◌, ◌<◌, ◌≤◌, ◌⊎◌, inl, inr, suc, true, List, [], ◌∷◌, ◌++◌, length, take, refl, sym, ap, ◌∙◌}
 use Rattle.std.proofs.Common.{subst, arith, Ok, Some, None, append-nil, append_assoc, length-append}
-use Rattle.rlp_format.specs.declared.error.DecoderError.{DecoderError}
-use Rattle.rlp_format.specs.declared.header.PayloadInfo.{PayloadInfo}
-use Rattle.rlp_format.specs.Format.Framing.{fault, framing, value}
-use Rattle.rlp_format.specs.Format.Split.{begins_as_list, items, split}
-use Rattle.rlp_format.specs.Format.Strict.{after_items, fault_of_some, strict_fault, strict_list_fault}
-use Rattle.rlp_format.proofs.Format.Splits.{split-nil}
-use Rattle.rlp_format.proofs.Format.StrictLists.{after_items-next, after_items-nil, after_items-none, fault_of_some-some, strict_whole, value-items}
+use Rattle.rlp_values.specs.declared.error.DecoderError.{DecoderError}
+use Rattle.rlp_values.specs.declared.header.PayloadInfo.{PayloadInfo}
+use Rattle.rlp_values.specs.Format.Framing.{fault, framing, value}
+use Rattle.rlp_values.specs.Format.Split.{begins_as_list, items, split}
+use Rattle.rlp_values.specs.Format.Strict.{after_items, fault_of_some, strict_fault, strict_list_fault}
+use Rattle.rlp_values.proofs.Format.Splits.{split-nil}
+use Rattle.rlp_values.proofs.Format.StrictLists.{after_items-next, after_items-nil, after_items-none, fault_of_some-some, strict_whole, value-items}
 use Rattle.rlp_c.specs.declared.item.RlpItem.{RlpItem}
 use Rattle.rlp_c.specs.Rows.{IsItemized, header_length, row, row_by, rows_at}
 use Rattle.rlp_c.specs.Status.{fault_status}
-use Rattle.rlp_format.specs.Format.Walk.{Extends}
+use Rattle.rlp_values.specs.Format.Walk.{Extends}
 use Rattle.rlp_values.proofs.Trees.Rows.{extends_both}
 use Rattle.std.specs.List.{concat}
 

@@ -1,9 +1,9 @@
 -- Where the string that bytes begin with is.
 use Rattle.std.proofs.Common.{◌≡◌, ℕ, ◌^◌, ◌<◌, ◌+◌, List, length, take, drop, ap, ◌∙◌, subst, arith, Ok, Err}
-use Rattle.rlp_format.specs.declared.error.DecoderError.{DecoderError}
-use Rattle.rlp_format.specs.declared.header.PayloadInfo.{PayloadInfo}
-use Rattle.rlp_format.specs.Format.Header.{header, payload_info}
-use Rattle.rlp_format.specs.Format.StringReading.{IsString}
+use Rattle.rlp_values.specs.declared.error.DecoderError.{DecoderError}
+use Rattle.rlp_values.specs.declared.header.PayloadInfo.{PayloadInfo}
+use Rattle.rlp_values.specs.Format.Header.{header, payload_info}
+use Rattle.rlp_values.specs.Format.StringReading.{IsString}
 use Rattle.rlp_values.proofs.Trees.Placed.{Ok_same, string_placed}
 
 -- a row with the header that was read points at the string

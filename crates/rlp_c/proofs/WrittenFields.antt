@@ -4,20 +4,20 @@ use Rattle.std.proofs.Common.{arith, append-nil, length-append, le-ltb, le_refl,
 use Rattle.std.specs.List.{AllByRecursion, concat}
 use Rattle.std.proofs.lemmas.Bool.{cases_lt, cond-false}
 use Rattle.std.proofs.lemmas.List.{drop_all}
-use Rattle.rlp_format.specs.declared.error.DecoderError.{DecoderError}
-use Rattle.rlp_format.specs.declared.error.DecoderError.TheVariants.{RlpIsTooBig, RlpIsTooShort, RlpInvalidIndirection}
+use Rattle.rlp_values.specs.declared.error.DecoderError.{DecoderError}
+use Rattle.rlp_values.specs.declared.error.DecoderError.TheVariants.{RlpIsTooBig, RlpIsTooShort, RlpInvalidIndirection}
 use Rattle.rlp_format.specs.Format.Item.{Item, list_of, string}
 use Rattle.rlp_format.specs.Format.Encoding.{IsSized, encoding, join}
-use Rattle.rlp_format.specs.Format.Split.{split}
-use Rattle.rlp_format.specs.Format.Strict.{after_items, fault_of_some}
-use Rattle.rlp_format.specs.Format.StringReading.{read_string}
+use Rattle.rlp_values.specs.Format.Split.{split}
+use Rattle.rlp_values.specs.Format.Strict.{after_items, fault_of_some}
+use Rattle.rlp_values.specs.Format.StringReading.{read_string}
 use Rattle.rlp_format.specs.Format.WrittenHeader.{big_endian}
 use Rattle.rlp_format.specs.Values.Value.{FitsBytes, bit}
 use Rattle.rlp_format.specs.Lemmas.Digits.{big_endian_digit, big_endian_zero}
 use Rattle.rlp_format.specs.Lemmas.Encodings.{encoding_list, small_payload}
-use Rattle.rlp_format.specs.Lemmas.Frames.{join_is, split_join}
-use Rattle.rlp_format.specs.Lemmas.Strings.{string_only}
-use Rattle.rlp_format.specs.Lemmas.Views.{list_shape, sized_items}
+use Rattle.rlp_values.specs.Lemmas.Frames.{join_is, split_join}
+use Rattle.rlp_values.specs.Lemmas.Strings.{string_only}
+use Rattle.rlp_values.specs.Lemmas.Views.{list_shape, sized_items}
 use Rattle.rlp.specs.Values.ValueReading.{IsDigitsFault, leading_zero, too_long}
 use Rattle.rlp.specs.Lemmas.OneReading.{sound_digits}
 use Rattle.rlp_transactions.specs.Recipient.{recipient, recipient_bytes}

@@ -6,10 +6,10 @@ use Rattle.std.proofs.lemmas.List.{length-map}
 use Rattle.std.proofs.lemmas.List.Elements.{recursion_from_All}
 use Rattle.rlp_format.specs.Format.Item.{Item, list_of}
 use Rattle.rlp_format.specs.Format.Encoding.{IsSized, encoding, join}
-use Rattle.rlp_format.specs.Format.Framing.{framing}
-use Rattle.rlp_format.specs.Format.Split.{begins_as_list, items, payload}
+use Rattle.rlp_values.specs.Format.Framing.{framing}
+use Rattle.rlp_values.specs.Format.Split.{begins_as_list, items, payload}
 use Rattle.rlp_format.specs.Lemmas.Encodings.{encoding_list, listed_from, small_payload}
-use Rattle.rlp_format.specs.Lemmas.Views.{list_shape, payload_of_list}
+use Rattle.rlp_values.specs.Lemmas.Views.{list_shape, payload_of_list}
 use Rattle.rlp.specs.Lemmas.WholeLists.{strict_items, strict_list_fault-encoding, whole_sized}
 use Rattle.rlp.specs.Uint.{Uint}
 use Rattle.rlp_records.specs.Alone.{bytes_alone}

@@ -1,7 +1,7 @@
 -- What a function for C returns and leaves in its result parameter.
 use Rattle.std.specs.Prelude.{ℕ, ◌≡◌, ◌⊎◌, Bool, List}
-use Rattle.rlp_format.specs.declared.error.DecoderError.{DecoderError}
-use Rattle.rlp_format.specs.Views.View.{View}
+use Rattle.rlp_values.specs.declared.error.DecoderError.{DecoderError}
+use Rattle.rlp_values.specs.Views.View.{View}
 use Rattle.rlp_c.specs.Status.{fault_status}
 
 -- The status 0 and a result, or the number of a fault and the old result. No fault has the number 0.

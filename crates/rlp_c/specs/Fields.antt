@@ -1,11 +1,11 @@
 -- The first fault of the fields of a record.
 use Rattle.std.specs.Prelude.{ℕ, zero, suc, ◌+◌, Bool, true, false, if◌then◌else◌, ◌==◌, nat_lt, List, [], ◌∷◌, length, Option, Some, None, Result, Ok, Err}
-use Rattle.rlp_format.specs.declared.error.DecoderError.{DecoderError}
-use Rattle.rlp_format.specs.declared.error.DecoderError.TheVariants.{RlpIsTooBig, RlpIsTooShort, RlpExpectedToBeList, RlpExpectedToBeData, RlpIncorrectListLen}
-use Rattle.rlp_format.specs.declared.error.DecoderError.TheVariants.{RlpInvalidIndirection}
-use Rattle.rlp_format.specs.Format.Split.{begins_as_list, payload, split}
-use Rattle.rlp_format.specs.Format.Strict.{after_items, fault_of_some}
-use Rattle.rlp_format.specs.Format.StringReading.{read_string}
+use Rattle.rlp_values.specs.declared.error.DecoderError.{DecoderError}
+use Rattle.rlp_values.specs.declared.error.DecoderError.TheVariants.{RlpIsTooBig, RlpIsTooShort, RlpExpectedToBeList, RlpExpectedToBeData, RlpIncorrectListLen}
+use Rattle.rlp_values.specs.declared.error.DecoderError.TheVariants.{RlpInvalidIndirection}
+use Rattle.rlp_values.specs.Format.Split.{begins_as_list, payload, split}
+use Rattle.rlp_values.specs.Format.Strict.{after_items, fault_of_some}
+use Rattle.rlp_values.specs.Format.StringReading.{read_string}
 use Rattle.rlp_c.specs.declared.records.kinds.Kind.{Kind}
 use Rattle.rlp_c.specs.declared.records.kinds.Kind.TheVariants.{Number, Parity, Exactly, Recipient, Bytes, List as list_of}
 use Rattle.rlp_c.specs.declared.records.kinds.Record.{Record}

@@ -2,7 +2,7 @@
 use Rattle.std.specs.Prelude.{ℕ, ◌≡◌, ◌+◌, ◌<◌, ◌≤◌, ◌⊎◌, List, [], length, map, take}
 use Rattle.rlp_format.specs.Format.Item.{Item, list, listed, string}
 use Rattle.rlp_format.specs.Format.Encoding.{encoding}
-use Rattle.rlp_format.specs.Format.Framing.{framing}
+use Rattle.rlp_values.specs.Format.Framing.{framing}
 use Rattle.rlp_transactions.specs.declared.transaction.Transaction.{Transaction}
 use Rattle.rlp_transactions.specs.declared.transaction.Transaction.TheVariants.{AccessList, Blob, FeeMarket, Legacy, SetCode}
 use Rattle.rlp_transactions.specs.AccessListTransaction.{signed_access_list_transaction}

@@ -1,9 +1,9 @@
 -- The answers for transactions and headers.
 use Rattle.std.specs.Prelude.{ℕ, ◌≡◌, ◌+◌, ◌<◌, ◌≤◌, if◌then◌else◌, ◌==◌, true, false, List, [], ◌∷◌, length, take, Option, Some, None}
-use Rattle.rlp_format.specs.declared.error.DecoderError.{DecoderError}
-use Rattle.rlp_format.specs.Format.Framing.{framing}
-use Rattle.rlp_format.specs.Format.Split.{begins_as_list, items, payload}
-use Rattle.rlp_format.specs.Format.Strict.{strict_list_fault}
+use Rattle.rlp_values.specs.declared.error.DecoderError.{DecoderError}
+use Rattle.rlp_values.specs.Format.Framing.{framing}
+use Rattle.rlp_values.specs.Format.Split.{begins_as_list, items, payload}
+use Rattle.rlp_values.specs.Format.Strict.{strict_list_fault}
 use Rattle.rlp_c.specs.declared.item.RlpItem.{RlpItem}
 use Rattle.rlp_c.specs.declared.records.kinds.Record.{Record}
 use Rattle.rlp_c.specs.declared.records.kinds.Record.TheVariants.{Legacy, AccessListPayload, FeeMarketPayload, BlobPayload, SetCodePayload}

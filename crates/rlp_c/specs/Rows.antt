@@ -1,12 +1,12 @@
 -- What C sees of items.
 use Rattle.std.specs.Prelude.{ℕ, ◌≡◌, ◌+◌, ◌<◌, ◌≤◌, ◌⊎◌, Bool, List, [], ◌∷◌, length, take, drop, Option, Some, None, Result, Ok, Err}
-use Rattle.rlp_format.specs.declared.error.DecoderError.{DecoderError}
-use Rattle.rlp_format.specs.declared.header.PayloadInfo.{PayloadInfo}
-use Rattle.rlp_format.specs.Format.Framing.{framing}
-use Rattle.rlp_format.specs.Format.Split.{begins_as_list, items}
+use Rattle.rlp_values.specs.declared.error.DecoderError.{DecoderError}
+use Rattle.rlp_values.specs.declared.header.PayloadInfo.{PayloadInfo}
+use Rattle.rlp_values.specs.Format.Framing.{framing}
+use Rattle.rlp_values.specs.Format.Split.{begins_as_list, items}
 use Rattle.rlp_format.specs.Format.WrittenHeader.{big_endian}
 use Rattle.rlp_format.specs.Values.Value.{bit}
-use Rattle.rlp_format.specs.Views.View.{View}
+use Rattle.rlp_values.specs.Views.View.{View}
 use Rattle.rlp.specs.Values.ValueReading.{GivesBytes, GivesNumber}
 use Rattle.rlp_c.specs.Status.{fault_status}
 use Rattle.rlp_c.specs.declared.item.RlpItem.{RlpItem}

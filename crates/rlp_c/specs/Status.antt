@@ -1,12 +1,12 @@
 -- The numbers by which C tells faults apart.
 use Rattle.std.specs.Prelude.{ℕ}
-use Rattle.rlp_format.specs.declared.error.DecoderError.{DecoderError}
-use Rattle.rlp_format.specs.declared.error.DecoderError.TheVariants.{RlpIsTooBig, RlpIsTooShort, RlpExpectedToBeList, RlpExpectedToBeData}
-use Rattle.rlp_format.specs.declared.error.DecoderError.TheVariants.{RlpIncorrectListLen, RlpDataLenWithZeroPrefix, RlpListLenWithZeroPrefix}
-use Rattle.rlp_format.specs.declared.error.DecoderError.TheVariants.{RlpInvalidIndirection, RlpInconsistentLengthAndData, RlpInvalidLength, Custom}
-use Rattle.rlp_format.specs.declared.error.DecoderError.TheVariants.{OutOfMemory}
-use Rattle.rlp_format.specs.declared.flat.TreeFault.{TreeFault}
-use Rattle.rlp_format.specs.declared.flat.TreeFault.TheVariants.{Decoding, TooDeep}
+use Rattle.rlp_values.specs.declared.error.DecoderError.{DecoderError}
+use Rattle.rlp_values.specs.declared.error.DecoderError.TheVariants.{RlpIsTooBig, RlpIsTooShort, RlpExpectedToBeList, RlpExpectedToBeData}
+use Rattle.rlp_values.specs.declared.error.DecoderError.TheVariants.{RlpIncorrectListLen, RlpDataLenWithZeroPrefix, RlpListLenWithZeroPrefix}
+use Rattle.rlp_values.specs.declared.error.DecoderError.TheVariants.{RlpInvalidIndirection, RlpInconsistentLengthAndData, RlpInvalidLength, Custom}
+use Rattle.rlp_values.specs.declared.error.DecoderError.TheVariants.{OutOfMemory}
+use Rattle.rlp_values.specs.declared.flat.TreeFault.{TreeFault}
+use Rattle.rlp_values.specs.declared.flat.TreeFault.TheVariants.{Decoding, TooDeep}
 
 -- the number of a fault; 0 is none of them
 abbrev pub fault_status : DecoderError → ℕ

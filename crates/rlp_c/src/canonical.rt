@@ -1,7 +1,7 @@
 //! Whether bytes are canonical.
 
 ghost use Rattle.std.specs.Prelude.{◌≡◌, ◌↔◌, IsTrue, min};
-ghost use Rattle.rlp_format.specs.Format.Strict.{IsCanonicalWithin};
+ghost use Rattle.rlp_values.specs.Format.Strict.{IsCanonicalWithin};
 
 use rlp_values::walking::is_canonical;
 

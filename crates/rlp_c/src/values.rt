@@ -3,7 +3,7 @@
 ghost use Rattle.std.specs.Prelude.{◌≡◌, ◌≤◌, length, take, drop, IfOk, IfErr};
 ghost use Rattle.std.specs.Int.Digits.{number_from_digits};
 ghost use Rattle.rlp_format.specs.Format.WrittenHeader.{big_endian};
-ghost use Rattle.rlp_format.specs.Format.StringReading.{IsString};
+ghost use Rattle.rlp_values.specs.Format.StringReading.{IsString};
 ghost use Rattle.rlp_format.specs.Values.Value.{FitsBytes};
 ghost use Rattle.rlp.specs.Values.ValueReading.{FaultsAsBytes, FaultsAsNumber, GivesNumber, IsDigitsFault};
 ghost use Rattle.rlp_c.specs.Answers.{Answers, view_as};

@@ -4,19 +4,3 @@ pub mod Item
 pub mod WrittenHeader
 -- the encoding of an item
 pub mod Encoding
--- the header that bytes begin with
-pub mod Header
--- where the first item of bytes ends
-pub mod Framing
--- the items that bytes begin with, and what follows them
-pub mod Split
--- the string that bytes begin with
-pub mod StringReading
--- bytes that are exactly one item
-pub mod Strict
--- a tree in flat form
-pub mod Flat
--- the first fault of bytes that should be a tree
-pub mod TreeFaults
--- what the walk over a tree has done
-pub mod Walk

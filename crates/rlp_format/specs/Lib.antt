@@ -1,8 +1,6 @@
 -- items, and the bytes that they are written as
 pub mod Format
--- the results of a view's methods
-pub mod Views
--- values, their items, and which bytes give them
+-- values, and their items
 pub mod Values
 -- lemmas for the laws of traits and for authors of types; readers of definitions don't need them
 pub mod Lemmas

@@ -5,8 +5,8 @@ use Rattle.rlp.specs.Format.Item.{Item, item_depth}
 use Rattle.rlp.specs.Format.Encoding.{encoding}
 use Rattle.rlp.specs.Lemmas.Encodings.{encoding_same}
 use Rattle.rlp.specs.Values.ValueReading.{IsCustom}
-use Rattle.rlp_format.specs.Format.Walk.{IsWalked}
-use Rattle.rlp_format.specs.declared.flat.FlatItem.{FlatItem}
+use Rattle.rlp_values.specs.Format.Walk.{IsWalked}
+use Rattle.rlp_values.specs.declared.flat.FlatItem.{FlatItem}
 use Rattle.rlp_records.specs.Bounded.{IsBoundFault, IsBounded, items_in, too_many}
 use Rattle.std.specs.Prelude.{codes}
 

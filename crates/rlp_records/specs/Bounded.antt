@@ -6,7 +6,7 @@ use Rattle.rlp.specs.Format.Encoding.{encoding}
 use Rattle.rlp.specs.Format.Flat.{flat}
 use Rattle.rlp.specs.Format.TreeFaults.{tree_fault}
 use Rattle.rlp.specs.Values.ValueReading.{IsCustom}
-use Rattle.rlp_format.specs.declared.flat.TreeFault.TheVariants.{Decoding, TooDeep}
+use Rattle.rlp_values.specs.declared.flat.TreeFault.TheVariants.{Decoding, TooDeep}
 
 -- the number of strings and lists in an item: itself, and the items in it at every depth
 abbrev pub items_in : Item → ℕ

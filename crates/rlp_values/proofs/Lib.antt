@@ -1,5 +1,7 @@
 -- Lemmas, in folders named as those of the definitions that they are about. The invariants and results of a function are in a folder with its name.
 
+-- items that are read from bytes
+pub mod Format
 -- what a view of bytes returns
 pub mod Views
 -- whole trees

@@ -1,10 +1,10 @@
 -- What a type that is read from one string returns, by the value that it makes from the string.
 use Rattle.std.proofs.Common.{◌≡◌, ℕ, List, ◌⊎◌, inl, inr, refl, sym, subst, Result, Ok, Err, IfOk, IfErr, IsErrAnd}
-use Rattle.rlp_format.specs.declared.error.DecoderError.{DecoderError}
-use Rattle.rlp_format.specs.declared.error.DecoderError.TheVariants.{OutOfMemory}
+use Rattle.rlp_values.specs.declared.error.DecoderError.{DecoderError}
+use Rattle.rlp_values.specs.declared.error.DecoderError.TheVariants.{OutOfMemory}
 use Rattle.rlp_format.specs.Format.Item.{string}
 use Rattle.rlp_values.specs.Values.ValueReading.{FaultsAs, no_string, no_value, FaultsAsBytes, GivesBytes, GivesSome, GivesValue}
-use Rattle.rlp_format.specs.Views.View.{View, HoldsString, HoldsNoString, view_string}
+use Rattle.rlp_values.specs.Views.View.{View, HoldsString, HoldsNoString, view_string}
 
 -- the decoder of a view calls the closure with the string that it finds, and else returns the fault
 pub record Answers {A : Type 0} (r : Result A DecoderError) (Calls : List ℕ → Type 0) (v : View) : Type 0 where

@@ -1,3 +1,7 @@
+-- the first item of bytes, by its header
+pub mod Fronts
+-- the places of the items of a list
+pub mod ItemPlaces
 -- lenient and strict views
 pub mod ViewKinds
 -- items that are split off bytes

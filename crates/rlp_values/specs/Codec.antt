@@ -5,11 +5,11 @@ use Rattle.std.specs.Int.Digits.{number_from_digits}
 use Rattle.std.proofs.Common.{ap, sym, ◌∙◌}
 use Rattle.std.proofs.lemmas.List.{nil_from_length}
 use Rattle.rlp_format.specs.declared.uint.Uint.{Uint}
-use Rattle.rlp_format.specs.declared.error.DecoderError.{DecoderError}
+use Rattle.rlp_values.specs.declared.error.DecoderError.{DecoderError}
 use Rattle.rlp_format.specs.Format.Item.{Item, string, list_of}
 use Rattle.rlp_format.specs.Format.Encoding.{encoding}
 use Rattle.rlp_format.specs.Format.WrittenHeader.{AreBytes}
-use Rattle.rlp_format.specs.Views.View.{View, HoldsItem, item_count, view_of}
+use Rattle.rlp_values.specs.Views.View.{View, HoldsItem, item_count, view_of}
 use Rattle.rlp_format.specs.Values.Value.{FitsBytes, bit, number_item, option_item}
 use Rattle.rlp_format.specs.Values.Value.{all_items, items_if}
 use Rattle.rlp_values.specs.Values.ValueReading.{FaultsAs, FaultsAsBool, FaultsAsBytes, FaultsAsNumber, FaultsAsText, GivesBool, GivesBytes, GivesNumber}

@@ -5,15 +5,15 @@ pub use Rattle.rlp_format.specs.Lemmas.Lists
 -- written headers: none begins another
 pub use Rattle.rlp_format.specs.Lemmas.Headers
 -- the one header that bytes begin with
-pub use Rattle.rlp_format.specs.Lemmas.Reading
+pub mod Reading
 -- no encoding begins another
 pub use Rattle.rlp_format.specs.Lemmas.Encodings
 -- frames, and the items that bytes begin with
-pub use Rattle.rlp_format.specs.Lemmas.Frames
+pub mod Frames
 -- a view of the encoding of a list
-pub use Rattle.rlp_format.specs.Lemmas.Views
+pub mod Views
 -- the one string that bytes begin with
-pub use Rattle.rlp_format.specs.Lemmas.Strings
+pub mod Strings
 -- the string that a view holds
 pub mod StringsHeld
 -- views that begin with the digits of a number
@@ -23,7 +23,9 @@ pub mod OneReading
 -- encodings that are read back
 pub mod RoundTrips
 -- the items of a view by number
-pub use Rattle.rlp_format.specs.Lemmas.Numbered
+pub mod Numbered
+-- bytes that are exactly one item
+pub mod WholeItems
 -- the items of a slice
 pub mod Slices
 -- bytes that are a list and nothing else
@@ -44,6 +46,10 @@ pub mod StrictStructs
 pub mod Fields
 -- types whose values a view gives exactly if it holds their encodings
 pub mod ExactReads
+-- text and depth, by those of the items
+pub mod Texts
+-- the depth of an item's bytes
+pub mod Depths
 -- raw items and their encodings
 pub mod RawItems
 -- values of several types that are read back and read strictly

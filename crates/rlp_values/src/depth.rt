@@ -1,10 +1,10 @@
 //! The depth of nested lists.
 
 ghost use Rattle.std.specs.Prelude.{◌≤◌, ◌↔◌, IsTrue};
-ghost use Rattle.rlp_format.specs.Views.Depth.{depth};
+ghost use Rattle.rlp_values.specs.Views.Depth.{depth};
 
-use rlp_format::framed::Framed;
-use rlp_format::items::ItemReader;
+use crate::framed::Framed;
+use crate::items::ItemReader;
 
 /// Whether the depth of an item is at most `limit`. It goes no deeper than `limit` lists.
 pub fn is_nested_within(framed: &Framed<'_>, limit: usize) -> bool

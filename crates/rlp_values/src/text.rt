@@ -2,10 +2,10 @@
 
 ghost use Rattle.std.specs.Prelude.{◌≡◌, ◌<◌, ◌≤◌, ◌*◌, ◌∷◌, ◌++◌, [], length, codes};
 ghost use Rattle.std.specs.Fmt.{WritesStyledOnOk};
-ghost use Rattle.rlp_format.specs.Views.Text.{hex, hex_digit, text};
+ghost use Rattle.rlp_values.specs.Views.Text.{hex, hex_digit, text};
 
-use rlp_format::framed::{Framed, first_framed, is_null};
-use rlp_format::items::ItemReader;
+use crate::framed::{Framed, first_framed, is_null};
+use crate::items::ItemReader;
 use std::fmt;
 use std::fmt::Display;
 use std::str::from_utf8;

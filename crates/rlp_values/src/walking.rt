@@ -1,16 +1,16 @@
 //! One walk over the bytes of a tree, which reads each header once.
 
 ghost use Rattle.std.specs.Prelude.{◌≡◌, ◌↔◌, ◌≤◌, ◌<◌, ◌+◌, ◌^◌, [], ◌∷◌, length, false, Ok, None, Some, IsTrue, IfOk, IfErr, MatchResult};
-ghost use Rattle.rlp_format.specs.Format.Flat.{IsFlat};
-ghost use Rattle.rlp_format.specs.Format.Framing.{IsFramedItem, framing};
-ghost use Rattle.rlp_format.specs.Format.Split.{begins_as_list};
-ghost use Rattle.rlp_format.specs.Format.Strict.{IsCanonicalWithin};
-ghost use Rattle.rlp_format.specs.Format.TreeFaults.{IsFlatFault, is_needless, needless_fault, tree_fault, walk_fault};
-ghost use Rattle.rlp_format.specs.Format.Walk.{Extends, IsNeverCanonical, IsWalked};
+ghost use Rattle.rlp_values.specs.Format.Flat.{IsFlat};
+ghost use Rattle.rlp_values.specs.Format.Framing.{IsFramedItem, framing};
+ghost use Rattle.rlp_values.specs.Format.Split.{begins_as_list};
+ghost use Rattle.rlp_values.specs.Format.Strict.{IsCanonicalWithin};
+ghost use Rattle.rlp_values.specs.Format.TreeFaults.{IsFlatFault, is_needless, needless_fault, tree_fault, walk_fault};
+ghost use Rattle.rlp_values.specs.Format.Walk.{Extends, IsNeverCanonical, IsWalked};
 
-use rlp_format::error::DecoderError;
-use rlp_format::flat::{FlatItem, FlatRow, TreeFault};
-use rlp_format::framed::{Framed, first_framed, whole_framed};
+use crate::error::DecoderError;
+use crate::flat::{FlatItem, FlatRow, TreeFault};
+use crate::framed::{Framed, first_framed, whole_framed};
 use std::alloc::Global;
 
 /// What an array of items is filled with before the items are written.

@@ -1,6 +1,6 @@
 use Rattle.std.proofs.Common.{arith}
 use Rattle.std.specs.Vec.{vec_items}
-use Rattle.rlp_format.specs.Lemmas.Reading.{bytes_held}
+use Rattle.rlp_format.specs.Lemmas.Digits.{bytes_held}
 use Rattle.rlp_values.proofs.Values.StrictDecoding.{strict_list_alike, strict_list_memory, strict_list_only}
 use Rattle.rlp.proofs.decode_list_whole.Goals as goal
 

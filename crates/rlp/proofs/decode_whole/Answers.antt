@@ -1,5 +1,5 @@
 use Rattle.std.proofs.Common.{arith}
-use Rattle.rlp_format.specs.Lemmas.Reading.{bytes_held}
+use Rattle.rlp_format.specs.Lemmas.Digits.{bytes_held}
 use Rattle.rlp_values.proofs.Values.StrictDecoding.{strict_alike, strict_fault_of, strict_memory, strict_only, strict_whole}
 use Rattle.rlp.proofs.decode_whole.Goals as goal
 

@@ -6,7 +6,7 @@ ghost use Rattle.rlp_values.specs.Lemmas.StrictReads.{bool_strict};
 
 use crate::rlpin::Rlp;
 use crate::traits::{Decodable, RoundTrip, Scalar, StrictRead};
-use rlp_format::error::DecoderError;
+use rlp_values::error::DecoderError;
 use std::alloc::Global;
 
 /// Reads a number as `u8` does: 0 is `false` and 1 is `true`. Fails with

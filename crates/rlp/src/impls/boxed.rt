@@ -8,7 +8,7 @@ ghost use Rattle.rlp_values.specs.Lemmas.StrictReads.{strict_through};
 
 use crate::rlpin::Rlp;
 use crate::traits::{Decodable, RoundTrip, Scalar, StrictRead};
-use rlp_format::error::DecoderError;
+use rlp_values::error::DecoderError;
 use std::alloc::Global;
 
 /// Reads a value of type `T`, and puts it into a box.

@@ -9,7 +9,7 @@ ghost use Rattle.rlp_values.specs.Lemmas.StrictReads.{bytes_strict};
 use crate::rlpin::Rlp;
 use crate::traits::{Decodable, RoundTrip, Scalar, StrictRead};
 use bytes::BytesMut;
-use rlp_format::error::DecoderError;
+use rlp_values::error::DecoderError;
 use std::alloc::Global;
 
 /// Reads the bytes of a string, with one copy, as a buffer that grows.

@@ -9,7 +9,7 @@ ghost use Rattle.rlp_values.specs.Lemmas.StrictReads.{bytes_strict};
 use crate::rlpin::Rlp;
 use crate::traits::{Decodable, RoundTrip, Scalar, StrictRead};
 use bytes::Bytes;
-use rlp_format::error::DecoderError;
+use rlp_values::error::DecoderError;
 use std::alloc::Global;
 
 /// Reads the bytes of a string, with one copy, as a buffer that is shared without a copy.

@@ -11,7 +11,7 @@ ghost use Rattle.rlp_values.specs.Lemmas.StrictReads.{number_strict};
 use crate::rlpin::Rlp;
 use crate::traits::{Decodable, RoundTrip, Scalar, StrictRead};
 use rlp_format::digits::{number_of, wide_number_of};
-use rlp_format::error::DecoderError;
+use rlp_values::error::DecoderError;
 use std::alloc::Global;
 
 /// Reads a number of at most one byte. Fails with the same errors as for `u64`.

@@ -6,7 +6,7 @@ ghost use Rattle.rlp_values.specs.Lemmas.StrictReads.{option_strict};
 
 use crate::rlpin::Rlp;
 use crate::traits::{Decodable, RoundTrip, StrictRead};
-use rlp_format::error::DecoderError;
+use rlp_values::error::DecoderError;
 use std::alloc::Global;
 
 /// Reads `None` from a list of no items, and `Some` of the item's value from a list of one item. It

@@ -3,10 +3,10 @@
 ghost use Rattle.std.specs.Prelude.{◌≡◌, ◌⊎◌, ⊤, IfOk, IfErr, nat_eq};
 ghost use Rattle.std.specs.Cmp.{partial_equiv_from_equiv};
 ghost use Rattle.std.specs.Cmp.Lexicographic.{nat_list_eq_equiv, pointwise};
-ghost use Rattle.rlp_format.specs.declared.error.DecoderError.TheVariants.{OutOfMemory};
-ghost use Rattle.rlp_format.specs.Views.View.{strict_view_of};
+ghost use Rattle.rlp_values.specs.declared.error.DecoderError.TheVariants.{OutOfMemory};
+ghost use Rattle.rlp_values.specs.Views.View.{strict_view_of};
 ghost use Rattle.rlp_format.specs.Format.Encoding.{encoding};
-ghost use Rattle.rlp_format.specs.Format.Strict.{IsCanonicalWithin};
+ghost use Rattle.rlp_values.specs.Format.Strict.{IsCanonicalWithin};
 ghost use Rattle.rlp_values.specs.Values.RawItem.{IsRawFault, IsRawItem, deepest_raw_item, raw_item_of};
 ghost use Rattle.rlp_values.specs.Codecs.RawItem.{raw_item};
 ghost use Rattle.rlp_values.specs.Lemmas.RoundTrips.{itself};
@@ -14,8 +14,8 @@ ghost use Rattle.rlp_values.specs.Lemmas.RoundTrips.{itself};
 use crate::rlpin::Rlp;
 use crate::traits::{Decodable, RoundTrip, Scalar, StrictRead};
 use bytes::BytesMut;
-use rlp_format::error::DecoderError;
 use rlp_streams::{Encodable, RlpStream, append_list_encoding};
+use rlp_values::error::DecoderError;
 use std::alloc::{AllocError, Global};
 use std::marker::Model;
 

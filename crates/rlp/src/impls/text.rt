@@ -9,7 +9,7 @@ ghost use Rattle.rlp_values.specs.Lemmas.StrictReads.{text_strict};
 
 use crate::rlpin::Rlp;
 use crate::traits::{Decodable, RoundTrip, Scalar, StrictRead};
-use rlp_format::error::DecoderError;
+use rlp_values::error::DecoderError;
 use std::alloc::Global;
 
 /// Reads a string as text, with one copy. Fails with `RlpExpectedToBeData` if the bytes aren't

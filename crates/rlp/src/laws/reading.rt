@@ -4,10 +4,10 @@ ghost use Rattle.std.specs.Prelude.{◌≡◌, ◌<◌, ◌≤◌, ◌^◌, ◌�
 ghost use Rattle.rlp_format.specs.Format.Encoding.{encoding};
 ghost use Rattle.rlp_format.specs.Format.Item.{Item, item_depth, string};
 ghost use Rattle.rlp_values.specs.Values.RawItem.{FaultsAsRaw, IsRawItem, deepest_raw_item, raw_item_of};
-ghost use Rattle.rlp_format.specs.Format.StringReading.{IsString, ReadsString, read_string};
+ghost use Rattle.rlp_values.specs.Format.StringReading.{IsString, ReadsString, read_string};
 ghost use Rattle.rlp_values.specs.Values.ValueReading.{FaultsAs, GivesNumber, FaultsAsNumber, GivesBytes, FaultsAsBytes, GivesText, FaultsAsText, GivesBool, FaultsAsBool, GivesValue, HasOneReading, IsLengthFault};
 ghost use Rattle.rlp_format.specs.Values.Value.{bit, number_item, option_item};
-ghost use Rattle.rlp_format.specs.Views.View.{View, item_count, strict_view_of, view_of};
+ghost use Rattle.rlp_values.specs.Views.View.{View, item_count, strict_view_of, view_of};
 ghost use Rattle.rlp_values.specs.Values.FieldReading.{FaultsAsStruct, IsCount};
 ghost use Rattle.rlp_values.specs.Values.ListReading.{GivesOption, GivesSomeAt, FaultsAsOption, FaultsAt};
 ghost use Rattle.rlp_values.specs.Values.StructReading.{FieldsHaveOneReading, GivesEachField, HoldsOrHasOneFault};

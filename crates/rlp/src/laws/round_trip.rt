@@ -1,17 +1,17 @@
 //! Encodings are read back, for every type with the law of `RoundTrip`.
 
 ghost use Rattle.std.specs.Prelude.{◌≡◌, ◌↔◌, ◌++◌, ◌∷◌, ℕ, List, All, IfErr, IfOk, IsOkAnd, length, map};
-ghost use Rattle.rlp_format.specs.declared.error.DecoderError.TheVariants.{OutOfMemory};
+ghost use Rattle.rlp_values.specs.declared.error.DecoderError.TheVariants.{OutOfMemory};
 ghost use Rattle.rlp_format.specs.Format.Encoding.{BeginsWith, encoding};
 ghost use Rattle.rlp_format.specs.Format.Item.{list_of};
 ghost use Rattle.rlp_values.specs.Values.ListReading.{FaultsAt, GivesAt, GivesList, MayLackAsList};
 ghost use Rattle.rlp_values.specs.Values.RoundTrip.{ReadsBack};
-ghost use Rattle.rlp_format.specs.Format.Split.{items};
+ghost use Rattle.rlp_values.specs.Format.Split.{items};
 ghost use Rattle.rlp_format.specs.Values.Value.{AreAlike};
-ghost use Rattle.rlp_format.specs.Views.View.{view_of};
+ghost use Rattle.rlp_values.specs.Views.View.{view_of};
 
 use crate::traits::{RoundTrip, Scalar};
-use rlp_format::error::DecoderError;
+use rlp_values::error::DecoderError;
 use std::alloc::Global;
 
 /// If bytes begin with the encoding of a list of values, the items are the encodings of the values,

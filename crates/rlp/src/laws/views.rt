@@ -4,11 +4,11 @@ ghost use Rattle.std.specs.Prelude.{◌≡◌, ◌≤◌, ◌+◌, ◌↔◌, �
 ghost use Rattle.std.specs.Iterator.{Yields};
 ghost use Rattle.rlp_format.specs.Format.Item.{Item, list_of};
 ghost use Rattle.rlp_format.specs.Format.Encoding.{BeginsWith, encoding, join};
-ghost use Rattle.rlp_format.specs.declared.error.DecoderError.TheVariants.{RlpIsTooShort};
-ghost use Rattle.rlp_format.specs.Views.View.{IsStep, Remaining, View, item_at, item_count, item_views, view_of};
+ghost use Rattle.rlp_values.specs.declared.error.DecoderError.TheVariants.{RlpIsTooShort};
+ghost use Rattle.rlp_values.specs.Views.View.{IsStep, Remaining, View, item_at, item_count, item_views, view_of};
 
 use crate::rlpin::Rlp;
-use rlp_format::error::DecoderError;
+use rlp_values::error::DecoderError;
 
 /// Item number i of a view is the i-th of its items, counted from 0. All numbers past the last item
 /// have the same fault.

@@ -2,11 +2,11 @@
 
 ghost use Rattle.std.specs.Prelude.{◌≡◌, length, Ok, Err, IfOk, IfErr, IsErrAnd, MatchResult};
 ghost use Rattle.std.specs.Fn.{FnReturnsAt};
-ghost use Rattle.rlp_format.specs.Views.View.{HoldsNoString, HoldsString, view_of, view_string, View};
+ghost use Rattle.rlp_values.specs.Views.View.{HoldsNoString, HoldsString, view_of, view_string, View};
 
-use rlp_format::error::DecoderError;
-use rlp_format::framed::is_followed;
-use rlp_format::string_reading::string_in;
+use rlp_values::error::DecoderError;
+use rlp_values::framed::is_followed;
+use rlp_values::string_reading::string_in;
 use std::marker::Model;
 
 /// A decoder of the string that bytes begin with. Contracts see it as the record `View` of its

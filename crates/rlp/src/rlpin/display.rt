@@ -10,7 +10,7 @@ use std::fmt;
 /// framed print the name of their fault, the one of [`Rlp::payload_info`]. The formatter's flags
 /// change nothing.
 impl fmt::Display for Rlp<'_> {
-    ghost use Rattle.rlp_format.specs.Views.Text.{text};
+    ghost use Rattle.rlp_values.specs.Views.Text.{text};
 
     ghost output = { λ v. Some (text v.bytes) };
 

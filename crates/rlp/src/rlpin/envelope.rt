@@ -1,16 +1,16 @@
 //! Strings that hold a tag and the encoding of a payload.
 
 ghost use Rattle.std.specs.Prelude.{◌≡◌, ◌∷◌, ◌⊎◌, [], IfErr, IfOk};
-ghost use Rattle.rlp_format.specs.declared.error.DecoderError.TheVariants.{OutOfMemory, RlpIsTooShort};
+ghost use Rattle.rlp_values.specs.declared.error.DecoderError.TheVariants.{OutOfMemory, RlpIsTooShort};
 ghost use Rattle.rlp_format.specs.Format.Encoding.{encoding};
 ghost use Rattle.rlp_format.specs.Format.WrittenHeader.{AreBytes};
-ghost use Rattle.rlp_format.specs.Views.View.{HoldsString, strict_view_of};
+ghost use Rattle.rlp_values.specs.Views.View.{HoldsString, strict_view_of};
 ghost use Rattle.rlp_values.specs.Values.ValueReading.{FaultsAs};
 
 use crate::decode_whole;
 use crate::rlpin::Rlp;
 use crate::traits::StrictRead;
-use rlp_format::error::DecoderError;
+use rlp_values::error::DecoderError;
 use std::alloc::Global;
 
 /// A string whose first byte is a tag: the tag, and the bytes after it, which should be the

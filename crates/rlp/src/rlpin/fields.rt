@@ -3,17 +3,17 @@
 ghost use Rattle.std.specs.Vec.{vec_items};
 ghost use Rattle.std.specs.declared.alloc.Global.{Global};
 ghost use Rattle.std.specs.Prelude.{◌≡◌, ◌+◌, ◌<◌, ◌⊎◌, None, Some, Ok, Err, IfOk, IfErr, IsOkAnd, MatchResult, OnOk, OnErr};
-ghost use Rattle.rlp_format.specs.declared.error.DecoderError.TheVariants.{OutOfMemory, RlpIncorrectListLen};
-ghost use Rattle.rlp_format.specs.Views.View.{item_at, item_count, items_fault};
+ghost use Rattle.rlp_values.specs.declared.error.DecoderError.TheVariants.{OutOfMemory, RlpIncorrectListLen};
+ghost use Rattle.rlp_values.specs.Views.View.{item_at, item_count, items_fault};
 ghost use Rattle.rlp_values.specs.Values.FieldPlace.{IsAtPlace, FieldPlace};
 ghost use Rattle.rlp_values.specs.Values.ListReading.{FaultsAsFields, FaultsAsList, FaultsAt, GivesAt, GivesList, GivesSomeAt, MayLackAsList, MayLackAt, ReadsValue};
 
 use crate::rlpin::rlp::Rlp;
 use crate::traits::Decodable;
 use rlp_format::count::Count;
-use rlp_format::error::DecoderError;
-use rlp_format::framed::first_framed;
-use rlp_format::items::ItemReader;
+use rlp_values::error::DecoderError;
+use rlp_values::framed::first_framed;
+use rlp_values::items::ItemReader;
 use std::alloc::Global;
 use std::marker::Model;
 

@@ -3,26 +3,26 @@
 ghost use Rattle.std.specs.Vec.{vec_items};
 ghost use Rattle.std.specs.declared.alloc.Global.{Global};
 ghost use Rattle.std.specs.Prelude.{◌≡◌, ◌≤◌, ◌<◌, ◌^◌, ◌↔◌, ◌⊎◌, List, [], length, true, false, IsTrue, IsOk, None, Some, Ok, Err, IfOk, IfErr, MatchResult, OnOk};
-ghost use Rattle.rlp_format.specs.declared.error.DecoderError.TheVariants.{OutOfMemory};
-ghost use Rattle.rlp_format.specs.Format.Flat.{IsFlat};
-ghost use Rattle.rlp_format.specs.Format.Split.{begins_as_list, items};
-ghost use Rattle.rlp_format.specs.Format.Framing.{framing};
-ghost use Rattle.rlp_format.specs.Format.Strict.{IsCanonicalWithin, strict_list_fault};
-ghost use Rattle.rlp_format.specs.Format.TreeFaults.{IsFlatFault};
-ghost use Rattle.rlp_format.specs.Views.Depth.{depth};
-ghost use Rattle.rlp_format.specs.Views.View.{begins_as_data, begins_as_empty, begins_as_int, data_size, has_nonzero_at, item_at, item_count, item_views, item_with_place, items_fault, list_fault, prototype_of, strict_view_of, view_header, view_of, view_value, View};
+ghost use Rattle.rlp_values.specs.declared.error.DecoderError.TheVariants.{OutOfMemory};
+ghost use Rattle.rlp_values.specs.Format.Flat.{IsFlat};
+ghost use Rattle.rlp_values.specs.Format.Split.{begins_as_list, items};
+ghost use Rattle.rlp_values.specs.Format.Framing.{framing};
+ghost use Rattle.rlp_values.specs.Format.Strict.{IsCanonicalWithin, strict_list_fault};
+ghost use Rattle.rlp_values.specs.Format.TreeFaults.{IsFlatFault};
+ghost use Rattle.rlp_values.specs.Views.Depth.{depth};
+ghost use Rattle.rlp_values.specs.Views.View.{begins_as_data, begins_as_empty, begins_as_int, data_size, has_nonzero_at, item_at, item_count, item_views, item_with_place, items_fault, list_fault, prototype_of, strict_view_of, view_header, view_of, view_value, View};
 ghost use Rattle.rlp_values.specs.Values.ListReading.{FaultsAsList, FaultsAt, GivesAt, GivesList, MayLackAsList, MayLackAt, ReadsValue, GivesSomeAt};
 
 use crate::rlpin::decoder::BasicDecoder;
 use crate::rlpin::iter::RlpIterator;
 use crate::traits::Decodable;
-use rlp_format::Prototype;
-use rlp_format::error::DecoderError;
-use rlp_format::flat::{FlatItem, TreeFault};
-use rlp_format::framed::{Framed, first_framed, whole_framed};
-use rlp_format::header::PayloadInfo;
-use rlp_format::items::{ItemReader, try_count_items};
+use rlp_values::Prototype;
 use rlp_values::depth::is_nested_within;
+use rlp_values::error::DecoderError;
+use rlp_values::flat::{FlatItem, TreeFault};
+use rlp_values::framed::{Framed, first_framed, whole_framed};
+use rlp_values::header::PayloadInfo;
+use rlp_values::items::{ItemReader, try_count_items};
 use rlp_values::walking::{flatten, is_canonical};
 use std::alloc::Global;
 use std::marker::Model;
@@ -89,7 +89,7 @@ impl<'a> Rlp<'a> {
     /// What the view begins with: no bytes, a string with its [`Rlp::size`], or a list with the
     /// number of its items. It never fails. Bytes that aren't framed are a string of size 0 or a
     /// list of no items, depending on their first byte.
-    #[tactic(auto, unfolding(rlp_format::specs::Format::Split::items))]
+    #[tactic(auto, unfolding(rlp_values::specs::Format::Split::items))]
     pub fn prototype(&self) -> Result<Prototype, DecoderError>
         ensures { result ≡ Ok (prototype_of self.now.bytes) }
     {
@@ -128,7 +128,7 @@ impl<'a> Rlp<'a> {
     /// Fails with `RlpExpectedToBeList` if there is no byte, or the first byte begins a string. A
     /// list that isn't framed has no items. A strict view must be exactly one list. After the first
     /// fault come those of [`Rlp::payload_info`] and of bytes that follow the items in the list.
-    #[tactic(auto, unfolding(rlp_format::specs::Views::View::item_count, rlp_format::specs::Format::Split::items))]
+    #[tactic(auto, unfolding(rlp_values::specs::Views::View::item_count, rlp_values::specs::Format::Split::items))]
     pub fn item_count(&self) -> Result<usize, DecoderError>
         ensures { result ≡ item_count self.now }
     {
@@ -448,7 +448,7 @@ impl<'a> Rlp<'a> {
     }
 
     /// The number of items of a list that is all of the bytes, by one walk over it.
-    #[tactic(auto, using(rlp_format::proofs::Format::StrictLists::list_checks), unfolding(rlp_format::specs::Format::Split::items))]
+    #[tactic(auto, using(rlp_values::proofs::Format::StrictLists::list_checks), unfolding(rlp_values::specs::Format::Split::items))]
     fn strict_count(&self) -> Result<usize, DecoderError>
         ensures fault { MatchResult result (λ _. strict_list_fault self.now.bytes ≡ None)
             (λ e. strict_list_fault self.now.bytes ≡ Some e) }
@@ -464,7 +464,7 @@ impl<'a> Rlp<'a> {
     }
 
     /// Fails if the view can't be read as a list.
-    #[tactic(auto, using(rlp_format::proofs::Format::StrictLists::list_checks))]
+    #[tactic(auto, using(rlp_values::proofs::Format::StrictLists::list_checks))]
     pub(crate) fn check_list(&self) -> Result<(), DecoderError>
         ensures { MatchResult result (λ _. list_fault self.now ≡ None)
             (λ e. list_fault self.now ≡ Some e) }
@@ -479,7 +479,7 @@ impl<'a> Rlp<'a> {
     }
 
     /// Fails if the view has no items by number.
-    #[tactic(auto, using(rlp_format::proofs::Format::StrictLists::items_checks))]
+    #[tactic(auto, using(rlp_values::proofs::Format::StrictLists::items_checks))]
     pub(crate) fn check_items(&self) -> Result<(), DecoderError>
         ensures { MatchResult result (λ _. items_fault self.now ≡ None)
             (λ e. items_fault self.now ≡ Some e) }

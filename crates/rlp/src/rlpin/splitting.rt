@@ -1,12 +1,12 @@
 //! The first item of a view, and the bytes after it.
 
 ghost use Rattle.std.specs.Prelude.{◌≡◌, ◌++◌, Ok, Err, IfOk, IfErr};
-ghost use Rattle.rlp_format.specs.Views.View.{Holds, view_header};
+ghost use Rattle.rlp_values.specs.Views.View.{Holds, view_header};
 ghost use Rattle.rlp_values.specs.Values.RawItem.{view_frame};
 
 use crate::rlpin::rlp::Rlp;
-use rlp_format::error::DecoderError;
-use rlp_format::framed::first_framed;
+use rlp_values::error::DecoderError;
+use rlp_values::framed::first_framed;
 
 impl<'a> Rlp<'a> {
     /// A view of the item that the view begins with, of the same kind, and the bytes that follow
@@ -23,7 +23,7 @@ impl<'a> Rlp<'a> {
     /// let (list, rest) = rlp::Rlp::new(rest).split_first()?;
     /// assert!(rt; list.item_count() == Ok(1) && rest.is_empty());
     /// ```
-    #[tactic(auto, using(rlp_format::proofs::Views::Fronts::strict_fronts))]
+    #[tactic(auto, using(rlp_values::proofs::Views::Fronts::strict_fronts))]
     pub fn split_first(&self) -> Result<(Rlp<'a>, &'a [u8]), DecoderError>
         ensures item { IfOk result (λ r. (view_frame self.now ≡ Ok r.0.bytes)
             × (r.0.is_strict ≡ self.now.is_strict)) }

@@ -6,7 +6,7 @@ ghost use Rattle.rlp_values.specs.Values.FieldReading.{AreGroups, IsCount, group
 
 use crate::rlpin::Fields;
 use crate::structs::{DecodeField, DecodeFields, FieldFault};
-use rlp_format::error::DecoderError;
+use rlp_values::error::DecoderError;
 use std::alloc::Global;
 
 /// Fields that may be a fixed number of items, such as a key and a value.

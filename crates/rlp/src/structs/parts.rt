@@ -5,7 +5,7 @@ ghost use Rattle.rlp_values.specs.Values.Parts.{fields_before};
 
 use crate::rlpin::Fields;
 use crate::structs::{DecodeFields, FieldFault, FixedFields};
-use rlp_format::error::DecoderError;
+use rlp_values::error::DecoderError;
 use std::alloc::Global;
 
 /// Fields that are a fixed number of items, and those after them.

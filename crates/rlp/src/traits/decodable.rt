@@ -1,12 +1,12 @@
 //! Types whose values are read.
 
 ghost use Rattle.std.specs.Prelude.{◌≡◌, IfOk, IfErr, ◌⊎◌};
-ghost use Rattle.rlp_format.specs.declared.error.DecoderError.{DecoderError};
-ghost use Rattle.rlp_format.specs.declared.error.DecoderError.TheVariants.{OutOfMemory};
-ghost use Rattle.rlp_format.specs.Views.View.{View};
+ghost use Rattle.rlp_values.specs.declared.error.DecoderError.{DecoderError};
+ghost use Rattle.rlp_values.specs.declared.error.DecoderError.TheVariants.{OutOfMemory};
+ghost use Rattle.rlp_values.specs.Views.View.{View};
 
 use crate::rlpin::Rlp;
-use rlp_format::error::DecoderError;
+use rlp_values::error::DecoderError;
 use std::alloc::Global;
 
 /// A type whose values are read from the beginning of a view.

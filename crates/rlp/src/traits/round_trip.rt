@@ -4,7 +4,7 @@ ghost use Rattle.std.specs.Prelude.{◌↔◌, ◌<◌, ◌^◌, ℕ, List, leng
 ghost use Rattle.rlp_format.specs.Format.WrittenHeader.{AreBytes};
 ghost use Rattle.rlp_values.specs.Values.RoundTrip.{ReadsBack, ReadsStrictly};
 ghost use Rattle.rlp_values.specs.Values.ValueReading.{GivesValue};
-ghost use Rattle.rlp_format.specs.Views.View.{HoldsItem, view_of};
+ghost use Rattle.rlp_values.specs.Views.View.{HoldsItem, view_of};
 
 use crate::traits::decodable::Decodable;
 use rlp_streams::Encodable;

@@ -2,8 +2,8 @@
 
 ghost use Rattle.std.specs.Prelude.{◌≡◌, ◌+◌, ◌≤◌, ◌<◌, ◌^◌, length};
 ghost use Rattle.rlp_format.specs.Format.Encoding.{encoding};
-ghost use Rattle.rlp_format.specs.Views.View.{strict_view_of};
-ghost use Rattle.rlp_format.specs.declared.error.DecoderError.{DecoderError};
+ghost use Rattle.rlp_values.specs.Views.View.{strict_view_of};
+ghost use Rattle.rlp_values.specs.declared.error.DecoderError.{DecoderError};
 ghost use Rattle.rlp_records.specs.Alone.{FaultsAlone, bytes_alone, unknown_type};
 ghost use Rattle.rlp_transactions.specs.LegacyTransaction.{signed_legacy_transaction};
 ghost use Rattle.rlp_transactions.specs.Transaction.{transaction, typed_transactions};
@@ -21,7 +21,7 @@ use crate::item::RlpItem;
 use crate::split::split_payload;
 use crate::status::{RLP_NO_ROOM, RLP_OK, RLP_UNKNOWN_TYPE, status_of};
 use rlp::DecoderError;
-use rlp_format::framed::{begins_as_list, whole_framed};
+use rlp_values::framed::{begins_as_list, whole_framed};
 
 /// Writes a row for each field of the transaction that the bytes are by themselves, as in EIP-2718,
 /// and its type, which is 0 for a legacy transaction. `count` gets the number of fields, or if one

@@ -1,14 +1,14 @@
 //! Records that are checked, field by field.
 
 ghost use Rattle.std.specs.Prelude.{◌≡◌, ◌≤◌, length, Ok, None, Some, IfErr, MatchResult};
-ghost use Rattle.rlp_format.specs.Format.Framing.{IsFramedItem};
-ghost use Rattle.rlp_format.specs.Format.StringReading.{read_string};
+ghost use Rattle.rlp_values.specs.Format.Framing.{IsFramedItem};
+ghost use Rattle.rlp_values.specs.Format.StringReading.{read_string};
 ghost use Rattle.rlp_c.specs.Fields.{field_fault, fields_fault, length_fault, number_fault, string_fault, text_fault};
 
 use super::kinds::{Kind, Record, kind_at, may_end};
 use rlp::DecoderError;
-use rlp_format::framed::{Framed, first_framed};
-use rlp_format::string_reading::string_in;
+use rlp_values::framed::{Framed, first_framed};
+use rlp_values::string_reading::string_in;
 
 /// Tests the fields in the payload of a record, in which at most `left` lists may stand one in the
 /// other. It fails with the first fault, and with the number of fields in front of it.

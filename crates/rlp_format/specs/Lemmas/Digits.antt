@@ -1,11 +1,11 @@
 -- `be` writes a number's digits: they are the number's, they begin with no zero, and no others do.
 use Rattle.std.proofs.Common.{◌≡◌, ℕ, zero, suc, ◌+◌, ◌*◌, ◌/◌, ◌%◌, ◌^◌, ◌<◌, ◌≤◌, List, [], ◌∷◌, ◌++◌, length, get_or, lt_of_lt_of_le, refl, false}
-use Rattle.std.proofs.Common.{eqb, ne_eqb, sym, ap, ◌∙◌, arith, append_assoc, length-append, append-nil, zero-add}
+use Rattle.std.proofs.Common.{Fits, w8, eqb, ne_eqb, sym, ap, ◌∙◌, arith, append_assoc, length-append, append-nil, zero-add}
 use Rattle.std.specs.Int.Digits.{digits_of, digits_with_fuel, number_from_digits, number_from_digits_after, AllBelowBase}
 use Rattle.std.proofs.lemmas.Int.Digits.{number_lt, number_digits_of, first_digits_of, length-digits_of-le, all_below_base_digits_of, digits_of_step}
 use Rattle.std.proofs.lemmas.Nat.{div-mul-add, mod-mul-add, pow-add}
 use Rattle.std.proofs.Math.Nat.{pow-suc, pow-le-pow_right}
-use Rattle.std.proofs.lemmas.List.Elements.{All-from_recursion, recursion_from_All}
+use Rattle.std.proofs.lemmas.List.Elements.{All-from_get_or, All-from_recursion, recursion_from_All}
 use Rattle.std.proofs.lemmas.Bool.{cond-false}
 use Rattle.rlp_format.specs.Format.WrittenHeader.{big_endian, big_endian_within, AreBytes}
 use Rattle.rlp_format.specs.Values.Value.{FitsBytes}
@@ -109,3 +109,7 @@ pub none_is_zero : (width : ℕ) (digits : List ℕ) → length digits < 1 → F
     × (big_endian (number_from_digits 256 digits) ≡ digits)
 none_is_zero width [] h = (digits_fit width [] (All-from_recursion (λ byte. byte < 2 ^ 8) [] tt) (omega arith), big_endian_zero)
 none_is_zero width (d ∷ ds) h = absurd (omega arith)
+
+-- what a slice of `u8` holds, as `type_inv` says it
+pub bytes_held : (b : List ℕ) → ((i : ℕ) → Fits w8 (get_or b i 0)) → AreBytes b
+bytes_held b fits = All-from_get_or (λ byte. byte < 2 ^ 8) b 0 (λ i h. omega (arith, fits i))

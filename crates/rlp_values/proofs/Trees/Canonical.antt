@@ -2,16 +2,16 @@
 use Rattle.std.proofs.Common.{◌≡◌, ℕ, suc, max, ◌-◌, ◌^◌, ◌<◌, ◌≤◌, ◌↔◌, Bool, true, false, List, [], ◌∷◌, ◌++◌, length, map, refl, sym, ap, ◌∙◌}
 use Rattle.std.proofs.Common.{subst, arith, append-nil, length-append, IsTrue, Some, None}
 use Rattle.std.specs.List.{concat}
-use Rattle.rlp_format.specs.declared.error.DecoderError.{DecoderError}
+use Rattle.rlp_values.specs.declared.error.DecoderError.{DecoderError}
 use Rattle.rlp_format.specs.Format.Item.{Item, Items, string, list, items_from, listed, list_of, item_depth, items_depth}
 use Rattle.rlp_format.specs.Format.Encoding.{encoding, join, IsSized}
-use Rattle.rlp_format.specs.Format.Split.{begins_as_list, items, payload, split}
-use Rattle.rlp_format.specs.Format.Strict.{IsCanonicalWithin, strict_fault}
+use Rattle.rlp_values.specs.Format.Split.{begins_as_list, items, payload, split}
+use Rattle.rlp_values.specs.Format.Strict.{IsCanonicalWithin, strict_fault}
 use Rattle.rlp_format.specs.Lemmas.Encodings.{front_sized, items_from-listed}
-use Rattle.rlp_format.specs.Lemmas.Frames.{join_is}
-use Rattle.rlp_format.specs.Lemmas.Views.{items_of_list, list_shape, payload_of_list}
-use Rattle.rlp_format.specs.Lemmas.WholeItems.{strict_fault-encoding}
-use Rattle.rlp_format.proofs.Views.Depths.{not_list}
+use Rattle.rlp_values.specs.Lemmas.Frames.{join_is}
+use Rattle.rlp_values.specs.Lemmas.Views.{items_of_list, list_shape, payload_of_list}
+use Rattle.rlp_values.specs.Lemmas.WholeItems.{strict_fault-encoding}
+use Rattle.rlp_values.specs.Lemmas.Depths.{not_list}
 
 sized_whole : (x : Item) (b : List ℕ) → length b < 2 ^ 64 → b ≡ encoding x → IsSized x
 sized_whole x b fits is = front_sized x b [] fits (is ∙ sym (append-nil (encoding x)))

@@ -1,11 +1,11 @@
 -- The flat form of a tree, by two walks.
 use Rattle.std.proofs.Common.{◌≡◌, ℕ, ◌+◌, ◌^◌, ◌<◌, List, [], ◌++◌, length, take, sym, ap, ◌∙◌, subst, arith, take_all, take_at, Result, Ok, Err, Some, None, IfErr, MatchResult}
-use Rattle.rlp_format.specs.declared.flat.FlatItem.{FlatItem}
-use Rattle.rlp_format.specs.declared.flat.TreeFault.{TreeFault}
-use Rattle.rlp_format.specs.Format.Flat.{IsFlat, flat}
-use Rattle.rlp_format.specs.Format.Strict.{strict_fault}
-use Rattle.rlp_format.specs.Format.TreeFaults.{tree_fault, walk_fault}
-use Rattle.rlp_format.specs.Format.Walk.{IsWalked}
+use Rattle.rlp_values.specs.declared.flat.FlatItem.{FlatItem}
+use Rattle.rlp_values.specs.declared.flat.TreeFault.{TreeFault}
+use Rattle.rlp_values.specs.Format.Flat.{IsFlat, flat}
+use Rattle.rlp_values.specs.Format.Strict.{strict_fault}
+use Rattle.rlp_values.specs.Format.TreeFaults.{tree_fault, walk_fault}
+use Rattle.rlp_values.specs.Format.Walk.{IsWalked}
 use Rattle.rlp_format.specs.Lemmas.Encodings.{encoding_same}
 use Rattle.rlp_values.proofs.Trees.Faults.{tree_fault-inside}
 

@@ -3,21 +3,21 @@ use Rattle.std.proofs.Common.{◌≡◌, ◌≢◌, ℕ, ◌+◌, ◌^◌, ◌<�
 use Rattle.std.proofs.Common.{◌==◌, ltb, subst, arith, Ok, Result, append-nil, take_at, drop_at, length-append, le-leb, lt-ltb, pos_of_ne-zero}
 use Rattle.std.proofs.lemmas.Bool.{and_parts, cases_Bool, cond-false, cond-true, eqb-true, lt-leb, ltb-true}
 use Rattle.std.proofs.lemmas.List.{nil_from_length}
-use Rattle.rlp_format.specs.declared.error.DecoderError.{DecoderError}
-use Rattle.rlp_format.specs.declared.header.PayloadInfo.{PayloadInfo}
+use Rattle.rlp_values.specs.declared.error.DecoderError.{DecoderError}
+use Rattle.rlp_values.specs.declared.header.PayloadInfo.{PayloadInfo}
 use Rattle.rlp_format.specs.Format.Item.{string}
 use Rattle.rlp_format.specs.Format.WrittenHeader.{written_header}
 use Rattle.rlp_format.specs.Format.Encoding.{encoding, is_low_byte}
-use Rattle.rlp_format.specs.Format.Header.{HasHeader, header, lone, written, payload_info}
-use Rattle.rlp_format.specs.Format.Framing.{IsFramedItem, framing, value}
-use Rattle.rlp_format.specs.Format.Split.{begins_as_list}
-use Rattle.rlp_format.specs.Format.Strict.{IsCanonicalWithin}
+use Rattle.rlp_values.specs.Format.Header.{HasHeader, header, lone, written, payload_info}
+use Rattle.rlp_values.specs.Format.Framing.{IsFramedItem, framing, value}
+use Rattle.rlp_values.specs.Format.Split.{begins_as_list}
+use Rattle.rlp_values.specs.Format.Strict.{IsCanonicalWithin}
 use Rattle.rlp_format.specs.Lemmas.Encodings.{low_byte}
 use Rattle.rlp_format.specs.Lemmas.Headers.{Parts, shape, written_header_short}
-use Rattle.rlp_format.specs.Lemmas.Frames.{framing_is, value_is}
-use Rattle.rlp_format.specs.Lemmas.Reading.{read}
+use Rattle.rlp_values.specs.Lemmas.Frames.{framing_is, value_is}
+use Rattle.rlp_values.specs.Lemmas.Reading.{read}
 use Rattle.rlp_values.proofs.Trees.Canonical.{not_true, refuted, string_canonical}
-use Rattle.rlp_format.specs.Format.TreeFaults.{is_needless}
+use Rattle.rlp_values.specs.Format.TreeFaults.{is_needless}
 use Rattle.rlp_values.proofs.Trees.Placed.{Ok_same, string_placed}
 
 -- a byte that is its own encoding, behind a header

@@ -1,14 +1,14 @@
 -- Where the string that bytes begin with is.
 use Rattle.std.proofs.Common.{◌≡◌, ℕ, ◌^◌, ◌<◌, List, ◌++◌, length, take, drop, refl, sym, ap, ◌∙◌, ⊎_elim, Ok, Result, append_assoc, take_at, drop_at}
-use Rattle.rlp_format.specs.declared.error.DecoderError.{DecoderError}
-use Rattle.rlp_format.specs.declared.header.PayloadInfo.{PayloadInfo}
+use Rattle.rlp_values.specs.declared.error.DecoderError.{DecoderError}
+use Rattle.rlp_values.specs.declared.header.PayloadInfo.{PayloadInfo}
 use Rattle.rlp_format.specs.Format.Item.{string}
 use Rattle.rlp_format.specs.Format.Encoding.{encoding}
-use Rattle.rlp_format.specs.Format.Header.{lone, written, header, payload_info}
-use Rattle.rlp_format.specs.Format.StringReading.{IsString}
+use Rattle.rlp_values.specs.Format.Header.{lone, written, header, payload_info}
+use Rattle.rlp_values.specs.Format.StringReading.{IsString}
 use Rattle.rlp_format.specs.Format.WrittenHeader.{written_header}
 use Rattle.rlp_format.specs.Lemmas.Encodings.{IsLone, IsWritten, front_sized, string_cases}
-use Rattle.rlp_format.specs.Lemmas.Reading.{read}
+use Rattle.rlp_values.specs.Lemmas.Reading.{read}
 
 -- bytes have a header for the string, and it stands after the header
 pub record IsPlaced (b d : List ℕ) : Type 0 where

@@ -1,23 +1,23 @@
 -- The walk over the items of a list.
 use Rattle.std.proofs.Common.{◌≡◌, ◌≢◌, ℕ, ◌+◌, ◌-◌, ◌<◌, ◌≤◌, suc, true, false, List, [], ◌∷◌, ◌++◌, length, map, drop, refl, sym, ap, ◌∙◌}
 use Rattle.std.proofs.Common.{subst, arith, Result, Ok, Err, Some, None, MatchResult, append-nil, append_assoc, length-append, length-take-le, length-drop, pos_of_ne-zero}
-use Rattle.rlp_format.specs.declared.error.DecoderError.{DecoderError}
-use Rattle.rlp_format.specs.declared.header.PayloadInfo.{PayloadInfo}
+use Rattle.rlp_values.specs.declared.error.DecoderError.{DecoderError}
+use Rattle.rlp_values.specs.declared.header.PayloadInfo.{PayloadInfo}
 use Rattle.rlp_format.specs.Format.Item.{Item, string, items_from, list_of, item_depth, items_depth}
 use Rattle.rlp_format.specs.Format.Encoding.{encoding, join, join_items}
-use Rattle.rlp_format.specs.Format.Framing.{fault, value}
-use Rattle.rlp_format.specs.Format.Split.{begins_as_list, items, payload, split}
-use Rattle.rlp_format.specs.Format.Strict.{IsCanonicalWithin}
+use Rattle.rlp_values.specs.Format.Framing.{fault, value}
+use Rattle.rlp_values.specs.Format.Split.{begins_as_list, items, payload, split}
+use Rattle.rlp_values.specs.Format.Strict.{IsCanonicalWithin}
 use Rattle.rlp_format.specs.Lemmas.Encodings.{join_items_is}
-use Rattle.rlp_format.proofs.Format.StrictLists.{value-payload}
-use Rattle.rlp_format.specs.Lemmas.WholeItems.{whole_by}
+use Rattle.rlp_values.proofs.Format.StrictLists.{value-payload}
+use Rattle.rlp_values.specs.Lemmas.WholeItems.{whole_by}
 use Rattle.rlp_values.proofs.Trees.Canonical.{split_items}
-use Rattle.rlp_format.specs.declared.flat.FlatItem.{FlatItem}
-use Rattle.rlp_format.specs.declared.flat.TreeFault.{TreeFault}
-use Rattle.rlp_format.specs.declared.flat.TreeFault.TheVariants.{Decoding}
-use Rattle.rlp_format.specs.Format.Flat.{flat_item, flat_rows, flat_rows_inside, header_length}
-use Rattle.rlp_format.specs.Format.TreeFaults.{payload_fault, needless_fault, walk_fault}
-use Rattle.rlp_format.specs.Format.Walk.{Extends, IsNeverCanonical, IsWalked}
+use Rattle.rlp_values.specs.declared.flat.FlatItem.{FlatItem}
+use Rattle.rlp_values.specs.declared.flat.TreeFault.{TreeFault}
+use Rattle.rlp_values.specs.declared.flat.TreeFault.TheVariants.{Decoding}
+use Rattle.rlp_values.specs.Format.Flat.{flat_item, flat_rows, flat_rows_inside, header_length}
+use Rattle.rlp_values.specs.Format.TreeFaults.{payload_fault, needless_fault, walk_fault}
+use Rattle.rlp_values.specs.Format.Walk.{Extends, IsNeverCanonical, IsWalked}
 use Rattle.rlp_values.proofs.Trees.Faults.{payload_fault-item, payload_fault-next, payload_fault-none, payload_fault-stray, walk_fault-list, walk_fault-string}
 use Rattle.rlp_values.proofs.Trees.Needless.{IsNeedless, IsWhole, string_whole}
 use Rattle.rlp_values.proofs.Trees.Rows.{extends_both}

@@ -2,17 +2,17 @@
 use Rattle.std.proofs.Common.{◌≡◌, ◌↔◌, ℕ, ◌^◌, ◌<◌, ◌⊎◌, inl, inr, List, length, map, subst, Result, Ok, Err, IfOk, IfErr, IsOkAnd, ◌∙◌, refl}
 use Rattle.std.specs.List.{All}
 use Rattle.std.proofs.lemmas.Simd.{map-map}
-use Rattle.rlp_format.specs.declared.error.DecoderError.{DecoderError}
+use Rattle.rlp_values.specs.declared.error.DecoderError.{DecoderError}
 use Rattle.rlp_format.specs.Format.Item.{Item, list_of}
 use Rattle.rlp_format.specs.Format.Encoding.{BeginsWith, encoding}
-use Rattle.rlp_format.specs.Format.Split.{items}
+use Rattle.rlp_values.specs.Format.Split.{items}
 use Rattle.rlp_values.specs.Values.ValueReading.{GivesValue}
-use Rattle.rlp_format.specs.Views.View.{View, view_of}
+use Rattle.rlp_values.specs.Views.View.{View, view_of}
 use Rattle.rlp_values.specs.Values.ListReading.{GivesList, FaultsAsList}
 use Rattle.rlp_format.specs.Lemmas.Encodings.{front_sized}
 use Rattle.rlp_values.specs.Lemmas.Structs.{list_same}
 use Rattle.rlp_values.specs.Lemmas.ValueLists.{list_reads_back}
-use Rattle.rlp_format.specs.Lemmas.Views.{items_of_list}
+use Rattle.rlp_values.specs.Lemmas.Views.{items_of_list}
 use Rattle.rlp_values.specs.Values.RoundTrip.{AlwaysReadsBack, ReadsBack}
 
 module _ {A : Type 0} (Fits : A → Type 0) (item : A → Item) (gives : View → A → Type 0) (faults : View → DecoderError → Type 0) (b : List ℕ) where

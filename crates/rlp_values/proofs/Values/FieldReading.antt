@@ -1,9 +1,9 @@
 -- The fields of a struct, read from items one after another.
 use Rattle.std.specs.Prelude.{IsSomeAnd, MatchOption}
 use Rattle.std.proofs.Common.{◌≡◌, ℕ, zero, suc, ◌+◌, ◌-◌, ◌^◌, ◌<◌, ◌≤◌, ◌⊎◌, inl, inr, Option, Some, None, Ok, refl, ap, ◌∙◌, sym, subst, arith}
-use Rattle.rlp_format.specs.declared.error.DecoderError.{DecoderError}
-use Rattle.rlp_format.specs.declared.error.DecoderError.TheVariants.{OutOfMemory}
-use Rattle.rlp_format.specs.Views.View.{View, item_count}
+use Rattle.rlp_values.specs.declared.error.DecoderError.{DecoderError}
+use Rattle.rlp_values.specs.declared.error.DecoderError.TheVariants.{OutOfMemory}
+use Rattle.rlp_values.specs.Views.View.{View, item_count}
 use Rattle.rlp_values.specs.Lemmas.WholeStructs.{only_more}
 use Rattle.rlp_values.specs.Values.FieldPlace.{FieldPlace, field_place}
 use Rattle.rlp_values.specs.Values.FieldReading.{FaultsAsStruct, FieldsFail, GivesFields, IsCount, MayLackAsStruct, NoMore, NoneOr, StructFails}

@@ -6,9 +6,9 @@ use Rattle.std.proofs.Math.Nat.{mod-eq_of_lt, mul-add-mod_self_right, suc-mul}
 use Rattle.std.proofs.Math.Nat.{mul-le-mul_right}
 use Rattle.std.proofs.lemmas.Nat.{div-add-mod'}
 use Rattle.std.proofs.lemmas.Bool.{cases_lt}
-use Rattle.rlp_format.specs.declared.error.DecoderError.{DecoderError}
-use Rattle.rlp_format.specs.declared.error.DecoderError.TheVariants.{OutOfMemory}
-use Rattle.rlp_format.specs.Views.View.{View}
+use Rattle.rlp_values.specs.declared.error.DecoderError.{DecoderError}
+use Rattle.rlp_values.specs.declared.error.DecoderError.TheVariants.{OutOfMemory}
+use Rattle.rlp_values.specs.Views.View.{View}
 use Rattle.rlp_values.specs.Lemmas.Groups.{groups_right}
 use Rattle.rlp_values.specs.Lemmas.WholeStructs.{only_more}
 use Rattle.rlp_values.specs.Values.FieldPlace.{FieldPlace}

@@ -1,14 +1,14 @@
 -- One reading of values whose items are lists.
 use Rattle.std.proofs.Common.{◌≡◌, ℕ, zero, suc, ◌^◌, ◌<◌, ◌⊎◌, inl, inr, Bool, true, false, [], ◌∷◌, length, refl, sym, ap, ◌∙◌, subst, arith, codes}
 use Rattle.std.proofs.Common.{Option, Some, None, Result, Ok, Err, IsOkAnd, MatchResult}
-use Rattle.rlp_format.specs.declared.error.DecoderError.{DecoderError}
-use Rattle.rlp_format.specs.declared.error.DecoderError.TheVariants.{RlpIncorrectListLen, Custom}
+use Rattle.rlp_values.specs.declared.error.DecoderError.{DecoderError}
+use Rattle.rlp_values.specs.declared.error.DecoderError.TheVariants.{RlpIncorrectListLen, Custom}
 use Rattle.rlp_format.specs.Format.Item.{Item, list_of}
-use Rattle.rlp_format.specs.Views.Text.{error_name}
+use Rattle.rlp_values.specs.Views.Text.{error_name}
 use Rattle.rlp_format.specs.Format.WrittenHeader.{AreBytes, big_endian}
 use Rattle.rlp_format.specs.Values.Value.{option_item, bit, number_item}
 use Rattle.rlp_values.specs.Values.ValueReading.{HasOneReading, IsSameFault, GivesBool, FaultsAsBool, no_number, other_number, GivesNumber, FaultsAsNumber}
-use Rattle.rlp_format.specs.Views.View.{View, item_at, item_count}
+use Rattle.rlp_values.specs.Views.View.{View, item_at, item_count}
 use Rattle.rlp_values.specs.Values.ListReading.{GivesAt, FaultsAt, GivesOption, no_value, one_value, FaultsAsOption, no_list, many_items, faulty_item}
 use Rattle.rlp_format.specs.Lemmas.Digits.{big_endian_same}
 use Rattle.rlp_values.specs.Lemmas.RoundTrips.{bit_least}

@@ -1,9 +1,9 @@
 -- The values of the items of a list, one after another.
 use Rattle.std.proofs.Common.{ℕ, ◌≡◌, List, [], ◌∷◌, ◌++◌, ◌⊎◌, inl, inr, None, sym, ◌∙◌, ap, append_assoc, append-nil, Result, Ok, Err, IfOk}
 use Rattle.std.specs.Prelude.{OnOk}
-use Rattle.rlp_format.specs.declared.error.DecoderError.{DecoderError}
-use Rattle.rlp_format.specs.declared.error.DecoderError.TheVariants.{OutOfMemory}
-use Rattle.rlp_format.specs.Views.View.{View, item_views, list_fault}
+use Rattle.rlp_values.specs.declared.error.DecoderError.{DecoderError}
+use Rattle.rlp_values.specs.declared.error.DecoderError.TheVariants.{OutOfMemory}
+use Rattle.rlp_values.specs.Views.View.{View, item_views, list_fault}
 use Rattle.rlp_values.specs.Values.ValueReading.{GivesSome}
 use Rattle.rlp_values.specs.Values.ListReading.{GivesEach, GivesAt, GivesSomeAt, ComesTo, FaultsAsList, faulty_in_list, MayLackAsList}
 

@@ -1,11 +1,11 @@
 -- What options return, by the first two items of a list.
 use Rattle.std.proofs.Common.{◌≡◌, ◌⊎◌, inl, inr, List, [], ◌∷◌, length, sym, ◌∙◌, ap, subst, arith, Some, None, Ok, IsOkAnd, MatchResult}
 use Rattle.std.specs.List.{slice_get}
-use Rattle.rlp_format.specs.declared.error.DecoderError.{DecoderError}
-use Rattle.rlp_format.specs.declared.error.DecoderError.TheVariants.{OutOfMemory, RlpIncorrectListLen}
-use Rattle.rlp_format.specs.Views.View.{View, item_at, item_count, item_views, items_fault}
+use Rattle.rlp_values.specs.declared.error.DecoderError.{DecoderError}
+use Rattle.rlp_values.specs.declared.error.DecoderError.TheVariants.{OutOfMemory, RlpIncorrectListLen}
+use Rattle.rlp_values.specs.Views.View.{View, item_at, item_count, item_views, items_fault}
 use Rattle.rlp_values.specs.Values.ListReading.{GivesOption, no_value, one_value, FaultsAsOption, no_list, many_items, faulty_item, MayLackAsOption}
-use Rattle.rlp_format.specs.Lemmas.Numbered.{item_count-fault, item_count-told, length-views, slice_get-item_at}
+use Rattle.rlp_values.specs.Lemmas.Numbered.{item_count-fault, item_count-told, length-views, slice_get-item_at}
 
 -- the number of items is the number of views
 counted : (v : View) (vs : List View) → items_fault v ≡ None → vs ≡ item_views v → item_count v ≡ Ok (length vs)

@@ -1,8 +1,8 @@
 -- The fields of a part of a value and others after them, read from items one after another.
 use Rattle.std.specs.Prelude.{IsSomeAnd, MatchOption}
 use Rattle.std.proofs.Common.{◌≡◌, ℕ, ◌+◌, ◌-◌, ◌^◌, ◌<◌, ◌≤◌, inl, inr, ⊎_elim, Option, Some, None, sym, ap, ◌∙◌, subst, arith}
-use Rattle.rlp_format.specs.declared.error.DecoderError.{DecoderError}
-use Rattle.rlp_format.specs.Views.View.{View}
+use Rattle.rlp_values.specs.declared.error.DecoderError.{DecoderError}
+use Rattle.rlp_values.specs.Views.View.{View}
 use Rattle.rlp_values.specs.Lemmas.Groups.{group_cases}
 use Rattle.rlp_values.specs.Lemmas.Parts.{is_after, is_below}
 use Rattle.rlp_values.specs.Values.FieldPlace.{FieldPlace}

@@ -2,12 +2,12 @@
 use Rattle.std.proofs.Common.{◌≡◌, ◌≢◌, ℕ, ◌^◌, ◌<◌, ◌⊎◌, inl, inr, ⊎_elim, List, [], ◌∷◌, ◌++◌, length, codes, refl, sym, ap, ◌∙◌, subst, arith, length-append}
 use Rattle.std.proofs.Common.{Result, Ok, Err, IfOk, IfErr}
 use Rattle.std.proofs.lemmas.Bool.{cases_eq, cases_lt}
-use Rattle.rlp_format.specs.declared.error.DecoderError.{DecoderError}
-use Rattle.rlp_format.specs.declared.error.DecoderError.TheVariants.{Custom}
+use Rattle.rlp_values.specs.declared.error.DecoderError.{DecoderError}
+use Rattle.rlp_values.specs.declared.error.DecoderError.TheVariants.{Custom}
 use Rattle.rlp_format.specs.Format.Encoding.{encoding}
-use Rattle.rlp_format.specs.Views.Depth.{depth}
-use Rattle.rlp_format.specs.Views.Text.{error_name}
-use Rattle.rlp_format.specs.Views.View.{View, Holds, view_header}
+use Rattle.rlp_values.specs.Views.Depth.{depth}
+use Rattle.rlp_values.specs.Views.Text.{error_name}
+use Rattle.rlp_values.specs.Views.View.{View, Holds, view_header}
 use Rattle.rlp_format.specs.Lemmas.Encodings.{encoding_same, front_sized}
 use Rattle.rlp_values.specs.Values.ValueReading.{GivesValue, HasOneReading, IsSameFault}
 use Rattle.rlp_values.specs.Values.RawItem.{FaultsAsRaw, IsRawFault, IsRawItem, deepest_raw_item, faulty_frame, not_canonical, not_framed, raw_item_of, too_deep, view_frame}

@@ -1,11 +1,11 @@
 -- What strict decoding returns for the whole encoding of a value, and of a list of values.
 use Rattle.std.proofs.Common.{◌≡◌, ℕ, ◌^◌, ◌<◌, ◌⊎◌, inl, inr, List, [], ◌++◌, length, map, sym, ap, ◌∙◌, Result, Ok, Err, IfOk, IfErr, IsOkAnd}
 use Rattle.std.specs.List.{All}
-use Rattle.rlp_format.specs.declared.error.DecoderError.{DecoderError}
+use Rattle.rlp_values.specs.declared.error.DecoderError.{DecoderError}
 use Rattle.rlp_format.specs.Format.Item.{Item, list_of}
 use Rattle.rlp_format.specs.Format.WrittenHeader.{AreBytes}
 use Rattle.rlp_format.specs.Format.Encoding.{encoding}
-use Rattle.rlp_format.specs.Views.View.{View, strict_view_of}
+use Rattle.rlp_values.specs.Views.View.{View, strict_view_of}
 use Rattle.rlp_values.specs.Values.ListReading.{GivesList, FaultsAsList}
 use Rattle.rlp_format.specs.Lemmas.Encodings.{prefix_free}
 use Rattle.rlp_values.specs.Values.RoundTrip.{AlwaysReadsStrictly}

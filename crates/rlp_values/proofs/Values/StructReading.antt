@@ -2,12 +2,12 @@
 use Rattle.std.proofs.Common.{◌≡◌, ◌↔◌, ℕ, zero, suc, ◌^◌, ◌<◌, ◌≤◌, ◌⊎◌, inl, inr, ⊎_elim, Bool, true, false, IsTrue, length, refl, ap, sym, subst, arith}
 use Rattle.std.proofs.Common.{Result, Ok, Err}
 use Rattle.std.proofs.lemmas.Bool.{cases_lt}
-use Rattle.rlp_format.specs.declared.error.DecoderError.{DecoderError}
-use Rattle.rlp_format.specs.declared.error.DecoderError.TheVariants.{RlpIncorrectListLen}
+use Rattle.rlp_values.specs.declared.error.DecoderError.{DecoderError}
+use Rattle.rlp_values.specs.declared.error.DecoderError.TheVariants.{RlpIncorrectListLen}
 use Rattle.rlp_format.specs.Format.Item.{Item}
 use Rattle.rlp_format.specs.Format.WrittenHeader.{AreBytes}
-use Rattle.rlp_format.specs.Views.Text.{error_name}
-use Rattle.rlp_format.specs.Views.View.{View, item_count}
+use Rattle.rlp_values.specs.Views.Text.{error_name}
+use Rattle.rlp_values.specs.Views.View.{View, item_count}
 use Rattle.rlp_values.specs.Values.ValueReading.{HasOneReading, IsSameFault}
 use Rattle.rlp_values.specs.Values.ListReading.{FaultsAt, GivesSomeAt}
 use Rattle.rlp_values.specs.Values.FieldReading.{FaultsAsStruct, FaultsInFields, GivesFields, IsCount, faulty_item, no_items, other_number}

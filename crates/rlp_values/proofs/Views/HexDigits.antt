@@ -2,7 +2,7 @@
 use Rattle.std.proofs.Common.{◌≡◌, ℕ, List, ◌++◌, take, drop, sym, ap, ◌∙◌}
 use Rattle.std.proofs.lemmas.List.{append_assoc, take-append-drop}
 use Rattle.std.proofs.lemmas.Grind.{flat_map-append}
-use Rattle.rlp_format.specs.Views.Text.{hex, hex_pair}
+use Rattle.rlp_values.specs.Views.Text.{hex, hex_pair}
 
 -- the digits of the first bytes, and then those of the others
 pub hex-append : (front others : List ℕ) → hex front ++ hex others ≡ hex (front ++ others)

@@ -1,19 +1,19 @@
 -- The items of a view, taken one after another.
 use Rattle.std.proofs.Common.{◌≡◌, ℕ, ◌+◌, ◌-◌, ◌<◌, ◌≤◌, true, List, [], ◌∷◌, ◌++◌, length, drop, Ok, Err, None, IsOkAnd, sym, ap, ◌∙◌, subst, arith, length-drop}
-use Rattle.rlp_format.specs.declared.error.DecoderError.{DecoderError}
-use Rattle.rlp_format.specs.declared.header.PayloadInfo.{PayloadInfo}
-use Rattle.rlp_format.specs.Format.Framing.{fault, framing, value}
-use Rattle.rlp_format.specs.Format.Split.{items, payload, rest, split}
-use Rattle.rlp_format.specs.Format.Strict.{after_items}
-use Rattle.rlp_format.specs.Views.View.{View, item_at, item_count, items_fault}
-use Rattle.rlp_format.specs.declared.error.DecoderError.TheVariants.{RlpIncorrectListLen}
+use Rattle.rlp_values.specs.declared.error.DecoderError.{DecoderError}
+use Rattle.rlp_values.specs.declared.header.PayloadInfo.{PayloadInfo}
+use Rattle.rlp_values.specs.Format.Framing.{fault, framing, value}
+use Rattle.rlp_values.specs.Format.Split.{items, payload, rest, split}
+use Rattle.rlp_values.specs.Format.Strict.{after_items}
+use Rattle.rlp_values.specs.Views.View.{View, item_at, item_count, items_fault}
+use Rattle.rlp_values.specs.declared.error.DecoderError.TheVariants.{RlpIncorrectListLen}
 use Rattle.rlp_values.specs.Values.FieldPlace.{IsAtPlace}
 use Rattle.rlp_values.specs.Values.ListReading.{FaultsAsFields, no_fields, other_count}
-use Rattle.rlp_format.specs.Lemmas.Numbered.{Numbered, item_at-past, item_at-unframed, item_count-fault, item_count-told, item_there, no_item}
-use Rattle.rlp_format.specs.Lemmas.Numbered.{not_told, numbered, payload-fault, told_begins}
-use Rattle.rlp_format.proofs.Views.ItemPlaces.{fault-err, get_or-drop}
-use Rattle.rlp_format.proofs.Format.Splits.{drop-inside, drop-next, split-nil}
-use Rattle.rlp_format.proofs.Format.StrictLists.{after_items-next, after_items-none, rest-after, value-items, value-payload}
+use Rattle.rlp_values.specs.Lemmas.Numbered.{Numbered, item_at-past, item_at-unframed, item_count-fault, item_count-told, item_there, no_item}
+use Rattle.rlp_values.specs.Lemmas.Numbered.{not_told, numbered, payload-fault, told_begins}
+use Rattle.rlp_values.proofs.Views.ItemPlaces.{fault-err, get_or-drop}
+use Rattle.rlp_values.proofs.Format.Splits.{drop-inside, drop-next, split-nil}
+use Rattle.rlp_values.proofs.Format.StrictLists.{after_items-next, after_items-none, rest-after, value-items, value-payload}
 
 -- at the beginning of a framed list
 pub framed_place : (v : View) (p : PayloadInfo) (q left : List ℕ) → items_fault v ≡ None → framing v.bytes ≡ Ok p → value v.bytes ≡ Ok q → left ≡ q

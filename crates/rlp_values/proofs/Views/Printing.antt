@@ -3,13 +3,13 @@ use Rattle.std.proofs.Common.{◌≡◌, ℕ, suc, ◌-◌, ◌<◌, ◌≤◌, 
 use Rattle.std.proofs.Common.{arith, Ok, Err, Result, append_assoc, append-nil, IsTrue, ◌↔◌}
 use Rattle.std.proofs.lemmas.Bool.{false≢true}
 use Rattle.std.proofs.lemmas.List.{map-append}
-use Rattle.rlp_format.specs.declared.error.DecoderError.{DecoderError}
-use Rattle.rlp_format.specs.Format.Framing.{framing, value}
-use Rattle.rlp_format.specs.Format.Header.{header}
-use Rattle.rlp_format.specs.Format.Split.{begins_as_list, items, payload, payload_in, split}
-use Rattle.rlp_format.specs.Views.Text.{error_name, hex, separated, framed_text, text}
-use Rattle.rlp_format.specs.Views.Depth.{greatest, framed_depth, depth}
-use Rattle.rlp_format.proofs.Views.Texts.{AllWithinLength, items_short, items_nil, text_is, depth_is}
+use Rattle.rlp_values.specs.declared.error.DecoderError.{DecoderError}
+use Rattle.rlp_values.specs.Format.Framing.{framing, value}
+use Rattle.rlp_values.specs.Format.Header.{header}
+use Rattle.rlp_values.specs.Format.Split.{begins_as_list, items, payload, payload_in, split}
+use Rattle.rlp_values.specs.Views.Text.{error_name, hex, separated, framed_text, text}
+use Rattle.rlp_values.specs.Views.Depth.{greatest, framed_depth, depth}
+use Rattle.rlp_values.specs.Lemmas.Texts.{AllWithinLength, items_short, items_nil, text_is, depth_is}
 
 -- the separator before the next item, after these texts
 abbrev pub separator_after : List (List ℕ) → List ℕ

@@ -1,14 +1,14 @@
 -- Items one after another, split off bytes one by one.
 use Rattle.std.proofs.Common.{◌≡◌, ◌^◌, ◌<◌, List, [], ◌∷◌, ◌++◌, length, drop, drop_at, Result, Ok, Err, IfOk, IfErr, IsOkAnd, refl, sym, ap, ◌∙◌, ℕ}
-use Rattle.rlp_format.specs.declared.error.DecoderError.{DecoderError}
-use Rattle.rlp_format.specs.declared.error.DecoderError.TheVariants.{RlpIsTooShort}
+use Rattle.rlp_values.specs.declared.error.DecoderError.{DecoderError}
+use Rattle.rlp_values.specs.declared.error.DecoderError.TheVariants.{RlpIsTooShort}
 use Rattle.rlp_format.specs.Format.Item.{Item}
 use Rattle.rlp_format.specs.Format.Encoding.{encoding, join}
-use Rattle.rlp_format.specs.Format.Framing.{frame}
-use Rattle.rlp_format.specs.Views.View.{View, view_header, view_of}
+use Rattle.rlp_values.specs.Format.Framing.{frame}
+use Rattle.rlp_values.specs.Views.View.{View, view_header, view_of}
 use Rattle.rlp_values.specs.Values.RawItem.{view_frame}
 use Rattle.rlp_format.specs.Lemmas.Encodings.{front_sized}
-use Rattle.rlp_format.specs.Lemmas.Frames.{encoding_framed, frame_nil}
+use Rattle.rlp_values.specs.Lemmas.Frames.{encoding_framed, frame_nil}
 
 same_rest : (f rest more : List ℕ) → f ++ rest ≡ f ++ more → rest ≡ more
 same_rest f rest more is = sym (drop_at f rest (length f) refl) ∙ ap (drop (length f)) is ∙ drop_at f more (length f) refl

@@ -2,20 +2,20 @@
 use Rattle.std.proofs.Common.{◌≡◌, ℕ, ◌+◌, ◌^◌, ◌<◌, ⊎_elim, false, if◌then◌else◌, List, [], length, refl, sym, ap, ◌∙◌, arith, ltb, lt-ltb, le-ltb}
 use Rattle.std.proofs.Common.{append-nil, Some, None, Result, Ok, Err}
 use Rattle.std.proofs.lemmas.Bool.{cases_Bool, cond-true, cond-false}
-use Rattle.rlp_format.specs.declared.error.DecoderError.{DecoderError}
-use Rattle.rlp_format.specs.declared.error.DecoderError.TheVariants.{RlpExpectedToBeList, RlpIsTooBig}
-use Rattle.rlp_format.specs.declared.header.PayloadInfo.{PayloadInfo}
+use Rattle.rlp_values.specs.declared.error.DecoderError.{DecoderError}
+use Rattle.rlp_values.specs.declared.error.DecoderError.TheVariants.{RlpExpectedToBeList, RlpIsTooBig}
+use Rattle.rlp_values.specs.declared.header.PayloadInfo.{PayloadInfo}
 use Rattle.rlp_format.specs.Format.WrittenHeader.{AreBytes}
 use Rattle.rlp_format.specs.Format.Encoding.{encoding}
-use Rattle.rlp_format.specs.Format.Header.{HasHeader}
-use Rattle.rlp_format.specs.Format.Framing.{IsFramed, fault, fault_in, framing}
-use Rattle.rlp_format.specs.Format.Split.{begins_as_list, items}
-use Rattle.rlp_format.specs.Format.Strict.{IsCanonical, strict_fault, strict_fault_in}
-use Rattle.rlp_format.specs.Views.View.{item_by, item_count, item_with_place, items_fault, view_of}
+use Rattle.rlp_values.specs.Format.Header.{HasHeader}
+use Rattle.rlp_values.specs.Format.Framing.{IsFramed, fault, fault_in, framing}
+use Rattle.rlp_values.specs.Format.Split.{begins_as_list, items}
+use Rattle.rlp_values.specs.Format.Strict.{IsCanonical, strict_fault, strict_fault_in}
+use Rattle.rlp_values.specs.Views.View.{item_by, item_count, item_with_place, items_fault, view_of}
 use Rattle.rlp_format.specs.Lemmas.Encodings.{front_sized}
-use Rattle.rlp_format.specs.Lemmas.Frames.{Frames, framing_is, framing_reads}
-use Rattle.rlp_format.specs.Lemmas.Numbered.{item_count-fault, item_count-told, item_with_place-fault, item_with_place-told, lenient_told}
-use Rattle.rlp_format.specs.Lemmas.WholeItems.{strict_fault-encoding}
+use Rattle.rlp_values.specs.Lemmas.Frames.{Frames, framing_is, framing_reads}
+use Rattle.rlp_values.specs.Lemmas.Numbered.{item_count-fault, item_count-told, item_with_place-fault, item_with_place-told, lenient_told}
+use Rattle.rlp_values.specs.Lemmas.WholeItems.{strict_fault-encoding}
 
 -- ---- the strict fault
 

@@ -1,8 +1,8 @@
 -- The codec of a type whose values a view gives exactly if it holds their encodings.
 use Rattle.std.specs.Prelude.{◌≡◌, ◌^◌, ◌<◌, length}
-use Rattle.rlp_format.specs.declared.error.DecoderError.{DecoderError}
+use Rattle.rlp_values.specs.declared.error.DecoderError.{DecoderError}
 use Rattle.rlp_format.specs.Format.Item.{Item}
-use Rattle.rlp_format.specs.Views.View.{View, HoldsItem}
+use Rattle.rlp_values.specs.Views.View.{View, HoldsItem}
 use Rattle.rlp_values.specs.Values.ValueReading.{GivesValue}
 use Rattle.rlp_values.specs.Codec.{Codec}
 use Rattle.rlp_values.specs.Lemmas.ExactReads.{exact_held_back, exact_strict}

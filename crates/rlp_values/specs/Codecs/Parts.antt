@@ -1,10 +1,10 @@
 -- Codecs of structs whose lists begin with the fields of a part of the value.
 use Rattle.std.specs.Prelude.{ℕ, ◌≡◌, ◌<◌, ◌+◌, ◌↔◌, List, ◌++◌, length, map}
 use Rattle.std.proofs.Common.{arith}
-use Rattle.rlp_format.specs.declared.error.DecoderError.{DecoderError}
+use Rattle.rlp_values.specs.declared.error.DecoderError.{DecoderError}
 use Rattle.rlp_format.specs.Format.Item.{Item}
 use Rattle.rlp_format.specs.Format.Encoding.{encoding}
-use Rattle.rlp_format.specs.Views.View.{View}
+use Rattle.rlp_values.specs.Views.View.{View}
 use Rattle.rlp_values.specs.Codec.{Fields, IsFixed}
 use Rattle.rlp_values.specs.Values.ListReading.{FaultsAt}
 use Rattle.rlp_values.specs.Values.FieldReading.{FieldsReading, HoldsFrom, IsCount, PartsFrom}

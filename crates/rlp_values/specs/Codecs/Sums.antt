@@ -7,7 +7,7 @@ use Rattle.rlp_values.specs.Codec.{Codec}
 use Rattle.rlp_values.specs.Values.ValueReading.{FaultsAs, GivesNumber, GivesValue}
 use Rattle.rlp_values.specs.Values.ListReading.{GivesAt}
 use Rattle.rlp_format.specs.Values.Value.{FitsBytes, number_item}
-use Rattle.rlp_format.specs.Views.View.{item_count}
+use Rattle.rlp_values.specs.Views.View.{item_count}
 use Rattle.rlp_values.specs.Values.Sums.{ByFirstByte, FaultsAsTagged, IsEnvelopeFault, IsOtherTag, MayLackAsTagged, MayLackInEnvelope, OnSum, sum_item, sum_tag}
 use Rattle.rlp_values.specs.Values.Same.{HaveOneTag, SameSum}
 use Rattle.rlp_values.specs.Lemmas.Sums.{envelope_reads_back, envelope_strict, either_reads_back, either_strict, known_first, known_last, left_reads_back}

@@ -1,9 +1,9 @@
 -- Types whose values a view gives exactly if it holds their encodings: they are read back, and read strictly.
 use Rattle.std.proofs.Common.{◌≡◌, ℕ, ◌^◌, ◌<◌, List, length, sym, ◌∙◌, subst}
-use Rattle.rlp_format.specs.declared.error.DecoderError.{DecoderError}
+use Rattle.rlp_values.specs.declared.error.DecoderError.{DecoderError}
 use Rattle.rlp_format.specs.Format.Item.{Item}
 use Rattle.rlp_format.specs.Format.Encoding.{BeginsWith, encoding}
-use Rattle.rlp_format.specs.Views.View.{View, HoldsItem, strict_view_of, view_of}
+use Rattle.rlp_values.specs.Views.View.{View, HoldsItem, strict_view_of, view_of}
 use Rattle.rlp_values.specs.Values.ValueReading.{GivesValue}
 use Rattle.rlp_format.specs.Lemmas.Encodings.{front_sized, prefix_free}
 use Rattle.rlp_values.specs.Values.RoundTrip.{AlwaysReadsBack, AlwaysReadsStrictly}

@@ -1,9 +1,9 @@
 -- A field and those after it: their encodings are read back, and they are read strictly.
 use Rattle.std.proofs.Common.{◌≡◌, ◌↔◌, ℕ, zero, suc, ◌+◌, ◌<◌, List, [], ◌∷◌, length, map, ap, ◌∙◌, subst, arith}
-use Rattle.rlp_format.specs.declared.error.DecoderError.{DecoderError}
+use Rattle.rlp_values.specs.declared.error.DecoderError.{DecoderError}
 use Rattle.rlp_format.specs.Format.Item.{Item}
 use Rattle.rlp_format.specs.Format.Encoding.{encoding}
-use Rattle.rlp_format.specs.Views.View.{View}
+use Rattle.rlp_values.specs.Views.View.{View}
 use Rattle.rlp_values.specs.Values.ListReading.{FaultsAt, GivesAt}
 use Rattle.rlp_values.specs.Values.FieldReading.{HoldsFrom, PartsFrom, by_place}
 use Rattle.rlp_values.specs.Values.RoundTrip.{AlwaysReadsBack, AlwaysReadsStrictly}

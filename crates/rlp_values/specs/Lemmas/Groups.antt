@@ -6,10 +6,10 @@ use Rattle.std.proofs.lemmas.Bool.{cases_lt, eqb-false}
 use Rattle.std.proofs.Math.Nat.{add-mod_left, mod-eq_of_lt, mul-add-mod_self_right, suc-mul}
 use Rattle.std.proofs.lemmas.List.{length-drop, length-map, length-take-le, map-append, nil_from_length, take-append-drop}
 use Rattle.std.proofs.lemmas.List.Elements.{All-cons, All-head, All-nil, All-tail}
-use Rattle.rlp_format.specs.declared.error.DecoderError.{DecoderError}
+use Rattle.rlp_values.specs.declared.error.DecoderError.{DecoderError}
 use Rattle.rlp_format.specs.Format.Item.{Item}
 use Rattle.rlp_format.specs.Format.Encoding.{encoding}
-use Rattle.rlp_format.specs.Views.View.{View}
+use Rattle.rlp_values.specs.Views.View.{View}
 use Rattle.rlp_format.specs.Lemmas.Lists.{same_front}
 use Rattle.rlp_format.specs.Values.Value.{all_items}
 use Rattle.rlp_values.specs.Values.ListReading.{FaultsAt}

@@ -3,16 +3,16 @@ use Rattle.std.proofs.Common.{◌≡◌, ◌↔◌, ℕ, ◌^◌, ◌<◌, List,
 use Rattle.std.proofs.Common.{Ok, IsOkAnd, MatchResult, IfSome, map, length-append}
 use Rattle.std.proofs.lemmas.List.{length-map}
 use Rattle.std.proofs.lemmas.List.{map-append}
-use Rattle.rlp_format.specs.declared.error.DecoderError.{DecoderError}
+use Rattle.rlp_values.specs.declared.error.DecoderError.{DecoderError}
 use Rattle.rlp_format.specs.Format.Item.{Item, list_of}
 use Rattle.rlp_format.specs.Format.Encoding.{BeginsWith, encoding, join, IsSized}
 use Rattle.rlp_format.specs.Values.Value.{option_item}
-use Rattle.rlp_format.specs.Views.View.{View, view_of, item_at, item_count}
+use Rattle.rlp_values.specs.Views.View.{View, view_of, item_at, item_count}
 use Rattle.rlp_values.specs.Values.ListReading.{GivesAt, FaultsAt, GivesOption, no_value, one_value, FaultsAsOption, no_list, many_items, faulty_item}
 use Rattle.rlp_values.specs.Values.RoundTrip.{AlwaysReadsBack, ReadsBack}
 use Rattle.rlp_format.specs.Lemmas.Encodings.{encoding_list, small_payload, front_sized}
-use Rattle.rlp_format.specs.Lemmas.Views.{sized_items}
-use Rattle.rlp_format.specs.Lemmas.Numbered.{item_count-list, item_at-list_item}
+use Rattle.rlp_values.specs.Lemmas.Views.{sized_items}
+use Rattle.rlp_values.specs.Lemmas.Numbered.{item_count-list, item_at-list_item}
 
 -- ---- one item of a list
 

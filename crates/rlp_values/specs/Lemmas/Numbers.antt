@@ -7,13 +7,13 @@ use Rattle.std.specs.Int.Digits.{number_from_digits}
 use Rattle.rlp_format.specs.Format.WrittenHeader.{big_endian, written_header, AreBytes}
 use Rattle.rlp_format.specs.Format.Encoding.{encoding, string_encoding, is_low_byte}
 use Rattle.rlp_format.specs.Values.Value.{FitsBytes}
-use Rattle.rlp_format.specs.declared.error.DecoderError.TheVariants.{RlpInvalidIndirection}
+use Rattle.rlp_values.specs.declared.error.DecoderError.TheVariants.{RlpInvalidIndirection}
 use Rattle.rlp_values.specs.Values.ValueReading.{AreShortest, IsDigitsFault, too_long, leading_zero, GivesNumber, FaultsAsNumber, GivesValue, FaultsAs, IsLengthFault}
 use Rattle.rlp_values.specs.Values.ValueReading.{shorter, longer, no_string, no_value}
 use Rattle.rlp_format.specs.Format.Item.{string}
-use Rattle.rlp_format.specs.declared.error.DecoderError.{DecoderError}
-use Rattle.rlp_format.specs.Views.View.{View, Holds, HoldsString}
-use Rattle.rlp_format.specs.Lemmas.Reading.{bytes_held}
+use Rattle.rlp_values.specs.declared.error.DecoderError.{DecoderError}
+use Rattle.rlp_values.specs.Views.View.{View, Holds, HoldsString}
+use Rattle.rlp_format.specs.Lemmas.Digits.{bytes_held}
 use Rattle.rlp_format.specs.Lemmas.Digits.{digits_fit, digits_again, none_is_zero}
 use Rattle.rlp_format.specs.Lemmas.Headers.{written_header_short}
 

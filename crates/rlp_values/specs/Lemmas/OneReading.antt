@@ -7,19 +7,19 @@ use Rattle.std.proofs.lemmas.Bool.{cases_Bool, cases_lt, cond-true, cond-false}
 use Rattle.std.proofs.lemmas.Int.Digits.{length-digits_of-le}
 use Rattle.std.proofs.lemmas.List.Elements.{All-from_recursion, recursion_from_All}
 use Rattle.std.proofs.lemmas.Str.{IsUtf8-from_is_utf8, is_utf8-from_IsUtf8}
-use Rattle.rlp_format.specs.declared.error.DecoderError.{DecoderError}
-use Rattle.rlp_format.specs.declared.error.DecoderError.TheVariants.{RlpIsTooBig, RlpIsTooShort, RlpInvalidIndirection, RlpExpectedToBeData}
+use Rattle.rlp_values.specs.declared.error.DecoderError.{DecoderError}
+use Rattle.rlp_values.specs.declared.error.DecoderError.TheVariants.{RlpIsTooBig, RlpIsTooShort, RlpInvalidIndirection, RlpExpectedToBeData}
 use Rattle.rlp_format.specs.Format.Item.{string}
 use Rattle.rlp_format.specs.Format.WrittenHeader.{big_endian, written_header, AreBytes}
 use Rattle.rlp_format.specs.Format.Encoding.{encoding, string_encoding, is_low_byte}
-use Rattle.rlp_format.specs.Format.StringReading.{IsString}
+use Rattle.rlp_values.specs.Format.StringReading.{IsString}
 use Rattle.rlp_format.specs.Values.Value.{FitsBytes, number_item}
 use Rattle.rlp_values.specs.Values.ValueReading.{GivesValue, FaultsAs, no_string, no_value, GivesNumber, IsDigitsFault, too_long, leading_zero}
 use Rattle.rlp_values.specs.Values.ValueReading.{FaultsAsNumber, GivesBytes, FaultsAsBytes, GivesText, IsTextFault, FaultsAsText, IsLengthFault, shorter, longer, HasOneReading}
-use Rattle.rlp_format.specs.Views.Text.{error_name}
-use Rattle.rlp_format.specs.Views.View.{View, HoldsString, view_string}
+use Rattle.rlp_values.specs.Views.Text.{error_name}
+use Rattle.rlp_values.specs.Views.View.{View, HoldsString, view_string}
 use Rattle.rlp_format.specs.Lemmas.Digits.{big_endian_is, big_endian_first, big_endian_zero, pow-bytes, digits_fit, digits_again, none_is_zero}
-use Rattle.rlp_format.specs.Lemmas.Reading.{Bytes}
+use Rattle.rlp_values.specs.Lemmas.Reading.{Bytes}
 use Rattle.rlp_values.specs.Lemmas.StringsHeld.{ReadsHeld, held_begins, held_read, held_reads, same_held}
 
 -- ---- the elements of a string are bytes

@@ -2,10 +2,10 @@
 use Rattle.std.specs.Prelude.{◌==◌, IfSome, ⊤}
 use Rattle.std.proofs.Common.{◌≡◌, ◌↔◌, ℕ, ◌+◌, ◌<◌, ◌≤◌, inl, inr, List, length, map, refl, sym, arith, Option, Some, None, false}
 use Rattle.std.proofs.lemmas.List.{nil_from_length}
-use Rattle.rlp_format.specs.declared.error.DecoderError.{DecoderError}
+use Rattle.rlp_values.specs.declared.error.DecoderError.{DecoderError}
 use Rattle.rlp_format.specs.Format.Item.{Item}
 use Rattle.rlp_format.specs.Format.Encoding.{encoding}
-use Rattle.rlp_format.specs.Views.View.{View}
+use Rattle.rlp_values.specs.Views.View.{View}
 use Rattle.rlp_values.specs.Values.ListReading.{FaultsAt}
 use Rattle.rlp_format.specs.Values.Value.{items_if}
 use Rattle.rlp_values.specs.Values.FieldReading.{HoldsFrom, IsCount, NoneOr, PartsFrom, count_if}

@@ -1,26 +1,26 @@
 -- The item of a raw item is the one that its bytes are the encoding of.
 use Rattle.std.proofs.Common.{◌≡◌, ◌≤◌, ◌<◌, ◌^◌, ℕ, zero, suc, Bool, true, false, List, [], ◌∷◌, ◌++◌, length, map, refl, sym, ap, ◌∙◌, subst, arith}
 use Rattle.std.proofs.Common.{append-nil, Result, Ok, Err, leb-true, ◌⊎◌, inl, inr}
-use Rattle.rlp_format.specs.declared.error.DecoderError.{DecoderError}
-use Rattle.rlp_format.specs.declared.error.DecoderError.TheVariants.{OutOfMemory, RlpExpectedToBeData}
+use Rattle.rlp_values.specs.declared.error.DecoderError.{DecoderError}
+use Rattle.rlp_values.specs.declared.error.DecoderError.TheVariants.{OutOfMemory, RlpExpectedToBeData}
 use Rattle.rlp_format.specs.Format.Item.{Item, Items, is_list, string, list, no_items, item_and, items_from, listed, list_of, item_depth, items_depth}
 use Rattle.rlp_format.specs.Format.Encoding.{BeginsWith, encoding, IsSized}
-use Rattle.rlp_format.specs.Format.Framing.{frame}
-use Rattle.rlp_format.specs.Format.Split.{begins_as_list, items}
-use Rattle.rlp_format.specs.Format.Strict.{IsCanonical, IsCanonicalWithin, unless}
-use Rattle.rlp_format.specs.Format.StringReading.{read_string}
-use Rattle.rlp_format.specs.Views.Depth.{depth}
-use Rattle.rlp_format.specs.Views.View.{View, Holds, HoldsItem, strict_view_of, view_string}
+use Rattle.rlp_values.specs.Format.Framing.{frame}
+use Rattle.rlp_values.specs.Format.Split.{begins_as_list, items}
+use Rattle.rlp_values.specs.Format.Strict.{IsCanonical, IsCanonicalWithin, unless}
+use Rattle.rlp_values.specs.Format.StringReading.{read_string}
+use Rattle.rlp_values.specs.Views.Depth.{depth}
+use Rattle.rlp_values.specs.Views.View.{View, Holds, HoldsItem, strict_view_of, view_string}
 use Rattle.rlp_values.specs.Values.RawItem.{FaultsAsRaw, IsRawFault, IsRawItem, MayLackAsRaw, deepest_raw_item, faulty_frame, item_by, item_within}
 use Rattle.rlp_values.specs.Values.RawItem.{not_canonical, not_framed, raw_item_of, string_or_none, too_deep, view_frame}
 use Rattle.rlp_values.specs.Values.ValueReading.{GivesValue}
 use Rattle.rlp_format.specs.Lemmas.Encodings.{AllSized, front_sized, items_from-listed, list_written, parts_sized}
-use Rattle.rlp_format.specs.Lemmas.Frames.{encoding_framed}
-use Rattle.rlp_format.specs.Lemmas.Strings.{string_list, string_only}
-use Rattle.rlp_format.specs.Lemmas.Views.{items_of_list, list_shape}
-use Rattle.rlp_format.proofs.Views.Depths.{depth_of_item, not_list}
+use Rattle.rlp_values.specs.Lemmas.Frames.{encoding_framed}
+use Rattle.rlp_values.specs.Lemmas.Strings.{string_list, string_only}
+use Rattle.rlp_values.specs.Lemmas.Views.{items_of_list, list_shape}
+use Rattle.rlp_values.specs.Lemmas.Depths.{depth_of_item, not_list}
 use Rattle.rlp_values.specs.Lemmas.StringsHeld.{held_begins, held_read}
-use Rattle.rlp_format.specs.Lemmas.WholeItems.{strict_fault-encoding}
+use Rattle.rlp_values.specs.Lemmas.WholeItems.{strict_fault-encoding}
 
 -- a list isn't read as a string
 list_unread : (b : List ℕ) → begins_as_list b ≡ true → (e : DecoderError) × (read_string b ≡ Err e)

@@ -1,16 +1,16 @@
 -- Values whose encodings are read back.
 use Rattle.std.proofs.Common.{◌≡◌, ◌≢◌, codes, ◌↔◌, ℕ, ◌^◌, ◌<◌, List, length, sym, ap, subst, arith, IsUtf8, Bool, true, false}
 use Rattle.std.specs.Bool.{⊤}
-use Rattle.rlp_format.specs.declared.error.DecoderError.{DecoderError}
+use Rattle.rlp_values.specs.declared.error.DecoderError.{DecoderError}
 use Rattle.rlp_format.specs.Format.Item.{Item, string}
 use Rattle.rlp_format.specs.Format.Encoding.{BeginsWith, encoding}
-use Rattle.rlp_format.specs.Format.StringReading.{IsString}
+use Rattle.rlp_values.specs.Format.StringReading.{IsString}
 use Rattle.rlp_format.specs.Values.Value.{FitsBytes, number_item, bit}
 use Rattle.rlp_format.specs.Format.WrittenHeader.{big_endian}
 use Rattle.rlp_values.specs.Values.ValueReading.{GivesValue, FaultsAs, no_string, no_value, GivesNumber, IsDigitsFault, FaultsAsNumber, GivesBytes}
 use Rattle.rlp_values.specs.Values.ValueReading.{FaultsAsBytes, GivesText, IsTextFault, FaultsAsText, IsCustom, GivesBool, FaultsAsBool, no_number}
 use Rattle.rlp_values.specs.Values.ValueReading.{other_number, shorter, longer}
-use Rattle.rlp_format.specs.Views.View.{View, HoldsItem, HoldsString, view_of}
+use Rattle.rlp_values.specs.Views.View.{View, HoldsItem, HoldsString, view_of}
 use Rattle.rlp_values.specs.Values.RoundTrip.{ReadsBack}
 use Rattle.rlp_format.specs.Lemmas.Digits.{big_endian_same}
 use Rattle.rlp_values.specs.Lemmas.StringsHeld.{held_read, same_held}

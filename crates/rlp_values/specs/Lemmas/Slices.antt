@@ -3,19 +3,19 @@ use Rattle.std.proofs.Common.{◌≡◌, ℕ, zero, suc, ◌^◌, ◌<◌, ◌�
 use Rattle.std.proofs.Common.{Ok, Err, Result, le_refl}
 use Rattle.std.specs.List.{concat, slice_get}
 use Rattle.std.proofs.lemmas.List.Elements.{All-from_recursion, recursion_from_All}
-use Rattle.rlp_format.specs.declared.error.DecoderError.{DecoderError}
-use Rattle.rlp_format.specs.declared.header.PayloadInfo.{PayloadInfo}
-use Rattle.rlp_format.specs.Format.Split.{split, split_within, items, payload, begins_as_list, payload_in}
-use Rattle.rlp_format.specs.Format.Framing.{value, framing, map_ok}
+use Rattle.rlp_values.specs.declared.error.DecoderError.{DecoderError}
+use Rattle.rlp_values.specs.declared.header.PayloadInfo.{PayloadInfo}
+use Rattle.rlp_values.specs.Format.Split.{split, split_within, items, payload, begins_as_list, payload_in}
+use Rattle.rlp_values.specs.Format.Framing.{value, framing, map_ok}
 use Rattle.rlp_format.specs.Format.WrittenHeader.{AreBytes}
-use Rattle.rlp_format.specs.Views.View.{View, item_at, item_views}
+use Rattle.rlp_values.specs.Views.View.{View, item_at, item_views}
 use Rattle.std.proofs.Common.{Bool, true, false, take, drop, length-drop}
 use Rattle.std.proofs.lemmas.List.{length-take}
 use Rattle.rlp_values.specs.Lemmas.OneReading.{front_bytes, back_bytes}
-use Rattle.rlp_format.specs.Lemmas.Reading.{Bytes}
-use Rattle.rlp_format.specs.Lemmas.Frames.{walk}
-use Rattle.rlp_format.specs.Lemmas.Views.{payload_bytes}
-use Rattle.rlp_format.specs.Lemmas.Numbered.{item_at-slice_get}
+use Rattle.rlp_values.specs.Lemmas.Reading.{Bytes}
+use Rattle.rlp_values.specs.Lemmas.Frames.{walk}
+use Rattle.rlp_values.specs.Lemmas.Views.{payload_bytes}
+use Rattle.rlp_values.specs.Lemmas.Numbered.{item_at-slice_get}
 
 part : (whole_view : View) (n : ℕ) (fs : List (List ℕ)) (left : List ℕ) (i : ℕ) (v : View) → Bytes (concat fs ++ left)
     → length (concat fs ++ left) ≤ n → slice_get (map (λ b. record whole_view { bytes = b }) fs) i ≡ Some v → Bytes v.bytes × (length v.bytes ≤ n)

@@ -2,18 +2,18 @@
 use Rattle.std.proofs.Common.{◌≡◌, ℕ, ◌^◌, ◌<◌, List, [], ◌∷◌, ◌++◌, length, map, subst, sym, ap, refl, ◌∙◌, arith, append_assoc, length-append, None}
 use Rattle.std.specs.List.{All, AllByRecursion, concat}
 use Rattle.std.proofs.lemmas.List.Elements.{All-from_recursion, recursion_from_All}
-use Rattle.rlp_format.specs.declared.error.DecoderError.{DecoderError}
+use Rattle.rlp_values.specs.declared.error.DecoderError.{DecoderError}
 use Rattle.rlp_format.specs.Format.Item.{Item, list_of}
 use Rattle.rlp_format.specs.Format.WrittenHeader.{AreBytes}
 use Rattle.rlp_format.specs.Format.Encoding.{encoding}
-use Rattle.rlp_format.specs.Format.Split.{items, payload, rest}
-use Rattle.rlp_format.specs.Format.Strict.{strict_list_fault}
-use Rattle.rlp_format.specs.Views.View.{View, strict_view_of}
+use Rattle.rlp_values.specs.Format.Split.{items, payload, rest}
+use Rattle.rlp_values.specs.Format.Strict.{strict_list_fault}
+use Rattle.rlp_values.specs.Views.View.{View, strict_view_of}
 use Rattle.rlp_values.specs.Values.ListReading.{GivesEach, GivesList, FaultsAsList, not_list, faulty_in_list}
 use Rattle.rlp_values.specs.Lemmas.OneReading.{front_bytes, back_bytes}
-use Rattle.rlp_format.specs.Lemmas.Reading.{Bytes}
+use Rattle.rlp_values.specs.Lemmas.Reading.{Bytes}
 use Rattle.rlp_values.specs.Lemmas.Slices.{payload_short}
-use Rattle.rlp_format.specs.Lemmas.Views.{payload_bytes}
+use Rattle.rlp_values.specs.Lemmas.Views.{payload_bytes}
 use Rattle.rlp_values.specs.Values.RoundTrip.{AlwaysReadsStrictly}
 use Rattle.rlp_values.specs.Lemmas.WholeLists.{parts_same, payload_parts, strict_items, strict_list_fault-encoding, whole_list, whole_sized}
 

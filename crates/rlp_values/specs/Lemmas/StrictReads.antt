@@ -3,19 +3,19 @@ use Rattle.std.proofs.Common.{◌≡◌, ◌↔◌, ℕ, ◌^◌, ◌<◌, ⊎_e
 use Rattle.std.proofs.Common.{IsOkAnd, MatchResult, Option, Some, None, Ok, Err}
 use Rattle.std.specs.Bool.{⊤}
 use Rattle.std.proofs.lemmas.Bool.{cond-true}
-use Rattle.rlp_format.specs.declared.error.DecoderError.{DecoderError}
+use Rattle.rlp_values.specs.declared.error.DecoderError.{DecoderError}
 use Rattle.rlp_format.specs.Format.Item.{Item, string, list_of}
 use Rattle.rlp_format.specs.Format.WrittenHeader.{AreBytes}
 use Rattle.rlp_format.specs.Format.Encoding.{encoding, IsSized}
-use Rattle.rlp_format.specs.Format.Split.{begins_as_list, items}
-use Rattle.rlp_format.specs.Format.Strict.{strict_list_fault}
+use Rattle.rlp_values.specs.Format.Split.{begins_as_list, items}
+use Rattle.rlp_values.specs.Format.Strict.{strict_list_fault}
 use Rattle.rlp_format.specs.Values.Value.{FitsBytes, number_item, bit, option_item}
 use Rattle.rlp_values.specs.Values.ValueReading.{GivesValue, FaultsAs, GivesNumber, FaultsAsNumber, GivesBytes, FaultsAsBytes, GivesText, FaultsAsText}
 use Rattle.rlp_values.specs.Values.ValueReading.{GivesBool, FaultsAsBool}
 use Rattle.rlp_values.specs.Values.ListReading.{GivesAt, GivesOption, no_value, one_value, FaultsAsOption, no_list, many_items, faulty_item}
 use Rattle.rlp_values.specs.Values.RoundTrip.{AlwaysReadsStrictly, ReadsStrictly}
-use Rattle.rlp_format.specs.Views.View.{View, item_at, item_count, items_fault, strict_view_of}
-use Rattle.rlp_format.specs.Lemmas.Numbered.{item_count-fault, item_count-told, fault_cases, told_begins}
+use Rattle.rlp_values.specs.Views.View.{View, item_at, item_count, items_fault, strict_view_of}
+use Rattle.rlp_values.specs.Lemmas.Numbered.{item_count-fault, item_count-told, fault_cases, told_begins}
 use Rattle.rlp_values.specs.Lemmas.RoundTrips.{bit_below, bool_held_back, bytes_held_back, held_back, number_held_back, text_held_back}
 use Rattle.rlp_values.specs.Lemmas.Slices.{part_of_items}
 use Rattle.rlp_values.specs.Lemmas.WholeLists.{strict_first, strict_item_count, strict_items, strict_list_told, whole_list, whole_sized}

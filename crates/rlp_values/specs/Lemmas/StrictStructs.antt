@@ -2,14 +2,14 @@
 use Rattle.std.proofs.Common.{◌≡◌, ◌↔◌, ℕ, suc, ◌^◌, ◌<◌, List, [], ◌∷◌, ◌++◌, length, map, refl, sym, ap, ◌∙◌, subst, arith, append_assoc}
 use Rattle.std.proofs.Common.{length-append, IsOkAnd, MatchResult, Some, None, Ok}
 use Rattle.std.specs.List.{slice_get}
-use Rattle.rlp_format.specs.declared.error.DecoderError.{DecoderError}
+use Rattle.rlp_values.specs.declared.error.DecoderError.{DecoderError}
 use Rattle.rlp_format.specs.Format.Item.{Item}
 use Rattle.rlp_format.specs.Format.WrittenHeader.{AreBytes}
 use Rattle.rlp_format.specs.Format.Encoding.{encoding}
-use Rattle.rlp_format.specs.Format.Split.{items}
-use Rattle.rlp_format.specs.Views.View.{View, item_at, item_views, items_fault, strict_view_of}
+use Rattle.rlp_values.specs.Format.Split.{items}
+use Rattle.rlp_values.specs.Views.View.{View, item_at, item_views, items_fault, strict_view_of}
 use Rattle.rlp_values.specs.Values.ListReading.{FaultsAt, GivesAt}
-use Rattle.rlp_format.specs.Lemmas.Numbered.{slice_get-item_at}
+use Rattle.rlp_values.specs.Lemmas.Numbered.{slice_get-item_at}
 use Rattle.rlp_values.specs.Values.FieldReading.{PartsFrom}
 use Rattle.rlp_values.specs.Values.RoundTrip.{AlwaysReadsStrictly}
 use Rattle.rlp_values.specs.Lemmas.Slices.{part_of_items}

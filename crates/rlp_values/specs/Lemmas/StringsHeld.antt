@@ -2,18 +2,18 @@
 use Rattle.std.proofs.Common.{◌≡◌, ℕ, ◌^◌, ◌<◌, ◌≤◌, ⊎_elim, Bool, true, false, if◌then◌else◌, ltb, List, [], ◌∷◌, ◌++◌, length, sym, ap, ◌∙◌, subst}
 use Rattle.std.proofs.Common.{arith, append-nil, length-append, le-ltb, lt-ltb, Result, Ok, Err, MatchResult, IfErr}
 use Rattle.std.proofs.lemmas.Bool.{cases_lt, cond-true, cond-false}
-use Rattle.rlp_format.specs.declared.error.DecoderError.{DecoderError}
-use Rattle.rlp_format.specs.declared.error.DecoderError.TheVariants.{RlpIsTooBig}
+use Rattle.rlp_values.specs.declared.error.DecoderError.{DecoderError}
+use Rattle.rlp_values.specs.declared.error.DecoderError.TheVariants.{RlpIsTooBig}
 use Rattle.rlp_format.specs.Format.Item.{Item, string}
-use Rattle.rlp_format.specs.Format.Header.{HasHeader}
+use Rattle.rlp_values.specs.Format.Header.{HasHeader}
 use Rattle.rlp_format.specs.Format.WrittenHeader.{AreBytes}
 use Rattle.rlp_format.specs.Format.Encoding.{encoding, BeginsWith, IsSized}
-use Rattle.rlp_format.specs.Format.StringReading.{IsString, ReadsString, read_string}
-use Rattle.rlp_format.specs.Format.Strict.{is_followed, is_longer, whole_string}
-use Rattle.rlp_format.specs.Views.View.{View, Holds, HoldsItem, HoldsNoString, HoldsString, view_string}
+use Rattle.rlp_values.specs.Format.StringReading.{IsString, ReadsString, read_string}
+use Rattle.rlp_values.specs.Format.Strict.{is_followed, is_longer, whole_string}
+use Rattle.rlp_values.specs.Views.View.{View, Holds, HoldsItem, HoldsNoString, HoldsString, view_string}
 use Rattle.rlp_format.specs.Lemmas.Encodings.{front_sized}
-use Rattle.rlp_format.specs.Lemmas.Frames.{encoding_item, framing_is, longer}
-use Rattle.rlp_format.specs.Lemmas.Strings.{string_only, string_reads}
+use Rattle.rlp_values.specs.Lemmas.Frames.{encoding_item, framing_is, longer}
+use Rattle.rlp_values.specs.Lemmas.Strings.{string_only, string_reads}
 
 begins_by : (strict : Bool) (b s : List ℕ) → Holds strict b s → BeginsWith b s
 begins_by false b s holds = holds

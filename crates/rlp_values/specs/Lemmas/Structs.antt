@@ -2,17 +2,17 @@
 use Rattle.std.proofs.Common.{◌≡◌, ℕ, zero, suc, ◌+◌, ◌^◌, ◌<◌, ◌⊎◌, inl, inr, List, [], ◌∷◌, ◌++◌, length, refl, sym, ap, ◌∙◌, subst, arith}
 use Rattle.std.proofs.Common.{append_assoc, length-append, Ok, ◌≢◌, ⊎_elim}
 use Rattle.std.proofs.lemmas.Bool.{cases_lt}
-use Rattle.rlp_format.specs.declared.error.DecoderError.{DecoderError}
-use Rattle.rlp_format.specs.declared.error.DecoderError.TheVariants.{OutOfMemory, RlpIncorrectListLen}
+use Rattle.rlp_values.specs.declared.error.DecoderError.{DecoderError}
+use Rattle.rlp_values.specs.declared.error.DecoderError.TheVariants.{OutOfMemory, RlpIncorrectListLen}
 use Rattle.rlp_format.specs.Format.Item.{Item, list_of, items_from, listed}
 use Rattle.rlp_format.specs.Format.Encoding.{BeginsWith, encoding, join, IsSized}
-use Rattle.rlp_format.specs.Views.View.{View, view_of, item_at, item_count}
+use Rattle.rlp_values.specs.Views.View.{View, view_of, item_at, item_count}
 use Rattle.rlp_values.specs.Values.ListReading.{FaultsAsFields, no_fields, other_count, FaultsAt, GivesAt}
 use Rattle.rlp_values.specs.Values.FieldReading.{FaultsAsStruct, GivesFields, HoldsFrom, IsCount, MayLackAsStruct, NoMore, faulty_item, no_items, other_number}
 use Rattle.rlp_values.specs.Values.FieldPlace.{FieldPlace, field_place}
 use Rattle.rlp_values.specs.Values.RoundTrip.{AlwaysReadsBack, ReadsBack}
 use Rattle.rlp_format.specs.Lemmas.Encodings.{encoding_list, small_payload, listed_from}
-use Rattle.rlp_format.specs.Lemmas.Numbered.{item_at-list_item}
+use Rattle.rlp_values.specs.Lemmas.Numbered.{item_at-list_item}
 use Rattle.rlp_values.specs.Lemmas.ListRoundTrips.{item_reads_back, middle_sized}
 
 -- equal lists have the same first item, and the same others

@@ -2,19 +2,19 @@
 use Rattle.std.proofs.Common.{◌≡◌, ◌↔◌, ℕ, ◌^◌, ◌<◌, ◌⊎◌, inl, inr, ⊎_elim, true, false, List, [], ◌∷◌, length, refl, sym, ap, ◌∙◌, subst}
 use Rattle.std.proofs.Common.{arith, append-nil, Ok, Err}
 use Rattle.std.proofs.lemmas.Bool.{cases_lt, lt-leb}
-use Rattle.rlp_format.specs.declared.error.DecoderError.{DecoderError}
-use Rattle.rlp_format.specs.declared.error.DecoderError.TheVariants.{RlpExpectedToBeData}
+use Rattle.rlp_values.specs.declared.error.DecoderError.{DecoderError}
+use Rattle.rlp_values.specs.declared.error.DecoderError.TheVariants.{RlpExpectedToBeData}
 use Rattle.rlp_format.specs.Format.Item.{Item, list, list_of, listed, string}
 use Rattle.rlp_format.specs.Format.WrittenHeader.{AreBytes}
 use Rattle.rlp_format.specs.Format.Encoding.{BeginsWith, encoding}
-use Rattle.rlp_format.specs.Format.Split.{begins_as_list}
-use Rattle.rlp_format.specs.Format.StringReading.{IsString}
+use Rattle.rlp_values.specs.Format.Split.{begins_as_list}
+use Rattle.rlp_values.specs.Format.StringReading.{IsString}
 use Rattle.rlp_format.specs.Lemmas.Encodings.{front_sized, items_from-listed}
 use Rattle.rlp_format.specs.Lemmas.Lists.{head_same, tail_same}
-use Rattle.rlp_format.specs.Lemmas.Strings.{string_list, string_only}
-use Rattle.rlp_format.specs.Lemmas.Views.{list_shape}
+use Rattle.rlp_values.specs.Lemmas.Strings.{string_list, string_only}
+use Rattle.rlp_values.specs.Lemmas.Views.{list_shape}
 use Rattle.rlp_format.specs.Format.Item.{is_list}
-use Rattle.rlp_format.specs.Views.View.{View, HoldsItem, HoldsString, strict_view_of, view_of}
+use Rattle.rlp_values.specs.Views.View.{View, HoldsItem, HoldsString, strict_view_of, view_of}
 use Rattle.rlp_values.specs.Values.RoundTrip.{AlwaysReadsBack, AlwaysReadsStrictly, ReadsBack, ReadsStrictly}
 use Rattle.rlp_values.specs.Values.ValueReading.{FaultsAs, GivesValue}
 use Rattle.rlp_values.specs.Values.Sums.{ByFirstByte, IsEnvelopeFault, IsOtherTag, OnSum, faulty_payload, no_tag, other_tag, sum_item, sum_tag}

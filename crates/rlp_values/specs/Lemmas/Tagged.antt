@@ -1,13 +1,13 @@
 -- Lists of a tag and a payload that are read back and read strictly.
 use Rattle.std.proofs.Common.{◌≡◌, ◌↔◌, ℕ, zero, suc, ◌^◌, ◌<◌, List, [], ◌∷◌, length, refl, sym, ◌∙◌, subst, arith, Ok}
-use Rattle.rlp_format.specs.declared.error.DecoderError.{DecoderError}
+use Rattle.rlp_values.specs.declared.error.DecoderError.{DecoderError}
 use Rattle.rlp_format.specs.Format.Item.{Item, list_of}
 use Rattle.rlp_format.specs.Format.WrittenHeader.{AreBytes, big_endian}
 use Rattle.rlp_format.specs.Format.Encoding.{encoding}
 use Rattle.rlp_format.specs.Lemmas.Digits.{big_endian_same}
 use Rattle.rlp_format.specs.Lemmas.Encodings.{encoding_same}
 use Rattle.rlp_format.specs.Values.Value.{FitsBytes, number_item}
-use Rattle.rlp_format.specs.Views.View.{View, HoldsItem, item_count, strict_view_of, view_of}
+use Rattle.rlp_values.specs.Views.View.{View, HoldsItem, item_count, strict_view_of, view_of}
 use Rattle.rlp_values.specs.Values.RoundTrip.{ReadsBack, ReadsStrictly}
 use Rattle.rlp_values.specs.Values.ValueReading.{GivesNumber}
 use Rattle.rlp_values.specs.Values.ListReading.{FaultsAt, GivesAt}

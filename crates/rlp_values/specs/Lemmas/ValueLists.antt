@@ -2,15 +2,15 @@
 use Rattle.std.proofs.Common.{◌≡◌, ℕ, ◌^◌, ◌<◌, List, [], ◌∷◌, ◌++◌, length, map, subst, sym, ◌∙◌, ap, refl, arith, append-nil, length-append}
 use Rattle.std.specs.List.{All, AllByRecursion}
 use Rattle.std.proofs.lemmas.List.Elements.{All-from_recursion, recursion_from_All}
-use Rattle.rlp_format.specs.declared.error.DecoderError.{DecoderError}
+use Rattle.rlp_values.specs.declared.error.DecoderError.{DecoderError}
 use Rattle.rlp_format.specs.Format.Item.{Item, list_of}
 use Rattle.rlp_format.specs.Format.Encoding.{encoding, join, IsSized}
-use Rattle.rlp_format.specs.Views.View.{View, view_of, item_views}
+use Rattle.rlp_values.specs.Views.View.{View, view_of, item_views}
 use Rattle.rlp_values.specs.Values.ListReading.{GivesEach, GivesList, FaultsAsList, not_list, faulty_in_list}
 use Rattle.rlp_values.specs.Values.RoundTrip.{AlwaysReadsBack, ReadsBack}
 use Rattle.rlp_format.specs.Lemmas.Encodings.{encoding_list, front_sized, small_payload}
 use Rattle.std.proofs.lemmas.Simd.{map-map}
-use Rattle.rlp_format.specs.Lemmas.Numbered.{item_views-list}
+use Rattle.rlp_values.specs.Lemmas.Numbered.{item_views-list}
 use Rattle.rlp_values.specs.Lemmas.Structs.{cons_same, list_same}
 
 module _ {A : Type 0} (Fits : A → Type 0) (item : A → Item) (gives : View → A → Type 0) (faults : View → DecoderError → Type 0) where

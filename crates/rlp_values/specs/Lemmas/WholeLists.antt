@@ -5,21 +5,21 @@ use Rattle.std.proofs.Common.{None, Result, Ok, Err}
 use Rattle.std.specs.List.{concat, slice_get}
 use Rattle.std.proofs.lemmas.Bool.{cases_Bool, cases_lt, cond-true, cond-false}
 use Rattle.std.proofs.lemmas.List.{length-map}
-use Rattle.rlp_format.specs.declared.error.DecoderError.{DecoderError}
-use Rattle.rlp_format.specs.declared.error.DecoderError.TheVariants.{RlpExpectedToBeList, RlpIsTooBig}
-use Rattle.rlp_format.specs.declared.header.PayloadInfo.{PayloadInfo}
+use Rattle.rlp_values.specs.declared.error.DecoderError.{DecoderError}
+use Rattle.rlp_values.specs.declared.error.DecoderError.TheVariants.{RlpExpectedToBeList, RlpIsTooBig}
+use Rattle.rlp_values.specs.declared.header.PayloadInfo.{PayloadInfo}
 use Rattle.rlp_format.specs.Format.Item.{Item, list_of}
 use Rattle.rlp_format.specs.Format.WrittenHeader.{AreBytes}
 use Rattle.rlp_format.specs.Format.Encoding.{encoding, join, IsSized}
-use Rattle.rlp_format.specs.Format.Framing.{framing, total_len}
-use Rattle.rlp_format.specs.Format.Split.{begins_as_list, items, payload, rest, split, split_within}
-use Rattle.rlp_format.specs.Format.Strict.{fault_of_some, first_fault, strict_fault, strict_fault_in, strict_list_fault}
-use Rattle.rlp_format.specs.Views.View.{item_at, item_count, items_fault, strict_view_of}
+use Rattle.rlp_values.specs.Format.Framing.{framing, total_len}
+use Rattle.rlp_values.specs.Format.Split.{begins_as_list, items, payload, rest, split, split_within}
+use Rattle.rlp_values.specs.Format.Strict.{fault_of_some, first_fault, strict_fault, strict_fault_in, strict_list_fault}
+use Rattle.rlp_values.specs.Views.View.{item_at, item_count, items_fault, strict_view_of}
 use Rattle.rlp_format.specs.Lemmas.Encodings.{front_sized}
-use Rattle.rlp_format.specs.Lemmas.Frames.{Frames, framing_reads, join_is, walk}
-use Rattle.rlp_format.specs.Lemmas.Views.{items_of_list, list_shape, payload_bytes}
-use Rattle.rlp_format.specs.Lemmas.WholeItems.{strict_fault-encoding, whole_by}
-use Rattle.rlp_format.specs.Lemmas.Numbered.{item_count-told, slice_get-item_at}
+use Rattle.rlp_values.specs.Lemmas.Frames.{Frames, framing_reads, join_is, walk}
+use Rattle.rlp_values.specs.Lemmas.Views.{items_of_list, list_shape, payload_bytes}
+use Rattle.rlp_values.specs.Lemmas.WholeItems.{strict_fault-encoding, whole_by}
+use Rattle.rlp_values.specs.Lemmas.Numbered.{item_count-told, slice_get-item_at}
 
 -- ---- a list without a strict fault is read whole
 

@@ -1,15 +1,15 @@
 -- Structs that are lists of their fields: their encodings are read back, and they are read strictly, if the fields are.
 use Rattle.std.proofs.Common.{◌≡◌, ◌↔◌, ℕ, suc, ◌+◌, ◌^◌, ◌<◌, ◌≤◌, List, length, map, refl, sym, ap, ◌∙◌, subst, arith, Ok}
-use Rattle.rlp_format.specs.declared.error.DecoderError.{DecoderError}
+use Rattle.rlp_values.specs.declared.error.DecoderError.{DecoderError}
 use Rattle.rlp_format.specs.Format.Item.{Item, list_of}
 use Rattle.rlp_format.specs.Format.WrittenHeader.{AreBytes}
 use Rattle.rlp_format.specs.Format.Encoding.{encoding, IsSized}
-use Rattle.rlp_format.specs.Format.Split.{items}
-use Rattle.rlp_format.specs.Views.View.{View, view_of, strict_view_of, item_count}
+use Rattle.rlp_values.specs.Format.Split.{items}
+use Rattle.rlp_values.specs.Views.View.{View, view_of, strict_view_of, item_count}
 use Rattle.rlp_values.specs.Values.ListReading.{FaultsAt}
 use Rattle.rlp_values.specs.Values.FieldReading.{FaultsAsStruct, HoldsFrom, IsCount, NoMore, PartsFrom, faulty_item, no_items, other_number}
 use Rattle.rlp_format.specs.Lemmas.Encodings.{front_sized}
-use Rattle.rlp_format.specs.Lemmas.Numbered.{item_count-list}
+use Rattle.rlp_values.specs.Lemmas.Numbered.{item_count-list}
 use Rattle.rlp_values.specs.Values.RoundTrip.{AlwaysReadsBack, AlwaysReadsStrictly}
 use Rattle.rlp_values.specs.Lemmas.StrictReads.{counted_items, counted_told, told_whole}
 use Rattle.rlp_values.specs.Lemmas.StrictStructs.{parts_of_strict}

@@ -1,9 +1,9 @@
 -- The place of a reader of fields.
 use Rattle.std.specs.Prelude.{ℕ, ◌≡◌, ◌≤◌, List, None, Err, length, drop}
-use Rattle.rlp_format.specs.Format.Framing.{fault}
-use Rattle.rlp_format.specs.Format.Split.{items, split}
-use Rattle.rlp_format.specs.Format.Strict.{after_items}
-use Rattle.rlp_format.specs.Views.View.{View, item_at, items_fault}
+use Rattle.rlp_values.specs.Format.Framing.{fault}
+use Rattle.rlp_values.specs.Format.Split.{items, split}
+use Rattle.rlp_values.specs.Format.Strict.{after_items}
+use Rattle.rlp_values.specs.Views.View.{View, item_at, items_fault}
 
 -- The view whose items are the fields, and the number of items that the reader took.
 pub record FieldPlace : Type 0 where

@@ -1,11 +1,11 @@
 -- The fields of a struct, read from the items of a list.
 use Rattle.std.specs.Prelude.{◌≡◌, ◌<◌, ◌+◌, ◌*◌, ◌%◌, ◌^◌, ◌⊎◌, ℕ, zero, suc, List, [], ◌∷◌, length, Option, Some, None, Ok, Err, IfSome, ⊤}
-use Rattle.rlp_format.specs.declared.error.DecoderError.{DecoderError}
-use Rattle.rlp_format.specs.declared.error.DecoderError.TheVariants.{OutOfMemory, RlpIncorrectListLen}
+use Rattle.rlp_values.specs.declared.error.DecoderError.{DecoderError}
+use Rattle.rlp_values.specs.declared.error.DecoderError.TheVariants.{OutOfMemory, RlpIncorrectListLen}
 use Rattle.rlp_format.specs.Format.Item.{Item}
 use Rattle.rlp_format.specs.Format.WrittenHeader.{AreBytes}
 use Rattle.rlp_format.specs.Format.Encoding.{IsSized, encoding}
-use Rattle.rlp_format.specs.Views.View.{View, item_at, item_count, strict_view_of, view_of}
+use Rattle.rlp_values.specs.Views.View.{View, item_at, item_count, strict_view_of, view_of}
 use Rattle.rlp_values.specs.Values.ListReading.{FaultsAt}
 
 -- `first` for place 0, and `others` for the places after it

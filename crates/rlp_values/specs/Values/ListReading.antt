@@ -1,8 +1,8 @@
 -- The values that the items of a list give, and the value of an item by its number.
 use Rattle.std.specs.Prelude.{◌≡◌, ◌≢◌, ◌++◌, ◌∷◌, ◌⊎◌, ◌<◌, ℕ, List, [], Option, Some, None, Result, Ok, Err, MatchResult, IsOkAnd}
-use Rattle.rlp_format.specs.declared.error.DecoderError.{DecoderError}
-use Rattle.rlp_format.specs.declared.error.DecoderError.TheVariants.{OutOfMemory, RlpIncorrectListLen}
-use Rattle.rlp_format.specs.Views.View.{View, item_at, item_count, item_views, list_fault}
+use Rattle.rlp_values.specs.declared.error.DecoderError.{DecoderError}
+use Rattle.rlp_values.specs.declared.error.DecoderError.TheVariants.{OutOfMemory, RlpIncorrectListLen}
+use Rattle.rlp_values.specs.Views.View.{View, item_at, item_count, item_views, list_fault}
 use Rattle.rlp_values.specs.Values.ValueReading.{GivesSome}
 
 -- there is one value for each view, and each view gives the value in its place

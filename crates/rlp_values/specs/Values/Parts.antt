@@ -1,7 +1,7 @@
 -- The fields of a part of a value, and others after them.
 use Rattle.std.specs.Prelude.{ℕ, zero, suc, ◌+◌, ◌≡◌, Ok}
-use Rattle.rlp_format.specs.declared.error.DecoderError.{DecoderError}
-use Rattle.rlp_format.specs.Views.View.{View, item_count}
+use Rattle.rlp_values.specs.declared.error.DecoderError.{DecoderError}
+use Rattle.rlp_values.specs.Views.View.{View, item_count}
 use Rattle.rlp_values.specs.Values.FieldReading.{FaultsAsStruct, FieldsReading, MayLackAsStruct}
 
 -- `first` for the places below `width`, and `others` for those after them

@@ -1,13 +1,13 @@
 -- Items that are kept as the bytes of their encodings.
 use Rattle.std.specs.Prelude.{ℕ, zero, suc, ◌≡◌, ◌≤◌, ◌<◌, List, [], map, codes, Result, Ok, Err}
-use Rattle.rlp_format.specs.declared.error.DecoderError.{DecoderError}
+use Rattle.rlp_values.specs.declared.error.DecoderError.{DecoderError}
 use Rattle.rlp_format.specs.Format.Item.{Item, string, list_of}
-use Rattle.rlp_format.specs.Format.Framing.{frame}
-use Rattle.rlp_format.specs.Format.Split.{items}
-use Rattle.rlp_format.specs.Format.Strict.{IsCanonical, IsCanonicalWithin, unless}
-use Rattle.rlp_format.specs.Format.StringReading.{read_string}
-use Rattle.rlp_format.specs.Views.Depth.{depth}
-use Rattle.rlp_format.specs.Views.View.{View, frame_fault}
+use Rattle.rlp_values.specs.Format.Framing.{frame}
+use Rattle.rlp_values.specs.Format.Split.{items}
+use Rattle.rlp_values.specs.Format.Strict.{IsCanonical, IsCanonicalWithin, unless}
+use Rattle.rlp_values.specs.Format.StringReading.{read_string}
+use Rattle.rlp_values.specs.Views.Depth.{depth}
+use Rattle.rlp_values.specs.Views.View.{View, frame_fault}
 use Rattle.rlp_values.specs.Values.ValueReading.{IsCustom}
 
 -- the string that was read, or no bytes for a fault

@@ -1,7 +1,7 @@
 -- One reading of a struct: a value of each field, or one fault.
 use Rattle.std.specs.Prelude.{ℕ, ◌≡◌, ◌<◌, ◌⊎◌, Ok}
-use Rattle.rlp_format.specs.declared.error.DecoderError.{DecoderError}
-use Rattle.rlp_format.specs.Views.View.{View, item_count}
+use Rattle.rlp_values.specs.declared.error.DecoderError.{DecoderError}
+use Rattle.rlp_values.specs.Views.View.{View, item_count}
 use Rattle.rlp_values.specs.Values.ValueReading.{IsSameFault}
 use Rattle.rlp_values.specs.Values.ListReading.{FaultsAt}
 use Rattle.rlp_values.specs.Values.FieldReading.{GivesFields, IsCount}

@@ -1,12 +1,12 @@
 -- Values of several types: told apart by a list or a string, or by a tag, which is a number in front of a payload.
 use Rattle.std.specs.Prelude.{ℕ, ◌≡◌, ◌≢◌, ◌⊎◌, ⊤, true, false, List, [], ◌∷◌, Ok, Err}
 use Rattle.std.proofs.Common.{inl, inr}
-use Rattle.rlp_format.specs.declared.error.DecoderError.{DecoderError}
-use Rattle.rlp_format.specs.declared.error.DecoderError.TheVariants.{RlpIncorrectListLen, RlpIsTooShort}
+use Rattle.rlp_values.specs.declared.error.DecoderError.{DecoderError}
+use Rattle.rlp_values.specs.declared.error.DecoderError.TheVariants.{RlpIncorrectListLen, RlpIsTooShort}
 use Rattle.rlp_format.specs.Format.Item.{Item}
-use Rattle.rlp_format.specs.Format.Split.{begins_as_list}
+use Rattle.rlp_values.specs.Format.Split.{begins_as_list}
 use Rattle.rlp_format.specs.Format.WrittenHeader.{AreBytes}
-use Rattle.rlp_format.specs.Views.View.{View, HoldsString, item_count, strict_view_of}
+use Rattle.rlp_values.specs.Views.View.{View, HoldsString, item_count, strict_view_of}
 use Rattle.rlp_values.specs.Values.ValueReading.{FaultsAsNumber, GivesNumber, IsCustom}
 use Rattle.rlp_values.specs.Values.ListReading.{FaultsAt, GivesAt, MayLackAt}
 

@@ -1,11 +1,11 @@
 -- The value that a view gives, and why it gives none: numbers, byte strings and text.
 use Rattle.std.specs.Prelude.{ℕ, ◌≡◌, ◌≢◌, ◌≤◌, ◌<◌, ◌⊎◌, ⊤, List, [], ◌∷◌, ◌++◌, length, codes, IsUtf8, Err, Bool}
-use Rattle.rlp_format.specs.declared.error.DecoderError.{DecoderError}
-use Rattle.rlp_format.specs.declared.error.DecoderError.TheVariants.{RlpIsTooBig, RlpIsTooShort, RlpInvalidIndirection, RlpExpectedToBeData}
+use Rattle.rlp_values.specs.declared.error.DecoderError.{DecoderError}
+use Rattle.rlp_values.specs.declared.error.DecoderError.TheVariants.{RlpIsTooBig, RlpIsTooShort, RlpInvalidIndirection, RlpExpectedToBeData}
 use Rattle.rlp_format.specs.Format.Item.{Item, string}
 use Rattle.rlp_format.specs.Values.Value.{number_item, FitsBytes, AreAlike, bit}
-use Rattle.rlp_format.specs.Views.Text.{error_name}
-use Rattle.rlp_format.specs.Views.View.{View, HoldsItem, HoldsString, view_string}
+use Rattle.rlp_values.specs.Views.Text.{error_name}
+use Rattle.rlp_values.specs.Views.View.{View, HoldsItem, HoldsString, view_string}
 
 -- The view gives the value x: x fits its type, and the view holds its item.
 pub record GivesValue {A : Type 0} (Fits : A → Type 0) (item : A → Item) (v : View) (x : A) : Type 0 where

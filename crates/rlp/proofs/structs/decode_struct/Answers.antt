@@ -1,6 +1,6 @@
 use Rattle.std.proofs.Common.{◌≡◌, Ok, arith}
 use Rattle.std.proofs.lemmas.Grind.{common_steps}
-use Rattle.rlp_format.specs.Views.View.{item_count}
+use Rattle.rlp_values.specs.Views.View.{item_count}
 use Rattle.rlp_values.specs.Values.FieldReading.{IsCount}
 use Rattle.rlp_values.proofs.Values.FieldReading.{struct_faulty}
 use Rattle.rlp.proofs.structs.decode_struct.Goals as goal

@@ -1,6 +1,6 @@
 use Rattle.std.proofs.Common.{inl, inr, refl, sym, ◌∙◌, arith}
-use Rattle.rlp_format.specs.declared.error.DecoderError.TheVariants.{RlpExpectedToBeList}
-use Rattle.rlp_format.proofs.Format.StrictLists.{strict_not_begun, strict_not_whole, strict_whole}
+use Rattle.rlp_values.specs.declared.error.DecoderError.TheVariants.{RlpExpectedToBeList}
+use Rattle.rlp_values.proofs.Format.StrictLists.{strict_not_begun, strict_not_whole, strict_whole}
 use Rattle.rlp_c.proofs.Splitting.{itemized, not_itemized}
 use Rattle.rlp_c.proofs.split.rlp_split.Goals as goal
 

@@ -1,6 +1,6 @@
 use Rattle.std.proofs.Common.{◌<◌, ◌++◌, ◌∙◌, ap, ◌∷◌, [], ◌-◌, sym, arith, rules}
-use Rattle.rlp_format.specs.Format.Split.{items, split}
-use Rattle.rlp_format.specs.Views.Depth.{depth}
+use Rattle.rlp_values.specs.Format.Split.{items, split}
+use Rattle.rlp_values.specs.Views.Depth.{depth}
 use Rattle.rlp_values.proofs.Views.Printing.{depth-string, shallow-other, deep-list, deep-item, shallow-list, greatest-more, items-list, done-next}
 use Rattle.rlp_values.proofs.Views.Printing.{done-more, done-all}
 use Rattle.rlp_values.proofs.depth.+is_nested_within.Goals as goal

@@ -1,6 +1,6 @@
 use Rattle.std.proofs.Common.{◌≡◌, ◌≤◌, ◌-◌, ◌++◌, length, map, List, ℕ}
-use Rattle.rlp_format.specs.Format.Split.{items, split}
-use Rattle.rlp_format.specs.Views.Depth.{depth, greatest}
+use Rattle.rlp_values.specs.Format.Split.{items, split}
+use Rattle.rlp_values.specs.Views.Depth.{depth, greatest}
 use Rattle.rlp_values.proofs.depth.+is_nested_within.Given as goal
 
 abbrev pub decreases-is_nested_within : goal.decreases-is_nested_within

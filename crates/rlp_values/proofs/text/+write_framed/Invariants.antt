@@ -1,7 +1,7 @@
 use Rattle.std.proofs.Common.{◌≡◌, ◌++◌, length, map, List, ℕ}
 use Rattle.std.specs.Fmt.{HasWrittenStyled, IsFlush}
-use Rattle.rlp_format.specs.Format.Split.{items, split}
-use Rattle.rlp_format.specs.Views.Text.{text, separated}
+use Rattle.rlp_values.specs.Format.Split.{items, split}
+use Rattle.rlp_values.specs.Views.Text.{text, separated}
 use Rattle.rlp_values.proofs.Views.Printing.{separator_after}
 use Rattle.rlp_values.proofs.text.+write_framed.Given as goal
 

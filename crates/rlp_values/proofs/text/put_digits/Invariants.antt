@@ -1,5 +1,5 @@
 use Rattle.std.proofs.Common.{◌≡◌, ◌*◌, length, take}
-use Rattle.rlp_format.specs.Views.Text.{hex}
+use Rattle.rlp_values.specs.Views.Text.{hex}
 use Rattle.rlp_values.proofs.text.put_digits.Given as goal
 
 abbrev pub invariant-bytes : goal.invariant-bytes

@@ -1,6 +1,6 @@
 use Rattle.std.proofs.Common.{[], ◌++◌, ap, refl, rules, ◌∙◌}
 use Rattle.std.proofs.Output.{has_written_styled_append, has_written_styled_of_eq}
-use Rattle.rlp_format.specs.Views.Text.{hex}
+use Rattle.rlp_values.specs.Views.Text.{hex}
 use Rattle.rlp_values.proofs.Views.HexDigits.{all-cut, hex-append}
 use Rattle.rlp_values.proofs.text.write_hex.Goals as goal
 

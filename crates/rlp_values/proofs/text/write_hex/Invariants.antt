@@ -1,6 +1,6 @@
 use Rattle.std.proofs.Common.{◌≡◌, ◌++◌, length, List, ℕ}
 use Rattle.std.specs.Fmt.{HasWrittenStyled, IsFlush}
-use Rattle.rlp_format.specs.Views.Text.{hex}
+use Rattle.rlp_values.specs.Views.Text.{hex}
 use Rattle.rlp_values.proofs.text.write_hex.Given as goal
 
 -- some bytes are written, and the others are the rest

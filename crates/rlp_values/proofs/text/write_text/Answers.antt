@@ -1,7 +1,7 @@
 use Rattle.std.proofs.Common.{ap, refl, sym, ◌∙◌}
 use Rattle.std.proofs.Output.{has_written_styled_of_eq}
-use Rattle.rlp_format.specs.Views.Text.{text}
-use Rattle.rlp_format.proofs.Format.Following.{text-followed}
+use Rattle.rlp_values.specs.Views.Text.{text}
+use Rattle.rlp_values.proofs.Format.Following.{text-followed}
 use Rattle.rlp_values.proofs.Views.Printing.{length-some, text-null, text-fault}
 use Rattle.rlp_values.proofs.text.write_text.Goals as goal
 

@@ -1,8 +1,8 @@
 use Rattle.std.proofs.Common.{rules, ◌+◌, ◌-◌, ◌<◌, ◌≤◌, ◌^◌, ◌∙◌, length, sym, ap, arith, length-append}
 use Rattle.rlp_format.specs.Format.Encoding.{join}
-use Rattle.rlp_format.specs.Format.Framing.{framing}
-use Rattle.rlp_format.proofs.Format.Following.{framing-followed}
-use Rattle.rlp_format.proofs.Format.StrictLists.{no_bytes, some_bytes}
+use Rattle.rlp_values.specs.Format.Framing.{framing}
+use Rattle.rlp_values.proofs.Format.Following.{framing-followed}
+use Rattle.rlp_values.proofs.Format.StrictLists.{no_bytes, some_bytes}
 use Rattle.rlp_values.proofs.Trees.Needless.{list_header, whole_item}
 use Rattle.rlp_values.proofs.Trees.Faults.{walk_fault-deep, walk_fault-string}
 use Rattle.rlp_values.proofs.Trees.Walks.{fault_of_bytes, fault_of_item, fault_of_none, fault_within, walked_string_within, walked_within, walking_all, walking_none, walking_one}

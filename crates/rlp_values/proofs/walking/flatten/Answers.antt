@@ -1,5 +1,5 @@
 use Rattle.std.proofs.Common.{length, drop, arith}
-use Rattle.rlp_format.specs.Format.TreeFaults.{faulty, refused}
+use Rattle.rlp_values.specs.Format.TreeFaults.{faulty, refused}
 use Rattle.rlp_values.proofs.Trees.Flattening.{flattened_vec}
 use Rattle.rlp_values.proofs.walking.flatten.Goals as goal
 

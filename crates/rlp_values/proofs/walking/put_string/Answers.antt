@@ -1,5 +1,5 @@
 use Rattle.std.proofs.Common.{rules, ◌≡◌, false, true, sym, ◌∙◌, arith}
-use Rattle.rlp_format.specs.Lemmas.Frames.{item_some}
+use Rattle.rlp_values.specs.Lemmas.Frames.{item_some}
 use Rattle.rlp_values.proofs.Trees.Faults.{needless_fault-none, needless_fault-some}
 use Rattle.rlp_values.proofs.Trees.Needless.{IsNeedless, is_needless_by, needless_is, string_needless, whole_item}
 use Rattle.rlp_values.proofs.Trees.Walks.{walked_string}

@@ -1,5 +1,5 @@
 use Rattle.std.proofs.Common.{arith}
-use Rattle.rlp_format.specs.Lemmas.Reading.{bytes_held}
+use Rattle.rlp_format.specs.Lemmas.Digits.{bytes_held}
 use Rattle.rlp_values.specs.Lemmas.OneReading.{text_reading}
 use Rattle.rlp.proofs.laws.reading.text_is_read.Goals as goal
 

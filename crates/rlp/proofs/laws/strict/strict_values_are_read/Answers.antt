@@ -1,5 +1,5 @@
 use Rattle.std.proofs.Common.{arith}
-use Rattle.rlp_format.specs.Lemmas.Reading.{bytes_held}
+use Rattle.rlp_format.specs.Lemmas.Digits.{bytes_held}
 use Rattle.rlp_values.specs.Lemmas.OneReading.{array_reading, bytes_reading, number_reading, text_reading}
 use Rattle.rlp_values.proofs.Values.ListReadings.{bool_reading}
 use Rattle.rlp.proofs.laws.strict.strict_values_are_read.Goals as goal

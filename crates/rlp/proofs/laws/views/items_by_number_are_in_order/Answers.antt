@@ -1,5 +1,5 @@
-use Rattle.rlp_format.specs.Views.View.{view_of}
-use Rattle.rlp_format.specs.Lemmas.Numbered.{lenient_item_at, item_at-past_same}
+use Rattle.rlp_values.specs.Views.View.{view_of}
+use Rattle.rlp_values.specs.Lemmas.Numbered.{lenient_item_at, item_at-past_same}
 use Rattle.rlp.proofs.laws.views.items_by_number_are_in_order.Goals as goal
 
 pub returns : goal.returns

@@ -1,6 +1,6 @@
 use Rattle.std.proofs.Common.{arith}
 use Rattle.rlp_format.specs.Lemmas.Encodings.{front_sized}
-use Rattle.rlp_format.specs.Lemmas.Numbered.{item_count-list, item_views-list, item_at-list_item}
+use Rattle.rlp_values.specs.Lemmas.Numbered.{item_count-list, item_views-list, item_at-list_item}
 use Rattle.rlp.proofs.laws.views.view_of_list_has_its_items.Goals as goal
 
 pub returns : goal.returns

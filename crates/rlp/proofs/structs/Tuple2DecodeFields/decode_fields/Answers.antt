@@ -1,5 +1,5 @@
 use Rattle.std.proofs.Common.{◌≤◌, ℕ}
-use Rattle.rlp_format.specs.Views.View.{View}
+use Rattle.rlp_values.specs.Views.View.{View}
 use Rattle.rlp_values.specs.Values.ListReading.{MayLackAt}
 use Rattle.rlp_values.proofs.Values.FieldReading.{first_fails, others_fail, others_some, some_items}
 use Rattle.rlp.proofs.structs.Tuple2DecodeFields.decode_fields.Goals as goal

@@ -1,6 +1,6 @@
 use Rattle.std.proofs.Common.{refl, sym, ◌∙◌, arith}
-use Rattle.rlp_format.specs.declared.error.DecoderError.TheVariants.{RlpExpectedToBeList}
-use Rattle.rlp_format.proofs.Format.StrictLists.{strict_not_begun, strict_not_whole, strict_whole}
+use Rattle.rlp_values.specs.declared.error.DecoderError.TheVariants.{RlpExpectedToBeList}
+use Rattle.rlp_values.proofs.Format.StrictLists.{strict_not_begun, strict_not_whole, strict_whole}
 use Rattle.rlp_c.specs.Records.{no_list}
 use Rattle.rlp_c.proofs.RecordAnswers.{payload_fits, read_fault, read_filled, read_full}
 use Rattle.rlp_c.proofs.records.calls.read_record.Goals as goal

@@ -1,5 +1,5 @@
 use Rattle.std.proofs.Common.{◌<◌, ◌^◌, length, arith}
-use Rattle.rlp_format.specs.Lemmas.Reading.{bytes_held}
+use Rattle.rlp_format.specs.Lemmas.Digits.{bytes_held}
 use Rattle.rlp_c.proofs.ReadRecords.{header_found}
 use Rattle.rlp_c.proofs.WrittenRecords.{header_written}
 use Rattle.rlp_c.proofs.records.calls.rlp_header_fields.Goals as goal

@@ -1,6 +1,6 @@
 use Rattle.std.proofs.Common.{rules, sym, ap, ◌∙◌, ◌-◌, Some, None}
-use Rattle.rlp_format.specs.Lemmas.Frames.{item_some}
-use Rattle.rlp_format.proofs.Format.StrictLists.{no_bytes}
+use Rattle.rlp_values.specs.Lemmas.Frames.{item_some}
+use Rattle.rlp_values.proofs.Format.StrictLists.{no_bytes}
 use Rattle.rlp_c.specs.Fields.{field_fault, fields_fault}
 use Rattle.rlp_c.proofs.Checking.{checking_ends, checking_none, checking_one, checking_short, list_field, unchecked}
 use Rattle.rlp_c.proofs.records.fields.+fields.Goals as goal

@@ -1,7 +1,7 @@
 use Rattle.std.proofs.Common.{◌≡◌, ◌≤◌, inl, refl, subst, sym, false, true, IsTrue, arith, ◌∙◌}
-use Rattle.rlp_format.specs.Views.Depth.{depth}
-use Rattle.rlp_format.specs.Views.View.{View}
-use Rattle.rlp_format.specs.Format.Strict.{IsCanonicalWithin}
+use Rattle.rlp_values.specs.Views.Depth.{depth}
+use Rattle.rlp_values.specs.Views.View.{View}
+use Rattle.rlp_values.specs.Format.Strict.{IsCanonicalWithin}
 use Rattle.rlp_values.specs.Values.RawItem.{deepest_raw_item, not_canonical}
 use Rattle.rlp_values.specs.Lemmas.RawItems.{not_canonical_if, raw_is}
 use Rattle.rlp.proofs.impls.raw_item.RawItem.new.Goals as goal

@@ -1,8 +1,8 @@
 use Rattle.std.proofs.Common.{◌≡◌, [], subst, refl, MatchResult}
 use Rattle.std.proofs.Common.{arith}
 use Rattle.std.proofs.lemmas.List.{nil_from_length}
-use Rattle.rlp_format.specs.declared.error.DecoderError.TheVariants.{RlpIsTooShort}
-use Rattle.rlp_format.specs.Views.View.{HoldsNoString, HoldsString}
+use Rattle.rlp_values.specs.declared.error.DecoderError.TheVariants.{RlpIsTooShort}
+use Rattle.rlp_values.specs.Views.View.{HoldsNoString, HoldsString}
 use Rattle.rlp_values.specs.Values.ValueReading.{no_value}
 use Rattle.rlp.proofs.rlpin.envelope.Envelope.of.Goals as goal
 

@@ -1,5 +1,5 @@
 use Rattle.std.proofs.Common.{ap, sym, ◌∙◌}
-use Rattle.rlp_format.specs.Format.Split.{split}
+use Rattle.rlp_values.specs.Format.Split.{split}
 use Rattle.rlp_values.proofs.Views.InOrder.{all_counted, more_counted}
 use Rattle.rlp.proofs.rlpin.fields.Fields.finish.Goals as goal
 

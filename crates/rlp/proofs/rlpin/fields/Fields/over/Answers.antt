@@ -1,6 +1,6 @@
 use Rattle.std.proofs.Common.{ap, refl, sym, ◌∙◌}
-use Rattle.rlp_format.specs.Format.Framing.{framing, value}
-use Rattle.rlp_format.specs.Format.Split.{split}
+use Rattle.rlp_values.specs.Format.Framing.{framing, value}
+use Rattle.rlp_values.specs.Format.Split.{split}
 use Rattle.rlp_values.proofs.Views.InOrder.{framed_place, unframed_place}
 use Rattle.rlp.proofs.rlpin.fields.Fields.over.Goals as goal
 

@@ -1,7 +1,7 @@
 use Rattle.std.proofs.Common.{sym, subst, refl, inl, inr}
 use Rattle.std.proofs.lemmas.Result.{err_from_is_err_and}
 use Rattle.rlp_values.specs.Values.ListReading.{GivesEach, not_list}
-use Rattle.rlp_format.specs.Views.View.{item_views}
+use Rattle.rlp_values.specs.Views.View.{item_views}
 use Rattle.rlp_values.proofs.Values.ListValues.{views-next, views-more, views-all, gives-more, faults-first, no-room}
 use Rattle.rlp.proofs.rlpin.rlp.Rlp.as_list.Goals as goal
 

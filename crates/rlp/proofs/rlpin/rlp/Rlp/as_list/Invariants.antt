@@ -1,6 +1,6 @@
 use Rattle.std.proofs.Common.{◌≡◌, ◌++◌, length}
 use Rattle.rlp_values.specs.Values.ListReading.{GivesEach}
-use Rattle.rlp_format.specs.Views.View.{item_views}
+use Rattle.rlp_values.specs.Views.View.{item_views}
 use Rattle.rlp.proofs.rlpin.rlp.Rlp.as_list.Given as goal
 
 -- the items so far gave the values so far, and the others are left

@@ -1,8 +1,8 @@
 use Rattle.std.proofs.Common.{◌≡◌, ◌≤◌, ◌↔◌, IsTrue, ℕ, ap, subst, sym, ◌∙◌}
-use Rattle.rlp_format.specs.Format.Framing.{value}
-use Rattle.rlp_format.specs.Views.Depth.{depth}
-use Rattle.rlp_format.specs.Views.View.{View}
-use Rattle.rlp_format.proofs.Format.Following.{depth-followed}
+use Rattle.rlp_values.specs.Format.Framing.{value}
+use Rattle.rlp_values.specs.Views.Depth.{depth}
+use Rattle.rlp_values.specs.Views.View.{View}
+use Rattle.rlp_values.proofs.Format.Following.{depth-followed}
 use Rattle.rlp_values.proofs.Views.Printing.{depth-fault, shallow-other}
 use Rattle.rlp.proofs.rlpin.rlp.Rlp.is_nested_within.Goals as goal
 

@@ -1,6 +1,6 @@
 use Rattle.std.proofs.Common.{◌≡◌, true, ap, sym, ◌∙◌}
-use Rattle.rlp_format.specs.Views.View.{View}
-use Rattle.rlp_format.proofs.Format.StrictLists.{strict_counted}
+use Rattle.rlp_values.specs.Views.View.{View}
+use Rattle.rlp_values.proofs.Format.StrictLists.{strict_counted}
 use Rattle.rlp.proofs.rlpin.rlp.Rlp.item_count.Goals as goal
 
 pub returns-then-self : goal.returns-then-self

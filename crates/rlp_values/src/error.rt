@@ -1,0 +1,93 @@
+//! The faults of decoding.
+
+ghost use Rattle.std.specs.Prelude.{◌≡◌, Some};
+ghost use Rattle.rlp_values.specs.Views.Text.{error_name};
+
+use std::error::Error;
+use std::fmt;
+
+/// A fault of decoding.
+#[derive(Debug, PartialEq, Eq, Drop)]
+pub enum DecoderError {
+    /// There are more bytes than the value takes.
+    RlpIsTooBig,
+    /// The bytes end early.
+    RlpIsTooShort,
+    /// A list was expected, but there is a string or nothing.
+    RlpExpectedToBeList,
+    /// A string was expected, but there is a list, or a string that the type doesn't accept.
+    RlpExpectedToBeData,
+    /// A list doesn't have the expected number of items.
+    RlpIncorrectListLen,
+    /// The length of a string begins with a zero byte.
+    RlpDataLenWithZeroPrefix,
+    /// The length of a list begins with a zero byte.
+    RlpListLenWithZeroPrefix,
+    /// The canonical encoding of the same value is shorter.
+    RlpInvalidIndirection,
+    /// The announced length of a string is more than the bytes that follow.
+    RlpInconsistentLengthAndData,
+    /// The announced length is more than memory can hold.
+    RlpInvalidLength,
+    /// A fault of a custom type, with its own text.
+    Custom(&'static str),
+    /// Memory was refused.
+    OutOfMemory,
+}
+
+impl DecoderError {
+    /// The same fault. It takes no memory.
+    pub fn clone(&self) -> DecoderError
+        ensures { result ≡ self.now }
+    {
+        match self {
+            DecoderError::RlpIsTooBig => DecoderError::RlpIsTooBig,
+            DecoderError::RlpIsTooShort => DecoderError::RlpIsTooShort,
+            DecoderError::RlpExpectedToBeList => DecoderError::RlpExpectedToBeList,
+            DecoderError::RlpExpectedToBeData => DecoderError::RlpExpectedToBeData,
+            DecoderError::RlpIncorrectListLen => DecoderError::RlpIncorrectListLen,
+            DecoderError::RlpDataLenWithZeroPrefix => DecoderError::RlpDataLenWithZeroPrefix,
+            DecoderError::RlpListLenWithZeroPrefix => DecoderError::RlpListLenWithZeroPrefix,
+            DecoderError::RlpInvalidIndirection => DecoderError::RlpInvalidIndirection,
+            DecoderError::RlpInconsistentLengthAndData => {
+                DecoderError::RlpInconsistentLengthAndData
+            }
+            DecoderError::RlpInvalidLength => DecoderError::RlpInvalidLength,
+            DecoderError::Custom(text) => DecoderError::Custom(text),
+            DecoderError::OutOfMemory => DecoderError::OutOfMemory,
+        }
+    }
+}
+
+/// Prints the variant's name, and for `Custom` also the text, as in `Custom("text")`. The
+/// formatter's flags change nothing.
+impl fmt::Display for DecoderError {
+    ghost output = { λ e. Some (error_name e) };
+
+    ghost styled_output = { λ e _. Some (error_name e) };
+
+    fn fmt<W: fmt::Write>(&self, f: &mut fmt::Formatter<W>) -> fmt::Result {
+        match self {
+            DecoderError::RlpIsTooBig => f.write_str("RlpIsTooBig"),
+            DecoderError::RlpIsTooShort => f.write_str("RlpIsTooShort"),
+            DecoderError::RlpExpectedToBeList => f.write_str("RlpExpectedToBeList"),
+            DecoderError::RlpExpectedToBeData => f.write_str("RlpExpectedToBeData"),
+            DecoderError::RlpIncorrectListLen => f.write_str("RlpIncorrectListLen"),
+            DecoderError::RlpDataLenWithZeroPrefix => f.write_str("RlpDataLenWithZeroPrefix"),
+            DecoderError::RlpListLenWithZeroPrefix => f.write_str("RlpListLenWithZeroPrefix"),
+            DecoderError::RlpInvalidIndirection => f.write_str("RlpInvalidIndirection"),
+            DecoderError::RlpInconsistentLengthAndData => {
+                f.write_str("RlpInconsistentLengthAndData")
+            }
+            DecoderError::RlpInvalidLength => f.write_str("RlpInvalidLength"),
+            DecoderError::Custom(text) => {
+                f.write_str("Custom(\"")?;
+                f.write_str(text)?;
+                f.write_str("\")")
+            }
+            DecoderError::OutOfMemory => f.write_str("OutOfMemory"),
+        }
+    }
+}
+
+impl Error for DecoderError {}
