@@ -187,7 +187,6 @@ impl<F: DecodeField, Q: DecodeFields> DecodeFields for (F, Q) {
         len > 0 && Q::accepts(len - 1)
     }
 
-    #[tactic(auto, using(rlp_values::proofs::Values::FieldReading::fields_in_order))]
     fn decode_fields(
         alloc: Global,
         fields: &mut Fields<'_>,
@@ -212,7 +211,6 @@ impl<F: DecodeField, Q: DecodeFields> DecodeFields for (F, Q) {
 /// Fails with `RlpIncorrectListLen` and no place if the number of items is wrong, whatever the items
 /// are. Also fails as [`Rlp::item_count`] does, with no place, and with the error of the first field
 /// that fails and its place.
-#[tactic(auto, using(rlp_values::proofs::Values::FieldReading::whole_struct, rlp_values::proofs::Views::InOrder::counted_fields))]
 pub fn decode_struct<F: DecodeFields>(alloc: Global, rlp: &Rlp<'_>) -> Result<F, FieldFault>
     ensures value { IfOk result (λ x. (item_count rlp.now ≡ Ok (F.reading.count x))
         × F.reading.gives 0 rlp.now x) }

@@ -4,5 +4,6 @@
 #![tactic(auto)]
 
 pub mod depth;
+pub mod numbers;
 pub mod text;
 pub mod walking;

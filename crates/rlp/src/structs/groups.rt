@@ -51,7 +51,6 @@ impl<G: FixedFields> DecodeFields for Groups<G> {
         group_count::<G>(len).is_some()
     }
 
-    #[tactic(auto, using(rlp_values::proofs::Values::GroupReading::group_numbers))]
     fn decode_fields(
         alloc: Global,
         fields: &mut Fields<'_>,

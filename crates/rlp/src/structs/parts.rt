@@ -22,7 +22,6 @@ impl<P: FixedFields, Q: DecodeFields> DecodeFields for Joined<P, Q> {
         }
     }
 
-    #[tactic(auto, using(rlp_values::proofs::Values::PartReading::part_numbers))]
     fn decode_fields(
         alloc: Global,
         fields: &mut Fields<'_>,
