@@ -166,12 +166,10 @@ pub trait DecodeFields: Sized {
 impl DecodeFields for () {
     ghost reading = { no_fields };
 
-    #[tactic(auto, using(rlp_values::proofs::Values::FieldReading::numbers_of_items))]
     fn accepts(len: usize) -> bool {
         len == 0
     }
 
-    #[tactic(auto, using(rlp_values::proofs::Values::FieldReading::fields_in_order))]
     fn decode_fields(alloc: Global, fields: &mut Fields<'_>, len: usize) -> Result<(), FieldFault> {
         Ok(())
     }
@@ -182,7 +180,6 @@ impl<F: DecodeField, Q: DecodeFields> DecodeFields for (F, Q) {
     ghost reading = { field_before (λ i v x. GivesAt F.gives v i x.0) F.gives_some F.faults
         (λ i v. MayLackAt F.may_lack_memory v i) (part_fields (λ x. x.1) Q.reading) };
 
-    #[tactic(auto, using(rlp_values::proofs::Values::FieldReading::numbers_of_items))]
     fn accepts(len: usize) -> bool {
         len > 0 && Q::accepts(len - 1)
     }

@@ -133,7 +133,6 @@ impl Encodable for RawItem {
         }
     }
 
-    #[tactic(auto, using(crate::proofs::RawWriting::raw_writing))]
     fn rlp_bytes(&self, alloc: Global) -> Result<BytesMut, AllocError> {
         BytesMut::copy_from_slice(alloc, self.as_bytes())
     }

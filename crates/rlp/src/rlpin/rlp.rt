@@ -446,7 +446,7 @@ impl<'a> Rlp<'a> {
     }
 
     /// The number of items of a list that is all of the bytes, by one walk over it.
-    #[tactic(auto, using(rlp_format::proofs::Format::StrictLists::list_checks), unfolding(rlp_format::specs::Format::Split::items))]
+    #[tactic(auto, unfolding(rlp_format::specs::Format::Split::items))]
     fn strict_count(&self) -> Result<usize, DecoderError>
         ensures fault { MatchResult result (λ _. strict_list_fault self.now.bytes ≡ None)
             (λ e. strict_list_fault self.now.bytes ≡ Some e) }
@@ -462,7 +462,6 @@ impl<'a> Rlp<'a> {
     }
 
     /// Fails if the view can't be read as a list.
-    #[tactic(auto, using(rlp_format::proofs::Format::StrictLists::list_checks))]
     pub(crate) fn check_list(&self) -> Result<(), DecoderError>
         ensures { MatchResult result (λ _. list_fault self.now ≡ None)
             (λ e. list_fault self.now ≡ Some e) }

@@ -4,7 +4,7 @@ use Rattle.std.proofs.lemmas.Grind.{common_steps}
 use Rattle.rlp_format.specs.Format.Split.{begins_as_list}
 use Rattle.rlp_format.specs.Views.View.{View}
 use Rattle.rlp_values.specs.Values.RawItem.{IsRawItem, raw_item_of}
-use Rattle.rlp_values.specs.Lemmas.RawItems.{raw_encoding, raw_is_list, raw_list, raw_string_read}
+use Rattle.rlp_values.specs.Lemmas.RawItems.{raw_is_list, raw_list, raw_string_read}
 use Rattle.rlp.proofs.Growth.{grows_same}
 use Rattle.rlp.proofs.RawWriting.{raw_string_put}
 use Rattle.rlp.proofs.impls.raw_item.RawItemEncodable.rlp_append.Goals as goal

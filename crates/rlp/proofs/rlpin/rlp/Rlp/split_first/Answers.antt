@@ -1,4 +1,4 @@
-use Rattle.std.proofs.Common.{◌≡◌, ap, arith, sym, ◌∙◌}
+use Rattle.std.proofs.Common.{arith}
 use Rattle.std.proofs.lemmas.Grind.{common_steps}
 use Rattle.rlp_format.proofs.Views.Fronts.{faulty_front, long_front, whole_front}
 use Rattle.rlp.proofs.rlpin.rlp.Rlp.split_first.Goals as goal

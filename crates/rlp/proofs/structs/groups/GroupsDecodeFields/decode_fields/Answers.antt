@@ -2,9 +2,11 @@ use Rattle.std.proofs.Common.{◌≡◌, ◌<◌, ◌≤◌, ◌∙◌, ℕ, Lis
 use Rattle.std.proofs.Math.Nat.{mul-le-mul_right, suc-mul}
 use Rattle.std.proofs.lemmas.List.{length_push}
 use Rattle.rlp_values.specs.Values.FieldPlace.{FieldPlace}
-use Rattle.rlp_values.specs.Values.FieldReading.{FieldsFail, FieldsReading, GivesFields}
+use Rattle.rlp_values.specs.Values.FieldReading.{FieldsFail, FieldsReading, GivesFields, in_group}
 use Rattle.rlp_values.proofs.Values.GroupReading.{IsReadTo, group_after_fails, no_room_after, read_more}
 use Rattle.std.specs.Prelude.{IsSomeAnd}
+use Rattle.rlp_values.proofs.Values.FieldReading.{only_right}
+use Rattle.rlp_values.proofs.Values.PartReading.{exactly_right}
 use Rattle.rlp.proofs.structs.groups.GroupsDecodeFields.decode_fields.Goals as goal
 
 pub returns-in-Err-clause-fault : goal.returns-in-Err-clause-fault
@@ -81,3 +83,36 @@ overflow_add-result g c =
     let few : c.loop-read.read < c.in-Some.counted.0 = c.loop-read-test.true in
     let sized = c.in-Some.ensures.2 (omega (arith, few)) in
     omega (arith, c.ranges.len.fits, sized.0, sized.1, spent c.loop-read.read c.in-Some.counted.0 c.in-Some.counted.1 _ _ few c.in-Some.ensures.1 sized.0)
+
+-- no groups are read if the items aren't whole groups
+pub returns-in-None : goal.returns-in-None
+returns-in-None g c = absurd (c.in-None.ensures (only_right _ _ c.requires))
+
+pub decode_fields-requires : goal.decode_fields-requires
+decode_fields-requires g c =
+    let few : c.loop-read.read < c.in-Some.counted.0 = c.loop-read-test.true in
+    exactly_right g.G.DecodeFields.reading.least g.G.DecodeFields.reading.IsMore c.in-Some.counted.1 (c.in-Some.ensures.2 (omega (arith, few))).0
+    g.met.G.FixedFields.none_more
+
+-- all groups were read
+all_groups : {G : Type 0} (r : FieldsReading G) (begun now : FieldPlace) (gs : List G) (len count : ℕ) → IsReadTo r.least r.gives r.some begun now gs
+    → length gs ≡ count → count * r.least ≡ len
+    → (length gs * r.least ≡ len) × GivesFields len (in_group r.least r.some) begun.view begun.place × (now ≡ record begun { place = begun.place + len })
+all_groups r begun now gs len count is many all =
+    let total : length gs * r.least ≡ len = ap (λ n. n * r.least) many ∙ all in
+    let given = subst (λ n. GivesFields n (in_group r.least r.some) begun.view begun.place) total is.given in
+    (total, given, is.at ∙ ap (λ n. record begun { place = begun.place + n }) total)
+
+pub returns : goal.returns
+returns g c =
+    let many : length c.loop-read.groups.items ≡ c.in-Some.counted.0 = omega (arith, c.loop-read.invariant.many, c.loop-read-test.false) in
+    let all = all_groups g.G.DecodeFields.reading c.args.fields.now c.loop-read.fields c.loop-read.groups.items c.args.len c.in-Some.counted.0
+    c.loop-read.invariant.read many c.in-Some.ensures.1 in
+    record {
+      value = c.loop-read.invariant.read.read;
+      count = all.0;
+      some = all.1;
+      fault = tt;
+      next = all.2;
+      same_view = c.loop-read.invariant.same_view;
+    }
