@@ -1,5 +1,5 @@
 -- What is written for a raw item.
-use Rattle.std.proofs.Common.{◌≡◌, ◌<◌, ◌^◌, ℕ, Bool, true, false, List, length, refl, sym, ap, ◌∙◌}
+use Rattle.std.proofs.Common.{◌≡◌, ◌<◌, ◌^◌, ℕ, false, List, length, refl, sym, ap, ◌∙◌}
 use Rattle.rlp_format.specs.Format.Item.{Item, is_list, string, list}
 use Rattle.rlp_format.specs.Format.Encoding.{encoding}
 use Rattle.rlp_values.specs.Format.Split.{begins_as_list}

@@ -166,12 +166,10 @@ pub trait DecodeFields: Sized {
 impl DecodeFields for () {
     ghost reading = { no_fields };
 
-    #[tactic(auto, using(rlp_values::proofs::Values::FieldReading::numbers_of_items))]
     fn accepts(len: usize) -> bool {
         len == 0
     }
 
-    #[tactic(auto, using(rlp_values::proofs::Values::FieldReading::fields_in_order))]
     fn decode_fields(alloc: Global, fields: &mut Fields<'_>, len: usize) -> Result<(), FieldFault> {
         Ok(())
     }
@@ -182,12 +180,10 @@ impl<F: DecodeField, Q: DecodeFields> DecodeFields for (F, Q) {
     ghost reading = { field_before (λ i v x. GivesAt F.gives v i x.0) F.gives_some F.faults
         (λ i v. MayLackAt F.may_lack_memory v i) (part_fields (λ x. x.1) Q.reading) };
 
-    #[tactic(auto, using(rlp_values::proofs::Values::FieldReading::numbers_of_items))]
     fn accepts(len: usize) -> bool {
         len > 0 && Q::accepts(len - 1)
     }
 
-    #[tactic(auto, using(rlp_values::proofs::Values::FieldReading::fields_in_order))]
     fn decode_fields(
         alloc: Global,
         fields: &mut Fields<'_>,
@@ -212,7 +208,6 @@ impl<F: DecodeField, Q: DecodeFields> DecodeFields for (F, Q) {
 /// Fails with `RlpIncorrectListLen` and no place if the number of items is wrong, whatever the items
 /// are. Also fails as [`Rlp::item_count`] does, with no place, and with the error of the first field
 /// that fails and its place.
-#[tactic(auto, using(rlp_values::proofs::Values::FieldReading::whole_struct, rlp_values::proofs::Views::InOrder::counted_fields))]
 pub fn decode_struct<F: DecodeFields>(alloc: Global, rlp: &Rlp<'_>) -> Result<F, FieldFault>
     ensures value { IfOk result (λ x. (item_count rlp.now ≡ Ok (F.reading.count x))
         × F.reading.gives 0 rlp.now x) }

@@ -10,6 +10,7 @@ pub mod framed;
 pub mod header;
 pub mod items;
 pub mod laws;
+pub mod numbers;
 pub mod prototype;
 pub mod string_reading;
 pub mod text;

@@ -144,14 +144,20 @@ pub described_finishes : (front : List ℕ) (calls : List Call) (xs : List Item)
 described_finishes front calls xs d =
     let r = described_joins front calls d.steps d.described in (r.0, r.1, r.2, r.3 ∙ ap joined_stack d.finished)
 
+-- calls leave one state
+same_stack : (r : Result State ℕ) (f g : List ℕ) (s t : Stack ℕ) → Leaves r f s → Leaves r g t → s ≡ t
+same_stack r f g s t one other =
+    let last : one.0 ≡ other.0 = let both : Ok one.0 ≡ Ok other.0 = sym one.1 ∙ other.1 in cc in
+    sym one.3 ∙ ap (λ (u : State). u.stack) last ∙ other.3
+
 -- no other items are described
 pub described_once : (front : List ℕ) (calls : List Call) (xs ys : List Item) → All IsSized xs → All IsSized ys → IsDescribed front calls xs
     → IsDescribed front calls ys → xs ≡ ys
 described_once front calls xs ys a b d e =
-    let r = described_finishes front calls xs d in
-    let q = described_finishes front calls ys e in
-    let last : r.0 ≡ q.0 = let both : Ok r.0 ≡ Ok q.0 = sym r.1 ∙ q.1 in cc in
-    let stacks : record { inner = join xs; lists = [] } ≡ record { inner = join ys; lists = [] } = sym r.3 ∙ ap (λ (s : State). s.stack) last ∙ q.3 in
+    let one : Stack ℕ = record { inner = join xs; lists = [] } in
+    let other : Stack ℕ = record { inner = join ys; lists = [] } in
+    let stacks : one ≡ other = same_stack (after front calls) front front one other
+    (described_finishes front calls xs d) (described_finishes front calls ys e) in
     join_same xs ys a b (ap (λ (s : Stack ℕ). s.inner) stacks)
 
 -- ---- only raw items of some kind
@@ -186,19 +192,27 @@ items_anyhow P front calls xs d = record { steps = d.steps; described = steps_an
 
 -- ---- finished buffers
 
+-- calls that leave a closed state finish with its bytes
+finish_left : (front : List ℕ) (calls : List Call) (inner : List ℕ) → Leaves (after front calls) front (record { inner = inner; lists = [] })
+    → FinishAs front calls (front ++ inner)
+finish_left front calls inner r =
+    record { last = r.0; admitted = r.1; closed = ap (λ (s : Stack ℕ). s.lists) r.3; buffer = sym (ap (λ (s : Stack ℕ). front ++ s.inner) r.3) }
+
+-- and with no others
+only_left : (front : List ℕ) (calls : List Call) (inner bytes : List ℕ) → Leaves (after front calls) front (record { inner = inner; lists = [] })
+    → FinishAs front calls bytes → bytes ≡ front ++ inner
+only_left front calls inner bytes r f =
+    let last : f.last ≡ r.0 = let both : Ok f.last ≡ Ok r.0 = sym f.admitted ∙ r.1 in cc in
+    f.buffer ∙ ap (λ (s : State). front ++ s.stack.inner) last ∙ ap (λ (s : Stack ℕ). front ++ s.inner) r.3
+
 -- the finished bytes of described calls are the front and the join
 pub described_buffer : (front : List ℕ) (calls : List Call) (xs : List Item) → IsDescribed front calls xs → FinishAs front calls (front ++ join xs)
-described_buffer front calls xs d =
-    let r = described_finishes front calls xs d in
-    record { last = r.0; admitted = r.1; closed = ap (λ (s : Stack ℕ). s.lists) r.3; buffer = sym (ap (λ (s : Stack ℕ). front ++ s.inner) r.3) }
+described_buffer front calls xs d = finish_left front calls (join xs) (described_finishes front calls xs d)
 
 -- and nothing else
 pub described_buffer_only : (front : List ℕ) (calls : List Call) (xs : List Item) (bytes : List ℕ) → IsDescribed front calls xs
     → FinishAs front calls bytes → bytes ≡ front ++ join xs
-described_buffer_only front calls xs bytes d f =
-    let r = described_finishes front calls xs d in
-    let last : f.last ≡ r.0 = let both : Ok f.last ≡ Ok r.0 = sym f.admitted ∙ r.1 in cc in
-    f.buffer ∙ ap (λ (s : State). front ++ s.stack.inner) last ∙ ap (λ (s : Stack ℕ). front ++ s.inner) r.3
+described_buffer_only front calls xs bytes d f = only_left front calls (join xs) bytes (described_finishes front calls xs d) f
 
 -- equal finished buffers with the same front have equal items
 pub same_buffer : (front : List ℕ) (calls more : List Call) (xs ys : List Item) (one other : List ℕ) → length one < 2 ^ 64 → length other < 2 ^ 64

@@ -21,7 +21,6 @@ impl<const N: usize> Decodable for [u8; N] {
 
     ghost may_lack_memory = { λ v. ⊥ };
 
-    #[tactic(auto, using(rlp_values::specs::Lemmas::Numbers::array_answers))]
     fn decode(_alloc: Global, rlp: &Rlp<'_>) -> Result<[u8; N], DecoderError> {
         let string = rlp.decoder().string()?;
         match <[u8; N]>::try_from(string) {

@@ -12,6 +12,7 @@ use crate::rlpin::Rlp;
 use crate::traits::{Decodable, RoundTrip, Scalar, StrictRead};
 use rlp_format::digits::{number_of, wide_number_of};
 use rlp_values::error::DecoderError;
+use rlp_values::numbers::{are_shortest, check_digits, few_digits};
 use std::alloc::Global;
 
 /// Reads a number of at most one byte. Fails with the same errors as for `u64`.
@@ -126,24 +127,6 @@ fn short_number(rlp: &Rlp<'_>, width: usize) -> Option<usize>
     }
 }
 
-/// The number of up to eight digits, without a loop for up to seven.
-#[inline(always)]
-fn few_digits(digits: &[u8]) -> usize
-    requires { length digits.now ≤ 8 }
-    ensures { result ≡ number_from_digits 256 digits.now }
-{
-    match digits {
-        [a] => *a as usize,
-        [a, b] => u16::from_be_bytes([*a, *b]) as usize,
-        [a, b, c] => u32::from_be_bytes([0, *a, *b, *c]) as usize,
-        [a, b, c, d] => u32::from_be_bytes([*a, *b, *c, *d]) as usize,
-        [a, b, c, d, e] => u64::from_be_bytes([0, 0, 0, *a, *b, *c, *d, *e]) as usize,
-        [a, b, c, d, e, f] => u64::from_be_bytes([0, 0, *a, *b, *c, *d, *e, *f]) as usize,
-        [a, b, c, d, e, f, g] => u64::from_be_bytes([0, *a, *b, *c, *d, *e, *f, *g]) as usize,
-        _ => number_of(digits),
-    }
-}
-
 /// Whether the view's item may end at `len`: nothing follows the item in a strict view.
 #[inline(always)]
 fn may_end_at(rlp: &Rlp<'_>, len: usize) -> bool
@@ -199,20 +182,6 @@ fn short_digits<'a>(rlp: &Rlp<'a>, width: usize) -> Option<&'a [u8]>
     }
 }
 
-/// Whether these are the digits of a number whose encoding has a header: not one digit below 0x80,
-/// and no zero first.
-#[inline(always)]
-#[tactic(auto, using(rlp_values::specs::Lemmas::Numbers::shortest_tests))]
-fn are_shortest(digits: &[u8]) -> bool
-    ensures { IsTrue result → AreShortest digits.now }
-{
-    match digits {
-        [] => true,
-        [digit] => *digit >= 0x80,
-        [first, ..] => *first != 0,
-    }
-}
-
 /// Returns the digits of the number of at most `width` bytes that the view begins with, by the
 /// string of any length that it begins with.
 #[inline(never)]
@@ -225,29 +194,6 @@ fn digits_of_string<'a>(rlp: &Rlp<'a>, width: usize) -> Result<&'a [u8], Decoder
     let digits = rlp.decoder().string()?;
     check_digits(digits, width)?;
     Ok(digits)
-}
-
-/// Tests whether these are the digits of a number of at most `width` bytes: first their number, and
-/// then the first digit.
-#[tactic(auto, using(rlp_values::specs::Lemmas::Numbers::digit_faults))]
-fn check_digits(digits: &[u8], width: usize) -> Result<(), DecoderError>
-    ensures few { IfOk result (λ _. length digits.now ≤ width) }
-    ensures value { IfOk result (λ _. FitsBytes width (number_from_digits 256 digits.now)
-        × (big_endian (number_from_digits 256 digits.now) ≡ digits.now)) }
-    ensures fault { IfErr result (λ e. IsDigitsFault width digits.now e) }
-{
-    if digits.len() > width {
-        return Err(DecoderError::RlpIsTooBig);
-    }
-    match digits {
-        [] => Ok(()),
-        [first, ..] => {
-            if *first == 0 {
-                return Err(DecoderError::RlpInvalidIndirection);
-            }
-            Ok(())
-        }
-    }
 }
 
 impl RoundTrip for u8 {

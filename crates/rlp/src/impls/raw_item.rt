@@ -121,7 +121,6 @@ impl Encodable for RawItem {
 
     ghost at_once = { λ _. ⊤ };
 
-    #[tactic(auto, using(crate::proofs::Growth::growth, crate::proofs::RawWriting::raw_writing))]
     fn rlp_append(&self, s: &mut RlpStream) -> Result<(), AllocError> {
         let bytes = self.as_bytes();
         let item = Rlp::new_strict(bytes);
@@ -134,7 +133,6 @@ impl Encodable for RawItem {
         }
     }
 
-    #[tactic(auto, using(crate::proofs::RawWriting::raw_writing))]
     fn rlp_bytes(&self, alloc: Global) -> Result<BytesMut, AllocError> {
         BytesMut::copy_from_slice(alloc, self.as_bytes())
     }

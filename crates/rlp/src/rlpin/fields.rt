@@ -119,7 +119,6 @@ impl<'a> Fields<'a> {
     }
 
     /// The value of the next item, as [`Rlp::val_at`] reads it.
-    #[tactic(auto, using(rlp_values::proofs::Values::ListValues::some_given))]
     pub fn next_value<T: Decodable>(&mut self, alloc: Global) -> Result<T, DecoderError>
         ensures exact { MatchResult (item_at self.old.view self.old.place)
             (λ item. ReadsValue T.gives T.faults T.may_lack_memory item result)
@@ -138,7 +137,6 @@ impl<'a> Fields<'a> {
     }
 
     /// The values of the items of the next item, as [`Rlp::list_at`] reads them.
-    #[tactic(auto, using(rlp_values::proofs::Values::ListValues::some_given))]
     pub fn next_list<T: Decodable>(&mut self, alloc: Global) -> Result<Vec<T>, DecoderError>
         ensures exact { MatchResult (item_at self.old.view self.old.place)
             (λ item. MatchResult result (λ values. GivesList T.gives item values.items)

@@ -97,7 +97,6 @@ impl<'a, 'view> RlpIterator<'a, 'view> {
     }
 
     /// The number of items that are left.
-    #[tactic(auto, using(rlp_values::proofs::Format::Splits::splits))]
     fn count_left(&self) -> usize
         ensures { result ≡ length self.now.left }
     {

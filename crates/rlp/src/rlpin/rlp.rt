@@ -314,7 +314,6 @@ impl<'a> Rlp<'a> {
     /// The value of the item at `index`, counted from 0: [`Rlp::at`], and then [`Rlp::as_val`].
     ///
     /// Fails as either of them does.
-    #[tactic(auto, using(rlp_values::proofs::Values::ListValues::some_given))]
     pub fn val_at<T: Decodable>(&self, alloc: Global, index: usize) -> Result<T, DecoderError>
         ensures exact { MatchResult (item_at self.now index)
             (λ item. ReadsValue T.gives T.faults T.may_lack_memory item result)
@@ -331,7 +330,6 @@ impl<'a> Rlp<'a> {
     /// [`Rlp::as_list`].
     ///
     /// Fails as either of them does.
-    #[tactic(auto, using(rlp_values::proofs::Values::ListValues::some_given))]
     pub fn list_at<T: Decodable>(&self, alloc: Global, index: usize) -> Result<Vec<T>, DecoderError>
         ensures exact { MatchResult (item_at self.now index)
             (λ item. MatchResult result (λ values. GivesList T.gives item values.items)
@@ -448,7 +446,7 @@ impl<'a> Rlp<'a> {
     }
 
     /// The number of items of a list that is all of the bytes, by one walk over it.
-    #[tactic(auto, using(rlp_values::proofs::Format::StrictLists::list_checks), unfolding(rlp_values::specs::Format::Split::items))]
+    #[tactic(auto, unfolding(rlp_values::specs::Format::Split::items))]
     fn strict_count(&self) -> Result<usize, DecoderError>
         ensures fault { MatchResult result (λ _. strict_list_fault self.now.bytes ≡ None)
             (λ e. strict_list_fault self.now.bytes ≡ Some e) }
@@ -464,7 +462,6 @@ impl<'a> Rlp<'a> {
     }
 
     /// Fails if the view can't be read as a list.
-    #[tactic(auto, using(rlp_values::proofs::Format::StrictLists::list_checks))]
     pub(crate) fn check_list(&self) -> Result<(), DecoderError>
         ensures { MatchResult result (λ _. list_fault self.now ≡ None)
             (λ e. list_fault self.now ≡ Some e) }
@@ -479,7 +476,6 @@ impl<'a> Rlp<'a> {
     }
 
     /// Fails if the view has no items by number.
-    #[tactic(auto, using(rlp_values::proofs::Format::StrictLists::items_checks))]
     pub(crate) fn check_items(&self) -> Result<(), DecoderError>
         ensures { MatchResult result (λ _. items_fault self.now ≡ None)
             (λ e. items_fault self.now ≡ Some e) }

@@ -23,7 +23,6 @@ impl<'a> Rlp<'a> {
     /// let (list, rest) = rlp::Rlp::new(rest).split_first()?;
     /// assert!(rt; list.item_count() == Ok(1) && rest.is_empty());
     /// ```
-    #[tactic(auto, using(rlp_values::proofs::Views::Fronts::strict_fronts))]
     pub fn split_first(&self) -> Result<(Rlp<'a>, &'a [u8]), DecoderError>
         ensures item { IfOk result (λ r. (view_frame self.now ≡ Ok r.0.bytes)
             × (r.0.is_strict ≡ self.now.is_strict)) }

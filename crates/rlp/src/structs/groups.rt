@@ -46,12 +46,10 @@ impl<F: DecodeField, Q: FixedFields> FixedFields for (F, Q) {
 impl<G: FixedFields> DecodeFields for Groups<G> {
     ghost reading = { group_fields (λ x. vec_items x.0) G.reading };
 
-    #[tactic(auto, using(rlp_values::proofs::Values::FieldReading::numbers_of_items))]
     fn accepts(len: usize) -> bool {
         group_count::<G>(len).is_some()
     }
 
-    #[tactic(auto, using(rlp_values::proofs::Values::GroupReading::group_numbers))]
     fn decode_fields(
         alloc: Global,
         fields: &mut Fields<'_>,
@@ -83,7 +81,6 @@ impl<G: FixedFields> DecodeFields for Groups<G> {
 
 /// Returns the number of groups that `len` items are, and the number of items of each, or `None` if
 /// they aren't whole groups.
-#[tactic(auto, using(rlp_values::proofs::Values::GroupReading::group_numbers))]
 fn group_count<G: FixedFields>(len: usize) -> Option<(usize, usize)>
     ensures { MatchOption result (¬ AreGroups G.reading.least len)
         (λ n. AreGroups G.reading.least len × (n.0 * G.reading.least ≡ len)

@@ -12,12 +12,10 @@ pub struct OptionalGroup<S>(pub Option<S>);
 impl<S: DecodeFields> DecodeFields for OptionalGroup<S> {
     ghost reading = { optional_fields (λ x. x.0) S.reading };
 
-    #[tactic(auto, using(rlp_values::proofs::Values::FieldReading::numbers_of_items))]
     fn accepts(len: usize) -> bool {
         len == 0 || S::accepts(len)
     }
 
-    #[tactic(auto, using(rlp_values::proofs::Values::FieldReading::optional_groups))]
     fn decode_fields(
         alloc: Global,
         fields: &mut Fields<'_>,

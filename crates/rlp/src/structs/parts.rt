@@ -14,7 +14,6 @@ pub struct Joined<P, Q>(pub P, pub Q);
 impl<P: FixedFields, Q: DecodeFields> DecodeFields for Joined<P, Q> {
     ghost reading = { fields_before (λ x. x.0) P.reading (part_fields (λ x. x.1) Q.reading) };
 
-    #[tactic(auto, using(rlp_values::proofs::Values::PartReading::part_numbers))]
     fn accepts(len: usize) -> bool {
         match P::width() {
             Some(width) => len >= width && Q::accepts(len - width),
@@ -22,7 +21,6 @@ impl<P: FixedFields, Q: DecodeFields> DecodeFields for Joined<P, Q> {
         }
     }
 
-    #[tactic(auto, using(rlp_values::proofs::Values::PartReading::part_numbers))]
     fn decode_fields(
         alloc: Global,
         fields: &mut Fields<'_>,

@@ -1,6 +1,6 @@
 use Rattle.rlp_format.specs.Lemmas.Digits.{none_is_zero}
 use Rattle.rlp_values.specs.Lemmas.Numbers.{leading_is_value}
-use Rattle.rlp.proofs.impls.number.check_digits.Goals as goal
+use Rattle.rlp_values.proofs.numbers.check_digits.Goals as goal
 
 pub returns-in-empty-clause-value : goal.returns-in-empty-clause-value
 returns-in-empty-clause-value c = none_is_zero c.args.width c.args.digits.now c.in-empty.len_below
