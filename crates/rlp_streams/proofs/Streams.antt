@@ -10,6 +10,8 @@ pub mod Listed
 pub mod Filling
 -- unbounded lists that are finalized in turn
 pub mod InTurn
+-- what holds after a refused call
+pub mod Refused
 -- what a stream retains
 pub mod Retained
 -- fields that are appended one after another

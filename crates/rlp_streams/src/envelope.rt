@@ -16,7 +16,6 @@ use std::alloc::AllocError;
 ///
 /// The payload is written into a buffer of its own first. Fails with `AllocError` if memory is
 /// refused, or if the [`Encodable::rlp_append`] of the payload fails, and then writes nothing.
-#[tactic(auto, using(crate::proofs::Streams::Filling::filling))]
 pub fn write_envelope<T: Encodable>(
     s: &mut RlpStream,
     tag: u8,
@@ -35,5 +34,5 @@ pub fn write_envelope<T: Encodable>(
     let mut envelope = RlpStream::new_with_buffer(s.allocator(), buffer);
     envelope.append(payload)?;
     let bytes = envelope.out();
-    s.encoder().encode_value(bytes.as_slice())
+    s.put_string(bytes.as_slice())
 }

@@ -92,7 +92,6 @@ impl RlpStream {
     }
 
     /// A stream in which a list is begun, as by [`RlpStream::begin_list`].
-    #[tactic(auto, unfolding(rlp_buffer::specs::Streams::Stream::Retains))]
     pub fn new_list(alloc: Global, len: usize) -> Result<RlpStream, AllocError>
         ensures state { IfOk result
             (λ s. s.state ≡ effect (begin_list len) (initial_state [])) }
@@ -122,7 +121,6 @@ impl RlpStream {
 
     /// A stream whose front is the given bytes, in which a list is begun. If memory is refused, it
     /// returns the buffer with its bytes unchanged.
-    #[tactic(auto, unfolding(rlp_buffer::specs::Streams::Stream::Retains))]
     pub fn new_list_with_buffer(
         alloc: Global,
         buffer: BytesMut,
@@ -255,7 +253,6 @@ impl RlpStream {
     /// assert!(rt; !s.append_raw_checked(&[1], 1, 1)?);
     /// assert!(rt; s.append_raw_checked(&[1], 1, 2)?);
     /// ```
-    #[tactic(auto, unfolding(rlp_buffer::specs::Streams::Stream::Retains))]
     pub fn append_raw_checked(
         &mut self,
         bytes: &[u8],
@@ -317,7 +314,6 @@ impl RlpStream {
 
     /// Closes the innermost open list, and counts it in the list around it. The list must be
     /// unbounded. Test it by [`RlpStream::can_finalize`]. The closed size stays.
-    #[tactic(auto, using(rlp_buffer::proofs::Streams::States::size_kept))]
     pub fn finalize_unbounded_list(&mut self) -> Result<(), AllocError>
         requires { IsTrue (is_admitted finalize_unbounded_list self.old.state) }
         ensures ok { OnOk result (self.new.state ≡ effect finalize_unbounded_list self.old.state) }
@@ -345,7 +341,6 @@ impl RlpStream {
     /// assert!(rt; s.finalize_unbounded_lists(9)? == 2);
     /// assert_eq!(rt; s.out().as_slice(), [0xc2, 0xc1, 0x01]);
     /// ```
-    #[tactic(auto, using(rlp_buffer::proofs::Streams::States::size_kept), unfolding(rlp_buffer::specs::Streams::Stream::Retains))]
     pub fn finalize_unbounded_lists(&mut self, most: usize) -> Result<usize, AllocError>
         ensures number { IfOk result
             (λ n. n ≡ min most (unbounded_count self.old.state.stack.lists)) }

@@ -60,10 +60,9 @@ impl<T: Encodable> AppendFields for &T {
         Some(1)
     }
 
-    #[tactic(auto, using(crate::proofs::Streams::Fields::fields))]
     fn append_fields(&self, s: &mut RlpStream) -> Result<(), AllocError> {
         let value = *self;
-        s.append(value)?;
+        s.try_append(value)?;
         Ok(())
     }
 }
@@ -82,7 +81,6 @@ impl<P: AppendFields, Q: AppendFields> AppendFields for (P, Q) {
         first.checked_add(others)
     }
 
-    #[tactic(auto, using(crate::proofs::Streams::Fields::fields, crate::proofs::Streams::Fields::rooms))]
     fn append_fields(&self, s: &mut RlpStream) -> Result<(), AllocError> {
         self.0.append_fields(s)?;
         self.1.append_fields(s)?;
@@ -102,7 +100,6 @@ impl AppendFields for () {
         Some(0)
     }
 
-    #[tactic(auto, using(crate::proofs::Streams::Fields::fields))]
     fn append_fields(&self, s: &mut RlpStream) -> Result<(), AllocError> {
         Ok(())
     }
@@ -114,7 +111,6 @@ impl AppendFields for () {
 /// Fails with `AllocError` if memory is refused, if the [`Encodable::rlp_append`] of a value fails,
 /// or if the number of items is 2^64 or more. Fields that are each written in one step, such as
 /// numbers and byte strings, are refused only if the stream has too little room.
-#[tactic(auto, using(crate::proofs::Streams::Fields::fields, crate::proofs::Streams::Fields::rooms))]
 pub fn write_struct<F: AppendFields>(s: &mut RlpStream, fields: &F) -> Result<(), AllocError>
     ensures fits { OnOk result (F.fit fields.now) }
     ensures ok { OnOk result (s.new.state ≡ put_item (list_of (F.items fields.now)) s.old.state) }
@@ -129,7 +125,7 @@ pub fn write_struct<F: AppendFields>(s: &mut RlpStream, fields: &F) -> Result<()
         Some(count) => count,
         None => return Err(AllocError),
     };
-    s.begin_list(count)?;
+    s.try_begin(count)?;
     fields.append_fields(s)?;
     Ok(())
 }

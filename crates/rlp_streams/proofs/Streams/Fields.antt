@@ -98,6 +98,12 @@ pub room_for_empty : (xs : List Item) (n : ℕ) (v : Seen) → n ≡ length xs �
 room_for_empty [] n v many none has = record { enough = has.enough; few = has.few }
 room_for_empty (x ∷ xs) n v many none has = absurd (omega (arith, many, none))
 
+-- so a list is begun if there is room for it, and for one more open list
+pub begins : (xs : List Item) (n : ℕ) (v : Seen) (R : Type 0) → n ≡ length xs → (0 < n → 1 ≤ v.spare → 1 ≤ v.spare_lists → R)
+    → (n ≡ 0 → HasRoomFor v (with_list_of 0 v.state) → R) → 1 ≤ v.spare_lists → HasRoomFor v (put_item (list_of xs) v.state) → R
+begins xs zero v R many some none lists has = none refl (room_for_empty xs zero v many refl has)
+begins xs (suc n) v R many some none lists has = some (omega arith) (room_to_begin xs v has) lists
+
 -- items have a byte each, or more
 joined_len : (xs : List Item) → length (join xs) < 2 ^ 64 → length xs ≤ length (join xs)
 joined_len [] few = omega arith

@@ -1,6 +1,8 @@
 -- A list that is opened, and filled item by item. Authors of an `Encodable` that is a list need these lemmas.
-use Rattle.std.proofs.Common.{◌≡◌, ℕ, zero, suc, ◌+◌, ◌-◌, ◌<◌, ◌≤◌, ◌||◌, Bool, false, List, [], ◌∷◌, ◌++◌, length, Some}
+use Rattle.std.proofs.Common.{◌≡◌, ℕ, zero, suc, ◌+◌, ◌-◌, ◌<◌, ◌≤◌, ◌||◌, Bool, false, List, [], ◌∷◌, ◌++◌, length, take, get_or, Some}
 use Rattle.std.proofs.Common.{refl, sym, ◌∙◌, ap, subst, arith, append_assoc, append-nil}
+use Rattle.std.specs.List.{All}
+use Rattle.std.proofs.lemmas.List.Elements.{All-more}
 use Rattle.rlp_format.specs.Format.WrittenHeader.{written_header}
 use Rattle.rlp_format.specs.Format.Item.{Item, list, Items, no_items, item_and, list_of, is_list}
 use Rattle.rlp_format.specs.Format.Encoding.{encoding, join_items}
@@ -52,6 +54,11 @@ grows_filling xs (suc n) s t few is =
 pub filled_list : (xs : List Item) (n : ℕ) (s t : State) → length xs ≡ n → t ≡ add_all xs (with_list_of n s) → t ≡ put_item (list_of xs) s
 filled_list [] n s t e is = is ∙ ap (λ k. with_list_of k s) (sym e)
 filled_list (x ∷ xs) n s t e is = is ∙ ap (λ k. add_all (x ∷ xs) (with_list_of k s)) (sym e) ∙ list_filled x xs s
+
+-- one more value of its type
+pub all_more : {A : Type 0} (P : A → Type 0) (values : List A) (i : ℕ) (x d : A) → i < length values → x ≡ get_or values i d → All P (take i values) → P x
+    → All P (take (i + 1) values)
+all_more P values i x d inside is fit one = All-more P values i d inside fit (subst P is one)
 
 -- ---- the items of a list, appended one by one
 

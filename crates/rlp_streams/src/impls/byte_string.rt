@@ -16,9 +16,8 @@ impl Encodable for Vec<u8> {
 
     ghost at_once = { λ _. ⊤ };
 
-    #[tactic(auto, using(crate::proofs::Streams::Growth::growth))]
     fn rlp_append(&self, s: &mut RlpStream) -> Result<(), AllocError> {
-        s.encoder().encode_value(self.as_slice())
+        s.put_string(self.as_slice())
     }
 
     fn rlp_bytes(&self, alloc: Global) -> Result<BytesMut, AllocError> {
@@ -33,9 +32,8 @@ impl Encodable for &[u8] {
 
     ghost at_once = { λ _. ⊤ };
 
-    #[tactic(auto, using(crate::proofs::Streams::Growth::growth))]
     fn rlp_append(&self, s: &mut RlpStream) -> Result<(), AllocError> {
-        s.encoder().encode_value(self)
+        s.put_string(self)
     }
 
     fn rlp_bytes(&self, alloc: Global) -> Result<BytesMut, AllocError> {

@@ -16,9 +16,8 @@ impl Encodable for BytesMut {
 
     ghost at_once = { λ _. ⊤ };
 
-    #[tactic(auto, using(crate::proofs::Streams::Growth::growth))]
     fn rlp_append(&self, s: &mut RlpStream) -> Result<(), AllocError> {
-        s.encoder().encode_value(self.as_slice())
+        s.put_string(self.as_slice())
     }
 
     fn rlp_bytes(&self, alloc: Global) -> Result<BytesMut, AllocError> {

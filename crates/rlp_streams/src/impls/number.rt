@@ -65,9 +65,8 @@ impl Encodable for u64 {
 
     ghost at_once = { λ _. ⊤ };
 
-    #[tactic(auto, using(crate::proofs::Streams::Growth::growth))]
     fn rlp_append(&self, s: &mut RlpStream) -> Result<(), AllocError> {
-        s.encoder().encode_value(Digits::of(*self).as_slice())
+        s.put_string(Digits::of(*self).as_slice())
     }
 
     fn rlp_bytes(&self, alloc: Global) -> Result<BytesMut, AllocError> {
@@ -98,9 +97,8 @@ impl Encodable for u128 {
 
     ghost at_once = { λ _. ⊤ };
 
-    #[tactic(auto, using(crate::proofs::Streams::Growth::growth))]
     fn rlp_append(&self, s: &mut RlpStream) -> Result<(), AllocError> {
-        s.encoder().encode_value(Digits::of_wide(*self).as_slice())
+        s.put_string(Digits::of_wide(*self).as_slice())
     }
 
     fn rlp_bytes(&self, alloc: Global) -> Result<BytesMut, AllocError> {

@@ -14,14 +14,14 @@ impl<T: Encodable> Encodable for Option<T> {
 
     ghost at_once = { λ o. IsNone o };
 
-    #[tactic(auto, using(crate::proofs::Streams::Growth::growth))]
     fn rlp_append(&self, s: &mut RlpStream) -> Result<(), AllocError> {
         match self {
             None => {
-                s.begin_list(0)?;
+                s.try_begin(0)?;
             }
             Some(value) => {
-                s.begin_list(1)?.append(value)?;
+                s.try_begin(1)?;
+                s.try_append(value)?;
             }
         }
         Ok(())

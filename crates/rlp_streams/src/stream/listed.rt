@@ -18,12 +18,11 @@ impl<E: Encodable> Encodable for Listed<'_, E> {
 
     ghost at_once = { λ v. v.0.now ≡ [] };
 
-    #[tactic(auto, using(crate::proofs::Streams::Growth::growth))]
     fn rlp_append(&self, s: &mut RlpStream) -> Result<(), AllocError> {
         let values = self.0;
-        s.begin_list(values.len())?;
+        s.try_begin(values.len())?;
         for value in values {
-            s.append(value)?;
+            s.try_append(value)?;
         }
         Ok(())
     }

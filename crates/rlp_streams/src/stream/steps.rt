@@ -38,7 +38,6 @@ impl RlpStream {
 
     /// Whether the closed size with these bytes put is at most the limit. It sums the size up, list
     /// by list, only if an upper bound of it is above the limit.
-    #[tactic(auto, using(rlp_buffer::proofs::Streams::States::within_size))]
     pub(super) fn is_within_size(&self, bytes: &[u8], limit: usize) -> bool
         ensures { result ≡ is_within_size bytes.now limit self.now.state }
     {
@@ -52,11 +51,12 @@ impl RlpStream {
     }
 
     /// Puts the encoding of a string. It is refused only if the room was less.
-    #[tactic(auto, unfolding(rlp_buffer::specs::Streams::Stream::Retains))]
-    pub(super) fn put_string(&mut self, value: &[u8]) -> Result<(), AllocError>
+    pub(crate) fn put_string(&mut self, value: &[u8]) -> Result<(), AllocError>
         ensures ok { OnOk result
             (self.new.state ≡ put (encoding (string value.now)) self.old.state) }
         ensures refused { OnErr result (IsAsBefore self.old self.new) }
+        // This follows. An `rlp_append` that returns the result needs no lemma for it.
+        ensures grows { OnErr result (GrowsTo self.old.state self.new.state) }
         ensures room { OnErr result (self.old.spare < length (encoding (string value.now))) }
         ensures has_room { HasRoomFor self.old (put (encoding (string value.now)) self.old.state)
             → IsOk result }
@@ -68,7 +68,6 @@ impl RlpStream {
     }
 
     /// Puts the encoding of the string that an iterator gives.
-    #[tactic(auto, unfolding(rlp_buffer::specs::Streams::Stream::Retains))]
     pub(super) fn put_string_of<I: IntoIterator<Item = u8>>(
         &mut self,
         value: I,
@@ -86,7 +85,6 @@ impl RlpStream {
     }
 
     /// Opens a list. It awaits the given number of items, or is unbounded.
-    #[tactic(auto, unfolding(rlp_buffer::specs::Streams::Stream::Retains))]
     pub(super) fn try_open(&mut self, awaits: Option<usize>) -> Result<(), AllocError>
         requires { AwaitsSome awaits }
         ensures ok { OnOk result (self.new.state ≡ with_list awaits self.old.state) }
@@ -108,8 +106,7 @@ impl RlpStream {
     }
 
     /// Opens a list that awaits `len` items. A list of no items is written at once.
-    #[tactic(auto, using(crate::proofs::Streams::Opened::opened), unfolding(rlp_buffer::specs::Streams::Stream::Retains))]
-    pub(super) fn try_begin(&mut self, len: usize) -> Result<(), AllocError>
+    pub(crate) fn try_begin(&mut self, len: usize) -> Result<(), AllocError>
         ensures ok { OnOk result (self.new.state ≡ with_list_of len self.old.state) }
         ensures refused { OnErr result (IsAsBefore self.old self.new) }
         ensures room { 0 < len → 1 ≤ self.old.spare → 1 ≤ self.old.spare_lists → IsOk result }
@@ -132,7 +129,6 @@ impl RlpStream {
 
     /// Puts bytes, and counts items.
     #[inline(always)]
-    #[tactic(auto, unfolding(rlp_buffer::specs::Streams::Stream::Retains))]
     pub(super) fn try_put_counted(&mut self, bytes: &[u8], items: usize) -> Result<(), AllocError>
         ensures ok { OnOk result
             (self.new.state ≡ count items (put bytes.now self.old.state)) }
@@ -154,7 +150,6 @@ impl RlpStream {
     }
 
     /// The number of innermost open lists that are unbounded, or `most` if there are more.
-    #[tactic(auto, using(rlp_buffer::proofs::Streams::FlatBuffer::unbounded_lists))]
     pub(super) fn unbounded_lists(&self, most: usize) -> usize
         ensures { result ≡ min most (unbounded_count self.now.state.stack.lists) }
     {
@@ -168,7 +163,6 @@ impl RlpStream {
     /// counted in the list around it. So each of the lists is made to await one item, and one item
     /// is counted: that closes them all in one pass. If memory is refused, they are made unbounded
     /// again.
-    #[tactic(auto, unfolding(rlp_buffer::specs::Streams::Stream::Retains))]
     pub(super) fn try_finalize(&mut self, count: usize) -> Result<(), AllocError>
         requires some { 0 < count }
         requires open { count ≤ unbounded_count self.old.state.stack.lists }
@@ -192,7 +186,6 @@ impl RlpStream {
     }
 
     /// Counts items in the innermost open list.
-    #[tactic(auto, unfolding(rlp_buffer::specs::Streams::Stream::Retains))]
     fn try_count(&mut self, items: usize) -> Result<(), AllocError>
         ensures ok { OnOk result (self.new.state ≡ count items self.old.state) }
         ensures refused { OnErr result (IsAsBefore self.old self.new) }
@@ -203,7 +196,6 @@ impl RlpStream {
     }
 
     /// Puts a value and counts it if `is_counted` is false. A refused call may leave some bytes.
-    #[tactic(auto, using(crate::proofs::Streams::Growth::grows_uncounted), unfolding(rlp_buffer::specs::Streams::Stream::Retains))]
     fn put_value<E: Encodable>(&mut self, value: &E) -> Result<(), AllocError>
         requires { self.old.state.is_counted ≡ false }
         ensures fits { OnOk result (E.fits value.now) }
@@ -222,7 +214,6 @@ impl RlpStream {
 
     /// Puts the string that an iterator gives and counts it if `is_counted` is false. A refused call
     /// may leave some bytes.
-    #[tactic(auto, using(crate::proofs::Streams::Growth::growth), unfolding(rlp_buffer::specs::Streams::Stream::Retains))]
     fn put_iter<I: IntoIterator<Item = u8>>(&mut self, value: I) -> Result<(), AllocError>
         requires uncounted { self.old.state.is_counted ≡ false }
         requires ends { IsFiniteIterable I.into_iter_gives I.IntoIter.can_next I.IntoIter.remaining value }
@@ -244,7 +235,6 @@ impl RlpStream {
     }
 
     /// Goes back to a place. The stream must have grown from it.
-    #[tactic(auto, unfolding(rlp_buffer::specs::Streams::Stream::Retains))]
     fn go_back(&mut self, place: Place)
         requires { (s : State) × IsPlaceOf place s × GrowsTo s self.old.state }
         ensures back { (s : State) → IsPlaceOf place s → GrowsTo s self.old.state
@@ -256,8 +246,7 @@ impl RlpStream {
     }
 
     /// Appends a value. If it is refused, goes back to the place before the call.
-    #[tactic(auto, unfolding(rlp_buffer::specs::Streams::Stream::Retains))]
-    pub(super) fn try_append<E: Encodable>(&mut self, value: &E) -> Result<(), AllocError>
+    pub(crate) fn try_append<E: Encodable>(&mut self, value: &E) -> Result<(), AllocError>
         ensures fits { OnOk result (E.fits value.now) }
         ensures ok { OnOk result (self.new.state ≡ add (E.item value.now) self.old.state) }
         ensures room { E.at_once value.now
@@ -278,7 +267,6 @@ impl RlpStream {
 
     /// Writes a value by its own `rlp_append`. If it is refused, goes back to the place before the
     /// call.
-    #[tactic(auto, unfolding(rlp_buffer::specs::Streams::Stream::Retains))]
     pub(super) fn try_append_internal<E: Encodable>(&mut self, value: &E) -> Result<(), AllocError>
         ensures fits { OnOk result (E.fits value.now) }
         ensures ok { OnOk result (self.new.state ≡ put_item (E.item value.now) self.old.state) }
@@ -299,7 +287,6 @@ impl RlpStream {
 
     /// Appends the string that an iterator gives. If it is refused, goes back to the place before
     /// the call.
-    #[tactic(auto, unfolding(rlp_buffer::specs::Streams::Stream::Retains))]
     pub(super) fn try_append_iter<I: IntoIterator<Item = u8>>(
         &mut self,
         value: I,

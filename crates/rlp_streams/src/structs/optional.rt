@@ -37,11 +37,10 @@ impl<T: Encodable> AppendFields for Optional<'_, T> {
         }
     }
 
-    #[tactic(auto, using(crate::proofs::Streams::Fields::fields))]
     fn append_fields(&self, s: &mut RlpStream) -> Result<(), AllocError> {
         match self.0 {
             Some(value) => {
-                s.append(value)?;
+                s.try_append(value)?;
                 Ok(())
             }
             None => Ok(()),
@@ -66,7 +65,6 @@ impl<T: Encodable> AppendFields for OptionalListOf<'_, T> {
         }
     }
 
-    #[tactic(auto, using(crate::proofs::Streams::Fields::fields))]
     fn append_fields(&self, s: &mut RlpStream) -> Result<(), AllocError> {
         match self.0 {
             Some(values) => {
@@ -92,7 +90,6 @@ impl<S: AppendFields> AppendFields for OptionalGroupOf<'_, S> {
         }
     }
 
-    #[tactic(auto, using(crate::proofs::Streams::Fields::fields))]
     fn append_fields(&self, s: &mut RlpStream) -> Result<(), AllocError> {
         match self.0 {
             Some(fields) => fields.append_fields(s),

@@ -32,7 +32,6 @@ impl<T: Encodable> AppendFields for ListOf<'_, T> {
         Some(1)
     }
 
-    #[tactic(auto, using(crate::proofs::Streams::Fields::fields))]
     fn append_fields(&self, s: &mut RlpStream) -> Result<(), AllocError> {
         s.append_list(self.0)?;
         Ok(())
@@ -49,11 +48,10 @@ impl<T: Encodable> AppendFields for Each<'_, T> {
         Some(self.0.len())
     }
 
-    #[tactic(auto, using(crate::proofs::Streams::Fields::fields))]
     fn append_fields(&self, s: &mut RlpStream) -> Result<(), AllocError> {
         let values = self.0;
         for value in values {
-            s.append(value)?;
+            s.try_append(value)?;
         }
         Ok(())
     }
@@ -80,7 +78,6 @@ impl<T: AppendFields> AppendFields for Flattened<'_, T> {
         Some(count)
     }
 
-    #[tactic(auto, using(crate::proofs::Streams::Fields::fields))]
     fn append_fields(&self, s: &mut RlpStream) -> Result<(), AllocError> {
         let values = self.0;
         for value in values {

@@ -1,6 +1,6 @@
-use Rattle.std.proofs.Common.{◌++◌, map, take, ap, sym, ◌∙◌, append_assoc, arith}
-use Rattle.std.proofs.lemmas.Grind.{elements}
+use Rattle.std.proofs.Common.{◌++◌, map, take, ap, sym, ◌∙◌, append_assoc}
 use Rattle.rlp_format.specs.Format.Encoding.{encoding, join}
+use Rattle.rlp_streams.proofs.Streams.Filling.{all_more}
 use Rattle.rlp_streams.proofs.Streams.Joined.{put_alone, joined_more}
 use Rattle.rlp_streams.proofs.whole_list.put_each.Goals as goal
 
@@ -14,7 +14,8 @@ loop-value-preserved g c =
     let put = put_alone (item x) c.loop-value.s.state c.rlp_append.new.s.state c.loop-value.invariant.finished c.in_ok-rlp_append.ensures.ok in
     let more = joined_more item values i x x c.loop-value-test.true c.value-item.is in
     record {
-      fits = grind (arith, elements);
+      fits = all_more g.E.Encodable.fits values c.loop-value.value-index c.value-item.result c.value-item.result c.loop-value-test.true
+          c.value-item.is c.loop-value.invariant.fits c.in_ok-rlp_append.ensures.fits;
       front = put.front ∙ c.loop-value.invariant.front;
       top = put.top ∙ ap (λ b. b ++ encoding (item x)) c.loop-value.invariant.top
           ∙ append_assoc old (join (map item (take i values))) (encoding (item x)) ∙ ap (λ b. old ++ b) (sym more);

@@ -4,6 +4,10 @@ use Rattle.rlp_format.specs.Format.Encoding.{encoding}
 use Rattle.rlp_buffer.specs.Streams.Stream.{Seen}
 use Rattle.rlp_buffer.proofs.Streams.Rooms.{short_to_put}
 use Rattle.rlp_buffer.proofs.Streams.FlatBuffer.{state_put}
+use Rattle.rlp_streams.proofs.Streams.Retained.{retained_bytes}
+use Rattle.rlp_streams.proofs.Streams.Growth.{grows_same}
+use Rattle.rlp_streams.proofs.Streams.Refused.{on_err}
+use Rattle.rlp_buffer.proofs.Streams.FlatBuffer.{laid_append}
 use Rattle.rlp_streams.proofs.stream.RlpStream.put_string.Goals as goal
 
 pub returns-clause-ok : goal.returns-clause-ok
@@ -16,3 +20,19 @@ returns-in_err-write_string-clause-has_room c =
     λ has.
     absurd (short_to_put (encoding (string c.args.value.now)) c.args.self.now
     (rw (ap (λ (v : Seen). v.spare) (sym c.self.view_is)) c.in_err-write_string.ensures.room) has)
+
+pub returns-in_err-write_string-clause-grows : goal.returns-in_err-write_string-clause-grows
+returns-in_err-write_string-clause-grows c =
+    on_err _ _ (grows_same _ _ (rw c.in_err-write_string.ensures.refused (ap (λ (v : Seen). v.state) c.self.view_is)))
+
+pub returns-in_err-write_string-clause-retains : goal.returns-in_err-write_string-clause-retains
+returns-in_err-write_string-clause-retains c =
+    let i = c.self.inside in
+    retained_bytes c.args.self.now i c.write_string.new.buffer i.is_counted c.self.view_is c.self.invariant
+    (rw c.in_err-write_string.ensures.refused c.self.invariant) c.write_string.ensures.keeps
+
+pub returns-clause-retains : goal.returns-clause-retains
+returns-clause-retains c =
+    let i = c.self.inside in
+    retained_bytes c.args.self.now i c.write_string.new.buffer i.is_counted c.self.view_is c.self.invariant
+    (rw c.in_ok-write_string.ensures.ok (laid_append i.start i.buffer.items _ (reverse i.lists.items) c.self.invariant)) c.write_string.ensures.keeps

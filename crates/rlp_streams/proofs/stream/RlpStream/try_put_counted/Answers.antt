@@ -5,6 +5,7 @@ use Rattle.rlp_buffer.specs.Streams.Placeholders.{IsLaid}
 use Rattle.rlp_buffer.proofs.Streams.FlatBuffer.{laid_descends, laid_append, laid_counted, is_counted_open, not_empty, state_put_counted, moved_counted}
 use Rattle.rlp_buffer.proofs.Streams.Rooms.{short_to_count}
 use Rattle.rlp_streams.proofs.Streams.Retained.{retained}
+use Rattle.std.proofs.Common.{le_of_eq}
 use Rattle.rlp_streams.proofs.stream.RlpStream.try_put_counted.Goals as goal
 
 pub put_counted-requires : goal.put_counted-requires
@@ -61,3 +62,21 @@ returns-then-open-clause-retains c =
       is_counted =
           c.in_ok-closed.closed;
     }) c.self.view_is c.self.invariant laid done.keeps (omega arith)
+
+pub returns-in_err-closed-clause-retains : goal.returns-in_err-closed-clause-retains
+returns-in_err-closed-clause-retains c =
+    let i = c.self.inside in
+    let refused = c.in_err-closed.ensures.refused in
+    let laid : IsLaid i.start c.put_counted.new.buffer.items (reverse c.put_counted.new.lists.items) = rw (refused.0, refused.1) c.self.invariant in
+    retained c.args.self.now i (record { buffer = c.put_counted.new.buffer; start = i.start; lists = c.put_counted.new.lists; is_counted = i.is_counted })
+    c.self.view_is c.self.invariant laid c.put_counted.ensures.keeps (le_of_eq (sym c.put_counted.ensures.list_room))
+
+pub returns-else-open-clause-retains : goal.returns-else-open-clause-retains
+returns-else-open-clause-retains c =
+    let i = c.self.inside in
+    let done = c.in_ok-closed.ensures in
+    let laid : IsLaid i.start c.put_counted.new.buffer.items (reverse c.put_counted.new.lists.items) =
+    rw (done.bytes, done.lists) (laid_counted c.args.items i.start (i.buffer.items ++ c.args.bytes.now) (reverse i.lists.items)
+    (laid_append i.start i.buffer.items c.args.bytes.now (reverse i.lists.items) c.self.invariant)) in
+    retained c.args.self.now i (record { buffer = c.put_counted.new.buffer; start = i.start; lists = c.put_counted.new.lists; is_counted = i.is_counted })
+    c.self.view_is c.self.invariant laid done.keeps (le_of_eq (sym done.list_room))

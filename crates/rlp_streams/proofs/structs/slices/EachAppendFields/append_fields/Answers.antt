@@ -1,26 +1,21 @@
-use Rattle.std.proofs.Common.{◌≡◌, ◌+◌, [], ◌∷◌, ◌++◌, Result, Ok, Err, take, map, ap, sym, ◌∙◌, arith, rules}
-use Rattle.std.specs.Prelude.{OnErr}
-use Rattle.std.proofs.lemmas.Grind.{elements}
+use Rattle.std.proofs.Common.{◌≡◌, ◌+◌, [], ◌∷◌, ◌++◌, take, map, ap, sym, ◌∙◌, refl, rules}
 use Rattle.std.proofs.lemmas.List.{map_more, take_all}
-use Rattle.rlp_buffer.specs.Streams.Stream.{add_all}
-use Rattle.rlp_streams.proofs.Streams.Growth.{retains_trans}
+use Rattle.rlp_buffer.proofs.Streams.Rooms.{retains_same, retains_trans}
+use Rattle.rlp_streams.proofs.Streams.Filling.{all_more}
 use Rattle.rlp_streams.proofs.Streams.Fields.{items_pushed, some_at}
+use Rattle.rlp_streams.proofs.Streams.Refused.{on_err}
 use Rattle.rlp_streams.proofs.structs.slices.EachAppendFields.append_fields.Goals as goal
 
-on_err : {T E : Type 0} (r : Result T E) (P : Type 0) → P → OnErr r P
-on_err (Ok x) P p = tt
-on_err (Err e) P p = p
+pub loop-value-init : goal.loop-value-init
+loop-value-init g c = record { state = refl; retains = retains_same _; fits = search rules }
 
-pub returns-in_err-s-clause-refused : goal.returns-in_err-s-clause-refused
-returns-in_err-s-clause-refused g c =
-    let values = c.args.self.now.0.now in
-    let same : c.append.follows.lender-at-none.state ≡ c.loop-value.s.state = (rw c.in_err-s.was at c.append.follows.holds-at-none).0 in
-    on_err _ _ (some_at g.T.Encodable.item values c.loop-value.value-index c.args.s.now.state c.append.follows.lender-at-none.state
-    c.loop-value-test.true (same ∙ c.loop-value.invariant.state))
+pub returns-in_err-try_append-clause-refused : goal.returns-in_err-try_append-clause-refused
+returns-in_err-try_append-clause-refused g c =
+    on_err _ _ (some_at g.T.Encodable.item c.args.self.now.0.now c.loop-value.value-index c.args.s.now.state c.try_append.new.self.state
+    c.loop-value-test.true (c.in_err-try_append.ensures.refused ∙ c.loop-value.invariant.state))
 
-pub returns-in_err-s-clause-retains : goal.returns-in_err-s-clause-retains
-returns-in_err-s-clause-retains g c =
-    retains_trans _ _ _ c.loop-value.invariant.retains ((rw c.in_err-s.was at c.append.follows.holds-at-none).1)
+pub returns-in_err-try_append-clause-retains : goal.returns-in_err-try_append-clause-retains
+returns-in_err-try_append-clause-retains g c = retains_trans _ _ _ c.loop-value.invariant.retains c.in_err-try_append.ensures.retains
 
 pub loop-value-preserved : goal.loop-value-preserved
 loop-value-preserved g c =
@@ -29,12 +24,13 @@ loop-value-preserved g c =
     let before = map item (take c.loop-value.value-index values) in
     let more : map item (take (c.loop-value.value-index + 1) values) ≡ before ++ item c.value-item.result ∷ [] =
     map_more item values c.loop-value.value-index c.value-item.result c.loop-value-test.true ∙ ap (λ v. before ++ item v ∷ []) (sym c.value-item.is) in
-    let done : c.in_ok-s.field-0.stream.now.state ≡ add_all (map item (take (c.loop-value.value-index + 1) values)) c.args.s.now.state =
-    items_pushed before (map item (take (c.loop-value.value-index + 1) values))
-    (item c.value-item.result) c.args.s.now.state c.loop-value.s.state c.in_ok-s.field-0.stream.now.state more c.loop-value.invariant.state
-    c.in_ok-s.ensures.ok in
-    let more = retains_trans _ _ _ c.loop-value.invariant.retains c.in_ok-s.ensures.retains in
-    record { state = search rules; retains = search rules; fits = grind (arith, elements) }
+    record {
+      state = items_pushed before (map item (take (c.loop-value.value-index + 1) values)) (item c.value-item.result) c.args.s.now.state c.loop-value.s.state
+          c.try_append.new.self.state more c.loop-value.invariant.state c.in_ok-try_append.ensures.ok;
+      retains = retains_trans _ _ _ c.loop-value.invariant.retains c.in_ok-try_append.ensures.retains;
+      fits = all_more g.T.Encodable.fits values c.loop-value.value-index c.value-item.result c.value-item.result c.loop-value-test.true
+          c.value-item.is c.loop-value.invariant.fits c.in_ok-try_append.ensures.fits;
+    }
 
 pub returns-clause-ok : goal.returns-clause-ok
 returns-clause-ok g c =

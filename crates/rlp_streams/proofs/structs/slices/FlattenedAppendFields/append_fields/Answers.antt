@@ -1,8 +1,10 @@
-use Rattle.std.proofs.Common.{Result, Ok, Err, arith, rules}
+use Rattle.std.proofs.Common.{Result, Ok, Err, rules}
 use Rattle.std.specs.Prelude.{OnErr}
-use Rattle.std.proofs.lemmas.Grind.{elements}
+use Rattle.rlp_streams.proofs.Streams.Filling.{all_more}
 use Rattle.rlp_streams.proofs.Streams.Fields.{flattened_at, flattened_pushed}
 use Rattle.rlp_streams.proofs.Streams.Growth.{retains_trans}
+use Rattle.std.proofs.Common.{refl}
+use Rattle.rlp_buffer.proofs.Streams.Rooms.{retains_same}
 use Rattle.rlp_streams.proofs.structs.slices.FlattenedAppendFields.append_fields.Goals as goal
 
 on_err : {T E : Type 0} (r : Result T E) (P : Type 0) → P → OnErr r P
@@ -23,5 +25,12 @@ loop-value-preserved g c =
           c.args.s.now.state c.loop-value.s.state c.append_fields.new.s.state c.loop-value-test.true c.value-item.is c.loop-value.invariant.state
           c.in_ok-append_fields.ensures.ok;
       retains = search rules;
-      fits = grind (arith, elements);
+      fits = all_more g.T.AppendFields.fit c.args.self.now.0.now c.loop-value.value-index c.value-item.result c.value-item.result c.loop-value-test.true
+          c.value-item.is c.loop-value.invariant.fits c.in_ok-append_fields.ensures.fits;
     }
+
+pub loop-value-init : goal.loop-value-init
+loop-value-init g c = record { state = refl; retains = retains_same _; fits = search rules }
+
+pub returns-in_err-append_fields-clause-retains : goal.returns-in_err-append_fields-clause-retains
+returns-in_err-append_fields-clause-retains g c = retains_trans _ _ _ c.loop-value.invariant.retains c.append_fields.ensures.retains

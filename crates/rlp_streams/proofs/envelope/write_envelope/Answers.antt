@@ -1,0 +1,17 @@
+use Rattle.std.proofs.Common.{refl}
+use Rattle.rlp_streams.proofs.Streams.Growth.{grows_same}
+use Rattle.rlp_streams.proofs.Streams.Refused.{on_err}
+use Rattle.rlp_buffer.proofs.Streams.Rooms.{retains_same}
+use Rattle.rlp_streams.proofs.envelope.write_envelope.Goals as goal
+
+pub returns-in_err-put_u8-clause-grows : goal.returns-in_err-put_u8-clause-grows
+returns-in_err-put_u8-clause-grows g c = on_err _ _ (grows_same _ _ refl)
+
+pub returns-in_err-put_u8-clause-retains : goal.returns-in_err-put_u8-clause-retains
+returns-in_err-put_u8-clause-retains g c = retains_same _
+
+pub returns-in_err-envelope-clause-grows : goal.returns-in_err-envelope-clause-grows
+returns-in_err-envelope-clause-grows g c = on_err _ _ (grows_same _ _ refl)
+
+pub returns-in_err-envelope-clause-retains : goal.returns-in_err-envelope-clause-retains
+returns-in_err-envelope-clause-retains g c = retains_same _
