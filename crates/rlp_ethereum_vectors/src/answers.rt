@@ -3,12 +3,11 @@
 use crate::alone::Payload;
 use crate::fields::{fields, forks, london};
 use crate::reading::{Alone, Item, ways};
-use crate::{bounded, hashes, node_records, nodes, records, signing, unsigned};
+use crate::{bounded, hashes, records, signing, unsigned};
 use rlp_ethereum::{
     AccessListTransaction, Account, AnyTransaction, Authorization, BlobTransaction, Block, Body,
-    Branch, BranchChild, Child, Extension, FeeMarketTransaction, Hash, Header, Leaf, Log,
-    NodeRecord, SetCodeTransaction, Signed, SignedLegacyTransaction, Transaction, TrieNode,
-    TypedReceipt, UnsignedLegacyTransaction, UnsignedTransaction, Withdrawal,
+    FeeMarketTransaction, Hash, Header, Log, SetCodeTransaction, Signed, SignedLegacyTransaction,
+    Transaction, TypedReceipt, UnsignedLegacyTransaction, UnsignedTransaction, Withdrawal,
 };
 use rlp_rows::Line;
 use std::alloc::Global;
@@ -22,18 +21,11 @@ pub(crate) fn tell(alloc: Global, call: &str, bytes: &[u8], out: &mut Line) -> f
         "AnyTransaction" => ways::<Item<AnyTransaction>>(alloc, bytes, out),
         "Block" => ways::<Item<Block>>(alloc, bytes, out),
         "Body" => ways::<Item<Body>>(alloc, bytes, out),
-        "Branch" => ways::<Item<Branch>>(alloc, bytes, out),
-        "BranchChild" => ways::<Item<BranchChild>>(alloc, bytes, out),
-        "Child" => ways::<Item<Child>>(alloc, bytes, out),
-        "Extension" => ways::<Item<Extension>>(alloc, bytes, out),
         "Hash" => ways::<Item<Hash>>(alloc, bytes, out),
         "Header" => ways::<Item<Header>>(alloc, bytes, out),
-        "Leaf" => ways::<Item<Leaf>>(alloc, bytes, out),
         "LegacyTransaction" => ways::<Item<SignedLegacyTransaction>>(alloc, bytes, out),
         "Log" => ways::<Item<Log>>(alloc, bytes, out),
-        "NodeRecord" => ways::<Item<NodeRecord>>(alloc, bytes, out),
         "Transaction" => ways::<Item<Transaction>>(alloc, bytes, out),
-        "TrieNode" => ways::<Item<TrieNode>>(alloc, bytes, out),
         "TypedReceipt" => ways::<Item<TypedReceipt>>(alloc, bytes, out),
         "Withdrawal" => ways::<Item<Withdrawal>>(alloc, bytes, out),
         _ => tell_payload(alloc, call, bytes, out),
@@ -75,7 +67,6 @@ fn tell_alone_or_fields(alloc: Global, call: &str, bytes: &[u8], out: &mut Line)
         }
         "parts of Transaction alone" => unsigned::tell_signed(alloc, "parts", bytes, out),
         "kind of TypedReceipt" => fields::<TypedReceipt>(alloc, bytes, out),
-        "fields of TrieNode" => fields::<TrieNode>(alloc, bytes, out),
         _ => tell_named(alloc, call, bytes, out),
     }
 }
@@ -84,8 +75,6 @@ fn tell_alone_or_fields(alloc: Global, call: &str, bytes: &[u8], out: &mut Line)
 fn tell_named(alloc: Global, call: &str, bytes: &[u8], out: &mut Line) -> fmt::Result {
     match call.split_once(": ") {
         Some(("record", name)) => records::tell(alloc, name, bytes, out),
-        Some(("node", name)) => nodes::tell(alloc, name, bytes, out),
-        Some(("node record", name)) => node_records::tell(alloc, name, bytes, out),
         Some(("signing", name)) => unsigned::tell_signed(alloc, name, bytes, out),
         Some(("sent", name)) => signing::tell_sent(alloc, name, bytes, out),
         Some(("signed", name)) => unsigned::tell(alloc, name, bytes, out),

@@ -3,9 +3,9 @@
 use crate::reading::fault;
 use rlp::{Decodable, Rlp};
 use rlp_ethereum::{
-    AnyTransaction, BlobTransaction, Block, Body, Child, Hash, Header, London, Recipient,
+    AnyTransaction, BlobTransaction, Block, Body, Hash, Header, London, Recipient,
     SetCodeTransaction, Signed, SignedAuthorization, SignedLegacyTransaction, Transaction,
-    TrieNode, TypedReceipt,
+    TypedReceipt,
 };
 use rlp_rows::{Hex, Line};
 use std::alloc::Global;
@@ -279,33 +279,5 @@ impl Told for TypedReceipt {
             TypedReceipt::Blob(_) => "blob",
             TypedReceipt::SetCode(_) => "set code",
         })
-    }
-}
-
-/// The kind of a node, its path unless it is a branch, and the hash that it has as child.
-impl Told for TrieNode {
-    fn tell(&self, _len: usize, out: &mut Line) -> fmt::Result {
-        match self {
-            TrieNode::Empty => write!(out, "empty"),
-            TrieNode::Leaf(leaf) => write!(out, "leaf {:?}", Hex(leaf.path.bytes.as_slice())),
-            TrieNode::Extension(extension) => {
-                let (path, child) = (&extension.path, digits_of(hash_of(&extension.child)));
-                write!(
-                    out,
-                    "extension {:?} {:?}",
-                    Hex(path.bytes.as_slice()),
-                    Hex(child)
-                )
-            }
-            TrieNode::Branch(_) => write!(out, "branch"),
-        }
-    }
-}
-
-/// Returns the hash of a child.
-fn hash_of(child: &Child) -> Option<&Hash> {
-    match child {
-        Child::Node(hash) => Some(hash),
-        _ => None,
     }
 }

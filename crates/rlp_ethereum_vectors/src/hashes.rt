@@ -3,7 +3,7 @@
 use crate::reading::fault;
 use rlp::DecoderError;
 use rlp_ethereum::{
-    AccessListTransaction, AnyTransaction, FeeMarketTransaction, Hash, Header, Signed, TrieNode,
+    AccessListTransaction, AnyTransaction, FeeMarketTransaction, Hash, Header, Signed,
     TypedTransaction, UnsignedLegacyTransaction, UnsignedTransaction, encoding_hash, signing_hash,
 };
 use rlp_rows::{Hex, Line};
@@ -14,9 +14,7 @@ use std::fmt::Write;
 /// What is hashed, its bytes as text, and the digits of its hash: the headers of the first two blocks
 /// of the main network, of block 0 of the network Holesky and of block 1 of a test of EIP-1559; the
 /// first transaction of the main network, the example of EIP-155 and a transaction of type 2; what is
-/// signed of a transaction of the tests of `go-ethereum`, of the one of type 2 and of the example; and
-/// the roots of the tries of transactions and receipts of block 46147, which has only the first
-/// transaction; and the root of the empty trie.
+/// signed of a transaction of the tests of `go-ethereum`, of the one of type 2 and of the example.
 pub(crate) const ROWS: &str = "
     hash: header | GENESIS | d4e56740f876aef8c010b86a40d5f56745a118d0906a34e69aec8c0db1cb8fa3
     hash: header | BLOCK_1 | 88e96d4537bea4d9c05d12549907b32561d3bf31f45aae734cdc119f13406cb6
@@ -51,24 +49,12 @@ pub(crate) const ROWS: &str = "
      c8e53
     hash: unsigned legacy transaction | EXAMPLE | daf5a779ae972f972197303d7b574746c7ef83eadac0f2791ad2\
      3db92e4c8e53
-    hash: node | f86e822080b869+FIRST | 4513310fcb9f6f616972a3b948dc5d547f280849a87ebb5af0191f98b87be5\
-     98
-    hash: node | f90131822080b9012bf90128a096a8e009d2b88b1483e6941e6812e32263b05683fac202abc622a3e31ae\
-     d1957825208b90100+00*256+c0 | fe2bf2a941abf41d72637e5b91750332a30283efd40c424dc522b77e6f0ed\
-     8c4
-    hash: node | 80 | 56e81f171bcc55a6ff8345e692c0f86e5b48e01b996cadc001622fb5e363b421
 ";
 
 /// Returns the hash of a header.
 fn header(alloc: Global, bytes: &[u8]) -> Result<Hash, DecoderError> {
     let header = rlp::decode_strict::<Header>(alloc, bytes)?;
     header.hash(alloc).or(Err(DecoderError::OutOfMemory))
-}
-
-/// Returns the hash of a node.
-fn node(alloc: Global, bytes: &[u8]) -> Result<Hash, DecoderError> {
-    let node = rlp::decode_strict::<TrieNode>(alloc, bytes)?;
-    node.hash(alloc).or(Err(DecoderError::OutOfMemory))
 }
 
 /// Returns the hash of a transaction.
@@ -105,8 +91,7 @@ fn hash(alloc: Global, kind: &str, bytes: &[u8]) -> Result<Hash, DecoderError> {
         "transaction" => transaction(alloc, bytes),
         "unsigned transaction" => unsigned(alloc, bytes),
         "payload of type 1" => payload::<AccessListTransaction>(alloc, bytes),
-        "payload of type 2" => payload::<FeeMarketTransaction>(alloc, bytes),
-        _ => node(alloc, bytes),
+        _ => payload::<FeeMarketTransaction>(alloc, bytes),
     }
 }
 

@@ -21,12 +21,6 @@ mod laws;
 #[cfg(test)]
 mod named;
 #[cfg(test)]
-mod node_records;
-#[cfg(test)]
-mod nodes;
-#[cfg(test)]
-mod proofs;
-#[cfg(test)]
 mod reading;
 #[cfg(test)]
 mod records;

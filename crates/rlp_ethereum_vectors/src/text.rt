@@ -7,22 +7,5 @@ use std::alloc::{AllocError, Global};
 /// [`NAMED`], or hexadecimal digits, or such digits, `*`, and the number of times that they are
 /// repeated.
 pub(crate) fn bytes_of(alloc: Global, text: &str) -> Result<Vec<u8>, AllocError> {
-    let mut bytes = Vec::new(alloc);
-    for part in text.split('+') {
-        let part = rlp_rows::bytes_of(alloc, named(part))?;
-        bytes.extend_from_slice(part.as_slice())?;
-    }
-    Ok(bytes)
-}
-
-/// Returns the bytes with this name as text, or the name itself if there are none.
-fn named(name: &str) -> &str {
-    for line in NAMED.lines() {
-        if let Some((other, text)) = line.trim().split_once(" = ") {
-            if other == name {
-                return text;
-            }
-        }
-    }
-    name
+    rlp_rows::bytes_named(alloc, text, NAMED)
 }

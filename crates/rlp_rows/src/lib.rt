@@ -21,6 +21,29 @@ pub fn bytes_of(alloc: Global, text: &str) -> Result<Vec<u8>, AllocError> {
     Ok(bytes)
 }
 
+/// The bytes of a text whose parts, which are joined by `+`, may also be names: lines of the second text
+/// give the name, ` = `, and the bytes as a text without names. Fails as [`bytes_of`] does.
+pub fn bytes_named(alloc: Global, text: &str, names: &str) -> Result<Vec<u8>, AllocError> {
+    let mut bytes = Vec::new(alloc);
+    for part in text.split('+') {
+        let part = bytes_of(alloc, named(part, names))?;
+        bytes.extend_from_slice(part.as_slice())?;
+    }
+    Ok(bytes)
+}
+
+/// The text with this name, or the name itself if no line has it.
+fn named<'a>(name: &'a str, names: &'a str) -> &'a str {
+    for line in names.lines() {
+        if let Some((other, text)) = line.trim().split_once(" = ") {
+            if other == name {
+                return text;
+            }
+        }
+    }
+    name
+}
+
 /// Appends the bytes of digits, which may be followed by `*` and a number of times.
 fn push_digits(alloc: Global, part: &str, bytes: &mut Vec<u8>) -> Result<(), AllocError> {
     let (digits, times) = part.split_once('*').unwrap_or((part, "1"));

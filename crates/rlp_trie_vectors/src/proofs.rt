@@ -1,8 +1,9 @@
 //! Proofs of what tries have, with the roots that public tests and blocks name.
 
 use crate::text::bytes_of;
-use rlp_ethereum::{Hash, verify_proof};
+use rlp_records::Hash;
 use rlp_rows::{Hex, Line};
+use rlp_trie::verify_proof;
 use std::alloc::{AllocError, Global};
 use std::fmt;
 use std::fmt::Write;

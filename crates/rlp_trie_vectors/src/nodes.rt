@@ -1,13 +1,14 @@
 //! Nodes of the trie. Unless a comment says otherwise, the expected bytes were worked out by the
 //! rules of the format.
 
-use crate::reading::{Item, Reading, fault, made, made_of};
+use crate::reading::{again, fault, made, made_of};
 use rlp::{DecoderError, RawItem};
-use rlp_ethereum::{
-    Branch, BranchChild, Child, Extension, ExtensionPath, Hash, InlineNode, Leaf, LeafPath, Path,
+use rlp_records::Hash;
+use rlp_rows::{Hex, Line};
+use rlp_trie::{
+    Branch, BranchChild, Child, Extension, ExtensionPath, InlineNode, Leaf, LeafPath, Path,
     TrieNode, ends_in_leaf,
 };
-use rlp_rows::{Hex, Line};
 use std::alloc::{AllocError, Global};
 use std::fmt;
 use std::fmt::Write;
@@ -158,6 +159,15 @@ pub(crate) const ROWS: &str = "
     node: extension by | 40 | Custom(\"path is not hex-prefix encoded\")
     node: extension by 17 to | dc808080808080c63584636f696e808080808080808080857075707079 | de17dc8\
      08080808080c63584636f696e808080808080808080857075707079
+
+    The roots of the tries of transactions and receipts of block 46147, which has only the first
+    transaction, and the root of the empty trie.
+    hash of TrieNode | f86e822080b869+FIRST | 4513310fcb9f6f616972a3b948dc5d547f280849a87ebb5af0191f98b87be5\
+     98
+    hash of TrieNode | f90131822080b9012bf90128a096a8e009d2b88b1483e6941e6812e32263b05683fac202abc622a3e31ae\
+     d1957825208b90100+00*256+c0 | fe2bf2a941abf41d72637e5b91750332a30283efd40c424dc522b77e6f0ed\
+     8c4
+    hash of TrieNode | 80 | 56e81f171bcc55a6ff8345e692c0f86e5b48e01b996cadc001622fb5e363b421
 ";
 
 /// Returns the child with these bytes.
@@ -219,7 +229,7 @@ fn first_unnoticed(alloc: Global, bytes: &[u8]) -> Result<Option<usize>, AllocEr
 
 /// Returns whether bytes are read as a node that is written as others.
 fn is_read_otherwise(alloc: Global, bytes: &[u8]) -> bool {
-    match Item::<TrieNode>::again(alloc, bytes) {
+    match again::<TrieNode>(alloc, bytes) {
         Ok(again) => again.as_slice() != bytes,
         Err(found) => found == DecoderError::OutOfMemory,
     }
@@ -295,5 +305,34 @@ fn tell_short(alloc: Global, name: &str, bytes: &[u8], out: &mut Line) -> fmt::R
         "leaf by" => made_of(alloc, leaf(alloc, bytes, b"coin"), bytes, out),
         "extension by" => made_of(alloc, extension(alloc, bytes, CAT), bytes, out),
         _ => made_of(alloc, extension(alloc, b"\x17", bytes), bytes, out),
+    }
+}
+
+/// Tells the kind of the node that is read, its path unless it is a branch, and the hash that it has
+/// as child, or the fault.
+pub(crate) fn tell_fields(alloc: Global, bytes: &[u8], out: &mut Line) -> fmt::Result {
+    match rlp::decode_strict::<TrieNode>(alloc, bytes) {
+        Ok(TrieNode::Empty) => write!(out, "empty"),
+        Ok(TrieNode::Leaf(leaf)) => write!(out, "leaf {:?}", Hex(leaf.path.bytes.as_slice())),
+        Ok(TrieNode::Extension(extension)) => tell_extension(&extension, out),
+        Ok(TrieNode::Branch(_)) => write!(out, "branch"),
+        Err(found) => fault(&found, out),
+    }
+}
+
+/// Tells the path of an extension, and the hash that it has as child.
+fn tell_extension(extension: &Extension, out: &mut Line) -> fmt::Result {
+    write!(out, "extension {:?} ", Hex(extension.path.bytes.as_slice()))?;
+    match &extension.child {
+        Child::Node(hash) => write!(out, "{:?}", Hex(hash.0.as_slice())),
+        _ => Ok(()),
+    }
+}
+
+/// Tells the hash of the node that these bytes encode.
+pub(crate) fn tell_hash(alloc: Global, bytes: &[u8], out: &mut Line) -> fmt::Result {
+    match rlp::decode_strict::<TrieNode>(alloc, bytes) {
+        Ok(node) => write!(out, "{:?}", Hex(node.hash(alloc)?.0.as_slice())),
+        Err(found) => fault(&found, out),
     }
 }

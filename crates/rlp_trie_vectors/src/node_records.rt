@@ -1,10 +1,9 @@
 //! Node records. The first record, its fields and its text are those that EIP-778 publishes as its
 //! example.
 
-use crate::fields::tell_words;
-use crate::reading::{Item, fault, ways};
+use crate::reading::{fault, ways};
 use rlp::{DecoderError, RawItem};
-use rlp_ethereum::{NodeFields, NodePair, NodeRecord};
+use rlp_node_record::{NodeFields, NodePair, NodeRecord};
 use rlp_rows::{Hex, Line};
 use std::alloc::Global;
 use std::fmt;
@@ -71,8 +70,8 @@ fn tell_read(alloc: Global, bytes: &[u8], out: &mut Line) -> fmt::Result {
 /// Tells the sequence number, the signature, the content that is signed, and the pairs.
 fn tell_fields(alloc: Global, record: &NodeRecord, out: &mut Line) -> fmt::Result {
     let (fields, signed) = (record.fields(), record.signed_content(alloc)?);
-    write!(out, "{} ", fields.sequence)?;
-    tell_words(&[fields.signature.as_slice(), signed.as_slice()], out)?;
+    let (signature, signed) = (Hex(fields.signature.as_slice()), Hex(signed.as_slice()));
+    write!(out, "{} {signature:?} {signed:?}", fields.sequence)?;
     for pair in fields.pairs.iter() {
         let (key, value) = (Hex(pair.key.as_slice()), Hex(pair.value.as_bytes()));
         write!(out, " {key:?} {value:?}")?;
@@ -113,7 +112,7 @@ fn tell_keys_of(alloc: Global, keys: &[&[u8]], out: &mut Line) -> fmt::Result {
     match NodeRecord::new(alloc, fields) {
         Ok(record) => {
             let written = rlp::encode(alloc, &record)?;
-            ways::<Item<NodeRecord>>(alloc, written.as_slice(), out)?;
+            ways::<NodeRecord>(alloc, written.as_slice(), out)?;
             write!(out, ", {}", written.len())
         }
         Err(found) => fault(&found, out),

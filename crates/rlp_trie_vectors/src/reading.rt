@@ -1,0 +1,119 @@
+//! What is told of bytes that are read and of values that are written.
+
+use bytes::BytesMut;
+use rlp::{Decodable, DecoderError, Encodable};
+use rlp_rows::{Hex, Line};
+use std::alloc::{AllocError, Global};
+use std::fmt;
+use std::fmt::Write;
+
+/// Tells a fault.
+pub(crate) fn fault(fault: &DecoderError, out: &mut Line) -> fmt::Result {
+    write!(out, "{fault:?}")
+}
+
+/// Returns what the value that is read strictly is written as, or the fault. The fault is another if
+/// lenient reading gives something else, unless only strict reading fails: `OutOfMemory` if strict
+/// reading doesn't fail.
+pub(crate) fn again<T: Encodable + Decodable>(
+    alloc: Global,
+    bytes: &[u8],
+) -> Result<BytesMut, DecoderError> {
+    let strict = value(alloc, rlp::decode_strict::<T>(alloc, bytes));
+    let lenient = value(alloc, rlp::decode::<T>(alloc, bytes));
+    if is_same(&strict, &lenient) {
+        strict
+    } else if strict.is_err() {
+        Err(DecoderError::Custom("another fault leniently"))
+    } else {
+        Err(DecoderError::OutOfMemory)
+    }
+}
+
+/// Returns what a value that was read is written as, or the fault.
+fn value<T: Encodable + Decodable>(
+    alloc: Global,
+    read: Result<T, DecoderError>,
+) -> Result<BytesMut, DecoderError> {
+    match read {
+        Ok(value) => rlp::encode(alloc, &value).or(Err(DecoderError::OutOfMemory)),
+        Err(found) => Err(found),
+    }
+}
+
+/// Returns whether strict and lenient reading give the same, or only strict reading fails.
+fn is_same(
+    strict: &Result<BytesMut, DecoderError>,
+    lenient: &Result<BytesMut, DecoderError>,
+) -> bool {
+    match (strict, lenient) {
+        (Ok(strict), Ok(lenient)) => strict.as_slice() == lenient.as_slice(),
+        (Err(strict), Err(lenient)) => strict == lenient,
+        (strict, _) => strict.is_err(),
+    }
+}
+
+/// Tells `both ways` if the bytes are read and written as the same bytes, and fail if the last byte
+/// is missing or another follows. Tells else what is wrong, or the fault.
+pub(crate) fn ways<T: Encodable + Decodable>(
+    alloc: Global,
+    bytes: &[u8],
+    out: &mut Line,
+) -> fmt::Result {
+    match again::<T>(alloc, bytes) {
+        Ok(again) => {
+            if again.as_slice() == bytes && is_cut_noticed::<T>(alloc, bytes)? {
+                return write!(out, "both ways");
+            }
+            write!(out, "{:?}", Hex(again.as_slice()))
+        }
+        Err(found) => fault(&found, out),
+    }
+}
+
+/// Returns whether the bytes without the last fail, and those with one more.
+fn is_cut_noticed<T: Encodable + Decodable>(
+    alloc: Global,
+    bytes: &[u8],
+) -> Result<bool, AllocError> {
+    let mut longer = Vec::from_slice(alloc, bytes)?;
+    longer.push(0)?;
+    let cut = bytes.get(..bytes.len().saturating_sub(1)).unwrap_or(bytes);
+    Ok(is_refused(&again::<T>(alloc, longer.as_slice())) && is_refused(&again::<T>(alloc, cut)))
+}
+
+/// Returns whether bytes have a fault of the format.
+fn is_refused(again: &Result<BytesMut, DecoderError>) -> bool {
+    match again {
+        Ok(_) | Err(DecoderError::OutOfMemory) => false,
+        Err(_) => true,
+    }
+}
+
+/// Tells what [`ways`] does about the bytes if a value is written as these. Tells else the digits of
+/// what it is written as.
+pub(crate) fn made<T: Encodable + Decodable>(
+    alloc: Global,
+    value: &T,
+    bytes: &[u8],
+    out: &mut Line,
+) -> fmt::Result {
+    let written = rlp::encode(alloc, value)?;
+    if written.as_slice() == bytes {
+        return ways::<T>(alloc, bytes, out);
+    }
+    write!(out, "{:?}", Hex(written.as_slice()))
+}
+
+/// Tells what [`made`] does about a value, or the fault that there is in its place.
+pub(crate) fn made_of<T: Encodable + Decodable + Drop, E: fmt::Debug + Drop>(
+    alloc: Global,
+    value: Result<T, E>,
+    bytes: &[u8],
+    out: &mut Line,
+) -> fmt::Result {
+    match value {
+        Ok(value) => made(alloc, &value, bytes, out),
+        Err(found) => write!(out, "{found:?}"),
+    }
+}
