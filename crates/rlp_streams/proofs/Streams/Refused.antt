@@ -11,3 +11,7 @@ on_err (Err e) P p = p
 pub on_err_too : {T E : Type 0} (r : Result T E) (P Q : Type 0) → (P → Q) → OnErr r P → OnErr r Q
 on_err_too (Ok x) P Q f p = tt
 on_err_too (Err e) P Q f p = f p
+
+-- two facts that hold in any case
+pub on_err_both : {T E : Type 0} (r : Result T E) (P Q : Type 0) → P → Q → OnErr r (P × Q)
+on_err_both r P Q p q = on_err r (P × Q) (p, q)

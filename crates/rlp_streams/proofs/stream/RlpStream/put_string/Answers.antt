@@ -1,13 +1,12 @@
-use Rattle.std.proofs.Common.{reverse, ap, sym}
+use Rattle.std.proofs.Common.{reverse, ap, sym, ◌∙◌}
 use Rattle.rlp_format.specs.Format.Item.{string}
 use Rattle.rlp_format.specs.Format.Encoding.{encoding}
 use Rattle.rlp_buffer.specs.Streams.Stream.{Seen}
 use Rattle.rlp_buffer.proofs.Streams.Rooms.{short_to_put}
-use Rattle.rlp_buffer.proofs.Streams.FlatBuffer.{state_put}
+use Rattle.rlp_buffer.proofs.Streams.FlatBuffer.{state_put, laid_append}
 use Rattle.rlp_streams.proofs.Streams.Retained.{retained_bytes}
 use Rattle.rlp_streams.proofs.Streams.Growth.{grows_same}
-use Rattle.rlp_streams.proofs.Streams.Refused.{on_err}
-use Rattle.rlp_buffer.proofs.Streams.FlatBuffer.{laid_append}
+use Rattle.rlp_streams.proofs.Streams.Refused.{on_err, on_err_both}
 use Rattle.rlp_streams.proofs.stream.RlpStream.put_string.Goals as goal
 
 pub returns-clause-ok : goal.returns-clause-ok
@@ -36,3 +35,22 @@ returns-clause-retains c =
     let i = c.self.inside in
     retained_bytes c.args.self.now i c.write_string.new.buffer i.is_counted c.self.view_is c.self.invariant
     (rw c.in_ok-write_string.ensures.ok (laid_append i.start i.buffer.items _ (reverse i.lists.items) c.self.invariant)) c.write_string.ensures.keeps
+
+pub invariant_of-self : goal.invariant_of-self
+invariant_of-self c = rw c.in_err-write_string.ensures.refused c.self.invariant
+
+pub invariant_of-self-2 : goal.invariant_of-self-2
+invariant_of-self-2 c =
+    let i = c.self.inside in
+    rw c.in_ok-write_string.ensures.ok (laid_append i.start i.buffer.items _ (reverse i.lists.items) c.self.invariant)
+
+pub returns-in_err-write_string-clause-refused : goal.returns-in_err-write_string-clause-refused
+returns-in_err-write_string-clause-refused c =
+    on_err_both _ _ _ (rw c.in_err-write_string.ensures.refused (ap (λ (v : Seen). v.state) c.self.view_is))
+    (c.write_string.ensures.moved ∙ ap (λ (v : Seen). v.moved) c.self.view_is)
+
+pub returns-in_err-write_string-clause-moved : goal.returns-in_err-write_string-clause-moved
+returns-in_err-write_string-clause-moved c = c.write_string.ensures.moved ∙ ap (λ (v : Seen). v.moved) c.self.view_is
+
+pub returns-clause-moved : goal.returns-clause-moved
+returns-clause-moved c = c.write_string.ensures.moved ∙ ap (λ (v : Seen). v.moved) c.self.view_is

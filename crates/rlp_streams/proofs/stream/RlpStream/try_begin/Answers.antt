@@ -1,7 +1,6 @@
-use Rattle.rlp_streams.proofs.Streams.Opened.{room_for_none}
+use Rattle.rlp_streams.proofs.Streams.Opened.{room_for_none, opened_none}
 use Rattle.std.proofs.Common.{true, ap, ◌∙◌}
 use Rattle.rlp_buffer.specs.Streams.Stream.{Seen, with_is_counted}
-use Rattle.rlp_streams.proofs.Streams.Opened.{opened_none}
 use Rattle.rlp_streams.proofs.Streams.Retained.{retained_flag}
 use Rattle.rlp_streams.proofs.stream.RlpStream.try_begin.Goals as goal
 

@@ -1,11 +1,10 @@
-use Rattle.std.proofs.Common.{◌++◌, ◌<◌, length, reverse, ap, sym, ◌∙◌, arith}
+use Rattle.std.proofs.Common.{◌++◌, ◌<◌, length, reverse, ap, sym, ◌∙◌, arith, le_of_eq}
 use Rattle.std.proofs.lemmas.List.{length-reverse}
 use Rattle.rlp_buffer.specs.Streams.Stream.{Seen, put, count}
 use Rattle.rlp_buffer.specs.Streams.Placeholders.{IsLaid}
 use Rattle.rlp_buffer.proofs.Streams.FlatBuffer.{laid_descends, laid_append, laid_counted, is_counted_open, not_empty, state_put_counted, moved_counted}
 use Rattle.rlp_buffer.proofs.Streams.Rooms.{short_to_count}
 use Rattle.rlp_streams.proofs.Streams.Retained.{retained}
-use Rattle.std.proofs.Common.{le_of_eq}
 use Rattle.rlp_streams.proofs.stream.RlpStream.try_put_counted.Goals as goal
 
 pub put_counted-requires : goal.put_counted-requires

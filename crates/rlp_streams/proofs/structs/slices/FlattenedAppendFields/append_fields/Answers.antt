@@ -1,9 +1,8 @@
-use Rattle.std.proofs.Common.{Result, Ok, Err, rules}
+use Rattle.std.proofs.Common.{Result, Ok, Err, rules, refl}
 use Rattle.std.specs.Prelude.{OnErr}
 use Rattle.rlp_streams.proofs.Streams.Filling.{all_more}
 use Rattle.rlp_streams.proofs.Streams.Fields.{flattened_at, flattened_pushed}
 use Rattle.rlp_streams.proofs.Streams.Growth.{retains_trans}
-use Rattle.std.proofs.Common.{refl}
 use Rattle.rlp_buffer.proofs.Streams.Rooms.{retains_same}
 use Rattle.rlp_streams.proofs.structs.slices.FlattenedAppendFields.append_fields.Goals as goal
 
