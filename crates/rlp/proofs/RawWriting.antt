@@ -5,7 +5,7 @@ use Rattle.rlp_format.specs.Format.Encoding.{encoding}
 use Rattle.rlp_values.specs.Format.Split.{begins_as_list}
 use Rattle.rlp_buffer.specs.Streams.Stream.{State, put, put_item}
 use Rattle.rlp_values.specs.Values.RawItem.{IsRawItem, raw_item_of}
-use Rattle.rlp_values.specs.Lemmas.RawItems.{list_by, raw_encoding, raw_is_list, raw_list, raw_string_read}
+use Rattle.rlp_values.specs.Lemmas.RawItems.{list_by, raw_encoding}
 
 put_string : (x : Item) (s : State) → is_list x ≡ false → put (encoding x) s ≡ put_item x s
 put_string (string d) s is = refl
@@ -18,6 +18,3 @@ raw_string_put b d s fits is begins whole =
     let same : encoding (raw_item_of b) ≡ b = raw_encoding b fits is in
     let kind : is_list (raw_item_of b) ≡ false = sym (list_by (raw_item_of b) b fits (sym same)) ∙ begins in
     ap (λ c. put c s) (sym whole ∙ sym same) ∙ put_string (raw_item_of b) s kind
-
--- for the `rlp_append` of a raw item
-pub ruleset raw_writing = (raw_is_list, raw_list, raw_string_put, raw_string_read, raw_encoding)

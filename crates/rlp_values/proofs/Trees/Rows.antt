@@ -1,5 +1,5 @@
 -- Rows that were written one after another.
-use Rattle.std.proofs.Common.{◌≡◌, ℕ, ◌+◌, ◌<◌, ◌≤◌, List, [], ◌∷◌, ◌++◌, length, take, sym, ap, ◌∙◌, subst, arith, append_assoc, length-append}
+use Rattle.std.proofs.Common.{◌≡◌, ℕ, ◌+◌, ◌≤◌, List, ◌++◌, length, take, sym, ap, ◌∙◌, subst, arith, append_assoc, length-append}
 use Rattle.rlp_values.specs.Format.Walk.{Extends}
 
 pub extends_both : {R : Type 0} (old mid new : List R) (n m : ℕ) (rows more : List R) → Extends old n rows mid → m ≡ n + length rows → Extends mid m more new

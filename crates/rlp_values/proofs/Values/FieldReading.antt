@@ -4,46 +4,21 @@ use Rattle.std.proofs.Common.{◌≡◌, ℕ, zero, suc, ◌+◌, ◌-◌, ◌^�
 use Rattle.rlp_values.specs.declared.error.DecoderError.{DecoderError}
 use Rattle.rlp_values.specs.declared.error.DecoderError.TheVariants.{OutOfMemory}
 use Rattle.rlp_values.specs.Views.View.{View, item_count}
-use Rattle.rlp_values.specs.Lemmas.WholeStructs.{only_more}
 use Rattle.rlp_values.specs.Values.FieldPlace.{FieldPlace, field_place}
-use Rattle.rlp_values.specs.Values.FieldReading.{FaultsAsStruct, FieldsFail, GivesFields, IsCount, MayLackAsStruct, NoMore, NoneOr, StructFails}
+use Rattle.rlp_values.specs.Values.FieldReading.{FaultsAsStruct, FieldsFail, GivesFields, IsCount, MayLackAsStruct, StructFails}
 use Rattle.rlp_values.specs.Values.FieldReading.{by_place, fails_at, faulty_item, has_other_number, is_no_list, no_items, other_number}
 use Rattle.rlp_values.specs.Values.ListReading.{FaultsAt}
 
 -- ---- numbers of items
-
--- without fields there are no items
-pub none_counted : (n : ℕ) → IsCount 0 NoMore n → n ≡ 0
-none_counted n right = let sum = right.sum in let none : right.more ≡ 0 = right.right in omega (arith, sum, none)
-
-pub no_items_right : (n : ℕ) → n ≡ 0 → IsCount 0 NoMore n
-no_items_right n none = only_more none
 
 module _ (least : ℕ) (IsMore : ℕ → Type 0) (n : ℕ) where
   -- a field is an item
   pub some_items : IsCount (suc least) IsMore n → 1 ≤ n
   some_items right = let sum = right.sum in omega (arith, sum)
 
-  -- and the others are the other items
-  pub other_items : IsCount (suc least) IsMore n → IsCount least IsMore (n - 1)
-  other_items right = record { more = right.more; sum = let sum = right.sum in omega (arith, sum); right = right.right }
-
-  pub one_more_item : 1 ≤ n → IsCount least IsMore (n - 1) → IsCount (suc least) IsMore n
-  one_more_item some right = record { more = right.more; sum = let sum = right.sum in omega (arith, sum, some); right = right.right }
-
 -- numbers of items after no field
 pub only_right : (IsMore : ℕ → Type 0) (n : ℕ) → IsCount 0 IsMore n → IsMore n
 only_right IsMore n right = subst IsMore (let sum = right.sum in let same : right.more ≡ n = omega (arith, sum) in same) right.right
-
--- if fields that may be missing together are some items, they are present
-pub all_after : (IsOthers : ℕ → Type 0) (n : ℕ) → 1 ≤ n → IsCount 0 (NoneOr IsOthers) n → IsOthers n
-all_after IsOthers n some right = by (only_right (NoneOr IsOthers) n right)
-  where
-    by : NoneOr IsOthers n → IsOthers n
-    by (inl none) = absurd (omega (arith, some, none))
-    by (inr others) = others
-
-pub ruleset numbers_of_items = (none_counted, no_items_right, some_items, other_items, one_more_item, only_right, only_more)
 
 -- ---- fields in order
 
@@ -60,10 +35,6 @@ place_after f g next = ap (λ (p : FieldPlace). p.place) next ∙ (let more : f.
 -- no items give no fields
 pub none_given : (n : ℕ) (some : ℕ → ℕ → View → Type 0) (v : View) (i : ℕ) → n ≡ 0 → GivesFields n some v i
 none_given n some v i none j few = absurd (omega (arith, few, none))
-
--- a reader that takes no items stays
-pub none_next : (f : FieldPlace) (n : ℕ) → n ≡ 0 → f ≡ record f { place = f.place + n }
-none_next f n none = ap (λ i. record { view = f.view; place = i }) (let same : f.place ≡ f.place + n = omega (arith, none) in same)
 
 module _ (some1 : ℕ → View → Type 0) (some : ℕ → ℕ → View → Type 0) (len : ℕ) (one : 1 ≤ len) where
   one_before : (v : View) (i : ℕ) → some1 i v → GivesFields (len - 1) some v (suc i) → GivesFields len (by_place some1 some) v i
@@ -135,26 +106,6 @@ module _ (some1 : ℕ → View → Type 0) (faults1 : View → DecoderError → 
       below (inl bad) = bad.few
       below (inr (lacks, may)) = may.few
 
--- the values of the others, from the next place on
-pub others_given : (f g : FieldPlace) (Give : ℕ → View → Type 0) → g ≡ record f { place = f.place + 1 } → Give g.place g.view → Give (suc f.place) f.view
-others_given f g Give next given =
-    subst (λ i. Give i f.view) (place_after f g next) (subst (λ v. Give g.place v) (view_after f g next) given)
-
--- the place after the first field and the others
-pub others_next : (f g h : FieldPlace) (n : ℕ) → 1 ≤ n → g ≡ record f { place = f.place + 1 } → h ≡ record g { place = g.place + (n - 1) }
-    → h ≡ record f { place = f.place + n }
-others_next f g h n some next after =
-    after ∙ ap (λ (p : FieldPlace). record p { place = p.place + (n - 1) }) next
-    ∙ ap (λ m. record { view = f.view; place = m }) (let sum : f.place + 1 + (n - 1) ≡ f.place + n = omega (arith, some) in sum)
-
--- the view of a reader that took fields, or failed
-pub others_view : (f g h : FieldPlace) → g.view ≡ f.view → h.view ≡ g.view → h.view ≡ f.view
-others_view f g h first others = others ∙ first
-
-pub ruleset fields_in_order = (none_counted, none_given, none_next, some_items, other_items, others_given, others_next, others_some, others_view)
-
-pub ruleset optional_groups = (none_given, none_next, all_after)
-
 -- ---- the whole struct
 
 module _ (least : ℕ) (IsMore : ℕ → Type 0) (some : ℕ → ℕ → View → Type 0) (faults : ℕ → View → DecoderError → Type 0)
@@ -180,5 +131,3 @@ module _ (least : ℕ) (IsMore : ℕ → Type 0) (some : ℕ → ℕ → View �
       → IsSomeAnd place (λ k. FieldsFail m some faults may_lack f.view f.place k e)
       → FaultsAsStruct least IsMore some faults v e ⊎ ((e ≡ OutOfMemory) × MayLackAsStruct least IsMore some may_lack v)
   struct_faulty m f place e counted right begun fails = struct_faults place e (struct_fails m f place e counted right begun fails)
-
-pub ruleset whole_struct = (is_no_list, has_other_number, struct_fails, no_items, other_number, struct_faulty)

@@ -1,20 +1,17 @@
 -- Groups of fields, read from items one after another.
-use Rattle.std.proofs.Common.{◌≡◌, ◌≢◌, ℕ, suc, ◌+◌, ◌-◌, ◌*◌, ◌/◌, ◌%◌, ◌^◌, ◌<◌, ◌≤◌, inl, inr, ⊎_elim, List, [], ◌∷◌, ◌++◌, length}
+use Rattle.std.proofs.Common.{◌≡◌, ℕ, suc, ◌+◌, ◌-◌, ◌*◌, ◌%◌, ◌^◌, ◌<◌, ◌≤◌, inl, inr, ⊎_elim, List, [], ◌∷◌, ◌++◌, length}
 use Rattle.std.proofs.Common.{Option, Some, None, refl, sym, ap, ◌∙◌, subst, arith}
 use Rattle.std.specs.Prelude.{IsSomeAnd, MatchOption}
 use Rattle.std.proofs.Math.Nat.{mod-eq_of_lt, mul-add-mod_self_right, suc-mul}
 use Rattle.std.proofs.Math.Nat.{mul-le-mul_right}
-use Rattle.std.proofs.lemmas.Nat.{div-add-mod'}
 use Rattle.std.proofs.lemmas.Bool.{cases_lt}
 use Rattle.rlp_values.specs.declared.error.DecoderError.{DecoderError}
 use Rattle.rlp_values.specs.declared.error.DecoderError.TheVariants.{OutOfMemory}
 use Rattle.rlp_values.specs.Views.View.{View}
 use Rattle.rlp_values.specs.Lemmas.Groups.{groups_right}
-use Rattle.rlp_values.specs.Lemmas.WholeStructs.{only_more}
 use Rattle.rlp_values.specs.Values.FieldPlace.{FieldPlace}
-use Rattle.rlp_values.specs.Values.FieldReading.{AreGroups, FieldsFail, GivesFields, GivesGroups, MayLackInGroups, in_group}
+use Rattle.rlp_values.specs.Values.FieldReading.{FieldsFail, GivesFields, GivesGroups, MayLackInGroups, in_group}
 use Rattle.rlp_values.specs.Values.ListReading.{FaultsAt}
-use Rattle.rlp_values.proofs.Values.FieldReading.{only_right}
 
 -- ---- groups one after another
 
@@ -173,25 +170,3 @@ module _ {G : Type 0} (width : ℕ) (give : ℕ → View → G → Type 0) (some
           );
         },
       ))
-
--- whole groups
-pub whole_groups : (width len : ℕ) → len % width ≡ 0 → len / width * width ≡ len
-whole_groups width len none = let sum : len / width * width + len % width ≡ len = div-add-mod' len width in omega (arith, sum, none)
-
--- fewer items than one group are no groups
-pub few_items : (width len : ℕ) → 2 ^ 64 ≤ width → len < 2 ^ 64 → len % width ≡ len
-few_items width len many few = let less : len < width = omega arith in mod-eq_of_lt less
-
--- a part of a group is no groups
-pub part_of_group : (width len n : ℕ) → n ≡ width → len % n ≢ 0 → ¬ AreGroups width len
-part_of_group width len n is part whole = part (subst (λ w. len % w ≡ 0) (sym is) whole)
-
--- some items that are fewer than one group are no groups
-pub less_than_group : (width len : ℕ) → 2 ^ 64 ≤ width → len < 2 ^ 64 → len ≢ 0 → ¬ AreGroups width len
-less_than_group width len many few some whole = some (sym (few_items width len many few) ∙ whole)
-
--- all groups were read
-pub all_read : (width len count n : ℕ) → count * width ≡ len → n ≡ count → n * width ≡ len
-all_read width len count n all same = ap (λ m. m * width) same ∙ all
-
-pub ruleset group_numbers = (few_items, whole_groups, all_read, part_of_group, less_than_group, only_right, only_more)

@@ -22,19 +22,6 @@ module _ (first least : ℕ) (IsMore : ℕ → Type 0) (n : ℕ) where
   pub part_within : (width : ℕ) → width ≡ first → IsCount (first + least) IsMore n → width ≤ n
   part_within width is right = let sum = right.sum in omega (arith, sum, is)
 
-  -- and the others are the other items
-  pub items_after : (width : ℕ) → width ≡ first → IsCount (first + least) IsMore n → IsCount least IsMore (n - width)
-  items_after width is right = record { more = right.more; sum = let sum = right.sum in omega (arith, sum, is); right = right.right }
-
-  pub items_before : (width : ℕ) → width ≡ first → width ≤ n → IsCount least IsMore (n - width) → IsCount (first + least) IsMore n
-  items_before width is within right = record { more = right.more; sum = let sum = right.sum in omega (arith, sum, is, within); right = right.right }
-
-  -- no struct has this number of items
-  pub never_so_many : 2 ^ 64 ≤ first → n < 2 ^ 64 → ¬ IsCount (first + least) IsMore n
-  never_so_many many few right = let sum = right.sum in omega (arith, sum, many, few)
-
-pub ruleset part_numbers = (exactly_right, part_within, items_after, items_before, never_so_many)
-
 -- ---- the fields
 
 module _ (width len : ℕ) (some1 : ℕ → ℕ → View → Type 0) (some : ℕ → ℕ → View → Type 0) where

@@ -145,14 +145,8 @@ zeros_in_front zero n digits = refl
 zeros_in_front (suc k) zero digits = refl
 zeros_in_front (suc k) (suc n) digits = zeros_in_front k n digits
 
--- ---- a view that begins with a string of n bytes gives their array
-
--- if a view begins with a string of n bytes, it gives the array
-pub gives_array : (n : ℕ) (v : View) (d : List ℕ) → HoldsString v d → length d ≡ n → GivesValue (λ a. length a ≡ n) string v d
-gives_array n v d stands many = record { fits = many; begins = stands }
+-- ---- a view that begins with a string that is no array of n bytes
 
 -- if a view begins with a string of another length, the view has the fault of that length
 pub array_fault : (n : ℕ) (v : View) (d : List ℕ) (e : DecoderError) → HoldsString v d → IsLengthFault n d e → FaultsAs (IsLengthFault n) v e
 array_fault n v d e stands faulty = no_value d e stands faulty
-
-pub ruleset array_answers = (gives_array, no_string, array_fault, shorter, longer)
