@@ -31,6 +31,4 @@ mod signing;
 #[cfg(test)]
 mod text;
 #[cfg(test)]
-mod uints;
-#[cfg(test)]
 mod unsigned;

@@ -84,25 +84,13 @@ pub(crate) const ROWS: &str = "
     id: eth/69 | 20f90172820457f9016cf90169f901668001b90100+00*256+LOGS | refused
 ";
 
-/// Reads a message of `p2p` after 0.
-struct P2p;
+/// Reads a message of `p2p` after this id.
+struct P2p<const FIRST: u8>;
 
-impl Reading for P2p {
+impl<const FIRST: u8> Reading for P2p<FIRST> {
     fn again(alloc: Global, bytes: &[u8]) -> Result<String, Fail> {
-        match P2pMessage::from_message(alloc, 0, bytes) {
-            Ok(message) => digits(alloc, message.to_message(alloc, 0)),
-            Err(found) => fault(alloc, &found),
-        }
-    }
-}
-
-/// Reads a message of `p2p` after 253.
-struct HighP2p;
-
-impl Reading for HighP2p {
-    fn again(alloc: Global, bytes: &[u8]) -> Result<String, Fail> {
-        match P2pMessage::from_message(alloc, 253, bytes) {
-            Ok(message) => digits(alloc, message.to_message(alloc, 253)),
+        match P2pMessage::from_message(alloc, FIRST, bytes) {
+            Ok(message) => digits(alloc, message.to_message(alloc, FIRST)),
             Err(found) => fault(alloc, &found),
         }
     }
@@ -147,8 +135,8 @@ fn text(alloc: Global, bytes: &[u8]) -> Result<String, Fail> {
 /// Returns what a call about a message with its id answers.
 pub(crate) fn answer(alloc: Global, name: &str, bytes: &[u8]) -> Result<String, Fail> {
     match name {
-        "p2p" => ways::<P2p>(alloc, bytes),
-        "p2p after 253" => ways::<HighP2p>(alloc, bytes),
+        "p2p" => ways::<P2p<0>>(alloc, bytes),
+        "p2p after 253" => ways::<P2p<253>>(alloc, bytes),
         "eth/68" => ways::<Eth68>(alloc, bytes),
         "eth/69" => ways::<Eth69>(alloc, bytes),
         "number of p2p" => spelled(alloc, P2pMessage::from_message(alloc, 0, bytes)?.number()),

@@ -53,17 +53,25 @@ fn numbers_of(row: &str) -> (usize, usize, usize, usize) {
     (number(lists), number(held), number(added), number(size))
 }
 
-/// Opens lists, and appends the bytes in the innermost as one item. The lists are unbounded (`any`),
-/// await more items than are appended (`more`), or exactly these (`these`): the last of them closes
-/// each list.
-fn open(s: &mut RlpStream, lists: usize, awaited: &str, bytes: &[u8]) -> Result<bool, AllocError> {
-    let (outer, innermost) = match awaited {
+/// Returns how many items the outer lists await, and the innermost: any number (`any`), more items than
+/// are appended (`more`), or exactly these (`these`).
+fn awaits(awaited: &str) -> (Option<usize>, Option<usize>) {
+    match awaited {
         "any" => (None, None),
         "more" => (Some(3), Some(3)),
         _ => (Some(1), Some(2)),
-    };
-    for list in 0..lists {
-        begin(s, if list + 1 < lists { outer } else { innermost })?;
+    }
+}
+
+/// Opens lists, and appends the bytes in the innermost as one item. If the lists await exactly the items
+/// that are appended, the last of them closes each list.
+fn open(s: &mut RlpStream, lists: usize, awaited: &str, bytes: &[u8]) -> Result<bool, AllocError> {
+    let (outer, innermost) = awaits(awaited);
+    for _ in 1..lists {
+        begin(s, outer)?;
+    }
+    if lists > 0 {
+        begin(s, innermost)?;
     }
     put_raw(s, bytes, 1)
 }

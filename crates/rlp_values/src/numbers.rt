@@ -6,8 +6,8 @@ ghost use Rattle.rlp_format.specs.Format.WrittenHeader.{big_endian};
 ghost use Rattle.rlp_format.specs.Values.Value.{FitsBytes};
 ghost use Rattle.rlp_values.specs.Values.ValueReading.{AreShortest, IsDigitsFault};
 
-use rlp_format::digits::number_of;
 use crate::error::DecoderError;
+use rlp_format::digits::number_of;
 
 /// The number of up to eight digits, without a loop for up to seven.
 #[inline(always)]

@@ -10,6 +10,12 @@ pub(crate) fn finishes_as(s: RlpStream, want: &[u8]) -> bool {
     s.is_finished() && s.out().as_slice() == want
 }
 
+/// Appends a value.
+pub(crate) fn put<E: Encodable>(s: &mut RlpStream, value: &E) -> Result<(), AllocError> {
+    s.append(value)?;
+    Ok(())
+}
+
 /// Returns whether these bytes were made.
 fn is_made(made: Result<BytesMut, AllocError>, want: &[u8]) -> bool {
     match made {

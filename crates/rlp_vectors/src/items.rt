@@ -12,6 +12,7 @@ pub(crate) const ROWS: &str = "
     lenient item:
     c88363617483646f67 0 | Ok(83636174) Ok(83636174) 1
     c88363617483646f67 1 | Ok(83646f67) Ok(83646f67) 5
+    c983636174c20102c103 2 | Ok(c103) Ok(c103) 8
     c10102 0 | Ok(01) Ok(01) 1
     c88363617483646f 0 | Err(RlpIsTooShort) RlpIsTooShort
     c88363617483646f 1 | Err(RlpIsTooShort) RlpIsTooShort
@@ -27,6 +28,8 @@ pub(crate) const ROWS: &str = "
     The framed items are counted.
     lenient count:
     c88363617483646f67 | 2 2
+    c983636174c20102c103 | 3 3
+    c4c2010203 | 2 2
     c88363617483646f | 0 0
     c10102 | 1 1
     c3058200 | 1 1

@@ -109,7 +109,7 @@ fn gives_ones(alloc: Global, view: &Rlp<'_>, len: usize) -> bool {
 
 /// Returns lists, one inside another. If they have siblings, each but the outermost stands between
 /// the empty string and the empty list. The bytes are written from the end.
-fn nested(alloc: Global, levels: usize, siblings: bool) -> Result<Vec<u8>, AllocError> {
+pub(crate) fn nested(alloc: Global, levels: usize, siblings: bool) -> Result<Vec<u8>, AllocError> {
     let mut backwards = Vec::from_slice(alloc, &[0xc0])?;
     for _ in 1..levels {
         if siblings {

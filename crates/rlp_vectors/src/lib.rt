@@ -39,6 +39,8 @@ mod two_bytes;
 #[cfg(test)]
 mod types;
 #[cfg(test)]
+mod uints;
+#[cfg(test)]
 mod uses;
 #[cfg(test)]
 mod values;

@@ -50,9 +50,12 @@ pub(crate) const ROWS: &str = "
     c2826162 0 | Err(RlpIsTooShort)
     c3826162 0 | Ok(\"ab\")
     c4826162 0 | Err(RlpIsTooShort)
+    c983636174c20102c103 0 | Ok(\"cat\")
 
-    The items of a list of the list of 1 and 2, and 3, as lists and as numbers.
+    The items of a list of the list of 1 and 2, and 3, as lists and as numbers, and the list of 1 and
+    2 in the list that an example writes.
     lenient list_at u64:
+    c983636174c20102c103 1 | Ok([1, 2])
     c4c2010203 0 | Ok([1, 2])
     c4c2010203 1 | Ok([])
     c4c2010203 2 | Err(RlpIsTooShort)
@@ -60,6 +63,7 @@ pub(crate) const ROWS: &str = "
     One of them is a number.
     lenient value_at u64:
     c4c2010203 1 | Ok(3)
+    c103 0 | Ok(3)
 
     A list, and then bytes that aren't part of it. Its third item holds a number, and the number
     of its items is the same before and after that is read.

@@ -1,10 +1,12 @@
 //! Raw items. The expected bytes were worked out by hand.
 
-use crate::compare::{finishes_as, is_again, is_read};
+use crate::compare::{finishes_as, is_again, is_read, put};
+use crate::large::nested;
 use bytes::BytesMut;
 use rlp::{DecoderError, RawItem, Rlp, RlpStream};
 use rlp_rows::bytes_of;
 use std::alloc::{AllocError, Global};
+use std::test::Fail;
 
 /// Encodings of items: strings, a number, a long string's begin, and lists. And bytes that begin with no
 /// raw item, with the faults of reading them.
@@ -52,8 +54,8 @@ fn with_one_more(alloc: Global, bytes: &[u8]) -> Result<Vec<u8>, AllocError> {
     Ok(longer)
 }
 
-/// Returns the first row that isn't met.
-fn first_wrong(alloc: Global) -> Result<Option<&'static str>, AllocError> {
+/// Fails with the first row that isn't met.
+fn all_met(alloc: Global) -> Result<(), Fail> {
     for row in ROWS.lines() {
         let (text, fault) = row.split_once(" = ").unwrap_or((row, ""));
         let bytes = bytes_of(alloc, text)?;
@@ -68,29 +70,19 @@ fn first_wrong(alloc: Global) -> Result<Option<&'static str>, AllocError> {
             )
         };
         if !is_met {
-            return Ok(Some(row));
+            return Err(Fail::new(row));
         }
     }
-    Ok(None)
-}
-
-/// Returns `depth` lists, each of which holds the next.
-fn nested(alloc: Global, depth: usize) -> Result<RlpStream, AllocError> {
-    let mut s = RlpStream::new(alloc)?;
-    for _ in 1..depth {
-        s.begin_list(1)?;
-    }
-    s.begin_list(0)?;
-    Ok(s)
+    Ok(())
 }
 
 /// Returns whether raw items nest to a depth of 256, and no deeper.
 fn nest_to_256(alloc: Global) -> Result<bool, AllocError> {
-    let (deep, deeper) = (nested(alloc, 256)?, nested(alloc, 257)?);
-    let longer = with_one_more(alloc, deep.as_raw())?;
-    let read = rlp::decode::<RawItem>(alloc, deeper.as_raw());
+    let (deep, deeper) = (nested(alloc, 256, false)?, nested(alloc, 257, false)?);
+    let longer = with_one_more(alloc, deep.as_slice())?;
+    let read = rlp::decode::<RawItem>(alloc, deeper.as_slice());
     Ok(
-        goes_both_ways(alloc, deep.as_raw(), longer.as_slice())
+        goes_both_ways(alloc, deep.as_slice(), longer.as_slice())
             && is_read(alloc, read, "Custom(\"item nests too deep\")"),
     )
 }
@@ -105,9 +97,11 @@ fn are_items(alloc: Global, mut s: RlpStream) -> Result<bool, DecoderError> {
 
 /// Appends a list of two items, and of a list of the first.
 fn append(s: &mut RlpStream, first: &RawItem, second: &RawItem) -> Result<(), AllocError> {
-    s.begin_list(3)?.append(first)?.append(second)?;
-    s.begin_list(1)?.append(first)?;
-    Ok(())
+    s.begin_list(3)?;
+    put(s, first)?;
+    put(s, second)?;
+    s.begin_list(1)?;
+    put(s, first)
 }
 
 /// Returns whether raw items are items of a new stream, and of one over a buffer.
@@ -118,10 +112,11 @@ fn are_items_of_both(alloc: Global) -> Result<bool, AllocError> {
 }
 
 #[test]
-fn raw_items_go_both_ways(rt: HostRuntime) {
+fn raw_items_go_both_ways(rt: HostRuntime) -> Result<(), Fail> {
     let alloc = rt.alloc();
-    assert_eq!(rt; first_wrong(alloc), Ok(None));
-    assert!(rt; nest_to_256(alloc) == Ok(true));
-    assert!(rt; are_items_of_both(alloc) == Ok(true));
+    all_met(alloc)?;
+    assert!(rt; nest_to_256(alloc)?);
+    assert!(rt; are_items_of_both(alloc)?);
     assert!(rt; Rlp::new(b"\xca\x83cat\xc0\xc4\x83cat").is_canonical(2));
+    Ok(())
 }

@@ -188,16 +188,11 @@ const VIEWS: &str = "
     sum: lenient numbered | 65536
 ";
 
-/// Returns whether a lenient view and a strict one, and their clones, have these bytes and are of
-/// their kinds.
-fn is_sound(view: &Rlp<'_>, strict: &Rlp<'_>, bytes: &[u8]) -> bool {
-    !view.is_null()
-        && !view.is_strict()
-        && strict.is_strict()
-        && strict.clone().is_strict()
-        && view.as_raw() == bytes
-        && view.clone().as_raw() == bytes
-        && strict.as_raw() == bytes
+/// Returns whether a view and its clone have these bytes and are of this kind.
+fn is_sound(view: &Rlp<'_>, is_strict: bool, bytes: &[u8]) -> bool {
+    let copy = view.clone();
+    let are_same = view.as_raw() == bytes && copy.as_raw() == bytes;
+    !view.is_null() && view.is_strict() == is_strict && copy.is_strict() == is_strict && are_same
 }
 
 /// Returns whether the item of this number has these bytes.
@@ -271,7 +266,9 @@ fn summed(alloc: Global, call: &str) -> usize {
         let bytes = word.to_be_bytes();
         let (view, strict) = (Rlp::new(&bytes), Rlp::new_strict(&bytes));
         let measure = match kind {
-            "sound" => usize::from(is_sound(&view, &strict, &bytes)),
+            "sound" => {
+                usize::from(is_sound(&view, false, &bytes) && is_sound(&strict, true, &bytes))
+            }
             "begun" => usize::from(is_begun(alloc, &bytes)),
             "strict" => measured(&strict, call),
             _ => measured(&view, call),

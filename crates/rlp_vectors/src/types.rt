@@ -6,6 +6,7 @@ use rlp::{DecoderError, Each, Flattened, ListOf, RlpStream, Uint};
 use rlp_examples::{Message, Nest, Nonce, Pair, Row};
 use rlp_rows::{bytes_of, cut};
 use std::alloc::{AllocError, Global};
+use std::test::Fail;
 
 /// Strings that are read as arrays of three bytes, or aren't; strings that aren't numbers of two bytes;
 /// and a truth value that is neither 0 nor 1.
@@ -161,24 +162,25 @@ fn numbers_are_read(alloc: Global) -> Result<bool, DecoderError> {
     Ok(read.as_slice() == [1, 2, 3, 7, 0xff].as_slice())
 }
 
-/// Returns the first row that isn't met.
-fn first_wrong(alloc: Global) -> Result<Option<&'static str>, AllocError> {
+/// Fails with the first row that isn't met.
+fn all_met(alloc: Global) -> Result<(), Fail> {
     for table in [VALUES, NUMBERS, CUSTOM, MESSAGES, NESTS] {
         for row in table.lines() {
             let (what, want) = row.split_once(" = ").unwrap_or((row, ""));
             let (kind, text) = cut(what);
             if !is_as(alloc, kind, bytes_of(alloc, text)?.as_slice(), want) {
-                return Ok(Some(row));
+                return Err(Fail::new(row));
             }
         }
     }
-    Ok(None)
+    Ok(())
 }
 
 #[test]
-fn types_go_both_ways(rt: HostRuntime) {
+fn types_go_both_ways(rt: HostRuntime) -> Result<(), Fail> {
     let alloc = rt.alloc();
-    assert_eq!(rt; first_wrong(alloc), Ok(None));
-    assert!(rt; slices_are_fields(alloc) == Ok(true), "slices");
-    assert!(rt; numbers_are_read(alloc) == Ok(true), "numbers");
+    all_met(alloc)?;
+    assert!(rt; slices_are_fields(alloc)?, "slices");
+    assert!(rt; numbers_are_read(alloc)?, "numbers");
+    Ok(())
 }

@@ -1,12 +1,13 @@
 //! Values of each type, and the bytes that they are written as. The bytes were worked out by hand.
 
-use crate::compare::{finishes_as, is_again, is_listed, is_written};
+use crate::compare::{finishes_as, is_again, is_listed, is_written, put};
 use crate::structs::{Columns, LastField, Tagged};
 use bytes::{Bytes, BytesMut};
 use rlp::{EMPTY_LIST_RLP, Encodable, NULL_RLP, RlpStream};
 use rlp_examples::{HalfWritten, Nonce, Pair, bytes_of_three};
 use rlp_rows::{bytes_of, cut, number};
 use std::alloc::{AllocError, Global};
+use std::test::Fail;
 
 /// Numbers, and the bytes that they are written as. A number of eight bytes is written under its own
 /// name too.
@@ -232,9 +233,9 @@ fn is_string(alloc: Global, string: Vec<u8>, want: &[u8]) -> bool {
         && is_again(alloc, rlp::decode_strict::<BytesMut>(alloc, want), want)
 }
 
-/// Returns the first row that isn't met. A row is a kind of value, what it is made from, and behind
+/// Fails with the first row that isn't met. A row is a kind of value, what it is made from, and behind
 /// ` = ` its bytes.
-fn first_wrong(alloc: Global) -> Result<Option<&'static str>, AllocError> {
+fn all_met(alloc: Global) -> Result<(), Fail> {
     for table in [NUMBERS, PARTS, STRUCTS, LISTS, REPEATED, TEXTS, STRINGS] {
         for row in table.lines() {
             let (what, want) = row.split_once(" = ").unwrap_or((row, ""));
@@ -246,19 +247,23 @@ fn first_wrong(alloc: Global) -> Result<Option<&'static str>, AllocError> {
                 _ => is_value(alloc, kind, text, want.as_slice()),
             };
             if !is_met {
-                return Ok(Some(row));
+                return Err(Fail::new(row));
             }
         }
     }
-    Ok(None)
+    Ok(())
 }
 
 /// Returns whether a stream holds values that were appended beside a string that isn't counted.
 fn holds_appended(alloc: Global) -> Result<bool, AllocError> {
     let mut s = RlpStream::new(alloc)?;
-    s.append(&1u64)?.append(&"cat")?.append(&0u64)?;
+    put(&mut s, &1u64)?;
+    put(&mut s, &"cat")?;
+    put(&mut s, &0u64)?;
     s.encoder().encode_value(&[0x80])?;
-    s.append(&Nonce(256))?.append(&"a")?.append(&"dog")?;
+    put(&mut s, &Nonce(256))?;
+    put(&mut s, &"a")?;
+    put(&mut s, &"dog")?;
     Ok(finishes_as(s, b"\x01\x83cat\x80\x81\x80\x82\x01\x00a\x83dog"))
 }
 
@@ -272,21 +277,19 @@ fn three_are_joined(alloc: Global) -> Result<bool, AllocError> {
 /// encoding.
 fn refused_value_leaves(alloc: Global) -> Result<bool, AllocError> {
     let mut s = RlpStream::new(alloc)?;
-    s.append(&"cat")?;
-    let refused = s.append(&HalfWritten).is_err();
+    put(&mut s, &"cat")?;
+    let refused = put(&mut s, &HalfWritten).is_err();
     let alone = rlp::encode(alloc, &HalfWritten).is_err() && HalfWritten.rlp_bytes(alloc).is_err();
     Ok(refused && alone && finishes_as(s, b"\x83cat"))
 }
 
 #[test]
-fn values_are_written(rt: HostRuntime) {
+fn values_are_written(rt: HostRuntime) -> Result<(), Fail> {
     let alloc = rt.alloc();
-    assert_eq!(rt; first_wrong(alloc), Ok(None));
+    all_met(alloc)?;
     assert!(rt; NULL_RLP == [0x80] && EMPTY_LIST_RLP == [0xc0]);
-    assert!(rt;
-        holds_appended(alloc) == Ok(true),
-        "values, strings and texts"
-    );
-    assert!(rt; three_are_joined(alloc) == Ok(true), "three values");
-    assert!(rt; refused_value_leaves(alloc) == Ok(true), "a refused value");
+    assert!(rt; holds_appended(alloc)?, "values, strings and texts");
+    assert!(rt; three_are_joined(alloc)?, "three values");
+    assert!(rt; refused_value_leaves(alloc)?, "a refused value");
+    Ok(())
 }
