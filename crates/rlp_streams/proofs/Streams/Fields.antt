@@ -15,7 +15,6 @@ use Rattle.rlp_streams.specs.Streams.Growth.{GrowsTo}
 use Rattle.rlp_streams.specs.Streams.Fields.{AppendsSome}
 use Rattle.rlp_format.specs.Values.Value.{all_items}
 use Rattle.rlp_streams.proofs.Streams.Filling.{filled_list, grows_filling}
-use Rattle.rlp_streams.proofs.Streams.Growth.{grows_same, retains_same, retains_trans}
 
 add_all-append : (xs ys : List Item) (s : State) → add_all (xs ++ ys) s ≡ add_all ys (add_all xs s)
 add_all-append [] ys s = refl
@@ -125,10 +124,6 @@ no_room_for_many xs v many has =
 -- some of no items were appended: that can't be
 pub some_of_none : (xs : List Item) (s t : State) → xs ≡ [] → ¬ AppendsSome xs s t
 some_of_none xs s t none p = let no = ap length (sym p.all ∙ none) in omega (arith, no, length-append p.before (p.next ∷ p.after))
-
-pub ruleset fields = (some_none, some_first, some_second, both_added, some_grows, all_fill, grows_same, retains_same, retains_trans)
-
-pub ruleset rooms = (room_for_first, room_for_others, room_to_begin, room_to_fill, room_for_empty, no_room_for_many, some_of_none)
 
 -- ---- values of one type
 

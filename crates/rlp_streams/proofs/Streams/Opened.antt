@@ -27,8 +27,6 @@ room_for_none v has =
     let same = ap (λ (b : List ℕ). length (raw_text (count 1 (put b v.state)))) empty_list in
     record { enough = omega (arith, same, has.enough); few = omega (arith, same, has.few) }
 
-pub ruleset opened = (opened_none, opened_some)
-
 -- ---- a list that is written from its encoding
 
 -- it is written as its item
