@@ -40,8 +40,11 @@ fn put_object(text: &str, out: &mut String) -> Result<(), AllocError>
 
 /// Appends the lines of an answer as one JSON value in one line, without spaces. It is an object with
 /// the record, whose fields have their names in Ethereum's execution API. A block has the fields of
-/// its header itself. Numbers are printed in hexadecimal. The lines `header.gas_limit: 5000` and `header.nonce: 0x00` give
-/// `{"header":{"gasLimit":"0x1388","nonce":"0x00"}}`. What follows the last newline is left out.
+/// its header itself. Numbers are printed in hexadecimal. What follows the last newline is left out.
+///
+/// The lines `header.gas_limit: 5000` and `header.nonce: 0x00` give
+/// `{"header":{"gasLimit":"0x1388","nonce":"0x00"}}`.
+///
 /// Fails with `AllocError` if memory is refused. A part of the value may then be appended.
 pub fn put_json(text: &str, out: &mut String) -> Result<(), AllocError>
     ensures { OnOk result (string_bytes out.new ≡ string_bytes out.old ++ json_of text.now) }
