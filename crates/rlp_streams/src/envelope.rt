@@ -32,7 +32,7 @@ pub fn write_envelope<T: Encodable>(
     let mut buffer = BytesMut::new(s.allocator());
     buffer.put_u8(tag)?;
     let mut envelope = RlpStream::new_with_buffer(s.allocator(), buffer);
-    envelope.append(payload)?;
+    envelope.try_append(payload)?;
     let bytes = envelope.out();
     s.put_string(bytes.as_slice())
 }

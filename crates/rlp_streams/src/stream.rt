@@ -23,7 +23,7 @@ use bytes::BytesMut;
 pub use chain::Chain;
 pub use encoded::append_list_encoding;
 pub use encoder::BasicEncoder;
-use listed::Listed;
+pub(crate) use listed::Listed;
 use rlp_buffer::buffer::Buffer;
 use rlp_buffer::closing::closed_len;
 use rlp_buffer::open_lists::{Placeholder, innermost_awaits, is_unbounded};

@@ -61,9 +61,7 @@ impl<T: Encodable> AppendFields for &T {
     }
 
     fn append_fields(&self, s: &mut RlpStream) -> Result<(), AllocError> {
-        let value = *self;
-        s.try_append(value)?;
-        Ok(())
+        s.try_append(*self)
     }
 }
 
@@ -74,7 +72,6 @@ impl<P: AppendFields, Q: AppendFields> AppendFields for (P, Q) {
 
     ghost at_once = { λ v. P.at_once v.0 × Q.at_once v.1 };
 
-    #[tactic(auto, using(crate::proofs::Streams::Fields::counts))]
     fn field_count(&self) -> Option<usize> {
         let first = self.0.field_count()?;
         let others = self.1.field_count()?;
@@ -83,8 +80,7 @@ impl<P: AppendFields, Q: AppendFields> AppendFields for (P, Q) {
 
     fn append_fields(&self, s: &mut RlpStream) -> Result<(), AllocError> {
         self.0.append_fields(s)?;
-        self.1.append_fields(s)?;
-        Ok(())
+        self.1.append_fields(s)
     }
 }
 
@@ -126,6 +122,5 @@ pub fn write_struct<F: AppendFields>(s: &mut RlpStream, fields: &F) -> Result<()
         None => return Err(AllocError),
     };
     s.try_begin(count)?;
-    fields.append_fields(s)?;
-    Ok(())
+    fields.append_fields(s)
 }

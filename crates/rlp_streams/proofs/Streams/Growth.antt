@@ -3,7 +3,7 @@ use Rattle.std.proofs.Common.{◌≡◌, ℕ, true, false, List, [], ◌∷◌, 
 use Rattle.rlp_format.specs.Format.Item.{Item, string, list}
 use Rattle.rlp_format.specs.Format.Encoding.{encoding}
 use Rattle.rlp_buffer.specs.Streams.Stack.{OpenList}
-use Rattle.rlp_buffer.specs.Streams.Stream.{State, put, with_list, put_item}
+use Rattle.rlp_buffer.specs.Streams.Stream.{State, put, with_list, put_item, count, add, with_is_counted}
 pub use Rattle.rlp_buffer.proofs.Streams.Rooms.{retains_same, retains_trans}
 use Rattle.rlp_streams.specs.Streams.Growth.{AreSameAround, Stands, GrowsTo}
 use Rattle.rlp_streams.specs.Streams.Growth.Stands.{here, within}
@@ -78,5 +78,18 @@ uncounted_put (list xs) s t is uncounted = absurd (let both : true ≡ false = s
 -- a stream in which `is_counted` is false after a value has grown by an item that was put
 pub grows_uncounted : (x : Item) (s t u : State) → t ≡ put_item x s → t.is_counted ≡ false → u ≡ t → GrowsTo s u
 grows_uncounted x s t u is uncounted e = grows_put s u (encoding x) (e ∙ uncounted_put x s t is uncounted)
+
+-- a value that counts itself is added
+pub counted_item : (x : Item) (s t : State) → s.is_counted ≡ false → t ≡ put_item x s → t.is_counted ≡ true → t ≡ add x s
+counted_item (string b) s t start is counted =
+    absurd (let both : false ≡ true = sym start ∙ sym (ap (λ (u : State). u.is_counted) is) ∙ counted in let no : ⊥ = cc in no)
+counted_item (list xs) s t start is counted = is
+
+-- a value that doesn't is added once it is counted
+pub item_counted : (x : Item) (s t u : State) → s.is_counted ≡ false → t ≡ put_item x s → t.is_counted ≡ false → u ≡ count 1 t → u ≡ add x s
+item_counted (string b) s t u start is uncounted counts =
+    counts ∙ ap (count 1) is ∙ ap (λ m. count 1 (put (encoding (string b)) (with_is_counted m s))) start
+item_counted (list xs) s t u start is uncounted counts =
+    absurd (let both : true ≡ false = sym (ap (λ (u : State). u.is_counted) is) ∙ uncounted in let no : ⊥ = cc in no)
 
 pub ruleset growth = (grows_same, grows_put, grows_with_list, grows_in_list, grows_trans, retains_same, retains_trans)

@@ -1,9 +1,9 @@
 -- A list that is opened, or is written at once: from its encoding, or since it has no items.
-use Rattle.std.proofs.Common.{◌≡◌, ℕ, zero, suc, ◌<◌, true, IsTrue, List, [], ◌∷◌, length, Some, refl, sym, ◌∙◌, ap, arith}
+use Rattle.std.proofs.Common.{◌≡◌, ℕ, true, IsTrue, List, [], ◌∷◌, length, refl, sym, ◌∙◌, ap, arith}
 use Rattle.rlp_format.specs.Format.WrittenHeader.{big_endian, written_header}
 use Rattle.rlp_format.specs.Format.Item.{Item, string, list, list_of, is_list}
 use Rattle.rlp_format.specs.Format.Encoding.{encoding, join_items}
-use Rattle.rlp_buffer.specs.Streams.Stream.{State, Seen, HasRoomFor, raw_text, put, put_item, count, with_list, with_is_counted}
+use Rattle.rlp_buffer.specs.Streams.Stream.{State, Seen, HasRoomFor, raw_text, put, put_item, count, with_is_counted}
 use Rattle.rlp_buffer.specs.Streams.Calls.{with_list_of}
 
 -- the encoding of the list of no items
@@ -15,11 +15,6 @@ empty_list = refl
 pub opened_none : (n : ℕ) (s : State) → n ≡ 0 → with_is_counted true (count 1 (put (0xc0 ∷ []) s)) ≡ with_list_of n s
 opened_none n s e =
     ap (λ (b : List ℕ). with_is_counted true (count 1 (put b s))) (sym empty_list) ∙ ap (λ m. with_list_of m s) (sym e)
-
--- a list that awaits some items is opened
-pub opened_some : (n : ℕ) (s : State) → 0 < n → with_list (Some n) s ≡ with_list_of n s
-opened_some zero s some = absurd (omega arith)
-opened_some (suc n) s some = refl
 
 -- a stream with room for the empty list as an item has room for its byte
 pub room_for_none : (v : Seen) → HasRoomFor v (with_list_of 0 v.state) → HasRoomFor v (count 1 (put (0xc0 ∷ []) v.state))

@@ -8,6 +8,7 @@ use Rattle.rlp_buffer.specs.Streams.Held.{Held, Keeps}
 use Rattle.rlp_buffer.specs.Streams.Stream.{State, Seen, Retains, HasRoomFor, initial_state, room, raw_text, put_item, count, add}
 use Rattle.rlp_buffer.specs.Streams.Placeholders.{Placed, IsLaid}
 use Rattle.rlp_buffer.proofs.Streams.Rooms.{retains_laid}
+use Rattle.rlp_streams.specs.Streams.Growth.{GrowsTo}
 use Rattle.rlp_streams.specs.declared.stream.RlpStream.TheInside.{Inside}
 use Rattle.rlp_streams.specs.contracts.stream.RlpStream.{the_view}
 
@@ -43,6 +44,26 @@ unfolding Retains
 retained_since v w i m is keeps =
     let same : Retains (the_view i) w = record { moved = keeps.moved; room = keeps.room; list_room = keeps.list_room } in
     subst (λ (u : Seen). Retains u w) is same
+
+-- a value is added to the stream that it was before `is_counted` was set
+pub added_since : (x : Item) (v : Seen) (i : Inside) (m : Bool) (t : State) → the_view i ≡ v
+    → t ≡ add x (the_view (record { buffer = i.buffer; start = i.start; lists = i.lists; is_counted = m })).state → t ≡ add x v.state
+added_since x v i m t is added = added ∙ ap (λ (w : Seen). add x w.state) is
+
+-- which has as much room for it
+pub room_since : (x : Item) (v : Seen) (i : Inside) (m : Bool) → the_view i ≡ v → HasRoomFor v (add x v.state)
+    → HasRoomFor (the_view (record { buffer = i.buffer; start = i.start; lists = i.lists; is_counted = m }))
+    (add x (the_view (record { buffer = i.buffer; start = i.start; lists = i.lists; is_counted = m })).state)
+room_since x v i m is has =
+    let same : HasRoomFor (the_view i) (add x (the_view i).state) = subst (λ (w : Seen). HasRoomFor w (add x w.state)) (sym is) has in
+    record { enough = same.enough; few = same.few }
+
+-- and it has grown since
+pub grown_since : (v : Seen) (i : Inside) (m : Bool) (t : State) → the_view i ≡ v
+    → GrowsTo (the_view (record { buffer = i.buffer; start = i.start; lists = i.lists; is_counted = m })).state t → GrowsTo v.state t
+grown_since v i m t is grown =
+    let same : GrowsTo (the_view i).state t = record { front = grown.front; stands = grown.stands } in
+    subst (λ (w : Seen). GrowsTo w.state t) is same
 
 -- the room that a stream retains
 pub room_kept : (n : ℕ) (v w : Seen) → n ≤ room v → Retains v w → n ≤ room w

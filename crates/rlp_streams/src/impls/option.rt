@@ -16,14 +16,11 @@ impl<T: Encodable> Encodable for Option<T> {
 
     fn rlp_append(&self, s: &mut RlpStream) -> Result<(), AllocError> {
         match self {
-            None => {
-                s.try_begin(0)?;
-            }
+            None => s.try_begin(0),
             Some(value) => {
                 s.try_begin(1)?;
-                s.try_append(value)?;
+                s.try_append(value)
             }
         }
-        Ok(())
     }
 }

@@ -4,11 +4,12 @@ ghost use Rattle.std.specs.Prelude.{◌≡◌, [], map, All};
 ghost use Rattle.rlp_format.specs.Format.Item.{list_of};
 
 use crate::stream::RlpStream;
+use crate::structs::{Each, write_struct};
 use crate::traits::Encodable;
 use std::alloc::AllocError;
 
 /// Values that are written as one list.
-#[derive(Clone, Copy)]
+#[derive(Drop)]
 pub(crate) struct Listed<'a, E>(pub(crate) &'a [E]);
 
 impl<E: Encodable> Encodable for Listed<'_, E> {
@@ -19,11 +20,6 @@ impl<E: Encodable> Encodable for Listed<'_, E> {
     ghost at_once = { λ v. v.0.now ≡ [] };
 
     fn rlp_append(&self, s: &mut RlpStream) -> Result<(), AllocError> {
-        let values = self.0;
-        s.try_begin(values.len())?;
-        for value in values {
-            s.try_append(value)?;
-        }
-        Ok(())
+        write_struct(s, &Each(self.0))
     }
 }

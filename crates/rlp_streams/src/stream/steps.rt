@@ -206,10 +206,10 @@ impl RlpStream {
         ensures retains { Retains self.old self.new }
     {
         value.rlp_append(self)?;
-        if !self.is_counted {
-            self.try_count(1)?;
+        if self.is_counted {
+            return Ok(());
         }
-        Ok(())
+        self.try_count(1)
     }
 
     /// Puts the string that an iterator gives and counts it if `is_counted` is false. A refused call

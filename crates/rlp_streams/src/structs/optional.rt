@@ -6,7 +6,7 @@ ghost use Rattle.std.specs.declared.alloc.Global.{Global};
 ghost use Rattle.rlp_format.specs.Format.Item.{list_of};
 ghost use Rattle.rlp_format.specs.Values.Value.{items_if};
 
-use crate::stream::RlpStream;
+use crate::stream::{Listed, RlpStream};
 use crate::structs::AppendFields;
 use crate::traits::Encodable;
 use std::alloc::AllocError;
@@ -39,10 +39,7 @@ impl<T: Encodable> AppendFields for Optional<'_, T> {
 
     fn append_fields(&self, s: &mut RlpStream) -> Result<(), AllocError> {
         match self.0 {
-            Some(value) => {
-                s.try_append(value)?;
-                Ok(())
-            }
+            Some(value) => s.try_append(value),
             None => Ok(()),
         }
     }
@@ -67,10 +64,7 @@ impl<T: Encodable> AppendFields for OptionalListOf<'_, T> {
 
     fn append_fields(&self, s: &mut RlpStream) -> Result<(), AllocError> {
         match self.0 {
-            Some(values) => {
-                s.append_list(values.as_slice())?;
-                Ok(())
-            }
+            Some(values) => s.try_append(&Listed(values.as_slice())),
             None => Ok(()),
         }
     }

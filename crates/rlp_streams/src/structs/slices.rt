@@ -4,7 +4,7 @@ ghost use Rattle.std.specs.Prelude.{◌≡◌, ◌∷◌, [], All, map};
 ghost use Rattle.rlp_format.specs.Format.Item.{list_of};
 ghost use Rattle.rlp_format.specs.Values.Value.{all_items};
 
-use crate::stream::RlpStream;
+use crate::stream::{Listed, RlpStream};
 use crate::structs::AppendFields;
 use crate::traits::Encodable;
 use std::alloc::AllocError;
@@ -33,8 +33,7 @@ impl<T: Encodable> AppendFields for ListOf<'_, T> {
     }
 
     fn append_fields(&self, s: &mut RlpStream) -> Result<(), AllocError> {
-        s.append_list(self.0)?;
-        Ok(())
+        s.try_append(&Listed(self.0))
     }
 }
 

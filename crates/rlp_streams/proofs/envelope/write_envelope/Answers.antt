@@ -10,8 +10,8 @@ returns-in_err-put_u8-clause-grows g c = on_err _ _ (grows_same _ _ refl)
 pub returns-in_err-put_u8-clause-retains : goal.returns-in_err-put_u8-clause-retains
 returns-in_err-put_u8-clause-retains g c = retains_same _
 
-pub returns-in_err-envelope-clause-grows : goal.returns-in_err-envelope-clause-grows
-returns-in_err-envelope-clause-grows g c = on_err _ _ (grows_same _ _ refl)
+pub returns-in_err-try_append-clause-grows : goal.returns-in_err-try_append-clause-grows
+returns-in_err-try_append-clause-grows g c = on_err _ _ (grows_same _ _ refl)
 
-pub returns-in_err-envelope-clause-retains : goal.returns-in_err-envelope-clause-retains
-returns-in_err-envelope-clause-retains g c = retains_same _
+pub returns-in_err-try_append-clause-retains : goal.returns-in_err-try_append-clause-retains
+returns-in_err-try_append-clause-retains g c = retains_same _

@@ -1,11 +1,30 @@
-use Rattle.std.proofs.Common.{false}
+use Rattle.std.proofs.Common.{false, refl}
 use Rattle.rlp_buffer.proofs.Streams.Rooms.{retains_trans}
-use Rattle.rlp_streams.proofs.Streams.Retained.{retained_since}
+use Rattle.rlp_streams.proofs.Streams.Retained.{retained_since, added_since, room_since, grown_since}
 use Rattle.rlp_streams.proofs.stream.RlpStream.try_append.Goals as goal
 
-pub returns-in-Ok-clause-retains : goal.returns-in-Ok-clause-retains
-returns-in-Ok-clause-retains g c = retained_since _ _ c.self.inside false c.self.view_is c.put_value.ensures.retains
+pub go_back-requires : goal.go_back-requires
+go_back-requires g c = (c.args.self.now.state, c.place-place.ensures, grown_since _ c.self.inside false _ c.self.view_is c.in-Err.ensures.refused)
 
-pub returns-in-Err-clause-retains : goal.returns-in-Err-clause-retains
-returns-in-Err-clause-retains g c =
-    retained_since _ _ c.self.inside false c.self.view_is (retains_trans _ _ _ c.put_value.ensures.retains c.go_back.ensures.retains)
+pub returns-in-Ok : goal.returns-in-Ok
+returns-in-Ok g c =
+    let done = c.in-Ok.ensures in
+    record {
+      fits = done.fits;
+      ok = added_since (g.E.Encodable.item c.args.value.now) _ c.self.inside false _ c.self.view_is done.ok;
+      room = λ _ _. refl;
+      refused = tt;
+      retains = retained_since _ _ c.self.inside false c.self.view_is done.retains;
+    }
+
+pub returns-in-Err : goal.returns-in-Err
+returns-in-Err g c =
+    let refused = c.in-Err.ensures in
+    let back = c.go_back.ensures in
+    record {
+      fits = tt;
+      ok = tt;
+      room = λ once has. refused.room once (room_since (g.E.Encodable.item c.args.value.now) _ c.self.inside false c.self.view_is has);
+      refused = back.back c.args.self.now.state c.place-place.ensures (grown_since _ c.self.inside false _ c.self.view_is refused.refused);
+      retains = retained_since _ _ c.self.inside false c.self.view_is (retains_trans _ _ _ refused.retains back.retains);
+    }

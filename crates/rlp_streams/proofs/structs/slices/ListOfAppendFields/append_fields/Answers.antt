@@ -1,6 +1,9 @@
+use Rattle.std.proofs.Common.{[]}
 use Rattle.rlp_streams.proofs.Streams.Fields.{some_none}
-use Rattle.rlp_streams.proofs.Streams.Refused.{on_err}
+use Rattle.rlp_streams.proofs.Streams.Refused.{on_err_too}
 use Rattle.rlp_streams.proofs.structs.slices.ListOfAppendFields.append_fields.Goals as goal
 
-pub returns-in_err-s-clause-refused : goal.returns-in_err-s-clause-refused
-returns-in_err-s-clause-refused g c = on_err _ _ (some_none _ _ _ _ (rw c.in_err-s.was at c.append_list.follows.holds-at-none).0)
+pub returns : goal.returns
+returns g c =
+    let done = c.try_append.ensures in
+    record { fits = done.fits; ok = done.ok; room = done.room; refused = on_err_too _ _ _ (some_none _ [] _ _) done.refused; retains = done.retains }
