@@ -16,3 +16,5 @@ pub mod ClosedSize
 pub mod Rooms
 -- the encoding of a list, alone in a buffer
 pub mod Alone
+-- what holds after a refused call, and after one that was not refused
+pub mod Refused

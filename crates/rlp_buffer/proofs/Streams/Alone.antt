@@ -3,12 +3,18 @@ use Rattle.std.proofs.Common.{◌≡◌, ℕ, ◌+◌, ◌-◌, ◌≤◌, List,
 use Rattle.std.proofs.lemmas.List.{drop_at, drop_all, drop-take, length-take-le}
 use Rattle.rlp_format.specs.Format.WrittenHeader.{written_header}
 use Rattle.rlp_buffer.specs.Streams.Stream.{list_encoding}
+use Rattle.rlp_buffer.proofs.Streams.Closings.{shifted_len}
 
 payload_behind : (b grown : List ℕ) (len : ℕ) → len ≡ length b - 1 → take (length b) grown ≡ b → take len (drop 1 grown) ≡ drop 1 b
 payload_behind [] grown len size front = ap (λ n. take n (drop 1 grown)) size
 payload_behind (byte ∷ b) grown len size front =
     let whole : 1 + len ≡ length (byte ∷ b) = omega arith in
     sym (drop-take 1 len grown) ∙ ap (λ n. drop 1 (take n grown)) whole ∙ ap (drop 1) front
+
+-- the buffer is as long after the payload was moved
+pub payload_moved : (grown moved : List ℕ) (len h : ℕ) → 1 ≤ h → length grown ≡ h + len → moved ≡ take h grown ++ (take len (drop 1 grown) ++ drop (h + len) grown)
+    → length moved ≡ h + len
+payload_moved grown moved len h some all is = ap length is ∙ shifted_len grown 1 len h some (omega (arith, all)) ∙ all
 
 -- The payload stands behind the first byte of b. The buffer grows by the header but for a byte, the payload is moved behind the header, and the header is
 -- written.

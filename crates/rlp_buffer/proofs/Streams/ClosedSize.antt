@@ -147,6 +147,12 @@ pub measured_popped : (start end more : ℕ) (whole : List Placeholder) (left ta
 measured_popped start end more whole left tail lists rest p h is =
     subst (λ ps. Measured start end more whole left tail ps) (ap reverse is ∙ reverse_push rest p) h
 
+-- the size once every list is measured
+pub measured_all : (start end more : ℕ) (whole : List Placeholder) (left tail : ℕ) (lists : List Placeholder)
+    → Measured start end more whole left tail (reverse lists) → length lists ≡ 0 → closed_len start end more whole ≡ (left - start) + tail
+measured_all start end more whole left tail [] h none = h.size
+measured_all start end more whole left tail (p ∷ lists) h none = absurd (omega arith)
+
 -- the closed size is the size with no more bytes
 pub closed_size_none : (s : State) → closed_size_with 0 s ≡ closed_size s
 closed_size_none s = ap (λ b. length (closed_payload_around list_encoding b s.stack.lists)) (append-nil s.stack.inner)

@@ -1,7 +1,8 @@
 -- What closing does, step by step, and the state after counting.
-use Rattle.std.proofs.Common.{◌≡◌, ℕ, zero, suc, ◌+◌, ◌-◌, ◌*◌, ◌<◌, ◌≤◌, Bool, true, false, cond, min, is_none, None, Some, List, [], ◌∷◌, ◌++◌, length, take, drop, reverse}
+use Rattle.std.proofs.Common.{◌≡◌, ℕ, zero, suc, ◌+◌, ◌-◌, ◌*◌, ◌<◌, ◌≤◌, Bool, true, false, cond, min, nat_lt, is_none, None, Some, List, [], ◌∷◌, ◌++◌, length, take, drop, reverse}
 use Rattle.std.proofs.Common.{get_or, set, Option, refl, sym, ◌∙◌, ap, subst, arith, length-append, length-drop, ⊎_elim}
-use Rattle.std.proofs.lemmas.Bool.{cases_lt, cond_both}
+use Rattle.std.proofs.lemmas.Bool.Decides.{nat_tests}
+use Rattle.std.proofs.lemmas.Bool.{cases_lt, cond-true, cond_both}
 use Rattle.std.proofs.lemmas.List.{take-take, take-append-le, drop_at, drop-drop, drop-take, length-take-le, length_push, set_at, get_or_at}
 use Rattle.std.proofs.lemmas.List.{take-append-drop, reverse-append, reverse-reverse, length-reverse, get_or-reverse, set-append_left}
 use Rattle.rlp_buffer.specs.declared.open_lists.Placeholder.{Placeholder}
@@ -50,6 +51,34 @@ header_some len =
     ⊎_elim (λ long. let e : header_len len ≡ suc (length (big_endian len)) = ap length (written_header_long 0xc0 len long) in omega arith)
     (λ short. let e : header_len len ≡ 1 = ap length (written_header_short 0xc0 len short) in omega arith)
     (cases_lt 55 len)
+
+-- one more list is found to be full, the last in the order in which they were opened
+pub planned_more : (k end : ℕ) (whole : List Placeholder) (closing grown left tail counts : ℕ) (p : Placeholder) (ps : List Placeholder) (len header : ℕ)
+    → Planned k end whole closing grown left tail counts (p ∷ ps) → is_last counts p.awaits ≡ true → len ≡ (left - (p.position + 1)) + tail
+    → header ≡ header_len len → header ≤ 9 → Planned k end whole (closing + 1) (grown + (header - 1)) p.position (header + len) 1 ps
+planned_more k end whole closing grown left tail counts p ps len header h full is written few =
+    let order = h.order in
+    let one : filled counts (p ∷ ps) ≡ suc (filled 1 ps) = cond-true (is_last counts p.awaits) (suc (filled 1 ps)) 0 full in
+    let step : growth (suc (filled 1 ps)) left tail (p ∷ ps) ≡ (header - 1) + growth (filled 1 ps) p.position (header + len) ps = rw (written, is) refl in
+    record {
+      closes = omega (arith, h.closes, one);
+      grows = omega (arith, h.grows, ap (λ n. growth n left tail (p ∷ ps)) one, step);
+      order = order.1;
+      total = omega (arith, h.total, order.0, is, written, header_some len);
+      small = omega (arith, h.small, few);
+      few = omega (arith, h.few);
+    }
+
+-- no list is full if the count closes none
+pub none_filled : (n : ℕ) → false ≡ nat_lt 0 n → n ≡ 0
+none_filled n none = grind (arith, nat_tests)
+
+-- by the list that was taken from the others
+pub planned_popped : (k end : ℕ) (whole : List Placeholder) (closing grown left tail counts : ℕ) (lists rest : List Placeholder) (p : Placeholder)
+    → Planned k end whole closing grown left tail counts (reverse lists) → lists ≡ rest ++ p ∷ []
+    → Planned k end whole closing grown left tail counts (p ∷ reverse rest)
+planned_popped k end whole closing grown left tail counts lists rest p h is =
+    subst (λ ps. Planned k end whole closing grown left tail counts ps) (ap reverse is ∙ reverse_push rest p) h
 
 -- the number of bytes after lists are closed
 pub length-closed_bytes : (n : ℕ) (b tail : List ℕ) (ps : List Placeholder) → Descends (length b) ps
@@ -157,7 +186,7 @@ dropped_popped left n lists rest p is more =
     ap (λ m. drop m (reverse lists)) more ∙ ap (λ ps. drop (suc n) ps) (ap reverse is ∙ reverse_push rest p)
 
 -- moving bytes doesn't change the length
-shifted_len : (bytes : List ℕ) (begin len at : ℕ) → begin ≤ at → at + len ≤ length bytes
+pub shifted_len : (bytes : List ℕ) (begin len at : ℕ) → begin ≤ at → at + len ≤ length bytes
     → length (take at bytes ++ (take len (drop begin bytes) ++ drop (at + len) bytes)) ≡ length bytes
 shifted_len bytes begin len at forward within =
     let stretch = take len (drop begin bytes) in

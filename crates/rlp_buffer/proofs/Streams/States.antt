@@ -65,13 +65,8 @@ size-finalized : (n : ℕ) (s : State) → closed_size (finalized n s) ≡ close
 size-finalized zero s = refl
 size-finalized (suc n) s = size-finalized n (effect finalize_unbounded_list s) ∙ ap length (closed_text-count 1 (shut s) ∙ closed_text-shut s)
 
-pub size_kept-one : (s t : State) → t ≡ effect finalize_unbounded_list s → closed_size t ≡ closed_size s
-size_kept-one s t e = ap closed_size e ∙ size-finalized 1 s
-
 pub size_kept-each : (n : ℕ) (s t : State) → t ≡ finalized n s → closed_size t ≡ closed_size s
 size_kept-each n s t e = ap closed_size e ∙ size-finalized n s
-
-pub ruleset size_kept = (size_kept-one, size_kept-each)
 
 -- the test of a size that was found, and of one that is too large to be found
 pub within_size-found : (bytes : List ℕ) (limit size : ℕ) (s : State) → size ≡ closed_size_with (length bytes) s
@@ -92,8 +87,6 @@ within_size-within bytes limit s within =
     let same = closed_size-put bytes s in
     let below : closed_size (put bytes s) ≤ limit = rw same within in
     grind (arith, nat_tests)
-
-pub ruleset within_size = (within_size-found, within_size-too_large, within_size-within)
 
 -- if no list is open, the closed text is all that was written
 pub closed_text-finished : (s : State) → IsFinished s → closed_text s ≡ s.stack.inner

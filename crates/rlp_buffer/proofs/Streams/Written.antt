@@ -2,11 +2,11 @@
 use Rattle.std.proofs.Common.{◌≡◌, ℕ, ◌+◌, ◌-◌, ◌<◌, ◌≤◌, List, ◌∷◌, [], ◌++◌, length, take, drop, length-append, length-drop, append-nil, true}
 use Rattle.std.proofs.Common.{false, refl, sym, ap, ◌∙◌, arith, add-one, append_assoc}
 use Rattle.std.proofs.lemmas.Bool.{cond-true, cond-false}
-use Rattle.std.proofs.lemmas.List.{drop-set, take-append-le, take-take, drop_at, drop_all, length-take-le, take-append-drop, take_all}
+use Rattle.std.proofs.lemmas.List.{drop-set, take-append-le, take-take, take_at, drop_at, drop_all, length-take-le, take-append-drop, take_all}
 use Rattle.std.specs.Prelude.{slice_set}
 use Rattle.rlp_format.specs.Format.Item.{string}
 use Rattle.rlp_format.specs.Format.WrittenHeader.{big_endian, written_header}
-use Rattle.rlp_format.specs.Format.Encoding.{encoding, is_low_byte}
+use Rattle.rlp_format.specs.Format.Encoding.{encoding, is_low_byte, BeginsWith}
 use Rattle.rlp_format.specs.Lemmas.Headers.{written_header_short, written_header_long}
 
 -- a string that is its own encoding
@@ -70,5 +70,19 @@ encoding_length s header room other is less =
     let whole : length (encoding (string s)) ≡ length (written_header 0x80 (length s) ++ s) = ap length (encoding_other s other) in
     let heads : length header ≡ length (written_header 0x80 (length s)) = ap length is in
     omega arith
+
+-- the bytes of a string were put after the old ones, and then its header was inserted
+pub parts_written : (old mid new : List ℕ) (start : ℕ) (Gives : List ℕ → Type 0) → (s : List ℕ) × Gives s × (mid ≡ old ++ s) → start ≡ length old
+    → new ≡ take start mid ++ encoding (string (drop start mid)) → (s : List ℕ) × Gives s × (new ≡ old ++ encoding (string s))
+parts_written old mid new start Gives (s, gives, put) at is = (
+  s,
+  gives,
+  is ∙ ap (λ b. take start b ++ encoding (string (drop start b))) put
+      ∙ ap (λ b. b ++ encoding (string (drop start (old ++ s)))) (take_at old s start (sym at)) ∙ ap (λ b. old ++ encoding (string b)) (drop_at old s start (sym at)),
+)
+
+-- if that is refused, they still begin with the old ones
+pub parts_left : (old mid new : List ℕ) (Gives : List ℕ → Type 0) → (s : List ℕ) × Gives s × (mid ≡ old ++ s) → new ≡ mid → BeginsWith new old
+parts_left old mid new Gives (s, gives, put) same = (s, same ∙ put)
 
 pub ruleset written = (encoding_low, written_header_short, header_set, header_and_string)

@@ -73,3 +73,24 @@ returns-after-loop-left-clause-moved c =
     let none : c.loop-left.left ≡ 0 = omega arith in
     let lowest = rw none at c.loop-left.invariant.lowest in
     omega (arith, lowest, c.loop-left.invariant.moved)
+
+pub overflow_sub-len : goal.overflow_sub-len
+overflow_sub-len c =
+    let next : c.loop-left.left ≡ suc (c.loop-left.left - 1) = omega arith in
+    let h = closes_popped _ _ (c.loop-left.left - 1) _ _ _ c.loop-left.lists.items c.pop.new.self.items c.in-Some.list c.loop-left.invariant.closes
+    c.in-Some.ensures.items next in
+    omega (arith, h.order.0)
+
+pub shift-requires-clause-within : goal.shift-requires-clause-within
+shift-requires-clause-within c =
+    let next : c.loop-left.left ≡ suc (c.loop-left.left - 1) = omega arith in
+    let h = closes_popped _ _ (c.loop-left.left - 1) _ _ _ c.loop-left.lists.items c.pop.new.self.items c.in-Some.list c.loop-left.invariant.closes
+    c.in-Some.ensures.items next in
+    omega (arith, h.order.0, h.room, h.within)
+
+pub shift-requires-clause-forward : goal.shift-requires-clause-forward
+shift-requires-clause-forward c =
+    let next : c.loop-left.left ≡ suc (c.loop-left.left - 1) = omega arith in
+    let h = closes_popped _ _ (c.loop-left.left - 1) _ _ _ c.loop-left.lists.items c.pop.new.self.items c.in-Some.list c.loop-left.invariant.closes
+    c.in-Some.ensures.items next in
+    omega (arith, h.order.0, h.room)

@@ -1,0 +1,23 @@
+-- What holds after a call that was refused, and after one that was not.
+use Rattle.std.proofs.Common.{Result, Ok, Err, IsErr}
+use Rattle.std.specs.Prelude.{IfOk, OnOk, OnErr}
+
+-- what holds in any case
+pub on_err : {T E : Type 0} (r : Result T E) (P : Type 0) → P → OnErr r P
+on_err (Ok x) P p = tt
+on_err (Err e) P p = p
+
+-- what follows from what holds then
+pub on_err_too : {T E : Type 0} (r : Result T E) (P Q : Type 0) → (P → Q) → OnErr r P → OnErr r Q
+on_err_too (Ok x) P Q f p = tt
+on_err_too (Err e) P Q f p = f p
+
+-- what follows from what holds after a call that was not refused
+pub on_ok_too : {T E : Type 0} (r : Result T E) (P Q : Type 0) → (P → Q) → OnOk r P → OnOk r Q
+on_ok_too (Ok x) P Q f p = f p
+on_ok_too (Err e) P Q f p = tt
+
+-- nothing is said of the value of a call that was refused
+pub no_value : {T E : Type 0} (r : Result T E) (P : T → Type 0) → IsErr r → IfOk r P
+no_value (Ok x) P refused = absurd (let no : ⊥ = cc in no)
+no_value (Err e) P refused = tt
