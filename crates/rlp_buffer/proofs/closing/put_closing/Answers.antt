@@ -1,14 +1,41 @@
-use Rattle.std.proofs.Common.{◌≡◌, ◌+◌, ◌++◌, [], reverse, length, length-append, take, drop, refl, ap, sym, ◌∙◌, arith}
+use Rattle.std.proofs.Common.{◌≡◌, ◌+◌, ◌^◌, ◌<◌, ◌≤◌, ◌⊎◌, ◌++◌, inr, [], reverse, length, length-append, take, drop, refl, ap, sym, ◌∙◌, arith}
 use Rattle.std.proofs.lemmas.List.{length-take-le}
 use Rattle.rlp_buffer.specs.Streams.Stack.{awaits_after}
 use Rattle.rlp_buffer.specs.Streams.Closing.{filled, growth, closed_bytes, left_of}
 use Rattle.rlp_buffer.specs.Streams.Placeholders.{with_innermost}
 use Rattle.rlp_buffer.proofs.Streams.Closings.{descends_le, counted_is, length-closed_bytes}
+use Rattle.rlp_buffer.proofs.Streams.Refused.{on_err, no_value}
 use Rattle.rlp_buffer.proofs.closing.put_closing.Goals as goal
 
 pub plan_count-plan-requires-clause-order : goal.plan_count-plan-requires-clause-order
 plan_count-plan-requires-clause-order c =
     rw c.as_slice.ensures.value (descends_le (length c.args.buffer.now.items) c.in-Some.end (reverse c.args.lists.now.items) (omega arith) c.requires.order)
+
+pub returns-in_err-reserve : goal.returns-in_err-reserve
+returns-in_err-reserve c =
+    let old = c.args.buffer.now in
+    let ps = reverse c.args.lists.now.items in
+    let bytes = old.items ++ c.args.bytes.now in
+    let refused = c.in_err-reserve.ensures in
+    let not = c.from_residual.ensures.0 in
+    let same : (c.reserve.new.self.items ≡ old.items) × (c.args.lists.now.items ≡ c.args.lists.now.items) × (c.reserve.new.self.moved ≡ old.moved) =
+    (refused.items, refl, refused.moved) in
+    let end : c.in-Some.end ≡ length bytes = omega (arith, length-append old.items c.args.bytes.now) in
+    let plan = c.plan_count-plan.ensures in
+    let grown : c.plan_count-plan.result.growth ≡ growth (filled c.args.items ps) (length bytes) 0 ps =
+    (rw c.as_slice.ensures.value at plan.growth) ∙ ap (λ n. growth (filled c.args.items ps) n 0 ps) end in
+    let short : (2 ^ 63 ≤ length bytes) ⊎ (old.spare < length c.args.bytes.now + growth (filled c.args.items ps) (length bytes) 0 ps) =
+    inr (omega (arith, refused.spare.1, grown)) in
+    record {
+      bytes = no_value _ _ not;
+      lists = no_value _ _ not;
+      moved = no_value _ _ not;
+      in_place = no_value _ _ not;
+      refused = on_err _ _ same;
+      keeps = record { moved = omega (arith, refused.moved); room = omega (arith, ap length refused.items, refused.spare.0) };
+      list_room = refl;
+      room = on_err _ _ short;
+    }
 
 pub close_lists-requires-clause-order : goal.close_lists-requires-clause-order
 close_lists-requires-clause-order c =

@@ -1,5 +1,6 @@
-use Rattle.std.proofs.Common.{◌++◌, [], ◌∷◌, refl, sym, ap, ◌∙◌, append-nil, append_assoc, le_refl, le_trans}
+use Rattle.std.proofs.Common.{◌++◌, [], ◌∷◌, refl, sym, ap, ◌∙◌, append-nil, append_assoc, le_refl}
 use Rattle.rlp_buffer.proofs.Streams.Refused.{on_err}
+use Rattle.rlp_buffer.proofs.Streams.Written.{keeps_trans}
 use Rattle.rlp_buffer.proofs.buffer.strings.write_bytes_of.Goals as goal
 
 pub loop-byte-init : goal.loop-byte-init
@@ -12,7 +13,7 @@ loop-byte-preserved g c =
     let byte = c.in-Some.byte ∷ [] in
     record {
       items = put.ok ∙ ap (λ b. b ++ byte) so_far.items ∙ append_assoc c.args.buffer.now.items c.loop-byte.yielded byte;
-      keeps = record { moved = le_trans so_far.keeps.moved put.keeps.moved; room = le_trans so_far.keeps.room put.keeps.room };
+      keeps = keeps_trans c.args.buffer.now c.loop-byte.buffer c.extend_from_slice.new.self so_far.keeps put.keeps;
       moved = put.moved ∙ so_far.moved;
     }
 

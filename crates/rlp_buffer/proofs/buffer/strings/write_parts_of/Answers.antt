@@ -1,6 +1,6 @@
-use Rattle.std.proofs.Common.{◌∙◌, le_trans}
+use Rattle.std.proofs.Common.{◌∙◌}
 use Rattle.rlp_buffer.proofs.Streams.Refused.{on_err, on_err_too, on_ok_too, no_value}
-use Rattle.rlp_buffer.proofs.Streams.Written.{parts_written, parts_left}
+use Rattle.rlp_buffer.proofs.Streams.Written.{keeps_trans, parts_written, parts_left}
 use Rattle.rlp_buffer.proofs.buffer.strings.write_parts_of.Goals as goal
 
 pub returns-in_err-write_bytes_of : goal.returns-in_err-write_bytes_of
@@ -22,6 +22,6 @@ returns g c =
     record {
       ok = on_ok_too _ _ _ (parts_written old mid _ c.len-start.result _ put.ok c.len-start.ensures.value) headed.ok;
       refused = on_err_too _ _ _ (parts_left old mid _ _ put.ok) headed.refused;
-      keeps = record { moved = le_trans put.keeps.moved headed.keeps.moved; room = le_trans put.keeps.room headed.keeps.room };
+      keeps = keeps_trans c.args.buffer.now c.write_bytes_of.new.buffer c.write_header_before.new.buffer put.keeps headed.keeps;
       moved = headed.moved ∙ put.moved;
     }
