@@ -10,3 +10,5 @@ pub mod Trees
 pub mod Values
 -- for authors of types: the rules for a body that reads one string
 pub mod OneString
+-- headers and strings, by the first byte
+mod FirstBytes

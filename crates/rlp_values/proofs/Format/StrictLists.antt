@@ -54,12 +54,8 @@ some_bytes (c ∷ b) is = omega arith
 
 -- ---- the fault of a list
 
--- a lenient view has no such fault
-pub list_lenient : (v : View) → v.is_strict ≡ false → list_fault v ≡ None
-list_lenient v lenient = cond-false v.is_strict (strict_list_fault v.bytes) None lenient
-
 -- a strict view has that of its bytes
-pub list_strict : (v : View) (o : Option DecoderError) → v.is_strict ≡ true → strict_list_fault v.bytes ≡ o → list_fault v ≡ o
+list_strict : (v : View) (o : Option DecoderError) → v.is_strict ≡ true → strict_list_fault v.bytes ≡ o → list_fault v ≡ o
 list_strict v o strict is = cond-true v.is_strict (strict_list_fault v.bytes) None strict ∙ is
 
 -- bytes that don't begin as a list
@@ -91,8 +87,6 @@ pub value-items : (b q : List ℕ) → true ≡ begins_as_list b → value b ≡
 unfolding items
 value-items b q kind is = ap split (value-payload b q kind is)
 
-pub ruleset list_checks = (list_lenient, list_strict, strict_not_begun, strict_not_whole)
-
 -- ---- the fault of items by number
 
 strict_kind : (v : View) (k : Bool) → begins_as_list v.bytes ≡ k → v.is_strict ≡ true → items_fault v ≡ strict_list_fault v.bytes
@@ -109,11 +103,3 @@ pub strict_counted : (v : View) (r : Result ℕ DecoderError) → v.is_strict �
     → r ≡ item_count v
 strict_counted v (Ok n) strict none same = sym (item_count-told v (items_strict v strict ∙ none) ∙ ap Ok (sym same))
 strict_counted v (Err e) strict fault same = sym (item_count-fault v e (items_strict v strict ∙ fault))
-
-pub items_not_begun : (v : View) → false ≡ begins_as_list v.bytes → items_fault v ≡ Some RlpExpectedToBeList
-items_not_begun v kind = cond-false (begins_as_list v.bytes) _ _ (sym kind)
-
-pub items_begun : (v : View) (o : Option DecoderError) → true ≡ begins_as_list v.bytes → list_fault v ≡ o → items_fault v ≡ o
-items_begun v o kind is = cond-true (begins_as_list v.bytes) _ _ (sym kind) ∙ is
-
-pub ruleset items_checks = (items_not_begun, items_begun)
