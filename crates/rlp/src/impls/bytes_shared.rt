@@ -21,11 +21,11 @@ impl Decodable for Bytes {
     ghost may_lack_memory = { λ v. GivesSome GivesBytes v };
 
     fn decode(alloc: Global, rlp: &Rlp<'_>) -> Result<Bytes, DecoderError> {
-        rlp.decoder()
-            .decode_value(|string: &[u8]| match Bytes::copy_from_slice(alloc, string) {
-                Ok(bytes) => Ok(bytes),
-                Err(_) => Err(DecoderError::OutOfMemory),
-            })
+        let string = rlp.decoder().string()?;
+        match Bytes::copy_from_slice(alloc, string) {
+            Ok(bytes) => Ok(bytes),
+            Err(_) => Err(DecoderError::OutOfMemory),
+        }
     }
 }
 
