@@ -21,10 +21,12 @@ impl Decodable for Bytes {
     ghost may_lack_memory = { λ v. GivesSome GivesBytes v };
 
     fn decode(alloc: Global, rlp: &Rlp<'_>) -> Result<Bytes, DecoderError> {
-        let string = rlp.decoder().string()?;
-        match Bytes::copy_from_slice(alloc, string) {
-            Ok(bytes) => Ok(bytes),
-            Err(_) => Err(DecoderError::OutOfMemory),
+        match rlp.decoder().string() {
+            Ok(string) => match Bytes::copy_from_slice(alloc, string) {
+                Ok(bytes) => Ok(bytes),
+                Err(_) => Err(DecoderError::OutOfMemory),
+            },
+            Err(fault) => Err(fault),
         }
     }
 }
