@@ -65,27 +65,9 @@ pub returns-in-Err-make_waiting-clause-described_refused : goal.returns-in-Err-m
 returns-in-Err-make_waiting-clause-described_refused g c = λ items d. described_refused _ (calls_of g.E.Encodable.item c.args.calls.now) items _ d
     (returns-in-Err-make_waiting-clause-refused g c)
 
--- a fault meets what is said of a result
-pub returns-in-Err-clause-ok : goal.returns-in-Err-clause-ok
-returns-in-Err-clause-ok g c = tt
-
-pub returns-in-Err-clause-taken : goal.returns-in-Err-clause-taken
-returns-in-Err-clause-taken g c = tt
-
-pub returns-in-Err-clause-joined : goal.returns-in-Err-clause-joined
-returns-in-Err-clause-joined g c = tt
-
+-- a fault meets what is said of the result for described items
 pub returns-in-Err-clause-described : goal.returns-in-Err-clause-described
 returns-in-Err-clause-described g c = λ items d. tt
-
-pub returns-in-Err-make_waiting-clause-ok : goal.returns-in-Err-make_waiting-clause-ok
-returns-in-Err-make_waiting-clause-ok g c = tt
-
-pub returns-in-Err-make_waiting-clause-taken : goal.returns-in-Err-make_waiting-clause-taken
-returns-in-Err-make_waiting-clause-taken g c = tt
-
-pub returns-in-Err-make_waiting-clause-joined : goal.returns-in-Err-make_waiting-clause-joined
-returns-in-Err-make_waiting-clause-joined g c = tt
 
 pub returns-in-Err-make_waiting-clause-described : goal.returns-in-Err-make_waiting-clause-described
 returns-in-Err-make_waiting-clause-described g c = λ items d. tt
