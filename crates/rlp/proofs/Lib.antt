@@ -2,6 +2,8 @@
 
 -- the items that calls describe
 pub mod Streams
+-- the first item of a view
+mod Splitting
 -- what is written for raw items
 pub mod RawWriting
 -- for authors of types: the rules for bodies that write and that read

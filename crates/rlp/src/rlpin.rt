@@ -5,6 +5,7 @@ mod display;
 mod envelope;
 mod fields;
 mod iter;
+mod places;
 mod rlp;
 mod splitting;
 

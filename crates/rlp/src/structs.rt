@@ -68,7 +68,10 @@ impl<T: Decodable> DecodeField for Field<T> {
     ghost may_lack_memory = { T.may_lack_memory };
 
     fn decode_field(alloc: Global, fields: &mut Fields<'_>) -> Result<Field<T>, DecoderError> {
-        Ok(Field(fields.next_value(alloc)?))
+        match fields.next_value(alloc) {
+            Ok(value) => Ok(Field(value)),
+            Err(fault) => Err(fault),
+        }
     }
 }
 
@@ -83,7 +86,10 @@ impl<T: Decodable> DecodeField for ListField<T> {
     ghost may_lack_memory = { λ v. MayLackAsList T.gives T.may_lack_memory v };
 
     fn decode_field(alloc: Global, fields: &mut Fields<'_>) -> Result<ListField<T>, DecoderError> {
-        Ok(ListField(fields.next_list(alloc)?))
+        match fields.next_list(alloc) {
+            Ok(values) => Ok(ListField(values)),
+            Err(fault) => Err(fault),
+        }
     }
 }
 
@@ -103,12 +109,10 @@ impl fmt::Display for FieldFault {
     ghost output = { λ e. Some (field_fault_text e.place e.fault) };
 
     fn fmt<W: fmt::Write>(&self, f: &mut fmt::Formatter<W>) -> fmt::Result {
-        if let Some(place) = self.place {
-            f.write_str("field ")?;
-            fmt::Display::fmt(&place, f)?;
-            f.write_str(": ")?;
+        match self.place {
+            Some(place) => write!(f, "field {place}: {}", self.fault),
+            None => fmt::Display::fmt(&self.fault, f),
         }
-        fmt::Display::fmt(&self.fault, f)
     }
 }
 

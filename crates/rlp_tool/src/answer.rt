@@ -100,16 +100,14 @@ fn put_script_fault(fault: &LineFault, out: &mut String) -> Result<(), AllocErro
 {
     match fault {
         LineFault::Syntax(place) => put_fault("error syntax at ", *place, out),
-        LineFault::Failed(BuildFault::TooManyItems(place)) => {
-            put_fault("error too many items at ", *place, out)
-        }
-        LineFault::Failed(BuildFault::NothingToFinish(place)) => {
-            put_fault("error nothing to finish at ", *place, out)
-        }
-        LineFault::Failed(BuildFault::RawNotItems(place)) => {
-            put_fault("error raw not items at ", *place, out)
-        }
-        LineFault::Failed(BuildFault::OutOfMemory) => Err(AllocError),
+        LineFault::Failed(fault) => match fault {
+            BuildFault::TooManyItems(place) => put_fault("error too many items at ", *place, out),
+            BuildFault::NothingToFinish(place) => {
+                put_fault("error nothing to finish at ", *place, out)
+            }
+            BuildFault::RawNotItems(place) => put_fault("error raw not items at ", *place, out),
+            BuildFault::OutOfMemory => Err(AllocError),
+        },
     }
 }
 

@@ -21,11 +21,13 @@ impl Decodable for Vec<u8> {
     ghost may_lack_memory = { λ v. GivesSome GivesBytes v };
 
     fn decode(alloc: Global, rlp: &Rlp<'_>) -> Result<Vec<u8>, DecoderError> {
-        rlp.decoder()
-            .decode_value(|string: &[u8]| match Vec::from_slice(alloc, string) {
+        match rlp.decoder().string() {
+            Ok(string) => match Vec::from_slice(alloc, string) {
                 Ok(bytes) => Ok(bytes),
                 Err(_) => Err(DecoderError::OutOfMemory),
-            })
+            },
+            Err(fault) => Err(fault),
+        }
     }
 }
 

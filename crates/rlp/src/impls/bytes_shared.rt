@@ -21,11 +21,13 @@ impl Decodable for Bytes {
     ghost may_lack_memory = { λ v. GivesSome GivesBytes v };
 
     fn decode(alloc: Global, rlp: &Rlp<'_>) -> Result<Bytes, DecoderError> {
-        rlp.decoder()
-            .decode_value(|string: &[u8]| match Bytes::copy_from_slice(alloc, string) {
+        match rlp.decoder().string() {
+            Ok(string) => match Bytes::copy_from_slice(alloc, string) {
                 Ok(bytes) => Ok(bytes),
                 Err(_) => Err(DecoderError::OutOfMemory),
-            })
+            },
+            Err(fault) => Err(fault),
+        }
     }
 }
 

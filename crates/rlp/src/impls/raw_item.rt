@@ -152,9 +152,11 @@ impl Decodable for RawItem {
 
     #[tactic(auto, using(rlp_values::specs::Lemmas::RawItems::raw_reading))]
     fn decode(alloc: Global, rlp: &Rlp<'_>) -> Result<RawItem, DecoderError> {
-        let (item, _) = rlp.split_first()?;
-        match RawItem::new(alloc, item.as_raw()) {
-            Ok(item) => Ok(item),
+        match rlp.split_first() {
+            Ok((item, _)) => match RawItem::new(alloc, item.as_raw()) {
+                Ok(item) => Ok(item),
+                Err(fault) => Err(fault),
+            },
             Err(fault) => Err(fault),
         }
     }

@@ -22,15 +22,14 @@ impl Decodable for String {
     ghost may_lack_memory = { λ v. GivesSome GivesText v };
 
     fn decode(alloc: Global, rlp: &Rlp<'_>) -> Result<String, DecoderError> {
-        rlp.decoder().decode_value(|string: &[u8]| {
-            let Ok(text) = str::from_utf8(string) else {
-                return Err(DecoderError::RlpExpectedToBeData);
-            };
-            match String::from_str(alloc, text) {
-                Ok(owned) => Ok(owned),
-                Err(_) => Err(DecoderError::OutOfMemory),
-            }
-        })
+        let string = rlp.decoder().string()?;
+        let Ok(text) = str::from_utf8(string) else {
+            return Err(DecoderError::RlpExpectedToBeData);
+        };
+        match String::from_str(alloc, text) {
+            Ok(owned) => Ok(owned),
+            Err(_) => Err(DecoderError::OutOfMemory),
+        }
     }
 }
 

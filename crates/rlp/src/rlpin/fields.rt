@@ -55,8 +55,10 @@ impl<'a> Rlp<'a> {
         ensures fault { MatchResult result (λ _. items_fault self.now ≡ None)
             (λ e. items_fault self.now ≡ Some e) }
     {
-        self.check_items()?;
-        Ok(Fields::over(self))
+        match self.check_items() {
+            Ok(()) => Ok(Fields::over(self)),
+            Err(fault) => Err(fault),
+        }
     }
 
     /// The same as [`Rlp::fields`] for a list of `len` items. Fails with `RlpIncorrectListLen` if
@@ -133,7 +135,10 @@ impl<'a> Fields<'a> {
             (λ _. self.new ≡ self.old) }
         ensures same_view { self.new.view ≡ self.old.view }
     {
-        self.next_view()?.as_val(alloc)
+        match self.next_view() {
+            Ok(item) => item.as_val(alloc),
+            Err(fault) => Err(fault),
+        }
     }
 
     /// The values of the items of the next item, as [`Rlp::list_at`] reads them.
@@ -158,7 +163,10 @@ impl<'a> Fields<'a> {
             (λ _. self.new ≡ self.old) }
         ensures same_view { self.new.view ≡ self.old.view }
     {
-        self.next_view()?.as_list(alloc)
+        match self.next_view() {
+            Ok(item) => item.as_list(alloc),
+            Err(fault) => Err(fault),
+        }
     }
 
     /// Tests that all items were taken. Fails with `RlpIncorrectListLen` if one is left.

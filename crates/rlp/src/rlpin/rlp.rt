@@ -10,11 +10,12 @@ ghost use Rattle.rlp_values.specs.Format.Framing.{framing};
 ghost use Rattle.rlp_values.specs.Format.Strict.{IsCanonicalWithin, strict_list_fault};
 ghost use Rattle.rlp_values.specs.Format.TreeFaults.{IsFlatFault};
 ghost use Rattle.rlp_values.specs.Views.Depth.{depth};
-ghost use Rattle.rlp_values.specs.Views.View.{begins_as_data, begins_as_empty, begins_as_int, data_size, has_nonzero_at, item_at, item_count, item_views, item_with_place, items_fault, list_fault, prototype_of, strict_view_of, view_header, view_of, view_value, View};
+ghost use Rattle.rlp_values.specs.Views.View.{begins_as_data, begins_as_empty, begins_as_int, data_size, item_at, item_count, item_views, item_with_place, items_fault, list_fault, prototype_of, strict_view_of, view_header, view_of, view_value, View};
 ghost use Rattle.rlp_values.specs.Values.ListReading.{FaultsAsList, FaultsAt, GivesAt, GivesList, MayLackAsList, MayLackAt, ReadsValue, GivesSomeAt};
 
 use crate::rlpin::decoder::BasicDecoder;
 use crate::rlpin::iter::RlpIterator;
+use crate::rlpin::places::is_nonzero_at;
 use crate::traits::Decodable;
 use rlp_values::Prototype;
 use rlp_values::depth::is_nested_within;
@@ -323,7 +324,10 @@ impl<'a> Rlp<'a> {
         ensures fault { IfErr result (λ e. (FaultsAt T.faults self.now index e)
             ⊎ ((e ≡ OutOfMemory) × MayLackAt T.may_lack_memory self.now index)) }
     {
-        self.at(index)?.as_val(alloc)
+        match self.at(index) {
+            Ok(item) => item.as_val(alloc),
+            Err(fault) => Err(fault),
+        }
     }
 
     /// The values of the items of the item at `index`, counted from 0: [`Rlp::at`], and then
@@ -345,7 +349,10 @@ impl<'a> Rlp<'a> {
             ⊎ ((e ≡ OutOfMemory)
             × MayLackAt (λ item. MayLackAsList T.gives T.may_lack_memory item) self.now index)) }
     {
-        self.at(index)?.as_list(alloc)
+        match self.at(index) {
+            Ok(item) => item.as_list(alloc),
+            Err(fault) => Err(fault),
+        }
     }
 
     /// A decoder of the view's bytes, of the same kind. A strict decoder fails with `RlpIsTooBig`
@@ -441,8 +448,10 @@ impl<'a> Rlp<'a> {
         if self.strict {
             return whole_framed(self.bytes);
         }
-        let (framed, _) = first_framed(self.bytes)?;
-        Ok(framed)
+        match first_framed(self.bytes) {
+            Ok((framed, _)) => Ok(framed),
+            Err(fault) => Err(fault),
+        }
     }
 
     /// The number of items of a list that is all of the bytes, by one walk over it.
@@ -484,15 +493,5 @@ impl<'a> Rlp<'a> {
             return Err(DecoderError::RlpExpectedToBeList);
         }
         self.check_list()
-    }
-}
-
-/// Whether there is a byte at this place, and it isn't zero.
-fn is_nonzero_at(bytes: &[u8], place: usize) -> bool
-    ensures { result ≡ has_nonzero_at place bytes.now }
-{
-    match bytes.get(place) {
-        Some(byte) => *byte != 0,
-        None => false,
     }
 }

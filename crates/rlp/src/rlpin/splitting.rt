@@ -31,10 +31,14 @@ impl<'a> Rlp<'a> {
         ensures fault { IfErr result (λ e. (view_frame self.now ≡ Err e)
             × (view_header self.now ≡ Err e)) }
     {
-        let (framed, rest) = first_framed(self.as_raw())?;
-        if self.is_strict() && !rest.is_empty() {
-            return Err(DecoderError::RlpIsTooBig);
+        match first_framed(self.as_raw()) {
+            Ok((framed, rest)) => {
+                if self.is_strict() && !rest.is_empty() {
+                    return Err(DecoderError::RlpIsTooBig);
+                }
+                Ok((self.with_bytes(framed.item), rest))
+            }
+            Err(fault) => Err(fault),
         }
-        Ok((self.with_bytes(framed.item), rest))
     }
 }

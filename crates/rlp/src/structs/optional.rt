@@ -24,6 +24,9 @@ impl<S: DecodeFields> DecodeFields for OptionalGroup<S> {
         if len == 0 {
             return Ok(OptionalGroup(None));
         }
-        Ok(OptionalGroup(Some(S::decode_fields(alloc, fields, len)?)))
+        match S::decode_fields(alloc, fields, len) {
+            Ok(values) => Ok(OptionalGroup(Some(values))),
+            Err(fault) => Err(fault),
+        }
     }
 }

@@ -65,6 +65,13 @@ pub returns-in-Err-make_waiting-clause-described_refused : goal.returns-in-Err-m
 returns-in-Err-make_waiting-clause-described_refused g c = λ items d. described_refused _ (calls_of g.E.Encodable.item c.args.calls.now) items _ d
     (returns-in-Err-make_waiting-clause-refused g c)
 
+-- a fault meets what is said of the result for described items
+pub returns-in-Err-clause-described : goal.returns-in-Err-clause-described
+returns-in-Err-clause-described g c = λ items d. tt
+
+pub returns-in-Err-make_waiting-clause-described : goal.returns-in-Err-make_waiting-clause-described
+returns-in-Err-make_waiting-clause-described g c = λ items d. tt
+
 pub returns : goal.returns
 returns g c =
     let item = call_of g.E.Encodable.item in

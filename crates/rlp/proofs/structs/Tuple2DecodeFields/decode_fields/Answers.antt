@@ -4,6 +4,9 @@ use Rattle.rlp_values.specs.Values.ListReading.{MayLackAt}
 use Rattle.rlp_values.proofs.Values.FieldReading.{first_fails, others_fail, others_some, some_items}
 use Rattle.rlp.proofs.structs.Tuple2DecodeFields.decode_fields.Goals as goal
 
+pub overflow_sub-len : goal.overflow_sub-len
+overflow_sub-len g c = some_items g.Q.DecodeFields.reading.least g.Q.DecodeFields.reading.IsMore c.args.len c.requires
+
 pub returns-in-Ok-decode_fields-clause-some : goal.returns-in-Ok-decode_fields-clause-some
 returns-in-Ok-decode_fields-clause-some g c =
     let Q = g.Q.DecodeFields.reading in

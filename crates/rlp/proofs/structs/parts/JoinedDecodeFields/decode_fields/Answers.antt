@@ -1,9 +1,25 @@
-use Rattle.std.proofs.Common.{◌≡◌, ◌≤◌, subst}
+use Rattle.std.proofs.Common.{◌≡◌, ◌≤◌, arith, refl, subst}
 use Rattle.std.specs.Prelude.{IsSomeAnd}
 use Rattle.rlp_values.specs.Values.FieldReading.{FieldsFail, GivesFields}
 use Rattle.rlp_values.specs.Values.Parts.{placed}
-use Rattle.rlp_values.proofs.Values.PartReading.{all_given, later_fails, part_fails, part_within}
+use Rattle.rlp_values.proofs.Values.PartReading.{all_given, exactly_right, later_fails, part_fails, part_within}
 use Rattle.rlp.proofs.structs.parts.JoinedDecodeFields.decode_fields.Goals as goal
+
+-- a list can't have as many items as the first fields then need
+pub returns-in-None : goal.returns-in-None
+returns-in-None g c =
+    let P = g.P.DecodeFields.reading in
+    let Q = g.Q.DecodeFields.reading in
+    absurd (omega (arith, c.in-None.ensures, c.ranges.len.fits, part_within P.least Q.least Q.IsMore c.args.len P.least refl c.requires))
+
+pub decode_fields-requires : goal.decode_fields-requires
+decode_fields-requires g c =
+    exactly_right g.P.DecodeFields.reading.least g.P.DecodeFields.reading.IsMore c.in-Some.width c.in-Some.ensures g.met.P.FixedFields.none_more
+
+pub overflow_sub-len : goal.overflow_sub-len
+overflow_sub-len g c =
+    part_within g.P.DecodeFields.reading.least g.Q.DecodeFields.reading.least g.Q.DecodeFields.reading.IsMore c.args.len c.in-Some.width c.in-Some.ensures
+    c.requires
 
 pub returns-in-Ok-decode_fields-clause-some : goal.returns-in-Ok-decode_fields-clause-some
 returns-in-Ok-decode_fields-clause-some g c =
