@@ -87,10 +87,10 @@ pub fn framing_of(bytes: &[u8]) -> Result<PayloadInfo, DecoderError>
     ensures has { IfOk result (λ p. HasHeader bytes.now p.header_len p.value_len) }
 {
     let info = PayloadInfo::from(bytes)?;
-    match info.checked_total() {
-        Some(total) if total <= bytes.len() => Ok(info),
-        _ => Err(DecoderError::RlpIsTooShort),
+    if info.value_len > bytes.len() - info.header_len {
+        return Err(DecoderError::RlpIsTooShort);
     }
+    Ok(info)
 }
 
 /// Returns the header if the bytes are exactly one framed item. Else fails with their strict fault.
