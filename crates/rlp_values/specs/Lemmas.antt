@@ -10,6 +10,8 @@ pub mod Reading
 pub use Rattle.rlp_format.specs.Lemmas.Encodings
 -- frames, and the items that bytes begin with
 pub mod Frames
+-- the value that follows a header
+pub mod HeaderValues
 -- a view of the encoding of a list
 pub mod Views
 -- the one string that bytes begin with

@@ -81,16 +81,31 @@ pub fn first_framed<'a>(bytes: &'a [u8]) -> Result<(Framed<'a>, &'a [u8]), Decod
 /// Returns the header of framed bytes, or the fault of bytes that aren't framed.
 #[inline(always)]
 #[tactic(auto, unfolding(crate::specs::Format::Framing::framing))]
-fn framing_of(bytes: &[u8]) -> Result<PayloadInfo, DecoderError>
+pub fn framing_of(bytes: &[u8]) -> Result<PayloadInfo, DecoderError>
     ensures exact { result ≡ framing bytes.now }
     ensures within { IfOk result (λ p. (0 < total_len p) × (total_len p ≤ length bytes.now)) }
     ensures has { IfOk result (λ p. HasHeader bytes.now p.header_len p.value_len) }
 {
     let info = PayloadInfo::from(bytes)?;
-    match info.checked_total() {
-        Some(total) if total <= bytes.len() => Ok(info),
-        _ => Err(DecoderError::RlpIsTooShort),
+    if info.value_len > bytes.len() - info.header_len {
+        return Err(DecoderError::RlpIsTooShort);
     }
+    Ok(info)
+}
+
+/// Returns the header if the bytes are exactly one framed item. Else fails with their strict fault.
+#[tactic(auto, using(crate::proofs::Views::Fronts::strict_fronts))]
+pub fn whole_framing(bytes: &[u8]) -> Result<PayloadInfo, DecoderError>
+    ensures fault { MatchResult result (λ _. strict_fault bytes.now ≡ None)
+        (λ e. strict_fault bytes.now ≡ Some e) }
+    ensures header { IfOk result (λ p. framing bytes.now ≡ Ok p) }
+    ensures whole { IfOk result (λ p. total_len p ≡ length bytes.now) }
+{
+    let header = framing_of(bytes)?;
+    if header.total() < bytes.len() {
+        return Err(DecoderError::RlpIsTooBig);
+    }
+    Ok(header)
 }
 
 /// Returns the item if the bytes are exactly one framed item. Else fails with their strict fault.

@@ -6,7 +6,7 @@ ghost use Rattle.std.specs.Prelude.{◌≡◌, ◌≤◌, ◌<◌, ◌^◌, ◌�
 ghost use Rattle.rlp_values.specs.declared.error.DecoderError.TheVariants.{OutOfMemory};
 ghost use Rattle.rlp_values.specs.Format.Flat.{IsFlat};
 ghost use Rattle.rlp_values.specs.Format.Split.{begins_as_list, items};
-ghost use Rattle.rlp_values.specs.Format.Framing.{framing};
+ghost use Rattle.rlp_values.specs.Format.Framing.{framing, total_len};
 ghost use Rattle.rlp_values.specs.Format.Strict.{IsCanonicalWithin, strict_list_fault};
 ghost use Rattle.rlp_values.specs.Format.TreeFaults.{IsFlatFault};
 ghost use Rattle.rlp_values.specs.Views.Depth.{depth};
@@ -21,7 +21,7 @@ use rlp_values::Prototype;
 use rlp_values::depth::is_nested_within;
 use rlp_values::error::DecoderError;
 use rlp_values::flat::{FlatItem, TreeFault};
-use rlp_values::framed::{Framed, first_framed, whole_framed};
+use rlp_values::framed::{first_framed, framing_of, whole_framed, whole_framing};
 use rlp_values::header::PayloadInfo;
 use rlp_values::items::{ItemReader, try_count_items};
 use rlp_values::walking::{flatten, is_canonical};
@@ -108,9 +108,13 @@ impl<'a> Rlp<'a> {
     /// Fails as [`PayloadInfo::from`] does, or with `RlpIsTooShort` if the value is cut. A strict
     /// view fails with `RlpIsTooBig` if bytes follow the item.
     pub fn payload_info(&self) -> Result<PayloadInfo, DecoderError>
-        ensures { result ≡ view_header self.now }
+        ensures exact { result ≡ view_header self.now }
+        ensures within { IfOk result (λ p. total_len p ≤ length self.now.bytes) }
     {
-        Ok(self.framed()?.header)
+        if self.strict {
+            return whole_framing(self.bytes);
+        }
+        framing_of(self.bytes)
     }
 
     /// The bytes of the first item after its header: the bytes of a string, or the payload of a
@@ -121,7 +125,10 @@ impl<'a> Rlp<'a> {
         ensures { MatchResult result (λ d. view_value self.now ≡ Ok d.now)
             (λ e. view_value self.now ≡ Err e) }
     {
-        Ok(self.framed()?.content)
+        match self.payload_info() {
+            Ok(header) => Ok(&self.bytes[header.header_len..header.total()]),
+            Err(fault) => Err(fault),
+        }
     }
 
     /// The number of items in the list that the view begins with.
@@ -149,8 +156,8 @@ impl<'a> Rlp<'a> {
         if !self.is_data() {
             return 0;
         }
-        match first_framed(self.bytes) {
-            Ok((framed, _)) => framed.content.len(),
+        match framing_of(self.bytes) {
+            Ok(header) => header.value_len,
             Err(_) => 0,
         }
     }
@@ -436,22 +443,6 @@ impl<'a> Rlp<'a> {
         ensures { result ≡ record { bytes = bytes.now; is_strict = strict } }
     {
         Rlp { bytes, strict }
-    }
-
-    /// The item that the view begins with, or the fault of [`Rlp::payload_info`].
-    fn framed(&self) -> Result<Framed<'a>, DecoderError>
-        ensures header { MatchResult result (λ f. view_header self.now ≡ Ok f.header)
-            (λ e. view_header self.now ≡ Err e) }
-        ensures value { MatchResult result (λ f. view_value self.now ≡ Ok f.content.now)
-            (λ e. view_value self.now ≡ Err e) }
-    {
-        if self.strict {
-            return whole_framed(self.bytes);
-        }
-        match first_framed(self.bytes) {
-            Ok((framed, _)) => Ok(framed),
-            Err(fault) => Err(fault),
-        }
     }
 
     /// The number of items of a list that is all of the bytes, by one walk over it.

@@ -77,6 +77,15 @@ pub faulty_front : (b : List ℕ) (e : DecoderError) → framing b ≡ Err e →
 unfolding strict_fault
 faulty_front b e is = ap (strict_fault_in b) is
 
+-- the same by the header alone
+pub whole_header : (b : List ℕ) (p : PayloadInfo) → framing b ≡ Ok p → length b ≤ total_len p → strict_fault b ≡ None
+unfolding strict_fault
+whole_header b p is ends = ap (strict_fault_in b) is ∙ cond-false (ltb (total_len p) (length b)) _ _ (le-ltb (total_len p) (length b) ends)
+
+pub long_header : (b : List ℕ) (p : PayloadInfo) → framing b ≡ Ok p → total_len p < length b → strict_fault b ≡ Some RlpIsTooBig
+unfolding strict_fault
+long_header b p is more = ap (strict_fault_in b) is ∙ cond-true (ltb (total_len p) (length b)) _ _ (lt-ltb (total_len p) (length b) more)
+
 -- whether other bytes follow the item
 pub followed_front : (b item others : List ℕ) (p : PayloadInfo) → framing b ≡ Ok p → total_len p ≡ length item → b ≡ item ++ others
     → not (length others == 0) ≡ is_followed b
@@ -92,4 +101,4 @@ pub followed_fault : (b : List ℕ) (e : DecoderError) → framing b ≡ Err e �
 unfolding is_followed
 followed_fault b e is = sym (ap (is_longer b) is)
 
-pub ruleset strict_fronts = (whole_front, long_front, faulty_front, followed_front, followed_fault)
+pub ruleset strict_fronts = (whole_front, long_front, whole_header, long_header, faulty_front, followed_front, followed_fault)

@@ -32,6 +32,11 @@ pub header_some : {b : List ℕ} {h n : ℕ} → HasHeader b h n → 0 < h + n
 header_some (lone byte rest low) = omega arith
 header_some (written base n rest b small) = let (first, more, is, high) = first_of_header base n b small in omega (arith, ap length is)
 
+-- it lies within them
+pub header_within : {b : List ℕ} {h n : ℕ} → HasHeader b h n → h ≤ length b
+header_within (lone byte rest low) = omega arith
+header_within (written base n rest b small) = omega (arith, length-append (written_header base n) rest)
+
 -- ---- framing
 
 -- the header of framed bytes
