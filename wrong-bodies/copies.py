@@ -6,12 +6,18 @@ import subprocess
 from pathlib import Path
 
 LEFT_OUT = ("out", "must-fail", "wrong-bodies")
+KIT = Path(shutil.which("rt") or "rt").resolve().parent.parent
+
+
+def rows_of(root):
+    """The crates of the repository, each with all that it depends on."""
+    lines = [line.partition("#")[0] for line in (root / "crates.txt").read_text(encoding="utf-8").splitlines()]
+    return {line.partition(":")[0].split()[0]: line.partition(":")[2].split() for line in lines if ":" in line}
 
 
 def crates_of(root):
     """The crates of the repository, each with those of the repository that it depends on."""
-    lines = [line.partition("#")[0] for line in (root / "crates.txt").read_text(encoding="utf-8").splitlines()]
-    rows = {line.partition(":")[0].split()[0]: line.partition(":")[2].split() for line in lines if ":" in line}
+    rows = rows_of(root)
     return {name: [crate for crate in below if crate in rows] for name, below in rows.items()}
 
 
@@ -36,10 +42,13 @@ def copied(one, other):
 
 
 class Copy:
-    """A copy of the tree. It takes over the work that was kept of a crate when it is first checked."""
+    """A copy of the tree. It takes over the work that was kept of a crate when it is first checked.
 
-    def __init__(self, root, origin, crates):
-        self.root, self.origin, self.crates = Path(root), Path(origin), crates
+    Given `built`, a tree in which `rt ci` has built the libraries, it asks `rattle` itself over those: `rt` would build them anew.
+    """
+
+    def __init__(self, root, origin, crates, built=None):
+        self.root, self.origin, self.crates, self.built = Path(root), Path(origin), crates, built
         self.held = set()
         self.root.mkdir(parents=True)
         for name in ("crates.txt", "HANDLES"):
@@ -68,7 +77,7 @@ class Copy:
 
     def prepare(self, crate):
         """Takes over the libraries that a crate rests on, and anew the work that was kept of it: a check of bodies loses a part of that."""
-        for lower in with_lower(self.crates, [crate])[:-1]:
+        for lower in with_lower(self.crates, [crate])[:-1] if not self.built else []:
             self.fetch(lower, "rlib")
         self.held.discard((crate, "incremental"))
         self.fetch(crate, "incremental")
@@ -80,20 +89,31 @@ class Copy:
             for file, text in (texts or {}).items():
                 kept[file] = (folder / file).read_bytes()
                 (folder / file).write_text(text, encoding="utf-8")
-            return self.rt(crate, "check", "--jobs", str(jobs))
+            if self.built:
+                return self.run(crate, KIT / "bin" / "rattle", "check", *self.words(crate), "--incremental", "out/incremental", "--jobs", str(jobs))
+            return self.run(crate, "rt", "check", "--jobs", str(jobs))
         finally:
             for file, data in kept.items():
                 (folder / file).write_bytes(data)
 
     def build(self, crate):
         """Builds the library of a crate that was checked, if others rest on it."""
-        if any(crate in below for below in self.crates.values()):
-            self.rt(crate, "lib")
+        if not self.built and any(crate in below for below in self.crates.values()):
+            self.run(crate, "rt", "lib")
 
-    def rt(self, crate, *words):
-        """Runs `rt` in the folder of a crate, and returns what it printed."""
+    def words(self, crate):
+        """The words by which `rattle check` reads a crate over the libraries of the tree."""
+        top = "src/main.rt" if (self.root / "crates" / crate / "src" / "main.rt").exists() else "src/lib.rt"
+        library = lambda name: self.built / "crates" / name / "out" / "rlib" if name in self.crates else KIT / "rlibs"
+        named, below = ["std", *rows_of(self.root)[crate]], [*with_lower(self.crates, [crate])[:-1], "std"]
+        words = ["--crate-name", crate, top, "--antt-project", KIT / "rattle" / "logic" / "antt-project.json", "--logic-built", KIT / "logic_built"]
+        words += [word for name in named for word in ("--extern", f"{name}={library(name) / name}.rlib")]
+        return [*words, *[word for name in below for word in ("-L", f"dependency={library(name)}")]]
+
+    def run(self, crate, *words):
+        """Runs a command in the folder of a crate, and returns what it printed."""
         folder = self.root / "crates" / crate
-        ran = subprocess.run(["rt", *words], cwd=folder, stdin=subprocess.DEVNULL, capture_output=True, text=True, errors="replace")
+        ran = subprocess.run(words, cwd=folder, stdin=subprocess.DEVNULL, capture_output=True, text=True, errors="replace")
         return ran.stdout + ran.stderr
 
     def text(self, crate, file):

@@ -116,7 +116,7 @@ class Tries:
 
     def __init__(self, base, bodies, folder, jobs, say, keep=None):
         self.base, self.bodies, self.folder, self.jobs, self.say, self.keep = base, bodies, folder, jobs, say, keep
-        self.todo, self.checked, self.queues = with_lower(base.crates, bodies), set(), []
+        self.todo, self.checked, self.queues = self.to_check(), set(), []
         self.lock, self.count, self.waiting, self.fault = threading.Condition(), 0, 0, None
 
     def run(self):
@@ -129,11 +129,21 @@ class Tries:
             sys.exit(f"wrong-bodies: {self.fault}")
         return {body: result for queue in self.queues for body, result in queue.results.items()}
 
+    def to_check(self):
+        """The crates to check as they stand: those below first, unless their libraries are there, else those with the most bodies."""
+        if self.base.built:
+            return sorted(self.bodies, key=lambda crate: -len(self.bodies[crate]))
+        return with_lower(self.base.crates, self.bodies)
+
+    def is_free(self, crate):
+        """Whether a crate can be checked now."""
+        return bool(self.base.built) or self.checked.issuperset(with_lower(self.base.crates, [crate])[:-1])
+
     def next(self, last):
         """What a worker does next: a crate to check, else the queue that it was at, else the longest one, else nothing more."""
         with self.lock:
             while not self.fault:
-                free = [crate for crate in self.todo if self.checked.issuperset(with_lower(self.base.crates, [crate])[:-1])]
+                free = [crate for crate in self.todo if self.is_free(crate)]
                 if free:
                     self.todo.remove(free[0])
                     return self.check, (free[0], 1 + self.waiting // len(free))
@@ -157,7 +167,7 @@ class Tries:
         return min(MOST, max(FEWEST, -(-left // self.jobs)))
 
     def work(self, number):
-        copy, last = Copy(self.folder / f"copy-{number}", self.base.root, self.base.crates), None
+        copy, last = Copy(self.folder / f"copy-{number}", self.base.root, self.base.crates, self.base.built), None
         while True:
             step, given = self.next(last)
             if not step:
