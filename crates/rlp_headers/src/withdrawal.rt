@@ -7,7 +7,7 @@ use rlp_records::Address;
 use std::alloc::{AllocError, Global};
 
 /// A withdrawal from the beacon chain: the list of its four fields, as in EIP-4895.
-#[derive(Debug, Clone, PartialEq, Eq, Drop)]
+#[derive(Debug, Clone, Copy, PartialEq, Eq)]
 pub struct Withdrawal {
     /// The number of the withdrawal, counted over all blocks from 0.
     pub index: u64,
