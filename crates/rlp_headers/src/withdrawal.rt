@@ -2,7 +2,7 @@
 
 ghost use Rattle.rlp_headers.specs.Withdrawal.{withdrawal, withdrawals};
 
-use rlp::{Decodable, DecoderError, Encodable, Rlp, RlpStream, RoundTrip, StrictRead};
+use rlp::{Decodable, DecoderError, Each, Encodable, Rlp, RlpStream, RoundTrip, StrictRead};
 use rlp_records::Address;
 use std::alloc::{AllocError, Global};
 
@@ -73,10 +73,8 @@ impl Encodable for Withdrawals {
 
     ghost fits = { withdrawals.Fits };
 
-    #[tactic(auto, using(rlp::proofs::Writing::writing))]
     fn rlp_append(&self, s: &mut RlpStream) -> Result<(), AllocError> {
-        s.append_list(self.0.as_slice())?;
-        Ok(())
+        rlp::append_fields!(s, Each(&self.0))
     }
 }
 
