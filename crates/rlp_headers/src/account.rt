@@ -9,7 +9,7 @@ use std::alloc::{AllocError, Global};
 /// An account in the trie of the state: the list of its four fields.
 ///
 /// See section 4.1 of the yellow paper.
-#[derive(Debug, Clone, PartialEq, Eq, Drop)]
+#[derive(Debug, Clone, Copy, PartialEq, Eq)]
 pub struct Account {
     /// The number of transactions that the account has sent, or for a contract the number of
     /// contracts that it has created. EIP-2681 limits it to 64 bits.

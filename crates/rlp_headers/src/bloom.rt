@@ -9,7 +9,7 @@ use std::alloc::{AllocError, Global};
 /// The Bloom filter of logs: 256 bytes.
 ///
 /// See section 4.4.1 of the yellow paper. The library computes no filter.
-#[derive(Debug, Clone, PartialEq, Eq, Drop)]
+#[derive(Debug, Clone, Copy, PartialEq, Eq)]
 pub struct Bloom(pub [u8; 256]);
 
 /// Written as the array of the bytes is.

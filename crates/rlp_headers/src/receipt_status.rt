@@ -27,12 +27,11 @@ impl Encodable for ReceiptStatus {
 
     ghost at_once = { λ _. ⊤ };
 
-    #[tactic(auto, using(rlp::proofs::Writing::writing))]
     fn rlp_append(&self, s: &mut RlpStream) -> Result<(), AllocError> {
         match self {
-            ReceiptStatus::Failure => s.encoder().encode_value(&[]),
-            ReceiptStatus::Success => s.encoder().encode_value(&[1]),
-            ReceiptStatus::StateRoot(root) => s.encoder().encode_value(&root.0),
+            ReceiptStatus::Failure => [0u8; 0].rlp_append(s),
+            ReceiptStatus::Success => [1u8].rlp_append(s),
+            ReceiptStatus::StateRoot(root) => root.rlp_append(s),
         }
     }
 }

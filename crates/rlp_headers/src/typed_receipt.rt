@@ -70,7 +70,6 @@ impl TypedReceipt {
 }
 
 // Reads a receipt from its bytes. That its own bytes have no fault follows in `from_bytes`.
-#[tactic(auto, using(rlp::proofs::Envelopes::envelope_bytes))]
 fn read_alone(alloc: Global, bytes: &[u8]) -> Result<TypedReceipt, DecoderError>
     ensures value { IfOk result (λ r. typed_receipt.Fits r
         × (bytes.now ≡ bytes_alone (typed_receipt.item r))) }
@@ -80,10 +79,15 @@ fn read_alone(alloc: Global, bytes: &[u8]) -> Result<TypedReceipt, DecoderError>
         × MayLackAlone receipt typed_receipts bytes.now)) }
 {
     if Rlp::new(bytes).is_list() {
-        return Ok(TypedReceipt::Legacy(rlp::decode_whole(alloc, bytes)?));
+        return match rlp::decode_whole(alloc, bytes) {
+            Ok(receipt) => Ok(TypedReceipt::Legacy(receipt)),
+            Err(fault) => Err(fault),
+        };
     }
-    let envelope = Envelope::split(bytes)?;
-    decode_payload(alloc, &envelope)
+    match Envelope::split(bytes) {
+        Ok(envelope) => decode_payload(alloc, &envelope),
+        Err(fault) => Err(fault),
+    }
 }
 
 // Reads a receipt of one of the types.
@@ -137,14 +141,17 @@ impl Decodable for TypedReceipt {
 
     ghost may_lack_memory = { typed_receipt.may_lack };
 
-    #[tactic(auto, using(rlp::proofs::Envelopes::envelopes))]
     fn decode(alloc: Global, rlp: &Rlp<'_>) -> Result<TypedReceipt, DecoderError> {
         if rlp.is_list() {
-            let receipt = rlp.as_val(alloc)?;
-            return Ok(TypedReceipt::Legacy(receipt));
+            return match rlp.as_val(alloc) {
+                Ok(receipt) => Ok(TypedReceipt::Legacy(receipt)),
+                Err(fault) => Err(fault),
+            };
         }
-        let envelope = Envelope::of(rlp)?;
-        decode_payload(alloc, &envelope)
+        match Envelope::of(rlp) {
+            Ok(envelope) => decode_payload(alloc, &envelope),
+            Err(fault) => Err(fault),
+        }
     }
 }
 

@@ -2,12 +2,12 @@
 
 ghost use Rattle.rlp_headers.specs.Withdrawal.{withdrawal, withdrawals};
 
-use rlp::{Decodable, DecoderError, Encodable, Rlp, RlpStream, RoundTrip, StrictRead};
+use rlp::{Decodable, DecoderError, Each, Encodable, Rlp, RlpStream, RoundTrip, StrictRead};
 use rlp_records::Address;
 use std::alloc::{AllocError, Global};
 
 /// A withdrawal from the beacon chain: the list of its four fields, as in EIP-4895.
-#[derive(Debug, Clone, PartialEq, Eq, Drop)]
+#[derive(Debug, Clone, Copy, PartialEq, Eq)]
 pub struct Withdrawal {
     /// The number of the withdrawal, counted over all blocks from 0.
     pub index: u64,
@@ -73,10 +73,8 @@ impl Encodable for Withdrawals {
 
     ghost fits = { withdrawals.Fits };
 
-    #[tactic(auto, using(rlp::proofs::Writing::writing))]
     fn rlp_append(&self, s: &mut RlpStream) -> Result<(), AllocError> {
-        s.append_list(self.0.as_slice())?;
-        Ok(())
+        rlp::append_fields!(s, Each(&self.0))
     }
 }
 

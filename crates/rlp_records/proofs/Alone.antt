@@ -1,7 +1,7 @@
 -- Values of several types by themselves, as in EIP-2718: what a body that reads one has to know, and that the bytes of a value have no fault.
 use Rattle.std.specs.Prelude.{⊤}
 use Rattle.std.proofs.Common.{◌≡◌, ℕ, ◌^◌, ◌<◌, ◌≤◌, ◌⊎◌, inl, inr, ⊎_elim, true, false, List, [], ◌∷◌, length, refl, sym, ap, ◌∙◌, subst, arith, append-nil}
-use Rattle.std.proofs.Common.{Result, Ok, Err, IfErr}
+use Rattle.std.proofs.Common.{Result, Ok, Err, IfOk, IfErr}
 use Rattle.std.proofs.lemmas.Bool.{cases_lt, lt-leb}
 use Rattle.rlp.specs.DecoderError.{DecoderError}
 use Rattle.rlp.specs.DecoderError.TheVariants.{OutOfMemory}
@@ -20,7 +20,7 @@ use Rattle.rlp.specs.Lemmas.Told.{case_told}
 use Rattle.rlp.specs.Values.Same.{SameSum}
 use Rattle.rlp.specs.Values.Sums.{ByFirstByte, IsEnvelopeFault, IsOtherTag, MayLackInEnvelope, OnSum, faulty_payload, other_tag, sum_item}
 use Rattle.rlp.specs.Values.ValueReading.{FaultsAs, IsCustom, no_value}
-use Rattle.rlp_records.specs.Alone.{FaultsAlone, PayloadFails, bytes_alone}
+use Rattle.rlp_records.specs.Alone.{FaultsAlone, MayLackAlone, PayloadFails, bytes_alone}
 
 -- a list by itself is its encoding
 list_alone : (x : Item) → is_list x ≡ true → bytes_alone x ≡ encoding x
@@ -57,6 +57,27 @@ module _ {B : Type 0} (unknown : List ℕ) (cases : Cases B) (tag : ℕ) (payloa
   -- the number is none of the types'
   pub unknown_type_fails : IsOtherTag cases.tags tag → IsCustom unknown e → PayloadFails unknown cases tag payload e
   unknown_type_fails other custom = inl (other_tag tag payload e refl other custom)
+
+-- a payload that is read makes a string with its number
+pub payload_given : {F : Type 0} (tag n : ℕ) (payload code : List ℕ) → tag ≡ n → F × (payload ≡ code) → F × (string (n ∷ code) ≡ string (tag ∷ payload))
+payload_given tag n payload code same h = (h.0, sym (ap (λ k. string (k ∷ payload)) same ∙ ap (λ d. string (n ∷ d)) h.1))
+
+-- bytes that hold a number and a payload give what the payload gives
+pub bytes_given : {T : Type 0} (Fits : T → Type 0) (item : T → Item) (r : Result T DecoderError) (d : List ℕ) (tag : ℕ) (payload : List ℕ)
+    → d ≡ tag ∷ payload → IfOk r (λ t. Fits t × (item t ≡ string (tag ∷ payload))) → IfOk r (λ t. Fits t × (d ≡ bytes_alone (item t)))
+bytes_given Fits item (Ok t) d tag payload is h = (h.0, is ∙ sym (ap bytes_alone h.1))
+bytes_given Fits item (Err e) d tag payload is h = tt
+
+-- they fail as the payload does
+pub bytes_fail : {A B T : Type 0} (bare : Codec A) (unknown : List ℕ) (cases : Cases B) (r : Result T DecoderError) (d : List ℕ) (tag : ℕ) (payload : List ℕ)
+    → begins_as_list d ≡ false → d ≡ tag ∷ payload → IfErr r (λ e. PayloadFails unknown cases tag payload e)
+    → IfErr r (λ e. FaultsAlone bare unknown cases d e ⊎ ((e ≡ OutOfMemory) × MayLackAlone bare cases d))
+bytes_fail bare unknown cases (Ok t) d tag payload kind is h = tt
+bytes_fail bare unknown cases (Err e) d tag payload kind is h =
+    ⊎_elim
+    (λ fault. inl (inr (kind, subst (λ d. IsEnvelopeFault cases.tags unknown (λ k. (cases.case k).faults) d e) (sym is) fault)))
+    (λ memory. inr (memory.0, inr (kind, record { tag = tag; payload = payload; is = is; may = memory.1 })))
+    h
 
 -- ---- values of the sum
 

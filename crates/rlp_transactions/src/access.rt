@@ -2,7 +2,9 @@
 
 ghost use Rattle.rlp_transactions.specs.Access.{access_list_item, access_list};
 
-use rlp::{Decodable, DecoderError, Encodable, ListOf, Rlp, RlpStream, RoundTrip, StrictRead};
+use rlp::{
+    Decodable, DecoderError, Each, Encodable, ListOf, Rlp, RlpStream, RoundTrip, StrictRead,
+};
 use rlp_records::{Address, Hash};
 use std::alloc::{AllocError, Global};
 
@@ -63,10 +65,8 @@ impl Encodable for AccessList {
 
     ghost fits = { access_list.Fits };
 
-    #[tactic(auto, using(rlp::proofs::Writing::writing))]
     fn rlp_append(&self, s: &mut RlpStream) -> Result<(), AllocError> {
-        s.append_list(self.0.as_slice())?;
-        Ok(())
+        rlp::append_fields!(s, Each(&self.0))
     }
 }
 

@@ -18,7 +18,7 @@ pub type SignedAuthorization = Signed<Authorization, u8>;
 
 /// The leave of an account to run the code of an address as its own, without its signature: the list
 /// of its three fields is signed after the byte 5, as in EIP-7702.
-#[derive(Debug, Clone, PartialEq, Eq, Drop)]
+#[derive(Debug, Clone, Copy, PartialEq, Eq)]
 pub struct Authorization {
     /// The number of the chain, or 0 for any chain.
     pub chain_id: Uint<32>,

@@ -161,9 +161,8 @@ impl Encodable for WrapperVersion {
 
     ghost at_once = { λ _. ⊤ };
 
-    #[tactic(auto, using(rlp::proofs::Writing::writing))]
     fn rlp_append(&self, s: &mut RlpStream) -> Result<(), AllocError> {
-        s.encoder().encode_value(&[1])
+        [1u8].rlp_append(s)
     }
 }
 

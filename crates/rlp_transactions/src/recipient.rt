@@ -26,11 +26,10 @@ impl Encodable for Recipient {
 
     ghost at_once = { λ _. ⊤ };
 
-    #[tactic(auto, using(rlp::proofs::Writing::writing))]
     fn rlp_append(&self, s: &mut RlpStream) -> Result<(), AllocError> {
         match self {
-            Recipient::Creation => s.encoder().encode_value(&[]),
-            Recipient::Account(address) => s.encoder().encode_value(&address.0),
+            Recipient::Creation => [0u8; 0].rlp_append(s),
+            Recipient::Account(address) => address.rlp_append(s),
         }
     }
 }

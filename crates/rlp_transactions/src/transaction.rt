@@ -79,7 +79,6 @@ impl Transaction {
 }
 
 // Reads a transaction from its bytes. That its own bytes have no fault follows in `from_bytes`.
-#[tactic(auto, using(rlp::proofs::Envelopes::envelope_bytes))]
 fn read_alone(alloc: Global, bytes: &[u8]) -> Result<Transaction, DecoderError>
     ensures value { IfOk result (λ t. transaction.Fits t
         × (bytes.now ≡ bytes_alone (transaction.item t))) }
@@ -89,10 +88,15 @@ fn read_alone(alloc: Global, bytes: &[u8]) -> Result<Transaction, DecoderError>
         × MayLackAlone signed_legacy_transaction typed_transactions bytes.now)) }
 {
     if Rlp::new(bytes).is_list() {
-        return Ok(Transaction::Legacy(rlp::decode_whole(alloc, bytes)?));
+        return match rlp::decode_whole(alloc, bytes) {
+            Ok(legacy) => Ok(Transaction::Legacy(legacy)),
+            Err(fault) => Err(fault),
+        };
     }
-    let envelope = Envelope::split(bytes)?;
-    decode_payload(alloc, &envelope)
+    match Envelope::split(bytes) {
+        Ok(envelope) => decode_payload(alloc, &envelope),
+        Err(fault) => Err(fault),
+    }
 }
 
 // Reads a transaction of one of the types.
@@ -136,14 +140,17 @@ impl Decodable for Transaction {
 
     ghost may_lack_memory = { transaction.may_lack };
 
-    #[tactic(auto, using(rlp::proofs::Envelopes::envelopes))]
     fn decode(alloc: Global, rlp: &Rlp<'_>) -> Result<Transaction, DecoderError> {
         if rlp.is_list() {
-            let legacy = rlp.as_val(alloc)?;
-            return Ok(Transaction::Legacy(legacy));
+            return match rlp.as_val(alloc) {
+                Ok(legacy) => Ok(Transaction::Legacy(legacy)),
+                Err(fault) => Err(fault),
+            };
         }
-        let envelope = Envelope::of(rlp)?;
-        decode_payload(alloc, &envelope)
+        match Envelope::of(rlp) {
+            Ok(envelope) => decode_payload(alloc, &envelope),
+            Err(fault) => Err(fault),
+        }
     }
 }
 

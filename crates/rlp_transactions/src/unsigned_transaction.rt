@@ -102,7 +102,6 @@ impl UnsignedTransaction {
 }
 
 // Reads a transaction from its bytes. That its own bytes have no fault follows in `from_bytes`.
-#[tactic(auto, using(rlp::proofs::Envelopes::envelope_bytes))]
 fn read_alone(alloc: Global, bytes: &[u8]) -> Result<UnsignedTransaction, DecoderError>
     ensures value { IfOk result (λ t. unsigned_transaction.Fits t
         × (bytes.now ≡ bytes_alone (unsigned_transaction.item t))) }
@@ -112,10 +111,15 @@ fn read_alone(alloc: Global, bytes: &[u8]) -> Result<UnsignedTransaction, Decode
         × MayLackAlone unsigned_legacy_transaction unsigned_types bytes.now)) }
 {
     if Rlp::new(bytes).is_list() {
-        return Ok(UnsignedTransaction::Legacy(rlp::decode_whole(alloc, bytes)?));
+        return match rlp::decode_whole(alloc, bytes) {
+            Ok(legacy) => Ok(UnsignedTransaction::Legacy(legacy)),
+            Err(fault) => Err(fault),
+        };
     }
-    let envelope = Envelope::split(bytes)?;
-    decode_payload(alloc, &envelope)
+    match Envelope::split(bytes) {
+        Ok(envelope) => decode_payload(alloc, &envelope),
+        Err(fault) => Err(fault),
+    }
 }
 
 // Reads a transaction of one of the types.

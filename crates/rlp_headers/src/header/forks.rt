@@ -13,7 +13,7 @@ use rlp_records::Hash;
 use std::alloc::{AllocError, Global};
 
 /// What a header has since London: one field, and those of later forks.
-#[derive(Debug, Clone, PartialEq, Eq, Drop)]
+#[derive(Debug, Clone, Copy, PartialEq, Eq)]
 pub struct London {
     /// The base fee of a unit of gas, in Wei. EIP-1559.
     pub base_fee_per_gas: Uint<32>,
@@ -68,7 +68,7 @@ impl DecodeFields for London {
 }
 
 /// What a header has since Shanghai: one field, and those of later forks.
-#[derive(Debug, Clone, PartialEq, Eq, Drop)]
+#[derive(Debug, Clone, Copy, PartialEq, Eq)]
 pub struct Shanghai {
     /// The root of the trie of the block's withdrawals. EIP-4895.
     pub withdrawals_root: Hash,
@@ -115,7 +115,7 @@ impl DecodeFields for Shanghai {
 }
 
 /// What a header has since Cancun: three fields, and that of Prague.
-#[derive(Debug, Clone, PartialEq, Eq, Drop)]
+#[derive(Debug, Clone, Copy, PartialEq, Eq)]
 pub struct Cancun {
     /// The blob gas that the block's transactions used. EIP-4844.
     pub blob_gas_used: u64,

@@ -1,5 +1,5 @@
 use Rattle.std.proofs.Common.{refl, rules}
-use Rattle.rlp_records.proofs.Alone.{payload_of_fails, unknown_type_fails}
+use Rattle.rlp_records.proofs.Alone.{payload_given, payload_of_fails, unknown_type_fails}
 use Rattle.rlp_records.specs.Alone.{unknown_type}
 use Rattle.rlp_headers.specs.TypedReceipt.{typed_receipts}
 use Rattle.rlp_headers.proofs.typed_receipt.decode_payload.Goals as goal
@@ -18,3 +18,15 @@ returns-in-Err-decode-3-clause-fault c = payload_of_fails unknown_type typed_rec
 
 pub returns-in_default-clause-fault : goal.returns-in_default-clause-fault
 returns-in_default-clause-fault c = unknown_type_fails unknown_type typed_receipts _ _ _ (search rules) refl
+
+pub returns-in-Ok-clause-value : goal.returns-in-Ok-clause-value
+returns-in-Ok-clause-value c = payload_given _ 1 _ _ c.in-1.is c.in-Ok.ensures.value
+
+pub returns-in-Ok-decode-clause-value : goal.returns-in-Ok-decode-clause-value
+returns-in-Ok-decode-clause-value c = payload_given _ 2 _ _ c.in-2.is c.in-Ok-decode.ensures.value
+
+pub returns-in-Ok-decode-2-clause-value : goal.returns-in-Ok-decode-2-clause-value
+returns-in-Ok-decode-2-clause-value c = payload_given _ 3 _ _ c.in-3.is c.in-Ok-decode-2.ensures.value
+
+pub returns-in-Ok-decode-3-clause-value : goal.returns-in-Ok-decode-3-clause-value
+returns-in-Ok-decode-3-clause-value c = payload_given _ 4 _ _ c.in-4.is c.in-Ok-decode-3.ensures.value
