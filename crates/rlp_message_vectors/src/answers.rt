@@ -1,40 +1,55 @@
 //! The calls that the rows of tables name.
 
+use crate::fields::fields;
 use crate::reading::{Item, ways};
-use crate::{fields, ids, messages, requests};
+use crate::{ids, messages, requests};
 use rlp_messages::{
     BlockBodies, BlockHeaders, Disconnect, HashOrNumber, Hello, NewBlock, Ping, Pong,
     PooledTransactions, Receipts, Receipts69, Transactions, WithRequestId,
 };
+use rlp_rows::Line;
 use std::alloc::Global;
-use std::test::Fail;
+use std::fmt;
+use std::fmt::Write;
 
-/// Returns what a call answers about the bytes. The name of a type stands for reading it both ways.
-pub(crate) fn answer(alloc: Global, call: &str, bytes: &[u8]) -> Result<String, Fail> {
+/// Tells what a call answers about the bytes. The name of a type stands for reading it both ways.
+pub(crate) fn tell(alloc: Global, call: &str, bytes: &[u8], out: &mut Line) -> fmt::Result {
     match call {
-        "BlockBodies" => ways::<Item<WithRequestId<BlockBodies>>>(alloc, bytes),
-        "BlockHeaders" => ways::<Item<WithRequestId<BlockHeaders>>>(alloc, bytes),
-        "Disconnect" => ways::<Item<Disconnect>>(alloc, bytes),
-        "HashOrNumber" => ways::<Item<HashOrNumber>>(alloc, bytes),
-        "Hello" => ways::<Item<Hello>>(alloc, bytes),
-        "NewBlock" => ways::<Item<NewBlock>>(alloc, bytes),
-        "Ping" => ways::<Item<Ping>>(alloc, bytes),
-        "Pong" => ways::<Item<Pong>>(alloc, bytes),
-        "PooledTransactions" => ways::<Item<WithRequestId<PooledTransactions>>>(alloc, bytes),
-        "Receipts" => ways::<Item<WithRequestId<Receipts>>>(alloc, bytes),
-        "Receipts69" => ways::<Item<WithRequestId<Receipts69>>>(alloc, bytes),
-        "Transactions" => ways::<Item<Transactions>>(alloc, bytes),
-        _ => of_fields(alloc, call, bytes),
+        "BlockBodies" => ways::<Item<WithRequestId<BlockBodies>>>(alloc, bytes, out),
+        "BlockHeaders" => ways::<Item<WithRequestId<BlockHeaders>>>(alloc, bytes, out),
+        "Disconnect" => ways::<Item<Disconnect>>(alloc, bytes, out),
+        "HashOrNumber" => ways::<Item<HashOrNumber>>(alloc, bytes, out),
+        "Hello" => ways::<Item<Hello>>(alloc, bytes, out),
+        "NewBlock" => ways::<Item<NewBlock>>(alloc, bytes, out),
+        "Ping" => ways::<Item<Ping>>(alloc, bytes, out),
+        "Pong" => ways::<Item<Pong>>(alloc, bytes, out),
+        "PooledTransactions" => ways::<Item<WithRequestId<PooledTransactions>>>(alloc, bytes, out),
+        "Receipts" => ways::<Item<WithRequestId<Receipts>>>(alloc, bytes, out),
+        "Receipts69" => ways::<Item<WithRequestId<Receipts69>>>(alloc, bytes, out),
+        "Transactions" => ways::<Item<Transactions>>(alloc, bytes, out),
+        _ => tell_fields(alloc, call, bytes, out),
     }
 }
 
-/// Returns what a call answers about fields, or what a call of a single table does.
-fn of_fields(alloc: Global, call: &str, bytes: &[u8]) -> Result<String, Fail> {
-    match call.split_once(": ") {
-        None => fields::answer(alloc, call, bytes),
-        Some(("id", name)) => ids::answer(alloc, name, bytes),
-        Some(("message", name)) => messages::answer(alloc, name, bytes),
-        Some(("request", name)) => requests::answer(alloc, name, bytes),
-        _ => Ok(String::from_str(alloc, "no such call")?),
+/// Tells what a call about fields answers, or one that a single table names.
+fn tell_fields(alloc: Global, call: &str, bytes: &[u8], out: &mut Line) -> fmt::Result {
+    match call {
+        "fields of BlockBodies" => fields::<WithRequestId<BlockBodies>>(alloc, bytes, out),
+        "fields of BlockHeaders" => fields::<WithRequestId<BlockHeaders>>(alloc, bytes, out),
+        "fields of Disconnect" => fields::<Disconnect>(alloc, bytes, out),
+        "fields of Hello" => fields::<Hello>(alloc, bytes, out),
+        "fields of NewBlock" => fields::<NewBlock>(alloc, bytes, out),
+        "fields of PooledTransactions" => {
+            fields::<WithRequestId<PooledTransactions>>(alloc, bytes, out)
+        }
+        "fields of Receipts" => fields::<WithRequestId<Receipts>>(alloc, bytes, out),
+        "fields of Receipts69" => fields::<WithRequestId<Receipts69>>(alloc, bytes, out),
+        "fields of Transactions" => fields::<Transactions>(alloc, bytes, out),
+        _ => match call.split_once(": ") {
+            Some(("id", name)) => ids::tell(alloc, name, bytes, out),
+            Some(("message", name)) => messages::tell(alloc, name, bytes, out),
+            Some(("request", name)) => requests::tell(alloc, name, bytes, out),
+            _ => write!(out, "no such call"),
+        },
     }
 }

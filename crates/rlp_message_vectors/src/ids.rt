@@ -1,10 +1,14 @@
 //! Messages with their ids. The ids are those of RLPx and of `eth`, by hand. The bodies of requests
 //! and their answers are the examples of EIP-2481, and other bodies are those of other tables.
 
-use crate::reading::{Reading, digits, fault, ways};
+use crate::reading::{Reading, fault, ways};
+use bytes::BytesMut;
+use rlp::DecoderError;
 use rlp_messages::{Eth68Message, Eth69Message, P2pMessage};
-use std::alloc::Global;
-use std::test::Fail;
+use rlp_rows::Line;
+use std::alloc::{AllocError, Global};
+use std::fmt;
+use std::fmt::Write;
 
 /// Rows of messages after an offset: `p2p` after 0, and after 253, where the ids have a header or two
 /// bytes; `eth` after 16.
@@ -88,10 +92,10 @@ pub(crate) const ROWS: &str = "
 struct P2p<const FIRST: u8>;
 
 impl<const FIRST: u8> Reading for P2p<FIRST> {
-    fn again(alloc: Global, bytes: &[u8]) -> Result<String, Fail> {
+    fn again(alloc: Global, bytes: &[u8]) -> Result<BytesMut, DecoderError> {
         match P2pMessage::from_message(alloc, FIRST, bytes) {
-            Ok(message) => digits(alloc, message.to_message(alloc, FIRST)),
-            Err(found) => fault(alloc, &found),
+            Ok(message) => written(message.to_message(alloc, FIRST)),
+            Err(found) => Err(found),
         }
     }
 }
@@ -100,10 +104,10 @@ impl<const FIRST: u8> Reading for P2p<FIRST> {
 struct Eth68;
 
 impl Reading for Eth68 {
-    fn again(alloc: Global, bytes: &[u8]) -> Result<String, Fail> {
+    fn again(alloc: Global, bytes: &[u8]) -> Result<BytesMut, DecoderError> {
         match Eth68Message::from_message(alloc, 0x10, bytes) {
-            Ok(message) => digits(alloc, message.to_message(alloc, 0x10)),
-            Err(found) => fault(alloc, &found),
+            Ok(message) => written(message.to_message(alloc, 0x10)),
+            Err(found) => Err(found),
         }
     }
 }
@@ -112,42 +116,47 @@ impl Reading for Eth68 {
 struct Eth69;
 
 impl Reading for Eth69 {
-    fn again(alloc: Global, bytes: &[u8]) -> Result<String, Fail> {
+    fn again(alloc: Global, bytes: &[u8]) -> Result<BytesMut, DecoderError> {
         match Eth69Message::from_message(alloc, 0x10, bytes) {
-            Ok(message) => digits(alloc, message.to_message(alloc, 0x10)),
-            Err(found) => fault(alloc, &found),
+            Ok(message) => written(message.to_message(alloc, 0x10)),
+            Err(found) => Err(found),
         }
     }
 }
 
-/// Returns a number as text.
-fn spelled(alloc: Global, number: u8) -> Result<String, Fail> {
-    Ok(format!(in alloc; "{number}")?)
+/// Returns what a message is written as.
+fn written(bytes: Result<BytesMut, AllocError>) -> Result<BytesMut, DecoderError> {
+    bytes.or(Err(DecoderError::OutOfMemory))
 }
 
-/// Returns the number of a message of `p2p`, and the message.
-fn text(alloc: Global, bytes: &[u8]) -> Result<String, Fail> {
-    let message = P2pMessage::from_message(alloc, 0, bytes)?;
-    let number = message.number();
-    Ok(format!(in alloc; "{number} {message:?}")?)
+/// Returns the number of a message.
+fn number(alloc: Global, protocol: &str, bytes: &[u8]) -> Result<u8, DecoderError> {
+    match protocol {
+        "number of p2p" => Ok(P2pMessage::from_message(alloc, 0, bytes)?.number()),
+        "number of eth/68" => Ok(Eth68Message::from_message(alloc, 0x10, bytes)?.number()),
+        _ => Ok(Eth69Message::from_message(alloc, 0x10, bytes)?.number()),
+    }
 }
 
-/// Returns what a call about a message with its id answers.
-pub(crate) fn answer(alloc: Global, name: &str, bytes: &[u8]) -> Result<String, Fail> {
+/// Tells the number of a message of `p2p`, and the message.
+fn tell_text(alloc: Global, bytes: &[u8], out: &mut Line) -> fmt::Result {
+    match P2pMessage::from_message(alloc, 0, bytes) {
+        Ok(message) => write!(out, "{} {message:?}", message.number()),
+        Err(found) => fault(&found, out),
+    }
+}
+
+/// Tells what a call about a message with its id answers.
+pub(crate) fn tell(alloc: Global, name: &str, bytes: &[u8], out: &mut Line) -> fmt::Result {
     match name {
-        "p2p" => ways::<P2p<0>>(alloc, bytes),
-        "p2p after 253" => ways::<P2p<253>>(alloc, bytes),
-        "eth/68" => ways::<Eth68>(alloc, bytes),
-        "eth/69" => ways::<Eth69>(alloc, bytes),
-        "number of p2p" => spelled(alloc, P2pMessage::from_message(alloc, 0, bytes)?.number()),
-        "number of eth/68" => {
-            let message = Eth68Message::from_message(alloc, 0x10, bytes)?;
-            spelled(alloc, message.number())
-        }
-        "number of eth/69" => {
-            let message = Eth69Message::from_message(alloc, 0x10, bytes)?;
-            spelled(alloc, message.number())
-        }
-        _ => text(alloc, bytes),
+        "p2p" => ways::<P2p<0>>(alloc, bytes, out),
+        "p2p after 253" => ways::<P2p<253>>(alloc, bytes, out),
+        "eth/68" => ways::<Eth68>(alloc, bytes, out),
+        "eth/69" => ways::<Eth69>(alloc, bytes, out),
+        "text of p2p" => tell_text(alloc, bytes, out),
+        _ => match number(alloc, name, bytes) {
+            Ok(number) => write!(out, "{number}"),
+            Err(found) => fault(&found, out),
+        },
     }
 }

@@ -1,8 +1,7 @@
 //! Messages between clients. Unless a comment names an EIP, the expected bytes were written by an
 //! independent program from the values of the fields.
 
-use crate::reading::written;
-use bytes::BytesMut;
+use crate::reading::{made, made_of};
 use rlp::Uint;
 use rlp_ethereum::Hash;
 use rlp_messages::{
@@ -10,8 +9,9 @@ use rlp_messages::{
     NewBlockHash, NewBlockHashes, NewPooledTransactionHashes, NodeId, Ping, Pong, Status68,
     Status69,
 };
+use rlp_rows::Line;
 use std::alloc::{AllocError, Global};
-use std::test::Fail;
+use std::fmt;
 
 /// Rows of messages.
 pub(crate) const ROWS: &str = "
@@ -115,8 +115,8 @@ pub(crate) const ROWS: &str = "
     fields of Transactions | c40582067f | type 5 0 0, type 6 0 0,
 ";
 
-/// Returns the bytes of the greeting.
-fn hello(alloc: Global) -> Result<BytesMut, AllocError> {
+/// Returns the greeting.
+fn hello(alloc: Global) -> Result<Hello, AllocError> {
     let eth = Capability {
         name: Vec::from_slice(alloc, b"eth")?,
         version: 68,
@@ -125,31 +125,28 @@ fn hello(alloc: Global) -> Result<BytesMut, AllocError> {
         name: Vec::from_slice(alloc, b"snap")?,
         version: 1,
     };
-    let hello = Hello {
+    Ok(Hello {
         protocol_version: 5,
         client_id: Vec::from_slice(alloc, b"rattle/1.0")?,
         capabilities: Vec::from_array(alloc, [eth, snap])?,
         listen_port: 30303,
         node_id: NodeId([0x77; 64]),
         further: Vec::new(alloc),
-    };
-    rlp::encode(alloc, &hello)
+    })
 }
 
-/// Returns the bytes of the announcement of three transactions.
-fn three_transactions(alloc: Global) -> Result<BytesMut, AllocError> {
-    let announcement = NewPooledTransactionHashes {
+/// Returns the announcement of three transactions.
+fn three_transactions(alloc: Global) -> Result<NewPooledTransactionHashes, AllocError> {
+    Ok(NewPooledTransactionHashes {
         types: Vec::from_slice(alloc, &[0, 2, 3])?,
         sizes: Vec::from_slice(alloc, &[110, 256, 131_072])?,
         hashes: Vec::from_array(alloc, [Hash([1; 32]), Hash([2; 32]), Hash([3; 32])])?,
-    };
-    rlp::encode(alloc, &announcement)
+    })
 }
 
-/// Returns the bytes of the announcement of two blocks.
-fn two_blocks(alloc: Global) -> Result<BytesMut, AllocError> {
-    let blocks = NewBlockHashes(Vec::from_array(alloc, NEW_BLOCKS)?);
-    rlp::encode(alloc, &blocks)
+/// Returns the announcement of two blocks.
+fn two_blocks(alloc: Global) -> Result<NewBlockHashes, AllocError> {
+    Ok(NewBlockHashes(Vec::from_array(alloc, NEW_BLOCKS)?))
 }
 
 /// The hash of block 0 of Ethereum's main network.
@@ -209,46 +206,48 @@ const NEW_BLOCKS: [NewBlockHash; 2] = [
     },
 ];
 
-/// Returns the bytes of an identifier of forks.
-fn fork_id(alloc: Global, fork_hash: [u8; 4], fork_next: u64) -> Result<BytesMut, AllocError> {
-    let fork_hash = ForkHash(fork_hash);
-    rlp::encode(
-        alloc,
-        &ForkId {
-            fork_hash,
-            fork_next,
-        },
-    )
+/// Returns an identifier of forks.
+fn fork_id(fork_hash: [u8; 4], fork_next: u64) -> ForkId {
+    ForkId {
+        fork_hash: ForkHash(fork_hash),
+        fork_next,
+    }
 }
 
-/// Returns what a call about a message answers.
-pub(crate) fn answer(alloc: Global, name: &str, bytes: &[u8]) -> Result<String, Fail> {
+/// Tells what a call about a message answers.
+pub(crate) fn tell(alloc: Global, name: &str, bytes: &[u8], out: &mut Line) -> fmt::Result {
     match name {
-        "greeting" => written::<Hello>(alloc, hello(alloc), bytes),
+        "greeting" => made_of(alloc, hello(alloc), bytes, out),
         "too many peers" => {
             let message = Disconnect::Listed(DisconnectReason::TooManyPeers);
-            written::<Disconnect>(alloc, rlp::encode(alloc, &message), bytes)
+            made(alloc, &message, bytes, out)
         }
         "too many peers, alone" => {
             let message = Disconnect::Bare(DisconnectReason::TooManyPeers);
-            written::<Disconnect>(alloc, rlp::encode(alloc, &message), bytes)
+            made(alloc, &message, bytes, out)
         }
-        "ping" => written::<Ping>(alloc, rlp::encode(alloc, &Ping), bytes),
-        "pong" => written::<Pong>(alloc, rlp::encode(alloc, &Pong), bytes),
-        "no fork" => written::<ForkId>(alloc, fork_id(alloc, [0; 4], 0), bytes),
-        "fork of letters" => {
-            let message = fork_id(alloc, [0xde, 0xad, 0xbe, 0xef], 0xbadd_cafe);
-            written::<ForkId>(alloc, message, bytes)
-        }
-        "greatest fork" => written::<ForkId>(alloc, fork_id(alloc, [0xff; 4], u64::MAX), bytes),
-        "status of eth/68" => { written::<Status68>(alloc, rlp::encode(alloc, &STATUS_68), bytes) }
-        "status of eth/69" => { written::<Status69>(alloc, rlp::encode(alloc, &STATUS_69), bytes) }
-        "range" => written::<BlockRangeUpdate>(alloc, rlp::encode(alloc, &RANGE), bytes),
-        "two blocks" => written::<NewBlockHashes>(alloc, two_blocks(alloc), bytes),
-        "no blocks" => {
-            let none = NewBlockHashes(Vec::new(alloc));
-            written::<NewBlockHashes>(alloc, rlp::encode(alloc, &none), bytes)
-        }
-        _ => written::<NewPooledTransactionHashes>(alloc, three_transactions(alloc), bytes),
+        "ping" => made(alloc, &Ping, bytes, out),
+        "pong" => made(alloc, &Pong, bytes, out),
+        "two blocks" => made_of(alloc, two_blocks(alloc), bytes, out),
+        "no blocks" => made(alloc, &NewBlockHashes(Vec::new(alloc)), bytes, out),
+        "three transactions" => made_of(alloc, three_transactions(alloc), bytes, out),
+        _ => tell_chain(alloc, name, bytes, out),
+    }
+}
+
+/// Tells what a call about a message that says what a client knows of the chain answers.
+fn tell_chain(alloc: Global, name: &str, bytes: &[u8], out: &mut Line) -> fmt::Result {
+    match name {
+        "no fork" => made(alloc, &fork_id([0; 4], 0), bytes, out),
+        "fork of letters" => made(
+            alloc,
+            &fork_id([0xde, 0xad, 0xbe, 0xef], 0xbadd_cafe),
+            bytes,
+            out,
+        ),
+        "greatest fork" => made(alloc, &fork_id([0xff; 4], u64::MAX), bytes, out),
+        "status of eth/68" => made(alloc, &STATUS_68, bytes, out),
+        "status of eth/69" => made(alloc, &STATUS_69, bytes, out),
+        _ => made(alloc, &RANGE, bytes, out),
     }
 }

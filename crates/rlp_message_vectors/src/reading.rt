@@ -1,89 +1,115 @@
-//! Ways to read bytes, and whether they go both ways.
+//! Ways to read bytes, and what is told of them.
 
 use bytes::BytesMut;
 use rlp::{Decodable, DecoderError, Encodable};
+use rlp_rows::{Hex, Line};
 use std::alloc::{AllocError, Global};
-use std::test::Fail;
+use std::fmt;
+use std::fmt::Write;
 
-/// Returns the digits of what is written, or `refused`.
-pub(crate) fn digits(alloc: Global, written: Result<BytesMut, AllocError>) -> Result<String, Fail> {
-    match written {
-        Ok(bytes) => Ok(hex::encode(alloc, bytes.as_slice())?),
-        Err(_) => Ok(String::from_str(alloc, "refused")?),
-    }
-}
-
-/// Returns the text of a fault.
-pub(crate) fn fault(alloc: Global, fault: &DecoderError) -> Result<String, Fail> {
-    Ok(format!(in alloc; "{fault:?}")?)
-}
-
-/// Returns whether an answer is a fault.
-pub(crate) fn is_fault(answer: &str) -> bool {
-    answer.starts_with("Rlp") || answer.starts_with("Custom")
+/// Tells a fault.
+pub(crate) fn fault(fault: &DecoderError, out: &mut Line) -> fmt::Result {
+    write!(out, "{fault:?}")
 }
 
 /// A way to read bytes as a value, and to write the value again.
 pub(crate) trait Reading {
-    /// Returns the digits of what the value that is read from the bytes is written as, or the fault.
-    fn again(alloc: Global, bytes: &[u8]) -> Result<String, Fail>;
+    /// Returns what the value that is read from the bytes is written as, or the fault.
+    fn again(alloc: Global, bytes: &[u8]) -> Result<BytesMut, DecoderError>;
 }
 
-/// Reads an item, leniently and strictly. The answer names both, unless they are the same or only
-/// strict reading fails.
+/// Reads an item strictly. The fault is another if lenient reading gives something else, unless only
+/// strict reading fails: `OutOfMemory` if strict reading doesn't fail.
 pub(crate) struct Item<T>(T);
 
 impl<T: Encodable + Decodable> Reading for Item<T> {
-    fn again(alloc: Global, bytes: &[u8]) -> Result<String, Fail> {
-        let strict = value(alloc, rlp::decode_strict::<T>(alloc, bytes))?;
-        let lenient = value(alloc, rlp::decode::<T>(alloc, bytes))?;
-        if strict.as_str() == lenient.as_str() || is_fault(&strict) && !is_fault(&lenient) {
-            return Ok(strict);
+    fn again(alloc: Global, bytes: &[u8]) -> Result<BytesMut, DecoderError> {
+        let strict = value(alloc, rlp::decode_strict::<T>(alloc, bytes));
+        let lenient = value(alloc, rlp::decode::<T>(alloc, bytes));
+        if is_same(&strict, &lenient) {
+            strict
+        } else if strict.is_err() {
+            Err(DecoderError::Custom("another fault leniently"))
+        } else {
+            Err(DecoderError::OutOfMemory)
         }
-        Ok(format!(in alloc; "{lenient}, strictly {strict}")?)
     }
 }
 
-/// Returns the digits of what a value that was read is written as, or the fault.
+/// Returns what a value that was read is written as, or the fault.
 fn value<T: Encodable + Decodable>(
     alloc: Global,
     read: Result<T, DecoderError>,
-) -> Result<String, Fail> {
+) -> Result<BytesMut, DecoderError> {
     match read {
-        Ok(value) => digits(alloc, rlp::encode(alloc, &value)),
-        Err(found) => fault(alloc, &found),
+        Ok(value) => rlp::encode(alloc, &value).or(Err(DecoderError::OutOfMemory)),
+        Err(found) => Err(found),
     }
 }
 
-/// Returns `both ways` if the bytes are read and written as the same bytes, and fail if the last byte
-/// is missing or another follows. Returns else what is wrong, or the fault.
-pub(crate) fn ways<R: Reading>(alloc: Global, bytes: &[u8]) -> Result<String, Fail> {
-    let again = R::again(alloc, bytes)?;
+/// Returns whether strict and lenient reading give the same, or only strict reading fails.
+fn is_same(
+    strict: &Result<BytesMut, DecoderError>,
+    lenient: &Result<BytesMut, DecoderError>,
+) -> bool {
+    match (strict, lenient) {
+        (Ok(strict), Ok(lenient)) => strict.as_slice() == lenient.as_slice(),
+        (Err(strict), Err(lenient)) => strict == lenient,
+        (strict, _) => strict.is_err(),
+    }
+}
+
+/// Tells `both ways` if the bytes are read and written as the same bytes, and fail if the last byte
+/// is missing or another follows. Tells else what is wrong, or the fault.
+pub(crate) fn ways<R: Reading>(alloc: Global, bytes: &[u8], out: &mut Line) -> fmt::Result {
+    match R::again(alloc, bytes) {
+        Ok(again) => {
+            if again.as_slice() == bytes && is_cut_noticed::<R>(alloc, bytes)? {
+                return write!(out, "both ways");
+            }
+            write!(out, "{:?}", Hex(again.as_slice()))
+        }
+        Err(found) => fault(&found, out),
+    }
+}
+
+/// Returns whether the bytes without the last fail, and those with one more.
+fn is_cut_noticed<R: Reading>(alloc: Global, bytes: &[u8]) -> Result<bool, AllocError> {
     let mut longer = Vec::from_slice(alloc, bytes)?;
-    if again.as_str() != hex::encode(alloc, bytes)?.as_str() {
-        return Ok(again);
-    }
     longer.push(0)?;
-    let cut = match bytes.split_last() {
-        Some((_, front)) => front,
-        None => bytes,
-    };
-    if is_fault(&R::again(alloc, longer.as_slice())?) && is_fault(&R::again(alloc, cut)?) {
-        return Ok(String::from_str(alloc, "both ways")?);
-    }
-    Ok(String::from_str(alloc, "read with a byte more or less")?)
+    let cut = bytes.get(..bytes.len().saturating_sub(1)).unwrap_or(bytes);
+    Ok(is_refused(&R::again(alloc, longer.as_slice())) && is_refused(&R::again(alloc, cut)))
 }
 
-/// Returns what [`ways`] answers about the bytes if they are what was written of a `T`. Returns else
-/// the digits of what was written, or `refused`.
-pub(crate) fn written<T: Encodable + Decodable>(
-    alloc: Global,
-    written: Result<BytesMut, AllocError>,
-    bytes: &[u8],
-) -> Result<String, Fail> {
-    let written = digits(alloc, written)?;
-    if written.as_str() == hex::encode(alloc, bytes)?.as_str() {
-        return ways::<Item<T>>(alloc, bytes);
+/// Returns whether bytes have a fault of the format.
+fn is_refused(again: &Result<BytesMut, DecoderError>) -> bool {
+    match again {
+        Ok(_) | Err(DecoderError::OutOfMemory) => false,
+        Err(_) => true,
     }
-    Ok(written)
+}
+
+/// Tells what [`ways`] does about the bytes if a value is written as these. Tells else the digits of
+/// what it is written as.
+pub(crate) fn made<T: Encodable + Decodable>(
+    alloc: Global,
+    value: &T,
+    bytes: &[u8],
+    out: &mut Line,
+) -> fmt::Result {
+    let written = rlp::encode(alloc, value)?;
+    if written.as_slice() == bytes {
+        return ways::<Item<T>>(alloc, bytes, out);
+    }
+    write!(out, "{:?}", Hex(written.as_slice()))
+}
+
+/// Tells what [`made`] does about a value, unless memory is refused.
+pub(crate) fn made_of<T: Encodable + Decodable + Drop>(
+    alloc: Global,
+    value: Result<T, AllocError>,
+    bytes: &[u8],
+    out: &mut Line,
+) -> fmt::Result {
+    made(alloc, &value?, bytes, out)
 }

@@ -1,16 +1,15 @@
 //! Requests between clients, and their answers. The expected bytes are the examples of EIP-2481,
 //! unless a comment says otherwise.
 
-use crate::reading::written;
-use bytes::BytesMut;
-use rlp::{Decodable, Encodable};
+use crate::reading::made;
 use rlp_ethereum::Hash;
 use rlp_messages::{
     BlockHeaders, GetBlockBodies, GetBlockHeaders, GetPooledTransactions, GetReceipts,
     HashOrNumber, WithRequestId,
 };
+use rlp_rows::Line;
 use std::alloc::{AllocError, Global};
-use std::test::Fail;
+use std::fmt;
 
 /// Rows of requests and answers.
 pub(crate) const ROWS: &str = "
@@ -23,9 +22,9 @@ pub(crate) const ROWS: &str = "
     The answer 1111 with one header, the header, and the answer with none, which was worked out by
     hand.
     BlockHeaders | f90202820457f901fc+HEADER
-    fields of BlockHeaders | f90202820457f901fc+HEADER | 1111 1
+    fields of BlockHeaders | f90202820457f901fc+HEADER | 1111: 1
     request: no headers | c4820457c0
-    fields of BlockHeaders | c4820457c0 | 1111 0
+    fields of BlockHeaders | c4820457c0 | 1111: 0
 
     Requests for the bodies of two blocks, for their receipts, and for the transactions with these
     hashes.
@@ -110,71 +109,45 @@ fn get_headers(start_block: HashOrNumber) -> WithRequestId<GetBlockHeaders> {
     }
 }
 
-/// The hashes of the examples.
-const HASHES: [Hash; 2] = [
-    Hash([
-        0, 0, 0, 0, 0, 0, 0, 0, 0, 0, 0, 0, 0, 0, 0, 0, 0, 0, 0, 0, 0, 0, 0, 0, 0, 0, 0, 0, 0xde,
-        0xad, 0xc0, 0xde,
-    ]),
-    Hash([
-        0, 0, 0, 0, 0, 0, 0, 0, 0, 0, 0, 0, 0, 0, 0, 0, 0, 0, 0, 0, 0, 0, 0, 0, 0, 0, 0, 0, 0xfe,
-        0xed, 0xbe, 0xef,
-    ]),
-];
+/// The first hash of the examples.
+const HASH: Hash = Hash(
+    *b"\0\0\0\0\0\0\0\0\0\0\0\0\0\0\0\0\0\0\0\0\0\0\0\0\0\0\0\0\xde\xad\xc0\xde",
+);
 
-/// Returns the bytes of a request or an answer with this content.
-fn with_id<T: Encodable + Decodable>(alloc: Global, content: T) -> Result<BytesMut, AllocError> {
-    let request_id = 1111;
-    rlp::encode(
-        alloc,
-        &WithRequestId {
-            request_id,
-            content,
-        },
-    )
+/// The second hash of the examples.
+const OTHER: Hash = Hash(
+    *b"\0\0\0\0\0\0\0\0\0\0\0\0\0\0\0\0\0\0\0\0\0\0\0\0\0\0\0\0\xfe\xed\xbe\xef",
+);
+
+/// Returns both hashes.
+fn hashes(alloc: Global) -> Result<Vec<Hash>, AllocError> {
+    Ok(Vec::from_array(alloc, [HASH, OTHER])?)
 }
 
-/// Returns what a call about a request answers.
-pub(crate) fn answer(alloc: Global, name: &str, bytes: &[u8]) -> Result<String, Fail> {
-    match name {
-        "headers by hash" => {
-            let request = get_headers(HashOrNumber::Hash(HASHES[0]));
-            let request = rlp::encode(alloc, &request);
-            written::<WithRequestId<GetBlockHeaders>>(alloc, request, bytes)
-        }
-        "headers by number" => {
-            let request = rlp::encode(alloc, &get_headers(HashOrNumber::Number(9999)));
-            written::<WithRequestId<GetBlockHeaders>>(alloc, request, bytes)
-        }
-        "no headers" => {
-            let answer = with_id(alloc, BlockHeaders(Vec::new(alloc)));
-            written::<WithRequestId<BlockHeaders>>(alloc, answer, bytes)
-        }
-        "bodies" => {
-            let request = with_id(alloc, GetBlockBodies(Vec::from_array(alloc, HASHES)?));
-            written::<WithRequestId<GetBlockBodies>>(alloc, request, bytes)
-        }
-        "receipts" => {
-            let request = with_id(alloc, GetReceipts(Vec::from_array(alloc, HASHES)?));
-            written::<WithRequestId<GetReceipts>>(alloc, request, bytes)
-        }
-        "transactions" => {
-            let request = with_id(
-                alloc,
-                GetPooledTransactions(Vec::from_array(alloc, HASHES)?),
-            );
-            written::<WithRequestId<GetPooledTransactions>>(alloc, request, bytes)
-        }
-        _ => hash_or_number(alloc, name, bytes),
+/// Returns a request or an answer with this content.
+fn with_id<T>(content: T) -> WithRequestId<T> {
+    WithRequestId {
+        request_id: 1111,
+        content,
     }
 }
 
-/// Returns what a call about a hash or a number answers.
-fn hash_or_number(alloc: Global, name: &str, bytes: &[u8]) -> Result<String, Fail> {
-    let value = match name {
-        "least number" => HashOrNumber::Number(0),
-        "greatest number" => HashOrNumber::Number(u64::MAX),
-        _ => HashOrNumber::Hash(Hash([0; 32])),
-    };
-    written::<HashOrNumber>(alloc, rlp::encode(alloc, &value), bytes)
+/// Tells what a call about a request answers.
+pub(crate) fn tell(alloc: Global, name: &str, bytes: &[u8], out: &mut Line) -> fmt::Result {
+    match name {
+        "headers by hash" => made(alloc, &get_headers(HashOrNumber::Hash(HASH)), bytes, out),
+        "headers by number" => made(alloc, &get_headers(HashOrNumber::Number(9999)), bytes, out),
+        "no headers" => made(alloc, &with_id(BlockHeaders(Vec::new(alloc))), bytes, out),
+        "bodies" => made(alloc, &with_id(GetBlockBodies(hashes(alloc)?)), bytes, out),
+        "receipts" => made(alloc, &with_id(GetReceipts(hashes(alloc)?)), bytes, out),
+        "transactions" => made(
+            alloc,
+            &with_id(GetPooledTransactions(hashes(alloc)?)),
+            bytes,
+            out,
+        ),
+        "least number" => made(alloc, &HashOrNumber::Number(0), bytes, out),
+        "greatest number" => made(alloc, &HashOrNumber::Number(u64::MAX), bytes, out),
+        _ => made(alloc, &HashOrNumber::Hash(Hash([0; 32])), bytes, out),
+    }
 }
