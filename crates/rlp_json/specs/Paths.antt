@@ -1,5 +1,5 @@
 -- The paths of lines. A key is a path with the colon after it.
-use Rattle.std.specs.Prelude.{ℕ, nat_eq, ◌+◌, ◌==◌, ◌||◌, Bool, if◌then◌else◌, List, [], ◌∷◌, ◌++◌, drop, codes}
+use Rattle.std.specs.Prelude.{ℕ, zero, suc, nat_eq, ◌==◌, ◌||◌, Bool, if◌then◌else◌, List, [], ◌∷◌, ◌++◌, drop, codes}
 use Rattle.std.specs.List.{before_first, after_first, starts_with}
 
 -- what stands before the first space of a text
@@ -25,16 +25,16 @@ text_of line = after_first (λ byte. byte == 32) line
 abbrev pub is_level : ℕ → Bool
 is_level byte = (byte == 46) || (byte == 91)
 
--- how many bytes the longest common front of two keys has that ends with such a byte, where `at` bytes were compared and `found` is that number so far
-abbrev pub shared_from : ℕ → ℕ → List ℕ → List ℕ → ℕ
-shared_from found at [] key = found
-shared_from found at (x ∷ before) [] = found
-shared_from found at (x ∷ before) (y ∷ key) =
-    if x == y then shared_from (if is_level x then at + 1 else found) (at + 1) before key else found
+-- how many bytes a front has with one byte before it, which ends a path or not; no bytes are no front
+abbrev pub one_more : Bool → ℕ → ℕ
+one_more level zero = if level then 1 else 0
+one_more level (suc n) = suc (suc n)
 
 -- how many bytes the longest common front of two keys has that ends with such a byte
 abbrev pub shared : List ℕ → List ℕ → ℕ
-shared before key = shared_from 0 0 before key
+shared [] key = 0
+shared (x ∷ before) [] = 0
+shared (x ∷ before) (y ∷ key) = if x == y then one_more (is_level x) (shared before key) else 0
 
 -- a text for an object or for a list, by the byte that ends its path
 abbrev pub bracket : List ℕ → List ℕ → ℕ → List ℕ

@@ -7,4 +7,5 @@ mod object;
 mod paths;
 mod values;
 
+pub use numbers::Hexadecimal;
 pub use object::put_json;

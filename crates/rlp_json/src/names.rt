@@ -1,6 +1,6 @@
 //! The names of fields, and what opens a value.
 
-ghost use Rattle.std.specs.Prelude.{◌≡◌, ◌++◌, [], false, option_copied, string_bytes, OnOk};
+ghost use Rattle.std.specs.Prelude.{◌≡◌, ◌++◌, [], bytes_eq, false, option_copied, string_bytes, OnOk};
 ghost use Rattle.rlp_json.specs.Names.{camel, is_mark, is_place, is_transaction, json_name, letter_text, name_text, opening, renamed};
 
 use crate::paths::put_bracket;
@@ -14,30 +14,37 @@ fn is_transaction(key: &[u8]) -> bool
         || (key.starts_with(b"transactions[") || key.starts_with(b"body.transactions["))
 }
 
+/// Whether a name is this text.
+fn is_same(name: &[u8], text: &str) -> bool
+    ensures { result ≡ bytes_eq name.now text.now }
+{
+    name == text.as_bytes()
+}
+
 /// The name of a field, if the rule for all other names doesn't give it.
 #[tactic(auto, unfolding(crate::specs::Names::renamed))]
 fn renamed(key: &[u8], text: &str, name: &[u8]) -> Option<&'static str>
     ensures { option_copied result ≡ renamed key.now text.now name.now }
 {
-    if name == b"beneficiary".as_slice() {
+    if is_same(name, "beneficiary") {
         return Some("miner");
     }
-    if name == b"ommers_hash".as_slice() {
+    if is_same(name, "ommers_hash") {
         return Some("sha3Uncles");
     }
-    if name == b"destination".as_slice() {
+    if is_same(name, "destination") {
         return Some("to");
     }
-    if name == b"storage_root".as_slice() {
+    if is_same(name, "storage_root") {
         return Some("storageHash");
     }
-    if name == b"status_or_state_root".as_slice() {
+    if is_same(name, "status_or_state_root") {
         return Some(if text.len() == 66 { "root" } else { "status" });
     }
-    if name == b"gas_limit".as_slice() && is_transaction(key) {
+    if is_same(name, "gas_limit") && is_transaction(key) {
         return Some("gas");
     }
-    if name == b"data".as_slice() && is_transaction(key) {
+    if is_same(name, "data") && is_transaction(key) {
         return Some("input");
     }
     None

@@ -1,7 +1,7 @@
 //! The paths of lines. A key is a path with the colon after it.
 
 ghost use Rattle.std.specs.Prelude.{◌≡◌, ◌≤◌, ◌++◌, length, string_bytes, OnOk};
-ghost use Rattle.rlp_json.specs.Paths.{bracket, closing, comma, first_word, key_of, shared, text_of};
+ghost use Rattle.rlp_json.specs.Paths.{bracket, closing, comma, first_word, is_level, key_of, shared, text_of};
 
 use std::alloc::AllocError;
 
@@ -27,6 +27,13 @@ pub(crate) fn key_of(line: &str) -> &[u8]
     key
 }
 
+/// Whether a byte ends the path of an object or a list.
+fn is_level(byte: u8) -> bool
+    ensures { result ≡ is_level byte }
+{
+    byte == b'.' || byte == b'['
+}
+
 /// The length of the longest common front that ends the path of an object or a list.
 pub(crate) fn shared_len(before: &[u8], key: &[u8]) -> usize
     ensures value { result ≡ shared before.now key.now }
@@ -38,7 +45,7 @@ pub(crate) fn shared_len(before: &[u8], key: &[u8]) -> usize
         if before[i] != key[i] {
             return found;
         }
-        if before[i] == b'.' || before[i] == b'[' {
+        if is_level(before[i]) {
             found = i + 1;
         }
     }
