@@ -5,7 +5,6 @@ mod display;
 mod envelope;
 mod fields;
 mod iter;
-mod places;
 mod rlp;
 mod splitting;
 

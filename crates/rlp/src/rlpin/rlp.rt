@@ -10,12 +10,11 @@ ghost use Rattle.rlp_values.specs.Format.Framing.{framing, total_len};
 ghost use Rattle.rlp_values.specs.Format.Strict.{IsCanonicalWithin, strict_list_fault};
 ghost use Rattle.rlp_values.specs.Format.TreeFaults.{IsFlatFault};
 ghost use Rattle.rlp_values.specs.Views.Depth.{depth};
-ghost use Rattle.rlp_values.specs.Views.View.{begins_as_data, begins_as_empty, begins_as_int, data_size, item_at, item_count, item_views, item_with_place, items_fault, list_fault, prototype_of, strict_view_of, view_header, view_of, view_value, View};
+ghost use Rattle.rlp_values.specs.Views.View.{begins_as_data, begins_as_empty, begins_as_int, data_size, has_nonzero_at, item_at, item_count, item_views, item_with_place, items_fault, list_fault, prototype_of, strict_view_of, view_header, view_of, view_value, View};
 ghost use Rattle.rlp_values.specs.Values.ListReading.{FaultsAsList, FaultsAt, GivesAt, GivesList, MayLackAsList, MayLackAt, ReadsValue, GivesSomeAt};
 
 use crate::rlpin::decoder::BasicDecoder;
 use crate::rlpin::iter::RlpIterator;
-use crate::rlpin::places::is_nonzero_at;
 use crate::traits::Decodable;
 use rlp_values::Prototype;
 use rlp_values::depth::is_nested_within;
@@ -484,5 +483,15 @@ impl<'a> Rlp<'a> {
             return Err(DecoderError::RlpExpectedToBeList);
         }
         self.check_list()
+    }
+}
+
+/// Whether there is a byte at this place, and it isn't zero.
+fn is_nonzero_at(bytes: &[u8], place: usize) -> bool
+    ensures { result ≡ has_nonzero_at place bytes.now }
+{
+    match bytes.get(place) {
+        Some(byte) => *byte != 0,
+        None => false,
     }
 }
