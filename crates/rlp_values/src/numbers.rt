@@ -1,7 +1,6 @@
 //! The digits of numbers, the most significant first.
 
 ghost use Rattle.std.specs.Prelude.{◌≡◌, ◌≤◌, length, IfOk, IfErr, IsTrue};
-ghost use Rattle.std.specs.Option.{SomeIff};
 ghost use Rattle.std.specs.Int.Digits.{number_from_digits};
 ghost use Rattle.rlp_format.specs.Format.WrittenHeader.{big_endian};
 ghost use Rattle.rlp_format.specs.Values.Value.{FitsBytes};
@@ -10,20 +9,9 @@ ghost use Rattle.rlp_values.specs.Values.ValueReading.{AreShortest, IsDigitsFaul
 use crate::error::DecoderError;
 use rlp_format::digits::number_of;
 
-/// The number of up to eight digits. `None` if there are more.
-#[inline(always)]
-pub fn few_digits(digits: &[u8]) -> Option<usize>
-    ensures { SomeIff result (length digits.now ≤ 8) (number_from_digits 256 digits.now) }
-{
-    if digits.len() > 8 {
-        return None;
-    }
-    Some(digits_at_once(digits))
-}
-
 /// The number of up to eight digits, without a loop for up to seven.
 #[inline(always)]
-fn digits_at_once(digits: &[u8]) -> usize
+pub fn few_digits(digits: &[u8]) -> usize
     requires { length digits.now ≤ 8 }
     ensures { result ≡ number_from_digits 256 digits.now }
 {

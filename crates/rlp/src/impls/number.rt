@@ -114,13 +114,17 @@ fn number_within(rlp: &Rlp<'_>, width: usize) -> Result<usize, DecoderError>
     }
 }
 
-/// Reads a number of at most `width` bytes, and at most 8, if its header is one byte and nothing is
+/// Reads a number of at most `width` bytes, at most 8, if its header is one byte and nothing is
 /// wrong with it. `None` says nothing about the bytes.
 #[inline(never)]
 fn short_number(rlp: &Rlp<'_>, width: usize) -> Option<usize>
+    requires { width ≤ 8 }
     ensures { IfSome result (λ n. GivesNumber width rlp.now n) }
 {
-    few_digits(short_digits(rlp, width)?)
+    match short_digits(rlp, width) {
+        Some(digits) => Some(few_digits(digits)),
+        None => None,
+    }
 }
 
 /// Whether the view's item may end at `len`: nothing follows the item in a strict view.
