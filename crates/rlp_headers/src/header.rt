@@ -23,7 +23,7 @@ use std::alloc::{AllocError, Global};
 /// of the first forks, and one of 16, 17, 20 or 21 items is a header since [`London`], [`Shanghai`],
 /// [`Cancun`] or Prague. A list with any other number of items fails with `RlpIncorrectListLen`. No
 /// header has the fields of a fork without those of an earlier one: they stand in one another.
-#[derive(Debug, PartialEq, Eq, Drop)]
+#[derive(Debug, Clone, PartialEq, Eq, Drop)]
 pub struct Header {
     /// The hash of the parent's header.
     pub parent_hash: Hash,
@@ -57,19 +57,6 @@ pub struct Header {
     pub nonce: [u8; 8],
     /// What came with London and later, or `None` in blocks before London.
     pub since_london: Option<London>,
-}
-
-/// Copies each field. Only the extra data takes memory.
-impl Clone for Header {
-    ghost is_clone = { λ h k. (k ≡ record h { extra_data = k.extra_data })
-        × ⟦<Vec<u8> as Clone>⟧.is_clone h.extra_data k.extra_data };
-
-    fn clone(&self) -> Result<Header, AllocError> {
-        Ok(Header {
-            extra_data: self.extra_data.clone()?,
-            ..*self
-        })
-    }
 }
 
 impl Header {

@@ -1,6 +1,6 @@
 //! Transactions of type 1.
 
-ghost use Rattle.std.specs.Prelude.{◌≡◌, refl};
+ghost use Rattle.std.specs.Prelude.{refl};
 ghost use Rattle.rlp.specs.Codecs.Parts.{laws_of};
 ghost use Rattle.rlp_transactions.specs.AccessListTransaction.{access_list_transaction_fields};
 
@@ -11,7 +11,7 @@ use std::alloc::{AllocError, Global};
 
 /// A transaction of type 1 without its signature: the list of its eight fields is signed after the
 /// byte 1, as in EIP-2930.
-#[derive(Debug, PartialEq, Eq, Drop)]
+#[derive(Debug, Clone, PartialEq, Eq, Drop)]
 pub struct AccessListTransaction {
     /// The number of the chain, as in EIP-155. This type reads numbers of at most 64 bits.
     pub chain_id: u64,
@@ -30,21 +30,6 @@ pub struct AccessListTransaction {
     pub data: Vec<u8>,
     /// The accounts and the keys of storage that the transaction declares.
     pub access_list: AccessList,
-}
-
-/// Copies each field. Only the input and the access list take memory.
-impl Clone for AccessListTransaction {
-    ghost is_clone = { λ t u. (u ≡ record t { «data» = u.data; access_list = u.access_list })
-        × (⟦<Vec<u8> as Clone>⟧.is_clone t.data u.data
-        × ⟦<AccessList as Clone>⟧.is_clone t.access_list u.access_list) };
-
-    fn clone(&self) -> Result<AccessListTransaction, AllocError> {
-        Ok(AccessListTransaction {
-            data: self.data.clone()?,
-            access_list: self.access_list.clone()?,
-            ..*self
-        })
-    }
 }
 
 impl AppendFields for AccessListTransaction {

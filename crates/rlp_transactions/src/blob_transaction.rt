@@ -1,6 +1,6 @@
 //! Transactions of type 3.
 
-ghost use Rattle.std.specs.Prelude.{◌≡◌, refl};
+ghost use Rattle.std.specs.Prelude.{refl};
 ghost use Rattle.rlp.specs.Codecs.Parts.{laws_of};
 ghost use Rattle.rlp_transactions.specs.BlobTransaction.{blob_transaction_fields};
 
@@ -13,7 +13,7 @@ use std::alloc::{AllocError, Global};
 /// byte 3, as in EIP-4844.
 ///
 /// It always has a recipient, and it holds no blobs.
-#[derive(Debug, PartialEq, Eq, Drop)]
+#[derive(Debug, Clone, PartialEq, Eq, Drop)]
 pub struct BlobTransaction {
     /// The number of the chain, as in EIP-155. This type reads numbers of at most 64 bits.
     pub chain_id: u64,
@@ -38,23 +38,6 @@ pub struct BlobTransaction {
     pub max_fee_per_blob_gas: Uint<32>,
     /// The versioned hashes of the blobs. This type doesn't check their version.
     pub blob_versioned_hashes: Vec<Hash>,
-}
-
-/// Copies each field. Only the input, the access list and the hashes take memory.
-impl Clone for BlobTransaction {
-    ghost is_clone = { λ t u. (u ≡ record t { «data» = u.data; access_list = u.access_list; blob_versioned_hashes = u.blob_versioned_hashes })
-        × (⟦<Vec<u8> as Clone>⟧.is_clone t.data u.data
-        × (⟦<AccessList as Clone>⟧.is_clone t.access_list u.access_list
-        × ⟦<Vec<Hash> as Clone>⟧.is_clone t.blob_versioned_hashes u.blob_versioned_hashes)) };
-
-    fn clone(&self) -> Result<BlobTransaction, AllocError> {
-        Ok(BlobTransaction {
-            data: self.data.clone()?,
-            access_list: self.access_list.clone()?,
-            blob_versioned_hashes: self.blob_versioned_hashes.clone()?,
-            ..*self
-        })
-    }
 }
 
 impl AppendFields for BlobTransaction {

@@ -1,6 +1,6 @@
 //! Transactions of type 2.
 
-ghost use Rattle.std.specs.Prelude.{◌≡◌, refl};
+ghost use Rattle.std.specs.Prelude.{refl};
 ghost use Rattle.rlp.specs.Codecs.Parts.{laws_of};
 ghost use Rattle.rlp_transactions.specs.FeeMarketTransaction.{fee_market_transaction_fields};
 
@@ -11,7 +11,7 @@ use std::alloc::{AllocError, Global};
 
 /// A transaction of type 2 without its signature: the list of its nine fields is signed after the
 /// byte 2, as in EIP-1559.
-#[derive(Debug, PartialEq, Eq, Drop)]
+#[derive(Debug, Clone, PartialEq, Eq, Drop)]
 pub struct FeeMarketTransaction {
     /// The number of the chain, as in EIP-155. This type reads numbers of at most 64 bits.
     pub chain_id: u64,
@@ -32,21 +32,6 @@ pub struct FeeMarketTransaction {
     pub data: Vec<u8>,
     /// The accounts and the keys of storage that the transaction declares.
     pub access_list: AccessList,
-}
-
-/// Copies each field. Only the input and the access list take memory.
-impl Clone for FeeMarketTransaction {
-    ghost is_clone = { λ t u. (u ≡ record t { «data» = u.data; access_list = u.access_list })
-        × (⟦<Vec<u8> as Clone>⟧.is_clone t.data u.data
-        × ⟦<AccessList as Clone>⟧.is_clone t.access_list u.access_list) };
-
-    fn clone(&self) -> Result<FeeMarketTransaction, AllocError> {
-        Ok(FeeMarketTransaction {
-            data: self.data.clone()?,
-            access_list: self.access_list.clone()?,
-            ..*self
-        })
-    }
 }
 
 impl AppendFields for FeeMarketTransaction {

@@ -16,7 +16,7 @@ pub type SignedLegacyTransaction = Signed<LegacyTransaction, Uint<32>>;
 
 /// A transaction without a type and without its signature: six fields, as in section 4.2 of the yellow
 /// paper. What is signed is a [`UnsignedLegacyTransaction`](crate::UnsignedLegacyTransaction).
-#[derive(Debug, PartialEq, Eq, Drop)]
+#[derive(Debug, Clone, PartialEq, Eq, Drop)]
 pub struct LegacyTransaction {
     /// The number of transactions that the sender has sent before. As in EIP-2681 it is below 2^64,
     /// and a transaction with 2^64 - 1 is invalid; this type reads it.
@@ -31,19 +31,6 @@ pub struct LegacyTransaction {
     pub value: Uint<32>,
     /// The input of the call, or the code that creates the contract.
     pub data: Vec<u8>,
-}
-
-/// Copies each field. Only the input takes memory.
-impl Clone for LegacyTransaction {
-    ghost is_clone = { λ t u. (u ≡ record t { «data» = u.data })
-        × ⟦<Vec<u8> as Clone>⟧.is_clone t.data u.data };
-
-    fn clone(&self) -> Result<LegacyTransaction, AllocError> {
-        Ok(LegacyTransaction {
-            data: self.data.clone()?,
-            ..*self
-        })
-    }
 }
 
 impl Signed<LegacyTransaction, Uint<32>> {

@@ -1,6 +1,6 @@
 //! Transactions of type 4.
 
-ghost use Rattle.std.specs.Prelude.{◌≡◌, refl};
+ghost use Rattle.std.specs.Prelude.{refl};
 ghost use Rattle.rlp.specs.Codecs.Parts.{laws_of};
 ghost use Rattle.rlp_transactions.specs.SetCodeTransaction.{set_code_transaction_fields};
 
@@ -13,7 +13,7 @@ use std::alloc::{AllocError, Global};
 /// byte 4, as in EIP-7702.
 ///
 /// It always has a recipient.
-#[derive(Debug, PartialEq, Eq, Drop)]
+#[derive(Debug, Clone, PartialEq, Eq, Drop)]
 pub struct SetCodeTransaction {
     /// The number of the chain, as in EIP-155. This type reads numbers of at most 64 bits.
     pub chain_id: u64,
@@ -37,23 +37,6 @@ pub struct SetCodeTransaction {
     /// The accounts whose code the transaction sets. This type also reads an empty list, which the EIP
     /// calls invalid.
     pub authorization_list: Vec<SignedAuthorization>,
-}
-
-/// Copies each field. Only the input, the access list and the authorizations take memory.
-impl Clone for SetCodeTransaction {
-    ghost is_clone = { λ t u. (u ≡ record t { «data» = u.data; access_list = u.access_list; authorization_list = u.authorization_list })
-        × (⟦<Vec<u8> as Clone>⟧.is_clone t.data u.data
-        × (⟦<AccessList as Clone>⟧.is_clone t.access_list u.access_list
-        × ⟦<Vec<SignedAuthorization> as Clone>⟧.is_clone t.authorization_list u.authorization_list)) };
-
-    fn clone(&self) -> Result<SetCodeTransaction, AllocError> {
-        Ok(SetCodeTransaction {
-            data: self.data.clone()?,
-            access_list: self.access_list.clone()?,
-            authorization_list: self.authorization_list.clone()?,
-            ..*self
-        })
-    }
 }
 
 impl AppendFields for SetCodeTransaction {
