@@ -156,32 +156,25 @@ fn make_call<E: Encodable>(stream: &mut RlpStream, call: &StreamCall<E>) -> Resu
     ensures refused { OnErr result (IsTrue (takes_memory (call_of E.item call.now))) }
 {
     match call {
-        StreamCall::Value(value) => match stream.append(value) {
-            Ok(_) => Ok(()),
-            Err(refused) => Err(refused),
-        },
-        StreamCall::Values(values) => match stream.append_list(values.as_slice()) {
-            Ok(_) => Ok(()),
-            Err(refused) => Err(refused),
-        },
-        StreamCall::Raw(bytes, count) => match stream.append_raw(bytes.as_slice(), *count) {
-            Ok(_) => Ok(()),
-            Err(refused) => Err(refused),
-        },
-        StreamCall::Begin(count) => match stream.begin_list(*count) {
-            Ok(_) => Ok(()),
-            Err(refused) => Err(refused),
-        },
-        StreamCall::BeginUnbounded => match stream.begin_unbounded_list() {
-            Ok(_) => Ok(()),
-            Err(refused) => Err(refused),
-        },
-        StreamCall::Finish => stream.finalize_unbounded_list(),
-        StreamCall::Clear => {
-            stream.clear();
-            Ok(())
+        StreamCall::Value(value) => {
+            stream.append(value)?;
         }
+        StreamCall::Values(values) => {
+            stream.append_list(values.as_slice())?;
+        }
+        StreamCall::Raw(bytes, count) => {
+            stream.append_raw(bytes.as_slice(), *count)?;
+        }
+        StreamCall::Begin(count) => {
+            stream.begin_list(*count)?;
+        }
+        StreamCall::BeginUnbounded => {
+            stream.begin_unbounded_list()?;
+        }
+        StreamCall::Finish => stream.finalize_unbounded_list()?,
+        StreamCall::Clear => stream.clear(),
     }
+    Ok(())
 }
 
 /// Tests a call and makes it. `place` is its place.
@@ -198,12 +191,10 @@ pub(crate) fn take_call<E: Encodable>(
     ensures brings { OnOk result (IsSomeStep (call_of E.item call.now) stream.old.state) }
     ensures refused { IfErr result (IsUnfit (call_of E.item call.now) stream.old.state place) }
 {
-    match admit(stream, call, place) {
-        Ok(()) => match make_call(stream, call) {
-            Ok(()) => Ok(()),
-            Err(_) => Err(BuildFault::OutOfMemory),
-        },
-        Err(fault) => Err(fault),
+    admit(stream, call, place)?;
+    match make_call(stream, call) {
+        Ok(()) => Ok(()),
+        Err(_) => Err(BuildFault::OutOfMemory),
     }
 }
 
