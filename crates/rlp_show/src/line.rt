@@ -6,16 +6,14 @@ ghost use Rattle.rlp_show.specs.Text.{bytes_text};
 
 use rlp_lines::push_bytes;
 use std::alloc::AllocError;
+use std::fmt::Write;
 
 /// Appends a line with this name and text.
 pub(crate) fn put_line(name: &str, text: &str, out: &mut String) -> Result<(), AllocError>
     ensures { OnOk result
         (string_bytes out.new ≡ string_bytes out.old ++ line name.now text.now) }
 {
-    out.push_str(name)?;
-    out.push_str(": ")?;
-    out.push_str(text)?;
-    out.push('\n')
+    writeln!(out, "{name}: {text}")
 }
 
 /// Appends a line with this name and these bytes.
@@ -23,9 +21,7 @@ pub(crate) fn put_bytes_line(name: &str, bytes: &[u8], out: &mut String) -> Resu
     ensures { OnOk result
         (string_bytes out.new ≡ string_bytes out.old ++ line name.now (bytes_text bytes.now)) }
 {
-    out.push_str(name)?;
-    out.push_str(": ")?;
-    out.push_str("0x")?;
+    write!(out, "{name}: 0x")?;
     push_bytes(bytes, out)?;
     out.push('\n')
 }

@@ -11,7 +11,7 @@ ghost use Rattle.rlp_show.specs.NodeRecords.{by_keys, first_fields, keys_in, nod
 
 use crate::fault::ShowFault;
 use crate::fields::{Label, ShowFields, name_in, prefix_of, show_fields};
-use crate::pairs::show_pair;
+use crate::pairs::{is_key, show_pair};
 use crate::show::Show;
 use rlp::{DecoderError, Rlp, RlpIterator};
 use rlp_ethereum::{NodeFields, NodeRecord};
@@ -87,7 +87,7 @@ fn have_id(pairs: &mut RlpIterator<'_, '_>) -> bool
     ensures { result ≡ list_any (λ key. bytes_eq key (codes "id")) (keys_in pairs.old.left) }
 {
     while let Some(key) = next_key(pairs) {
-        if key == b"id".as_slice() {
+        if is_key(key, "id") {
             return true;
         }
     }

@@ -4,7 +4,7 @@ ghost use Rattle.std.specs.Prelude.{◌≡◌, ◌++◌, codes, string_bytes, On
 ghost use Rattle.rlp.specs.Views.View.{item_views};
 ghost use Rattle.rlp_show.specs.Answer.{Shows};
 ghost use Rattle.rlp_show.specs.Lines.{line, prefix, string_shape};
-ghost use Rattle.rlp_show.specs.Records.{are_leaf, branch, branch_child, child, child_hash_in, extension, inline_node, leaf, node_keeping, node_of};
+ghost use Rattle.rlp_show.specs.Records.{are_leaf, branch, branch_child, child, child_hash_in, extension, inline_node, is_empty_node, leaf, node_keeping, node_of};
 
 use crate::any_item::AnyItem;
 use crate::fault::ShowFault;
@@ -158,6 +158,13 @@ impl<K: Show> Show for BranchOf<K> {
     }
 }
 
+/// Returns whether bytes are the encoding of the empty string.
+fn is_empty_node(bytes: &[u8]) -> bool
+    ensures { result ≡ is_empty_node bytes.now }
+{
+    matches!(bytes, [0x80])
+}
+
 /// Returns whether the first item of a node is the path of a leaf.
 fn is_leaf(node: &Rlp<'_>) -> bool
     ensures { result ≡ are_leaf (item_views node.now) }
@@ -202,7 +209,7 @@ impl<K: Show> Show for NodeKeeping<K> {
     ghost shape = { node_keeping K.shape };
 
     fn show(alloc: Global, name: &str, item: &Rlp<'_>, out: &mut String) -> Result<(), ShowFault> {
-        if matches!(item.as_raw(), [0x80]) {
+        if is_empty_node(item.as_raw()) {
             return Ok(put_kind(alloc, name, "empty", out)?);
         }
         match item.item_count() {

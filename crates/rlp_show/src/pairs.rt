@@ -5,7 +5,7 @@ ghost use Rattle.std.specs.Option.{option_map};
 ghost use Rattle.std.specs.Int.Digits.{number_from_digits};
 ghost use Rattle.std.specs.Net.Addr.{segments_of};
 ghost use Rattle.std.specs.Net.Text.{ipv4_text, ipv6_text};
-ghost use Rattle.std.specs.Prelude.{◌≡◌, ◌==◌, ◌+◌, ◌<◌, ◌^◌, ◌++◌, if◌then◌else◌, codes, length, string_bytes, true, IfOk, OnOk, Some, None};
+ghost use Rattle.std.specs.Prelude.{◌≡◌, ◌==◌, bytes_eq, ◌+◌, ◌<◌, ◌^◌, ◌++◌, if◌then◌else◌, codes, length, string_bytes, true, IfOk, OnOk, Some, None};
 ghost use Rattle.rlp_show.specs.Answer.{Shows};
 ghost use Rattle.rlp_show.specs.Lines.{in_field, line, place};
 ghost use Rattle.rlp_show.specs.NodeRecords.{begins_with_letter, is_port_key, is_word, is_word_byte, key_of, node_key, node_value, pair_lines, port_text, value_text, word_text};
@@ -159,25 +159,31 @@ fn word_of(alloc: Global, bytes: &[u8]) -> Result<Option<String>, AllocError>
     Ok(Some(text))
 }
 
+/// Returns whether a key is this one.
+pub(crate) fn is_key(key: &[u8], name: &str) -> bool
+    ensures { result ≡ bytes_eq key.now name.now }
+{
+    key == name.as_bytes()
+}
+
 /// Returns whether the value of a key is a port.
 fn is_port_key(key: &[u8]) -> bool
     ensures { result ≡ is_port_key key.now }
 {
-    (key == b"tcp".as_slice() || key == b"udp".as_slice())
-        || (key == b"tcp6".as_slice() || key == b"udp6".as_slice())
+    (is_key(key, "tcp") || is_key(key, "udp")) || (is_key(key, "tcp6") || is_key(key, "udp6"))
 }
 
 /// Returns the text of the value of a key, if the key says what the value is.
 fn text_of(alloc: Global, key: &[u8], value: &[u8]) -> Result<Option<String>, AllocError>
     ensures { IfOk result (λ o. option_map string_bytes o ≡ value_text key.now value.now) }
 {
-    if key == b"id".as_slice() {
+    if is_key(key, "id") {
         return word_of(alloc, value);
     }
-    if key == b"ip".as_slice() {
+    if is_key(key, "ip") {
         return ipv4_of(alloc, value);
     }
-    if key == b"ip6".as_slice() {
+    if is_key(key, "ip6") {
         return ipv6_of(alloc, value);
     }
     if is_port_key(key) {

@@ -1,12 +1,14 @@
 //! Transactions, in an envelope or without one, by themselves and in the list of a block.
 
-ghost use Rattle.std.specs.Prelude.{codes, string_bytes};
+ghost use Rattle.std.specs.Prelude.{◌≡◌, ◌++◌, codes, string_bytes, OnOk};
 ghost use Rattle.rlp_show.specs.Answer.{Shows};
+ghost use Rattle.rlp_show.specs.Lines.{line, prefix};
 ghost use Rattle.rlp_show.specs.Records.{other_transaction, transaction, unknown_transaction};
+ghost use Rattle.rlp_show.specs.Text.{bytes_text, number_text};
 
 use crate::envelopes::{Typed, put_type};
 use crate::fault::ShowFault;
-use crate::fields::{joined, prefix_of};
+use crate::fields::name_in;
 use crate::hashes::Hashed;
 use crate::line::put_bytes_line;
 use crate::show::Show;
@@ -16,7 +18,7 @@ use rlp_ethereum::{
     FEE_MARKET_TYPE, FeeMarketTransaction, OtherTransaction, SET_CODE_TYPE, SetCodeTransaction,
     Signed, SignedLegacyTransaction,
 };
-use std::alloc::Global;
+use std::alloc::{AllocError, Global};
 use std::marker::PhantomData;
 
 /// The envelope of a transaction of any type that `rlp_ethereum` knows, or else a `Q`, for [`Show`].
@@ -59,6 +61,23 @@ impl<T: Show, Q: Show> Show for ListOr<T, Q> {
     }
 }
 
+/// Appends the lines of a type and of a payload.
+fn put_other(
+    alloc: Global,
+    name: &str,
+    kind: u8,
+    payload: &[u8],
+    out: &mut String,
+) -> Result<(), AllocError>
+    ensures { OnOk result (string_bytes out.new ≡ string_bytes out.old
+        ++ line (prefix name.now ++ codes "type") (number_text kind)
+        ++ line (prefix name.now ++ codes "payload") (bytes_text payload.now)) }
+{
+    put_type(alloc, name, kind, out)?;
+    let label = name_in(alloc, name, "payload")?;
+    put_bytes_line(label.as_str(), payload, out)
+}
+
 /// The envelope of a transaction of an unknown type: the lines of the type and of the payload.
 ///
 /// Fails as [`UnknownTransaction`] does if there are no bytes or the first is no type.
@@ -67,12 +86,9 @@ impl Show for OtherTransaction {
 
     fn show(alloc: Global, name: &str, item: &Rlp<'_>, out: &mut String) -> Result<(), ShowFault> {
         match item.as_raw() {
-            [kind, payload @ ..] if *kind < 0x80 => {
-                put_type(alloc, name, *kind, out)?;
-                let before = prefix_of(alloc, name)?;
-                let label = joined(alloc, before.as_str(), "payload")?;
-                Ok(put_bytes_line(label.as_str(), payload, out)?)
-            }
+            [kind, payload @ ..] if *kind < 0x80 => Ok(put_other(
+                alloc, name, *kind, payload, out,
+            )?),
             _ => UnknownTransaction::show(alloc, name, item, out),
         }
     }

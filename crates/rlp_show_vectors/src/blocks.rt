@@ -6,8 +6,8 @@
 use crate::support::{Row, check};
 use std::test::Fail;
 
-/// The kind, the digits of a record, and its lines.
-const BLOCKS: [Row; 8] = [
+/// Transactions: the kind, the digits of a record, and its lines.
+const TRANSACTIONS: [Row; 4] = [
     (
         "transaction 7d8001",
         "hash: 0x53565816e2969d9eecc47ff49e3297dceb138d5bc8128ea9b79e7bd7c9860ed6\n\
@@ -89,6 +89,10 @@ const BLOCKS: [Row; 8] = [
          s: 0xffffffffffffffffffffffffffffffffffffffffffffffffffffffffffffffff\n\
          \n",
     ),
+];
+
+/// Blocks and a header: the kind, the digits of a record, and its lines.
+const BLOCKS: [Row; 4] = [
     (
         "block f90403f901faa0000102030405060708090a0b0c0d0e0f101112131415161718191a1b1c\
          1d1e1fa0ffffffffffffffffffffffffffffffffffffffffffffffffffffffffffffffff\
@@ -418,6 +422,11 @@ const BLOCKS: [Row; 8] = [
          \n",
     ),
 ];
+
+#[test]
+fn transactions_are_shown(rt: HostRuntime) -> Result<(), Fail> {
+    check(rt.alloc(), &TRANSACTIONS)
+}
 
 #[test]
 fn blocks_are_shown(rt: HostRuntime) -> Result<(), Fail> {

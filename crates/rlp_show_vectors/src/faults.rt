@@ -7,8 +7,8 @@ use crate::support::{Row, check};
 use rlp_show::Kind;
 use std::test::Fail;
 
-/// The kind, the digits, and what is wrong.
-const FAULTS: [Row; 26] = [
+/// Transactions: the kind, the digits, and what is wrong.
+const TRANSACTION_FAULTS: [Row; 9] = [
     (
         "transaction 01f89d0180843b9aca008252088080826000f84ef7945df9b87991262f6ba471f09758cd\
          e1c0fc1de734e1a0000102030405060708090a0b0c0d0e0f101112131415161718191a1b\
@@ -55,6 +55,27 @@ const FAULTS: [Row; 26] = [
         "error RlpIsTooBig\n",
     ),
     (
+        "transaction 04f8b088ffffffffffffffff800102825208940102030405060708090a0b0c0d0e0f1011\
+         121314880de0b6b3a7640000821234c0f85adb80945df9b87991262f6ba471f09758cde1\
+         c0fc1de7340581ff090af83ca0ffffffffffffffffffffffffffffffffffffffffffffff\
+         ffffffffffffffffff940102030405060708090a0b0c0d0e0f1011121314808201008080\
+         0180a0ffffffffffffffffffffffffffffffffffffffffffffffffffffffffffffffff",
+        "error field 9 (authorization_list[1].y_parity): RlpIsTooBig\n",
+    ),
+    (
+        "transaction 03f8c4010780843b9aca00830f4240945df9b87991262f6ba471f09758cde1c0fc1de734\
+         8080f838f7940102030405060708090a0b0c0d0e0f1011121314e1a00001020304050607\
+         08090a0b0c0d0e0f101112131415161718191a1b1c1d1e1f03f841a00101020304050607\
+         08090a0b0c0d0e0f101112131415161718191a1b1c1d1e1f9f01eeeeeeeeeeeeeeeeeeee\
+         eeeeeeeeeeeeeeeeeeeeeeeeeeeeeeeeeeeeeeee80a08000000000000000000000000000\
+         00000000000000000000000000000000000001",
+        "error field 10 (blob_versioned_hashes[1]): RlpIsTooShort\n",
+    ),
+];
+
+/// Receipts, accounts and withdrawals: the kind, the digits, and what is wrong.
+const PART_FAULTS: [Row; 5] = [
+    (
         "receipt f9019f01825208b901000000000000000000000000000000000000000000000000000000\
          000000000000000000000000000000000000000000000000000000000000000000000000\
          000000000000000000000000000000000000000000000000000000000000000000000000\
@@ -91,6 +112,11 @@ const FAULTS: [Row; 26] = [
          40",
         "error RlpIsTooShort\n",
     ),
+    ("withdrawal ", "error RlpExpectedToBeList\n"),
+];
+
+/// Blocks: the kind, the digits, and what is wrong.
+const BLOCK_FAULTS: [Row; 7] = [
     (
         "block f90224f9021ea0000102030405060708090a0b0c0d0e0f101112131415161718191a1b1c\
          1d1e1fa0ffffffffffffffffffffffffffffffffffffffffffffffffffffffffffffffff\
@@ -231,23 +257,10 @@ const FAULTS: [Row; 26] = [
          340005",
         "error field 3 (withdrawals[0].address): RlpIsTooBig\n",
     ),
-    (
-        "transaction 04f8b088ffffffffffffffff800102825208940102030405060708090a0b0c0d0e0f1011\
-         121314880de0b6b3a7640000821234c0f85adb80945df9b87991262f6ba471f09758cde1\
-         c0fc1de7340581ff090af83ca0ffffffffffffffffffffffffffffffffffffffffffffff\
-         ffffffffffffffffff940102030405060708090a0b0c0d0e0f1011121314808201008080\
-         0180a0ffffffffffffffffffffffffffffffffffffffffffffffffffffffffffffffff",
-        "error field 9 (authorization_list[1].y_parity): RlpIsTooBig\n",
-    ),
-    (
-        "transaction 03f8c4010780843b9aca00830f4240945df9b87991262f6ba471f09758cde1c0fc1de734\
-         8080f838f7940102030405060708090a0b0c0d0e0f1011121314e1a00001020304050607\
-         08090a0b0c0d0e0f101112131415161718191a1b1c1d1e1f03f841a00101020304050607\
-         08090a0b0c0d0e0f101112131415161718191a1b1c1d1e1f9f01eeeeeeeeeeeeeeeeeeee\
-         eeeeeeeeeeeeeeeeeeeeeeeeeeeeeeeeeeeeeeee80a08000000000000000000000000000\
-         00000000000000000000000000000000000001",
-        "error field 10 (blob_versioned_hashes[1]): RlpIsTooShort\n",
-    ),
+];
+
+/// Node records: the kind, the digits, and what is wrong.
+const NODE_RECORD_FAULTS: [Row; 5] = [
     (
         "record f846b8407098ad865b00a582051940cb9cf36836572411a47278783077011599ed5cd16b\
          76f2635f4e234738f30813a89eb9137e3e3df5266e3a1f11df72ecf1145ccb9c01826964",
@@ -276,7 +289,6 @@ const FAULTS: [Row; 26] = [
          68c3018105",
         "error field 3 (pairs[0].value[1]): RlpInvalidIndirection\n",
     ),
-    ("withdrawal ", "error RlpExpectedToBeList\n"),
 ];
 
 /// A list of 256 items with a fault in its last, a type without a payload, and digits that aren't pairs.
@@ -348,8 +360,23 @@ const NO_FORKS: [Row; 4] = [
 ];
 
 #[test]
-fn faults_are_named(rt: HostRuntime) -> Result<(), Fail> {
-    check(rt.alloc(), &FAULTS)
+fn faults_of_transactions_are_named(rt: HostRuntime) -> Result<(), Fail> {
+    check(rt.alloc(), &TRANSACTION_FAULTS)
+}
+
+#[test]
+fn faults_of_parts_are_named(rt: HostRuntime) -> Result<(), Fail> {
+    check(rt.alloc(), &PART_FAULTS)
+}
+
+#[test]
+fn faults_of_blocks_are_named(rt: HostRuntime) -> Result<(), Fail> {
+    check(rt.alloc(), &BLOCK_FAULTS)
+}
+
+#[test]
+fn faults_of_node_records_are_named(rt: HostRuntime) -> Result<(), Fail> {
+    check(rt.alloc(), &NODE_RECORD_FAULTS)
 }
 
 #[test]
