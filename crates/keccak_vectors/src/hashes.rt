@@ -99,10 +99,13 @@ fn message(alloc: Global, text: &str, count: usize) -> Result<Vec<u8>, Fail> {
 #[test]
 fn hashes(rt: HostRuntime) -> Result<(), Fail> {
     let alloc = rt.alloc();
-    for (text, count, wanted) in ROWS {
-        let hash = keccak256(message(alloc, text, count)?.as_slice());
+    for (text, count, wanted) in &ROWS {
+        let hash = keccak256(message(alloc, text, *count)?.as_slice());
         let given = hex::encode(alloc, &hash)?;
-        assert_eq!(rt; (text, count, given.as_str()), (text, count, wanted));
+        assert!(rt;
+            given.as_str() == *wanted,
+            "{text} {count}: {given}, and not {wanted}"
+        );
     }
     Ok(())
 }

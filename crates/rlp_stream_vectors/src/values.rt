@@ -9,7 +9,7 @@ use std::alloc::AllocError;
 use std::cell::Cell;
 
 /// Two numbers, written as a list of two items.
-#[derive(Clone, Copy)]
+#[derive(Drop)]
 pub(crate) struct Pair(pub(crate) u64, pub(crate) u64);
 
 impl Encodable for Pair {
@@ -17,7 +17,7 @@ impl Encodable for Pair {
 
     ghost fits = { λ p. FitsBytes 8 p.0 × FitsBytes 8 p.1 };
 
-    #[tactic(auto, using(rlp_streams::proofs::Streams::Growth::growth, rlp_streams::proofs::Streams::Filling::filling))]
+    #[tactic(auto, using(rlp_streams::proofs::Streams::Filling::filling))]
     fn rlp_append(&self, s: &mut RlpStream) -> Result<(), AllocError> {
         s.begin_list(2)?.append(&self.0)?.append(&self.1)?;
         Ok(())
@@ -25,7 +25,7 @@ impl Encodable for Pair {
 }
 
 /// A number that is appended by the call that doesn't count strings.
-#[derive(Clone, Copy)]
+#[derive(Drop)]
 pub(crate) struct Wrapper(pub(crate) u64);
 
 impl Encodable for Wrapper {
@@ -49,7 +49,7 @@ impl<'a> Encodable for Refused<'a> {
 
     ghost fits = { λ v. ⊤ };
 
-    #[tactic(auto, using(rlp_streams::proofs::Streams::Growth::growth, rlp_streams::proofs::Streams::Filling::filling))]
+    #[tactic(auto, using(rlp_streams::proofs::Streams::Filling::filling))]
     fn rlp_append(&self, s: &mut RlpStream) -> Result<(), AllocError> {
         self.0.set(self.0.get().saturating_add(1));
         s.begin_list(3)?.append(&1u64)?;
