@@ -31,7 +31,7 @@ pub(crate) fn tell(alloc: Global, call: &str, bytes: &[u8], out: &mut Line) -> f
     }
 }
 
-/// Tells what a call about fields answers, or one that a single table names.
+/// Tells what a call about fields answers.
 fn tell_fields(alloc: Global, call: &str, bytes: &[u8], out: &mut Line) -> fmt::Result {
     match call {
         "fields of BlockBodies" => fields::<WithRequestId<BlockBodies>>(alloc, bytes, out),
@@ -45,11 +45,17 @@ fn tell_fields(alloc: Global, call: &str, bytes: &[u8], out: &mut Line) -> fmt::
         "fields of Receipts" => fields::<WithRequestId<Receipts>>(alloc, bytes, out),
         "fields of Receipts69" => fields::<WithRequestId<Receipts69>>(alloc, bytes, out),
         "fields of Transactions" => fields::<Transactions>(alloc, bytes, out),
-        _ => match call.split_once(": ") {
-            Some(("id", name)) => ids::tell(alloc, name, bytes, out),
-            Some(("message", name)) => messages::tell(alloc, name, bytes, out),
-            Some(("request", name)) => requests::tell(alloc, name, bytes, out),
-            _ => write!(out, "no such call"),
-        },
+        _ => tell_named(alloc, call, bytes, out),
+    }
+}
+
+/// Tells what a call answers that a single table names.
+fn tell_named(alloc: Global, call: &str, bytes: &[u8], out: &mut Line) -> fmt::Result {
+    let (table, name) = call.split_once(": ").unwrap_or((call, ""));
+    match table {
+        "id" => ids::tell(alloc, name, bytes, out),
+        "message" => messages::tell(alloc, name, bytes, out),
+        "request" => requests::tell(alloc, name, bytes, out),
+        _ => write!(out, "no such call"),
     }
 }

@@ -21,10 +21,16 @@ pub(crate) fn tell(alloc: Global, call: &str, bytes: &[u8], out: &mut Line) -> f
         "TrieNode" => ways::<TrieNode>(alloc, bytes, out),
         "fields of TrieNode" => nodes::tell_fields(alloc, bytes, out),
         "hash of TrieNode" => nodes::tell_hash(alloc, bytes, out),
-        _ => match call.split_once(": ") {
-            Some(("node", name)) => nodes::tell(alloc, name, bytes, out),
-            Some(("node record", name)) => node_records::tell(alloc, name, bytes, out),
-            _ => write!(out, "no such call"),
-        },
+        _ => tell_named(alloc, call, bytes, out),
+    }
+}
+
+/// Tells what a call answers that a single table names.
+fn tell_named(alloc: Global, call: &str, bytes: &[u8], out: &mut Line) -> fmt::Result {
+    let (table, name) = call.split_once(": ").unwrap_or((call, ""));
+    match table {
+        "node" => nodes::tell(alloc, name, bytes, out),
+        "node record" => node_records::tell(alloc, name, bytes, out),
+        _ => write!(out, "no such call"),
     }
 }
