@@ -24,15 +24,20 @@ fn is_made(made: Result<BytesMut, AllocError>, want: &[u8]) -> bool {
     }
 }
 
-/// Returns the bytes of a value that is appended to a stream.
-fn appended<E: Encodable>(alloc: Global, value: &E) -> Result<BytesMut, AllocError> {
-    let mut s = RlpStream::new(alloc)?;
-    s.append(value)?;
+/// Returns the bytes of a stream, if no list is open.
+fn finished(s: RlpStream) -> Result<BytesMut, AllocError> {
     if s.is_finished() {
         Ok(s.out())
     } else {
         Err(AllocError)
     }
+}
+
+/// Returns the bytes of a value that is appended to a stream.
+fn appended<E: Encodable>(alloc: Global, value: &E) -> Result<BytesMut, AllocError> {
+    let mut s = RlpStream::new(alloc)?;
+    s.append(value)?;
+    finished(s)
 }
 
 /// Returns whether a value is written as these bytes: alone, by both functions for it, and in a
@@ -47,11 +52,7 @@ pub(crate) fn is_written<E: Encodable>(alloc: Global, value: &E, want: &[u8]) ->
 fn listed<E: Encodable>(alloc: Global, values: &[E]) -> Result<BytesMut, AllocError> {
     let mut s = RlpStream::new(alloc)?;
     s.append_list(values)?;
-    if s.is_finished() {
-        Ok(s.out())
-    } else {
-        Err(AllocError)
-    }
+    finished(s)
 }
 
 /// Returns whether the list of values is written as these bytes, alone and in a stream.

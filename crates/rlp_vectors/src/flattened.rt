@@ -37,13 +37,18 @@ pub(crate) fn tell_tree(alloc: Global, bytes: &[u8], depth: usize, out: &mut Lin
 /// Tells items in flat form.
 fn tell_flat(items: &[FlatItem], out: &mut Line) -> fmt::Result {
     for item in items {
-        let kind = if item.is_list { "list" } else { "string" };
-        let (header, payload) = (item.header_len, item.payload_len);
-        write!(
-            out,
-            "{kind} {}+{header}+{payload} in {}; ",
-            item.place, item.depth
-        )?;
+        tell_item(item, out)?;
     }
     Ok(())
+}
+
+/// Tells an item in flat form.
+fn tell_item(item: &FlatItem, out: &mut Line) -> fmt::Result {
+    let kind = if item.is_list { "list" } else { "string" };
+    let (header, payload) = (item.header_len, item.payload_len);
+    write!(
+        out,
+        "{kind} {}+{header}+{payload} in {}; ",
+        item.place, item.depth
+    )
 }

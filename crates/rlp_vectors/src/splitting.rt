@@ -1,6 +1,6 @@
 //! Items that are split off the beginning of bytes.
 
-use crate::rows::{raw, view_of};
+use crate::rows::{raw, tell_next, view_of};
 use rlp::{DecoderError, Rlp};
 use rlp_rows::{Hex, Line};
 use std::alloc::Global;
@@ -53,7 +53,7 @@ pub(crate) fn tell_split(bytes: &[u8], strict: bool, out: &mut Line) -> fmt::Res
     for _ in 0..=bytes.len() {
         match view_of(left, strict).split_first() {
             Ok((item, rest)) => {
-                write!(out, "{:?} ", raw(Ok(item), strict))?;
+                tell_next(&raw(Ok(item), strict), out)?;
                 left = rest;
             }
             Err(fault) => return write!(out, "{fault} {:?}", Hex(left)),
@@ -67,8 +67,9 @@ pub(crate) fn tell_split(bytes: &[u8], strict: bool, out: &mut Line) -> fmt::Res
 pub(crate) fn tell_first(alloc: Global, bytes: &[u8], strict: bool, out: &mut Line) -> fmt::Result {
     match view_of(bytes, strict).split_first() {
         Ok((item, rest)) => {
-            let (canonical, rest) = (item.is_canonical(9), Hex(rest));
-            write!(out, "{canonical} {:?} {rest:?}", fault_of(alloc, &item))
+            tell_next(&item.is_canonical(9), out)?;
+            tell_next(&fault_of(alloc, &item), out)?;
+            tell_next(&Hex(rest), out)
         }
         Err(fault) => write!(out, "{fault}"),
     }
