@@ -73,13 +73,14 @@ fn tell_alone_or_fields(alloc: Global, call: &str, bytes: &[u8], out: &mut Line)
 
 /// Tells what a call answers that a single table names.
 fn tell_named(alloc: Global, call: &str, bytes: &[u8], out: &mut Line) -> fmt::Result {
-    match call.split_once(": ") {
-        Some(("record", name)) => records::tell(alloc, name, bytes, out),
-        Some(("signing", name)) => unsigned::tell_signed(alloc, name, bytes, out),
-        Some(("sent", name)) => signing::tell_sent(alloc, name, bytes, out),
-        Some(("signed", name)) => unsigned::tell(alloc, name, bytes, out),
-        Some(("hash", name)) => hashes::tell(alloc, name, bytes, out),
-        Some(("at most", most)) => bounded::tell(alloc, most, bytes, out),
+    let (table, name) = call.split_once(": ").unwrap_or((call, ""));
+    match table {
+        "record" => records::tell(alloc, name, bytes, out),
+        "signing" => unsigned::tell_signed(alloc, name, bytes, out),
+        "sent" => signing::tell_sent(alloc, name, bytes, out),
+        "signed" => unsigned::tell(alloc, name, bytes, out),
+        "hash" => hashes::tell(alloc, name, bytes, out),
+        "at most" => bounded::tell(alloc, name, bytes, out),
         _ => write!(out, "no such call"),
     }
 }

@@ -50,17 +50,17 @@ impl Told for Header {
 
 /// Tells the bytes of a header.
 fn tell_hashes(header: &Header, out: &mut Line) -> fmt::Result {
-    let words = [
-        header.parent_hash.0.as_slice(),
-        header.ommers_hash.0.as_slice(),
-        header.beneficiary.0.as_slice(),
-        header.state_root.0.as_slice(),
-        header.transactions_root.0.as_slice(),
-        header.receipts_root.0.as_slice(),
-        header.difficulty.bytes.as_slice(),
+    let words: [&[u8]; 10] = [
+        &header.parent_hash.0,
+        &header.ommers_hash.0,
+        &header.beneficiary.0,
+        &header.state_root.0,
+        &header.transactions_root.0,
+        &header.receipts_root.0,
+        &header.difficulty.bytes,
         header.extra_data.as_slice(),
-        header.mix_hash.0.as_slice(),
-        header.nonce.as_slice(),
+        &header.mix_hash.0,
+        &header.nonce,
     ];
     tell_words(&words, out)
 }
@@ -169,13 +169,13 @@ impl Told for SignedLegacyTransaction {
             Recipient::Creation => b"".as_slice(),
             Recipient::Account(address) => address.0.as_slice(),
         };
-        let words = [
+        let words: [&[u8]; 6] = [
             to,
-            tx.gas_price.bytes.as_slice(),
-            tx.value.bytes.as_slice(),
-            self.v.bytes.as_slice(),
-            self.r.bytes.as_slice(),
-            self.s.bytes.as_slice(),
+            &tx.gas_price.bytes,
+            &tx.value.bytes,
+            &self.v.bytes,
+            &self.r.bytes,
+            &self.s.bytes,
         ];
         tell_words(&words, out)?;
         let (nonce, gas_limit, len) = (tx.nonce, tx.gas_limit, tx.data.len());
@@ -186,14 +186,14 @@ impl Told for SignedLegacyTransaction {
 /// Tells the fields of a transaction of type 3.
 fn tell_blob(signed: &Signed<BlobTransaction>, out: &mut Line) -> fmt::Result {
     let tx = &signed.payload;
-    let words = [
-        tx.max_priority_fee_per_gas.bytes.as_slice(),
-        tx.max_fee_per_gas.bytes.as_slice(),
-        tx.value.bytes.as_slice(),
+    let words: [&[u8]; 7] = [
+        &tx.max_priority_fee_per_gas.bytes,
+        &tx.max_fee_per_gas.bytes,
+        &tx.value.bytes,
         tx.data.as_slice(),
-        tx.max_fee_per_blob_gas.bytes.as_slice(),
-        signed.r.bytes.as_slice(),
-        signed.s.bytes.as_slice(),
+        &tx.max_fee_per_blob_gas.bytes,
+        &signed.r.bytes,
+        &signed.s.bytes,
     ];
     tell_words(&words, out)?;
     let (chain, nonce, gas) = (tx.chain_id, tx.nonce, tx.gas_limit);
@@ -205,13 +205,13 @@ fn tell_blob(signed: &Signed<BlobTransaction>, out: &mut Line) -> fmt::Result {
 /// Tells the fields of a transaction of type 4.
 fn tell_set_code(signed: &Signed<SetCodeTransaction>, out: &mut Line) -> fmt::Result {
     let tx = &signed.payload;
-    let words = [
-        tx.max_priority_fee_per_gas.bytes.as_slice(),
-        tx.max_fee_per_gas.bytes.as_slice(),
-        tx.value.bytes.as_slice(),
+    let words: [&[u8]; 6] = [
+        &tx.max_priority_fee_per_gas.bytes,
+        &tx.max_fee_per_gas.bytes,
+        &tx.value.bytes,
         tx.data.as_slice(),
-        signed.r.bytes.as_slice(),
-        signed.s.bytes.as_slice(),
+        &signed.r.bytes,
+        &signed.s.bytes,
     ];
     tell_words(&words, out)?;
     let (nonce, gas, parity) = (tx.nonce, tx.gas_limit, signed.v);
@@ -220,11 +220,7 @@ fn tell_set_code(signed: &Signed<SetCodeTransaction>, out: &mut Line) -> fmt::Re
 
 /// Tells the fields of an authorization.
 fn tell_authorization(one: &SignedAuthorization, out: &mut Line) -> fmt::Result {
-    let words = [
-        one.payload.chain_id.bytes.as_slice(),
-        one.r.bytes.as_slice(),
-        one.s.bytes.as_slice(),
-    ];
+    let words: [&[u8]; 3] = [&one.payload.chain_id.bytes, &one.r.bytes, &one.s.bytes];
     tell_words(&words, out)?;
     let (nonce, parity) = (one.payload.nonce, one.v);
     write!(out, " {nonce} {parity}")
