@@ -6,7 +6,7 @@ use rlp_ethereum::laws::{
     reading_without_memory_is_total, record_is_read, record_is_written, record_round_trips,
 };
 use rlp_ethereum::{Account, AnyTransaction, Record, Withdrawal};
-use std::alloc::{AllocError, Global};
+use std::alloc::Global;
 use std::test::Fail;
 
 /// A withdrawal of 4 Gwei, worked out by the rules of the format.
@@ -26,14 +26,10 @@ fn laws_hold<R: Record>(alloc: Global, text: &str) -> Result<bool, Fail> {
     let again = reading_without_memory_is_total::<R>(alloc, bytes.as_slice())?;
     let back = record_round_trips(alloc, &again)?;
     encodings_tell_records(&value, &back);
-    let bytes = bytes.as_slice();
-    Ok(is_written_as(alloc, &value, bytes)? && is_written_as(alloc, &back, bytes)?)
-}
-
-/// Returns whether a record is written as these bytes.
-fn is_written_as<R: Record>(alloc: Global, record: &R, bytes: &[u8]) -> Result<bool, AllocError> {
-    let written = record_is_written(alloc, record)?;
-    Ok(written.as_slice() == bytes)
+    Ok(
+        record_is_written(alloc, &value)?.as_slice() == bytes.as_slice()
+            && record_is_written(alloc, &back)?.as_slice() == bytes.as_slice(),
+    )
 }
 
 #[test]
