@@ -2,12 +2,13 @@
 use Rattle.std.proofs.Common.{◌≡◌, ℕ, ◌+◌, ◌-◌, ◌^◌, ◌<◌, ◌≤◌, ◌⊎◌, Bool, List, [], ◌∷◌, ◌++◌, Option, length, sym, ◌∙◌, ap, arith, append-nil}
 use Rattle.std.proofs.Common.{length-append, ⊎_elim, inl, inr, refl, true}
 use Rattle.std.proofs.lemmas.Bool.{cond_both}
+use Rattle.std.proofs.lemmas.List.{take-append-drop}
 use Rattle.rlp_format.specs.Format.Item.{Item, string, list}
 use Rattle.rlp_format.specs.Format.Encoding.{encoding}
 use Rattle.rlp_format.specs.Format.WrittenHeader.{written_header}
 use Rattle.rlp_buffer.specs.declared.open_lists.Placeholder.{Placeholder}
 use Rattle.rlp_buffer.specs.Streams.Stack.{OpenList, Stack, is_counted_after, unbounded_count, is_last, awaits_after, count_around}
-use Rattle.rlp_buffer.specs.Streams.Stream.{State, Seen, Retains, HasRoomFor, raw_text, list_encoding, put, put_item, add, add_all}
+use Rattle.rlp_buffer.specs.Streams.Stream.{State, Seen, Retains, HasRoomFor, IsFinished, raw_text, list_encoding, put, put_item, add, add_all}
 use Rattle.rlp_buffer.specs.Streams.Stream.{with_list, count}
 use Rattle.rlp_buffer.specs.Streams.Calls.{finalized}
 use Rattle.rlp_buffer.specs.Streams.Placeholders.{lists_of, IsLaid}
@@ -136,3 +137,11 @@ room_to_put (string t) v has =
     let more = raw_count 1 v.state.front (v.state.stack.inner ++ encoding (string t)) v.state.stack.lists v.state.is_counted in
     record { enough = omega (arith, more, has.enough); few = omega (arith, more, has.few) }
 room_to_put (list xs) v has = record { enough = has.enough; few = has.few }
+
+-- ---- all bytes of a finished stream
+
+-- if no list is open, the bytes are the front and the top payload
+pub finished_bytes : (start : ℕ) (b : List ℕ) (ps : List Placeholder) (m : Bool) (s : State) → state_of start b ps m ≡ s → IsFinished s
+    → b ≡ s.front ++ s.stack.inner
+finished_bytes start b [] m s is finished = sym (take-append-drop start b) ∙ ap (λ (t : State). t.front ++ t.stack.inner) is
+finished_bytes start b (p ∷ ps) m s is finished = absurd (let none = ap (λ (t : State). t.stack.lists) is ∙ finished in let no : ⊥ = cc in no)
