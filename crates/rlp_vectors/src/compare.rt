@@ -24,20 +24,15 @@ fn is_made(made: Result<BytesMut, AllocError>, want: &[u8]) -> bool {
     }
 }
 
-/// Returns the bytes of a stream, if no list is open.
-fn finished(s: RlpStream) -> Result<BytesMut, AllocError> {
+/// Returns the bytes of a value that is appended to a stream.
+fn appended<E: Encodable>(alloc: Global, value: &E) -> Result<BytesMut, AllocError> {
+    let mut s = RlpStream::new(alloc)?;
+    s.append(value)?;
     if s.is_finished() {
         Ok(s.out())
     } else {
         Err(AllocError)
     }
-}
-
-/// Returns the bytes of a value that is appended to a stream.
-fn appended<E: Encodable>(alloc: Global, value: &E) -> Result<BytesMut, AllocError> {
-    let mut s = RlpStream::new(alloc)?;
-    s.append(value)?;
-    finished(s)
 }
 
 /// Returns whether a value is written as these bytes: alone, by both functions for it, and in a
@@ -52,7 +47,11 @@ pub(crate) fn is_written<E: Encodable>(alloc: Global, value: &E, want: &[u8]) ->
 fn listed<E: Encodable>(alloc: Global, values: &[E]) -> Result<BytesMut, AllocError> {
     let mut s = RlpStream::new(alloc)?;
     s.append_list(values)?;
-    finished(s)
+    if s.is_finished() {
+        Ok(s.out())
+    } else {
+        Err(AllocError)
+    }
 }
 
 /// Returns whether the list of values is written as these bytes, alone and in a stream.

@@ -1,6 +1,6 @@
 //! The items of a list, read in order as views and as values.
 
-use crate::rows::{raw, tell_next};
+use crate::rows::raw;
 use rlp::{DecoderError, Fields, Rlp};
 use rlp_rows::{Line, cut, number};
 use std::alloc::Global;
@@ -102,23 +102,14 @@ pub(crate) fn tell_fields(
     let (count, steps) = cut(given);
     let strict = view.is_strict();
     match opened(view, number(count), counted) {
-        Ok(fields) => tell_steps(alloc, fields, steps, strict, out),
+        Ok(mut fields) => {
+            for step in steps.bytes() {
+                tell_step(alloc, &mut fields, step, strict, out)?;
+            }
+            write!(out, "{:?}", fields.finish())
+        }
         Err(fault) => write!(out, "{fault}"),
     }
-}
-
-/// Writes what each step reads, and how the fields are finished.
-fn tell_steps(
-    alloc: Global,
-    mut fields: Fields<'_>,
-    steps: &str,
-    strict: bool,
-    out: &mut Line,
-) -> fmt::Result {
-    for step in steps.bytes() {
-        tell_step(alloc, &mut fields, step, strict, out)?;
-    }
-    tell_next(&fields.finish(), out)
 }
 
 /// Returns the fields of a view, which are counted or not.
@@ -139,9 +130,9 @@ fn tell_step(
     out: &mut Line,
 ) -> fmt::Result {
     match step {
-        b'v' => tell_next(&raw(fields.next_view(), strict), out),
-        b'n' => tell_next(&fields.next_value::<u8>(alloc), out),
-        b't' => tell_next(&fields.next_value::<String>(alloc), out),
-        _ => tell_next(&fields.next_list::<u8>(alloc), out),
+        b'v' => write!(out, "{:?} ", raw(fields.next_view(), strict)),
+        b'n' => write!(out, "{:?} ", fields.next_value::<u8>(alloc)),
+        b't' => write!(out, "{:?} ", fields.next_value::<String>(alloc)),
+        _ => write!(out, "{:?} ", fields.next_list::<u8>(alloc)),
     }
 }

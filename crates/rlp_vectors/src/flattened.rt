@@ -37,18 +37,13 @@ pub(crate) fn tell_tree(alloc: Global, bytes: &[u8], depth: usize, out: &mut Lin
 /// Tells items in flat form.
 fn tell_flat(items: &[FlatItem], out: &mut Line) -> fmt::Result {
     for item in items {
-        tell_item(item, out)?;
+        let kind = if item.is_list { "list" } else { "string" };
+        let (header, payload) = (item.header_len, item.payload_len);
+        write!(
+            out,
+            "{kind} {}+{header}+{payload} in {}; ",
+            item.place, item.depth
+        )?;
     }
     Ok(())
-}
-
-/// Tells an item in flat form.
-fn tell_item(item: &FlatItem, out: &mut Line) -> fmt::Result {
-    let kind = if item.is_list { "list" } else { "string" };
-    let (header, payload) = (item.header_len, item.payload_len);
-    write!(
-        out,
-        "{kind} {}+{header}+{payload} in {}; ",
-        item.place, item.depth
-    )
 }

@@ -1,7 +1,7 @@
 //! The items of a list and the value of an item, by the calls of a view.
 
-use crate::rows::{raw, tell_next};
-use rlp::{DecoderError, PayloadInfo, Rlp, RlpIterator};
+use crate::rows::raw;
+use rlp::{DecoderError, Rlp};
 use rlp_rows::{Hex, Line};
 use std::fmt;
 use std::fmt::Write;
@@ -95,10 +95,10 @@ pub(crate) fn tell_items(view: Rlp<'_>, call: &str, index: usize, out: &mut Line
 
 /// Tells the item of a number, by `at`, and by `at_with_offset` with its place.
 fn tell_item(view: &Rlp<'_>, strict: bool, index: usize, out: &mut Line) -> fmt::Result {
-    tell_next(&raw(view.at(index), strict), out)?;
+    let item = raw(view.at(index), strict);
     match view.at_with_offset(index) {
-        Ok((same, place)) => write!(out, "{:?} {place}", raw(Ok(same), strict)),
-        Err(fault) => write!(out, "{fault}"),
+        Ok((same, place)) => write!(out, "{item:?} {:?} {place}", raw(Ok(same), strict)),
+        Err(fault) => write!(out, "{item:?} {fault}"),
     }
 }
 
@@ -114,37 +114,28 @@ fn tell_count(view: &Rlp<'_>, out: &mut Line) -> fmt::Result {
 fn tell_iterated(view: &Rlp<'_>, strict: bool, out: &mut Line) -> fmt::Result {
     let mut items = view.iter();
     for _ in 0..items.len().saturating_add(2) {
-        tell_iteration(&mut items, strict, out)?;
+        let (len, hint) = (items.len(), items.size_hint());
+        match items.next() {
+            Some(item) => write!(out, "{len} {hint:?} {:?}; ", raw(Ok(item), strict))?,
+            None => write!(out, "{len} {hint:?}; ")?,
+        }
     }
     Ok(())
-}
-
-/// Tells what an iterator announces and gives.
-fn tell_iteration(items: &mut RlpIterator<'_, '_>, strict: bool, out: &mut Line) -> fmt::Result {
-    write!(out, "{} {:?}", items.len(), items.size_hint())?;
-    match items.next() {
-        Some(item) => write!(out, " {:?}; ", raw(Ok(item), strict)),
-        None => write!(out, "; "),
-    }
 }
 
 /// Tells the lengths of the header and of the value, the value, and the bytes of the view.
 fn tell_payload(view: Rlp<'_>, strict: bool, out: &mut Line) -> fmt::Result {
     match (view.payload_info(), view.data()) {
         (Ok(info), Ok(value)) => {
-            tell_parts(&info, &Hex(value), out)?;
-            write!(out, "of {:?}", raw(Ok(view), strict))
+            let (header, len, value) = (info.header_len, info.value_len, Hex(value));
+            write!(
+                out,
+                "{header} {len} {value:?} of {:?}",
+                raw(Ok(view), strict)
+            )
         }
-        (info, value) => {
-            tell_next(&info.err(), out)?;
-            tell_next(&value.err(), out)
-        }
+        (info, value) => write!(out, "{:?} {:?}", info.err(), value.err()),
     }
-}
-
-/// Tells the lengths of the header and of the value, and the value.
-fn tell_parts(info: &PayloadInfo, value: &Hex<'_>, out: &mut Line) -> fmt::Result {
-    write!(out, "{} {} {value:?} ", info.header_len, info.value_len)
 }
 
 /// Tells the first item of a list. The view that it is taken from is dropped before the item is

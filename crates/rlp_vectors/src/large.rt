@@ -1,10 +1,10 @@
 //! Long strings, lists of many items, and lists that nest deep.
 
-use crate::rows::tell_next;
-use rlp::{DecoderError, Rlp, RlpIterator};
+use rlp::{DecoderError, Rlp};
 use rlp_rows::{Line, bytes_of, number, push_header};
 use std::alloc::{AllocError, Global};
 use std::fmt;
+use std::fmt::Write;
 use std::test::Fail;
 
 /// Returns a header, and then `len` times a byte.
@@ -21,6 +21,16 @@ const TEXTS: [(&str, &str); 3] = [
     ("b902ff+63*700", "Some(RlpInconsistentLengthAndData)"),
 ];
 
+/// Tells the fault of reading a text.
+fn tell_text(alloc: Global, text: &str, out: &mut Line) -> fmt::Result {
+    let bytes = bytes_of(alloc, text)?;
+    write!(
+        out,
+        "{:?}",
+        rlp::decode::<String>(alloc, bytes.as_slice()).err()
+    )
+}
+
 /// Strings of bytes 07, of 2 MiB and of 16,777,215 bytes, and their lengths.
 const LONG: [(&str, &str); 2] = [
     ("ba200000+07*2097152", "Ok(2097152)"),
@@ -34,44 +44,33 @@ fn length_of(alloc: Global, bytes: &[u8]) -> Result<usize, DecoderError> {
     Ok(if is_read { string.len() } else { 0 })
 }
 
-/// Tells the fault of reading a text, or the length of a string.
-fn tell(alloc: Global, kind: &str, text: &str, out: &mut Line) -> fmt::Result {
+/// Tells the length of a string.
+fn tell_length(alloc: Global, text: &str, out: &mut Line) -> fmt::Result {
     let bytes = bytes_of(alloc, text)?;
-    if kind == "text" {
-        tell_next(&rlp::decode::<String>(alloc, bytes.as_slice()).err(), out)
-    } else {
-        tell_next(&length_of(alloc, bytes.as_slice()), out)
-    }
-}
-
-/// Notes the texts or strings that are read otherwise.
-fn check(alloc: Global, kind: &str, rows: &[(&str, &str)], wrong: &mut Line) {
-    for (text, want) in rows {
-        let mut said = Line::new();
-        let _ = tell(alloc, kind, text, &mut said);
-        wrong.note(kind, text, said.as_str().trim_end(), want);
-    }
-}
-
-/// Returns whether bytes print as this string.
-fn prints_as(alloc: Global, bytes: &[u8], digits: &str) -> Result<bool, AllocError> {
-    let text = format!(in alloc; "{}", Rlp::new(bytes))?;
-    let want = format!(in alloc; "\"0x{digits}\"")?;
-    Ok(text.as_str() == want.as_str())
+    write!(out, "{:?}", length_of(alloc, bytes.as_slice()))
 }
 
 /// Returns whether a string of 70,000 bytes is printed.
 fn is_printed(alloc: Global) -> Result<bool, AllocError> {
     let bytes = filled(alloc, b"\xba\x01\x11\x70", 70_000, 0x5a)?;
+    let text = format!(in alloc; "{}", Rlp::new(bytes.as_slice()))?;
     let digits = "5a".repeat(alloc, 70_000)?;
-    prints_as(alloc, bytes.as_slice(), digits.as_str())
+    Ok(text.as_str() == format!(in alloc; "\"0x{digits}\"")?.as_str())
 }
 
 #[test]
 fn long_strings(rt: HostRuntime) -> Result<(), Fail> {
     let mut wrong = Line::new();
-    check(rt.alloc(), "text", &TEXTS, &mut wrong);
-    check(rt.alloc(), "string", &LONG, &mut wrong);
+    for (text, want) in &TEXTS {
+        let mut said = Line::new();
+        let _ = tell_text(rt.alloc(), text, &mut said);
+        wrong.note("text", text, said.as_str(), want);
+    }
+    for (text, want) in &LONG {
+        let mut said = Line::new();
+        let _ = tell_length(rt.alloc(), text, &mut said);
+        wrong.note("string", text, said.as_str(), want);
+    }
     assert!(rt; is_printed(rt.alloc()) == Ok(true));
     wrong.none_noted()
 }
@@ -86,24 +85,18 @@ fn iterates_ones(view: &Rlp<'_>, len: usize) -> bool {
             _ => return false,
         }
     }
-    ends_in_one(items)
-}
-
-/// Returns whether an iterator gives one more item, and then `None` each time.
-fn ends_in_one(mut items: RlpIterator<'_, '_>) -> bool {
     items.len() == 1 && items.next().is_some() && items.next().is_none() && items.next().is_none()
 }
 
-/// Returns whether a list has `len` items, the last of them 01 and at the last place.
-fn ends_with_one(view: &Rlp<'_>, len: usize) -> Result<bool, DecoderError> {
-    let place = view.as_raw().len().saturating_sub(1);
+/// Returns whether a list has `len` items, the last of them 01 and at this place.
+fn ends_with_one(view: &Rlp<'_>, len: usize, place: usize) -> Result<bool, DecoderError> {
     let (last, found) = view.at_with_offset(len.saturating_sub(1))?;
-    Ok(last.as_raw() == [0x01].as_slice() && found == place && has_items(view, len))
-}
-
-/// Returns whether a list has `len` items.
-fn has_items(view: &Rlp<'_>, len: usize) -> bool {
-    view.item_count() == Ok(len) && view.at(len).err() == Some(DecoderError::RlpIsTooShort)
+    Ok(
+        last.as_raw() == [0x01].as_slice()
+            && found == place
+            && view.item_count()? == len
+            && view.at(len).err() == Some(DecoderError::RlpIsTooShort),
+    )
 }
 
 /// Returns whether a list is read as `len` numbers, which are the bytes at its end.
@@ -114,21 +107,16 @@ fn gives_ones(alloc: Global, view: &Rlp<'_>, len: usize) -> bool {
     }
 }
 
-/// Writes the header of one more list around what is written backwards, and before that its siblings.
-fn enclose(backwards: &mut Vec<u8>, siblings: bool) -> Result<(), AllocError> {
-    if siblings {
-        backwards.insert(0, 0xc0)?;
-        backwards.extend_from_slice(&[0x80])?;
-    }
-    push_header(backwards)
-}
-
 /// Returns lists, one inside another. If they have siblings, each but the outermost stands between
 /// the empty string and the empty list. The bytes are written from the end.
 pub(crate) fn nested(alloc: Global, levels: usize, siblings: bool) -> Result<Vec<u8>, AllocError> {
     let mut backwards = Vec::from_slice(alloc, &[0xc0])?;
     for _ in 1..levels {
-        enclose(&mut backwards, siblings)?;
+        if siblings {
+            backwards.insert(0, 0xc0)?;
+            backwards.extend_from_slice(&[0x80])?;
+        }
+        push_header(&mut backwards)?;
     }
     backwards.as_mut_slice().reverse();
     Ok(backwards)
@@ -161,12 +149,18 @@ fn prints_ones(alloc: Global, view: &Rlp<'_>, len: usize) -> Result<bool, AllocE
     )
 }
 
-/// Tells which calls read or print a list of `len` items 01.
-fn tell_ones(alloc: Global, view: &Rlp<'_>, len: usize, out: &mut Line) -> fmt::Result {
-    tell_next(&iterates_ones(view, len), out)?;
-    tell_next(&ends_with_one(view, len), out)?;
-    tell_next(&gives_ones(alloc, view, len), out)?;
-    tell_next(&prints_ones(alloc, view, len), out)
+/// Tells which calls read or print a list of `len` items 01, the last of them at this place.
+fn tell_ones(
+    alloc: Global,
+    view: &Rlp<'_>,
+    len: usize,
+    place: usize,
+    out: &mut Line,
+) -> fmt::Result {
+    write!(out, "{} ", iterates_ones(view, len))?;
+    write!(out, "{:?} ", ends_with_one(view, len, place))?;
+    write!(out, "{} ", gives_ones(alloc, view, len))?;
+    write!(out, "{:?}", prints_ones(alloc, view, len))
 }
 
 /// The headers of lists of bytes 01, and the numbers of these.
@@ -179,10 +173,15 @@ const ONES: [(&str, &str); 2] = [
 fn check_ones(alloc: Global, wrong: &mut Line) -> Result<(), AllocError> {
     for (text, len) in &ONES {
         let (bytes, mut said) = (bytes_of(alloc, text)?, Line::new());
-        let view = Rlp::new(bytes.as_slice());
-        let _ = tell_ones(alloc, &view, number(len), &mut said);
-        let want = "true Ok(true) true Ok(true)";
-        wrong.note("list", text, said.as_str().trim_end(), want);
+        let place = bytes.len().saturating_sub(1);
+        let _ = tell_ones(
+            alloc,
+            &Rlp::new(bytes.as_slice()),
+            number(len),
+            place,
+            &mut said,
+        );
+        wrong.note("list", text, said.as_str(), "true Ok(true) true Ok(true)");
     }
     Ok(())
 }

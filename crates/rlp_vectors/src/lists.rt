@@ -1,11 +1,12 @@
 //! Values that are read from the items of a list.
 
-use crate::rows::{tell_next, tell_same, view_of};
+use crate::rows::{tell_same, view_of};
 use rlp::{Decodable, DecoderError, Rlp};
 use rlp_examples::Odd;
 use rlp_rows::Line;
 use std::alloc::Global;
 use std::fmt;
+use std::fmt::Write;
 
 /// Rows of lists.
 pub(crate) const ROWS: &str = "
@@ -148,19 +149,19 @@ pub(crate) fn tell_list_at(
     out: &mut Line,
 ) -> fmt::Result {
     if of == "u8" {
-        tell_next(&view.list_at::<u8>(alloc, index), out)
+        write!(out, "{:?}", view.list_at::<u8>(alloc, index))
     } else {
-        tell_next(&view.list_at::<u64>(alloc, index), out)
+        write!(out, "{:?}", view.list_at::<u64>(alloc, index))
     }
 }
 
 /// Tells the number of the items of a list before and after its third item is read, whether the
 /// second is a list, and the third number that the third holds.
 pub(crate) fn tell_third(alloc: Global, view: &Rlp<'_>, out: &mut Line) -> fmt::Result {
-    tell_next(&view.item_count(), out)?;
-    tell_next(&second_is_list(view), out)?;
-    tell_next(&third_of_third(alloc, view), out)?;
-    tell_next(&view.item_count(), out)
+    write!(out, "{:?} ", view.item_count())?;
+    write!(out, "{} ", second_is_list(view))?;
+    write!(out, "{:?} ", third_of_third(alloc, view))?;
+    write!(out, "{:?}", view.item_count())
 }
 
 /// Returns whether the second item is a list.

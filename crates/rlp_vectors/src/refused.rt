@@ -13,41 +13,24 @@ use std::alloc::{AllocError, Global};
 fn buffer_comes_back(alloc: Global) -> Result<bool, AllocError> {
     let mut junk = BytesMut::new(alloc);
     junk.extend_from_slice(b"junk")?;
-    is_front_or_comes_back(RlpStream::new_list_with_buffer(alloc, junk, 2))
-}
-
-/// Returns whether a list begins behind the buffer, or fails if the buffer is returned.
-fn is_front_or_comes_back(begun: Result<RlpStream, BytesMut>) -> Result<bool, AllocError> {
-    match begun {
+    match RlpStream::new_list_with_buffer(alloc, junk, 2) {
         Ok(s) => Ok(s.as_raw() == b"junk\0".as_slice() && s.items_awaited() == Some(2)),
         Err(buffer) if buffer.as_slice() == b"junk".as_slice() => Err(AllocError),
         Err(_) => Ok(false),
     }
 }
 
-/// Returns whether a new stream is empty.
-fn stream_is_new(alloc: Global) -> Result<bool, AllocError> {
-    Ok(RlpStream::new(alloc)?.is_empty())
-}
-
-/// Returns whether a new list holds no item.
-fn list_is_new(alloc: Global) -> Result<bool, AllocError> {
-    Ok(RlpStream::new_list(alloc, 3)?.as_raw() == [0x00].as_slice())
-}
-
-/// Returns whether a value is encoded as these bytes.
-fn encodes_as<E: Encodable>(alloc: Global, value: &E, want: &[u8]) -> Result<bool, AllocError> {
-    Ok(rlp::encode(alloc, value)?.as_slice() == want)
+/// Returns whether a new stream is empty, and a new list holds no item.
+fn streams_are_new(alloc: Global) -> Result<bool, AllocError> {
+    Ok(
+        RlpStream::new(alloc)?.is_empty()
+            && RlpStream::new_list(alloc, 3)?.as_raw() == [0x00].as_slice(),
+    )
 }
 
 /// Returns whether a value is encoded as these bytes, by both functions for it.
 fn is_encoded<E: Encodable>(alloc: Global, value: &E, want: &[u8]) -> Result<bool, AllocError> {
-    Ok(encodes_as(alloc, value, want)? && value.rlp_bytes(alloc)?.as_slice() == want)
-}
-
-/// Returns whether the encoding of a value has this length.
-fn has_len<E: Encodable>(alloc: Global, value: &E, len: usize) -> Result<bool, AllocError> {
-    Ok(rlp::encode(alloc, value)?.len() == len)
+    Ok(rlp::encode(alloc, value)?.as_slice() == want && value.rlp_bytes(alloc)?.as_slice() == want)
 }
 
 /// Returns whether a list of values is encoded as these bytes.
@@ -60,7 +43,7 @@ fn what_is_made(rt: HostRuntime) -> Result<(), AllocError> {
     let alloc = rt.alloc();
     let pairs = [Pair(1, 2), Pair(3, 4)];
     assert!(rt; buffer_comes_back(alloc)?);
-    assert!(rt; stream_is_new(alloc)? && list_is_new(alloc)?);
+    assert!(rt; streams_are_new(alloc)?);
     assert!(rt; is_encoded(alloc, &"Lorem ipsum", b"\x8bLorem ipsum")?);
     assert!(rt; is_listed(alloc, &pairs, b"\xc6\xc2\x01\x02\xc2\x03\x04")?);
     Ok(())
@@ -78,8 +61,8 @@ fn what_is_encoded(rt: HostRuntime) -> Result<(), AllocError> {
     let alloc = rt.alloc();
     assert!(rt; numbers_are_listed(alloc)?);
     assert!(rt; is_listed(alloc, &["cat", "dog"], b"\xc8\x83cat\x83dog")?);
-    assert!(rt; has_len(alloc, &[0x61u8; 32], 33)?);
-    assert!(rt; has_len(alloc, &Uint { bytes: [1; 32] }, 33)?);
-    assert!(rt; encodes_as(alloc, &Some(5u64), &[0xc1, 0x05])?);
+    assert!(rt; rlp::encode(alloc, &[0x61u8; 32])?.len() == 33);
+    assert!(rt; rlp::encode(alloc, &Uint { bytes: [1; 32] })?.len() == 33);
+    assert!(rt; rlp::encode(alloc, &Some(5u64))?.as_slice() == [0xc1, 0x05].as_slice());
     Ok(())
 }

@@ -40,15 +40,10 @@ pub(crate) fn check(alloc: Global, table: &str, wrong: &mut Line) {
     for part in table.split("\n\n") {
         let (head, rows) = part.split_once(":\n").unwrap_or(("", part));
         let (_, calls) = head.rsplit_once('\n').unwrap_or(("", head));
-        check_part(alloc, calls.trim(), rows, wrong);
-    }
-}
-
-/// Notes the rows of a part that have another answer.
-fn check_part(alloc: Global, calls: &str, rows: &str, wrong: &mut Line) {
-    for row in rows.lines() {
-        let (given, want) = row.trim().split_once(" | ").unwrap_or((row, ""));
-        check_row(alloc, calls, given, want, wrong);
+        for row in rows.lines() {
+            let (given, want) = row.trim().split_once(" | ").unwrap_or((row, ""));
+            check_row(alloc, calls.trim(), given, want, wrong);
+        }
     }
 }
 
@@ -90,34 +85,19 @@ fn tell(alloc: Global, call: &str, given: &str, out: &mut Line) -> fmt::Result {
     let strict = kind == "strict";
     match call {
         "fault" => tell_fault(alloc, digits, out),
-        "fields" => tell_fields(alloc, view_of(bytes, strict), false, rest, out),
-        "fields_of" => tell_fields(alloc, view_of(bytes, strict), true, rest, out),
+        "view" => tell_view(&view_of(bytes, strict), of, number(rest), out),
         "value" => tell_value(alloc, bytes, strict, of, out),
         "list" => tell_list(alloc, bytes, strict, of, out),
-        _ => tell_viewed(alloc, bytes, strict, call, of, number(rest), out),
-    }
-}
-
-/// Writes what a call answers that is given a number, or that splits bytes.
-fn tell_viewed(
-    alloc: Global,
-    bytes: &[u8],
-    strict: bool,
-    call: &str,
-    of: &str,
-    number: usize,
-    out: &mut Line,
-) -> fmt::Result {
-    match call {
-        "view" => tell_view(&view_of(bytes, strict), of, number, out),
-        "value_at" => tell_value_at(alloc, &view_of(bytes, strict), of, number, out),
-        "list_at" => tell_list_at(alloc, &view_of(bytes, strict), of, number, out),
+        "fields" => tell_fields(alloc, view_of(bytes, strict), false, rest, out),
+        "fields_of" => tell_fields(alloc, view_of(bytes, strict), true, rest, out),
+        "value_at" => tell_value_at(alloc, &view_of(bytes, strict), of, number(rest), out),
+        "list_at" => tell_list_at(alloc, &view_of(bytes, strict), of, number(rest), out),
         "split" => tell_split(bytes, strict, out),
         "first" => tell_first(alloc, bytes, strict, out),
         "item" | "count" | "iterated" | "payload" => {
-            tell_items(view_of(bytes, strict).clone(), call, number, out)
+            tell_items(view_of(bytes, strict).clone(), call, number(rest), out)
         }
-        _ => tell_other(alloc, bytes, call, number, out),
+        _ => tell_other(alloc, bytes, call, number(rest), out),
     }
 }
 
@@ -143,22 +123,17 @@ fn tell_other(
     }
 }
 
-/// Tells a value, with a space behind it.
-pub(crate) fn tell_next<T: fmt::Debug>(value: &T, out: &mut Line) -> fmt::Result {
-    write!(out, "{value:?} ")
-}
-
 /// Tells what is read in one way, and by a view if that is something else.
 pub(crate) fn tell_same<T: fmt::Debug + PartialEq>(
     read: &Result<T, DecoderError>,
     viewed: &Result<T, DecoderError>,
     out: &mut Line,
 ) -> fmt::Result {
-    write!(out, "{read:?}")?;
     if read == viewed {
-        return Ok(());
+        write!(out, "{read:?}")
+    } else {
+        write!(out, "{read:?}, of a view {viewed:?}")
     }
-    write!(out, ", of a view {viewed:?}")
 }
 
 /// Returns a view of the bytes.

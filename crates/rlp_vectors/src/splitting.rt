@@ -1,6 +1,6 @@
 //! Items that are split off the beginning of bytes.
 
-use crate::rows::{raw, tell_next, view_of};
+use crate::rows::{raw, view_of};
 use rlp::{DecoderError, Rlp};
 use rlp_rows::{Hex, Line};
 use std::alloc::Global;
@@ -53,7 +53,7 @@ pub(crate) fn tell_split(bytes: &[u8], strict: bool, out: &mut Line) -> fmt::Res
     for _ in 0..=bytes.len() {
         match view_of(left, strict).split_first() {
             Ok((item, rest)) => {
-                tell_next(&raw(Ok(item), strict), out)?;
+                write!(out, "{:?} ", raw(Ok(item), strict))?;
                 left = rest;
             }
             Err(fault) => return write!(out, "{fault} {:?}", Hex(left)),
@@ -67,9 +67,8 @@ pub(crate) fn tell_split(bytes: &[u8], strict: bool, out: &mut Line) -> fmt::Res
 pub(crate) fn tell_first(alloc: Global, bytes: &[u8], strict: bool, out: &mut Line) -> fmt::Result {
     match view_of(bytes, strict).split_first() {
         Ok((item, rest)) => {
-            tell_next(&item.is_canonical(9), out)?;
-            tell_next(&fault_of(alloc, &item), out)?;
-            tell_next(&Hex(rest), out)
+            let (canonical, rest) = (item.is_canonical(9), Hex(rest));
+            write!(out, "{canonical} {:?} {rest:?}", fault_of(alloc, &item))
         }
         Err(fault) => write!(out, "{fault}"),
     }

@@ -1,10 +1,10 @@
 //! Strict decoding, and the invalid encodings that the public standard lists.
 
-use crate::rows::tell_next;
-use rlp::{DecoderError, Rlp};
+use rlp::Rlp;
 use rlp_rows::Line;
 use std::alloc::Global;
 use std::fmt;
+use std::fmt::Write;
 
 /// Rows of strict values and invalid encodings.
 pub(crate) const ROWS: &str = "
@@ -86,25 +86,21 @@ pub(crate) const ROWS: &str = "
 /// Tells whether the bytes are canonical, and the fault of reading them strictly: as a list if they
 /// begin as one, else as a string.
 pub(crate) fn tell_invalid(alloc: Global, bytes: &[u8], out: &mut Line) -> fmt::Result {
-    tell_next(&Rlp::new(bytes).is_canonical(9), out)?;
-    tell_next(&fault_of(alloc, &Rlp::new_strict(bytes)), out)
-}
-
-/// Returns the fault of a view as a list, if it begins as one, else as a string.
-fn fault_of(alloc: Global, view: &Rlp<'_>) -> Option<DecoderError> {
-    if view.is_list() {
+    let view = Rlp::new_strict(bytes);
+    let fault = if view.is_list() {
         view.item_count().err()
     } else {
         view.as_val::<Vec<u8>>(alloc).err()
-    }
+    };
+    write!(out, "{} {fault:?}", Rlp::new(bytes).is_canonical(9))
 }
 
 /// Tells what is read as a number from bytes that are to be whole.
 pub(crate) fn tell_whole(alloc: Global, bytes: &[u8], out: &mut Line) -> fmt::Result {
-    tell_next(&rlp::decode_whole::<u64>(alloc, bytes), out)
+    write!(out, "{:?}", rlp::decode_whole::<u64>(alloc, bytes))
 }
 
 /// Tells what is read as a list of numbers from bytes that are to be whole.
 pub(crate) fn tell_whole_list(alloc: Global, bytes: &[u8], out: &mut Line) -> fmt::Result {
-    tell_next(&rlp::decode_list_whole::<u64>(alloc, bytes), out)
+    write!(out, "{:?}", rlp::decode_list_whole::<u64>(alloc, bytes))
 }

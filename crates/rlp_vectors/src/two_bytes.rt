@@ -2,7 +2,7 @@
 //! expected numbers were counted by the tables of the format, not by these calls.
 
 use bytes::{Bytes, BytesMut};
-use rlp::{BasicDecoder, Decodable, DecoderError, PayloadInfo, Prototype, Rlp, RlpIterator, Uint};
+use rlp::{BasicDecoder, Decodable, DecoderError, PayloadInfo, Prototype, Rlp, Uint};
 use rlp_rows::{Line, cut, number};
 use std::alloc::Global;
 use std::fmt;
@@ -110,28 +110,16 @@ fn answered(alloc: Global, bytes: &[u8], call: &str) -> Answer {
 fn of_view(view: &Rlp<'_>, call: &str) -> Answer {
     match call {
         "payload_info" => of_header(view.payload_info()),
-        "data" => of_data(view.data()),
+        "data" => match view.data() {
+            Ok(data) => (0, data.len()),
+            Err(fault) => (place_of(&fault), 0),
+        },
         "item_count" => (place(&view.item_count()), 0),
         "at 0" => (place(&view.at(0)), 0),
         "at 1" => (place(&view.at(1)), 0),
-        _ => of_item(view.at_with_offset(index_of(call))),
-    }
-}
-
-/// Returns the number of the item that a call asks for.
-fn index_of(call: &str) -> usize {
-    match call {
-        "item 0" => 0,
-        "item 1" => 1,
-        _ => usize::MAX,
-    }
-}
-
-/// Returns what a value gives, which measures its length.
-fn of_data(data: Result<&[u8], DecoderError>) -> Answer {
-    match data {
-        Ok(data) => (0, data.len()),
-        Err(fault) => (place_of(&fault), 0),
+        "item 0" => of_item(view.at_with_offset(0)),
+        "item 1" => of_item(view.at_with_offset(1)),
+        _ => of_item(view.at_with_offset(usize::MAX)),
     }
 }
 
@@ -227,15 +215,12 @@ fn is_numbered(view: &Rlp<'_>) -> bool {
         }
         index = index.saturating_add(1);
     }
-    has_ended(&mut items) && len == index && len == view.item_count().unwrap_or(0)
-}
-
-/// Returns whether an iterator gives `None` each time, and announces no item.
-fn has_ended(items: &mut RlpIterator<'_, '_>) -> bool {
     items.next().is_none()
         && items.next().is_none()
         && items.len() == 0
         && items.size_hint() == (0, Some(0))
+        && len == index
+        && len == view.item_count().unwrap_or(0)
 }
 
 /// Returns what a view measures of an input: 1 if it is so, or a length.
@@ -248,13 +233,6 @@ fn measured(view: &Rlp<'_>, call: &str) -> usize {
         "is_int" => usize::from(view.is_int()),
         "within" => usize::from(view.is_nested_within(number(limit))),
         "canonical" => usize::from(view.is_canonical(number(limit))),
-        _ => length_of(view, call),
-    }
-}
-
-/// Returns a length that a view measures of an input, or 1 if it is so.
-fn length_of(view: &Rlp<'_>, call: &str) -> usize {
-    match call {
         "size" => view.size(),
         "string" => lengths_of(view).0,
         "items" => lengths_of(view).1,

@@ -69,9 +69,6 @@ const NESTS: &str = "\
 nest cdccc28001c20102c20203c20304
 nests dddccdccc28001c20102c20203c20304cdccc28001c20102c20203c20304";
 
-/// The tables of rows.
-const TABLES: [&str; 5] = [VALUES, NUMBERS, CUSTOM, MESSAGES, NESTS];
-
 /// Returns whether bytes are read as a value of this kind, which is written as the wanted bytes, or are
 /// read with this fault. Pairs, messages and rows are read strictly.
 fn is_as(alloc: Global, kind: &str, bytes: &[u8], want: &str) -> bool {
@@ -165,19 +162,13 @@ fn numbers_are_read(alloc: Global) -> Result<bool, DecoderError> {
     Ok(read.as_slice() == [1, 2, 3, 7, 0xff].as_slice())
 }
 
-/// Returns whether a row is met.
-fn is_met(alloc: Global, row: &str) -> Result<bool, AllocError> {
-    let (what, want) = row.split_once(" = ").unwrap_or((row, ""));
-    let (kind, text) = cut(what);
-    let bytes = bytes_of(alloc, text)?;
-    Ok(is_as(alloc, kind, bytes.as_slice(), want))
-}
-
 /// Fails with the first row that isn't met.
 fn all_met(alloc: Global) -> Result<(), Fail> {
-    for table in &TABLES {
+    for table in [VALUES, NUMBERS, CUSTOM, MESSAGES, NESTS] {
         for row in table.lines() {
-            if !is_met(alloc, row)? {
+            let (what, want) = row.split_once(" = ").unwrap_or((row, ""));
+            let (kind, text) = cut(what);
+            if !is_as(alloc, kind, bytes_of(alloc, text)?.as_slice(), want) {
                 return Err(Fail::new(row));
             }
         }

@@ -1,6 +1,5 @@
 //! The calls of a view about all its bytes, and headers at the lengths at which their form changes.
 
-use crate::rows::tell_next;
 use rlp::{PayloadInfo, Rlp};
 use rlp_rows::Line;
 use std::fmt;
@@ -145,16 +144,10 @@ pub(crate) fn tell_header(bytes: &[u8], out: &mut Line) -> fmt::Result {
 pub(crate) fn tell_view(view: &Rlp<'_>, of: &str, limit: usize, out: &mut Line) -> fmt::Result {
     match of {
         "kinds" => tell_kinds(view, out),
-        "sizes" => tell_sizes(view, out),
+        "sizes" => write!(out, "{:?} {}", view.prototype(), view.size()),
         "text" => write!(out, "{view}"),
-        _ => tell_next(&holds(view, of, limit), out),
+        _ => write!(out, "{}", holds(view, of, limit)),
     }
-}
-
-/// Tells a view's prototype and size.
-fn tell_sizes(view: &Rlp<'_>, out: &mut Line) -> fmt::Result {
-    tell_next(&view.prototype(), out)?;
-    tell_next(&view.size(), out)
 }
 
 /// Tells of which kinds a view is.

@@ -116,9 +116,6 @@ string 07*2097152 = ba200000+07*2097152
 string 07*16777215 = baffffff+07*16777215
 string 00*16777216 = bb01000000+00*16777216";
 
-/// The tables of rows.
-const TABLES: [&str; 7] = [NUMBERS, PARTS, STRUCTS, LISTS, REPEATED, TEXTS, STRINGS];
-
 /// Returns whether a number is written as these bytes, if a text is one.
 fn is_parsed<N: Encodable + Drop, E: Drop>(
     alloc: Global,
@@ -236,23 +233,20 @@ fn is_string(alloc: Global, string: Vec<u8>, want: &[u8]) -> bool {
         && is_again(alloc, rlp::decode_strict::<BytesMut>(alloc, want), want)
 }
 
-/// Returns whether a row is met: a kind of value, what it is made from, and behind ` = ` its bytes.
-fn is_met(alloc: Global, row: &str) -> Result<bool, AllocError> {
-    let (what, want) = row.split_once(" = ").unwrap_or((row, ""));
-    let (kind, text) = cut(what);
-    let want = bytes_of(alloc, want)?;
-    match kind {
-        "text" => Ok(is_text(alloc, text, want.as_slice())),
-        "string" => Ok(is_string(alloc, bytes_of(alloc, text)?, want.as_slice())),
-        _ => Ok(is_value(alloc, kind, text, want.as_slice())),
-    }
-}
-
-/// Fails with the first row that isn't met.
+/// Fails with the first row that isn't met. A row is a kind of value, what it is made from, and behind
+/// ` = ` its bytes.
 fn all_met(alloc: Global) -> Result<(), Fail> {
-    for table in &TABLES {
+    for table in [NUMBERS, PARTS, STRUCTS, LISTS, REPEATED, TEXTS, STRINGS] {
         for row in table.lines() {
-            if !is_met(alloc, row)? {
+            let (what, want) = row.split_once(" = ").unwrap_or((row, ""));
+            let (kind, text) = cut(what);
+            let want = bytes_of(alloc, want)?;
+            let is_met = match kind {
+                "text" => is_text(alloc, text, want.as_slice()),
+                "string" => is_string(alloc, bytes_of(alloc, text)?, want.as_slice()),
+                _ => is_value(alloc, kind, text, want.as_slice()),
+            };
+            if !is_met {
                 return Err(Fail::new(row));
             }
         }
