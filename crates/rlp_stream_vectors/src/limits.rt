@@ -83,11 +83,6 @@ fn stream_over(alloc: Global, front: &[u8]) -> Result<RlpStream, AllocError> {
     Ok(RlpStream::new_with_buffer(alloc, buffer))
 }
 
-/// Returns the first bytes of `zeros`.
-fn first(zeros: &[u8], count: usize) -> &[u8] {
-    zeros.get(..count).unwrap_or(&[])
-}
-
 /// Returns how many items the innermost list awaits after the last is appended. If the lists await
 /// exactly the items that are appended, the last of them closes each list.
 fn left(awaited: &str, lists: usize) -> Option<usize> {
@@ -143,41 +138,28 @@ fn is_answered(
 ) -> Result<bool, AllocError> {
     let (lists, held, added, size) = numbers_of(row);
     let mut s = stream_over(alloc, front)?;
-    let opened = open(&mut s, lists, awaited, first(zeros, held))?;
-    let (added, left) = (first(zeros, added), left(awaited, lists));
+    let opened = open(&mut s, lists, awaited, zeros.get(..held).unwrap_or(&[]))?;
+    let added = zeros.get(..added).unwrap_or(&[]);
+    let left = left(awaited, lists);
     Ok(opened && goes_on(alloc, &mut s, front, added, size, limit, left)?)
 }
 
-/// Returns whether a row is right with each of these limits: 0, around the size, around the size with
-/// nine bytes for each header, and the greatest `usize`.
-fn is_right(
-    alloc: Global,
-    front: &[u8],
-    zeros: &[u8],
-    row: &str,
-    awaited: &str,
-) -> Result<bool, AllocError> {
-    let (lists, held, added, size) = numbers_of(row);
-    let most = lists
-        .saturating_mul(9)
-        .saturating_add(held)
-        .saturating_add(added);
-    let (below, above) = (size.saturating_sub(1), size.saturating_add(1));
-    let almost = most.saturating_sub(1);
-    for limit in [0, below, size, above, almost, most, usize::MAX] {
-        if !is_answered(alloc, front, zeros, row, awaited, limit)? {
-            return Ok(false);
-        }
-    }
-    Ok(true)
-}
-
-/// Fails with the first row that is wrong with a limit.
+/// Fails with the first row that is wrong with one of these limits: 0, around the size, around the size
+/// with nine bytes for each header, or the greatest `usize`.
 fn all_answered(alloc: Global, front: &[u8], awaited: &str) -> Result<(), Fail> {
     let zeros = vec![in alloc; 0u8; 65_536]?;
     for row in ROWS.lines() {
-        if !is_right(alloc, front, zeros.as_slice(), row, awaited)? {
-            return Err(Fail::new(row));
+        let (lists, held, added, size) = numbers_of(row);
+        let most = lists
+            .saturating_mul(9)
+            .saturating_add(held)
+            .saturating_add(added);
+        let (below, above) = (size.saturating_sub(1), size.saturating_add(1));
+        let almost = most.saturating_sub(1);
+        for limit in [0, below, size, above, almost, most, usize::MAX] {
+            if !is_answered(alloc, front, zeros.as_slice(), row, awaited, limit)? {
+                return Err(Fail::new(row));
+            }
         }
     }
     Ok(())

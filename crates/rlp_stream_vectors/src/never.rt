@@ -22,10 +22,10 @@ fn list_answers(mut s: RlpStream) -> bool {
 }
 
 /// Returns whether raw bytes are put into the room of a new stream.
-fn room_is_used(s: &mut RlpStream) -> Result<bool, AllocError> {
-    let put = put_raw(s, &[0u8; 1000], 1)? && put_raw_within(s, b"rlp", 1, 1003)?;
+fn room_is_used(mut s: RlpStream) -> Result<bool, AllocError> {
+    let put = put_raw(&mut s, &[0u8; 1000], 1)? && put_raw_within(&mut s, b"rlp", 1, 1003)?;
     s.append_empty_data()?;
-    let refused = !put_raw_within(s, b"rlp", 1, 1003)?;
+    let refused = !put_raw_within(&mut s, b"rlp", 1, 1003)?;
     Ok(put && refused && s.len() == 1004 && s.as_raw().ends_with(b"rlp\x80"))
 }
 
@@ -34,26 +34,13 @@ fn refuse_from_here(alloc: Global) {
     drop(Vec::<u8>::with_capacity(alloc, SIGNAL));
 }
 
-/// Returns a list of three items that holds "cat".
-fn list_of_cat(alloc: Global) -> Result<RlpStream, AllocError> {
-    let mut list = RlpStream::new_list(alloc, 3)?;
-    list.append(&"cat")?;
-    Ok(list)
-}
-
 /// Returns whether a list and a stream with room need no memory.
 fn streams_answer(alloc: Global) -> Result<bool, AllocError> {
-    let list = list_of_cat(alloc)?;
-    let mut roomy = RlpStream::new(alloc)?;
+    let mut list = RlpStream::new_list(alloc, 3)?;
+    list.append(&"cat")?;
+    let roomy = RlpStream::new(alloc)?;
     refuse_from_here(alloc);
-    Ok(list_answers(list) && room_is_used(&mut roomy)?)
-}
-
-/// Puts the bytes of iterators: an item, and no item.
-fn put_iterators(s: &mut RlpStream) -> Result<(), AllocError> {
-    put_undotted(s, b"c.a.t", true)?;
-    put_undotted(s, b"d.o.g", false)?;
-    Ok(())
+    Ok(list_answers(list) && room_is_used(roomy)?)
 }
 
 /// Returns whether the bytes of iterators are put into room of exactly their size.
@@ -63,7 +50,8 @@ fn buffer_is_used(alloc: Global) -> Result<bool, AllocError> {
     refuse_from_here(alloc);
     let mut s = RlpStream::new_with_buffer(alloc, buffer);
     let begun = s.is_empty() && s.as_raw() == b"junk".as_slice();
-    put_iterators(&mut s)?;
+    put_undotted(&mut s, b"c.a.t", true)?;
+    put_undotted(&mut s, b"d.o.g", false)?;
     Ok(begun && finishes_as(s, b"junk\x83cat\x83dog"))
 }
 

@@ -17,7 +17,7 @@ impl Encodable for Pair {
 
     ghost fits = { λ p. FitsBytes 8 p.0 × FitsBytes 8 p.1 };
 
-    #[tactic(auto, using(rlp_streams::proofs::Streams::Filling::filling))]
+    #[tactic(auto, using(rlp_streams::proofs::Streams::Growth::growth, rlp_streams::proofs::Streams::Filling::filling))]
     fn rlp_append(&self, s: &mut RlpStream) -> Result<(), AllocError> {
         s.begin_list(2)?.append(&self.0)?.append(&self.1)?;
         Ok(())
@@ -49,7 +49,7 @@ impl<'a> Encodable for Refused<'a> {
 
     ghost fits = { λ v. ⊤ };
 
-    #[tactic(auto, using(rlp_streams::proofs::Streams::Filling::filling))]
+    #[tactic(auto, using(rlp_streams::proofs::Streams::Growth::growth, rlp_streams::proofs::Streams::Filling::filling))]
     fn rlp_append(&self, s: &mut RlpStream) -> Result<(), AllocError> {
         self.0.set(self.0.get().saturating_add(1));
         s.begin_list(3)?.append(&1u64)?;
