@@ -46,22 +46,17 @@ fn calls_of(numbers: &str) -> Calls {
 pub(crate) fn text_of(alloc: Global, pieces: &str) -> Result<String, AllocError> {
     let mut text = String::new(alloc);
     for piece in pieces.split('|') {
-        push_piece(alloc, &mut text, piece)?;
+        let (piece, times) = piece.split_once('*').unwrap_or((piece, "1"));
+        match piece.strip_prefix('#') {
+            Some(inner) => text.push_str(nested(alloc, inner, number(times))?.as_str())?,
+            None => {
+                for _ in 0..number(times) {
+                    text.push_str(piece)?;
+                }
+            }
+        }
     }
     Ok(text)
-}
-
-/// Appends the text of a piece.
-fn push_piece(alloc: Global, text: &mut String, piece: &str) -> Result<(), AllocError> {
-    let (piece, times) = piece.split_once('*').unwrap_or((piece, "1"));
-    if let Some(inner) = piece.strip_prefix('#') {
-        let lists = nested(alloc, inner, number(times))?;
-        return text.push_str(lists.as_str());
-    }
-    for _ in 0..number(times) {
-        text.push_str(piece)?;
-    }
-    Ok(())
 }
 
 /// Returns the digits of `lists` lists, one inside another, around the bytes of these digits. They
