@@ -5,7 +5,7 @@ use rlp_records::Address;
 use rlp_transactions::{LegacyTransaction, Payload, Recipient, SignedLegacyTransaction};
 use std::alloc::Global;
 
-/// Values, and encodings.
+/// Values, and encodings. Each encoding is there twice, one after the other.
 #[derive(Drop)]
 pub(crate) struct Inputs {
     /// Numbers of one to eight bytes.
@@ -14,33 +14,21 @@ pub(crate) struct Inputs {
     pub text: String,
     /// A transaction whose encoding has 110 bytes.
     pub transaction: SignedLegacyTransaction,
-    pub strings: Strings,
-    pub lists: Lists,
-}
-
-/// Encodings of strings. Each is there twice, one after the other.
-#[derive(Drop)]
-pub(crate) struct Strings {
-    /// A number below 128 and a number of eight bytes.
+    /// The encodings of a number below 128 and of a number of eight bytes.
     pub small_number: Vec<u8>,
     pub large_number: Vec<u8>,
-    /// Strings of 32 and of 1,000 bytes.
-    pub of_32: Vec<u8>,
-    pub of_1000: Vec<u8>,
-}
-
-/// Encodings of lists. Each is there twice, one after the other.
-#[derive(Drop)]
-pub(crate) struct Lists {
-    /// The transaction and a list of 100 transactions.
-    pub transaction: Vec<u8>,
+    /// The encodings of strings of 32 and of 1,000 bytes.
+    pub short_string: Vec<u8>,
+    pub long_string: Vec<u8>,
+    /// The encodings of the transaction and of a list of 100 transactions.
+    pub transaction_bytes: Vec<u8>,
     pub block: Vec<u8>,
-    /// The list of the numbers and a list of 10,000 small items.
-    pub numbers: Vec<u8>,
-    pub of_10000: Vec<u8>,
-    /// A list of seventeen strings of 32 bytes, such as a branch of the trie.
+    /// The encodings of the list of the numbers and of a list of 10,000 small items.
+    pub list: Vec<u8>,
+    pub long_list: Vec<u8>,
+    /// The encoding of a list of seventeen strings of 32 bytes, such as a branch of the trie.
     pub branch: Vec<u8>,
-    /// A list of 200 strings of 32 bytes.
+    /// The encoding of a list of 200 strings of 32 bytes.
     pub hashes: Vec<u8>,
 }
 
@@ -51,43 +39,23 @@ impl Inputs {
         let text = text(alloc, 1000)?;
         let short = text.as_str().as_bytes().get(..32)?;
         let transaction = transaction(alloc);
+        let transaction_bytes = encoded(alloc, &transaction)?;
+        let block = repeated(alloc, &transaction, 100)?;
+        let list = listed(alloc, numbers.as_slice())?;
         Some(Inputs {
-            strings: Strings::new(alloc, text.as_str(), short)?,
-            lists: Lists::new(alloc, &transaction, numbers.as_slice(), short)?,
+            small_number: encoded(alloc, &5u64)?,
+            large_number: encoded(alloc, &0x0123_4567_89ab_cdefu64)?,
+            short_string: encoded(alloc, &short)?,
+            long_string: encoded(alloc, &text)?,
+            long_list: repeated(alloc, &300u64, 10_000)?,
+            branch: repeated(alloc, &short, 17)?,
+            hashes: repeated(alloc, &short, 200)?,
             numbers,
             text,
             transaction,
-        })
-    }
-}
-
-impl Strings {
-    /// Returns the encodings, or `None` if memory is refused.
-    fn new(alloc: Global, text: &str, short: &[u8]) -> Option<Strings> {
-        Some(Strings {
-            small_number: encoded(alloc, &5u64)?,
-            large_number: encoded(alloc, &0x0123_4567_89ab_cdefu64)?,
-            of_32: encoded(alloc, &short)?,
-            of_1000: encoded(alloc, &text)?,
-        })
-    }
-}
-
-impl Lists {
-    /// Returns the encodings, or `None` if memory is refused.
-    fn new(
-        alloc: Global,
-        transaction: &SignedLegacyTransaction,
-        numbers: &[u64],
-        short: &[u8],
-    ) -> Option<Lists> {
-        Some(Lists {
-            transaction: encoded(alloc, transaction)?,
-            block: repeated(alloc, transaction, 100)?,
-            numbers: listed(alloc, numbers)?,
-            of_10000: repeated(alloc, &300u64, 10_000)?,
-            branch: repeated(alloc, &short, 17)?,
-            hashes: repeated(alloc, &short, 200)?,
+            transaction_bytes,
+            block,
+            list,
         })
     }
 }

@@ -7,7 +7,6 @@ mod reading;
 mod writing;
 
 use inputs::Inputs;
-use std::alloc::Global;
 use std::{env, io};
 
 fn main(rt: HostRuntime) -> io::Result<()> {
@@ -19,16 +18,14 @@ fn main(rt: HostRuntime) -> io::Result<()> {
     let Ok(times) = times.as_str().parse::<usize>() else {
         return println!(rt; "not a number of times: {times}");
     };
-    match run(rt.alloc(), operation.as_str(), times) {
+    let alloc = rt.alloc();
+    let Some(inputs) = Inputs::new(alloc) else {
+        return println!(rt; "no memory");
+    };
+    let name = operation.as_str();
+    let written = writing::run(alloc, &inputs, name, times);
+    match written.or(reading::run(alloc, &inputs, name, times)) {
         Some(sum) => println!(rt; "{sum}"),
         None => println!(rt; "no operation {operation}, or no memory"),
     }
-}
-
-/// Runs an operation, and returns the sum of its results, or `None` if there is no such operation or
-/// memory is refused.
-fn run(alloc: Global, operation: &str, times: usize) -> Option<usize> {
-    let inputs = Inputs::new(alloc)?;
-    let written = writing::run(alloc, &inputs, operation, times);
-    written.or(reading::run(alloc, &inputs, operation, times))
 }

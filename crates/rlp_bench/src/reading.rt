@@ -9,61 +9,31 @@ use std::alloc::Global;
 /// Runs an operation that reads, and returns the sum of the lengths or numbers that it read.
 pub(crate) fn run(alloc: Global, inputs: &Inputs, operation: &str, times: usize) -> Option<usize> {
     match operation {
+        "decode_small_number" => decode_number(alloc, inputs.small_number.as_slice(), times),
+        "decode_number" => decode_number(alloc, inputs.large_number.as_slice(), times),
+        "decode_32_bytes" => decode_bytes(alloc, inputs.short_string.as_slice(), times),
+        "decode_1000_bytes" => decode_bytes(alloc, inputs.long_string.as_slice(), times),
+        "decode_text_of_32" => decode_text(alloc, inputs.short_string.as_slice(), times),
+        "decode_text_of_1000" => decode_text(alloc, inputs.long_string.as_slice(), times),
+        "decode_list" => decode_numbers(alloc, inputs.list.as_slice(), times),
+        "decode_transaction" => decode_transaction(alloc, inputs, times),
+        "transaction_by_iter" => by_iter(inputs.transaction_bytes.as_slice(), times),
+        "transaction_by_at" => by_at(inputs.transaction_bytes.as_slice(), 9, times),
+        "transaction_by_fields" => by_fields(inputs.transaction_bytes.as_slice(), 9, times),
+        "branch_by_iter" => by_iter(inputs.branch.as_slice(), times),
+        "branch_by_at" => by_at(inputs.branch.as_slice(), 17, times),
+        "branch_by_fields" => by_fields(inputs.branch.as_slice(), 17, times),
+        "branch_by_val_at" => by_val_at::<Vec<u8>>(alloc, inputs.branch.as_slice(), 17, times),
+        "hashes_by_at" => by_at(inputs.hashes.as_slice(), 200, times),
+        "item_count_of_1000" => item_count(inputs.list.as_slice(), times),
+        "item_count_of_9" => item_count(inputs.transaction_bytes.as_slice(), times),
+        "iterate_10000" => by_iter(inputs.long_list.as_slice(), times),
+        "iterate_10000_numbers" => numbers_by_iter(alloc, inputs.long_list.as_slice(), times),
+        "iterate_100_transactions" => by_iter(inputs.block.as_slice(), times),
         "payload_info" => payload_info(inputs, times),
         "kinds" => kinds(inputs, times),
         "data_and_size" => data_and_size(inputs, times),
         "keccak256_of_1000" => hashed(inputs.text.as_str().as_bytes(), times),
-        "item_count_of_1000" => item_count(inputs.lists.numbers.as_slice(), times),
-        "item_count_of_9" => item_count(inputs.lists.transaction.as_slice(), times),
-        _ => run_decoding(alloc, inputs, operation, times),
-    }
-}
-
-/// Runs an operation that decodes a value.
-fn run_decoding(alloc: Global, inputs: &Inputs, operation: &str, times: usize) -> Option<usize> {
-    match operation {
-        "decode_small_number" => decode_number(
-            alloc,
-            inputs.strings.small_number.as_slice(),
-            times,
-        ),
-        "decode_number" => decode_number(alloc, inputs.strings.large_number.as_slice(), times),
-        "decode_32_bytes" => decode_bytes(alloc, inputs.strings.of_32.as_slice(), times),
-        "decode_1000_bytes" => decode_bytes(alloc, inputs.strings.of_1000.as_slice(), times),
-        "decode_text_of_32" => decode_text(alloc, inputs.strings.of_32.as_slice(), times),
-        "decode_text_of_1000" => decode_text(alloc, inputs.strings.of_1000.as_slice(), times),
-        "decode_list" => decode_numbers(alloc, inputs.lists.numbers.as_slice(), times),
-        "decode_transaction" => decode_transaction(alloc, inputs, times),
-        _ => run_iterating(alloc, inputs, operation, times),
-    }
-}
-
-/// Runs an operation that reads the items of a list by an iterator.
-fn run_iterating(alloc: Global, inputs: &Inputs, operation: &str, times: usize) -> Option<usize> {
-    match operation {
-        "transaction_by_iter" => by_iter(inputs.lists.transaction.as_slice(), times),
-        "branch_by_iter" => by_iter(inputs.lists.branch.as_slice(), times),
-        "iterate_10000" => by_iter(inputs.lists.of_10000.as_slice(), times),
-        "iterate_10000_numbers" => numbers_by_iter(alloc, inputs.lists.of_10000.as_slice(), times),
-        "iterate_100_transactions" => by_iter(inputs.lists.block.as_slice(), times),
-        _ => run_finding(alloc, inputs, operation, times),
-    }
-}
-
-/// Runs an operation that finds the items of a list one by one.
-fn run_finding(alloc: Global, inputs: &Inputs, operation: &str, times: usize) -> Option<usize> {
-    match operation {
-        "transaction_by_at" => by_at(inputs.lists.transaction.as_slice(), 9, times),
-        "transaction_by_fields" => by_fields(inputs.lists.transaction.as_slice(), 9, times),
-        "branch_by_at" => by_at(inputs.lists.branch.as_slice(), 17, times),
-        "branch_by_fields" => by_fields(inputs.lists.branch.as_slice(), 17, times),
-        "branch_by_val_at" => by_val_at::<Vec<u8>>(
-            alloc,
-            inputs.lists.branch.as_slice(),
-            17,
-            times,
-        ),
-        "hashes_by_at" => by_at(inputs.lists.hashes.as_slice(), 200, times),
         _ => None,
     }
 }
@@ -116,7 +86,7 @@ fn decode_numbers(alloc: Global, bytes: &[u8], times: usize) -> Option<usize> {
 fn decode_transaction(alloc: Global, inputs: &Inputs, times: usize) -> Option<usize> {
     let mut sum: usize = 0;
     for turn in 0..times {
-        let bytes = turned(inputs.lists.transaction.as_slice(), turn)?;
+        let bytes = turned(inputs.transaction_bytes.as_slice(), turn)?;
         let transaction = decode::<SignedLegacyTransaction>(alloc, bytes).ok()?;
         sum = sum.wrapping_add(transaction.payload.gas_limit as usize);
     }
@@ -197,7 +167,7 @@ fn item_count(bytes: &[u8], times: usize) -> Option<usize> {
 fn payload_info(inputs: &Inputs, times: usize) -> Option<usize> {
     let mut sum: usize = 0;
     for turn in 0..times {
-        let bytes = turned(inputs.strings.of_1000.as_slice(), turn)?;
+        let bytes = turned(inputs.long_string.as_slice(), turn)?;
         sum = sum.wrapping_add(Rlp::new(bytes).payload_info().ok()?.value_len);
     }
     Some(sum)
@@ -206,7 +176,7 @@ fn payload_info(inputs: &Inputs, times: usize) -> Option<usize> {
 fn kinds(inputs: &Inputs, times: usize) -> Option<usize> {
     let mut sum: usize = 0;
     for turn in 0..times {
-        let view = Rlp::new(turned(inputs.strings.large_number.as_slice(), turn)?);
+        let view = Rlp::new(turned(inputs.large_number.as_slice(), turn)?);
         let kinds = [
             view.is_list(),
             view.is_data(),
@@ -224,7 +194,7 @@ fn kinds(inputs: &Inputs, times: usize) -> Option<usize> {
 fn data_and_size(inputs: &Inputs, times: usize) -> Option<usize> {
     let mut sum: usize = 0;
     for turn in 0..times {
-        let view = Rlp::new(turned(inputs.strings.of_1000.as_slice(), turn)?);
+        let view = Rlp::new(turned(inputs.long_string.as_slice(), turn)?);
         sum = sum
             .wrapping_add(view.data().ok()?.len())
             .wrapping_add(view.size());
