@@ -76,55 +76,6 @@ fn open(s: &mut RlpStream, lists: usize, awaited: &str, bytes: &[u8]) -> Result<
     put_raw(s, bytes, 1)
 }
 
-/// Returns a new stream that writes behind these bytes.
-fn stream_over(alloc: Global, front: &[u8]) -> Result<RlpStream, AllocError> {
-    let mut buffer = BytesMut::new(alloc);
-    buffer.extend_from_slice(front)?;
-    Ok(RlpStream::new_with_buffer(alloc, buffer))
-}
-
-/// Returns how many items the innermost list awaits after the last is appended. If the lists await
-/// exactly the items that are appended, the last of them closes each list.
-fn left(awaited: &str, lists: usize) -> Option<usize> {
-    if awaited == "more" && lists > 0 {
-        Some(1)
-    } else {
-        None
-    }
-}
-
-/// Returns whether a stream has this front, number of bytes, closed size, and number of awaited items.
-fn holds(s: &RlpStream, front: &[u8], len: usize, size: usize, awaited: Option<usize>) -> bool {
-    s.as_raw().starts_with(front)
-        && s.as_raw().len() == len
-        && s.len() == size
-        && s.items_awaited() == awaited
-}
-
-/// Returns whether bytes are appended within a limit, and leave the closed size of a row, or else leave
-/// the stream as it was.
-fn goes_on(
-    alloc: Global,
-    s: &mut RlpStream,
-    front: &[u8],
-    added: &[u8],
-    size: usize,
-    limit: usize,
-    left: Option<usize>,
-) -> Result<bool, AllocError> {
-    let raw = Vec::from_slice(alloc, s.as_raw())?;
-    let (len, items, any) = (s.len(), s.items_awaited(), s.can_finalize());
-    if !put_raw_within(s, added, 1, limit)? {
-        return Ok(limit < size && is_as(s, raw.as_slice(), len, items, any));
-    }
-    let written = if s.is_finished() {
-        front.len().saturating_add(size)
-    } else {
-        raw.len().saturating_add(added.len())
-    };
-    Ok(limit >= size && holds(s, front, written, size, left))
-}
-
 /// Returns whether the bytes of a row are appended exactly if the resulting closed size is within
 /// the limit, and else leave the stream as it was. The lists are opened by `open`. All bytes are
 /// taken from `zeros`.
@@ -137,11 +88,33 @@ fn is_answered(
     limit: usize,
 ) -> Result<bool, AllocError> {
     let (lists, held, added, size) = numbers_of(row);
-    let mut s = stream_over(alloc, front)?;
+    let mut buffer = BytesMut::new(alloc);
+    buffer.extend_from_slice(front)?;
+    let mut s = RlpStream::new_with_buffer(alloc, buffer);
     let opened = open(&mut s, lists, awaited, zeros.get(..held).unwrap_or(&[]))?;
-    let added = zeros.get(..added).unwrap_or(&[]);
-    let left = left(awaited, lists);
-    Ok(opened && goes_on(alloc, &mut s, front, added, size, limit, left)?)
+    let raw = Vec::from_slice(alloc, s.as_raw())?;
+    let (len, items, any) = (s.len(), s.items_awaited(), s.can_finalize());
+    if !put_raw_within(&mut s, zeros.get(..added).unwrap_or(&[]), 1, limit)? {
+        return Ok(opened && limit < size && is_as(&s, raw.as_slice(), len, items, any));
+    }
+    let written = if s.is_finished() {
+        front.len().saturating_add(size)
+    } else {
+        raw.len().saturating_add(added)
+    };
+    let left = if awaited == "more" && lists > 0 {
+        Some(1)
+    } else {
+        None
+    };
+    Ok(
+        opened
+            && limit >= size
+            && s.as_raw().starts_with(front)
+            && s.as_raw().len() == written
+            && s.len() == size
+            && s.items_awaited() == left,
+    )
 }
 
 /// Fails with the first row that is wrong with one of these limits: 0, around the size, around the size

@@ -39,12 +39,18 @@ fn make(alloc: Global, s: &mut RlpStream, call: &str) -> Result<bool, AllocError
     let (name, arguments) = cut(call);
     let (first, second) = cut(arguments);
     match name {
-        "list" | "over" | "list_over" => begin_anew(alloc, s, name, first, second),
+        "list" | "over" | "list_over" => {
+            *s = begun(alloc, name, first, second)?;
+            Ok(true)
+        }
         "is" => stands(alloc, s, first, second),
         "size" => Ok(s.len() == number(first) && estimates(s, 0, Some(number(first)))),
         "estimate" => Ok(estimates(s, number(first), second.parse::<usize>().ok())),
         "text" => put(s, "string", arguments.as_bytes(), 0),
         "raw" | "within" => put_bytes(alloc, s, name, second, number(first)),
+        "chain_lists" => chain_lists(s),
+        "chain_items" => chain_items(s),
+        "refused" | "refused_internal" | "refused_list" | "direct" => Ok(!refuse(s, name)),
         _ => make_other(alloc, s, name, first, second),
     }
 }
@@ -61,23 +67,12 @@ fn make_other(
         "small" | "smalls" | "string" | "iter" | "undotted" | "encode" | "encode_undotted" => {
             put_bytes(alloc, s, name, first, 0)
         }
-        "chain_lists" => chain_lists(s),
-        "chain_items" => chain_items(s),
+        "begin" | "unbounded" | "finalize" | "finalize_up_to" | "clear" => {
+            go_on(s, name, number(first), number(second))
+        }
         "chain_raw" => chain_raw(s, bytes_of(alloc, first)?.as_slice()),
-        _ => go_on(s, name, number(first), number(second)),
+        _ => append(s, name, number(first) as u64, number(second) as u64),
     }
-}
-
-/// Replaces the stream by a new one.
-fn begin_anew(
-    alloc: Global,
-    s: &mut RlpStream,
-    name: &str,
-    first: &str,
-    second: &str,
-) -> Result<bool, AllocError> {
-    *s = begun(alloc, name, first, second)?;
-    Ok(true)
 }
 
 /// Returns a new stream: a list, one over bytes, or a list over bytes.
@@ -92,19 +87,17 @@ fn begun(alloc: Global, name: &str, first: &str, second: &str) -> Result<RlpStre
     }
 }
 
-/// Makes a call that begins or closes lists, clears the stream, or appends values.
+/// Makes a call that begins or closes lists, or clears the stream.
 fn go_on(s: &mut RlpStream, name: &str, first: usize, second: usize) -> Result<bool, AllocError> {
     match name {
         "begin" => s.begin_list(first).and(Ok(true)),
         "unbounded" => s.begin_unbounded_list().and(Ok(true)),
         "finalize" => finalize(s),
         "finalize_up_to" => Ok(s.finalize_unbounded_lists(first)? == second),
-        "clear" => {
+        _ => {
             s.clear();
             Ok(true)
         }
-        "refused" | "refused_internal" | "refused_list" | "direct" => Ok(!refuse(s, name)),
-        _ => append(s, name, first as u64, second as u64),
     }
 }
 
@@ -219,31 +212,23 @@ fn make_again(
     call: &str,
     refused: &mut bool,
 ) -> Result<bool, AllocError> {
-    match call.strip_prefix('!') {
-        Some(call) => make_as(alloc, s, call, false, refused),
-        None => make_as(alloc, s, call, true, refused),
-    }
-}
-
-/// Makes a call, which is admitted or isn't.
-fn make_as(
-    alloc: Global,
-    s: &mut RlpStream,
-    call: &str,
-    admitted: bool,
-    refused: &mut bool,
-) -> Result<bool, AllocError> {
+    let (call, admitted) = match call.strip_prefix('!') {
+        Some(call) => (call, false),
+        None => (call, true),
+    };
     let raw = Vec::from_slice(alloc, s.as_raw())?;
     let (size, awaited, any) = (s.len(), s.items_awaited(), s.can_finalize());
     let made = make(alloc, s, call);
     if made != Ok(true) && !is_as(s, raw.as_slice(), size, awaited, any) {
         return Ok(false);
     }
-    if made.is_err() {
-        *refused = true;
-        return Ok(make(alloc, s, call)? == admitted);
+    match made {
+        Ok(made) => Ok(made == admitted),
+        Err(_) => {
+            *refused = true;
+            Ok(make(alloc, s, call)? == admitted)
+        }
     }
-    Ok(made == Ok(admitted))
 }
 
 /// The greatest number of times that a call is repeated with a comparison each time.
@@ -271,28 +256,15 @@ fn repeat(
     Ok(true)
 }
 
-/// Makes the calls of a script. Returns whether all are as wanted.
-fn make_all(
-    alloc: Global,
-    s: &mut RlpStream,
-    script: &str,
-    refused: &mut bool,
-) -> Result<bool, AllocError> {
-    for call in script.split("; ") {
-        if !repeat(alloc, s, call, refused)? {
-            return Ok(false);
-        }
-    }
-    Ok(true)
-}
-
 /// Makes the calls of a row's script. Returns whether all are as wanted, and the finished bytes are.
 /// Returns `AllocError` instead of `true` if a call was refused memory.
 fn is_met(alloc: Global, mut s: RlpStream, row: &str) -> Result<bool, AllocError> {
     let (script, want) = halves(row);
     let mut refused = false;
-    if !make_all(alloc, &mut s, script, &mut refused)? {
-        return Ok(false);
+    for call in script.split("; ") {
+        if !repeat(alloc, &mut s, call, &mut refused)? {
+            return Ok(false);
+        }
     }
     let met = ends_as(alloc, s, want)?;
     if met && refused {
@@ -307,17 +279,16 @@ fn ends_as(alloc: Global, s: RlpStream, want: &str) -> Result<bool, AllocError> 
     if want == "open" {
         return Ok(!s.is_finished());
     }
-    if let Some((len, front)) = want.split_once(" begins ") {
-        return begins_with(alloc, &s, number(len), front);
-    }
-    let want = bytes_of(alloc, want)?;
-    Ok(finishes_as(s, want.as_slice()))
-}
-
-/// Returns whether the finished bytes are of this number and begin with these bytes.
-fn begins_with(alloc: Global, s: &RlpStream, len: usize, front: &str) -> Result<bool, AllocError> {
+    let Some((len, front)) = want.split_once(" begins ") else {
+        let want = bytes_of(alloc, want)?;
+        return Ok(finishes_as(s, want.as_slice()));
+    };
     let front = bytes_of(alloc, front)?;
-    Ok(s.is_finished() && s.as_raw().len() == len && s.as_raw().starts_with(front.as_slice()))
+    Ok(
+        s.is_finished()
+            && s.as_raw().len() == number(len)
+            && s.as_raw().starts_with(front.as_slice()),
+    )
 }
 
 /// Returns whether a row is met by a new stream, and by a stream without room.

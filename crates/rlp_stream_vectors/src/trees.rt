@@ -19,7 +19,7 @@ const STRINGS: &str = "empty = 80\nstring 80 = 8180\n";
 const NONE: &str = "raw 0 = ";
 
 /// How a list of no item, of one, or of two begins, and how it ends.
-#[derive(Drop)]
+#[derive(Clone, Copy)]
 struct Ways {
     begins: [&'static str; 3],
     ends: &'static str,
@@ -58,7 +58,7 @@ fn push_list(
 }
 
 /// Writes the rows of the lists of one item or two, the first of which has this row.
-fn push_lists(trees: &mut String, ways: &Ways, first: &str, rows: &str) -> Result<(), AllocError> {
+fn push_lists(trees: &mut String, ways: Ways, first: &str, rows: &str) -> Result<(), AllocError> {
     let [_, one, two] = ways.begins;
     push_list(trees, one, ways.ends, first, NONE)?;
     for second in rows.lines() {
@@ -69,7 +69,7 @@ fn push_lists(trees: &mut String, ways: &Ways, first: &str, rows: &str) -> Resul
 
 /// Returns rows of the two strings, of the empty list, and of the lists of one or two of the items of
 /// these rows.
-fn trees_over(alloc: Global, rows: &str, ways: &Ways) -> Result<String, AllocError> {
+fn trees_over(alloc: Global, rows: &str, ways: Ways) -> Result<String, AllocError> {
     let [none, _, _] = ways.begins;
     let mut trees = String::from_str(alloc, STRINGS)?;
     push_list(&mut trees, none, ways.ends, NONE, NONE)?;
@@ -80,7 +80,7 @@ fn trees_over(alloc: Global, rows: &str, ways: &Ways) -> Result<String, AllocErr
 }
 
 /// Fails if a tree of depth at most 3 isn't written as its row says.
-fn trees_are_written(alloc: Global, ways: &Ways) -> Result<(), Fail> {
+fn trees_are_written(alloc: Global, ways: Ways) -> Result<(), Fail> {
     let flat = trees_over(alloc, STRINGS, ways)?;
     let nested = trees_over(alloc, flat.as_str(), ways)?;
     let deep = trees_over(alloc, nested.as_str(), ways)?;
@@ -125,6 +125,6 @@ fn first_wrong_len(alloc: Global) -> Result<Option<usize>, AllocError> {
 fn trees_and_strings_are_written(rt: HostRuntime) -> Result<(), Fail> {
     let alloc = rt.alloc();
     assert_eq!(rt; first_wrong_len(alloc), Ok(None));
-    trees_are_written(alloc, &ANNOUNCED)?;
-    trees_are_written(alloc, &UNBOUNDED)
+    trees_are_written(alloc, ANNOUNCED)?;
+    trees_are_written(alloc, UNBOUNDED)
 }

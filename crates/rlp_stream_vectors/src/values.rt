@@ -9,7 +9,7 @@ use std::alloc::AllocError;
 use std::cell::Cell;
 
 /// Two numbers, written as a list of two items.
-#[derive(Drop)]
+#[derive(Clone, Copy)]
 pub(crate) struct Pair(pub(crate) u64, pub(crate) u64);
 
 impl Encodable for Pair {
@@ -25,7 +25,7 @@ impl Encodable for Pair {
 }
 
 /// A number that is appended by the call that doesn't count strings.
-#[derive(Drop)]
+#[derive(Clone, Copy)]
 pub(crate) struct Wrapper(pub(crate) u64);
 
 impl Encodable for Wrapper {
