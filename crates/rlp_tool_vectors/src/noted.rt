@@ -1,10 +1,10 @@
 //! Devices that fail at one call and work at all others, or fail from a call on. Each failure is
 //! passed on, nothing is tried again, and each call of `flush` makes one flush.
 
-use crate::devices::{Plan, SOUND, Sink, Source, ran, reader, writer};
+use crate::devices::{Plan, SOUND, ran, reader, writer};
 use crate::rows::{Row, plan_of};
 use rlp_rows::{Line, number};
-use rlp_tool::{Noted, RunFault, exit_status};
+use rlp_tool::{RunFault, exit_status};
 use std::alloc::{AllocError, Global};
 use std::fmt::Write as _;
 use std::io::{Read, Write};
@@ -41,23 +41,17 @@ fn tell_reads(plan: &Plan, sizes: &str, out: &mut Line) -> fmt::Result {
     let mut source = reader(b"c0", plan);
     let mut taken = Line::new();
     for size in sizes.split(' ') {
-        let returned = read_into(&mut source, number(size), &mut taken);
+        let mut buffer = [0u8; 8];
+        let returned = source.read(&mut buffer[..number(size).min(8)]);
+        if let Ok(count) = &returned {
+            let bytes = buffer.get(..*count).unwrap_or(b"");
+            taken.write_str(std::str::from_utf8(bytes).unwrap_or("no text"))?;
+        }
         tell_returned(returned, out)?;
         let (calls, reads, failed) = (source.inner().calls, source.reads(), source.failed());
         write!(out, " {calls} {reads} {failed}, ")?;
     }
     out.write_str(taken.as_str())
-}
-
-/// Reads into a buffer of this size, of at most eight bytes, and appends the text that was read.
-fn read_into(source: &mut Noted<Source<'_>>, size: usize, taken: &mut Line) -> io::Result<usize> {
-    let mut buffer = [0u8; 8];
-    let returned = source.read(&mut buffer[..size.min(8)]);
-    if let Ok(count) = &returned {
-        let bytes = buffer.get(..*count).unwrap_or(b"");
-        let _ = taken.write_str(std::str::from_utf8(bytes).unwrap_or("no text"));
-    }
-    returned
 }
 
 /// The plan of a writer, its calls, each of which is bytes to write or `flush`, and what follows each
@@ -93,44 +87,35 @@ const WRITES: [Row; 5] = [
 fn tell_writes(alloc: Global, plan: &Plan, calls: &str, out: &mut Line) -> fmt::Result {
     let mut sink = writer(alloc, plan)?;
     for call in calls.split(' ') {
-        tell_returned(made(&mut sink, call), out)?;
-        tell_sink(&sink, out)?;
+        let returned = match call {
+            "flush" => match sink.flush() {
+                Ok(()) => Ok(0),
+                Err(error) => Err(error),
+            },
+            _ => sink.write(call.as_bytes()),
+        };
+        tell_returned(returned, out)?;
+        let (writes, flushes) = (sink.inner().writes, sink.inner().flushes);
+        write!(
+            out,
+            " {writes} {flushes} {} {}, ",
+            sink.failed(),
+            sink.flushed()
+        )?;
     }
     out.write_str(std::str::from_utf8(sink.inner().taken.as_slice()).unwrap_or("no text"))
-}
-
-/// Makes a call of a writer: writes bytes, or flushes, which returns no number of bytes.
-fn made(sink: &mut Noted<Sink>, call: &str) -> io::Result<usize> {
-    if call == "flush" {
-        sink.flush()?;
-        return Ok(0);
-    }
-    sink.write(call.as_bytes())
-}
-
-/// Tells the numbers of writes and of flushes, and whether a writer has failed and is flushed.
-fn tell_sink(sink: &Noted<Sink>, out: &mut Line) -> fmt::Result {
-    let (writes, flushes) = (sink.inner().writes, sink.inner().flushes);
-    let (failed, flushed) = (sink.failed(), sink.flushed());
-    write!(out, " {writes} {flushes} {failed} {flushed}, ")
-}
-
-/// Tells what follows the calls of a device.
-fn tell(alloc: Global, device: &str, given: &str, out: &mut Line) -> fmt::Result {
-    let (settings, calls) = given.split_once(": ").unwrap_or(("", ""));
-    let plan = plan_of(settings);
-    match device {
-        "reader" => tell_reads(&plan, calls, out),
-        "writer" => tell_writes(alloc, &plan, calls, out),
-        _ => tell_run(alloc, &plan, calls.as_bytes(), out),
-    }
 }
 
 /// Notes the rows after which something else follows.
 fn check(alloc: Global, device: &str, rows: &[Row], wrong: &mut Line) {
     for (given, want) in rows {
-        let mut said = Line::new();
-        let _ = tell(alloc, device, given, &mut said);
+        let (settings, calls) = given.split_once(": ").unwrap_or(("", ""));
+        let (plan, mut said) = (plan_of(settings), Line::new());
+        let _ = match device {
+            "reader" => tell_reads(&plan, calls, &mut said),
+            "writer" => tell_writes(alloc, &plan, calls, &mut said),
+            _ => tell_run(alloc, &plan, calls.as_bytes(), &mut said),
+        };
         wrong.note(device, given, said.as_str(), want);
     }
 }

@@ -53,34 +53,6 @@ fn is_cut(left: &Left, fault: RunFault, least: usize, greatest: usize) -> bool {
         && REPLIES.starts_with(left.written.as_slice())
 }
 
-/// Returns how devices behave that move `most` bytes in each call, and one of which fails after this
-/// number of calls: the reader, or the writer with this error.
-fn failing(most: usize, calls: usize, is_reader: bool, error: Option<ErrorKind>) -> Plan {
-    let fails = (calls.saturating_add(1), usize::MAX);
-    let (reads, writes) = if is_reader {
-        (fails, NEVER)
-    } else {
-        (NEVER, fails)
-    };
-    Plan {
-        most,
-        reads,
-        writes,
-        error,
-        ..SOUND
-    }
-}
-
-/// Returns whether a run ended as expected whose reader or writer failed after this number of calls.
-fn is_cut_after(left: &Left, most: usize, calls: usize, is_reader: bool) -> bool {
-    let answered = replied(calls.saturating_mul(most));
-    if is_reader {
-        is_cut(left, RunFault::Read, answered, answered)
-    } else {
-        is_cut(left, RunFault::Write, calls, usize::MAX)
-    }
-}
-
 /// Returns the first call at which a failure of the reader, or of the writer with this error, makes
 /// no difference, if each call moves `most` bytes. Returns `None` if a run with an earlier failure
 /// has another result than expected.
@@ -91,11 +63,30 @@ fn calls_needed(
     error: Option<ErrorKind>,
 ) -> Result<Option<usize>, AllocError> {
     for calls in 0..MOST_CALLS {
-        let left = ran(alloc, INPUT, &failing(most, calls, is_reader, error))?;
+        let fails = (calls + 1, usize::MAX);
+        let (reads, writes) = if is_reader {
+            (fails, NEVER)
+        } else {
+            (NEVER, fails)
+        };
+        let plan = Plan {
+            most,
+            reads,
+            writes,
+            error,
+            ..SOUND
+        };
+        let left = ran(alloc, INPUT, &plan)?;
         if is_whole(&left) {
             return Ok(Some(calls));
         }
-        if !is_cut_after(&left, most, calls, is_reader) {
+        let answered = replied(calls.saturating_mul(most));
+        let is_cut = if is_reader {
+            is_cut(&left, RunFault::Read, answered, answered)
+        } else {
+            is_cut(&left, RunFault::Write, calls, usize::MAX)
+        };
+        if !is_cut {
             return Ok(None);
         }
     }
@@ -171,22 +162,9 @@ fn plan_of(setting: &str, most: usize, error: Option<ErrorKind>, len: usize) -> 
     plan
 }
 
-/// Tells how a run ends over an input in pieces, and devices that behave in this way.
-fn tell_run(
-    alloc: Global,
-    given: &str,
-    most: usize,
-    error: Option<ErrorKind>,
-    out: &mut Line,
-) -> fmt::Result {
-    let (setting, pieces) = given.split_once('|').unwrap_or(("", given));
-    let input = text_of(alloc, pieces)?;
-    let plan = plan_of(setting, most, error, input.len());
-    tell_left(&ran(alloc, input.as_bytes(), &plan)?, out)
-}
-
-/// Tells the result of a run, whether the reader and the writer failed, and what is written.
-fn tell_left(left: &Left, out: &mut Line) -> fmt::Result {
+/// Tells how a run over an input in pieces ends.
+fn tell_run(alloc: Global, input: &[u8], plan: &Plan, out: &mut Line) -> fmt::Result {
+    let left = ran(alloc, input, plan)?;
     let written = std::str::from_utf8(left.written.as_slice()).unwrap_or("no text");
     let (reader, writer) = (left.reader_failed, left.writer_failed);
     write!(out, "{:?} {reader} {writer} {written}", left.outcome)
@@ -194,20 +172,28 @@ fn tell_left(left: &Left, out: &mut Line) -> fmt::Result {
 
 /// Notes the rows with another result, over devices that move at most `most` bytes in each call,
 /// and a writer that fails with this error.
-fn check(alloc: Global, most: usize, error: Option<ErrorKind>, wrong: &mut Line) {
+fn check(
+    alloc: Global,
+    most: usize,
+    error: Option<ErrorKind>,
+    wrong: &mut Line,
+) -> Result<(), AllocError> {
     for (given, want) in &ROWS {
-        let mut said = Line::new();
-        let _ = tell_run(alloc, given, most, error, &mut said);
+        let (setting, pieces) = given.split_once('|').unwrap_or(("", given));
+        let (input, mut said) = (text_of(alloc, pieces)?, Line::new());
+        let plan = plan_of(setting, most, error, input.len());
+        let _ = tell_run(alloc, input.as_bytes(), &plan, &mut said);
         wrong.note("run", given, said.as_str(), want);
     }
+    Ok(())
 }
 
 #[test]
 fn devices_that_move_a_few_bytes(rt: HostRuntime) -> Result<(), Fail> {
     let mut wrong = Line::new();
     for most in [1, 2, 4096] {
-        check(rt.alloc(), most, Some(ErrorKind::BrokenPipe), &mut wrong);
-        check(rt.alloc(), most, None, &mut wrong);
+        check(rt.alloc(), most, Some(ErrorKind::BrokenPipe), &mut wrong)?;
+        check(rt.alloc(), most, None, &mut wrong)?;
     }
     wrong.none_noted()
 }
