@@ -3,7 +3,7 @@
 usage: gate.py ROOT FILE
 
 It looks at the run's processes of the prover every half a second, and adds up their processor time by crate. What a process takes
-after the last look isn't counted. What `rt ci` prints is in `out/bench/gate.log`. `docs/calling` makes a table of FILE, which is `bench/gate.tsv`.
+after the last look isn't counted. What `rt ci` prints is in `out/bench/gate.log`. A run that fails writes no FILE. `docs/calling` makes a table of FILE, which is `bench/gate.tsv`.
 """
 
 import os
@@ -83,9 +83,11 @@ def main():
     lines = [*told_of_run(1)[:-1], f"# result\t{last}, in {whole / 60:.1f} minutes", "\t".join(HEADS)]
     for (crate, part), numbers in sorted(parts.items(), key=lambda it: it[1][0]):
         lines.append("\t".join([crate, part, *(f"{number:.0f}" for number in numbers)]))
+    print("\n".join(lines))
+    if run.returncode:
+        sys.exit(f"{to} is as it was, since the run failed")
     with open(to, "w", encoding="utf-8") as file:
         file.write("\n".join(lines) + "\n")
-    print("\n".join(lines))
 
 
 if __name__ == "__main__":
