@@ -193,6 +193,31 @@ class Hashed:
         return [f"{before}hash: 0x{keccak256(data).hex()}"] + self.one.lines(name, data)
 
 
+def chain_of(v):
+    """What EIP-155 adds to what is signed, by the `v` of the signature; None if it says nothing."""
+    chain = (v - 35) // 2
+    if v in (27, 28):
+        return b""
+    return encoded_string(chain.to_bytes((chain.bit_length() + 7) // 8, "big")) + b"\x80\x80" if 0 <= chain < 1 << 64 else None
+
+
+class Signed:
+    """A record with a signature, and then the hash of what is signed: a byte and the list of the other fields. Without a byte it is the list of
+    six fields, and of what EIP-155 adds."""
+
+    def __init__(self, front, one):
+        self.front, self.one, self.written = front, one, one.written
+
+    def lines(self, name, data):
+        lines, items = self.one.lines(name, data), strict_items(data)
+        added = b"" if self.front else chain_of(int.from_bytes(strict_string(items[6]), "big"))
+        if added is None:
+            return lines
+        payload = b"".join(items[:-3]) + added
+        signed = keccak256(self.front + written_header(0xC0, len(payload)) + payload)
+        return lines + [f"{name + '.' if name else ''}signing_hash: 0x{signed.hex()}"]
+
+
 class Typed:
     """An envelope of EIP-2718 by its first byte, or else a record without a type. `unknown` is an envelope of another type."""
 
@@ -473,7 +498,7 @@ TYPES |= {"scalar": number(32, hex), "v": number(32, v_text, (27, 28, 35, 36, 37
 TYPES |= {"truth": TRUTH, "recipient": RECIPIENT, "status": STATUS, "nonce": fixed(8), "hashes": ListOf(HASH)}
 TYPES["log"] = Record(fields("address:address topics:hashes data:string", TYPES))
 TYPES["access"] = Record(fields("address:address storage_keys:hashes", TYPES))
-TYPES["authorization"] = Record(fields("chain_id:u256 address:address nonce:u64 y_parity:u8 r:scalar s:scalar", TYPES))
+TYPES["authorization"] = Signed(b"\5", Record(fields("chain_id:u256 address:address nonce:u64 y_parity:u8 r:scalar s:scalar", TYPES)))
 TYPES |= {"logs": ListOf(TYPES["log"]), "access_list": ListOf(TYPES["access"])}
 TYPES["authorizations"] = ListOf(TYPES["authorization"])
 
@@ -494,8 +519,8 @@ TYPE_4 = f"""{FEES} gas_limit:u64 destination:address value:u256 data:string acc
     authorization_list:authorizations {POINT}"""
 TYPES["header"] = Hashed(Record(fields(HEADER, TYPES), counts=(15, 16, 17, 20, 21)))
 TYPES["withdrawal"] = Record(fields("index:u64 validator_index:u64 address:address amount:u64", TYPES))
-PAYLOADS = {kind: Record(fields(text, TYPES)) for kind, text in enumerate((TYPE_1, TYPE_2, TYPE_3, TYPE_4), 1)}
-TRANSACTION = Typed(PAYLOADS, Record(fields(LEGACY, TYPES)), Kept())
+PAYLOADS = {kind: Signed(bytes([kind]), Record(fields(text, TYPES))) for kind, text in enumerate((TYPE_1, TYPE_2, TYPE_3, TYPE_4), 1)}
+TRANSACTION = Typed(PAYLOADS, Signed(b"", Record(fields(LEGACY, TYPES))), Kept())
 TYPES["transactions"] = ListOf(Held(PAYLOADS, TRANSACTION.other))
 TYPES |= {"headers": ListOf(TYPES["header"]), "withdrawals": ListOf(TYPES["withdrawal"])}
 BLOCK = "header:header transactions:transactions ommers:headers withdrawals:withdrawals"

@@ -10,9 +10,8 @@ use std::alloc::{AllocError, Global};
 use std::fmt;
 use std::fmt::Write;
 
-/// Rows of messages after an offset: `p2p` after 0, and after 253, where the ids have a header or two
-/// bytes; `eth` after 16.
-pub(crate) const ROWS: &str = "
+/// Rows of messages of `p2p` after 0, and after 253, where the ids have a header or two bytes.
+pub(crate) const P2P_ROWS: &str = "
     The greeting of EIP-8, the end of a connection in both forms, and the messages of no items.
     id: p2p | 80+EIP_8
     id: number of p2p | 80+EIP_8 | 0
@@ -48,7 +47,10 @@ pub(crate) const ROWS: &str = "
     id: p2p after 253 | 02c0 | Custom(\"unknown message\")
     id: p2p after 253 | 81fcc0 | Custom(\"unknown message\")
     id: p2p after 253 | 8200ffc0 | RlpInvalidIndirection
+";
 
+/// Rows of messages of `eth` after 16.
+pub(crate) const ETH_ROWS: &str = "
     The messages of eth/68.
     id: eth/68 | 10+STATUS_68
     id: number of eth/68 | 10+STATUS_68 | 0

@@ -8,7 +8,7 @@ use std::alloc::{AllocError, Global};
 use std::test::Fail;
 
 /// The tables.
-const TABLES: [&str; 3] = [ids::ROWS, messages::ROWS, requests::ROWS];
+const TABLES: [&str; 4] = [ids::P2P_ROWS, ids::ETH_ROWS, messages::ROWS, requests::ROWS];
 
 /// Notes a row whose call tells something else. The answer `refused` is any fault.
 fn check_row(alloc: Global, call: &str, rest: &str, wrong: &mut Line) -> Result<(), AllocError> {

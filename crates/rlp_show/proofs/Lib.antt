@@ -8,3 +8,5 @@ pub mod FieldLemmas
 pub mod ItemLemmas
 -- node records and their pairs
 pub mod PairLemmas
+-- the next items, one after another
+pub mod SigningLemmas

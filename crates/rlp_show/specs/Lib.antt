@@ -2,6 +2,8 @@
 pub mod Text
 -- the lines of an item, or what is wrong with it
 pub mod Lines
+-- what is signed of transactions and authorizations
+pub mod Signing
 -- the fields of a record that have labels
 pub mod Fields
 -- the fields of each record
@@ -20,6 +22,8 @@ pub mod Request
 pub mod StringLemmas
 -- lemmas on the encodings of values
 pub mod ValueLemmas
+-- lemmas on what is signed of values
+pub mod SigningLemmas
 -- the lines of values
 pub mod Values
 -- lemmas on envelopes, and on strings that hold records

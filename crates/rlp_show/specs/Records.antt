@@ -1,4 +1,4 @@
--- The fields of each record, by their names in `rlp_ethereum`.
+-- The fields of each record, by their names in `rlp_ethereum`. The hash of what is signed comes after the fields of what is signed.
 use Rattle.std.specs.Prelude.{ℕ, ◌==◌, nat_lt, if◌then◌else◌, Bool, false, List, [], ◌∷◌, ◌++◌, length, codes, is_some, Result, Ok, Err}
 use Rattle.rlp.specs.DecoderError.{DecoderError}
 use Rattle.rlp.specs.DecoderError.TheVariants.{RlpIncorrectListLen, RlpIsTooBig, RlpIsTooShort}
@@ -9,6 +9,7 @@ use Rattle.rlp_trie.specs.HexPrefix.{ends_in_leaf, is_empty_extension}
 use Rattle.rlp_trie.specs.TrieNode.{is_leaf_string}
 use Rattle.rlp_show.specs.Lines.{Field, Shape, Shown, Worded, byte_string, field, fixed_bytes, fixed_bytes_as, fixed_bytes_in, hashed, item_within, line, list_of}
 use Rattle.rlp_show.specs.Lines.{list_or_string, number, number_as, optional, prefix, receipt_status, recipient, record_of, string_shape, then_lines, truth_value, typed, wrong}
+use Rattle.rlp_show.specs.Signing.{legacy_signing, with_signing_hash}
 use Rattle.rlp_show.specs.Text.{bloom_text, bytes_text, hex_text, number_text, path_text, v_text}
 
 -- addresses
@@ -107,9 +108,9 @@ access_list_item = record_of (
 abbrev pub access_list : Shape
 access_list name v = list_of access_list_item (codes "access_list") v
 
--- transactions without a type
-abbrev pub legacy_transaction : Shape
-legacy_transaction = record_of (
+-- the fields of transactions without a type
+abbrev pub legacy_fields : Shape
+legacy_fields = record_of (
     field (codes "nonce") (number 8)
     ∷ field (codes "gas_price") (number 32)
     ∷ field (codes "gas_limit") (number 8)
@@ -121,9 +122,13 @@ legacy_transaction = record_of (
     ∷ field (codes "s") signature_number
     ∷ [])
 
+-- transactions without a type: the fields, and the hash of what is signed
+abbrev pub legacy_transaction : Shape
+legacy_transaction name v = then_lines (legacy_fields name v) (legacy_signing name v)
+
 -- transactions of type 1, without the byte of the type
 abbrev pub access_list_transaction : Shape
-access_list_transaction = record_of (
+access_list_transaction = with_signing_hash 1 8 (record_of (
     field (codes "chain_id") (number 8)
     ∷ field (codes "nonce") (number 8)
     ∷ field (codes "gas_price") (number 32)
@@ -135,11 +140,11 @@ access_list_transaction = record_of (
     ∷ field (codes "y_parity") truth_value
     ∷ field (codes "r") signature_number
     ∷ field (codes "s") signature_number
-    ∷ [])
+    ∷ []))
 
 -- transactions of type 2, without the byte of the type
 abbrev pub fee_market_transaction : Shape
-fee_market_transaction = record_of (
+fee_market_transaction = with_signing_hash 2 9 (record_of (
     field (codes "chain_id") (number 8)
     ∷ field (codes "nonce") (number 8)
     ∷ field (codes "max_priority_fee_per_gas") (number 32)
@@ -152,11 +157,11 @@ fee_market_transaction = record_of (
     ∷ field (codes "y_parity") truth_value
     ∷ field (codes "r") signature_number
     ∷ field (codes "s") signature_number
-    ∷ [])
+    ∷ []))
 
 -- transactions of type 3, without the byte of the type
 abbrev pub blob_transaction : Shape
-blob_transaction = record_of (
+blob_transaction = with_signing_hash 3 11 (record_of (
     field (codes "chain_id") (number 8)
     ∷ field (codes "nonce") (number 8)
     ∷ field (codes "max_priority_fee_per_gas") (number 32)
@@ -171,22 +176,22 @@ blob_transaction = record_of (
     ∷ field (codes "y_parity") truth_value
     ∷ field (codes "r") signature_number
     ∷ field (codes "s") signature_number
-    ∷ [])
+    ∷ []))
 
 -- authorizations of transactions of type 4
 abbrev pub authorization : Shape
-authorization = record_of (
+authorization = with_signing_hash 5 3 (record_of (
     field (codes "chain_id") (number 32)
     ∷ field (codes "address") address
     ∷ field (codes "nonce") (number 8)
     ∷ field (codes "y_parity") (number 1)
     ∷ field (codes "r") signature_number
     ∷ field (codes "s") signature_number
-    ∷ [])
+    ∷ []))
 
 -- transactions of type 4, without the byte of the type
 abbrev pub set_code_transaction : Shape
-set_code_transaction = record_of (
+set_code_transaction = with_signing_hash 4 10 (record_of (
     field (codes "chain_id") (number 8)
     ∷ field (codes "nonce") (number 8)
     ∷ field (codes "max_priority_fee_per_gas") (number 32)
@@ -200,7 +205,7 @@ set_code_transaction = record_of (
     ∷ field (codes "y_parity") truth_value
     ∷ field (codes "r") signature_number
     ∷ field (codes "s") signature_number
-    ∷ [])
+    ∷ []))
 
 -- the envelope of a transaction by its first byte, which is its type, or else another shape
 abbrev pub typed_transaction : Shape → Shape

@@ -26,12 +26,18 @@ use Rattle.rlp.specs.Lemmas.OneReading.{sound_digits}
 use Rattle.rlp.specs.Lemmas.StringsHeld.{held_only}
 use Rattle.rlp_show.specs.Lines.{Worded, line, wrong, named, in_string, string_shape, number, number_as, number_in, fixed_bytes, fixed_bytes_as, fixed_bytes_in, begins_with_zero}
 use Rattle.rlp_show.specs.Lines.{byte_string, receipt_status, recipient, recipient_in, status_in, truth_value, truth_value_in}
-use Rattle.rlp_show.specs.Text.{bloom_text, bytes_text, hex_text, number_text, v_text}
+use Rattle.rlp_show.specs.Signing.{said_line, signing_of, worded}
+use Rattle.rlp_show.specs.Text.{bloom_text, bytes_text, hex_text, number_text, said_by, v_text}
 
--- what is shown of the string that a view holds
+-- the text of the string that a view holds
+held_text : (text_in : List ℕ → Worded) (v : View) (d : List ℕ) → length v.bytes < 2 ^ 64 → HoldsString v d
+    → in_string text_in (view_string v) ≡ text_in d
+held_text text_in v d few holds = ap (in_string text_in) (held_only v d few holds)
+
+-- what is shown of it
 shown_string : (text_in : List ℕ → Worded) (name : List ℕ) (v : View) (d : List ℕ) → length v.bytes < 2 ^ 64 → HoldsString v d
     → string_shape text_in name v ≡ named name (text_in d)
-shown_string text_in name v d few holds = ap (λ r. named name (in_string text_in r)) (held_only v d few holds)
+shown_string text_in name v d few holds = ap (named name) (held_text text_in v d few holds)
 
 shown_fault : (text_in : List ℕ → Worded) (name : List ℕ) (v : View) (e : DecoderError) → view_string v ≡ Err e
     → string_shape text_in name v ≡ Err (wrong name (error_name e))
@@ -101,17 +107,24 @@ number_wrong text width d e (too_long many) = cond-true (nat_lt width (length d)
 number_wrong text width d e (leading_zero more few is) =
     cond-false (nat_lt width (length d)) _ _ (le-ltb _ _ few) ∙ cond-true (begins_with_zero d) _ _ (ap begins_with_zero is)
 
+-- a number that is read, and its fault
+number_held : (text : ℕ → List ℕ) (width n : ℕ) (v : View) → length v.bytes < 2 ^ 64 → GivesNumber width v n
+    → in_string (number_in text width) (view_string v) ≡ Ok (text n)
+number_held text width n v few given =
+    held_text (number_in text width) v (big_endian n) few given.begins ∙ number_right_by text width n (big_endian n) refl given.fits
+
+number_unheld : (text : ℕ → List ℕ) (width : ℕ) (v : View) (e : DecoderError) → length v.bytes < 2 ^ 64 → FaultsAsNumber width v e
+    → in_string (number_in text width) (view_string v) ≡ Err (error_name e)
+number_unheld text width v e few (no_string f is) = ap (in_string (number_in text width)) is
+number_unheld text width v e few (no_value d f holds faulty) = held_text (number_in text width) v d few holds ∙ number_wrong text width d f faulty
+
 pub number_as_given : (text : ℕ → List ℕ) (width n : ℕ) (name : List ℕ) (v : View) → length v.bytes < 2 ^ 64 → GivesNumber width v n
     → number_as text width name v ≡ Ok (line name (text n))
-number_as_given text width n name v few given =
-    shown_string (number_in text width) name v (big_endian n) few given.begins
-    ∙ ap (named name) (number_right_by text width n (big_endian n) refl given.fits)
+number_as_given text width n name v few given = ap (named name) (number_held text width n v few given)
 
 number_as_faulty : (text : ℕ → List ℕ) (width : ℕ) (name : List ℕ) (v : View) (e : DecoderError) → length v.bytes < 2 ^ 64 → FaultsAsNumber width v e
     → number_as text width name v ≡ Err (wrong name (error_name e))
-number_as_faulty text width name v e few (no_string f is) = shown_fault (number_in text width) name v f is
-number_as_faulty text width name v e few (no_value d f holds faulty) =
-    shown_string (number_in text width) name v d few holds ∙ ap (named name) (number_wrong text width d f faulty)
+number_as_faulty text width name v e few fault = ap (named name) (number_unheld text width v e few fault)
 
 pub number_given : (width n : ℕ) (name : List ℕ) (v : View) → length v.bytes < 2 ^ 64 → GivesNumber width v n
     → number width name v ≡ Ok (line name (number_text n))
@@ -137,11 +150,22 @@ pub v_faulty : (width : ℕ) (name : List ℕ) (v : View) (e : DecoderError) →
     → number_as v_text width name v ≡ Err (wrong name (error_name e))
 v_faulty = number_as_faulty v_text
 
+-- the hash of what is signed, by the number v
+pub signing_given : (name six : List ℕ) (n : ℕ) (v : View) → length v.bytes < 2 ^ 64 → GivesNumber 32 v n
+    → signing_of six name v ≡ Ok (said_line name six (said_by n))
+signing_given name six n v few given = ap (worded name) (number_held (λ n. said_line name six (said_by n)) 32 n v few given)
+
+pub signing_faulty : (name six : List ℕ) (v : View) (e : DecoderError) → length v.bytes < 2 ^ 64 → FaultsAsNumber 32 v e
+    → signing_of six name v ≡ Err (wrong name (error_name e))
+signing_faulty name six v e few fault = ap (worded name) (number_unheld (λ n. said_line name six (said_by n)) 32 v e few fault)
+
 pub ruleset number_strings = (number_given, number_faulty)
 
 pub ruleset hex_strings = (hex_given, hex_faulty)
 
 pub ruleset v_strings = (v_given, v_faulty)
+
+pub ruleset signing_strings = (signing_given, signing_faulty)
 
 -- ---- recipients
 

@@ -136,7 +136,7 @@ may_have-append (f ∷ first) others n m many =
     let next : n + m ≡ suc (length first + m) = omega (arith, many) in
     ap (may_have (f ∷ first ++ others)) next ∙ may_have-append first others (length first) m refl
 
-join-append : (xs ys : List Item) → join (xs ++ ys) ≡ join xs ++ join ys
+pub join-append : (xs ys : List Item) → join (xs ++ ys) ≡ join xs ++ join ys
 join-append [] ys = refl
 join-append (x ∷ xs) ys = ap (λ b. encoding x ++ b) (join-append xs ys) ∙ sym (append_assoc (encoding x) (join xs) (join ys))
 

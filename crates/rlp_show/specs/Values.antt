@@ -8,6 +8,7 @@ use Rattle.rlp.specs.Codec.{Codec, Fields, IsFixed, byte_array, byte_string as b
 use Rattle.rlp.specs.Codec.{number as number_codec, optional as optional_codec, optional_group, struct_of, truth_value as truth_codec, uint}
 use Rattle.rlp.specs.Codecs.Parts.{group}
 use Rattle.rlp.specs.Format.Encoding.{IsSized, encoding, join}
+use Rattle.rlp.specs.Format.Item.{list_of as list_item}
 use Rattle.rlp.specs.Lemmas.RoundTrips.{bit_below}
 use Rattle.rlp.specs.Values.Value.{bit}
 use Rattle.rlp.specs.Views.View.{strict_view_of}
@@ -53,7 +54,9 @@ use Rattle.rlp_show.specs.Lines.{Field, Shape, byte_string, field, fields_lines,
 use Rattle.rlp_show.specs.Lines.{number, number_as, optional, prefix, receipt_status, recipient, record_of, then_lines, truth_value}
 use Rattle.rlp_show.specs.Records.{access_list, access_list_item, access_list_transaction, account, address, bloom, fee_market_transaction, hash, header, legacy_transaction, legacy_v, signature_number}
 use Rattle.rlp_show.specs.Records.{authorization, blob_transaction, log, receipt, set_code_transaction, withdrawal}
-use Rattle.rlp_show.specs.Text.{bloom_text, bytes_text, hex_text, number_text, v_text}
+use Rattle.rlp_show.specs.Signing.{legacy_signing, legacy_signing_lines, signing_line, with_signing_hash}
+use Rattle.rlp_show.specs.SigningLemmas.{legacy_signed, signed_list}
+use Rattle.rlp_show.specs.Text.{bloom_text, bytes_text, hex_text, number_text, said_by, v_text}
 use Rattle.rlp_show.specs.StringLemmas.{bytes_given, fixed_as_given, number_as_given, recipient_given, status_given, truth_given}
 use Rattle.rlp_show.specs.ValueLemmas.{both_shown, first_sized, front_small, group_right, group_shown, joined_small, list_shown, optional_right, optional_shown}
 use Rattle.rlp_show.specs.ValueLemmas.{may_have-append, others_small, part_shown, record_shown, rest_small, views_of}
@@ -223,6 +226,32 @@ signed_display {T} {V} fixed many name v d = record_display (part_display (λ (x
     field_display (codes "r") (λ (x : Signed T V). x.r) signature_number_display (
     field_display (codes "s") (λ (x : Signed T V). x.s) signature_number_display end_display))))
 
+-- the hash of what is signed, after the payload and its signature
+abbrev pub signing_display : {T V : Type 0} {s : Shape} (kind n : ℕ) (f : Fields T) (c : Codec V) (fixed : IsFixed f) → n ≡ f.reading.least
+    → Display (signed f fixed c) s → Display (signed f fixed c) (with_signing_hash kind n s)
+signing_display kind n f c fixed many d = record {
+  lines = λ name x. d.lines name x ++ signing_line name (kind ∷ encoding (list_item (f.items x.payload)));
+  shown = λ name x fit sized. both_shown _ _ (d.lines name x) _ (d.shown name x fit sized)
+      (ap (λ b. Ok (signing_line name (kind ∷ b)))
+      (signed_list n (f.items x.payload) _ (many ∙ sym (fixed x.payload) ∙ sym (f.counted x.payload)) sized));
+}
+
+-- a payload with its signature, and the hash of what is signed: a byte, and the list of the payload's fields
+abbrev pub tagged_display : {T V : Type 0} {f : Fields T} {c : Codec V} {s : Shape} {first : List Field} (kind : ℕ) (fixed : IsFixed f)
+    → length first ≡ f.reading.least → (name : List ℕ) → Display c s → FieldsDisplay f first → Display (signed f fixed c)
+    (with_signing_hash kind (length first)
+    (record_of (first ++ field name s ∷ field (codes "r") signature_number ∷ field (codes "s") signature_number ∷ [])))
+tagged_display {f = f} {c = c} {first = first} kind fixed many name v d =
+    signing_display kind (length first) f c fixed many (signed_display fixed many name v d)
+
+-- a transaction without a type, and the hash of what is signed
+abbrev pub legacy_signing_display : {s : Shape} → Display signed_legacy_transaction s
+    → Display signed_legacy_transaction (λ name v. then_lines (s name v) (legacy_signing name v))
+legacy_signing_display d = record {
+  lines = λ name t. d.lines name t ++ legacy_signing_lines name t.payload (said_by (number_from_digits 256 t.v.bytes));
+  shown = λ name t fit sized. both_shown _ _ (d.lines name t) _ (d.shown name t fit sized) (legacy_signed name t fit sized);
+}
+
 -- a value after the hash of its encoding
 abbrev pub hashed_display : {A : Type 0} {c : Codec A} {s : Shape} → Display c s → Display c (hashed s)
 hashed_display {c = c} d = record {
@@ -273,16 +302,16 @@ access_list_alone_display = record {
 }
 
 abbrev pub legacy_transaction_display : Display signed_legacy_transaction legacy_transaction
-legacy_transaction_display = signed_display (λ p. refl) refl (codes "v") legacy_v_display (
+legacy_transaction_display = legacy_signing_display (signed_display (λ p. refl) refl (codes "v") legacy_v_display (
     field_display (codes "nonce") (λ (l : LegacyTransaction). l.nonce) (number_display 8) (
     field_display (codes "gas_price") (λ (l : LegacyTransaction). l.gas_price) (uint_display 32) (
     field_display (codes "gas_limit") (λ (l : LegacyTransaction). l.gas_limit) (number_display 8) (
     field_display (codes "to") (λ (l : LegacyTransaction). l.to) recipient_display (
     field_display (codes "value") (λ (l : LegacyTransaction). l.value) (uint_display 32) (
-    field_display (codes "data") (λ (l : LegacyTransaction). l.data) (bytes_display vec_items) end_display))))))
+    field_display (codes "data") (λ (l : LegacyTransaction). l.data) (bytes_display vec_items) end_display)))))))
 
 abbrev pub access_list_transaction_display : Display signed_access_list_transaction access_list_transaction
-access_list_transaction_display = signed_display (λ p. refl) refl (codes "y_parity") truth_display (
+access_list_transaction_display = tagged_display 1 (λ p. refl) refl (codes "y_parity") truth_display (
     field_display (codes "chain_id") (λ (a : AccessListTransaction). a.chain_id) (number_display 8) (
     field_display (codes "nonce") (λ (a : AccessListTransaction). a.nonce) (number_display 8) (
     field_display (codes "gas_price") (λ (a : AccessListTransaction). a.gas_price) (uint_display 32) (
@@ -293,7 +322,7 @@ access_list_transaction_display = signed_display (λ p. refl) refl (codes "y_par
     field_display (codes "access_list") (λ (a : AccessListTransaction). a.access_list) access_list_display end_display))))))))
 
 abbrev pub fee_market_transaction_display : Display signed_fee_market_transaction fee_market_transaction
-fee_market_transaction_display = signed_display (λ p. refl) refl (codes "y_parity") truth_display (
+fee_market_transaction_display = tagged_display 2 (λ p. refl) refl (codes "y_parity") truth_display (
     field_display (codes "chain_id") (λ (f : FeeMarketTransaction). f.chain_id) (number_display 8) (
     field_display (codes "nonce") (λ (f : FeeMarketTransaction). f.nonce) (number_display 8) (
     field_display (codes "max_priority_fee_per_gas") (λ (f : FeeMarketTransaction). f.max_priority_fee_per_gas) (uint_display 32) (
@@ -305,7 +334,7 @@ fee_market_transaction_display = signed_display (λ p. refl) refl (codes "y_pari
     field_display (codes "access_list") (λ (f : FeeMarketTransaction). f.access_list) access_list_display end_display)))))))))
 
 abbrev pub blob_transaction_display : Display signed_blob_transaction blob_transaction
-blob_transaction_display = signed_display (λ p. refl) refl (codes "y_parity") truth_display (
+blob_transaction_display = tagged_display 3 (λ p. refl) refl (codes "y_parity") truth_display (
     field_display (codes "chain_id") (λ (b : BlobTransaction). b.chain_id) (number_display 8) (
     field_display (codes "nonce") (λ (b : BlobTransaction). b.nonce) (number_display 8) (
     field_display (codes "max_priority_fee_per_gas") (λ (b : BlobTransaction). b.max_priority_fee_per_gas) (uint_display 32) (
@@ -319,13 +348,13 @@ blob_transaction_display = signed_display (λ p. refl) refl (codes "y_parity") t
     field_display (codes "blob_versioned_hashes") (λ (b : BlobTransaction). b.blob_versioned_hashes) (list_display vec_items hash_display) end_display)))))))))))
 
 abbrev pub authorization_display : Display signed_authorization authorization
-authorization_display = signed_display (λ p. refl) refl (codes "y_parity") (number_display 1) (
+authorization_display = tagged_display 5 (λ p. refl) refl (codes "y_parity") (number_display 1) (
     field_display (codes "chain_id") (λ (a : Authorization). a.chain_id) (uint_display 32) (
     field_display (codes "address") (λ (a : Authorization). a.address) address_display (
     field_display (codes "nonce") (λ (a : Authorization). a.nonce) (number_display 8) end_display)))
 
 abbrev pub set_code_transaction_display : Display signed_set_code_transaction set_code_transaction
-set_code_transaction_display = signed_display (λ p. refl) refl (codes "y_parity") truth_display (
+set_code_transaction_display = tagged_display 4 (λ p. refl) refl (codes "y_parity") truth_display (
     field_display (codes "chain_id") (λ (s : SetCodeTransaction). s.chain_id) (number_display 8) (
     field_display (codes "nonce") (λ (s : SetCodeTransaction). s.nonce) (number_display 8) (
     field_display (codes "max_priority_fee_per_gas") (λ (s : SetCodeTransaction). s.max_priority_fee_per_gas) (uint_display 32) (

@@ -1,7 +1,9 @@
 //! Hashes of what is shown.
 
 ghost use Rattle.std.specs.Prelude.{◌≡◌, ◌++◌, string_bytes, OnOk};
-ghost use Rattle.rlp_show.specs.Lines.{hash_line};
+ghost use Rattle.keccak.specs.Keccak.{keccak256};
+ghost use Rattle.rlp_show.specs.Lines.{line, prefix};
+ghost use Rattle.rlp_show.specs.Text.{bytes_text};
 
 use crate::fault::ShowFault;
 use crate::fields::name_in;
@@ -17,12 +19,18 @@ pub struct Hashed<T> {
     shown_as: PhantomData<T>,
 }
 
-/// Appends the line of the hash of these bytes.
-fn put_hash(alloc: Global, name: &str, bytes: &[u8], out: &mut String) -> Result<(), AllocError>
-    ensures { OnOk result
-        (string_bytes out.new ≡ string_bytes out.old ++ hash_line name.now bytes.now) }
+/// Appends the line of the hash of these bytes, which has this label.
+pub(crate) fn put_hash(
+    alloc: Global,
+    name: &str,
+    label: &str,
+    bytes: &[u8],
+    out: &mut String,
+) -> Result<(), AllocError>
+    ensures { OnOk result (string_bytes out.new ≡ string_bytes out.old
+        ++ line (prefix name.now ++ label.now) (bytes_text (keccak256 bytes.now))) }
 {
-    let label = name_in(alloc, name, "hash")?;
+    let label = name_in(alloc, name, label)?;
     put_bytes_line(label.as_str(), &keccak256(bytes), out)
 }
 
@@ -33,7 +41,7 @@ impl<T: Show> Show for Hashed<T> {
 
     #[tactic(auto, using(crate::proofs::FieldLemmas::fields_in_order))]
     fn show(alloc: Global, name: &str, item: &Rlp<'_>, out: &mut String) -> Result<(), ShowFault> {
-        put_hash(alloc, name, item.as_raw(), out)?;
+        put_hash(alloc, name, "hash", item.as_raw(), out)?;
         T::show(alloc, name, item, out)
     }
 }

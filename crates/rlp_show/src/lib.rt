@@ -23,6 +23,7 @@ mod records;
 mod request;
 mod serving;
 mod show;
+mod signing;
 mod strings;
 mod transactions;
 mod values;

@@ -8,12 +8,14 @@ use crate::hashes::Hashed;
 use crate::lists::Items;
 use crate::numbers::{LegacyV, SignatureNumber};
 use crate::show::Show;
+use crate::signing::{put_typed_signing_hash, show_legacy_signing};
 use rlp::{Rlp, Uint};
 use rlp_ethereum::{
-    AccessList, AccessListItem, AccessListTransaction, Account, Address, AnyTransaction,
-    BlobTransaction, Block, Bloom, Body, FeeMarketTransaction, Hash, Header, Log, Receipt,
-    ReceiptStatus, Recipient, SetCodeTransaction, Signed, SignedAuthorization,
-    SignedLegacyTransaction, Withdrawal,
+    ACCESS_LIST_TYPE, AUTHORIZATION_MAGIC, AccessList, AccessListItem, AccessListTransaction,
+    Account, Address, AnyTransaction, BLOB_TYPE, BlobTransaction, Block, Bloom, Body,
+    FEE_MARKET_TYPE, FeeMarketTransaction, Hash, Header, Log, Receipt, ReceiptStatus, Recipient,
+    SET_CODE_TYPE, SetCodeTransaction, Signed, SignedAuthorization, SignedLegacyTransaction,
+    Withdrawal,
 };
 use std::alloc::Global;
 
@@ -148,6 +150,7 @@ impl Show for AccessListItem {
 impl Show for SignedLegacyTransaction {
     ghost shape = { legacy_transaction };
 
+    #[tactic(auto, using(crate::proofs::FieldLemmas::fields_in_order))]
     fn show(alloc: Global, name: &str, item: &Rlp<'_>, out: &mut String) -> Result<(), ShowFault> {
         show_fields!(
             alloc,
@@ -163,13 +166,15 @@ impl Show for SignedLegacyTransaction {
             "v": LegacyV,
             "r": SignatureNumber,
             "s": SignatureNumber
-        )
+        )?;
+        show_legacy_signing(alloc, name, item, out)
     }
 }
 
 impl Show for Signed<AccessListTransaction> {
     ghost shape = { access_list_transaction };
 
+    #[tactic(auto, using(crate::proofs::FieldLemmas::fields_in_order))]
     fn show(alloc: Global, name: &str, item: &Rlp<'_>, out: &mut String) -> Result<(), ShowFault> {
         show_fields!(
             alloc,
@@ -187,13 +192,15 @@ impl Show for Signed<AccessListTransaction> {
             "y_parity": bool,
             "r": SignatureNumber,
             "s": SignatureNumber
-        )
+        )?;
+        Ok(put_typed_signing_hash(alloc, name, ACCESS_LIST_TYPE, 8, item, out)?)
     }
 }
 
 impl Show for Signed<FeeMarketTransaction> {
     ghost shape = { fee_market_transaction };
 
+    #[tactic(auto, using(crate::proofs::FieldLemmas::fields_in_order))]
     fn show(alloc: Global, name: &str, item: &Rlp<'_>, out: &mut String) -> Result<(), ShowFault> {
         show_fields!(
             alloc,
@@ -212,13 +219,15 @@ impl Show for Signed<FeeMarketTransaction> {
             "y_parity": bool,
             "r": SignatureNumber,
             "s": SignatureNumber
-        )
+        )?;
+        Ok(put_typed_signing_hash(alloc, name, FEE_MARKET_TYPE, 9, item, out)?)
     }
 }
 
 impl Show for Signed<BlobTransaction> {
     ghost shape = { blob_transaction };
 
+    #[tactic(auto, using(crate::proofs::FieldLemmas::fields_in_order))]
     fn show(alloc: Global, name: &str, item: &Rlp<'_>, out: &mut String) -> Result<(), ShowFault> {
         show_fields!(
             alloc,
@@ -239,13 +248,15 @@ impl Show for Signed<BlobTransaction> {
             "y_parity": bool,
             "r": SignatureNumber,
             "s": SignatureNumber
-        )
+        )?;
+        Ok(put_typed_signing_hash(alloc, name, BLOB_TYPE, 11, item, out)?)
     }
 }
 
 impl Show for SignedAuthorization {
     ghost shape = { authorization };
 
+    #[tactic(auto, using(crate::proofs::FieldLemmas::fields_in_order))]
     fn show(alloc: Global, name: &str, item: &Rlp<'_>, out: &mut String) -> Result<(), ShowFault> {
         show_fields!(
             alloc,
@@ -258,13 +269,15 @@ impl Show for SignedAuthorization {
             "y_parity": u8,
             "r": SignatureNumber,
             "s": SignatureNumber
-        )
+        )?;
+        Ok(put_typed_signing_hash(alloc, name, 0x05, 3, item, out)?)
     }
 }
 
 impl Show for Signed<SetCodeTransaction> {
     ghost shape = { set_code_transaction };
 
+    #[tactic(auto, using(crate::proofs::FieldLemmas::fields_in_order))]
     fn show(alloc: Global, name: &str, item: &Rlp<'_>, out: &mut String) -> Result<(), ShowFault> {
         show_fields!(
             alloc,
@@ -284,7 +297,8 @@ impl Show for Signed<SetCodeTransaction> {
             "y_parity": bool,
             "r": SignatureNumber,
             "s": SignatureNumber
-        )
+        )?;
+        Ok(put_typed_signing_hash(alloc, name, SET_CODE_TYPE, 10, item, out)?)
     }
 }
 

@@ -50,6 +50,8 @@ const TRANSACTIONS: [Row; 4] = [
          y_parity: 0\n\
          r: 0x8000000000000000000000000000000000000000000000000000000000000000\n\
          s: 0x1\n\
+         signing_hash: 0xe4688af40b3098e13c09a7900bd3708892d2df658571572e081441cdcf\
+         c23d97\n\
          \n",
     ),
     (
@@ -76,6 +78,8 @@ const TRANSACTIONS: [Row; 4] = [
          authorization_list[0].y_parity: 255\n\
          authorization_list[0].r: 0x9\n\
          authorization_list[0].s: 0xa\n\
+         authorization_list[0].signing_hash: 0xd6d02515e5651c20bfbe5476a6763d5bf75f\
+         507ccb7dc3043bf7ad4b4c95e8f4\n\
          authorization_list[1].chain_id: 1157920892373161954235709850086879078532\
          69984665640564039457584007913129639935\n\
          authorization_list[1].address: 0x0102030405060708090a0b0c0d0e0f101112131\
@@ -84,9 +88,13 @@ const TRANSACTIONS: [Row; 4] = [
          authorization_list[1].y_parity: 0\n\
          authorization_list[1].r: 0x0\n\
          authorization_list[1].s: 0x0\n\
+         authorization_list[1].signing_hash: 0x78362f10a690e4c53126f264ce5f2dfff606\
+         e6da69368ce2e965344ea8ff97d7\n\
          y_parity: 1\n\
          r: 0x0\n\
          s: 0xffffffffffffffffffffffffffffffffffffffffffffffffffffffffffffffff\n\
+         signing_hash: 0xf23f439b02651373562d8eef7810820d6c2581021f4fdb89d6d63205aa\
+         7a7aaf\n\
          \n",
     ),
 ];
@@ -257,6 +265,8 @@ const BLOCKS: [Row; 4] = [
          transactions[0].v: 37 (chain 1, parity 0)\n\
          transactions[0].r: 0x1\n\
          transactions[0].s: 0x2\n\
+         transactions[0].signing_hash: 0xdaf5a779ae972f972197303d7b574746c7ef83ea\
+         dac0f2791ad23db92e4c8e53\n\
          transactions[1].hash: 0x7c22d700cdb412833c52829a8dd6e2a8d9d077bcb7750ddf\
          dde9ea2f3f02a9e2\n\
          transactions[1].type: 3\n\
@@ -281,6 +291,8 @@ const BLOCKS: [Row; 4] = [
          transactions[1].r: 0x800000000000000000000000000000000000000000000000000\
          0000000000000\n\
          transactions[1].s: 0x1\n\
+         transactions[1].signing_hash: 0xe4688af40b3098e13c09a7900bd3708892d2df65\
+         8571572e081441cdcfc23d97\n\
          transactions[2].hash: 0x6d59cecad6b04f04eb49a8362429dfe8cab909294ef32dde\
          ea52368bcb421a91\n\
          transactions[2].type: 2\n\
@@ -296,6 +308,8 @@ const BLOCKS: [Row; 4] = [
          transactions[2].y_parity: 1\n\
          transactions[2].r: 0x3\n\
          transactions[2].s: 0x4\n\
+         transactions[2].signing_hash: 0xfc9d7258837ff05308ca1503e29980210800eda5\
+         b4d9cadfc2e918432b903bd5\n\
          ommers: []\n\
          withdrawals[0].index: 0\n\
          withdrawals[0].validator_index: 1000\n\

@@ -148,6 +148,8 @@ const CHAIN: [Row; 7] = [
          y_parity: 0\n\
          r: 0x840cfc572845f5786e702984c2a582528cad4b49b2a10b9db1be7fca90058565\n\
          s: 0x25e7109ceb98168d95b09b18bbf6b685130e0562f233877d492b94eee0c5b6d1\n\
+         signing_hash: 0x0d5688ac3897124635b6cf1bc0e29d6dfebceebdc10a54d74f2ef8b565\
+         35b682\n\
          \n",
     ),
     (

@@ -25,6 +25,8 @@ const GUESSED: [Row; 9] = [
          f71d0\n\
          transaction.s: 0x45e0aff800961cfce805daef7016b9b675c137a6a41a548f7b60a3484c0\
          6a33a\n\
+         transaction.signing_hash: 0x19b1e28c14f33e74b96b88eba97d4a4fc8a97638d72e9723\
+         10025b7e1189b049\n\
          \n",
     ),
     (
@@ -44,6 +46,8 @@ const GUESSED: [Row; 9] = [
          f71d0\n\
          transaction.s: 0x45e0aff800961cfce805daef7016b9b675c137a6a41a548f7b60a3484c0\
          6a33a\n\
+         transaction.signing_hash: 0x19b1e28c14f33e74b96b88eba97d4a4fc8a97638d72e9723\
+         10025b7e1189b049\n\
          \n",
     ),
     (

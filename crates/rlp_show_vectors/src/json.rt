@@ -51,7 +51,8 @@ const JSON: [Row; 11] = [
          \"to\":\"0x5df9b87991262f6ba471f09758cde1c0fc1de734\",\"value\":\"0x7a69\",\"input\"\
          :\"0x\",\"v\":\"0x1c\",\"r\":\"0x88ff6cf0fefd94db46111149ae4bfc179e9b94721fffd821d38\
          d16464b3f71d0\",\"s\":\"0x45e0aff800961cfce805daef7016b9b675c137a6a41a548f7b60a3484c\
-         06a33a\"}}\n",
+         06a33a\",\"signingHash\":\"0x19b1e28c14f33e74b96b88eba97d4a4fc8a97638d72e972310025b7\
+         e1189b049\"}}\n",
     ),
     (
         "any f86780862d79883d2000825208945df9b87991262f6ba471f09758cde1c0fc1de734827a69801ca0\
@@ -62,7 +63,8 @@ const JSON: [Row; 11] = [
          \"to\":\"0x5df9b87991262f6ba471f09758cde1c0fc1de734\",\"value\":\"0x7a69\",\"input\"\
          :\"0x\",\"v\":\"0x1c\",\"r\":\"0x88ff6cf0fefd94db46111149ae4bfc179e9b94721fffd821d38\
          d16464b3f71d0\",\"s\":\"0x45e0aff800961cfce805daef7016b9b675c137a6a41a548f7b60a3484c\
-         06a33a\"}}\n",
+         06a33a\",\"signingHash\":\"0x19b1e28c14f33e74b96b88eba97d4a4fc8a97638d72e972310025b7\
+         e1189b049\"}}\n",
     ),
     (
         "body f86cf869f86780862d79883d2000825208945df9b87991262f6ba471f09758cde1c0fc1de734827\
@@ -73,13 +75,15 @@ const JSON: [Row; 11] = [
          \"0x5208\",\"to\":\"0x5df9b87991262f6ba471f09758cde1c0fc1de734\",\"value\":\"0x7a69\
          \",\"input\":\"0x\",\"v\":\"0x1c\",\"r\":\"0x88ff6cf0fefd94db46111149ae4bfc179e9b947\
          21fffd821d38d16464b3f71d0\",\"s\":\"0x45e0aff800961cfce805daef7016b9b675c137a6a41a54\
-         8f7b60a3484c06a33a\"}],\"ommers\":[]}}\n",
+         8f7b60a3484c06a33a\",\"signingHash\":\"0x19b1e28c14f33e74b96b88eba97d4a4fc8a97638d72\
+         e972310025b7e1189b049\"}],\"ommers\":[]}}\n",
     ),
     (
         "authorization db80945df9b87991262f6ba471f09758cde1c0fc1de7340581ff090a",
         "{\"authorization\":{\"chainId\":\"0x0\",\"address\":\"0x5df9b87991262f6ba471f09758cd\
-         e1c0fc1de734\",\"nonce\":\"0x5\",\"yParity\":\"0xff\",\"r\":\"0x9\",\"s\":\"0xa\"}}\
-         \n",
+         e1c0fc1de734\",\"nonce\":\"0x5\",\"yParity\":\"0xff\",\"r\":\"0x9\",\"s\":\"0xa\",\"\
+         signingHash\":\"0xd6d02515e5651c20bfbe5476a6763d5bf75f507ccb7dc3043bf7ad4b4c95e8f4\"\
+         }}\n",
     ),
     (
         "access_list f838f7940102030405060708090a0b0c0d0e0f1011121314e1a000010203040506070809\

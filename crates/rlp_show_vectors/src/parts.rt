@@ -25,6 +25,8 @@ const PARTS: [Row; 6] = [
          d16464b3f71d0\n\
          transactions[0].s: 0x45e0aff800961cfce805daef7016b9b675c137a6a41a548f7b6\
          0a3484c06a33a\n\
+         transactions[0].signing_hash: 0x19b1e28c14f33e74b96b88eba97d4a4fc8a97638\
+         d72e972310025b7e1189b049\n\
          ommers: []\n\
          \n",
     ),
@@ -36,6 +38,8 @@ const PARTS: [Row; 6] = [
          y_parity: 255\n\
          r: 0x9\n\
          s: 0xa\n\
+         signing_hash: 0xd6d02515e5651c20bfbe5476a6763d5bf75f5\
+         07ccb7dc3043bf7ad4b4c95e8f4\n\
          \n",
     ),
     (

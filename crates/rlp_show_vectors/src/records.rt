@@ -24,6 +24,8 @@ const RECORDS: [Row; 8] = [
          v: 37 (chain 1, parity 0)\n\
          r: 0x28ef61340bd939bc2195fe537567866003e1a15d3c71ff63e1590620aa636276\n\
          s: 0x67cbe9d8997f761aecb703304b3800ccf555c9f3dc64214b297fb1966a3b6d83\n\
+         signing_hash: 0xdaf5a779ae972f972197303d7b574746c7ef83eadac0f2791ad23db92e\
+         4c8e53\n\
          \n",
     ),
     (
@@ -40,6 +42,8 @@ const RECORDS: [Row; 8] = [
          v: 28 (parity 1)\n\
          r: 0x88ff6cf0fefd94db46111149ae4bfc179e9b94721fffd821d38d16464b3f71d0\n\
          s: 0x45e0aff800961cfce805daef7016b9b675c137a6a41a548f7b60a3484c06a33a\n\
+         signing_hash: 0x19b1e28c14f33e74b96b88eba97d4a4fc8a97638d72e972310025b7e11\
+         89b049\n\
          \n",
     ),
     (
@@ -68,6 +72,8 @@ const RECORDS: [Row; 8] = [
          y_parity: 1\n\
          r: 0xffffffffffffffffffffffffffffffffffffffffffffffffffffffffffffffff\n\
          s: 0x184f03e93ff9f4daa797ed6e38ed64bf6a1f010000000000000000\n\
+         signing_hash: 0xc8018b3689c0ebb15c52da01e8b29ffbfe1416bdea1870855e0e19aad1\
+         935dba\n\
          \n",
     ),
     (
@@ -89,6 +95,8 @@ const RECORDS: [Row; 8] = [
          y_parity: 0\n\
          r: 0x7\n\
          s: 0x8\n\
+         signing_hash: 0x5c00dba017144a5859ff3e797071498bf349cf5ce0bd595dfecc7a1433\
+         114160\n\
          \n",
     ),
     (

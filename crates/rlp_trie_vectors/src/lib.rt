@@ -1,4 +1,4 @@
-//! Tests of nodes of the trie, of proofs and of node records. The crate has only tests.
+//! Tests of Keccak-256, of nodes of the trie, of proofs and of node records. The crate has only tests.
 //!
 //! The tests are tables of text. A row of a table is a line with bars between its cells: the call,
 //! its bytes, and what it answers. A row with two cells answers `both ways`: the bytes are read as a
@@ -8,6 +8,8 @@
 
 #[cfg(test)]
 mod answers;
+#[cfg(test)]
+mod hashes;
 #[cfg(test)]
 mod laws;
 #[cfg(test)]

@@ -21,14 +21,16 @@ use std::test::Fail;
 const WITHOUT_MEMORY: [&str; 2] = [items::ROWS, views::ROWS];
 
 /// The other tables.
-const WITH_MEMORY: [&str; 7] = [
+const WITH_MEMORY: [&str; 9] = [
     fields::ROWS,
     flattened::ROWS,
     lists::ROWS,
     splitting::ROWS,
     strict::ROWS,
+    strict::INVALID,
     texts::ROWS,
-    values::ROWS,
+    values::NUMBERS,
+    values::OTHERS,
 ];
 
 /// Tries the rows of a table, and notes those that have another answer. A blank line stands between

@@ -6,7 +6,7 @@ use std::alloc::Global;
 use std::fmt;
 use std::fmt::Write;
 
-/// Rows of strict values and invalid encodings.
+/// Rows of strict values.
 pub(crate) const ROWS: &str = "
     Bytes after a text are too much, but a fault of its header comes first.
     strict value String:
@@ -46,6 +46,18 @@ pub(crate) const ROWS: &str = "
     strict list_at u8:
     c101 0 | Err(RlpExpectedToBeList)
 
+    A number, and one with a byte after it.
+    strict whole:
+    820100 | Ok(256)
+    0506 | Err(RlpIsTooBig)
+
+    A list of numbers.
+    strict whole_list:
+    c20506 | Ok([5, 6])
+";
+
+/// Rows of the invalid encodings.
+pub(crate) const INVALID: &str = "
     Bytes that the public standard lists as invalid encodings.
     strict invalid:
     bf0f000000000000021111 | false Some(RlpInconsistentLengthAndData)
@@ -72,15 +84,6 @@ pub(crate) const ROWS: &str = "
     ffffffffffffffffff0001020304050607 | false Some(RlpIsTooShort)
     c000 | false Some(RlpIsTooBig)
     0000 | false Some(RlpIsTooBig)
-
-    A number, and one with a byte after it.
-    strict whole:
-    820100 | Ok(256)
-    0506 | Err(RlpIsTooBig)
-
-    A list of numbers.
-    strict whole_list:
-    c20506 | Ok([5, 6])
 ";
 
 /// Tells whether the bytes are canonical, and the fault of reading them strictly: as a list if they

@@ -9,8 +9,8 @@ use std::alloc::Global;
 use std::fmt;
 use std::fmt::Write;
 
-/// Rows of values.
-pub(crate) const ROWS: &str = "
+/// Rows of numbers and truth values.
+pub(crate) const NUMBERS: &str = "
     Numbers of each length are read. Leading zeros, long forms and lists are faults.
     lenient value u64:
     8401000000 | Ok(16777216)
@@ -67,7 +67,10 @@ pub(crate) const ROWS: &str = "
     Other numbers are no truth values.
     lenient value bool:
     02 | Err(Custom(\"invalid boolean value\"))
+";
 
+/// Rows of strings and options.
+pub(crate) const OTHERS: &str = "
     Strings of no byte, of a byte below 80 and of two bytes are read.
     lenient value Vec:
     80 | Ok([])
