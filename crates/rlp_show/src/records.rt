@@ -270,7 +270,7 @@ impl Show for SignedAuthorization {
             "r": SignatureNumber,
             "s": SignatureNumber
         )?;
-        Ok(put_typed_signing_hash(alloc, name, 0x05, 3, item, out)?)
+        Ok(put_typed_signing_hash(alloc, name, AUTHORIZATION_MAGIC, 3, item, out)?)
     }
 }
 
