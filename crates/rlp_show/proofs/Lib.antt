@@ -8,3 +8,5 @@ pub mod FieldLemmas
 pub mod ItemLemmas
 -- node records and their pairs
 pub mod PairLemmas
+-- lines that are shown without a fault
+pub mod LineLemmas

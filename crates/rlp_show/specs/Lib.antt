@@ -20,10 +20,14 @@ pub mod Request
 pub mod StringLemmas
 -- lemmas on the encodings of values
 pub mod ValueLemmas
+-- lemmas on what is shown without a fault
+pub mod ConverseLemmas
 -- the lines of values
 pub mod Values
 -- lemmas on envelopes, and on strings that hold records
 pub mod EnvelopeLemmas
+-- lemmas on transactions that are shown without a fault
+pub mod ConverseTransactions
 -- the lines of transactions of every type, and of blocks
 pub mod TransactionValues
 -- the lines of bodies of blocks
