@@ -10,3 +10,5 @@ pub mod ItemLemmas
 pub mod PairLemmas
 -- the next items, one after another
 pub mod SigningLemmas
+-- lines that are shown without a fault
+pub mod LineLemmas

@@ -24,10 +24,16 @@ pub mod StringLemmas
 pub mod ValueLemmas
 -- lemmas on what is signed of values
 pub mod SigningLemmas
+-- lemmas on what is shown without a fault
+pub mod ConverseLemmas
+-- how values are shown, from their parts
+pub mod Displays
 -- the lines of values
 pub mod Values
 -- lemmas on envelopes, and on strings that hold records
 pub mod EnvelopeLemmas
+-- lemmas on transactions that are shown without a fault
+pub mod ConverseTransactions
 -- the lines of transactions of every type, and of blocks
 pub mod TransactionValues
 -- the lines of bodies of blocks

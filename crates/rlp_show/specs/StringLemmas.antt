@@ -12,7 +12,7 @@ use Rattle.rlp.specs.Format.WrittenHeader.{big_endian}
 use Rattle.rlp.specs.Values.Value.{FitsBytes, bit}
 use Rattle.rlp.specs.Values.ValueReading.{FaultsAs, no_string, no_value, GivesValue, GivesNumber, FaultsAsNumber, IsDigitsFault, too_long, leading_zero}
 use Rattle.rlp.specs.Values.ValueReading.{IsLengthFault, shorter, longer}
-use Rattle.rlp.specs.Values.ValueReading.{FaultsAsBool, GivesBool, IsCustom, no_number, other_number}
+use Rattle.rlp.specs.Values.ValueReading.{FaultsAsBool, GivesBool, no_number, other_number}
 use Rattle.rlp_transactions.specs.declared.recipient.Recipient.{Recipient}
 use Rattle.rlp_transactions.specs.declared.recipient.Recipient.TheVariants.{Creation, Account}
 use Rattle.rlp_transactions.specs.Recipient.{IsRecipient, IsRecipientFault, recipient_bytes, shorter_recipient, longer_recipient}
@@ -49,7 +49,7 @@ fixed_right : (text : List ℕ → List ℕ) (n : ℕ) (d : List ℕ) → length
 fixed_right text n d many = cond-false (nat_lt (length d) n) _ _ (le-ltb _ _ (omega (arith, many)))
     ∙ cond-false (nat_lt n (length d)) _ _ (le-ltb _ _ (omega (arith, many)))
 
-fixed_wrong : (text : List ℕ → List ℕ) (n : ℕ) (d : List ℕ) (e : DecoderError) → IsLengthFault n d e → fixed_bytes_in text n d ≡ Err (error_name e)
+pub fixed_wrong : (text : List ℕ → List ℕ) (n : ℕ) (d : List ℕ) (e : DecoderError) → IsLengthFault n d e → fixed_bytes_in text n d ≡ Err (error_name e)
 fixed_wrong text n d e (shorter few) = cond-true (nat_lt (length d) n) _ _ (lt-ltb _ _ few)
 fixed_wrong text n d e (longer many) = cond-false (nat_lt (length d) n) _ _ (le-ltb _ _ (omega arith)) ∙ cond-true (nat_lt n (length d)) _ _ (lt-ltb _ _ many)
 
@@ -122,7 +122,7 @@ pub number_as_given : (text : ℕ → List ℕ) (width n : ℕ) (name : List ℕ
     → number_as text width name v ≡ Ok (line name (text n))
 number_as_given text width n name v few given = ap (named name) (number_held text width n v few given)
 
-number_as_faulty : (text : ℕ → List ℕ) (width : ℕ) (name : List ℕ) (v : View) (e : DecoderError) → length v.bytes < 2 ^ 64 → FaultsAsNumber width v e
+pub number_as_faulty : (text : ℕ → List ℕ) (width : ℕ) (name : List ℕ) (v : View) (e : DecoderError) → length v.bytes < 2 ^ 64 → FaultsAsNumber width v e
     → number_as text width name v ≡ Err (wrong name (error_name e))
 number_as_faulty text width name v e few fault = ap (named name) (number_unheld text width v e few fault)
 
@@ -199,7 +199,7 @@ pub ruleset recipient_strings = (recipient_given, recipient_faulty)
 -- ---- statuses of receipts
 
 -- the test of a status that isn't empty
-abbrev is_status : ℕ → List ℕ → Bool
+abbrev pub is_status : ℕ → List ℕ → Bool
 is_status d ds = (length ds == 31) || ((d == 1) && (length ds == 0))
 
 root_right : (d : List ℕ) → length d ≡ 32 → status_in d ≡ Ok (bytes_text d)
@@ -261,16 +261,21 @@ no_number_in d e (leading_zero [] few is) =
     ∙ number_wrong number_text 1 d RlpInvalidIndirection (leading_zero [] few is)
 no_number_in d e (leading_zero (c ∷ more) few is) = absurd (omega (arith, ap length is))
 
-other_in : (n : ℕ) (d : List ℕ) (e : DecoderError) → d ≡ big_endian n → FitsBytes 1 n → 1 < n → IsCustom (codes "invalid boolean value") e
-    → truth_value_in d ≡ Err (error_name e)
-other_in n d e is fit above custom =
+other_in : (n : ℕ) (d : List ℕ) → d ≡ big_endian n → FitsBytes 1 n → 1 < n → truth_value_in d ≡ Err (codes "Custom(\"invalid boolean value\")")
+other_in n d is fit above =
     let value : number_from_digits 256 d ≡ n = ap (number_from_digits 256) is ∙ big_endian_value n in
     let few : length d ≤ 1 = few_by 1 n d is fit in
-    cond-true (is_other d) _ _ (grind (arith, nat_tests)) ∙ ap (λ t. Err t) (sym custom)
+    cond-true (is_other d) _ _ (grind (arith, nat_tests))
 
 pub truth_given : (name : List ℕ) (v : View) (b : Bool) → length v.bytes < 2 ^ 64 → GivesBool v b → truth_value name v ≡ Ok (line name (number_text (bit b)))
 truth_given name v b few given =
     shown_string truth_value_in name v (big_endian (bit b)) few given.begins ∙ ap (named name) (truth_right b (big_endian (bit b)) refl)
+
+-- a number above 1 is at fault
+pub truth_above : (name : List ℕ) (v : View) (n : ℕ) → length v.bytes < 2 ^ 64 → GivesNumber 1 v n → 1 < n
+    → truth_value name v ≡ Err (wrong name (codes "Custom(\"invalid boolean value\")"))
+truth_above name v n few given above =
+    shown_string truth_value_in name v (big_endian n) few given.begins ∙ ap (named name) (other_in n (big_endian n) refl given.fits above)
 
 pub truth_faulty : (name : List ℕ) (v : View) (e : DecoderError) → length v.bytes < 2 ^ 64 → FaultsAsBool v e
     → truth_value name v ≡ Err (wrong name (error_name e))
@@ -278,7 +283,7 @@ truth_faulty name v e few (no_number f (no_string g is)) = shown_fault truth_val
 truth_faulty name v e few (no_number f (no_value d g holds faulty)) =
     shown_string truth_value_in name v d few holds ∙ ap (named name) (no_number_in d g faulty)
 truth_faulty name v e few (other_number n f given above custom) =
-    shown_string truth_value_in name v (big_endian n) few given.begins ∙ ap (named name) (other_in n (big_endian n) f refl given.fits above custom)
+    truth_above name v n few given above ∙ ap (λ t. Err (wrong name t)) (sym custom)
 
 pub ruleset truth_strings = (truth_given, truth_faulty)
 

@@ -32,14 +32,19 @@ use Rattle.rlp_headers.specs.Withdrawal.{withdrawals as withdrawals_codec}
 use Rattle.std.specs.Str.Lines.{strip_carriage_return}
 use Rattle.rlp_lines.specs.Digits.{bytes_in}
 use Rattle.rlp_show.specs.Answer.{record_answer}
+use Rattle.rlp_show.specs.ConverseLemmas.{vec_of}
+use Rattle.rlp_show.specs.ConverseTransactions.{listed_only}
 use Rattle.rlp_show.specs.ValueLemmas.{encoding_answered}
 use Rattle.rlp_show.specs.Lines.{Shape, hash_line, hashed, line, list_of, prefix, then_lines, typed}
 use Rattle.rlp_show.specs.Records.{access_list_transaction, any_transaction, blob_transaction, block, fee_market_transaction, legacy_transaction, list_or, plain_transaction, set_code_transaction}
 use Rattle.rlp_show.specs.Records.{other_transaction, transaction, typed_transaction, withdrawal}
 use Rattle.rlp_show.specs.Text.{bytes_text, number_text}
 use Rattle.rlp_show.specs.EnvelopeLemmas.{after_type, list_held, list_kind, not_of_type, other_than, string_held, string_sized}
-use Rattle.rlp_show.specs.Values.{Display, access_list_transaction_display, blob_transaction_display, fee_market_transaction_display, field_display}
-use Rattle.rlp_show.specs.Values.{header_display, legacy_transaction_display, list_display, optional_display, record_display}
+use Rattle.rlp_show.specs.Displays.{Display, field_display}
+use Rattle.rlp_show.specs.Values.{access_list_transaction_display, blob_transaction_display, fee_market_transaction_display}
+use Rattle.rlp_show.specs.Displays.{list_display, optional_display, record_display}
+use Rattle.rlp_show.specs.Values.{header_display, legacy_transaction_display}
+use Rattle.rlp_show.specs.Displays.{vec_display}
 use Rattle.rlp_show.specs.Values.{set_code_transaction_display, withdrawal_display}
 
 -- the line of a type, and the lines of the payload
@@ -196,16 +201,17 @@ any_held name (Other d) fit sized =
     ∙ with_hash (typed_transaction other_transaction) name d (other_typed other_transaction name d fit (λ v kind. refl))
 
 abbrev pub transaction_display : Display any_codec transaction
-transaction_display = record { lines = hashed_lines; shown = any_held }
+transaction_display = record { lines = hashed_lines; shown = any_held; only = listed_only }
 
 -- ---- blocks
 
 abbrev pub withdrawals_display : Display withdrawals_codec (list_of withdrawal)
-withdrawals_display = list_display (λ (w : Withdrawals). vec_items w.0) withdrawal_display
+withdrawals_display = list_display (λ (w : Withdrawals). vec_items w.0) (λ xs few. let (v, same) = vec_of xs few in (record { 0 = v }, same)) withdrawal_display
 
 abbrev pub block_display : Display block_codec block
 block_display = record_display (
     field_display (codes "header") (λ (b : Block). b.header) header_display (
-    field_display (codes "transactions") (λ (b : Block). b.transactions) (list_display vec_items transaction_display) (
-    field_display (codes "ommers") (λ (b : Block). b.ommers) (list_display vec_items header_display) (
+    field_display (codes "transactions") (λ (b : Block). b.transactions) (vec_display transaction_display) (
+    field_display (codes "ommers") (λ (b : Block). b.ommers) (vec_display header_display) (
     optional_display (codes "withdrawals") (λ (b : Block). b.withdrawals) withdrawals_display))))
+    (λ (a, (b, (c, d))). record { header = a; transactions = b; ommers = c; withdrawals = d }) (λ t. refl)

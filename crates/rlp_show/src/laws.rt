@@ -1,9 +1,10 @@
 //! Laws about the answers to lines, as public functions. Their contracts are the laws, and they have
 //! no effect.
 
-ghost use Rattle.std.specs.Prelude.{◌≡◌, ◌<◌, ◌^◌, [], Some, length};
+ghost use Rattle.std.specs.Prelude.{◌≡◌, ◌<◌, ◌^◌, ℕ, List, [], Some, Ok, length};
 ghost use Rattle.std.specs.Str.Lines.{strip_carriage_return};
 ghost use Rattle.rlp.specs.Format.Encoding.{IsSized, encoding};
+ghost use Rattle.rlp.specs.Views.View.{strict_view_of};
 ghost use Rattle.rlp_lines.specs.Digits.{bytes_in};
 ghost use Rattle.rlp_records.specs.Alone.{bytes_alone};
 ghost use Rattle.rlp_transactions.specs.AnyTransaction.{any_transaction};
@@ -44,4 +45,23 @@ pub fn transactions_are_shown(line: &[u8])
         → length (bytes_alone (any_transaction.item t)) < 2 ^ 64
         → bytes_in (strip_carriage_return line.now) ≡ Some (bytes_alone (any_transaction.item t))
         → kind_answer kind.Transaction line.now ≡ hashed_lines [] t }
+{}
+
+/// If the digits of a line are bytes that a type shows without a fault, these bytes are the encoding
+/// of a value that fits, and the answer is the lines of the value.
+pub fn only_encodings_are_shown<T: ShowValues>(line: &[u8])
+    ensures { (bytes lines : List ℕ) → bytes_in (strip_carriage_return line.now) ≡ Some bytes
+        → T.shape [] (strict_view_of bytes) ≡ Ok lines
+        → (x : T) × T.fits x × (bytes ≡ encoding (T.item x))
+        × (record_answer T.shape line.now ≡ T.lines [] x) }
+{}
+
+/// If the digits of a line are bytes that are shown as a transaction without a fault, they are the
+/// bytes of a transaction by itself, and the answer is the lines of the transaction.
+pub fn only_transactions_are_shown(line: &[u8])
+    ensures { (bytes lines : List ℕ) → bytes_in (strip_carriage_return line.now) ≡ Some bytes
+        → kind_shape kind.Transaction [] (strict_view_of bytes) ≡ Ok lines
+        → (t : AnyTransaction) × any_transaction.Fits t
+        × (bytes ≡ bytes_alone (any_transaction.item t))
+        × (kind_answer kind.Transaction line.now ≡ hashed_lines [] t) }
 {}
