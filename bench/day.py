@@ -87,7 +87,8 @@ def main():
     rounds = given.blocks // distinct
     path, sums = input_of(given.folder, distinct)
     each = f"{sums[5] / distinct / 1e3:.0f} KB with {sums[1] / distinct:.0f} transactions, {sums[3] / distinct:.0f} logs and {sums[4] / distinct:.0f} nodes"
-    told = f"{distinct * rounds:,} blocks of {each} on average; {distinct:,} made, read {rounds} times over; median of {RUNS} runs"
+    times = f"{distinct:,} made, read {rounds} times over; " if rounds > 1 else ""
+    told = f"{distinct * rounds:,} blocks of {each} on average; {times}median of {RUNS} runs"
     print(f"{told}\n" + ", ".join(HEADS))
     with tempfile.TemporaryDirectory(prefix="part-", dir=given.folder) as parts:
         subprocess.run(["split", "-n", f"l/{PARTS}", path, os.path.join(parts, "part.")], check=True)

@@ -71,6 +71,7 @@ def chart(root):
     lines = [
         f'<svg xmlns="http://www.w3.org/2000/svg" viewBox="0 0 {LEFT + WIDTH + 20} {height}" width="{LEFT + WIDTH + 20}" height="{height}" font-family="sans-serif" font-size="12" fill="#1c2733">',
         "  <title>Time of each operation by that of the Rust crate</title>",
+        f'  <text x="{LEFT - 24}" y="{TOP - 12}" text-anchor="end">Time by that of the Rust crate; below 1 is faster</text>',
     ]
     for value in (0.01, 0.1, 0.5, 1, 2, 10, 50):
         x = place(value)
@@ -103,6 +104,7 @@ def chart_of_sizes(root):
     lines = [
         f'<svg xmlns="http://www.w3.org/2000/svg" viewBox="0 0 {width} {height}" width="{width}" height="{height}" font-family="sans-serif" font-size="12" fill="#1c2733">',
         "  <title>Time of a byte by that at the smallest size</title>",
+        f'  <text x="{X}" y="{Y - 7}">Time of a byte by that at the smallest size</text>',
         *grid(),
     ]
     for turn, (kind, points) in enumerate(kinds.items()):
