@@ -21,7 +21,8 @@ record, where 0x may be left out.
 
 With --json an answer is one JSON object in one line. Its only key is the kind, and
 the names and values below it are those of Ethereum's execution API: numbers are in
-hexadecimal, and the fields of a header stand in its block.
+hexadecimal, and the fields of a header stand in its block. Only signingHash and
+whole ommers aren't there.
 
 KIND is one of
   transaction, receipt            with or without a type
@@ -49,7 +50,14 @@ Without KIND the kind is guessed, and its name comes before those of the fields:
 Where two kinds fit, the commoner one is taken.
 
 An answer is a line for each field and an empty line, or with --json one line. For a
-record at fault it is one line that begins with error. The exit status is
+record at fault it is one line of text, also with --json, that begins with error. It
+names the field, counted from 0, and the fault, as
+  RlpInvalidIndirection   a number begins with a zero byte, or a header is too long
+  RlpIsTooBig             there are more bytes than the field takes
+  RlpIsTooShort           there are fewer
+  RlpIncorrectListLen     no such record has this number of items
+  RlpExpectedToBeList     there is a string, or RlpExpectedToBeData: there is a list
+Signatures aren't tested. The exit status is
   0  if all records were shown
   1  if memory was refused
   2  if reading failed
@@ -59,4 +67,5 @@ record at fault it is one line that begins with error. The exit status is
 
 Examples:
   rlp_show 0xda808203e8945df9b87991262f6ba471f09758cde1c0fc1de73405
+  rlp_show < block.txt
   rlp_show --json header < headers.txt";
