@@ -66,7 +66,7 @@ named_ok : (name : List ℕ) (w : Worded) → IsOk (named name w) → IsOk w
 named_ok name (Ok text) ok = refl
 named_ok name (Err what) ok = ok
 
--- a test that is asked for has passed
+-- what needs a test to be shown has passed it
 pub if_ok : {T E : Type 0} (t : Bool) (r : Result T E) (e : E) → IsOk (if t then r else Err e) → (t ≡ true) × IsOk r
 if_ok true r e ok = (refl, ok)
 if_ok false r e ok = absurd (let no : ⊥ = cc in no)

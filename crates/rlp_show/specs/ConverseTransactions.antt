@@ -36,11 +36,11 @@ abbrev type_then : ℕ → Shape → List ℕ → List ℕ → Shown
 type_then kind shape name payload = then_lines (Ok (line (prefix name ++ codes "type") (number_text kind))) (shape name (strict_view_of payload))
 
 -- bytes don't begin with this type
-abbrev HasNoType : ℕ → List ℕ → Type 0
+abbrev pub HasNoType : ℕ → List ℕ → Type 0
 HasNoType kind b = (first : ℕ) (payload : List ℕ) → b ≡ first ∷ payload → first ≢ kind
 
 -- Bytes that are shown by the envelope of a type are the type and an encoding, or don't begin with the type and are shown as another shape.
-envelope_only : {A : Type 0} (Fits : A → Type 0) (item : A → Item) (kind : ℕ) (shape other : Shape) → OnlyEncodings Fits item shape → (name b : List ℕ)
+pub envelope_only : {A : Type 0} (Fits : A → Type 0) (item : A → Item) (kind : ℕ) (shape other : Shape) → OnlyEncodings Fits item shape → (name b : List ℕ)
     → IsSlice b → IsOk (typed kind shape other name (strict_view_of b))
     → ((x : A) × Fits x × (b ≡ kind ∷ encoding (item x))) ⊎ (IsOk (other name (strict_view_of b)) × HasNoType kind b)
 envelope_only Fits item kind shape other only name [] slice ok = inr (ok, λ first payload is. let no : ⊥ = cc in absurd no)

@@ -36,5 +36,7 @@ pub mod EnvelopeLemmas
 pub mod ConverseTransactions
 -- the lines of transactions of every type, and of blocks
 pub mod TransactionValues
+-- the lines of receipts of every type
+pub mod ReceiptValues
 -- the lines of bodies of blocks
 pub mod BodyValues

@@ -6,12 +6,15 @@ ghost use Rattle.std.specs.Str.Lines.{strip_carriage_return};
 ghost use Rattle.rlp.specs.Format.Encoding.{IsSized, encoding};
 ghost use Rattle.rlp.specs.Views.View.{strict_view_of};
 ghost use Rattle.rlp_lines.specs.Digits.{bytes_in};
+ghost use Rattle.rlp_headers.specs.TypedReceipt.{typed_receipt};
+ghost use Rattle.rlp_headers.specs.declared.typed_receipt.TypedReceipt.{TypedReceipt};
 ghost use Rattle.rlp_records.specs.Alone.{bytes_alone};
 ghost use Rattle.rlp_transactions.specs.AnyTransaction.{any_transaction};
 ghost use Rattle.rlp_transactions.specs.declared.any_transaction.AnyTransaction.{AnyTransaction};
 ghost use Rattle.rlp_json.specs.Json.{json_of};
 ghost use Rattle.rlp_show.specs.Answer.{kind_answer, kind_name, kind_shape, record_answer};
 ghost use Rattle.rlp_show.specs.LineAnswer.{answer_of};
+ghost use Rattle.rlp_show.specs.ReceiptValues.{receipt_lines};
 ghost use Rattle.rlp_show.specs.Request.{answers};
 ghost use Rattle.rlp_show.specs.declared.answers.Form.TheVariants.{Json};
 ghost use Rattle.rlp_show.specs.declared.kind.Kind.{Kind};
@@ -64,4 +67,23 @@ pub fn only_transactions_are_shown(line: &[u8])
         → (t : AnyTransaction) × any_transaction.Fits t
         × (bytes ≡ bytes_alone (any_transaction.item t))
         × (kind_answer kind.Transaction line.now ≡ hashed_lines [] t) }
+{}
+
+/// If the digits of a line are the bytes of a receipt by itself, as `TypedReceipt::to_bytes` of
+/// `rlp_ethereum` returns them, the answer is the lines of the receipt.
+pub fn receipts_are_shown(line: &[u8])
+    ensures { (r : TypedReceipt) → typed_receipt.Fits r
+        → length (bytes_alone (typed_receipt.item r)) < 2 ^ 64
+        → bytes_in (strip_carriage_return line.now) ≡ Some (bytes_alone (typed_receipt.item r))
+        → kind_answer kind.Receipt line.now ≡ receipt_lines [] r }
+{}
+
+/// If the digits of a line are bytes that are shown as a receipt without a fault, they are the bytes
+/// of a receipt by itself, and the answer is the lines of the receipt.
+pub fn only_receipts_are_shown(line: &[u8])
+    ensures { (bytes lines : List ℕ) → bytes_in (strip_carriage_return line.now) ≡ Some bytes
+        → kind_shape kind.Receipt [] (strict_view_of bytes) ≡ Ok lines
+        → (r : TypedReceipt) × typed_receipt.Fits r
+        × (bytes ≡ bytes_alone (typed_receipt.item r))
+        × (kind_answer kind.Receipt line.now ≡ receipt_lines [] r) }
 {}
