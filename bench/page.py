@@ -9,7 +9,7 @@ LEAST, MOST = 0.01, 60
 RATIO = "ratio, with link-time optimisation"
 # The chart of sizes: its left upper corner, its width and height, the bytes and the ratios at its ends, and the colours of its lines.
 X, Y, ACROSS, HIGH = 60, 20, 420, 300
-BYTES, RATIOS = (10, 2**30), (0.02, 100)
+BYTES, RATIOS = (10, 2**30), (0.02, 300)
 COLOURS = ("#1b4f8a", "#c4713b", "#3f8f5b", "#8a4fa3", "#a33b3b", "#2f8f94", "#8a7a1b", "#5b7aa6", "#1c2733")
 
 
