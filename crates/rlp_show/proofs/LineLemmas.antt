@@ -1,4 +1,4 @@
--- Lines whose digits are shown without a fault.
+-- Lines whose digits are shown without a fault, and their answers in JSON.
 use Rattle.std.proofs.Common.{◌≡◌, ◌^◌, ◌<◌, ◌≤◌, ◌==◌, ◌-◌, if◌then◌else◌, ℕ, Bool, true, false, Some, Result, Ok, Err, IsOk, List, [], drop, length, take, codes}
 use Rattle.std.proofs.Common.{refl, sym, ap, ◌∙◌, subst, arith, length-drop, length-take, nat_eq, slice_index}
 use Rattle.std.specs.List.{starts_with}
@@ -12,7 +12,13 @@ use Rattle.rlp.specs.Format.Encoding.{IsSized, encoding}
 use Rattle.rlp.specs.Format.Item.{Item}
 use Rattle.rlp.specs.Views.View.{strict_view_of}
 use Rattle.rlp_lines.specs.Digits.{bytes_in, digits_of}
-use Rattle.rlp_show.specs.Answer.{record_answer}
+use Rattle.rlp_json.specs.Json.{json_of}
+use Rattle.rlp_show.specs.Answer.{bytes_answer, bytes_or_node, json_answer, record_answer}
+use Rattle.rlp_show.specs.Kinds.{kind_name, kind_shape}
+use Rattle.rlp_show.specs.LineAnswer.{answer_of, shape_in}
+use Rattle.rlp_show.specs.Request.{answers}
+use Rattle.rlp_show.specs.declared.answers.Form.TheVariants.{Json}
+use Rattle.rlp_show.specs.declared.kind.Kind.{Kind}
 use Rattle.rlp_show.specs.ConverseLemmas.{IsSlice, OnlyEncodings, below}
 use Rattle.rlp_show.specs.Lines.{Shape}
 use Rattle.rlp_show.specs.ValueLemmas.{encoding_answered}
@@ -46,3 +52,10 @@ shown_encoding Fits item shape lines only shown l bytes text few is ok =
     let (x, fit, same) = only [] bytes slice (subst IsOk (sym ok) refl) in
     let sized = subst (λ b. length b < 2 ^ 64) same (below bytes slice) in
     (x, fit, same, encoding_answered shape l bytes (lines [] x) is (ap (λ b. shape [] (strict_view_of b)) same ∙ shown [] x fit sized))
+
+-- the answer in JSON to the line of an encoding, for the kind with this shape
+pub encoding_in_json : (kind : Kind) (shape : Shape) (l bytes lines : List ℕ) → kind_shape kind ≡ shape → bytes_in (strip_carriage_return l) ≡ Some bytes
+    → shape (kind_name kind) (strict_view_of bytes) ≡ Ok lines → answer_of (answers (Some kind) Json) l ≡ json_of lines
+encoding_in_json kind shape l bytes lines same is shown =
+    ap (λ found. bytes_answer json_answer (shape_in Json (Some kind)) (strip_carriage_return l) (bytes_or_node (strip_carriage_return l) found)) is
+    ∙ ap json_answer (ap (λ s. s (kind_name kind) (strict_view_of bytes)) same ∙ shown)

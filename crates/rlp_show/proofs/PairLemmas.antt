@@ -10,7 +10,7 @@ use Rattle.rlp_show.specs.Answer.{after_text}
 use Rattle.rlp_node_record.specs.NodeRecord.{keys_rise, longest_record}
 use Rattle.rlp_show.specs.Lines.{Fault, Shown, fields_lines, line, place, prefix, then_lines, wrong}
 use Rattle.rlp_show.specs.NodeRecords.{by_keys, first_fields, item_text, keys_in, node_fields, node_fields_lines, node_record, node_value, pair_lines, pairs_lines, text_or_item, value_text}
-use Rattle.rlp_show.specs.Records.{any_item}
+use Rattle.rlp_show.specs.Nodes.{any_item}
 use Rattle.rlp_show.proofs.FieldLemmas.{after_both}
 
 -- the lines of a pair, and then those of the pairs after it

@@ -1,5 +1,5 @@
 -- The answer to a line of input.
-use Rattle.std.specs.Prelude.{ℕ, Bool, false, true, nat_eq, ◌≡◌, ◌||◌, ⊤, List, [], ◌++◌, drop, codes, bytes_eq, if◌then◌else◌, string_bytes, Option, Some, None, Result, Ok, Err}
+use Rattle.std.specs.Prelude.{ℕ, Bool, false, true, nat_eq, ◌≡◌, ◌||◌, ⊤, List, [], ◌++◌, drop, codes, if◌then◌else◌, string_bytes, Option, Some, None, Result, Ok, Err}
 use Rattle.std.specs.List.{starts_with}
 use Rattle.std.specs.Result.{result_ok}
 use Rattle.std.specs.Str.Lines.{strip_carriage_return}
@@ -12,10 +12,6 @@ use Rattle.rlp_lines.specs.Digits.{bytes_in}
 use Rattle.rlp_lines.specs.Status.{status_of}
 use Rattle.rlp_lines.specs.declared.serving.RunFault.{RunFault}
 use Rattle.rlp_show.specs.Lines.{Fault, Shape, Shown, fault_text}
-use Rattle.rlp_show.specs.NodeRecords.{node_record}
-use Rattle.rlp_show.specs.Records.{access_list, account, any_receipt, any_transaction, authorization, block, body, header, node, withdrawal}
-use Rattle.rlp_show.specs.declared.kind.Kind.{Kind}
-use Rattle.rlp_show.specs.declared.kind.Kind.TheVariants.{AccessList, Account, Authorization, Block, Body, Header, Node, NodeRecord, Receipt, Transaction, Withdrawal}
 use Rattle.rlp_show.specs.declared.fault.ItemFault.{ItemFault}
 use Rattle.rlp_show.specs.declared.fault.ShowFault.{ShowFault}
 use Rattle.rlp_show.specs.declared.fault.ShowFault.TheVariants.{Wrong, OutOfMemory}
@@ -64,59 +60,11 @@ text_answer answer shape text = bytes_answer answer shape text (record_bytes tex
 abbrev pub record_answer : Shape → List ℕ → List ℕ
 record_answer shape line = text_answer shown_answer shape (strip_carriage_return line)
 
--- ---- kinds
-
--- the kind of a name
-unfoldable pub kind_named : List ℕ → Option Kind
-kind_named name =
-    if bytes_eq name (codes "access_list") then Some AccessList
-    else if bytes_eq name (codes "account") then Some Account
-    else if bytes_eq name (codes "authorization") then Some Authorization
-    else if bytes_eq name (codes "block") then Some Block
-    else if bytes_eq name (codes "body") then Some Body
-    else if bytes_eq name (codes "header") then Some Header
-    else if bytes_eq name (codes "node") then Some Node
-    else if bytes_eq name (codes "receipt") then Some Receipt
-    else if bytes_eq name (codes "record") then Some NodeRecord
-    else if bytes_eq name (codes "transaction") then Some Transaction
-    else if bytes_eq name (codes "withdrawal") then Some Withdrawal
-    else None
-
--- the name of a kind
-abbrev pub kind_name : Kind → List ℕ
-kind_name AccessList = codes "access_list"
-kind_name Account = codes "account"
-kind_name Authorization = codes "authorization"
-kind_name Block = codes "block"
-kind_name Body = codes "body"
-kind_name Header = codes "header"
-kind_name Node = codes "node"
-kind_name Receipt = codes "receipt"
-kind_name NodeRecord = codes "record"
-kind_name Transaction = codes "transaction"
-kind_name Withdrawal = codes "withdrawal"
-
--- the shape of the records of a kind
-abbrev pub kind_shape : Kind → Shape
-kind_shape AccessList = access_list
-kind_shape Account = account
-kind_shape Authorization = authorization
-kind_shape Block = block
-kind_shape Body = body
-kind_shape Header = header
-kind_shape Node = node
-kind_shape Receipt = any_receipt
-kind_shape NodeRecord = node_record
-kind_shape Transaction = any_transaction
-kind_shape Withdrawal = withdrawal
+-- ---- runs
 
 -- the most bytes that a line may have, without its newline: 32 MiB
 abbrev pub longest_line : ℕ
 longest_line = 33554432
-
--- the answer to a line that isn't too long, for records of a kind
-abbrev pub kind_answer : Kind → List ℕ → List ℕ
-kind_answer kind = record_answer (kind_shape kind)
 
 -- the exit status after a run, which tells whether a line was at fault
 abbrev pub exit_status : Result Bool RunFault → ℕ

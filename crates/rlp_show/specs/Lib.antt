@@ -6,12 +6,26 @@ pub mod Lines
 pub mod Signing
 -- the fields of a record that have labels
 pub mod Fields
--- the fields of each record
-pub mod Records
+-- the lines of nodes of the trie, and of items of any kind
+pub mod Nodes
 -- the lines of node records
 pub mod NodeRecords
 -- the answer to a line of input
 pub mod Answer
+-- how values are shown, from their parts
+pub mod Displays
+-- the fields of each record, and the lines of values
+pub mod Values
+-- the lines of transactions and receipts of every type
+pub mod Records
+-- the lines of values that are transactions of every type, and blocks
+pub mod TransactionValues
+-- the lines of values that are receipts of every type
+pub mod ReceiptValues
+-- the lines of bodies of blocks
+pub mod BodyValues
+-- the kinds of records
+pub mod Kinds
 -- the kind of a record that isn't named
 pub mod Guess
 -- the answers to lines, of a kind and in a form
@@ -26,17 +40,7 @@ pub mod ValueLemmas
 pub mod SigningLemmas
 -- lemmas on what is shown without a fault
 pub mod ConverseLemmas
--- how values are shown, from their parts
-pub mod Displays
--- the lines of values
-pub mod Values
 -- lemmas on envelopes, and on strings that hold records
 pub mod EnvelopeLemmas
 -- lemmas on transactions that are shown without a fault
 pub mod ConverseTransactions
--- the lines of transactions of every type, and of blocks
-pub mod TransactionValues
--- the lines of receipts of every type
-pub mod ReceiptValues
--- the lines of bodies of blocks
-pub mod BodyValues

@@ -8,7 +8,7 @@ use Rattle.rlp.specs.DecoderError.TheVariants.{RlpIsTooBig, RlpIsTooShort, RlpIn
 use Rattle.rlp.specs.Format.Split.{begins_as_list}
 use Rattle.rlp.specs.Views.Text.{error_name}
 use Rattle.rlp.specs.Views.View.{View, item_count, item_views, strict_view_of, view_string}
-use Rattle.rlp_show.specs.Text.{bytes_text, number_text}
+use Rattle.rlp_show.specs.Text.{bloom_text, bytes_text, hex_text, number_text, v_text}
 
 -- What is wrong with an item: the place of the field that has the item, counted from 0 in the outermost record; the name of the item; and the name of the
 -- fault. A whole record has no field and no name.
@@ -261,3 +261,25 @@ list_value_lines lines name (x ∷ xs) = value_lines lines name 0 (x ∷ xs)
 abbrev pub lines_if : {A : Type 0} → (A → List ℕ) → Option A → List ℕ
 lines_if lines None = []
 lines_if lines (Some x) = lines x
+
+-- ---- strings of one meaning
+
+-- addresses
+abbrev pub address : Shape
+address = fixed_bytes 20
+
+-- hashes
+abbrev pub hash : Shape
+hash = fixed_bytes 32
+
+-- filters of logs
+abbrev pub bloom : Shape
+bloom = fixed_bytes_as bloom_text 256
+
+-- the numbers r and s of a signature, in hexadecimal
+abbrev pub signature_number : Shape
+signature_number = number_as hex_text 32
+
+-- the number v of the signature of a transaction without a type
+abbrev pub legacy_v : Shape
+legacy_v = number_as v_text 32

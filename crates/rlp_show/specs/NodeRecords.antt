@@ -14,7 +14,7 @@ use Rattle.rlp.specs.Views.Text.{error_name}
 use Rattle.rlp.specs.Views.View.{View, item_count, item_views, view_string}
 use Rattle.rlp_node_record.specs.NodeRecord.{keys_rise, longest_record}
 use Rattle.rlp_show.specs.Lines.{Field, Shape, Shown, begins_with_zero, byte_string, field, fields_lines, in_field, line, number, place, prefix, string_shape, then_lines, wrong}
-use Rattle.rlp_show.specs.Records.{any_item}
+use Rattle.rlp_show.specs.Nodes.{any_item}
 use Rattle.rlp_show.specs.Text.{bytes_text, number_text}
 
 -- ---- keys

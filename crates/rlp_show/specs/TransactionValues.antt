@@ -35,9 +35,9 @@ use Rattle.rlp_show.specs.Answer.{record_answer}
 use Rattle.rlp_show.specs.ConverseLemmas.{vec_of}
 use Rattle.rlp_show.specs.ConverseTransactions.{listed_only}
 use Rattle.rlp_show.specs.ValueLemmas.{encoding_answered}
-use Rattle.rlp_show.specs.Lines.{Shape, hash_line, hashed, line, list_of, prefix, then_lines, typed}
-use Rattle.rlp_show.specs.Records.{access_list_transaction, any_transaction, blob_transaction, block, fee_market_transaction, legacy_transaction, list_or, plain_transaction, set_code_transaction}
-use Rattle.rlp_show.specs.Records.{other_transaction, transaction, typed_transaction, withdrawal}
+use Rattle.rlp_show.specs.Lines.{Shape, hash_line, hashed, line, prefix, then_lines, typed}
+use Rattle.rlp_show.specs.Records.{access_list_transaction, any_transaction, blob_transaction, fee_market_transaction, legacy_transaction, list_or, plain_transaction, set_code_transaction}
+use Rattle.rlp_show.specs.Records.{other_transaction, transaction, typed_transaction}
 use Rattle.rlp_show.specs.Text.{bytes_text, number_text}
 use Rattle.rlp_show.specs.EnvelopeLemmas.{after_type, list_held, list_kind, not_of_type, other_than, string_held, string_sized}
 use Rattle.rlp_show.specs.Displays.{Display, field_display}
@@ -200,15 +200,18 @@ any_held name (Other d) fit sized =
     string_held (hashed legacy_transaction) (hashed (typed_transaction other_transaction)) name d sized
     ∙ with_hash (typed_transaction other_transaction) name d (other_typed other_transaction name d fit (λ v kind. refl))
 
-abbrev pub transaction_display : Display any_codec transaction
-transaction_display = record { lines = hashed_lines; shown = any_held; only = listed_only }
+-- transactions in the list of a block
+abbrev pub transaction_display : Display any_codec
+transaction_display = record { shape = transaction; lines = hashed_lines; shown = any_held; only = listed_only }
 
 -- ---- blocks
 
-abbrev pub withdrawals_display : Display withdrawals_codec (list_of withdrawal)
+-- the withdrawals of a block
+abbrev pub withdrawals_display : Display withdrawals_codec
 withdrawals_display = list_display (λ (w : Withdrawals). vec_items w.0) (λ xs few. let (v, same) = vec_of xs few in (record { 0 = v }, same)) withdrawal_display
 
-abbrev pub block_display : Display block_codec block
+-- blocks: the withdrawals may be missing
+abbrev pub block_display : Display block_codec
 block_display = record_display (
     field_display (codes "header") (λ (b : Block). b.header) header_display (
     field_display (codes "transactions") (λ (b : Block). b.transactions) (vec_display transaction_display) (

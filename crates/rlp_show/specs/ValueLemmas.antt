@@ -11,12 +11,7 @@ use Rattle.rlp.specs.Lemmas.WholeLists.{strict_item_count, strict_items}
 use Rattle.rlp.specs.Views.View.{View, item_views, strict_view_of}
 use Rattle.std.specs.Str.Lines.{strip_carriage_return}
 use Rattle.rlp_lines.specs.Digits.{bytes_in}
-use Rattle.rlp_json.specs.Json.{json_of}
-use Rattle.rlp_show.specs.Answer.{bytes_answer, bytes_or_node, json_answer, kind_name, kind_shape, record_answer, shown_answer}
-use Rattle.rlp_show.specs.LineAnswer.{answer_of, shape_in}
-use Rattle.rlp_show.specs.Request.{answers}
-use Rattle.rlp_show.specs.declared.answers.Form.TheVariants.{Json}
-use Rattle.rlp_show.specs.declared.kind.Kind.{Kind}
+use Rattle.rlp_show.specs.Answer.{bytes_answer, bytes_or_node, record_answer, shown_answer}
 use Rattle.rlp_show.specs.Lines.{Field, Shape, Shown, field, fields_lines, in_field, items_lines, lines_if, list_lines, may_have, optional, place, prefix, record_lines}
 use Rattle.rlp_show.specs.Lines.{list_of as list_shape_of, list_value_lines, record_of, then_lines, value_lines}
 use Rattle.rlp.specs.Values.FieldReading.{count_if}
@@ -174,10 +169,3 @@ pub encoding_answered : (shape : Shape) (l bytes lines : List ℕ) → bytes_in 
     → record_answer shape l ≡ lines
 encoding_answered shape l bytes lines is shown =
     ap (λ found. bytes_answer shown_answer shape (strip_carriage_return l) (bytes_or_node (strip_carriage_return l) found)) is ∙ ap shown_answer shown
-
--- and the answer in JSON, for the kind with this shape
-pub encoding_in_json : (kind : Kind) (shape : Shape) (l bytes lines : List ℕ) → kind_shape kind ≡ shape → bytes_in (strip_carriage_return l) ≡ Some bytes
-    → shape (kind_name kind) (strict_view_of bytes) ≡ Ok lines → answer_of (answers (Some kind) Json) l ≡ json_of lines
-encoding_in_json kind shape l bytes lines same is shown =
-    ap (λ found. bytes_answer json_answer (shape_in Json (Some kind)) (strip_carriage_return l) (bytes_or_node (strip_carriage_return l) found)) is
-    ∙ ap json_answer (ap (λ s. s (kind_name kind) (strict_view_of bytes)) same ∙ shown)

@@ -18,11 +18,11 @@ const DEEPEST_ITEM: usize = 256;
 pub struct AnyItem;
 
 impl Show for AnyItem {
-    ghost use Rattle.rlp_show.specs.Records.{any_item};
+    ghost use Rattle.rlp_show.specs.Nodes.{any_item};
 
     ghost shape = { any_item };
 
-    #[tactic(auto, unfolding(crate::specs::Records::any_item))]
+    #[tactic(auto, unfolding(crate::specs::Nodes::any_item))]
     fn show(alloc: Global, name: &str, item: &Rlp<'_>, out: &mut String) -> Result<(), ShowFault> {
         show_within(alloc, name, item, DEEPEST_ITEM, out)
     }

@@ -3,7 +3,8 @@
 ghost use Rattle.std.specs.Prelude.{◌≡◌, drop, string_bytes};
 ghost use Rattle.rlp.specs.Format.Framing.{map_ok};
 ghost use Rattle.rlp.specs.Views.View.{item_count, item_views, strict_view_of};
-ghost use Rattle.rlp_show.specs.Answer.{Shows, kind_shape};
+ghost use Rattle.rlp_show.specs.Answer.{Shows};
+ghost use Rattle.rlp_show.specs.Kinds.{kind_shape};
 ghost use Rattle.rlp_show.specs.Guess.{any_record, envelope_kind, first_byte, first_of, four_kind, guess, inner_of, list_kind, lists_kind, strings_kind};
 
 use crate::envelopes::AnyReceipt;

@@ -30,10 +30,10 @@ pub enum Kind {
 }
 
 impl Kind {
-    ghost use Rattle.rlp_show.specs.Answer.{kind_name, kind_named};
+    ghost use Rattle.rlp_show.specs.Kinds.{kind_name, kind_named};
 
     /// The kind of this name, if there is one.
-    #[tactic(auto, unfolding(crate::specs::Answer::kind_named))]
+    #[tactic(auto, unfolding(crate::specs::Kinds::kind_named))]
     pub fn named(name: &str) -> Option<Kind>
         ensures { result ≡ kind_named name.now }
     {
@@ -54,7 +54,7 @@ impl Kind {
     }
 
     /// The name of the kind.
-    #[tactic(auto, unfolding(crate::specs::Answer::kind_named))]
+    #[tactic(auto, unfolding(crate::specs::Kinds::kind_named))]
     pub fn name(self) -> &'static str
         ensures name { result.now ≡ kind_name self }
         ensures named { kind_named result.now ≡ Some self }

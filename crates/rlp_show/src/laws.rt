@@ -12,7 +12,8 @@ ghost use Rattle.rlp_records.specs.Alone.{bytes_alone};
 ghost use Rattle.rlp_transactions.specs.AnyTransaction.{any_transaction};
 ghost use Rattle.rlp_transactions.specs.declared.any_transaction.AnyTransaction.{AnyTransaction};
 ghost use Rattle.rlp_json.specs.Json.{json_of};
-ghost use Rattle.rlp_show.specs.Answer.{kind_answer, kind_name, kind_shape, record_answer};
+ghost use Rattle.rlp_show.specs.Answer.{record_answer};
+ghost use Rattle.rlp_show.specs.Kinds.{kind_answer, kind_name, kind_shape};
 ghost use Rattle.rlp_show.specs.LineAnswer.{answer_of};
 ghost use Rattle.rlp_show.specs.ReceiptValues.{receipt_lines};
 ghost use Rattle.rlp_show.specs.Request.{answers};
@@ -34,7 +35,7 @@ pub fn encodings_are_shown<T: ShowValues>(line: &[u8])
 
 /// If the digits of a line are the encoding of a value that fits, the answer in JSON is that of the
 /// lines of the value under the name of the kind. The kind is the one that shows such values.
-#[tactic(auto, using(crate::specs::ValueLemmas::encoding_in_json))]
+#[tactic(auto, using(crate::proofs::LineLemmas::encoding_in_json))]
 pub fn encodings_are_shown_in_json<T: ShowValues>(line: &[u8])
     ensures { (kind : Kind) (x : T) → kind_shape kind ≡ T.shape → T.fits x → IsSized (T.item x)
         → bytes_in (strip_carriage_return line.now) ≡ Some (encoding (T.item x))

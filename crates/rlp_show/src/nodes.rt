@@ -4,7 +4,7 @@ ghost use Rattle.std.specs.Prelude.{◌≡◌, ◌++◌, codes, string_bytes, On
 ghost use Rattle.rlp.specs.Views.View.{item_views};
 ghost use Rattle.rlp_show.specs.Answer.{Shows};
 ghost use Rattle.rlp_show.specs.Lines.{line, prefix, string_shape};
-ghost use Rattle.rlp_show.specs.Records.{are_leaf, branch, branch_child, child, child_hash_in, extension, inline_node, is_empty_node, leaf, node_keeping, node_of};
+ghost use Rattle.rlp_show.specs.Nodes.{are_leaf, branch, branch_child, child, child_hash_in, extension, inline_node, is_empty_node, leaf, node_keeping, node_of};
 
 use crate::any_item::AnyItem;
 use crate::fault::ShowFault;

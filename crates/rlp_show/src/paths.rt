@@ -4,7 +4,7 @@ ghost use Rattle.std.specs.Prelude.{◌≡◌, ◌<◌, ◌++◌, [], ◌∷◌,
 ghost use Rattle.rlp_trie.specs.HexPrefix.{is_empty_extension, nibbles_of, path_nibbles};
 ghost use Rattle.rlp_show.specs.Answer.{Shows};
 ghost use Rattle.rlp_show.specs.Lines.{line, named};
-ghost use Rattle.rlp_show.specs.Records.{extension_path, path, path_in};
+ghost use Rattle.rlp_show.specs.Nodes.{extension_path, path, path_in};
 ghost use Rattle.rlp_show.specs.Text.{digits_text, nibbles_text, path_text};
 
 use crate::fault::ShowFault;

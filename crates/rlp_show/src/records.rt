@@ -1,6 +1,8 @@
 //! Ethereum's records.
 
-ghost use Rattle.rlp_show.specs.Records.{withdrawal, account, header, header_fields, log, receipt, access_list, access_list_item, legacy_transaction, access_list_transaction, fee_market_transaction, blob_transaction, authorization, set_code_transaction, block, body};
+ghost use Rattle.rlp_show.specs.Values.{withdrawal_display, account_display, header_display, header_fields_display, log_display, receipt_display, access_list_alone_display, access_list_item_display, legacy_transaction_display, access_list_transaction_display, fee_market_transaction_display, blob_transaction_display, authorization_display, set_code_transaction_display};
+ghost use Rattle.rlp_show.specs.TransactionValues.{block_display};
+ghost use Rattle.rlp_show.specs.BodyValues.{body_display};
 
 use crate::fault::ShowFault;
 use crate::fields::{Label, show_fields, show_record};
@@ -20,7 +22,7 @@ use rlp_ethereum::{
 use std::alloc::Global;
 
 impl Show for Withdrawal {
-    ghost shape = { withdrawal };
+    ghost shape = { withdrawal_display.shape };
 
     fn show(alloc: Global, name: &str, item: &Rlp<'_>, out: &mut String) -> Result<(), ShowFault> {
         show_fields!(
@@ -37,7 +39,7 @@ impl Show for Withdrawal {
 }
 
 impl Show for Account {
-    ghost shape = { account };
+    ghost shape = { account_display.shape };
 
     fn show(alloc: Global, name: &str, item: &Rlp<'_>, out: &mut String) -> Result<(), ShowFault> {
         show_fields!(
@@ -57,7 +59,7 @@ impl Show for Account {
 struct HeaderFields;
 
 impl Show for HeaderFields {
-    ghost shape = { header_fields };
+    ghost shape = { header_fields_display.shape };
 
     fn show(alloc: Global, name: &str, item: &Rlp<'_>, out: &mut String) -> Result<(), ShowFault> {
         show_fields!(
@@ -92,7 +94,7 @@ impl Show for HeaderFields {
 
 /// The hash of the header, and then its fields.
 impl Show for Header {
-    ghost shape = { header };
+    ghost shape = { header_display.shape };
 
     fn show(alloc: Global, name: &str, item: &Rlp<'_>, out: &mut String) -> Result<(), ShowFault> {
         Hashed::<HeaderFields>::show(alloc, name, item, out)
@@ -100,7 +102,7 @@ impl Show for Header {
 }
 
 impl Show for Log {
-    ghost shape = { log };
+    ghost shape = { log_display.shape };
 
     fn show(alloc: Global, name: &str, item: &Rlp<'_>, out: &mut String) -> Result<(), ShowFault> {
         show_fields!(
@@ -116,7 +118,7 @@ impl Show for Log {
 }
 
 impl Show for Receipt {
-    ghost shape = { receipt };
+    ghost shape = { receipt_display.shape };
 
     fn show(alloc: Global, name: &str, item: &Rlp<'_>, out: &mut String) -> Result<(), ShowFault> {
         show_fields!(
@@ -133,7 +135,7 @@ impl Show for Receipt {
 }
 
 impl Show for AccessListItem {
-    ghost shape = { access_list_item };
+    ghost shape = { access_list_item_display.shape };
 
     fn show(alloc: Global, name: &str, item: &Rlp<'_>, out: &mut String) -> Result<(), ShowFault> {
         show_fields!(
@@ -148,7 +150,7 @@ impl Show for AccessListItem {
 }
 
 impl Show for SignedLegacyTransaction {
-    ghost shape = { legacy_transaction };
+    ghost shape = { legacy_transaction_display.shape };
 
     #[tactic(auto, using(crate::proofs::FieldLemmas::fields_in_order))]
     fn show(alloc: Global, name: &str, item: &Rlp<'_>, out: &mut String) -> Result<(), ShowFault> {
@@ -172,7 +174,7 @@ impl Show for SignedLegacyTransaction {
 }
 
 impl Show for Signed<AccessListTransaction> {
-    ghost shape = { access_list_transaction };
+    ghost shape = { access_list_transaction_display.shape };
 
     #[tactic(auto, using(crate::proofs::FieldLemmas::fields_in_order))]
     fn show(alloc: Global, name: &str, item: &Rlp<'_>, out: &mut String) -> Result<(), ShowFault> {
@@ -198,7 +200,7 @@ impl Show for Signed<AccessListTransaction> {
 }
 
 impl Show for Signed<FeeMarketTransaction> {
-    ghost shape = { fee_market_transaction };
+    ghost shape = { fee_market_transaction_display.shape };
 
     #[tactic(auto, using(crate::proofs::FieldLemmas::fields_in_order))]
     fn show(alloc: Global, name: &str, item: &Rlp<'_>, out: &mut String) -> Result<(), ShowFault> {
@@ -225,7 +227,7 @@ impl Show for Signed<FeeMarketTransaction> {
 }
 
 impl Show for Signed<BlobTransaction> {
-    ghost shape = { blob_transaction };
+    ghost shape = { blob_transaction_display.shape };
 
     #[tactic(auto, using(crate::proofs::FieldLemmas::fields_in_order))]
     fn show(alloc: Global, name: &str, item: &Rlp<'_>, out: &mut String) -> Result<(), ShowFault> {
@@ -254,7 +256,7 @@ impl Show for Signed<BlobTransaction> {
 }
 
 impl Show for SignedAuthorization {
-    ghost shape = { authorization };
+    ghost shape = { authorization_display.shape };
 
     #[tactic(auto, using(crate::proofs::FieldLemmas::fields_in_order))]
     fn show(alloc: Global, name: &str, item: &Rlp<'_>, out: &mut String) -> Result<(), ShowFault> {
@@ -275,7 +277,7 @@ impl Show for SignedAuthorization {
 }
 
 impl Show for Signed<SetCodeTransaction> {
-    ghost shape = { set_code_transaction };
+    ghost shape = { set_code_transaction_display.shape };
 
     #[tactic(auto, using(crate::proofs::FieldLemmas::fields_in_order))]
     fn show(alloc: Global, name: &str, item: &Rlp<'_>, out: &mut String) -> Result<(), ShowFault> {
@@ -304,7 +306,7 @@ impl Show for Signed<SetCodeTransaction> {
 
 /// An access list by itself. Its items have the names that they have in a transaction.
 impl Show for AccessList {
-    ghost shape = { access_list };
+    ghost shape = { access_list_alone_display.shape };
 
     fn show(alloc: Global, _name: &str, item: &Rlp<'_>, out: &mut String) -> Result<(), ShowFault> {
         Items::<AccessListItem>::show(alloc, "access_list", item, out)
@@ -312,7 +314,7 @@ impl Show for AccessList {
 }
 
 impl Show for Body {
-    ghost shape = { body };
+    ghost shape = { body_display.shape };
 
     fn show(alloc: Global, name: &str, item: &Rlp<'_>, out: &mut String) -> Result<(), ShowFault> {
         show_fields!(
@@ -328,7 +330,7 @@ impl Show for Body {
 }
 
 impl Show for Block {
-    ghost shape = { block };
+    ghost shape = { block_display.shape };
 
     fn show(alloc: Global, name: &str, item: &Rlp<'_>, out: &mut String) -> Result<(), ShowFault> {
         show_fields!(

@@ -22,7 +22,7 @@ pub enum Request {
 }
 
 impl Request {
-    ghost use Rattle.rlp_show.specs.Answer.{kind_named};
+    ghost use Rattle.rlp_show.specs.Kinds.{kind_named};
     ghost use Rattle.rlp_show.specs.Request.{form_request, one_request, request_of, two_request, word_request};
 
     /// What these arguments ask for, without the name of the program. They are a kind, a record, or

@@ -6,7 +6,7 @@ ghost use Rattle.rlp_headers.specs.ReceiptStatus.{status_bytes};
 ghost use Rattle.rlp_transactions.specs.Recipient.{recipient_bytes};
 ghost use Rattle.rlp_show.specs.Answer.{Shows};
 ghost use Rattle.rlp_show.specs.Lines.{fixed_bytes, byte_string, line, receipt_status, recipient};
-ghost use Rattle.rlp_show.specs.Records.{address, hash, bloom};
+ghost use Rattle.rlp_show.specs.Lines.{address, hash, bloom};
 ghost use Rattle.rlp_show.specs.Text.{bloom_text};
 
 use crate::fault::ShowFault;
