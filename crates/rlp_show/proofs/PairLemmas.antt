@@ -1,15 +1,15 @@
 -- Node records, and their pairs.
-use Rattle.std.proofs.Common.{◌≡◌, ◌≢◌, ◌==◌, ◌||◌, ◌≤◌, ◌+◌, ◌%◌, ℕ, List, ◌∷◌, ◌++◌, codes, drop, length, nat_lt, ap, refl, ◌∙◌, arith, sym, true, false, Option, Some, None, Ok, Err}
+use Rattle.std.proofs.Common.{◌≡◌, ◌+◌, ℕ, List, ◌∷◌, codes, ap, ◌∙◌, sym, true, false, Some, None, Ok, Err}
 use Rattle.std.specs.List.{list_any}
 use Rattle.std.specs.Str.{bytes_eq}
 use Rattle.std.proofs.lemmas.Bool.{cond-false, cond-true}
-use Rattle.std.proofs.lemmas.Bool.Decides.{nat_tests}
 use Rattle.rlp.specs.DecoderError.{DecoderError}
-use Rattle.rlp.specs.Views.View.{View, item_count, item_views, view_string}
+use Rattle.rlp.specs.Views.View.{View, view_string}
 use Rattle.rlp_show.specs.Answer.{after_text}
-use Rattle.rlp_node_record.specs.NodeRecord.{keys_rise, longest_record}
-use Rattle.rlp_show.specs.Lines.{Fault, Shown, fields_lines, line, place, prefix, then_lines, wrong}
-use Rattle.rlp_show.specs.NodeRecords.{by_keys, first_fields, item_text, keys_in, node_fields, node_fields_lines, node_record, node_value, pair_lines, pairs_lines, text_or_item, value_text}
+use Rattle.rlp_node_record.specs.NodeRecord.{keys_rise}
+use Rattle.rlp_show.specs.Lines.{Fault, Shown, line, place, wrong}
+use Rattle.rlp_show.specs.NodeRecordLemmas.{keys-right}
+use Rattle.rlp_show.specs.NodeRecords.{by_keys, item_text, node_value, pair_lines, pairs_lines, text_or_item, value_text}
 use Rattle.rlp_show.specs.Nodes.{any_item}
 use Rattle.rlp_show.proofs.FieldLemmas.{after_both}
 
@@ -21,29 +21,11 @@ pairs_step name k i vs after rest key value old new is next shown =
     ap (λ ws. after_text old (pairs_lines name k i ws)) (is ∙ ap (λ ws. key ∷ ws) next)
     ∙ after_both old new (pair_lines (place name k) i key value) (pairs_lines name (k + 1) (i + 2) rest) shown
 
--- a record of two items, and two for each pair
-pub record_right : (name : List ℕ) (v : View) (n : ℕ) → item_count v ≡ Ok n → 2 ≤ n → n % 2 ≢ 1
-    → node_fields name v ≡ then_lines (fields_lines (prefix name) 0 first_fields (item_views v))
-    (pairs_lines (prefix name ++ codes "pairs") 0 2 (drop 2 (item_views v)))
-record_right name v n is enough even =
-    ap (node_fields_lines name (item_views v)) is ∙ cond-false (nat_lt n 2 || (n % 2 == 1)) _ _ (grind (arith, nat_tests))
-
 -- ---- the rules of keys
-
--- a record that isn't too long
-pub record_short : (name : List ℕ) (v : View) → length v.bytes ≤ longest_record
-    → node_record name v ≡ by_keys name (keys_in (drop 2 (item_views v))) (node_fields name v)
-record_short name v few = cond-false (nat_lt longest_record (length v.bytes)) _ _ (grind (arith, nat_tests))
 
 -- what was at fault before the keys
 pub keys-fault : (name : List ℕ) (keys : List (List ℕ)) (s : Shown) (fault : Fault) → s ≡ Err fault → by_keys name keys s ≡ Err fault
 keys-fault name keys s fault is = ap (by_keys name keys) is
-
--- keys that break no rule
-pub keys-right : (name : List ℕ) (keys : List (List ℕ)) (s : Shown) → keys_rise keys ≡ true → list_any (λ key. bytes_eq key (codes "id")) keys ≡ true
-    → by_keys name keys s ≡ s
-keys-right name keys (Err fault) rise id = refl
-keys-right name keys (Ok lines) rise id = cond-true (keys_rise keys) _ _ rise ∙ cond-true (list_any (λ key. bytes_eq key (codes "id")) keys) _ _ id
 
 -- keys that aren't in order
 pub keys-unordered : (name : List ℕ) (keys : List (List ℕ)) (s : Shown) (old new : List ℕ) → after_text old s ≡ Ok new → keys_rise keys ≡ false

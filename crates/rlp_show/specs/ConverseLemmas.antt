@@ -58,7 +58,7 @@ then_ok (Ok lines) (Ok others) ok also = refl
 then_ok (Ok lines) (Err fault) ok also = also
 then_ok (Err fault) more ok also = ok
 
-field_ok : (place : ℕ) (s : Shown) → IsOk (in_field place s) → IsOk s
+pub field_ok : (place : ℕ) (s : Shown) → IsOk (in_field place s) → IsOk s
 field_ok place (Ok lines) ok = refl
 field_ok place (Err fault) ok = ok
 
@@ -70,6 +70,11 @@ named_ok name (Err what) ok = ok
 pub if_ok : {T E : Type 0} (t : Bool) (r : Result T E) (e : E) → IsOk (if t then r else Err e) → (t ≡ true) × IsOk r
 if_ok true r e ok = (refl, ok)
 if_ok false r e ok = absurd (let no : ⊥ = cc in no)
+
+-- what a test refuses has not passed it
+pub unless_ok : {T E : Type 0} (t : Bool) (r : Result T E) (e : E) → IsOk (if t then Err e else r) → (t ≡ false) × IsOk r
+unless_ok true r e ok = absurd (let no : ⊥ = cc in no)
+unless_ok false r e ok = (refl, ok)
 
 -- ---- bytes and values in memory
 
@@ -107,7 +112,7 @@ all_slices [] slice = tt
 all_slices (f ∷ fs) slice = (front_slice f (concat fs) slice, all_slices fs (back_slice f (concat fs) slice))
 
 -- and each item of its list
-item_slices : (b : List ℕ) → IsSlice b → AllByRecursion IsSlice (items b)
+pub item_slices : (b : List ℕ) → IsSlice b → AllByRecursion IsSlice (items b)
 item_slices b slice =
     let inside : IsSlice (payload b) = (payload_bytes b slice.0, omega (arith, slice.1, payload_short b)) in
     all_slices (items b) (front_slice (concat (items b)) (rest b) (subst IsSlice (payload_parts b slice.0) inside))
@@ -234,7 +239,7 @@ few_joined (x ∷ xs) small =
     omega (arith, length-append (encoding x) (join xs), form_some (encoding x) (form x (first_sized x xs small)), few_joined xs (others_small x xs small))
 
 -- a list has no more items than bytes
-few_items : (b : List ℕ) (xs : List Item) → IsSlice b → b ≡ encoding (list_of xs) → length xs < 2 ^ 63
+pub few_items : (b : List ℕ) (xs : List Item) → IsSlice b → b ≡ encoding (list_of xs) → length xs < 2 ^ 63
 few_items b xs slice is =
     let whole = is ∙ encoding_list xs in
     let joined : length (join xs) < 2 ^ 63 = omega (arith, slice.1, ap length whole, length-append (written_header 0xc0 (length (join xs))) (join xs)) in

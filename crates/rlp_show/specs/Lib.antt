@@ -44,3 +44,7 @@ pub mod ConverseLemmas
 pub mod EnvelopeLemmas
 -- lemmas on transactions that are shown without a fault
 pub mod ConverseTransactions
+-- lemmas on items of any kind, and on the values and the keys of node records
+pub mod NodeRecordLemmas
+-- the lines of values that are node records
+pub mod NodeRecordValues

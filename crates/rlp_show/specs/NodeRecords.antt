@@ -5,15 +5,20 @@ use Rattle.std.specs.Net.Addr.{segments_of}
 use Rattle.std.specs.Net.Text.{ipv4_text, ipv6_text}
 use Rattle.std.specs.Result.{result_unwrap_or}
 use Rattle.std.specs.Str.{bytes_eq}
+use Rattle.std.specs.Vec.{vec_items}
 use Rattle.std.specs.Prelude.{ℕ, ◌+◌, ◌%◌, ◌==◌, ◌&&◌, ◌||◌, nat_lt, if◌then◌else◌, Bool, false, List, [], ◌∷◌, ◌++◌, drop, length, codes}
 use Rattle.std.specs.Prelude.{Option, Some, None, Result, Ok, Err}
 use Rattle.std.specs.Int.Digits.{number_from_digits}
+use Rattle.rlp.specs.Codec.{byte_string as byte_string_codec, end, field as field_codec, number as number_codec}
 use Rattle.rlp.specs.DecoderError.{DecoderError}
 use Rattle.rlp.specs.DecoderError.TheVariants.{RlpIncorrectListLen, RlpIsTooBig}
 use Rattle.rlp.specs.Views.Text.{error_name}
 use Rattle.rlp.specs.Views.View.{View, item_count, item_views, view_string}
 use Rattle.rlp_node_record.specs.NodeRecord.{keys_rise, longest_record}
-use Rattle.rlp_show.specs.Lines.{Field, Shape, Shown, begins_with_zero, byte_string, field, fields_lines, in_field, line, number, place, prefix, string_shape, then_lines, wrong}
+use Rattle.rlp_node_record.specs.declared.node_fields.NodeFields.{NodeFields}
+use Rattle.rlp_show.specs.ConverseLemmas.{vec_of}
+use Rattle.rlp_show.specs.Displays.{FieldsDisplay, bytes_display, end_display, field_display, number_display}
+use Rattle.rlp_show.specs.Lines.{Field, Shape, Shown, begins_with_zero, fields_lines, in_field, line, place, prefix, string_shape, then_lines, wrong}
 use Rattle.rlp_show.specs.Nodes.{any_item}
 use Rattle.rlp_show.specs.Text.{bytes_text, number_text}
 
@@ -92,9 +97,16 @@ pairs_lines name k i (key ∷ value ∷ vs) = then_lines (pair_lines (place name
 
 -- ---- records
 
--- the fields of a node record before its pairs
+-- how the fields of a node record before its pairs are shown
+abbrev pub first_fields_display : FieldsDisplay (field_codec (λ (f : NodeFields). f.signature) (byte_string_codec vec_items)
+    (field_codec (λ (f : NodeFields). f.sequence) (number_codec 8) end))
+first_fields_display =
+    field_display (codes "signature") (λ (f : NodeFields). f.signature) (bytes_display vec_items vec_of) (
+    field_display (codes "sequence") (λ (f : NodeFields). f.sequence) (number_display 8) end_display)
+
+-- these fields
 abbrev pub first_fields : List Field
-first_fields = field (codes "signature") byte_string ∷ field (codes "sequence") (number 8) ∷ []
+first_fields = first_fields_display.fields
 
 -- the lines of the fields of a node record by its number of items: two, and two for each pair
 abbrev pub node_fields_lines : List ℕ → List View → Result ℕ DecoderError → Shown

@@ -35,7 +35,7 @@ held_text : (text_in : List ℕ → Worded) (v : View) (d : List ℕ) → length
 held_text text_in v d few holds = ap (in_string text_in) (held_only v d few holds)
 
 -- what is shown of it
-shown_string : (text_in : List ℕ → Worded) (name : List ℕ) (v : View) (d : List ℕ) → length v.bytes < 2 ^ 64 → HoldsString v d
+pub shown_string : (text_in : List ℕ → Worded) (name : List ℕ) (v : View) (d : List ℕ) → length v.bytes < 2 ^ 64 → HoldsString v d
     → string_shape text_in name v ≡ named name (text_in d)
 shown_string text_in name v d few holds = ap (named name) (held_text text_in v d few holds)
 

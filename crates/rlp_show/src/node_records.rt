@@ -99,7 +99,7 @@ fn have_id(pairs: &mut RlpIterator<'_, '_>) -> bool
 impl Show for NodeFields {
     ghost shape = { node_fields };
 
-    #[tactic(auto, using(crate::proofs::PairLemmas::record_right))]
+    #[tactic(auto, using(crate::specs::NodeRecordLemmas::record_right))]
     fn show(alloc: Global, name: &str, item: &Rlp<'_>, out: &mut String) -> Result<(), ShowFault> {
         let count = match item.item_count() {
             Ok(count) => count,

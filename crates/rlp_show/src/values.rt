@@ -6,13 +6,14 @@ ghost use Rattle.rlp.specs.Format.WrittenHeader.{AreBytes};
 ghost use Rattle.rlp.specs.Views.View.{strict_view_of};
 ghost use Rattle.rlp_show.specs.Values.{withdrawal_display, account_display, header_display, log_display, receipt_display, access_list_item_display, access_list_alone_display, legacy_transaction_display, authorization_display};
 ghost use Rattle.rlp_show.specs.BodyValues.{body_display};
+ghost use Rattle.rlp_show.specs.NodeRecordValues.{node_record_display};
 ghost use Rattle.rlp_show.specs.TransactionValues.{transaction_display, block_display};
 
 use crate::show::Show;
 use rlp::Encodable;
 use rlp_ethereum::{
-    AccessList, AccessListItem, Account, AnyTransaction, Block, Body, Header, Log, Receipt,
-    SignedAuthorization, SignedLegacyTransaction, Withdrawal,
+    AccessList, AccessListItem, Account, AnyTransaction, Block, Body, Header, Log, NodeRecord,
+    Receipt, SignedAuthorization, SignedLegacyTransaction, Withdrawal,
 };
 
 /// A type of which the encoding of each value that fits is shown as the lines of the value, and
@@ -126,4 +127,12 @@ impl ShowValues for Body {
     ghost shown = { body_display.shown };
 
     ghost only = { body_display.only };
+}
+
+impl ShowValues for NodeRecord {
+    ghost lines = { node_record_display.lines };
+
+    ghost shown = { node_record_display.shown };
+
+    ghost only = { node_record_display.only };
 }

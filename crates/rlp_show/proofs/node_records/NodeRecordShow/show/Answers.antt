@@ -2,7 +2,7 @@ use Rattle.std.proofs.Common.{◌≤◌, length, string_bytes, ap, arith, subst,
 use Rattle.rlp_show.specs.Answer.{Shows}
 use Rattle.rlp_show.specs.Lines.{Shown}
 use Rattle.rlp_show.specs.NodeRecords.{node_fields}
-use Rattle.rlp_show.proofs.PairLemmas.{record_short}
+use Rattle.rlp_show.specs.NodeRecordLemmas.{record_short}
 use Rattle.rlp_show.proofs.node_records.NodeRecordShow.show.Goals as goal
 
 pub returns : goal.returns
