@@ -1,6 +1,6 @@
 -- Numbers: of one digit, and what `v` says.
 use Rattle.std.proofs.Common.{◌≡◌, ◌≢◌, ◌==◌, ◌||◌, ◌∙◌, ℕ, zero, suc, ◌+◌, ◌-◌, ◌*◌, ◌/◌, ◌%◌, ◌^◌, ◌<◌, ◌≤◌, ◌⊎◌, inl, inr, Bool, true, false, nat_lt, Option, Some, None, [], ◌∷◌}
-use Rattle.std.proofs.Common.{refl, ap, sym, arith, ⊎_elim}
+use Rattle.std.proofs.Common.{refl, ap, arith, ⊎_elim}
 use Rattle.std.specs.Int.Digits.{number_from_digits}
 use Rattle.std.proofs.lemmas.Bool.{cases_lt, cond-true, cond-false}
 use Rattle.std.proofs.lemmas.Bool.Decides.{nat_tests}

@@ -30,8 +30,8 @@ use Rattle.rlp_headers.specs.ReceiptStatus.{receipt_status as status_codec, stat
 use Rattle.rlp_transactions.specs.Recipient.{recipient as recipient_codec, recipient_bytes}
 use Rattle.rlp_show.specs.ConverseLemmas.{OnlyEncodings, OnlyItems, bytes_only, end_only, field_only, first_only, fixed_only, group_only, hashed_only, list_only, newtype_only}
 use Rattle.rlp_show.specs.ConverseLemmas.{number_only, optional_only, part_only, recipient_only, record_only, status_only, truth_only, vec_of}
-use Rattle.rlp_show.specs.Lines.{Field, Shape, byte_string, field, fields_lines, fixed_bytes, fixed_bytes_as, hash_line, hashed, in_field, line, lines_if, list_of, list_value_lines, may_have}
-use Rattle.rlp_show.specs.Lines.{number, number_as, optional, prefix, receipt_status, recipient, record_of, then_lines, truth_value}
+use Rattle.rlp_show.specs.Lines.{Field, Shape, byte_string, field, fields_lines, fixed_bytes_as, hash_line, hashed, in_field, line, lines_if, list_of, list_value_lines, may_have}
+use Rattle.rlp_show.specs.Lines.{number_as, optional, prefix, receipt_status, recipient, record_of, then_lines, truth_value}
 use Rattle.rlp_show.specs.Signing.{first_bytes, legacy_signing, legacy_signing_lines, signing_line, with_signing_hash}
 use Rattle.rlp_show.specs.SigningLemmas.{legacy_signed, signed_list}
 use Rattle.rlp_show.specs.Text.{bloom_text, bytes_text, hex_text, number_text, said_by, v_text}

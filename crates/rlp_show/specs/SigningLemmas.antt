@@ -1,5 +1,5 @@
 -- What is signed of values.
-use Rattle.std.proofs.Common.{ℕ, zero, suc, ◌≡◌, ◌^◌, ◌<◌, List, [], ◌∷◌, ◌++◌, length, drop, Option, Some, None, Ok, refl, sym, ap, ◌∙◌}
+use Rattle.std.proofs.Common.{ℕ, ◌≡◌, List, [], ◌∷◌, ◌++◌, length, drop, Option, Some, None, Ok, refl, sym, ap, ◌∙◌}
 use Rattle.std.specs.Int.Digits.{number_from_digits}
 use Rattle.rlp.specs.Codec.{uint}
 use Rattle.rlp.specs.Format.Item.{Item, list_of, string}
@@ -11,7 +11,7 @@ use Rattle.rlp.specs.Uint.{Uint}
 use Rattle.rlp.specs.Values.Value.{items_if, number_item}
 use Rattle.rlp.specs.Views.View.{item_views, strict_view_of}
 use Rattle.rlp_transactions.specs.LegacyTransaction.{legacy_transaction_fields, signed_legacy_transaction, signed_legacy_transaction_fields}
-use Rattle.rlp_transactions.specs.UnsignedLegacyTransaction.{chain_fields, unsigned_legacy_transaction}
+use Rattle.rlp_transactions.specs.UnsignedLegacyTransaction.{chain_fields}
 use Rattle.rlp_transactions.specs.declared.eip155.Eip155.{Eip155}
 use Rattle.rlp_transactions.specs.declared.legacy_transaction.LegacyTransaction.{LegacyTransaction}
 use Rattle.rlp_transactions.specs.declared.signed.Signed.{Signed}
