@@ -44,3 +44,7 @@ pub mod ConverseLemmas
 pub mod EnvelopeLemmas
 -- lemmas on transactions that are shown without a fault
 pub mod ConverseTransactions
+-- lemmas on items of any kind, and on nodes of the trie, that are shown without a fault
+pub mod NodeConverse
+-- what is shown of values that are nodes of the trie
+pub mod NodeValues

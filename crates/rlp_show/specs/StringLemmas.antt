@@ -35,7 +35,7 @@ held_text : (text_in : List ℕ → Worded) (v : View) (d : List ℕ) → length
 held_text text_in v d few holds = ap (in_string text_in) (held_only v d few holds)
 
 -- what is shown of it
-shown_string : (text_in : List ℕ → Worded) (name : List ℕ) (v : View) (d : List ℕ) → length v.bytes < 2 ^ 64 → HoldsString v d
+pub shown_string : (text_in : List ℕ → Worded) (name : List ℕ) (v : View) (d : List ℕ) → length v.bytes < 2 ^ 64 → HoldsString v d
     → string_shape text_in name v ≡ named name (text_in d)
 shown_string text_in name v d few holds = ap (named name) (held_text text_in v d few holds)
 
@@ -45,7 +45,7 @@ shown_fault text_in name v e is = ap (λ r. named name (in_string text_in r)) is
 
 -- ---- strings of n bytes
 
-fixed_right : (text : List ℕ → List ℕ) (n : ℕ) (d : List ℕ) → length d ≡ n → fixed_bytes_in text n d ≡ Ok (text d)
+pub fixed_right : (text : List ℕ → List ℕ) (n : ℕ) (d : List ℕ) → length d ≡ n → fixed_bytes_in text n d ≡ Ok (text d)
 fixed_right text n d many = cond-false (nat_lt (length d) n) _ _ (le-ltb _ _ (omega (arith, many)))
     ∙ cond-false (nat_lt n (length d)) _ _ (le-ltb _ _ (omega (arith, many)))
 
