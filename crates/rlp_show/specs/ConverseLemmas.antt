@@ -177,7 +177,7 @@ pub bytes_only : {B : Type 0} (bytes : B → List ℕ) → ((d : List ℕ) → l
 bytes_only {B} bytes made = strings_only (λ (b : B). ⊤) bytes (λ string. Ok (bytes_text string))
     (λ d slice ok. let (x, same) = made d slice.1 in (x, tt, same))
 
-fixed_length : (text : List ℕ → List ℕ) (n : ℕ) (d : List ℕ) → IsOk (fixed_bytes_in text n d) → length d ≡ n
+pub fixed_length : (text : List ℕ → List ℕ) (n : ℕ) (d : List ℕ) → IsOk (fixed_bytes_in text n d) → length d ≡ n
 fixed_length text n d ok =
     ⊎_elim
     (λ few. absurd (not_ok (fixed_wrong text n d RlpIsTooShort (shorter few)) ok))

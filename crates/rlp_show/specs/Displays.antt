@@ -236,7 +236,7 @@ abbrev pub record_display : {P : Type 0} {f : Fields P} (d : FieldsDisplay f) (m
 record_display {f = f} d make same = record {
   shape = record_of d.fields;
   lines = λ name p. d.lines (prefix name) p;
-  shown = λ name p fit sized. record_shown d.fields name (f.items p) (d.lines (prefix name) p) sized (ap (may_have d.fields) (f.counted p) ∙ d.right p fit)
+  shown = λ name p fit sized. record_shown d.fields name (f.items p) (Ok (d.lines (prefix name) p)) sized (ap (may_have d.fields) (f.counted p) ∙ d.right p fit)
       (d.shown (prefix name) 0 p fit (joined_small (f.items p) sized));
   only = record_only d.parts f.Fits f.items d.fields d.only make same;
 }

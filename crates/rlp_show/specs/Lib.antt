@@ -48,3 +48,7 @@ pub mod ConverseTransactions
 pub mod NodeRecordLemmas
 -- the lines of values that are node records
 pub mod NodeRecordValues
+-- lemmas on items of any kind, and on nodes of the trie, that are shown without a fault
+pub mod NodeConverse
+-- what is shown of values that are nodes of the trie
+pub mod NodeValues

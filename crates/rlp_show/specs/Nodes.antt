@@ -115,6 +115,10 @@ node_keeping kept name v =
     if is_empty_node v.bytes then Ok (line (prefix name ++ codes "node") (codes "empty"))
     else node_lines kept name v (item_count v)
 
--- Nodes of the trie, with their hash. In a trie at most three nodes are kept one in another: an extension, a branch and a leaf. The items of others are shown.
+-- Nodes that are kept in a node. In a trie at most three nodes are kept one in another: an extension, a branch and a leaf. The items of others are shown.
+abbrev pub kept_nodes : Shape
+kept_nodes = node_keeping (node_keeping (node_keeping any_item))
+
+-- nodes of the trie, with their hash
 abbrev pub node : Shape
-node = hashed (node_keeping (node_keeping (node_keeping (node_keeping any_item))))
+node = hashed (node_keeping kept_nodes)

@@ -45,7 +45,7 @@ shown_fault text_in name v e is = ap (λ r. named name (in_string text_in r)) is
 
 -- ---- strings of n bytes
 
-fixed_right : (text : List ℕ → List ℕ) (n : ℕ) (d : List ℕ) → length d ≡ n → fixed_bytes_in text n d ≡ Ok (text d)
+pub fixed_right : (text : List ℕ → List ℕ) (n : ℕ) (d : List ℕ) → length d ≡ n → fixed_bytes_in text n d ≡ Ok (text d)
 fixed_right text n d many = cond-false (nat_lt (length d) n) _ _ (le-ltb _ _ (omega (arith, many)))
     ∙ cond-false (nat_lt n (length d)) _ _ (le-ltb _ _ (omega (arith, many)))
 

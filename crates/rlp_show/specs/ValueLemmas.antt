@@ -37,10 +37,10 @@ views-encoding xs sized = ap (map strict_view_of) (strict_items xs (encoding (li
 
 -- ---- records
 
--- the encoding of the list of the items of a record is shown as the lines of the fields, if a record may have that number of items
-pub record_shown : (fields : List Field) (name : List ℕ) (xs : List Item) (lines : List ℕ) → IsSized (list_of xs) → may_have fields (length xs) ≡ true
-    → fields_lines (prefix name) 0 fields (views_of xs) ≡ Ok lines → record_of fields name (strict_view_of (encoding (list_of xs))) ≡ Ok lines
-record_shown fields name xs lines sized right are =
+-- the encoding of the list of the items of a record is shown as the fields are, if a record may have that number of items
+pub record_shown : (fields : List Field) (name : List ℕ) (xs : List Item) (shown : Shown) → IsSized (list_of xs) → may_have fields (length xs) ≡ true
+    → fields_lines (prefix name) 0 fields (views_of xs) ≡ shown → record_of fields name (strict_view_of (encoding (list_of xs))) ≡ shown
+record_shown fields name xs shown sized right are =
     let v = strict_view_of (encoding (list_of xs)) in
     ap (record_lines fields name (item_views v)) (strict_item_count xs (encoding (list_of xs)) sized refl)
     ∙ cond-true (may_have fields (length xs)) _ _ right
@@ -165,7 +165,12 @@ module _ {A : Type 0} (Fits : A → Type 0) (item : A → Item) (shape : Shape) 
 
 -- ---- the answer to a line
 
+-- what is shown of its bytes
+pub bytes_answered : (shape : Shape) (l bytes : List ℕ) → bytes_in (strip_carriage_return l) ≡ Some bytes
+    → record_answer shape l ≡ shown_answer (shape [] (strict_view_of bytes))
+bytes_answered shape l bytes is =
+    ap (λ found. bytes_answer shown_answer shape (strip_carriage_return l) (bytes_or_node (strip_carriage_return l) found)) is
+
 pub encoding_answered : (shape : Shape) (l bytes lines : List ℕ) → bytes_in (strip_carriage_return l) ≡ Some bytes → shape [] (strict_view_of bytes) ≡ Ok lines
     → record_answer shape l ≡ lines
-encoding_answered shape l bytes lines is shown =
-    ap (λ found. bytes_answer shown_answer shape (strip_carriage_return l) (bytes_or_node (strip_carriage_return l) found)) is ∙ ap shown_answer shown
+encoding_answered shape l bytes lines is shown = bytes_answered shape l bytes is ∙ ap shown_answer shown

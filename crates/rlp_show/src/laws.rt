@@ -11,10 +11,13 @@ ghost use Rattle.rlp_headers.specs.declared.typed_receipt.TypedReceipt.{TypedRec
 ghost use Rattle.rlp_records.specs.Alone.{bytes_alone};
 ghost use Rattle.rlp_transactions.specs.AnyTransaction.{any_transaction};
 ghost use Rattle.rlp_transactions.specs.declared.any_transaction.AnyTransaction.{AnyTransaction};
+ghost use Rattle.rlp_trie.specs.TrieNode.{IsTrieNode, node_item};
+ghost use Rattle.rlp_trie.specs.declared.trie_node.TrieNode.{TrieNode};
 ghost use Rattle.rlp_json.specs.Json.{json_of};
-ghost use Rattle.rlp_show.specs.Answer.{record_answer};
+ghost use Rattle.rlp_show.specs.Answer.{record_answer, shown_answer};
 ghost use Rattle.rlp_show.specs.Kinds.{kind_answer, kind_name, kind_shape};
 ghost use Rattle.rlp_show.specs.LineAnswer.{answer_of};
+ghost use Rattle.rlp_show.specs.NodeValues.{hashed_node_value};
 ghost use Rattle.rlp_show.specs.ReceiptValues.{receipt_lines};
 ghost use Rattle.rlp_show.specs.Request.{answers};
 ghost use Rattle.rlp_show.specs.declared.answers.Form.TheVariants.{Json};
@@ -87,4 +90,22 @@ pub fn only_receipts_are_shown(line: &[u8])
         → (r : TypedReceipt) × typed_receipt.Fits r
         × (bytes ≡ bytes_alone (typed_receipt.item r))
         × (kind_answer kind.Receipt line.now ≡ receipt_lines [] r) }
+{}
+
+/// If the digits of a line are the encoding of a node of the trie, as `TrieNode` of `rlp_ethereum`
+/// is written, the answer is its hash and what is shown of its parts. A node that is kept in it is
+/// what the next shape shows of its item. That may be a fault, since such an item needn't be a node.
+pub fn nodes_are_shown(line: &[u8])
+    ensures { (n : TrieNode) → IsTrieNode n → IsSized (node_item n)
+        → bytes_in (strip_carriage_return line.now) ≡ Some (encoding (node_item n))
+        → kind_answer kind.Node line.now ≡ shown_answer (hashed_node_value [] n) }
+{}
+
+/// If the digits of a line are bytes that are shown as a node of the trie without a fault, they are
+/// the encoding of a node, and the answer is the lines that are shown of it.
+pub fn only_nodes_are_shown(line: &[u8])
+    ensures { (bytes lines : List ℕ) → bytes_in (strip_carriage_return line.now) ≡ Some bytes
+        → kind_shape kind.Node [] (strict_view_of bytes) ≡ Ok lines
+        → (n : TrieNode) × IsTrieNode n × (bytes ≡ encoding (node_item n))
+        × (hashed_node_value [] n ≡ Ok lines) × (kind_answer kind.Node line.now ≡ lines) }
 {}

@@ -2,8 +2,8 @@
 
 use rlp_ethereum::{AccessList, Block, Header, NodeRecord};
 use rlp_show::laws::{
-    encodings_are_shown, encodings_are_shown_in_json, only_encodings_are_shown,
-    only_receipts_are_shown, only_transactions_are_shown, receipts_are_shown,
+    encodings_are_shown, encodings_are_shown_in_json, nodes_are_shown, only_encodings_are_shown,
+    only_nodes_are_shown, only_receipts_are_shown, only_transactions_are_shown, receipts_are_shown,
     transactions_are_shown,
 };
 use std::test::Fail;
@@ -22,5 +22,7 @@ fn encodings_are_shown_as_lines(_rt: HostRuntime) -> Result<(), Fail> {
     only_transactions_are_shown(b"c0");
     receipts_are_shown(b"c0");
     only_receipts_are_shown(b"c0");
+    nodes_are_shown(b"c0");
+    only_nodes_are_shown(b"c0");
     Ok(())
 }
