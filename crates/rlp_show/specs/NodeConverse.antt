@@ -1,6 +1,6 @@
 -- Only encodings are shown as items of any kind, and as nodes of the trie: lemmas on what is shown without a fault.
-use Rattle.std.proofs.Common.{◌≡◌, ◌<◌, ◌≤◌, ℕ, zero, suc, Bool, true, false, if◌then◌else◌, nat_lt, Option, Some, None, Ok, Err, IsOk, List, [], ◌∷◌, ◌++◌}
-use Rattle.std.proofs.Common.{length, map, codes, IfSome, refl, sym, ap, ◌∙◌, subst, arith, length-append, ltb-true, is_some, unwrap_or, ◌==◌, Result}
+use Rattle.std.proofs.Common.{◌≡◌, ◌<◌, ◌≤◌, ℕ, Bool, true, false, if◌then◌else◌, nat_lt, Option, Some, None, Ok, Err, IsOk, List, [], ◌∷◌, ◌++◌}
+use Rattle.std.proofs.Common.{length, codes, IfSome, refl, sym, ap, ◌∙◌, subst, arith, length-append, ltb-true, is_some, unwrap_or, ◌==◌, Result}
 use Rattle.std.proofs.lemmas.Bool.Decides.{nat_tests}
 use Rattle.std.specs.Bool.{⊤}
 use Rattle.std.specs.Global.{Vec}
@@ -28,9 +28,10 @@ use Rattle.rlp_trie.specs.declared.branch_child.BranchChild.{BranchChild}
 use Rattle.rlp_trie.specs.declared.child.Child.TheVariants.{Inline, Node}
 use Rattle.rlp_trie.specs.declared.trie_node.TrieNode.TheVariants as node
 use Rattle.rlp_show.specs.ConverseLemmas.{IsEncoded, IsSlice, OnlyEncodings, OnlyItems, below, both_ok, bytes_only, end_only, field_only, fixed_length}
-use Rattle.rlp_show.specs.ConverseLemmas.{fixed_only, hashed_only, if_ok, list_only, record_only, strings_only, vec_of}
-use Rattle.rlp_show.specs.Lines.{Field, Shape, Worded, byte_string, field, hash, item_within, line, list_of as list_shape_of, prefix, record_of, string_shape}
+use Rattle.rlp_show.specs.ConverseLemmas.{fixed_only, hashed_only, if_ok, record_only, strings_only, vec_of}
+use Rattle.rlp_show.specs.Lines.{Field, Shape, Worded, byte_string, field, hash, line, prefix, record_of, string_shape}
 use Rattle.rlp_show.specs.Lines.{wrong}
+use Rattle.rlp_show.specs.NodeRecordLemmas.{item_only}
 use Rattle.rlp_show.specs.Nodes.{any_item, are_leaf, branch, branch_child, child, child_hash_in, extension, extension_path_in, inline_node, is_empty_node}
 use Rattle.rlp_show.specs.Nodes.{kept_nodes, leaf, node as node_shape, node_keeping, node_lines, node_of, path_in}
 use Rattle.rlp_show.specs.Text.{bytes_text}
@@ -59,35 +60,9 @@ mutual
 abbrev OnlyCanonical : Shape → Type 0
 OnlyCanonical shape = OnlyEncodings (λ (x : Item). ⊤) (λ x. x) shape
 
--- a string is an item
-string_canonical : OnlyCanonical byte_string
-string_canonical name b slice ok =
-    let (d, fit, is) = bytes_only (λ (d : List ℕ). d) (λ d few. (d, refl)) name b slice ok in
-    (string d, tt, is)
-
--- and so is a list of items
-list_canonical : (shape : Shape) → OnlyCanonical shape → OnlyCanonical (list_shape_of shape)
-list_canonical shape only name b slice ok =
-    let (xs, fit, is) = list_only (λ (x : Item). ⊤) (λ x. x) shape only (λ (xs : List Item). xs) (λ xs few. (xs, refl)) name b slice ok in
-    (list_of (map (λ x. x) xs), tt, is)
-
--- a list is shown as one shape, and a string as its bytes
-kinds_canonical : (of_list : Shape) → OnlyCanonical of_list
-    → OnlyCanonical (λ name v. if begins_as_list v.bytes then of_list name v else byte_string name v)
-kinds_canonical of_list only name b slice ok = by (begins_as_list b) ok
-  where
-    by : (kind : Bool) → IsOk (if kind then of_list name (strict_view_of b) else byte_string name (strict_view_of b)) → IsEncoded (λ (x : Item). ⊤) (λ x. x) b
-    by true ok = only name b slice ok
-    by false ok = string_canonical name b slice ok
-
-item_within_only : (most : ℕ) → OnlyCanonical (item_within most)
-item_within_only zero = kinds_canonical (λ name v. Err (wrong name (codes "Custom(\"item nests too deep\")")))
-    (λ name b slice ok. absurd (let no : ⊥ = cc in no))
-item_within_only (suc most) = kinds_canonical (list_shape_of (item_within most)) (list_canonical (item_within most) (item_within_only most))
-
 any_item_only : OnlyCanonical any_item
 unfolding any_item
-any_item_only = item_within_only 256
+any_item_only name b slice ok = let (x, low, is) = item_only 256 name b slice ok in (x, tt, is)
 
 -- ---- children
 
