@@ -4,7 +4,9 @@ answers of `rlp_show`, after crates/rlp_show/CALLING.md. It shares no code with 
 
 import ipaddress
 import re
+import sys
 
+import messages
 import objects
 from answers import Answered, bytes_of, encoded_string, framing, written_header
 from guess import guess
@@ -264,12 +266,15 @@ class Held:
 
     def lines(self, name, data):
         if data and data[0] >= 0xC0:
-            return Hashed(self.alone.other).lines(name, data)
+            return self.hashed(self.alone.other).lines(name, data)
         try:
             held = strict_string(data)
         except Answered as answered:
             raise Wrong(name, answered) from None
-        return Hashed(self.typed).lines(name, held)
+        return self.hashed(self.typed).lines(name, held)
+
+    def hashed(self, one):
+        return Hashed(one)
 
     def written(self, dice):
         if dice.random() < 0.3:
@@ -539,6 +544,7 @@ KINDS = {
     "transaction": Hashed(TRANSACTION),
     "withdrawal": TYPES["withdrawal"],
 }
+KINDS |= messages.classes(sys.modules[__name__])
 
 
 # ---- lines and their answers

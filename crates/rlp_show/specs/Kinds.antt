@@ -1,15 +1,23 @@
 -- The kinds of records, by their names, and how records of a kind are shown.
-use Rattle.std.specs.Prelude.{ℕ, List, codes, bytes_eq, if◌then◌else◌, Option, Some, None}
+use Rattle.std.specs.Prelude.{ℕ, ◌≡◌, refl, List, codes, bytes_eq, if◌then◌else◌, Option, Some, None}
 use Rattle.rlp_show.specs.Answer.{record_answer}
 use Rattle.rlp_show.specs.BodyValues.{body_display}
 use Rattle.rlp_show.specs.Lines.{Shape}
+use Rattle.rlp_show.specs.MessageKinds.{message_name, message_named, message_shape}
 use Rattle.rlp_show.specs.NodeRecords.{node_record}
 use Rattle.rlp_show.specs.Nodes.{node}
 use Rattle.rlp_show.specs.Records.{any_receipt, any_transaction}
 use Rattle.rlp_show.specs.TransactionValues.{block_display}
 use Rattle.rlp_show.specs.Values.{access_list_alone_display, account_display, authorization_display, header_display, withdrawal_display}
 use Rattle.rlp_show.specs.declared.kind.Kind.{Kind}
-use Rattle.rlp_show.specs.declared.kind.Kind.TheVariants.{AccessList, Account, Authorization, Block, Body, Header, Node, NodeRecord, Receipt, Transaction, Withdrawal}
+use Rattle.rlp_show.specs.declared.messages.kind.MessageKind.{MessageKind}
+use Rattle.rlp_show.specs.declared.messages.kind.MessageKind.TheVariants as message
+use Rattle.rlp_show.specs.declared.kind.Kind.TheVariants.{AccessList, Account, Authorization, Block, Body, Header, Message, Node, NodeRecord, Receipt, Transaction, Withdrawal}
+
+-- a kind of messages as a kind of records
+abbrev pub of_message : Option MessageKind → Option Kind
+of_message (Some kind) = Some (Message kind)
+of_message None = None
 
 -- the kind of a name
 unfoldable pub kind_named : List ℕ → Option Kind
@@ -25,7 +33,7 @@ kind_named name =
     else if bytes_eq name (codes "record") then Some NodeRecord
     else if bytes_eq name (codes "transaction") then Some Transaction
     else if bytes_eq name (codes "withdrawal") then Some Withdrawal
-    else None
+    else of_message (message_named name)
 
 -- the name of a kind
 abbrev pub kind_name : Kind → List ℕ
@@ -40,6 +48,7 @@ kind_name Receipt = codes "receipt"
 kind_name NodeRecord = codes "record"
 kind_name Transaction = codes "transaction"
 kind_name Withdrawal = codes "withdrawal"
+kind_name (Message kind) = message_name kind
 
 -- the shape of the records of a kind
 abbrev pub kind_shape : Kind → Shape
@@ -54,7 +63,32 @@ kind_shape Receipt = any_receipt
 kind_shape NodeRecord = node_record
 kind_shape Transaction = any_transaction
 kind_shape Withdrawal = withdrawal_display.shape
+kind_shape (Message kind) = message_shape kind
 
 -- the answer to a line that isn't too long, for records of a kind
 abbrev pub kind_answer : Kind → List ℕ → List ℕ
 kind_answer kind = record_answer (kind_shape kind)
+
+-- the name of a kind of messages is the name of no other kind
+pub message_kind : (kind : MessageKind) → kind_named (message_name kind) ≡ Some (Message kind)
+unfolding kind_named message_named
+message_kind message.Hello = refl
+message_kind message.Disconnect = refl
+message_kind message.Ping = refl
+message_kind message.Pong = refl
+message_kind message.Status68 = refl
+message_kind message.Status69 = refl
+message_kind message.NewBlockHashes = refl
+message_kind message.Transactions = refl
+message_kind message.GetBlockHeaders = refl
+message_kind message.BlockHeaders = refl
+message_kind message.GetBlockBodies = refl
+message_kind message.BlockBodies = refl
+message_kind message.NewBlock = refl
+message_kind message.NewPooledTransactionHashes = refl
+message_kind message.GetPooledTransactions = refl
+message_kind message.PooledTransactions = refl
+message_kind message.GetReceipts = refl
+message_kind message.Receipts68 = refl
+message_kind message.Receipts69 = refl
+message_kind message.BlockRangeUpdate = refl

@@ -24,6 +24,8 @@ pub mod TransactionValues
 pub mod ReceiptValues
 -- the lines of bodies of blocks
 pub mod BodyValues
+-- the kinds of messages
+pub mod MessageKinds
 -- the kinds of records
 pub mod Kinds
 -- the kind of a record that isn't named
@@ -52,3 +54,9 @@ pub mod NodeRecordValues
 pub mod NodeConverse
 -- what is shown of values that are nodes of the trie
 pub mod NodeValues
+-- the lines of messages of p2p
+pub mod P2pValues
+-- the lines of messages of eth, but for those with receipts of eth/68
+pub mod EthValues
+-- the lines of answers with receipts of eth/68
+pub mod MessageReceipts

@@ -1,9 +1,10 @@
 -- The lines of receipts of transactions of every type.
-use Rattle.std.specs.Prelude.{ℕ, ◌≡◌, ◌<◌, ◌^◌, List, [], ◌++◌, length, codes, true, false, Bool, Some, Ok, IsOk, if◌then◌else◌}
+use Rattle.std.specs.Prelude.{ℕ, ◌≡◌, ◌⊎◌, ◌<◌, ◌^◌, List, [], ◌++◌, length, codes, true, false, Bool, Some, Ok, IsOk, if◌then◌else◌}
 use Rattle.std.specs.Str.Lines.{strip_carriage_return}
-use Rattle.std.proofs.Common.{ap, ◌∙◌, arith, ⊎_elim}
+use Rattle.std.proofs.Common.{ap, ◌∙◌, arith, inl, inr, ⊎_elim}
 use Rattle.std.proofs.lemmas.Bool.{cond-true}
 use Rattle.rlp.specs.Format.Encoding.{IsSized, encoding}
+use Rattle.rlp.specs.Format.Item.{string}
 use Rattle.rlp.specs.Format.Split.{begins_as_list}
 use Rattle.rlp.specs.Views.View.{strict_view_of}
 use Rattle.rlp_headers.specs.Receipt.{receipt as receipt_codec, receipt_fields}
@@ -17,8 +18,8 @@ use Rattle.rlp_show.specs.Answer.{record_answer}
 use Rattle.rlp_show.specs.ConverseLemmas.{IsSlice}
 use Rattle.rlp_show.specs.ConverseTransactions.{envelope_only}
 use Rattle.rlp_show.specs.EnvelopeLemmas.{after_type, list_kind, not_of_type}
-use Rattle.rlp_show.specs.Lines.{line, prefix, then_lines, typed}
-use Rattle.rlp_show.specs.Records.{any_receipt, list_or, receipt, unknown_transaction}
+use Rattle.rlp_show.specs.Lines.{Shape, line, prefix, then_lines, typed}
+use Rattle.rlp_show.specs.Records.{any_receipt, list_or, receipt, receipt_envelope, unknown_transaction}
 use Rattle.rlp_show.specs.Text.{number_text}
 use Rattle.rlp_show.specs.TransactionValues.{typed_value}
 use Rattle.rlp_show.specs.ValueLemmas.{encoding_answered}
@@ -33,7 +34,7 @@ receipt_lines name (Blob r) = typed_value 3 name (receipt_display.lines name r)
 receipt_lines name (SetCode r) = typed_value 4 name (receipt_display.lines name r)
 
 -- the line of a type, and then those of the receipt
-after_kind : (kind : ℕ) (name : List ℕ) (r : Receipt) → receipt_codec.Fits r → IsSized (receipt_codec.item r)
+pub after_kind : (kind : ℕ) (name : List ℕ) (r : Receipt) → receipt_codec.Fits r → IsSized (receipt_codec.item r)
     → then_lines (Ok (line (prefix name ++ codes "type") (number_text kind))) (receipt name (strict_view_of (encoding (receipt_codec.item r))))
     ≡ Ok (typed_value kind name (receipt_display.lines name r))
 after_kind kind name r fit sized = ap (then_lines (Ok (line (prefix name ++ codes "type") (number_text kind)))) (receipt_display.shown name r fit sized)
@@ -57,29 +58,37 @@ receipt_shown name (FeeMarket r) fit few = after_kind 2 name r fit (after_type 2
 receipt_shown name (Blob r) fit few = after_kind 3 name r fit (after_type 3 _ few)
 receipt_shown name (SetCode r) fit few = after_kind 4 name r fit (after_type 4 _ few)
 
--- only such bytes are shown
-pub receipt_only : (name b : List ℕ) → IsSlice b → IsOk (any_receipt name (strict_view_of b))
-    → (r : TypedReceipt) × typed_receipt.Fits r × (b ≡ bytes_alone (typed_receipt.item r))
-receipt_only name b slice ok =
+-- bytes that are shown by the envelope of a receipt are the envelope of one, or are shown as another shape
+pub receipt_envelope_only : (other : Shape) (name b : List ℕ) → IsSlice b → IsOk (receipt_envelope other name (strict_view_of b))
+    → ((r : TypedReceipt) × typed_receipt.Fits r × (string b ≡ typed_receipt.item r)) ⊎ IsOk (other name (strict_view_of b))
+receipt_envelope_only other name b slice ok =
     let fits = receipt_codec.Fits in
     let item = receipt_codec.item in
     let only = receipt_display.only in
-    let last = list_or receipt unknown_transaction in
-    let four = typed 4 receipt last in
+    let four = typed 4 receipt other in
     let three = typed 3 receipt four in
     ⊎_elim
-    (λ (r, fit, is). (AccessList r, fit, is))
+    (λ (r, fit, is). inl (AccessList r, fit, ap string is))
     (λ (ok, none). ⊎_elim
-    (λ (r, fit, is). (FeeMarket r, fit, is))
+    (λ (r, fit, is). inl (FeeMarket r, fit, ap string is))
     (λ (ok, none). ⊎_elim
-    (λ (r, fit, is). (Blob r, fit, is))
+    (λ (r, fit, is). inl (Blob r, fit, ap string is))
     (λ (ok, none). ⊎_elim
-    (λ (r, fit, is). (SetCode r, fit, is))
-    (λ (ok, none). by (begins_as_list b) ok)
-    (envelope_only fits item 4 receipt last only name b slice ok))
+    (λ (r, fit, is). inl (SetCode r, fit, ap string is))
+    (λ (ok, none). inr ok)
+    (envelope_only fits item 4 receipt other only name b slice ok))
     (envelope_only fits item 3 receipt four only name b slice ok))
     (envelope_only fits item 2 receipt three only name b slice ok))
     (envelope_only fits item 1 receipt (typed 2 receipt three) only name b slice ok)
+
+-- only the bytes of a receipt by itself are shown
+pub receipt_only : (name b : List ℕ) → IsSlice b → IsOk (any_receipt name (strict_view_of b))
+    → (r : TypedReceipt) × typed_receipt.Fits r × (b ≡ bytes_alone (typed_receipt.item r))
+receipt_only name b slice ok =
+    ⊎_elim
+    (λ (r, fit, is). (r, fit, ap bytes_alone is))
+    (by (begins_as_list b))
+    (receipt_envelope_only (list_or receipt unknown_transaction) name b slice ok)
   where
     by : (kind : Bool) → IsOk (if kind then receipt name (strict_view_of b) else unknown_transaction name (strict_view_of b))
         → (r : TypedReceipt) × typed_receipt.Fits r × (b ≡ bytes_alone (typed_receipt.item r))

@@ -64,10 +64,18 @@ plain_transaction = typed_transaction (list_or legacy_transaction other_transact
 abbrev pub any_transaction : Shape
 any_transaction = hashed plain_transaction
 
+-- the envelope of a receipt by its first byte, which is its type, or else another shape
+abbrev pub receipt_envelope : Shape → Shape
+receipt_envelope other = typed 1 receipt (typed 2 receipt (typed 3 receipt (typed 4 receipt other)))
+
 -- receipts by their first byte: an envelope of type 1 to 4, or else a receipt without a type
 abbrev pub any_receipt : Shape
-any_receipt = typed 1 receipt (typed 2 receipt (typed 3 receipt (typed 4 receipt (list_or receipt unknown_transaction))))
+any_receipt = receipt_envelope (list_or receipt unknown_transaction)
 
 -- transactions in the list of a block: a list is a transaction without a type, and a string holds the envelope of one with a type; each with its hash
 abbrev pub transaction : Shape
 transaction = list_or_string (hashed legacy_transaction) (hashed (typed_transaction other_transaction))
+
+-- receipts in the list of a block: a list is a receipt without a type, and a string holds the envelope of one with a type
+abbrev pub held_receipt : Shape
+held_receipt = list_or_string receipt (receipt_envelope unknown_transaction)

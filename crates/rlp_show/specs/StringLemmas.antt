@@ -39,7 +39,7 @@ pub shown_string : (text_in : List ℕ → Worded) (name : List ℕ) (v : View) 
     → string_shape text_in name v ≡ named name (text_in d)
 shown_string text_in name v d few holds = ap (named name) (held_text text_in v d few holds)
 
-shown_fault : (text_in : List ℕ → Worded) (name : List ℕ) (v : View) (e : DecoderError) → view_string v ≡ Err e
+pub shown_fault : (text_in : List ℕ → Worded) (name : List ℕ) (v : View) (e : DecoderError) → view_string v ≡ Err e
     → string_shape text_in name v ≡ Err (wrong name (error_name e))
 shown_fault text_in name v e is = ap (λ r. named name (in_string text_in r)) is
 
@@ -93,7 +93,7 @@ few_by width n d is fit =
     (λ few. few)
     (cases_lt width (length d))
 
-number_right_by : (text : ℕ → List ℕ) (width n : ℕ) (d : List ℕ) → d ≡ big_endian n → FitsBytes width n → number_in text width d ≡ Ok (text n)
+pub number_right_by : (text : ℕ → List ℕ) (width n : ℕ) (d : List ℕ) → d ≡ big_endian n → FitsBytes width n → number_in text width d ≡ Ok (text n)
 number_right_by text width n [] is fit =
     cond-false (nat_lt width 0) _ _ (le-ltb _ _ (omega arith)) ∙ ap (λ n. Ok (text n)) (ap (number_from_digits 256) is ∙ big_endian_value n)
 number_right_by text width n (zero ∷ more) is fit =
@@ -102,7 +102,7 @@ number_right_by text width n (suc first ∷ more) is fit =
     cond-false (nat_lt width (length (suc first ∷ more))) _ _ (le-ltb _ _ (few_by width n (suc first ∷ more) is fit))
     ∙ cond-false (suc first == 0) _ _ (grind (arith, nat_tests)) ∙ ap (λ n. Ok (text n)) (ap (number_from_digits 256) is ∙ big_endian_value n)
 
-number_wrong : (text : ℕ → List ℕ) (width : ℕ) (d : List ℕ) (e : DecoderError) → IsDigitsFault width d e → number_in text width d ≡ Err (error_name e)
+pub number_wrong : (text : ℕ → List ℕ) (width : ℕ) (d : List ℕ) (e : DecoderError) → IsDigitsFault width d e → number_in text width d ≡ Err (error_name e)
 number_wrong text width d e (too_long many) = cond-true (nat_lt width (length d)) _ _ (lt-ltb _ _ many)
 number_wrong text width d e (leading_zero more few is) =
     cond-false (nat_lt width (length d)) _ _ (le-ltb _ _ few) ∙ cond-true (begins_with_zero d) _ _ (ap begins_with_zero is)

@@ -23,20 +23,15 @@ pub struct Typed<const KIND: u8, T, Q> {
     other: PhantomData<Q>,
 }
 
-/// The receipt of a transaction of any type that `rlp_ethereum` knows, for [`Show`].
-pub type AnyReceipt = Typed<
+/// The envelope of a receipt of any type that `rlp_ethereum` knows, or else a `Q`, for [`Show`].
+pub(crate) type ReceiptEnvelope<Q> = Typed<
     ACCESS_LIST_TYPE,
     Receipt,
-    Typed<
-        FEE_MARKET_TYPE,
-        Receipt,
-        Typed<
-            BLOB_TYPE,
-            Receipt,
-            Typed<SET_CODE_TYPE, Receipt, ListOr<Receipt, UnknownTransaction>>,
-        >,
-    >,
+    Typed<FEE_MARKET_TYPE, Receipt, Typed<BLOB_TYPE, Receipt, Typed<SET_CODE_TYPE, Receipt, Q>>>,
 >;
+
+/// The receipt of a transaction of any type that `rlp_ethereum` knows, for [`Show`].
+pub type AnyReceipt = ReceiptEnvelope<ListOr<Receipt, UnknownTransaction>>;
 
 /// The bytes after the first byte, if that is `kind`.
 fn payload_of(kind: u8, bytes: &[u8]) -> Option<&[u8]>

@@ -10,6 +10,7 @@ ghost use Rattle.rlp_show.specs.Guess.{any_record, envelope_kind, first_byte, fi
 use crate::envelopes::AnyReceipt;
 use crate::fault::ShowFault;
 use crate::kind::Kind;
+use crate::messages::show_message;
 use crate::nodes::Node;
 use crate::show::Show;
 use crate::transactions::TransactionAlone;
@@ -74,6 +75,7 @@ pub(crate) fn show_as(
         Kind::NodeRecord => NodeRecord::show(alloc, name, item, out),
         Kind::Transaction => TransactionAlone::show(alloc, name, item, out),
         Kind::Withdrawal => Withdrawal::show(alloc, name, item, out),
+        Kind::Message(kind) => show_message(alloc, kind, name, item, out),
     }
 }
 

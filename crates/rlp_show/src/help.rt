@@ -30,6 +30,13 @@ KIND is one of
   block, body, header, withdrawal
   account, node                   of the trie of the state, and of any trie
   record                          a node record of EIP-778
+or the body of a message:
+  hello, disconnect, ping, pong   of p2p
+  status68, status69, new_block_hashes, transactions, get_block_headers,
+  block_headers, get_block_bodies, block_bodies, new_block,
+  new_pooled_transaction_hashes, get_pooled_transactions, pooled_transactions,
+  get_receipts, receipts68, receipts69, block_range_update
+                                  of eth/68 and eth/69
 
 Without KIND the kind is guessed, and its name comes before those of the fields:
   first byte below 0x80  transaction, or receipt if the list after it has 4 items

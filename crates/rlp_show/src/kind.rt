@@ -2,6 +2,8 @@
 
 ghost use Rattle.std.specs.Prelude.{◌≡◌, Some};
 
+use crate::messages::MessageKind;
+
 /// A kind of records that the program shows.
 #[derive(Debug, Clone, Copy, PartialEq, Eq)]
 pub enum Kind {
@@ -27,6 +29,8 @@ pub enum Kind {
     Transaction,
     /// Withdrawals.
     Withdrawal,
+    /// Bodies of messages between clients.
+    Message(MessageKind),
 }
 
 impl Kind {
@@ -49,12 +53,15 @@ impl Kind {
             "record" => Some(Kind::NodeRecord),
             "transaction" => Some(Kind::Transaction),
             "withdrawal" => Some(Kind::Withdrawal),
-            _ => None,
+            _ => match MessageKind::named(name) {
+                Some(kind) => Some(Kind::Message(kind)),
+                None => None,
+            },
         }
     }
 
     /// The name of the kind.
-    #[tactic(auto, unfolding(crate::specs::Kinds::kind_named))]
+    #[tactic(auto, using(crate::specs::Kinds::message_kind), unfolding(crate::specs::Kinds::kind_named))]
     pub fn name(self) -> &'static str
         ensures name { result.now ≡ kind_name self }
         ensures named { kind_named result.now ≡ Some self }
@@ -71,6 +78,7 @@ impl Kind {
             Kind::NodeRecord => "record",
             Kind::Transaction => "transaction",
             Kind::Withdrawal => "withdrawal",
+            Kind::Message(kind) => kind.name(),
         }
     }
 }

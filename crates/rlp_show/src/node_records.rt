@@ -170,7 +170,7 @@ fn pairs_of<'a, 'view>(item: &'view Rlp<'a>) -> RlpIterator<'a, 'view>
 }
 
 /// Goes past the next item, if there is one.
-fn skip(items: &mut RlpIterator<'_, '_>)
+pub(crate) fn skip(items: &mut RlpIterator<'_, '_>)
     ensures { items.new.left ≡ drop 1 items.old.left }
 {
     let _skipped = items.next();

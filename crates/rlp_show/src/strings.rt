@@ -18,7 +18,7 @@ use std::alloc::{AllocError, Global};
 
 /// Appends the line of an item of exactly `N` bytes.
 #[tactic(auto, using(crate::specs::StringLemmas::fixed_strings))]
-fn show_fixed<const N: usize>(
+pub(crate) fn show_fixed<const N: usize>(
     alloc: Global,
     name: &str,
     item: &Rlp<'_>,

@@ -14,6 +14,8 @@ mod json;
 #[cfg(test)]
 mod laws;
 #[cfg(test)]
+mod messages;
+#[cfg(test)]
 mod node_records;
 #[cfg(test)]
 mod nodes;

@@ -69,11 +69,19 @@ fn check_row(alloc: Global, row: &Row, wrong: &mut Line) -> Result<(), AllocErro
         }
         Some(kind) => {
             note_answer(alloc, &as_text(Some(kind)), row, wrong)?;
-            if want.starts_with("error") {
+            if want.starts_with("error") || is_message(kind) {
                 return Ok(());
             }
             note_guess(alloc, given, wrong)
         }
+    }
+}
+
+/// Returns whether a kind is one of messages, which aren't guessed.
+fn is_message(kind: Kind) -> bool {
+    match kind {
+        Kind::Message(_) => true,
+        _ => false,
     }
 }
 

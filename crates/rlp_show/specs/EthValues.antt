@@ -1,0 +1,338 @@
+-- The lines of messages of `eth`, but for those with receipts of `eth/68`.
+use Rattle.std.specs.Prelude.{ℕ, ◌≡◌, ◌==◌, ◌<◌, ◌^◌, ◌++◌, Bool, false, true, if◌then◌else◌, List, [], ◌∷◌, length, codes, Result, Ok, Err, IsOk, ⊤}
+use Rattle.std.specs.Global.{Vec}
+use Rattle.std.specs.Vec.{vec_items}
+use Rattle.std.proofs.Common.{refl, sym, ap, subst, ◌∙◌, arith}
+use Rattle.std.proofs.lemmas.Bool.{cond-false, cond-true}
+use Rattle.std.proofs.lemmas.Bool.Decides.{nat_tests}
+use Rattle.rlp.specs.Codec.{Codec, list_type}
+use Rattle.rlp.specs.DecoderError.{DecoderError}
+use Rattle.rlp.specs.Format.Encoding.{IsSized, encoding}
+use Rattle.rlp.specs.Format.Item.{Item, list_of as list_item}
+use Rattle.rlp.specs.Format.WrittenHeader.{big_endian}
+use Rattle.rlp.specs.Lemmas.OneReading.{few_digits}
+use Rattle.rlp.specs.Lemmas.StringsHeld.{ReadsHeld, held_reads}
+use Rattle.rlp.specs.Values.Value.{FitsBytes, number_item}
+use Rattle.rlp.specs.Values.ValueReading.{FaultsAsNumber, GivesValue, no_string, no_value}
+use Rattle.rlp.specs.Views.Text.{error_name}
+use Rattle.rlp.specs.Views.View.{HoldsString, View, strict_view_of, view_string}
+use Rattle.rlp_messages.specs.declared.hash_or_number.HashOrNumber.{HashOrNumber}
+use Rattle.rlp_messages.specs.declared.hash_or_number.HashOrNumber.TheVariants.{Hash, Number}
+use Rattle.rlp_messages.specs.HashOrNumber.{FaultsAsHashOrNumber, IsHashOrNumber, hash_or_number_bytes, hash_or_number_item, sound_hash_or_number}
+use Rattle.rlp_messages.specs.HashOrNumber.{hash_or_number as hash_or_number_codec}
+use Rattle.rlp_messages.specs.declared.with_request_id.WithRequestId.{WithRequestId}
+use Rattle.rlp_messages.specs.declared.announcements.NewBlockHash.{NewBlockHash}
+use Rattle.rlp_messages.specs.declared.announcements.NewBlockHashes.{NewBlockHashes}
+use Rattle.rlp_messages.specs.declared.announcements.Transactions.{Transactions}
+use Rattle.rlp_messages.specs.declared.announcements.NewPooledTransactionHashes.{NewPooledTransactionHashes}
+use Rattle.rlp_messages.specs.declared.announcements.BlockRangeUpdate.{BlockRangeUpdate}
+use Rattle.rlp_messages.specs.declared.announcements.NewBlock.{NewBlock}
+use Rattle.rlp_messages.specs.Announcements.{new_block_hash as new_block_hash_codec, new_block_hashes as new_block_hashes_codec}
+use Rattle.rlp_messages.specs.Announcements.{transactions as transactions_codec, new_pooled_transaction_hashes as new_pooled_transaction_hashes_codec}
+use Rattle.rlp_messages.specs.Announcements.{block_range_update as block_range_update_codec, new_block as new_block_codec}
+use Rattle.rlp_messages.specs.declared.receipts69.Receipt69.{Receipt69}
+use Rattle.rlp_messages.specs.declared.receipts69.BlockReceipts69.{BlockReceipts69}
+use Rattle.rlp_messages.specs.declared.receipts69.Receipts69.{Receipts69}
+use Rattle.rlp_messages.specs.Receipts69.{receipt69 as receipt69_codec, block_receipts69 as block_receipts69_codec, receipts69 as receipts69_codec}
+use Rattle.rlp_messages.specs.declared.requests.GetBlockHeaders.{GetBlockHeaders}
+use Rattle.rlp_messages.specs.declared.requests.BlockHeaders.{BlockHeaders}
+use Rattle.rlp_messages.specs.declared.requests.GetBlockBodies.{GetBlockBodies}
+use Rattle.rlp_messages.specs.declared.requests.BlockBodies.{BlockBodies}
+use Rattle.rlp_messages.specs.declared.requests.GetPooledTransactions.{GetPooledTransactions}
+use Rattle.rlp_messages.specs.declared.requests.PooledTransactions.{PooledTransactions}
+use Rattle.rlp_messages.specs.declared.requests.GetReceipts.{GetReceipts}
+use Rattle.rlp_messages.specs.Requests.{get_block_headers as get_block_headers_codec, block_headers as block_headers_codec}
+use Rattle.rlp_messages.specs.Requests.{get_block_bodies as get_block_bodies_codec, block_bodies as block_bodies_codec}
+use Rattle.rlp_messages.specs.Requests.{get_pooled_transactions as get_pooled_transactions_codec, pooled_transactions as pooled_transactions_codec}
+use Rattle.rlp_messages.specs.Requests.{get_receipts as get_receipts_codec}
+use Rattle.rlp_messages.specs.declared.status.ForkId.{ForkId}
+use Rattle.rlp_messages.specs.declared.status.Status68.{Status68}
+use Rattle.rlp_messages.specs.declared.status.Status69.{Status69}
+use Rattle.rlp_messages.specs.declared.status.ForkHash.{ForkHash}
+use Rattle.rlp_messages.specs.Status.{fork_id as fork_id_codec, status68 as status68_codec, status69 as status69_codec, fork_hash as fork_hash_codec}
+use Rattle.rlp_show.specs.BodyValues.{body_display}
+use Rattle.rlp_show.specs.ConverseLemmas.{IsEncoded, OnlyEncodings, below, end_only, field_only, number_only, record_only, vec_of}
+use Rattle.rlp_show.specs.Displays.{Display, bytes_display, end_display, field_display, fixed_display, hash_display, list_display, newtype_display}
+use Rattle.rlp_show.specs.Displays.{number_display, record_display, status_display, truth_display, uint_display, vec_display}
+use Rattle.rlp_show.specs.Lines.{Shape, Worded, field, in_field, in_string, line, named, number, number_in, prefix, record_of, string_shape, wrong}
+use Rattle.rlp_show.specs.StringLemmas.{number_right_by, number_wrong, shown_fault, shown_string}
+use Rattle.rlp_show.specs.Text.{bytes_text, number_text}
+use Rattle.rlp_show.specs.TransactionValues.{block_display, transaction_display}
+use Rattle.rlp_show.specs.ValueLemmas.{both_shown, first_sized, joined_small, others_small, record_shown}
+use Rattle.rlp_show.specs.Values.{header_display, log_display}
+
+-- ---- hashes or numbers
+
+-- the text of a string that is a hash or a number
+abbrev pub hash_or_number_in : List ℕ → Worded
+hash_or_number_in string = if length string == 32 then Ok (bytes_text string) else number_in number_text 8 string
+
+-- a hash of 32 bytes, or a number of at most eight; an item that is neither has the fault of the number
+abbrev pub hash_or_number : Shape
+hash_or_number = string_shape hash_or_number_in
+
+-- the text of a hash or of a number
+abbrev pub hash_or_number_text : HashOrNumber → List ℕ
+hash_or_number_text (Hash h) = bytes_text h.0
+hash_or_number_text (Number n) = number_text n
+
+hash_or_number_right : (x : HashOrNumber) → IsHashOrNumber x → hash_or_number_in (hash_or_number_bytes x) ≡ Ok (hash_or_number_text x)
+hash_or_number_right (Hash h) fit = cond-true (length h.0 == 32) _ _ (grind (arith, nat_tests))
+hash_or_number_right (Number n) fit =
+    let few = few_digits 8 n fit in
+    cond-false (length (big_endian n) == 32) _ _ (grind (arith, nat_tests)) ∙ number_right_by number_text 8 n (big_endian n) refl fit
+
+pub hash_or_number_given : (name : List ℕ) (v : View) (x : HashOrNumber) → length v.bytes < 2 ^ 64
+    → GivesValue IsHashOrNumber hash_or_number_item v x → hash_or_number name v ≡ Ok (line name (hash_or_number_text x))
+hash_or_number_given name v x few given =
+    shown_string hash_or_number_in name v (hash_or_number_bytes x) few given.begins ∙ ap (named name) (hash_or_number_right x given.fits)
+
+-- a string at fault doesn't have the length of a hash
+no_hash_length : (v : View) (d : List ℕ) (e : DecoderError) → length v.bytes < 2 ^ 64 → HoldsString v d → FaultsAsHashOrNumber v e → (length d == 32) ≡ false
+no_hash_length v d e few holds fault = by (length d == 32) refl
+  where
+    by : (b : Bool) → (length d == 32) ≡ b → (length d == 32) ≡ false
+    by false is = is
+    by true is =
+        let many : length d ≡ 32 = grind (arith, nat_tests) in
+        absurd (sound_hash_or_number v few (Hash (record { 0 = d })) many holds e fault)
+
+neither_shown : (name : List ℕ) (v : View) (e : DecoderError) → length v.bytes < 2 ^ 64 → FaultsAsHashOrNumber v e → FaultsAsNumber 8 v e
+    → hash_or_number name v ≡ Err (wrong name (error_name e))
+neither_shown name v e few fault (no_string f is) = shown_fault hash_or_number_in name v f is
+neither_shown name v e few fault (no_value d f holds faulty) =
+    shown_string hash_or_number_in name v d few holds
+    ∙ ap (named name) (cond-false (length d == 32) _ _ (no_hash_length v d f few holds fault) ∙ number_wrong number_text 8 d f faulty)
+
+pub hash_or_number_faulty : (name : List ℕ) (v : View) (e : DecoderError) → length v.bytes < 2 ^ 64 → FaultsAsHashOrNumber v e
+    → hash_or_number name v ≡ Err (wrong name (error_name e))
+hash_or_number_faulty name v e few fault = neither_shown name v e few fault fault.no_number
+
+pub ruleset hash_or_number_strings = (hash_or_number_given, hash_or_number_faulty)
+
+-- only encodings of hashes and of numbers are shown
+pub hash_or_number_only : OnlyEncodings IsHashOrNumber hash_or_number_item hash_or_number
+hash_or_number_only name b slice ok = by (view_string (strict_view_of b)) refl (held_reads (strict_view_of b) slice.0 (below b slice)) ok
+  where
+    -- a string that isn't a hash is shown as a number is
+    found : (d : List ℕ) → view_string (strict_view_of b) ≡ Ok d → b ≡ encoding (hash_or_number_item (Hash (record { 0 = d }))) → (t : Bool)
+        → (length d == 32) ≡ t → IsOk (named name (if t then Ok (bytes_text d) else number_in number_text 8 d)) → IsEncoded IsHashOrNumber hash_or_number_item b
+    found d held is true test ok = (Hash (record { 0 = d }), grind (arith, nat_tests), is)
+    found d held is false test ok =
+        let shown = ap (λ r. named name (in_string (number_in number_text 8) r)) held in
+        let (n, fit, same) = number_only number_text 8 name b slice (subst IsOk (sym shown) ok) in
+        (Number n, fit, same)
+
+    by : (r : Result (List ℕ) DecoderError) → view_string (strict_view_of b) ≡ r → ReadsHeld true b r → IsOk (named name (in_string hash_or_number_in r))
+        → IsEncoded IsHashOrNumber hash_or_number_item b
+    by (Ok d) held is ok = found d held is (length d == 32) refl ok
+    by (Err e) held none ok = absurd (let no : ⊥ = cc in no)
+
+-- hashes or numbers
+abbrev pub hash_or_number_display : Display hash_or_number_codec
+hash_or_number_display = record {
+  shape = hash_or_number;
+  lines = λ name x. line name (hash_or_number_text x);
+  shown = λ name x fit sized. hash_or_number_given name (strict_view_of (encoding (hash_or_number_codec.item x))) x sized
+      (record { fits = fit; begins = refl });
+  only = hash_or_number_only;
+}
+
+-- ---- lists of values
+
+-- a type that holds nothing but a `Vec` of values
+abbrev pub wrapped_display : {A B : Type 0} {c : Codec A} (values : B → Vec A) (make : Vec A → B) → ((v : Vec A) → values (make v) ≡ v) → Display c
+    → Display (list_type (λ b. vec_items (values b)) c)
+wrapped_display values make same d =
+    list_display (λ b. vec_items (values b)) (λ xs few. let (v, is) = vec_of xs few in (make v, ap vec_items (same v) ∙ is)) d
+
+-- ---- announcements
+
+-- blocks that a client announces
+abbrev pub new_block_hash_display : Display new_block_hash_codec
+new_block_hash_display = record_display (
+    field_display (codes "hash") (λ (n : NewBlockHash). n.hash) hash_display (
+    field_display (codes "number") (λ (n : NewBlockHash). n.number) (number_display 8) end_display))
+    (λ (a, (b, end)). record { hash = a; number = b }) (λ t. refl)
+
+-- lists of blocks that a client announces
+abbrev pub new_block_hashes_display : Display new_block_hashes_codec
+new_block_hashes_display = wrapped_display (λ (n : NewBlockHashes). n.0) (λ v. record { 0 = v }) (λ v. refl) new_block_hash_display
+
+-- transactions that a client sends
+abbrev pub transactions_display : Display transactions_codec
+transactions_display = wrapped_display (λ (t : Transactions). t.0) (λ v. record { 0 = v }) (λ v. refl) transaction_display
+
+-- transactions that a client announces
+abbrev pub new_pooled_transaction_hashes_display : Display new_pooled_transaction_hashes_codec
+new_pooled_transaction_hashes_display = record_display (
+    field_display (codes "types") (λ (n : NewPooledTransactionHashes). n.types) (bytes_display vec_items vec_of) (
+    field_display (codes "sizes") (λ (n : NewPooledTransactionHashes). n.sizes) (vec_display (number_display 8)) (
+    field_display (codes "hashes") (λ (n : NewPooledTransactionHashes). n.hashes) (vec_display hash_display) end_display)))
+    (λ (a, (b, (c, end))). record { types = a; sizes = b; hashes = c }) (λ t. refl)
+
+-- the blocks that a client has
+abbrev pub block_range_update_display : Display block_range_update_codec
+block_range_update_display = record_display (
+    field_display (codes "earliest_block") (λ (b : BlockRangeUpdate). b.earliest_block) (number_display 8) (
+    field_display (codes "latest_block") (λ (b : BlockRangeUpdate). b.latest_block) (number_display 8) (
+    field_display (codes "latest_block_hash") (λ (b : BlockRangeUpdate). b.latest_block_hash) hash_display end_display)))
+    (λ (a, (b, (c, end))). record { earliest_block = a; latest_block = b; latest_block_hash = c }) (λ t. refl)
+
+-- whole blocks that a client announces
+abbrev pub new_block_display : Display new_block_codec
+new_block_display = record_display (
+    field_display (codes "block") (λ (n : NewBlock). n.block) block_display (
+    field_display (codes "total_difficulty") (λ (n : NewBlock). n.total_difficulty) (uint_display 32) end_display))
+    (λ (a, (b, end)). record { block = a; total_difficulty = b }) (λ t. refl)
+
+-- ---- what a client knows
+
+-- checksums of forks
+abbrev pub fork_hash_display : Display fork_hash_codec
+fork_hash_display = newtype_display (λ (f : ForkHash). f.0) (λ d. record { 0 = d }) (λ d. refl) (fixed_display 4)
+
+-- the forks that a client knows
+abbrev pub fork_id_display : Display fork_id_codec
+fork_id_display = record_display (
+    field_display (codes "fork_hash") (λ (f : ForkId). f.fork_hash) fork_hash_display (
+    field_display (codes "fork_next") (λ (f : ForkId). f.fork_next) (number_display 8) end_display))
+    (λ (a, (b, end)). record { fork_hash = a; fork_next = b }) (λ t. refl)
+
+-- first messages of `eth/68`
+abbrev pub status68_display : Display status68_codec
+status68_display = record_display (
+    field_display (codes "version") (λ (s : Status68). s.version) (number_display 8) (
+    field_display (codes "network_id") (λ (s : Status68). s.network_id) (number_display 8) (
+    field_display (codes "total_difficulty") (λ (s : Status68). s.total_difficulty) (uint_display 32) (
+    field_display (codes "block_hash") (λ (s : Status68). s.block_hash) hash_display (
+    field_display (codes "genesis_hash") (λ (s : Status68). s.genesis_hash) hash_display (
+    field_display (codes "fork_id") (λ (s : Status68). s.fork_id) fork_id_display end_display))))))
+    (λ (a, (b, (c, (d, (e, (f, end)))))). record {
+      version = a;
+      network_id = b;
+      total_difficulty = c;
+      block_hash = d;
+      genesis_hash = e;
+      fork_id = f;
+    }) (λ t. refl)
+
+-- first messages of `eth/69`
+abbrev pub status69_display : Display status69_codec
+status69_display = record_display (
+    field_display (codes "version") (λ (s : Status69). s.version) (number_display 8) (
+    field_display (codes "network_id") (λ (s : Status69). s.network_id) (number_display 8) (
+    field_display (codes "genesis_hash") (λ (s : Status69). s.genesis_hash) hash_display (
+    field_display (codes "fork_id") (λ (s : Status69). s.fork_id) fork_id_display (
+    field_display (codes "earliest_block") (λ (s : Status69). s.earliest_block) (number_display 8) (
+    field_display (codes "latest_block") (λ (s : Status69). s.latest_block) (number_display 8) (
+    field_display (codes "latest_block_hash") (λ (s : Status69). s.latest_block_hash) hash_display end_display)))))))
+    (λ (a, (b, (c, (d, (e, (f, (g, end))))))). record {
+      version = a;
+      network_id = b;
+      genesis_hash = c;
+      fork_id = d;
+      earliest_block = e;
+      latest_block = f;
+      latest_block_hash = g;
+    }) (λ t. refl)
+
+-- ---- requests and their answers
+
+-- requests for headers
+abbrev pub get_block_headers_display : Display get_block_headers_codec
+get_block_headers_display = record_display (
+    field_display (codes "start_block") (λ (g : GetBlockHeaders). g.start_block) hash_or_number_display (
+    field_display (codes "limit") (λ (g : GetBlockHeaders). g.limit) (number_display 8) (
+    field_display (codes "skip") (λ (g : GetBlockHeaders). g.skip) (number_display 8) (
+    field_display (codes "reverse") (λ (g : GetBlockHeaders). g.reverse) truth_display end_display))))
+    (λ (a, (b, (c, (d, end)))). record { start_block = a; limit = b; skip = c; reverse = d }) (λ t. refl)
+
+-- answers with headers
+abbrev pub block_headers_display : Display block_headers_codec
+block_headers_display = wrapped_display (λ (b : BlockHeaders). b.0) (λ v. record { 0 = v }) (λ v. refl) header_display
+
+-- requests for bodies of blocks, by their hashes
+abbrev pub get_block_bodies_display : Display get_block_bodies_codec
+get_block_bodies_display = wrapped_display (λ (g : GetBlockBodies). g.0) (λ v. record { 0 = v }) (λ v. refl) hash_display
+
+-- answers with bodies of blocks
+abbrev pub block_bodies_display : Display block_bodies_codec
+block_bodies_display = wrapped_display (λ (b : BlockBodies). b.0) (λ v. record { 0 = v }) (λ v. refl) body_display
+
+-- requests for transactions, by their hashes
+abbrev pub get_pooled_transactions_display : Display get_pooled_transactions_codec
+get_pooled_transactions_display = wrapped_display (λ (g : GetPooledTransactions). g.0) (λ v. record { 0 = v }) (λ v. refl) hash_display
+
+-- answers with transactions
+abbrev pub pooled_transactions_display : Display pooled_transactions_codec
+pooled_transactions_display = wrapped_display (λ (p : PooledTransactions). p.0) (λ v. record { 0 = v }) (λ v. refl) transaction_display
+
+-- requests for receipts, by the hashes of the blocks
+abbrev pub get_receipts_display : Display get_receipts_codec
+get_receipts_display = wrapped_display (λ (g : GetReceipts). g.0) (λ v. record { 0 = v }) (λ v. refl) hash_display
+
+-- receipts since `eth/69`
+abbrev pub receipt69_display : Display receipt69_codec
+receipt69_display = record_display (
+    field_display (codes "transaction_type") (λ (r : Receipt69). r.transaction_type) (number_display 1) (
+    field_display (codes "status_or_state_root") (λ (r : Receipt69). r.status_or_state_root) status_display (
+    field_display (codes "cumulative_gas_used") (λ (r : Receipt69). r.cumulative_gas_used) (number_display 8) (
+    field_display (codes "logs") (λ (r : Receipt69). r.logs) (vec_display log_display) end_display))))
+    (λ (a, (b, (c, (d, end)))). record { transaction_type = a; status_or_state_root = b; cumulative_gas_used = c; logs = d }) (λ t. refl)
+
+-- the receipts of a block since `eth/69`
+abbrev pub block_receipts69_display : Display block_receipts69_codec
+block_receipts69_display = wrapped_display (λ (b : BlockReceipts69). b.0) (λ v. record { 0 = v }) (λ v. refl) receipt69_display
+
+-- answers with receipts since `eth/69`
+abbrev pub receipts69_display : Display receipts69_codec
+receipts69_display = wrapped_display (λ (r : Receipts69). r.0) (λ v. record { 0 = v }) (λ v. refl) block_receipts69_display
+
+-- ---- numbers of requests
+
+-- the number of a request, and a message of this shape
+abbrev pub with_request_id_shape : Shape → Shape
+with_request_id_shape shape = record_of (field (codes "request_id") (number 8) ∷ field (codes "content") shape ∷ [])
+
+-- the lines of both
+abbrev pub with_request_id_lines : {A : Type 0} → (List ℕ → A → List ℕ) → List ℕ → WithRequestId A → List ℕ
+with_request_id_lines lines name w =
+    line (prefix name ++ codes "request_id") (number_text w.request_id) ++ (lines (prefix name ++ codes "content") w.content ++ [])
+
+-- the number has at most eight bytes, and the message fits
+abbrev pub FitsWithRequestId : {A : Type 0} → (A → Type 0) → WithRequestId A → Type 0
+FitsWithRequestId Fits w = FitsBytes 8 w.request_id × (Fits w.content × ⊤)
+
+-- the list of both
+abbrev pub with_request_id_item : {A : Type 0} → (A → Item) → WithRequestId A → Item
+with_request_id_item item w = list_item (number_item w.request_id ∷ item w.content ∷ [])
+
+module _ {A : Type 0} (Fits : A → Type 0) (item : A → Item) (shape : Shape) where
+  -- where encodings of messages are shown as their lines, so are those with the number of a request
+  pub with_request_id_shown : (lines : List ℕ → A → List ℕ)
+      → ((name : List ℕ) (x : A) → Fits x → IsSized (item x) → shape name (strict_view_of (encoding (item x))) ≡ Ok (lines name x))
+      → (name : List ℕ) (w : WithRequestId A) → FitsWithRequestId Fits w → IsSized (with_request_id_item item w)
+      → with_request_id_shape shape name (strict_view_of (encoding (with_request_id_item item w))) ≡ Ok (with_request_id_lines lines name w)
+  with_request_id_shown lines shown name w fit sized =
+      let xs = number_item w.request_id ∷ item w.content ∷ [] in
+      let fields = field (codes "request_id") (number 8) ∷ field (codes "content") shape ∷ [] in
+      let small = joined_small xs sized in
+      let first = first_sized (number_item w.request_id) (item w.content ∷ []) small in
+      let second = first_sized (item w.content) [] (others_small (number_item w.request_id) (item w.content ∷ []) small) in
+      record_shown fields name xs (Ok (with_request_id_lines lines name w)) sized refl
+      (both_shown _ _ (line (prefix name ++ codes "request_id") (number_text w.request_id)) (lines (prefix name ++ codes "content") w.content ++ [])
+      (ap (in_field 0) ((number_display 8).shown (prefix name ++ codes "request_id") w.request_id fit.0 first))
+      (both_shown _ _ (lines (prefix name ++ codes "content") w.content) []
+      (ap (in_field 1) (shown (prefix name ++ codes "content") w.content fit.1.0 second)) refl))
+
+  -- and where only encodings of messages are shown, so it is with that number
+  pub with_request_id_only : OnlyEncodings Fits item shape → OnlyEncodings (FitsWithRequestId Fits) (with_request_id_item item) (with_request_id_shape shape)
+  with_request_id_only only =
+      let content = field_only {Parts = Unit {0}} (λ (w : WithRequestId A). w.content) Fits item shape (λ w. tt) (λ w. ⊤) (λ w. []) [] (codes "content")
+      only end_only in
+      record_only {Parts = ℕ × (A × Unit {0})} (λ (w : WithRequestId A). (w.request_id, (w.content, tt))) (FitsWithRequestId Fits)
+      (λ w. number_item w.request_id ∷ item w.content ∷ []) (field (codes "request_id") (number 8) ∷ field (codes "content") shape ∷ [])
+      (field_only {Parts = A × Unit {0}} (λ (w : WithRequestId A). w.request_id) (FitsBytes 8) number_item (number 8) (λ w. (w.content, tt))
+      (λ w. Fits w.content × ⊤) (λ w. item w.content ∷ []) (field (codes "content") shape ∷ []) (codes "request_id") (number_only number_text 8) content)
+      (λ (id, (content, end)). record { request_id = id; content = content }) (λ t. refl)

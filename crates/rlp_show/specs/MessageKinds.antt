@@ -1,0 +1,81 @@
+-- The kinds of messages, by their names, and how messages of a kind are shown.
+use Rattle.std.specs.Prelude.{ℕ, List, codes, bytes_eq, if◌then◌else◌, Option, Some, None}
+use Rattle.rlp_show.specs.Lines.{Shape}
+use Rattle.rlp_show.specs.EthValues.{block_headers_display, get_block_bodies_display, get_block_headers_display, new_block_hashes_display, status68_display, status69_display, transactions_display}
+use Rattle.rlp_show.specs.EthValues.{block_bodies_display, block_range_update_display, get_pooled_transactions_display, get_receipts_display, new_block_display, new_pooled_transaction_hashes_display, pooled_transactions_display, receipts69_display, with_request_id_shape}
+use Rattle.rlp_show.specs.MessageReceipts.{receipts_display}
+use Rattle.rlp_show.specs.P2pValues.{disconnect_display, hello_display, ping_display, pong_display}
+use Rattle.rlp_show.specs.declared.messages.kind.MessageKind.{MessageKind}
+use Rattle.rlp_show.specs.declared.messages.kind.MessageKind.TheVariants.{BlockHeaders, Disconnect, GetBlockHeaders, Hello, NewBlockHashes, Ping, Pong, Status68, Status69, Transactions}
+use Rattle.rlp_show.specs.declared.messages.kind.MessageKind.TheVariants.{BlockBodies, BlockRangeUpdate, GetBlockBodies, GetPooledTransactions, GetReceipts, NewBlock, NewPooledTransactionHashes, PooledTransactions, Receipts68, Receipts69}
+
+-- the kind of a name
+unfoldable pub message_named : List ℕ → Option MessageKind
+message_named name =
+    if bytes_eq name (codes "hello") then Some Hello
+    else if bytes_eq name (codes "disconnect") then Some Disconnect
+    else if bytes_eq name (codes "ping") then Some Ping
+    else if bytes_eq name (codes "pong") then Some Pong
+    else if bytes_eq name (codes "status68") then Some Status68
+    else if bytes_eq name (codes "status69") then Some Status69
+    else if bytes_eq name (codes "new_block_hashes") then Some NewBlockHashes
+    else if bytes_eq name (codes "transactions") then Some Transactions
+    else if bytes_eq name (codes "get_block_headers") then Some GetBlockHeaders
+    else if bytes_eq name (codes "block_headers") then Some BlockHeaders
+    else if bytes_eq name (codes "get_block_bodies") then Some GetBlockBodies
+    else if bytes_eq name (codes "block_bodies") then Some BlockBodies
+    else if bytes_eq name (codes "new_block") then Some NewBlock
+    else if bytes_eq name (codes "new_pooled_transaction_hashes") then Some NewPooledTransactionHashes
+    else if bytes_eq name (codes "get_pooled_transactions") then Some GetPooledTransactions
+    else if bytes_eq name (codes "pooled_transactions") then Some PooledTransactions
+    else if bytes_eq name (codes "get_receipts") then Some GetReceipts
+    else if bytes_eq name (codes "receipts68") then Some Receipts68
+    else if bytes_eq name (codes "receipts69") then Some Receipts69
+    else if bytes_eq name (codes "block_range_update") then Some BlockRangeUpdate
+    else None
+
+-- the name of a kind
+abbrev pub message_name : MessageKind → List ℕ
+message_name Hello = codes "hello"
+message_name Disconnect = codes "disconnect"
+message_name Ping = codes "ping"
+message_name Pong = codes "pong"
+message_name Status68 = codes "status68"
+message_name Status69 = codes "status69"
+message_name NewBlockHashes = codes "new_block_hashes"
+message_name Transactions = codes "transactions"
+message_name GetBlockHeaders = codes "get_block_headers"
+message_name BlockHeaders = codes "block_headers"
+message_name GetBlockBodies = codes "get_block_bodies"
+message_name BlockBodies = codes "block_bodies"
+message_name NewBlock = codes "new_block"
+message_name NewPooledTransactionHashes = codes "new_pooled_transaction_hashes"
+message_name GetPooledTransactions = codes "get_pooled_transactions"
+message_name PooledTransactions = codes "pooled_transactions"
+message_name GetReceipts = codes "get_receipts"
+message_name Receipts68 = codes "receipts68"
+message_name Receipts69 = codes "receipts69"
+message_name BlockRangeUpdate = codes "block_range_update"
+
+-- how messages of a kind are shown; those that are lists of records have the name of the kind
+abbrev pub message_shape : MessageKind → Shape
+message_shape Hello = hello_display.shape
+message_shape Disconnect = disconnect_display.shape
+message_shape Ping = ping_display.shape
+message_shape Pong = pong_display.shape
+message_shape Status68 = status68_display.shape
+message_shape Status69 = status69_display.shape
+message_shape NewBlockHashes = λ name. new_block_hashes_display.shape (codes "new_block_hashes")
+message_shape Transactions = λ name. transactions_display.shape (codes "transactions")
+message_shape GetBlockHeaders = with_request_id_shape get_block_headers_display.shape
+message_shape BlockHeaders = with_request_id_shape block_headers_display.shape
+message_shape GetBlockBodies = with_request_id_shape get_block_bodies_display.shape
+message_shape BlockBodies = with_request_id_shape block_bodies_display.shape
+message_shape NewBlock = new_block_display.shape
+message_shape NewPooledTransactionHashes = new_pooled_transaction_hashes_display.shape
+message_shape GetPooledTransactions = with_request_id_shape get_pooled_transactions_display.shape
+message_shape PooledTransactions = with_request_id_shape pooled_transactions_display.shape
+message_shape GetReceipts = with_request_id_shape get_receipts_display.shape
+message_shape Receipts68 = with_request_id_shape receipts_display.shape
+message_shape Receipts69 = with_request_id_shape receipts69_display.shape
+message_shape BlockRangeUpdate = block_range_update_display.shape
