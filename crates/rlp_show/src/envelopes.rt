@@ -16,25 +16,17 @@ use rlp_ethereum::{ACCESS_LIST_TYPE, BLOB_TYPE, FEE_MARKET_TYPE, Receipt, SET_CO
 use std::alloc::{AllocError, Global};
 use std::marker::PhantomData;
 
-/// The envelope of a `T` that begins with the byte `KIND`, or else a `Q`, for [`Show`]. It has no
-/// values.
-pub struct Typed<const KIND: u8, T, Q> {
-    payload: PhantomData<T>,
+/// The envelope of a receipt of any type that `rlp_ethereum` knows, or else a `Q`, for [`Show`]. It
+/// has no values.
+pub struct ReceiptEnvelope<Q> {
     other: PhantomData<Q>,
 }
-
-/// The envelope of a receipt of any type that `rlp_ethereum` knows, or else a `Q`, for [`Show`].
-pub(crate) type ReceiptEnvelope<Q> = Typed<
-    ACCESS_LIST_TYPE,
-    Receipt,
-    Typed<FEE_MARKET_TYPE, Receipt, Typed<BLOB_TYPE, Receipt, Typed<SET_CODE_TYPE, Receipt, Q>>>,
->;
 
 /// The receipt of a transaction of any type that `rlp_ethereum` knows, for [`Show`].
 pub type AnyReceipt = ReceiptEnvelope<ListOr<Receipt, UnknownTransaction>>;
 
 /// The bytes after the first byte, if that is `kind`.
-fn payload_of(kind: u8, bytes: &[u8]) -> Option<&[u8]>
+pub(crate) fn payload_of(kind: u8, bytes: &[u8]) -> Option<&[u8]>
     ensures { MatchOption result ((payload : List ℕ) → bytes.now ≢ kind ∷ payload)
         (λ payload. bytes.now ≡ kind ∷ payload.now) }
 {
@@ -61,7 +53,7 @@ pub(crate) fn put_type(
 
 /// Appends the line of a type, and then the lines of the record that the payload encodes.
 #[tactic(auto, using(crate::proofs::FieldLemmas::fields_in_order))]
-fn show_typed<T: Show>(
+pub(crate) fn show_typed<T: Show>(
     alloc: Global,
     name: &str,
     kind: u8,
@@ -76,16 +68,24 @@ fn show_typed<T: Show>(
     T::show(alloc, name, &Rlp::new_strict(payload), out)
 }
 
-impl<const KIND: u8, T: Show, Q: Show> Show for Typed<KIND, T, Q> {
-    ghost use Rattle.rlp_show.specs.Lines.{typed};
+impl<Q: Show> Show for ReceiptEnvelope<Q> {
+    ghost use Rattle.rlp_show.specs.Records.{receipt_envelope};
 
-    ghost shape = { typed KIND T.shape Q.shape };
+    ghost shape = { receipt_envelope Q.shape };
 
     #[tactic(auto, using(crate::proofs::FieldLemmas::by_type))]
     fn show(alloc: Global, name: &str, item: &Rlp<'_>, out: &mut String) -> Result<(), ShowFault> {
-        match payload_of(KIND, item.as_raw()) {
-            Some(payload) => show_typed::<T>(alloc, name, KIND, payload, out),
-            None => Q::show(alloc, name, item, out),
+        let bytes = item.as_raw();
+        if let Some(payload) = payload_of(ACCESS_LIST_TYPE, bytes) {
+            show_typed::<Receipt>(alloc, name, ACCESS_LIST_TYPE, payload, out)
+        } else if let Some(payload) = payload_of(FEE_MARKET_TYPE, bytes) {
+            show_typed::<Receipt>(alloc, name, FEE_MARKET_TYPE, payload, out)
+        } else if let Some(payload) = payload_of(BLOB_TYPE, bytes) {
+            show_typed::<Receipt>(alloc, name, BLOB_TYPE, payload, out)
+        } else if let Some(payload) = payload_of(SET_CODE_TYPE, bytes) {
+            show_typed::<Receipt>(alloc, name, SET_CODE_TYPE, payload, out)
+        } else {
+            Q::show(alloc, name, item, out)
         }
     }
 }

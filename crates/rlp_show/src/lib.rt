@@ -31,7 +31,7 @@ mod values;
 
 pub use answers::{Answers, Form};
 pub use any_item::AnyItem;
-pub use envelopes::{AnyReceipt, Typed};
+pub use envelopes::{AnyReceipt, ReceiptEnvelope};
 pub use fault::{ItemFault, ShowFault};
 pub use fields::{Label, ShowFields, show_record};
 pub use guessing::{AnyRecord, guess};

@@ -6,7 +6,7 @@ ghost use Rattle.rlp_show.specs.Lines.{line, prefix};
 ghost use Rattle.rlp_show.specs.Records.{other_transaction, transaction, unknown_transaction};
 ghost use Rattle.rlp_show.specs.Text.{bytes_text, number_text};
 
-use crate::envelopes::{Typed, put_type};
+use crate::envelopes::{payload_of, put_type, show_typed};
 use crate::fault::ShowFault;
 use crate::fields::name_in;
 use crate::hashes::Hashed;
@@ -22,19 +22,32 @@ use std::alloc::{AllocError, Global};
 use std::marker::PhantomData;
 
 /// The envelope of a transaction of any type that `rlp_ethereum` knows, or else a `Q`, for [`Show`].
-pub type TypedTransaction<Q> = Typed<
-    ACCESS_LIST_TYPE,
-    Signed<AccessListTransaction>,
-    Typed<
-        FEE_MARKET_TYPE,
-        Signed<FeeMarketTransaction>,
-        Typed<
-            BLOB_TYPE,
-            Signed<BlobTransaction>,
-            Typed<SET_CODE_TYPE, Signed<SetCodeTransaction>, Q>,
-        >,
-    >,
->;
+/// It has no values.
+pub struct TypedTransaction<Q> {
+    other: PhantomData<Q>,
+}
+
+impl<Q: Show> Show for TypedTransaction<Q> {
+    ghost use Rattle.rlp_show.specs.Records.{typed_transaction};
+
+    ghost shape = { typed_transaction Q.shape };
+
+    #[tactic(auto, using(crate::proofs::FieldLemmas::by_type))]
+    fn show(alloc: Global, name: &str, item: &Rlp<'_>, out: &mut String) -> Result<(), ShowFault> {
+        let bytes = item.as_raw();
+        if let Some(payload) = payload_of(ACCESS_LIST_TYPE, bytes) {
+            show_typed::<Signed<AccessListTransaction>>(alloc, name, ACCESS_LIST_TYPE, payload, out)
+        } else if let Some(payload) = payload_of(FEE_MARKET_TYPE, bytes) {
+            show_typed::<Signed<FeeMarketTransaction>>(alloc, name, FEE_MARKET_TYPE, payload, out)
+        } else if let Some(payload) = payload_of(BLOB_TYPE, bytes) {
+            show_typed::<Signed<BlobTransaction>>(alloc, name, BLOB_TYPE, payload, out)
+        } else if let Some(payload) = payload_of(SET_CODE_TYPE, bytes) {
+            show_typed::<Signed<SetCodeTransaction>>(alloc, name, SET_CODE_TYPE, payload, out)
+        } else {
+            Q::show(alloc, name, item, out)
+        }
+    }
+}
 
 /// A transaction by itself, of any type, for [`Show`], with its hash.
 pub type TransactionAlone = Hashed<
