@@ -296,6 +296,10 @@ legacy_signing_display d = record {
   only = first_only signed_legacy_transaction.Fits signed_legacy_transaction.item d.shape legacy_signing d.only;
 }
 
+-- values under this name, also by themselves
+abbrev pub alone_display : {A : Type 0} {c : Codec A} (name : List ℕ) → Display c → Display c
+alone_display name d = record { shape = λ other. d.shape name; lines = λ other. d.lines name; shown = λ other. d.shown name; only = λ other. d.only name }
+
 -- a value after the hash of its encoding
 abbrev pub hashed_display : {A : Type 0} {c : Codec A} → Display c → Display c
 hashed_display {c = c} d = record {

@@ -52,7 +52,7 @@ use Rattle.rlp_messages.specs.declared.status.ForkHash.{ForkHash}
 use Rattle.rlp_messages.specs.Status.{fork_id as fork_id_codec, status68 as status68_codec, status69 as status69_codec, fork_hash as fork_hash_codec}
 use Rattle.rlp_show.specs.BodyValues.{body_display}
 use Rattle.rlp_show.specs.ConverseLemmas.{IsEncoded, OnlyEncodings, below, end_only, field_only, number_only, record_only, vec_of}
-use Rattle.rlp_show.specs.Displays.{Display, bytes_display, end_display, field_display, fixed_display, hash_display, list_display, newtype_display}
+use Rattle.rlp_show.specs.Displays.{Display, alone_display, bytes_display, end_display, field_display, fixed_display, hash_display, list_display, newtype_display}
 use Rattle.rlp_show.specs.Displays.{number_display, record_display, status_display, truth_display, uint_display, vec_display}
 use Rattle.rlp_show.specs.Lines.{Shape, Worded, field, in_field, in_string, line, named, number, number_in, prefix, record_of, string_shape, wrong}
 use Rattle.rlp_show.specs.StringLemmas.{number_right_by, number_wrong, shown_fault, shown_string}
@@ -155,13 +155,13 @@ new_block_hash_display = record_display (
     field_display (codes "number") (λ (n : NewBlockHash). n.number) (number_display 8) end_display))
     (λ (a, (b, end)). record { hash = a; number = b }) (λ t. refl)
 
--- lists of blocks that a client announces
+-- lists of blocks that a client announces, with the name of the message
 abbrev pub new_block_hashes_display : Display new_block_hashes_codec
-new_block_hashes_display = wrapped_display (λ (n : NewBlockHashes). n.0) (λ v. record { 0 = v }) (λ v. refl) new_block_hash_display
+new_block_hashes_display = alone_display (codes "new_block_hashes") (wrapped_display (λ (n : NewBlockHashes). n.0) (λ v. record { 0 = v }) (λ v. refl) new_block_hash_display)
 
--- transactions that a client sends
+-- transactions that a client sends, with the name of the message
 abbrev pub transactions_display : Display transactions_codec
-transactions_display = wrapped_display (λ (t : Transactions). t.0) (λ v. record { 0 = v }) (λ v. refl) transaction_display
+transactions_display = alone_display (codes "transactions") (wrapped_display (λ (t : Transactions). t.0) (λ v. record { 0 = v }) (λ v. refl) transaction_display)
 
 -- transactions that a client announces
 abbrev pub new_pooled_transaction_hashes_display : Display new_pooled_transaction_hashes_codec

@@ -57,7 +57,7 @@ message_name Receipts68 = codes "receipts68"
 message_name Receipts69 = codes "receipts69"
 message_name BlockRangeUpdate = codes "block_range_update"
 
--- how messages of a kind are shown; those that are lists of records have the name of the kind
+-- how messages of a kind are shown
 abbrev pub message_shape : MessageKind → Shape
 message_shape Hello = hello_display.shape
 message_shape Disconnect = disconnect_display.shape
@@ -65,8 +65,8 @@ message_shape Ping = ping_display.shape
 message_shape Pong = pong_display.shape
 message_shape Status68 = status68_display.shape
 message_shape Status69 = status69_display.shape
-message_shape NewBlockHashes = λ name. new_block_hashes_display.shape (codes "new_block_hashes")
-message_shape Transactions = λ name. transactions_display.shape (codes "transactions")
+message_shape NewBlockHashes = new_block_hashes_display.shape
+message_shape Transactions = transactions_display.shape
 message_shape GetBlockHeaders = with_request_id_shape get_block_headers_display.shape
 message_shape BlockHeaders = with_request_id_shape block_headers_display.shape
 message_shape GetBlockBodies = with_request_id_shape get_block_bodies_display.shape

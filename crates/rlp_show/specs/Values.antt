@@ -31,7 +31,7 @@ use Rattle.rlp_headers.specs.declared.header.forks.Shanghai.{Shanghai}
 use Rattle.rlp_headers.specs.declared.header.forks.Cancun.{Cancun}
 use Rattle.rlp_headers.specs.Header.{header as header_codec}
 use Rattle.rlp_show.specs.ConverseLemmas.{vec_of}
-use Rattle.rlp_show.specs.Displays.{Display, address_display, bloom_display, bytes_display, end_display, field_display, fixed_display}
+use Rattle.rlp_show.specs.Displays.{Display, address_display, alone_display, bloom_display, bytes_display, end_display, field_display, fixed_display}
 use Rattle.rlp_show.specs.Displays.{hash_display, hashed_display, legacy_signing_display, legacy_v_display, list_display, number_display}
 use Rattle.rlp_show.specs.Displays.{optional_display, optional_group_display, recipient_display, record_display, signed_display, status_display}
 use Rattle.rlp_show.specs.Displays.{tagged_display, truth_display, uint_display, vec_display}
@@ -85,12 +85,7 @@ access_list_display = list_display (λ (a : AccessList). vec_items a.0) (λ xs f
 
 -- access lists by themselves, with the names that their items have in a transaction
 abbrev pub access_list_alone_display : Display access_list_codec
-access_list_alone_display = record {
-  shape = λ name. access_list_display.shape (codes "access_list");
-  lines = λ name a. access_list_display.lines (codes "access_list") a;
-  shown = λ name. access_list_display.shown (codes "access_list");
-  only = λ name. access_list_display.only (codes "access_list");
-}
+access_list_alone_display = alone_display (codes "access_list") access_list_display
 
 -- transactions without a type, and the hash of what is signed
 abbrev pub legacy_transaction_display : Display signed_legacy_transaction

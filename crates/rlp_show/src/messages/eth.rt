@@ -55,11 +55,12 @@ impl ShowValues for NewBlockHash {
     ghost only = { new_block_hash_display.only };
 }
 
+/// The blocks have the name of the message.
 impl Show for NewBlockHashes {
     ghost shape = { new_block_hashes_display.shape };
 
-    fn show(alloc: Global, name: &str, item: &Rlp<'_>, out: &mut String) -> Result<(), ShowFault> {
-        Items::<NewBlockHash>::show(alloc, name, item, out)
+    fn show(alloc: Global, _name: &str, item: &Rlp<'_>, out: &mut String) -> Result<(), ShowFault> {
+        Items::<NewBlockHash>::show(alloc, "new_block_hashes", item, out)
     }
 }
 
@@ -71,11 +72,12 @@ impl ShowValues for NewBlockHashes {
     ghost only = { new_block_hashes_display.only };
 }
 
+/// The transactions have the name of the message.
 impl Show for Transactions {
     ghost shape = { transactions_display.shape };
 
-    fn show(alloc: Global, name: &str, item: &Rlp<'_>, out: &mut String) -> Result<(), ShowFault> {
-        Items::<AnyTransaction>::show(alloc, name, item, out)
+    fn show(alloc: Global, _name: &str, item: &Rlp<'_>, out: &mut String) -> Result<(), ShowFault> {
+        Items::<AnyTransaction>::show(alloc, "transactions", item, out)
     }
 }
 

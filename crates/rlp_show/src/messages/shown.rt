@@ -16,7 +16,7 @@ use rlp_messages::{
 };
 use std::alloc::Global;
 
-/// Appends the lines of the body of a message of a kind. Lists of records have the name of the kind.
+/// Appends the lines of the body of a message of a kind.
 pub(crate) fn show_message(
     alloc: Global,
     kind: MessageKind,
@@ -34,8 +34,8 @@ pub(crate) fn show_message(
         MessageKind::Pong => Pong::show(alloc, name, item, out),
         MessageKind::Status68 => Status68::show(alloc, name, item, out),
         MessageKind::Status69 => Status69::show(alloc, name, item, out),
-        MessageKind::NewBlockHashes => NewBlockHashes::show(alloc, "new_block_hashes", item, out),
-        MessageKind::Transactions => Transactions::show(alloc, "transactions", item, out),
+        MessageKind::NewBlockHashes => NewBlockHashes::show(alloc, name, item, out),
+        MessageKind::Transactions => Transactions::show(alloc, name, item, out),
         MessageKind::GetBlockHeaders => WithRequestId::<GetBlockHeaders>::show(
             alloc, name, item, out,
         ),
