@@ -5,7 +5,7 @@ import re
 
 EXCEPTIONS = {"ommers_hash": "sha3Uncles", "beneficiary": "miner", "storage_root": "storageHash", "destination": "to"}
 IN_TRANSACTIONS = {"gas_limit": "gas", "data": "input"}
-TRANSACTION = re.compile(r"transaction\.|(block|body)\.transactions\[")
+TRANSACTION = re.compile(r"transaction\.|((block|body)\.)?transactions\[")
 
 
 def name_of(name, text, in_transaction):

@@ -590,7 +590,7 @@ def answer(kind, text, is_json):
     try:
         if is_json:
             return objects.answer(lines_of(kind, data, kind)) + "\n"
-        return "\n".join(lines_of(kind, data, "")) + "\n\n"
+        return "".join(line + "\n" for line in lines_of(kind, data, "")) + "\n"
     except Wrong as wrong:
         return f"error {wrong}\n"
 
