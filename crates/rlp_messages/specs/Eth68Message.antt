@@ -2,16 +2,16 @@
 use Rattle.std.specs.Prelude.{ℕ, ◌⊎◌, List}
 use Rattle.std.proofs.Common.{inl, inr}
 use Rattle.rlp.specs.Codecs.Sums.{Cases, FitsCase, SameCase, and_case}
-use Rattle.rlp_messages.specs.declared.receipts.Receipts.{Receipts}
-use Rattle.rlp_messages.specs.declared.status.Status68.{Status68}
+use Rattle.rlp_eth.specs.declared.receipts.Receipts.{Receipts}
+use Rattle.rlp_eth.specs.declared.status.Status68.{Status68}
 use Rattle.rlp_messages.specs.declared.eth68_message.Eth68Message.{Eth68Message}
 use Rattle.rlp_messages.specs.declared.eth68_message.Eth68Message.TheVariants as message
-use Rattle.rlp_messages.specs.declared.with_request_id.WithRequestId.{WithRequestId}
+use Rattle.rlp_eth.specs.declared.with_request_id.WithRequestId.{WithRequestId}
 use Rattle.rlp_messages.specs.EthMessage.{EthBody, eth_messages}
 use Rattle.rlp_p2p.specs.Message.{message_bytes}
-use Rattle.rlp_messages.specs.Receipts.{receipts}
-use Rattle.rlp_messages.specs.Status.{status68}
-use Rattle.rlp_messages.specs.WithRequestId.{with_request_id}
+use Rattle.rlp_eth.specs.Receipts.{receipts}
+use Rattle.rlp_eth.specs.Status.{status68}
+use Rattle.rlp_eth.specs.WithRequestId.{with_request_id}
 
 -- the bodies of the messages
 abbrev pub Eth68Body : Type 0

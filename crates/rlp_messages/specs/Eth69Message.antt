@@ -2,18 +2,18 @@
 use Rattle.std.specs.Prelude.{ℕ, ◌⊎◌, List}
 use Rattle.std.proofs.Common.{inl, inr}
 use Rattle.rlp.specs.Codecs.Sums.{Cases, FitsCase, SameCase, and_case}
-use Rattle.rlp_messages.specs.declared.announcements.BlockRangeUpdate.{BlockRangeUpdate}
-use Rattle.rlp_messages.specs.declared.receipts69.Receipts69.{Receipts69}
-use Rattle.rlp_messages.specs.declared.status.Status69.{Status69}
+use Rattle.rlp_eth.specs.declared.announcements.BlockRangeUpdate.{BlockRangeUpdate}
+use Rattle.rlp_eth.specs.declared.receipts69.Receipts69.{Receipts69}
+use Rattle.rlp_eth.specs.declared.status.Status69.{Status69}
 use Rattle.rlp_messages.specs.declared.eth69_message.Eth69Message.{Eth69Message}
 use Rattle.rlp_messages.specs.declared.eth69_message.Eth69Message.TheVariants as message
-use Rattle.rlp_messages.specs.declared.with_request_id.WithRequestId.{WithRequestId}
-use Rattle.rlp_messages.specs.Announcements.{block_range_update}
+use Rattle.rlp_eth.specs.declared.with_request_id.WithRequestId.{WithRequestId}
+use Rattle.rlp_eth.specs.Announcements.{block_range_update}
 use Rattle.rlp_messages.specs.EthMessage.{EthBody, eth_messages}
 use Rattle.rlp_p2p.specs.Message.{message_bytes}
-use Rattle.rlp_messages.specs.Receipts69.{receipts69}
-use Rattle.rlp_messages.specs.Status.{status69}
-use Rattle.rlp_messages.specs.WithRequestId.{with_request_id}
+use Rattle.rlp_eth.specs.Receipts69.{receipts69}
+use Rattle.rlp_eth.specs.Status.{status69}
+use Rattle.rlp_eth.specs.WithRequestId.{with_request_id}
 
 -- the bodies of the messages
 abbrev pub Eth69Body : Type 0

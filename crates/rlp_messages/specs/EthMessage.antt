@@ -1,21 +1,21 @@
 -- The messages that eth/68 and eth/69 have in common.
 use Rattle.std.specs.Prelude.{◌⊎◌}
 use Rattle.rlp.specs.Codecs.Sums.{Cases, and_case, last_case}
-use Rattle.rlp_messages.specs.declared.announcements.NewBlock.{NewBlock}
-use Rattle.rlp_messages.specs.declared.announcements.NewBlockHashes.{NewBlockHashes}
-use Rattle.rlp_messages.specs.declared.announcements.NewPooledTransactionHashes.{NewPooledTransactionHashes}
-use Rattle.rlp_messages.specs.declared.announcements.Transactions.{Transactions}
-use Rattle.rlp_messages.specs.declared.requests.BlockBodies.{BlockBodies}
-use Rattle.rlp_messages.specs.declared.requests.BlockHeaders.{BlockHeaders}
-use Rattle.rlp_messages.specs.declared.requests.GetBlockBodies.{GetBlockBodies}
-use Rattle.rlp_messages.specs.declared.requests.GetBlockHeaders.{GetBlockHeaders}
-use Rattle.rlp_messages.specs.declared.requests.GetPooledTransactions.{GetPooledTransactions}
-use Rattle.rlp_messages.specs.declared.requests.GetReceipts.{GetReceipts}
-use Rattle.rlp_messages.specs.declared.requests.PooledTransactions.{PooledTransactions}
-use Rattle.rlp_messages.specs.declared.with_request_id.WithRequestId.{WithRequestId}
-use Rattle.rlp_messages.specs.Announcements.{new_block, new_block_hashes, new_pooled_transaction_hashes, transactions}
-use Rattle.rlp_messages.specs.Requests.{block_bodies, block_headers, get_block_bodies, get_block_headers, get_pooled_transactions, get_receipts, pooled_transactions}
-use Rattle.rlp_messages.specs.WithRequestId.{with_request_id}
+use Rattle.rlp_eth.specs.declared.announcements.NewBlock.{NewBlock}
+use Rattle.rlp_eth.specs.declared.announcements.NewBlockHashes.{NewBlockHashes}
+use Rattle.rlp_eth.specs.declared.announcements.NewPooledTransactionHashes.{NewPooledTransactionHashes}
+use Rattle.rlp_eth.specs.declared.announcements.Transactions.{Transactions}
+use Rattle.rlp_eth.specs.declared.requests.BlockBodies.{BlockBodies}
+use Rattle.rlp_eth.specs.declared.requests.BlockHeaders.{BlockHeaders}
+use Rattle.rlp_eth.specs.declared.requests.GetBlockBodies.{GetBlockBodies}
+use Rattle.rlp_eth.specs.declared.requests.GetBlockHeaders.{GetBlockHeaders}
+use Rattle.rlp_eth.specs.declared.requests.GetPooledTransactions.{GetPooledTransactions}
+use Rattle.rlp_eth.specs.declared.requests.GetReceipts.{GetReceipts}
+use Rattle.rlp_eth.specs.declared.requests.PooledTransactions.{PooledTransactions}
+use Rattle.rlp_eth.specs.declared.with_request_id.WithRequestId.{WithRequestId}
+use Rattle.rlp_eth.specs.Announcements.{new_block, new_block_hashes, new_pooled_transaction_hashes, transactions}
+use Rattle.rlp_eth.specs.Requests.{block_bodies, block_headers, get_block_bodies, get_block_headers, get_pooled_transactions, get_receipts, pooled_transactions}
+use Rattle.rlp_eth.specs.WithRequestId.{with_request_id}
 
 -- the bodies of these messages
 abbrev pub EthBody : Type 0

@@ -7,19 +7,19 @@ pub use Rattle.rlp_p2p.specs.Session
 -- the end of a connection
 pub use Rattle.rlp_p2p.specs.Disconnect
 -- what a client knows of the chain
-pub mod Status
+pub use Rattle.rlp_eth.specs.Status
 -- new blocks and transactions, and the blocks that a client has
-pub mod Announcements
+pub use Rattle.rlp_eth.specs.Announcements
 -- a block's hash or number
-pub mod HashOrNumber
+pub use Rattle.rlp_eth.specs.HashOrNumber
 -- requests and their answers
-pub mod Requests
+pub use Rattle.rlp_eth.specs.Requests
 -- answers with receipts
-pub mod Receipts
+pub use Rattle.rlp_eth.specs.Receipts
 -- answers with receipts since eth/69
-pub mod Receipts69
+pub use Rattle.rlp_eth.specs.Receipts69
 -- the number of a request
-pub mod WithRequestId
+pub use Rattle.rlp_eth.specs.WithRequestId
 -- messages with their ids
 pub use Rattle.rlp_p2p.specs.Message
 -- the messages of p2p

@@ -16,40 +16,40 @@ use Rattle.rlp.specs.Values.Value.{FitsBytes, number_item}
 use Rattle.rlp.specs.Values.ValueReading.{FaultsAsNumber, GivesValue, no_string, no_value}
 use Rattle.rlp.specs.Views.Text.{error_name}
 use Rattle.rlp.specs.Views.View.{HoldsString, View, strict_view_of, view_string}
-use Rattle.rlp_messages.specs.declared.hash_or_number.HashOrNumber.{HashOrNumber}
-use Rattle.rlp_messages.specs.declared.hash_or_number.HashOrNumber.TheVariants.{Hash, Number}
-use Rattle.rlp_messages.specs.HashOrNumber.{FaultsAsHashOrNumber, IsHashOrNumber, hash_or_number_bytes, hash_or_number_item, sound_hash_or_number}
-use Rattle.rlp_messages.specs.HashOrNumber.{hash_or_number as hash_or_number_codec}
-use Rattle.rlp_messages.specs.declared.with_request_id.WithRequestId.{WithRequestId}
-use Rattle.rlp_messages.specs.declared.announcements.NewBlockHash.{NewBlockHash}
-use Rattle.rlp_messages.specs.declared.announcements.NewBlockHashes.{NewBlockHashes}
-use Rattle.rlp_messages.specs.declared.announcements.Transactions.{Transactions}
-use Rattle.rlp_messages.specs.declared.announcements.NewPooledTransactionHashes.{NewPooledTransactionHashes}
-use Rattle.rlp_messages.specs.declared.announcements.BlockRangeUpdate.{BlockRangeUpdate}
-use Rattle.rlp_messages.specs.declared.announcements.NewBlock.{NewBlock}
-use Rattle.rlp_messages.specs.Announcements.{new_block_hash as new_block_hash_codec, new_block_hashes as new_block_hashes_codec}
-use Rattle.rlp_messages.specs.Announcements.{transactions as transactions_codec, new_pooled_transaction_hashes as new_pooled_transaction_hashes_codec}
-use Rattle.rlp_messages.specs.Announcements.{block_range_update as block_range_update_codec, new_block as new_block_codec}
-use Rattle.rlp_messages.specs.declared.receipts69.Receipt69.{Receipt69}
-use Rattle.rlp_messages.specs.declared.receipts69.BlockReceipts69.{BlockReceipts69}
-use Rattle.rlp_messages.specs.declared.receipts69.Receipts69.{Receipts69}
-use Rattle.rlp_messages.specs.Receipts69.{receipt69 as receipt69_codec, block_receipts69 as block_receipts69_codec, receipts69 as receipts69_codec}
-use Rattle.rlp_messages.specs.declared.requests.GetBlockHeaders.{GetBlockHeaders}
-use Rattle.rlp_messages.specs.declared.requests.BlockHeaders.{BlockHeaders}
-use Rattle.rlp_messages.specs.declared.requests.GetBlockBodies.{GetBlockBodies}
-use Rattle.rlp_messages.specs.declared.requests.BlockBodies.{BlockBodies}
-use Rattle.rlp_messages.specs.declared.requests.GetPooledTransactions.{GetPooledTransactions}
-use Rattle.rlp_messages.specs.declared.requests.PooledTransactions.{PooledTransactions}
-use Rattle.rlp_messages.specs.declared.requests.GetReceipts.{GetReceipts}
-use Rattle.rlp_messages.specs.Requests.{get_block_headers as get_block_headers_codec, block_headers as block_headers_codec}
-use Rattle.rlp_messages.specs.Requests.{get_block_bodies as get_block_bodies_codec, block_bodies as block_bodies_codec}
-use Rattle.rlp_messages.specs.Requests.{get_pooled_transactions as get_pooled_transactions_codec, pooled_transactions as pooled_transactions_codec}
-use Rattle.rlp_messages.specs.Requests.{get_receipts as get_receipts_codec}
-use Rattle.rlp_messages.specs.declared.status.ForkId.{ForkId}
-use Rattle.rlp_messages.specs.declared.status.Status68.{Status68}
-use Rattle.rlp_messages.specs.declared.status.Status69.{Status69}
-use Rattle.rlp_messages.specs.declared.status.ForkHash.{ForkHash}
-use Rattle.rlp_messages.specs.Status.{fork_id as fork_id_codec, status68 as status68_codec, status69 as status69_codec, fork_hash as fork_hash_codec}
+use Rattle.rlp_eth.specs.declared.hash_or_number.HashOrNumber.{HashOrNumber}
+use Rattle.rlp_eth.specs.declared.hash_or_number.HashOrNumber.TheVariants.{Hash, Number}
+use Rattle.rlp_eth.specs.HashOrNumber.{FaultsAsHashOrNumber, IsHashOrNumber, hash_or_number_bytes, hash_or_number_item, sound_hash_or_number}
+use Rattle.rlp_eth.specs.HashOrNumber.{hash_or_number as hash_or_number_codec}
+use Rattle.rlp_eth.specs.declared.with_request_id.WithRequestId.{WithRequestId}
+use Rattle.rlp_eth.specs.declared.announcements.NewBlockHash.{NewBlockHash}
+use Rattle.rlp_eth.specs.declared.announcements.NewBlockHashes.{NewBlockHashes}
+use Rattle.rlp_eth.specs.declared.announcements.Transactions.{Transactions}
+use Rattle.rlp_eth.specs.declared.announcements.NewPooledTransactionHashes.{NewPooledTransactionHashes}
+use Rattle.rlp_eth.specs.declared.announcements.BlockRangeUpdate.{BlockRangeUpdate}
+use Rattle.rlp_eth.specs.declared.announcements.NewBlock.{NewBlock}
+use Rattle.rlp_eth.specs.Announcements.{new_block_hash as new_block_hash_codec, new_block_hashes as new_block_hashes_codec}
+use Rattle.rlp_eth.specs.Announcements.{transactions as transactions_codec, new_pooled_transaction_hashes as new_pooled_transaction_hashes_codec}
+use Rattle.rlp_eth.specs.Announcements.{block_range_update as block_range_update_codec, new_block as new_block_codec}
+use Rattle.rlp_eth.specs.declared.receipts69.Receipt69.{Receipt69}
+use Rattle.rlp_eth.specs.declared.receipts69.BlockReceipts69.{BlockReceipts69}
+use Rattle.rlp_eth.specs.declared.receipts69.Receipts69.{Receipts69}
+use Rattle.rlp_eth.specs.Receipts69.{receipt69 as receipt69_codec, block_receipts69 as block_receipts69_codec, receipts69 as receipts69_codec}
+use Rattle.rlp_eth.specs.declared.requests.GetBlockHeaders.{GetBlockHeaders}
+use Rattle.rlp_eth.specs.declared.requests.BlockHeaders.{BlockHeaders}
+use Rattle.rlp_eth.specs.declared.requests.GetBlockBodies.{GetBlockBodies}
+use Rattle.rlp_eth.specs.declared.requests.BlockBodies.{BlockBodies}
+use Rattle.rlp_eth.specs.declared.requests.GetPooledTransactions.{GetPooledTransactions}
+use Rattle.rlp_eth.specs.declared.requests.PooledTransactions.{PooledTransactions}
+use Rattle.rlp_eth.specs.declared.requests.GetReceipts.{GetReceipts}
+use Rattle.rlp_eth.specs.Requests.{get_block_headers as get_block_headers_codec, block_headers as block_headers_codec}
+use Rattle.rlp_eth.specs.Requests.{get_block_bodies as get_block_bodies_codec, block_bodies as block_bodies_codec}
+use Rattle.rlp_eth.specs.Requests.{get_pooled_transactions as get_pooled_transactions_codec, pooled_transactions as pooled_transactions_codec}
+use Rattle.rlp_eth.specs.Requests.{get_receipts as get_receipts_codec}
+use Rattle.rlp_eth.specs.declared.status.ForkId.{ForkId}
+use Rattle.rlp_eth.specs.declared.status.Status68.{Status68}
+use Rattle.rlp_eth.specs.declared.status.Status69.{Status69}
+use Rattle.rlp_eth.specs.declared.status.ForkHash.{ForkHash}
+use Rattle.rlp_eth.specs.Status.{fork_id as fork_id_codec, status68 as status68_codec, status69 as status69_codec, fork_hash as fork_hash_codec}
 use Rattle.rlp_show.specs.BodyValues.{body_display}
 use Rattle.rlp_show.specs.ConverseLemmas.{IsEncoded, OnlyEncodings, below, end_only, field_only, number_only, record_only, vec_of}
 use Rattle.rlp_show.specs.Displays.{Display, alone_display, bytes_display, end_display, field_display, fixed_display, hash_display, list_display, newtype_display}

@@ -10,9 +10,9 @@ use Rattle.rlp_headers.specs.Receipt.{receipt_fields}
 use Rattle.rlp_headers.specs.TypedReceipt.{typed_receipt}
 use Rattle.rlp_headers.specs.declared.typed_receipt.TypedReceipt.{TypedReceipt}
 use Rattle.rlp_headers.specs.declared.typed_receipt.TypedReceipt.TheVariants.{AccessList, Blob, FeeMarket, Legacy, SetCode}
-use Rattle.rlp_messages.specs.Receipts.{block_receipts as block_receipts_codec, receipts as receipts_codec}
-use Rattle.rlp_messages.specs.declared.receipts.BlockReceipts.{BlockReceipts}
-use Rattle.rlp_messages.specs.declared.receipts.Receipts.{Receipts}
+use Rattle.rlp_eth.specs.Receipts.{block_receipts as block_receipts_codec, receipts as receipts_codec}
+use Rattle.rlp_eth.specs.declared.receipts.BlockReceipts.{BlockReceipts}
+use Rattle.rlp_eth.specs.declared.receipts.Receipts.{Receipts}
 use Rattle.rlp_show.specs.ConverseLemmas.{IsEncoded, OnlyEncodings, below, string_slice, vec_of}
 use Rattle.rlp_show.specs.Displays.{Display, list_display}
 use Rattle.rlp_show.specs.EnvelopeLemmas.{after_type, list_held, string_held, string_sized}

@@ -9,11 +9,11 @@ use crate::show::Show;
 use crate::strings::show_fixed;
 use crate::values::ShowValues;
 use rlp::{Rlp, Uint};
-use rlp_ethereum::{AnyTransaction, Block, Hash};
-use rlp_messages::{
+use rlp_eth::{
     BlockRangeUpdate, ForkHash, ForkId, NewBlock, NewBlockHash, NewBlockHashes,
     NewPooledTransactionHashes, Status68, Status69, Transactions,
 };
+use rlp_ethereum::{AnyTransaction, Block, Hash};
 use std::alloc::Global;
 
 impl Show for ForkHash {

@@ -15,7 +15,7 @@ use crate::node_records::skip;
 use crate::show::Show;
 use crate::values::ShowValues;
 use rlp::{DecoderError, Rlp, RlpIterator};
-use rlp_messages::{Capability, Hello, NodeId};
+use rlp_p2p::{Capability, Hello, NodeId};
 use std::alloc::Global;
 
 /// The fields, and then the further items, each of any kind. A list of fewer than five items is no

@@ -9,7 +9,7 @@ use crate::show::Show;
 use crate::strings::show_fixed;
 use crate::values::ShowValues;
 use rlp::Rlp;
-use rlp_messages::{Capability, Disconnect, NodeId, Ping, Pong};
+use rlp_p2p::{Capability, Disconnect, NodeId, Ping, Pong};
 use std::alloc::Global;
 
 /// A ping has no fields, so it has no lines.

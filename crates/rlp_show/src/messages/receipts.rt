@@ -9,8 +9,8 @@ use crate::show::Show;
 use crate::transactions::UnknownTransaction;
 use crate::values::ShowValues;
 use rlp::Rlp;
+use rlp_eth::{BlockReceipts, Receipts};
 use rlp_ethereum::{Receipt, TypedReceipt};
-use rlp_messages::{BlockReceipts, Receipts};
 use std::alloc::Global;
 
 /// An item of the list of a block's receipts: a list is a receipt without a type, and a string holds

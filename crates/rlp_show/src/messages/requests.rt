@@ -13,12 +13,12 @@ use crate::numbers::put_number_line;
 use crate::show::Show;
 use crate::values::ShowValues;
 use rlp::{DecoderError, Rlp, Uint};
-use rlp_ethereum::{AnyTransaction, Body, Hash, Header, Log, ReceiptStatus};
-use rlp_messages::{
+use rlp_eth::{
     BlockBodies, BlockHeaders, BlockReceipts69, GetBlockBodies, GetBlockHeaders,
     GetPooledTransactions, GetReceipts, HashOrNumber, PooledTransactions, Receipt69, Receipts69,
     WithRequestId,
 };
+use rlp_ethereum::{AnyTransaction, Body, Hash, Header, Log, ReceiptStatus};
 use std::alloc::{AllocError, Global};
 
 /// Appends the line of a hash or of a number.

@@ -8,12 +8,12 @@ use super::kind::MessageKind;
 use crate::fault::ShowFault;
 use crate::show::Show;
 use rlp::Rlp;
-use rlp_messages::{
-    BlockBodies, BlockHeaders, BlockRangeUpdate, Disconnect, GetBlockBodies, GetBlockHeaders,
-    GetPooledTransactions, GetReceipts, Hello, NewBlock, NewBlockHashes,
-    NewPooledTransactionHashes, Ping, Pong, PooledTransactions, Receipts, Receipts69, Status68,
-    Status69, Transactions, WithRequestId,
+use rlp_eth::{
+    BlockBodies, BlockHeaders, BlockRangeUpdate, GetBlockBodies, GetBlockHeaders,
+    GetPooledTransactions, GetReceipts, NewBlock, NewBlockHashes, NewPooledTransactionHashes,
+    PooledTransactions, Receipts, Receipts69, Status68, Status69, Transactions, WithRequestId,
 };
+use rlp_p2p::{Disconnect, Hello, Ping, Pong};
 use std::alloc::Global;
 
 /// Appends the lines of the body of a message of a kind.

@@ -1,7 +1,7 @@
 //! Names of blocks: a hash, or a number.
 
 ghost use Rattle.std.specs.Prelude.{⊤};
-ghost use Rattle.rlp_messages.specs.HashOrNumber.{hash_or_number};
+ghost use Rattle.rlp_eth.specs.HashOrNumber.{hash_or_number};
 
 use rlp::{Decodable, DecoderError, Encodable, Rlp, RlpStream, RoundTrip, StrictRead};
 use rlp_ethereum::Hash;

@@ -1,12 +1,12 @@
 -- How announcements are written and read.
 use Rattle.std.specs.Vec.{vec_items}
 use Rattle.rlp.specs.Codec.{Codec, Fields, byte_string, end, field, list_type, number, struct_of, uint}
-use Rattle.rlp_messages.specs.declared.announcements.NewBlockHash.{NewBlockHash}
-use Rattle.rlp_messages.specs.declared.announcements.NewBlockHashes.{NewBlockHashes}
-use Rattle.rlp_messages.specs.declared.announcements.NewPooledTransactionHashes.{NewPooledTransactionHashes}
-use Rattle.rlp_messages.specs.declared.announcements.BlockRangeUpdate.{BlockRangeUpdate}
-use Rattle.rlp_messages.specs.declared.announcements.NewBlock.{NewBlock}
-use Rattle.rlp_messages.specs.declared.announcements.Transactions.{Transactions}
+use Rattle.rlp_eth.specs.declared.announcements.NewBlockHash.{NewBlockHash}
+use Rattle.rlp_eth.specs.declared.announcements.NewBlockHashes.{NewBlockHashes}
+use Rattle.rlp_eth.specs.declared.announcements.NewPooledTransactionHashes.{NewPooledTransactionHashes}
+use Rattle.rlp_eth.specs.declared.announcements.BlockRangeUpdate.{BlockRangeUpdate}
+use Rattle.rlp_eth.specs.declared.announcements.NewBlock.{NewBlock}
+use Rattle.rlp_eth.specs.declared.announcements.Transactions.{Transactions}
 use Rattle.rlp_ethereum.specs.Block.{block}
 use Rattle.rlp_records.specs.Hash.{hash}
 use Rattle.rlp_transactions.specs.AnyTransaction.{any_transaction}

@@ -1,13 +1,13 @@
 //! The messages of this crate are records, so the laws of `rlp_ethereum` hold for each.
 
 ghost use Rattle.rlp.specs.Codec.{codec_of};
-ghost use Rattle.rlp_messages.specs.Announcements.{block_range_update, new_block, new_block_hash, new_block_hashes, new_pooled_transaction_hashes, transactions};
-ghost use Rattle.rlp_messages.specs.HashOrNumber.{hash_or_number};
-ghost use Rattle.rlp_messages.specs.Receipts.{block_receipts, receipts};
-ghost use Rattle.rlp_messages.specs.Receipts69.{block_receipts69, receipt69, receipts69};
-ghost use Rattle.rlp_messages.specs.Requests.{block_bodies, block_headers, get_block_bodies, get_block_headers, get_pooled_transactions, get_receipts, pooled_transactions};
-ghost use Rattle.rlp_messages.specs.Status.{fork_hash, fork_id, status68, status69};
-ghost use Rattle.rlp_messages.specs.WithRequestId.{SameWithRequestId, with_request_id};
+ghost use Rattle.rlp_eth.specs.Announcements.{block_range_update, new_block, new_block_hash, new_block_hashes, new_pooled_transaction_hashes, transactions};
+ghost use Rattle.rlp_eth.specs.HashOrNumber.{hash_or_number};
+ghost use Rattle.rlp_eth.specs.Receipts.{block_receipts, receipts};
+ghost use Rattle.rlp_eth.specs.Receipts69.{block_receipts69, receipt69, receipts69};
+ghost use Rattle.rlp_eth.specs.Requests.{block_bodies, block_headers, get_block_bodies, get_block_headers, get_pooled_transactions, get_receipts, pooled_transactions};
+ghost use Rattle.rlp_eth.specs.Status.{fork_hash, fork_id, status68, status69};
+ghost use Rattle.rlp_eth.specs.WithRequestId.{SameWithRequestId, with_request_id};
 
 use crate::announcements::{
     BlockRangeUpdate, NewBlock, NewBlockHash, NewBlockHashes, NewPooledTransactionHashes,

@@ -1,6 +1,6 @@
 //! Messages of the protocol `eth` that say what a client knows of the chain.
 
-ghost use Rattle.rlp_messages.specs.Status.{fork_hash, fork_id, status68, status69};
+ghost use Rattle.rlp_eth.specs.Status.{fork_hash, fork_id, status68, status69};
 
 use rlp::{Decodable, DecoderError, Encodable, Rlp, RlpStream, RoundTrip, StrictRead, Uint};
 use rlp_ethereum::Hash;

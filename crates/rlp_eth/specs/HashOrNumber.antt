@@ -13,8 +13,8 @@ use Rattle.rlp.specs.Values.ValueReading.{FaultsAsNumber, GivesNumber, GivesValu
 use Rattle.rlp.specs.Views.View.{View, HoldsItem, strict_view_of, view_of}
 use Rattle.rlp.specs.Codec.{Codec}
 use Rattle.rlp_records.specs.declared.hash.Hash.{Hash as BlockHash}
-use Rattle.rlp_messages.specs.declared.hash_or_number.HashOrNumber.{HashOrNumber}
-use Rattle.rlp_messages.specs.declared.hash_or_number.HashOrNumber.TheVariants.{Hash, Number}
+use Rattle.rlp_eth.specs.declared.hash_or_number.HashOrNumber.{HashOrNumber}
+use Rattle.rlp_eth.specs.declared.hash_or_number.HashOrNumber.TheVariants.{Hash, Number}
 use Rattle.rlp_records.specs.Hash.{hash}
 
 -- the bytes of the hash, or the digits of the number

@@ -1,9 +1,9 @@
 -- How messages that say what a client knows are written and read.
 use Rattle.rlp.specs.Codec.{Codec, Fields, byte_array, end, field, newtype, number, struct_of, uint}
-use Rattle.rlp_messages.specs.declared.status.ForkHash.{ForkHash}
-use Rattle.rlp_messages.specs.declared.status.ForkId.{ForkId}
-use Rattle.rlp_messages.specs.declared.status.Status68.{Status68}
-use Rattle.rlp_messages.specs.declared.status.Status69.{Status69}
+use Rattle.rlp_eth.specs.declared.status.ForkHash.{ForkHash}
+use Rattle.rlp_eth.specs.declared.status.ForkId.{ForkId}
+use Rattle.rlp_eth.specs.declared.status.Status68.{Status68}
+use Rattle.rlp_eth.specs.declared.status.Status69.{Status69}
 use Rattle.rlp_records.specs.Hash.{hash}
 
 -- the string of its 4 bytes

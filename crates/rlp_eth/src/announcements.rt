@@ -1,7 +1,7 @@
 //! Announcements of the protocol `eth`: new blocks and transactions, and the blocks that a client
 //! has.
 
-ghost use Rattle.rlp_messages.specs.Announcements.{new_block_hash, new_block_hashes, new_pooled_transaction_hashes, block_range_update, new_block, transactions};
+ghost use Rattle.rlp_eth.specs.Announcements.{new_block_hash, new_block_hashes, new_pooled_transaction_hashes, block_range_update, new_block, transactions};
 
 use rlp::{
     Decodable, DecoderError, Each, Encodable, ListOf, Rlp, RlpStream, RoundTrip, StrictRead, Uint,

@@ -1,18 +1,18 @@
 -- How requests and their answers are written and read.
 use Rattle.std.specs.Vec.{vec_items}
 use Rattle.rlp.specs.Codec.{Codec, Fields, end, field, list_type, number, struct_of, truth_value}
-use Rattle.rlp_messages.specs.declared.requests.GetBlockHeaders.{GetBlockHeaders}
-use Rattle.rlp_messages.specs.declared.requests.BlockHeaders.{BlockHeaders}
-use Rattle.rlp_messages.specs.declared.requests.GetBlockBodies.{GetBlockBodies}
-use Rattle.rlp_messages.specs.declared.requests.BlockBodies.{BlockBodies}
-use Rattle.rlp_messages.specs.declared.requests.GetPooledTransactions.{GetPooledTransactions}
-use Rattle.rlp_messages.specs.declared.requests.PooledTransactions.{PooledTransactions}
-use Rattle.rlp_messages.specs.declared.requests.GetReceipts.{GetReceipts}
+use Rattle.rlp_eth.specs.declared.requests.GetBlockHeaders.{GetBlockHeaders}
+use Rattle.rlp_eth.specs.declared.requests.BlockHeaders.{BlockHeaders}
+use Rattle.rlp_eth.specs.declared.requests.GetBlockBodies.{GetBlockBodies}
+use Rattle.rlp_eth.specs.declared.requests.BlockBodies.{BlockBodies}
+use Rattle.rlp_eth.specs.declared.requests.GetPooledTransactions.{GetPooledTransactions}
+use Rattle.rlp_eth.specs.declared.requests.PooledTransactions.{PooledTransactions}
+use Rattle.rlp_eth.specs.declared.requests.GetReceipts.{GetReceipts}
 use Rattle.rlp_ethereum.specs.Body.{body}
 use Rattle.rlp_records.specs.Hash.{hash}
 use Rattle.rlp_headers.specs.Header.{header}
 use Rattle.rlp_transactions.specs.AnyTransaction.{any_transaction}
-use Rattle.rlp_messages.specs.HashOrNumber.{hash_or_number}
+use Rattle.rlp_eth.specs.HashOrNumber.{hash_or_number}
 
 -- [startblock: {P, B_32}, limit: P, skip: P, reverse: {0, 1}] of GetBlockHeaders
 abbrev pub get_block_headers_fields : Fields GetBlockHeaders

@@ -4,7 +4,7 @@ ghost use Rattle.std.specs.Prelude.{[], ◌∷◌, ⊤};
 ghost use Rattle.rlp.specs.Format.Item.{list_of};
 ghost use Rattle.rlp.specs.Values.Value.{FitsBytes, number_item};
 ghost use Rattle.rlp.specs.Codec.{codec_of};
-ghost use Rattle.rlp_messages.specs.WithRequestId.{FaultsWithRequestId, GivesWithRequestId, MayLackWithRequestId, with_request_id};
+ghost use Rattle.rlp_eth.specs.WithRequestId.{FaultsWithRequestId, GivesWithRequestId, MayLackWithRequestId, with_request_id};
 
 use rlp::{Decodable, DecoderError, Encodable, Rlp, RlpStream, RoundTrip, StrictRead};
 use std::alloc::{AllocError, Global};

@@ -1,6 +1,6 @@
 //! Receipts of blocks, as clients send them to each other.
 
-ghost use Rattle.rlp_messages.specs.Receipts.{block_receipts, receipts};
+ghost use Rattle.rlp_eth.specs.Receipts.{block_receipts, receipts};
 
 use rlp::{Decodable, DecoderError, Each, Encodable, Rlp, RlpStream, RoundTrip, StrictRead};
 use rlp_ethereum::TypedReceipt;

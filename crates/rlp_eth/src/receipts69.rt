@@ -1,6 +1,6 @@
 //! Receipts of blocks since `eth/69`, as clients send them to each other.
 
-ghost use Rattle.rlp_messages.specs.Receipts69.{block_receipts69, receipt69, receipts69};
+ghost use Rattle.rlp_eth.specs.Receipts69.{block_receipts69, receipt69, receipts69};
 
 use rlp::{
     Decodable, DecoderError, Each, Encodable, ListOf, Rlp, RlpStream, RoundTrip, StrictRead,

@@ -1,6 +1,6 @@
 //! Requests of the protocol `eth`, and their answers, without the number of the request.
 
-ghost use Rattle.rlp_messages.specs.Requests.{get_block_headers, block_headers, get_block_bodies, block_bodies, get_pooled_transactions, get_receipts, pooled_transactions};
+ghost use Rattle.rlp_eth.specs.Requests.{get_block_headers, block_headers, get_block_bodies, block_bodies, get_pooled_transactions, get_receipts, pooled_transactions};
 
 use crate::HashOrNumber;
 use rlp::{Decodable, DecoderError, Each, Encodable, Rlp, RlpStream, RoundTrip, StrictRead};

@@ -1,0 +1,26 @@
+//! Messages of the protocol `eth` between Ethereum's clients: their bodies. Users list `rlp_messages`,
+//! which re-exports every public name.
+#![tactic(auto)]
+
+mod announcements;
+mod hash_or_number;
+mod receipts;
+mod receipts69;
+mod record;
+mod requests;
+mod status;
+mod with_request_id;
+
+pub use announcements::{
+    BlockRangeUpdate, NewBlock, NewBlockHash, NewBlockHashes, NewPooledTransactionHashes,
+    Transactions,
+};
+pub use hash_or_number::HashOrNumber;
+pub use receipts::{BlockReceipts, Receipts};
+pub use receipts69::{BlockReceipts69, Receipt69, Receipts69};
+pub use requests::{
+    BlockBodies, BlockHeaders, GetBlockBodies, GetBlockHeaders, GetPooledTransactions, GetReceipts,
+    PooledTransactions,
+};
+pub use status::{ForkHash, ForkId, Status68, Status69};
+pub use with_request_id::WithRequestId;
