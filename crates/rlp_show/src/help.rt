@@ -19,10 +19,10 @@ RECORD is the whole encoding in hexadecimal digits after 0x, or the text of a no
 record, which begins with enr:. Without RECORD, each line of standard input is a
 record, where 0x may be left out.
 
-With --json an answer is one JSON object in one line. Its only key is the kind, and
-the names and values below it are those of Ethereum's execution API: numbers are in
+With --json an answer is one JSON object in one line. Its only key is the kind. The
+names and values of records are those of Ethereum's execution API: numbers are in
 hexadecimal, and the fields of a header stand in its block. Only signingHash and
-whole ommers aren't there.
+whole ommers aren't there. Fields of messages have names of the same form.
 
 KIND is one of
   transaction, receipt            with or without a type

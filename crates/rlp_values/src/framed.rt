@@ -1,6 +1,6 @@
 //! The first item of bytes. Its header is read once.
 
-ghost use Rattle.std.specs.Prelude.{◌≡◌, ◌↔◌, ◌+◌, ◌∷◌, ◌++◌, ◌<◌, ◌≤◌, [], length, Ok, Err, None, Some, IsTrue, IfOk, MatchResult};
+ghost use Rattle.std.specs.Prelude.{◌≡◌, ◌↔◌, ◌+◌, ◌∷◌, ◌++◌, ◌<◌, ◌≤◌, [], length, Ok, Err, None, Some, IsTrue, IfOk, IfSome, MatchResult};
 ghost use Rattle.rlp_values.specs.Format.Header.{HasHeader};
 ghost use Rattle.rlp_values.specs.Format.Framing.{IsFramedItem, fault, frame, framing, total_len, value};
 ghost use Rattle.rlp_values.specs.Format.Split.{begins_as_list, split};
@@ -76,6 +76,24 @@ pub fn first_framed<'a>(bytes: &'a [u8]) -> Result<(Framed<'a>, &'a [u8]), Decod
         },
         others,
     ))
+}
+
+/// Returns the string of at most 55 bytes that the bytes begin with, with its header, and the bytes
+/// that follow it. Its first byte tells where it ends. `None` says nothing about the bytes.
+#[inline(always)]
+pub(crate) fn short_framed<'a>(bytes: &'a [u8]) -> Option<(&'a [u8], &'a [u8])>
+    ensures parts { IfSome result (λ r. split bytes.now ≡ r.0.now ∷ split r.1.now) }
+    ensures whole { IfSome result (λ r. bytes.now ≡ r.0.now ++ r.1.now) }
+    ensures shorter { IfSome result (λ r. length r.1.now < length bytes.now) }
+{
+    let [first, ..] = bytes else {
+        return None;
+    };
+    let len = 1 + (*first as usize).saturating_sub(0x80);
+    if *first >= 0xb8 || bytes.len() < len {
+        return None;
+    }
+    Some(bytes.split_at(len))
 }
 
 /// Returns the header of framed bytes, or the fault of bytes that aren't framed.

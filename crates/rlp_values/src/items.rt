@@ -7,13 +7,14 @@ ghost use Rattle.rlp_values.specs.Format.Strict.{after_items, fault_of_some};
 ghost use Rattle.rlp_values.specs.Views.View.{Reading};
 
 use crate::error::DecoderError;
-use crate::framed::{Framed, begins_as_list, first_framed};
+use crate::framed::{Framed, begins_as_list, first_framed, short_framed};
 use rlp_format::count::Count;
 use std::marker::Model;
 
 /// A reader of bytes, item by item, which counts the headers that it reads. Contracts see it as the
 /// record `Reading` of the bytes that are left and that number. Every walk over items uses
-/// [`ItemReader::next_framed`]. Only this method reads a header, and it counts it.
+/// [`ItemReader::next_framed`] or [`ItemReader::next_item`]. Only these methods read a header, and
+/// each counts it.
 #[derive(Drop)]
 pub struct ItemReader<'a> {
     rest: &'a [u8],
@@ -71,6 +72,28 @@ impl<'a> ItemReader<'a> {
         }
     }
 
+    /// The bytes of the next item, or why the bytes aren't framed. It is the same as
+    /// [`ItemReader::next_framed`], but finds sooner where a string of at most 55 bytes ends.
+    #[inline(always)]
+    pub fn next_item(&mut self) -> Result<&'a [u8], DecoderError>
+        ensures parts { MatchResult result
+            (λ r. split self.old.rest ≡ r.now ∷ split self.new.rest)
+            (λ _. split self.old.rest ≡ []) }
+        ensures whole { MatchResult result (λ r. self.old.rest ≡ r.now ++ self.new.rest)
+            (λ e. e ≡ fault self.old.rest) }
+        ensures shorter { MatchResult result
+            (λ _. length self.new.rest < length self.old.rest)
+            (λ _. self.new.rest ≡ self.old.rest) }
+        ensures counted { self.new.headers ≡ self.old.headers + 1 }
+    {
+        if let Some((item, others)) = short_framed(self.rest) {
+            self.headers.add(1);
+            self.rest = others;
+            return Ok(item);
+        }
+        Ok(self.next_framed()?.item)
+    }
+
     /// Goes on to the items of the next list, by its header. If there is no framed list, it returns
     /// `false` and nothing is left.
     #[tactic(auto, unfolding(crate::specs::Format::Split::payload))]
@@ -107,7 +130,7 @@ pub fn count_items(payload: &[u8]) -> usize
 {
     let mut count = 0;
     let mut items = ItemReader::new(payload);
-    while let Ok(_) = items.next_framed() {
+    while let Ok(_) = items.next_item() {
         count += 1;
     }
     count
@@ -122,7 +145,7 @@ pub fn try_count_items(payload: &[u8]) -> Result<usize, DecoderError>
     let mut count = 0;
     let mut items = ItemReader::new(payload);
     while !items.rest().is_empty() {
-        match items.next_framed() {
+        match items.next_item() {
             Ok(_) => count += 1,
             Err(fault) => return Err(fault),
         }

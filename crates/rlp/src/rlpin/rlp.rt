@@ -170,6 +170,7 @@ impl<'a> Rlp<'a> {
     /// assert_eq!(rt; list.at(0)?.as_raw(), [0x83, b'c', b'a', b't'].as_slice());
     /// assert_eq!(rt; list.at(1).err(), Some(rlp::DecoderError::RlpIsTooShort));
     /// ```
+    #[inline(always)]
     pub fn at(&self, index: usize) -> Result<Rlp<'a>, DecoderError>
         ensures { result ≡ item_at self.now index }
     {
@@ -195,9 +196,9 @@ impl<'a> Rlp<'a> {
         let (list, _) = first_framed(self.bytes)?;
         let mut items = ItemReader::new(list.content);
         for _walked in 0..index {
-            items.next_framed()?;
+            items.next_item()?;
         }
-        let item = items.next_framed()?.item;
+        let item = items.next_item()?;
         let before = list.content.len() - items.rest().len() - item.len();
         Ok((self.with_bytes(item), list.header.header_len + before))
     }

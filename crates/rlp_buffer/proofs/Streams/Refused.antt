@@ -17,7 +17,7 @@ pub on_ok_too : {T E : Type 0} (r : Result T E) (P Q : Type 0) → (P → Q) →
 on_ok_too (Ok x) P Q f p = f p
 on_ok_too (Err e) P Q f p = tt
 
--- nothing is said of the value of a call that was refused
+-- a refused call returns no value
 pub no_value : {T E : Type 0} (r : Result T E) (P : T → Type 0) → IsErr r → IfOk r P
 no_value (Ok x) P refused = absurd (let no : ⊥ = cc in no)
 no_value (Err e) P refused = tt

@@ -1,12 +1,15 @@
 -- Headers and strings that are written.
-use Rattle.std.proofs.Common.{◌≡◌, ℕ, ◌+◌, ◌-◌, ◌<◌, ◌≤◌, List, ◌∷◌, [], ◌++◌, length, take, drop, length-append, length-drop, append-nil, true}
+use Rattle.std.proofs.Common.{◌≡◌, ℕ, ◌+◌, ◌-◌, ◌/◌, ◌%◌, ◌<◌, ◌≤◌, List, ◌∷◌, [], ◌++◌, length, take, drop, length-append, length-drop, append-nil, true}
 use Rattle.std.proofs.Common.{false, refl, sym, ap, ◌∙◌, le_trans, arith, add-one, append_assoc}
+use Rattle.std.proofs.lemmas.Bool.Decides.{nat_tests}
 use Rattle.std.proofs.lemmas.Bool.{cond-true, cond-false}
 use Rattle.std.proofs.lemmas.List.{drop-set, take-append-le, take-take, take_at, drop_at, drop_all, length-take-le, take-append-drop, take_all}
 use Rattle.std.specs.Prelude.{slice_set}
 use Rattle.rlp_format.specs.Format.Item.{string}
 use Rattle.rlp_format.specs.Format.WrittenHeader.{big_endian, written_header}
 use Rattle.rlp_format.specs.Format.Encoding.{encoding, is_low_byte, BeginsWith}
+use Rattle.rlp_format.specs.Values.Value.{number_item}
+use Rattle.rlp_format.specs.Lemmas.Digits.{big_endian_step}
 use Rattle.rlp_format.specs.Lemmas.Headers.{written_header_short, written_header_long}
 use Rattle.rlp_buffer.specs.Streams.Held.{Held, Keeps}
 
@@ -14,6 +17,17 @@ use Rattle.rlp_buffer.specs.Streams.Held.{Held, Keeps}
 pub encoding_low : (s : List ℕ) → is_low_byte s ≡ true → encoding (string s) ≡ s
 unfolding encoding
 encoding_low s e = cond-true (is_low_byte s) s (written_header 0x80 (length s) ++ s) e
+
+-- a number that is its own encoding
+pub encoding_digit : (n : ℕ) → 0 < n → n < 0x80 → encoding (number_item n) ≡ n ∷ []
+unfolding big_endian
+encoding_digit n some low =
+    let step : big_endian n ≡ big_endian (n / 256) ++ (n % 256) ∷ [] = big_endian_step n some in
+    let none : n / 256 ≡ 0 = omega arith in
+    let same : n % 256 ≡ n = omega arith in
+    let digits : big_endian n ≡ n ∷ [] = step ∙ ap (λ m. big_endian m ++ (n % 256) ∷ []) none ∙ ap (λ d. d ∷ []) same in
+    let lone : is_low_byte (n ∷ []) ≡ true = grind (arith, nat_tests) in
+    ap (λ s. encoding (string s)) digits ∙ encoding_low (n ∷ []) lone
 
 -- any other string
 pub encoding_other : (s : List ℕ) → is_low_byte s ≡ false → encoding (string s) ≡ written_header 0x80 (length s) ++ s

@@ -4,6 +4,7 @@ ghost use Rattle.std.specs.Prelude.{◌≡◌, ◌≤◌, ◌<◌, ◌+◌, ◌-
 ghost use Rattle.std.specs.Iterator.{IsFiniteIterable};
 ghost use Rattle.rlp_format.specs.Format.Item.{string};
 ghost use Rattle.rlp_format.specs.Format.Encoding.{encoding, is_low_byte, BeginsWith};
+ghost use Rattle.rlp_format.specs.Values.Value.{number_item};
 ghost use Rattle.rlp_buffer.specs.Streams.Held.{Keeps};
 ghost use Rattle.rlp_buffer.specs.Streams.Iterated.{GivesAll};
 
@@ -77,6 +78,17 @@ pub fn encoded_string(alloc: Global, value: &[u8]) -> Result<BytesMut, AllocErro
     bytes.extend_from_slice(header.as_slice())?;
     bytes.extend_from_slice(value)?;
     Ok(BytesMut::from_vec(bytes))
+}
+
+/// The encoding of a number from 1 to 0x7f, alone: the number itself. It takes one request for
+/// memory, of one byte.
+#[tactic(auto, using(crate::proofs::Streams::Written::encoding_digit))]
+pub fn encoded_digit(alloc: Global, digit: u8) -> Result<BytesMut, AllocError>
+    requires some { 0 < digit }
+    requires low { digit < 0x80 }
+    ensures { IfOk result (λ b. b.items ≡ encoding (number_item digit)) }
+{
+    Ok(BytesMut::from_vec(Vec::from_slice(alloc, &[digit])?))
 }
 
 /// Writes the bytes that an iterator gives at the end of a buffer. A refused call may leave some.

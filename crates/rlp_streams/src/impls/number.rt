@@ -6,7 +6,7 @@ ghost use Rattle.rlp_format.specs.Values.Value.{FitsBytes, number_item};
 use crate::stream::RlpStream;
 use crate::traits::Encodable;
 use bytes::BytesMut;
-use rlp_buffer::buffer::strings::encoded_string;
+use rlp_buffer::buffer::strings::{encoded_digit, encoded_string};
 use rlp_format::digits::Digits;
 use std::alloc::{AllocError, Global};
 
@@ -70,7 +70,10 @@ impl Encodable for u64 {
     }
 
     fn rlp_bytes(&self, alloc: Global) -> Result<BytesMut, AllocError> {
-        encoded_string(alloc, Digits::of(*self).as_slice())
+        match *self {
+            digit @ 0x01..=0x7f => encoded_digit(alloc, digit as u8),
+            number => encoded_string(alloc, Digits::of(number).as_slice()),
+        }
     }
 }
 

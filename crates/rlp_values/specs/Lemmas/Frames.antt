@@ -1,8 +1,8 @@
 -- Frames, and the lists of items that begin bytes.
-use Rattle.std.proofs.Common.{◌≡◌, ℕ, zero, suc, ◌+◌, ◌^◌, ◌<◌, ◌≤◌, ◌⊎◌, inl, inr, ⊎_elim, List, [], ◌∷◌, ◌++◌, length, take, drop, map, All, refl}
-use Rattle.std.proofs.Common.{sym, ap, ◌∙◌, subst, arith, Ok, Err, Result, leb, le-leb, leb-true, length-append, length-take-le, append_assoc}
+use Rattle.std.proofs.Common.{◌≡◌, ℕ, zero, suc, ◌+◌, ◌-◌, ◌^◌, ◌<◌, ◌≤◌, ◌⊎◌, inl, inr, ⊎_elim, List, [], ◌∷◌, ◌++◌, length, take, drop, map, All, refl}
+use Rattle.std.proofs.Common.{sym, ap, ◌∙◌, subst, arith, Ok, Err, Result, leb, le-leb, leb-true, length-append, length-take-le, append_assoc, get_or}
 use Rattle.std.proofs.Common.{append-nil, take_at, drop_at, take-append-drop, MatchResult, IsTrue, is_ok, ◌↔◌}
-use Rattle.std.proofs.lemmas.Bool.{leb-false, false≢true, cond_both, cond-true, cond-false}
+use Rattle.std.proofs.lemmas.Bool.{leb-false, false≢true, cases_lt, cond_both, cond-true, cond-false}
 use Rattle.std.specs.List.{concat, AllByRecursion}
 use Rattle.std.proofs.lemmas.List.Elements.{All-drop, All-same, recursion_from_All, All-from_recursion}
 use Rattle.std.proofs.lemmas.List.{append_cancel_left, nil_from_length}
@@ -17,7 +17,7 @@ use Rattle.rlp_values.specs.Format.Header.{HasHeader, lone, written, header, Rea
 use Rattle.rlp_values.specs.Format.Framing.{IsFramed, IsFramedItem, IsFault, no_header, cut_short, fault, fault_in, framing, framing_in, frame, value}
 use Rattle.rlp_values.specs.Format.Framing.{map_ok, total_len}
 use Rattle.rlp_values.specs.Format.Split.{IsCut, IsSplit, split, split_within, frame_and_more}
-use Rattle.rlp_values.specs.Lemmas.Reading.{read, header_unique, header_reads}
+use Rattle.rlp_values.specs.Lemmas.Reading.{read, header_unique, header_reads, short_has}
 use Rattle.rlp_format.specs.Lemmas.Encodings.{IsForm, form, first_of_header}
 use Rattle.rlp_format.specs.Lemmas.Lists.{same_front}
 
@@ -349,6 +349,23 @@ pub split_framed : (p : List ℕ) (h n : ℕ) → AreBytes p → framing p ≡ O
 split_framed p h n bytes is =
     let parts : HasHeader p h n × (h + n ≤ length p) = subst (Frames p) is (framing_reads p bytes) in
     split_more p (take (h + n) p) (drop (h + n) p) bytes (sym (take-append-drop (h + n) p)) (frame_item p h n parts.0 parts.1)
+
+-- a string of at most 55 bytes ends by its first byte alone
+short_item : (first : ℕ) (rest : List ℕ) → first < 0xb8 → 1 + (first - 0x80) ≤ length (first ∷ rest) → IsFramedItem (take (1 + (first - 0x80)) (first ∷ rest))
+short_item first rest short within =
+    ⊎_elim (λ low.
+    let total : 1 ≡ 1 + (first - 0x80) = omega arith in
+    subst (λ n. IsFramedItem (take n (first ∷ rest))) total (frame_item (first ∷ rest) 0 1 (lone first rest low) (omega arith)))
+    (λ high. frame_item (first ∷ rest) 1 (first - 0x80) (short_has 0x80 first (first - 0x80) rest (inl refl) (omega arith) (omega arith)) within)
+    (cases_lt first 0x80)
+
+-- the split goes by such a string
+pub split_short : (p : List ℕ) (n : ℕ) → AreBytes p → 0 < length p → get_or p 0 0 < 0xb8 → n ≡ 1 + (get_or p 0 0 - 0x80) → n ≤ length p
+    → split p ≡ take n p ∷ split (drop n p)
+split_short [] n bytes some short total within = absurd (omega arith)
+split_short (first ∷ rest) n bytes some short total within =
+    rw total (split_more (first ∷ rest) _ _ bytes (sym (take-append-drop (1 + (first - 0x80)) (first ∷ rest)))
+    (short_item first rest short (omega (arith, total, within))))
 
 -- where `framing` answers a fault there are no items
 pub split_unframed : (p : List ℕ) (e : DecoderError) → AreBytes p → framing p ≡ Err e → split p ≡ []

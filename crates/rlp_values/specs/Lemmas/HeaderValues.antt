@@ -1,5 +1,5 @@
 -- The value that follows a header that was read.
-use Rattle.std.proofs.Common.{◌≡◌, ℕ, ◌+◌, ◌-◌, ◌≤◌, List, length, length-take-le, take, drop, Option, None, Some, Ok, Err, true, sym, ap, ◌∙◌, arith}
+use Rattle.std.proofs.Common.{◌≡◌, ℕ, ◌-◌, ◌≤◌, List, length, length-take-le, take, drop, Option, None, Some, Ok, Err, true, sym, ap, ◌∙◌, arith}
 use Rattle.std.proofs.lemmas.List.{length-drop}
 use Rattle.std.proofs.lemmas.Bool.{cond-true}
 use Rattle.rlp_values.specs.declared.error.DecoderError.{DecoderError}

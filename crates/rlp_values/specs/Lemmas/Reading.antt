@@ -183,7 +183,8 @@ long_has base first k n second more b is few leading bytes enough value large =
     let has : HasHeader (written_header base n ++ drop k more) (length (written_header base n)) n = written base n (drop k more) b small in
     subst (λ h. HasHeader (first ∷ second ∷ more) h n) header_len (subst (λ b. HasHeader b (length (written_header base n)) n) whole has)
 
-short_has : (base first n : ℕ) (rest : List ℕ) → IsBase base → first ≡ base + n → n ≤ 55 → HasHeader (first ∷ rest) 1 n
+-- a header of one byte
+pub short_has : (base first n : ℕ) (rest : List ℕ) → IsBase base → first ≡ base + n → n ≤ 55 → HasHeader (first ∷ rest) 1 n
 short_has base first n rest b is short =
     let head : written_header base n ≡ first ∷ [] = written_header_short base n short ∙ ap (λ c. c ∷ []) (sym is) in
     let has : HasHeader (written_header base n ++ rest) (length (written_header base n)) n = written base n rest b (omega arith) in

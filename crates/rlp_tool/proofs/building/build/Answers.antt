@@ -65,7 +65,7 @@ pub returns-in-Err-make_waiting-clause-described_refused : goal.returns-in-Err-m
 returns-in-Err-make_waiting-clause-described_refused g c = λ items d. described_refused _ (calls_of g.E.Encodable.item c.args.calls.now) items _ d
     (returns-in-Err-make_waiting-clause-refused g c)
 
--- a fault meets what is said of the result for described items
+-- the clause on described items is about results, so a fault meets it
 pub returns-in-Err-clause-described : goal.returns-in-Err-clause-described
 returns-in-Err-clause-described g c = λ items d. tt
 

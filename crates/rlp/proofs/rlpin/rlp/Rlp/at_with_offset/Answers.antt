@@ -30,17 +30,17 @@ loop-walked-init c =
 
 pub loop-walked-preserved : goal.loop-walked-preserved
 loop-walked-preserved c =
-    walked-one c.args.self.now.bytes c.in_ok-next_framed.field-0.item.now c.next_framed.new.self.rest c.loop-walked.items.rest c.loop-walked._walked
-    c.loop-walked.invariant c.in_ok-next_framed.ensures.parts c.in_ok-next_framed.ensures.whole
+    walked-one c.args.self.now.bytes c.in_ok-next_item.field-0.now c.next_item.new.self.rest c.loop-walked.items.rest c.loop-walked._walked
+    c.loop-walked.invariant c.in_ok-next_item.ensures.parts c.in_ok-next_item.ensures.whole
 
-pub returns-in_err-next_framed : goal.returns-in_err-next_framed
-returns-in_err-next_framed c =
+pub returns-in_err-next_item : goal.returns-in_err-next_item
+returns-in_err-next_item c =
     let same : c.self.inside.bytes.now ≡ c.args.self.now.bytes = ap (λ (v : View). v.bytes) c.self.view_is in
     let framed : framing c.args.self.now.bytes ≡ Ok c.in_ok-list.list.header = ap framing (sym same) ∙ c.in_ok-list.ensures.header in
-    let p = err_from_is_err_and c.from_residual-in_err-next_framed.result c.from_residual-in_err-next_framed.ensures.1 in
+    let p = err_from_is_err_and c.from_residual-in_err-next_item.result c.from_residual-in_err-next_item.ensures.1 in
     rw (p.1, p.2) (walked-past c.args.self.now c.args.index c.loop-walked._walked c.in_ok-list.list.header c.loop-walked.items.rest
-    c.in_err-next_framed.field-0.0 c.in_ok-check_items.ensures framed c.loop-walked.invariant c.in_err-next_framed.ensures.parts
-    c.in_err-next_framed.ensures.whole (omega arith))
+    c.in_err-next_item.field-0.0 c.in_ok-check_items.ensures framed c.loop-walked.invariant c.in_err-next_item.ensures.parts
+    c.in_err-next_item.ensures.whole (omega arith))
 
 pub returns-in_err-item : goal.returns-in_err-item
 returns-in_err-item c =
@@ -60,7 +60,7 @@ overflow_sub-before c =
     omega (
       arith,
       ap length c.rest.ensures,
-      walked-length c.args.self.now.bytes c.in_ok-item.field-0.item.now c.next_framed-2.new.self.rest
+      walked-length c.args.self.now.bytes c.in_ok-item.item.now c.next_item-2.new.self.rest
           c.loop-walked.items.rest c.loop-walked._walked (length c.in_ok-list.list.content.now) c.loop-walked.invariant c.in_ok-item.ensures.whole
           (ap length content),
     )
@@ -74,7 +74,7 @@ overflow_sub-before-2 c =
     omega (
       arith,
       ap length c.rest.ensures,
-      walked-length c.args.self.now.bytes c.in_ok-item.field-0.item.now c.next_framed-2.new.self.rest
+      walked-length c.args.self.now.bytes c.in_ok-item.item.now c.next_item-2.new.self.rest
           c.loop-walked.items.rest c.loop-walked._walked (length c.in_ok-list.list.content.now) c.loop-walked.invariant c.in_ok-item.ensures.whole
           (ap length content),
     )
@@ -89,6 +89,6 @@ returns c =
     let here : IsWalked c.args.self.now.bytes c.args.index c.loop-walked.items.rest =
     subst (λ k. IsWalked c.args.self.now.bytes k c.loop-walked.items.rest) (omega arith) c.loop-walked.invariant in
     rw (c.with_bytes.ensures, c.rest.ensures)
-    (walked-item c.args.self.now c.in_ok-item.field-0.item.now c.args.index
-    (length c.in_ok-list.list.content.now) c.in_ok-list.list.header c.next_framed-2.new.self.rest c.loop-walked.items.rest
+    (walked-item c.args.self.now c.in_ok-item.item.now c.args.index
+    (length c.in_ok-list.list.content.now) c.in_ok-list.list.header c.next_item-2.new.self.rest c.loop-walked.items.rest
     c.in_ok-check_items.ensures framed (ap length content) here c.in_ok-item.ensures.parts c.in_ok-item.ensures.whole)
