@@ -13,15 +13,15 @@ use Rattle.rlp.specs.Format.Item.{Item}
 use Rattle.rlp.specs.Views.View.{strict_view_of}
 use Rattle.rlp_lines.specs.Digits.{bytes_in, digits_of}
 use Rattle.rlp_json.specs.Json.{json_of}
-use Rattle.rlp_show.specs.Answer.{bytes_answer, bytes_or_node, json_answer, record_answer}
+use Rattle.rlp_show_text.specs.Answer.{bytes_answer, bytes_or_node, json_answer, record_answer}
 use Rattle.rlp_show.specs.Kinds.{kind_name, kind_shape}
 use Rattle.rlp_show.specs.LineAnswer.{answer_of, shape_in}
 use Rattle.rlp_show.specs.Request.{answers}
 use Rattle.rlp_show.specs.declared.answers.Form.TheVariants.{Json}
 use Rattle.rlp_show.specs.declared.kind.Kind.{Kind}
-use Rattle.rlp_show.specs.ConverseLemmas.{IsSlice, OnlyEncodings, below}
-use Rattle.rlp_show.specs.Lines.{Shape}
-use Rattle.rlp_show.specs.ValueLemmas.{encoding_answered}
+use Rattle.rlp_show_text.specs.ConverseLemmas.{IsSlice, OnlyEncodings, below}
+use Rattle.rlp_show_text.specs.Lines.{Shape}
+use Rattle.rlp_show_text.specs.ValueLemmas.{encoding_answered}
 
 length-if : (t : Bool) (x y : List ℕ) (n : ℕ) → length x ≤ n → length y ≤ n → length (if t then x else y) ≤ n
 length-if true x y n h k = h

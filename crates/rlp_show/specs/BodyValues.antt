@@ -3,7 +3,7 @@ use Rattle.std.specs.Prelude.{codes, refl}
 use Rattle.rlp_ethereum.specs.Body.{body as body_codec}
 use Rattle.rlp_ethereum.specs.declared.body.Body.{Body}
 use Rattle.rlp_show.specs.TransactionValues.{transaction_display, withdrawals_display}
-use Rattle.rlp_show.specs.Displays.{Display, field_display, optional_display, record_display, vec_display}
+use Rattle.rlp_show_text.specs.Displays.{Display, field_display, optional_display, record_display, vec_display}
 use Rattle.rlp_show.specs.Values.{header_display}
 
 -- bodies of blocks: the withdrawals may be missing

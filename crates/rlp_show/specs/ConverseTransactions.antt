@@ -21,11 +21,11 @@ use Rattle.rlp_transactions.specs.declared.any_transaction.AnyTransaction.{AnyTr
 use Rattle.rlp_transactions.specs.declared.any_transaction.AnyTransaction.TheVariants.{Known, Other}
 use Rattle.rlp_transactions.specs.declared.transaction.Transaction.{Transaction}
 use Rattle.rlp_transactions.specs.declared.transaction.Transaction.TheVariants.{AccessList, Blob, FeeMarket, Legacy, SetCode}
-use Rattle.rlp_show.specs.ConverseLemmas.{IsEncoded, IsSlice, OnlyEncodings, back_slice, below, both_ok, if_ok, string_slice}
-use Rattle.rlp_show.specs.Lines.{Shape, Shown, hash_line, hashed, held_lines, line, prefix, then_lines, typed}
+use Rattle.rlp_show_text.specs.ConverseLemmas.{IsEncoded, IsSlice, OnlyEncodings, back_slice, below, both_ok, if_ok, string_slice}
+use Rattle.rlp_show_text.specs.Lines.{Shape, Shown, hash_line, hashed, held_lines, line, prefix, then_lines, typed}
 use Rattle.rlp_show.specs.Records.{access_list_transaction, any_transaction, blob_transaction, fee_market_transaction, legacy_transaction, list_or, other_transaction}
 use Rattle.rlp_show.specs.Records.{plain_transaction, set_code_transaction, transaction, typed_transaction}
-use Rattle.rlp_show.specs.Text.{number_text}
+use Rattle.rlp_show_text.specs.Text.{number_text}
 use Rattle.rlp_show.specs.Values.{access_list_transaction_display, blob_transaction_display, fee_market_transaction_display, legacy_transaction_display}
 use Rattle.rlp_show.specs.Values.{set_code_transaction_display}
 

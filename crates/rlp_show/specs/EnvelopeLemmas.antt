@@ -10,7 +10,7 @@ use Rattle.rlp.specs.Lemmas.RawItems.{string_kind}
 use Rattle.rlp.specs.Lemmas.StringsHeld.{held_only}
 use Rattle.rlp.specs.Lemmas.Sums.{list_first}
 use Rattle.rlp.specs.Views.View.{View, strict_view_of}
-use Rattle.rlp_show.specs.Lines.{Shape, held_lines, list_or_string, typed, typed_lines}
+use Rattle.rlp_show_text.specs.Lines.{Shape, held_lines, list_or_string, typed, typed_lines}
 
 -- a string is no longer than its encoding may be
 pub string_sized : (d : List ℕ) → IsSized (string d) → length d < 2 ^ 64

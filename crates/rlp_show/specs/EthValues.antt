@@ -51,14 +51,14 @@ use Rattle.rlp_eth.specs.declared.status.Status69.{Status69}
 use Rattle.rlp_eth.specs.declared.status.ForkHash.{ForkHash}
 use Rattle.rlp_eth.specs.Status.{fork_id as fork_id_codec, status68 as status68_codec, status69 as status69_codec, fork_hash as fork_hash_codec}
 use Rattle.rlp_show.specs.BodyValues.{body_display}
-use Rattle.rlp_show.specs.ConverseLemmas.{IsEncoded, OnlyEncodings, below, end_only, field_only, number_only, record_only, vec_of}
-use Rattle.rlp_show.specs.Displays.{Display, alone_display, bytes_display, end_display, field_display, fixed_display, hash_display, list_display, newtype_display}
-use Rattle.rlp_show.specs.Displays.{number_display, record_display, status_display, truth_display, uint_display, vec_display}
-use Rattle.rlp_show.specs.Lines.{Shape, Worded, field, in_field, in_string, line, named, number, number_in, prefix, record_of, string_shape, wrong}
-use Rattle.rlp_show.specs.StringLemmas.{number_right_by, number_wrong, shown_fault, shown_string}
-use Rattle.rlp_show.specs.Text.{bytes_text, number_text}
+use Rattle.rlp_show_text.specs.ConverseLemmas.{IsEncoded, OnlyEncodings, below, end_only, field_only, number_only, record_only, vec_of}
+use Rattle.rlp_show_text.specs.Displays.{Display, alone_display, bytes_display, end_display, field_display, fixed_display, hash_display, list_display, newtype_display}
+use Rattle.rlp_show_text.specs.Displays.{number_display, record_display, status_display, truth_display, uint_display, vec_display}
+use Rattle.rlp_show_text.specs.Lines.{Shape, Worded, field, in_field, in_string, line, named, number, number_in, prefix, record_of, string_shape, wrong}
+use Rattle.rlp_show_text.specs.StringLemmas.{number_right_by, number_wrong, shown_fault, shown_string}
+use Rattle.rlp_show_text.specs.Text.{bytes_text, number_text}
 use Rattle.rlp_show.specs.TransactionValues.{block_display, transaction_display}
-use Rattle.rlp_show.specs.ValueLemmas.{both_shown, first_sized, joined_small, others_small, record_shown}
+use Rattle.rlp_show_text.specs.ValueLemmas.{both_shown, first_sized, joined_small, others_small, record_shown}
 use Rattle.rlp_show.specs.Values.{header_display, log_display}
 
 -- ---- hashes or numbers

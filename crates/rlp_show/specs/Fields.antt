@@ -1,6 +1,6 @@
 -- Fields by their labels.
 use Rattle.std.specs.Prelude.{List, [], ◌∷◌}
-use Rattle.rlp_show.specs.Lines.{Field, Shape}
+use Rattle.rlp_show_text.specs.Lines.{Field, Shape}
 use Rattle.rlp_show.specs.declared.fields.Label.{Label}
 
 -- the fields that have these labels, the first of this shape

@@ -5,7 +5,7 @@ use Rattle.rlp.specs.Format.Framing.{map_ok}
 use Rattle.rlp.specs.Views.Text.{error_name}
 use Rattle.rlp.specs.Views.View.{View, item_count, item_views, strict_view_of}
 use Rattle.rlp_show.specs.Kinds.{kind_name, kind_shape}
-use Rattle.rlp_show.specs.Lines.{Shape, Shown, wrong}
+use Rattle.rlp_show_text.specs.Lines.{Shape, Shown, wrong}
 use Rattle.rlp_show.specs.declared.kind.Kind.{Kind}
 use Rattle.rlp_show.specs.declared.kind.Kind.TheVariants.{AccessList, Account, Authorization, Block, Body, Header, Node, NodeRecord, Receipt, Transaction, Withdrawal}
 

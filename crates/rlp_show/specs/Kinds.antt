@@ -1,11 +1,11 @@
 -- The kinds of records, by their names, and how records of a kind are shown.
 use Rattle.std.specs.Prelude.{ℕ, ◌≡◌, refl, List, codes, bytes_eq, if◌then◌else◌, Option, Some, None}
-use Rattle.rlp_show.specs.Answer.{record_answer}
+use Rattle.rlp_show_text.specs.Answer.{record_answer}
 use Rattle.rlp_show.specs.BodyValues.{body_display}
-use Rattle.rlp_show.specs.Lines.{Shape}
+use Rattle.rlp_show_text.specs.Lines.{Shape}
 use Rattle.rlp_show.specs.MessageKinds.{message_name, message_named, message_shape}
-use Rattle.rlp_show.specs.NodeRecords.{node_record}
-use Rattle.rlp_show.specs.Nodes.{node}
+use Rattle.rlp_show_text.specs.NodeRecords.{node_record}
+use Rattle.rlp_show_text.specs.Nodes.{node}
 use Rattle.rlp_show.specs.Records.{any_receipt, any_transaction}
 use Rattle.rlp_show.specs.TransactionValues.{block_display}
 use Rattle.rlp_show.specs.Values.{access_list_alone_display, account_display, authorization_display, header_display, withdrawal_display}

@@ -1,19 +1,5 @@
--- the text of a number, and of bytes
-pub mod Text
--- the lines of an item, or what is wrong with it
-pub mod Lines
--- what is signed of transactions and authorizations
-pub mod Signing
 -- the fields of a record that have labels
 pub mod Fields
--- the lines of nodes of the trie, and of items of any kind
-pub mod Nodes
--- the lines of node records
-pub mod NodeRecords
--- the answer to a line of input
-pub mod Answer
--- how values are shown, from their parts
-pub mod Displays
 -- the fields of each record, and the lines of values
 pub mod Values
 -- the lines of transactions and receipts of every type
@@ -34,20 +20,10 @@ pub mod Guess
 pub mod LineAnswer
 -- what the arguments of the program ask for
 pub mod Request
--- lemmas on what types read and what is shown of it
-pub mod StringLemmas
--- lemmas on the encodings of values
-pub mod ValueLemmas
--- lemmas on what is signed of values
-pub mod SigningLemmas
--- lemmas on what is shown without a fault
-pub mod ConverseLemmas
 -- lemmas on envelopes, and on strings that hold records
 pub mod EnvelopeLemmas
 -- lemmas on transactions that are shown without a fault
 pub mod ConverseTransactions
--- lemmas on items of any kind, and on the values and the keys of node records
-pub mod NodeRecordLemmas
 -- the lines of values that are node records
 pub mod NodeRecordValues
 -- lemmas on items of any kind, and on nodes of the trie, that are shown without a fault

@@ -1,10 +1,10 @@
 -- The answers to lines, for records of a kind and in a form.
 use Rattle.std.specs.Prelude.{ℕ, List, Option, Some, None}
 use Rattle.std.specs.Str.Lines.{strip_carriage_return}
-use Rattle.rlp_show.specs.Answer.{json_answer, shown_answer, text_answer}
+use Rattle.rlp_show_text.specs.Answer.{json_answer, shown_answer, text_answer}
 use Rattle.rlp_show.specs.Guess.{any_record}
 use Rattle.rlp_show.specs.Kinds.{kind_name, kind_shape}
-use Rattle.rlp_show.specs.Lines.{Shape, Shown}
+use Rattle.rlp_show_text.specs.Lines.{Shape, Shown}
 use Rattle.rlp_show.specs.declared.answers.Answers.{Answers}
 use Rattle.rlp_show.specs.declared.answers.Form.{Form}
 use Rattle.rlp_show.specs.declared.answers.Form.TheVariants.{Json, Text}

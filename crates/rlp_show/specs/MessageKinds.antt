@@ -1,6 +1,6 @@
 -- The kinds of messages, by their names, and how messages of a kind are shown.
 use Rattle.std.specs.Prelude.{ℕ, List, codes, bytes_eq, if◌then◌else◌, Option, Some, None}
-use Rattle.rlp_show.specs.Lines.{Shape}
+use Rattle.rlp_show_text.specs.Lines.{Shape}
 use Rattle.rlp_show.specs.EthValues.{block_headers_display, get_block_bodies_display, get_block_headers_display, new_block_hashes_display, status68_display, status69_display, transactions_display}
 use Rattle.rlp_show.specs.EthValues.{block_bodies_display, block_range_update_display, get_pooled_transactions_display, get_receipts_display, new_block_display, new_pooled_transaction_hashes_display, pooled_transactions_display, receipts69_display, with_request_id_shape}
 use Rattle.rlp_show.specs.MessageReceipts.{receipts_display}

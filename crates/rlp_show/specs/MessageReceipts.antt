@@ -13,10 +13,10 @@ use Rattle.rlp_headers.specs.declared.typed_receipt.TypedReceipt.TheVariants.{Ac
 use Rattle.rlp_eth.specs.Receipts.{block_receipts as block_receipts_codec, receipts as receipts_codec}
 use Rattle.rlp_eth.specs.declared.receipts.BlockReceipts.{BlockReceipts}
 use Rattle.rlp_eth.specs.declared.receipts.Receipts.{Receipts}
-use Rattle.rlp_show.specs.ConverseLemmas.{IsEncoded, OnlyEncodings, below, string_slice, vec_of}
-use Rattle.rlp_show.specs.Displays.{Display, list_display}
+use Rattle.rlp_show_text.specs.ConverseLemmas.{IsEncoded, OnlyEncodings, below, string_slice, vec_of}
+use Rattle.rlp_show_text.specs.Displays.{Display, list_display}
 use Rattle.rlp_show.specs.EnvelopeLemmas.{after_type, list_held, string_held, string_sized}
-use Rattle.rlp_show.specs.Lines.{held_lines}
+use Rattle.rlp_show_text.specs.Lines.{held_lines}
 use Rattle.rlp_show.specs.ReceiptValues.{after_kind, receipt_envelope_only, receipt_lines}
 use Rattle.rlp_show.specs.Records.{held_receipt, receipt, receipt_envelope, unknown_transaction}
 use Rattle.rlp_show.specs.Values.{receipt_display}

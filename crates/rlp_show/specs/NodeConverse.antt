@@ -27,15 +27,15 @@ use Rattle.rlp_trie.specs.declared.branch.Branch.{Branch}
 use Rattle.rlp_trie.specs.declared.branch_child.BranchChild.{BranchChild}
 use Rattle.rlp_trie.specs.declared.child.Child.TheVariants.{Inline, Node}
 use Rattle.rlp_trie.specs.declared.trie_node.TrieNode.TheVariants as node
-use Rattle.rlp_show.specs.ConverseLemmas.{IsEncoded, IsSlice, OnlyEncodings, OnlyItems, below, both_ok, bytes_only, end_only, field_only, fixed_length}
-use Rattle.rlp_show.specs.ConverseLemmas.{fixed_only, hashed_only, if_ok, record_only, strings_only, vec_of}
-use Rattle.rlp_show.specs.Lines.{Field, Shape, Worded, byte_string, field, hash, line, prefix, record_of, string_shape}
-use Rattle.rlp_show.specs.Lines.{wrong}
-use Rattle.rlp_show.specs.NodeRecordLemmas.{item_only}
-use Rattle.rlp_show.specs.Nodes.{any_item, are_leaf, branch, branch_child, child, child_hash_in, extension, extension_path_in, inline_node, is_empty_node}
-use Rattle.rlp_show.specs.Nodes.{kept_nodes, leaf, node as node_shape, node_keeping, node_lines, node_of, path_in}
-use Rattle.rlp_show.specs.Text.{bytes_text}
-use Rattle.rlp_show.specs.ValueLemmas.{first_sized, joined_small, views-encoding}
+use Rattle.rlp_show_text.specs.ConverseLemmas.{IsEncoded, IsSlice, OnlyEncodings, OnlyItems, below, both_ok, bytes_only, end_only, field_only, fixed_length}
+use Rattle.rlp_show_text.specs.ConverseLemmas.{fixed_only, hashed_only, if_ok, record_only, strings_only, vec_of}
+use Rattle.rlp_show_text.specs.Lines.{Field, Shape, Worded, byte_string, field, hash, line, prefix, record_of, string_shape}
+use Rattle.rlp_show_text.specs.Lines.{wrong}
+use Rattle.rlp_show_text.specs.NodeRecordLemmas.{item_only}
+use Rattle.rlp_show_text.specs.Nodes.{any_item, are_leaf, branch, branch_child, child, child_hash_in, extension, extension_path_in, inline_node, is_empty_node}
+use Rattle.rlp_show_text.specs.Nodes.{kept_nodes, leaf, node as node_shape, node_keeping, node_lines, node_of, path_in}
+use Rattle.rlp_show_text.specs.Text.{bytes_text}
+use Rattle.rlp_show_text.specs.ValueLemmas.{first_sized, joined_small, views-encoding}
 
 -- ---- items of any kind
 

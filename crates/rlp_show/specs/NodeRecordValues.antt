@@ -26,14 +26,14 @@ use Rattle.rlp_node_record.specs.NodeRecord.{AreInOrder, IsNodeRecord, keys_of, 
 use Rattle.rlp_node_record.specs.NodeKeys.{HasId}
 use Rattle.rlp_node_record.specs.declared.node_fields.NodeFields.{NodeFields}
 use Rattle.rlp_node_record.specs.declared.node_fields.NodePair.{NodePair}
-use Rattle.rlp_show.specs.ConverseLemmas.{IsSlice, OnlyEncodings, below, both_ok, bytes_only, few_items, field_ok, item_slices, number_only, strings_only, unless_ok, vec_of}
-use Rattle.rlp_show.specs.Displays.{Display}
-use Rattle.rlp_show.specs.Lines.{byte_string, fields_lines, in_field, line, number, place, prefix, then_lines, value_lines}
-use Rattle.rlp_show.specs.NodeRecordLemmas.{key_among, key_is, key_value_lines, key_value_only, key_value_shown, keys-right, keys_are, keys_ok, record_right, record_short}
-use Rattle.rlp_show.specs.NodeRecords.{first_fields, first_fields_display, key_of, keys_in, node_fields, node_fields_lines, node_key, node_record, node_value, pair_lines, pairs_lines, word_text}
-use Rattle.rlp_show.specs.StringLemmas.{shown_string}
-use Rattle.rlp_show.specs.Text.{number_text}
-use Rattle.rlp_show.specs.ValueLemmas.{both_shown, first_sized, front_small, joined_small, others_small, rest_small, views-encoding, views_of}
+use Rattle.rlp_show_text.specs.ConverseLemmas.{IsSlice, OnlyEncodings, below, both_ok, bytes_only, few_items, field_ok, item_slices, number_only, strings_only, unless_ok, vec_of}
+use Rattle.rlp_show_text.specs.Displays.{Display}
+use Rattle.rlp_show_text.specs.Lines.{byte_string, fields_lines, in_field, line, number, place, prefix, then_lines, value_lines}
+use Rattle.rlp_show_text.specs.NodeRecordLemmas.{key_among, key_is, key_value_lines, key_value_only, key_value_shown, keys-right, keys_are, keys_ok, record_right, record_short}
+use Rattle.rlp_show_text.specs.NodeRecords.{first_fields, first_fields_display, key_of, keys_in, node_fields, node_fields_lines, node_key, node_record, node_value, pair_lines, pairs_lines, word_text}
+use Rattle.rlp_show_text.specs.StringLemmas.{shown_string}
+use Rattle.rlp_show_text.specs.Text.{number_text}
+use Rattle.rlp_show_text.specs.ValueLemmas.{both_shown, first_sized, front_small, joined_small, others_small, rest_small, views-encoding, views_of}
 
 -- ---- pairs
 

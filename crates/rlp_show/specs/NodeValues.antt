@@ -28,16 +28,16 @@ use Rattle.rlp_trie.specs.declared.extension.Extension.{Extension}
 use Rattle.rlp_trie.specs.declared.leaf.Leaf.{Leaf}
 use Rattle.rlp_trie.specs.declared.trie_node.TrieNode.{TrieNode}
 use Rattle.rlp_trie.specs.declared.trie_node.TrieNode.TheVariants as node
-use Rattle.rlp_show.specs.Answer.{record_answer, shown_answer}
+use Rattle.rlp_show_text.specs.Answer.{record_answer, shown_answer}
 use Rattle.rlp_show.specs.EnvelopeLemmas.{list_kind}
-use Rattle.rlp_show.specs.Lines.{Field, Shape, Shown, byte_string, field, fields_lines, hash as hash_shape, hash_line, in_field, line, named, place, prefix, string_shape}
-use Rattle.rlp_show.specs.Lines.{then_lines}
+use Rattle.rlp_show_text.specs.Lines.{Field, Shape, Shown, byte_string, field, fields_lines, hash as hash_shape, hash_line, in_field, line, named, place, prefix, string_shape}
+use Rattle.rlp_show_text.specs.Lines.{then_lines}
 use Rattle.rlp_show.specs.NodeConverse.{pair_kind}
-use Rattle.rlp_show.specs.Nodes.{are_leaf, branch, branch_child, child, child_hash_in, extension, extension_path, extension_path_in, inline_node, is_empty_node}
-use Rattle.rlp_show.specs.Nodes.{kept_nodes, leaf, node as node_shape, node_keeping, node_lines, path, path_in}
-use Rattle.rlp_show.specs.StringLemmas.{bytes_given, fixed_as_given, fixed_right, shown_string}
-use Rattle.rlp_show.specs.Text.{bytes_text, path_text}
-use Rattle.rlp_show.specs.ValueLemmas.{both_shown, bytes_answered, first_sized, joined_small, others_small, record_shown, views_of}
+use Rattle.rlp_show_text.specs.Nodes.{are_leaf, branch, branch_child, child, child_hash_in, extension, extension_path, extension_path_in, inline_node, is_empty_node}
+use Rattle.rlp_show_text.specs.Nodes.{kept_nodes, leaf, node as node_shape, node_keeping, node_lines, path, path_in}
+use Rattle.rlp_show_text.specs.StringLemmas.{bytes_given, fixed_as_given, fixed_right, shown_string}
+use Rattle.rlp_show_text.specs.Text.{bytes_text, path_text}
+use Rattle.rlp_show_text.specs.ValueLemmas.{both_shown, bytes_answered, first_sized, joined_small, others_small, record_shown, views_of}
 
 -- ---- children
 

@@ -34,16 +34,16 @@ use Rattle.rlp_p2p.specs.declared.hello.Capability.{Capability}
 use Rattle.rlp_p2p.specs.declared.hello.FurtherItem.{FurtherItem}
 use Rattle.rlp_p2p.specs.declared.hello.Hello.{Hello}
 use Rattle.rlp_p2p.specs.declared.hello.NodeId.{NodeId}
-use Rattle.rlp_show.specs.ConverseLemmas.{IsEncoded, IsSlice, OnlyEncodings, below, both_ok, few_items, field_ok, item_slices, unless_ok, vec_of}
-use Rattle.rlp_show.specs.Displays.{Display, FieldsDisplay, bytes_display, end_display, field_display, fixed_display, newtype_display, number_display}
-use Rattle.rlp_show.specs.Displays.{record_display, vec_display}
+use Rattle.rlp_show_text.specs.ConverseLemmas.{IsEncoded, IsSlice, OnlyEncodings, below, both_ok, few_items, field_ok, item_slices, unless_ok, vec_of}
+use Rattle.rlp_show_text.specs.Displays.{Display, FieldsDisplay, bytes_display, end_display, field_display, fixed_display, newtype_display, number_display}
+use Rattle.rlp_show_text.specs.Displays.{record_display, vec_display}
 use Rattle.rlp_show.specs.EnvelopeLemmas.{list_kind}
-use Rattle.rlp_show.specs.Lines.{Field, Shape, Shown, fields_lines, in_field, place, prefix, then_lines, value_lines, wrong}
-use Rattle.rlp_show.specs.NodeRecordLemmas.{item_lines, item_only, item_shown}
+use Rattle.rlp_show_text.specs.Lines.{Field, Shape, Shown, fields_lines, in_field, place, prefix, then_lines, value_lines, wrong}
+use Rattle.rlp_show_text.specs.NodeRecordLemmas.{item_lines, item_only, item_shown}
 use Rattle.rlp_show.specs.NodeRecordValues.{node_key_display}
-use Rattle.rlp_show.specs.Nodes.{any_item}
+use Rattle.rlp_show_text.specs.Nodes.{any_item}
 use Rattle.rlp_show.specs.Records.{list_or}
-use Rattle.rlp_show.specs.ValueLemmas.{both_shown, first_sized, front_small, joined_small, others_small, rest_small, views-encoding, views_of}
+use Rattle.rlp_show_text.specs.ValueLemmas.{both_shown, first_sized, front_small, joined_small, others_small, rest_small, views-encoding, views_of}
 
 -- ---- messages that keep a connection
 

@@ -14,15 +14,15 @@ use Rattle.rlp_headers.specs.declared.typed_receipt.TypedReceipt.{TypedReceipt}
 use Rattle.rlp_headers.specs.declared.typed_receipt.TypedReceipt.TheVariants.{AccessList, Blob, FeeMarket, Legacy, SetCode}
 use Rattle.rlp_lines.specs.Digits.{bytes_in}
 use Rattle.rlp_records.specs.Alone.{bytes_alone}
-use Rattle.rlp_show.specs.Answer.{record_answer}
-use Rattle.rlp_show.specs.ConverseLemmas.{IsSlice}
+use Rattle.rlp_show_text.specs.Answer.{record_answer}
+use Rattle.rlp_show_text.specs.ConverseLemmas.{IsSlice}
 use Rattle.rlp_show.specs.ConverseTransactions.{envelope_only}
 use Rattle.rlp_show.specs.EnvelopeLemmas.{after_type, list_kind, not_of_type}
-use Rattle.rlp_show.specs.Lines.{Shape, line, prefix, then_lines, typed}
+use Rattle.rlp_show_text.specs.Lines.{Shape, line, prefix, then_lines, typed}
 use Rattle.rlp_show.specs.Records.{any_receipt, list_or, receipt, receipt_envelope, unknown_transaction}
-use Rattle.rlp_show.specs.Text.{number_text}
+use Rattle.rlp_show_text.specs.Text.{number_text}
 use Rattle.rlp_show.specs.TransactionValues.{typed_value}
-use Rattle.rlp_show.specs.ValueLemmas.{encoding_answered}
+use Rattle.rlp_show_text.specs.ValueLemmas.{encoding_answered}
 use Rattle.rlp_show.specs.Values.{receipt_display}
 
 -- the lines of a receipt, after the line of its type if it has one

@@ -3,8 +3,8 @@ use Rattle.std.specs.Prelude.{ℕ, nat_lt, if◌then◌else◌, List, [], ◌∷
 use Rattle.rlp.specs.DecoderError.TheVariants.{RlpIsTooShort}
 use Rattle.rlp.specs.Format.Split.{begins_as_list}
 use Rattle.rlp.specs.Views.Text.{error_name}
-use Rattle.rlp_show.specs.Lines.{Shape, Shown, hashed, line, list_or_string, prefix, typed, wrong}
-use Rattle.rlp_show.specs.Text.{bytes_text, number_text}
+use Rattle.rlp_show_text.specs.Lines.{Shape, Shown, hashed, line, list_or_string, prefix, typed, wrong}
+use Rattle.rlp_show_text.specs.Text.{bytes_text, number_text}
 use Rattle.rlp_show.specs.Values.{access_list_transaction_display, blob_transaction_display, fee_market_transaction_display, legacy_transaction_display}
 use Rattle.rlp_show.specs.Values.{receipt_display, set_code_transaction_display}
 

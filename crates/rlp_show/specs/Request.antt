@@ -1,6 +1,6 @@
 -- What the arguments of the program ask for.
 use Rattle.std.specs.Prelude.{ℕ, ◌||◌, if◌then◌else◌, List, [], ◌∷◌, codes, bytes_eq, Option, Some, None}
-use Rattle.rlp_show.specs.Answer.{is_record}
+use Rattle.rlp_show_text.specs.Answer.{is_record}
 use Rattle.rlp_show.specs.Kinds.{kind_named}
 use Rattle.rlp_show.specs.declared.answers.Answers.{Answers}
 use Rattle.rlp_show.specs.declared.answers.Form.{Form}

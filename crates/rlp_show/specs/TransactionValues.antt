@@ -31,20 +31,20 @@ use Rattle.rlp_transactions.specs.declared.any_transaction.AnyTransaction.TheVar
 use Rattle.rlp_headers.specs.Withdrawal.{withdrawals as withdrawals_codec}
 use Rattle.std.specs.Str.Lines.{strip_carriage_return}
 use Rattle.rlp_lines.specs.Digits.{bytes_in}
-use Rattle.rlp_show.specs.Answer.{record_answer}
-use Rattle.rlp_show.specs.ConverseLemmas.{vec_of}
+use Rattle.rlp_show_text.specs.Answer.{record_answer}
+use Rattle.rlp_show_text.specs.ConverseLemmas.{vec_of}
 use Rattle.rlp_show.specs.ConverseTransactions.{listed_only}
-use Rattle.rlp_show.specs.ValueLemmas.{encoding_answered}
-use Rattle.rlp_show.specs.Lines.{Shape, hash_line, hashed, line, prefix, then_lines, typed}
+use Rattle.rlp_show_text.specs.ValueLemmas.{encoding_answered}
+use Rattle.rlp_show_text.specs.Lines.{Shape, hash_line, hashed, line, prefix, then_lines, typed}
 use Rattle.rlp_show.specs.Records.{access_list_transaction, any_transaction, blob_transaction, fee_market_transaction, legacy_transaction, list_or, plain_transaction, set_code_transaction}
 use Rattle.rlp_show.specs.Records.{other_transaction, transaction, typed_transaction}
-use Rattle.rlp_show.specs.Text.{bytes_text, number_text}
+use Rattle.rlp_show_text.specs.Text.{bytes_text, number_text}
 use Rattle.rlp_show.specs.EnvelopeLemmas.{after_type, list_held, list_kind, not_of_type, other_than, string_held, string_sized}
-use Rattle.rlp_show.specs.Displays.{Display, field_display}
+use Rattle.rlp_show_text.specs.Displays.{Display, field_display}
 use Rattle.rlp_show.specs.Values.{access_list_transaction_display, blob_transaction_display, fee_market_transaction_display}
-use Rattle.rlp_show.specs.Displays.{list_display, optional_display, record_display}
+use Rattle.rlp_show_text.specs.Displays.{list_display, optional_display, record_display}
 use Rattle.rlp_show.specs.Values.{header_display, legacy_transaction_display}
-use Rattle.rlp_show.specs.Displays.{vec_display}
+use Rattle.rlp_show_text.specs.Displays.{vec_display}
 use Rattle.rlp_show.specs.Values.{set_code_transaction_display, withdrawal_display}
 
 -- the line of a type, and the lines of the payload

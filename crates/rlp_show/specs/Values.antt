@@ -30,11 +30,11 @@ use Rattle.rlp_headers.specs.declared.header.forks.London.{London}
 use Rattle.rlp_headers.specs.declared.header.forks.Shanghai.{Shanghai}
 use Rattle.rlp_headers.specs.declared.header.forks.Cancun.{Cancun}
 use Rattle.rlp_headers.specs.Header.{header as header_codec}
-use Rattle.rlp_show.specs.ConverseLemmas.{vec_of}
-use Rattle.rlp_show.specs.Displays.{Display, address_display, alone_display, bloom_display, bytes_display, end_display, field_display, fixed_display}
-use Rattle.rlp_show.specs.Displays.{hash_display, hashed_display, legacy_signing_display, legacy_v_display, list_display, number_display}
-use Rattle.rlp_show.specs.Displays.{optional_display, optional_group_display, recipient_display, record_display, signed_display, status_display}
-use Rattle.rlp_show.specs.Displays.{tagged_display, truth_display, uint_display, vec_display}
+use Rattle.rlp_show_text.specs.ConverseLemmas.{vec_of}
+use Rattle.rlp_show_text.specs.Displays.{Display, address_display, alone_display, bloom_display, bytes_display, end_display, field_display, fixed_display}
+use Rattle.rlp_show_text.specs.Displays.{hash_display, hashed_display, legacy_signing_display, legacy_v_display, list_display, number_display}
+use Rattle.rlp_show_text.specs.Displays.{optional_display, optional_group_display, recipient_display, record_display, signed_display, status_display}
+use Rattle.rlp_show_text.specs.Displays.{tagged_display, truth_display, uint_display, vec_display}
 
 -- withdrawals
 abbrev pub withdrawal_display : Display withdrawal_codec

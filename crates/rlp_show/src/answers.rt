@@ -2,17 +2,16 @@
 
 ghost use Rattle.std.specs.Prelude.{◌≡◌, ◌++◌, [], Ok, string_bytes, OnOk};
 ghost use Rattle.rlp.specs.Views.View.{strict_view_of};
-ghost use Rattle.rlp_show.specs.Answer.{Shows, longest_line, text_answer};
+ghost use Rattle.rlp_show_text.specs.Answer.{Shows, longest_line, text_answer};
 ghost use Rattle.rlp_show.specs.LineAnswer.{answer_in, answer_of, shape_of};
 
-use crate::fault::ShowFault;
 use crate::guessing::{AnyRecord, show_as};
-use crate::input::{is_node_text, read_record};
 use crate::kind::Kind;
 use crate::show::Show;
 use rlp::Rlp;
 use rlp_json::put_json;
 use rlp_lines::{LineAnswers, without_carriage_return};
+use rlp_show_text::{ShowFault, is_node_text, read_record};
 use std::alloc::{AllocError, Global};
 
 /// The most bytes that a line may have, without its newline.

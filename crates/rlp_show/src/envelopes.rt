@@ -1,19 +1,17 @@
 //! Records that may be in an envelope, which begins with the byte of their type.
 
-ghost use Rattle.std.specs.Prelude.{◌≡◌, ◌≢◌, ◌++◌, ◌∷◌, ℕ, List, codes, string_bytes, Ok, IfOk, OnOk, MatchOption};
+ghost use Rattle.std.specs.Prelude.{◌++◌, codes, string_bytes, Ok};
 ghost use Rattle.rlp.specs.Views.View.{strict_view_of};
-ghost use Rattle.rlp_show.specs.Answer.{Shows};
-ghost use Rattle.rlp_show.specs.Lines.{line, prefix, then_lines};
-ghost use Rattle.rlp_show.specs.Text.{number_text};
+ghost use Rattle.rlp_show_text.specs.Answer.{Shows};
+ghost use Rattle.rlp_show_text.specs.Lines.{line, prefix, then_lines};
+ghost use Rattle.rlp_show_text.specs.Text.{number_text};
 
-use crate::fault::ShowFault;
-use crate::fields::name_in;
-use crate::numbers::put_number_line;
 use crate::show::Show;
 use crate::transactions::{ListOr, UnknownTransaction};
-use rlp::{Rlp, Uint};
+use rlp::Rlp;
 use rlp_ethereum::{ACCESS_LIST_TYPE, BLOB_TYPE, FEE_MARKET_TYPE, Receipt, SET_CODE_TYPE};
-use std::alloc::{AllocError, Global};
+use rlp_show_text::{ShowFault, payload_of, put_type};
+use std::alloc::Global;
 use std::marker::PhantomData;
 
 /// The envelope of a receipt of any type that `rlp_ethereum` knows, or else a `Q`, for [`Show`]. It
@@ -25,34 +23,8 @@ pub struct ReceiptEnvelope<Q> {
 /// The receipt of a transaction of any type that `rlp_ethereum` knows, for [`Show`].
 pub type AnyReceipt = ReceiptEnvelope<ListOr<Receipt, UnknownTransaction>>;
 
-/// The bytes after the first byte, if that is `kind`.
-pub(crate) fn payload_of(kind: u8, bytes: &[u8]) -> Option<&[u8]>
-    ensures { MatchOption result ((payload : List ℕ) → bytes.now ≢ kind ∷ payload)
-        (λ payload. bytes.now ≡ kind ∷ payload.now) }
-{
-    match bytes.split_first() {
-        Some((first, payload)) if *first == kind => Some(payload),
-        _ => None,
-    }
-}
-
-/// Appends the line of a type.
-#[tactic(auto, using(crate::proofs::NumberLemmas::one_digit))]
-pub(crate) fn put_type(
-    alloc: Global,
-    name: &str,
-    kind: u8,
-    out: &mut String,
-) -> Result<(), AllocError>
-    ensures { OnOk result (string_bytes out.new
-        ≡ string_bytes out.old ++ line (prefix name.now ++ codes "type") (number_text kind)) }
-{
-    let label = name_in(alloc, name, "type")?;
-    put_number_line(label.as_str(), &Uint { bytes: [kind] }, out)
-}
-
 /// Appends the line of a type, and then the lines of the record that the payload encodes.
-#[tactic(auto, using(crate::proofs::FieldLemmas::fields_in_order))]
+#[tactic(auto, using(rlp_show_text::proofs::FieldLemmas::fields_in_order))]
 pub(crate) fn show_typed<T: Show>(
     alloc: Global,
     name: &str,
@@ -73,7 +45,7 @@ impl<Q: Show> Show for ReceiptEnvelope<Q> {
 
     ghost shape = { receipt_envelope Q.shape };
 
-    #[tactic(auto, using(crate::proofs::FieldLemmas::by_type))]
+    #[tactic(auto, using(rlp_show_text::proofs::FieldLemmas::by_type))]
     fn show(alloc: Global, name: &str, item: &Rlp<'_>, out: &mut String) -> Result<(), ShowFault> {
         let bytes = item.as_raw();
         if let Some(payload) = payload_of(ACCESS_LIST_TYPE, bytes) {

@@ -1,14 +1,14 @@
 //! Records that are lists of fields.
 
-ghost use Rattle.std.specs.Prelude.{◌≡◌, ◌<◌, ◌^◌, ◌+◌, ◌++◌, List, length, string_bytes, IfOk};
-ghost use Rattle.rlp_show.specs.Answer.{Shows};
+ghost use Rattle.std.specs.Prelude.{◌≡◌, ◌<◌, ◌^◌, ◌+◌, ◌++◌, List, length, string_bytes};
+ghost use Rattle.rlp_show_text.specs.Answer.{Shows};
 ghost use Rattle.rlp_show.specs.declared.fields.Label.{Label};
-ghost use Rattle.rlp_show.specs.Lines.{Field, fields_lines, in_field, may_have, prefix, record_of};
+ghost use Rattle.rlp_show_text.specs.Lines.{Field, fields_lines, in_field, may_have, prefix, record_of};
 
-use crate::fault::{ShowFault, in_field};
 use crate::show::Show;
 use rlp::{DecoderError, Rlp, RlpIterator};
-use std::alloc::{AllocError, Global};
+use rlp_show_text::{ShowFault, in_field, joined, prefix_of};
+use std::alloc::Global;
 
 /// The name of a field, and whether a record may end before it.
 pub struct Label {
@@ -60,15 +60,6 @@ pub(crate) fn show_field<T: Show>(
     in_field(T::show(alloc, name.as_str(), item, out), place)
 }
 
-/// One text and then another.
-pub(crate) fn joined(alloc: Global, front: &str, back: &str) -> Result<String, AllocError>
-    ensures { IfOk result (λ text. string_bytes text ≡ front.now ++ back.now) }
-{
-    let mut text = String::from_str(alloc, front)?;
-    text.push_str(back)?;
-    Ok(text)
-}
-
 /// No more fields.
 impl ShowFields for () {
     ghost use Rattle.std.specs.Prelude.{[]};
@@ -97,7 +88,7 @@ impl<T: Show, Q: ShowFields> ShowFields for (T, Q) {
 
     ghost fields = { labelled_fields T.shape Q.fields };
 
-    #[tactic(auto, using(crate::proofs::FieldLemmas::numbers_of_items))]
+    #[tactic(auto, using(rlp_show_text::proofs::FieldLemmas::numbers_of_items))]
     fn accepts(labels: &[Label], count: usize) -> bool {
         match labels {
             [] => count == 0,
@@ -106,7 +97,7 @@ impl<T: Show, Q: ShowFields> ShowFields for (T, Q) {
         }
     }
 
-    #[tactic(auto, using(crate::proofs::FieldLemmas::fields_in_order))]
+    #[tactic(auto, using(rlp_show_text::proofs::FieldLemmas::fields_in_order))]
     fn show_fields(
         alloc: Global,
         before: &str,
@@ -126,29 +117,11 @@ impl<T: Show, Q: ShowFields> ShowFields for (T, Q) {
     }
 }
 
-/// What comes before the names of the fields of the record with this name.
-pub(crate) fn prefix_of(alloc: Global, name: &str) -> Result<String, AllocError>
-    ensures { IfOk result (λ text. string_bytes text ≡ prefix name.now) }
-{
-    if name.is_empty() {
-        return Ok(String::new(alloc));
-    }
-    joined(alloc, name, ".")
-}
-
-/// The name of a field of the record with this name.
-pub(crate) fn name_in(alloc: Global, name: &str, field: &str) -> Result<String, AllocError>
-    ensures { IfOk result (λ text. string_bytes text ≡ prefix name.now ++ field.now) }
-{
-    let before = prefix_of(alloc, name)?;
-    joined(alloc, before.as_str(), field)
-}
-
 /// Appends the lines of a record whose fields have these types and labels.
 ///
 /// Fails with `Wrong` if the item isn't a list, if a record may not have its number of items, or if
 /// an item isn't one of its field. Fails with `OutOfMemory` if memory is refused.
-#[tactic(auto, using(crate::proofs::FieldLemmas::fields_in_order))]
+#[tactic(auto, using(rlp_show_text::proofs::FieldLemmas::fields_in_order))]
 pub fn show_record<F: ShowFields>(
     alloc: Global,
     name: &str,

@@ -3,12 +3,11 @@
 ghost use Rattle.std.specs.Prelude.{◌≡◌, drop, string_bytes};
 ghost use Rattle.rlp.specs.Format.Framing.{map_ok};
 ghost use Rattle.rlp.specs.Views.View.{item_count, item_views, strict_view_of};
-ghost use Rattle.rlp_show.specs.Answer.{Shows};
+ghost use Rattle.rlp_show_text.specs.Answer.{Shows};
 ghost use Rattle.rlp_show.specs.Kinds.{kind_shape};
 ghost use Rattle.rlp_show.specs.Guess.{any_record, envelope_kind, first_byte, first_of, four_kind, guess, inner_of, list_kind, lists_kind, strings_kind};
 
 use crate::envelopes::AnyReceipt;
-use crate::fault::ShowFault;
 use crate::kind::Kind;
 use crate::messages::show_message;
 use crate::nodes::Node;
@@ -18,6 +17,7 @@ use rlp::{DecoderError, Rlp, RlpIterator};
 use rlp_ethereum::{
     AccessList, Account, Block, Body, Header, NodeRecord, SignedAuthorization, Withdrawal,
 };
+use rlp_show_text::ShowFault;
 use std::alloc::Global;
 
 /// The first byte of a string of 20 bytes, such as an address.

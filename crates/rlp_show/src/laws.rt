@@ -14,7 +14,7 @@ ghost use Rattle.rlp_transactions.specs.declared.any_transaction.AnyTransaction.
 ghost use Rattle.rlp_trie.specs.TrieNode.{IsTrieNode, node_item};
 ghost use Rattle.rlp_trie.specs.declared.trie_node.TrieNode.{TrieNode};
 ghost use Rattle.rlp_json.specs.Json.{json_of};
-ghost use Rattle.rlp_show.specs.Answer.{record_answer, shown_answer};
+ghost use Rattle.rlp_show_text.specs.Answer.{record_answer, shown_answer};
 ghost use Rattle.rlp_show.specs.Kinds.{kind_answer, kind_name, kind_shape};
 ghost use Rattle.rlp_show.specs.LineAnswer.{answer_of};
 ghost use Rattle.rlp_show.specs.NodeValues.{hashed_node_value};
@@ -29,7 +29,7 @@ use crate::values::ShowValues;
 
 /// If the digits of a line are the encoding of a value that fits, the answer is the lines of the
 /// value.
-#[tactic(auto, using(crate::specs::ValueLemmas::encoding_answered))]
+#[tactic(auto, using(rlp_show_text::specs::ValueLemmas::encoding_answered))]
 pub fn encodings_are_shown<T: ShowValues>(line: &[u8])
     ensures { (x : T) → T.fits x → IsSized (T.item x)
         → bytes_in (strip_carriage_return line.now) ≡ Some (encoding (T.item x))

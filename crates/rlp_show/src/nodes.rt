@@ -1,21 +1,18 @@
 //! Nodes of the trie: leaves, extensions, branches and the empty trie.
 
-ghost use Rattle.std.specs.Prelude.{◌≡◌, ◌++◌, codes, string_bytes, OnOk};
-ghost use Rattle.rlp.specs.Views.View.{item_views};
-ghost use Rattle.rlp_show.specs.Answer.{Shows};
-ghost use Rattle.rlp_show.specs.Lines.{line, prefix, string_shape};
-ghost use Rattle.rlp_show.specs.Nodes.{are_leaf, branch, branch_child, child, child_hash_in, extension, inline_node, is_empty_node, leaf, node_keeping, node_of};
+ghost use Rattle.std.specs.Prelude.{string_bytes};
+ghost use Rattle.rlp_show_text.specs.Answer.{Shows};
+ghost use Rattle.rlp_show_text.specs.Nodes.{branch, branch_child, child, extension, inline_node, leaf, node_keeping, node_of};
 
 use crate::any_item::AnyItem;
-use crate::fault::ShowFault;
-use crate::fields::{Label, name_in, show_fields, show_record};
+use crate::fields::{Label, show_fields, show_record};
 use crate::hashes::Hashed;
-use crate::line::{put_bytes_line, put_line};
 use crate::paths::{ExtensionPath, Path};
 use crate::show::Show;
 use rlp::{DecoderError, Rlp};
-use rlp_ethereum::{Hash, Leaf, ends_in_leaf};
-use std::alloc::{AllocError, Global};
+use rlp_ethereum::{Hash, Leaf};
+use rlp_show_text::{ShowFault, is_empty_node, is_leaf, put_kind, show_child_hash};
+use std::alloc::Global;
 use std::marker::PhantomData;
 
 /// A child of an extension, for [`Show`]. A node that is kept in its parent is a `K`. It has no
@@ -48,29 +45,6 @@ pub struct NodeKeeping<K> {
 /// A node of the trie, for [`Show`], with its hash. In a trie at most three nodes are kept one in
 /// another: an extension, a branch and a leaf. The items of others are shown.
 pub type Node = Hashed<NodeKeeping<NodeKeeping<NodeKeeping<NodeKeeping<AnyItem>>>>>;
-
-/// Appends the line of the hash of a child, or of no bytes.
-fn show_child_hash(
-    alloc: Global,
-    name: &str,
-    item: &Rlp<'_>,
-    out: &mut String,
-) -> Result<(), ShowFault>
-    ensures { Shows (string_shape child_hash_in name.now item.now) (string_bytes out.old)
-        (string_bytes out.new) result }
-{
-    let bytes = match item.decoder().string() {
-        Ok(bytes) => bytes,
-        Err(fault) => return Err(ShowFault::of(alloc, name, fault)),
-    };
-    if !bytes.is_empty() && bytes.len() < 32 {
-        return Err(ShowFault::of(alloc, name, DecoderError::RlpIsTooShort));
-    }
-    if bytes.len() > 32 {
-        return Err(ShowFault::of(alloc, name, DecoderError::RlpIsTooBig));
-    }
-    Ok(put_bytes_line(name, bytes, out)?)
-}
 
 /// Appends the lines of a node that is kept in its parent.
 fn show_inline_node<K: Show>(
@@ -158,37 +132,8 @@ impl<K: Show> Show for BranchOf<K> {
     }
 }
 
-/// Returns whether bytes are the encoding of the empty string.
-fn is_empty_node(bytes: &[u8]) -> bool
-    ensures { result ≡ is_empty_node bytes.now }
-{
-    matches!(bytes, [0x80])
-}
-
-/// Returns whether the first item of a node is the path of a leaf.
-fn is_leaf(node: &Rlp<'_>) -> bool
-    ensures { result ≡ are_leaf (item_views node.now) }
-{
-    match node.iter().next() {
-        Some(path) => match path.decoder().string() {
-            Ok(path) => ends_in_leaf(path).unwrap_or(false),
-            Err(_) => false,
-        },
-        None => false,
-    }
-}
-
-/// Appends the line of the kind of a node.
-fn put_kind(alloc: Global, name: &str, kind: &str, out: &mut String) -> Result<(), AllocError>
-    ensures { OnOk result (string_bytes out.new
-        ≡ string_bytes out.old ++ line (prefix name.now ++ codes "node") kind.now) }
-{
-    let label = name_in(alloc, name, "node")?;
-    put_line(label.as_str(), kind, out)
-}
-
 /// Appends the line of the kind of a node, and then the lines of the node.
-#[tactic(auto, using(crate::proofs::FieldLemmas::fields_in_order))]
+#[tactic(auto, using(rlp_show_text::proofs::FieldLemmas::fields_in_order))]
 fn show_node<T: Show>(
     alloc: Global,
     name: &str,

@@ -1,18 +1,11 @@
 //! Paths of nodes of the trie.
 
-ghost use Rattle.std.specs.Prelude.{◌≡◌, ◌<◌, ◌++◌, [], ◌∷◌, string_bytes, OnOk};
-ghost use Rattle.rlp_trie.specs.HexPrefix.{is_empty_extension, nibbles_of, path_nibbles};
-ghost use Rattle.rlp_show.specs.Answer.{Shows};
-ghost use Rattle.rlp_show.specs.Lines.{line, named};
-ghost use Rattle.rlp_show.specs.Nodes.{extension_path, path, path_in};
-ghost use Rattle.rlp_show.specs.Text.{digits_text, nibbles_text, path_text};
+ghost use Rattle.rlp_show_text.specs.Nodes.{extension_path, path};
 
-use crate::fault::ShowFault;
 use crate::show::Show;
-use rlp::{DecoderError, Rlp};
-use rlp_ethereum::ends_in_leaf;
-use rlp_lines::push_bytes;
-use std::alloc::{AllocError, Global};
+use rlp::Rlp;
+use rlp_show_text::{ShowFault, show_extension_path, show_leaf_path};
+use std::alloc::Global;
 
 /// The path of a leaf, for [`Show`]: hex-prefix encoded bytes, and the nibbles. It has no values.
 pub struct Path;
@@ -20,107 +13,14 @@ pub struct Path;
 /// The path of an extension, for [`Show`]. It has no values.
 pub struct ExtensionPath;
 
-/// Appends a nibble as a hexadecimal digit.
-fn put_nibble(nibble: u8, out: &mut String) -> Result<(), AllocError>
-    requires { nibble < 16 }
-    ensures { OnOk result
-        (string_bytes out.new ≡ string_bytes out.old ++ digits_text (nibble ∷ [])) }
-{
-    if nibble < 10 {
-        return out.push(char::from(b'0' + nibble));
-    }
-    out.push(char::from(b'a' + (nibble - 10)))
-}
-
-/// Appends the nibbles of bytes, two of each.
-fn put_pairs(bytes: &[u8], out: &mut String) -> Result<(), AllocError>
-    ensures { OnOk result (string_bytes out.new
-        ≡ string_bytes out.old ++ digits_text (nibbles_of bytes.now)) }
-{
-    let mut rest = bytes;
-    while let [byte, more @ ..] = rest {
-        put_nibble(byte / 16, out)?;
-        put_nibble(byte % 16, out)?;
-        rest = more;
-    }
-    Ok(())
-}
-
-/// Appends the nibbles of an encoded path.
-fn put_digits(path: &[u8], out: &mut String) -> Result<(), AllocError>
-    ensures { OnOk result (string_bytes out.new
-        ≡ string_bytes out.old ++ digits_text (path_nibbles path.now)) }
-{
-    let [first, rest @ ..] = path else {
-        return Ok(());
-    };
-    if first / 16 % 2 == 1 {
-        put_nibble(first % 16, out)?;
-        return put_pairs(rest, out);
-    }
-    put_pairs(rest, out)
-}
-
-/// Appends the nibbles of an encoded path, in brackets.
-fn put_nibbles(path: &[u8], out: &mut String) -> Result<(), AllocError>
-    ensures { OnOk result (string_bytes out.new
-        ≡ string_bytes out.old ++ nibbles_text (path_nibbles path.now)) }
-{
-    out.push_str(" (nibbles [")?;
-    put_digits(path, out)?;
-    out.push_str("])")
-}
-
-/// Appends the bytes of an encoded path, and its nibbles.
-fn put_path(path: &[u8], out: &mut String) -> Result<(), AllocError>
-    ensures { OnOk result (string_bytes out.new ≡ string_bytes out.old ++ path_text path.now) }
-{
-    out.push_str("0x")?;
-    push_bytes(path, out)?;
-    put_nibbles(path, out)
-}
-
-/// Appends the line of an encoded path.
-fn put_path_line(name: &str, path: &[u8], out: &mut String) -> Result<(), AllocError>
-    ensures { OnOk result (string_bytes out.new
-        ≡ string_bytes out.old ++ line name.now (path_text path.now)) }
-{
-    out.push_str(name)?;
-    out.push_str(": ")?;
-    put_path(path, out)?;
-    out.push('\n')
-}
-
-/// Appends the line of a path. Fails with `Custom("path is not hex-prefix encoded")` for other bytes.
-fn show_path(alloc: Global, name: &str, bytes: &[u8], out: &mut String) -> Result<(), ShowFault>
-    ensures { Shows (named name.now (path_in bytes.now)) (string_bytes out.old)
-        (string_bytes out.new) result }
-{
-    if ends_in_leaf(bytes).is_none() {
-        let fault = DecoderError::Custom("path is not hex-prefix encoded");
-        return Err(ShowFault::of(alloc, name, fault));
-    }
-    Ok(put_path_line(name, bytes, out)?)
-}
-
 /// The bytes of the path, and its nibbles. Fails with `Custom("path is not hex-prefix encoded")` for
 /// other strings.
 impl Show for Path {
     ghost shape = { path };
 
     fn show(alloc: Global, name: &str, item: &Rlp<'_>, out: &mut String) -> Result<(), ShowFault> {
-        match item.decoder().string() {
-            Ok(bytes) => show_path(alloc, name, bytes, out),
-            Err(fault) => Err(ShowFault::of(alloc, name, fault)),
-        }
+        show_leaf_path(alloc, name, item, out)
     }
-}
-
-/// Returns whether bytes are the path of an extension that has no nibbles.
-fn is_empty_extension(path: &[u8]) -> bool
-    ensures { result ≡ is_empty_extension path.now }
-{
-    matches!(path, [0x00])
 }
 
 /// The bytes of the path, and its nibbles. Fails as the path of a leaf does, and with
@@ -129,13 +29,6 @@ impl Show for ExtensionPath {
     ghost shape = { extension_path };
 
     fn show(alloc: Global, name: &str, item: &Rlp<'_>, out: &mut String) -> Result<(), ShowFault> {
-        match item.decoder().string() {
-            Ok(bytes) if is_empty_extension(bytes) => {
-                let fault = DecoderError::Custom("path of an extension is empty");
-                Err(ShowFault::of(alloc, name, fault))
-            }
-            Ok(bytes) => show_path(alloc, name, bytes, out),
-            Err(fault) => Err(ShowFault::of(alloc, name, fault)),
-        }
+        show_extension_path(alloc, name, item, out)
     }
 }

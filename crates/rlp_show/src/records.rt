@@ -4,13 +4,11 @@ ghost use Rattle.rlp_show.specs.Values.{withdrawal_display, account_display, hea
 ghost use Rattle.rlp_show.specs.TransactionValues.{block_display};
 ghost use Rattle.rlp_show.specs.BodyValues.{body_display};
 
-use crate::fault::ShowFault;
 use crate::fields::{Label, show_fields, show_record};
 use crate::hashes::Hashed;
 use crate::lists::Items;
 use crate::numbers::{LegacyV, SignatureNumber};
 use crate::show::Show;
-use crate::signing::{put_typed_signing_hash, show_legacy_signing};
 use rlp::{Rlp, Uint};
 use rlp_ethereum::{
     ACCESS_LIST_TYPE, AUTHORIZATION_MAGIC, AccessList, AccessListItem, AccessListTransaction,
@@ -19,6 +17,7 @@ use rlp_ethereum::{
     SET_CODE_TYPE, SetCodeTransaction, Signed, SignedAuthorization, SignedLegacyTransaction,
     Withdrawal,
 };
+use rlp_show_text::{ShowFault, put_typed_signing_hash, show_legacy_signing};
 use std::alloc::Global;
 
 impl Show for Withdrawal {
@@ -152,7 +151,7 @@ impl Show for AccessListItem {
 impl Show for SignedLegacyTransaction {
     ghost shape = { legacy_transaction_display.shape };
 
-    #[tactic(auto, using(crate::proofs::FieldLemmas::fields_in_order))]
+    #[tactic(auto, using(rlp_show_text::proofs::FieldLemmas::fields_in_order))]
     fn show(alloc: Global, name: &str, item: &Rlp<'_>, out: &mut String) -> Result<(), ShowFault> {
         show_fields!(
             alloc,
@@ -176,7 +175,7 @@ impl Show for SignedLegacyTransaction {
 impl Show for Signed<AccessListTransaction> {
     ghost shape = { access_list_transaction_display.shape };
 
-    #[tactic(auto, using(crate::proofs::FieldLemmas::fields_in_order))]
+    #[tactic(auto, using(rlp_show_text::proofs::FieldLemmas::fields_in_order))]
     fn show(alloc: Global, name: &str, item: &Rlp<'_>, out: &mut String) -> Result<(), ShowFault> {
         show_fields!(
             alloc,
@@ -202,7 +201,7 @@ impl Show for Signed<AccessListTransaction> {
 impl Show for Signed<FeeMarketTransaction> {
     ghost shape = { fee_market_transaction_display.shape };
 
-    #[tactic(auto, using(crate::proofs::FieldLemmas::fields_in_order))]
+    #[tactic(auto, using(rlp_show_text::proofs::FieldLemmas::fields_in_order))]
     fn show(alloc: Global, name: &str, item: &Rlp<'_>, out: &mut String) -> Result<(), ShowFault> {
         show_fields!(
             alloc,
@@ -229,7 +228,7 @@ impl Show for Signed<FeeMarketTransaction> {
 impl Show for Signed<BlobTransaction> {
     ghost shape = { blob_transaction_display.shape };
 
-    #[tactic(auto, using(crate::proofs::FieldLemmas::fields_in_order))]
+    #[tactic(auto, using(rlp_show_text::proofs::FieldLemmas::fields_in_order))]
     fn show(alloc: Global, name: &str, item: &Rlp<'_>, out: &mut String) -> Result<(), ShowFault> {
         show_fields!(
             alloc,
@@ -258,7 +257,7 @@ impl Show for Signed<BlobTransaction> {
 impl Show for SignedAuthorization {
     ghost shape = { authorization_display.shape };
 
-    #[tactic(auto, using(crate::proofs::FieldLemmas::fields_in_order))]
+    #[tactic(auto, using(rlp_show_text::proofs::FieldLemmas::fields_in_order))]
     fn show(alloc: Global, name: &str, item: &Rlp<'_>, out: &mut String) -> Result<(), ShowFault> {
         show_fields!(
             alloc,
@@ -279,7 +278,7 @@ impl Show for SignedAuthorization {
 impl Show for Signed<SetCodeTransaction> {
     ghost shape = { set_code_transaction_display.shape };
 
-    #[tactic(auto, using(crate::proofs::FieldLemmas::fields_in_order))]
+    #[tactic(auto, using(rlp_show_text::proofs::FieldLemmas::fields_in_order))]
     fn show(alloc: Global, name: &str, item: &Rlp<'_>, out: &mut String) -> Result<(), ShowFault> {
         show_fields!(
             alloc,

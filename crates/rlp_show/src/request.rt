@@ -3,8 +3,8 @@
 ghost use Rattle.std.specs.Prelude.{◌≡◌, map, string_bytes};
 
 use crate::answers::{Answers, Form};
-use crate::input::is_record;
 use crate::kind::Kind;
+use rlp_show_text::is_record;
 
 /// What the arguments of the program ask for.
 #[derive(Debug, Clone, Copy, PartialEq, Eq)]

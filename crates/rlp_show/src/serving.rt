@@ -3,7 +3,7 @@
 ghost use Rattle.std.specs.Prelude.{◌≡◌, false, IfOk};
 ghost use Rattle.rlp_lines.specs.Replies.{answer_by};
 ghost use Rattle.rlp_lines.specs.Run.{RunLeaves, TellsFault};
-ghost use Rattle.rlp_show.specs.Answer.{exit_status, longest_line};
+ghost use Rattle.rlp_show_text.specs.Answer.{exit_status, longest_line};
 ghost use Rattle.rlp_show.specs.LineAnswer.{answer_of};
 
 use crate::answers::Answers;

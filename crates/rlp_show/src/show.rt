@@ -1,11 +1,11 @@
 //! Types whose items are shown.
 
 ghost use Rattle.std.specs.Prelude.{string_bytes};
-ghost use Rattle.rlp_show.specs.Answer.{Shows};
-ghost use Rattle.rlp_show.specs.Lines.{Shape};
+ghost use Rattle.rlp_show_text.specs.Answer.{Shows};
+ghost use Rattle.rlp_show_text.specs.Lines.{Shape};
 
-use crate::fault::ShowFault;
 use rlp::Rlp;
+use rlp_show_text::ShowFault;
 use std::alloc::Global;
 
 /// A type whose items are shown as lines, one for each field.

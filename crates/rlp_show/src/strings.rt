@@ -1,41 +1,14 @@
 //! Items that are one string of bytes.
 
-ghost use Rattle.std.specs.List.{list_all};
-ghost use Rattle.std.specs.Prelude.{◌≡◌, ◌==◌, ◌++◌, ◌^◌, ◌<◌, string_bytes, OnOk};
-ghost use Rattle.rlp_headers.specs.ReceiptStatus.{status_bytes};
-ghost use Rattle.rlp_transactions.specs.Recipient.{recipient_bytes};
-ghost use Rattle.rlp_show.specs.Answer.{Shows};
-ghost use Rattle.rlp_show.specs.Lines.{fixed_bytes, byte_string, line, receipt_status, recipient};
-ghost use Rattle.rlp_show.specs.Lines.{address, hash, bloom};
-ghost use Rattle.rlp_show.specs.Text.{bloom_text};
+ghost use Rattle.rlp_show_text.specs.Lines.{address, bloom, byte_string, fixed_bytes, hash, receipt_status, recipient};
 
-use crate::fault::ShowFault;
-use crate::line::{put_bytes_line, put_line};
 use crate::show::Show;
-use rlp::{DecoderError, Rlp};
+use rlp::Rlp;
 use rlp_ethereum::{Address, Bloom, Hash, ReceiptStatus, Recipient};
-use std::alloc::{AllocError, Global};
-
-/// Appends the line of an item of exactly `N` bytes.
-#[tactic(auto, using(crate::specs::StringLemmas::fixed_strings))]
-pub(crate) fn show_fixed<const N: usize>(
-    alloc: Global,
-    name: &str,
-    item: &Rlp<'_>,
-    out: &mut String,
-) -> Result<(), ShowFault>
-    requires { N < 2 ^ 16 }
-    ensures { Shows (fixed_bytes N name.now item.now) (string_bytes out.old)
-        (string_bytes out.new) result }
-{
-    // Only the proof needs this: a slice has fewer than 2^64 bytes, each below 256.
-    let _bytes = item.as_raw();
-    match item.as_val::<[u8; N]>(alloc) {
-        Ok(bytes) => Ok(put_bytes_line(name, &bytes, out)?),
-        Err(DecoderError::OutOfMemory) => Err(ShowFault::OutOfMemory),
-        Err(fault) => Err(ShowFault::of(alloc, name, fault)),
-    }
-}
+use rlp_show_text::{
+    ShowFault, show_bloom, show_bytes, show_fixed, show_receipt_status, show_recipient,
+};
+use std::alloc::Global;
 
 impl Show for Address {
     ghost shape = { address };
@@ -53,36 +26,11 @@ impl Show for Hash {
     }
 }
 
-/// Returns whether all bytes are zero.
-fn are_zero(bytes: &[u8]) -> bool
-    ensures { result ≡ list_all (λ byte. byte == 0) bytes.now }
-{
-    bytes.iter().all(|byte| *byte == 0)
-}
-
-/// Appends the line of a filter of logs, in short if all its bytes are zero.
-fn put_bloom_line(name: &str, bloom: &[u8], out: &mut String) -> Result<(), AllocError>
-    ensures { OnOk result
-        (string_bytes out.new ≡ string_bytes out.old ++ line name.now (bloom_text bloom.now)) }
-{
-    if are_zero(bloom) {
-        return put_line(name, "256 zero bytes", out);
-    }
-    put_bytes_line(name, bloom, out)
-}
-
 impl Show for Bloom {
     ghost shape = { bloom };
 
-    #[tactic(auto, using(crate::specs::StringLemmas::bloom_strings))]
     fn show(alloc: Global, name: &str, item: &Rlp<'_>, out: &mut String) -> Result<(), ShowFault> {
-        // Only the proof needs this: a slice has fewer than 2^64 bytes, each below 256.
-        let _bytes = item.as_raw();
-        match item.as_val::<[u8; 256]>(alloc) {
-            Ok(bytes) => Ok(put_bloom_line(name, &bytes, out)?),
-            Err(DecoderError::OutOfMemory) => Err(ShowFault::OutOfMemory),
-            Err(fault) => Err(ShowFault::of(alloc, name, fault)),
-        }
+        show_bloom(alloc, name, item, out)
     }
 }
 
@@ -98,60 +46,22 @@ impl Show for Vec<u8> {
     ghost shape = { byte_string };
 
     fn show(alloc: Global, name: &str, item: &Rlp<'_>, out: &mut String) -> Result<(), ShowFault> {
-        match item.decoder().string() {
-            Ok(bytes) => Ok(put_bytes_line(name, bytes, out)?),
-            Err(fault) => Err(ShowFault::of(alloc, name, fault)),
-        }
+        show_bytes(alloc, name, item, out)
     }
 }
 
 impl Show for Recipient {
     ghost shape = { recipient };
 
-    #[tactic(auto, using(crate::specs::StringLemmas::recipient_strings))]
     fn show(alloc: Global, name: &str, item: &Rlp<'_>, out: &mut String) -> Result<(), ShowFault> {
-        // Only the proof needs this: a slice has fewer than 2^64 bytes, each below 256.
-        let _bytes = item.as_raw();
-        match item.as_val::<Recipient>(alloc) {
-            Ok(recipient) => Ok(put_bytes_line(name, bytes_of(&recipient), out)?),
-            Err(DecoderError::OutOfMemory) => Err(ShowFault::OutOfMemory),
-            Err(fault) => Err(ShowFault::of(alloc, name, fault)),
-        }
-    }
-}
-
-/// The bytes of a recipient: none if the transaction creates a contract.
-fn bytes_of(recipient: &Recipient) -> &[u8]
-    ensures { result.now ≡ recipient_bytes recipient.now }
-{
-    match recipient {
-        Recipient::Creation => &[],
-        Recipient::Account(address) => &address.0,
+        show_recipient(alloc, name, item, out)
     }
 }
 
 impl Show for ReceiptStatus {
     ghost shape = { receipt_status };
 
-    #[tactic(auto, using(crate::specs::StringLemmas::status_strings))]
     fn show(alloc: Global, name: &str, item: &Rlp<'_>, out: &mut String) -> Result<(), ShowFault> {
-        // Only the proof needs this: a slice has fewer than 2^64 bytes, each below 256.
-        let _bytes = item.as_raw();
-        match item.as_val::<ReceiptStatus>(alloc) {
-            Ok(status) => Ok(put_bytes_line(name, bytes_in(&status), out)?),
-            Err(DecoderError::OutOfMemory) => Err(ShowFault::OutOfMemory),
-            Err(fault) => Err(ShowFault::of(alloc, name, fault)),
-        }
-    }
-}
-
-/// The bytes of a status.
-fn bytes_in(status: &ReceiptStatus) -> &[u8]
-    ensures { result.now ≡ status_bytes status.now }
-{
-    match status {
-        ReceiptStatus::Failure => &[],
-        ReceiptStatus::Success => &[1],
-        ReceiptStatus::StateRoot(root) => &root.0,
+        show_receipt_status(alloc, name, item, out)
     }
 }

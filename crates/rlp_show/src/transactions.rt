@@ -1,16 +1,9 @@
 //! Transactions, in an envelope or without one, by themselves and in the list of a block.
 
-ghost use Rattle.std.specs.Prelude.{◌≡◌, ◌++◌, codes, string_bytes, OnOk};
-ghost use Rattle.rlp_show.specs.Answer.{Shows};
-ghost use Rattle.rlp_show.specs.Lines.{line, prefix};
 ghost use Rattle.rlp_show.specs.Records.{other_transaction, transaction, unknown_transaction};
-ghost use Rattle.rlp_show.specs.Text.{bytes_text, number_text};
 
-use crate::envelopes::{payload_of, put_type, show_typed};
-use crate::fault::ShowFault;
-use crate::fields::name_in;
+use crate::envelopes::show_typed;
 use crate::hashes::Hashed;
-use crate::line::put_bytes_line;
 use crate::show::Show;
 use rlp::{DecoderError, Rlp};
 use rlp_ethereum::{
@@ -18,7 +11,8 @@ use rlp_ethereum::{
     FEE_MARKET_TYPE, FeeMarketTransaction, OtherTransaction, SET_CODE_TYPE, SetCodeTransaction,
     Signed, SignedLegacyTransaction,
 };
-use std::alloc::{AllocError, Global};
+use rlp_show_text::{ShowFault, payload_of, put_other};
+use std::alloc::Global;
 use std::marker::PhantomData;
 
 /// The envelope of a transaction of any type that `rlp_ethereum` knows, or else a `Q`, for [`Show`].
@@ -32,7 +26,7 @@ impl<Q: Show> Show for TypedTransaction<Q> {
 
     ghost shape = { typed_transaction Q.shape };
 
-    #[tactic(auto, using(crate::proofs::FieldLemmas::by_type))]
+    #[tactic(auto, using(rlp_show_text::proofs::FieldLemmas::by_type))]
     fn show(alloc: Global, name: &str, item: &Rlp<'_>, out: &mut String) -> Result<(), ShowFault> {
         let bytes = item.as_raw();
         if let Some(payload) = payload_of(ACCESS_LIST_TYPE, bytes) {
@@ -72,23 +66,6 @@ impl<T: Show, Q: Show> Show for ListOr<T, Q> {
             Q::show(alloc, name, item, out)
         }
     }
-}
-
-/// Appends the lines of a type and of a payload.
-fn put_other(
-    alloc: Global,
-    name: &str,
-    kind: u8,
-    payload: &[u8],
-    out: &mut String,
-) -> Result<(), AllocError>
-    ensures { OnOk result (string_bytes out.new ≡ string_bytes out.old
-        ++ line (prefix name.now ++ codes "type") (number_text kind)
-        ++ line (prefix name.now ++ codes "payload") (bytes_text payload.now)) }
-{
-    put_type(alloc, name, kind, out)?;
-    let label = name_in(alloc, name, "payload")?;
-    put_bytes_line(label.as_str(), payload, out)
 }
 
 /// The envelope of a transaction of an unknown type: the lines of the type and of the payload.

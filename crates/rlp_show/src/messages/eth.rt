@@ -2,11 +2,9 @@
 
 ghost use Rattle.rlp_show.specs.EthValues.{new_block_hash_display, new_block_hashes_display, transactions_display, new_pooled_transaction_hashes_display, block_range_update_display, new_block_display, fork_hash_display, fork_id_display, status68_display, status69_display};
 
-use crate::fault::ShowFault;
 use crate::fields::{Label, show_fields, show_record};
 use crate::lists::Items;
 use crate::show::Show;
-use crate::strings::show_fixed;
 use crate::values::ShowValues;
 use rlp::{Rlp, Uint};
 use rlp_eth::{
@@ -14,6 +12,7 @@ use rlp_eth::{
     NewPooledTransactionHashes, Status68, Status69, Transactions,
 };
 use rlp_ethereum::{AnyTransaction, Block, Hash};
+use rlp_show_text::{ShowFault, show_fixed};
 use std::alloc::Global;
 
 impl Show for ForkHash {

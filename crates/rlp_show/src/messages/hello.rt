@@ -2,20 +2,19 @@
 
 ghost use Rattle.std.specs.Prelude.{◌≡◌, ◌+◌, ◌-◌, ◌<◌, ◌^◌, ◌++◌, codes, drop, length, string_bytes};
 ghost use Rattle.rlp.specs.Views.View.{item_views};
-ghost use Rattle.rlp_show.specs.Answer.{Shows};
-ghost use Rattle.rlp_show.specs.Lines.{fields_lines, in_field, place, prefix, then_lines};
-ghost use Rattle.rlp_show.specs.Nodes.{any_item};
+ghost use Rattle.rlp_show_text.specs.Answer.{Shows};
+ghost use Rattle.rlp_show_text.specs.Lines.{fields_lines, in_field, place, prefix, then_lines};
+ghost use Rattle.rlp_show_text.specs.Nodes.{any_item};
 ghost use Rattle.rlp_show.specs.P2pValues.{further_lines, hello_display, hello_first};
 
 use crate::any_item::AnyItem;
-use crate::fault::{ShowFault, in_field};
-use crate::fields::{Label, ShowFields, name_in, prefix_of, show_fields};
-use crate::lists::{Items, place_in};
-use crate::node_records::skip;
+use crate::fields::{Label, ShowFields, show_fields};
+use crate::lists::Items;
 use crate::show::Show;
 use crate::values::ShowValues;
 use rlp::{DecoderError, Rlp, RlpIterator};
 use rlp_p2p::{Capability, Hello, NodeId};
+use rlp_show_text::{ShowFault, in_field, name_in, place_in, prefix_of, skip};
 use std::alloc::Global;
 
 /// The fields, and then the further items, each of any kind. A list of fewer than five items is no
@@ -45,7 +44,7 @@ impl ShowValues for Hello {
 }
 
 /// Appends the lines of the fields, and then of the further items.
-#[tactic(auto, using(crate::proofs::FieldLemmas::fields_in_order))]
+#[tactic(auto, using(rlp_show_text::proofs::FieldLemmas::fields_in_order))]
 fn show_parts(alloc: Global, name: &str, item: &Rlp<'_>, out: &mut String) -> Result<(), ShowFault>
     ensures { Shows (then_lines (fields_lines (prefix name.now) 0 hello_first
         (item_views item.now))
@@ -129,7 +128,7 @@ fn show_item(
 }
 
 /// Appends the lines of the further items that are the next items.
-#[tactic(auto, using(crate::proofs::FieldLemmas::fields_in_order))]
+#[tactic(auto, using(rlp_show_text::proofs::FieldLemmas::fields_in_order))]
 fn show_next(
     alloc: Global,
     name: &str,

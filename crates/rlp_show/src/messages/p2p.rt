@@ -2,14 +2,13 @@
 
 ghost use Rattle.rlp_show.specs.P2pValues.{capability_display, disconnect_display, node_id_display, ping_display, pong_display};
 
-use crate::fault::ShowFault;
-use crate::fields::{Label, name_in, show_fields, show_record};
+use crate::fields::{Label, show_fields, show_record};
 use crate::pairs::NodeKey;
 use crate::show::Show;
-use crate::strings::show_fixed;
 use crate::values::ShowValues;
 use rlp::Rlp;
 use rlp_p2p::{Capability, Disconnect, NodeId, Ping, Pong};
+use rlp_show_text::{ShowFault, name_in, show_fixed};
 use std::alloc::Global;
 
 /// A ping has no fields, so it has no lines.

@@ -3,7 +3,6 @@
 ghost use Rattle.rlp_show.specs.MessageReceipts.{block_receipts_display, receipts_display, typed_receipt_display};
 
 use crate::envelopes::ReceiptEnvelope;
-use crate::fault::ShowFault;
 use crate::lists::Items;
 use crate::show::Show;
 use crate::transactions::UnknownTransaction;
@@ -11,6 +10,7 @@ use crate::values::ShowValues;
 use rlp::Rlp;
 use rlp_eth::{BlockReceipts, Receipts};
 use rlp_ethereum::{Receipt, TypedReceipt};
+use rlp_show_text::ShowFault;
 use std::alloc::Global;
 
 /// An item of the list of a block's receipts: a list is a receipt without a type, and a string holds

@@ -1,15 +1,12 @@
 //! Requests of `eth` and their answers, but for those with receipts of `eth/68`.
 
 ghost use Rattle.std.specs.Prelude.{◌≡◌, ◌++◌, string_bytes, OnOk};
-ghost use Rattle.rlp_show.specs.Lines.{line};
+ghost use Rattle.rlp_show_text.specs.Lines.{line};
 ghost use Rattle.rlp_show.specs.EthValues.{hash_or_number_display, hash_or_number_text, get_block_headers_display, block_headers_display, get_block_bodies_display, block_bodies_display, get_pooled_transactions_display, pooled_transactions_display, get_receipts_display, receipt69_display, block_receipts69_display, receipts69_display};
 ghost use Rattle.rlp_show.specs.EthValues.{with_request_id_shape, with_request_id_lines, with_request_id_shown, with_request_id_only};
 
-use crate::fault::ShowFault;
 use crate::fields::{Label, show_fields, show_record};
-use crate::line::put_bytes_line;
 use crate::lists::Items;
-use crate::numbers::put_number_line;
 use crate::show::Show;
 use crate::values::ShowValues;
 use rlp::{DecoderError, Rlp, Uint};
@@ -19,6 +16,7 @@ use rlp_eth::{
     WithRequestId,
 };
 use rlp_ethereum::{AnyTransaction, Body, Hash, Header, Log, ReceiptStatus};
+use rlp_show_text::{ShowFault, put_bytes_line, put_number_line};
 use std::alloc::{AllocError, Global};
 
 /// Appends the line of a hash or of a number.

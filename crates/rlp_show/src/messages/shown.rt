@@ -1,11 +1,10 @@
 //! Messages, shown by their kinds.
 
 ghost use Rattle.std.specs.Prelude.{string_bytes};
-ghost use Rattle.rlp_show.specs.Answer.{Shows};
+ghost use Rattle.rlp_show_text.specs.Answer.{Shows};
 ghost use Rattle.rlp_show.specs.MessageKinds.{message_shape};
 
 use super::kind::MessageKind;
-use crate::fault::ShowFault;
 use crate::show::Show;
 use rlp::Rlp;
 use rlp_eth::{
@@ -14,6 +13,7 @@ use rlp_eth::{
     PooledTransactions, Receipts, Receipts69, Status68, Status69, Transactions, WithRequestId,
 };
 use rlp_p2p::{Disconnect, Hello, Ping, Pong};
+use rlp_show_text::ShowFault;
 use std::alloc::Global;
 
 /// Appends the lines of the body of a message of a kind.

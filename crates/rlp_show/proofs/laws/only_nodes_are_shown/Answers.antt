@@ -1,10 +1,10 @@
 use Rattle.std.proofs.Common.{◌∙◌, ◌<◌, ◌^◌, IsOk, [], length, refl, sym, ap, subst, arith}
 use Rattle.rlp.specs.Views.View.{strict_view_of}
-use Rattle.rlp_show.specs.ConverseLemmas.{below}
+use Rattle.rlp_show_text.specs.ConverseLemmas.{below}
 use Rattle.rlp_show.specs.NodeConverse.{hashed_node_only}
 use Rattle.rlp_show.specs.NodeValues.{hashed_node_shown}
-use Rattle.rlp_show.specs.Nodes.{node}
-use Rattle.rlp_show.specs.ValueLemmas.{encoding_answered}
+use Rattle.rlp_show_text.specs.Nodes.{node}
+use Rattle.rlp_show_text.specs.ValueLemmas.{encoding_answered}
 use Rattle.rlp_show.proofs.LineLemmas.{line_slice}
 use Rattle.rlp_show.proofs.laws.only_nodes_are_shown.Goals as goal
 

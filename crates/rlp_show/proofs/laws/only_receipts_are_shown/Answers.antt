@@ -1,5 +1,5 @@
 use Rattle.std.proofs.Common.{◌∙◌, ◌<◌, ◌^◌, Some, IsOk, [], length, refl, sym, ap, subst, arith}
-use Rattle.rlp_show.specs.ConverseLemmas.{below}
+use Rattle.rlp_show_text.specs.ConverseLemmas.{below}
 use Rattle.rlp_show.specs.ReceiptValues.{receipt_answered, receipt_only}
 use Rattle.rlp_show.proofs.LineLemmas.{line_slice}
 use Rattle.rlp_show.proofs.laws.only_receipts_are_shown.Goals as goal

@@ -1,5 +1,5 @@
 use Rattle.std.proofs.Common.{◌∙◌, ◌<◌, ◌^◌, Some, IsOk, [], length, refl, sym, ap, subst, arith}
-use Rattle.rlp_show.specs.ConverseLemmas.{below}
+use Rattle.rlp_show_text.specs.ConverseLemmas.{below}
 use Rattle.rlp_show.specs.ConverseTransactions.{alone_only}
 use Rattle.rlp_show.specs.TransactionValues.{transaction_answered}
 use Rattle.rlp_show.proofs.LineLemmas.{line_slice}

@@ -1,7 +1,7 @@
 use Rattle.std.proofs.Common.{◌≡◌, ◌+◌, ◌<◌, ◌^◌, length, string_bytes}
 use Rattle.rlp.specs.Views.View.{item_views}
-use Rattle.rlp_show.specs.Lines.{items_lines}
-use Rattle.rlp_show.specs.Answer.{after_text}
+use Rattle.rlp_show_text.specs.Lines.{items_lines}
+use Rattle.rlp_show_text.specs.Answer.{after_text}
 use Rattle.rlp_show.proofs.lists.show_items.Given as goal
 
 -- the lines of the items that are left, after the text so far, are those of all items

@@ -1,7 +1,7 @@
 use Rattle.std.proofs.Common.{◌≡◌, ◌+◌, ◌<◌, ◌^◌, length, rules, string_bytes, subst}
 use Rattle.rlp.specs.Views.View.{item_views}
-use Rattle.rlp_show.specs.Answer.{Shows}
-use Rattle.rlp_show.specs.Lines.{fields_lines, prefix}
+use Rattle.rlp_show_text.specs.Answer.{Shows}
+use Rattle.rlp_show_text.specs.Lines.{fields_lines, prefix}
 use Rattle.rlp_show.specs.P2pValues.{hello_first}
 use Rattle.rlp_show.proofs.messages.hello.show_first_fields.Goals as goal
 

@@ -1,6 +1,6 @@
 use Rattle.std.proofs.Common.{rules, string_bytes}
-use Rattle.rlp_show.specs.Lines.{place}
-use Rattle.rlp_show.specs.Nodes.{any_item}
+use Rattle.rlp_show_text.specs.Lines.{place}
+use Rattle.rlp_show_text.specs.Nodes.{any_item}
 use Rattle.rlp_show.proofs.messages.hello.show_item.Goals as goal
 
 pub returns : goal.returns

@@ -1,6 +1,6 @@
 use Rattle.std.proofs.Common.{◌≡◌, ◌-◌, ◌+◌, ◌<◌, ◌^◌, length, string_bytes}
 use Rattle.rlp_show.specs.P2pValues.{further_lines}
-use Rattle.rlp_show.specs.Answer.{after_text}
+use Rattle.rlp_show_text.specs.Answer.{after_text}
 use Rattle.rlp_show.proofs.messages.hello.show_next.Given as goal
 
 -- the lines of the items that are left, after the text so far, are those of all further items

@@ -1,8 +1,8 @@
 use Rattle.std.proofs.Common.{◌≤◌, length, string_bytes, ap, arith, subst, sym}
-use Rattle.rlp_show.specs.Answer.{Shows}
-use Rattle.rlp_show.specs.Lines.{Shown}
-use Rattle.rlp_show.specs.NodeRecords.{node_fields}
-use Rattle.rlp_show.specs.NodeRecordLemmas.{record_short}
+use Rattle.rlp_show_text.specs.Answer.{Shows}
+use Rattle.rlp_show_text.specs.Lines.{Shown}
+use Rattle.rlp_show_text.specs.NodeRecords.{node_fields}
+use Rattle.rlp_show_text.specs.NodeRecordLemmas.{record_short}
 use Rattle.rlp_show.proofs.node_records.NodeRecordShow.show.Goals as goal
 
 pub returns : goal.returns

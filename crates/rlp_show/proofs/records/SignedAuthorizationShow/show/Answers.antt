@@ -1,5 +1,5 @@
 use Rattle.std.proofs.Common.{◌∙◌, Ok, ap, sym}
-use Rattle.rlp_show.proofs.FieldLemmas.{after_both}
+use Rattle.rlp_show_text.proofs.FieldLemmas.{after_both}
 use Rattle.rlp_show.proofs.records.SignedAuthorizationShow.show.Goals as goal
 
 pub returns : goal.returns

@@ -1,0 +1,145 @@
+//! The hashes of what is signed of transactions and authorizations.
+
+ghost use Rattle.std.specs.Prelude.{◌≡◌, ◌++◌, ◌∷◌, drop, string_bytes, IfOk, OnOk};
+ghost use Rattle.rlp.specs.Streams.Stream.{list_encoding};
+ghost use Rattle.rlp.specs.Views.View.{item_views};
+ghost use Rattle.rlp_show_text.specs.Answer.{Shows};
+ghost use Rattle.rlp_show_text.specs.Signing.{chain_bytes, first_bytes, legacy_signing, said_line, signing_line, signing_of};
+
+use crate::fault::ShowFault;
+use crate::hashes::put_hash;
+use crate::numbers::said_by;
+use rlp::{DecoderError, Rlp, RlpIterator, RlpStream, Uint};
+use rlp_transactions::Eip155;
+use std::alloc::{AllocError, Global};
+
+/// Returns the bytes of the next items, at most `count` of them.
+#[tactic(auto, using(crate::proofs::SigningLemmas::next_items))]
+fn next_bytes(
+    alloc: Global,
+    count: usize,
+    items: &mut RlpIterator<'_, '_>,
+) -> Result<Vec<u8>, AllocError>
+    ensures bytes { IfOk result (λ b. b.items ≡ first_bytes count items.old.left) }
+    ensures left { OnOk result (items.new.left ≡ drop count items.old.left) }
+{
+    let mut bytes = Vec::new(alloc);
+    let mut left = count;
+    while left > 0 {
+        let Some(next) = items.next() else {
+            return Ok(bytes);
+        };
+        bytes.extend_from_slice(next.as_raw())?;
+        left -= 1;
+    }
+    Ok(bytes)
+}
+
+/// Appends the line of the hash of some bytes and, after them, the encoding of a list. The bytes of
+/// its items are in two parts.
+fn put_signing_hash(
+    alloc: Global,
+    name: &str,
+    front: &[u8],
+    items: &[u8],
+    others: &[u8],
+    out: &mut String,
+) -> Result<(), AllocError>
+    ensures { OnOk result (string_bytes out.new ≡ string_bytes out.old
+        ++ signing_line name.now (front.now ++ list_encoding (items.now ++ others.now))) }
+{
+    let mut s = RlpStream::new(alloc)?;
+    s.append_raw(front, 0)?;
+    s.begin_list(1)?;
+    s.append_raw(items, 0)?;
+    s.append_raw(others, 1)?;
+    put_hash(alloc, name, "signing_hash", s.out().as_slice(), out)
+}
+
+/// Appends the line of the hash of what is signed of a record: the byte `kind`, and the list of its
+/// first `count` fields.
+pub fn put_typed_signing_hash(
+    alloc: Global,
+    name: &str,
+    kind: u8,
+    count: usize,
+    item: &Rlp<'_>,
+    out: &mut String,
+) -> Result<(), AllocError>
+    ensures { OnOk result (string_bytes out.new ≡ string_bytes out.old ++ signing_line name.now
+        (kind ∷ list_encoding (first_bytes count (item_views item.now)))) }
+{
+    let fields = next_bytes(alloc, count, &mut item.iter())?;
+    put_signing_hash(alloc, name, &[kind], &[], fields.as_slice(), out)
+}
+
+/// Returns what EIP-155 adds to the fields that are signed: the number of the chain, 0 and 0.
+fn chain_bytes(alloc: Global, chain: Option<u64>) -> Result<Vec<u8>, AllocError>
+    ensures { IfOk result (λ b. b.items ≡ chain_bytes chain) }
+{
+    let mut bytes = Vec::new(alloc);
+    if let Some(chain) = chain {
+        bytes.extend_from_slice(rlp::encode(alloc, &chain)?.as_slice())?;
+        bytes.extend_from_slice(&[0x80, 0x80])?;
+    }
+    Ok(bytes)
+}
+
+/// Appends the line of the hash of what is signed without a type, by the first six fields and by what
+/// `v` says. There is no line if it says nothing.
+fn put_said(
+    alloc: Global,
+    name: &str,
+    six: &[u8],
+    said: Option<Eip155>,
+    out: &mut String,
+) -> Result<(), AllocError>
+    ensures { OnOk result (string_bytes out.new
+        ≡ string_bytes out.old ++ said_line name.now six.now said) }
+{
+    let Some(said) = said else {
+        return Ok(());
+    };
+    let chain = chain_bytes(alloc, said.chain_id)?;
+    put_signing_hash(alloc, name, &[], six, chain.as_slice(), out)
+}
+
+/// Appends the line of the hash of what is signed without a type, by the first six fields and the
+/// item that is `v`.
+#[tactic(auto, using(crate::specs::StringLemmas::signing_strings))]
+fn show_signing_of(
+    alloc: Global,
+    name: &str,
+    six: &[u8],
+    v: &Rlp<'_>,
+    out: &mut String,
+) -> Result<(), ShowFault>
+    ensures { Shows (signing_of six.now name.now v.now) (string_bytes out.old)
+        (string_bytes out.new) result }
+{
+    // Only the proof needs this: a slice has fewer than 2^64 bytes, each below 256.
+    let _bytes = v.as_raw();
+    match v.as_val::<Uint<32>>(alloc) {
+        Ok(v) => Ok(put_said(alloc, name, six, said_by(&v), out)?),
+        Err(DecoderError::OutOfMemory) => Err(ShowFault::OutOfMemory),
+        Err(fault) => Err(ShowFault::of(alloc, name, fault)),
+    }
+}
+
+/// Appends the line of the hash of what is signed of a transaction without a type.
+pub fn show_legacy_signing(
+    alloc: Global,
+    name: &str,
+    item: &Rlp<'_>,
+    out: &mut String,
+) -> Result<(), ShowFault>
+    ensures { Shows (legacy_signing name.now item.now) (string_bytes out.old)
+        (string_bytes out.new) result }
+{
+    let mut items = item.iter();
+    let six = next_bytes(alloc, 6, &mut items)?;
+    match items.next() {
+        Some(v) => show_signing_of(alloc, name, six.as_slice(), &v, out),
+        None => Err(ShowFault::of(alloc, name, DecoderError::RlpIsTooShort)),
+    }
+}
