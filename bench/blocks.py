@@ -2,7 +2,7 @@
 
 usage: blocks.py [BLOCKS]
 
-It writes BLOCKS blocks, or those of a day, as `rlp_scale day` reads them. Each block is three lines of a letter, a space and digits: `b`
+It writes BLOCKS blocks, or those of a day, as `rlp_bench day` reads them. Each block is three lines of a letter, a space and digits: `b`
 and the block, `r` and the list of its receipts, `n` and the list of the nodes on the way to the accounts of its senders. The seed is
 fixed. What is called chosen has no published average here.
 """
