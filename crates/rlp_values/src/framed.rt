@@ -46,7 +46,7 @@ pub fn begins_as_list(bytes: &[u8]) -> bool
 }
 
 /// Returns the item that the bytes begin with and the bytes that follow it, or the fault of the
-/// bytes. It reads the item's header once. All functions that go over items call it.
+/// bytes. It reads the item's header once.
 #[inline(always)]
 pub fn first_framed<'a>(bytes: &'a [u8]) -> Result<(Framed<'a>, &'a [u8]), DecoderError>
     ensures header { MatchResult result (λ r. framing bytes.now ≡ Ok r.0.header)

@@ -189,6 +189,7 @@ impl<'a> Rlp<'a> {
     ///
     /// It reads the list's header and at most `index + 1` more. A strict view has the faults of
     /// [`Rlp::item_count`] first, and reads the header of each item to find them.
+    #[inline(always)]
     pub fn at_with_offset(&self, index: usize) -> Result<(Rlp<'a>, usize), DecoderError>
         ensures { result ≡ item_with_place self.now index }
     {
