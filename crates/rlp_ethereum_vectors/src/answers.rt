@@ -3,11 +3,12 @@
 use crate::alone::Payload;
 use crate::fields::{fields, forks, london};
 use crate::reading::{Alone, Item, ways};
-use crate::{bounded, hashes, records, signing, unsigned};
+use crate::{bounded, hashes, node_records, nodes, records, signing, unsigned};
 use rlp_ethereum::{
     AccessListTransaction, Account, AnyTransaction, Authorization, BlobTransaction, Block, Body,
-    FeeMarketTransaction, Hash, Header, Log, SetCodeTransaction, Signed, SignedLegacyTransaction,
-    Transaction, TypedReceipt, UnsignedLegacyTransaction, UnsignedTransaction, Withdrawal,
+    Branch, BranchChild, Child, Extension, FeeMarketTransaction, Hash, Header, Leaf, Log,
+    NodeRecord, SetCodeTransaction, Signed, SignedLegacyTransaction, Transaction, TrieNode,
+    TypedReceipt, UnsignedLegacyTransaction, UnsignedTransaction, Withdrawal,
 };
 use rlp_rows::Line;
 use std::alloc::Global;
@@ -81,6 +82,24 @@ fn tell_named(alloc: Global, call: &str, bytes: &[u8], out: &mut Line) -> fmt::R
         "signed" => unsigned::tell(alloc, name, bytes, out),
         "hash" => hashes::tell(alloc, name, bytes, out),
         "at most" => bounded::tell(alloc, name, bytes, out),
-        _ => write!(out, "no such call"),
+        "node" => nodes::tell(alloc, name, bytes, out),
+        "node record" => node_records::tell(alloc, name, bytes, out),
+        _ => tell_node(alloc, call, bytes, out),
+    }
+}
+
+/// Tells what a call answers about the bytes of a node.
+fn tell_node(alloc: Global, call: &str, bytes: &[u8], out: &mut Line) -> fmt::Result {
+    match call {
+        "Branch" => ways::<Item<Branch>>(alloc, bytes, out),
+        "BranchChild" => ways::<Item<BranchChild>>(alloc, bytes, out),
+        "Child" => ways::<Item<Child>>(alloc, bytes, out),
+        "Extension" => ways::<Item<Extension>>(alloc, bytes, out),
+        "Leaf" => ways::<Item<Leaf>>(alloc, bytes, out),
+        "NodeRecord" => ways::<Item<NodeRecord>>(alloc, bytes, out),
+        "TrieNode" => ways::<Item<TrieNode>>(alloc, bytes, out),
+        "fields of TrieNode" => nodes::tell_fields(alloc, bytes, out),
+        "hash of TrieNode" => nodes::tell_hash(alloc, bytes, out),
+        _ => out.write_str("no such call"),
     }
 }

@@ -22,8 +22,8 @@ pub(crate) const ROWS: &str = "
 /// Tells the answer for a withdrawal with at most this many items.
 pub(crate) fn tell(alloc: Global, most: &str, bytes: &[u8], out: &mut Line) -> fmt::Result {
     match decode_at_most::<Withdrawal>(alloc, bytes, number(most)) {
-        Ok(_) => write!(out, "Ok"),
+        Ok(_) => out.write_str("Ok"),
         Err(DecoderError::Custom(text)) => out.write_str(text),
-        Err(fault) => write!(out, "{fault}"),
+        Err(fault) => out.display(fault),
     }
 }

@@ -69,7 +69,8 @@ fn tell_hashes(header: &Header, out: &mut Line) -> fmt::Result {
 pub(crate) fn tell_words(words: &[&[u8]], out: &mut Line) -> fmt::Result {
     let mut gap = "";
     for word in words {
-        write!(out, "{gap}{:?}", Hex(word))?;
+        out.write_str(gap)?;
+        out.debug(Hex(word))?;
         gap = " ";
     }
     Ok(())
@@ -87,8 +88,10 @@ fn digits_of(hash: Option<&Hash>) -> &[u8] {
 pub(crate) fn forks(alloc: Global, bytes: &[u8], out: &mut Line) -> fmt::Result {
     match rlp::decode_strict::<Header>(alloc, bytes) {
         Ok(header) => {
-            let (len, number, has_root) = (bytes.len(), header.number, header.shanghai().is_some());
-            write!(out, "{len} {number} {has_root} ")?;
+            out.debug(bytes.len())?;
+            out.then(header.number)?;
+            out.then(header.shanghai().is_some())?;
+            out.write_str(" ")?;
             tell_forks(&header, out)
         }
         Err(found) => fault(&found, out),
@@ -104,29 +107,34 @@ fn tell_forks(header: &Header, out: &mut Line) -> fmt::Result {
     let root = digits_of(header.shanghai().map(|shanghai| &shanghai.withdrawals_root));
     match header.cancun() {
         Some(cancun) => {
-            let (used, excess) = (cancun.blob_gas_used, cancun.excess_blob_gas);
-            write!(out, "Some({used}) Some({excess}) ")?;
+            out.debug(Some(cancun.blob_gas_used))?;
+            out.then(Some(cancun.excess_blob_gas))?;
+            out.write_str(" ")?;
             let parent = cancun.parent_beacon_block_root.0.as_slice();
             let requests = digits_of(cancun.requests_hash.as_ref());
             tell_words(&[fee, root, parent, requests], out)
         }
-        None => write!(out, "None None {:?} {:?}", Hex(fee), Hex(root)),
+        None => {
+            out.write_str("None None ")?;
+            tell_words(&[fee, root], out)
+        }
     }
 }
 
 /// Tells what the fault of the fields since London prints.
 pub(crate) fn london(alloc: Global, bytes: &[u8], out: &mut Line) -> fmt::Result {
     match rlp::decode_struct::<London>(alloc, &Rlp::new(bytes)) {
-        Ok(_) => write!(out, "no fault"),
-        Err(fault) => write!(out, "{fault}"),
+        Ok(_) => out.write_str("no fault"),
+        Err(fault) => out.display(fault),
     }
 }
 
 /// The number, the withdrawals and the length of a block.
 impl Told for Block {
     fn tell(&self, len: usize, out: &mut Line) -> fmt::Result {
-        let (number, has_withdrawals) = (self.header.number, self.withdrawals.is_some());
-        write!(out, "{number} {has_withdrawals} {len}")
+        out.debug(self.header.number)?;
+        out.then(self.withdrawals.is_some())?;
+        out.then(len)
     }
 }
 
@@ -135,10 +143,10 @@ impl Told for Body {
     fn tell(&self, _len: usize, out: &mut Line) -> fmt::Result {
         for transaction in self.transactions.iter() {
             tell_any(transaction, out)?;
-            write!(out, ", ")?;
+            out.write_str(", ")?;
         }
-        let (ommers, has_withdrawals) = (self.ommers.len(), self.withdrawals.is_some());
-        write!(out, "{ommers} {has_withdrawals}")
+        out.debug(self.ommers.len())?;
+        out.then(self.withdrawals.is_some())
     }
 }
 
@@ -148,17 +156,19 @@ fn tell_any(transaction: &AnyTransaction, out: &mut Line) -> fmt::Result {
     match transaction {
         AnyTransaction::Known(known) => tell_numbers(known, out),
         AnyTransaction::Other(other) => {
-            let (kind, len) = (other.transaction_type(), other.payload().len());
-            write!(out, "other type {kind} {len}")
+            out.write_str("other type")?;
+            out.then(other.transaction_type())?;
+            out.then(other.payload().len())
         }
     }
 }
 
 /// Tells the type, the nonce and the limit of gas of a transaction.
 fn tell_numbers(transaction: &Transaction, out: &mut Line) -> fmt::Result {
-    let kind = transaction.transaction_type();
-    let (nonce, gas) = (transaction.nonce(), transaction.gas_limit());
-    write!(out, "type {kind} {nonce} {gas}")
+    out.write_str("type")?;
+    out.then(transaction.transaction_type())?;
+    out.then(transaction.nonce())?;
+    out.then(transaction.gas_limit())
 }
 
 /// The recipient and the numbers of a legacy transaction.
@@ -178,8 +188,9 @@ impl Told for SignedLegacyTransaction {
             &self.s.bytes,
         ];
         tell_words(&words, out)?;
-        let (nonce, gas_limit, len) = (tx.nonce, tx.gas_limit, tx.data.len());
-        write!(out, " {nonce} {gas_limit} {len}")
+        out.then(tx.nonce)?;
+        out.then(tx.gas_limit)?;
+        out.then(tx.data.len())
     }
 }
 
@@ -214,16 +225,17 @@ fn tell_set_code(signed: &Signed<SetCodeTransaction>, out: &mut Line) -> fmt::Re
         &signed.s.bytes,
     ];
     tell_words(&words, out)?;
-    let (nonce, gas, parity) = (tx.nonce, tx.gas_limit, signed.v);
-    write!(out, " {nonce} {gas} {parity}")
+    out.then(tx.nonce)?;
+    out.then(tx.gas_limit)?;
+    out.then(signed.v)
 }
 
 /// Tells the fields of an authorization.
 fn tell_authorization(one: &SignedAuthorization, out: &mut Line) -> fmt::Result {
     let words: [&[u8]; 3] = [&one.payload.chain_id.bytes, &one.r.bytes, &one.s.bytes];
     tell_words(&words, out)?;
-    let (nonce, parity) = (one.payload.nonce, one.v);
-    write!(out, " {nonce} {parity}")
+    out.then(one.payload.nonce)?;
+    out.then(one.v)
 }
 
 /// Tells the fields of a transaction by itself.
@@ -259,10 +271,10 @@ pub(crate) fn tell_parts(tx: &Transaction, out: &mut Line) -> fmt::Result {
         None => b"".as_slice(),
     };
     let (value, input) = (tx.value().bytes.as_slice(), tx.input());
-    let (nonce, gas_limit) = (tx.nonce(), tx.gas_limit());
-    let accesses = tx.access_list().map(|list| list.0.len());
     tell_words(&[to, value, input], out)?;
-    write!(out, " {nonce} {gas_limit} {accesses:?}")
+    out.then(tx.nonce())?;
+    out.then(tx.gas_limit())?;
+    out.then(tx.access_list().map(|list| list.0.len()))
 }
 
 /// The name of the type of a receipt.

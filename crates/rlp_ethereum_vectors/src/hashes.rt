@@ -98,7 +98,7 @@ fn hash(alloc: Global, kind: &str, bytes: &[u8]) -> Result<Hash, DecoderError> {
 /// Tells the hash of the record that these bytes encode.
 pub(crate) fn tell(alloc: Global, kind: &str, bytes: &[u8], out: &mut Line) -> fmt::Result {
     match hash(alloc, kind, bytes) {
-        Ok(hash) => write!(out, "{:?}", Hex(hash.0.as_slice())),
+        Ok(hash) => out.debug(Hex(hash.0.as_slice())),
         Err(found) => fault(&found, out),
     }
 }

@@ -1,11 +1,14 @@
 //! The laws of `rlp_ethereum`, called for several of its types. What a law says is proved.
 
+use crate::node_records::TEXTS;
 use crate::text::bytes_of;
 use rlp_ethereum::laws::{
     bytes_tell_transactions, encodings_tell_records, no_bytes_are_signed_for_two_meanings,
-    reading_without_memory_is_total, record_is_read, record_is_written, record_round_trips,
+    node_text_round_trips, reading_without_memory_is_total, record_is_read, record_is_written,
+    record_round_trips,
 };
-use rlp_ethereum::{Account, AnyTransaction, Record, Withdrawal};
+use rlp_ethereum::{Account, AnyTransaction, NodeRecord, Record, Withdrawal};
+use rlp_trie::laws::paths_have_one_value;
 use std::alloc::Global;
 use std::test::Fail;
 
@@ -44,5 +47,16 @@ fn laws_hold_of_records(rt: HostRuntime) -> Result<(), Fail> {
     let transaction = AnyTransaction::from_bytes(alloc, bytes.as_slice())?;
     bytes_tell_transactions(&transaction, &transaction);
     no_bytes_are_signed_for_two_meanings();
+    Ok(())
+}
+
+#[test]
+fn laws_hold_of_nodes(rt: HostRuntime) -> Result<(), Fail> {
+    let alloc = rt.alloc();
+    paths_have_one_value();
+    let (example, _) = TEXTS.split_once(" | ").unwrap_or((TEXTS, ""));
+    let node = NodeRecord::from_text(alloc, example)?;
+    let back = node_text_round_trips(alloc, &node)?;
+    assert!(rt; back.fields() == node.fields());
     Ok(())
 }

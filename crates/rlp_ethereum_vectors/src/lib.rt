@@ -1,4 +1,5 @@
-//! Tests of the records of Ethereum, compared with public records. The crate has only tests.
+//! Tests of the records of Ethereum, compared with public records: of transactions, blocks, nodes of
+//! the trie, proofs and node records, and of Keccak-256. The crate has only tests.
 //!
 //! The tests are tables of text. A row of a table is a line with bars between its cells: the call,
 //! its bytes, and what it answers. A row with two cells answers `both ways`: the bytes are read as a
@@ -19,7 +20,15 @@ mod hashes;
 #[cfg(test)]
 mod laws;
 #[cfg(test)]
+mod message_hashes;
+#[cfg(test)]
 mod named;
+#[cfg(test)]
+mod node_records;
+#[cfg(test)]
+mod nodes;
+#[cfg(test)]
+mod proofs;
 #[cfg(test)]
 mod reading;
 #[cfg(test)]

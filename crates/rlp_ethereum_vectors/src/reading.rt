@@ -10,14 +10,14 @@ use std::fmt::Write;
 /// Tells the digits of what is written.
 pub(crate) fn digits(written: Result<BytesMut, AllocError>, out: &mut Line) -> fmt::Result {
     match written {
-        Ok(bytes) => write!(out, "{:?}", Hex(bytes.as_slice())),
+        Ok(bytes) => out.debug(Hex(bytes.as_slice())),
         Err(_) => Err(fmt::Error),
     }
 }
 
 /// Tells a fault.
 pub(crate) fn fault(fault: &DecoderError, out: &mut Line) -> fmt::Result {
-    write!(out, "{fault:?}")
+    out.debug(fault)
 }
 
 /// A way to read bytes as a value, and to write the value again.
@@ -94,9 +94,9 @@ pub(crate) fn ways<R: Reading>(alloc: Global, bytes: &[u8], out: &mut Line) -> f
     match R::again(alloc, bytes) {
         Ok(again) => {
             if again.as_slice() == bytes && is_cut_noticed::<R>(alloc, bytes)? {
-                return write!(out, "both ways");
+                return out.write_str("both ways");
             }
-            write!(out, "{:?}", Hex(again.as_slice()))
+            out.debug(Hex(again.as_slice()))
         }
         Err(found) => fault(&found, out),
     }
@@ -130,7 +130,7 @@ pub(crate) fn made<T: Encodable + Decodable>(
     if written.as_slice() == bytes {
         return ways::<Item<T>>(alloc, bytes, out);
     }
-    write!(out, "{:?}", Hex(written.as_slice()))
+    out.debug(Hex(written.as_slice()))
 }
 
 /// Tells what [`made`] does about a value, or the fault that there is in its place.
@@ -142,6 +142,6 @@ pub(crate) fn made_of<T: Encodable + Decodable + Drop, E: fmt::Debug + Drop>(
 ) -> fmt::Result {
     match value {
         Ok(value) => made(alloc, &value, bytes, out),
-        Err(found) => write!(out, "{found:?}"),
+        Err(found) => out.debug(found),
     }
 }

@@ -2,18 +2,20 @@
 
 use crate::answers::tell;
 use crate::text::bytes_of;
-use crate::{bounded, hashes, records, signing, unsigned};
+use crate::{bounded, hashes, node_records, nodes, records, signing, unsigned};
 use rlp_rows::Line;
 use std::alloc::{AllocError, Global};
 use std::test::Fail;
 
 /// The tables.
-const TABLES: [&str; 5] = [
+const TABLES: [&str; 7] = [
     records::ROWS,
     signing::ROWS,
     unsigned::ROWS,
     hashes::ROWS,
     bounded::ROWS,
+    nodes::ROWS,
+    node_records::ROWS,
 ];
 
 /// Notes a row whose call tells something else. The answer `refused` is any fault.

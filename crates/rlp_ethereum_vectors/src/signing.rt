@@ -153,8 +153,8 @@ pub(crate) fn tell_sent(alloc: Global, name: &str, bytes: &[u8], out: &mut Line)
 /// Tells what is signed of a transaction.
 pub(crate) fn tell_payload(alloc: Global, signed: &Transaction, out: &mut Line) -> fmt::Result {
     match signed.signing_payload(alloc)? {
-        Some(payload) => write!(out, "{:?}", Hex(payload.as_slice())),
-        None => write!(out, "None"),
+        Some(payload) => out.debug(Hex(payload.as_slice())),
+        None => out.write_str("None"),
     }
 }
 
@@ -172,16 +172,17 @@ pub(crate) fn tell_again(
             let is_same = again.as_slice() == bytes;
             out.write_str(if is_same { "the same" } else { "other bytes" })
         }
-        None => write!(out, "None"),
+        None => out.write_str("None"),
     }
 }
 
 /// Tells the type, the chain, the two fees as they are written, and whether there is a price of gas.
 pub(crate) fn tell_fees(alloc: Global, signed: &Transaction, out: &mut Line) -> fmt::Result {
-    let (kind, chain) = (signed.transaction_type(), signed.chain_id());
-    write!(out, "{kind} {chain:?} ")?;
+    out.debug(signed.transaction_type())?;
+    out.then(signed.chain_id())?;
+    out.write_str(" ")?;
     digits(rlp::encode(alloc, signed.max_fee_per_gas()), out)?;
-    write!(out, " ")?;
+    out.write_str(" ")?;
     digits(rlp::encode(alloc, signed.max_priority_fee_per_gas()), out)?;
-    write!(out, " {}", signed.gas_price().is_some())
+    out.then(signed.gas_price().is_some())
 }

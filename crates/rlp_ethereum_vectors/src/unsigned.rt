@@ -308,8 +308,9 @@ pub(crate) fn tell(alloc: Global, name: &str, bytes: &[u8], out: &mut Line) -> f
 
 /// Tells the number of the chain, the address and the nonce of an authorization.
 fn tell_authorization(read: &Authorization, out: &mut Line) -> fmt::Result {
-    let (chain, address) = (Hex(&read.chain_id.bytes), Hex(&read.address.0));
-    write!(out, "{chain:?} {address:?} {}", read.nonce)
+    out.debug(Hex(&read.chain_id.bytes))?;
+    out.then(Hex(&read.address.0))?;
+    out.then(read.nonce)
 }
 
 /// Tells the number of the chain, the nonce and the limit of gas of a transaction.
@@ -321,7 +322,9 @@ fn tell_numbers(unsigned: &UnsignedTransaction, out: &mut Line) -> fmt::Result {
         UnsignedTransaction::Blob(tx) => (Some(tx.chain_id), tx.nonce, tx.gas_limit),
         UnsignedTransaction::SetCode(tx) => (Some(tx.chain_id), tx.nonce, tx.gas_limit),
     };
-    write!(out, "{chain:?} {nonce} {gas}")
+    out.debug(chain)?;
+    out.then(nonce)?;
+    out.then(gas)
 }
 
 /// Tells what a call about a signed transaction answers.
@@ -364,7 +367,8 @@ fn tell_unsigned(alloc: Global, unsigned: UnsignedTransaction, out: &mut Line) -
 fn tell_ways(alloc: Global, unsigned: UnsignedTransaction, out: &mut Line) -> fmt::Result {
     let payload = unsigned.to_bytes(alloc)?;
     ways::<Alone<UnsignedTransaction>>(alloc, payload.as_slice(), out)?;
-    write!(out, ", {}", payload.len())
+    out.write_str(",")?;
+    out.then(payload.len())
 }
 
 /// Returns a signed transaction without its signature. A legacy transaction is for this chain.

@@ -56,6 +56,6 @@ fn tell_named(alloc: Global, call: &str, bytes: &[u8], out: &mut Line) -> fmt::R
         "id" => ids::tell(alloc, name, bytes, out),
         "message" => messages::tell(alloc, name, bytes, out),
         "request" => requests::tell(alloc, name, bytes, out),
-        _ => write!(out, "no such call"),
+        _ => out.write_str("no such call"),
     }
 }

@@ -33,7 +33,8 @@ pub(crate) fn fields<T: Decodable + Told>(
 /// The number of a request, and the fields of its content.
 impl<T: Told> Told for WithRequestId<T> {
     fn tell(&self, out: &mut Line) -> fmt::Result {
-        write!(out, "{}:", self.request_id)?;
+        out.debug(self.request_id)?;
+        out.write_str(":")?;
         self.content.tell(out)
     }
 }
@@ -63,7 +64,7 @@ impl Told for PooledTransactions {
     fn tell(&self, out: &mut Line) -> fmt::Result {
         for transaction in self.0.iter() {
             let (_, nonce, _) = numbers(transaction);
-            write!(out, " {nonce}")?;
+            out.then(nonce)?;
         }
         Ok(())
     }
@@ -72,7 +73,7 @@ impl Told for PooledTransactions {
 /// The number of the headers.
 impl Told for BlockHeaders {
     fn tell(&self, out: &mut Line) -> fmt::Result {
-        write!(out, " {}", self.0.len())
+        out.then(self.0.len())
     }
 }
 
@@ -80,8 +81,9 @@ impl Told for BlockHeaders {
 impl Told for BlockBodies {
     fn tell(&self, out: &mut Line) -> fmt::Result {
         for body in self.0.iter() {
-            let (transactions, ommers) = (body.transactions.len(), body.ommers.len());
-            write!(out, " {transactions} {ommers};")?;
+            out.then(body.transactions.len())?;
+            out.then(body.ommers.len())?;
+            out.write_str(";")?;
         }
         Ok(())
     }
@@ -90,27 +92,30 @@ impl Told for BlockBodies {
 /// The version of `p2p`, the port and the number of further items of a greeting.
 impl Told for Hello {
     fn tell(&self, out: &mut Line) -> fmt::Result {
-        let (version, port) = (self.protocol_version, self.listen_port);
-        write!(out, "{version} {port} {}", self.further.len())
+        out.debug(self.protocol_version)?;
+        out.then(self.listen_port)?;
+        out.then(self.further.len())
     }
 }
 
 /// The form, the reason and the number of an end of a connection.
 impl Told for Disconnect {
     fn tell(&self, out: &mut Line) -> fmt::Result {
-        let form = match self {
+        out.write_str(match self {
             Disconnect::Listed(_) => "Listed",
             Disconnect::Bare(_) => "Bare",
-        };
+        })?;
         let reason = self.reason();
-        write!(out, "{form} {reason:?} {}", reason.number())
+        let number = reason.number();
+        out.then(reason)?;
+        out.then(number)
     }
 }
 
 /// The total difficulty of a new block.
 impl Told for NewBlock {
     fn tell(&self, out: &mut Line) -> fmt::Result {
-        write!(out, "{:?}", Hex(self.total_difficulty.bytes.as_slice()))
+        out.debug(Hex(self.total_difficulty.bytes.as_slice()))
     }
 }
 
@@ -130,7 +135,8 @@ impl Told for Receipts {
     fn tell(&self, out: &mut Line) -> fmt::Result {
         for block in self.0.iter() {
             for receipt in block.0.iter() {
-                write!(out, " {}", kind(receipt))?;
+                out.write_str(" ")?;
+                out.write_str(kind(receipt))?;
             }
             out.write_str(";")?;
         }
@@ -143,8 +149,10 @@ impl Told for Receipts69 {
     fn tell(&self, out: &mut Line) -> fmt::Result {
         for block in self.0.iter() {
             for receipt in block.0.iter() {
-                let (kind, gas) = (receipt.transaction_type, receipt.cumulative_gas_used);
-                write!(out, " {kind} {gas} {},", receipt.logs.len())?;
+                out.then(receipt.transaction_type)?;
+                out.then(receipt.cumulative_gas_used)?;
+                out.then(receipt.logs.len())?;
+                out.write_str(",")?;
             }
             out.write_str(";")?;
         }

@@ -143,7 +143,10 @@ fn number(alloc: Global, protocol: &str, bytes: &[u8]) -> Result<u8, DecoderErro
 /// Tells the number of a message of `p2p`, and the message.
 fn tell_text(alloc: Global, bytes: &[u8], out: &mut Line) -> fmt::Result {
     match P2pMessage::from_message(alloc, 0, bytes) {
-        Ok(message) => write!(out, "{} {message:?}", message.number()),
+        Ok(message) => {
+            out.debug(message.number())?;
+            out.then(message)
+        }
         Err(found) => fault(&found, out),
     }
 }
@@ -157,7 +160,7 @@ pub(crate) fn tell(alloc: Global, name: &str, bytes: &[u8], out: &mut Line) -> f
         "eth/69" => ways::<Eth69>(alloc, bytes, out),
         "text of p2p" => tell_text(alloc, bytes, out),
         _ => match number(alloc, name, bytes) {
-            Ok(number) => write!(out, "{number}"),
+            Ok(number) => out.display(number),
             Err(found) => fault(&found, out),
         },
     }

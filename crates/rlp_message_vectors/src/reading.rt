@@ -9,7 +9,7 @@ use std::fmt::Write;
 
 /// Tells a fault.
 pub(crate) fn fault(fault: &DecoderError, out: &mut Line) -> fmt::Result {
-    write!(out, "{fault:?}")
+    out.debug(fault)
 }
 
 /// A way to read bytes as a value, and to write the value again.
@@ -65,9 +65,9 @@ pub(crate) fn ways<R: Reading>(alloc: Global, bytes: &[u8], out: &mut Line) -> f
     match R::again(alloc, bytes) {
         Ok(again) => {
             if again.as_slice() == bytes && is_cut_noticed::<R>(alloc, bytes)? {
-                return write!(out, "both ways");
+                return out.write_str("both ways");
             }
-            write!(out, "{:?}", Hex(again.as_slice()))
+            out.debug(Hex(again.as_slice()))
         }
         Err(found) => fault(&found, out),
     }
@@ -101,7 +101,7 @@ pub(crate) fn made<T: Encodable + Decodable>(
     if written.as_slice() == bytes {
         return ways::<Item<T>>(alloc, bytes, out);
     }
-    write!(out, "{:?}", Hex(written.as_slice()))
+    out.debug(Hex(written.as_slice()))
 }
 
 /// Tells what [`made`] does about a value, unless memory is refused.

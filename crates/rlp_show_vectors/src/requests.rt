@@ -72,11 +72,11 @@ fn write_of(line: &mut Line, what: &str, answers: &Answers) -> fmt::Result {
 fn text_of(request: Request) -> Line {
     let mut line = Line::new();
     let _ = match &request {
-        Request::Help => write!(line, "help"),
-        Request::Version => write!(line, "version"),
+        Request::Help => line.write_str("help"),
+        Request::Version => line.write_str("version"),
         Request::Lines(answers) => write_of(&mut line, "lines", answers),
         Request::Record(answers) => write_of(&mut line, "record", answers),
-        Request::Unknown => write!(line, "unknown"),
+        Request::Unknown => line.write_str("unknown"),
     };
     line
 }

@@ -16,7 +16,7 @@ fn tell(built: &Result<Built, BuildFault>, out: &mut Line) -> fmt::Result {
     match built {
         Ok(Built::Finished(bytes)) => write!(out, "finished {:?}", bytes.as_slice()),
         Ok(Built::Open { size, raw }) => write!(out, "open {size} {:?}", raw.as_slice()),
-        Err(fault) => write!(out, "{fault:?}"),
+        Err(fault) => out.debug(fault),
     }
 }
 
@@ -55,7 +55,7 @@ const BUILT: [Row; 3] = [
 fn check_read(alloc: Global, wrong: &mut Line) {
     for (script, want) in &READ {
         let mut said = Line::new();
-        let _ = write!(said, "{:?}", read_calls(alloc, script.as_bytes()));
+        let _ = said.debug(read_calls(alloc, script.as_bytes()));
         wrong.note("read", script, said.as_str(), want);
     }
 }

@@ -192,7 +192,7 @@ fn run_answers_long_lines(rt: HostRuntime) -> Result<(), Fail> {
 
 /// Tells the number of bytes of the largest write of a run.
 fn tell_largest(alloc: Global, pieces: &str, out: &mut Line) -> fmt::Result {
-    write!(out, "{}", ran_over(alloc, pieces, usize::MAX)?.largest)
+    out.display(ran_over(alloc, pieces, usize::MAX)?.largest)
 }
 
 /// Tells the number of reads of a run byte by byte, the length of the text that it wrote, and how many
@@ -203,7 +203,9 @@ fn tell_reads(alloc: Global, pieces: &str, out: &mut Line) -> fmt::Result {
     for line in text.lines() {
         lists = lists.saturating_add(usize::from(line == "[]"));
     }
-    write!(out, "{} {} {lists}", left.reads, text.len())
+    out.debug(left.reads)?;
+    out.then(text.len())?;
+    out.then(lists)
 }
 
 // The largest write is of the list, and of 8,000 lines with no bytes. The 600 lines are read in 1,800

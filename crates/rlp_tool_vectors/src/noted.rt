@@ -14,8 +14,8 @@ use std::{fmt, io};
 /// Tells what a call of a device returned: a number of bytes, or the kind of the error.
 fn tell_returned(returned: io::Result<usize>, out: &mut Line) -> fmt::Result {
     match returned {
-        Ok(count) => write!(out, "{count}"),
-        Err(error) => write!(out, "{:?}", error.kind()),
+        Ok(count) => out.display(count),
+        Err(error) => out.debug(error.kind()),
     }
 }
 

@@ -97,9 +97,9 @@ fn calls_needed(
 /// writer that takes no byte make no difference.
 fn tell_needed(alloc: Global, most: usize, out: &mut Line) -> fmt::Result {
     let error = Some(ErrorKind::BrokenPipe);
-    write!(out, "{:?} ", calls_needed(alloc, most, true, None)?)?;
-    write!(out, "{:?} ", calls_needed(alloc, most, false, error)?)?;
-    write!(out, "{:?}", calls_needed(alloc, most, false, None)?)
+    out.debug(calls_needed(alloc, most, true, None)?)?;
+    out.then(calls_needed(alloc, most, false, error)?)?;
+    out.then(calls_needed(alloc, most, false, None)?)
 }
 
 /// The number of bytes that each call moves, and the numbers of reads, and of writes for both

@@ -105,10 +105,11 @@ pub(crate) fn tell_fields(
         Ok(mut fields) => {
             for step in steps.bytes() {
                 tell_step(alloc, &mut fields, step, strict, out)?;
+                out.write_str(" ")?;
             }
-            write!(out, "{:?}", fields.finish())
+            out.debug(fields.finish())
         }
-        Err(fault) => write!(out, "{fault}"),
+        Err(fault) => out.display(fault),
     }
 }
 
@@ -130,9 +131,9 @@ fn tell_step(
     out: &mut Line,
 ) -> fmt::Result {
     match step {
-        b'v' => write!(out, "{:?} ", raw(fields.next_view(), strict)),
-        b'n' => write!(out, "{:?} ", fields.next_value::<u8>(alloc)),
-        b't' => write!(out, "{:?} ", fields.next_value::<String>(alloc)),
-        _ => write!(out, "{:?} ", fields.next_list::<u8>(alloc)),
+        b'v' => out.debug(raw(fields.next_view(), strict)),
+        b'n' => out.debug(fields.next_value::<u8>(alloc)),
+        b't' => out.debug(fields.next_value::<String>(alloc)),
+        _ => out.debug(fields.next_list::<u8>(alloc)),
     }
 }

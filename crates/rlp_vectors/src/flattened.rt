@@ -30,7 +30,7 @@ pub(crate) const ROWS: &str = "
 pub(crate) fn tell_tree(alloc: Global, bytes: &[u8], depth: usize, out: &mut Line) -> fmt::Result {
     match Rlp::new(bytes).flatten(alloc, depth) {
         Ok(items) => tell_flat(items.as_slice(), out),
-        Err(fault) => write!(out, "{fault}"),
+        Err(fault) => out.display(fault),
     }
 }
 

@@ -97,16 +97,26 @@ pub(crate) fn tell_items(view: Rlp<'_>, call: &str, index: usize, out: &mut Line
 fn tell_item(view: &Rlp<'_>, strict: bool, index: usize, out: &mut Line) -> fmt::Result {
     let item = raw(view.at(index), strict);
     match view.at_with_offset(index) {
-        Ok((same, place)) => write!(out, "{item:?} {:?} {place}", raw(Ok(same), strict)),
-        Err(fault) => write!(out, "{item:?} {fault}"),
+        Ok((same, place)) => {
+            out.debug(item)?;
+            out.then(raw(Ok(same), strict))?;
+            out.then(place)
+        }
+        Err(fault) => {
+            out.debug(item)?;
+            out.then(fault)
+        }
     }
 }
 
 /// Tells the number of items, and how many an iterator gives.
 fn tell_count(view: &Rlp<'_>, out: &mut Line) -> fmt::Result {
     match view.item_count() {
-        Ok(count) => write!(out, "{count} {}", view.iter().count()),
-        Err(fault) => write!(out, "{fault}"),
+        Ok(count) => {
+            out.debug(count)?;
+            out.then(view.iter().count())
+        }
+        Err(fault) => out.display(fault),
     }
 }
 
@@ -114,11 +124,12 @@ fn tell_count(view: &Rlp<'_>, out: &mut Line) -> fmt::Result {
 fn tell_iterated(view: &Rlp<'_>, strict: bool, out: &mut Line) -> fmt::Result {
     let mut items = view.iter();
     for _ in 0..items.len().saturating_add(2) {
-        let (len, hint) = (items.len(), items.size_hint());
-        match items.next() {
-            Some(item) => write!(out, "{len} {hint:?} {:?}; ", raw(Ok(item), strict))?,
-            None => write!(out, "{len} {hint:?}; ")?,
+        out.debug(items.len())?;
+        out.then(items.size_hint())?;
+        if let Some(item) = items.next() {
+            out.then(raw(Ok(item), strict))?;
         }
+        out.write_str("; ")?;
     }
     Ok(())
 }
@@ -127,21 +138,23 @@ fn tell_iterated(view: &Rlp<'_>, strict: bool, out: &mut Line) -> fmt::Result {
 fn tell_payload(view: Rlp<'_>, strict: bool, out: &mut Line) -> fmt::Result {
     match (view.payload_info(), view.data()) {
         (Ok(info), Ok(value)) => {
-            let (header, len, value) = (info.header_len, info.value_len, Hex(value));
-            write!(
-                out,
-                "{header} {len} {value:?} of {:?}",
-                raw(Ok(view), strict)
-            )
+            out.debug(info.header_len)?;
+            out.then(info.value_len)?;
+            out.then(Hex(value))?;
+            out.write_str(" of")?;
+            out.then(raw(Ok(view), strict))
         }
-        (info, value) => write!(out, "{:?} {:?}", info.err(), value.err()),
+        (info, value) => {
+            out.debug(info.err())?;
+            out.then(value.err())
+        }
     }
 }
 
 /// Tells the first item of a list. The view that it is taken from is dropped before the item is
 /// read.
 pub(crate) fn tell_taken(bytes: &[u8], out: &mut Line) -> fmt::Result {
-    write!(out, "{:?}", raw(taken(bytes), false))
+    out.debug(raw(taken(bytes), false))
 }
 
 /// Returns the first item of a list.

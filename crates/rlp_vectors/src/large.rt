@@ -1,4 +1,4 @@
-//! Long strings, lists of many items, and lists that nest deep.
+//! Lists of many items, and lists that nest deep.
 
 use rlp::{DecoderError, Rlp};
 use rlp_rows::{Line, bytes_of, number, push_header};
@@ -6,74 +6,6 @@ use std::alloc::{AllocError, Global};
 use std::fmt;
 use std::fmt::Write;
 use std::test::Fail;
-
-/// Returns a header, and then `len` times a byte.
-fn filled(alloc: Global, header: &[u8], len: usize, byte: u8) -> Result<Vec<u8>, AllocError> {
-    let mut bytes = Vec::from_slice(alloc, header)?;
-    bytes.resize(header.len().saturating_add(len), byte)?;
-    Ok(bytes)
-}
-
-/// Headers of strings and bytes 63 after them, and what is read as a text.
-const TEXTS: [(&str, &str); 3] = [
-    ("b8ff+63*253", "Some(RlpInconsistentLengthAndData)"),
-    ("b8ff+63*255", "None"),
-    ("b902ff+63*700", "Some(RlpInconsistentLengthAndData)"),
-];
-
-/// Tells the fault of reading a text.
-fn tell_text(alloc: Global, text: &str, out: &mut Line) -> fmt::Result {
-    let bytes = bytes_of(alloc, text)?;
-    write!(
-        out,
-        "{:?}",
-        rlp::decode::<String>(alloc, bytes.as_slice()).err()
-    )
-}
-
-/// Strings of bytes 07, of 2 MiB and of 16,777,215 bytes, and their lengths.
-const LONG: [(&str, &str); 2] = [
-    ("ba200000+07*2097152", "Ok(2097152)"),
-    ("baffffff+07*16777215", "Ok(16777215)"),
-];
-
-/// Returns the length of a string that is read strictly, or 0 if it has other bytes.
-fn length_of(alloc: Global, bytes: &[u8]) -> Result<usize, DecoderError> {
-    let string = rlp::decode_strict::<Vec<u8>>(alloc, bytes)?;
-    let is_read = bytes.ends_with(string.as_slice());
-    Ok(if is_read { string.len() } else { 0 })
-}
-
-/// Tells the length of a string.
-fn tell_length(alloc: Global, text: &str, out: &mut Line) -> fmt::Result {
-    let bytes = bytes_of(alloc, text)?;
-    write!(out, "{:?}", length_of(alloc, bytes.as_slice()))
-}
-
-/// Returns whether a string of 70,000 bytes is printed.
-fn is_printed(alloc: Global) -> Result<bool, AllocError> {
-    let bytes = filled(alloc, b"\xba\x01\x11\x70", 70_000, 0x5a)?;
-    let text = format!(in alloc; "{}", Rlp::new(bytes.as_slice()))?;
-    let digits = "5a".repeat(alloc, 70_000)?;
-    Ok(text.as_str() == format!(in alloc; "\"0x{digits}\"")?.as_str())
-}
-
-#[test]
-fn long_strings(rt: HostRuntime) -> Result<(), Fail> {
-    let mut wrong = Line::new();
-    for (text, want) in &TEXTS {
-        let mut said = Line::new();
-        let _ = tell_text(rt.alloc(), text, &mut said);
-        wrong.note("text", text, said.as_str(), want);
-    }
-    for (text, want) in &LONG {
-        let mut said = Line::new();
-        let _ = tell_length(rt.alloc(), text, &mut said);
-        wrong.note("string", text, said.as_str(), want);
-    }
-    assert!(rt; is_printed(rt.alloc()) == Ok(true));
-    wrong.none_noted()
-}
 
 /// Returns whether an iterator gives `len` items 01, and then `None` each time. `RlpIterator::len` walks
 /// what is left.
@@ -157,10 +89,10 @@ fn tell_ones(
     place: usize,
     out: &mut Line,
 ) -> fmt::Result {
-    write!(out, "{} ", iterates_ones(view, len))?;
-    write!(out, "{:?} ", ends_with_one(view, len, place))?;
-    write!(out, "{} ", gives_ones(alloc, view, len))?;
-    write!(out, "{:?}", prints_ones(alloc, view, len))
+    out.debug(iterates_ones(view, len))?;
+    out.then(ends_with_one(view, len, place))?;
+    out.then(gives_ones(alloc, view, len))?;
+    out.then(prints_ones(alloc, view, len))
 }
 
 /// The headers of lists of bytes 01, and the numbers of these.

@@ -149,19 +149,19 @@ pub(crate) fn tell_list_at(
     out: &mut Line,
 ) -> fmt::Result {
     if of == "u8" {
-        write!(out, "{:?}", view.list_at::<u8>(alloc, index))
+        out.debug(view.list_at::<u8>(alloc, index))
     } else {
-        write!(out, "{:?}", view.list_at::<u64>(alloc, index))
+        out.debug(view.list_at::<u64>(alloc, index))
     }
 }
 
 /// Tells the number of the items of a list before and after its third item is read, whether the
 /// second is a list, and the third number that the third holds.
 pub(crate) fn tell_third(alloc: Global, view: &Rlp<'_>, out: &mut Line) -> fmt::Result {
-    write!(out, "{:?} ", view.item_count())?;
-    write!(out, "{} ", second_is_list(view))?;
-    write!(out, "{:?} ", third_of_third(alloc, view))?;
-    write!(out, "{:?}", view.item_count())
+    out.debug(view.item_count())?;
+    out.then(second_is_list(view))?;
+    out.then(third_of_third(alloc, view))?;
+    out.then(view.item_count())
 }
 
 /// Returns whether the second item is a list.

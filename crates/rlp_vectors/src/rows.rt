@@ -132,7 +132,7 @@ pub(crate) fn tell_same<T: fmt::Debug + PartialEq>(
     out: &mut Line,
 ) -> fmt::Result {
     if read == viewed {
-        write!(out, "{read:?}")
+        out.debug(read)
     } else {
         write!(out, "{read:?}, of a view {viewed:?}")
     }

@@ -53,10 +53,14 @@ pub(crate) fn tell_split(bytes: &[u8], strict: bool, out: &mut Line) -> fmt::Res
     for _ in 0..=bytes.len() {
         match view_of(left, strict).split_first() {
             Ok((item, rest)) => {
-                write!(out, "{:?} ", raw(Ok(item), strict))?;
+                out.debug(raw(Ok(item), strict))?;
+                out.write_str(" ")?;
                 left = rest;
             }
-            Err(fault) => return write!(out, "{fault} {:?}", Hex(left)),
+            Err(fault) => {
+                out.debug(fault)?;
+                return out.then(Hex(left));
+            }
         }
     }
     Ok(())
@@ -67,10 +71,11 @@ pub(crate) fn tell_split(bytes: &[u8], strict: bool, out: &mut Line) -> fmt::Res
 pub(crate) fn tell_first(alloc: Global, bytes: &[u8], strict: bool, out: &mut Line) -> fmt::Result {
     match view_of(bytes, strict).split_first() {
         Ok((item, rest)) => {
-            let (canonical, rest) = (item.is_canonical(9), Hex(rest));
-            write!(out, "{canonical} {:?} {rest:?}", fault_of(alloc, &item))
+            out.debug(item.is_canonical(9))?;
+            out.then(fault_of(alloc, &item))?;
+            out.then(Hex(rest))
         }
-        Err(fault) => write!(out, "{fault}"),
+        Err(fault) => out.display(fault),
     }
 }
 

@@ -95,15 +95,16 @@ pub(crate) fn tell_invalid(alloc: Global, bytes: &[u8], out: &mut Line) -> fmt::
     } else {
         view.as_val::<Vec<u8>>(alloc).err()
     };
-    write!(out, "{} {fault:?}", Rlp::new(bytes).is_canonical(9))
+    out.debug(Rlp::new(bytes).is_canonical(9))?;
+    out.then(fault)
 }
 
 /// Tells what is read as a number from bytes that are to be whole.
 pub(crate) fn tell_whole(alloc: Global, bytes: &[u8], out: &mut Line) -> fmt::Result {
-    write!(out, "{:?}", rlp::decode_whole::<u64>(alloc, bytes))
+    out.debug(rlp::decode_whole::<u64>(alloc, bytes))
 }
 
 /// Tells what is read as a list of numbers from bytes that are to be whole.
 pub(crate) fn tell_whole_list(alloc: Global, bytes: &[u8], out: &mut Line) -> fmt::Result {
-    write!(out, "{:?}", rlp::decode_list_whole::<u64>(alloc, bytes))
+    out.debug(rlp::decode_list_whole::<u64>(alloc, bytes))
 }

@@ -64,7 +64,8 @@ fn counted(alloc: Global, call: &str) -> Tally {
 fn tell_tally(tally: &Tally, out: &mut Line) -> fmt::Result {
     let mut gap = "";
     for count in tally {
-        write!(out, "{gap}{count}")?;
+        out.write_str(gap)?;
+        out.debug(count)?;
         gap = " ";
     }
     Ok(())
@@ -73,7 +74,7 @@ fn tell_tally(tally: &Tally, out: &mut Line) -> fmt::Result {
 /// Writes the tally of a call, or behind `sum: ` the sum of what it measures.
 fn tell(alloc: Global, call: &str, out: &mut Line) -> fmt::Result {
     match call.strip_prefix("sum: ") {
-        Some(call) => write!(out, "{}", summed(alloc, call)),
+        Some(call) => out.display(summed(alloc, call)),
         None => tell_tally(&counted(alloc, call), out),
     }
 }
@@ -254,7 +255,7 @@ fn lengths_of(view: &Rlp<'_>) -> (usize, usize) {
 /// Returns the text of a view.
 fn text_of(view: &Rlp<'_>) -> Line {
     let mut text = Line::new();
-    let _ = write!(text, "{view}");
+    let _ = text.display(view);
     text
 }
 

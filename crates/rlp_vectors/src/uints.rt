@@ -56,7 +56,9 @@ fn numbers_print_and_rise(rt: HostRuntime) -> Result<(), Fail> {
     for row in NUMBERS.lines() {
         let ((encoded, texts), mut said) = (cut(row), Line::new());
         let read = number(rt.alloc(), encoded)?;
-        let _ = write!(said, "{read} {}", Hexadecimal(read));
+        let _ = said.display(read);
+        let _ = said.write_str(" ");
+        let _ = said.display(Hexadecimal(read));
         wrong.note("number", encoded, said.as_str(), texts);
         assert!(rt; is_of(read, cut(texts).0) && rises(last, read), "{encoded}");
         last = Some(read);

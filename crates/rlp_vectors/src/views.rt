@@ -132,10 +132,13 @@ pub(crate) const ROWS: &str = "
 pub(crate) fn tell_header(bytes: &[u8], out: &mut Line) -> fmt::Result {
     match PayloadInfo::from(bytes) {
         Ok(info) => {
-            let (header, value) = (info.header_len, info.value_len);
-            write!(out, "{header} + {value} = {:?}", info.checked_total())
+            out.debug(info.header_len)?;
+            out.write_str(" +")?;
+            out.then(info.value_len)?;
+            out.write_str(" =")?;
+            out.then(info.checked_total())
         }
-        Err(fault) => write!(out, "{fault}"),
+        Err(fault) => out.display(fault),
     }
 }
 
@@ -144,17 +147,21 @@ pub(crate) fn tell_header(bytes: &[u8], out: &mut Line) -> fmt::Result {
 pub(crate) fn tell_view(view: &Rlp<'_>, of: &str, limit: usize, out: &mut Line) -> fmt::Result {
     match of {
         "kinds" => tell_kinds(view, out),
-        "sizes" => write!(out, "{:?} {}", view.prototype(), view.size()),
-        "text" => write!(out, "{view}"),
-        _ => write!(out, "{}", holds(view, of, limit)),
+        "sizes" => {
+            out.debug(view.prototype())?;
+            out.then(view.size())
+        }
+        "text" => out.display(view),
+        _ => out.display(holds(view, of, limit)),
     }
 }
 
 /// Tells of which kinds a view is.
 fn tell_kinds(view: &Rlp<'_>, out: &mut Line) -> fmt::Result {
-    let (null, empty) = (view.is_null(), view.is_empty());
-    let (list, data) = (view.is_list(), view.is_data());
-    write!(out, "{null} {empty} {list} {data}")
+    out.debug(view.is_null())?;
+    out.then(view.is_empty())?;
+    out.then(view.is_list())?;
+    out.then(view.is_data())
 }
 
 /// Returns the result of `is_int`, whether a view's lists nest within a limit, or whether its bytes

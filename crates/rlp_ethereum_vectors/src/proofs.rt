@@ -66,12 +66,15 @@ const ROWS: &str = "
 /// Tells what the trie with a root has for a key, as nodes prove it.
 fn tell(alloc: Global, root: &[u8], key: &[u8], nodes: &[Vec<u8>], out: &mut Line) -> fmt::Result {
     let Ok(root) = <[u8; 32]>::try_from(root) else {
-        return write!(out, "no root");
+        return out.write_str("no root");
     };
     match verify_proof(alloc, &Hash(root), key, nodes) {
-        Ok(Some(value)) => write!(out, "= {:?}", Hex(value.as_slice())),
-        Ok(None) => write!(out, "none"),
-        Err(fault) => write!(out, "{fault}"),
+        Ok(Some(value)) => {
+            out.write_str("=")?;
+            out.then(Hex(value.as_slice()))
+        }
+        Ok(None) => out.write_str("none"),
+        Err(fault) => out.display(fault),
     }
 }
 
@@ -90,7 +93,10 @@ fn tell_row(alloc: Global, words: &str, out: &mut Line) -> Result<(), AllocError
 /// Tells what a row wants: of a value, its digits.
 fn tell_wanted(alloc: Global, text: &str, out: &mut Line) -> fmt::Result {
     match text.strip_prefix("= ") {
-        Some(value) => write!(out, "= {:?}", Hex(bytes_of(alloc, value)?.as_slice())),
+        Some(value) => {
+            out.write_str("=")?;
+            out.then(Hex(bytes_of(alloc, value)?.as_slice()))
+        }
         None => out.write_str(text),
     }
 }

@@ -1,7 +1,7 @@
 //! Nodes of the trie. Unless a comment says otherwise, the expected bytes were worked out by the
 //! rules of the format.
 
-use crate::reading::{again, fault, made, made_of};
+use crate::reading::{Item, Reading, fault, made, made_of};
 use rlp::{DecoderError, RawItem};
 use rlp_records::Hash;
 use rlp_rows::{Hex, Line};
@@ -229,7 +229,7 @@ fn first_unnoticed(alloc: Global, bytes: &[u8]) -> Result<Option<usize>, AllocEr
 
 /// Returns whether bytes are read as a node that is written as others.
 fn is_read_otherwise(alloc: Global, bytes: &[u8]) -> bool {
-    match again::<TrieNode>(alloc, bytes) {
+    match Item::<TrieNode>::again(alloc, bytes) {
         Ok(again) => again.as_slice() != bytes,
         Err(found) => found == DecoderError::OutOfMemory,
     }
@@ -250,7 +250,7 @@ pub(crate) fn tell(alloc: Global, name: &str, bytes: &[u8], out: &mut Line) -> f
         "nibbles" => tell_nibbles(alloc, bytes, out),
         "of nibbles" => tell_path::<2>(alloc, bytes, out),
         "of nibbles of an extension" => tell_path::<0>(alloc, bytes, out),
-        "changed" => write!(out, "{:?}", first_unnoticed(alloc, bytes)?),
+        "changed" => out.debug(first_unnoticed(alloc, bytes)?),
         _ => tell_short(alloc, name, bytes, out),
     }
 }
@@ -260,7 +260,7 @@ fn tell_nibbles(alloc: Global, bytes: &[u8], out: &mut Line) -> fmt::Result {
     match ends_in_leaf(bytes) {
         Some(true) => tell_nibbles_of::<2>(alloc, "leaf", bytes, out),
         Some(false) => tell_nibbles_of::<0>(alloc, "extension", bytes, out),
-        None => write!(out, "no path"),
+        None => out.write_str("no path"),
     }
 }
 
@@ -274,7 +274,9 @@ fn tell_nibbles_of<const FLAG: u8>(
     match Path::<FLAG>::new(alloc, bytes) {
         Ok(path) => {
             let nibbles = path.nibbles(alloc)?;
-            write!(out, "{kind} {:?} ", Hex(nibbles.as_slice()))?;
+            out.write_str(kind)?;
+            out.then(Hex(nibbles.as_slice()))?;
+            out.write_str(" ")?;
             tell_path::<FLAG>(alloc, nibbles.as_slice(), out)
         }
         Err(found) => fault(&found, out),
@@ -284,7 +286,7 @@ fn tell_nibbles_of<const FLAG: u8>(
 /// Tells the digits of the path of this kind with these nibbles, or the fault.
 fn tell_path<const FLAG: u8>(alloc: Global, nibbles: &[u8], out: &mut Line) -> fmt::Result {
     match Path::<FLAG>::from_nibbles(alloc, nibbles) {
-        Ok(path) => write!(out, "{:?}", Hex(path.bytes.as_slice())),
+        Ok(path) => out.debug(Hex(path.bytes.as_slice())),
         Err(found) => fault(&found, out),
     }
 }
@@ -312,19 +314,24 @@ fn tell_short(alloc: Global, name: &str, bytes: &[u8], out: &mut Line) -> fmt::R
 /// as child, or the fault.
 pub(crate) fn tell_fields(alloc: Global, bytes: &[u8], out: &mut Line) -> fmt::Result {
     match rlp::decode_strict::<TrieNode>(alloc, bytes) {
-        Ok(TrieNode::Empty) => write!(out, "empty"),
-        Ok(TrieNode::Leaf(leaf)) => write!(out, "leaf {:?}", Hex(leaf.path.bytes.as_slice())),
+        Ok(TrieNode::Empty) => out.write_str("empty"),
+        Ok(TrieNode::Leaf(leaf)) => {
+            out.write_str("leaf")?;
+            out.then(Hex(leaf.path.bytes.as_slice()))
+        }
         Ok(TrieNode::Extension(extension)) => tell_extension(&extension, out),
-        Ok(TrieNode::Branch(_)) => write!(out, "branch"),
+        Ok(TrieNode::Branch(_)) => out.write_str("branch"),
         Err(found) => fault(&found, out),
     }
 }
 
 /// Tells the path of an extension, and the hash that it has as child.
 fn tell_extension(extension: &Extension, out: &mut Line) -> fmt::Result {
-    write!(out, "extension {:?} ", Hex(extension.path.bytes.as_slice()))?;
+    out.write_str("extension")?;
+    out.then(Hex(extension.path.bytes.as_slice()))?;
+    out.write_str(" ")?;
     match &extension.child {
-        Child::Node(hash) => write!(out, "{:?}", Hex(hash.0.as_slice())),
+        Child::Node(hash) => out.debug(Hex(hash.0.as_slice())),
         _ => Ok(()),
     }
 }
@@ -332,7 +339,7 @@ fn tell_extension(extension: &Extension, out: &mut Line) -> fmt::Result {
 /// Tells the hash of the node that these bytes encode.
 pub(crate) fn tell_hash(alloc: Global, bytes: &[u8], out: &mut Line) -> fmt::Result {
     match rlp::decode_strict::<TrieNode>(alloc, bytes) {
-        Ok(node) => write!(out, "{:?}", Hex(node.hash(alloc)?.0.as_slice())),
+        Ok(node) => out.debug(Hex(node.hash(alloc)?.0.as_slice())),
         Err(found) => fault(&found, out),
     }
 }

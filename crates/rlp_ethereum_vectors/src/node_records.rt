@@ -1,7 +1,7 @@
 //! Node records. The first record, its fields and its text are those that EIP-778 publishes as its
 //! example.
 
-use crate::reading::{fault, ways};
+use crate::reading::{Item, fault, ways};
 use rlp::{DecoderError, RawItem};
 use rlp_node_record::{NodeFields, NodePair, NodeRecord};
 use rlp_rows::{Hex, Line};
@@ -70,11 +70,12 @@ fn tell_read(alloc: Global, bytes: &[u8], out: &mut Line) -> fmt::Result {
 /// Tells the sequence number, the signature, the content that is signed, and the pairs.
 fn tell_fields(alloc: Global, record: &NodeRecord, out: &mut Line) -> fmt::Result {
     let (fields, signed) = (record.fields(), record.signed_content(alloc)?);
-    let (signature, signed) = (Hex(fields.signature.as_slice()), Hex(signed.as_slice()));
-    write!(out, "{} {signature:?} {signed:?}", fields.sequence)?;
+    out.debug(fields.sequence)?;
+    out.then(Hex(fields.signature.as_slice()))?;
+    out.then(Hex(signed.as_slice()))?;
     for pair in fields.pairs.iter() {
-        let (key, value) = (Hex(pair.key.as_slice()), Hex(pair.value.as_bytes()));
-        write!(out, " {key:?} {value:?}")?;
+        out.then(Hex(pair.key.as_slice()))?;
+        out.then(Hex(pair.value.as_bytes()))?;
     }
     Ok(())
 }
@@ -112,8 +113,9 @@ fn tell_keys_of(alloc: Global, keys: &[&[u8]], out: &mut Line) -> fmt::Result {
     match NodeRecord::new(alloc, fields) {
         Ok(record) => {
             let written = rlp::encode(alloc, &record)?;
-            ways::<NodeRecord>(alloc, written.as_slice(), out)?;
-            write!(out, ", {}", written.len())
+            ways::<Item<NodeRecord>>(alloc, written.as_slice(), out)?;
+            out.write_str(",")?;
+            out.then(written.len())
         }
         Err(found) => fault(&found, out),
     }
@@ -155,7 +157,7 @@ fn tell_text(alloc: Global, text: &str, out: &mut Line) -> fmt::Result {
     match NodeRecord::from_text(alloc, text) {
         Ok(record) => {
             if record.to_text(alloc)?.as_str() != text {
-                return write!(out, "another text");
+                return out.write_str("another text");
             }
             tell_keys(alloc, &record, out)
         }
@@ -168,22 +170,25 @@ fn tell_keys(alloc: Global, record: &NodeRecord, out: &mut Line) -> fmt::Result 
     tell_bytes("id ", record.id(), out)?;
     tell_array(", secp256k1 ", record.secp256k1(), out)?;
     tell_array(", ip ", record.ip(), out)?;
-    write!(out, " {:?} {:?}", record.tcp(), record.udp())?;
+    out.then(record.tcp())?;
+    out.then(record.udp())?;
     tell_array(", ip6 ", record.ip6(), out)?;
-    write!(out, " {:?} {:?}", record.tcp6(), record.udp6())?;
+    out.then(record.tcp6())?;
+    out.then(record.udp6())?;
     tell_bytes(
         ", udp ",
         record.value(b"udp").map(|item| item.as_bytes()),
         out,
     )?;
-    write!(out, " {:?}", record.get::<u64>(alloc, b"udp"))
+    out.then(record.get::<u64>(alloc, b"udp"))
 }
 
 /// Tells a name, and the digits of bytes or `none`.
 fn tell_bytes(name: &str, bytes: Option<&[u8]>, out: &mut Line) -> fmt::Result {
+    out.write_str(name)?;
     match bytes {
-        Some(bytes) => write!(out, "{name}{:?}", Hex(bytes)),
-        None => write!(out, "{name}none"),
+        Some(bytes) => out.debug(Hex(bytes)),
+        None => out.write_str("none"),
     }
 }
 
