@@ -1,6 +1,7 @@
 """Copies of the tree, in which bodies are checked."""
 
 import os
+import re
 import shutil
 import subprocess
 from pathlib import Path
@@ -82,16 +83,22 @@ class Copy:
         self.held.discard((crate, "incremental"))
         self.fetch(crate, "incremental")
 
-    def check(self, crate, texts=None, jobs=1):
-        """Checks a crate with other texts in some of its files, which are as before afterwards."""
+    def names_built(self, crate):
+        """The names of the functions in the built library of a crate, as a check prints them, if there is one."""
+        file = self.built and self.built / "crates" / crate / "out" / "rlib" / f"{crate}.rlib" / "toolchain" / "mir.json"
+        return set(re.findall(rf"\b{crate}::[\w:+]+", file.read_text(encoding="utf-8"))) if file and file.exists() else set()
+
+    def check(self, crate, texts=None, jobs=1, only=()):
+        """Checks a crate, or some functions and what they call, with other texts in some of its files, which are as before afterwards."""
         folder, kept = self.root / "crates" / crate, {}
         try:
             for file, text in (texts or {}).items():
                 kept[file] = (folder / file).read_bytes()
                 (folder / file).write_text(text, encoding="utf-8")
+            words = ["--jobs", str(jobs), *(word for name in only for word in ("--only", name.partition("::")[2]))]
             if self.built:
-                return self.run(crate, KIT / "bin" / "rattle", "check", *self.words(crate), "--incremental", "out/incremental", "--jobs", str(jobs))
-            return self.run(crate, "rt", "check", "--jobs", str(jobs))
+                return self.run(crate, KIT / "bin" / "rattle", "check", *self.words(crate), "--incremental", "out/incremental", *words)
+            return self.run(crate, "rt", "check", *words)
         finally:
             for file, data in kept.items():
                 (folder / file).write_bytes(data)

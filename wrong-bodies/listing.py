@@ -11,17 +11,20 @@ LEFT_OUT = ("clone", "eq", "cmp", "drop", "view", "model")
 
 def print_missing(root, bodies):
     """Prints the public functions without a wrong body, by crate."""
-    total = 0
+    covered, others = set(), {}
     for crate, of_crate in bodies.items():
-        missing = missing_of(root / "crates" / crate, of_crate)
-        total += len(missing)
-        print(f"{crate}: {len(missing)}", *missing, sep="\n    ")
-    print(f"{total} public functions have none")
+        methods, others[crate] = looked_at(root / "crates" / crate, of_crate)
+        covered |= methods
+    # A method of a trait needs none if another implementation's has one.
+    missing = {crate: [name for method, name in of_crate if method not in covered] for crate, of_crate in others.items()}
+    for crate, names in missing.items():
+        print(f"{crate}: {len(names)}", *names, sep="\n    ")
+    print(f"{sum(map(len, missing.values()))} public functions have none")
     return 0
 
 
-def missing_of(folder, bodies):
-    """The public functions of a crate that no body and no edit changes, and that none of the same form has one."""
+def looked_at(folder, bodies):
+    """The methods of traits that a body or an edit of a crate changes, and the public functions that none changes, and none of the same form: each with the method that it is, if it is one."""
     edits = [page.stem.partition("__")[0] for page in (folder / "must-fail").glob("*.edit")]
     covered, others = set(), []
     for source in sorted((folder / "src").rglob("*.rt")):
@@ -29,14 +32,12 @@ def missing_of(folder, bodies):
         here = [body for body in bodies if body.source == path]
         changed, like = functions_with_one(here, text), [name for body in here for name in body.like]
         for function in functions_of(text):
-            has_one = function.begin in changed or has_edit(path, function, edits)
-            if has_one:
-                covered.add((function.of_trait, function.name))
+            method = function.of_trait and (function.of_trait, function.name)
+            if function.begin in changed or has_edit(path, function, edits):
+                covered.add(method)
             elif not any(function.is_called(name) for name in like) and is_told(path, function):
-                others.append((path, function))
-    # A method of a trait needs none if another implementation's has one.
-    others = [(path, one) for path, one in others if not one.of_trait or (one.of_trait, one.name) not in covered]
-    return [f"{path.relative_to('src').with_suffix('')} {one.heading}" for path, one in others]
+                others.append((method, f"{path.relative_to('src').with_suffix('')} {function.heading}"))
+    return covered - {""}, others
 
 
 def functions_with_one(bodies, text):

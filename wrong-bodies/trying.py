@@ -30,6 +30,10 @@ class Queue:
             if not is_inside:
                 self.alone.add(body)
 
+    def verdicts(self):
+        """What a check calls the functions that the bodies change."""
+        return sorted({body.verdict for body in self.todo})
+
     def fits(self, body, pack):
         """Whether a body may share a check with others."""
         return all(
@@ -176,18 +180,20 @@ class Tries:
             last = given[0]
 
     def check(self, _, crate, jobs):
-        """Checks a crate as it stands, with this number of jobs."""
+        """Checks a crate as it stands, with this number of jobs: of a built library the functions that bodies change, and what they call."""
         begin = time.time()
         self.base.fetch(crate, "incremental")
         self.base.fetch(crate, "rlib")
-        report = Report(self.base.check(crate, jobs=jobs))
+        built = self.base.names_built(crate)
+        queue = Queue(crate, self.bodies[crate], self.base, built) if built else None
+        report = Report(self.base.check(crate, jobs=jobs, only=queue.verdicts() if queue else ()))
         self.base.build(crate)
         with self.lock:
             self.say(f"{crate}: checked in {time.time() - begin:.0f} s")
-            if "\nlogic=proved" not in report.out:
+            if not report.is_proved:
                 self.fault = self.fault or f"{crate} must be proved first: {report.first_error()}"
             elif crate in self.bodies:
-                self.queues.append(Queue(crate, self.bodies[crate], self.base, report.verdicts))
+                self.queues.append(queue or Queue(crate, self.bodies[crate], self.base, report.verdicts))
             self.checked.add(crate)
             self.lock.notify_all()
 
@@ -196,7 +202,7 @@ class Tries:
         begin = time.time()
         try:
             copy.prepare(queue.crate)
-            report = Report(copy.check(queue.crate, texts))
+            report = Report(copy.check(queue.crate, texts, only=[body.verdict for body in pack]))
         except Exception as fault:
             report = fault
         with self.lock:

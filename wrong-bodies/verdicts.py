@@ -11,6 +11,7 @@ OPEN = re.compile(r"`search` did not prove ((?:`[^`]+`(?:, | and )?)+)")
 BELOW = re.compile(r"(?:no proof:|not proved;) it (?:calls|passes|uses) ")
 # A proof names what is no longer there.
 NAMES = re.compile(r"has no field|not in scope|has no `|was not admitted|is not a field|no such|does not have|is unknown")
+PROVED = re.compile(r"^(?:logic=proved |only=(\d+) proved=\1$)", re.M)
 DECLARED = re.compile(r"(?:abbrev )?(?:pub )?(\S+) : ")
 
 Goal = namedtuple("Goal", "name is_false")
@@ -37,6 +38,11 @@ class Report:
                 self.verdicts[m[1]] = m[2]
                 self.goals[m[1]] = waiting + unnamed(m[2], waiting)
                 waiting = []
+
+    @property
+    def is_proved(self):
+        """Whether all that the check was asked for is proved."""
+        return bool(PROVED.search(self.out))
 
     def names_of(self, name):
         """The verdicts on a function: its own, and those on the closures that it holds."""
