@@ -16,7 +16,7 @@ fn tell(built: &Result<Built, BuildFault>, out: &mut Line) -> fmt::Result {
     match built {
         Ok(Built::Finished(bytes)) => write!(out, "finished {:?}", bytes.as_slice()),
         Ok(Built::Open { size, raw }) => write!(out, "open {size} {:?}", raw.as_slice()),
-        Err(fault) => out.debug(fault),
+        Err(fault) => write!(out, "{fault:?}"),
     }
 }
 
