@@ -24,7 +24,7 @@ impl Decodable for u8 {
     ghost may_lack_memory = { λ v. ⊥ };
 
     fn decode(_alloc: Global, rlp: &Rlp<'_>) -> Result<u8, DecoderError> {
-        Ok(number_within(rlp, 1)? as u8)
+        Ok(number_within::<1>(rlp)? as u8)
     }
 }
 
@@ -37,7 +37,7 @@ impl Decodable for u16 {
     ghost may_lack_memory = { λ v. ⊥ };
 
     fn decode(_alloc: Global, rlp: &Rlp<'_>) -> Result<u16, DecoderError> {
-        Ok(number_within(rlp, 2)? as u16)
+        Ok(number_within::<2>(rlp)? as u16)
     }
 }
 
@@ -50,7 +50,7 @@ impl Decodable for u32 {
     ghost may_lack_memory = { λ v. ⊥ };
 
     fn decode(_alloc: Global, rlp: &Rlp<'_>) -> Result<u32, DecoderError> {
-        Ok(number_within(rlp, 4)? as u32)
+        Ok(number_within::<4>(rlp)? as u32)
     }
 }
 
@@ -66,7 +66,7 @@ impl Decodable for u64 {
     ghost may_lack_memory = { λ v. ⊥ };
 
     fn decode(_alloc: Global, rlp: &Rlp<'_>) -> Result<u64, DecoderError> {
-        Ok(number_within(rlp, 8)? as u64)
+        Ok(number_within::<8>(rlp)? as u64)
     }
 }
 
@@ -79,7 +79,7 @@ impl Decodable for usize {
     ghost may_lack_memory = { λ v. ⊥ };
 
     fn decode(_alloc: Global, rlp: &Rlp<'_>) -> Result<usize, DecoderError> {
-        number_within(rlp, 8)
+        number_within::<8>(rlp)
     }
 }
 
@@ -96,31 +96,31 @@ impl Decodable for u128 {
     }
 }
 
-/// Reads a number of at most `width` bytes, from 1 to 8. A number that is its own encoding is read
+/// Reads a number of at most `WIDTH` bytes, from 1 to 8. A number that is its own encoding is read
 /// at once. Others are read out of line.
 #[inline(always)]
-fn number_within(rlp: &Rlp<'_>, width: usize) -> Result<usize, DecoderError>
-    requires some { 1 ≤ width }
-    requires few { width ≤ 8 }
-    ensures value { IfOk result (λ n. GivesNumber width rlp.now n) }
-    ensures fault { IfErr result (λ e. FaultsAsNumber width rlp.now e) }
+fn number_within<const WIDTH: usize>(rlp: &Rlp<'_>) -> Result<usize, DecoderError>
+    requires some { 1 ≤ WIDTH }
+    requires few { WIDTH ≤ 8 }
+    ensures value { IfOk result (λ n. GivesNumber WIDTH rlp.now n) }
+    ensures fault { IfErr result (λ e. FaultsAsNumber WIDTH rlp.now e) }
 {
     match rlp.as_raw() {
         [digit @ 0x01..=0x7f, ..] if may_end_at(rlp, 1) => Ok(*digit as usize),
-        _ => match short_number(rlp, width) {
+        _ => match short_number::<WIDTH>(rlp) {
             Some(number) => Ok(number),
-            None => number_of_string(rlp, width),
+            None => number_of_string(rlp, WIDTH),
         },
     }
 }
 
-/// Reads a number of at most `width` bytes, and at most 8, if its header is one byte and nothing is
-/// wrong with it. `None` says nothing about the bytes.
+/// Reads a number of at most `WIDTH` bytes, and at most 8, if its header is one byte and nothing is
+/// wrong with it. `None` says nothing about the bytes. It is compiled for each width.
 #[inline(never)]
-fn short_number(rlp: &Rlp<'_>, width: usize) -> Option<usize>
-    ensures { IfSome result (λ n. GivesNumber width rlp.now n) }
+fn short_number<const WIDTH: usize>(rlp: &Rlp<'_>) -> Option<usize>
+    ensures { IfSome result (λ n. GivesNumber WIDTH rlp.now n) }
 {
-    few_digits(short_digits(rlp, width)?)
+    few_digits(short_digits(rlp, WIDTH)?)
 }
 
 /// Whether the view's item may end at `len`: nothing follows the item in a strict view.

@@ -3,4 +3,4 @@ use Rattle.rlp_values.specs.Lemmas.Numbers.{lone_digit}
 use Rattle.rlp.proofs.impls.number.number_within.Goals as goal
 
 pub returns-in-1-to-127-clause-value : goal.returns-in-1-to-127-clause-value
-returns-in-1-to-127-clause-value c = lone_digit _ _ _ c.as_raw.ensures (search rules) (search rules) (search rules) (search rules) (search rules)
+returns-in-1-to-127-clause-value g c = lone_digit _ _ _ c.as_raw.ensures (search rules) (search rules) (search rules) (search rules) (search rules)

@@ -8,4 +8,4 @@ found None P v Q is holds = tt
 found (Some w) P v Q is holds = subst Q (sym is.1) holds
 
 pub returns : goal.returns
-returns c = found _ _ _ (λ n. GivesNumber c.args.width c.args.rlp.now n) c.few_digits.ensures c.in_ok-short_digits.ensures.value
+returns g c = found _ _ _ (λ n. GivesNumber g.row.WIDTH c.args.rlp.now n) c.few_digits.ensures c.in_ok-short_digits.ensures.value
