@@ -67,6 +67,7 @@ impl<T: Decodable> DecodeField for Field<T> {
 
     ghost may_lack_memory = { T.may_lack_memory };
 
+    #[inline(always)]
     fn decode_field(alloc: Global, fields: &mut Fields<'_>) -> Result<Field<T>, DecoderError> {
         match fields.next_value(alloc) {
             Ok(value) => Ok(Field(value)),

@@ -44,6 +44,7 @@ impl<'a, 'view> Iterator for RlpIterator<'a, 'view> {
 
     ghost remaining = { item_count (λ i. i.left) };
 
+    #[inline(always)]
     fn next(&mut self) -> Option<Rlp<'a>> {
         if self.has_ended {
             return None;
