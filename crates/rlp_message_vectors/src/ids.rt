@@ -131,12 +131,35 @@ fn written(bytes: Result<BytesMut, AllocError>) -> Result<BytesMut, DecoderError
     bytes.or(Err(DecoderError::OutOfMemory))
 }
 
-/// Returns the number of a message.
-fn number(alloc: Global, protocol: &str, bytes: &[u8]) -> Result<u8, DecoderError> {
-    match protocol {
-        "number of p2p" => Ok(P2pMessage::from_message(alloc, 0, bytes)?.number()),
-        "number of eth/68" => Ok(Eth68Message::from_message(alloc, 0x10, bytes)?.number()),
-        _ => Ok(Eth69Message::from_message(alloc, 0x10, bytes)?.number()),
+/// Returns the number of a message of `p2p`.
+fn p2p_number(alloc: Global, bytes: &[u8]) -> Result<u8, DecoderError> {
+    match P2pMessage::from_message(alloc, 0, bytes) {
+        Ok(message) => Ok(message.number()),
+        Err(found) => Err(found),
+    }
+}
+
+/// Returns the number of a message of `eth/68`.
+fn eth68_number(alloc: Global, bytes: &[u8]) -> Result<u8, DecoderError> {
+    match Eth68Message::from_message(alloc, 0x10, bytes) {
+        Ok(message) => Ok(message.number()),
+        Err(found) => Err(found),
+    }
+}
+
+/// Returns the number of a message of `eth/69`.
+fn eth69_number(alloc: Global, bytes: &[u8]) -> Result<u8, DecoderError> {
+    match Eth69Message::from_message(alloc, 0x10, bytes) {
+        Ok(message) => Ok(message.number()),
+        Err(found) => Err(found),
+    }
+}
+
+/// Tells the number of a message.
+fn tell_number(number: Result<u8, DecoderError>, out: &mut Line) -> fmt::Result {
+    match number {
+        Ok(number) => out.display(number),
+        Err(found) => fault(&found, out),
     }
 }
 
@@ -159,9 +182,8 @@ pub(crate) fn tell(alloc: Global, name: &str, bytes: &[u8], out: &mut Line) -> f
         "eth/68" => ways::<Eth68>(alloc, bytes, out),
         "eth/69" => ways::<Eth69>(alloc, bytes, out),
         "text of p2p" => tell_text(alloc, bytes, out),
-        _ => match number(alloc, name, bytes) {
-            Ok(number) => out.display(number),
-            Err(found) => fault(&found, out),
-        },
+        "number of p2p" => tell_number(p2p_number(alloc, bytes), out),
+        "number of eth/68" => tell_number(eth68_number(alloc, bytes), out),
+        _ => tell_number(eth69_number(alloc, bytes), out),
     }
 }
