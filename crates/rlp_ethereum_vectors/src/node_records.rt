@@ -170,15 +170,17 @@ fn tell_keys(alloc: Global, record: &NodeRecord, out: &mut Line) -> fmt::Result 
     tell_bytes("id ", record.id(), out)?;
     tell_array(", secp256k1 ", record.secp256k1(), out)?;
     tell_array(", ip ", record.ip(), out)?;
-    write!(out, " {:?} {:?}", record.tcp(), record.udp())?;
+    out.then(record.tcp())?;
+    out.then(record.udp())?;
     tell_array(", ip6 ", record.ip6(), out)?;
-    write!(out, " {:?} {:?}", record.tcp6(), record.udp6())?;
+    out.then(record.tcp6())?;
+    out.then(record.udp6())?;
     tell_bytes(
         ", udp ",
         record.value(b"udp").map(|item| item.as_bytes()),
         out,
     )?;
-    write!(out, " {:?}", record.get::<u64>(alloc, b"udp"))
+    out.then(record.get::<u64>(alloc, b"udp"))
 }
 
 /// Tells a name, and the digits of bytes or `none`.

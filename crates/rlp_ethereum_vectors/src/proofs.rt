@@ -69,9 +69,12 @@ fn tell(alloc: Global, root: &[u8], key: &[u8], nodes: &[Vec<u8>], out: &mut Lin
         return out.write_str("no root");
     };
     match verify_proof(alloc, &Hash(root), key, nodes) {
-        Ok(Some(value)) => write!(out, "= {:?}", Hex(value.as_slice())),
+        Ok(Some(value)) => {
+            out.write_str("=")?;
+            out.then(Hex(value.as_slice()))
+        }
         Ok(None) => out.write_str("none"),
-        Err(fault) => write!(out, "{fault}"),
+        Err(fault) => out.display(fault),
     }
 }
 

@@ -165,15 +165,20 @@ pub(crate) fn tell_again(
     bytes: &[u8],
     out: &mut Line,
 ) -> fmt::Result {
-    let (r, s) = (*signed.r(), *signed.s());
-    match signed.into_unsigned() {
-        Some((unsigned, y_parity)) => {
-            let again = unsigned.with_signature(y_parity, r, s).to_bytes(alloc)?;
-            let is_same = again.as_slice() == bytes;
+    match again(signed) {
+        Some(again) => {
+            let is_same = again.to_bytes(alloc)?.as_slice() == bytes;
             out.write_str(if is_same { "the same" } else { "other bytes" })
         }
         None => out.write_str("None"),
     }
+}
+
+/// Takes the signature from a transaction, and signs it with that again.
+fn again(signed: Transaction) -> Option<Transaction> {
+    let (r, s) = (*signed.r(), *signed.s());
+    let (unsigned, y_parity) = signed.into_unsigned()?;
+    Some(unsigned.with_signature(y_parity, r, s))
 }
 
 /// Tells the type, the chain, the two fees as they are written, and whether there is a price of gas.

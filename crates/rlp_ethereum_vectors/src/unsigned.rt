@@ -291,18 +291,31 @@ pub(crate) fn tell(alloc: Global, name: &str, bytes: &[u8], out: &mut Line) -> f
         "example for chain 1" => made(alloc, &example(alloc, Some(1)), bytes, out),
         "example" => made(alloc, &example(alloc, None), bytes, out),
         "bytes of the example for chain 1" => {
-            let unsigned = UnsignedTransaction::Legacy(example(alloc, Some(1)));
-            digits(unsigned.to_bytes(alloc), out)
+            tell_unsigned(
+                alloc,
+                UnsignedTransaction::Legacy(example(alloc, Some(1))),
+                out,
+            )
         }
-        "numbers" => match UnsignedTransaction::from_bytes(alloc, bytes) {
-            Ok(unsigned) => tell_numbers(&unsigned, out),
-            Err(found) => fault(&found, out),
-        },
-        "authorization" => match Authorization::from_signing_payload(alloc, bytes) {
-            Ok(read) => tell_authorization(&read, out),
-            Err(found) => fault(&found, out),
-        },
+        "numbers" => tell_numbers_of(alloc, bytes, out),
+        "authorization" => tell_authorization_of(alloc, bytes, out),
         _ => tell_signed(alloc, name, bytes, out),
+    }
+}
+
+/// Tells the numbers of the transaction that is signed as these bytes.
+fn tell_numbers_of(alloc: Global, bytes: &[u8], out: &mut Line) -> fmt::Result {
+    match UnsignedTransaction::from_bytes(alloc, bytes) {
+        Ok(unsigned) => tell_numbers(&unsigned, out),
+        Err(found) => fault(&found, out),
+    }
+}
+
+/// Tells the authorization that is signed as these bytes.
+fn tell_authorization_of(alloc: Global, bytes: &[u8], out: &mut Line) -> fmt::Result {
+    match Authorization::from_signing_payload(alloc, bytes) {
+        Ok(read) => tell_authorization(&read, out),
+        Err(found) => fault(&found, out),
     }
 }
 
