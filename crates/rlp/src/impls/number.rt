@@ -107,20 +107,33 @@ fn number_within<const WIDTH: usize>(rlp: &Rlp<'_>) -> Result<usize, DecoderErro
 {
     match rlp.as_raw() {
         [digit @ 0x01..=0x7f, ..] if may_end_at(rlp, 1) => Ok(*digit as usize),
-        _ => match short_number::<WIDTH>(rlp) {
-            Some(number) => Ok(number),
-            None => number_of_string(rlp, WIDTH),
-        },
+        _ => other_number::<WIDTH>(rlp.as_raw(), rlp.is_strict()),
+    }
+}
+
+/// Reads the same as [`number_within`], from the parts of a view, which are held in registers.
+#[inline(always)]
+fn other_number<const WIDTH: usize>(bytes: &[u8], is_strict: bool) -> Result<usize, DecoderError>
+    requires { WIDTH ≤ 8 }
+    ensures value { IfOk result (λ n. GivesNumber WIDTH
+        (record { bytes = bytes.now; is_strict = is_strict }) n) }
+    ensures fault { IfErr result (λ e. FaultsAsNumber WIDTH
+        (record { bytes = bytes.now; is_strict = is_strict }) e) }
+{
+    match short_number::<WIDTH>(bytes, is_strict) {
+        Some(number) => Ok(number),
+        None => number_of_string(bytes, is_strict, WIDTH),
     }
 }
 
 /// Reads a number of at most `WIDTH` bytes, and at most 8, if its header is one byte and nothing is
 /// wrong with it. `None` says nothing about the bytes. It is compiled for each width.
 #[inline(never)]
-fn short_number<const WIDTH: usize>(rlp: &Rlp<'_>) -> Option<usize>
-    ensures { IfSome result (λ n. GivesNumber WIDTH rlp.now n) }
+fn short_number<const WIDTH: usize>(bytes: &[u8], is_strict: bool) -> Option<usize>
+    ensures { IfSome result (λ n. GivesNumber WIDTH
+        (record { bytes = bytes.now; is_strict = is_strict }) n) }
 {
-    few_digits(short_digits(rlp, WIDTH)?)
+    few_digits(short_digits(&Rlp::of_kind(bytes, is_strict), WIDTH)?)
 }
 
 /// Whether the view's item may end at `len`: nothing follows the item in a strict view.
@@ -134,12 +147,15 @@ fn may_end_at(rlp: &Rlp<'_>, len: usize) -> bool
 /// Reads a number of at most `width` bytes, at most 8, by the string of any length that the view
 /// begins with.
 #[inline(never)]
-fn number_of_string(rlp: &Rlp<'_>, width: usize) -> Result<usize, DecoderError>
+fn number_of_string(bytes: &[u8], is_strict: bool, width: usize) -> Result<usize, DecoderError>
     requires { width ≤ 8 }
-    ensures value { IfOk result (λ n. GivesNumber width rlp.now n) }
-    ensures fault { IfErr result (λ e. FaultsAsNumber width rlp.now e) }
+    ensures value { IfOk result (λ n. GivesNumber width
+        (record { bytes = bytes.now; is_strict = is_strict }) n) }
+    ensures fault { IfErr result (λ e. FaultsAsNumber width
+        (record { bytes = bytes.now; is_strict = is_strict }) e) }
 {
-    Ok(number_of(digits_of_string(rlp, width)?))
+    let digits = digits_of_string(&Rlp::of_kind(bytes, is_strict), width)?;
+    Ok(number_of(digits))
 }
 
 /// Returns the digits of the number of at most `width` bytes that the view begins with.

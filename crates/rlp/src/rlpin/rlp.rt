@@ -440,7 +440,7 @@ impl<'a> Rlp<'a> {
     }
 
     /// A view of these bytes, lenient or strict.
-    fn of_kind(bytes: &'a [u8], strict: bool) -> Rlp<'a>
+    pub(crate) fn of_kind(bytes: &'a [u8], strict: bool) -> Rlp<'a>
         ensures { result ≡ record { bytes = bytes.now; is_strict = strict } }
     {
         Rlp { bytes, strict }

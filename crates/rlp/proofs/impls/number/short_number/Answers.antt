@@ -8,4 +8,5 @@ found None P v Q is holds = tt
 found (Some w) P v Q is holds = subst Q (sym is.1) holds
 
 pub returns : goal.returns
-returns g c = found _ _ _ (λ n. GivesNumber g.row.WIDTH c.args.rlp.now n) c.few_digits.ensures c.in_ok-short_digits.ensures.value
+returns g c = found _ _ _ (λ n. GivesNumber g.row.WIDTH (record { bytes = c.args.bytes.now; is_strict = c.args.is_strict }) n) c.few_digits.ensures
+    (rw (sym c.of_kind.ensures) c.in_ok-short_digits.ensures.value)
