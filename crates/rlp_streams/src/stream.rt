@@ -146,6 +146,7 @@ impl RlpStream {
     /// The result passes the stream on, so calls chain by `?`. Fails with `AllocError` if memory is
     /// refused, or if the value's own [`Encodable::rlp_append`] fails. The stream is then as it was
     /// before the call.
+    #[inline(always)]
     pub fn append<E: Encodable>(&mut self, value: &E) -> Result<Chain<'_>, AllocError>
         ensures* refused { sem 𝓛 (stays_if_refused self.entry result) }
         ensures fits { OnOk result (E.fits value.now) }
