@@ -1,4 +1,5 @@
-use Rattle.std.proofs.Common.{rules, ◌++◌, sym, ap, ◌∙◌}
+use Rattle.std.proofs.Common.{rules, ◌++◌, sym, ap, ◌∙◌, arith}
+use Rattle.std.proofs.lemmas.Grind.{common_steps}
 use Rattle.rlp_buffer.proofs.Streams.Written.{encoding_length, header_and_string}
 use Rattle.rlp_buffer.proofs.buffer.strings.write_string.Goals as goal
 
@@ -18,3 +19,6 @@ returns-clause-ok c =
     c.extend_reserved-2.ensures.items
     ∙ ap (λ b. b ++ value) (c.extend_reserved.ensures.items ∙ ap (λ b. b ++ c.as_slice-2.result.now) c.in_ok-reserve.ensures.items
     ∙ ap (λ h. old ++ h) (c.as_slice-2.ensures ∙ c.written_header-header.ensures)) ∙ header_and_string old value other
+
+pub returns-clause-keeps : goal.returns-clause-keeps
+returns-clause-keeps c = grind (arith, common_steps)
