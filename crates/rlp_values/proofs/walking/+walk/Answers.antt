@@ -124,8 +124,15 @@ row_of-row-requires g t c = omega (arith, c.requires.fits)
 
 pub put_string-requires-else-is_list-clause-room : goal.put_string-requires-else-is_list-clause-room
 put_string-requires-else-is_list-clause-room g t c =
-    omega (arith, c.requires.room, c.loop-rest.invariant.within, ap length c.loop-rest.invariant.whole, length-append (join c.loop-rest.invariant.done) c.loop-rest.rest.now,
-    ap length c.in-Ok.ensures.whole, length-append c.in-Ok.first.0.item.now c.in-Ok.first.1.now)
+    omega (
+      arith,
+      c.requires.room,
+      c.loop-rest.invariant.within,
+      ap length c.loop-rest.invariant.whole,
+      length-append (join c.loop-rest.invariant.done) c.loop-rest.rest.now,
+      ap length c.in-Ok.ensures.whole,
+      length-append c.in-Ok.first.0.item.now c.in-Ok.first.1.now,
+    )
 
 pub put_string-requires-else-is_list-clause-fits : goal.put_string-requires-else-is_list-clause-fits
 put_string-requires-else-is_list-clause-fits g t c = omega (arith, c.requires.fits, c.if-left-eq0.false)
