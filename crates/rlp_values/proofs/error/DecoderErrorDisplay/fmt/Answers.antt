@@ -1,4 +1,5 @@
-use Rattle.std.proofs.Common.{rules, sym}
+use Rattle.std.proofs.Common.{rules, sym, arith}
+use Rattle.std.proofs.lemmas.Grind.{common_steps}
 use Rattle.std.proofs.Output.{has_written_styled_append, has_written_styled_of_eq}
 use Rattle.rlp_values.proofs.error.DecoderErrorDisplay.fmt.Goals as goal
 
@@ -9,3 +10,6 @@ returns-in_ok-write_str-in-Err-2-clause-styled g c flush ok =
     let d = c.write_str-in-Err-3.ensures.styled b.flush ok in
     has_written_styled_of_eq _ _ _ _ _ (sym c.in-Err.ensures)
     (has_written_styled_append _ _ _ _ _ _ (has_written_styled_append _ _ _ _ _ _ a b) d)
+
+pub returns-in_ok-write_str-in-Err-2-clause-writes : goal.returns-in_ok-write_str-in-Err-2-clause-writes
+returns-in_ok-write_str-in-Err-2-clause-writes g c = grind (arith, common_steps)
