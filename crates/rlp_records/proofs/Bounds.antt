@@ -1,7 +1,7 @@
 -- What the walk over bytes says of the items in them.
 use Rattle.std.proofs.Common.{◌≡◌, ℕ, ◌^◌, ◌<◌, ◌≤◌, List, length, sym, subst, ◌∙◌, arith, Result, Ok, Err, IfOk}
 use Rattle.rlp.specs.DecoderError.{DecoderError}
-use Rattle.rlp.specs.Format.Item.{Item, item_depth}
+use Rattle.rlp.specs.Format.Item.{Item}
 use Rattle.rlp.specs.Format.Encoding.{encoding}
 use Rattle.rlp.specs.Lemmas.Encodings.{encoding_same}
 use Rattle.rlp.specs.Values.ValueReading.{IsCustom}

@@ -1,3 +1,4 @@
 pub mod AfterByte
 pub mod Alone
 pub mod Bounds
+mod Faults

@@ -1,6 +1,6 @@
 //! The faults of decoding.
 
-ghost use Rattle.std.specs.Prelude.{◌≡◌, Some};
+ghost use Rattle.std.specs.Prelude.{◌≡◌, ◌++◌, codes, Some, MatchResult};
 ghost use Rattle.rlp_values.specs.Views.Text.{error_name};
 
 use std::error::Error;
@@ -57,6 +57,27 @@ impl DecoderError {
             DecoderError::OutOfMemory => DecoderError::OutOfMemory,
         }
     }
+
+    /// The variant's name, or the text of a `Custom` as an error.
+    fn name(&self) -> Result<&'static str, &'static str>
+        ensures { MatchResult result (λ name. error_name self.now ≡ name.now)
+            (λ text. error_name self.now ≡ codes "Custom(\"" ++ text.now ++ codes "\")") }
+    {
+        match self {
+            DecoderError::RlpIsTooBig => Ok("RlpIsTooBig"),
+            DecoderError::RlpIsTooShort => Ok("RlpIsTooShort"),
+            DecoderError::RlpExpectedToBeList => Ok("RlpExpectedToBeList"),
+            DecoderError::RlpExpectedToBeData => Ok("RlpExpectedToBeData"),
+            DecoderError::RlpIncorrectListLen => Ok("RlpIncorrectListLen"),
+            DecoderError::RlpDataLenWithZeroPrefix => Ok("RlpDataLenWithZeroPrefix"),
+            DecoderError::RlpListLenWithZeroPrefix => Ok("RlpListLenWithZeroPrefix"),
+            DecoderError::RlpInvalidIndirection => Ok("RlpInvalidIndirection"),
+            DecoderError::RlpInconsistentLengthAndData => Ok("RlpInconsistentLengthAndData"),
+            DecoderError::RlpInvalidLength => Ok("RlpInvalidLength"),
+            DecoderError::Custom(text) => Err(text),
+            DecoderError::OutOfMemory => Ok("OutOfMemory"),
+        }
+    }
 }
 
 /// Prints the variant's name, and for `Custom` also the text, as in `Custom("text")`. The
@@ -67,25 +88,13 @@ impl fmt::Display for DecoderError {
     ghost styled_output = { λ e _. Some (error_name e) };
 
     fn fmt<W: fmt::Write>(&self, f: &mut fmt::Formatter<W>) -> fmt::Result {
-        match self {
-            DecoderError::RlpIsTooBig => f.write_str("RlpIsTooBig"),
-            DecoderError::RlpIsTooShort => f.write_str("RlpIsTooShort"),
-            DecoderError::RlpExpectedToBeList => f.write_str("RlpExpectedToBeList"),
-            DecoderError::RlpExpectedToBeData => f.write_str("RlpExpectedToBeData"),
-            DecoderError::RlpIncorrectListLen => f.write_str("RlpIncorrectListLen"),
-            DecoderError::RlpDataLenWithZeroPrefix => f.write_str("RlpDataLenWithZeroPrefix"),
-            DecoderError::RlpListLenWithZeroPrefix => f.write_str("RlpListLenWithZeroPrefix"),
-            DecoderError::RlpInvalidIndirection => f.write_str("RlpInvalidIndirection"),
-            DecoderError::RlpInconsistentLengthAndData => {
-                f.write_str("RlpInconsistentLengthAndData")
-            }
-            DecoderError::RlpInvalidLength => f.write_str("RlpInvalidLength"),
-            DecoderError::Custom(text) => {
+        match self.name() {
+            Ok(name) => f.write_str(name),
+            Err(text) => {
                 f.write_str("Custom(\"")?;
                 f.write_str(text)?;
                 f.write_str("\")")
             }
-            DecoderError::OutOfMemory => f.write_str("OutOfMemory"),
         }
     }
 }

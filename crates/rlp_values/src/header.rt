@@ -58,7 +58,7 @@ impl PayloadInfo {
 
 /// Reads the header by the table of first bytes. Only the proof of this function unfolds `header`.
 #[inline(always)]
-#[tactic(auto, using(crate::specs::Lemmas::Reading::rows), unfolding(crate::specs::Format::Header::header))]
+#[tactic(auto, unfolding(crate::specs::Format::Header::header))]
 fn header_by_first_byte(bytes: &[u8]) -> Result<PayloadInfo, DecoderError>
     ensures { result ≡ header bytes.now }
 {

@@ -16,7 +16,7 @@ pub fn string_in(bytes: &[u8]) -> Result<&[u8], DecoderError>
 }
 
 /// The string, by the table of first bytes. Only the proof of this function unfolds `read_string`.
-#[tactic(auto, using(crate::specs::Lemmas::Strings::first_bytes), unfolding(crate::specs::Format::StringReading::read_string))]
+#[tactic(auto, unfolding(crate::specs::Format::StringReading::read_string))]
 fn string_by_first_byte(bytes: &[u8]) -> Result<&[u8], DecoderError>
     ensures { MatchResult result (λ d. read_string bytes.now ≡ Ok d.now)
         (λ e. read_string bytes.now ≡ Err e) }

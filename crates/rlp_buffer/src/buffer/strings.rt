@@ -25,7 +25,7 @@ fn is_low_byte(value: &[u8]) -> bool
 
 /// Writes the encoding of a string at the end of a buffer. It makes room for all of it first, then
 /// writes the header, and then copies the string once.
-#[tactic(auto, using(crate::proofs::Streams::Written::written))]
+#[tactic(auto, using(crate::proofs::Streams::Written::encoding_low))]
 pub fn write_string(buffer: &mut Buffer, value: &[u8]) -> Result<(), AllocError>
     ensures ok { OnOk result
         (buffer.new.items ≡ buffer.old.items ++ encoding (string value.now)) }
@@ -66,7 +66,6 @@ fn write_short(buffer: &mut Buffer, value: &[u8]) -> Result<(), AllocError>
 }
 
 /// The encoding of a string, alone. It takes one request for memory, of the length of the encoding.
-#[tactic(auto, using(crate::proofs::Streams::Written::written))]
 pub fn encoded_string(alloc: Global, value: &[u8]) -> Result<BytesMut, AllocError>
     ensures { IfOk result (λ b. b.items ≡ encoding (string value.now)) }
 {

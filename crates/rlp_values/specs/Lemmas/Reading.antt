@@ -246,5 +246,3 @@ reads_from b (Err fault) e is = (no_header b fault e, is)
 -- `header` gives the header that stands at the front of bytes, or why none does
 pub header_reads : (b : List ℕ) → AreBytes b → ReadsHeader b (header b)
 header_reads b bytes = reads_from b (header b) refl (row b (recursion_from_All (λ byte. byte < 2 ^ 8) b bytes))
-
-pub ruleset rows = (header_low, header_string, header_long_string, header_list, header_long_list)

@@ -249,5 +249,3 @@ answer_from b (Err e) fits is there = ((λ d has. let same = sym (string_only b 
 -- `read_string` gives the string in front, or the fault where none is
 pub string_reads : (b : List ℕ) → AreBytes b → length b < 2 ^ 64 → ReadsString b (read_string b)
 string_reads b bytes fits = answer_from b (read_string b) fits refl (stands b (recursion_from_All (λ byte. byte < 2 ^ 8) b bytes))
-
-pub ruleset first_bytes = (string_low, string_short, string_long, string_list)

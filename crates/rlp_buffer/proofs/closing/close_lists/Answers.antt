@@ -1,4 +1,5 @@
-use Rattle.std.proofs.Common.{◌≡◌, ◌+◌, ◌-◌, length, reverse, suc, sym, ◌∙◌, arith}
+use Rattle.std.proofs.Common.{◌≡◌, ◌+◌, ◌-◌, length, reverse, suc, ap, sym, ◌∙◌, arith}
+use Rattle.std.proofs.lemmas.List.{length-reverse}
 use Rattle.rlp_buffer.proofs.Streams.Closings.{closes_all, closes_more, closes_fits, closes_popped, dropped_popped, left_popped, moved_within}
 use Rattle.rlp_buffer.proofs.Streams.Closings.{moved_more, header_some}
 use Rattle.rlp_buffer.proofs.closing.close_lists.Goals as goal
@@ -94,3 +95,17 @@ shift-requires-clause-forward c =
     let h = closes_popped _ _ (c.loop-left.left - 1) _ _ _ c.loop-left.lists.items c.pop.new.self.items c.in-Some.list c.loop-left.invariant.closes
     c.in-Some.ensures.items next in
     omega (arith, h.order.0, h.room)
+
+pub returns-in-loop-left : goal.returns-in-loop-left
+returns-in-loop-left c =
+    let len = length-reverse c.loop-left.lists.items in
+    let enough = c.loop-left.invariant.closes.enough in
+    let popped = ap length c.pop.ensures.items in
+    absurd (grind arith)
+
+pub overflow_sub-to : goal.overflow_sub-to
+overflow_sub-to c =
+    let next : c.loop-left.left ≡ suc (c.loop-left.left - 1) = omega arith in
+    let h = closes_popped _ _ (c.loop-left.left - 1) _ _ _ c.loop-left.lists.items c.pop.new.self.items c.in-Some.list c.loop-left.invariant.closes
+    c.in-Some.ensures.items next in
+    omega (arith, h.room)

@@ -1,4 +1,5 @@
 use Rattle.std.proofs.Common.{◌≡◌, ◌∷◌, suc, reverse, refl, ap, sym, ◌∙◌, arith}
+use Rattle.std.proofs.lemmas.Grind.{common_steps}
 use Rattle.std.proofs.lemmas.Bool.{cond-false}
 use Rattle.std.proofs.lemmas.List.{length-reverse}
 use Rattle.rlp_buffer.specs.Streams.Stack.{is_last}
@@ -58,3 +59,15 @@ returns-else-is_last c =
       enough = omega (arith, h.few, lists);
       small = omega (arith, h.small, h.few, lists);
     }
+
+pub returns-in-loop-list-clause-closing : goal.returns-in-loop-list-clause-closing
+returns-in-loop-list-clause-closing c = grind (arith, common_steps)
+
+pub returns-in-loop-list-clause-growth : goal.returns-in-loop-list-clause-growth
+returns-in-loop-list-clause-growth c = grind (arith, common_steps)
+
+pub returns-in-loop-list-clause-enough : goal.returns-in-loop-list-clause-enough
+returns-in-loop-list-clause-enough c = grind (arith, common_steps)
+
+pub returns-in-loop-list-clause-small : goal.returns-in-loop-list-clause-small
+returns-in-loop-list-clause-small c = grind (arith, common_steps)

@@ -1,4 +1,5 @@
 use Rattle.std.proofs.Common.{◌≡◌, ◌+◌, ◌^◌, ◌<◌, ◌≤◌, ◌⊎◌, ◌++◌, inr, [], reverse, length, length-append, take, drop, refl, ap, sym, ◌∙◌, arith}
+use Rattle.std.proofs.lemmas.Grind.{common_steps}
 use Rattle.std.proofs.lemmas.List.{length-take-le}
 use Rattle.rlp_buffer.specs.Streams.Stack.{awaits_after}
 use Rattle.rlp_buffer.specs.Streams.Closing.{filled, growth, closed_bytes, left_of}
@@ -112,3 +113,6 @@ returns-clause-keeps c =
     let same : growth n (length front) 0 ps ≡ growth n end 0 ps = ap (λ m. growth n m 0 ps) stands in
     let new : length c.close_lists.new.buffer.items ≡ length (closed_bytes n front [] ps) = ap length c.close_lists.ensures.bytes in
     record { moved = omega arith; room = omega (arith, size, same, new, put, stands, grown) }
+
+pub returns-in_default-clause-room : goal.returns-in_default-clause-room
+returns-in_default-clause-room c = grind (arith, common_steps)

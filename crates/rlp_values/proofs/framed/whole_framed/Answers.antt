@@ -1,3 +1,5 @@
+use Rattle.std.proofs.Common.{arith}
+use Rattle.std.proofs.lemmas.Grind.{common_steps}
 use Rattle.rlp_values.proofs.Views.Fronts.{whole_front, long_front, faulty_front}
 use Rattle.rlp_values.proofs.framed.whole_framed.Goals as goal
 
@@ -19,3 +21,6 @@ returns-else-is_empty-clause-fault c =
 
 pub returns-in-Err-clause-fault : goal.returns-in-Err-clause-fault
 returns-in-Err-clause-fault c = faulty_front c.args.bytes.now c.in-Err.fault c.in-Err.ensures.header
+
+pub returns-then-is_empty-clause-whole : goal.returns-then-is_empty-clause-whole
+returns-then-is_empty-clause-whole c = grind (arith, common_steps)

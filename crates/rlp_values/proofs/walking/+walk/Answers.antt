@@ -1,6 +1,7 @@
 use Rattle.std.proofs.Common.{rules, ◌+◌, ◌-◌, ◌<◌, ◌≤◌, ◌^◌, ◌∙◌, length, sym, ap, arith, length-append}
 use Rattle.rlp_format.specs.Format.Encoding.{join}
 use Rattle.rlp_values.specs.Format.Framing.{framing}
+use Rattle.rlp_values.specs.Lemmas.Frames.{item_some}
 use Rattle.rlp_values.proofs.Format.Following.{framing-followed}
 use Rattle.rlp_values.proofs.Format.StrictLists.{no_bytes, some_bytes}
 use Rattle.rlp_values.proofs.Trees.Needless.{list_header, whole_item}
@@ -114,3 +115,34 @@ loop-rest-preserved-in-Ok-walk g t c =
     walking_one g.R.FlatRow.row_of c.args.framed.now.item.now c.loop-rest.rest.now c.in-Ok.first.0.item.now c.in-Ok.first.1.now c.args.framed.now.header c.args.place c.args.depth
     (c.args.left - 1) c.args.out.now c.args.count c.loop-rest.out c.walk.new.out c.loop-rest.rows c.in-Ok-walk.rows
     c.loop-rest.invariant c.in-Ok.ensures.parts c.in-Ok.ensures.whole c.in-Ok-walk.ensures.walked c.in-Ok-walk.ensures.fault
+
+pub put_string-requires-clause-fits : goal.put_string-requires-clause-fits
+put_string-requires-clause-fits g t c = omega (arith, c.requires.fits)
+
+pub row_of-row-requires : goal.row_of-row-requires
+row_of-row-requires g t c = omega (arith, c.requires.fits)
+
+pub put_string-requires-else-is_list-clause-room : goal.put_string-requires-else-is_list-clause-room
+put_string-requires-else-is_list-clause-room g t c =
+    omega (
+      arith,
+      c.requires.room,
+      c.loop-rest.invariant.within,
+      ap length c.loop-rest.invariant.whole,
+      length-append (join c.loop-rest.invariant.done) c.loop-rest.rest.now,
+      ap length c.in-Ok.ensures.whole,
+      length-append c.in-Ok.first.0.item.now c.in-Ok.first.1.now,
+    )
+
+pub put_string-requires-else-is_list-clause-fits : goal.put_string-requires-else-is_list-clause-fits
+put_string-requires-else-is_list-clause-fits g t c = omega (arith, c.requires.fits, c.if-left-eq0.false)
+
+pub put_string-requires-else-is_list-clause-few : goal.put_string-requires-else-is_list-clause-few
+put_string-requires-else-is_list-clause-few g t c =
+    omega (arith, c.loop-rest.invariant.few, c.loop-rest.invariant.within)
+
+pub overflow_add-item_place : goal.overflow_add-item_place
+overflow_add-item_place g t c = omega (arith, c.requires.room)
+
+pub overflow_add-rows : goal.overflow_add-rows
+overflow_add-rows g t c = omega (arith, c.requires.few, c.requires.room, item_some c.args.framed.now.item.now c.requires.item)

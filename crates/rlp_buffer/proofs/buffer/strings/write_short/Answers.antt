@@ -1,4 +1,5 @@
-use Rattle.std.proofs.Common.{rules, ◌+◌, ◌++◌, ◌∷◌, [], length, sym, ap, ◌∙◌}
+use Rattle.std.proofs.Common.{rules, ◌+◌, ◌++◌, ◌∷◌, [], length, sym, ap, ◌∙◌, arith}
+use Rattle.std.proofs.lemmas.Grind.{common_steps}
 use Rattle.rlp_format.specs.Lemmas.Headers.{written_header_short}
 use Rattle.rlp_buffer.proofs.Streams.Written.{encoding_length, header_and_string}
 use Rattle.rlp_buffer.proofs.buffer.strings.write_short.Goals as goal
@@ -18,3 +19,6 @@ returns-clause-ok c =
     c.extend_reserved-2.ensures.items
     ∙ ap (λ b. b ++ value) (c.extend_reserved.ensures.items ∙ ap (λ b. b ++ (0x80 + length value) ∷ []) c.in_ok-reserve.ensures.items
     ∙ ap (λ h. old ++ h) header) ∙ header_and_string old value c.requires.headed
+
+pub returns-clause-keeps : goal.returns-clause-keeps
+returns-clause-keeps c = grind (arith, common_steps)

@@ -4,6 +4,7 @@ use Rattle.rlp_buffer.specs.Streams.Stream.{Seen, put, count}
 use Rattle.rlp_buffer.specs.Streams.Placeholders.{IsLaid}
 use Rattle.rlp_buffer.proofs.Streams.FlatBuffer.{laid_descends, laid_append, laid_counted, is_counted_open, not_empty, state_put_counted, moved_counted}
 use Rattle.rlp_buffer.proofs.Streams.Rooms.{short_to_count}
+use Rattle.rlp_streams.proofs.Streams.Refused.{on_err_both}
 use Rattle.rlp_streams.proofs.Streams.Retained.{retained}
 use Rattle.rlp_streams.proofs.stream.RlpStream.try_put_counted.Goals as goal
 
@@ -79,3 +80,30 @@ returns-else-open-clause-retains c =
     (laid_append i.start i.buffer.items c.args.bytes.now (reverse i.lists.items) c.self.invariant)) in
     retained c.args.self.now i (record { buffer = c.put_counted.new.buffer; start = i.start; lists = c.put_counted.new.lists; is_counted = i.is_counted })
     c.self.view_is c.self.invariant laid done.keeps (le_of_eq (sym done.list_room))
+
+pub invariant_of-self : goal.invariant_of-self
+invariant_of-self c = let refused = c.in_err-closed.ensures.refused in rw (refused.0, refused.1) c.self.invariant
+
+pub returns-in_err-closed-clause-refused : goal.returns-in_err-closed-clause-refused
+returns-in_err-closed-clause-refused c =
+    let refused = c.in_err-closed.ensures.refused in
+    on_err_both _ _ _ (rw (refused.0, refused.1) (ap (λ (v : Seen). v.state) c.self.view_is)) (refused.2 ∙ ap (λ (v : Seen). v.moved) c.self.view_is)
+
+pub returns-in_err-closed-clause-moved : goal.returns-in_err-closed-clause-moved
+returns-in_err-closed-clause-moved c = omega (arith, c.in_err-closed.ensures.refused.2, ap (λ (v : Seen). v.moved) c.self.view_is)
+
+pub invariant_of-self-else-open : goal.invariant_of-self-else-open
+invariant_of-self-else-open c =
+    let i = c.self.inside in
+    let done = c.in_ok-closed.ensures in
+    rw (done.bytes, done.lists) (laid_counted c.args.items i.start (i.buffer.items ++ c.args.bytes.now) (reverse i.lists.items)
+    (laid_append i.start i.buffer.items c.args.bytes.now (reverse i.lists.items) c.self.invariant))
+
+pub returns-else-open-clause-moved : goal.returns-else-open-clause-moved
+returns-else-open-clause-moved c =
+    let i = c.self.inside in
+    let done = c.in_ok-closed.ensures in
+    rw (done.bytes, done.lists, ← c.self.view_is)
+    (moved_counted c.args.items i.start (i.buffer.items ++ c.args.bytes.now)
+    (reverse i.lists.items) i.is_counted i.buffer.moved c.put_counted.new.buffer.moved
+    (laid_append i.start i.buffer.items c.args.bytes.now (reverse i.lists.items) c.self.invariant) done.moved)

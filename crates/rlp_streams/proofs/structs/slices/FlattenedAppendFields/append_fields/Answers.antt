@@ -1,4 +1,5 @@
-use Rattle.std.proofs.Common.{Result, Ok, Err, rules, refl}
+use Rattle.std.proofs.Common.{Result, Ok, Err, rules, refl, arith}
+use Rattle.std.proofs.lemmas.Grind.{common_steps}
 use Rattle.std.specs.Prelude.{OnErr}
 use Rattle.rlp_streams.proofs.Streams.Filling.{all_more}
 use Rattle.rlp_streams.proofs.Streams.Fields.{flattened_at, flattened_pushed}
@@ -33,3 +34,9 @@ loop-value-init g c = record { state = refl; retains = retains_same _; fits = se
 
 pub returns-in_err-append_fields-clause-retains : goal.returns-in_err-append_fields-clause-retains
 returns-in_err-append_fields-clause-retains g c = retains_trans _ _ _ c.loop-value.invariant.retains c.append_fields.ensures.retains
+
+pub returns-clause-fits : goal.returns-clause-fits
+returns-clause-fits g c = grind (arith, common_steps)
+
+pub returns-clause-ok : goal.returns-clause-ok
+returns-clause-ok g c = grind (arith, common_steps)
