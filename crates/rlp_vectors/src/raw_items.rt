@@ -54,22 +54,21 @@ fn with_one_more(alloc: Global, bytes: &[u8]) -> Result<Vec<u8>, AllocError> {
     Ok(longer)
 }
 
+/// Returns whether bytes go both ways as a raw item, or are read with this fault.
+fn is_as(alloc: Global, bytes: &[u8], fault: &str) -> Result<bool, AllocError> {
+    if fault.is_empty() {
+        let longer = with_one_more(alloc, bytes)?;
+        Ok(goes_both_ways(alloc, bytes, longer.as_slice()))
+    } else {
+        Ok(is_read(alloc, rlp::decode::<RawItem>(alloc, bytes), fault))
+    }
+}
+
 /// Fails with the first row that isn't met.
 fn all_met(alloc: Global) -> Result<(), Fail> {
     for row in ROWS.lines() {
         let (text, fault) = row.split_once(" = ").unwrap_or((row, ""));
-        let bytes = bytes_of(alloc, text)?;
-        let longer = with_one_more(alloc, bytes.as_slice())?;
-        let is_met = if fault.is_empty() {
-            goes_both_ways(alloc, bytes.as_slice(), longer.as_slice())
-        } else {
-            is_read(
-                alloc,
-                rlp::decode::<RawItem>(alloc, bytes.as_slice()),
-                fault,
-            )
-        };
-        if !is_met {
+        if !is_as(alloc, bytes_of(alloc, text)?.as_slice(), fault)? {
             return Err(Fail::new(row));
         }
     }

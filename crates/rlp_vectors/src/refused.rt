@@ -55,14 +55,24 @@ fn numbers_are_listed(alloc: Global) -> Result<bool, AllocError> {
     Ok(rlp::encode_list(alloc, numbers.as_slice())?.len() == 4_503)
 }
 
+/// Returns whether the encoding of a value has this many bytes.
+fn has_len<E: Encodable>(alloc: Global, value: &E, len: usize) -> Result<bool, AllocError> {
+    Ok(rlp::encode(alloc, value)?.len() == len)
+}
+
+/// Returns whether an option is encoded as the list of its value.
+fn option_is_encoded(alloc: Global) -> Result<bool, AllocError> {
+    Ok(rlp::encode(alloc, &Some(5u64))?.as_slice() == [0xc1, 0x05].as_slice())
+}
+
 // Strings, each of one request, and an option.
 #[test]
 fn what_is_encoded(rt: HostRuntime) -> Result<(), AllocError> {
     let alloc = rt.alloc();
     assert!(rt; numbers_are_listed(alloc)?);
     assert!(rt; is_listed(alloc, &["cat", "dog"], b"\xc8\x83cat\x83dog")?);
-    assert!(rt; rlp::encode(alloc, &[0x61u8; 32])?.len() == 33);
-    assert!(rt; rlp::encode(alloc, &Uint { bytes: [1; 32] })?.len() == 33);
-    assert!(rt; rlp::encode(alloc, &Some(5u64))?.as_slice() == [0xc1, 0x05].as_slice());
+    assert!(rt; has_len(alloc, &[0x61u8; 32], 33)?);
+    assert!(rt; has_len(alloc, &Uint { bytes: [1; 32] }, 33)?);
+    assert!(rt; option_is_encoded(alloc)?);
     Ok(())
 }

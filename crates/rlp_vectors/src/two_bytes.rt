@@ -2,7 +2,7 @@
 //! expected numbers were counted by the tables of the format, not by these calls.
 
 use bytes::{Bytes, BytesMut};
-use rlp::{BasicDecoder, Decodable, DecoderError, PayloadInfo, Prototype, Rlp, Uint};
+use rlp::{BasicDecoder, Decodable, DecoderError, PayloadInfo, Prototype, Rlp, RlpIterator, Uint};
 use rlp_rows::{Line, cut, number};
 use std::alloc::Global;
 use std::fmt;
@@ -216,30 +216,40 @@ fn is_numbered(view: &Rlp<'_>) -> bool {
         }
         index = index.saturating_add(1);
     }
+    is_at_end(&mut items) && len == index && len == view.item_count().unwrap_or(0)
+}
+
+/// Returns whether an iterator gives no more items.
+fn is_at_end(items: &mut RlpIterator<'_, '_>) -> bool {
     items.next().is_none()
         && items.next().is_none()
         && items.len() == 0
         && items.size_hint() == (0, Some(0))
-        && len == index
-        && len == view.item_count().unwrap_or(0)
 }
 
 /// Returns what a view measures of an input: 1 if it is so, or a length.
 fn measured(view: &Rlp<'_>, call: &str) -> usize {
     let (call, limit) = cut(call);
     match call {
-        "is_list" => usize::from(view.is_list()),
-        "is_data" => usize::from(view.is_data()),
-        "is_empty" => usize::from(view.is_empty()),
-        "is_int" => usize::from(view.is_int()),
-        "within" => usize::from(view.is_nested_within(number(limit))),
-        "canonical" => usize::from(view.is_canonical(number(limit))),
         "size" => view.size(),
         "string" => lengths_of(view).0,
         "items" => lengths_of(view).1,
-        "numbered" => usize::from(is_numbered(view)),
         "letters" => text_of(view).as_str().len(),
-        _ => usize::from(text_of(view).as_str() == "[]"),
+        _ => usize::from(holds(view, call, number(limit))),
+    }
+}
+
+/// Returns whether an input is so, by a view.
+fn holds(view: &Rlp<'_>, call: &str, limit: usize) -> bool {
+    match call {
+        "is_list" => view.is_list(),
+        "is_data" => view.is_data(),
+        "is_empty" => view.is_empty(),
+        "is_int" => view.is_int(),
+        "within" => view.is_nested_within(limit),
+        "canonical" => view.is_canonical(limit),
+        "numbered" => is_numbered(view),
+        _ => text_of(view).as_str() == "[]",
     }
 }
 

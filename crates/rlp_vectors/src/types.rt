@@ -69,6 +69,9 @@ const NESTS: &str = "\
 nest cdccc28001c20102c20203c20304
 nests dddccdccc28001c20102c20203c20304cdccc28001c20102c20203c20304";
 
+/// The tables.
+const TABLES: &[&str] = &[VALUES, NUMBERS, CUSTOM, MESSAGES, NESTS];
+
 /// Returns whether bytes are read as a value of this kind, which is written as the wanted bytes, or are
 /// read with this fault. Pairs, messages and rows are read strictly.
 fn is_as(alloc: Global, kind: &str, bytes: &[u8], want: &str) -> bool {
@@ -162,13 +165,18 @@ fn numbers_are_read(alloc: Global) -> Result<bool, DecoderError> {
     Ok(read.as_slice() == [1, 2, 3, 7, 0xff].as_slice())
 }
 
-/// Fails with the first row that isn't met.
-fn all_met(alloc: Global) -> Result<(), Fail> {
-    for table in [VALUES, NUMBERS, CUSTOM, MESSAGES, NESTS] {
+/// Returns whether a row is met.
+fn is_met(alloc: Global, row: &str) -> Result<bool, AllocError> {
+    let (what, want) = row.split_once(" = ").unwrap_or((row, ""));
+    let (kind, text) = cut(what);
+    Ok(is_as(alloc, kind, bytes_of(alloc, text)?.as_slice(), want))
+}
+
+/// Fails with the first row of some tables that isn't met.
+fn all_met(alloc: Global, tables: &[&str]) -> Result<(), Fail> {
+    for table in tables {
         for row in table.lines() {
-            let (what, want) = row.split_once(" = ").unwrap_or((row, ""));
-            let (kind, text) = cut(what);
-            if !is_as(alloc, kind, bytes_of(alloc, text)?.as_slice(), want) {
+            if !is_met(alloc, row)? {
                 return Err(Fail::new(row));
             }
         }
@@ -179,7 +187,7 @@ fn all_met(alloc: Global) -> Result<(), Fail> {
 #[test]
 fn types_go_both_ways(rt: HostRuntime) -> Result<(), Fail> {
     let alloc = rt.alloc();
-    all_met(alloc)?;
+    all_met(alloc, TABLES)?;
     assert!(rt; slices_are_fields(alloc)?, "slices");
     assert!(rt; numbers_are_read(alloc)?, "numbers");
     Ok(())
