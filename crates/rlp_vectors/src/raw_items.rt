@@ -86,12 +86,16 @@ fn nest_to_256(alloc: Global) -> Result<bool, AllocError> {
     )
 }
 
-/// Appends raw items to a stream. Returns whether they are items of its lists.
-fn are_items(alloc: Global, mut s: RlpStream) -> Result<bool, DecoderError> {
+/// Returns whether raw items that are appended to a stream are items of its lists.
+fn are_items(alloc: Global, mut s: RlpStream) -> bool {
+    append_both(alloc, &mut s) == Ok(true) && finishes_as(s, b"\xca\x83cat\xc0\xc4\x83cat")
+}
+
+/// Returns whether raw items of the text "cat" and of an empty list are appended.
+fn append_both(alloc: Global, s: &mut RlpStream) -> Result<bool, DecoderError> {
     let cat = RawItem::new(alloc, b"\x83cat")?;
     let none = RawItem::new(alloc, b"\xc0")?;
-    let appended = append(&mut s, &cat, &none).is_ok();
-    Ok(appended && finishes_as(s, b"\xca\x83cat\xc0\xc4\x83cat"))
+    Ok(append(s, &cat, &none).is_ok())
 }
 
 /// Appends a list of two items, and of a list of the first.
@@ -107,7 +111,7 @@ fn append(s: &mut RlpStream, first: &RawItem, second: &RawItem) -> Result<(), Al
 fn are_items_of_both(alloc: Global) -> Result<bool, AllocError> {
     let narrow = RlpStream::new_with_buffer(alloc, BytesMut::new(alloc));
     let roomy = RlpStream::new(alloc)?;
-    Ok(are_items(alloc, roomy) == Ok(true) && are_items(alloc, narrow) == Ok(true))
+    Ok(are_items(alloc, roomy) && are_items(alloc, narrow))
 }
 
 #[test]

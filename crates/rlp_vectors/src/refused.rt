@@ -38,14 +38,21 @@ fn is_listed<E: Encodable>(alloc: Global, values: &[E], want: &[u8]) -> Result<b
     Ok(rlp::encode_list(alloc, values)?.as_slice() == want)
 }
 
+/// Returns whether a text and a list of pairs are encoded.
+fn values_are_encoded(alloc: Global) -> Result<bool, AllocError> {
+    let pairs = [Pair(1, 2), Pair(3, 4)];
+    Ok(
+        is_encoded(alloc, &"Lorem ipsum", b"\x8bLorem ipsum")?
+            && is_listed(alloc, &pairs, b"\xc6\xc2\x01\x02\xc2\x03\x04")?,
+    )
+}
+
 #[test]
 fn what_is_made(rt: HostRuntime) -> Result<(), AllocError> {
     let alloc = rt.alloc();
-    let pairs = [Pair(1, 2), Pair(3, 4)];
     assert!(rt; buffer_comes_back(alloc)?);
     assert!(rt; streams_are_new(alloc)?);
-    assert!(rt; is_encoded(alloc, &"Lorem ipsum", b"\x8bLorem ipsum")?);
-    assert!(rt; is_listed(alloc, &pairs, b"\xc6\xc2\x01\x02\xc2\x03\x04")?);
+    assert!(rt; values_are_encoded(alloc)?);
     Ok(())
 }
 

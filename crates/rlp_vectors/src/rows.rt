@@ -57,10 +57,15 @@ fn check_rows(alloc: Global, calls: &str, rows: &str, wrong: &mut Line) {
 /// Notes the calls that have another answer than a row.
 pub(crate) fn check_row(alloc: Global, calls: &str, given: &str, want: &str, wrong: &mut Line) {
     for call in calls.split(", ") {
-        let mut said = Line::new();
-        let _ = tell(alloc, call, given, &mut said);
-        wrong.note(call, given, said.as_str().trim_end(), want);
+        check_call(alloc, call, given, want, wrong);
     }
+}
+
+/// Notes a call that has another answer.
+fn check_call(alloc: Global, call: &str, given: &str, want: &str, wrong: &mut Line) {
+    let mut said = Line::new();
+    let _ = tell(alloc, call, given, &mut said);
+    wrong.note(call, given, said.as_str().trim_end(), want);
 }
 
 /// Tries the rows of tables.
@@ -138,16 +143,23 @@ fn tell_other(
     out: &mut Line,
 ) -> fmt::Result {
     match call {
-        "flags" => tell_flagged(out),
-        "header" => tell_header(bytes, out),
-        "taken" => tell_taken(bytes, out),
         "tree" => tell_tree(alloc, bytes, number, out),
-        "first_byte" => tell_first_byte(bytes, out),
         "third" => tell_third(alloc, &Rlp::new(bytes), out),
+        "flags" | "header" | "taken" | "first_byte" => tell_alone(bytes, call, out),
         "whole" => tell_whole(alloc, bytes, out),
         "whole_list" => tell_whole_list(alloc, bytes, out),
         "invalid" => tell_invalid(alloc, bytes, out),
         _ => Err(fmt::Error),
+    }
+}
+
+/// Writes what a call answers that has only bytes.
+fn tell_alone(bytes: &[u8], call: &str, out: &mut Line) -> fmt::Result {
+    match call {
+        "flags" => tell_flagged(out),
+        "header" => tell_header(bytes, out),
+        "taken" => tell_taken(bytes, out),
+        _ => tell_first_byte(bytes, out),
     }
 }
 

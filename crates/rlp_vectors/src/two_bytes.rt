@@ -85,12 +85,17 @@ fn check(alloc: Global, table: &str) -> Result<(), Fail> {
     let mut wrong = Line::new();
     for line in table.lines() {
         if let Some((call, want)) = line.trim().split_once(" | ") {
-            let mut said = Line::new();
-            let _ = tell(alloc, call, &mut said);
-            wrong.note(call, "", said.as_str(), want);
+            check_call(alloc, call, want, &mut wrong);
         }
     }
     wrong.none_noted()
+}
+
+/// Notes a call that has another tally or sum.
+fn check_call(alloc: Global, call: &str, want: &str, wrong: &mut Line) {
+    let mut said = Line::new();
+    let _ = tell(alloc, call, &mut said);
+    wrong.note(call, "", said.as_str(), want);
 }
 
 /// Returns what a call gives for an input: a call of a lenient or a strict view, or a way to read it.
@@ -100,6 +105,13 @@ fn answered(alloc: Global, bytes: &[u8], call: &str) -> Answer {
         "header" => of_header(PayloadInfo::from(bytes)),
         "lenient" => of_view(&Rlp::new(bytes), call),
         "strict" => of_view(&Rlp::new_strict(bytes), call),
+        _ => read(alloc, bytes, kind, call),
+    }
+}
+
+/// Returns what a way to read an input gives.
+fn read(alloc: Global, bytes: &[u8], kind: &str, call: &str) -> Answer {
+    match kind {
         "decoded" => (decoded(alloc, bytes, call), 0),
         "listed" => (listed(alloc, &Rlp::new(bytes), call), 0),
         "decoder" => of_length(BasicDecoder::new(bytes).decode_value(length)),
@@ -274,19 +286,21 @@ fn summed(alloc: Global, call: &str) -> usize {
     let mut sum = 0usize;
     let (kind, call) = cut(call);
     for word in 0..=u16::MAX {
-        let bytes = word.to_be_bytes();
-        let (view, strict) = (Rlp::new(&bytes), Rlp::new_strict(&bytes));
-        let measure = match kind {
-            "sound" => {
-                usize::from(is_sound(&view, false, &bytes) && is_sound(&strict, true, &bytes))
-            }
-            "begun" => usize::from(is_begun(alloc, &bytes)),
-            "strict" => measured(&strict, call),
-            _ => measured(&view, call),
-        };
+        let measure = measured_by(alloc, &word.to_be_bytes(), kind, call);
         sum = sum.saturating_add(measure);
     }
     sum
+}
+
+/// Returns what an input measures, by a lenient view or a strict one.
+fn measured_by(alloc: Global, bytes: &[u8], kind: &str, call: &str) -> usize {
+    let (view, strict) = (Rlp::new(bytes), Rlp::new_strict(bytes));
+    match kind {
+        "sound" => usize::from(is_sound(&view, false, bytes) && is_sound(&strict, true, bytes)),
+        "begun" => usize::from(is_begun(alloc, bytes)),
+        "strict" => measured(&strict, call),
+        _ => measured(&view, call),
+    }
 }
 
 #[test]

@@ -2,7 +2,7 @@
 //! bytes were worked out by hand.
 
 use crate::compare::{is_fault, is_read, is_written};
-use rlp::{DecoderError, Each, Flattened, ListOf, RlpStream, Uint};
+use rlp::{Decodable, DecoderError, Each, Encodable, Flattened, ListOf, RlpStream, Uint};
 use rlp_examples::{Message, Nest, Nonce, Pair, Row};
 use rlp_rows::{bytes_of, cut};
 use std::alloc::{AllocError, Global};
@@ -76,32 +76,33 @@ const TABLES: &[&str] = &[VALUES, NUMBERS, CUSTOM, MESSAGES, NESTS];
 /// read with this fault. Pairs, messages and rows are read strictly.
 fn is_as(alloc: Global, kind: &str, bytes: &[u8], want: &str) -> bool {
     match kind {
-        "triple" => is_read(alloc, rlp::decode::<[u8; 3]>(alloc, bytes), want),
-        "uint2" => is_read(alloc, rlp::decode::<Uint<2>>(alloc, bytes), want),
-        "bool" => is_read(alloc, rlp::decode::<bool>(alloc, bytes), want),
-        "nonce" => is_read(alloc, rlp::decode::<Nonce>(alloc, bytes), want),
+        "triple" => is_decoded::<[u8; 3]>(alloc, bytes, want),
+        "uint2" => is_decoded::<Uint<2>>(alloc, bytes, want),
+        "bool" => is_decoded::<bool>(alloc, bytes, want),
+        "nonce" => is_decoded::<Nonce>(alloc, bytes, want),
+        "lenient_pair" => is_decoded::<Pair>(alloc, bytes, want),
         "pair" => is_read(alloc, rlp::decode_strict::<Pair>(alloc, bytes), want),
-        "lenient_pair" => is_read(alloc, rlp::decode::<Pair>(alloc, bytes), want),
         "message" => is_read(alloc, rlp::decode_strict::<Message>(alloc, bytes), want),
-        "row" => is_row(alloc, rlp::decode_strict::<Row>(alloc, bytes), bytes, want),
+        "row" => is_row(alloc, bytes, want),
         "nest" => is_nest(alloc, bytes),
         "nests" => are_nests(alloc, bytes),
-        "uint32" => is_number(alloc, rlp::decode::<Uint<32>>(alloc, bytes), bytes, want),
+        "uint32" => is_number(alloc, bytes, want),
         _ => false,
     }
 }
 
-/// Returns whether a number was read, has these digits, and is written again.
-fn is_number(
-    alloc: Global,
-    read: Result<Uint<32>, DecoderError>,
-    bytes: &[u8],
-    want: &str,
-) -> bool {
+/// Returns whether bytes are read as a `T`, which is written as the wanted bytes, or are read with this
+/// fault.
+fn is_decoded<T: Decodable + Encodable>(alloc: Global, bytes: &[u8], want: &str) -> bool {
+    is_read(alloc, rlp::decode::<T>(alloc, bytes), want)
+}
+
+/// Returns whether a number is read, has these digits, and is written again.
+fn is_number(alloc: Global, bytes: &[u8], want: &str) -> bool {
     let Ok(digits) = bytes_of(alloc, want) else {
         return false;
     };
-    match read {
+    match rlp::decode::<Uint<32>>(alloc, bytes) {
         Ok(number) => {
             number.bytes.as_slice() == digits.as_slice() && is_written(alloc, &number, bytes)
         }
@@ -110,8 +111,8 @@ fn is_number(
 }
 
 /// Returns whether a struct of 32 fields is read and written again, or isn't read with this fault.
-fn is_row(alloc: Global, read: Result<Row, DecoderError>, bytes: &[u8], want: &str) -> bool {
-    match read {
+fn is_row(alloc: Global, bytes: &[u8], want: &str) -> bool {
+    match rlp::decode_strict::<Row>(alloc, bytes) {
         Ok(row) => {
             row.column_29 == 5 && row.column_32 == [2; 8] && is_written(alloc, &row, bytes)
         }
@@ -151,11 +152,16 @@ fn are_nests(alloc: Global, bytes: &[u8]) -> bool {
     }
 }
 
+/// Appends a struct whose fields are slices.
+fn append_slices(s: &mut RlpStream) -> Result<(), AllocError> {
+    let pairs = [(&1u64, &2u64), (&3u64, &4u64)];
+    rlp::append_fields!(s, Each(&[7u64, 8]), Flattened(&pairs), ListOf(&[5u64]))
+}
+
 /// Returns whether fields that are slices are written.
 fn slices_are_fields(alloc: Global) -> Result<bool, AllocError> {
     let mut s = RlpStream::new(alloc)?;
-    let pairs = [(&1u64, &2u64), (&3u64, &4u64)];
-    rlp::append_fields!(&mut s, Each(&[7u64, 8]), Flattened(&pairs), ListOf(&[5u64]))?;
+    append_slices(&mut s)?;
     Ok(s.as_raw() == b"\xc8\x07\x08\x01\x02\x03\x04\xc1\x05".as_slice())
 }
 
