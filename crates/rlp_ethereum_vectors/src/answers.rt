@@ -42,12 +42,12 @@ fn tell_payload(alloc: Global, call: &str, bytes: &[u8], out: &mut Line) -> fmt:
         "signed: type 3" => ways::<Alone<Payload<BlobTransaction>>>(alloc, bytes, out),
         "signed: type 4" => ways::<Alone<Payload<SetCodeTransaction>>>(alloc, bytes, out),
         "signed: an authorization" => ways::<Alone<Payload<Authorization>>>(alloc, bytes, out),
-        _ => tell_alone_or_fields(alloc, call, bytes, out),
+        _ => tell_alone(alloc, call, bytes, out),
     }
 }
 
-/// Tells what a call answers about the bytes of an envelope by itself, or about fields.
-fn tell_alone_or_fields(alloc: Global, call: &str, bytes: &[u8], out: &mut Line) -> fmt::Result {
+/// Tells what a call answers about the bytes of an envelope by itself.
+fn tell_alone(alloc: Global, call: &str, bytes: &[u8], out: &mut Line) -> fmt::Result {
     match call {
         "AnyTransaction alone" => ways::<Alone<AnyTransaction>>(alloc, bytes, out),
         "Transaction alone" => ways::<Alone<Transaction>>(alloc, bytes, out),
@@ -56,6 +56,13 @@ fn tell_alone_or_fields(alloc: Global, call: &str, bytes: &[u8], out: &mut Line)
         "FeeMarketTransaction alone" => ways::<Alone<Signed<FeeMarketTransaction>>>(
             alloc, bytes, out,
         ),
+        _ => tell_fields(alloc, call, bytes, out),
+    }
+}
+
+/// Tells what a call answers about fields.
+fn tell_fields(alloc: Global, call: &str, bytes: &[u8], out: &mut Line) -> fmt::Result {
+    match call {
         "fields of Header" => fields::<Header>(alloc, bytes, out),
         "forks of Header" => forks(alloc, bytes, out),
         "London" => london(alloc, bytes, out),
@@ -80,11 +87,24 @@ fn tell_named(alloc: Global, call: &str, bytes: &[u8], out: &mut Line) -> fmt::R
         "signing" => unsigned::tell_signed(alloc, name, bytes, out),
         "sent" => signing::tell_sent(alloc, name, bytes, out),
         "signed" => unsigned::tell(alloc, name, bytes, out),
+        _ => tell_hash_or_node(alloc, table, name, bytes, out),
+    }
+}
+
+/// Tells what a call answers that a table of hashes, bounds or nodes names.
+fn tell_hash_or_node(
+    alloc: Global,
+    table: &str,
+    name: &str,
+    bytes: &[u8],
+    out: &mut Line,
+) -> fmt::Result {
+    match table {
         "hash" => hashes::tell(alloc, name, bytes, out),
         "at most" => bounded::tell(alloc, name, bytes, out),
         "node" => nodes::tell(alloc, name, bytes, out),
         "node record" => node_records::tell(alloc, name, bytes, out),
-        _ => tell_node(alloc, call, bytes, out),
+        _ => tell_node(alloc, table, bytes, out),
     }
 }
 

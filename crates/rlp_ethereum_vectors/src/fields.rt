@@ -207,6 +207,12 @@ fn tell_blob(signed: &Signed<BlobTransaction>, out: &mut Line) -> fmt::Result {
         &signed.s.bytes,
     ];
     tell_words(&words, out)?;
+    tell_blob_numbers(signed, out)
+}
+
+/// Tells the fields of a transaction of type 3 that are numbers.
+fn tell_blob_numbers(signed: &Signed<BlobTransaction>, out: &mut Line) -> fmt::Result {
+    let tx = &signed.payload;
     let (chain, nonce, gas) = (tx.chain_id, tx.nonce, tx.gas_limit);
     let (accounts, blobs) = (tx.access_list.0.len(), tx.blob_versioned_hashes.len());
     let parity = signed.v;

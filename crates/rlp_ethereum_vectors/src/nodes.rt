@@ -273,14 +273,23 @@ fn tell_nibbles_of<const FLAG: u8>(
 ) -> fmt::Result {
     match Path::<FLAG>::new(alloc, bytes) {
         Ok(path) => {
-            let nibbles = path.nibbles(alloc)?;
             out.write_str(kind)?;
-            out.then(Hex(nibbles.as_slice()))?;
-            out.write_str(" ")?;
-            tell_path::<FLAG>(alloc, nibbles.as_slice(), out)
+            let nibbles = path.nibbles(alloc)?;
+            tell_nibbles_and_path::<FLAG>(alloc, nibbles.as_slice(), out)
         }
         Err(found) => fault(&found, out),
     }
+}
+
+/// Tells nibbles, and the path of these nibbles.
+fn tell_nibbles_and_path<const FLAG: u8>(
+    alloc: Global,
+    nibbles: &[u8],
+    out: &mut Line,
+) -> fmt::Result {
+    out.then(Hex(nibbles))?;
+    out.write_str(" ")?;
+    tell_path::<FLAG>(alloc, nibbles, out)
 }
 
 /// Tells the digits of the path of this kind with these nibbles, or the fault.

@@ -75,12 +75,18 @@ fn tell(alloc: Global, root: &[u8], key: &[u8], nodes: &[Vec<u8>], out: &mut Lin
     }
 }
 
-/// Tells what the root, the key and the nodes of a row prove.
-fn tell_row(alloc: Global, words: &str, out: &mut Line) -> Result<(), AllocError> {
+/// Returns the root, the key and the nodes of a row.
+fn parts_of(alloc: Global, words: &str) -> Result<Vec<Vec<u8>>, AllocError> {
     let mut parts = Vec::new(alloc);
     for word in words.split(' ') {
         parts.push(bytes_of(alloc, word)?)?;
     }
+    Ok(parts)
+}
+
+/// Tells what the root, the key and the nodes of a row prove.
+fn tell_row(alloc: Global, words: &str, out: &mut Line) -> Result<(), AllocError> {
+    let parts = parts_of(alloc, words)?;
     if let [root, key, nodes @ ..] = parts.as_slice() {
         let _ = tell(alloc, root.as_slice(), key.as_slice(), nodes, out);
     }
@@ -98,15 +104,21 @@ fn tell_wanted(alloc: Global, text: &str, out: &mut Line) -> fmt::Result {
     }
 }
 
+/// Notes a row that proves something else.
+fn check(alloc: Global, words: &str, text: &str, wrong: &mut Line) -> Result<(), AllocError> {
+    let (mut said, mut wanted) = (Line::new(), Line::new());
+    tell_row(alloc, words, &mut said)?;
+    let _ = tell_wanted(alloc, text, &mut wanted);
+    wrong.note("proof", words, said.as_str(), wanted.as_str());
+    Ok(())
+}
+
 #[test]
 fn proofs(rt: HostRuntime) -> Result<(), Fail> {
     let mut wrong = Line::new();
     for line in ROWS.lines() {
         if let Some((words, text)) = line.trim().split_once(" | ") {
-            let (mut said, mut wanted) = (Line::new(), Line::new());
-            tell_row(rt.alloc(), words, &mut said)?;
-            let _ = tell_wanted(rt.alloc(), text, &mut wanted);
-            wrong.note("proof", words, said.as_str(), wanted.as_str());
+            check(rt.alloc(), words, text, &mut wrong)?;
         }
     }
     wrong.none_noted()

@@ -3,7 +3,7 @@
 //! are in the EIP.
 
 use crate::fields::{second, tell_parts, tell_second, tell_typed};
-use crate::reading::{Alone, digits, fault, made, ways};
+use crate::reading::{Alone, digits, fault, made, ways_and_len};
 use crate::signing::{tell_again, tell_fees, tell_payload};
 use rlp::Uint;
 use rlp_ethereum::{
@@ -288,12 +288,24 @@ fn example(alloc: Global, chain_id: Option<u64>) -> UnsignedLegacyTransaction {
 /// Tells what a call about a transaction that is signed answers.
 pub(crate) fn tell(alloc: Global, name: &str, bytes: &[u8], out: &mut Line) -> fmt::Result {
     match name {
-        "example for chain 1" => made(alloc, &example(alloc, Some(1)), bytes, out),
-        "example" => made(alloc, &example(alloc, None), bytes, out),
+        "example for chain 1" => tell_example(alloc, Some(1), bytes, out),
+        "example" => tell_example(alloc, None, bytes, out),
         "bytes of the example for chain 1" => {
             let unsigned = UnsignedTransaction::Legacy(example(alloc, Some(1)));
             digits(unsigned.to_bytes(alloc), out)
         }
+        _ => tell_read(alloc, name, bytes, out),
+    }
+}
+
+/// Tells of the example what [`made`] does.
+fn tell_example(alloc: Global, chain_id: Option<u64>, bytes: &[u8], out: &mut Line) -> fmt::Result {
+    made(alloc, &example(alloc, chain_id), bytes, out)
+}
+
+/// Tells what a call about bytes that are signed answers, or one about a signed transaction.
+fn tell_read(alloc: Global, name: &str, bytes: &[u8], out: &mut Line) -> fmt::Result {
+    match name {
         "numbers" => match UnsignedTransaction::from_bytes(alloc, bytes) {
             Ok(unsigned) => tell_numbers(&unsigned, out),
             Err(found) => fault(&found, out),
@@ -366,9 +378,7 @@ fn tell_unsigned(alloc: Global, unsigned: UnsignedTransaction, out: &mut Line) -
 /// Tells whether what is signed of a transaction goes both ways, and the number of its bytes.
 fn tell_ways(alloc: Global, unsigned: UnsignedTransaction, out: &mut Line) -> fmt::Result {
     let payload = unsigned.to_bytes(alloc)?;
-    ways::<Alone<UnsignedTransaction>>(alloc, payload.as_slice(), out)?;
-    out.write_str(",")?;
-    out.then(payload.len())
+    ways_and_len::<Alone<UnsignedTransaction>>(alloc, payload.as_slice(), out)
 }
 
 /// Returns a signed transaction without its signature. A legacy transaction is for this chain.
