@@ -19,16 +19,23 @@ use std::fmt::Write;
 pub(crate) fn tell(alloc: Global, call: &str, bytes: &[u8], out: &mut Line) -> fmt::Result {
     match call {
         "Account" => ways::<Item<Account>>(alloc, bytes, out),
-        "AnyTransaction" => ways::<Item<AnyTransaction>>(alloc, bytes, out),
         "Block" => ways::<Item<Block>>(alloc, bytes, out),
         "Body" => ways::<Item<Body>>(alloc, bytes, out),
         "Hash" => ways::<Item<Hash>>(alloc, bytes, out),
         "Header" => ways::<Item<Header>>(alloc, bytes, out),
+        "Withdrawal" => ways::<Item<Withdrawal>>(alloc, bytes, out),
+        _ => tell_transaction(alloc, call, bytes, out),
+    }
+}
+
+/// Tells what a call answers about the bytes of a transaction, or of what it left.
+fn tell_transaction(alloc: Global, call: &str, bytes: &[u8], out: &mut Line) -> fmt::Result {
+    match call {
+        "AnyTransaction" => ways::<Item<AnyTransaction>>(alloc, bytes, out),
         "LegacyTransaction" => ways::<Item<SignedLegacyTransaction>>(alloc, bytes, out),
         "Log" => ways::<Item<Log>>(alloc, bytes, out),
         "Transaction" => ways::<Item<Transaction>>(alloc, bytes, out),
         "TypedReceipt" => ways::<Item<TypedReceipt>>(alloc, bytes, out),
-        "Withdrawal" => ways::<Item<Withdrawal>>(alloc, bytes, out),
         _ => tell_payload(alloc, call, bytes, out),
     }
 }

@@ -3,7 +3,7 @@
 use crate::text::bytes_of;
 use rlp_records::Hash;
 use rlp_rows::{Hex, Line};
-use rlp_trie::verify_proof;
+use rlp_trie::{ProofFault, verify_proof};
 use std::alloc::{AllocError, Global};
 use std::fmt;
 use std::fmt::Write;
@@ -65,10 +65,15 @@ const ROWS: &str = "
 
 /// Tells what the trie with a root has for a key, as nodes prove it.
 fn tell(alloc: Global, root: &[u8], key: &[u8], nodes: &[Vec<u8>], out: &mut Line) -> fmt::Result {
-    let Ok(root) = <[u8; 32]>::try_from(root) else {
-        return out.write_str("no root");
-    };
-    match verify_proof(alloc, &Hash(root), key, nodes) {
+    match <[u8; 32]>::try_from(root) {
+        Ok(root) => tell_proved(verify_proof(alloc, &Hash(root), key, nodes), out),
+        Err(_) => out.write_str("no root"),
+    }
+}
+
+/// Tells what is proved: a value or none, or the fault.
+fn tell_proved(proved: Result<Option<Vec<u8>>, ProofFault>, out: &mut Line) -> fmt::Result {
+    match proved {
         Ok(Some(value)) => write!(out, "= {:?}", Hex(value.as_slice())),
         Ok(None) => out.write_str("none"),
         Err(fault) => write!(out, "{fault}"),

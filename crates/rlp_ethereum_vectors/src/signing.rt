@@ -158,17 +158,16 @@ pub(crate) fn tell_payload(alloc: Global, signed: &Transaction, out: &mut Line) 
     }
 }
 
-/// Takes the signature off, and returns the transaction with it again.
-fn signed_again(signed: Transaction) -> Option<Transaction> {
+/// Takes the signature off, and returns the bytes of the transaction with it again.
+fn signed_again(alloc: Global, signed: Transaction) -> Result<Option<BytesMut>, AllocError> {
     let (r, s) = (*signed.r(), *signed.s());
-    let (unsigned, y_parity) = signed.into_unsigned()?;
-    Some(unsigned.with_signature(y_parity, r, s))
-}
-
-/// Tells whether a transaction has these bytes.
-fn compared(alloc: Global, again: &Transaction, bytes: &[u8]) -> Result<&'static str, AllocError> {
-    let is_same = again.to_bytes(alloc)?.as_slice() == bytes;
-    Ok(if is_same { "the same" } else { "other bytes" })
+    match signed.into_unsigned() {
+        Some((unsigned, y_parity)) => {
+            let again = unsigned.with_signature(y_parity, r, s);
+            Ok(Some(again.to_bytes(alloc)?))
+        }
+        None => Ok(None),
+    }
 }
 
 /// Takes the signature off, and tells whether with it the transaction has these bytes again.
@@ -178,8 +177,9 @@ pub(crate) fn tell_again(
     bytes: &[u8],
     out: &mut Line,
 ) -> fmt::Result {
-    match signed_again(signed) {
-        Some(again) => out.write_str(compared(alloc, &again, bytes)?),
+    match signed_again(alloc, signed)? {
+        Some(again) if again.as_slice() == bytes => out.write_str("the same"),
+        Some(_) => out.write_str("other bytes"),
         None => out.write_str("None"),
     }
 }

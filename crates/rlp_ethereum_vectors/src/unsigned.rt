@@ -342,16 +342,27 @@ fn tell_numbers(unsigned: &UnsignedTransaction, out: &mut Line) -> fmt::Result {
 /// Tells what a call about a signed transaction answers.
 pub(crate) fn tell_signed(alloc: Global, name: &str, bytes: &[u8], out: &mut Line) -> fmt::Result {
     match Transaction::from_bytes(alloc, bytes) {
-        Ok(signed) => match name {
-            "payload" => tell_unsigned(alloc, without_signature(signed, None), out),
-            "payload for chain 1" | "without its signature" => {
-                tell_unsigned(alloc, without_signature(signed, Some(1)), out)
-            }
-            "payload, both ways" => tell_ways(alloc, without_signature(signed, None), out),
-            "signature again" => tell_again(alloc, signed, bytes, out),
-            _ => tell_of(alloc, name, &signed, out),
-        },
+        Ok(signed) => tell_transaction(alloc, name, signed, bytes, out),
         Err(found) => fault(&found, out),
+    }
+}
+
+/// Tells what a call answers about the signed transaction with these bytes.
+fn tell_transaction(
+    alloc: Global,
+    name: &str,
+    signed: Transaction,
+    bytes: &[u8],
+    out: &mut Line,
+) -> fmt::Result {
+    match name {
+        "payload" => tell_unsigned(alloc, without_signature(signed, None), out),
+        "payload for chain 1" | "without its signature" => {
+            tell_unsigned(alloc, without_signature(signed, Some(1)), out)
+        }
+        "payload, both ways" => tell_ways(alloc, without_signature(signed, None), out),
+        "signature again" => tell_again(alloc, signed, bytes, out),
+        _ => tell_of(alloc, name, &signed, out),
     }
 }
 
