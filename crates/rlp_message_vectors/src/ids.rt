@@ -132,34 +132,26 @@ fn written(bytes: Result<BytesMut, AllocError>) -> Result<BytesMut, DecoderError
 }
 
 /// Returns the number of a message of `p2p`.
-fn p2p_number(alloc: Global, bytes: &[u8]) -> Result<u8, DecoderError> {
-    match P2pMessage::from_message(alloc, 0, bytes) {
-        Ok(message) => Ok(message.number()),
-        Err(found) => Err(found),
-    }
+fn number_of_p2p(alloc: Global, bytes: &[u8]) -> Result<u8, DecoderError> {
+    Ok(P2pMessage::from_message(alloc, 0, bytes)?.number())
 }
 
 /// Returns the number of a message of `eth/68`.
-fn eth68_number(alloc: Global, bytes: &[u8]) -> Result<u8, DecoderError> {
-    match Eth68Message::from_message(alloc, 0x10, bytes) {
-        Ok(message) => Ok(message.number()),
-        Err(found) => Err(found),
-    }
+fn number_of_68(alloc: Global, bytes: &[u8]) -> Result<u8, DecoderError> {
+    Ok(Eth68Message::from_message(alloc, 0x10, bytes)?.number())
 }
 
 /// Returns the number of a message of `eth/69`.
-fn eth69_number(alloc: Global, bytes: &[u8]) -> Result<u8, DecoderError> {
-    match Eth69Message::from_message(alloc, 0x10, bytes) {
-        Ok(message) => Ok(message.number()),
-        Err(found) => Err(found),
-    }
+fn number_of_69(alloc: Global, bytes: &[u8]) -> Result<u8, DecoderError> {
+    Ok(Eth69Message::from_message(alloc, 0x10, bytes)?.number())
 }
 
-/// Tells the number of a message.
-fn tell_number(number: Result<u8, DecoderError>, out: &mut Line) -> fmt::Result {
-    match number {
-        Ok(number) => out.display(number),
-        Err(found) => fault(&found, out),
+/// Returns the number of a message.
+fn number(alloc: Global, protocol: &str, bytes: &[u8]) -> Result<u8, DecoderError> {
+    match protocol {
+        "number of p2p" => number_of_p2p(alloc, bytes),
+        "number of eth/68" => number_of_68(alloc, bytes),
+        _ => number_of_69(alloc, bytes),
     }
 }
 
