@@ -186,7 +186,7 @@ fn tell_keys(alloc: Global, record: &NodeRecord, out: &mut Line) -> fmt::Result 
         record.value(b"udp").map(|item| item.as_bytes()),
         out,
     )?;
-    out.then(record.get::<u64>(alloc, b"udp"))
+    write!(out, " {:?}", record.get::<u64>(alloc, b"udp"))
 }
 
 /// Tells a name, and the digits of bytes or `none`.

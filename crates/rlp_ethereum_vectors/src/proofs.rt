@@ -76,7 +76,7 @@ fn tell_proved(proved: Result<Option<Vec<u8>>, ProofFault>, out: &mut Line) -> f
     match proved {
         Ok(Some(value)) => write!(out, "= {:?}", Hex(value.as_slice())),
         Ok(None) => out.write_str("none"),
-        Err(fault) => out.display(fault),
+        Err(fault) => write!(out, "{fault}"),
     }
 }
 

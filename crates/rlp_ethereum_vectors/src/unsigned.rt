@@ -291,11 +291,8 @@ pub(crate) fn tell(alloc: Global, name: &str, bytes: &[u8], out: &mut Line) -> f
         "example for chain 1" => tell_example(alloc, Some(1), bytes, out),
         "example" => tell_example(alloc, None, bytes, out),
         "bytes of the example for chain 1" => {
-            tell_unsigned(
-                alloc,
-                UnsignedTransaction::Legacy(example(alloc, Some(1))),
-                out,
-            )
+            let unsigned = UnsignedTransaction::Legacy(example(alloc, Some(1)));
+            digits(unsigned.to_bytes(alloc), out)
         }
         _ => tell_read(alloc, name, bytes, out),
     }
@@ -318,22 +315,6 @@ fn tell_read(alloc: Global, name: &str, bytes: &[u8], out: &mut Line) -> fmt::Re
             Err(found) => fault(&found, out),
         },
         _ => tell_signed(alloc, name, bytes, out),
-    }
-}
-
-/// Tells the numbers of the transaction that is signed as these bytes.
-fn tell_numbers_of(alloc: Global, bytes: &[u8], out: &mut Line) -> fmt::Result {
-    match UnsignedTransaction::from_bytes(alloc, bytes) {
-        Ok(unsigned) => tell_numbers(&unsigned, out),
-        Err(found) => fault(&found, out),
-    }
-}
-
-/// Tells the authorization that is signed as these bytes.
-fn tell_authorization_of(alloc: Global, bytes: &[u8], out: &mut Line) -> fmt::Result {
-    match Authorization::from_signing_payload(alloc, bytes) {
-        Ok(read) => tell_authorization(&read, out),
-        Err(found) => fault(&found, out),
     }
 }
 

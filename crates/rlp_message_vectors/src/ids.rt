@@ -174,8 +174,9 @@ pub(crate) fn tell(alloc: Global, name: &str, bytes: &[u8], out: &mut Line) -> f
         "eth/68" => ways::<Eth68>(alloc, bytes, out),
         "eth/69" => ways::<Eth69>(alloc, bytes, out),
         "text of p2p" => tell_text(alloc, bytes, out),
-        "number of p2p" => tell_number(p2p_number(alloc, bytes), out),
-        "number of eth/68" => tell_number(eth68_number(alloc, bytes), out),
-        _ => tell_number(eth69_number(alloc, bytes), out),
+        _ => match number(alloc, name, bytes) {
+            Ok(number) => out.display(number),
+            Err(found) => fault(&found, out),
+        },
     }
 }
