@@ -1,7 +1,7 @@
 //! The hashes of what is signed of transactions and authorizations.
 
 ghost use Rattle.std.specs.Prelude.{◌≡◌, ◌++◌, ◌∷◌, drop, string_bytes, IfOk, OnOk};
-ghost use Rattle.rlp.specs.Streams.Stream.{list_encoding};
+ghost use Rattle.rlp.specs.Streams.Stream.{IsFinished, list_encoding};
 ghost use Rattle.rlp.specs.Views.View.{item_views};
 ghost use Rattle.rlp_show_text.specs.Answer.{Shows};
 ghost use Rattle.rlp_show_text.specs.Signing.{chain_bytes, first_bytes, legacy_signing, said_line, signing_line, signing_of};
@@ -35,25 +35,33 @@ fn next_bytes(
     Ok(bytes)
 }
 
-/// Appends the line of the hash of some bytes and, after them, the encoding of a list. The bytes of
-/// its items are in two parts.
+/// Returns some bytes and, after them, the encoding of a list, by the bytes of its items.
+fn signing_bytes(alloc: Global, front: &[u8], items: &[u8]) -> Result<RlpStream, AllocError>
+    ensures finished { IfOk result (λ s. IsFinished s.state) }
+    ensures bytes { IfOk result
+        (λ s. s.state.front ++ s.state.stack.inner ≡ front.now ++ list_encoding items.now) }
+{
+    let mut s = RlpStream::new(alloc)?;
+    s.append_raw(front, 0)?;
+    s.begin_list(1)?;
+    s.append_raw(items, 1)?;
+    Ok(s)
+}
+
+/// Appends the line of the hash of some bytes and, after them, the encoding of a list, by the bytes of
+/// its items.
 fn put_signing_hash(
     alloc: Global,
     name: &str,
     front: &[u8],
     items: &[u8],
-    others: &[u8],
     out: &mut String,
 ) -> Result<(), AllocError>
     ensures { OnOk result (string_bytes out.new ≡ string_bytes out.old
-        ++ signing_line name.now (front.now ++ list_encoding (items.now ++ others.now))) }
+        ++ signing_line name.now (front.now ++ list_encoding items.now)) }
 {
-    let mut s = RlpStream::new(alloc)?;
-    s.append_raw(front, 0)?;
-    s.begin_list(1)?;
-    s.append_raw(items, 0)?;
-    s.append_raw(others, 1)?;
-    put_hash(alloc, name, "signing_hash", s.out().as_slice(), out)
+    let bytes = signing_bytes(alloc, front, items)?.out();
+    put_hash(alloc, name, "signing_hash", bytes.as_slice(), out)
 }
 
 /// Appends the line of the hash of what is signed of a record: the byte `kind`, and the list of its
@@ -70,14 +78,15 @@ pub fn put_typed_signing_hash(
         (kind ∷ list_encoding (first_bytes count (item_views item.now)))) }
 {
     let fields = next_bytes(alloc, count, &mut item.iter())?;
-    put_signing_hash(alloc, name, &[kind], &[], fields.as_slice(), out)
+    put_signing_hash(alloc, name, &[kind], fields.as_slice(), out)
 }
 
-/// Returns what EIP-155 adds to the fields that are signed: the number of the chain, 0 and 0.
-fn chain_bytes(alloc: Global, chain: Option<u64>) -> Result<Vec<u8>, AllocError>
-    ensures { IfOk result (λ b. b.items ≡ chain_bytes chain) }
+/// Returns the bytes of the fields that are signed without a type: the first six, and what EIP-155
+/// adds, which is the number of the chain, 0 and 0.
+fn signed_fields(alloc: Global, six: &[u8], chain: Option<u64>) -> Result<Vec<u8>, AllocError>
+    ensures { IfOk result (λ b. b.items ≡ six.now ++ chain_bytes chain) }
 {
-    let mut bytes = Vec::new(alloc);
+    let mut bytes = Vec::from_slice(alloc, six)?;
     if let Some(chain) = chain {
         bytes.extend_from_slice(rlp::encode(alloc, &chain)?.as_slice())?;
         bytes.extend_from_slice(&[0x80, 0x80])?;
@@ -100,8 +109,8 @@ fn put_said(
     let Some(said) = said else {
         return Ok(());
     };
-    let chain = chain_bytes(alloc, said.chain_id)?;
-    put_signing_hash(alloc, name, &[], six, chain.as_slice(), out)
+    let fields = signed_fields(alloc, six, said.chain_id)?;
+    put_signing_hash(alloc, name, &[], fields.as_slice(), out)
 }
 
 /// Appends the line of the hash of what is signed without a type, by the first six fields and the

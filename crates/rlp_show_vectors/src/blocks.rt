@@ -99,10 +99,9 @@ const TRANSACTIONS: [Row; 4] = [
     ),
 ];
 
-/// Blocks and a header: the kind, the digits of a record, and its lines.
-const BLOCKS: [Row; 4] = [
-    (
-        "block f90403f901faa0000102030405060708090a0b0c0d0e0f101112131415161718191a1b1c\
+/// A block with an ommer: the kind, the digits of a record, and its lines.
+const BLOCK_WITH_OMMER: [Row; 1] = [(
+    "block f90403f901faa0000102030405060708090a0b0c0d0e0f101112131415161718191a1b1c\
          1d1e1fa0ffffffffffffffffffffffffffffffffffffffffffffffffffffffffffffffff\
          945df9b87991262f6ba471f09758cde1c0fc1de734a0000102030405060708090a0b0c0d\
          0e0f101112131415161718191a1b1c1d1e1fa0ffffffffffffffffffffffffffffffffff\
@@ -131,7 +130,7 @@ const BLOCKS: [Row; 4] = [
          000000000000000000000000000000000000000000000000000000808083c5d4888401ca\
          35428084610bdaa6826869a0ffffffffffffffffffffffffffffffffffffffffffffffff\
          ffffffffffffffff880000000000000000843b9aca00",
-        "header.hash: 0x4757c25f4d78e9f10ca9f0e3624097db9ff8fb33a783cf61ac4abadbc\
+    "header.hash: 0x4757c25f4d78e9f10ca9f0e3624097db9ff8fb33a783cf61ac4abadbc\
          a1d316d\n\
          header.parent_hash: 0x000102030405060708090a0b0c0d0e0f101112131415161718\
          191a1b1c1d1e1f\n\
@@ -194,9 +193,11 @@ const BLOCKS: [Row; 4] = [
          ommers[0].nonce: 0x0000000000000000\n\
          ommers[0].base_fee_per_gas: 1000000000\n\
          \n",
-    ),
-    (
-        "block f9036df90220a0000102030405060708090a0b0c0d0e0f101112131415161718191a1b1c\
+)];
+
+/// A block with transactions: the kind, the digits of a record, and its lines.
+const BLOCK_WITH_TRANSACTIONS: [Row; 1] = [(
+    "block f9036df90220a0000102030405060708090a0b0c0d0e0f101112131415161718191a1b1c\
          1d1e1fa0ffffffffffffffffffffffffffffffffffffffffffffffffffffffffffffffff\
          945df9b87991262f6ba471f09758cde1c0fc1de734a0000102030405060708090a0b0c0d\
          0e0f101112131415161718191a1b1c1d1e1fa0ffffffffffffffffffffffffffffffffff\
@@ -221,7 +222,7 @@ const BLOCKS: [Row; 4] = [
          00000000000000019002ce01800102825208808060c0010304c0f83cda808203e8945df9\
          b87991262f6ba471f09758cde1c0fc1de73405e088ffffffffffffffff80940102030405\
          060708090a0b0c0d0e0f101112131480",
-        "header.hash: 0x83eb44e4cfb51ab6dd5aee4357d7b1420ce02b21ea4e3b8ea53c5f07d\
+    "header.hash: 0x83eb44e4cfb51ab6dd5aee4357d7b1420ce02b21ea4e3b8ea53c5f07d\
          39c2e74\n\
          header.parent_hash: 0x000102030405060708090a0b0c0d0e0f101112131415161718\
          191a1b1c1d1e1f\n\
@@ -320,7 +321,10 @@ const BLOCKS: [Row; 4] = [
          withdrawals[1].address: 0x0102030405060708090a0b0c0d0e0f1011121314\n\
          withdrawals[1].amount: 0\n\
          \n",
-    ),
+)];
+
+/// A block without transactions, and a header: the kind, the digits of a record, and its lines.
+const BLOCK_AND_HEADER: [Row; 2] = [
     (
         "block f90226f90220a0000102030405060708090a0b0c0d0e0f101112131415161718191a1b1c\
          1d1e1fa0ffffffffffffffffffffffffffffffffffffffffffffffffffffffffffffffff\
@@ -443,6 +447,16 @@ fn transactions_are_shown(rt: HostRuntime) -> Result<(), Fail> {
 }
 
 #[test]
-fn blocks_are_shown(rt: HostRuntime) -> Result<(), Fail> {
-    check(rt.alloc(), &BLOCKS)
+fn blocks_with_ommers_are_shown(rt: HostRuntime) -> Result<(), Fail> {
+    check(rt.alloc(), &BLOCK_WITH_OMMER)
+}
+
+#[test]
+fn blocks_with_transactions_are_shown(rt: HostRuntime) -> Result<(), Fail> {
+    check(rt.alloc(), &BLOCK_WITH_TRANSACTIONS)
+}
+
+#[test]
+fn blocks_and_headers_are_shown(rt: HostRuntime) -> Result<(), Fail> {
+    check(rt.alloc(), &BLOCK_AND_HEADER)
 }
