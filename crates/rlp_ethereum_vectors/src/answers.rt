@@ -19,23 +19,16 @@ use std::fmt::Write;
 pub(crate) fn tell(alloc: Global, call: &str, bytes: &[u8], out: &mut Line) -> fmt::Result {
     match call {
         "Account" => ways::<Item<Account>>(alloc, bytes, out),
+        "AnyTransaction" => ways::<Item<AnyTransaction>>(alloc, bytes, out),
         "Block" => ways::<Item<Block>>(alloc, bytes, out),
         "Body" => ways::<Item<Body>>(alloc, bytes, out),
         "Hash" => ways::<Item<Hash>>(alloc, bytes, out),
         "Header" => ways::<Item<Header>>(alloc, bytes, out),
-        "Withdrawal" => ways::<Item<Withdrawal>>(alloc, bytes, out),
-        _ => tell_transaction(alloc, call, bytes, out),
-    }
-}
-
-/// Tells what a call answers about the bytes of a transaction, or of what it left.
-fn tell_transaction(alloc: Global, call: &str, bytes: &[u8], out: &mut Line) -> fmt::Result {
-    match call {
-        "AnyTransaction" => ways::<Item<AnyTransaction>>(alloc, bytes, out),
         "LegacyTransaction" => ways::<Item<SignedLegacyTransaction>>(alloc, bytes, out),
         "Log" => ways::<Item<Log>>(alloc, bytes, out),
         "Transaction" => ways::<Item<Transaction>>(alloc, bytes, out),
         "TypedReceipt" => ways::<Item<TypedReceipt>>(alloc, bytes, out),
+        "Withdrawal" => ways::<Item<Withdrawal>>(alloc, bytes, out),
         _ => tell_payload(alloc, call, bytes, out),
     }
 }
@@ -49,12 +42,12 @@ fn tell_payload(alloc: Global, call: &str, bytes: &[u8], out: &mut Line) -> fmt:
         "signed: type 3" => ways::<Alone<Payload<BlobTransaction>>>(alloc, bytes, out),
         "signed: type 4" => ways::<Alone<Payload<SetCodeTransaction>>>(alloc, bytes, out),
         "signed: an authorization" => ways::<Alone<Payload<Authorization>>>(alloc, bytes, out),
-        _ => tell_alone(alloc, call, bytes, out),
+        _ => tell_alone_or_fields(alloc, call, bytes, out),
     }
 }
 
-/// Tells what a call answers about the bytes of an envelope by itself.
-fn tell_alone(alloc: Global, call: &str, bytes: &[u8], out: &mut Line) -> fmt::Result {
+/// Tells what a call answers about the bytes of an envelope by itself, or about fields.
+fn tell_alone_or_fields(alloc: Global, call: &str, bytes: &[u8], out: &mut Line) -> fmt::Result {
     match call {
         "AnyTransaction alone" => ways::<Alone<AnyTransaction>>(alloc, bytes, out),
         "Transaction alone" => ways::<Alone<Transaction>>(alloc, bytes, out),
@@ -63,13 +56,6 @@ fn tell_alone(alloc: Global, call: &str, bytes: &[u8], out: &mut Line) -> fmt::R
         "FeeMarketTransaction alone" => ways::<Alone<Signed<FeeMarketTransaction>>>(
             alloc, bytes, out,
         ),
-        _ => tell_fields(alloc, call, bytes, out),
-    }
-}
-
-/// Tells what a call answers about fields.
-fn tell_fields(alloc: Global, call: &str, bytes: &[u8], out: &mut Line) -> fmt::Result {
-    match call {
         "fields of Header" => fields::<Header>(alloc, bytes, out),
         "forks of Header" => forks(alloc, bytes, out),
         "London" => london(alloc, bytes, out),
@@ -94,24 +80,11 @@ fn tell_named(alloc: Global, call: &str, bytes: &[u8], out: &mut Line) -> fmt::R
         "signing" => unsigned::tell_signed(alloc, name, bytes, out),
         "sent" => signing::tell_sent(alloc, name, bytes, out),
         "signed" => unsigned::tell(alloc, name, bytes, out),
-        _ => tell_hash_or_node(alloc, table, name, bytes, out),
-    }
-}
-
-/// Tells what a call answers that a table of hashes, bounds or nodes names.
-fn tell_hash_or_node(
-    alloc: Global,
-    table: &str,
-    name: &str,
-    bytes: &[u8],
-    out: &mut Line,
-) -> fmt::Result {
-    match table {
         "hash" => hashes::tell(alloc, name, bytes, out),
         "at most" => bounded::tell(alloc, name, bytes, out),
         "node" => nodes::tell(alloc, name, bytes, out),
         "node record" => node_records::tell(alloc, name, bytes, out),
-        _ => tell_node(alloc, table, bytes, out),
+        _ => tell_node(alloc, call, bytes, out),
     }
 }
 

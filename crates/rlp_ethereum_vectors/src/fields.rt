@@ -3,7 +3,7 @@
 use crate::reading::fault;
 use rlp::{Decodable, Rlp};
 use rlp_ethereum::{
-    AnyTransaction, BlobTransaction, Block, Body, Cancun, Hash, Header, London, Recipient,
+    AnyTransaction, BlobTransaction, Block, Body, Hash, Header, London, Recipient,
     SetCodeTransaction, Signed, SignedAuthorization, SignedLegacyTransaction, Transaction,
     TypedReceipt,
 };
@@ -106,22 +106,19 @@ fn tell_forks(header: &Header, out: &mut Line) -> fmt::Result {
     };
     let root = digits_of(header.shanghai().map(|shanghai| &shanghai.withdrawals_root));
     match header.cancun() {
-        Some(cancun) => tell_cancun(fee, root, cancun, out),
+        Some(cancun) => {
+            out.debug(Some(cancun.blob_gas_used))?;
+            out.then(Some(cancun.excess_blob_gas))?;
+            out.write_str(" ")?;
+            let parent = cancun.parent_beacon_block_root.0.as_slice();
+            let requests = digits_of(cancun.requests_hash.as_ref());
+            tell_words(&[fee, root, parent, requests], out)
+        }
         None => {
             out.write_str("None None ")?;
             tell_words(&[fee, root], out)
         }
     }
-}
-
-/// Tells the gas of blobs, the base fee and the hashes of a header since Cancun.
-fn tell_cancun(fee: &[u8], root: &[u8], cancun: &Cancun, out: &mut Line) -> fmt::Result {
-    out.debug(Some(cancun.blob_gas_used))?;
-    out.then(Some(cancun.excess_blob_gas))?;
-    out.write_str(" ")?;
-    let parent = cancun.parent_beacon_block_root.0.as_slice();
-    let requests = digits_of(cancun.requests_hash.as_ref());
-    tell_words(&[fee, root, parent, requests], out)
 }
 
 /// Tells what the fault of the fields since London prints.
@@ -210,12 +207,6 @@ fn tell_blob(signed: &Signed<BlobTransaction>, out: &mut Line) -> fmt::Result {
         &signed.s.bytes,
     ];
     tell_words(&words, out)?;
-    tell_blob_numbers(signed, out)
-}
-
-/// Tells the fields of a transaction of type 3 that are numbers.
-fn tell_blob_numbers(signed: &Signed<BlobTransaction>, out: &mut Line) -> fmt::Result {
-    let tx = &signed.payload;
     let (chain, nonce, gas) = (tx.chain_id, tx.nonce, tx.gas_limit);
     let (accounts, blobs) = (tx.access_list.0.len(), tx.blob_versioned_hashes.len());
     let parity = signed.v;
@@ -234,8 +225,9 @@ fn tell_set_code(signed: &Signed<SetCodeTransaction>, out: &mut Line) -> fmt::Re
         &signed.s.bytes,
     ];
     tell_words(&words, out)?;
-    let (nonce, gas, parity) = (tx.nonce, tx.gas_limit, signed.v);
-    write!(out, " {nonce} {gas} {parity}")
+    out.then(tx.nonce)?;
+    out.then(tx.gas_limit)?;
+    out.then(signed.v)
 }
 
 /// Tells the fields of an authorization.

@@ -9,7 +9,7 @@ use rlp_ethereum::laws::{
 };
 use rlp_ethereum::{Account, AnyTransaction, NodeRecord, Record, Withdrawal};
 use rlp_trie::laws::paths_have_one_value;
-use std::alloc::{AllocError, Global};
+use std::alloc::Global;
 use std::test::Fail;
 
 /// A withdrawal of 4 Gwei, worked out by the rules of the format.
@@ -29,21 +29,10 @@ fn laws_hold<R: Record>(alloc: Global, text: &str) -> Result<bool, Fail> {
     let again = reading_without_memory_is_total::<R>(alloc, bytes.as_slice())?;
     let back = record_round_trips(alloc, &again)?;
     encodings_tell_records(&value, &back);
-    Ok(is_written(alloc, &value, bytes.as_slice())? && is_written(alloc, &back, bytes.as_slice())?)
-}
-
-/// Returns whether a record is written as these bytes.
-fn is_written<R: Record>(alloc: Global, value: &R, bytes: &[u8]) -> Result<bool, AllocError> {
-    Ok(record_is_written(alloc, value)?.as_slice() == bytes)
-}
-
-/// Calls the laws of transactions and of what is signed.
-fn laws_hold_of_transactions(alloc: Global) -> Result<(), Fail> {
-    let bytes = bytes_of(alloc, "FEE_MARKET")?;
-    let transaction = AnyTransaction::from_bytes(alloc, bytes.as_slice())?;
-    bytes_tell_transactions(&transaction, &transaction);
-    no_bytes_are_signed_for_two_meanings();
-    Ok(())
+    Ok(
+        record_is_written(alloc, &value)?.as_slice() == bytes.as_slice()
+            && record_is_written(alloc, &back)?.as_slice() == bytes.as_slice(),
+    )
 }
 
 #[test]
@@ -54,7 +43,11 @@ fn laws_hold_of_records(rt: HostRuntime) -> Result<(), Fail> {
             && laws_hold::<Account>(alloc, ACCOUNT)?
             && laws_hold::<AnyTransaction>(alloc, TRANSACTION)?
     );
-    laws_hold_of_transactions(alloc)
+    let bytes = bytes_of(alloc, "FEE_MARKET")?;
+    let transaction = AnyTransaction::from_bytes(alloc, bytes.as_slice())?;
+    bytes_tell_transactions(&transaction, &transaction);
+    no_bytes_are_signed_for_two_meanings();
+    Ok(())
 }
 
 #[test]

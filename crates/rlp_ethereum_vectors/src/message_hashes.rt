@@ -96,17 +96,12 @@ fn message(alloc: Global, text: &str, count: usize) -> Result<Vec<u8>, Fail> {
     Ok(bytes)
 }
 
-/// Returns the digits of the hash of the message of a row.
-fn hash_of(alloc: Global, text: &str, count: usize) -> Result<String, Fail> {
-    let hash = keccak256(message(alloc, text, count)?.as_slice());
-    Ok(hex::encode(alloc, &hash)?)
-}
-
 #[test]
 fn hashes(rt: HostRuntime) -> Result<(), Fail> {
     let alloc = rt.alloc();
     for (text, count, wanted) in &ROWS {
-        let given = hash_of(alloc, text, *count)?;
+        let hash = keccak256(message(alloc, text, *count)?.as_slice());
+        let given = hex::encode(alloc, &hash)?;
         assert!(rt;
             given.as_str() == *wanted,
             "{text} {count}: {given}, and not {wanted}"

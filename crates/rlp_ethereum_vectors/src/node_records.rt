@@ -1,7 +1,7 @@
 //! Node records. The first record, its fields and its text are those that EIP-778 publishes as its
 //! example.
 
-use crate::reading::{Item, fault, ways_and_len};
+use crate::reading::{Item, fault, ways};
 use rlp::{DecoderError, RawItem};
 use rlp_node_record::{NodeFields, NodePair, NodeRecord};
 use rlp_rows::{Hex, Line};
@@ -69,16 +69,11 @@ fn tell_read(alloc: Global, bytes: &[u8], out: &mut Line) -> fmt::Result {
 
 /// Tells the sequence number, the signature, the content that is signed, and the pairs.
 fn tell_fields(alloc: Global, record: &NodeRecord, out: &mut Line) -> fmt::Result {
-    let fields = record.fields();
+    let (fields, signed) = (record.fields(), record.signed_content(alloc)?);
     out.debug(fields.sequence)?;
     out.then(Hex(fields.signature.as_slice()))?;
-    out.then(Hex(record.signed_content(alloc)?.as_slice()))?;
-    tell_pairs(fields.pairs.as_slice(), out)
-}
-
-/// Tells the keys and the values of pairs.
-fn tell_pairs(pairs: &[NodePair], out: &mut Line) -> fmt::Result {
-    for pair in pairs {
+    out.then(Hex(signed.as_slice()))?;
+    for pair in fields.pairs.iter() {
         out.then(Hex(pair.key.as_slice()))?;
         out.then(Hex(pair.value.as_bytes()))?;
     }
@@ -118,7 +113,9 @@ fn tell_keys_of(alloc: Global, keys: &[&[u8]], out: &mut Line) -> fmt::Result {
     match NodeRecord::new(alloc, fields) {
         Ok(record) => {
             let written = rlp::encode(alloc, &record)?;
-            ways_and_len::<Item<NodeRecord>>(alloc, written.as_slice(), out)
+            ways::<Item<NodeRecord>>(alloc, written.as_slice(), out)?;
+            out.write_str(",")?;
+            out.then(written.len())
         }
         Err(found) => fault(&found, out),
     }
@@ -168,19 +165,14 @@ fn tell_text(alloc: Global, text: &str, out: &mut Line) -> fmt::Result {
     }
 }
 
-/// Tells the two addresses of a record, each with its ports.
-fn tell_addresses(record: &NodeRecord, out: &mut Line) -> fmt::Result {
-    tell_array(", ip ", record.ip(), out)?;
-    write!(out, " {:?} {:?}", record.tcp(), record.udp())?;
-    tell_array(", ip6 ", record.ip6(), out)?;
-    write!(out, " {:?} {:?}", record.tcp6(), record.udp6())
-}
-
 /// Tells what the known keys of a record give, and what is read of the key `udp`.
 fn tell_keys(alloc: Global, record: &NodeRecord, out: &mut Line) -> fmt::Result {
     tell_bytes("id ", record.id(), out)?;
     tell_array(", secp256k1 ", record.secp256k1(), out)?;
-    tell_addresses(record, out)?;
+    tell_array(", ip ", record.ip(), out)?;
+    write!(out, " {:?} {:?}", record.tcp(), record.udp())?;
+    tell_array(", ip6 ", record.ip6(), out)?;
+    write!(out, " {:?} {:?}", record.tcp6(), record.udp6())?;
     tell_bytes(
         ", udp ",
         record.value(b"udp").map(|item| item.as_bytes()),

@@ -246,13 +246,6 @@ pub(crate) fn tell(alloc: Global, name: &str, bytes: &[u8], out: &mut Line) -> f
             let last = Some(Child::Node(Hash([0xff; 32])));
             made_of(alloc, branch(alloc, last, b"verb"), bytes, out)
         }
-        _ => tell_bytes(alloc, name, bytes, out),
-    }
-}
-
-/// Tells what a call answers about the bytes of a branch or another node, or about nibbles.
-fn tell_bytes(alloc: Global, name: &str, bytes: &[u8], out: &mut Line) -> fmt::Result {
-    match name {
         "branch again" => made_of(alloc, branch_node(alloc, bytes), bytes, out),
         "nibbles" => tell_nibbles(alloc, bytes, out),
         "of nibbles" => tell_path::<2>(alloc, bytes, out),
@@ -280,23 +273,14 @@ fn tell_nibbles_of<const FLAG: u8>(
 ) -> fmt::Result {
     match Path::<FLAG>::new(alloc, bytes) {
         Ok(path) => {
-            out.write_str(kind)?;
             let nibbles = path.nibbles(alloc)?;
-            tell_nibbles_and_path::<FLAG>(alloc, nibbles.as_slice(), out)
+            out.write_str(kind)?;
+            out.then(Hex(nibbles.as_slice()))?;
+            out.write_str(" ")?;
+            tell_path::<FLAG>(alloc, nibbles.as_slice(), out)
         }
         Err(found) => fault(&found, out),
     }
-}
-
-/// Tells nibbles, and the path of these nibbles.
-fn tell_nibbles_and_path<const FLAG: u8>(
-    alloc: Global,
-    nibbles: &[u8],
-    out: &mut Line,
-) -> fmt::Result {
-    out.then(Hex(nibbles))?;
-    out.write_str(" ")?;
-    tell_path::<FLAG>(alloc, nibbles, out)
 }
 
 /// Tells the digits of the path of this kind with these nibbles, or the fault.
@@ -313,25 +297,17 @@ const CAT: &[u8] = b"\xc7\x82\x20\x12\x83cat";
 /// Tells what a call about a leaf or an extension answers.
 fn tell_short(alloc: Global, name: &str, bytes: &[u8], out: &mut Line) -> fmt::Result {
     match name {
-        "leaf of cat" => tell_leaf(alloc, b"\x20\x12", b"cat", bytes, out),
-        "leaf of coin" => tell_leaf(alloc, b"\x35", b"coin", bytes, out),
-        "leaf of stallion" => { tell_leaf(alloc, b"\x20\x6f\x72\x73\x65", b"stallion", bytes, out) }
-        "leaf by" => tell_leaf(alloc, bytes, b"coin", bytes, out),
+        "leaf of cat" => made_of(alloc, leaf(alloc, b"\x20\x12", b"cat"), bytes, out),
+        "leaf of coin" => made_of(alloc, leaf(alloc, b"\x35", b"coin"), bytes, out),
+        "leaf of stallion" => {
+            let leaf = leaf(alloc, b"\x20\x6f\x72\x73\x65", b"stallion");
+            made_of(alloc, leaf, bytes, out)
+        }
         "extension to the cat" => made_of(alloc, extension(alloc, b"\x11", CAT), bytes, out),
+        "leaf by" => made_of(alloc, leaf(alloc, bytes, b"coin"), bytes, out),
         "extension by" => made_of(alloc, extension(alloc, bytes, CAT), bytes, out),
         _ => made_of(alloc, extension(alloc, b"\x17", bytes), bytes, out),
     }
-}
-
-/// Tells of the leaf with this path and value what [`made_of`] does.
-fn tell_leaf(
-    alloc: Global,
-    path: &[u8],
-    value: &[u8],
-    bytes: &[u8],
-    out: &mut Line,
-) -> fmt::Result {
-    made_of(alloc, leaf(alloc, path, value), bytes, out)
 }
 
 /// Tells the kind of the node that is read, its path unless it is a branch, and the hash that it has

@@ -3,7 +3,7 @@
 use crate::text::bytes_of;
 use rlp_records::Hash;
 use rlp_rows::{Hex, Line};
-use rlp_trie::{ProofFault, verify_proof};
+use rlp_trie::verify_proof;
 use std::alloc::{AllocError, Global};
 use std::fmt;
 use std::fmt::Write;
@@ -65,33 +65,22 @@ const ROWS: &str = "
 
 /// Tells what the trie with a root has for a key, as nodes prove it.
 fn tell(alloc: Global, root: &[u8], key: &[u8], nodes: &[Vec<u8>], out: &mut Line) -> fmt::Result {
-    match <[u8; 32]>::try_from(root) {
-        Ok(root) => tell_proved(verify_proof(alloc, &Hash(root), key, nodes), out),
-        Err(_) => out.write_str("no root"),
-    }
-}
-
-/// Tells what is proved: a value or none, or the fault.
-fn tell_proved(proved: Result<Option<Vec<u8>>, ProofFault>, out: &mut Line) -> fmt::Result {
-    match proved {
+    let Ok(root) = <[u8; 32]>::try_from(root) else {
+        return out.write_str("no root");
+    };
+    match verify_proof(alloc, &Hash(root), key, nodes) {
         Ok(Some(value)) => write!(out, "= {:?}", Hex(value.as_slice())),
         Ok(None) => out.write_str("none"),
         Err(fault) => write!(out, "{fault}"),
     }
 }
 
-/// Returns the root, the key and the nodes of a row.
-fn parts_of(alloc: Global, words: &str) -> Result<Vec<Vec<u8>>, AllocError> {
+/// Tells what the root, the key and the nodes of a row prove.
+fn tell_row(alloc: Global, words: &str, out: &mut Line) -> Result<(), AllocError> {
     let mut parts = Vec::new(alloc);
     for word in words.split(' ') {
         parts.push(bytes_of(alloc, word)?)?;
     }
-    Ok(parts)
-}
-
-/// Tells what the root, the key and the nodes of a row prove.
-fn tell_row(alloc: Global, words: &str, out: &mut Line) -> Result<(), AllocError> {
-    let parts = parts_of(alloc, words)?;
     if let [root, key, nodes @ ..] = parts.as_slice() {
         let _ = tell(alloc, root.as_slice(), key.as_slice(), nodes, out);
     }
@@ -109,21 +98,15 @@ fn tell_wanted(alloc: Global, text: &str, out: &mut Line) -> fmt::Result {
     }
 }
 
-/// Notes a row that proves something else.
-fn check(alloc: Global, words: &str, text: &str, wrong: &mut Line) -> Result<(), AllocError> {
-    let (mut said, mut wanted) = (Line::new(), Line::new());
-    tell_row(alloc, words, &mut said)?;
-    let _ = tell_wanted(alloc, text, &mut wanted);
-    wrong.note("proof", words, said.as_str(), wanted.as_str());
-    Ok(())
-}
-
 #[test]
 fn proofs(rt: HostRuntime) -> Result<(), Fail> {
     let mut wrong = Line::new();
     for line in ROWS.lines() {
         if let Some((words, text)) = line.trim().split_once(" | ") {
-            check(rt.alloc(), words, text, &mut wrong)?;
+            let (mut said, mut wanted) = (Line::new(), Line::new());
+            tell_row(rt.alloc(), words, &mut said)?;
+            let _ = tell_wanted(rt.alloc(), text, &mut wanted);
+            wrong.note("proof", words, said.as_str(), wanted.as_str());
         }
     }
     wrong.none_noted()

@@ -102,13 +102,6 @@ pub(crate) fn ways<R: Reading>(alloc: Global, bytes: &[u8], out: &mut Line) -> f
     }
 }
 
-/// Tells what [`ways`] does, and the number of the bytes.
-pub(crate) fn ways_and_len<R: Reading>(alloc: Global, bytes: &[u8], out: &mut Line) -> fmt::Result {
-    ways::<R>(alloc, bytes, out)?;
-    out.write_str(",")?;
-    out.then(bytes.len())
-}
-
 /// Returns whether the bytes without the last fail, and those with one more.
 fn is_cut_noticed<R: Reading>(alloc: Global, bytes: &[u8]) -> Result<bool, AllocError> {
     let mut longer = Vec::from_slice(alloc, bytes)?;

@@ -338,13 +338,6 @@ pub(crate) fn tell(alloc: Global, name: &str, bytes: &[u8], out: &mut Line) -> f
         "log" => made_of(alloc, log(alloc), bytes, out),
         "receipt" => made_of(alloc, receipt(alloc), bytes, out),
         "access list" => made_of(alloc, access_list(alloc), bytes, out),
-        _ => tell_transaction(alloc, name, bytes, out),
-    }
-}
-
-/// Tells what a call about a transaction answers.
-fn tell_transaction(alloc: Global, name: &str, bytes: &[u8], out: &mut Line) -> fmt::Result {
-    match name {
         "payment" => made(alloc, &payment(alloc), bytes, out),
         "creation" => made_of(alloc, creation(alloc), bytes, out),
         "envelope of the payment" => digits(payment(alloc).to_bytes(alloc), out),

@@ -7,26 +7,16 @@ use rlp_rows::Line;
 use std::alloc::{AllocError, Global};
 use std::test::Fail;
 
-/// The number of the tables.
-const TABLES: usize = 7;
-
-/// Returns the table of this number.
-fn table(number: usize) -> &'static str {
-    match number {
-        0 => records::ROWS,
-        1 => signing::ROWS,
-        2 => unsigned::ROWS,
-        3 => hashes::ROWS,
-        4 => bounded::ROWS,
-        5 => nodes::ROWS,
-        _ => node_records::ROWS,
-    }
-}
-
-/// Returns whether a text is that of a fault.
-fn is_fault(told: &str) -> bool {
-    told.starts_with("Rlp") || told.starts_with("Custom")
-}
+/// The tables.
+const TABLES: [&str; 7] = [
+    records::ROWS,
+    signing::ROWS,
+    unsigned::ROWS,
+    hashes::ROWS,
+    bounded::ROWS,
+    nodes::ROWS,
+    node_records::ROWS,
+];
 
 /// Notes a row whose call tells something else. The answer `refused` is any fault.
 fn check_row(alloc: Global, call: &str, rest: &str, wrong: &mut Line) -> Result<(), AllocError> {
@@ -34,7 +24,7 @@ fn check_row(alloc: Global, call: &str, rest: &str, wrong: &mut Line) -> Result<
     let (bytes, mut said) = (bytes_of(alloc, text)?, Line::new());
     let _ = tell(alloc, call, bytes.as_slice(), &mut said);
     let told = said.as_str().trim();
-    if wanted != "refused" || !is_fault(told) {
+    if wanted != "refused" || !told.starts_with("Rlp") && !told.starts_with("Custom") {
         wrong.note(call, text, told, wanted);
     }
     Ok(())
@@ -53,8 +43,8 @@ fn check_table(alloc: Global, table: &str, wrong: &mut Line) -> Result<(), Alloc
 #[test]
 fn records_both_ways(rt: HostRuntime) -> Result<(), Fail> {
     let mut wrong = Line::new();
-    for number in 0..TABLES {
-        check_table(rt.alloc(), table(number), &mut wrong)?;
+    for table in TABLES {
+        check_table(rt.alloc(), table, &mut wrong)?;
     }
     wrong.none_noted()
 }

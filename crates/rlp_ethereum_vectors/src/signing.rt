@@ -2,7 +2,7 @@
 
 use crate::reading::{Alone, Bare, digits, ways};
 use bytes::BytesMut;
-use rlp::{DecoderError, Uint};
+use rlp::DecoderError;
 use rlp_ethereum::{
     BlobTransactionWithCellProofs, BlobTransactionWithProofs, DepositTransaction, Enveloped,
     Transaction,
@@ -158,18 +158,6 @@ pub(crate) fn tell_payload(alloc: Global, signed: &Transaction, out: &mut Line) 
     }
 }
 
-/// Takes the signature off, and returns the bytes of the transaction with it again.
-fn signed_again(alloc: Global, signed: Transaction) -> Result<Option<BytesMut>, AllocError> {
-    let (r, s) = (*signed.r(), *signed.s());
-    match signed.into_unsigned() {
-        Some((unsigned, y_parity)) => {
-            let again = unsigned.with_signature(y_parity, r, s);
-            Ok(Some(again.to_bytes(alloc)?))
-        }
-        None => Ok(None),
-    }
-}
-
 /// Takes the signature off, and tells whether with it the transaction has these bytes again.
 pub(crate) fn tell_again(
     alloc: Global,
@@ -177,24 +165,24 @@ pub(crate) fn tell_again(
     bytes: &[u8],
     out: &mut Line,
 ) -> fmt::Result {
-    match signed_again(alloc, signed)? {
-        Some(again) if again.as_slice() == bytes => out.write_str("the same"),
-        Some(_) => out.write_str("other bytes"),
+    let (r, s) = (*signed.r(), *signed.s());
+    match signed.into_unsigned() {
+        Some((unsigned, y_parity)) => {
+            let again = unsigned.with_signature(y_parity, r, s).to_bytes(alloc)?;
+            let is_same = again.as_slice() == bytes;
+            out.write_str(if is_same { "the same" } else { "other bytes" })
+        }
         None => out.write_str("None"),
     }
-}
-
-/// Tells a fee as it is written, after a space.
-fn tell_fee(alloc: Global, fee: &Uint<32>, out: &mut Line) -> fmt::Result {
-    out.write_str(" ")?;
-    digits(rlp::encode(alloc, fee), out)
 }
 
 /// Tells the type, the chain, the two fees as they are written, and whether there is a price of gas.
 pub(crate) fn tell_fees(alloc: Global, signed: &Transaction, out: &mut Line) -> fmt::Result {
     out.debug(signed.transaction_type())?;
     out.then(signed.chain_id())?;
-    tell_fee(alloc, signed.max_fee_per_gas(), out)?;
-    tell_fee(alloc, signed.max_priority_fee_per_gas(), out)?;
+    out.write_str(" ")?;
+    digits(rlp::encode(alloc, signed.max_fee_per_gas()), out)?;
+    out.write_str(" ")?;
+    digits(rlp::encode(alloc, signed.max_priority_fee_per_gas()), out)?;
     out.then(signed.gas_price().is_some())
 }

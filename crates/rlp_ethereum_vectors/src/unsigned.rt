@@ -3,7 +3,7 @@
 //! are in the EIP.
 
 use crate::fields::{second, tell_parts, tell_second, tell_typed};
-use crate::reading::{Alone, digits, fault, made, ways_and_len};
+use crate::reading::{Alone, digits, fault, made, ways};
 use crate::signing::{tell_again, tell_fees, tell_payload};
 use rlp::Uint;
 use rlp_ethereum::{
@@ -288,24 +288,12 @@ fn example(alloc: Global, chain_id: Option<u64>) -> UnsignedLegacyTransaction {
 /// Tells what a call about a transaction that is signed answers.
 pub(crate) fn tell(alloc: Global, name: &str, bytes: &[u8], out: &mut Line) -> fmt::Result {
     match name {
-        "example for chain 1" => tell_example(alloc, Some(1), bytes, out),
-        "example" => tell_example(alloc, None, bytes, out),
+        "example for chain 1" => made(alloc, &example(alloc, Some(1)), bytes, out),
+        "example" => made(alloc, &example(alloc, None), bytes, out),
         "bytes of the example for chain 1" => {
             let unsigned = UnsignedTransaction::Legacy(example(alloc, Some(1)));
             digits(unsigned.to_bytes(alloc), out)
         }
-        _ => tell_read(alloc, name, bytes, out),
-    }
-}
-
-/// Tells of the example what [`made`] does.
-fn tell_example(alloc: Global, chain_id: Option<u64>, bytes: &[u8], out: &mut Line) -> fmt::Result {
-    made(alloc, &example(alloc, chain_id), bytes, out)
-}
-
-/// Tells what a call about bytes that are signed answers, or one about a signed transaction.
-fn tell_read(alloc: Global, name: &str, bytes: &[u8], out: &mut Line) -> fmt::Result {
-    match name {
         "numbers" => match UnsignedTransaction::from_bytes(alloc, bytes) {
             Ok(unsigned) => tell_numbers(&unsigned, out),
             Err(found) => fault(&found, out),
@@ -342,27 +330,16 @@ fn tell_numbers(unsigned: &UnsignedTransaction, out: &mut Line) -> fmt::Result {
 /// Tells what a call about a signed transaction answers.
 pub(crate) fn tell_signed(alloc: Global, name: &str, bytes: &[u8], out: &mut Line) -> fmt::Result {
     match Transaction::from_bytes(alloc, bytes) {
-        Ok(signed) => tell_transaction(alloc, name, signed, bytes, out),
+        Ok(signed) => match name {
+            "payload" => tell_unsigned(alloc, without_signature(signed, None), out),
+            "payload for chain 1" | "without its signature" => {
+                tell_unsigned(alloc, without_signature(signed, Some(1)), out)
+            }
+            "payload, both ways" => tell_ways(alloc, without_signature(signed, None), out),
+            "signature again" => tell_again(alloc, signed, bytes, out),
+            _ => tell_of(alloc, name, &signed, out),
+        },
         Err(found) => fault(&found, out),
-    }
-}
-
-/// Tells what a call answers about the signed transaction with these bytes.
-fn tell_transaction(
-    alloc: Global,
-    name: &str,
-    signed: Transaction,
-    bytes: &[u8],
-    out: &mut Line,
-) -> fmt::Result {
-    match name {
-        "payload" => tell_unsigned(alloc, without_signature(signed, None), out),
-        "payload for chain 1" | "without its signature" => {
-            tell_unsigned(alloc, without_signature(signed, Some(1)), out)
-        }
-        "payload, both ways" => tell_ways(alloc, without_signature(signed, None), out),
-        "signature again" => tell_again(alloc, signed, bytes, out),
-        _ => tell_of(alloc, name, &signed, out),
     }
 }
 
@@ -389,7 +366,9 @@ fn tell_unsigned(alloc: Global, unsigned: UnsignedTransaction, out: &mut Line) -
 /// Tells whether what is signed of a transaction goes both ways, and the number of its bytes.
 fn tell_ways(alloc: Global, unsigned: UnsignedTransaction, out: &mut Line) -> fmt::Result {
     let payload = unsigned.to_bytes(alloc)?;
-    ways_and_len::<Alone<UnsignedTransaction>>(alloc, payload.as_slice(), out)
+    ways::<Alone<UnsignedTransaction>>(alloc, payload.as_slice(), out)?;
+    out.write_str(",")?;
+    out.then(payload.len())
 }
 
 /// Returns a signed transaction without its signature. A legacy transaction is for this chain.

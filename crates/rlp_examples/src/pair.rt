@@ -1,10 +1,8 @@
 //! A custom struct: the list of its two fields.
 
-ghost use Rattle.std.specs.Prelude.{◌≡◌, [], ◌∷◌, IfErr, IfOk};
+ghost use Rattle.std.specs.Prelude.{◌≡◌, IfErr, IfOk};
 ghost use Rattle.rlp.specs.DecoderError.TheVariants.{OutOfMemory};
 ghost use Rattle.rlp.specs.Format.Encoding.{BeginsWith, encoding};
-ghost use Rattle.rlp.specs.Format.Item.{list_of};
-ghost use Rattle.rlp.specs.Values.Value.{number_item};
 ghost use Rattle.rlp_examples.specs.Pair.{pair};
 
 use rlp::{Decodable, DecoderError, Encodable, Rlp, RlpStream, RoundTrip, StrictRead, laws};
@@ -15,7 +13,7 @@ use std::alloc::{AllocError, Global};
 pub struct Pair(pub u64, pub u64);
 
 impl Encodable for Pair {
-    ghost item = { λ p. list_of (number_item p.0 ∷ number_item p.1 ∷ []) };
+    ghost item = { pair.item };
 
     ghost fits = { pair.Fits };
 

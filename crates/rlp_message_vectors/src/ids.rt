@@ -131,27 +131,12 @@ fn written(bytes: Result<BytesMut, AllocError>) -> Result<BytesMut, DecoderError
     bytes.or(Err(DecoderError::OutOfMemory))
 }
 
-/// Returns the number of a message of `p2p`.
-fn number_of_p2p(alloc: Global, bytes: &[u8]) -> Result<u8, DecoderError> {
-    Ok(P2pMessage::from_message(alloc, 0, bytes)?.number())
-}
-
-/// Returns the number of a message of `eth/68`.
-fn number_of_68(alloc: Global, bytes: &[u8]) -> Result<u8, DecoderError> {
-    Ok(Eth68Message::from_message(alloc, 0x10, bytes)?.number())
-}
-
-/// Returns the number of a message of `eth/69`.
-fn number_of_69(alloc: Global, bytes: &[u8]) -> Result<u8, DecoderError> {
-    Ok(Eth69Message::from_message(alloc, 0x10, bytes)?.number())
-}
-
 /// Returns the number of a message.
 fn number(alloc: Global, protocol: &str, bytes: &[u8]) -> Result<u8, DecoderError> {
     match protocol {
-        "number of p2p" => number_of_p2p(alloc, bytes),
-        "number of eth/68" => number_of_68(alloc, bytes),
-        _ => number_of_69(alloc, bytes),
+        "number of p2p" => Ok(P2pMessage::from_message(alloc, 0, bytes)?.number()),
+        "number of eth/68" => Ok(Eth68Message::from_message(alloc, 0x10, bytes)?.number()),
+        _ => Ok(Eth69Message::from_message(alloc, 0x10, bytes)?.number()),
     }
 }
 

@@ -99,9 +99,10 @@ const TRANSACTIONS: [Row; 4] = [
     ),
 ];
 
-/// A block with an ommer: the kind, the digits of a record, and its lines.
-const BLOCK_WITH_OMMER: [Row; 1] = [(
-    "block f90403f901faa0000102030405060708090a0b0c0d0e0f101112131415161718191a1b1c\
+/// Blocks and a header: the kind, the digits of a record, and its lines.
+const BLOCKS: [Row; 4] = [
+    (
+        "block f90403f901faa0000102030405060708090a0b0c0d0e0f101112131415161718191a1b1c\
          1d1e1fa0ffffffffffffffffffffffffffffffffffffffffffffffffffffffffffffffff\
          945df9b87991262f6ba471f09758cde1c0fc1de734a0000102030405060708090a0b0c0d\
          0e0f101112131415161718191a1b1c1d1e1fa0ffffffffffffffffffffffffffffffffff\
@@ -130,7 +131,7 @@ const BLOCK_WITH_OMMER: [Row; 1] = [(
          000000000000000000000000000000000000000000000000000000808083c5d4888401ca\
          35428084610bdaa6826869a0ffffffffffffffffffffffffffffffffffffffffffffffff\
          ffffffffffffffff880000000000000000843b9aca00",
-    "header.hash: 0x4757c25f4d78e9f10ca9f0e3624097db9ff8fb33a783cf61ac4abadbc\
+        "header.hash: 0x4757c25f4d78e9f10ca9f0e3624097db9ff8fb33a783cf61ac4abadbc\
          a1d316d\n\
          header.parent_hash: 0x000102030405060708090a0b0c0d0e0f101112131415161718\
          191a1b1c1d1e1f\n\
@@ -193,11 +194,9 @@ const BLOCK_WITH_OMMER: [Row; 1] = [(
          ommers[0].nonce: 0x0000000000000000\n\
          ommers[0].base_fee_per_gas: 1000000000\n\
          \n",
-)];
-
-/// A block with transactions: the kind, the digits of a record, and its lines.
-const BLOCK_WITH_TRANSACTIONS: [Row; 1] = [(
-    "block f9036df90220a0000102030405060708090a0b0c0d0e0f101112131415161718191a1b1c\
+    ),
+    (
+        "block f9036df90220a0000102030405060708090a0b0c0d0e0f101112131415161718191a1b1c\
          1d1e1fa0ffffffffffffffffffffffffffffffffffffffffffffffffffffffffffffffff\
          945df9b87991262f6ba471f09758cde1c0fc1de734a0000102030405060708090a0b0c0d\
          0e0f101112131415161718191a1b1c1d1e1fa0ffffffffffffffffffffffffffffffffff\
@@ -222,7 +221,7 @@ const BLOCK_WITH_TRANSACTIONS: [Row; 1] = [(
          00000000000000019002ce01800102825208808060c0010304c0f83cda808203e8945df9\
          b87991262f6ba471f09758cde1c0fc1de73405e088ffffffffffffffff80940102030405\
          060708090a0b0c0d0e0f101112131480",
-    "header.hash: 0x83eb44e4cfb51ab6dd5aee4357d7b1420ce02b21ea4e3b8ea53c5f07d\
+        "header.hash: 0x83eb44e4cfb51ab6dd5aee4357d7b1420ce02b21ea4e3b8ea53c5f07d\
          39c2e74\n\
          header.parent_hash: 0x000102030405060708090a0b0c0d0e0f101112131415161718\
          191a1b1c1d1e1f\n\
@@ -321,10 +320,7 @@ const BLOCK_WITH_TRANSACTIONS: [Row; 1] = [(
          withdrawals[1].address: 0x0102030405060708090a0b0c0d0e0f1011121314\n\
          withdrawals[1].amount: 0\n\
          \n",
-)];
-
-/// A block without transactions, and a header: the kind, the digits of a record, and its lines.
-const BLOCK_AND_HEADER: [Row; 2] = [
+    ),
     (
         "block f90226f90220a0000102030405060708090a0b0c0d0e0f101112131415161718191a1b1c\
          1d1e1fa0ffffffffffffffffffffffffffffffffffffffffffffffffffffffffffffffff\
@@ -447,16 +443,6 @@ fn transactions_are_shown(rt: HostRuntime) -> Result<(), Fail> {
 }
 
 #[test]
-fn blocks_with_ommers_are_shown(rt: HostRuntime) -> Result<(), Fail> {
-    check(rt.alloc(), &BLOCK_WITH_OMMER)
-}
-
-#[test]
-fn blocks_with_transactions_are_shown(rt: HostRuntime) -> Result<(), Fail> {
-    check(rt.alloc(), &BLOCK_WITH_TRANSACTIONS)
-}
-
-#[test]
-fn blocks_and_headers_are_shown(rt: HostRuntime) -> Result<(), Fail> {
-    check(rt.alloc(), &BLOCK_AND_HEADER)
+fn blocks_are_shown(rt: HostRuntime) -> Result<(), Fail> {
+    check(rt.alloc(), &BLOCKS)
 }

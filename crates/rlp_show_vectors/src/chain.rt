@@ -9,8 +9,8 @@
 use crate::support::{Row, check};
 use std::test::Fail;
 
-/// Headers: the kind, the digits of a record, and its lines.
-const HEADERS: [Row; 3] = [
+/// The kind, the digits of a record, and its lines.
+const CHAIN: [Row; 7] = [
     (
         "header f90214a00000000000000000000000000000000000000000000000000000000000000000a01dc\
          c4de8dec75d7aab85b567b6ccd41ad312451b948a7413f0a142fd40d4934794000000000000000000000\
@@ -127,10 +127,6 @@ const HEADERS: [Row; 3] = [
          base_fee_per_gas: 875\n\
          \n",
     ),
-];
-
-/// A transaction and nodes: the kind, the digits of a record, and its lines.
-const TRANSACTION_AND_NODES: [Row; 4] = [
     (
         "transaction 02f8b00142843b9aca008504a817c80082ad62946069a6c32cf691f5982febae4faf8a6f\
          3ab2f0f680b844a22cb4650000000000000000000000005eee75727d804a2b13038928d36f8b188945a5\
@@ -226,11 +222,6 @@ const TRANSACTION_AND_NODES: [Row; 4] = [
 ];
 
 #[test]
-fn headers_have_their_hashes(rt: HostRuntime) -> Result<(), Fail> {
-    check(rt.alloc(), &HEADERS)
-}
-
-#[test]
 fn records_have_their_hashes(rt: HostRuntime) -> Result<(), Fail> {
-    check(rt.alloc(), &TRANSACTION_AND_NODES)
+    check(rt.alloc(), &CHAIN)
 }

@@ -7,8 +7,8 @@
 use crate::support::{Row, check};
 use std::test::Fail;
 
-/// Messages of `p2p`, and the first of `eth`: the kind, the digits of a body, and its lines.
-const FIRST_MESSAGES: [Row; 9] = [
+/// The kind, the digits of a body, and its lines.
+const MESSAGES: [Row; 22] = [
     (
         "hello f87137916b6e6574682f76302e39312f706c616e39cdc5836574683dc6846d6f72\
          6b1682270fb840fda1cff674c90c9a197539fe3dfb53086ace64f83ed7c6eabec741f7f3\
@@ -92,10 +92,6 @@ const FIRST_MESSAGES: [Row; 9] = [
          transactions[1].payload: 0x7f\n\
          \n",
     ),
-];
-
-/// Requests and answers: the kind, the digits of a body, and its lines.
-const REQUESTS: [Row; 9] = [
     (
         "get_block_headers e8820457e4a0000000000000000000000000000000000000000000\
          00000000000000deadc0de050580",
@@ -138,6 +134,23 @@ const REQUESTS: [Row; 9] = [
         "request_id: 1111\n\
          content[0].transactions: []\n\
          content[0].ommers: []\n\
+         \n",
+    ),
+    (
+        "new_pooled_transaction_hashes f87283000203c86e82010083020000f863a0010101\
+         0101010101010101010101010101010101010101010101010101010101a0020202020202\
+         0202020202020202020202020202020202020202020202020202a0030303030303030303\
+         0303030303030303030303030303030303030303030303",
+        "types: 0x000203\n\
+         sizes[0]: 110\n\
+         sizes[1]: 256\n\
+         sizes[2]: 131072\n\
+         hashes[0]: 0x01010101010101010101010101010101010101010101010101010101010\
+         10101\n\
+         hashes[1]: 0x02020202020202020202020202020202020202020202020202020202020\
+         20202\n\
+         hashes[2]: 0x03030303030303030303030303030303030303030303030303030303030\
+         30303\n\
          \n",
     ),
     (
@@ -190,27 +203,6 @@ const REQUESTS: [Row; 9] = [
          00000000000000000000000beef\n\
          content[0][1].logs[0].data: 0x0100ff\n\
          content[1]: []\n\
-         \n",
-    ),
-];
-
-/// The other messages: the kind, the digits of a body, and its lines.
-const OTHER_MESSAGES: [Row; 4] = [
-    (
-        "new_pooled_transaction_hashes f87283000203c86e82010083020000f863a0010101\
-         0101010101010101010101010101010101010101010101010101010101a0020202020202\
-         0202020202020202020202020202020202020202020202020202a0030303030303030303\
-         0303030303030303030303030303030303030303030303",
-        "types: 0x000203\n\
-         sizes[0]: 110\n\
-         sizes[1]: 256\n\
-         sizes[2]: 131072\n\
-         hashes[0]: 0x01010101010101010101010101010101010101010101010101010101010\
-         10101\n\
-         hashes[1]: 0x02020202020202020202020202020202020202020202020202020202020\
-         20202\n\
-         hashes[2]: 0x03030303030303030303030303030303030303030303030303030303030\
-         30303\n\
          \n",
     ),
     (
@@ -331,21 +323,7 @@ const FAULTS: [Row; 11] = [
 ];
 
 #[test]
-fn first_messages_are_shown(rt: HostRuntime) -> Result<(), Fail> {
-    check(rt.alloc(), &FIRST_MESSAGES)
-}
-
-#[test]
-fn requests_and_answers_are_shown(rt: HostRuntime) -> Result<(), Fail> {
-    check(rt.alloc(), &REQUESTS)
-}
-
-#[test]
-fn other_messages_are_shown(rt: HostRuntime) -> Result<(), Fail> {
-    check(rt.alloc(), &OTHER_MESSAGES)
-}
-
-#[test]
-fn faults_of_messages_are_named(rt: HostRuntime) -> Result<(), Fail> {
+fn messages_are_shown(rt: HostRuntime) -> Result<(), Fail> {
+    check(rt.alloc(), &MESSAGES)?;
     check(rt.alloc(), &FAULTS)
 }

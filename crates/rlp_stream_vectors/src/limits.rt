@@ -76,55 +76,6 @@ fn open(s: &mut RlpStream, lists: usize, awaited: &str, bytes: &[u8]) -> Result<
     put_raw(s, bytes, 1)
 }
 
-/// Returns an empty stream over a front.
-fn over(alloc: Global, front: &[u8]) -> Result<RlpStream, AllocError> {
-    let mut buffer = BytesMut::new(alloc);
-    buffer.extend_from_slice(front)?;
-    Ok(RlpStream::new_with_buffer(alloc, buffer))
-}
-
-/// Returns how many items a list still awaits, once the bytes of a row are appended.
-fn left(lists: usize, awaited: &str) -> Option<usize> {
-    if awaited == "more" && lists > 0 {
-        Some(1)
-    } else {
-        None
-    }
-}
-
-/// Returns whether a stream has this closed size, awaits these items, and has the front and then this
-/// number of bytes, or, if it is finished, the closed size.
-fn is_grown(
-    s: &RlpStream,
-    front: &[u8],
-    bytes: usize,
-    size: usize,
-    awaited: Option<usize>,
-) -> bool {
-    let bytes = if s.is_finished() { size } else { bytes };
-    s.as_raw().starts_with(front)
-        && s.as_raw().len() == front.len().saturating_add(bytes)
-        && s.len() == size
-        && s.items_awaited() == awaited
-}
-
-/// Appends the bytes within a limit. Returns whether that answers to the closed size that results: over
-/// the limit the stream stays as it was.
-fn is_appended(
-    alloc: Global,
-    s: &mut RlpStream,
-    bytes: &[u8],
-    limit: usize,
-    size: usize,
-) -> Result<bool, AllocError> {
-    let raw = Vec::from_slice(alloc, s.as_raw())?;
-    let (len, items, any) = (s.len(), s.items_awaited(), s.can_finalize());
-    if put_raw_within(s, bytes, 1, limit)? {
-        return Ok(limit >= size);
-    }
-    Ok(limit < size && is_as(s, raw.as_slice(), len, items, any))
-}
-
 /// Returns whether the bytes of a row are appended exactly if the resulting closed size is within
 /// the limit, and else leave the stream as it was. The lists are opened by `open`. All bytes are
 /// taken from `zeros`.
@@ -137,23 +88,33 @@ fn is_answered(
     limit: usize,
 ) -> Result<bool, AllocError> {
     let (lists, held, added, size) = numbers_of(row);
-    let mut s = over(alloc, front)?;
-    if !open(&mut s, lists, awaited, zeros.get(..held).unwrap_or(&[]))? {
-        return Ok(false);
+    let mut buffer = BytesMut::new(alloc);
+    buffer.extend_from_slice(front)?;
+    let mut s = RlpStream::new_with_buffer(alloc, buffer);
+    let opened = open(&mut s, lists, awaited, zeros.get(..held).unwrap_or(&[]))?;
+    let raw = Vec::from_slice(alloc, s.as_raw())?;
+    let (len, items, any) = (s.len(), s.items_awaited(), s.can_finalize());
+    if !put_raw_within(&mut s, zeros.get(..added).unwrap_or(&[]), 1, limit)? {
+        return Ok(opened && limit < size && is_as(&s, raw.as_slice(), len, items, any));
     }
-    let bytes = s
-        .as_raw()
-        .len()
-        .saturating_sub(front.len())
-        .saturating_add(added);
-    let is_sound = is_appended(
-        alloc,
-        &mut s,
-        zeros.get(..added).unwrap_or(&[]),
-        limit,
-        size,
-    )?;
-    Ok(is_sound && (limit < size || is_grown(&s, front, bytes, size, left(lists, awaited))))
+    let written = if s.is_finished() {
+        front.len().saturating_add(size)
+    } else {
+        raw.len().saturating_add(added)
+    };
+    let left = if awaited == "more" && lists > 0 {
+        Some(1)
+    } else {
+        None
+    };
+    Ok(
+        opened
+            && limit >= size
+            && s.as_raw().starts_with(front)
+            && s.as_raw().len() == written
+            && s.len() == size
+            && s.items_awaited() == left,
+    )
 }
 
 /// Fails with the first row that is wrong with one of these limits: 0, around the size, around the size

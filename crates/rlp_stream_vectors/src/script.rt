@@ -149,20 +149,14 @@ fn chain_raw(s: &mut RlpStream, bytes: &[u8]) -> Result<bool, AllocError> {
 /// written once.
 fn refuse(s: &mut RlpStream, name: &str) -> bool {
     let calls = Cell::new(0usize);
-    let refused = is_refused(s, name, &[Refused(&calls)]);
+    let values = [Refused(&calls)];
+    let refused = match name {
+        "refused" => s.append(&values[0]).is_err(),
+        "refused_internal" => s.append_internal(&values[0]).is_err(),
+        "refused_list" => s.append_list(&values).is_err(),
+        _ => values[0].rlp_append(s).is_ok(),
+    };
     refused && calls.get() == 1
-}
-
-/// Makes a call that appends the refused value. Returns whether the stream refuses it; or whether its
-/// own `rlp_append`, called directly, writes it.
-fn is_refused(s: &mut RlpStream, name: &str, values: &[Refused<'_>; 1]) -> bool {
-    let [value] = values;
-    match name {
-        "refused" => s.append(value).is_err(),
-        "refused_internal" => s.append_internal(value).is_err(),
-        "refused_list" => s.append_list(values).is_err(),
-        _ => value.rlp_append(s).is_ok(),
-    }
 }
 
 /// Makes a call that puts the bytes of a text.
@@ -262,8 +256,8 @@ fn repeat(
     Ok(true)
 }
 
-/// Makes the calls of a row's script. Returns whether all are as wanted, and then a list is open, or the
-/// finished bytes are as wanted. Returns `AllocError` instead of `true` if a call was refused memory.
+/// Makes the calls of a row's script. Returns whether all are as wanted, and the finished bytes are.
+/// Returns `AllocError` instead of `true` if a call was refused memory.
 fn is_met(alloc: Global, mut s: RlpStream, row: &str) -> Result<bool, AllocError> {
     let (script, want) = halves(row);
     let mut refused = false;
@@ -272,11 +266,7 @@ fn is_met(alloc: Global, mut s: RlpStream, row: &str) -> Result<bool, AllocError
             return Ok(false);
         }
     }
-    let met = if want == "open" {
-        !s.is_finished()
-    } else {
-        ends_as(alloc, s, want)?
-    };
+    let met = ends_as(alloc, s, want)?;
     if met && refused {
         Err(AllocError)
     } else {
@@ -286,21 +276,19 @@ fn is_met(alloc: Global, mut s: RlpStream, row: &str) -> Result<bool, AllocError
 
 /// Returns whether the finished bytes are the wanted ones.
 fn ends_as(alloc: Global, s: RlpStream, want: &str) -> Result<bool, AllocError> {
-    match want.split_once(" begins ") {
-        Some((len, front)) => {
-            let front = bytes_of(alloc, front)?;
-            Ok(begins_as(&s, number(len), front.as_slice()))
-        }
-        None => {
-            let bytes = bytes_of(alloc, want)?;
-            Ok(finishes_as(s, bytes.as_slice()))
-        }
+    if want == "open" {
+        return Ok(!s.is_finished());
     }
-}
-
-/// Returns whether a stream is finished, has this number of bytes, and begins with these.
-fn begins_as(s: &RlpStream, len: usize, front: &[u8]) -> bool {
-    s.is_finished() && s.as_raw().len() == len && s.as_raw().starts_with(front)
+    let Some((len, front)) = want.split_once(" begins ") else {
+        let want = bytes_of(alloc, want)?;
+        return Ok(finishes_as(s, want.as_slice()));
+    };
+    let front = bytes_of(alloc, front)?;
+    Ok(
+        s.is_finished()
+            && s.as_raw().len() == number(len)
+            && s.as_raw().starts_with(front.as_slice()),
+    )
 }
 
 /// Returns whether a row is met by a new stream, and by a stream without room.

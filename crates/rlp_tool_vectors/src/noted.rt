@@ -1,10 +1,10 @@
 //! Devices that fail at one call and work at all others, or fail from a call on. Each failure is
 //! passed on, nothing is tried again, and each call of `flush` makes one flush.
 
-use crate::devices::{Plan, SOUND, Sink, ran, reader, writer};
+use crate::devices::{Plan, SOUND, ran, reader, writer};
 use crate::rows::{Row, plan_of};
 use rlp_rows::{Line, number};
-use rlp_tool::{Noted, RunFault, exit_status};
+use rlp_tool::{RunFault, exit_status};
 use std::alloc::{AllocError, Global};
 use std::fmt::Write as _;
 use std::io::{Read, Write};
@@ -83,27 +83,25 @@ const WRITES: [Row; 5] = [
     ),
 ];
 
-/// Returns what a call of a writer returns: the number of bytes, or none of `flush`.
-fn write_or_flush(sink: &mut Noted<Sink>, call: &str) -> io::Result<usize> {
-    match call {
-        "flush" => sink.flush().and(Ok(0)),
-        _ => sink.write(call.as_bytes()),
-    }
-}
-
-/// Tells the numbers of writes and of flushes of a writer, and whether it has failed and is flushed.
-fn tell_state(sink: &Noted<Sink>, out: &mut Line) -> fmt::Result {
-    let (writes, flushes) = (sink.inner().writes, sink.inner().flushes);
-    let (failed, flushed) = (sink.failed(), sink.flushed());
-    write!(out, " {writes} {flushes} {failed} {flushed}, ")
-}
-
 /// Tells what follows each call of a writer, and the bytes that were written.
 fn tell_writes(alloc: Global, plan: &Plan, calls: &str, out: &mut Line) -> fmt::Result {
     let mut sink = writer(alloc, plan)?;
     for call in calls.split(' ') {
-        tell_returned(write_or_flush(&mut sink, call), out)?;
-        tell_state(&sink, out)?;
+        let returned = match call {
+            "flush" => match sink.flush() {
+                Ok(()) => Ok(0),
+                Err(error) => Err(error),
+            },
+            _ => sink.write(call.as_bytes()),
+        };
+        tell_returned(returned, out)?;
+        let (writes, flushes) = (sink.inner().writes, sink.inner().flushes);
+        write!(
+            out,
+            " {writes} {flushes} {} {}, ",
+            sink.failed(),
+            sink.flushed()
+        )?;
     }
     out.write_str(std::str::from_utf8(sink.inner().taken.as_slice()).unwrap_or("no text"))
 }

@@ -95,13 +95,6 @@ fn tell_ones(
     out.then(prints_ones(alloc, view, len))
 }
 
-/// Returns what is told of a list of `len` items 01, which ends with its last item.
-fn said_of(alloc: Global, bytes: &[u8], len: usize) -> Line {
-    let (place, mut said) = (bytes.len().saturating_sub(1), Line::new());
-    let _ = tell_ones(alloc, &Rlp::new(bytes), len, place, &mut said);
-    said
-}
-
 /// The headers of lists of bytes 01, and the numbers of these.
 const ONES: [(&str, &str); 2] = [
     ("f92710+01*10000", "10000"),
@@ -111,8 +104,15 @@ const ONES: [(&str, &str); 2] = [
 /// Notes the lists that are read or printed otherwise.
 fn check_ones(alloc: Global, wrong: &mut Line) -> Result<(), AllocError> {
     for (text, len) in &ONES {
-        let bytes = bytes_of(alloc, text)?;
-        let said = said_of(alloc, bytes.as_slice(), number(len));
+        let (bytes, mut said) = (bytes_of(alloc, text)?, Line::new());
+        let place = bytes.len().saturating_sub(1);
+        let _ = tell_ones(
+            alloc,
+            &Rlp::new(bytes.as_slice()),
+            number(len),
+            place,
+            &mut said,
+        );
         wrong.note("list", text, said.as_str(), "true Ok(true) true Ok(true)");
     }
     Ok(())

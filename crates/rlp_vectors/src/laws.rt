@@ -93,14 +93,11 @@ fn list_is_read(alloc: Global) -> bool {
     }
 }
 
-/// Returns whether a number is read, in both ways.
-fn number_is_read(alloc: Global) -> bool {
-    laws::encoding_is_decoded::<u64>(alloc, &LIST[1..]) == Ok(1)
-        && laws::scalar_is_decoded::<u64>(alloc, &LIST[1..]) == Ok(1)
-}
-
 #[test]
 fn laws_that_read(rt: HostRuntime) {
+    let number = laws::encoding_is_decoded::<u64>(rt.alloc(), &LIST[1..]);
+    let scalar = laws::scalar_is_decoded::<u64>(rt.alloc(), &LIST[1..]);
+    let are_read = number == Ok(1) && scalar == Ok(1);
     let lists = item_is_split_off() && list_is_read(rt.alloc());
-    assert!(rt; number_is_read(rt.alloc()) && lists);
+    assert!(rt; are_read && lists);
 }

@@ -38,21 +38,14 @@ fn is_listed<E: Encodable>(alloc: Global, values: &[E], want: &[u8]) -> Result<b
     Ok(rlp::encode_list(alloc, values)?.as_slice() == want)
 }
 
-/// Returns whether a text and a list of pairs are encoded.
-fn values_are_encoded(alloc: Global) -> Result<bool, AllocError> {
-    let pairs = [Pair(1, 2), Pair(3, 4)];
-    Ok(
-        is_encoded(alloc, &"Lorem ipsum", b"\x8bLorem ipsum")?
-            && is_listed(alloc, &pairs, b"\xc6\xc2\x01\x02\xc2\x03\x04")?,
-    )
-}
-
 #[test]
 fn what_is_made(rt: HostRuntime) -> Result<(), AllocError> {
     let alloc = rt.alloc();
+    let pairs = [Pair(1, 2), Pair(3, 4)];
     assert!(rt; buffer_comes_back(alloc)?);
     assert!(rt; streams_are_new(alloc)?);
-    assert!(rt; values_are_encoded(alloc)?);
+    assert!(rt; is_encoded(alloc, &"Lorem ipsum", b"\x8bLorem ipsum")?);
+    assert!(rt; is_listed(alloc, &pairs, b"\xc6\xc2\x01\x02\xc2\x03\x04")?);
     Ok(())
 }
 
@@ -62,24 +55,14 @@ fn numbers_are_listed(alloc: Global) -> Result<bool, AllocError> {
     Ok(rlp::encode_list(alloc, numbers.as_slice())?.len() == 4_503)
 }
 
-/// Returns whether the encoding of a value has this many bytes.
-fn has_len<E: Encodable>(alloc: Global, value: &E, len: usize) -> Result<bool, AllocError> {
-    Ok(rlp::encode(alloc, value)?.len() == len)
-}
-
-/// Returns whether an option is encoded as the list of its value.
-fn option_is_encoded(alloc: Global) -> Result<bool, AllocError> {
-    Ok(rlp::encode(alloc, &Some(5u64))?.as_slice() == [0xc1, 0x05].as_slice())
-}
-
 // Strings, each of one request, and an option.
 #[test]
 fn what_is_encoded(rt: HostRuntime) -> Result<(), AllocError> {
     let alloc = rt.alloc();
     assert!(rt; numbers_are_listed(alloc)?);
     assert!(rt; is_listed(alloc, &["cat", "dog"], b"\xc8\x83cat\x83dog")?);
-    assert!(rt; has_len(alloc, &[0x61u8; 32], 33)?);
-    assert!(rt; has_len(alloc, &Uint { bytes: [1; 32] }, 33)?);
-    assert!(rt; option_is_encoded(alloc)?);
+    assert!(rt; rlp::encode(alloc, &[0x61u8; 32])?.len() == 33);
+    assert!(rt; rlp::encode(alloc, &Uint { bytes: [1; 32] })?.len() == 33);
+    assert!(rt; rlp::encode(alloc, &Some(5u64))?.as_slice() == [0xc1, 0x05].as_slice());
     Ok(())
 }

@@ -18,10 +18,10 @@ use std::fmt::Write;
 use std::test::Fail;
 
 /// The tables whose calls take no memory.
-const WITHOUT_MEMORY: &[&str] = &[items::ROWS, views::ROWS];
+const WITHOUT_MEMORY: [&str; 2] = [items::ROWS, views::ROWS];
 
 /// The other tables.
-const WITH_MEMORY: &[&str] = &[
+const WITH_MEMORY: [&str; 9] = [
     fields::ROWS,
     flattened::ROWS,
     lists::ROWS,
@@ -42,30 +42,20 @@ pub(crate) fn check(alloc: Global, table: &str, wrong: &mut Line) {
     for part in table.split("\n\n") {
         let (head, rows) = part.split_once(":\n").unwrap_or(("", part));
         let (_, calls) = head.rsplit_once('\n').unwrap_or(("", head));
-        check_rows(alloc, calls.trim(), rows, wrong);
-    }
-}
-
-/// Notes the rows of calls that have another answer.
-fn check_rows(alloc: Global, calls: &str, rows: &str, wrong: &mut Line) {
-    for row in rows.lines() {
-        let (given, want) = row.trim().split_once(" | ").unwrap_or((row, ""));
-        check_row(alloc, calls, given, want, wrong);
+        for row in rows.lines() {
+            let (given, want) = row.trim().split_once(" | ").unwrap_or((row, ""));
+            check_row(alloc, calls.trim(), given, want, wrong);
+        }
     }
 }
 
 /// Notes the calls that have another answer than a row.
 pub(crate) fn check_row(alloc: Global, calls: &str, given: &str, want: &str, wrong: &mut Line) {
     for call in calls.split(", ") {
-        check_call(alloc, call, given, want, wrong);
+        let mut said = Line::new();
+        let _ = tell(alloc, call, given, &mut said);
+        wrong.note(call, given, said.as_str().trim_end(), want);
     }
-}
-
-/// Notes a call that has another answer.
-fn check_call(alloc: Global, call: &str, given: &str, want: &str, wrong: &mut Line) {
-    let mut said = Line::new();
-    let _ = tell(alloc, call, given, &mut said);
-    wrong.note(call, given, said.as_str().trim_end(), want);
 }
 
 /// Tries the rows of tables.
@@ -79,12 +69,12 @@ fn check_all(alloc: Global, tables: &[&str]) -> Result<(), Fail> {
 
 #[test]
 fn without_memory(rt: HostRuntime) -> Result<(), Fail> {
-    check_all(rt.alloc(), WITHOUT_MEMORY)
+    check_all(rt.alloc(), &WITHOUT_MEMORY)
 }
 
 #[test]
 fn with_memory(rt: HostRuntime) -> Result<(), Fail> {
-    check_all(rt.alloc(), WITH_MEMORY)
+    check_all(rt.alloc(), &WITH_MEMORY)
 }
 
 /// Writes what a call answers.
@@ -97,40 +87,19 @@ fn tell(alloc: Global, call: &str, given: &str, out: &mut Line) -> fmt::Result {
     let strict = kind == "strict";
     match call {
         "fault" => tell_fault(alloc, digits, out),
+        "view" => tell_view(&view_of(bytes, strict), of, number(rest), out),
         "value" => tell_value(alloc, bytes, strict, of, out),
         "list" => tell_list(alloc, bytes, strict, of, out),
-        "fields" | "fields_of" => {
-            tell_fields(
-                alloc,
-                view_of(bytes, strict),
-                call == "fields_of",
-                rest,
-                out,
-            )
-        }
+        "fields" => tell_fields(alloc, view_of(bytes, strict), false, rest, out),
+        "fields_of" => tell_fields(alloc, view_of(bytes, strict), true, rest, out),
+        "value_at" => tell_value_at(alloc, &view_of(bytes, strict), of, number(rest), out),
+        "list_at" => tell_list_at(alloc, &view_of(bytes, strict), of, number(rest), out),
         "split" => tell_split(bytes, strict, out),
         "first" => tell_first(alloc, bytes, strict, out),
-        "view" | "value_at" | "list_at" | "item" | "count" | "iterated" | "payload" => {
-            tell_viewed(alloc, &view_of(bytes, strict), call, of, number(rest), out)
+        "item" | "count" | "iterated" | "payload" => {
+            tell_items(view_of(bytes, strict).clone(), call, number(rest), out)
         }
         _ => tell_other(alloc, bytes, call, number(rest), out),
-    }
-}
-
-/// Writes what a call of a view answers.
-fn tell_viewed(
-    alloc: Global,
-    view: &Rlp<'_>,
-    call: &str,
-    of: &str,
-    number: usize,
-    out: &mut Line,
-) -> fmt::Result {
-    match call {
-        "view" => tell_view(view, of, number, out),
-        "value_at" => tell_value_at(alloc, view, of, number, out),
-        "list_at" => tell_list_at(alloc, view, of, number, out),
-        _ => tell_items(view.clone(), call, number, out),
     }
 }
 
@@ -143,23 +112,16 @@ fn tell_other(
     out: &mut Line,
 ) -> fmt::Result {
     match call {
+        "flags" => tell_flagged(out),
+        "header" => tell_header(bytes, out),
+        "taken" => tell_taken(bytes, out),
         "tree" => tell_tree(alloc, bytes, number, out),
+        "first_byte" => tell_first_byte(bytes, out),
         "third" => tell_third(alloc, &Rlp::new(bytes), out),
-        "flags" | "header" | "taken" | "first_byte" => tell_alone(bytes, call, out),
         "whole" => tell_whole(alloc, bytes, out),
         "whole_list" => tell_whole_list(alloc, bytes, out),
         "invalid" => tell_invalid(alloc, bytes, out),
         _ => Err(fmt::Error),
-    }
-}
-
-/// Writes what a call answers that has only bytes.
-fn tell_alone(bytes: &[u8], call: &str, out: &mut Line) -> fmt::Result {
-    match call {
-        "flags" => tell_flagged(out),
-        "header" => tell_header(bytes, out),
-        "taken" => tell_taken(bytes, out),
-        _ => tell_first_byte(bytes, out),
     }
 }
 

@@ -2,7 +2,7 @@
 //! expected numbers were counted by the tables of the format, not by these calls.
 
 use bytes::{Bytes, BytesMut};
-use rlp::{BasicDecoder, Decodable, DecoderError, PayloadInfo, Prototype, Rlp, RlpIterator, Uint};
+use rlp::{BasicDecoder, Decodable, DecoderError, PayloadInfo, Prototype, Rlp, Uint};
 use rlp_rows::{Line, cut, number};
 use std::alloc::Global;
 use std::fmt;
@@ -85,17 +85,12 @@ fn check(alloc: Global, table: &str) -> Result<(), Fail> {
     let mut wrong = Line::new();
     for line in table.lines() {
         if let Some((call, want)) = line.trim().split_once(" | ") {
-            check_call(alloc, call, want, &mut wrong);
+            let mut said = Line::new();
+            let _ = tell(alloc, call, &mut said);
+            wrong.note(call, "", said.as_str(), want);
         }
     }
     wrong.none_noted()
-}
-
-/// Notes a call that has another tally or sum.
-fn check_call(alloc: Global, call: &str, want: &str, wrong: &mut Line) {
-    let mut said = Line::new();
-    let _ = tell(alloc, call, &mut said);
-    wrong.note(call, "", said.as_str(), want);
 }
 
 /// Returns what a call gives for an input: a call of a lenient or a strict view, or a way to read it.
@@ -105,13 +100,6 @@ fn answered(alloc: Global, bytes: &[u8], call: &str) -> Answer {
         "header" => of_header(PayloadInfo::from(bytes)),
         "lenient" => of_view(&Rlp::new(bytes), call),
         "strict" => of_view(&Rlp::new_strict(bytes), call),
-        _ => read(alloc, bytes, kind, call),
-    }
-}
-
-/// Returns what a way to read an input gives.
-fn read(alloc: Global, bytes: &[u8], kind: &str, call: &str) -> Answer {
-    match kind {
         "decoded" => (decoded(alloc, bytes, call), 0),
         "listed" => (listed(alloc, &Rlp::new(bytes), call), 0),
         "decoder" => of_length(BasicDecoder::new(bytes).decode_value(length)),
@@ -228,40 +216,30 @@ fn is_numbered(view: &Rlp<'_>) -> bool {
         }
         index = index.saturating_add(1);
     }
-    is_at_end(&mut items) && len == index && len == view.item_count().unwrap_or(0)
-}
-
-/// Returns whether an iterator gives no more items.
-fn is_at_end(items: &mut RlpIterator<'_, '_>) -> bool {
     items.next().is_none()
         && items.next().is_none()
         && items.len() == 0
         && items.size_hint() == (0, Some(0))
+        && len == index
+        && len == view.item_count().unwrap_or(0)
 }
 
 /// Returns what a view measures of an input: 1 if it is so, or a length.
 fn measured(view: &Rlp<'_>, call: &str) -> usize {
     let (call, limit) = cut(call);
     match call {
+        "is_list" => usize::from(view.is_list()),
+        "is_data" => usize::from(view.is_data()),
+        "is_empty" => usize::from(view.is_empty()),
+        "is_int" => usize::from(view.is_int()),
+        "within" => usize::from(view.is_nested_within(number(limit))),
+        "canonical" => usize::from(view.is_canonical(number(limit))),
         "size" => view.size(),
         "string" => lengths_of(view).0,
         "items" => lengths_of(view).1,
+        "numbered" => usize::from(is_numbered(view)),
         "letters" => text_of(view).as_str().len(),
-        _ => usize::from(holds(view, call, number(limit))),
-    }
-}
-
-/// Returns whether an input is so, by a view.
-fn holds(view: &Rlp<'_>, call: &str, limit: usize) -> bool {
-    match call {
-        "is_list" => view.is_list(),
-        "is_data" => view.is_data(),
-        "is_empty" => view.is_empty(),
-        "is_int" => view.is_int(),
-        "within" => view.is_nested_within(limit),
-        "canonical" => view.is_canonical(limit),
-        "numbered" => is_numbered(view),
-        _ => text_of(view).as_str() == "[]",
+        _ => usize::from(text_of(view).as_str() == "[]"),
     }
 }
 
@@ -286,21 +264,19 @@ fn summed(alloc: Global, call: &str) -> usize {
     let mut sum = 0usize;
     let (kind, call) = cut(call);
     for word in 0..=u16::MAX {
-        let measure = measured_by(alloc, &word.to_be_bytes(), kind, call);
+        let bytes = word.to_be_bytes();
+        let (view, strict) = (Rlp::new(&bytes), Rlp::new_strict(&bytes));
+        let measure = match kind {
+            "sound" => {
+                usize::from(is_sound(&view, false, &bytes) && is_sound(&strict, true, &bytes))
+            }
+            "begun" => usize::from(is_begun(alloc, &bytes)),
+            "strict" => measured(&strict, call),
+            _ => measured(&view, call),
+        };
         sum = sum.saturating_add(measure);
     }
     sum
-}
-
-/// Returns what an input measures, by a lenient view or a strict one.
-fn measured_by(alloc: Global, bytes: &[u8], kind: &str, call: &str) -> usize {
-    let (view, strict) = (Rlp::new(bytes), Rlp::new_strict(bytes));
-    match kind {
-        "sound" => usize::from(is_sound(&view, false, bytes) && is_sound(&strict, true, bytes)),
-        "begun" => usize::from(is_begun(alloc, bytes)),
-        "strict" => measured(&strict, call),
-        _ => measured(&view, call),
-    }
 }
 
 #[test]

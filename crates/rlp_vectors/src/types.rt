@@ -2,7 +2,7 @@
 //! bytes were worked out by hand.
 
 use crate::compare::{is_fault, is_read, is_written};
-use rlp::{Decodable, DecoderError, Each, Encodable, Flattened, ListOf, RlpStream, Uint};
+use rlp::{DecoderError, Each, Flattened, ListOf, RlpStream, Uint};
 use rlp_examples::{Message, Nest, Nonce, Pair, Row};
 use rlp_rows::{bytes_of, cut};
 use std::alloc::{AllocError, Global};
@@ -69,40 +69,36 @@ const NESTS: &str = "\
 nest cdccc28001c20102c20203c20304
 nests dddccdccc28001c20102c20203c20304cdccc28001c20102c20203c20304";
 
-/// The tables.
-const TABLES: &[&str] = &[VALUES, NUMBERS, CUSTOM, MESSAGES, NESTS];
-
 /// Returns whether bytes are read as a value of this kind, which is written as the wanted bytes, or are
 /// read with this fault. Pairs, messages and rows are read strictly.
 fn is_as(alloc: Global, kind: &str, bytes: &[u8], want: &str) -> bool {
     match kind {
-        "triple" => is_decoded::<[u8; 3]>(alloc, bytes, want),
-        "uint2" => is_decoded::<Uint<2>>(alloc, bytes, want),
-        "bool" => is_decoded::<bool>(alloc, bytes, want),
-        "nonce" => is_decoded::<Nonce>(alloc, bytes, want),
-        "lenient_pair" => is_decoded::<Pair>(alloc, bytes, want),
+        "triple" => is_read(alloc, rlp::decode::<[u8; 3]>(alloc, bytes), want),
+        "uint2" => is_read(alloc, rlp::decode::<Uint<2>>(alloc, bytes), want),
+        "bool" => is_read(alloc, rlp::decode::<bool>(alloc, bytes), want),
+        "nonce" => is_read(alloc, rlp::decode::<Nonce>(alloc, bytes), want),
         "pair" => is_read(alloc, rlp::decode_strict::<Pair>(alloc, bytes), want),
+        "lenient_pair" => is_read(alloc, rlp::decode::<Pair>(alloc, bytes), want),
         "message" => is_read(alloc, rlp::decode_strict::<Message>(alloc, bytes), want),
-        "row" => is_row(alloc, bytes, want),
+        "row" => is_row(alloc, rlp::decode_strict::<Row>(alloc, bytes), bytes, want),
         "nest" => is_nest(alloc, bytes),
         "nests" => are_nests(alloc, bytes),
-        "uint32" => is_number(alloc, bytes, want),
+        "uint32" => is_number(alloc, rlp::decode::<Uint<32>>(alloc, bytes), bytes, want),
         _ => false,
     }
 }
 
-/// Returns whether bytes are read as a `T`, which is written as the wanted bytes, or are read with this
-/// fault.
-fn is_decoded<T: Decodable + Encodable>(alloc: Global, bytes: &[u8], want: &str) -> bool {
-    is_read(alloc, rlp::decode::<T>(alloc, bytes), want)
-}
-
-/// Returns whether a number is read, has these digits, and is written again.
-fn is_number(alloc: Global, bytes: &[u8], want: &str) -> bool {
+/// Returns whether a number was read, has these digits, and is written again.
+fn is_number(
+    alloc: Global,
+    read: Result<Uint<32>, DecoderError>,
+    bytes: &[u8],
+    want: &str,
+) -> bool {
     let Ok(digits) = bytes_of(alloc, want) else {
         return false;
     };
-    match rlp::decode::<Uint<32>>(alloc, bytes) {
+    match read {
         Ok(number) => {
             number.bytes.as_slice() == digits.as_slice() && is_written(alloc, &number, bytes)
         }
@@ -111,8 +107,8 @@ fn is_number(alloc: Global, bytes: &[u8], want: &str) -> bool {
 }
 
 /// Returns whether a struct of 32 fields is read and written again, or isn't read with this fault.
-fn is_row(alloc: Global, bytes: &[u8], want: &str) -> bool {
-    match rlp::decode_strict::<Row>(alloc, bytes) {
+fn is_row(alloc: Global, read: Result<Row, DecoderError>, bytes: &[u8], want: &str) -> bool {
+    match read {
         Ok(row) => {
             row.column_29 == 5 && row.column_32 == [2; 8] && is_written(alloc, &row, bytes)
         }
@@ -152,16 +148,11 @@ fn are_nests(alloc: Global, bytes: &[u8]) -> bool {
     }
 }
 
-/// Appends a struct whose fields are slices.
-fn append_slices(s: &mut RlpStream) -> Result<(), AllocError> {
-    let pairs = [(&1u64, &2u64), (&3u64, &4u64)];
-    rlp::append_fields!(s, Each(&[7u64, 8]), Flattened(&pairs), ListOf(&[5u64]))
-}
-
 /// Returns whether fields that are slices are written.
 fn slices_are_fields(alloc: Global) -> Result<bool, AllocError> {
     let mut s = RlpStream::new(alloc)?;
-    append_slices(&mut s)?;
+    let pairs = [(&1u64, &2u64), (&3u64, &4u64)];
+    rlp::append_fields!(&mut s, Each(&[7u64, 8]), Flattened(&pairs), ListOf(&[5u64]))?;
     Ok(s.as_raw() == b"\xc8\x07\x08\x01\x02\x03\x04\xc1\x05".as_slice())
 }
 
@@ -171,18 +162,13 @@ fn numbers_are_read(alloc: Global) -> Result<bool, DecoderError> {
     Ok(read.as_slice() == [1, 2, 3, 7, 0xff].as_slice())
 }
 
-/// Returns whether a row is met.
-fn is_met(alloc: Global, row: &str) -> Result<bool, AllocError> {
-    let (what, want) = row.split_once(" = ").unwrap_or((row, ""));
-    let (kind, text) = cut(what);
-    Ok(is_as(alloc, kind, bytes_of(alloc, text)?.as_slice(), want))
-}
-
-/// Fails with the first row of some tables that isn't met.
-fn all_met(alloc: Global, tables: &[&str]) -> Result<(), Fail> {
-    for table in tables {
+/// Fails with the first row that isn't met.
+fn all_met(alloc: Global) -> Result<(), Fail> {
+    for table in [VALUES, NUMBERS, CUSTOM, MESSAGES, NESTS] {
         for row in table.lines() {
-            if !is_met(alloc, row)? {
+            let (what, want) = row.split_once(" = ").unwrap_or((row, ""));
+            let (kind, text) = cut(what);
+            if !is_as(alloc, kind, bytes_of(alloc, text)?.as_slice(), want) {
                 return Err(Fail::new(row));
             }
         }
@@ -193,7 +179,7 @@ fn all_met(alloc: Global, tables: &[&str]) -> Result<(), Fail> {
 #[test]
 fn types_go_both_ways(rt: HostRuntime) -> Result<(), Fail> {
     let alloc = rt.alloc();
-    all_met(alloc, TABLES)?;
+    all_met(alloc)?;
     assert!(rt; slices_are_fields(alloc)?, "slices");
     assert!(rt; numbers_are_read(alloc)?, "numbers");
     Ok(())

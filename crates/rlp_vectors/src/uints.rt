@@ -50,22 +50,16 @@ fn rises(last: Option<Uint<32>>, read: Uint<32>) -> bool {
     }
 }
 
-/// Returns what prints of a number, in decimal and in hexadecimal.
-fn said_of(read: Uint<32>) -> Line {
-    let mut said = Line::new();
-    let _ = said.display(read);
-    let _ = said.write_str(" ");
-    let _ = said.display(Hexadecimal(read));
-    said
-}
-
 #[test]
 fn numbers_print_and_rise(rt: HostRuntime) -> Result<(), Fail> {
     let (mut wrong, mut last) = (Line::new(), None::<Uint<32>>);
     for row in NUMBERS.lines() {
-        let (encoded, texts) = cut(row);
+        let ((encoded, texts), mut said) = (cut(row), Line::new());
         let read = number(rt.alloc(), encoded)?;
-        wrong.note("number", encoded, said_of(read).as_str(), texts);
+        let _ = said.display(read);
+        let _ = said.write_str(" ");
+        let _ = said.display(Hexadecimal(read));
+        wrong.note("number", encoded, said.as_str(), texts);
         assert!(rt; is_of(read, cut(texts).0) && rises(last, read), "{encoded}");
         last = Some(read);
     }

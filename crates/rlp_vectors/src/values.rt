@@ -147,19 +147,6 @@ pub(crate) fn tell_value(
         "u64" => tell_value_of::<u64>(alloc, bytes, strict, out),
         "u128" => tell_value_of::<u128>(alloc, bytes, strict, out),
         "bool" => tell_value_of::<bool>(alloc, bytes, strict, out),
-        _ => tell_string_or_option(alloc, bytes, strict, of, out),
-    }
-}
-
-/// Tells what is read as a string or an option.
-fn tell_string_or_option(
-    alloc: Global,
-    bytes: &[u8],
-    strict: bool,
-    of: &str,
-    out: &mut Line,
-) -> fmt::Result {
-    match of {
         "Vec" => tell_value_of::<Vec<u8>>(alloc, bytes, strict, out),
         "Bytes" => tell_value_of::<Bytes>(alloc, bytes, strict, out),
         "BytesMut" => tell_value_of::<BytesMut>(alloc, bytes, strict, out),

@@ -7,7 +7,6 @@ use rlp::{EMPTY_LIST_RLP, Encodable, NULL_RLP, RlpStream};
 use rlp_examples::{HalfWritten, Nonce, Pair, bytes_of_three};
 use rlp_rows::{bytes_of, cut, number};
 use std::alloc::{AllocError, Global};
-use std::str::FromStr;
 use std::test::Fail;
 
 /// Numbers, and the bytes that they are written as. A number of eight bytes is written under its own
@@ -117,16 +116,13 @@ string 07*2097152 = ba200000+07*2097152
 string 07*16777215 = baffffff+07*16777215
 string 00*16777216 = bb01000000+00*16777216";
 
-/// The tables.
-const TABLES: &[&str] = &[NUMBERS, PARTS, STRUCTS, LISTS, REPEATED, TEXTS, STRINGS];
-
 /// Returns whether a number is written as these bytes, if a text is one.
-fn is_parsed<N>(alloc: Global, text: &str, want: &[u8]) -> bool
-where
-    N: FromStr + Encodable + Drop,
-    N::Err: Drop,
-{
-    match text.parse::<N>() {
+fn is_parsed<N: Encodable + Drop, E: Drop>(
+    alloc: Global,
+    parsed: Result<N, E>,
+    want: &[u8],
+) -> bool {
+    match parsed {
         Ok(number) => is_written(alloc, &number, want),
         Err(_) => false,
     }
@@ -146,12 +142,12 @@ fn is_nonce(alloc: Global, text: &str, want: &[u8]) -> bool {
 fn is_value(alloc: Global, kind: &str, text: &str, want: &[u8]) -> bool {
     match kind {
         "bool" => is_written(alloc, &(text == "true"), want),
-        "u8" => is_parsed::<u8>(alloc, text, want),
-        "u16" => is_parsed::<u16>(alloc, text, want),
-        "u32" => is_parsed::<u32>(alloc, text, want),
+        "u8" => is_parsed(alloc, text.parse::<u8>(), want),
+        "u16" => is_parsed(alloc, text.parse::<u16>(), want),
+        "u32" => is_parsed(alloc, text.parse::<u32>(), want),
         "u64" => is_nonce(alloc, text, want),
-        "u128" => is_parsed::<u128>(alloc, text, want),
-        "usize" => is_parsed::<usize>(alloc, text, want),
+        "u128" => is_parsed(alloc, text.parse::<u128>(), want),
+        "usize" => is_parsed(alloc, text.parse::<usize>(), want),
         _ => is_part(alloc, kind, text, want),
     }
 }
@@ -237,28 +233,20 @@ fn is_string(alloc: Global, string: Vec<u8>, want: &[u8]) -> bool {
         && is_again(alloc, rlp::decode_strict::<BytesMut>(alloc, want), want)
 }
 
-/// Returns whether a value is written as these bytes, and is read again if it is a text or a string.
-fn is_kind(alloc: Global, kind: &str, text: &str, want: &[u8]) -> Result<bool, AllocError> {
-    match kind {
-        "text" => Ok(is_text(alloc, text, want)),
-        "string" => Ok(is_string(alloc, bytes_of(alloc, text)?, want)),
-        _ => Ok(is_value(alloc, kind, text, want)),
-    }
-}
-
-/// Returns whether a row is met. A row is a kind of value, what it is made from, and behind ` = ` its
-/// bytes.
-fn is_met(alloc: Global, row: &str) -> Result<bool, AllocError> {
-    let (what, want) = row.split_once(" = ").unwrap_or((row, ""));
-    let (kind, text) = cut(what);
-    is_kind(alloc, kind, text, bytes_of(alloc, want)?.as_slice())
-}
-
-/// Fails with the first row of some tables that isn't met.
-fn all_met(alloc: Global, tables: &[&str]) -> Result<(), Fail> {
-    for table in tables {
+/// Fails with the first row that isn't met. A row is a kind of value, what it is made from, and behind
+/// ` = ` its bytes.
+fn all_met(alloc: Global) -> Result<(), Fail> {
+    for table in [NUMBERS, PARTS, STRUCTS, LISTS, REPEATED, TEXTS, STRINGS] {
         for row in table.lines() {
-            if !is_met(alloc, row)? {
+            let (what, want) = row.split_once(" = ").unwrap_or((row, ""));
+            let (kind, text) = cut(what);
+            let want = bytes_of(alloc, want)?;
+            let is_met = match kind {
+                "text" => is_text(alloc, text, want.as_slice()),
+                "string" => is_string(alloc, bytes_of(alloc, text)?, want.as_slice()),
+                _ => is_value(alloc, kind, text, want.as_slice()),
+            };
+            if !is_met {
                 return Err(Fail::new(row));
             }
         }
@@ -266,21 +254,16 @@ fn all_met(alloc: Global, tables: &[&str]) -> Result<(), Fail> {
     Ok(())
 }
 
-/// Appends values, and a string that isn't counted.
-fn append_values(s: &mut RlpStream) -> Result<(), AllocError> {
-    put(s, &1u64)?;
-    put(s, &"cat")?;
-    put(s, &0u64)?;
-    s.encoder().encode_value(&[0x80])?;
-    put(s, &Nonce(256))?;
-    put(s, &"a")?;
-    put(s, &"dog")
-}
-
 /// Returns whether a stream holds values that were appended beside a string that isn't counted.
 fn holds_appended(alloc: Global) -> Result<bool, AllocError> {
     let mut s = RlpStream::new(alloc)?;
-    append_values(&mut s)?;
+    put(&mut s, &1u64)?;
+    put(&mut s, &"cat")?;
+    put(&mut s, &0u64)?;
+    s.encoder().encode_value(&[0x80])?;
+    put(&mut s, &Nonce(256))?;
+    put(&mut s, &"a")?;
+    put(&mut s, &"dog")?;
     Ok(finishes_as(s, b"\x01\x83cat\x80\x81\x80\x82\x01\x00a\x83dog"))
 }
 
@@ -290,28 +273,23 @@ fn three_are_joined(alloc: Global) -> Result<bool, AllocError> {
     Ok(three.as_slice() == b"\x83cat\x81\x80\x80".as_slice())
 }
 
-/// Returns whether a value that is refused in the middle of its bytes has no encoding.
-fn refused_value_has_none(alloc: Global) -> bool {
-    rlp::encode(alloc, &HalfWritten).is_err() && HalfWritten.rlp_bytes(alloc).is_err()
-}
-
-/// Returns whether a value that is refused in the middle of its bytes leaves the stream.
+/// Returns whether a value that is refused in the middle of its bytes leaves the stream, and has no
+/// encoding.
 fn refused_value_leaves(alloc: Global) -> Result<bool, AllocError> {
     let mut s = RlpStream::new(alloc)?;
     put(&mut s, &"cat")?;
-    Ok(put(&mut s, &HalfWritten).is_err() && finishes_as(s, b"\x83cat"))
+    let refused = put(&mut s, &HalfWritten).is_err();
+    let alone = rlp::encode(alloc, &HalfWritten).is_err() && HalfWritten.rlp_bytes(alloc).is_err();
+    Ok(refused && alone && finishes_as(s, b"\x83cat"))
 }
 
 #[test]
 fn values_are_written(rt: HostRuntime) -> Result<(), Fail> {
     let alloc = rt.alloc();
-    all_met(alloc, TABLES)?;
+    all_met(alloc)?;
     assert!(rt; NULL_RLP == [0x80] && EMPTY_LIST_RLP == [0xc0]);
     assert!(rt; holds_appended(alloc)?, "values, strings and texts");
     assert!(rt; three_are_joined(alloc)?, "three values");
-    assert!(rt;
-        refused_value_leaves(alloc)? && refused_value_has_none(alloc),
-        "a refused value"
-    );
+    assert!(rt; refused_value_leaves(alloc)?, "a refused value");
     Ok(())
 }
