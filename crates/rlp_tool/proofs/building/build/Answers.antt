@@ -1,5 +1,4 @@
 use Rattle.std.proofs.Common.{◌≡◌, ◌∙◌, ◌+◌, [], append-nil, arith, drop, length, rules, subst, sym, take}
-use Rattle.std.proofs.lemmas.Grind.{common_steps}
 use Rattle.rlp_tool.specs.Making.{AreMade, AreMadeBut, IsUnfit, Stops}
 use Rattle.rlp_tool.specs.StreamCalls.{call_of, calls_of}
 use Rattle.rlp_tool.proofs.CallsLemmas.{built, described_built, described_refused, joined_built, length-made, made_none, refused, refused_at_end, split-next}
@@ -95,6 +94,3 @@ returns g c =
       described = λ items d. IfOk-map c.held.result (λ b. described_built front all items b (law.finished front all items d)) ok;
       described_refused = search rules;
     }
-
-pub overflow_add-made-2 : goal.overflow_add-made-2
-overflow_add-made-2 g c = grind (arith, common_steps)

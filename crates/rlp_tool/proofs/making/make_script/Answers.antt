@@ -1,5 +1,4 @@
 use Rattle.std.proofs.Common.{◌+◌, Ok, Err, arith, subst, sym}
-use Rattle.std.proofs.lemmas.Grind.{common_steps}
 use Rattle.rlp_tool.specs.Making.{IsLineFault}
 use Rattle.rlp_tool.proofs.MakingLemmas.{left_some, reads_all, reads_fault, reads_late_fault, reads_next, reads_stopped}
 use Rattle.rlp_tool.proofs.making.make_script.Goals.{in-Some-first_unread, in-None}
@@ -39,9 +38,3 @@ returns-in-Err-clause-refused c =
       | in-None w ↦ subst (IsLineFault c.args.text.now) (sym w.result-is) (reads_stopped c.args.text.now c.first_piece.result.1 (c.loop-left.place + 1)
           c.make_piece.new.waiting c.make_piece.new.stream.state c.in-Err.fault (w.in-None.ensures) r)
     ]
-
-pub make_piece-requires-clause-waiting : goal.make_piece-requires-clause-waiting
-make_piece-requires-clause-waiting c = grind (arith, common_steps)
-
-pub finished-requires : goal.finished-requires
-finished-requires c = grind (arith, common_steps)

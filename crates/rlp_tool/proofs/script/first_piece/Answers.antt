@@ -1,5 +1,4 @@
-use Rattle.std.proofs.Common.{arith, sym}
-use Rattle.std.proofs.lemmas.Grind.{common_steps}
+use Rattle.std.proofs.Common.{sym}
 use Rattle.rlp_tool.proofs.CutLemmas.{cut-nowhere, cut_first}
 use Rattle.rlp_tool.proofs.script.first_piece.Goals as goal
 
@@ -8,6 +7,3 @@ returns-in-Some-clause-cut c = cut_first _ _ _ _ c.in-Some.ensures c.split_at.en
 
 pub returns-in-None-clause-cut : goal.returns-in-None-clause-cut
 returns-in-None-clause-cut c = cut-nowhere 32 c.args.text.now (sym c.in-None.ensures)
-
-pub returns-then-letter-ne32-clause-cut : goal.returns-then-letter-ne32-clause-cut
-returns-then-letter-ne32-clause-cut c = grind (arith, common_steps)
