@@ -213,6 +213,7 @@ impl<F: DecodeField, Q: DecodeFields> DecodeFields for (F, Q) {
 /// Fails with `RlpIncorrectListLen` and no place if the number of items is wrong, whatever the items
 /// are. Also fails as [`Rlp::item_count`] does, with no place, and with the error of the first field
 /// that fails and its place.
+#[inline(always)]
 pub fn decode_struct<F: DecodeFields>(alloc: Global, rlp: &Rlp<'_>) -> Result<F, FieldFault>
     ensures value { IfOk result (λ x. (item_count rlp.now ≡ Ok (F.reading.count x))
         × F.reading.gives 0 rlp.now x) }

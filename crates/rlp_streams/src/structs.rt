@@ -60,6 +60,7 @@ impl<T: Encodable> AppendFields for &T {
         Some(1)
     }
 
+    #[inline(always)]
     fn append_fields(&self, s: &mut RlpStream) -> Result<(), AllocError> {
         s.try_append(*self)
     }
@@ -107,6 +108,7 @@ impl AppendFields for () {
 /// Fails with `AllocError` if memory is refused, if the [`Encodable::rlp_append`] of a value fails,
 /// or if the number of items is 2^64 or more. Fields that are each written in one step, such as
 /// numbers and byte strings, are refused only if the stream has too little room.
+#[inline(always)]
 pub fn write_struct<F: AppendFields>(s: &mut RlpStream, fields: &F) -> Result<(), AllocError>
     ensures fits { OnOk result (F.fit fields.now) }
     ensures ok { OnOk result (s.new.state ≡ put_item (list_of (F.items fields.now)) s.old.state) }
