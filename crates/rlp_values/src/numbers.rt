@@ -8,7 +8,6 @@ ghost use Rattle.rlp_format.specs.Values.Value.{FitsBytes};
 ghost use Rattle.rlp_values.specs.Values.ValueReading.{AreShortest, IsDigitsFault};
 
 use crate::error::DecoderError;
-use rlp_format::digits::number_of;
 
 /// The number of up to eight digits. `None` if there are more.
 #[inline(always)]
@@ -21,7 +20,7 @@ pub fn few_digits(digits: &[u8]) -> Option<usize>
     Some(digits_at_once(digits))
 }
 
-/// The number of up to eight digits, without a loop for up to seven.
+/// The number of up to eight digits, without a loop.
 #[inline(always)]
 fn digits_at_once(digits: &[u8]) -> usize
     requires { length digits.now ≤ 8 }
@@ -35,7 +34,8 @@ fn digits_at_once(digits: &[u8]) -> usize
         [a, b, c, d, e] => u64::from_be_bytes([0, 0, 0, *a, *b, *c, *d, *e]) as usize,
         [a, b, c, d, e, f] => u64::from_be_bytes([0, 0, *a, *b, *c, *d, *e, *f]) as usize,
         [a, b, c, d, e, f, g] => u64::from_be_bytes([0, *a, *b, *c, *d, *e, *f, *g]) as usize,
-        _ => number_of(digits),
+        [a, b, c, d, e, f, g, h] => u64::from_be_bytes([*a, *b, *c, *d, *e, *f, *g, *h]) as usize,
+        _ => 0,
     }
 }
 

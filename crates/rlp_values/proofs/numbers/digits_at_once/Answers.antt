@@ -36,3 +36,6 @@ returns-in-len6 c = omega (arith, by_digits 6 c.args.digits.now c.in-len6.len_at
 
 pub returns-in-len7 : goal.returns-in-len7
 returns-in-len7 c = omega (arith, by_digits 7 c.args.digits.now c.in-len7.len_at_least c.in-len7.len_below)
+
+pub returns-in-len8 : goal.returns-in-len8
+returns-in-len8 c = omega (arith, by_digits 8 c.args.digits.now c.in-len8.len_at_least c.in-len8.len_below)
