@@ -15,7 +15,7 @@ use Rattle.rlp_tool.specs.declared.building.BuildFault.TheVariants.{TooManyItems
 use Rattle.rlp_tool.specs.Building.{IsSomeStep}
 use Rattle.rlp_tool.specs.Making.{AreMade, AreMadeBut, Goes, IsUnfit, IsUnmade, IsTaken, Stops, StopsScript}
 use Rattle.rlp_tool.specs.declared.script.Piece.{Piece}
-use Rattle.rlp_tool.specs.declared.script.Piece.TheVariants.{Value, Raw, Begin, BeginUnbounded, Finish, Clear}
+use Rattle.rlp_tool.specs.declared.script.Piece.TheVariants.{Value, Byte, Raw, Begin, BeginUnbounded, Finish, Clear}
 use Rattle.rlp_tool.specs.Pieces.{ArePairs, HasPairs, IsRead, bytes_of, left_len, piece_call, pieces_left, spaces}
 use Rattle.rlp_tool.specs.Script.{AddsCall, call_in, calls_in, is_call, script}
 use Rattle.rlp_lines.proofs.DigitLemmas.{read-nothing, read-some}
@@ -191,6 +191,7 @@ some_bytes digits pairs =
 some_call : (piece : Piece) → HasPairs piece → (call : Call) × (Some call ≡ piece_call piece)
 some_call (Value digits) pairs =
     let (bytes, are) = some_bytes digits.now pairs in (append (string bytes), ap (option_map (λ xs. append (string xs))) are)
+some_call (Byte b) pairs = (append (string (b ∷ [])), refl)
 some_call (Raw digits count) pairs =
     let (bytes, are) = some_bytes digits.now pairs in (append_raw bytes count, ap (option_map (λ xs. append_raw xs count)) are)
 some_call (Begin count) pairs = (begin_list count, refl)

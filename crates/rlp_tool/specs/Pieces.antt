@@ -1,5 +1,5 @@
 -- Pieces of a script, for private functions.
-use Rattle.std.specs.Prelude.{ℕ, ◌≡◌, ◌+◌, ◌%◌, ◌==◌, List, [], length, IsTrue, Option, Some, None, option_map}
+use Rattle.std.specs.Prelude.{ℕ, ◌≡◌, ◌+◌, ◌%◌, ◌==◌, List, [], ◌∷◌, length, get_or, IsTrue, Option, Some, None, option_map}
 use Rattle.std.specs.Borrow.{Bor}
 use Rattle.std.specs.List.{slice_split, list_all}
 use Rattle.std.specs.Result.{result_ok}
@@ -8,7 +8,7 @@ use Rattle.hex.specs.Hex.{decode_of, is_hex_digit}
 use Rattle.rlp.specs.Format.Item.{string}
 use Rattle.rlp.specs.Streams.Calls.{Call, append, append_raw, begin_list, begin_unbounded_list, finalize_unbounded_list, clear}
 use Rattle.rlp_tool.specs.declared.script.Piece.{Piece}
-use Rattle.rlp_tool.specs.declared.script.Piece.TheVariants.{Value, Raw, Begin, BeginUnbounded, Finish, Clear}
+use Rattle.rlp_tool.specs.declared.script.Piece.TheVariants.{Value, Byte, Raw, Begin, BeginUnbounded, Finish, Clear}
 
 -- the bytes of digits
 abbrev pub bytes_of : List ℕ → Option (List ℕ)
@@ -21,6 +21,7 @@ ArePairs digits = (length digits % 2 ≡ 0) × IsTrue (list_all is_hex_digit dig
 -- the call that a piece is, if its digits are right
 abbrev pub piece_call : Piece → Option Call
 piece_call (Value digits) = option_map (λ bytes. append (string bytes)) (bytes_of digits.now)
+piece_call (Byte b) = Some (append (string (b ∷ [])))
 piece_call (Raw digits count) = option_map (λ bytes. append_raw bytes count) (bytes_of digits.now)
 piece_call (Begin count) = Some (begin_list count)
 piece_call BeginUnbounded = Some begin_unbounded_list
@@ -41,6 +42,10 @@ IsRead None call = call ≡ None
 -- a text, cut at every space
 abbrev pub spaces : List ℕ → List (List ℕ)
 spaces text = slice_split (λ c. c == byte " ") text
+
+-- the first piece of a text
+abbrev pub front_piece : List ℕ → List ℕ
+front_piece text = get_or (spaces text) 0 []
 
 -- the pieces that are left, and a number that is smaller for fewer of them
 abbrev pub pieces_left : Option (Bor (List ℕ)) → List (List ℕ)

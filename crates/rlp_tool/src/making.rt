@@ -9,7 +9,7 @@ ghost use Rattle.rlp_tool.specs.Pieces.{ArePairs, HasPairs, bytes_of, piece_call
 
 use crate::building::{BuildFault, has_room, make_waiting, take_call, take_raw};
 use crate::calls::StreamCall;
-use crate::script::{Piece, decode, first_piece, first_unread, pieces_of, read_piece};
+use crate::script::{Piece, decode, first_unread, next_piece, pieces_of};
 use bytes::BytesMut;
 use rlp::RlpStream;
 use std::alloc::Global;
@@ -92,6 +92,7 @@ fn take_piece(
 {
     match piece {
         Piece::Value(digits) => take_value(stream, digits, room, place),
+        Piece::Byte(byte) => take_call(stream, &StreamCall::Value(&[*byte][..]), place),
         Piece::Raw(digits, count) => take_digits(stream, digits, *count, room, place),
         Piece::Begin(count) => take_call::<&[u8]>(stream, &StreamCall::Begin(*count), place),
         Piece::BeginUnbounded => take_call::<&[u8]>(stream, &StreamCall::BeginUnbounded, place),
@@ -164,8 +165,8 @@ pub(crate) fn make_script(alloc: Global, text: &[u8]) -> Result<RlpStream, LineF
     let mut place = 1;
     let mut left = pieces_of(text);
     while let Some(rest) = left {
-        let (piece, others) = first_piece(rest);
-        let Some(piece) = read_piece(piece) else {
+        let (piece, others) = next_piece(rest);
+        let Some(piece) = piece else {
             return Err(LineFault::Syntax(place));
         };
         if let Err(fault) = make_piece(&mut stream, &mut waiting, &piece, &mut room, place) {

@@ -1,11 +1,11 @@
 //! Scripts: calls of a stream as text.
-ghost use Rattle.std.specs.Prelude.{◌≡◌, ◌≢◌, [], ◌==◌, ◌+◌, ◌/◌, ◌^◌, ◌<◌, ◌≤◌, ◌∷◌, false, IsTrue, length, position, option_map, take, vec_len, Some, None, MatchOption, IfSome, IfOk, IfErr, OnOk, Ok};
+ghost use Rattle.std.specs.Prelude.{◌≡◌, ◌≢◌, [], ◌==◌, ◌+◌, ◌++◌, ◌/◌, ◌^◌, ◌<◌, ◌≤◌, ◌∷◌, false, IsTrue, length, position, option_map, take, vec_len, Some, None, MatchOption, IfSome, IfOk, IfErr, OnOk, Ok};
 ghost use Rattle.std.specs.List.{list_all, prefix_len};
 ghost use Rattle.rlp.specs.Format.Item.{string};
 ghost use Rattle.rlp.specs.Streams.Calls.{append, begin_list};
 ghost use Rattle.rlp_tool.specs.Script.{call_in, calls_in, is_call, labelled_call, letter_call, raw_parts, script, AddsCall, IsUnread, IsScriptFault};
 ghost use Rattle.rlp_lines.specs.Digits.{bytes_in, number_in};
-ghost use Rattle.rlp_tool.specs.Pieces.{ArePairs, HasPairs, IsRead, bytes_of, left_len, piece_call, pieces_left, spaces};
+ghost use Rattle.rlp_tool.specs.Pieces.{ArePairs, HasPairs, IsRead, bytes_of, front_piece, left_len, piece_call, pieces_left, spaces};
 ghost use Rattle.rlp_tool.specs.StreamCalls.{call_of_bytes, calls_of_bytes};
 
 use crate::calls::StreamCall;
@@ -43,6 +43,8 @@ pub(crate) fn place_of(byte: u8, text: &[u8]) -> Option<usize>
 pub(crate) enum Piece<'a> {
     /// `d:HEX`, by its digits.
     Value(&'a [u8]),
+    /// `d:HEX` of one byte.
+    Byte(u8),
     /// `r:N:HEX`, by its digits and its number of items.
     Raw(&'a [u8], usize),
     /// `l:N`, by its number of items.
@@ -132,7 +134,7 @@ fn read_labelled(letter: u8, text: &[u8]) -> Option<Piece<'_>>
 
 /// Reads a piece, if it is a call.
 #[inline(always)]
-pub(crate) fn read_piece(piece: &[u8]) -> Option<Piece<'_>>
+fn read_piece(piece: &[u8]) -> Option<Piece<'_>>
     ensures { IsRead result (call_in piece.now) }
 {
     match piece {
@@ -152,7 +154,7 @@ pub(crate) fn pieces_of(text: &[u8]) -> Option<&[u8]>
 }
 
 /// Cuts a text at its first space: the first piece, and the text with those after it.
-pub(crate) fn first_piece<'a>(text: &'a [u8]) -> (&'a [u8], Option<&'a [u8]>)
+fn first_piece<'a>(text: &'a [u8]) -> (&'a [u8], Option<&'a [u8]>)
     ensures cut { spaces text.now ≡ result.0.now ∷ pieces_left result.1 }
     ensures shorter { left_len result.1 ≤ length text.now }
 {
@@ -170,6 +172,47 @@ pub(crate) fn first_piece<'a>(text: &'a [u8]) -> (&'a [u8], Option<&'a [u8]>)
     }
 }
 
+/// The digits of a first piece `d:HEX` of one byte, and the text with the pieces after it.
+#[inline(always)]
+fn byte_digits<'a>(text: &'a [u8]) -> Option<(&'a [u8], &'a [u8])>
+    ensures { IfSome result (λ r. ArePairs r.0.now × (length r.0.now ≡ 2)
+        × (text.now ≡ 100 ∷ 58 ∷ (r.0.now ++ 32 ∷ r.1.now))) }
+{
+    match text {
+        [b'd', b':', _, _, b' ', others @ ..] if are_pairs(&text[2..4]) => {
+            Some((&text[2..4], others))
+        }
+        _ => None,
+    }
+}
+
+/// The byte of two digits.
+#[inline(always)]
+fn byte_of(digits: &[u8]) -> u8
+    requires pairs { ArePairs digits.now }
+    requires two { length digits.now ≡ 2 }
+    ensures { bytes_of digits.now ≡ Some (result ∷ []) }
+{
+    let mut bytes = [0];
+    put_bytes(digits, &mut bytes);
+    bytes[0]
+}
+
+/// Cuts a text at its first space: the first piece, if it is a call, and the text with those after
+/// it.
+#[inline(always)]
+pub(crate) fn next_piece<'a>(text: &'a [u8]) -> (Option<Piece<'a>>, Option<&'a [u8]>)
+    ensures cut { spaces text.now ≡ front_piece text.now ∷ pieces_left result.1 }
+    ensures read { IsRead result.0 (call_in (front_piece text.now)) }
+    ensures shorter { left_len result.1 ≤ length text.now }
+{
+    if let Some((digits, others)) = byte_digits(text) {
+        return (Some(Piece::Byte(byte_of(digits))), Some(others));
+    }
+    let (piece, others) = first_piece(text);
+    (read_piece(piece), others)
+}
+
 /// The place of the first piece that isn't a call, if there is one. `first` is the place of the first piece.
 #[inline(never)]
 pub(crate) fn first_unread(pieces: Option<&[u8]>, first: usize) -> Option<usize>
@@ -181,8 +224,8 @@ pub(crate) fn first_unread(pieces: Option<&[u8]>, first: usize) -> Option<usize>
     let mut left = pieces;
     let mut place = first;
     while let Some(rest) = left {
-        let (piece, others) = first_piece(rest);
-        if read_piece(piece).is_none() {
+        let (piece, others) = next_piece(rest);
+        if piece.is_none() {
             return Some(place);
         }
         place += 1;
@@ -223,6 +266,7 @@ fn call_of(alloc: Global, piece: &Piece<'_>) -> Result<StreamCall<Vec<u8>>, Allo
 {
     Ok(match piece {
         Piece::Value(digits) => StreamCall::Value(decoded(alloc, digits)?),
+        Piece::Byte(byte) => StreamCall::Value(Vec::from_slice(alloc, &[*byte])?),
         Piece::Raw(digits, count) => StreamCall::Raw(decoded(alloc, digits)?, *count),
         Piece::Begin(count) => StreamCall::Begin(*count),
         Piece::BeginUnbounded => StreamCall::BeginUnbounded,
@@ -231,26 +275,19 @@ fn call_of(alloc: Global, piece: &Piece<'_>) -> Result<StreamCall<Vec<u8>>, Allo
     })
 }
 
-/// Reads a piece, and adds its call to the calls before it.
-fn take_piece(
+/// Adds the call of a piece to the calls before it.
+fn push_call(
     alloc: Global,
-    piece: &[u8],
+    piece: &Piece<'_>,
     calls: &mut Vec<StreamCall<Vec<u8>>>,
-) -> Result<(), ScriptFault>
-    ensures ok { OnOk result (AddsCall (calls_of_bytes calls.old.items)
-        (calls_of_bytes calls.new.items) (call_in piece.now)) }
-    ensures refused { IfErr result (IsUnread (calls_of_bytes calls.old.items)
-        (call_in piece.now)) }
+) -> Result<(), AllocError>
+    requires { HasPairs piece.now }
+    ensures { OnOk result (AddsCall (calls_of_bytes calls.old.items)
+        (calls_of_bytes calls.new.items) (piece_call piece.now)) }
 {
-    let Some(piece) = read_piece(piece) else {
-        return Err(ScriptFault::Syntax(calls.len() + 1));
-    };
-    let Ok(call) = call_of(alloc, &piece) else {
-        return Err(ScriptFault::OutOfMemory);
-    };
-    match calls.push(call) {
+    match calls.push(call_of(alloc, piece)?) {
         Ok(()) => Ok(()),
-        Err(_) => Err(ScriptFault::OutOfMemory),
+        Err(_) => Err(AllocError),
     }
 }
 
@@ -275,10 +312,13 @@ pub fn read_calls(alloc: Global, text: &[u8]) -> Result<Vec<StreamCall<Vec<u8>>>
     let mut calls = Vec::new(alloc);
     let mut left = pieces_of(text);
     while let Some(rest) = left {
-        let (piece, others) = first_piece(rest);
-        if let Err(fault) = take_piece(alloc, piece, &mut calls) {
-            return Err(fault);
-        }
+        let (piece, others) = next_piece(rest);
+        let Some(piece) = piece else {
+            return Err(ScriptFault::Syntax(calls.len() + 1));
+        };
+        let Ok(()) = push_call(alloc, &piece, &mut calls) else {
+            return Err(ScriptFault::OutOfMemory);
+        };
         left = others;
     }
     Ok(calls)

@@ -1,10 +1,13 @@
-use Rattle.std.proofs.Common.{◌≡◌, ◌≢◌, ◌∙◌, ℕ, List, [], Option, Some, None, IfSome, Vec, ap, subst, sym}
+use Rattle.std.proofs.Common.{◌≡◌, ◌≢◌, ◌∙◌, ℕ, List, [], Option, Some, None, IfSome, Vec, ◌+◌, ap, arith, subst, sym}
 use Rattle.std.specs.Borrow.{Bor}
 use Rattle.std.specs.declared.alloc.Global.{Global}
 use Rattle.rlp_tool.specs.declared.calls.StreamCall.{StreamCall}
-use Rattle.rlp_tool.specs.Script.{script}
-use Rattle.rlp_tool.specs.Pieces.{pieces_left}
-use Rattle.rlp_tool.specs.StreamCalls.{calls_of_bytes}
+use Rattle.rlp_tool.specs.Script.{AddsCall, call_in, script}
+use Rattle.rlp_tool.specs.declared.script.ScriptFault.TheVariants.{Syntax, OutOfMemory}
+use Rattle.rlp_tool.proofs.MakingLemmas.{some_read}
+use Rattle.rlp_tool.specs.Pieces.{IsRead, front_piece, pieces_left}
+use Rattle.rlp_tool.specs.StreamCalls.{call_of_bytes, calls_of_bytes}
+use Rattle.std.proofs.lemmas.List.{length-map}
 use Rattle.rlp_tool.proofs.CutLemmas.{left, reading_begin, reading_end, reading_next, reading_unread}
 use Rattle.rlp_tool.proofs.script.read_calls.Goals as goal
 
@@ -26,19 +29,29 @@ loop-left-init c = record {
 pub loop-left-preserved : goal.loop-left-preserved
 loop-left-preserved c =
     let decide = c.loop-left.invariant.decide ∙ ap (λ o. left (calls_of_bytes c.loop-left.calls.items) (pieces_left o)) c.in-Some.is in
+    let read = subst (λ o. IsRead o (call_in (front_piece c.in-Some.rest.now))) c.in-Some-piece.is c.next_piece.ensures.read in
     record {
-      decide = reading_next c.args.text.now c.in-Some.rest.now c.first_piece.result.0.now c.first_piece.result.1
-          (calls_of_bytes c.loop-left.calls.items) (calls_of_bytes c.take_piece.new.calls.items) c.first_piece.ensures.cut decide
-          c.in_default-take_piece.ensures.ok;
-      some = any c.first_piece.result.1 (c.args.text.now ≢ [])
+      decide = reading_next c.args.text.now c.in-Some.rest.now (front_piece c.in-Some.rest.now) c.next_piece.result.1
+          (calls_of_bytes c.loop-left.calls.items) (calls_of_bytes c.push_call.new.calls.items) c.next_piece.ensures.cut decide
+          (subst (AddsCall (calls_of_bytes c.loop-left.calls.items) (calls_of_bytes c.push_call.new.calls.items)) (sym read.1) c.in-Ok.ensures);
+      some = any c.next_piece.result.1 (c.args.text.now ≢ [])
           (some_text c.args.text.now c.in-Some.rest c.loop-left.left c.in-Some.is c.loop-left.invariant.some);
     }
 
-pub returns-in-Err-clause-refused : goal.returns-in-Err-clause-refused
-returns-in-Err-clause-refused c =
+pub returns-in_default-push_call-clause-refused : goal.returns-in_default-push_call-clause-refused
+returns-in_default-push_call-clause-refused c =
     let decide = c.loop-left.invariant.decide ∙ ap (λ o. left (calls_of_bytes c.loop-left.calls.items) (pieces_left o)) c.in-Some.is in
-    reading_unread c.args.text.now c.in-Some.rest.now c.first_piece.result.0.now c.first_piece.result.1 (calls_of_bytes c.loop-left.calls.items)
-    c.in-Err.fault c.first_piece.ensures.cut decide c.in-Err.ensures.refused
+    let read = subst (λ o. IsRead o (call_in (front_piece c.in-Some.rest.now))) c.in-Some-piece.is c.next_piece.ensures.read in
+    reading_unread c.args.text.now c.in-Some.rest.now (front_piece c.in-Some.rest.now) c.next_piece.result.1 (calls_of_bytes c.loop-left.calls.items)
+    OutOfMemory c.next_piece.ensures.cut decide (some_read (call_in (front_piece c.in-Some.rest.now)) c.in-Some-piece.piece read.0 read.1)
+    (some_text c.args.text.now c.in-Some.rest c.loop-left.left c.in-Some.is c.loop-left.invariant.some)
+
+pub returns-in_default-piece-clause-refused : goal.returns-in_default-piece-clause-refused
+returns-in_default-piece-clause-refused c =
+    let decide = c.loop-left.invariant.decide ∙ ap (λ o. left (calls_of_bytes c.loop-left.calls.items) (pieces_left o)) c.in-Some.is in
+    let none = subst (λ o. IsRead o (call_in (front_piece c.in-Some.rest.now))) c.in_default-piece.is c.next_piece.ensures.read in
+    reading_unread c.args.text.now c.in-Some.rest.now (front_piece c.in-Some.rest.now) c.next_piece.result.1 (calls_of_bytes c.loop-left.calls.items)
+    (Syntax (c.len.result + 1)) c.next_piece.ensures.cut decide (none, omega (arith, c.len.ensures, length-map c.loop-left.calls.items call_of_bytes))
     (some_text c.args.text.now c.in-Some.rest c.loop-left.left c.in-Some.is c.loop-left.invariant.some)
 
 pub returns-clause-ok : goal.returns-clause-ok
