@@ -1,5 +1,5 @@
 -- Pieces of a text, cut at a byte.
-use Rattle.std.proofs.Common.{◌≡◌, ◌≢◌, IsSome, ℕ, ◌+◌, ◌-◌, ◌<◌, ◌==◌, ◌&&◌, Bool, true, false, cond, nat_lt, List, []}
+use Rattle.std.proofs.Common.{◌≡◌, ◌≢◌, IsSome, IsTrue, nat_eq, option_map, ℕ, ◌+◌, ◌-◌, ◌<◌, ◌==◌, ◌&&◌, Bool, true, false, cond, nat_lt, List, []}
 use Rattle.std.proofs.Common.{◌∷◌, ◌++◌, length, take, drop, get_or, is_some, Option, Some, None, Result, Ok, Err, refl, sym, ap, ◌∙◌}
 use Rattle.std.proofs.Common.{append_assoc, append-nil, length-append, arith, position, filter_map}
 use Rattle.std.specs.List.{slice_split, list_all, prefix_len, position_or_len, cons_option}
@@ -7,12 +7,14 @@ use Rattle.std.proofs.lemmas.List.{drop-drop, take_all, length-drop}
 use Rattle.std.proofs.lemmas.List.Splits.{slice_split_first, slice_split_none}
 use Rattle.std.proofs.lemmas.List.Elements.{All-from_get_or}
 use Rattle.std.proofs.lemmas.List.Sums.{fails_before_first, position_or_len_is}
-use Rattle.std.proofs.lemmas.Bool.{eqb-true}
+use Rattle.std.proofs.lemmas.Bool.{and_parts, eqb-true}
 use Rattle.std.proofs.lemmas.Bool.Decides.{nat_tests}
 use Rattle.std.specs.Borrow.{Bor}
-use Rattle.rlp.specs.Streams.Calls.{Call}
-use Rattle.rlp_lines.specs.Digits.{number_in, bytes_in}
-use Rattle.rlp_tool.specs.Pieces.{pieces_left, spaces}
+use Rattle.rlp.specs.Streams.Calls.{Call, append}
+use Rattle.hex.specs.Hex.{is_hex_digit}
+use Rattle.rlp.specs.Format.Item.{string}
+use Rattle.rlp_lines.specs.Digits.{number_in, bytes_in, digits_of}
+use Rattle.rlp_tool.specs.Pieces.{bytes_of, pieces_left, spaces}
 use Rattle.rlp_tool.specs.Script.{raw_call, raw_parts, call_in, calls_in, is_call, script, AddsCall, IsUnread, IsScriptFault}
 use Rattle.rlp_tool.specs.declared.script.ScriptFault.{ScriptFault}
 use Rattle.rlp_tool.specs.declared.script.ScriptFault.TheVariants.{Syntax, OutOfMemory}
@@ -138,3 +140,34 @@ raw_parts-cut text number rest at count bytes colon front back n b =
     let behind : take (length rest - 1) (drop 1 rest) ≡ drop (at + 1) text = whole_rest rest ∙ ap (drop 1) back ∙ drop-drop 1 at text in
     ap (λ (o : Option ℕ). raw_call o bytes) (n ∙ ap number_in front) ∙ ap (raw_call (number_in (take at text))) (b ∙ ap bytes_in behind)
     ∙ ap (raw_parts text) colon
+
+-- ---- pieces `d:HEX` of one byte
+
+-- no digit is such a byte
+no_digit : (c a : ℕ) → is_hex_digit a ≡ false → IsTrue (is_hex_digit c) → (c == a) ≡ false
+no_digit c a other digit = by (c == a) refl
+  where
+    by : (test : Bool) → test ≡ (c == a) → test ≡ false
+    by true is = absurd (let no : false ≡ true = sym other ∙ ap is_hex_digit (sym (eqb-true c a (sym is))) ∙ digit in cc)
+    by false is = refl
+
+-- digits don't begin with `0x`
+no_prefix : (digits : List ℕ) → IsTrue (list_all is_hex_digit digits) → digits_of digits ≡ digits
+no_prefix [] all = refl
+no_prefix (c ∷ []) all = elim (nat_eq 48 c) as (λ test. cond (test && false) (drop 2 (c ∷ [])) (c ∷ []) ≡ c ∷ []) [
+  | true ↦ refl
+  | false ↦ refl
+]
+no_prefix (c ∷ d ∷ digits) all =
+    let second = and_parts (is_hex_digit d) (list_all is_hex_digit digits) (and_parts (is_hex_digit c) (list_all is_hex_digit (d ∷ digits)) all).1 in
+    let not_x : nat_eq 120 d ≡ false = grind (arith, no_digit d 120 refl second.0, nat_tests) in
+    elim (nat_eq 48 c) as (λ test. cond (test && (nat_eq 120 d && true)) digits (c ∷ d ∷ digits) ≡ c ∷ d ∷ digits) [
+      | true ↦ ap (λ b. cond (b && true) digits (c ∷ d ∷ digits)) not_x
+      | false ↦ refl
+    ]
+
+-- the call of such a piece
+pub byte_call : (digits : List ℕ) (byte : ℕ) → IsTrue (list_all is_hex_digit digits) → bytes_of digits ≡ Some (byte ∷ [])
+    → call_in (100 ∷ 58 ∷ digits) ≡ Some (append (string (byte ∷ [])))
+byte_call digits byte all is = ap (λ ds. option_map (λ bytes. append (string bytes)) (bytes_of ds)) (no_prefix digits all)
+    ∙ ap (option_map (λ bytes. append (string bytes))) is

@@ -2,8 +2,6 @@
 
 -- pieces of a text, cut at a byte
 pub mod CutLemmas
--- pieces of one byte
-pub mod ByteLemmas
 -- raw bytes that are items
 pub mod RawLemmas
 -- calls of a stream, one after another

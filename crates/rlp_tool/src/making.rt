@@ -92,7 +92,7 @@ fn take_piece(
 {
     match piece {
         Piece::Value(digits) => take_value(stream, digits, room, place),
-        Piece::Byte(byte) => take_call(stream, &StreamCall::Value(&[*byte][..]), place),
+        Piece::Byte(byte) => take_call(stream, &StreamCall::Value([*byte]), place),
         Piece::Raw(digits, count) => take_digits(stream, digits, *count, room, place),
         Piece::Begin(count) => take_call::<&[u8]>(stream, &StreamCall::Begin(*count), place),
         Piece::BeginUnbounded => take_call::<&[u8]>(stream, &StreamCall::BeginUnbounded, place),

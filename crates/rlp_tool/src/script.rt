@@ -158,31 +158,12 @@ fn first_piece<'a>(text: &'a [u8]) -> (&'a [u8], Option<&'a [u8]>)
     ensures cut { spaces text.now ≡ result.0.now ∷ pieces_left result.1 }
     ensures shorter { left_len result.1 ≤ length text.now }
 {
-    if let [letter, b' ', others @ ..] = text {
-        if *letter != b' ' {
-            return (&text[..1], Some(others));
-        }
-    }
     match place_of(b' ', text) {
         Some(space) => {
             let (piece, others) = text.split_at(space);
             (piece, Some(&others[1..]))
         }
         None => (text, None),
-    }
-}
-
-/// The digits of a first piece `d:HEX` of one byte, and the text with the pieces after it.
-#[inline(always)]
-fn byte_digits<'a>(text: &'a [u8]) -> Option<(&'a [u8], &'a [u8])>
-    ensures { IfSome result (λ r. ArePairs r.0.now × (length r.0.now ≡ 2)
-        × (text.now ≡ 100 ∷ 58 ∷ (r.0.now ++ 32 ∷ r.1.now))) }
-{
-    match text {
-        [b'd', b':', _, _, b' ', others @ ..] if are_pairs(&text[2..4]) => {
-            Some((&text[2..4], others))
-        }
-        _ => None,
     }
 }
 
@@ -198,6 +179,25 @@ fn byte_of(digits: &[u8]) -> u8
     bytes[0]
 }
 
+/// Reads the first piece of a text, and returns it with the text of those after it, if it is
+/// `d:HEX` of one byte or `l:N` of one digit. These are read without a loop.
+#[inline(always)]
+fn short_piece<'a>(text: &'a [u8]) -> Option<(Piece<'a>, &'a [u8])>
+    ensures cut { IfSome result (λ r. spaces text.now ≡ front_piece text.now ∷ spaces r.1.now) }
+    ensures read { IfSome result (λ r. IsRead (Some r.0) (call_in (front_piece text.now))) }
+    ensures shorter { IfSome result (λ r. length r.1.now + 1 ≤ length text.now) }
+{
+    match text {
+        [b'd', b':', _, _, b' ', others @ ..] if are_pairs(&text[2..4]) => {
+            Some((Piece::Byte(byte_of(&text[2..4])), others))
+        }
+        [b'l', b':', digit @ b'0'..=b'9', b' ', others @ ..] => {
+            Some((Piece::Begin(usize::from(*digit - b'0')), others))
+        }
+        _ => None,
+    }
+}
+
 /// Cuts a text at its first space: the first piece, if it is a call, and the text with those after
 /// it.
 #[inline(always)]
@@ -206,8 +206,13 @@ pub(crate) fn next_piece<'a>(text: &'a [u8]) -> (Option<Piece<'a>>, Option<&'a [
     ensures read { IsRead result.0 (call_in (front_piece text.now)) }
     ensures shorter { left_len result.1 ≤ length text.now }
 {
-    if let Some((digits, others)) = byte_digits(text) {
-        return (Some(Piece::Byte(byte_of(digits))), Some(others));
+    if let [letter, b' ', others @ ..] = text {
+        if *letter != b' ' {
+            return (read_letter(*letter), Some(others));
+        }
+    }
+    if let Some((piece, others)) = short_piece(text) {
+        return (Some(piece), Some(others));
     }
     let (piece, others) = first_piece(text);
     (read_piece(piece), others)
