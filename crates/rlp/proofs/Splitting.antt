@@ -4,7 +4,7 @@ use Rattle.rlp_values.specs.declared.error.DecoderError.{DecoderError}
 use Rattle.rlp_values.specs.Format.Framing.{frame, framing}
 use Rattle.rlp_values.specs.Format.Strict.{strict_fault, unless}
 use Rattle.rlp_values.specs.Values.RawItem.{view_frame}
-use Rattle.rlp_values.specs.Views.View.{View, view_header}
+use Rattle.rlp_values.specs.Views.View.{view_header}
 use Rattle.rlp_values.proofs.Views.Fronts.{faulty_front, front_frame_fault}
 
 pub faulty_view : (b : List ℕ) (strict : Bool) (e : DecoderError) → framing b ≡ Err e

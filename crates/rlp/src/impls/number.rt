@@ -170,14 +170,15 @@ pub(crate) fn number_digits<'a>(rlp: &Rlp<'a>, width: usize) -> Result<&'a [u8],
     }
 }
 
-/// The digits after a header of one byte, if they are those of a number of at most `width` bytes.
-/// The canonical encodings of zero and of all numbers from 0x80 to 2^440 - 1 have such a header.
+/// The digits of a number of at most `width` bytes that is its own encoding or has a header of one
+/// byte, as the canonical encodings of all numbers up to 2^440 - 1.
 #[inline(always)]
 fn short_digits<'a>(rlp: &Rlp<'a>, width: usize) -> Option<&'a [u8]>
     ensures few { IfSome result (λ d. length d.now ≤ width) }
     ensures value { IfSome result (λ d. GivesNumber width rlp.now (number_from_digits 256 d.now)) }
 {
     match rlp.as_raw() {
+        [0x01..=0x7f, ..] if width > 0 && may_end_at(rlp, 1) => Some(&rlp.as_raw()[..1]),
         [header @ 0x80..=0xb7, rest @ ..] => {
             let len = (*header - 0x80) as usize;
             if len > width || len > rest.len() || !may_end_at(rlp, 1 + len) {
