@@ -1,6 +1,6 @@
 """Runs each operation of the library many times over, and prints nanoseconds of processor time for one, or instructions.
 
-usage: library.py PROGRAM [--against PROGRAM] [--instructions] [--write FILE] [WORD..]
+usage: library.py PROGRAM [--against PROGRAM [--called NAME]] [--instructions] [--write FILE] [WORD..]
 
 With a WORD it runs the operations whose names hold one. `--write` writes what `page.py` makes a table of.
 """
@@ -16,6 +16,8 @@ from page import RATIO
 
 RUNS = 5
 SECONDS = 0.3
+# what the other program is called, if nothing else is said
+RUST = "Rust crate"
 # operations, by what one of them reads or writes
 OPERATIONS = {
     "encode_small_number": "the encoding of a number below 128",
@@ -28,14 +30,14 @@ OPERATIONS = {
     "encode_list": "encode_list of 1,000 numbers",
     "append_raw": "a list of 100 raw transactions",
     "close_nested": "200 lists of one item each, closed by one call",
-    "decode_small_number": "a number below 128",
-    "decode_number": "a number of 8 bytes",
-    "decode_32_bytes": "32 bytes",
-    "decode_1000_bytes": "1,000 bytes",
-    "decode_text_of_32": "text of 32 bytes",
-    "decode_text_of_1000": "text of 1,000 bytes",
+    "decode_small_number": "decode a number below 128",
+    "decode_number": "decode a number of 8 bytes",
+    "decode_32_bytes": "decode 32 bytes",
+    "decode_1000_bytes": "decode 1,000 bytes",
+    "decode_text_of_32": "decode text of 32 bytes",
+    "decode_text_of_1000": "decode text of 1,000 bytes",
     "decode_list": "decode_list of 1,000 numbers",
-    "decode_transaction": "a transaction of nine fields, typed",
+    "decode_transaction": "decode a transaction of nine fields, typed",
     "transaction_by_iter": "nine fields by iter",
     "transaction_by_at": "nine fields by at(0) to at(8)",
     "transaction_by_fields": "nine fields by Fields",
@@ -101,10 +103,10 @@ def instructions(programs, operation):
     return [(counted(program, operation, 300) - counted(program, operation, 100)) / 200 for program in programs]
 
 
-def write(file, rows):
+def write(file, rows, called):
     """Writes the medians, the instructions and their ratios, with the version, the day and the machine."""
-    lines = told_of_run(RUNS)
-    lines.append("\t".join(["operation", "ns", "ns, Rust crate", RATIO, "instructions", "instructions, Rust crate", "ratio of instructions"]))
+    lines, ratio = told_of_run(RUNS), RATIO if called == RUST else "ratio"
+    lines.append("\t".join(["operation", "ns", f"ns, {called}", ratio, "instructions", f"instructions, {called}", "ratio of instructions"]))
     for name, *pairs in rows:
         cells = [name]
         for pair in pairs:
@@ -119,6 +121,7 @@ def words():
     given = argparse.ArgumentParser()
     given.add_argument("program")
     given.add_argument("--against", metavar="PROGRAM")
+    given.add_argument("--called", metavar="NAME", default=RUST)
     given.add_argument("--instructions", action="store_true")
     given.add_argument("--write", metavar="FILE")
     given.add_argument("words", nargs="*")
@@ -144,7 +147,7 @@ def main():
         print(f"{what:50}" + "".join(f"{median:13.1f} {low:13.1f}" for median, low in zip(medians, least)) + ratio + told, flush=True)
         rows.append((what, medians, counts))
     if given.write:
-        write(given.write, rows)
+        write(given.write, rows, given.called)
 
 
 if __name__ == "__main__":

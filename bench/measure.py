@@ -1,6 +1,6 @@
 """Runs the program on each kind of input, and prints bytes of input per second of processor time.
 
-usage: measure.py PROGRAM FOLDER [--against PROGRAM] [--write FILE] [WORD..]
+usage: measure.py PROGRAM FOLDER [--against PROGRAM [--called NAME]] [--write FILE] [WORD..]
 
 It makes the inputs in the folder, from a fixed seed. With a WORD it takes the kinds whose names hold one. `--write` writes what `page.py`
 makes a table of.
@@ -60,10 +60,11 @@ def rate(size, times):
     return f"{size / statistics.median(times) / 1e6:9.1f} {size / max(times) / 1e6:9.1f}"
 
 
-def write(file, rows):
-    """Writes the medians, with the version, the day and the machine."""
-    lines = [*told_of_run(RUNS), "kind of lines\tmillions of bytes in a second"]
-    lines += [f"{name}\t{rate:.1f}" for name, rate in rows]
+def write(file, rows, called):
+    """Writes the medians, and the ratio of times if there are two builds, with the version, the day and the machine."""
+    heads = ["kind of lines", "millions of bytes in a second", *([f"the same, {called}", "ratio of times"] if called else [])]
+    lines = [*told_of_run(RUNS), "\t".join(heads)]
+    lines += ["\t".join([name, *(f"{rate:.1f}" for rate in rates), *([f"{rates[1] / rates[0]:.2f}"] if called else [])]) for name, rates in rows]
     with open(file, "w", encoding="utf-8") as out:
         out.write("\n".join(lines) + "\n")
 
@@ -73,6 +74,7 @@ def words():
     given.add_argument("program")
     given.add_argument("folder")
     given.add_argument("--against", metavar="PROGRAM")
+    given.add_argument("--called", metavar="NAME", default="other build")
     given.add_argument("--write", metavar="FILE")
     given.add_argument("words", nargs="*")
     return given.parse_intermixed_args()
@@ -98,9 +100,9 @@ def main():
         size = os.path.getsize(path)
         ratio = f"{statistics.median(times[0]) / statistics.median(times[1]):9.2f}" if given.against else ""
         print(f"{name:40}" + "".join(rate(size, taken) for taken in times) + ratio, flush=True)
-        rows.append((name, size / statistics.median(times[0]) / 1e6))
+        rows.append((name, [size / statistics.median(taken) / 1e6 for taken in times]))
     if given.write:
-        write(given.write, rows)
+        write(given.write, rows, given.called if given.against else "")
 
 
 if __name__ == "__main__":
