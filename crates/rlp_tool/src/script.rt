@@ -38,12 +38,12 @@ pub(crate) fn place_of(byte: u8, text: &[u8]) -> Option<usize>
     memchr(byte, text)
 }
 
-/// A piece of a script that is a call. Its bytes are still digits, which were tested.
+/// A piece of a script that is a call. Longer bytes are still digits, which were tested.
 #[derive(Drop)]
 pub(crate) enum Piece<'a> {
     /// `d:HEX`, by its digits.
     Value(&'a [u8]),
-    /// `d:HEX` of one byte.
+    /// `d:HEX` of one byte, which is decoded.
     Byte(u8),
     /// `r:N:HEX`, by its digits and its number of items.
     Raw(&'a [u8], usize),
