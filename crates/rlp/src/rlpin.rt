@@ -9,6 +9,7 @@ mod rlp;
 mod splitting;
 
 pub use decoder::BasicDecoder;
+pub(crate) use decoder::{may_end_at, short_string};
 pub use envelope::Envelope;
 pub use fields::Fields;
 pub use iter::RlpIterator;

@@ -1,17 +1,15 @@
 //! Values that are read from one string.
 
-ghost use Rattle.std.specs.Prelude.{◌≡◌, ◌≤◌, length, take, drop, IfOk, IfErr};
-ghost use Rattle.std.specs.Int.Digits.{number_from_digits};
-ghost use Rattle.rlp_format.specs.Format.WrittenHeader.{big_endian};
+ghost use Rattle.std.specs.Prelude.{◌≡◌};
 ghost use Rattle.rlp_values.specs.Format.StringReading.{IsString};
-ghost use Rattle.rlp_format.specs.Values.Value.{FitsBytes};
-ghost use Rattle.rlp.specs.Values.ValueReading.{FaultsAsBytes, FaultsAsNumber, GivesNumber, IsDigitsFault};
+ghost use Rattle.rlp.specs.Values.ValueReading.{FaultsAsBytes, FaultsAsNumber, GivesNumber};
 ghost use Rattle.rlp_c.specs.Answers.{Answers, view_as};
 ghost use Rattle.rlp_c.specs.Rows.{PointsAtNumber, PointsAtString, payload_at};
 
 use crate::item::RlpItem;
 use crate::status::{RLP_OK, status_of};
-use rlp::{Decodable, DecoderError, PayloadInfo, Rlp};
+use rlp::{Decodable, PayloadInfo, Rlp};
+use rlp_values::numbers::check_digits;
 use std::alloc::Global;
 
 /// A view of the bytes, strict or lenient.
@@ -96,28 +94,5 @@ fn string_row(bytes: &[u8], string: &[u8]) -> RlpItem
         payload_len: string.len(),
         depth: 0,
         is_list: 0,
-    }
-}
-
-/// Tests whether these are the digits of a number of at most `width` bytes: first their number, and
-/// then the first digit.
-#[tactic(auto, using(rlp_values::specs::Lemmas::Numbers::digit_faults))]
-fn check_digits(digits: &[u8], width: usize) -> Result<(), DecoderError>
-    ensures few { IfOk result (λ _. length digits.now ≤ width) }
-    ensures value { IfOk result (λ _. FitsBytes width (number_from_digits 256 digits.now)
-        × (big_endian (number_from_digits 256 digits.now) ≡ digits.now)) }
-    ensures fault { IfErr result (λ e. IsDigitsFault width digits.now e) }
-{
-    if digits.len() > width {
-        return Err(DecoderError::RlpIsTooBig);
-    }
-    match digits {
-        [] => Ok(()),
-        [first, ..] => {
-            if *first == 0 {
-                return Err(DecoderError::RlpInvalidIndirection);
-            }
-            Ok(())
-        }
     }
 }

@@ -1,11 +1,11 @@
 //! The digits of numbers, the most significant first.
 
-ghost use Rattle.std.specs.Prelude.{◌≡◌, ◌≤◌, length, IfOk, IfErr, IsTrue};
+ghost use Rattle.std.specs.Prelude.{◌≡◌, ◌≤◌, length, IfOk, IfErr};
 ghost use Rattle.std.specs.Option.{SomeIff};
 ghost use Rattle.std.specs.Int.Digits.{number_from_digits};
 ghost use Rattle.rlp_format.specs.Format.WrittenHeader.{big_endian};
 ghost use Rattle.rlp_format.specs.Values.Value.{FitsBytes};
-ghost use Rattle.rlp_values.specs.Values.ValueReading.{AreShortest, IsDigitsFault};
+ghost use Rattle.rlp_values.specs.Values.ValueReading.{IsDigitsFault};
 
 use crate::error::DecoderError;
 
@@ -39,22 +39,9 @@ fn digits_at_once(digits: &[u8]) -> usize
     }
 }
 
-/// Whether these are the digits of a number whose encoding has a header: not one digit below 0x80,
-/// and no zero first.
-#[inline(always)]
-#[tactic(auto, using(crate::specs::Lemmas::Numbers::shortest_tests))]
-pub fn are_shortest(digits: &[u8]) -> bool
-    ensures { IsTrue result → AreShortest digits.now }
-{
-    match digits {
-        [] => true,
-        [digit] => *digit >= 0x80,
-        [first, ..] => *first != 0,
-    }
-}
-
 /// Tests whether these are the digits of a number of at most `width` bytes: first their number, and
 /// then the first digit.
+#[inline(always)]
 #[tactic(auto, using(crate::specs::Lemmas::Numbers::digit_faults))]
 pub fn check_digits(digits: &[u8], width: usize) -> Result<(), DecoderError>
     ensures few { IfOk result (λ _. length digits.now ≤ width) }

@@ -1,18 +1,18 @@
 //! Numbers: written as the string of their digits to the base 256, the most significant first.
 
-ghost use Rattle.std.specs.Prelude.{◌≡◌, ◌≤◌, ◌<◌, length, Ok, Err, IfOk, IfErr, IfSome, IsTrue};
+ghost use Rattle.std.specs.Prelude.{◌≡◌, ◌≤◌, ◌<◌, length, Ok, Err, IfOk, IfErr, IfSome};
 ghost use Rattle.std.specs.Int.Digits.{number_from_digits};
 ghost use Rattle.rlp_format.specs.Format.WrittenHeader.{big_endian};
 ghost use Rattle.rlp_format.specs.Values.Value.{FitsBytes};
-ghost use Rattle.rlp_values.specs.Values.ValueReading.{AreShortest, IsDigitsFault, GivesNumber, FaultsAsNumber};
+ghost use Rattle.rlp_values.specs.Values.ValueReading.{IsDigitsFault, GivesNumber, FaultsAsNumber};
 ghost use Rattle.rlp_values.specs.Lemmas.RoundTrips.{number_reads_back, itself};
 ghost use Rattle.rlp_values.specs.Lemmas.StrictReads.{number_strict};
 
-use crate::rlpin::Rlp;
+use crate::rlpin::{Rlp, may_end_at, short_string};
 use crate::traits::{Decodable, RoundTrip, Scalar, StrictRead};
 use rlp_format::digits::{number_of, wide_number_of};
 use rlp_values::error::DecoderError;
-use rlp_values::numbers::{are_shortest, check_digits, few_digits};
+use rlp_values::numbers::{check_digits, few_digits};
 use std::alloc::Global;
 
 /// Reads a number of at most one byte. Fails with the same errors as for `u64`.
@@ -105,24 +105,13 @@ fn number_within<const WIDTH: usize>(rlp: &Rlp<'_>) -> Result<usize, DecoderErro
     ensures value { IfOk result (λ n. GivesNumber WIDTH rlp.now n) }
     ensures fault { IfErr result (λ e. FaultsAsNumber WIDTH rlp.now e) }
 {
-    match rlp.as_raw() {
-        [digit @ 0x01..=0x7f, ..] if may_end_at(rlp, 1) => Ok(*digit as usize),
-        _ => other_number::<WIDTH>(rlp.as_raw(), rlp.is_strict()),
-    }
-}
-
-/// Reads the same as [`number_within`], from the parts of a view, which are held in registers.
-#[inline(always)]
-fn other_number<const WIDTH: usize>(bytes: &[u8], is_strict: bool) -> Result<usize, DecoderError>
-    requires { WIDTH ≤ 8 }
-    ensures value { IfOk result (λ n. GivesNumber WIDTH
-        (record { bytes = bytes.now; is_strict = is_strict }) n) }
-    ensures fault { IfErr result (λ e. FaultsAsNumber WIDTH
-        (record { bytes = bytes.now; is_strict = is_strict }) e) }
-{
-    match short_number::<WIDTH>(bytes, is_strict) {
-        Some(number) => Ok(number),
-        None => number_of_string(bytes, is_strict, WIDTH),
+    let (bytes, is_strict) = (rlp.as_raw(), rlp.is_strict());
+    match bytes {
+        [digit @ 0x01..=0x7f, ..] if may_end_at(bytes, is_strict, 1) => Ok(*digit as usize),
+        _ => match short_number::<WIDTH>(bytes, is_strict) {
+            Some(number) => Ok(number),
+            None => any_number(bytes, is_strict, WIDTH),
+        },
     }
 }
 
@@ -133,73 +122,29 @@ fn short_number<const WIDTH: usize>(bytes: &[u8], is_strict: bool) -> Option<usi
     ensures { IfSome result (λ n. GivesNumber WIDTH
         (record { bytes = bytes.now; is_strict = is_strict }) n) }
 {
-    few_digits(short_digits(&Rlp::of_kind(bytes, is_strict), WIDTH)?)
+    let digits = short_string(bytes, is_strict)?;
+    match check_digits(digits, WIDTH) {
+        Ok(()) => few_digits(digits),
+        Err(_) => None,
+    }
 }
 
-/// Whether the view's item may end at `len`: nothing follows the item in a strict view.
-#[inline(always)]
-fn may_end_at(rlp: &Rlp<'_>, len: usize) -> bool
-    ensures { IsTrue result → IsTrue rlp.now.is_strict → length rlp.now.bytes ≡ len }
-{
-    !rlp.is_strict() || rlp.as_raw().len() == len
-}
-
-/// Reads a number of at most `width` bytes, at most 8, by the string of any length that the view
-/// begins with.
+/// Reads a number of at most `width` bytes, at most 8.
 #[inline(never)]
-fn number_of_string(bytes: &[u8], is_strict: bool, width: usize) -> Result<usize, DecoderError>
+fn any_number(bytes: &[u8], is_strict: bool, width: usize) -> Result<usize, DecoderError>
     requires { width ≤ 8 }
     ensures value { IfOk result (λ n. GivesNumber width
         (record { bytes = bytes.now; is_strict = is_strict }) n) }
     ensures fault { IfErr result (λ e. FaultsAsNumber width
         (record { bytes = bytes.now; is_strict = is_strict }) e) }
 {
-    let digits = digits_of_string(&Rlp::of_kind(bytes, is_strict), width)?;
+    let digits = number_digits(&Rlp::of_kind(bytes, is_strict), width)?;
     Ok(number_of(digits))
 }
 
 /// Returns the digits of the number of at most `width` bytes that the view begins with.
-pub(crate) fn number_digits<'a>(rlp: &Rlp<'a>, width: usize) -> Result<&'a [u8], DecoderError>
-    ensures few { IfOk result (λ d. length d.now ≤ width) }
-    ensures value { IfOk result (λ d. GivesNumber width rlp.now (number_from_digits 256 d.now)) }
-    ensures fault { IfErr result (λ e. FaultsAsNumber width rlp.now e) }
-{
-    match short_digits(rlp, width) {
-        Some(digits) => Ok(digits),
-        None => digits_of_string(rlp, width),
-    }
-}
-
-/// The digits of a number of at most `width` bytes that is its own encoding or has a header of one
-/// byte, as the canonical encodings of all numbers up to 2^440 - 1.
-#[inline(always)]
-fn short_digits<'a>(rlp: &Rlp<'a>, width: usize) -> Option<&'a [u8]>
-    ensures few { IfSome result (λ d. length d.now ≤ width) }
-    ensures value { IfSome result (λ d. GivesNumber width rlp.now (number_from_digits 256 d.now)) }
-{
-    match rlp.as_raw() {
-        [0x01..=0x7f, ..] if width > 0 && may_end_at(rlp, 1) => Some(&rlp.as_raw()[..1]),
-        [header @ 0x80..=0xb7, rest @ ..] => {
-            let len = (*header - 0x80) as usize;
-            if len > width || len > rest.len() || !may_end_at(rlp, 1 + len) {
-                return None;
-            }
-            let digits = &rest[..len];
-            if are_shortest(digits) {
-                Some(digits)
-            } else {
-                None
-            }
-        }
-        _ => None,
-    }
-}
-
-/// Returns the digits of the number of at most `width` bytes that the view begins with, by the
-/// string of any length that it begins with.
-#[inline(never)]
 #[tactic(auto, using(rlp_values::specs::Lemmas::Numbers::number_answers))]
-fn digits_of_string<'a>(rlp: &Rlp<'a>, width: usize) -> Result<&'a [u8], DecoderError>
+pub(crate) fn number_digits<'a>(rlp: &Rlp<'a>, width: usize) -> Result<&'a [u8], DecoderError>
     ensures few { IfOk result (λ d. length d.now ≤ width) }
     ensures value { IfOk result (λ d. GivesNumber width rlp.now (number_from_digits 256 d.now)) }
     ensures fault { IfErr result (λ e. FaultsAsNumber width rlp.now e) }

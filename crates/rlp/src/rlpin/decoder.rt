@@ -1,6 +1,6 @@
 //! A decoder of one string.
 
-ghost use Rattle.std.specs.Prelude.{◌≡◌, length, Ok, Err, IfOk, IfErr, IsErrAnd, MatchResult};
+ghost use Rattle.std.specs.Prelude.{◌≡◌, ◌+◌, ◌-◌, length, IsTrue, Ok, Err, IfOk, IfErr, IfSome, IsErrAnd, MatchResult};
 ghost use Rattle.std.specs.Fn.{FnReturnsAt};
 ghost use Rattle.rlp_values.specs.Views.View.{HoldsNoString, HoldsString, view_of, view_string, View};
 
@@ -81,20 +81,67 @@ impl<'a> BasicDecoder<'a> {
     /// let decoder = rlp::BasicDecoder::new(&[0x83, b'c', b'a', b't']);
     /// assert_eq!(rt; decoder.string()?, b"cat".as_slice());
     /// ```
-    #[tactic(auto, using(rlp_values::specs::Lemmas::StringsHeld::held_strings))]
+    #[inline(always)]
     pub fn string(&self) -> Result<&'a [u8], DecoderError>
         ensures exact { MatchResult result (λ d. view_string self.now ≡ Ok d.now)
             (λ e. view_string self.now ≡ Err e) }
         ensures held { MatchResult (view_string self.now) (λ d. HoldsString self.now d)
             (λ _. HoldsNoString self.now) }
     {
-        let string = match string_in(self.rlp) {
-            Ok(string) => string,
-            Err(fault) => return Err(fault),
-        };
-        if self.strict && is_followed(self.rlp) {
-            return Err(DecoderError::RlpIsTooBig);
+        match short_string(self.rlp, self.strict) {
+            Some(string) => Ok(string),
+            None => any_string(self.rlp, self.strict),
         }
-        Ok(string)
     }
+}
+
+/// Whether an item may end at `len`: nothing follows it if it is read strictly.
+#[inline(always)]
+pub(crate) fn may_end_at(bytes: &[u8], strict: bool, len: usize) -> bool
+    ensures { IsTrue result → IsTrue strict → length bytes.now ≡ len }
+{
+    !strict || bytes.len() == len
+}
+
+/// The string that bytes begin with, if it is its own encoding or has a header of one byte, and
+/// nothing is wrong with it. `None` says nothing about the bytes. It takes the parts of a view, which
+/// then stay in registers.
+#[inline(always)]
+pub(crate) fn short_string(bytes: &[u8], strict: bool) -> Option<&[u8]>
+    ensures { IfSome result (λ d. HoldsString (record { bytes = bytes.now; is_strict = strict }) d.now) }
+{
+    match bytes {
+        [0x00..=0x7f, ..] if may_end_at(bytes, strict, 1) => Some(&bytes[..1]),
+        [header @ 0x80..=0xb7, rest @ ..] => {
+            let len = (*header - 0x80) as usize;
+            if len > rest.len() || !may_end_at(bytes, strict, 1 + len) {
+                return None;
+            }
+            if len == 1 && rest[0] < 0x80 {
+                return None;
+            }
+            Some(&rest[..len])
+        }
+        _ => None,
+    }
+}
+
+/// The string that bytes begin with, or why there is none.
+#[inline(never)]
+fn any_string(bytes: &[u8], strict: bool) -> Result<&[u8], DecoderError>
+    ensures exact { MatchResult result
+        (λ d. view_string (record { bytes = bytes.now; is_strict = strict }) ≡ Ok d.now)
+        (λ e. view_string (record { bytes = bytes.now; is_strict = strict }) ≡ Err e) }
+    ensures held { MatchResult (view_string (record { bytes = bytes.now; is_strict = strict }))
+        (λ d. HoldsString (record { bytes = bytes.now; is_strict = strict }) d)
+        (λ _. HoldsNoString (record { bytes = bytes.now; is_strict = strict })) }
+{
+    let string = match string_in(bytes) {
+        Ok(string) => string,
+        Err(fault) => return Err(fault),
+    };
+    if strict && is_followed(bytes) {
+        return Err(DecoderError::RlpIsTooBig);
+    }
+    Ok(string)
 }

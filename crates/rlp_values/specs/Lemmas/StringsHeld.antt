@@ -1,17 +1,18 @@
 -- What a lenient or a strict view holds, and the string that is read from it.
-use Rattle.std.proofs.Common.{◌≡◌, ℕ, ◌^◌, ◌<◌, ◌≤◌, ⊎_elim, Bool, true, false, if◌then◌else◌, ltb, List, [], ◌∷◌, ◌++◌, length, sym, ap, ◌∙◌, subst}
-use Rattle.std.proofs.Common.{arith, append-nil, length-append, le-ltb, lt-ltb, Result, Ok, Err, MatchResult, IfErr}
+use Rattle.std.proofs.Common.{◌≡◌, ℕ, zero, suc, ◌^◌, ◌<◌, ◌≤◌, ◌+◌, ◌-◌, ⊎_elim, Bool, true, false, IsTrue, if◌then◌else◌, ltb, List, [], ◌∷◌, ◌++◌, length, take, drop, get_or, refl, sym, ap, ◌∙◌, subst}
+use Rattle.std.proofs.Common.{arith, append-nil, length-append, length-take-le, take_all, take-append-drop, le-ltb, lt-ltb, Result, Ok, Err, MatchResult, IfErr}
 use Rattle.std.proofs.lemmas.Bool.{cases_lt, cond-true, cond-false}
 use Rattle.rlp_values.specs.declared.error.DecoderError.{DecoderError}
 use Rattle.rlp_values.specs.declared.error.DecoderError.TheVariants.{RlpIsTooBig}
 use Rattle.rlp_format.specs.Format.Item.{Item, string}
 use Rattle.rlp_values.specs.Format.Header.{HasHeader}
-use Rattle.rlp_format.specs.Format.WrittenHeader.{AreBytes}
-use Rattle.rlp_format.specs.Format.Encoding.{encoding, BeginsWith, IsSized}
+use Rattle.rlp_format.specs.Format.WrittenHeader.{AreBytes, written_header}
+use Rattle.rlp_format.specs.Format.Encoding.{encoding, is_low_byte, BeginsWith, IsSized}
 use Rattle.rlp_values.specs.Format.StringReading.{IsString, ReadsString, read_string}
 use Rattle.rlp_values.specs.Format.Strict.{is_followed, is_longer, whole_string}
 use Rattle.rlp_values.specs.Views.View.{View, Holds, HoldsItem, HoldsNoString, HoldsString, view_string}
 use Rattle.rlp_format.specs.Lemmas.Encodings.{front_sized}
+use Rattle.rlp_format.specs.Lemmas.Headers.{written_header_short}
 use Rattle.rlp_values.specs.Lemmas.Frames.{encoding_item, framing_is, longer}
 use Rattle.rlp_values.specs.Lemmas.Strings.{string_only, string_reads}
 
@@ -130,4 +131,56 @@ held_fault v e is = fault_kind v.is_strict
     fault_kind false = is
     fault_kind true = ap (whole_string v.bytes) is
 
-pub ruleset held_strings = (held_too_big, held_whole, held_front, held_fault)
+-- ---- a view that begins with a string that has a header of at most one byte
+
+-- a view holds the bytes that it begins with, if a strict one ends there
+may_hold : (strict : Bool) (b s rest : List ℕ) → b ≡ s ++ rest → (IsTrue strict → length b ≡ length s) → Holds strict b s
+may_hold false b s rest is ends = (rest, is)
+may_hold true b s [] is ends = is ∙ append-nil s
+may_hold true b s (c ∷ rest) is ends = absurd (omega (arith, ends refl, ap length is, length-append s (c ∷ rest)))
+
+-- a view that begins with a byte below 0x80 holds that byte, if a strict one ends there
+pub low_held : (v : View) (n : ℕ) (more : List ℕ) → v.bytes ≡ n ∷ more → n < 0x80 → (IsTrue v.is_strict → length v.bytes ≡ 1)
+    → HoldsString v (n ∷ [])
+unfolding encoding
+low_held v n more begins low ends =
+    let written : encoding (string (n ∷ [])) ≡ n ∷ [] = cond-true (ltb n 0x80) _ _ (lt-ltb _ _ low) in
+    subst (Holds v.is_strict v.bytes) (sym written) (may_hold v.is_strict v.bytes (n ∷ []) more begins ends)
+
+-- a view that begins with a header of one byte and the string that it announces holds this string, if a strict one ends there
+short_held : (v : View) (header : ℕ) (d more : List ℕ) → v.bytes ≡ header ∷ (d ++ more) → header ≡ 0x80 + length d → length d ≤ 55
+    → is_low_byte d ≡ false → (IsTrue v.is_strict → length v.bytes ≡ 1 + length d) → HoldsString v d
+unfolding encoding
+short_held v header d more begins says short high ends =
+    let head : written_header 0x80 (length d) ≡ header ∷ [] = written_header_short 0x80 (length d) short ∙ ap (λ h. h ∷ []) (sym says) in
+    let written : encoding (string d) ≡ header ∷ d = cond-false (is_low_byte d) _ _ high ∙ ap (λ h. h ++ d) head in
+    subst (Holds v.is_strict v.bytes) (sym written) (may_hold v.is_strict v.bytes (header ∷ d) more begins (λ strict. omega (arith, ends strict)))
+
+-- the first of a view's bytes is held
+pub first_held : (v : View) (b : List ℕ) → b ≡ v.bytes → 1 ≤ length b → get_or b 0 0 ≤ 127 → (IsTrue v.is_strict → length v.bytes ≡ 1)
+    → HoldsString v (take 1 b)
+first_held v [] is held low ends = absurd (omega arith)
+first_held v (n ∷ b) is held low ends = low_held v n b (sym is) (omega arith) ends
+
+-- the first n bytes are no low byte, if there isn't just one of them below 0x80
+taken_high : (n : ℕ) (b : List ℕ) → n ≤ length b → (n ≡ 1 → 128 ≤ get_or b 0 0) → is_low_byte (take n b) ≡ false
+taken_high zero b enough high = refl
+taken_high (suc zero) [] enough high = absurd (omega (arith, enough))
+taken_high (suc zero) (byte ∷ b) enough high = le-ltb _ _ (high refl)
+taken_high (suc (suc n)) [] enough high = absurd (omega (arith, enough))
+taken_high (suc (suc n)) (byte ∷ []) enough high = absurd (omega (arith, enough))
+taken_high (suc (suc n)) (byte ∷ next ∷ b) enough high = refl
+
+-- the bytes after a header of one byte are held
+pub after_held : (v : View) (b : List ℕ) → b ≡ v.bytes → 1 ≤ length b → 128 ≤ get_or b 0 0 → get_or b 0 0 ≤ 183
+    → get_or b 0 0 - 128 ≤ length b - 1 → (IsTrue v.is_strict → length v.bytes ≡ 1 + (get_or b 0 0 - 128))
+    → (get_or b 0 0 - 128 ≡ 1 → 128 ≤ get_or b 1 0)
+    → HoldsString v (take (get_or b 0 0 - 128) (take (length b - 1) (drop 1 b)))
+after_held v [] is held from to enough ends high = absurd (omega arith)
+after_held v (h ∷ b) is held from to enough ends high =
+    let rest : take (length (h ∷ b) - 1) b ≡ b = take_all (length (h ∷ b) - 1) b (omega arith) in
+    let many : length (take (h - 128) b) ≡ h - 128 = length-take-le (h - 128) b (omega arith) in
+    subst (λ d. HoldsString v (take (h - 128) d)) (sym rest)
+    (short_held v h (take (h - 128) b) (drop (h - 128) b)
+    (sym is ∙ ap (λ d. h ∷ d) (sym (take-append-drop (h - 128) b))) (omega (arith, many)) (omega (arith, many))
+    (taken_high (h - 128) b (omega arith) high) (λ strict. omega (arith, ends strict, many)))

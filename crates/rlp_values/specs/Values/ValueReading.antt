@@ -1,5 +1,5 @@
 -- The value that a view gives, and why it gives none: numbers, byte strings and text.
-use Rattle.std.specs.Prelude.{ℕ, ◌≡◌, ◌≢◌, ◌≤◌, ◌<◌, ◌⊎◌, ⊤, List, [], ◌∷◌, ◌++◌, length, codes, IsUtf8, Err, Bool}
+use Rattle.std.specs.Prelude.{ℕ, ◌≡◌, ◌≤◌, ◌<◌, ◌⊎◌, ⊤, List, ◌∷◌, ◌++◌, length, codes, IsUtf8, Err, Bool}
 use Rattle.rlp_values.specs.declared.error.DecoderError.{DecoderError}
 use Rattle.rlp_values.specs.declared.error.DecoderError.TheVariants.{RlpIsTooBig, RlpIsTooShort, RlpInvalidIndirection, RlpExpectedToBeData}
 use Rattle.rlp_format.specs.Format.Item.{Item, string}
@@ -29,12 +29,6 @@ GivesNumber width v n = GivesValue (FitsBytes width) number_item v n
 pub data IsDigitsFault (width : ℕ) (digits : List ℕ) : DecoderError → Type 0 where
   too_long : width < length digits → IsDigitsFault width digits RlpIsTooBig
   leading_zero : (more : List ℕ) → length digits ≤ width → digits ≡ 0 ∷ more → IsDigitsFault width digits RlpInvalidIndirection
-
--- Digits of a number whose encoding has a header: not one digit below 0x80, and no zero first.
-unfoldable pub AreShortest : List ℕ → Type 0
-AreShortest [] = ⊤
-AreShortest (digit ∷ []) = 0x80 ≤ digit
-AreShortest (first ∷ next ∷ rest) = first ≢ 0
 
 -- why a view gives no number of at most this number of bytes
 abbrev pub FaultsAsNumber : ℕ → View → DecoderError → Type 0

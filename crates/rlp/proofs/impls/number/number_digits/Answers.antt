@@ -2,7 +2,7 @@ use Rattle.std.proofs.Common.{ap, sym, ◌∙◌}
 use Rattle.std.proofs.lemmas.Result.{err_from_is_err_and}
 use Rattle.rlp_values.specs.Views.View.{view_string}
 use Rattle.rlp_values.specs.Values.ValueReading.{no_string}
-use Rattle.rlp.proofs.impls.number.digits_of_string.Goals as goal
+use Rattle.rlp.proofs.impls.number.number_digits.Goals as goal
 
 pub returns-in_err-digits-clause-fault : goal.returns-in_err-digits-clause-fault
 returns-in_err-digits-clause-fault c =
