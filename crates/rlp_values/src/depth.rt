@@ -18,7 +18,7 @@ pub fn is_nested_within(framed: &Framed<'_>, limit: usize) -> bool
     }
     let mut items = ItemReader::new(framed.content);
     while let Ok(item) = items.next_framed() {
-        if !is_nested_within(&item, limit - 1) {
+        if item.is_list() && !is_nested_within(&item, limit - 1) {
             return false;
         }
     }

@@ -29,6 +29,7 @@ returns-then-not-is_nested_within t c =
     (split c.next_framed.new.self.rest) (sym c.if-not-is_list.ensures) c.args.framed.now.reads all deep
 
 pub loop-item-preserved : goal.loop-item-preserved
+unfolding depth
 loop-item-preserved t c = record {
   done = c.loop-item.invariant.done ++ c.in-Ok.item.item.now ∷ [];
   all = done-more c.loop-item.invariant.done (items c.args.framed.now.item.now) c.loop-item.items.rest c.in-Ok.item.item.now
