@@ -20,7 +20,6 @@ impl Decodable for Vec<u8> {
 
     ghost may_lack_memory = { λ v. GivesSome GivesBytes v };
 
-    #[inline(always)]
     fn decode(alloc: Global, rlp: &Rlp<'_>) -> Result<Vec<u8>, DecoderError> {
         match rlp.decoder().string() {
             Ok(string) => match Vec::from_slice(alloc, string) {

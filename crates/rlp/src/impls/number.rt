@@ -149,7 +149,7 @@ pub(crate) fn number_digits<'a>(rlp: &Rlp<'a>, width: usize) -> Result<&'a [u8],
     ensures value { IfOk result (λ d. GivesNumber width rlp.now (number_from_digits 256 d.now)) }
     ensures fault { IfErr result (λ e. FaultsAsNumber width rlp.now e) }
 {
-    let digits = rlp.decoder().string()?;
+    let digits = rlp.decoder().string_in_line()?;
     check_digits(digits, width)?;
     Ok(digits)
 }

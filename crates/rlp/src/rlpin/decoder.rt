@@ -81,8 +81,26 @@ impl<'a> BasicDecoder<'a> {
     /// let decoder = rlp::BasicDecoder::new(&[0x83, b'c', b'a', b't']);
     /// assert_eq!(rt; decoder.string()?, b"cat".as_slice());
     /// ```
-    #[inline(always)]
+    #[tactic(auto, using(rlp_values::specs::Lemmas::StringsHeld::held_too_big, rlp_values::specs::Lemmas::StringsHeld::held_whole, rlp_values::specs::Lemmas::StringsHeld::held_front, rlp_values::specs::Lemmas::StringsHeld::held_fault))]
     pub fn string(&self) -> Result<&'a [u8], DecoderError>
+        ensures exact { MatchResult result (λ d. view_string self.now ≡ Ok d.now)
+            (λ e. view_string self.now ≡ Err e) }
+        ensures held { MatchResult (view_string self.now) (λ d. HoldsString self.now d)
+            (λ _. HoldsNoString self.now) }
+    {
+        let string = match string_in(self.rlp) {
+            Ok(string) => string,
+            Err(fault) => return Err(fault),
+        };
+        if self.strict && is_followed(self.rlp) {
+            return Err(DecoderError::RlpIsTooBig);
+        }
+        Ok(string)
+    }
+
+    /// The same as [`BasicDecoder::string`]. A string with a header of one byte is read in line.
+    #[inline(always)]
+    pub(crate) fn string_in_line(&self) -> Result<&'a [u8], DecoderError>
         ensures exact { MatchResult result (λ d. view_string self.now ≡ Ok d.now)
             (λ e. view_string self.now ≡ Err e) }
         ensures held { MatchResult (view_string self.now) (λ d. HoldsString self.now d)
@@ -90,7 +108,7 @@ impl<'a> BasicDecoder<'a> {
     {
         match short_string(self.rlp, self.strict) {
             Some(string) => Ok(string),
-            None => any_string(self.rlp, self.strict),
+            None => self.string(),
         }
     }
 }
@@ -124,24 +142,4 @@ pub(crate) fn short_string(bytes: &[u8], strict: bool) -> Option<&[u8]>
         }
         _ => None,
     }
-}
-
-/// The string that bytes begin with, or why there is none.
-#[inline(never)]
-fn any_string(bytes: &[u8], strict: bool) -> Result<&[u8], DecoderError>
-    ensures exact { MatchResult result
-        (λ d. view_string (record { bytes = bytes.now; is_strict = strict }) ≡ Ok d.now)
-        (λ e. view_string (record { bytes = bytes.now; is_strict = strict }) ≡ Err e) }
-    ensures held { MatchResult (view_string (record { bytes = bytes.now; is_strict = strict }))
-        (λ d. HoldsString (record { bytes = bytes.now; is_strict = strict }) d)
-        (λ _. HoldsNoString (record { bytes = bytes.now; is_strict = strict })) }
-{
-    let string = match string_in(bytes) {
-        Ok(string) => string,
-        Err(fault) => return Err(fault),
-    };
-    if strict && is_followed(bytes) {
-        return Err(DecoderError::RlpIsTooBig);
-    }
-    Ok(string)
 }

@@ -281,7 +281,6 @@ impl<'a> Rlp<'a> {
     }
 
     /// The value that the view begins with, read by [`Decodable::decode`] of its type.
-    #[inline(always)]
     pub fn as_val<T: Decodable>(&self, alloc: Global) -> Result<T, DecoderError>
         ensures value { IfOk result (λ v. T.gives self.now v) }
         ensures fault { IfErr result (λ e. (T.faults self.now e) ⊎ ((e ≡ OutOfMemory)
