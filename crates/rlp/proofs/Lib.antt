@@ -11,7 +11,7 @@ pub mod Writing
 pub mod Reading
 pub mod Envelopes
 pub mod Tagged
--- the same rules in smaller sets, passed on from `rlp_values` and `rlp_streams`
+-- the same rules in smaller sets, passed on from `rlp_values` and `rlp_write`
 pub mod OneString
 pub mod Growth
 pub mod Filling

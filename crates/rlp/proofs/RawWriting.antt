@@ -3,7 +3,7 @@ use Rattle.std.proofs.Common.{◌≡◌, ◌<◌, ◌^◌, ℕ, false, List, len
 use Rattle.rlp_format.specs.Format.Item.{Item, is_list, string, list}
 use Rattle.rlp_format.specs.Format.Encoding.{encoding}
 use Rattle.rlp_values.specs.Format.Split.{begins_as_list}
-use Rattle.rlp_buffer.specs.Streams.Stream.{State, put, put_item}
+use Rattle.rlp_write.specs.Streams.Stream.{State, put, put_item}
 use Rattle.rlp_values.specs.Values.RawItem.{IsRawItem, raw_item_of}
 use Rattle.rlp_values.specs.Lemmas.RawItems.{list_by, raw_encoding}
 

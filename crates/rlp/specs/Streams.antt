@@ -1,24 +1,24 @@
 -- open lists, and the moves on them
-pub use Rattle.rlp_buffer.specs.Streams.Stack
+pub use Rattle.rlp_write.specs.Streams.Stack
 -- the state of a stream, and its texts
-pub use Rattle.rlp_buffer.specs.Streams.Stream
+pub use Rattle.rlp_write.specs.Streams.Stream
 -- how a state grows
-pub use Rattle.rlp_streams.specs.Streams.Growth
+pub use Rattle.rlp_write.specs.Streams.Growth
 -- the calls, which of them are admitted, and the effect of each
-pub use Rattle.rlp_buffer.specs.Streams.Calls
+pub use Rattle.rlp_write.specs.Streams.Calls
 -- what a refusal leaves of a stream in a chain
-pub use Rattle.rlp_streams.specs.Streams.Chain
+pub use Rattle.rlp_write.specs.Streams.Chain
 -- values that are appended one after another
-pub use Rattle.rlp_streams.specs.Streams.Fields
+pub use Rattle.rlp_write.specs.Streams.Fields
 -- the bytes that an iterator gives
-pub use Rattle.rlp_buffer.specs.Streams.Iterated
+pub use Rattle.rlp_write.specs.Streams.Iterated
 -- the items that calls describe
 pub mod Described
 -- for the code only, cited by no public contract: the buffer of a stream
-pub use Rattle.rlp_buffer.specs.Streams.Held
+pub use Rattle.rlp_write.specs.Streams.Held
 -- the places of open lists in its bytes
-pub use Rattle.rlp_buffer.specs.Streams.Placeholders
+pub use Rattle.rlp_write.specs.Streams.Placeholders
 -- the state that bytes and places stand for
-pub use Rattle.rlp_buffer.specs.Streams.Layout
+pub use Rattle.rlp_write.specs.Streams.Layout
 -- what closing does to bytes and places
-pub use Rattle.rlp_buffer.specs.Streams.Closing
+pub use Rattle.rlp_write.specs.Streams.Closing

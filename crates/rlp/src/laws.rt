@@ -15,7 +15,7 @@ pub use reading::{
     number_is_read, option_is_read, option_of_bytes_is_read, option_of_option_is_read,
     options_are_read, raw_item_is_read, string_is_read, struct_is_read, text_is_read,
 };
-pub use rlp_streams::laws::{
+pub use rlp_write::laws::{
     bytes_go_to_the_end, closed_size_goes_by_length, closing_keeps_what_is_closed,
     constants_are_encodings, finished_streams_gain_encodings,
     finished_streams_have_their_closed_size, growth_is_an_order, growth_of_moves,

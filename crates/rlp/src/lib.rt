@@ -29,7 +29,7 @@ mod traits;
 
 pub use impls::RawItem;
 pub use rlp_format::Uint;
-pub use rlp_streams::{
+pub use rlp_write::{
     AppendFields, BasicEncoder, Chain, EMPTY_LIST_RLP, Each, Encodable, FieldsOf, Flattened,
     ListOf, NULL_RLP, Optional, OptionalGroupOf, OptionalListOf, RlpStream, encode, encode_list,
     write_envelope, write_struct,

@@ -9,7 +9,7 @@ ghost use Rattle.rlp_c.specs.Written.{IsWritten};
 
 use crate::status::{RLP_NO_ROOM, RLP_OK, status_of};
 use rlp::DecoderError;
-use rlp_buffer::header::{LIST, STRING, written_header};
+use rlp_write::header::{LIST, STRING, written_header};
 use rlp_format::digits::Digits;
 
 /// Writes the header of a payload of this length. The caller writes the payload behind it: a

@@ -11,7 +11,7 @@ use crate::encode::is_low_byte;
 use crate::item::RlpItem;
 use crate::status::{RLP_BAD_ITEMS, RLP_NO_ROOM, RLP_OK, status_of};
 use rlp::DecoderError;
-use rlp_buffer::header::{LIST, STRING, list_header_len, written_header};
+use rlp_write::header::{LIST, STRING, list_header_len, written_header};
 
 /// The number of sizes that are kept: one for each depth of an item, and one for what is in the
 /// deepest list.

@@ -1,9 +1,9 @@
 //! Calls on streams that have a condition. Each function tests the condition first.
 
 ghost use Rattle.std.specs.Prelude.{IsTrue};
-ghost use Rattle.rlp_buffer.specs.Streams.Stack.{has_room};
+ghost use Rattle.rlp_write.specs.Streams.Stack.{has_room};
 
-use rlp_streams::RlpStream;
+use rlp_write::RlpStream;
 use std::alloc::AllocError;
 
 /// Returns whether the innermost open list awaits at least `items` items, or is unbounded.

@@ -5,7 +5,7 @@ use crate::guarded::{begin, is_as, put_raw, put_raw_within};
 use crate::script::cut;
 use bytes::BytesMut;
 use rlp_rows::number;
-use rlp_streams::RlpStream;
+use rlp_write::RlpStream;
 use std::alloc::{AllocError, Global};
 use std::test::Fail;
 

@@ -4,7 +4,7 @@
 
 use crate::guarded::{estimates, finishes_as, is_as, put_raw, put_raw_within, put_undotted};
 use bytes::BytesMut;
-use rlp_streams::RlpStream;
+use rlp_write::RlpStream;
 use std::alloc::{AllocError, Global};
 
 /// The number of bytes that is requested as the signal.

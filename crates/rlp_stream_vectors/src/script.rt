@@ -19,7 +19,7 @@ use crate::guarded::{
 use crate::values::{Pair, Refused, Wrapper};
 use bytes::BytesMut;
 use rlp_rows::{bytes_of, number};
-use rlp_streams::{Encodable, RlpStream};
+use rlp_write::{Encodable, RlpStream};
 use std::alloc::{AllocError, Global};
 use std::cell::Cell;
 use std::test::Fail;

@@ -1,7 +1,7 @@
 //! Streams that are written by scripts of calls. The finished bytes were worked out by hand.
 
 use crate::script::{all_met, all_met_to, buffer_of};
-use rlp_streams::RlpStream;
+use rlp_write::RlpStream;
 use std::alloc::{AllocError, Global};
 use std::test::Fail;
 

@@ -3,7 +3,7 @@
 
 use crate::guarded::finishes_as;
 use crate::script::{all_met, halves};
-use rlp_streams::RlpStream;
+use rlp_write::RlpStream;
 use std::alloc::{AllocError, Global};
 use std::fmt::Write;
 use std::test::Fail;

@@ -4,7 +4,7 @@ ghost use Rattle.std.specs.Prelude.{⊤, [], ◌∷◌};
 ghost use Rattle.rlp_format.specs.Format.Item.{list_of, string};
 ghost use Rattle.rlp_format.specs.Values.Value.{FitsBytes, number_item};
 
-use rlp_streams::{Encodable, RlpStream};
+use rlp_write::{Encodable, RlpStream};
 use std::alloc::AllocError;
 use std::cell::Cell;
 
@@ -17,7 +17,7 @@ impl Encodable for Pair {
 
     ghost fits = { λ p. FitsBytes 8 p.0 × FitsBytes 8 p.1 };
 
-    #[tactic(auto, using(rlp_streams::proofs::Streams::Growth::growth, rlp_streams::proofs::Streams::Filling::filling))]
+    #[tactic(auto, using(rlp_write::proofs::Streams::Growth::growth, rlp_write::proofs::Streams::Filling::filling))]
     fn rlp_append(&self, s: &mut RlpStream) -> Result<(), AllocError> {
         s.begin_list(2)?.append(&self.0)?.append(&self.1)?;
         Ok(())
@@ -33,7 +33,7 @@ impl Encodable for Wrapper {
 
     ghost fits = { λ w. FitsBytes 8 w.0 };
 
-    #[tactic(auto, using(rlp_streams::proofs::Streams::Growth::growth))]
+    #[tactic(auto, using(rlp_write::proofs::Streams::Growth::growth))]
     fn rlp_append(&self, s: &mut RlpStream) -> Result<(), AllocError> {
         s.append_internal(&self.0)?;
         Ok(())
@@ -49,7 +49,7 @@ impl<'a> Encodable for Refused<'a> {
 
     ghost fits = { λ v. ⊤ };
 
-    #[tactic(auto, using(rlp_streams::proofs::Streams::Growth::growth, rlp_streams::proofs::Streams::Filling::filling))]
+    #[tactic(auto, using(rlp_write::proofs::Streams::Growth::growth, rlp_write::proofs::Streams::Filling::filling))]
     fn rlp_append(&self, s: &mut RlpStream) -> Result<(), AllocError> {
         self.0.set(self.0.get().saturating_add(1));
         s.begin_list(3)?.append(&1u64)?;

@@ -14,7 +14,7 @@ ghost use Rattle.rlp_values.specs.Lemmas.RoundTrips.{itself};
 use crate::rlpin::Rlp;
 use crate::traits::{Decodable, RoundTrip, Scalar, StrictRead};
 use bytes::BytesMut;
-use rlp_streams::{Encodable, RlpStream, append_list_encoding};
+use rlp_write::{Encodable, RlpStream, append_list_encoding};
 use rlp_values::error::DecoderError;
 use std::alloc::{AllocError, Global};
 use std::marker::Model;

@@ -16,7 +16,7 @@ ghost use Rattle.rlp_format.specs.Format.WrittenHeader.{AreBytes};
 use crate::rlpin::Rlp;
 use crate::structs::DecodeFields;
 use crate::traits::Decodable;
-use rlp_streams::Encodable;
+use rlp_write::Encodable;
 
 /// `read_string` gives the one string whose encoding the bytes begin with. If they begin with none,
 /// it gives the fault of the first case that applies.

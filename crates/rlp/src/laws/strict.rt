@@ -16,7 +16,7 @@ ghost use Rattle.rlp_format.specs.Values.Value.{AreAlike, bit, number_item, opti
 ghost use Rattle.rlp_values.specs.Views.View.{HoldsItem, View, item_by, item_count, item_with_place, list_fault, strict_view_of, view_header, view_of, view_string, view_value};
 
 use crate::traits::{Decodable, StrictRead};
-use rlp_streams::Encodable;
+use rlp_write::Encodable;
 use rlp_values::error::DecoderError;
 use std::alloc::Global;
 

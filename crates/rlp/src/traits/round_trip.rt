@@ -7,7 +7,7 @@ ghost use Rattle.rlp_values.specs.Values.ValueReading.{GivesValue};
 ghost use Rattle.rlp_values.specs.Views.View.{HoldsItem, view_of};
 
 use crate::traits::decodable::Decodable;
-use rlp_streams::Encodable;
+use rlp_write::Encodable;
 
 /// A type whose values are read back from their encodings, even if other bytes follow.
 pub trait RoundTrip: Encodable + Decodable {

@@ -1,6 +1,0 @@
-use Rattle.std.proofs.Common.{◌-◌}
-use Rattle.rlp_buffer.proofs.Streams.MovedBytes.{Brought}
-use Rattle.rlp_buffer.proofs.buffer.moving.move_up.Given as goal
-
-abbrev pub invariant-bytes : goal.invariant-bytes
-invariant-bytes g l = Brought l.fn.bytes l.bytes g.row.D (l.len - l.i) l.i

@@ -1,9 +1,0 @@
-use Rattle.std.proofs.Common.{length, reverse}
-use Rattle.rlp_buffer.proofs.Streams.ClosedSize.{Measured}
-use Rattle.rlp_buffer.proofs.closing.closed_len.Given as goal
-
-abbrev pub invariant-loop-list : goal.invariant-loop-list
-invariant-loop-list l = Measured l.fn.start l.fn.end l.fn.more (reverse l.fn.lists) l.left l.tail (reverse l.rest)
-
-abbrev pub decreases-loop-list : goal.decreases-loop-list
-decreases-loop-list l = length l.rest

@@ -1,2 +1,0 @@
--- streams: their states, and the effect of each call
-pub mod Streams

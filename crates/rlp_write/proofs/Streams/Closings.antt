@@ -1,0 +1,362 @@
+-- What closing does, step by step, and the state after counting.
+use Rattle.std.proofs.Common.{◌≡◌, ℕ, zero, suc, ◌+◌, ◌-◌, ◌*◌, ◌<◌, ◌≤◌, Bool, true, false, cond, min, nat_lt, is_none, None, Some, List, [], ◌∷◌, ◌++◌, length, take, drop, reverse}
+use Rattle.std.proofs.Common.{get_or, set, Option, refl, sym, ◌∙◌, ap, subst, arith, length-append, length-drop, ⊎_elim}
+use Rattle.std.proofs.lemmas.Bool.Decides.{nat_tests}
+use Rattle.std.proofs.lemmas.Bool.{cases_lt, cond-true, cond_both}
+use Rattle.std.proofs.lemmas.List.{take-take, take-append-le, drop_at, drop-drop, drop-take, length-take-le, length_push, set_at, get_or_at}
+use Rattle.std.proofs.lemmas.List.{take-append-drop, reverse-append, reverse-reverse, length-reverse, get_or-reverse, set-append_left}
+use Rattle.rlp_write.specs.declared.open_lists.Placeholder.{Placeholder}
+use Rattle.rlp_format.specs.Format.WrittenHeader.{big_endian, written_header}
+use Rattle.rlp_write.specs.Streams.Stack.{is_last, awaits_after}
+use Rattle.rlp_write.specs.Streams.Stream.{list_encoding}
+use Rattle.rlp_write.specs.Streams.Placeholders.{Descends, with_innermost, with_awaits, unbounded_innermost}
+use Rattle.rlp_write.specs.Streams.Closing.{filled, counted, closed_bytes, header_len, growth, left_of}
+use Rattle.rlp_format.specs.Lemmas.Headers.{written_header_short, written_header_long}
+
+-- the last of a list is the first of its reverse
+pub reverse_push : (ps : List Placeholder) (p : Placeholder) → reverse (ps ++ p ∷ []) ≡ p ∷ reverse ps
+reverse_push ps p = reverse-append ps (p ∷ [])
+
+-- ---- finding the growth
+
+-- the progress of the search for full lists: the number of lists found, and the number of bytes by which they make the buffer grow. The next lists are `ps`,
+-- whose innermost ends at `left`, with `tail` bytes after it
+pub record Planned (k end : ℕ) (whole : List Placeholder) (closing grown left tail counts : ℕ) (ps : List Placeholder) : Type 0 where
+  pub closes : filled k whole ≡ closing + filled counts ps
+  pub grows : growth (filled k whole) end 0 whole ≡ grown + growth (filled counts ps) left tail ps
+  pub order : Descends left ps
+  pub total : left + tail ≡ end + grown
+  pub small : grown ≤ 8 * closing
+  pub few : closing + length ps ≡ length whole
+
+-- ---- closing in place
+
+-- the progress of closing: the bytes from `to` on are final, the bytes below `from` are unchanged, and n lists of `ps` are still to be closed
+pub record Closes (whole : List ℕ) (n : ℕ) (bytes : List ℕ) (from to : ℕ) (ps : List Placeholder) : Type 0 where
+  pub known : closed_bytes n (take from bytes) (drop to bytes) ps ≡ whole
+  pub room : from + growth n from (length bytes - to) ps ≡ to
+  pub within : to ≤ length bytes
+  pub order : Descends from ps
+  pub enough : n ≤ length ps
+
+-- the last header is written right after the bytes that stay
+pub closes_all : (whole : List ℕ) (bytes : List ℕ) (from to : ℕ) (ps : List Placeholder) → Closes whole 0 bytes from to ps → bytes ≡ whole
+closes_all whole bytes from to ps h =
+    let same : to ≡ from = omega (arith, h.room) in
+    sym (take-append-drop from bytes) ∙ ap (λ n. take from bytes ++ drop n bytes) (sym same) ∙ h.known
+
+-- a header has a byte
+pub header_some : (len : ℕ) → 0 < header_len len
+header_some len =
+    ⊎_elim (λ long. let e : header_len len ≡ suc (length (big_endian len)) = ap length (written_header_long 0xc0 len long) in omega arith)
+    (λ short. let e : header_len len ≡ 1 = ap length (written_header_short 0xc0 len short) in omega arith)
+    (cases_lt 55 len)
+
+-- one more list is found to be full, the last in the order in which they were opened
+pub planned_more : (k end : ℕ) (whole : List Placeholder) (closing grown left tail counts : ℕ) (p : Placeholder) (ps : List Placeholder) (len header : ℕ)
+    → Planned k end whole closing grown left tail counts (p ∷ ps) → is_last counts p.awaits ≡ true → len ≡ (left - (p.position + 1)) + tail
+    → header ≡ header_len len → header ≤ 9 → Planned k end whole (closing + 1) (grown + (header - 1)) p.position (header + len) 1 ps
+planned_more k end whole closing grown left tail counts p ps len header h full is written few =
+    let order = h.order in
+    let one : filled counts (p ∷ ps) ≡ suc (filled 1 ps) = cond-true (is_last counts p.awaits) (suc (filled 1 ps)) 0 full in
+    let step : growth (suc (filled 1 ps)) left tail (p ∷ ps) ≡ (header - 1) + growth (filled 1 ps) p.position (header + len) ps = rw (written, is) refl in
+    record {
+      closes = omega (arith, h.closes, one);
+      grows = omega (arith, h.grows, ap (λ n. growth n left tail (p ∷ ps)) one, step);
+      order = order.1;
+      total = omega (arith, h.total, order.0, is, written, header_some len);
+      small = omega (arith, h.small, few);
+      few = omega (arith, h.few);
+    }
+
+-- no list is full if the count closes none
+pub none_filled : (n : ℕ) → false ≡ nat_lt 0 n → n ≡ 0
+none_filled n none = grind (arith, nat_tests)
+
+-- by the list that was taken from the others
+pub planned_popped : (k end : ℕ) (whole : List Placeholder) (closing grown left tail counts : ℕ) (lists rest : List Placeholder) (p : Placeholder)
+    → Planned k end whole closing grown left tail counts (reverse lists) → lists ≡ rest ++ p ∷ []
+    → Planned k end whole closing grown left tail counts (p ∷ reverse rest)
+planned_popped k end whole closing grown left tail counts lists rest p h is =
+    subst (λ ps. Planned k end whole closing grown left tail counts ps) (ap reverse is ∙ reverse_push rest p) h
+
+-- the number of bytes after lists are closed
+pub length-closed_bytes : (n : ℕ) (b tail : List ℕ) (ps : List Placeholder) → Descends (length b) ps
+    → length (closed_bytes n b tail ps) ≡ length b + length tail + growth n (length b) (length tail) ps
+length-closed_bytes zero b tail ps order = omega (arith, length-append b tail)
+length-closed_bytes (suc n) b tail [] order = omega (arith, length-append b tail)
+length-closed_bytes (suc n) b tail (p ∷ ps) order =
+    let payload = drop (p.position + 1) b ++ tail in
+    let below : length (take p.position b) ≡ p.position = length-take-le p.position b (omega (arith, order.0)) in
+    let len : length payload ≡ (length b - (p.position + 1)) + length tail =
+    omega (arith, length-append (drop (p.position + 1) b) tail, length-drop (p.position + 1) b) in
+    let encoded : length (list_encoding payload) ≡ header_len ((length b - (p.position + 1)) + length tail) + ((length b - (p.position + 1)) + length tail) =
+    length-append (written_header 0xc0 (length payload)) payload ∙ ap (λ m. header_len m + m) len in
+    let around = length-closed_bytes n (take p.position b) (list_encoding payload) ps (subst (λ m. Descends m ps) (sym below) order.1) in
+    let same : growth n (length (take p.position b)) (length (list_encoding payload)) ps
+    ≡ growth n p.position (header_len ((length b - (p.position + 1)) + length tail) + ((length b - (p.position + 1)) + length tail)) ps =
+    ap (λ m. growth n m (length (list_encoding payload)) ps) below ∙ ap (λ m. growth n p.position m ps) encoded in
+    omega (arith, order.0, below, encoded, around, same, header_some ((length b - (p.position + 1)) + length tail))
+
+-- the growth of one list, and of those around it
+growth_more : (n from tail len : ℕ) (p : Placeholder) (ps : List Placeholder) → len + (p.position + 1) ≡ from
+    → growth (suc n) from tail (p ∷ ps) ≡ (header_len (len + tail) - 1) + growth n p.position (header_len (len + tail) + (len + tail)) ps
+growth_more n from tail len p ps is = let e : from - (p.position + 1) ≡ len = omega arith in rw e refl
+
+-- there is room for the header before the bytes, and for the headers of the lists around
+pub closes_room : (whole : List ℕ) (n : ℕ) (bytes : List ℕ) (from to : ℕ) (p : Placeholder) (ps : List Placeholder) (len at : ℕ)
+    → Closes whole (suc n) bytes from to (p ∷ ps) → len + (p.position + 1) ≡ from → at + len ≡ to
+    → p.position + growth n p.position (header_len (len + (length bytes - to)) + (len + (length bytes - to))) ps + header_len (len + (length bytes - to)) ≡ at
+closes_room whole n bytes from to p ps len at h is goes =
+    let step = growth_more n from (length bytes - to) len p ps is in
+    let some = header_some (len + (length bytes - to)) in
+    omega (arith, h.room, step, some)
+
+-- one more list is closed: its last bytes are moved to their final place, and its header is written before them
+pub closes_more : (whole : List ℕ) (n : ℕ) (bytes : List ℕ) (from to : ℕ) (p : Placeholder) (ps : List Placeholder) (len at low : ℕ) (moved placed : List ℕ)
+    → Closes whole (suc n) bytes from to (p ∷ ps) → len + (p.position + 1) ≡ from → at + len ≡ to
+    → moved ≡ take at bytes ++ (take len (drop (p.position + 1) bytes) ++ drop (at + len) bytes)
+    → low + header_len (length moved - at) ≡ at
+    → placed ≡ take low moved ++ (written_header 0xc0 (length moved - at) ++ drop at moved)
+    → Closes whole n placed p.position low ps
+closes_more whole n bytes from to p ps len at low moved placed h is goes moves fits places =
+    let header = written_header 0xc0 (length moved - at) in
+    let tail = drop to bytes in
+    let stretch = take len (drop (p.position + 1) bytes) in
+    let order = h.order in
+    let below : p.position < from = order.0 in
+    let from_to : from ≤ to = omega (arith, h.room) in
+    let within : to ≤ length bytes = h.within in
+    let room = closes_room whole n bytes from to p ps len at h is goes in
+    let len_tail : length tail ≡ length bytes - to = length-drop to bytes in
+    let len_rest : length (drop (p.position + 1) bytes) ≡ length bytes - (p.position + 1) = length-drop (p.position + 1) bytes in
+    let len_stretch : length stretch ≡ len = length-take-le len (drop (p.position + 1) bytes) (omega (arith, len_rest, is, from_to, within)) in
+    let len_front : length (take at bytes) ≡ at = length-take-le at bytes (omega arith) in
+    let ends : drop (at + len) bytes ≡ tail = ap (λ n. drop n bytes) goes in
+    let is_moved : moved ≡ take at bytes ++ (stretch ++ tail) = moves ∙ ap (λ t. take at bytes ++ (stretch ++ t)) ends in
+    let len_payload : length (stretch ++ tail) ≡ len + (length bytes - to) = omega (arith, length-append stretch tail, len_stretch, len_tail) in
+    let len_moved : length moved ≡ at + (len + (length bytes - to)) = ap length is_moved
+    ∙ omega (arith, length-append (take at bytes) (stretch ++ tail), len_front, len_payload) in
+    let payload_is : length moved - at ≡ length (stretch ++ tail) = omega (arith, len_moved, len_payload) in
+    let heads_list : header ≡ written_header 0xc0 (length (stretch ++ tail)) = ap (λ n. written_header 0xc0 n) payload_is in
+    let closed : header ++ (stretch ++ tail) ≡ list_encoding (stretch ++ tail) = ap (λ b. b ++ (stretch ++ tail)) heads_list in
+    let header_is : length header ≡ header_len (len + (length bytes - to)) = ap length heads_list ∙ ap header_len len_payload in
+    let low_is : p.position + growth n p.position (header_len (len + (length bytes - to)) + (len + (length bytes - to))) ps ≡ low =
+    omega (arith, room, header_is, fits) in
+    let rest_moved : drop at moved ≡ stretch ++ tail = ap (λ b. drop at b) is_moved ∙ drop_at (take at bytes) (stretch ++ tail) at len_front in
+    let front_moved : take low moved ≡ take low bytes =
+    ap (λ b. take low b) is_moved ∙ take-append-le low (take at bytes) (stretch ++ tail) (omega arith) ∙ take-take low at bytes (omega arith) in
+    let is_placed : placed ≡ take low bytes ++ list_encoding (stretch ++ tail) = places ∙ ap (λ f. f ++ (header ++ drop at moved)) front_moved
+    ∙ ap (λ b. take low bytes ++ (header ++ b)) rest_moved ∙ ap (λ b. take low bytes ++ b) closed in
+    let len_low : length (take low bytes) ≡ low = length-take-le low bytes (omega arith) in
+    let left : take p.position placed ≡ take p.position (take from bytes) =
+    ap (λ b. take p.position b) is_placed ∙ take-append-le p.position (take low bytes) (list_encoding (stretch ++ tail)) (omega arith)
+    ∙ take-take p.position low bytes (omega arith) ∙ sym (take-take p.position from bytes (omega arith)) in
+    let stretch_is : drop (p.position + 1) (take from bytes) ≡ stretch =
+    ap (λ n. drop (p.position + 1) (take n bytes)) (let e : from ≡ (p.position + 1) + len = omega arith in e) ∙ drop-take (p.position + 1) len bytes in
+    let right : drop low placed ≡ list_encoding (drop (p.position + 1) (take from bytes) ++ tail) =
+    ap (λ b. drop low b) is_placed ∙ drop_at (take low bytes) (list_encoding (stretch ++ tail)) low len_low
+    ∙ ap (λ s. list_encoding (s ++ tail)) (sym stretch_is) in
+    let len_right : length placed - low ≡ header_len (len + (length bytes - to)) + (len + (length bytes - to)) =
+    let all : length placed ≡ low + length (list_encoding (stretch ++ tail)) = ap length is_placed
+    ∙ omega (arith, length-append (take low bytes) (list_encoding (stretch ++ tail)), len_low) in
+    let enc : length (list_encoding (stretch ++ tail)) ≡ header_len (length (stretch ++ tail)) + length (stretch ++ tail) =
+    length-append (written_header 0xc0 (length (stretch ++ tail))) (stretch ++ tail) in
+    let same : header_len (length (stretch ++ tail)) ≡ header_len (len + (length bytes - to)) = ap header_len len_payload in
+    omega (arith, all, enc, same, len_payload) in
+    record {
+      known = ap (λ b. closed_bytes n b (drop low placed) ps) left ∙ ap (λ t. closed_bytes n (take p.position (take from bytes)) t ps) right ∙ h.known;
+      room = ap (λ t. p.position + growth n p.position t ps) len_right ∙ low_is;
+      within = omega (arith, len_right, header_some (len + (length bytes - to)));
+      order = order.1;
+      enough = omega (arith, h.enough);
+    }
+
+-- the same, if the list is the last in the order in which they were opened
+pub closes_popped : (whole : List ℕ) (left n : ℕ) (bytes : List ℕ) (from to : ℕ) (lists rest : List Placeholder) (p : Placeholder)
+    → Closes whole left bytes from to (reverse lists) → lists ≡ rest ++ p ∷ [] → left ≡ suc n → Closes whole (suc n) bytes from to (p ∷ reverse rest)
+closes_popped whole left n bytes from to lists rest p h is more =
+    subst (λ m. Closes whole m bytes from to (p ∷ reverse rest)) more
+    (subst (λ ps. Closes whole left bytes from to ps) (ap reverse is ∙ reverse_push rest p) h)
+
+-- past the innermost list, by the list that was taken from the others
+pub dropped_popped : (left n : ℕ) (lists rest : List Placeholder) (p : Placeholder) → lists ≡ rest ++ p ∷ [] → left ≡ suc n
+    → drop left (reverse lists) ≡ drop n (reverse rest)
+dropped_popped left n lists rest p is more =
+    ap (λ m. drop m (reverse lists)) more ∙ ap (λ ps. drop (suc n) ps) (ap reverse is ∙ reverse_push rest p)
+
+-- moving bytes doesn't change the length
+pub shifted_len : (bytes : List ℕ) (begin len at : ℕ) → begin ≤ at → at + len ≤ length bytes
+    → length (take at bytes ++ (take len (drop begin bytes) ++ drop (at + len) bytes)) ≡ length bytes
+shifted_len bytes begin len at forward within =
+    let stretch = take len (drop begin bytes) in
+    let tail = drop (at + len) bytes in
+    omega (
+      arith,
+      length-append (take at bytes) (stretch ++ tail),
+      length-append stretch tail,
+      length-take-le at bytes (omega arith),
+      length-take-le len (drop begin bytes) (omega (arith, length-drop begin bytes)),
+      length-drop begin bytes,
+      length-drop (at + len) bytes,
+    )
+
+-- the header fits between the placeholder and the moved bytes
+pub closes_fits : (whole : List ℕ) (n : ℕ) (bytes : List ℕ) (from to : ℕ) (p : Placeholder) (ps : List Placeholder) (len at : ℕ) (moved : List ℕ)
+    → Closes whole (suc n) bytes from to (p ∷ ps) → len + (p.position + 1) ≡ from → at + len ≡ to
+    → moved ≡ take at bytes ++ (take len (drop (p.position + 1) bytes) ++ drop (at + len) bytes)
+    → (header_len (length moved - at) + p.position ≤ at) × (at ≤ length moved)
+closes_fits whole n bytes from to p ps len at moved h is goes moves =
+    let room = closes_room whole n bytes from to p ps len at h is goes in
+    let len_moved : length moved ≡ length bytes = ap length moves
+    ∙ shifted_len bytes (p.position + 1) len at (omega (arith, h.room)) (omega (arith, h.within)) in
+    let payload : length moved - at ≡ len + (length bytes - to) = omega (arith, len_moved, h.within) in
+    let header_is : header_len (length moved - at) ≡ header_len (len + (length bytes - to)) = ap header_len payload in
+    (omega (arith, room, header_is), omega (arith, len_moved, h.within))
+
+-- the bytes before the closed lists, by the list that was taken from the others
+pub left_popped : (left n end : ℕ) (lists rest : List Placeholder) (p : Placeholder) → lists ≡ rest ++ p ∷ [] → left ≡ suc n
+    → left_of left end (reverse lists) ≡ left_of n p.position (reverse rest)
+left_popped left n end lists rest p is more =
+    ap (λ m. left_of m end (reverse lists)) more ∙ ap (λ ps. left_of (suc n) end ps) (ap reverse is ∙ reverse_push rest p)
+
+-- ---- the innermost list that stays open
+
+counted_by : (full : Bool) (k : ℕ) (p : Placeholder) (ps : List Placeholder) → is_last k p.awaits ≡ full
+    → counted 1 ps ≡ with_innermost (awaits_after 1) (drop (filled 1 ps) ps)
+    → counted k (p ∷ ps) ≡ with_innermost (awaits_after (cond full 1 k)) (drop (filled k (p ∷ ps)) (p ∷ ps))
+counted_by true k p ps e around = rw e around
+counted_by false k p ps e around = rw e refl
+
+-- after the count of one item, the innermost list that stays open awaits one fewer
+pub counted_one : (ps : List Placeholder) → counted 1 ps ≡ with_innermost (awaits_after 1) (drop (filled 1 ps) ps)
+counted_one [] = refl
+counted_one (p ∷ ps) = counted_by (is_last 1 p.awaits) 1 p ps refl (counted_one ps) ∙ cond_same (is_last 1 p.awaits)
+  where
+    cond_same : (full : Bool) → with_innermost (awaits_after (cond full 1 1)) (drop (filled 1 (p ∷ ps)) (p ∷ ps))
+        ≡ with_innermost (awaits_after 1) (drop (filled 1 (p ∷ ps)) (p ∷ ps))
+    cond_same true = refl
+    cond_same false = refl
+
+-- after a count, the innermost list that stays open awaits fewer items, by the number of items counted in it
+pub counted_is : (k more : ℕ) (ps : List Placeholder) → (filled k ps ≡ 0 → more ≡ k) → (0 < filled k ps → more ≡ 1)
+    → counted k ps ≡ with_innermost (awaits_after more) (drop (filled k ps) ps)
+counted_is k more [] none some = refl
+counted_is k more (p ∷ ps) none some = with_more (is_last k p.awaits) refl
+  where
+    with_more : (full : Bool) → is_last k p.awaits ≡ full → counted k (p ∷ ps) ≡ with_innermost (awaits_after more) (drop (filled k (p ∷ ps)) (p ∷ ps))
+    with_more true e =
+        let closes : filled k (p ∷ ps) ≡ suc (filled 1 ps) = rw e refl in
+        counted_by true k p ps e (counted_one ps) ∙ ap (λ m. with_innermost (awaits_after m) (drop (filled k (p ∷ ps)) (p ∷ ps))) (sym (some (omega arith)))
+    with_more false e =
+        let closes : filled k (p ∷ ps) ≡ 0 = rw e refl in
+        counted_by false k p ps e (counted_one ps) ∙ ap (λ m. with_innermost (awaits_after m) (drop (filled k (p ∷ ps)) (p ∷ ps))) (sym (none closes))
+
+-- the number of moved bytes grows by the length of the bytes that are moved
+pub moved_within : (begin at len old new : ℕ) → begin ≤ at → (begin < at → new ≡ old + len) → (begin ≡ at → new ≡ old) → new ≤ old + len
+moved_within begin at len old new forward counts stays =
+    ⊎_elim (λ before. omega (arith, counts before)) (λ after. omega (arith, stays (omega arith))) (cases_lt begin at)
+
+-- and it doesn't shrink
+pub moved_more : (begin at len old new : ℕ) → begin ≤ at → (begin < at → new ≡ old + len) → (begin ≡ at → new ≡ old) → old ≤ new
+moved_more begin at len old new forward counts stays =
+    ⊎_elim (λ before. omega (arith, counts before)) (λ after. omega (arith, stays (omega arith))) (cases_lt begin at)
+
+-- places that descend from a lower place also descend from a higher one
+pub descends_le : (low high : ℕ) (ps : List Placeholder) → low ≤ high → Descends low ps → Descends high ps
+descends_le low high [] le d = tt
+descends_le low high (p ∷ ps) le d = (omega (arith, d.0), d.1)
+
+-- the innermost list is the last in the order in which they were opened
+set_last_reversed : (change : Option ℕ → Option ℕ) (n : ℕ) (ps : List Placeholder) (p q : Placeholder) → 0 < length (reverse ps)
+    → n ≡ length (reverse ps) - 1 → p ≡ get_or (reverse ps) n p → q ≡ record p { awaits = change p.awaits }
+    → reverse (set (reverse ps) n q) ≡ with_innermost change ps
+set_last_reversed change n [] p q some last is new = absurd (let no : 0 < 0 = some in omega arith)
+set_last_reversed change n (u ∷ ps) p q some last is new =
+    let opened : reverse (u ∷ ps) ≡ reverse ps ++ u ∷ [] = reverse-append (u ∷ []) ps in
+    let place : length (reverse ps) ≡ n = omega (arith, last, ap length opened, length_push (reverse ps) u) in
+    let same : p ≡ u = is ∙ ap (λ z. get_or z n p) opened ∙ get_or_at (reverse ps) u [] p n place in
+    let after : set (reverse (u ∷ ps)) n q ≡ reverse ps ++ q ∷ [] = ap (λ z. set z n q) opened ∙ set_at (reverse ps) u [] q n place in
+    let back : reverse (set (reverse (u ∷ ps)) n q) ≡ q ∷ ps = ap reverse after ∙ reverse_push (reverse ps) q ∙ ap (λ z. q ∷ z) (reverse-reverse ps) in
+    let with : Placeholder → Placeholder = λ r. record r { awaits = change r.awaits } in
+    back ∙ ap (λ z. z ∷ ps) (new ∙ ap with same)
+
+-- changing what the last list awaits changes the innermost list
+pub set_last : (change : Option ℕ → Option ℕ) (n : ℕ) (lists : List Placeholder) (p q : Placeholder) → 0 < length lists → n ≡ length lists - 1
+    → p ≡ get_or lists n p → q ≡ record p { awaits = change p.awaits }
+    → reverse (set lists n q) ≡ with_innermost change (reverse lists)
+set_last change n lists p q some last is new =
+    let same : reverse (reverse lists) ≡ lists = reverse-reverse lists in
+    subst (λ ls. reverse (set ls n q) ≡ with_innermost change (reverse lists)) same
+    (set_last_reversed change n (reverse lists) p q (rw same some) (rw same last) (rw same is) new)
+
+-- ---- what the innermost lists await
+
+-- an element that is set, in the reversed list
+reverse_set : (xs : List Placeholder) (i k : ℕ) (q : Placeholder) → i + k + 1 ≡ length xs → reverse (set xs i q) ≡ set (reverse xs) k q
+reverse_set [] i k q e = absurd (omega (arith, e))
+reverse_set (x ∷ xs) zero k q e =
+    reverse-append (q ∷ []) xs ∙ sym (ap (λ z. set z k q) (reverse-append (x ∷ []) xs)
+    ∙ set_at (reverse xs) x [] q k (omega (arith, e, length-reverse xs)))
+reverse_set (x ∷ xs) (suc i) k q e =
+    reverse-append (x ∷ []) (set xs i q) ∙ ap (λ z. z ++ x ∷ []) (reverse_set xs i k q (omega (arith, e)))
+    ∙ sym (ap (λ z. set z k q) (reverse-append (x ∷ []) xs) ∙ set-append_left (reverse xs) (x ∷ []) k q (omega (arith, e, length-reverse xs)))
+
+-- one more list awaits that number of items
+awaits_next : (k : ℕ) (w : Option ℕ) (ps : List Placeholder) (d : Placeholder) → k < length ps
+    → set (with_awaits k w ps) k (record (get_or (with_awaits k w ps) k d) { awaits = w }) ≡ with_awaits (suc k) w ps
+awaits_next k w [] d within = absurd (omega (arith, within))
+awaits_next zero w (p ∷ ps) d within = refl
+awaits_next (suc k) w (p ∷ ps) d within = ap (λ qs. record p { awaits = w } ∷ qs) (awaits_next k w ps d (omega (arith, within)))
+
+pub length-with_awaits : (n : ℕ) (w : Option ℕ) (ps : List Placeholder) → length (with_awaits n w ps) ≡ length ps
+length-with_awaits zero w ps = refl
+length-with_awaits (suc n) w [] = refl
+length-with_awaits (suc n) w (p ∷ ps) = ap suc (length-with_awaits n w ps)
+
+-- the same in the order in which the lists were opened
+pub awaits_set : (k i : ℕ) (w : Option ℕ) (old lists : List Placeholder) (p : Placeholder) → i + k + 1 ≡ length lists
+    → reverse lists ≡ with_awaits k w (reverse old) → p ≡ get_or lists i p
+    → reverse (set lists i (record p { awaits = w })) ≡ with_awaits (suc k) w (reverse old)
+awaits_set k i w old lists p place so_far is =
+    let size : k < length (reverse old) = omega (arith, place, length-reverse lists, ap length so_far, length-with_awaits k w (reverse old)) in
+    let mirrored : get_or (reverse lists) k p ≡ get_or lists (length lists - 1 - k) p = get_or-reverse lists k p (omega arith) in
+    let here : length lists - 1 - k ≡ i = omega (arith, place) in
+    let item : p ≡ get_or (with_awaits k w (reverse old)) k p =
+    is ∙ ap (λ n. get_or lists n p) (sym here) ∙ sym mirrored ∙ ap (λ qs. get_or qs k p) so_far in
+    let change : Placeholder → Placeholder = λ q. record q { awaits = w } in
+    reverse_set lists i k (change p) place ∙ ap (λ qs. set qs k (change p)) so_far
+    ∙ ap (λ q. set (with_awaits k w (reverse old)) k (change q)) item ∙ awaits_next k w (reverse old) p size
+
+restored_by : (n position : ℕ) (v w : Option ℕ) (ps : List Placeholder) → suc n ≤ unbounded_innermost (record { position = position; awaits = v } ∷ ps)
+    → (n ≤ unbounded_innermost ps → with_awaits n None (with_awaits n w ps) ≡ ps)
+    → with_awaits (suc n) None (with_awaits (suc n) w (record { position = position; awaits = v } ∷ ps)) ≡ record { position = position; awaits = v } ∷ ps
+restored_by n position None w ps few rest = ap (λ qs. record { position = position; awaits = None } ∷ qs) (rest (omega (arith, few)))
+restored_by n position (Some v) w ps few rest = absurd (omega (arith, few))
+
+-- unbounded lists that are made unbounded again are as before
+pub awaits_restored : (n : ℕ) (w : Option ℕ) (ps : List Placeholder) → n ≤ unbounded_innermost ps → with_awaits n None (with_awaits n w ps) ≡ ps
+awaits_restored zero w ps few = refl
+awaits_restored (suc n) w [] few = refl
+awaits_restored (suc n) w (p ∷ ps) few = restored_by n p.position p.awaits w ps few (awaits_restored n w ps)
+
+-- only open lists are unbounded
+pub unbounded_le : (ps : List Placeholder) → unbounded_innermost ps ≤ length ps
+unbounded_le [] = omega arith
+unbounded_le (p ∷ ps) =
+    let rest = unbounded_le ps in
+    cond_both (is_none p.awaits) (suc (unbounded_innermost ps)) 0 (λ n. n ≤ suc (length ps)) (λ _. omega (arith, rest)) (λ _. omega arith)
+
+-- ---- the search for unbounded lists
+
+-- the progress of the search: this number of lists is found, and the next are `ps`
+pub record Found (most : ℕ) (whole : List Placeholder) (count : ℕ) (ps : List Placeholder) : Type 0 where
+  pub within : count ≤ most
+  pub all : min most (unbounded_innermost whole) ≡ count + min (most - count) (unbounded_innermost ps)
+
+-- bytes that are already at their place
+pub shifted_none : (bytes : List ℕ) (from len to : ℕ) → from ≡ to → bytes ≡ take to bytes ++ (take len (drop from bytes) ++ drop (to + len) bytes)
+shifted_none bytes from len to same =
+    let back : take len (drop to bytes) ++ drop (to + len) bytes ≡ drop to bytes =
+    ap (λ t. take len (drop to bytes) ++ t) (sym (drop-drop len to bytes)) ∙ take-append-drop len (drop to bytes) in
+    sym (ap (λ n. take to bytes ++ (take len (drop n bytes) ++ drop (to + len) bytes)) same ∙ ap (λ t. take to bytes ++ t) back ∙ take-append-drop to bytes)

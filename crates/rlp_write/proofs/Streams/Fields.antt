@@ -1,0 +1,209 @@
+-- Values that are appended one after another, such as the fields of a struct.
+use Rattle.std.proofs.Common.{◌≡◌, ◌<◌, ◌≤◌, ◌+◌, ◌^◌, ℕ, Option, Some, None, zero, suc, List, [], ◌∷◌, ◌++◌, length, take, get_or, map, refl, sym}
+use Rattle.std.proofs.Common.{ap, ◌∙◌, subst, arith, append-nil, append_assoc, length-append}
+use Rattle.std.proofs.lemmas.List.{length-map}
+use Rattle.std.specs.Prelude.{MatchOption, SomeIff}
+use Rattle.rlp_format.specs.Format.WrittenHeader.{written_header}
+use Rattle.rlp_format.specs.Format.Item.{Item, list_of}
+use Rattle.rlp_format.specs.Format.Encoding.{encoding, join}
+use Rattle.rlp_format.specs.Lemmas.Encodings.{encoding_list, form, form_some}
+use Rattle.rlp_write.specs.Streams.Stream.{State, Seen, HasRoomFor, Retains, add, add_all, put_item, raw_text}
+use Rattle.rlp_write.proofs.Streams.Closings.{header_some}
+use Rattle.rlp_write.proofs.Streams.Rooms.{raw_add, raw_add_all}
+use Rattle.rlp_write.specs.Streams.Calls.{with_list_of}
+use Rattle.rlp_write.specs.Streams.Growth.{GrowsTo}
+use Rattle.rlp_write.specs.Streams.Fields.{AppendsSome}
+use Rattle.rlp_format.specs.Values.Value.{all_items}
+use Rattle.rlp_write.proofs.Streams.Filling.{filled_list, grows_filling}
+
+add_all-append : (xs ys : List Item) (s : State) → add_all (xs ++ ys) s ≡ add_all ys (add_all xs s)
+add_all-append [] ys s = refl
+add_all-append (x ∷ xs) ys s = add_all-append xs ys (add x s)
+
+-- none was appended
+pub some_none : (x : Item) (xs : List Item) (s t : State) → t ≡ s → AppendsSome (x ∷ xs) s t
+some_none x xs s t is = record { before = []; next = x; after = xs; all = refl; is = is }
+
+-- some of the first, and so of all
+pub some_first : (xs ys : List Item) (s t : State) → AppendsSome xs s t → AppendsSome (xs ++ ys) s t
+some_first xs ys s t p = record {
+  before = p.before;
+  next = p.next;
+  after = p.after ++ ys;
+  all = ap (λ zs. zs ++ ys) p.all
+      ∙ append_assoc p.before (p.next ∷ p.after) ys;
+  is = p.is;
+}
+
+-- the first, and some of the others
+pub some_second : (xs ys : List Item) (s t u : State) → t ≡ add_all xs s → AppendsSome ys t u → AppendsSome (xs ++ ys) s u
+some_second xs ys s t u first p =
+    record {
+      before = xs ++ p.before;
+      next = p.next;
+      after = p.after;
+      all = ap (λ zs. xs ++ zs) p.all ∙ sym (append_assoc xs p.before (p.next ∷ p.after));
+      is = p.is ∙ ap (add_all p.before) first ∙ sym (add_all-append xs p.before s);
+    }
+
+-- the first, and then the others
+pub both_added : (xs ys : List Item) (s t u : State) → t ≡ add_all xs s → u ≡ add_all ys t → u ≡ add_all (xs ++ ys) s
+both_added xs ys s t u first second = second ∙ ap (add_all ys) first ∙ sym (add_all-append xs ys s)
+
+-- a part of the items of a list that was begun
+pub some_grows : (xs : List Item) (n : ℕ) (s t u : State) → n ≡ length xs → t ≡ with_list_of n s → AppendsSome xs t u → GrowsTo s u
+some_grows xs n s t u many begun p =
+    let few : length p.before < n = omega (arith, many, ap length p.all, length-append p.before (p.next ∷ p.after)) in
+    grows_filling p.before n s u few (p.is ∙ ap (add_all p.before) begun)
+
+-- all items of a list that was begun
+pub all_fill : (xs : List Item) (n : ℕ) (s t u : State) → n ≡ length xs → t ≡ with_list_of n s → u ≡ add_all xs t → u ≡ put_item (list_of xs) s
+all_fill xs n s t u many begun added = filled_list xs n s u (sym many) (added ∙ ap (add_all xs) begun)
+
+-- ---- room for the items
+
+-- a stream with room for all items has room for the first
+pub room_for_first : (xs ys : List Item) (v : Seen) → HasRoomFor v (add_all (xs ++ ys) v.state) → HasRoomFor v (add_all xs v.state)
+room_for_first xs ys v has =
+    let all = ap (λ (s : State). length (raw_text s)) (add_all-append xs ys v.state) in
+    let more = raw_add_all ys (add_all xs v.state) in
+    record { enough = omega (arith, all, more, has.enough); few = omega (arith, all, more, has.few) }
+
+-- and after the first, for the others
+pub room_for_others : (xs ys : List Item) (v w : Seen) → w.state ≡ add_all xs v.state → Retains v w → HasRoomFor v (add_all (xs ++ ys) v.state)
+    → HasRoomFor w (add_all ys w.state)
+unfolding Retains
+room_for_others xs ys v w first keeps has =
+    let all = ap (λ (s : State). length (raw_text s)) (both_added xs ys v.state w.state (add_all ys w.state) first refl) in
+    record { enough = omega (arith, all, keeps.room, has.enough); few = omega (arith, all, has.few) }
+
+-- a stream with room for a list has room for one byte more
+pub room_to_begin : (xs : List Item) (v : Seen) → HasRoomFor v (put_item (list_of xs) v.state) → 1 ≤ v.spare
+room_to_begin xs v has =
+    let more = raw_add (list_of xs) v.state in
+    let whole = ap length (encoding_list xs) in
+    omega (arith, more, whole, has.enough, header_some (length (join xs)), length-append (written_header 0xc0 (length (join xs))) (join xs))
+
+-- and after the list was begun, for its items
+pub room_to_fill : (xs : List Item) (n : ℕ) (v w : Seen) → n ≡ length xs → w.state ≡ with_list_of n v.state → Retains v w
+    → HasRoomFor v (put_item (list_of xs) v.state) → HasRoomFor w (add_all xs w.state)
+unfolding Retains
+room_to_fill xs n v w many begun keeps has =
+    let all = ap (λ (s : State). length (raw_text s)) (all_fill xs n v.state w.state (add_all xs w.state) many begun refl) in
+    record { enough = omega (arith, all, keeps.room, has.enough); few = omega (arith, all, has.few) }
+
+-- a stream with room for the list of no items has room for it as an item
+pub room_for_empty : (xs : List Item) (n : ℕ) (v : Seen) → n ≡ length xs → n ≡ 0 → HasRoomFor v (put_item (list_of xs) v.state) → HasRoomFor v (with_list_of 0 v.state)
+room_for_empty [] n v many none has = record { enough = has.enough; few = has.few }
+room_for_empty (x ∷ xs) n v many none has = absurd (omega (arith, many, none))
+
+-- so a list is begun if there is room for it, and for one more open list
+pub begins : (xs : List Item) (n : ℕ) (v : Seen) (R : Type 0) → n ≡ length xs → (0 < n → 1 ≤ v.spare → 1 ≤ v.spare_lists → R)
+    → (n ≡ 0 → HasRoomFor v (with_list_of 0 v.state) → R) → 1 ≤ v.spare_lists → HasRoomFor v (put_item (list_of xs) v.state) → R
+begins xs zero v R many some none lists has = none refl (room_for_empty xs zero v many refl has)
+begins xs (suc n) v R many some none lists has = some (omega arith) (room_to_begin xs v has) lists
+
+-- items have a byte each, or more
+joined_len : (xs : List Item) → length (join xs) < 2 ^ 64 → length xs ≤ length (join xs)
+joined_len [] few = omega arith
+joined_len (x ∷ xs) few =
+    let both = length-append (encoding x) (join xs) in
+    let one = form_some (encoding x) (form x (omega (arith, both, few))) in
+    let others = joined_len xs (omega (arith, both, few)) in
+    omega (arith, both, one, others)
+
+-- so no stream has room for a list of 2^64 items
+pub no_room_for_many : (xs : List Item) (v : Seen) → 2 ^ 64 ≤ length xs → HasRoomFor v (put_item (list_of xs) v.state) → ⊥
+no_room_for_many xs v many has =
+    let more = raw_add (list_of xs) v.state in
+    let whole = ap length (encoding_list xs) in
+    let both = length-append (written_header 0xc0 (length (join xs))) (join xs) in
+    let each = joined_len xs (omega (arith, more, whole, both, has.few)) in
+    omega (arith, more, whole, both, each, many, has.few)
+
+-- some of no items were appended: that can't be
+pub some_of_none : (xs : List Item) (s t : State) → xs ≡ [] → ¬ AppendsSome xs s t
+some_of_none xs s t none p = let no = ap length (sym p.all ∙ none) in omega (arith, no, length-append p.before (p.next ∷ p.after))
+
+-- ---- values of one type
+
+pub items_pushed : (xs ys : List Item) (x : Item) (s t u : State) → ys ≡ xs ++ x ∷ [] → t ≡ add_all xs s → u ≡ add x t → u ≡ add_all ys s
+items_pushed xs ys x s t u more added next = next ∙ ap (add x) added ∙ sym (add_all-append xs (x ∷ []) s) ∙ ap (λ zs. add_all zs s) (sym more)
+
+-- some of the values, and not the last
+pub some_at : {A : Type 0} (item : A → Item) (values : List A) (i : ℕ) (s t : State) → i < length values → t ≡ add_all (map item (take i values)) s
+    → AppendsSome (map item values) s t
+some_at item [] i s t inside is = absurd (omega arith)
+some_at item (v ∷ vs) zero s t inside is = some_none (item v) (map item vs) s t is
+some_at item (v ∷ vs) (suc i) s t inside is =
+    let p = some_at item vs i (add (item v) s) t (omega arith) is in
+    record { before = item v ∷ p.before; next = p.next; after = p.after; all = ap (λ zs. item v ∷ zs) p.all; is = p.is }
+
+-- ---- values that are several items each
+
+-- all items of some values, and some of the next value's
+pub flattened_at : {A : Type 0} (items : A → List Item) (values : List A) (i : ℕ) (x d : A) (s t u : State) → i < length values
+    → x ≡ get_or values i d → t ≡ add_all (all_items items (take i values)) s → AppendsSome (items x) t u → AppendsSome (all_items items values) s u
+flattened_at items [] i x d s t u inside is at part = absurd (omega arith)
+flattened_at items (v ∷ vs) zero x d s t u inside is at part =
+    some_first (items v) (all_items items vs) s u (subst (λ y. AppendsSome (items y) s u) is (subst (λ t. AppendsSome (items x) t u) at part))
+flattened_at items (v ∷ vs) (suc i) x d s t u inside is at part =
+    some_second (items v) (all_items items vs) s (add_all (items v) s) u refl
+    (flattened_at items vs i x d (add_all (items v) s) t u (omega arith) is (at ∙ add_all-append (items v) (all_items items (take i vs)) s) part)
+
+all_items-next : {A : Type 0} (items : A → List Item) (values : List A) (i : ℕ) (d : A) → i < length values
+    → all_items items (take (suc i) values) ≡ all_items items (take i values) ++ items (get_or values i d)
+all_items-next items [] i d inside = absurd (omega arith)
+all_items-next items (v ∷ vs) zero d inside = append-nil (items v)
+all_items-next items (v ∷ vs) (suc i) d inside = ap (λ zs. items v ++ zs) (all_items-next items vs i d (omega arith))
+    ∙ sym (append_assoc (items v) (all_items items (take i vs)) (items (get_or vs i d)))
+
+-- the items of one more value
+all_items-more : {A : Type 0} (items : A → List Item) (values : List A) (i : ℕ) (x d : A) → i < length values → x ≡ get_or values i d
+    → all_items items (take (i + 1) values) ≡ all_items items (take i values) ++ items x
+all_items-more items values i x d inside is =
+    let one_more : i + 1 ≡ suc i = omega arith in
+    ap (λ n. all_items items (take n values)) one_more ∙ all_items-next items values i d inside ∙ ap (λ y. all_items items (take i values) ++ items y) (sym is)
+
+-- one more value
+pub flattened_pushed : {A : Type 0} (items : A → List Item) (values : List A) (i : ℕ) (x d : A) (s t u : State) → i < length values
+    → x ≡ get_or values i d → t ≡ add_all (all_items items (take i values)) s → u ≡ add_all (items x) t
+    → u ≡ add_all (all_items items (take (i + 1) values)) s
+flattened_pushed items values i x d s t u inside is at next =
+    next ∙ ap (add_all (items x)) at ∙ sym (add_all-append (all_items items (take i values)) (items x) s)
+    ∙ ap (λ zs. add_all zs s) (sym (all_items-more items values i x d inside is))
+
+-- ---- the number of items
+
+-- some values have no more items than all
+counted_within : {A : Type 0} (items : A → List Item) (values : List A) (i : ℕ) → length (all_items items (take i values)) ≤ length (all_items items values)
+counted_within items [] zero = omega arith
+counted_within items [] (suc i) = omega arith
+counted_within items (v ∷ vs) zero = omega arith
+counted_within items (v ∷ vs) (suc i) =
+    let others = counted_within items vs i in
+    omega (arith, others, length-append (items v) (all_items items (take i vs)), length-append (items v) (all_items items vs))
+
+-- with one more value
+pub counted_more : {A : Type 0} (items : A → List Item) (values : List A) (i n m : ℕ) (x d : A) → i < length values → x ≡ get_or values i d
+    → n ≡ length (all_items items (take i values)) → m ≡ length (items x) → n + m ≡ length (all_items items (take (i + 1) values))
+counted_more items values i n m x d inside is before one =
+    let whole : length (all_items items (take (i + 1) values)) ≡ length (all_items items (take i values)) + length (items x) =
+    ap length (all_items-more items values i x d inside is) ∙ length-append (all_items items (take i values)) (items x) in
+    omega (arith, whole, before, one)
+
+-- one value and those before it have no more items than all
+pub counted_so_far : {A : Type 0} (items : A → List Item) (values : List A) (i : ℕ) (x d : A) → i < length values → x ≡ get_or values i d
+    → length (all_items items (take i values)) + length (items x) ≤ length (all_items items values)
+counted_so_far items values i x d inside is =
+    let sum = counted_more items values i (length (all_items items (take i values))) (length (items x)) x d inside is refl refl in
+    let few = counted_within items values (i + 1) in
+    omega (arith, sum, few)
+
+-- with the items of other values
+pub counted_both : (xs ys : List Item) (n m : ℕ) (o : Option ℕ) → n ≡ length xs → m ≡ length ys → SomeIff o (n + m < 2 ^ 64) (n + m)
+    → MatchOption o (2 ^ 64 ≤ length (xs ++ ys)) (λ k. k ≡ length (xs ++ ys))
+counted_both xs ys n m None first second not = omega (arith, length-append xs ys, first, second, not)
+counted_both xs ys n m (Some k) first second (fits, is) = omega (arith, length-append xs ys, first, second, is)
+
+pub ruleset counts = (length-map, counted_both)

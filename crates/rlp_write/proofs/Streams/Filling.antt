@@ -1,0 +1,95 @@
+-- A list that is opened, and filled item by item. Authors of an `Encodable` that is a list need these lemmas.
+use Rattle.std.proofs.Common.{◌≡◌, ℕ, zero, suc, ◌+◌, ◌-◌, ◌<◌, ◌≤◌, ◌||◌, Bool, false, List, [], ◌∷◌, ◌++◌, length, take, get_or, Some}
+use Rattle.std.proofs.Common.{refl, sym, ◌∙◌, ap, subst, arith, append_assoc, append-nil}
+use Rattle.std.specs.List.{All}
+use Rattle.std.proofs.lemmas.List.Elements.{All-more}
+use Rattle.rlp_format.specs.Format.WrittenHeader.{written_header}
+use Rattle.rlp_format.specs.Format.Item.{Item, list, Items, no_items, item_and, list_of, is_list}
+use Rattle.rlp_format.specs.Format.Encoding.{encoding, join_items}
+use Rattle.rlp_write.specs.Streams.Stack.{OpenList}
+use Rattle.rlp_write.specs.Streams.Stream.{State, add, put_item, with_list, add_all}
+use Rattle.rlp_write.specs.Streams.Calls.{with_list_of}
+use Rattle.rlp_write.proofs.Streams.Rooms.{retains_same, retains_trans}
+use Rattle.rlp_write.specs.Streams.Growth.{GrowsTo}
+use Rattle.rlp_write.proofs.Streams.Listed.{list_filled, add_more, or_true}
+use Rattle.rlp_write.proofs.Streams.Growth.{grows_same, grows_put, grows_with_list, grows_in_list, grows_trans}
+
+-- all items are added, and then one more
+pub add_all-push : (xs : List Item) (x : Item) (s : State) → add_all (xs ++ x ∷ []) s ≡ add x (add_all xs s)
+add_all-push [] x s = refl
+add_all-push (y ∷ xs) x s = add_all-push xs x (add y s)
+
+-- a list that awaits more than the items that were added stays open
+record StaysOpen (s t : State) (outer : List ℕ) (ls : List (OpenList ℕ)) : Type 0 where
+  pub l : OpenList ℕ
+  pub front : t.front ≡ s.front
+  pub lists : t.stack.lists ≡ l ∷ ls
+  pub around : l.outer ≡ outer
+
+stays_open : (xs : List Item) (n : ℕ) (f p outer : List ℕ) (ls : List (OpenList ℕ)) (m : Bool) → length xs < n
+    → StaysOpen (record { front = f; stack = record { inner = p; lists = record { awaits = Some n; outer = outer } ∷ ls }; is_counted = m })
+    (add_all xs (record { front = f; stack = record { inner = p; lists = record { awaits = Some n; outer = outer } ∷ ls }; is_counted = m })) outer ls
+stays_open [] n f p outer ls m few = record { l = record { awaits = Some n; outer = outer }; front = refl; lists = refl; around = refl }
+stays_open (x ∷ xs) zero f p outer ls m few = absurd (omega arith)
+stays_open (x ∷ xs) (suc zero) f p outer ls m few = absurd (omega arith)
+stays_open (x ∷ xs) (suc (suc n)) f p outer ls m few =
+    let r = stays_open xs (suc n) f (p ++ encoding x) outer ls (is_list x || false) (omega arith) in
+    let old : State = record { front = f; stack = record { inner = p; lists = record { awaits = Some (suc (suc n)); outer = outer } ∷ ls }; is_counted = m } in
+    let next : State = record {
+      front = f;
+      stack = record { inner = p ++ encoding x; lists = record { awaits = Some (suc n); outer = outer } ∷ ls };
+      is_counted = is_list x || false;
+    } in
+    subst (λ (t : State). StaysOpen old (add_all xs t) outer ls) (sym (add_more n x f p outer ls m))
+    (record { l = r.l; front = r.front; lists = r.lists; around = r.around })
+
+-- if a call is refused before the list is full, the state has grown from the state before the list
+pub grows_filling : (xs : List Item) (n : ℕ) (s t : State) → length xs < n → t ≡ add_all xs (with_list_of n s) → GrowsTo s t
+grows_filling xs zero s t few is = absurd (omega arith)
+grows_filling xs (suc n) s t few is =
+    let r = stays_open xs (suc n) s.front [] s.stack.inner s.stack.lists false few in
+    subst (λ (u : State). GrowsTo s u) (sym is) (grows_in_list s (add_all xs (with_list (Some (suc n)) s)) r.l r.front r.lists r.around)
+
+-- a full list is written as its item
+pub filled_list : (xs : List Item) (n : ℕ) (s t : State) → length xs ≡ n → t ≡ add_all xs (with_list_of n s) → t ≡ put_item (list_of xs) s
+filled_list [] n s t e is = is ∙ ap (λ k. with_list_of k s) (sym e)
+filled_list (x ∷ xs) n s t e is = is ∙ ap (λ k. add_all (x ∷ xs) (with_list_of k s)) (sym e) ∙ list_filled x xs s
+
+-- one more value of its type
+pub all_more : {A : Type 0} (P : A → Type 0) (values : List A) (i : ℕ) (x d : A) → i < length values → x ≡ get_or values i d → All P (take i values) → P x
+    → All P (take (i + 1) values)
+all_more P values i x d inside is fit one = All-more P values i d inside fit (subst P is one)
+
+-- ---- the items of a list, appended one by one
+
+-- the encoding of a list is the header of its joined items, and then the joined items
+pub encoding_of_list : (xs : Items) → encoding (list xs) ≡ written_header 0xc0 (length (join_items xs)) ++ join_items xs
+unfolding encoding
+encoding_of_list xs = refl
+
+-- the join of no items is no bytes
+pub join_none : join_items no_items ≡ []
+unfolding join_items
+join_none = refl
+
+-- the join of an item and others is its encoding and then their join
+pub join_and : (x : Item) (xs : Items) → join_items (item_and x xs) ≡ encoding x ++ join_items xs
+unfolding join_items
+join_and x xs = refl
+
+-- for authors of an `Encodable` that is a list
+pub ruleset filling = (
+  grows_same,
+  grows_put,
+  grows_with_list,
+  grows_in_list,
+  grows_trans,
+  retains_same,
+  retains_trans,
+  encoding_of_list,
+  join_none,
+  join_and,
+  or_true,
+  append_assoc,
+  append-nil,
+)

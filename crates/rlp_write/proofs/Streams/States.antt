@@ -1,0 +1,164 @@
+-- How the steps of a stream change the texts of its state.
+use Rattle.std.proofs.Common.{◌≡◌, ℕ, zero, suc, ◌+◌, ◌<◌, ◌≤◌, ◌^◌, nat_le, arith, Bool, true, false, cond, List, [], ◌∷◌, ◌++◌, length, replicate, flat_map}
+use Rattle.std.proofs.Common.{Option, refl, sym, ap, ◌∙◌, append-nil, append_assoc, length-append}
+use Rattle.std.proofs.lemmas.Bool.Decides.{nat_tests}
+use Rattle.std.proofs.lemmas.List.{length-replicate}
+use Rattle.std.proofs.lemmas.List.Concat.{flat_map-append}
+use Rattle.rlp_format.specs.Format.Item.{Item, string, list, is_list}
+use Rattle.rlp_format.specs.Format.WrittenHeader.{written_header}
+use Rattle.rlp_format.specs.Format.Encoding.{encoding}
+use Rattle.rlp_write.specs.Streams.Stack.{OpenList, Level, Stack, top_around, levels_around, closed_payload_around, count_around, is_last}
+use Rattle.rlp_write.specs.Streams.Calls.{effect, finalize_unbounded_list, finalized, is_within_size}
+use Rattle.rlp_write.specs.Streams.Stream.{State, IsFinished, list_encoding, put, shut, count, with_list, add, put_item, raw_text}
+use Rattle.rlp_write.specs.Streams.Stream.{closed_text, closed_size, closed_size_with}
+
+-- ---- the closed text
+
+closed_shut_around : (f : List ℕ) (p : List ℕ) (ls : List (OpenList ℕ)) (m : Bool)
+    → closed_text (shut (record { front = f; stack = record { inner = p; lists = ls }; is_counted = m })) ≡ closed_payload_around list_encoding p ls
+closed_shut_around f p [] m = refl
+closed_shut_around f p (l ∷ ls) m = refl
+
+-- closing a list doesn't change the closed text
+pub closed_text-shut : (s : State) → closed_text (shut s) ≡ closed_text s
+closed_text-shut s = closed_shut_around s.front s.stack.inner s.stack.lists s.is_counted
+
+cond_closed : (b : Bool) (x y : Stack ℕ) (c : List ℕ) → closed_payload_around list_encoding x.inner x.lists ≡ c
+    → closed_payload_around list_encoding y.inner y.lists ≡ c
+    → closed_payload_around list_encoding (cond b x y).inner (cond b x y).lists ≡ c
+cond_closed true x y c e f = e
+cond_closed false x y c e f = f
+
+closed_count_around : (k : ℕ) (p : List ℕ) (ls : List (OpenList ℕ)) →
+    closed_payload_around list_encoding (count_around list_encoding k p ls).inner (count_around list_encoding k p ls).lists
+    ≡ closed_payload_around list_encoding p ls
+closed_count_around k p [] = refl
+closed_count_around k p (l ∷ ls) =
+    cond_closed (is_last k l.awaits) _ _ _ (closed_count_around 1 (l.outer ++ list_encoding p) ls) refl
+
+-- neither does a count
+pub closed_text-count : (k : ℕ) (s : State) → closed_text (count k s) ≡ closed_text s
+closed_text-count k s = closed_count_around k s.stack.inner s.stack.lists
+
+-- ---- the closed size
+
+length-list_encoding : (p q : List ℕ) → length p ≡ length q → length (list_encoding p) ≡ length (list_encoding q)
+length-list_encoding p q e =
+    length-append (written_header 0xc0 (length p)) p ∙ ap (λ n. length (written_header 0xc0 n) + n) e ∙ sym (length-append (written_header 0xc0 (length q)) q)
+
+length-closed_payload_around : (p q : List ℕ) (ls : List (OpenList ℕ)) → length p ≡ length q
+    → length (closed_payload_around list_encoding p ls) ≡ length (closed_payload_around list_encoding q ls)
+length-closed_payload_around p q [] e = e
+length-closed_payload_around p q (l ∷ ls) e =
+    length-closed_payload_around (l.outer ++ list_encoding p) (l.outer ++ list_encoding q) ls
+    (length-append l.outer (list_encoding p) ∙ ap (λ n. length l.outer + n) (length-list_encoding p q e) ∙ sym (length-append l.outer (list_encoding q)))
+
+-- the closed size with bytes put, by their number
+pub closed_size-put : (x : List ℕ) (s : State) → closed_size (put x s) ≡ closed_size_with (length x) s
+closed_size-put x s =
+    length-closed_payload_around (s.stack.inner ++ x) (s.stack.inner ++ replicate (length x) 0) s.stack.lists
+    (length-append s.stack.inner x ∙ ap (λ n. length s.stack.inner + n) (sym (length-replicate (length x) 0))
+    ∙ sym (length-append s.stack.inner (replicate (length x) 0)))
+
+-- finalizing a list closes it, and counts it in the list around
+size-finalized : (n : ℕ) (s : State) → closed_size (finalized n s) ≡ closed_size s
+size-finalized zero s = refl
+size-finalized (suc n) s = size-finalized n (effect finalize_unbounded_list s) ∙ ap length (closed_text-count 1 (shut s) ∙ closed_text-shut s)
+
+pub size_kept-each : (n : ℕ) (s t : State) → t ≡ finalized n s → closed_size t ≡ closed_size s
+size_kept-each n s t e = ap closed_size e ∙ size-finalized n s
+
+-- the test of a size that was found, and of one that is too large to be found
+pub within_size-found : (bytes : List ℕ) (limit size : ℕ) (s : State) → size ≡ closed_size_with (length bytes) s
+    → nat_le size limit ≡ is_within_size bytes limit s
+within_size-found bytes limit size s e = ap (λ n. nat_le n limit) (e ∙ sym (closed_size-put bytes s))
+
+-- a size of 2^64 or more is within no limit
+pub within_size-too_large : (bytes : List ℕ) (limit : ℕ) (s : State) → limit < 2 ^ 64 → ¬ (closed_size_with (length bytes) s < 2 ^ 64)
+    → is_within_size bytes limit s ≡ false
+within_size-too_large bytes limit s small large =
+    let same = closed_size-put bytes s in
+    let above : ¬ (closed_size (put bytes s) < 2 ^ 64) = rw same large in
+    grind (arith, nat_tests)
+
+-- a size that is within the limit
+pub within_size-within : (bytes : List ℕ) (limit : ℕ) (s : State) → closed_size_with (length bytes) s ≤ limit → is_within_size bytes limit s ≡ true
+within_size-within bytes limit s within =
+    let same = closed_size-put bytes s in
+    let below : closed_size (put bytes s) ≤ limit = rw same within in
+    grind (arith, nat_tests)
+
+-- if no list is open, the closed text is all that was written
+pub closed_text-finished : (s : State) → IsFinished s → closed_text s ≡ s.stack.inner
+closed_text-finished s e = ap (closed_payload_around list_encoding s.stack.inner) e
+
+-- the bytes are then the front and the closed text
+pub out_size : (s : State) → IsFinished s → length (s.front ++ s.stack.inner) ≡ length s.front + closed_size s
+out_size s e = length-append s.front s.stack.inner ∙ ap (λ b. length s.front + length b) (sym (closed_text-finished s e))
+
+-- ---- the bytes
+
+-- the bytes of the levels
+abbrev levels_bytes : List (Level ℕ) → List ℕ
+levels_bytes = flat_map (λ (l : Level ℕ). 0 ∷ l.payload)
+
+-- the bytes of the last level are the last bytes
+levels_last : (top : List ℕ) (around : List (Level ℕ)) (l : Level ℕ) → top ++ levels_bytes (around ++ l ∷ []) ≡ (top ++ levels_bytes around) ++ (0 ∷ l.payload)
+levels_last top around l =
+    let split : levels_bytes (around ++ l ∷ []) ≡ levels_bytes around ++ ((0 ∷ l.payload) ++ []) =
+    flat_map-append (λ (l : Level ℕ). 0 ∷ l.payload) around (l ∷ []) in
+    let whole : levels_bytes (around ++ l ∷ []) ≡ levels_bytes around ++ (0 ∷ l.payload) = split
+    ∙ ap (λ (b : List ℕ). levels_bytes around ++ b) (append-nil (0 ∷ l.payload)) in
+    ap (λ (b : List ℕ). top ++ b) whole ∙ sym (append_assoc top (levels_bytes around) (0 ∷ l.payload))
+
+raw_put_around : (f p x : List ℕ) (ls : List (OpenList ℕ)) → f ++ (top_around (p ++ x) ls ++ levels_bytes (levels_around (p ++ x) ls))
+    ≡ (f ++ (top_around p ls ++ levels_bytes (levels_around p ls))) ++ x
+raw_put_around f p x [] =
+    let longer : (p ++ x) ++ [] ≡ (p ++ []) ++ x = append-nil (p ++ x) ∙ ap (λ (b : List ℕ). b ++ x) (sym (append-nil p)) in
+    ap (λ (b : List ℕ). f ++ b) longer ∙ sym (append_assoc f (p ++ []) x)
+raw_put_around f p x (l ∷ ls) =
+    let t = top_around l.outer ls in
+    let around = levels_around l.outer ls in
+    let old : Level ℕ = record { payload = p; awaits = l.awaits } in
+    let new : Level ℕ = record { payload = p ++ x; awaits = l.awaits } in
+    let longer : t ++ levels_bytes (around ++ new ∷ []) ≡ (t ++ levels_bytes (around ++ old ∷ [])) ++ x =
+    levels_last t around new ∙ (sym (append_assoc (t ++ levels_bytes around) (0 ∷ p) x) ∙ ap (λ (b : List ℕ). b ++ x) (sym (levels_last t around old))) in
+    ap (λ (b : List ℕ). f ++ b) longer ∙ sym (append_assoc f (t ++ levels_bytes (around ++ old ∷ [])) x)
+
+-- bytes that are put are the last of the raw text
+pub raw_text-put : (x : List ℕ) (s : State) → raw_text (put x s) ≡ raw_text s ++ x
+raw_text-put x s = raw_put_around s.front s.stack.inner x s.stack.lists
+
+-- a new list is a byte 0 at the end of the raw text
+pub raw_text-with_list : (awaits : Option ℕ) (s : State) → raw_text (with_list awaits s) ≡ raw_text s ++ 0 ∷ []
+raw_text-with_list awaits s =
+    let t = top_around s.stack.inner s.stack.lists in
+    let around = levels_around s.stack.inner s.stack.lists in
+    let new : Level ℕ = record { payload = []; awaits = awaits } in
+    ap (λ (b : List ℕ). s.front ++ b) (levels_last t around new) ∙ sym (append_assoc s.front (t ++ levels_bytes around) (0 ∷ []))
+
+-- ---- with no list open
+
+add_with : (x : Item) (f p : List ℕ) (ls : List (OpenList ℕ)) (m : Bool) → ls ≡ []
+    → add x (record { front = f; stack = record { inner = p; lists = ls }; is_counted = m })
+    ≡ record { front = f; stack = record { inner = p ++ encoding x; lists = [] }; is_counted = is_list x }
+add_with (string t) f p [] m e = refl
+add_with (list xs) f p [] m e = refl
+add_with x f p (l ∷ ls) m e = absurd (let no : ⊥ = cc in no)
+
+-- an item that is added to a finished stream
+pub add-finished : (x : Item) (s : State) → IsFinished s
+    → add x s ≡ record { front = s.front; stack = record { inner = s.stack.inner ++ encoding x; lists = [] }; is_counted = is_list x }
+add-finished x s e = add_with x s.front s.stack.inner s.stack.lists s.is_counted e
+
+put_item_with : (x : Item) (f p : List ℕ) (ls : List (OpenList ℕ)) (m : Bool) → ls ≡ []
+    → (put_item x (record { front = f; stack = record { inner = p; lists = ls }; is_counted = m })).stack ≡ record { inner = p ++ encoding x; lists = [] }
+put_item_with (string t) f p [] m e = refl
+put_item_with (list xs) f p [] m e = refl
+put_item_with x f p (l ∷ ls) m e = absurd (let no : ⊥ = cc in no)
+
+-- an item that is put in a finished stream
+pub put_item-finished : (x : Item) (s : State) → IsFinished s → (put_item x s).stack ≡ record { inner = s.stack.inner ++ encoding x; lists = [] }
+put_item-finished x s e = put_item_with x s.front s.stack.inner s.stack.lists s.is_counted e
+
+pub ruleset states = (raw_text-put, raw_text-with_list, closed_size-put, closed_text-shut, closed_text-count, add-finished, put_item-finished)

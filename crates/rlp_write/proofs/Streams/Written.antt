@@ -1,0 +1,132 @@
+-- Headers and strings that are written.
+use Rattle.std.proofs.Common.{◌≡◌, ℕ, ◌+◌, ◌-◌, ◌/◌, ◌%◌, ◌<◌, ◌≤◌, List, ◌∷◌, [], ◌++◌, length, take, drop, length-append, length-drop, append-nil, true}
+use Rattle.std.proofs.Common.{false, refl, sym, ap, ◌∙◌, le_trans, arith, add-one, append_assoc}
+use Rattle.std.proofs.lemmas.Bool.Decides.{nat_tests}
+use Rattle.std.proofs.lemmas.Bool.{cond-true, cond-false}
+use Rattle.std.proofs.lemmas.List.{drop-set, take-append-le, take-take, take_at, drop_at, drop_all, length-take-le, take-append-drop, take_all}
+use Rattle.std.specs.Prelude.{slice_set}
+use Rattle.rlp_format.specs.Format.Item.{string}
+use Rattle.rlp_format.specs.Format.WrittenHeader.{big_endian, written_header}
+use Rattle.rlp_format.specs.Format.Encoding.{encoding, is_low_byte, BeginsWith}
+use Rattle.rlp_format.specs.Values.Value.{number_item}
+use Rattle.rlp_format.specs.Lemmas.Digits.{big_endian_step}
+use Rattle.rlp_format.specs.Lemmas.Headers.{written_header_short, written_header_long}
+use Rattle.rlp_write.specs.Streams.Held.{Held, Keeps}
+
+-- a string that is its own encoding
+pub encoding_low : (s : List ℕ) → is_low_byte s ≡ true → encoding (string s) ≡ s
+unfolding encoding
+encoding_low s e = cond-true (is_low_byte s) s (written_header 0x80 (length s) ++ s) e
+
+-- a number that is its own encoding
+pub encoding_digit : (n : ℕ) → 0 < n → n < 0x80 → encoding (number_item n) ≡ n ∷ []
+unfolding big_endian
+encoding_digit n some low =
+    let step : big_endian n ≡ big_endian (n / 256) ++ (n % 256) ∷ [] = big_endian_step n some in
+    let none : n / 256 ≡ 0 = omega arith in
+    let same : n % 256 ≡ n = omega arith in
+    let digits : big_endian n ≡ n ∷ [] = step ∙ ap (λ m. big_endian m ++ (n % 256) ∷ []) none ∙ ap (λ d. d ∷ []) same in
+    let lone : is_low_byte (n ∷ []) ≡ true = grind (arith, nat_tests) in
+    ap (λ s. encoding (string s)) digits ∙ encoding_low (n ∷ []) lone
+
+-- any other string
+pub encoding_other : (s : List ℕ) → is_low_byte s ≡ false → encoding (string s) ≡ written_header 0x80 (length s) ++ s
+unfolding encoding
+encoding_other s e = cond-false (is_low_byte s) s (written_header 0x80 (length s) ++ s) e
+
+-- the first byte of a long header, before the digits
+pub header_set : (base n zeros first : ℕ) (bytes : List ℕ) → 55 < n → drop zeros bytes ≡ big_endian n → zeros + length (big_endian n) ≡ 8
+    → zeros ≤ length bytes → first ≡ base + 55 + (8 - zeros)
+    → drop zeros (slice_set (0 ∷ bytes) zeros first) ≡ written_header base n
+header_set base n zeros first bytes long digits len within is =
+    let value : first ≡ base + 55 + length (big_endian n) = omega arith in
+    let after : drop (zeros + 1) (0 ∷ bytes) ≡ drop zeros bytes = rw add-one refl in
+    drop-set (0 ∷ bytes) zeros first (omega arith) ∙ ap (λ ds. first ∷ ds) (after ∙ digits) ∙ ap (λ d. d ∷ big_endian n) value
+    ∙ sym (written_header_long base n long)
+
+-- the header and the string, after the old bytes
+pub header_and_string : (old s : List ℕ) → is_low_byte s ≡ false → (old ++ written_header 0x80 (length s)) ++ s ≡ old ++ encoding (string s)
+header_and_string old s e = append_assoc old (written_header 0x80 (length s)) s ∙ ap (λ b. old ++ b) (sym (encoding_other s e))
+
+-- a part is inserted at a place from which the bytes were moved further
+pub inserted : (b part moved : List ℕ) (at n : ℕ) → n + at + length part ≡ length b
+    → moved ≡ take (at + length part) b ++ (take n (drop at b) ++ drop ((at + length part) + n) b)
+    → take at moved ++ (part ++ drop (at + length part) moved) ≡ take at b ++ (part ++ take n (drop at b))
+inserted b part moved at n all is =
+    let front : length (take (at + length part) b) ≡ at + length part = length-take-le (at + length part) b (omega (arith, all)) in
+    let last : drop ((at + length part) + n) b ≡ [] = drop_all ((at + length part) + n) b (omega (arith, all)) in
+    let rest : List ℕ = take n (drop at b) ++ drop ((at + length part) + n) b in
+    let first : take at (take (at + length part) b ++ rest) ≡ take at b =
+    take-append-le at (take (at + length part) b) rest (omega (arith, front)) ∙ take-take at (at + length part) b (omega arith) in
+    let behind : drop (at + length part) (take (at + length part) b ++ rest) ≡ rest = drop_at (take (at + length part) b) rest (at + length part) front in
+    let stays : rest ≡ take n (drop at b) = ap (λ z. take n (drop at b) ++ z) last ∙ append-nil (take n (drop at b)) in
+    rw is (ap (λ z. z ++ (part ++ drop (at + length part) (take (at + length part) b ++ rest))) first ∙ ap (λ z. take at b ++ (part ++ z)) (behind ∙ stays))
+
+-- a string in a buffer, with its header inserted before it
+pub header_inserted : (b header new : List ℕ) (start : ℕ) → is_low_byte (drop start b) ≡ false → header ≡ written_header 0x80 (length (drop start b))
+    → new ≡ take start b ++ (header ++ drop start b) → new ≡ take start b ++ encoding (string (drop start b))
+header_inserted b header new start other is e =
+    e ∙ ap (λ z. take start b ++ (z ++ drop start b)) is ∙ ap (λ z. take start b ++ z) (sym (encoding_other (drop start b) other))
+
+-- a slice from a place on
+pub rest_from : (b slice : List ℕ) (start : ℕ) → slice ≡ b → take (length slice - start) (drop start slice) ≡ drop start b
+rest_from b slice start same =
+    take_all (length slice - start) (drop start slice) (omega (arith, length-drop start slice)) ∙ ap (λ z. drop start z) same
+
+-- a string that is its own encoding needs no header
+pub header_none : (b : List ℕ) (start : ℕ) → is_low_byte (drop start b) ≡ true → b ≡ take start b ++ encoding (string (drop start b))
+header_none b start low = sym (ap (λ z. take start b ++ z) (encoding_low (drop start b) low) ∙ take-append-drop start b)
+
+-- the length of an encoding with a header
+pub encoding_length : (s header : List ℕ) (room : ℕ) → is_low_byte s ≡ false → header ≡ written_header 0x80 (length s)
+    → room < length header + length s → room < length (encoding (string s))
+encoding_length s header room other is less =
+    let len = length-append (written_header 0x80 (length s)) s in
+    let whole : length (encoding (string s)) ≡ length (written_header 0x80 (length s) ++ s) = ap length (encoding_other s other) in
+    let heads : length header ≡ length (written_header 0x80 (length s)) = ap length is in
+    omega arith
+
+-- a list's header is written over the bytes in front of its payload
+pub header_placed : (b view new header : List ℕ) (payload : ℕ) → b ≡ view
+    → new ≡ take (payload - length header) b ++ (header ++ drop ((payload - length header) + length header) b)
+    → header ≡ written_header 0xc0 (length view - payload) → payload ≤ length view → length header ≤ payload
+    → take (length b) (new ++ drop (length new) b) ≡ take (payload - length header) view ++ (written_header 0xc0 (length view - payload) ++ drop payload view)
+header_placed b view new header payload same is heads within room =
+    let begin : ℕ = payload - length header in
+    let rest : List ℕ = drop (begin + length header) b in
+    let front : length (take begin b) ≡ begin = length-take-le begin b (omega (arith, within, ap length same)) in
+    let size : length new ≡ length b =
+    omega (
+      arith,
+      ap length is,
+      length-append (take begin b) (header ++ rest),
+      length-append header rest,
+      front,
+      length-drop (begin + length header) b,
+      within,
+      room,
+      ap length same,
+    ) in
+    let place : begin + length header ≡ payload = omega (arith, room) in
+    take_at new (drop (length new) b) (length b) size ∙ is ∙ ap (λ n. take begin b ++ (header ++ drop n b)) place
+    ∙ ap (λ z. take begin z ++ (header ++ drop payload z)) same ∙ ap (λ h. take begin view ++ (h ++ drop payload view)) heads
+
+-- two calls give up no room if neither does
+pub keeps_trans : (a b c : Held) → Keeps a b → Keeps b c → Keeps a c
+keeps_trans a b c g h = record { moved = le_trans g.moved h.moved; room = le_trans g.room h.room }
+
+-- the bytes of a string were put after the old ones, and then its header was inserted
+pub parts_written : (old mid new : List ℕ) (start : ℕ) (Gives : List ℕ → Type 0) → (s : List ℕ) × Gives s × (mid ≡ old ++ s) → start ≡ length old
+    → new ≡ take start mid ++ encoding (string (drop start mid)) → (s : List ℕ) × Gives s × (new ≡ old ++ encoding (string s))
+parts_written old mid new start Gives (s, gives, put) at is = (
+  s,
+  gives,
+  is ∙ ap (λ b. take start b ++ encoding (string (drop start b))) put
+      ∙ ap (λ b. b ++ encoding (string (drop start (old ++ s)))) (take_at old s start (sym at)) ∙ ap (λ b. old ++ encoding (string b)) (drop_at old s start (sym at)),
+)
+
+-- if that is refused, they still begin with the old ones
+pub parts_left : (old mid new : List ℕ) (Gives : List ℕ → Type 0) → (s : List ℕ) × Gives s × (mid ≡ old ++ s) → new ≡ mid → BeginsWith new old
+parts_left old mid new Gives (s, gives, put) same = (s, same ∙ put)
+
+pub ruleset written = (encoding_low, written_header_short, header_set, header_and_string)

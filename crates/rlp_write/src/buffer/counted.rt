@@ -1,0 +1,186 @@
+//! A buffer, and the number of its bytes that were moved to a later place.
+
+ghost use Rattle.std.specs.Prelude.{◌≡◌, ◌<◌, ◌≤◌, ◌+◌, ◌-◌, ◌^◌, ◌++◌, length, take, drop, OnOk, OnErr};
+ghost use Rattle.bytes.specs.Filled.{MakesSpare};
+ghost use Rattle.rlp_format.specs.Format.WrittenHeader.{written_header};
+ghost use Rattle.rlp_write.specs.Streams.Closing.{header_len};
+ghost use Rattle.rlp_write.specs.Streams.Held.{Keeps};
+
+use super::moving::{bring, insert, write_at};
+use crate::header::{LIST, written_header};
+use bytes::BytesMut;
+use rlp_format::count::Count;
+use std::alloc::AllocError;
+use std::marker::Model;
+
+/// The bytes of a stream. Only these methods touch them.
+///
+/// Only [`Buffer::shift`] moves bytes to a later place for a closing, and it always counts them.
+/// [`Buffer::insert`] moves the bytes of an iterator to make place for their header. It counts
+/// nothing, and only the module that writes strings can call it.
+#[derive(Drop)]
+pub struct Buffer {
+    bytes: BytesMut,
+    // The number of moved bytes.
+    moved: Count,
+}
+
+impl Model for Buffer {
+    ghost use Rattle.rlp_write.specs.Streams.Held.{Held};
+
+    ghost Value = { Held };
+
+    ghost view = { λ b. record { items = b.bytes.items; spare = b.bytes.spare; moved = b.moved.total } };
+}
+
+impl Buffer {
+    /// A buffer over bytes. No byte was moved yet.
+    pub fn new(bytes: BytesMut) -> Buffer
+        ensures items { result.items ≡ bytes.items }
+        ensures spare { result.spare ≡ bytes.spare }
+        ensures moved { result.moved ≡ 0 }
+    {
+        Buffer {
+            bytes,
+            moved: Count::new(),
+        }
+    }
+
+    /// The bytes, with their room.
+    pub fn into_bytes(self) -> BytesMut
+        ensures items { result.items ≡ self.items }
+        ensures spare { result.spare ≡ self.spare }
+    {
+        let Buffer { bytes, moved: _ } = self;
+        bytes
+    }
+
+    /// The number of bytes.
+    #[inline]
+    pub fn len(&self) -> usize
+        ensures value { result ≡ length self.now.items }
+        ensures bound { result < 2 ^ 63 }
+    {
+        self.bytes.len()
+    }
+
+    /// All bytes.
+    #[inline]
+    pub fn as_slice(&self) -> &[u8]
+        ensures { result.now ≡ self.now.items }
+    {
+        self.bytes.as_slice()
+    }
+
+    /// Makes room for `additional` more bytes.
+    #[inline]
+    pub fn reserve(&mut self, additional: usize) -> Result<(), AllocError>
+        ensures items { self.new.items ≡ self.old.items }
+        ensures spare { MakesSpare result self.old.spare self.new.spare additional }
+        ensures moved { self.new.moved ≡ self.old.moved }
+    {
+        self.bytes.reserve(additional)
+    }
+
+    /// Appends bytes. There must be room for them.
+    #[inline]
+    pub fn extend_reserved(&mut self, part: &[u8])
+        requires { length part.now ≤ self.old.spare }
+        ensures items { self.new.items ≡ self.old.items ++ part.now }
+        ensures spare { self.new.spare + length part.now ≡ self.old.spare }
+        ensures moved { self.new.moved ≡ self.old.moved }
+    {
+        self.bytes.extend_reserved(part);
+    }
+
+    /// Makes room for bytes, and appends them.
+    #[inline]
+    pub fn extend_from_slice(&mut self, part: &[u8]) -> Result<(), AllocError>
+        ensures ok { OnOk result (self.new.items ≡ self.old.items ++ part.now) }
+        ensures refused { OnErr result (self.new.items ≡ self.old.items) }
+        ensures room { OnErr result (self.old.spare < length part.now) }
+        ensures keeps { Keeps self.old self.new }
+        ensures moved { self.new.moved ≡ self.old.moved }
+    {
+        self.bytes.reserve(part.len())?;
+        self.bytes.extend_reserved(part);
+        Ok(())
+    }
+
+    /// Appends `more` bytes of any value. There must be room for them.
+    #[inline]
+    pub(crate) fn advance_mut(&mut self, more: usize)
+        requires { more ≤ self.old.spare }
+        ensures front { take (length self.old.items) self.new.items ≡ self.old.items }
+        ensures len { length self.new.items ≡ length self.old.items + more }
+        ensures spare { self.new.spare + more ≡ self.old.spare }
+        ensures moved { self.new.moved ≡ self.old.moved }
+    {
+        self.bytes.advance_mut(more);
+    }
+
+    /// Keeps the first `len` bytes. The place of the others becomes room.
+    #[inline]
+    pub fn truncate(&mut self, len: usize)
+        ensures items { self.new.items ≡ take len self.old.items }
+        ensures spare { length self.new.items + self.new.spare
+            ≡ length self.old.items + self.old.spare }
+        ensures moved { self.new.moved ≡ self.old.moved }
+    {
+        self.bytes.truncate(len);
+    }
+
+    /// Moves bytes to a later place in the buffer, and counts them. If they are there already, it
+    /// moves nothing.
+    #[inline]
+    pub(crate) fn shift(&mut self, from: usize, len: usize, to: usize)
+        requires forward { from ≤ to }
+        requires within { to + len ≤ length self.old.items }
+        ensures items { self.new.items
+            ≡ take to self.old.items
+            ++ (take len (drop from self.old.items) ++ drop (to + len) self.old.items) }
+        ensures spare { self.new.spare ≡ self.old.spare }
+        ensures counted { from < to → self.new.moved ≡ self.old.moved + len }
+        ensures in_place { from ≡ to → self.new.moved ≡ self.old.moved }
+    {
+        if from != to {
+            bring(self.bytes.as_mut_slice(), from, len, to);
+            self.moved.add(len);
+        }
+    }
+
+    /// Writes the header of the list whose payload is all bytes from a place on. It writes over the
+    /// bytes in front of that place. Returns the place where the header begins.
+    #[inline]
+    pub(crate) fn write_list_header(&mut self, payload: usize) -> usize
+        requires within { payload ≤ length self.old.items }
+        requires room { header_len (length self.old.items - payload) ≤ payload }
+        ensures begin { result + header_len (length self.old.items - payload) ≡ payload }
+        ensures items { self.new.items ≡ take result self.old.items
+            ++ (written_header 0xc0 (length self.old.items - payload)
+            ++ drop payload self.old.items) }
+        ensures spare { self.new.spare ≡ self.old.spare }
+        ensures moved { self.new.moved ≡ self.old.moved }
+    {
+        let written = written_header(LIST, self.bytes.len() - payload);
+        let header = written.as_slice();
+        let begin = payload - header.len();
+        write_at(self.bytes.as_mut_slice(), begin, header);
+        begin
+    }
+
+    /// Inserts a part at a place, and moves the bytes behind it. It doesn't count them, since they
+    /// are a string that has no header yet.
+    pub(super) fn insert(&mut self, at: usize, part: &[u8]) -> Result<(), AllocError>
+        requires { at ≤ length self.old.items }
+        ensures ok { OnOk result (self.new.items
+            ≡ take at self.old.items ++ (part.now ++ drop at self.old.items)) }
+        ensures refused { OnErr result (self.new.items ≡ self.old.items) }
+        ensures keeps { Keeps self.old self.new }
+        ensures moved { self.new.moved ≡ self.old.moved }
+    {
+        self.bytes.extend_from_slice(part)?;
+        insert(self.bytes.as_mut_slice(), at, part);
+        Ok(())
+    }
+}

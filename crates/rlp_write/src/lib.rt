@@ -1,0 +1,31 @@
+//! Writing: streams, and values that are appended to them. It depends on `rlp_format`. Users list
+//! `rlp`, which re-exports what they need.
+#![tactic(auto)]
+
+mod buffer;
+mod closing;
+mod envelope;
+pub mod header;
+mod impls;
+pub mod laws;
+mod open_lists;
+mod rewinding;
+mod stream;
+mod structs;
+mod traits;
+mod whole_list;
+
+pub use envelope::write_envelope;
+pub use stream::{BasicEncoder, Chain, RlpStream, append_list_encoding};
+pub use structs::{
+    AppendFields, Each, FieldsOf, Flattened, ListOf, Optional, OptionalGroupOf, OptionalListOf,
+    write_struct,
+};
+pub use traits::Encodable;
+pub use whole_list::{encode, encode_list};
+
+/// The encoding of the empty string.
+pub const NULL_RLP: [u8; 1] = [0x80];
+
+/// The encoding of the empty list.
+pub const EMPTY_LIST_RLP: [u8; 1] = [0xc0];
