@@ -1,6 +1,5 @@
 //! Names of blocks: a hash, or a number.
 
-ghost use Rattle.std.specs.Prelude.{⊤};
 ghost use Rattle.rlp_eth.specs.HashOrNumber.{hash_or_number};
 
 use rlp::{Decodable, DecoderError, Encodable, Rlp, RlpStream, RoundTrip, StrictRead};
@@ -21,8 +20,6 @@ impl Encodable for HashOrNumber {
     ghost item = { hash_or_number.item };
 
     ghost fits = { hash_or_number.Fits };
-
-    ghost at_once = { λ _. ⊤ };
 
     #[tactic(auto, using(rlp::proofs::Writing::writing))]
     fn rlp_append(&self, s: &mut RlpStream) -> Result<(), AllocError> {

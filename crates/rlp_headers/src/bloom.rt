@@ -1,6 +1,5 @@
 //! Filters of logs: strings of 256 bytes.
 
-ghost use Rattle.std.specs.Prelude.{⊤};
 ghost use Rattle.rlp_headers.specs.Bloom.{bloom};
 
 use rlp::{Decodable, DecoderError, Encodable, Rlp, RlpStream, RoundTrip, StrictRead};
@@ -17,8 +16,6 @@ impl Encodable for Bloom {
     ghost item = { bloom.item };
 
     ghost fits = { bloom.Fits };
-
-    ghost at_once = { λ _. ⊤ };
 
     fn rlp_append(&self, s: &mut RlpStream) -> Result<(), AllocError> {
         self.0.rlp_append(s)

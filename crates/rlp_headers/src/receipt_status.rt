@@ -1,6 +1,6 @@
 //! Statuses of receipts: a string of one byte, of none, or of 32.
 
-ghost use Rattle.std.specs.Prelude.{◌≡◌, ⊤, IfErr, IfOk};
+ghost use Rattle.std.specs.Prelude.{◌≡◌, IfErr, IfOk};
 ghost use Rattle.rlp_headers.specs.ReceiptStatus.{IsStatus, IsStatusFault, receipt_status, status_bytes};
 
 use rlp::{Decodable, DecoderError, Encodable, Rlp, RlpStream, RoundTrip, StrictRead};
@@ -24,8 +24,6 @@ impl Encodable for ReceiptStatus {
     ghost item = { receipt_status.item };
 
     ghost fits = { receipt_status.Fits };
-
-    ghost at_once = { λ _. ⊤ };
 
     fn rlp_append(&self, s: &mut RlpStream) -> Result<(), AllocError> {
         match self {

@@ -1,6 +1,5 @@
 //! Addresses of accounts: strings of 20 bytes.
 
-ghost use Rattle.std.specs.Prelude.{⊤};
 ghost use Rattle.rlp_records.specs.Address.{address};
 
 use rlp::{Decodable, DecoderError, Encodable, Rlp, RlpStream, RoundTrip, StrictRead};
@@ -17,8 +16,6 @@ impl Encodable for Address {
     ghost item = { address.item };
 
     ghost fits = { address.Fits };
-
-    ghost at_once = { λ _. ⊤ };
 
     fn rlp_append(&self, s: &mut RlpStream) -> Result<(), AllocError> {
         self.0.rlp_append(s)

@@ -1,6 +1,5 @@
 //! Hashes: strings of 32 bytes.
 
-ghost use Rattle.std.specs.Prelude.{⊤};
 ghost use Rattle.rlp_records.specs.Hash.{hash};
 
 use rlp::{Decodable, DecoderError, Encodable, Rlp, RlpStream, RoundTrip, StrictRead};
@@ -17,8 +16,6 @@ impl Encodable for Hash {
     ghost item = { hash.item };
 
     ghost fits = { hash.Fits };
-
-    ghost at_once = { λ _. ⊤ };
 
     fn rlp_append(&self, s: &mut RlpStream) -> Result<(), AllocError> {
         self.0.rlp_append(s)

@@ -1,6 +1,6 @@
 //! Blobs of transactions of type 3.
 
-ghost use Rattle.std.specs.Prelude.{◌≡◌, ◌⊎◌, ⊤, IfErr, IfOk, length};
+ghost use Rattle.std.specs.Prelude.{◌≡◌, ◌⊎◌, IfErr, IfOk, length};
 ghost use Rattle.rlp.specs.DecoderError.TheVariants.{OutOfMemory};
 ghost use Rattle.rlp.specs.Values.ValueReading.{IsLengthFault};
 
@@ -50,8 +50,6 @@ impl Encodable for Blob {
     ghost item = { blob.item };
 
     ghost fits = { blob.Fits };
-
-    ghost at_once = { λ _. ⊤ };
 
     fn rlp_append(&self, s: &mut RlpStream) -> Result<(), AllocError> {
         self.bytes.rlp_append(s)

@@ -159,8 +159,6 @@ impl Encodable for WrapperVersion {
 
     ghost fits = { wrapper_version.Fits };
 
-    ghost at_once = { λ _. ⊤ };
-
     fn rlp_append(&self, s: &mut RlpStream) -> Result<(), AllocError> {
         [1u8].rlp_append(s)
     }

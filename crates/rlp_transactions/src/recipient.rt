@@ -1,6 +1,6 @@
 //! Recipients of transactions: a string of 20 bytes, or the empty string.
 
-ghost use Rattle.std.specs.Prelude.{◌≡◌, ⊤, IfErr, IfOk};
+ghost use Rattle.std.specs.Prelude.{◌≡◌, IfErr, IfOk};
 ghost use Rattle.rlp_transactions.specs.Recipient.{IsRecipient, IsRecipientFault, recipient_bytes, recipient};
 
 use rlp::{Decodable, DecoderError, Encodable, Rlp, RlpStream, RoundTrip, StrictRead};
@@ -23,8 +23,6 @@ impl Encodable for Recipient {
     ghost item = { recipient.item };
 
     ghost fits = { recipient.Fits };
-
-    ghost at_once = { λ _. ⊤ };
 
     fn rlp_append(&self, s: &mut RlpStream) -> Result<(), AllocError> {
         match self {

@@ -1,6 +1,5 @@
 //! The places of branches of the trie: a child or none.
 
-ghost use Rattle.std.specs.Prelude.{⊤};
 ghost use Rattle.rlp_trie.specs.BranchChild.{branch_child};
 
 use crate::Child;
@@ -19,8 +18,6 @@ impl Encodable for BranchChild {
     ghost item = { branch_child.item };
 
     ghost fits = { branch_child.Fits };
-
-    ghost at_once = { λ _. ⊤ };
 
     #[tactic(auto, using(rlp::proofs::Writing::writing))]
     fn rlp_append(&self, s: &mut RlpStream) -> Result<(), AllocError> {

@@ -1,6 +1,6 @@
 //! Children of nodes of the trie.
 
-ghost use Rattle.std.specs.Prelude.{◌≡◌, ◌⊎◌, ⊤, IfErr, IfOk};
+ghost use Rattle.std.specs.Prelude.{◌≡◌, ◌⊎◌, IfErr, IfOk};
 ghost use Rattle.rlp.specs.DecoderError.TheVariants.{OutOfMemory};
 ghost use Rattle.rlp.specs.Format.Encoding.{encoding};
 ghost use Rattle.rlp_trie.specs.Child.{IsChild, IsChildFault, child_item};
@@ -28,8 +28,6 @@ impl Encodable for Child {
     ghost item = { child.item };
 
     ghost fits = { child.Fits };
-
-    ghost at_once = { λ _. ⊤ };
 
     #[tactic(auto, using(rlp::proofs::Writing::writing))]
     fn rlp_append(&self, s: &mut RlpStream) -> Result<(), AllocError> {

@@ -1,6 +1,6 @@
 //! Paths of leaves and of extensions of the trie.
 
-ghost use Rattle.std.specs.Prelude.{◌≡◌, ◌≢◌, ◌⊎◌, ⊤, [], IfErr, IfOk, Some, false};
+ghost use Rattle.std.specs.Prelude.{◌≡◌, ◌≢◌, ◌⊎◌, [], IfErr, IfOk, Some, false};
 ghost use Rattle.rlp.specs.DecoderError.TheVariants.{OutOfMemory};
 ghost use Rattle.rlp_trie.specs.HexPrefix.{AreNibbles, IsNibbleFault, IsPath, IsPathFault, ends_in_leaf, hex_prefix, is_empty_extension, is_leaf_flag, path_nibbles};
 
@@ -96,8 +96,6 @@ impl<const FLAG: u8> Encodable for Path<FLAG> {
     ghost item = { (path FLAG).item };
 
     ghost fits = { (path FLAG).Fits };
-
-    ghost at_once = { λ _. ⊤ };
 
     fn rlp_append(&self, s: &mut RlpStream) -> Result<(), AllocError> {
         self.bytes.rlp_append(s)

@@ -1,9 +1,9 @@
 //! Strings that hold a tag and the encoding of a payload.
 
-ghost use Rattle.std.specs.Prelude.{◌≡◌, ◌∷◌, OnOk, OnErr};
+ghost use Rattle.std.specs.Prelude.{◌≡◌, ◌≤◌, ◌∷◌, OnOk, OnErr};
 ghost use Rattle.rlp_format.specs.Format.Encoding.{encoding};
 ghost use Rattle.rlp_format.specs.Format.Item.{string};
-ghost use Rattle.rlp_write.specs.Streams.Stream.{IsAsBefore, Retains, put_item};
+ghost use Rattle.rlp_write.specs.Streams.Stream.{IsAsBefore, put_item};
 ghost use Rattle.rlp_write.specs.Streams.Growth.{GrowsTo};
 
 use crate::stream::RlpStream;
@@ -27,7 +27,7 @@ pub fn write_envelope<T: Encodable>(
     ensures refused { OnErr result (IsAsBefore s.old s.new) }
     // This follows. An `rlp_append` that returns the result needs no lemma for it.
     ensures grows { OnErr result (GrowsTo s.old.state s.new.state) }
-    ensures retains { Retains s.old s.new }
+    ensures moved { s.old.moved ≤ s.new.moved }
 {
     let mut buffer = BytesMut::new(s.allocator());
     buffer.put_u8(tag)?;

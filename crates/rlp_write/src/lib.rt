@@ -1,15 +1,16 @@
-//! Writing: streams, and values that are appended to them. It depends on `rlp_format`. Users list
-//! `rlp`, which re-exports what they need.
+//! Writing: streams, and values that are appended to them. It depends on `rlp_format` and `bytes`.
+//! Users list `rlp`, which re-exports every public name but [`append_list_encoding`], which only its
+//! `RawItem` may call, and those of `header`.
 #![tactic(auto)]
 
 mod buffer;
 mod closing;
 mod envelope;
+mod flat;
 pub mod header;
 mod impls;
 pub mod laws;
 mod open_lists;
-mod rewinding;
 mod stream;
 mod structs;
 mod traits;

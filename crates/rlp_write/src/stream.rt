@@ -1,15 +1,14 @@
 //! Writing: a stream of encodings.
 
-ghost use Rattle.std.specs.Prelude.{◌≡◌, ◌≤◌, ◌<◌, ◌+◌, ◌^◌, ◌↔◌, ℕ, List, IsTrue, IsOk, IfOk, IfErr, OnOk, OnErr, ◌++◌, [], ◌∷◌, length, map, min, All, false};
+ghost use Rattle.std.specs.Prelude.{◌≡◌, ◌≤◌, ◌<◌, ◌^◌, ℕ, List, IsTrue, IsOk, IfOk, IfErr, OnOk, OnErr, [], length, map, min, All, false};
 ghost use Rattle.std.specs.Borrow.{sem};
 ghost use Rattle.std.specs.Iterator.{IsFiniteIterable};
-ghost use Rattle.std.specs.Option.{SomeIff};
 ghost use Rattle.rlp_format.specs.Format.Item.{string, list_of};
-ghost use Rattle.rlp_write.specs.Streams.Stack.{awaited, is_unbounded, unbounded_count};
-ghost use Rattle.rlp_write.specs.Streams.Calls.{append, append_empty_data, append_raw, append_raw_checked, begin_list, begin_unbounded_list, finalize_unbounded_list, append_internal, clear, effect, finalized, is_admitted, is_within_size};
-ghost use Rattle.rlp_write.specs.Streams.Stream.{initial_state, IsFinished, IsAsBefore, Retains, HasRoomFor, room, raw_text, closed_size, closed_size_with};
+ghost use Rattle.rlp_write.specs.Streams.Stack.{unbounded_count};
+ghost use Rattle.rlp_write.specs.Streams.Calls.{append, append_empty_data, append_raw, append_raw_checked, begin_list, begin_unbounded_list, finalize_unbounded_list, append_internal, effect, finalized, is_admitted, is_within_size};
+ghost use Rattle.rlp_write.specs.Streams.Stream.{initial_state, IsFinished, IsAsBefore, MovesWithin, closed_size, closed_size_with};
 ghost use Rattle.rlp_write.specs.Streams.Iterated.{GivesAll};
-ghost use Rattle.rlp_write.specs.Streams.Chain.{stays_if_refused, rests_if_refused, HoldsStream, LeavesState, MovesWithin, RetainsInChain};
+ghost use Rattle.rlp_write.specs.Streams.Chain.{stays_if_refused, rests_if_refused, HoldsStream, LeavesState, MovesInChain, KeepsCount};
 
 mod chain;
 mod encoded;
@@ -18,67 +17,17 @@ mod listed;
 mod steps;
 
 use crate::NULL_RLP;
+pub use crate::flat::RlpStream;
 use crate::traits::Encodable;
 use bytes::BytesMut;
 pub use chain::Chain;
 pub use encoded::append_list_encoding;
 pub use encoder::BasicEncoder;
 pub(crate) use listed::Listed;
-use crate::buffer::Buffer;
-use crate::closing::closed_len;
-use crate::open_lists::{Placeholder, innermost_awaits, is_unbounded};
 use std::alloc::{AllocError, Global};
-use std::marker::Model;
 
 // The number of bytes that a new stream takes without another allocation.
 const STARTING_CAPACITY: usize = 1024;
-
-/// A stream of encodings, which grows as values are appended.
-///
-/// A list is opened with the number of items that it awaits, and its last item closes it. An
-/// unbounded list has no such number, and [`RlpStream::finalize_unbounded_list`] closes it. Lists
-/// may nest. A closed list is one item of the list around it.
-///
-/// Contracts see its state: the front, which is the bytes handed in, what was written after it, the
-/// open lists, and `is_counted`, which tells [`RlpStream::append`] whether the value that was just
-/// written is counted already. They also see how many more bytes the buffer takes without an
-/// allocation, and how many bytes of payload were moved to make place for headers. A refused call
-/// leaves the state as it was, including `is_counted`.
-///
-/// ```rust
-/// let mut s = rlp::RlpStream::new_list(alloc, 2)?;
-/// s.append(&"cat")?.begin_list(2)?.append(&1u64)?.append(&"")?;
-/// assert_eq!(rt; s.out().as_slice(), [0xc7, 0x83, 0x63, 0x61, 0x74, 0xc2, 0x01, 0x80]);
-/// ```
-#[derive(Drop)]
-pub struct RlpStream {
-    // The front, and what was written after it. It counts the bytes that closings move.
-    buffer: Buffer,
-    // Where the front ends.
-    start: usize,
-    // The open lists, from the outside in.
-    lists: Vec<Placeholder>,
-    // Whether the value that was just written is counted already, as a whole list is.
-    is_counted: bool,
-}
-
-impl Model for RlpStream {
-    ghost use Rattle.std.specs.Prelude.{◌-◌, length, reverse, vec_capacity};
-    ghost use Rattle.rlp_write.specs.Streams.Stream.{Seen};
-    ghost use Rattle.rlp_write.specs.Streams.Placeholders.{IsLaid};
-    ghost use Rattle.rlp_write.specs.Streams.Layout.{state_of};
-
-    ghost Value = { Seen };
-
-    ghost view = { λ s. record {
-      state = state_of s.start s.buffer.items (reverse s.lists.items) s.is_counted;
-      spare = s.buffer.spare;
-      spare_lists = vec_capacity s.lists - length (reverse s.lists.items);
-      moved = s.buffer.moved;
-    } };
-
-    ghost invariant = { λ s. IsLaid s.start s.buffer.items (reverse s.lists.items) };
-}
 
 impl RlpStream {
     /// An empty stream. Fails with `AllocError` if its first room is refused.
@@ -95,28 +44,11 @@ impl RlpStream {
     pub fn new_list(alloc: Global, len: usize) -> Result<RlpStream, AllocError>
         ensures state { IfOk result
             (λ s. s.state ≡ effect (begin_list len) (initial_state [])) }
-        ensures room { IfOk result (λ s. 1024 ≤ room s) }
-        ensures moved { IfOk result (λ s. s.moved ≡ 0) }
+        ensures moved { IfOk result (λ s. s.moved ≤ closed_size s.state) }
     {
         let mut s = RlpStream::new(alloc)?;
         s.try_begin(len)?;
         Ok(s)
-    }
-
-    /// A stream whose front is the given bytes. It takes no memory.
-    pub fn new_with_buffer(alloc: Global, buffer: BytesMut) -> RlpStream
-        ensures state { result.state ≡ initial_state buffer.items }
-        ensures spare { result.spare ≡ buffer.spare }
-        ensures spare_lists { result.spare_lists ≡ 0 }
-        ensures moved { result.moved ≡ 0 }
-    {
-        let start = buffer.len();
-        RlpStream {
-            buffer: Buffer::new(buffer),
-            start,
-            lists: Vec::new(alloc),
-            is_counted: false,
-        }
     }
 
     /// A stream whose front is the given bytes, in which a list is begun. If memory is refused, it
@@ -128,11 +60,8 @@ impl RlpStream {
     ) -> Result<RlpStream, BytesMut>
         ensures ok { IfOk result
             (λ s. s.state ≡ effect (begin_list len) (initial_state buffer.items)) }
-        ensures room { IfOk result (λ s. length buffer.items + buffer.spare ≤ room s) }
-        ensures moved { IfOk result (λ s. s.moved ≡ 0) }
-        ensures room_at_once { len ≡ 0 → 1 ≤ buffer.spare → IsOk result }
+        ensures moved { IfOk result (λ s. s.moved ≤ closed_size s.state) }
         ensures refused { IfErr result (λ b. b.items ≡ buffer.items) }
-        ensures spare { IfErr result (λ b. buffer.spare ≤ b.spare) }
     {
         let mut s = RlpStream::new_with_buffer(alloc, buffer);
         match s.try_begin(len) {
@@ -151,10 +80,7 @@ impl RlpStream {
         ensures* refused { sem 𝓛 (stays_if_refused self.entry result) }
         ensures fits { OnOk result (E.fits value.now) }
         ensures ok { LeavesState result (effect (append (E.item value.now)) self.old.state) }
-        ensures room { E.at_once value.now
-            → HasRoomFor self.old (effect (append (E.item value.now)) self.old.state)
-            → IsOk result }
-        ensures retains { RetainsInChain self.old result }
+        ensures moved { KeepsCount self.old result }
         ensures same_stream { HoldsStream self.entry result }
     {
         self.try_append(value)?;
@@ -172,7 +98,7 @@ impl RlpStream {
         ensures ok { IfOk result (λ c. (s : List ℕ)
             × GivesAll I.into_iter_gives I.IntoIter.next_gives value s
             × (c.stream.now.state ≡ effect (append (string s)) self.old.state)) }
-        ensures retains { RetainsInChain self.old result }
+        ensures moved { KeepsCount self.old result }
         ensures same_stream { HoldsStream self.entry result }
     {
         self.try_append_iter(value)?;
@@ -185,9 +111,7 @@ impl RlpStream {
         ensures fits { OnOk result (All E.fits values.now) }
         ensures ok { LeavesState result
             (effect (append (list_of (map E.item values.now))) self.old.state) }
-        ensures room { values.now ≡ [] → HasRoomFor self.old
-            (effect (append (list_of (map E.item values.now))) self.old.state) → IsOk result }
-        ensures retains { RetainsInChain self.old result }
+        ensures moved { KeepsCount self.old result }
         ensures same_stream { HoldsStream self.entry result }
     {
         self.try_append(&Listed(values))?;
@@ -201,10 +125,7 @@ impl RlpStream {
         ensures fits { OnOk result (E.fits value.now) }
         ensures ok { LeavesState result
             (effect (append_internal (E.item value.now)) self.old.state) }
-        ensures room { E.at_once value.now
-            → HasRoomFor self.old (effect (append_internal (E.item value.now)) self.old.state)
-            → IsOk result }
-        ensures retains { RetainsInChain self.old result }
+        ensures moved { KeepsCount self.old result }
         ensures same_stream { HoldsStream self.entry result }
     {
         self.try_append_internal(value)?;
@@ -216,13 +137,10 @@ impl RlpStream {
         ensures* refused { sem 𝓛 (rests_if_refused self.entry result) }
         ensures ok { LeavesState result (effect append_empty_data self.old.state) }
         ensures room { IsFinished self.old.state → 1 ≤ self.old.spare → IsOk result }
-        ensures room_with_lists { HasRoomFor self.old (effect append_empty_data self.old.state)
-            → IsOk result }
-        ensures moved { MovesWithin self.old result }
-        ensures retains { RetainsInChain self.old result }
+        ensures moved { MovesInChain self.old result }
         ensures same_stream { HoldsStream self.entry result }
     {
-        self.try_put_counted(&NULL_RLP, 1)?;
+        self.put_counted(&NULL_RLP, 1)?;
         Ok(Chain { stream: self })
     }
 
@@ -236,13 +154,10 @@ impl RlpStream {
         ensures ok { LeavesState result (effect (append_raw bytes.now item_count) self.old.state) }
         ensures room { IsFinished self.old.state
             → length bytes.now ≤ self.old.spare → IsOk result }
-        ensures room_with_lists { HasRoomFor self.old
-            (effect (append_raw bytes.now item_count) self.old.state) → IsOk result }
-        ensures moved { MovesWithin self.old result }
-        ensures retains { RetainsInChain self.old result }
+        ensures moved { MovesInChain self.old result }
         ensures same_stream { HoldsStream self.entry result }
     {
-        self.try_put_counted(bytes, item_count)?;
+        self.put_counted(bytes, item_count)?;
         Ok(Chain { stream: self })
     }
 
@@ -271,15 +186,12 @@ impl RlpStream {
             → IsOk result × IsAsBefore self.old self.new }
         ensures room { IsFinished self.old.state
             → length bytes.now ≤ self.old.spare → IsOk result }
-        ensures room_with_lists { HasRoomFor self.old
-            (effect (append_raw bytes.now item_count) self.old.state) → IsOk result }
-        ensures moved { self.new.moved ≤ self.old.moved + closed_size self.new.state }
-        ensures retains { Retains self.old self.new }
+        ensures moved { MovesWithin self.old self.new }
     {
         if !self.is_within_size(bytes, max_size) {
             return Ok(false);
         }
-        self.try_put_counted(bytes, item_count).map(|()| true)
+        self.put_counted(bytes, item_count).map(|()| true)
     }
 
     /// Begins a list that awaits `len` items. The last of them closes it. A list of no items is
@@ -287,12 +199,7 @@ impl RlpStream {
     pub fn begin_list(&mut self, len: usize) -> Result<Chain<'_>, AllocError>
         ensures* refused { sem 𝓛 (rests_if_refused self.entry result) }
         ensures ok { LeavesState result (effect (begin_list len) self.old.state) }
-        ensures room { 0 < len → 1 ≤ self.old.spare → 1 ≤ self.old.spare_lists → IsOk result }
-        ensures room_at_once { len ≡ 0
-            → HasRoomFor self.old (effect (begin_list 0) self.old.state) → IsOk result }
-        ensures moved { MovesWithin self.old result }
-        ensures not_moved { 0 < len → IfOk result (λ c. c.stream.now.moved ≡ self.old.moved) }
-        ensures retains { RetainsInChain self.old result }
+        ensures moved { MovesInChain self.old result }
         ensures same_stream { HoldsStream self.entry result }
     {
         self.try_begin(len)?;
@@ -303,13 +210,10 @@ impl RlpStream {
     pub fn begin_unbounded_list(&mut self) -> Result<Chain<'_>, AllocError>
         ensures* refused { sem 𝓛 (rests_if_refused self.entry result) }
         ensures ok { LeavesState result (effect begin_unbounded_list self.old.state) }
-        ensures room { 1 ≤ self.old.spare → 1 ≤ self.old.spare_lists → IsOk result }
-        ensures moved { MovesWithin self.old result }
-        ensures not_moved { IfOk result (λ c. c.stream.now.moved ≡ self.old.moved) }
-        ensures retains { RetainsInChain self.old result }
+        ensures moved { MovesInChain self.old result }
         ensures same_stream { HoldsStream self.entry result }
     {
-        self.try_open(None)?;
+        self.open(None)?;
         Ok(Chain { stream: self })
     }
 
@@ -319,11 +223,8 @@ impl RlpStream {
         requires { IsTrue (is_admitted finalize_unbounded_list self.old.state) }
         ensures ok { OnOk result (self.new.state ≡ effect finalize_unbounded_list self.old.state) }
         ensures refused { OnErr result (IsAsBefore self.old self.new) }
-        ensures room { HasRoomFor self.old (effect finalize_unbounded_list self.old.state)
-            → IsOk result }
         ensures size { closed_size self.new.state ≡ closed_size self.old.state }
-        ensures retains { Retains self.old self.new }
-        ensures moved { self.new.moved ≤ self.old.moved + closed_size self.new.state }
+        ensures moved { MovesWithin self.old self.new }
     {
         self.try_finalize(1)?;
         Ok(())
@@ -347,44 +248,14 @@ impl RlpStream {
             (λ n. n ≡ min most (unbounded_count self.old.state.stack.lists)) }
         ensures ok { IfOk result (λ n. self.new.state ≡ finalized n self.old.state) }
         ensures refused { OnErr result (IsAsBefore self.old self.new) }
-        ensures room { HasRoomFor self.old
-            (finalized (min most (unbounded_count self.old.state.stack.lists)) self.old.state)
-            → IsOk result }
         ensures size { closed_size self.new.state ≡ closed_size self.old.state }
-        ensures retains { Retains self.old self.new }
-        ensures moved { self.new.moved ≤ self.old.moved + closed_size self.new.state }
+        ensures moved { MovesWithin self.old self.new }
     {
         let count = self.unbounded_lists(most);
         if count > 0 {
             self.try_finalize(count)?;
         }
         Ok(count)
-    }
-
-    /// Drops everything that was written and every open list. The front and `is_counted` stay.
-    pub fn clear(&mut self)
-        ensures state { self.new.state ≡ effect clear self.old.state }
-        ensures moved { self.new.moved ≡ self.old.moved }
-        ensures retains { Retains self.old self.new }
-    {
-        self.buffer.truncate(self.start);
-        self.lists.clear();
-    }
-
-    /// The closed size: the number of bytes behind the front once every list is closed. Lists count
-    /// as closed even if they still await items.
-    pub fn len(&self) -> usize
-        ensures { result ≡ closed_size self.now.state }
-    {
-        let lists = self.lists.as_slice();
-        closed_len(lists, self.start, self.buffer.len(), 0).unwrap()
-    }
-
-    /// Whether nothing was written and no list is open, so [`RlpStream::len`] is 0.
-    pub fn is_empty(&self) -> bool
-        ensures { IsTrue result ↔ (closed_size self.now.state ≡ 0) }
-    {
-        self.buffer.len() == self.start
     }
 
     /// The size of [`RlpStream::len`] with `add` more bytes put. It must be less than 2^64. Test it
@@ -394,67 +265,6 @@ impl RlpStream {
         ensures { result ≡ closed_size_with add self.now.state }
     {
         self.checked_estimate_size(add).unwrap()
-    }
-
-    /// The same as [`RlpStream::estimate_size`], or `None` if it is 2^64 or more.
-    pub fn checked_estimate_size(&self, add: usize) -> Option<usize>
-        ensures { SomeIff result (closed_size_with add self.now.state < 2 ^ 64)
-            (closed_size_with add self.now.state) }
-    {
-        closed_len(self.lists.as_slice(), self.start, self.buffer.len(), add)
-    }
-
-    /// Whether no list is open. Then [`RlpStream::out`] may be called.
-    pub fn is_finished(&self) -> bool
-        ensures { IsTrue result ↔ IsFinished self.now.state }
-    {
-        self.lists.is_empty()
-    }
-
-    /// Whether a list is open and the innermost is unbounded. Then
-    /// [`RlpStream::finalize_unbounded_list`] may be called.
-    pub fn can_finalize(&self) -> bool
-        ensures { result ≡ is_unbounded self.now.state.stack.lists }
-    {
-        is_unbounded(&self.lists)
-    }
-
-    /// The number of items that the innermost open list awaits. `None` if it is unbounded, or if no
-    /// list is open.
-    pub fn items_awaited(&self) -> Option<usize>
-        ensures { result ≡ awaited self.now.state.stack.lists }
-    {
-        innermost_awaits(&self.lists)
-    }
-
-    /// The bytes now: the front, the payload of the top, and then each open list, from the outside
-    /// in. An open list has one byte `0x00` in the place of its header, and then its payload.
-    pub fn as_raw(&self) -> &[u8]
-        ensures { result.now ≡ raw_text self.now.state }
-    {
-        self.buffer.as_slice()
-    }
-
-    /// The front and the encodings after it. No list may be open. Test it by
-    /// [`RlpStream::is_finished`].
-    pub fn out(self) -> BytesMut
-        requires { IsFinished self.state }
-        ensures bytes { result.items ≡ self.state.front ++ self.state.stack.inner }
-        ensures size { length result.items ≡ length self.state.front + closed_size self.state }
-        ensures spare { result.spare ≡ self.spare }
-    {
-        let RlpStream {
-            buffer,
-            start: _,
-            lists: _,
-            is_counted: _,
-        } = self;
-        buffer.into_bytes()
-    }
-
-    // The allocator of the stream.
-    pub(crate) fn allocator(&self) -> Global {
-        *self.lists.allocator()
     }
 
     /// A writer of strings into this stream. It doesn't count them.

@@ -1,8 +1,8 @@
 //! Structs that are written as the list of their fields.
 
-ghost use Rattle.std.specs.Prelude.{◌≡◌, ◌++◌, ◌∷◌, [], ◌^◌, ◌≤◌, List, IsOk, OnOk, OnErr, length, MatchOption, ⊤};
+ghost use Rattle.std.specs.Prelude.{◌≡◌, ◌++◌, ◌∷◌, [], ◌^◌, ◌≤◌, List, OnOk, OnErr, length, MatchOption, ⊤};
 ghost use Rattle.rlp_format.specs.Format.Item.{Item, list_of};
-ghost use Rattle.rlp_write.specs.Streams.Stream.{HasRoomFor, Retains, add_all, put_item};
+ghost use Rattle.rlp_write.specs.Streams.Stream.{add_all, put_item};
 ghost use Rattle.rlp_write.specs.Streams.Growth.{GrowsTo};
 ghost use Rattle.rlp_write.specs.Streams.Fields.{AppendsSome};
 
@@ -29,10 +29,6 @@ pub trait AppendFields {
     /// Each value belongs to its type.
     ghost fit: { Self → Type 0 };
 
-    /// Each value is written in one step, as [`Encodable::at_once`] says: they are refused only if
-    /// the stream has too little room. By default this holds for no values.
-    ghost at_once: { Self → Type 0 } = { λ _. ⊥ };
-
     /// Returns the number of items, or `None` if it is 2^64 or more.
     fn field_count(&self) -> Option<usize>
         ensures { MatchOption result (2 ^ 64 ≤ length (items self.now))
@@ -43,18 +39,14 @@ pub trait AppendFields {
     fn append_fields(&self, s: &mut RlpStream) -> Result<(), AllocError>
         ensures fits { OnOk result (fit self.now) }
         ensures ok { OnOk result (s.new.state ≡ add_all (items self.now) s.old.state) }
-        ensures room { at_once self.now → HasRoomFor s.old (add_all (items self.now) s.old.state)
-            → IsOk result }
         ensures refused { OnErr result (AppendsSome (items self.now) s.old.state s.new.state) }
-        ensures retains { Retains s.old s.new };
+        ensures moved { s.old.moved ≤ s.new.moved };
 }
 
 impl<T: Encodable> AppendFields for &T {
     ghost items = { λ v. T.item v.now ∷ [] };
 
     ghost fit = { λ v. T.fits v.now };
-
-    ghost at_once = { λ v. T.at_once v.now };
 
     fn field_count(&self) -> Option<usize> {
         Some(1)
@@ -70,8 +62,6 @@ impl<P: AppendFields, Q: AppendFields> AppendFields for (P, Q) {
     ghost items = { λ v. P.items v.0 ++ Q.items v.1 };
 
     ghost fit = { λ v. P.fit v.0 × Q.fit v.1 };
-
-    ghost at_once = { λ v. P.at_once v.0 × Q.at_once v.1 };
 
     fn field_count(&self) -> Option<usize> {
         let first = self.0.field_count()?;
@@ -91,8 +81,6 @@ impl AppendFields for () {
 
     ghost fit = { λ v. ⊤ };
 
-    ghost at_once = { λ v. ⊤ };
-
     fn field_count(&self) -> Option<usize> {
         Some(0)
     }
@@ -106,18 +94,13 @@ impl AppendFields for () {
 /// `rlp::append_fields!` calls it.
 ///
 /// Fails with `AllocError` if memory is refused, if the [`Encodable::rlp_append`] of a value fails,
-/// or if the number of items is 2^64 or more. Fields that are each written in one step, such as
-/// numbers and byte strings, are refused only if the stream has too little room.
+/// or if the number of items is 2^64 or more.
 #[inline(always)]
 pub fn write_struct<F: AppendFields>(s: &mut RlpStream, fields: &F) -> Result<(), AllocError>
     ensures fits { OnOk result (F.fit fields.now) }
     ensures ok { OnOk result (s.new.state ≡ put_item (list_of (F.items fields.now)) s.old.state) }
-    ensures room { F.at_once fields.now → 1 ≤ s.old.spare_lists
-        → HasRoomFor s.old (put_item (list_of (F.items fields.now)) s.old.state) → IsOk result }
-    ensures room_for_none { F.items fields.now ≡ []
-        → HasRoomFor s.old (put_item (list_of []) s.old.state) → IsOk result }
     ensures refused { OnErr result (GrowsTo s.old.state s.new.state) }
-    ensures retains { Retains s.old s.new }
+    ensures moved { s.old.moved ≤ s.new.moved }
 {
     let count = match fields.field_count() {
         Some(count) => count,

@@ -5,10 +5,10 @@ ghost use Rattle.rlp_format.specs.Format.Item.{list_of};
 ghost use Rattle.rlp_format.specs.Format.Encoding.{encoding, join};
 ghost use Rattle.rlp_write.specs.Streams.Stream.{IsFinished};
 
+use crate::buffer::alone::list_alone;
 use crate::stream::RlpStream;
 use crate::traits::Encodable;
 use bytes::BytesMut;
-use crate::buffer::alone::list_alone;
 use std::alloc::{AllocError, Global};
 
 // The number of bytes for which room is made at first.

@@ -1,6 +1,6 @@
 //! Items of any kind, kept as the bytes of their encodings.
 
-ghost use Rattle.std.specs.Prelude.{◌≡◌, ◌⊎◌, ⊤, IfOk, IfErr, nat_eq};
+ghost use Rattle.std.specs.Prelude.{◌≡◌, ◌⊎◌, IfOk, IfErr, nat_eq};
 ghost use Rattle.std.specs.Cmp.{partial_equiv_from_equiv};
 ghost use Rattle.std.specs.Cmp.Lexicographic.{nat_list_eq_equiv, pointwise};
 ghost use Rattle.rlp_values.specs.declared.error.DecoderError.TheVariants.{OutOfMemory};
@@ -118,8 +118,6 @@ impl Encodable for RawItem {
     ghost item = { raw_item.item };
 
     ghost fits = { raw_item.Fits };
-
-    ghost at_once = { λ _. ⊤ };
 
     fn rlp_append(&self, s: &mut RlpStream) -> Result<(), AllocError> {
         let bytes = self.as_bytes();

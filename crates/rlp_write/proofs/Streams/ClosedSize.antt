@@ -1,9 +1,9 @@
 -- The closed size is computed from the places of the open lists.
-use Rattle.std.proofs.Common.{◌≡◌, ℕ, ◌+◌, ◌-◌, ◌*◌, ◌^◌, ◌<◌, ◌≤◌, Bool, List, [], ◌∷◌, ◌++◌, length, take, drop, replicate, reverse, refl, sym, ◌∙◌}
+use Rattle.std.proofs.Common.{◌≡◌, ℕ, ◌+◌, ◌-◌, ◌*◌, ◌^◌, ◌<◌, ◌≤◌, Bool, List, [], ◌∷◌, ◌++◌, length, take, drop, replicate, sym, ◌∙◌}
 use Rattle.std.proofs.Common.{ap, subst, arith, append-nil, length-append, length-drop, ⊎_elim, suc, Option, Some, None}
 use Rattle.std.specs.Option.{SomeIff}
 use Rattle.std.proofs.lemmas.Bool.{cases_lt}
-use Rattle.std.proofs.lemmas.List.{length-take-le, length-replicate, length-reverse}
+use Rattle.std.proofs.lemmas.List.{length-take-le, length-replicate}
 use Rattle.rlp_write.specs.declared.open_lists.Placeholder.{Placeholder}
 use Rattle.rlp_format.specs.Format.WrittenHeader.{big_endian, written_header}
 use Rattle.rlp_write.specs.Streams.Stack.{closed_payload_around}
@@ -13,7 +13,6 @@ use Rattle.rlp_write.specs.Streams.Closing.{header_len, closed_len, left_of}
 use Rattle.rlp_write.specs.Streams.Layout.{state_of}
 use Rattle.rlp_format.specs.Lemmas.Digits.{big_endian_length}
 use Rattle.rlp_format.specs.Lemmas.Headers.{written_header_short, written_header_long}
-use Rattle.rlp_write.proofs.Streams.Closings.{reverse_push, header_some}
 use Rattle.rlp_write.proofs.Streams.FlatBuffer.{start_le}
 
 closed_len_is : (start : ℕ) (b x : List ℕ) (ps : List Placeholder) → IsLaid start b ps
@@ -43,14 +42,6 @@ closed_len_more start end more (p ∷ ps) =
     let len : ℕ = (end - (p.position + 1)) + more in
     let around = closed_len_more start p.position (header_len len + len) ps in
     omega (arith, around)
-
--- the front is before all lists
-pub lowest_start : (start : ℕ) (b : List ℕ) (ps : List Placeholder) → IsLaid start b ps → start ≤ left_of (length ps) (length b) ps
-lowest_start start b [] h = h
-lowest_start start b (p ∷ ps) h =
-    let within = h.0.within in
-    let below : length (take p.position b) ≡ p.position = length-take-le p.position b (omega arith) in
-    subst (λ n. start ≤ left_of (length ps) n ps) below (lowest_start start (take p.position b) ps h.1)
 
 -- the progress of the search for the size
 pub record Measured (start end more : ℕ) (whole : List Placeholder) (left tail : ℕ) (ps : List Placeholder) : Type 0 where
@@ -109,19 +100,6 @@ closed_len_few start more b (p ∷ ps) h small =
     subst (λ n. closed_len start n (header_len len + len) ps ≤ (n - start) + 8 * length ps + (header_len len + len)) below around in
     omega (arith, size, few, low, below)
 
--- and at least one byte
-closed_len_some : (start more : ℕ) (b : List ℕ) (ps : List Placeholder) → IsLaid start b ps → (length b - start) + more ≤ closed_len start (length b) more ps
-closed_len_some start more b [] h = omega arith
-closed_len_some start more b (p ∷ ps) h =
-    let within = h.0.within in
-    let low = start_le start (take p.position b) ps h.1 in
-    let below : length (take p.position b) ≡ p.position = length-take-le p.position b (omega arith) in
-    let len : ℕ = (length b - (p.position + 1)) + more in
-    let around = closed_len_some start (header_len len + len) (take p.position b) ps h.1 in
-    let size : (p.position - start) + (header_len len + len) ≤ closed_len start p.position (header_len len + len) ps =
-    subst (λ n. (n - start) + (header_len len + len) ≤ closed_len start n (header_len len + len) ps) below around in
-    omega (arith, size, header_some len, low, below)
-
 -- so the size of a state is within a limit if that number of bytes is
 pub within_few : (start : ℕ) (b : List ℕ) (ps : List Placeholder) (m : Bool) (more limit : ℕ) → IsLaid start b ps → limit < 2 ^ 64
     → (length b - start) + 8 * length ps + more ≤ limit → closed_size_with more (state_of start b ps m) ≤ limit
@@ -129,29 +107,11 @@ within_few start b ps m more limit h small few =
     let size = closed_len_few start more b ps h (omega arith) in
     omega (arith, size, closed_size_is start b ps m more h)
 
--- the number of open lists is the number of places
-pub length-lists_of : (start : ℕ) (b : List ℕ) (ps : List Placeholder) → length (lists_of start b ps) ≡ length ps
-length-lists_of start b [] = refl
-length-lists_of start b (p ∷ ps) = ap suc (length-lists_of start (take p.position b) ps)
-
--- and that number of bytes is within a limit if the size and eight bytes for each open list are
-pub few_within : (start : ℕ) (b : List ℕ) (ps : List Placeholder) (m : Bool) (more limit : ℕ) → IsLaid start b ps
-    → closed_size_with more (state_of start b ps m) + 8 * length (lists_of start b ps) ≤ limit → (length b - start) + 8 * length ps + more ≤ limit
-few_within start b ps m more limit h within =
-    let size = closed_len_some start more b ps h in
-    omega (arith, size, within, closed_size_is start b ps m more h, length-lists_of start b ps)
-
--- the same, by the innermost list taken from the others
-pub measured_popped : (start end more : ℕ) (whole : List Placeholder) (left tail : ℕ) (lists rest : List Placeholder) (p : Placeholder)
-    → Measured start end more whole left tail (reverse lists) → lists ≡ rest ++ p ∷ [] → Measured start end more whole left tail (p ∷ reverse rest)
-measured_popped start end more whole left tail lists rest p h is =
-    subst (λ ps. Measured start end more whole left tail ps) (ap reverse is ∙ reverse_push rest p) h
-
 -- the size once every list is measured
 pub measured_all : (start end more : ℕ) (whole : List Placeholder) (left tail : ℕ) (lists : List Placeholder)
-    → Measured start end more whole left tail (reverse lists) → length lists ≡ 0 → closed_len start end more whole ≡ (left - start) + tail
+    → Measured start end more whole left tail lists → lists ≡ [] → closed_len start end more whole ≡ (left - start) + tail
 measured_all start end more whole left tail [] h none = h.size
-measured_all start end more whole left tail (p ∷ lists) h none = absurd (omega arith)
+measured_all start end more whole left tail (p ∷ lists) h none = absurd (let no : ⊥ = cc in no)
 
 -- the closed size is the size with no more bytes
 pub closed_size_none : (s : State) → closed_size_with 0 s ≡ closed_size s
@@ -163,37 +123,10 @@ found None P v h p = absurd (h p)
 found (Some w) P v h p = ap Some h.1
 
 -- the size of the bytes of a buffer is found: a buffer has fewer than 2^63 bytes, and there are fewer than 2^63 places
-pub found_len : (start end : ℕ) (b : List ℕ) (lists : List Placeholder) (r : Option ℕ) → end ≡ length b
-    → SomeIff r (closed_len start end 0 (reverse lists) < 2 ^ 64) (closed_len start end 0 (reverse lists)) → IsLaid start b (reverse lists)
-    → end < 2 ^ 63 → length lists * 24 < 2 ^ 63 → r ≡ Some (closed_len start end 0 (reverse lists))
-found_len start end b lists r ends is laid below few =
-    let number : length (reverse lists) ≡ length lists = length-reverse lists in
-    let bound : closed_len start end 0 (reverse lists) ≤ (length b - start) + 8 * length (reverse lists) + 0 =
-    rw ends (closed_len_few start 0 b (reverse lists) laid (omega (arith, number, ends))) in
-    found r (closed_len start end 0 (reverse lists) < 2 ^ 64) (closed_len start end 0 (reverse lists)) is (omega (arith, number, bound, ends))
-
--- the closed text is empty exactly if the buffer holds only the front
-empty_len : (start : ℕ) (b : List ℕ) (ps : List Placeholder) → IsLaid start b ps → closed_len start (length b) 0 ps ≡ 0 → length b ≡ start
-empty_len start b [] h e = omega (arith, h)
-empty_len start b (p ∷ ps) h e =
-    let len : ℕ = (length b - (p.position + 1)) + 0 in
-    let around = closed_len_more start p.position (header_len len + len) ps in
-    let some = header_some len in
-    absurd (omega arith)
-
-front_len : (start : ℕ) (b : List ℕ) (ps : List Placeholder) → IsLaid start b ps → length b ≡ start → closed_len start (length b) 0 ps ≡ 0
-front_len start b [] h e = omega arith
-front_len start b (p ∷ ps) h e =
-    let within = h.0.within in
-    let below = start_le start (take p.position b) ps h.1 in
-    absurd (omega (arith, below, length-take-le p.position b (omega arith)))
-
--- if the closed size is 0, no bytes follow the front
-pub empty_size : (start : ℕ) (b : List ℕ) (ps : List Placeholder) (m : Bool) → IsLaid start b ps → closed_size (state_of start b ps m) ≡ 0 → length b ≡ start
-empty_size start b ps m h e =
-    empty_len start b ps h (sym (closed_size_is start b ps m 0 h) ∙ closed_size_none (state_of start b ps m) ∙ e)
-
--- if no bytes follow the front, the closed size is 0
-pub front_size : (start : ℕ) (b : List ℕ) (ps : List Placeholder) (m : Bool) → IsLaid start b ps → length b ≡ start → closed_size (state_of start b ps m) ≡ 0
-front_size start b ps m h e =
-    sym (closed_size_none (state_of start b ps m)) ∙ closed_size_is start b ps m 0 h ∙ front_len start b ps h e
+pub found_len : (start end : ℕ) (b : List ℕ) (ps : List Placeholder) (r : Option ℕ) → end ≡ length b
+    → SomeIff r (closed_len start end 0 ps < 2 ^ 64) (closed_len start end 0 ps) → IsLaid start b ps
+    → end < 2 ^ 63 → 24 * length ps < 2 ^ 63 → r ≡ Some (closed_len start end 0 ps)
+found_len start end b ps r ends is laid below few =
+    let bound : closed_len start end 0 ps ≤ (length b - start) + 8 * length ps + 0 =
+    rw ends (closed_len_few start 0 b ps laid (omega (arith, ends))) in
+    found r (closed_len start end 0 ps < 2 ^ 64) (closed_len start end 0 ps) is (omega (arith, bound, ends))

@@ -1,21 +1,29 @@
 -- What closing does, step by step, and the state after counting.
-use Rattle.std.proofs.Common.{◌≡◌, ℕ, zero, suc, ◌+◌, ◌-◌, ◌*◌, ◌<◌, ◌≤◌, Bool, true, false, cond, min, nat_lt, is_none, None, Some, List, [], ◌∷◌, ◌++◌, length, take, drop, reverse}
+use Rattle.std.proofs.Common.{◌≡◌, ℕ, zero, suc, ◌+◌, ◌-◌, ◌*◌, ◌<◌, ◌≤◌, Bool, true, false, min, List, [], ◌∷◌, ◌++◌, length, take, drop, reverse}
 use Rattle.std.proofs.Common.{get_or, set, Option, refl, sym, ◌∙◌, ap, subst, arith, length-append, length-drop, ⊎_elim}
-use Rattle.std.proofs.lemmas.Bool.Decides.{nat_tests}
-use Rattle.std.proofs.lemmas.Bool.{cases_lt, cond-true, cond_both}
-use Rattle.std.proofs.lemmas.List.{take-take, take-append-le, drop_at, drop-drop, drop-take, length-take-le, length_push, set_at, get_or_at}
-use Rattle.std.proofs.lemmas.List.{take-append-drop, reverse-append, reverse-reverse, length-reverse, get_or-reverse, set-append_left}
+use Rattle.std.proofs.lemmas.Bool.{cases_lt, cond-true}
+use Rattle.std.proofs.lemmas.List.{take-take, take-append-le, drop_at, drop-drop, drop-take, length-take-le, set_at}
+use Rattle.std.proofs.lemmas.List.{take-append-drop, reverse-append, length-reverse, get_or-reverse, set-append_left}
 use Rattle.rlp_write.specs.declared.open_lists.Placeholder.{Placeholder}
 use Rattle.rlp_format.specs.Format.WrittenHeader.{big_endian, written_header}
 use Rattle.rlp_write.specs.Streams.Stack.{is_last, awaits_after}
 use Rattle.rlp_write.specs.Streams.Stream.{list_encoding}
-use Rattle.rlp_write.specs.Streams.Placeholders.{Descends, with_innermost, with_awaits, unbounded_innermost}
-use Rattle.rlp_write.specs.Streams.Closing.{filled, counted, closed_bytes, header_len, growth, left_of}
+use Rattle.rlp_write.specs.Streams.Placeholders.{Descends, closes, with_innermost, with_awaits, unbounded_innermost}
+use Rattle.rlp_write.specs.Streams.Closing.{filled, counted, closed_bytes, header_len, growth}
 use Rattle.rlp_format.specs.Lemmas.Headers.{written_header_short, written_header_long}
 
 -- the last of a list is the first of its reverse
 pub reverse_push : (ps : List Placeholder) (p : Placeholder) → reverse (ps ++ p ∷ []) ≡ p ∷ reverse ps
 reverse_push ps p = reverse-append ps (p ∷ [])
+
+-- the first of a list are the last of its reverse
+pub reverse_kept : (n : ℕ) (ps : List Placeholder) → reverse (take n ps) ≡ drop (length (reverse ps) - n) (reverse ps)
+reverse_kept n ps =
+    let parts : reverse ps ≡ reverse (drop n ps) ++ reverse (take n ps) =
+    ap reverse (sym (take-append-drop n ps)) ∙ reverse-append (take n ps) (drop n ps) in
+    let rest : length (reverse (drop n ps)) ≡ length (reverse ps) - n =
+    omega (arith, length-reverse (drop n ps), length-drop n ps, length-reverse ps) in
+    sym (ap (drop (length (reverse ps) - n)) parts ∙ drop_at (reverse (drop n ps)) (reverse (take n ps)) (length (reverse ps) - n) rest)
 
 -- ---- finding the growth
 
@@ -68,35 +76,6 @@ planned_more k end whole closing grown left tail counts p ps len header h full i
       small = omega (arith, h.small, few);
       few = omega (arith, h.few);
     }
-
--- no list is full if the count closes none
-pub none_filled : (n : ℕ) → false ≡ nat_lt 0 n → n ≡ 0
-none_filled n none = grind (arith, nat_tests)
-
--- by the list that was taken from the others
-pub planned_popped : (k end : ℕ) (whole : List Placeholder) (closing grown left tail counts : ℕ) (lists rest : List Placeholder) (p : Placeholder)
-    → Planned k end whole closing grown left tail counts (reverse lists) → lists ≡ rest ++ p ∷ []
-    → Planned k end whole closing grown left tail counts (p ∷ reverse rest)
-planned_popped k end whole closing grown left tail counts lists rest p h is =
-    subst (λ ps. Planned k end whole closing grown left tail counts ps) (ap reverse is ∙ reverse_push rest p) h
-
--- the number of bytes after lists are closed
-pub length-closed_bytes : (n : ℕ) (b tail : List ℕ) (ps : List Placeholder) → Descends (length b) ps
-    → length (closed_bytes n b tail ps) ≡ length b + length tail + growth n (length b) (length tail) ps
-length-closed_bytes zero b tail ps order = omega (arith, length-append b tail)
-length-closed_bytes (suc n) b tail [] order = omega (arith, length-append b tail)
-length-closed_bytes (suc n) b tail (p ∷ ps) order =
-    let payload = drop (p.position + 1) b ++ tail in
-    let below : length (take p.position b) ≡ p.position = length-take-le p.position b (omega (arith, order.0)) in
-    let len : length payload ≡ (length b - (p.position + 1)) + length tail =
-    omega (arith, length-append (drop (p.position + 1) b) tail, length-drop (p.position + 1) b) in
-    let encoded : length (list_encoding payload) ≡ header_len ((length b - (p.position + 1)) + length tail) + ((length b - (p.position + 1)) + length tail) =
-    length-append (written_header 0xc0 (length payload)) payload ∙ ap (λ m. header_len m + m) len in
-    let around = length-closed_bytes n (take p.position b) (list_encoding payload) ps (subst (λ m. Descends m ps) (sym below) order.1) in
-    let same : growth n (length (take p.position b)) (length (list_encoding payload)) ps
-    ≡ growth n p.position (header_len ((length b - (p.position + 1)) + length tail) + ((length b - (p.position + 1)) + length tail)) ps =
-    ap (λ m. growth n m (length (list_encoding payload)) ps) below ∙ ap (λ m. growth n p.position m ps) encoded in
-    omega (arith, order.0, below, encoded, around, same, header_some ((length b - (p.position + 1)) + length tail))
 
 -- the growth of one list, and of those around it
 growth_more : (n from tail len : ℕ) (p : Placeholder) (ps : List Placeholder) → len + (p.position + 1) ≡ from
@@ -172,18 +151,11 @@ closes_more whole n bytes from to p ps len at low moved placed h is goes moves f
       enough = omega (arith, h.enough);
     }
 
--- the same, if the list is the last in the order in which they were opened
-pub closes_popped : (whole : List ℕ) (left n : ℕ) (bytes : List ℕ) (from to : ℕ) (lists rest : List Placeholder) (p : Placeholder)
-    → Closes whole left bytes from to (reverse lists) → lists ≡ rest ++ p ∷ [] → left ≡ suc n → Closes whole (suc n) bytes from to (p ∷ reverse rest)
-closes_popped whole left n bytes from to lists rest p h is more =
-    subst (λ m. Closes whole m bytes from to (p ∷ reverse rest)) more
-    (subst (λ ps. Closes whole left bytes from to ps) (ap reverse is ∙ reverse_push rest p) h)
-
--- past the innermost list, by the list that was taken from the others
-pub dropped_popped : (left n : ℕ) (lists rest : List Placeholder) (p : Placeholder) → lists ≡ rest ++ p ∷ [] → left ≡ suc n
-    → drop left (reverse lists) ≡ drop n (reverse rest)
-dropped_popped left n lists rest p is more =
-    ap (λ m. drop m (reverse lists)) more ∙ ap (λ ps. drop (suc n) ps) (ap reverse is ∙ reverse_push rest p)
+-- the same, by the list that was taken
+pub closes_taken : (whole : List ℕ) (left n : ℕ) (bytes : List ℕ) (from to : ℕ) (lists rest : List Placeholder) (p : Placeholder)
+    → Closes whole left bytes from to lists → lists ≡ p ∷ rest → left ≡ suc n → Closes whole (suc n) bytes from to (p ∷ rest)
+closes_taken whole left n bytes from to lists rest p h is more =
+    subst (λ m. Closes whole m bytes from to (p ∷ rest)) more (subst (λ ps. Closes whole left bytes from to ps) is h)
 
 -- moving bytes doesn't change the length
 pub shifted_len : (bytes : List ℕ) (begin len at : ℕ) → begin ≤ at → at + len ≤ length bytes
@@ -214,43 +186,22 @@ closes_fits whole n bytes from to p ps len at moved h is goes moves =
     let header_is : header_len (length moved - at) ≡ header_len (len + (length bytes - to)) = ap header_len payload in
     (omega (arith, room, header_is), omega (arith, len_moved, h.within))
 
--- the bytes before the closed lists, by the list that was taken from the others
-pub left_popped : (left n end : ℕ) (lists rest : List Placeholder) (p : Placeholder) → lists ≡ rest ++ p ∷ [] → left ≡ suc n
-    → left_of left end (reverse lists) ≡ left_of n p.position (reverse rest)
-left_popped left n end lists rest p is more =
-    ap (λ m. left_of m end (reverse lists)) more ∙ ap (λ ps. left_of (suc n) end ps) (ap reverse is ∙ reverse_push rest p)
-
 -- ---- the innermost list that stays open
 
-counted_by : (full : Bool) (k : ℕ) (p : Placeholder) (ps : List Placeholder) → is_last k p.awaits ≡ full
+one_by : (full : Bool) (p : Placeholder) (ps : List Placeholder) → is_last 1 p.awaits ≡ full
     → counted 1 ps ≡ with_innermost (awaits_after 1) (drop (filled 1 ps) ps)
-    → counted k (p ∷ ps) ≡ with_innermost (awaits_after (cond full 1 k)) (drop (filled k (p ∷ ps)) (p ∷ ps))
-counted_by true k p ps e around = rw e around
-counted_by false k p ps e around = rw e refl
+    → counted 1 (p ∷ ps) ≡ with_innermost (awaits_after 1) (drop (filled 1 (p ∷ ps)) (p ∷ ps))
+one_by true p ps e around = rw e around
+one_by false p ps e around = rw e refl
 
--- after the count of one item, the innermost list that stays open awaits one fewer
-pub counted_one : (ps : List Placeholder) → counted 1 ps ≡ with_innermost (awaits_after 1) (drop (filled 1 ps) ps)
+counted_one : (ps : List Placeholder) → counted 1 ps ≡ with_innermost (awaits_after 1) (drop (filled 1 ps) ps)
 counted_one [] = refl
-counted_one (p ∷ ps) = counted_by (is_last 1 p.awaits) 1 p ps refl (counted_one ps) ∙ cond_same (is_last 1 p.awaits)
-  where
-    cond_same : (full : Bool) → with_innermost (awaits_after (cond full 1 1)) (drop (filled 1 (p ∷ ps)) (p ∷ ps))
-        ≡ with_innermost (awaits_after 1) (drop (filled 1 (p ∷ ps)) (p ∷ ps))
-    cond_same true = refl
-    cond_same false = refl
+counted_one (p ∷ ps) = one_by (is_last 1 p.awaits) p ps refl (counted_one ps)
 
--- after a count, the innermost list that stays open awaits fewer items, by the number of items counted in it
-pub counted_is : (k more : ℕ) (ps : List Placeholder) → (filled k ps ≡ 0 → more ≡ k) → (0 < filled k ps → more ≡ 1)
-    → counted k ps ≡ with_innermost (awaits_after more) (drop (filled k ps) ps)
-counted_is k more [] none some = refl
-counted_is k more (p ∷ ps) none some = with_more (is_last k p.awaits) refl
-  where
-    with_more : (full : Bool) → is_last k p.awaits ≡ full → counted k (p ∷ ps) ≡ with_innermost (awaits_after more) (drop (filled k (p ∷ ps)) (p ∷ ps))
-    with_more true e =
-        let closes : filled k (p ∷ ps) ≡ suc (filled 1 ps) = rw e refl in
-        counted_by true k p ps e (counted_one ps) ∙ ap (λ m. with_innermost (awaits_after m) (drop (filled k (p ∷ ps)) (p ∷ ps))) (sym (some (omega arith)))
-    with_more false e =
-        let closes : filled k (p ∷ ps) ≡ 0 = rw e refl in
-        counted_by false k p ps e (counted_one ps) ∙ ap (λ m. with_innermost (awaits_after m) (drop (filled k (p ∷ ps)) (p ∷ ps))) (sym (none closes))
+-- after a count that closes lists, the innermost list that stays open awaits one item fewer
+pub counted_closed : (k : ℕ) (ps : List Placeholder) → closes k ps ≡ true → counted k ps ≡ with_innermost (awaits_after 1) (drop (filled k ps) ps)
+counted_closed k [] e = absurd (let no : ⊥ = cc in no)
+counted_closed k (p ∷ ps) e = rw e (counted_one ps)
 
 -- the number of moved bytes grows by the length of the bytes that are moved
 pub moved_within : (begin at len old new : ℕ) → begin ≤ at → (begin < at → new ≡ old + len) → (begin ≡ at → new ≡ old) → new ≤ old + len
@@ -267,29 +218,6 @@ pub descends_le : (low high : ℕ) (ps : List Placeholder) → low ≤ high → 
 descends_le low high [] le d = tt
 descends_le low high (p ∷ ps) le d = (omega (arith, d.0), d.1)
 
--- the innermost list is the last in the order in which they were opened
-set_last_reversed : (change : Option ℕ → Option ℕ) (n : ℕ) (ps : List Placeholder) (p q : Placeholder) → 0 < length (reverse ps)
-    → n ≡ length (reverse ps) - 1 → p ≡ get_or (reverse ps) n p → q ≡ record p { awaits = change p.awaits }
-    → reverse (set (reverse ps) n q) ≡ with_innermost change ps
-set_last_reversed change n [] p q some last is new = absurd (let no : 0 < 0 = some in omega arith)
-set_last_reversed change n (u ∷ ps) p q some last is new =
-    let opened : reverse (u ∷ ps) ≡ reverse ps ++ u ∷ [] = reverse-append (u ∷ []) ps in
-    let place : length (reverse ps) ≡ n = omega (arith, last, ap length opened, length_push (reverse ps) u) in
-    let same : p ≡ u = is ∙ ap (λ z. get_or z n p) opened ∙ get_or_at (reverse ps) u [] p n place in
-    let after : set (reverse (u ∷ ps)) n q ≡ reverse ps ++ q ∷ [] = ap (λ z. set z n q) opened ∙ set_at (reverse ps) u [] q n place in
-    let back : reverse (set (reverse (u ∷ ps)) n q) ≡ q ∷ ps = ap reverse after ∙ reverse_push (reverse ps) q ∙ ap (λ z. q ∷ z) (reverse-reverse ps) in
-    let with : Placeholder → Placeholder = λ r. record r { awaits = change r.awaits } in
-    back ∙ ap (λ z. z ∷ ps) (new ∙ ap with same)
-
--- changing what the last list awaits changes the innermost list
-pub set_last : (change : Option ℕ → Option ℕ) (n : ℕ) (lists : List Placeholder) (p q : Placeholder) → 0 < length lists → n ≡ length lists - 1
-    → p ≡ get_or lists n p → q ≡ record p { awaits = change p.awaits }
-    → reverse (set lists n q) ≡ with_innermost change (reverse lists)
-set_last change n lists p q some last is new =
-    let same : reverse (reverse lists) ≡ lists = reverse-reverse lists in
-    subst (λ ls. reverse (set ls n q) ≡ with_innermost change (reverse lists)) same
-    (set_last_reversed change n (reverse lists) p q (rw same some) (rw same last) (rw same is) new)
-
 -- ---- what the innermost lists await
 
 -- an element that is set, in the reversed list
@@ -301,6 +229,22 @@ reverse_set (x ∷ xs) zero k q e =
 reverse_set (x ∷ xs) (suc i) k q e =
     reverse-append (x ∷ []) (set xs i q) ∙ ap (λ z. z ++ x ∷ []) (reverse_set xs i k q (omega (arith, e)))
     ∙ sym (ap (λ z. set z k q) (reverse-append (x ∷ []) xs) ∙ set-append_left (reverse xs) (x ∷ []) k q (omega (arith, e, length-reverse xs)))
+
+-- the last in the order in which the lists were opened is the innermost
+set_first : (change : Option ℕ → Option ℕ) (ps : List Placeholder) (p q : Placeholder) → 0 < length ps → p ≡ get_or ps 0 p
+    → q ≡ record p { awaits = change p.awaits } → set ps 0 q ≡ with_innermost change ps
+set_first change [] p q some is new = absurd (let no : 0 < 0 = some in omega arith)
+set_first change (u ∷ ps) p q some is new =
+    let with : Placeholder → Placeholder = λ r. record r { awaits = change r.awaits } in ap (λ z. z ∷ ps) (new ∙ ap with is)
+
+-- changing what the last list awaits changes the innermost list
+pub set_last : (change : Option ℕ → Option ℕ) (n : ℕ) (lists : List Placeholder) (p q : Placeholder) → 0 < length lists → n ≡ length lists - 1
+    → p ≡ get_or lists n p → q ≡ record p { awaits = change p.awaits }
+    → reverse (set lists n q) ≡ with_innermost change (reverse lists)
+set_last change n lists p q some last is new =
+    let first : length lists - 1 - 0 ≡ n = omega arith in
+    let item : p ≡ get_or (reverse lists) 0 p = is ∙ ap (λ k. get_or lists k p) (sym first) ∙ sym (get_or-reverse lists 0 p some) in
+    reverse_set lists n 0 q (omega arith) ∙ set_first change (reverse lists) p q (omega (arith, length-reverse lists)) item new
 
 -- one more list awaits that number of items
 awaits_next : (k : ℕ) (w : Option ℕ) (ps : List Placeholder) (d : Placeholder) → k < length ps
@@ -327,25 +271,6 @@ awaits_set k i w old lists p place so_far is =
     let change : Placeholder → Placeholder = λ q. record q { awaits = w } in
     reverse_set lists i k (change p) place ∙ ap (λ qs. set qs k (change p)) so_far
     ∙ ap (λ q. set (with_awaits k w (reverse old)) k (change q)) item ∙ awaits_next k w (reverse old) p size
-
-restored_by : (n position : ℕ) (v w : Option ℕ) (ps : List Placeholder) → suc n ≤ unbounded_innermost (record { position = position; awaits = v } ∷ ps)
-    → (n ≤ unbounded_innermost ps → with_awaits n None (with_awaits n w ps) ≡ ps)
-    → with_awaits (suc n) None (with_awaits (suc n) w (record { position = position; awaits = v } ∷ ps)) ≡ record { position = position; awaits = v } ∷ ps
-restored_by n position None w ps few rest = ap (λ qs. record { position = position; awaits = None } ∷ qs) (rest (omega (arith, few)))
-restored_by n position (Some v) w ps few rest = absurd (omega (arith, few))
-
--- unbounded lists that are made unbounded again are as before
-pub awaits_restored : (n : ℕ) (w : Option ℕ) (ps : List Placeholder) → n ≤ unbounded_innermost ps → with_awaits n None (with_awaits n w ps) ≡ ps
-awaits_restored zero w ps few = refl
-awaits_restored (suc n) w [] few = refl
-awaits_restored (suc n) w (p ∷ ps) few = restored_by n p.position p.awaits w ps few (awaits_restored n w ps)
-
--- only open lists are unbounded
-pub unbounded_le : (ps : List Placeholder) → unbounded_innermost ps ≤ length ps
-unbounded_le [] = omega arith
-unbounded_le (p ∷ ps) =
-    let rest = unbounded_le ps in
-    cond_both (is_none p.awaits) (suc (unbounded_innermost ps)) 0 (λ n. n ≤ suc (length ps)) (λ _. omega (arith, rest)) (λ _. omega arith)
 
 -- ---- the search for unbounded lists
 

@@ -3,13 +3,8 @@ use Rattle.std.proofs.Common.{◌≡◌, ◌<◌, ◌≤◌, ◌+◌, ◌^◌, �
 use Rattle.std.proofs.Common.{ap, ◌∙◌, subst, arith, append-nil, append_assoc, length-append}
 use Rattle.std.proofs.lemmas.List.{length-map}
 use Rattle.std.specs.Prelude.{MatchOption, SomeIff}
-use Rattle.rlp_format.specs.Format.WrittenHeader.{written_header}
 use Rattle.rlp_format.specs.Format.Item.{Item, list_of}
-use Rattle.rlp_format.specs.Format.Encoding.{encoding, join}
-use Rattle.rlp_format.specs.Lemmas.Encodings.{encoding_list, form, form_some}
-use Rattle.rlp_write.specs.Streams.Stream.{State, Seen, HasRoomFor, Retains, add, add_all, put_item, raw_text}
-use Rattle.rlp_write.proofs.Streams.Closings.{header_some}
-use Rattle.rlp_write.proofs.Streams.Rooms.{raw_add, raw_add_all}
+use Rattle.rlp_write.specs.Streams.Stream.{State, add, add_all, put_item}
 use Rattle.rlp_write.specs.Streams.Calls.{with_list_of}
 use Rattle.rlp_write.specs.Streams.Growth.{GrowsTo}
 use Rattle.rlp_write.specs.Streams.Fields.{AppendsSome}
@@ -59,71 +54,6 @@ some_grows xs n s t u many begun p =
 -- all items of a list that was begun
 pub all_fill : (xs : List Item) (n : ℕ) (s t u : State) → n ≡ length xs → t ≡ with_list_of n s → u ≡ add_all xs t → u ≡ put_item (list_of xs) s
 all_fill xs n s t u many begun added = filled_list xs n s u (sym many) (added ∙ ap (add_all xs) begun)
-
--- ---- room for the items
-
--- a stream with room for all items has room for the first
-pub room_for_first : (xs ys : List Item) (v : Seen) → HasRoomFor v (add_all (xs ++ ys) v.state) → HasRoomFor v (add_all xs v.state)
-room_for_first xs ys v has =
-    let all = ap (λ (s : State). length (raw_text s)) (add_all-append xs ys v.state) in
-    let more = raw_add_all ys (add_all xs v.state) in
-    record { enough = omega (arith, all, more, has.enough); few = omega (arith, all, more, has.few) }
-
--- and after the first, for the others
-pub room_for_others : (xs ys : List Item) (v w : Seen) → w.state ≡ add_all xs v.state → Retains v w → HasRoomFor v (add_all (xs ++ ys) v.state)
-    → HasRoomFor w (add_all ys w.state)
-unfolding Retains
-room_for_others xs ys v w first keeps has =
-    let all = ap (λ (s : State). length (raw_text s)) (both_added xs ys v.state w.state (add_all ys w.state) first refl) in
-    record { enough = omega (arith, all, keeps.room, has.enough); few = omega (arith, all, has.few) }
-
--- a stream with room for a list has room for one byte more
-pub room_to_begin : (xs : List Item) (v : Seen) → HasRoomFor v (put_item (list_of xs) v.state) → 1 ≤ v.spare
-room_to_begin xs v has =
-    let more = raw_add (list_of xs) v.state in
-    let whole = ap length (encoding_list xs) in
-    omega (arith, more, whole, has.enough, header_some (length (join xs)), length-append (written_header 0xc0 (length (join xs))) (join xs))
-
--- and after the list was begun, for its items
-pub room_to_fill : (xs : List Item) (n : ℕ) (v w : Seen) → n ≡ length xs → w.state ≡ with_list_of n v.state → Retains v w
-    → HasRoomFor v (put_item (list_of xs) v.state) → HasRoomFor w (add_all xs w.state)
-unfolding Retains
-room_to_fill xs n v w many begun keeps has =
-    let all = ap (λ (s : State). length (raw_text s)) (all_fill xs n v.state w.state (add_all xs w.state) many begun refl) in
-    record { enough = omega (arith, all, keeps.room, has.enough); few = omega (arith, all, has.few) }
-
--- a stream with room for the list of no items has room for it as an item
-pub room_for_empty : (xs : List Item) (n : ℕ) (v : Seen) → n ≡ length xs → n ≡ 0 → HasRoomFor v (put_item (list_of xs) v.state) → HasRoomFor v (with_list_of 0 v.state)
-room_for_empty [] n v many none has = record { enough = has.enough; few = has.few }
-room_for_empty (x ∷ xs) n v many none has = absurd (omega (arith, many, none))
-
--- so a list is begun if there is room for it, and for one more open list
-pub begins : (xs : List Item) (n : ℕ) (v : Seen) (R : Type 0) → n ≡ length xs → (0 < n → 1 ≤ v.spare → 1 ≤ v.spare_lists → R)
-    → (n ≡ 0 → HasRoomFor v (with_list_of 0 v.state) → R) → 1 ≤ v.spare_lists → HasRoomFor v (put_item (list_of xs) v.state) → R
-begins xs zero v R many some none lists has = none refl (room_for_empty xs zero v many refl has)
-begins xs (suc n) v R many some none lists has = some (omega arith) (room_to_begin xs v has) lists
-
--- items have a byte each, or more
-joined_len : (xs : List Item) → length (join xs) < 2 ^ 64 → length xs ≤ length (join xs)
-joined_len [] few = omega arith
-joined_len (x ∷ xs) few =
-    let both = length-append (encoding x) (join xs) in
-    let one = form_some (encoding x) (form x (omega (arith, both, few))) in
-    let others = joined_len xs (omega (arith, both, few)) in
-    omega (arith, both, one, others)
-
--- so no stream has room for a list of 2^64 items
-pub no_room_for_many : (xs : List Item) (v : Seen) → 2 ^ 64 ≤ length xs → HasRoomFor v (put_item (list_of xs) v.state) → ⊥
-no_room_for_many xs v many has =
-    let more = raw_add (list_of xs) v.state in
-    let whole = ap length (encoding_list xs) in
-    let both = length-append (written_header 0xc0 (length (join xs))) (join xs) in
-    let each = joined_len xs (omega (arith, more, whole, both, has.few)) in
-    omega (arith, more, whole, both, each, many, has.few)
-
--- some of no items were appended: that can't be
-pub some_of_none : (xs : List Item) (s t : State) → xs ≡ [] → ¬ AppendsSome xs s t
-some_of_none xs s t none p = let no = ap length (sym p.all ∙ none) in omega (arith, no, length-append p.before (p.next ∷ p.after))
 
 -- ---- values of one type
 

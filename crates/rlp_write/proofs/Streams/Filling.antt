@@ -9,7 +9,6 @@ use Rattle.rlp_format.specs.Format.Encoding.{encoding, join_items}
 use Rattle.rlp_write.specs.Streams.Stack.{OpenList}
 use Rattle.rlp_write.specs.Streams.Stream.{State, add, put_item, with_list, add_all}
 use Rattle.rlp_write.specs.Streams.Calls.{with_list_of}
-use Rattle.rlp_write.proofs.Streams.Rooms.{retains_same, retains_trans}
 use Rattle.rlp_write.specs.Streams.Growth.{GrowsTo}
 use Rattle.rlp_write.proofs.Streams.Listed.{list_filled, add_more, or_true}
 use Rattle.rlp_write.proofs.Streams.Growth.{grows_same, grows_put, grows_with_list, grows_in_list, grows_trans}
@@ -84,8 +83,6 @@ pub ruleset filling = (
   grows_with_list,
   grows_in_list,
   grows_trans,
-  retains_same,
-  retains_trans,
   encoding_of_list,
   join_none,
   join_and,

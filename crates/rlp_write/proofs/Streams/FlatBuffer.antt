@@ -1,19 +1,17 @@
 -- How putting, opening and counting change the state that a stream's bytes represent.
-use Rattle.std.proofs.Common.{◌≡◌, ℕ, zero, suc, nat_eq, nat_lt, ◌+◌, ◌<◌, ◌≤◌, Bool, true, false, cond, List, [], ◌∷◌, ◌++◌, Option, length, take}
-use Rattle.std.proofs.Common.{drop, None, Some, is_none, refl, sym, ◌∙◌, ap, arith, append_assoc, append-nil, length-append, length-drop, subst}
-use Rattle.std.proofs.lemmas.Bool.Decides.{nat_tests}
+use Rattle.std.proofs.Common.{◌≡◌, ℕ, zero, suc, ◌+◌, ◌≤◌, Bool, true, false, IsTrue, ◌&&◌, cond, List, [], ◌∷◌, ◌++◌, Option, length, take}
+use Rattle.std.proofs.Common.{drop, is_none, refl, sym, ◌∙◌, ap, arith, append_assoc, append-nil, length-append, length-drop, subst}
 use Rattle.std.proofs.lemmas.List.{take-take, take-append-le, drop-append-le, take_at, drop_all, length-take-le, length_push, take-append-drop}
 use Rattle.rlp_write.specs.declared.open_lists.Placeholder.{Placeholder}
-use Rattle.rlp_write.specs.Streams.Stack.{OpenList, Stack, is_last, awaits_after, count_around, is_counted_after, unbounded_count, closed_payload_around}
+use Rattle.rlp_write.specs.Streams.Stack.{OpenList, AwaitsSome, each_awaits, is_last, awaits_after, count_around, is_counted_after, unbounded_count, closed_payload_around}
 use Rattle.rlp_format.specs.Format.WrittenHeader.{written_header}
-use Rattle.rlp_write.specs.Streams.Stream.{State, list_encoding, put, with_list, count, raw_text, closed_size}
-use Rattle.rlp_write.specs.Streams.Calls.{finalized}
-use Rattle.rlp_write.specs.Streams.Placeholders.{begin_of, lists_of, Placed, IsLaid, Descends, with_awaits, unbounded_innermost}
+use Rattle.rlp_write.specs.Streams.Stream.{State, IsFinished, list_encoding, put, with_list, with_awaiting, count, raw_text, closed_size}
+use Rattle.rlp_write.specs.Streams.Placeholders.{begin_of, lists_of, Placed, IsLaid, Descends, closes, with_awaits, with_innermost, unbounded_innermost}
 use Rattle.rlp_write.specs.Streams.Closing.{filled, counted, closed_bytes, left_of}
 use Rattle.rlp_write.specs.Streams.Layout.{stack_of, state_of}
-use Rattle.rlp_write.proofs.Streams.States.{raw_text-put, raw_text-with_list}
+use Rattle.rlp_write.proofs.Streams.States.{raw_text-put, raw_text-with_list, closed_text-count}
 use Rattle.rlp_write.proofs.Streams.Awaits.{await-after}
-use Rattle.rlp_write.proofs.Streams.Closings.{header_some}
+use Rattle.rlp_write.proofs.Streams.Closings.{header_some, counted_closed}
 
 -- ---- places
 
@@ -154,172 +152,208 @@ state_counted k start b ps m n h e =
     count_laid k start b [] ps h ∙ ap (λ payload. count_around list_encoding k payload (lists_of start b ps)) (append-nil (drop (begin_of start ps) b)) in
     rw (front_closed (filled k ps) start b [] ps h, stack, e) refl
 
--- ---- `is_counted`, and the number of lists that are left
+-- ---- the test whether a count closes a list
 
--- if `is_counted` is true after a count, a list was closed
-pub is_counted_laid : (k start : ℕ) (b : List ℕ) (p : Placeholder) (ps : List Placeholder) (m : Bool)
-    → is_counted_after k (lists_of start b (p ∷ ps)) m ≡ nat_lt 0 (filled k (p ∷ ps))
-is_counted_laid k start b p ps m = by_full (is_last k p.awaits) (filled 1 ps)
-  where
-    by_full : (full : Bool) (n : ℕ) → full ≡ nat_lt 0 (cond full (suc n) 0)
-    by_full true n = grind (arith, nat_tests)
-    by_full false n = refl
+-- what the placeholders tell is what the state tells
+closes_state : (k start : ℕ) (b : List ℕ) (ps : List Placeholder) → is_counted_after k (lists_of start b ps) false ≡ closes k ps
+closes_state k start b [] = refl
+closes_state k start b (p ∷ ps) = refl
 
--- ---- the bytes moved
+-- ---- the number of bytes
 
-length_list_encoding : (payload : List ℕ) → length payload < length (list_encoding payload)
-length_list_encoding payload = omega (arith, length-append (written_header 0xc0 (length payload)) payload, header_some (length payload))
+-- the number of bytes of a payload and of what is around it, behind the front
+abbrev pub bytes_around : List ℕ → List (OpenList ℕ) → ℕ
+bytes_around p [] = length p
+bytes_around p (l ∷ ls) = bytes_around l.outer ls + suc (length p)
+
+-- that is all bytes behind the front
+pub laid_bytes : (start : ℕ) (b : List ℕ) (ps : List Placeholder) → IsLaid start b ps
+    → length b ≡ start + bytes_around (drop (begin_of start ps) b) (lists_of start b ps)
+laid_bytes start b [] h = omega (arith, length-drop start b, h)
+laid_bytes start b (p ∷ ps) h =
+    let inside = h.0.within in
+    let around = laid_bytes start (take p.position b) ps h.1 in
+    omega (arith, around, length-take-le p.position b (omega arith), length-drop (p.position + 1) b)
+
+bytes_longer : (p x : List ℕ) (ls : List (OpenList ℕ)) → bytes_around (p ++ x) ls ≡ bytes_around p ls + length x
+bytes_longer p x [] = length-append p x
+bytes_longer p x (l ∷ ls) = omega (arith, length-append p x)
 
 -- closing removes no byte
-length_closed : (n start : ℕ) (b tail : List ℕ) (ps : List Placeholder) → IsLaid start b ps → length b + length tail ≤ length (closed_bytes n b tail ps)
-length_closed zero start b tail ps h = omega (arith, length-append b tail)
-length_closed (suc n) start b tail [] h = omega (arith, length-append b tail)
-length_closed (suc n) start b tail (p ∷ ps) h =
-    let within = h.0.within in
-    let payload = drop (p.position + 1) b ++ tail in
-    let more : length (take p.position b) + length (list_encoding payload) ≤ length (closed_bytes n (take p.position b) (list_encoding payload) ps) =
-    length_closed n start (take p.position b) (list_encoding payload) ps h.1 in
+pub bytes_closed : (p : List ℕ) (ls : List (OpenList ℕ)) → bytes_around p ls ≤ length (closed_payload_around list_encoding p ls)
+bytes_closed p [] = omega arith
+bytes_closed p (l ∷ ls) =
     omega (
       arith,
-      more,
-      length-take-le p.position b (omega arith),
-      length_list_encoding payload,
-      length-append (drop (p.position + 1) b) tail,
-      length-drop (p.position + 1) b,
+      bytes_closed (l.outer ++ list_encoding p) ls,
+      bytes_longer l.outer (list_encoding p) ls,
+      length-append (written_header 0xc0 (length p)) p,
+      header_some (length p),
     )
 
-begin_counted_by : (full : Bool) (k start : ℕ) (b : List ℕ) (p : Placeholder) (ps : List Placeholder) → is_last k p.awaits ≡ full
-    → IsLaid start b (p ∷ ps) → begin_of start (counted 1 ps) ≤ left_of (filled 1 ps) p.position ps
-    → begin_of start (counted k (p ∷ ps)) ≤ left_of (filled k (p ∷ ps)) (length b) (p ∷ ps)
-begin_counted_by true k start b p ps e h around = rw e around
-begin_counted_by false k start b p ps e h around = let within = h.0.within in rw e (let low : p.position + 1 ≤ length b = omega arith in low)
+-- of no bytes it makes none
+pub none_closed : (p : List ℕ) (ls : List (OpenList ℕ)) → bytes_around p ls ≡ 0 → length (closed_payload_around list_encoding p ls) ≡ 0
+none_closed p [] e = e
+none_closed p (l ∷ ls) e = absurd (omega (arith, e))
 
--- the innermost payload begins, after counting, below all that was closed
-begin_counted : (k start : ℕ) (b : List ℕ) (ps : List Placeholder) → IsLaid start b ps → begin_of start (counted k ps) ≤ left_of (filled k ps) (length b) ps
-begin_counted k start b [] h = h
-begin_counted k start b (p ∷ ps) h =
+-- the places are behind the front
+pub left_behind : (n start : ℕ) (b : List ℕ) (ps : List Placeholder) → IsLaid start b ps → start ≤ left_of n (length b) ps
+left_behind zero start b ps h = start_le start b ps h
+left_behind (suc n) start b [] h = h
+left_behind (suc n) start b (p ∷ ps) h =
     let within = h.0.within in
-    let around : begin_of start (counted 1 ps) ≤ left_of (filled 1 ps) (length (take p.position b)) ps = begin_counted 1 start (take p.position b) ps h.1 in
-    let len : length (take p.position b) ≡ p.position = length-take-le p.position b (omega arith) in
-    begin_counted_by (is_last k p.awaits) k start b p ps refl h (subst (λ end. begin_of start (counted 1 ps) ≤ left_of (filled 1 ps) end ps) len around)
+    subst (λ end. start ≤ left_of n end ps) (length-take-le p.position b (omega arith)) (left_behind n start (take p.position b) ps h.1)
 
--- the innermost payload is part of what is closed
-inner_closed : (p : List ℕ) (ls : List (OpenList ℕ)) → length p ≤ length (closed_payload_around list_encoding p ls)
-inner_closed p [] = omega arith
-inner_closed p (l ∷ ls) =
-    omega (arith, inner_closed (l.outer ++ list_encoding p) ls, length-append l.outer (list_encoding p), length_list_encoding p)
+-- ---- what lists await
 
--- the number of bytes that closings moved is at most the closed size
-pub moved_counted : (k start : ℕ) (b : List ℕ) (ps : List Placeholder) (n : Bool) (old new : ℕ) → IsLaid start b ps
-    → new + left_of (filled k ps) (length b) ps ≤ old + length b
-    → new ≤ old + closed_size (state_of start (closed_bytes (filled k ps) b [] ps) (counted k ps) n)
-moved_counted k start b ps n old new h moved =
-    let after = closed_bytes (filled k ps) b [] ps in
-    let begin = begin_of start (counted k ps) in
-    let longer : length b + 0 ≤ length after = length_closed (filled k ps) start b [] ps h in
-    let low : begin ≤ left_of (filled k ps) (length b) ps = begin_counted k start b ps h in
-    let inner : length (drop begin after) ≤ closed_size (state_of start after (counted k ps) n) =
-    inner_closed (drop begin after) (lists_of start after (counted k ps)) in
-    omega (arith, moved, longer, low, inner, length-drop begin after)
+-- lists that await something else have the same layout
+laid_awaits : (n : ℕ) (w : Option ℕ) → AwaitsSome w → (start : ℕ) (b : List ℕ) (ps : List Placeholder) → IsLaid start b ps
+    → IsLaid start b (with_awaits n w ps)
+laid_awaits zero w some start b ps h = h
+laid_awaits (suc n) w some start b [] h = h
+laid_awaits (suc n) w some start b (p ∷ ps) h =
+    (record { within = h.0.within; placeholder = h.0.placeholder; awaits_some = some }, laid_awaits n w some start (take p.position b) ps h.1)
 
--- ---- rules for the methods of a stream
+begin_awaits : (n : ℕ) (w : Option ℕ) (start : ℕ) (ps : List Placeholder) → begin_of start (with_awaits n w ps) ≡ begin_of start ps
+begin_awaits zero w start ps = refl
+begin_awaits (suc n) w start [] = refl
+begin_awaits (suc n) w start (p ∷ ps) = refl
 
--- `is_counted` after a count, if a list is open
-pub is_counted_open : (k start : ℕ) (b : List ℕ) (ps : List Placeholder) (m n : Bool) → 0 < length ps → n ≡ nat_lt 0 (filled k ps)
-    → n ≡ is_counted_after k (lists_of start b ps) m
-is_counted_open k start b [] m n some e = absurd (let no : 0 < 0 = some in omega arith)
-is_counted_open k start b (p ∷ ps) m n some e = e ∙ sym (is_counted_laid k start b p ps m)
-
--- the state after bytes were put and items counted
-pub state_put_counted : (k start : ℕ) (b x : List ℕ) (ps : List Placeholder) (m n : Bool) → IsLaid start b ps → n ≡ is_counted_after k (lists_of start b ps) m
-    → state_of start (closed_bytes (filled k ps) (b ++ x) [] ps) (counted k ps) n ≡ count k (put x (state_of start b ps m))
-state_put_counted k start b x ps m n h e =
-    state_counted k start (b ++ x) ps m n (laid_append start b x ps h) (e ∙ ap (λ ls. is_counted_after k ls m) (sym (lists_append start b x ps h)))
-    ∙ ap (count k) (state_put start b x ps m h)
-
--- a number that isn't 0 is greater than 0
-pub not_empty : (n : ℕ) → false ≡ nat_eq n 0 → 0 < n
-not_empty n e = grind (arith, nat_tests)
-
--- ---- unbounded lists are finalized: they are closed like lists that each await their last item
-
--- the lists, of which each of the n innermost awaits one item
-abbrev pub with_last : ℕ → List Placeholder → List Placeholder
-with_last n ps = with_awaits n (Some 1) ps
-
--- lists that await one item have the same layout
-pub laid_last : (n start : ℕ) (b : List ℕ) (ps : List Placeholder) → IsLaid start b ps → IsLaid start b (with_last n ps)
-laid_last zero start b ps h = h
-laid_last (suc n) start b [] h = h
-laid_last (suc n) start b (p ∷ ps) h =
-    (record { within = h.0.within; placeholder = h.0.placeholder; awaits_some = omega arith }, laid_last n start (take p.position b) ps h.1)
-
--- the same open lists, of which each of the n innermost awaits one item
-abbrev each_last : ℕ → List (OpenList ℕ) → List (OpenList ℕ)
-each_last zero ls = ls
-each_last (suc n) [] = []
-each_last (suc n) (l ∷ ls) = record l { awaits = Some 1 } ∷ each_last n ls
-
-begin_last : (n start : ℕ) (ps : List Placeholder) → begin_of start (with_last n ps) ≡ begin_of start ps
-begin_last zero start ps = refl
-begin_last (suc n) start [] = refl
-begin_last (suc n) start (p ∷ ps) = refl
-
-lists_last : (n start : ℕ) (b : List ℕ) (ps : List Placeholder) → lists_of start b (with_last n ps) ≡ each_last n (lists_of start b ps)
-lists_last zero start b ps = refl
-lists_last (suc n) start b [] = refl
-lists_last (suc n) start b (p ∷ ps) =
+lists_awaits : (n : ℕ) (w : Option ℕ) (start : ℕ) (b : List ℕ) (ps : List Placeholder)
+    → lists_of start b (with_awaits n w ps) ≡ each_awaits n w (lists_of start b ps)
+lists_awaits zero w start b ps = refl
+lists_awaits (suc n) w start b [] = refl
+lists_awaits (suc n) w start b (p ∷ ps) =
     let rest = take p.position b in
-    let first : List (OpenList ℕ) → ℕ → List (OpenList ℕ) = λ ls begin. record { awaits = Some 1; outer = drop begin rest } ∷ ls in
-    ap (λ ls. first ls (begin_of start (with_last n ps))) (lists_last n start rest ps)
-    ∙ ap (λ begin. first (each_last n (lists_of start rest ps)) begin) (begin_last n start ps)
+    let first : List (OpenList ℕ) → ℕ → List (OpenList ℕ) = λ ls begin. record { awaits = w; outer = drop begin rest } ∷ ls in
+    ap (λ ls. first ls (begin_of start (with_awaits n w ps))) (lists_awaits n w start rest ps)
+    ∙ ap (λ begin. first (each_awaits n w (lists_of start rest ps)) begin) (begin_awaits n w start ps)
+
+state_awaits : (n : ℕ) (w : Option ℕ) (start : ℕ) (b : List ℕ) (ps : List Placeholder) (m : Bool)
+    → state_of start b (with_awaits n w ps) m ≡ with_awaiting n w (state_of start b ps m)
+state_awaits n w start b ps m =
+    let with : ℕ → List (OpenList ℕ) → State =
+    λ begin ls. record { front = take start b; stack = record { inner = drop begin b; lists = ls }; is_counted = m } in
+    ap (λ begin. with begin (lists_of start b (with_awaits n w ps))) (begin_awaits n w start ps)
+    ∙ ap (with (begin_of start ps)) (lists_awaits n w start b ps)
+
+-- the number of open lists is the number of places
+pub length-lists_of : (start : ℕ) (b : List ℕ) (ps : List Placeholder) → length (lists_of start b ps) ≡ length ps
+length-lists_of start b [] = refl
+length-lists_of start b (p ∷ ps) = ap suc (length-lists_of start (take p.position b) ps)
 
 -- the open lists that are unbounded are those with such a placeholder
 pub unbounded_lists : (start : ℕ) (b : List ℕ) (ps : List Placeholder) → unbounded_count (lists_of start b ps) ≡ unbounded_innermost ps
 unbounded_lists start b [] = refl
 unbounded_lists start b (p ∷ ps) = ap (λ n. cond (is_none p.awaits) (suc n) 0) (unbounded_lists start (take p.position b) ps)
 
-abbrev state_with : List ℕ → Stack ℕ → Bool → State
-state_with f s m = record { front = f; stack = s; is_counted = m }
+-- ---- bytes and places that stand for a state
 
--- a count in an unbounded list changes nothing
-pub count_unbounded : (p : List ℕ) (ls : List (OpenList ℕ)) → 0 < unbounded_count ls
-    → count_around list_encoding 1 p ls ≡ record { inner = p; lists = ls }
-count_unbounded p [] some = absurd (let no : 0 < 0 = some in omega arith)
-count_unbounded p (l ∷ ls) some = by_awaits l.awaits l.outer some
+-- they are laid, and this is the state
+pub record StandsFor (s : State) (start : ℕ) (b : List ℕ) (ps : List Placeholder) (m : Bool) : Type 0 where
+  pub laid : IsLaid start b ps
+  pub is : state_of start b ps m ≡ s
+
+-- bytes at the end are put in the state
+pub stands_put : {s : State} {start : ℕ} {b : List ℕ} {ps : List Placeholder} {m : Bool} → StandsFor s start b ps m
+    → (x c : List ℕ) → c ≡ b ++ x → StandsFor (put x s) start c ps m
+stands_put {s} {start} {b} {ps} {m} h x c e =
+    record { laid = rw e (laid_append start b x ps h.laid); is = rw e (state_put start b x ps m h.laid ∙ ap (put x) h.is) }
+
+-- a byte 0 at the end is a new list
+pub stands_opened : {s : State} {start : ℕ} {b : List ℕ} {ps : List Placeholder} {m : Bool} → StandsFor s start b ps m
+    → (awaits : Option ℕ) (position : ℕ) → AwaitsSome awaits → position ≡ length b
+    → (c : List ℕ) (qs : List Placeholder) → c ≡ b ++ 0 ∷ [] → qs ≡ record { position = position; awaits = awaits } ∷ ps
+    → StandsFor (with_list awaits s) start c qs false
+stands_opened {s} {start} {b} {ps} {m} h awaits position some at c qs e f =
+    let p : Placeholder = record { position = position; awaits = awaits } in
+    let rest : take position (b ++ 0 ∷ []) ≡ b = take_at b (0 ∷ []) position (sym at) in
+    let none : drop (position + 1) (b ++ 0 ∷ []) ≡ [] = drop_all (position + 1) (b ++ 0 ∷ []) (omega (arith, length_push b 0)) in
+    let placed : Placed (b ++ 0 ∷ []) p =
+    record { within = omega (arith, length_push b 0); placeholder = rw (rest, none) refl; awaits_some = some } in
+    let laid : IsLaid start (b ++ 0 ∷ []) (p ∷ ps) = (placed, rw rest h.laid) in
+    record { laid = rw (e, f) laid; is = rw (e, f) (state_opened start b ps m p h.laid at ∙ ap (with_list awaits) h.is) }
+
+and_yes : (m a : Bool) → a ≡ true → (m && a) ≡ m
+and_yes true true e = refl
+and_yes false true e = refl
+and_yes m false e = absurd (let no : ⊥ = cc in no)
+
+and_no : (m a : Bool) → ¬ (a ≡ true) → (m && a) ≡ false
+and_no true false e = refl
+and_no false false e = refl
+and_no m true e = absurd (e refl)
+
+-- a count that closes no list
+pub stands_within : (s : State) (start : ℕ) (b : List ℕ) (ps : List Placeholder) (m : Bool) → StandsFor s start b ps m
+    → (k : ℕ) (alone : Bool) (qs : List Placeholder) → closes k ps ≡ false → qs ≡ with_innermost (awaits_after k) ps
+    → (IsTrue alone → qs ≡ []) × (qs ≡ [] → IsTrue alone) → StandsFor (count k s) start b qs (m && alone)
+stands_within s start b [] m h k alone qs none e lone =
+    let same : (m && alone) ≡ m = and_yes m alone (lone.1 e) in
+    record { laid = rw e h.laid; is = rw (e, same) (ap (count k) h.is) }
+stands_within s start b (p ∷ ps) m h k alone qs none e lone =
+    let q : Placeholder = record { position = p.position; awaits = awaits_after k p.awaits } in
+    let placed : Placed b q =
+    record { within = h.laid.0.within; placeholder = h.laid.0.placeholder; awaits_some = await-after k p.awaits h.laid.0.awaits_some none } in
+    let laid : IsLaid start b (q ∷ ps) = (placed, h.laid.1) in
+    let counted_in : state_of start b (q ∷ ps) false ≡ count k (state_of start b (p ∷ ps) m) = rw none refl in
+    let never : ¬ (alone ≡ true) = λ yes. let same = sym e ∙ lone.0 yes in let no : ⊥ = cc in no in
+    record { laid = rw e laid; is = rw (e, and_no m alone never) (counted_in ∙ ap (count k) h.is) }
+
+-- a count that closes lists, all at once
+stands_closed : {s : State} {start : ℕ} {b : List ℕ} {ps : List Placeholder} {m : Bool} → StandsFor s start b ps m
+    → (k : ℕ) (c : List ℕ) (qs : List Placeholder) → closes k ps ≡ true → c ≡ closed_bytes (filled k ps) b [] ps
+    → qs ≡ counted k ps → StandsFor (count k s) start c qs true
+stands_closed {s} {start} {b} {ps} {m} h k c qs closing e f =
+    record {
+      laid = rw (e, f) (laid_counted k start b ps h.laid);
+      is = rw (e, f) (state_counted k start b ps m true h.laid (closes_counted ps m closing) ∙ ap (count k) h.is);
+    }
   where
-    by_awaits : (awaits : Option ℕ) (outer : List ℕ) → 0 < unbounded_count (record { awaits = awaits; outer = outer } ∷ ls)
-        → count_around list_encoding 1 p (record { awaits = awaits; outer = outer } ∷ ls)
-        ≡ record { inner = p; lists = record { awaits = awaits; outer = outer } ∷ ls }
-    by_awaits None outer some = refl
-    by_awaits (Some n) outer some = absurd (let no : 0 < 0 = some in omega arith)
+    closes_counted : (ps : List Placeholder) (m : Bool) → closes k ps ≡ true → true ≡ is_counted_after k (lists_of start b ps) m
+    closes_counted [] m never = absurd (let no : ⊥ = cc in no)
+    closes_counted (p ∷ ps) m full = sym full
 
-pub unbounded_around : (l : OpenList ℕ) (ls : List (OpenList ℕ)) (n : ℕ) → suc n ≤ unbounded_count (l ∷ ls) → n ≤ unbounded_count ls
-unbounded_around l ls n many = by_awaits l.awaits many
-  where
-    by_awaits : (awaits : Option ℕ) → suc n ≤ cond (is_none awaits) (suc (unbounded_count ls)) 0 → n ≤ unbounded_count ls
-    by_awaits None many = omega (arith, many)
-    by_awaits (Some k) many = absurd (omega (arith, many))
+-- after bytes were put, with room behind them for the headers
+pub stands_filled : {s : State} {start : ℕ} {b : List ℕ} {ps : List Placeholder} {m : Bool} → StandsFor s start b ps m
+    → (k : ℕ) (x grown : List ℕ) {wide long after : List ℕ} {end closing : ℕ} {rest last : List Placeholder}
+    → is_counted_after k s.stack.lists false ≡ true → end ≡ length b + length x → wide ≡ b → long ≡ wide ++ x → take (length long) grown ≡ long
+    → closing ≡ filled k ps → after ≡ closed_bytes closing (take end grown) [] ps → rest ≡ drop closing ps → last ≡ with_innermost (awaits_after 1) rest
+    → StandsFor (count k (put x s)) start after last true
+stands_filled {s} {start} {b} {ps} {m} h k x grown {wide} {long} {after} {end} {closing} {rest} {last} closes_some size same put_in front number bytes left counts =
+    let full : closes k ps ≡ true = sym (closes_state k start b ps) ∙ ap (λ (t : State). is_counted_after k t.stack.lists false) h.is ∙ closes_some in
+    let whole : long ≡ b ++ x = put_in ∙ ap (λ c. c ++ x) same in
+    let len : end ≡ length long = omega (arith, size, ap length whole, length-append b x) in
+    let first : take end grown ≡ b ++ x = ap (λ n. take n grown) len ∙ front ∙ whole in
+    stands_closed (stands_put h x (b ++ x) refl) k after last full
+    (bytes ∙ ap (λ n. closed_bytes n (take end grown) [] ps) number ∙ ap (λ c. closed_bytes (filled k ps) c [] ps) first)
+    (counts ∙ ap (with_innermost (awaits_after 1)) (left ∙ ap (λ n. drop n ps) number) ∙ sym (counted_closed k ps full))
 
--- to finalize the innermost lists, one after another, is to count the one item that the innermost of them awaits, if the others await one too
-finalized_by_count : (n : ℕ) (f p : List ℕ) (ls : List (OpenList ℕ)) (m : Bool) → suc n ≤ unbounded_count ls
-    → state_with f (count_around list_encoding 1 p (each_last (suc n) ls)) true ≡ finalized (suc n) (state_with f (record { inner = p; lists = ls }) m)
-finalized_by_count n f p [] m many = absurd (let no : suc n ≤ 0 = many in omega arith)
-finalized_by_count zero f p (l ∷ ls) m many = refl
-finalized_by_count (suc n) f p (l ∷ ls) m many =
-    let payload = l.outer ++ list_encoding p in
-    let more = unbounded_around l ls (suc n) many in
-    finalized_by_count n f payload ls true more
-    ∙ ap (λ s. finalized (suc n) (state_with f s true)) (sym (count_unbounded payload ls (omega (arith, more))))
+-- what the innermost lists await is changed
+pub stands_awaiting : {s : State} {start : ℕ} {b : List ℕ} {ps : List Placeholder} {m : Bool} → StandsFor s start b ps m
+    → (n : ℕ) (awaits : Option ℕ) (qs : List Placeholder) → AwaitsSome awaits → qs ≡ with_awaits n awaits ps
+    → StandsFor (with_awaiting n awaits s) start b qs m
+stands_awaiting {s} {start} {b} {ps} {m} h n awaits qs some e =
+    record { laid = rw e (laid_awaits n awaits some start b ps h.laid); is = rw e (state_awaits n awaits start b ps m ∙ ap (with_awaiting n awaits) h.is) }
 
--- to finalize the innermost lists is to count the items that they await
-pub state_finalized : (n start : ℕ) (b : List ℕ) (ps : List Placeholder) (m : Bool) → IsLaid start b ps → 0 < n
-    → n ≤ unbounded_count (lists_of start b ps)
-    → state_of start (closed_bytes (filled 1 (with_last n ps)) b [] (with_last n ps)) (counted 1 (with_last n ps)) true
-    ≡ finalized n (state_of start b ps m)
-state_finalized zero start b ps m h some many = absurd (let no : 0 < 0 = some in omega arith)
-state_finalized (suc n) start b [] m h some many = absurd (let no : suc n ≤ 0 = many in omega arith)
-state_finalized (suc n) start b (p ∷ ps) m h some many =
-    state_counted 1 start b (with_last (suc n) (p ∷ ps)) m true (laid_last (suc n) start b (p ∷ ps) h) refl
-    ∙ ap (λ ls. state_with (take start b) (count_around list_encoding 1 (drop (p.position + 1) b) ls) true) (lists_last (suc n) start b (p ∷ ps))
-    ∙ finalized_by_count n (take start b) (drop (p.position + 1) b) (lists_of start b (p ∷ ps)) m many
+-- with no list open, the bytes are the front and the top
+pub stands_finished : (s : State) (start : ℕ) (b : List ℕ) (ps : List Placeholder) (m : Bool) → StandsFor s start b ps m → IsFinished s
+    → b ≡ s.front ++ s.stack.inner
+stands_finished s start b [] m h finished = sym (take-append-drop start b) ∙ ap (λ (t : State). t.front ++ t.stack.inner) h.is
+stands_finished s start b (p ∷ ps) m h finished =
+    absurd (let none = ap (λ (t : State). t.stack.lists) h.is ∙ finished in let no : ⊥ = cc in no)
+
+-- if a count moves bytes behind the front alone, and each once, it moves at most the closed size
+pub stands_moved : {s : State} {start : ℕ} {b : List ℕ} {ps : List Placeholder} {m : Bool} → StandsFor s start b ps m
+    → (k n old new end : ℕ) (x : List ℕ) → end ≡ length b + length x → new + left_of n end ps ≤ old + end → new ≤ old + closed_size (count k (put x s))
+stands_moved {s} {start} {b} {ps} {m} h k n old new end x size moved =
+    let long = b ++ x in
+    let laid = laid_append start b x ps h.laid in
+    let now = state_of start long ps m in
+    let len : end ≡ length long = omega (arith, size, length-append b x) in
+    let all = laid_bytes start long ps laid in
+    let front = left_behind n start long ps laid in
+    let most = bytes_closed now.stack.inner now.stack.lists in
+    let is : now ≡ put x s = state_put start b x ps m h.laid ∙ ap (put x) h.is in
+    subst (λ t. new ≤ old + closed_size (count k t)) is
+    (omega (arith, moved, ap (λ e. left_of n e ps) len, len, all, front, most, ap length (closed_text-count k now)))

@@ -4,7 +4,6 @@ use Rattle.rlp_format.specs.Format.Item.{Item, string, list}
 use Rattle.rlp_format.specs.Format.Encoding.{encoding}
 use Rattle.rlp_write.specs.Streams.Stack.{OpenList}
 use Rattle.rlp_write.specs.Streams.Stream.{State, put, with_list, put_item, count, add, with_is_counted}
-pub use Rattle.rlp_write.proofs.Streams.Rooms.{retains_same, retains_trans}
 use Rattle.rlp_write.specs.Streams.Growth.{AreSameAround, Stands, GrowsTo}
 use Rattle.rlp_write.specs.Streams.Growth.Stands.{here, within}
 
@@ -92,4 +91,4 @@ item_counted (string b) s t u start is uncounted counts =
 item_counted (list xs) s t u start is uncounted counts =
     absurd (let both : true ≡ false = sym (ap (λ (u : State). u.is_counted) is) ∙ uncounted in let no : ⊥ = cc in no)
 
-pub ruleset growth = (grows_same, grows_put, grows_with_list, grows_in_list, grows_trans, retains_same, retains_trans)
+pub ruleset growth = (grows_same, grows_put, grows_with_list, grows_in_list, grows_trans)

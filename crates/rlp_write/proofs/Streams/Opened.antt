@@ -1,9 +1,9 @@
 -- A list that is opened, or is written at once: from its encoding, or since it has no items.
-use Rattle.std.proofs.Common.{◌≡◌, ℕ, true, IsTrue, List, [], ◌∷◌, length, refl, sym, ◌∙◌, ap, arith}
+use Rattle.std.proofs.Common.{◌≡◌, ℕ, true, IsTrue, List, [], ◌∷◌, refl, sym, ◌∙◌, ap}
 use Rattle.rlp_format.specs.Format.WrittenHeader.{big_endian, written_header}
 use Rattle.rlp_format.specs.Format.Item.{Item, string, list, list_of, is_list}
 use Rattle.rlp_format.specs.Format.Encoding.{encoding, join_items}
-use Rattle.rlp_write.specs.Streams.Stream.{State, Seen, HasRoomFor, raw_text, put, put_item, count, with_is_counted}
+use Rattle.rlp_write.specs.Streams.Stream.{State, put, put_item, count, with_is_counted}
 use Rattle.rlp_write.specs.Streams.Calls.{with_list_of}
 
 -- the encoding of the list of no items
@@ -16,12 +16,6 @@ pub opened_none : (n : ℕ) (s : State) → n ≡ 0 → with_is_counted true (co
 opened_none n s e =
     ap (λ (b : List ℕ). with_is_counted true (count 1 (put b s))) (sym empty_list) ∙ ap (λ m. with_list_of m s) (sym e)
 
--- a stream with room for the empty list as an item has room for its byte
-pub room_for_none : (v : Seen) → HasRoomFor v (with_list_of 0 v.state) → HasRoomFor v (count 1 (put (0xc0 ∷ []) v.state))
-room_for_none v has =
-    let same = ap (λ (b : List ℕ). length (raw_text (count 1 (put b v.state)))) empty_list in
-    record { enough = omega (arith, same, has.enough); few = omega (arith, same, has.few) }
-
 -- ---- a list that is written from its encoding
 
 -- it is written as its item
@@ -29,11 +23,4 @@ pub encoded_list_put : (x : Item) (b : List ℕ) (s : State) → IsTrue (is_list
 encoded_list_put (string d) b s is whole = absurd (let no : ⊥ = cc in no)
 encoded_list_put (list xs) b s is whole = ap (λ c. with_is_counted true (count 1 (put c s))) whole
 
--- and with room for its item there is room for its bytes
-pub encoded_list_room : (x : Item) (b : List ℕ) (v : Seen) → IsTrue (is_list x) → b ≡ encoding x → HasRoomFor v (put_item x v.state)
-    → HasRoomFor v (count 1 (put b v.state))
-encoded_list_room x b v is whole has =
-    let same = ap (λ (s : State). length (raw_text s)) (encoded_list_put x b v.state is whole) in
-    record { enough = omega (arith, same, has.enough); few = omega (arith, same, has.few) }
-
-pub ruleset encoded = (encoded_list_put, encoded_list_room)
+pub ruleset encoded = (encoded_list_put)

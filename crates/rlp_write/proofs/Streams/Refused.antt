@@ -1,6 +1,6 @@
 -- What holds after a call that was refused, and after one that was not.
-use Rattle.std.proofs.Common.{◌≡◌, Result, Ok, Err, IsErr, true, false, refl}
-use Rattle.std.specs.Prelude.{IsOk, IfOk, OnOk, OnErr}
+use Rattle.std.proofs.Common.{Result, Ok, Err}
+use Rattle.std.specs.Prelude.{OnOk, OnErr}
 
 -- what holds in any case
 pub on_err : {T E : Type 0} (r : Result T E) (P : Type 0) → P → OnErr r P
@@ -16,26 +16,3 @@ on_err_too (Err e) P Q f p = f p
 pub on_ok_too : {T E : Type 0} (r : Result T E) (P Q : Type 0) → (P → Q) → OnOk r P → OnOk r Q
 on_ok_too (Ok x) P Q f p = f p
 on_ok_too (Err e) P Q f p = tt
-
--- a refused call returns no value
-pub no_value : {T E : Type 0} (r : Result T E) (P : T → Type 0) → IsErr r → IfOk r P
-no_value (Ok x) P refused = absurd (let no : ⊥ = cc in no)
-no_value (Err e) P refused = tt
-
--- two facts that hold in any case
-pub on_err_both : {T E : Type 0} (r : Result T E) (P Q : Type 0) → P → Q → OnErr r (P × Q)
-on_err_both r P Q p q = on_err r (P × Q) (p, q)
-
--- the same of a call that was not refused
-pub on_ok : {T E : Type 0} (r : Result T E) (P : Type 0) → P → OnOk r P
-on_ok (Ok x) P p = p
-on_ok (Err e) P p = tt
-
--- a call was not refused if what holds after a refusal can't be
-pub ok_unless : {T E : Type 0} (r : Result T E) (P : Type 0) → ¬ P → OnErr r P → IsOk r
-ok_unless (Ok x) P never p = refl
-ok_unless (Err e) P never p = absurd (never p)
-
--- a call that was refused is not one that was not
-pub not_ok : {P : Type 0} → false ≡ true → P
-not_ok e = absurd (let no : ⊥ = cc in no)

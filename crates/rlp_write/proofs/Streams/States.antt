@@ -68,6 +68,10 @@ size-finalized (suc n) s = size-finalized n (effect finalize_unbounded_list s) �
 pub size_kept-each : (n : ℕ) (s t : State) → t ≡ finalized n s → closed_size t ≡ closed_size s
 size_kept-each n s t e = ap closed_size e ∙ size-finalized n s
 
+-- no bytes are put
+pub put_none : (s : State) → put [] s ≡ s
+put_none s = ap (λ p. record s { stack = record s.stack { inner = p } }) (append-nil s.stack.inner)
+
 -- the test of a size that was found, and of one that is too large to be found
 pub within_size-found : (bytes : List ℕ) (limit size : ℕ) (s : State) → size ≡ closed_size_with (length bytes) s
     → nat_le size limit ≡ is_within_size bytes limit s

@@ -1,6 +1,6 @@
 -- Headers and strings that are written.
 use Rattle.std.proofs.Common.{◌≡◌, ℕ, ◌+◌, ◌-◌, ◌/◌, ◌%◌, ◌<◌, ◌≤◌, List, ◌∷◌, [], ◌++◌, length, take, drop, length-append, length-drop, append-nil, true}
-use Rattle.std.proofs.Common.{false, refl, sym, ap, ◌∙◌, le_trans, arith, add-one, append_assoc}
+use Rattle.std.proofs.Common.{false, refl, sym, ap, ◌∙◌, arith, add-one, append_assoc}
 use Rattle.std.proofs.lemmas.Bool.Decides.{nat_tests}
 use Rattle.std.proofs.lemmas.Bool.{cond-true, cond-false}
 use Rattle.std.proofs.lemmas.List.{drop-set, take-append-le, take-take, take_at, drop_at, drop_all, length-take-le, take-append-drop, take_all}
@@ -11,7 +11,6 @@ use Rattle.rlp_format.specs.Format.Encoding.{encoding, is_low_byte, BeginsWith}
 use Rattle.rlp_format.specs.Values.Value.{number_item}
 use Rattle.rlp_format.specs.Lemmas.Digits.{big_endian_step}
 use Rattle.rlp_format.specs.Lemmas.Headers.{written_header_short, written_header_long}
-use Rattle.rlp_write.specs.Streams.Held.{Held, Keeps}
 
 -- a string that is its own encoding
 pub encoding_low : (s : List ℕ) → is_low_byte s ≡ true → encoding (string s) ≡ s
@@ -77,15 +76,6 @@ rest_from b slice start same =
 pub header_none : (b : List ℕ) (start : ℕ) → is_low_byte (drop start b) ≡ true → b ≡ take start b ++ encoding (string (drop start b))
 header_none b start low = sym (ap (λ z. take start b ++ z) (encoding_low (drop start b) low) ∙ take-append-drop start b)
 
--- the length of an encoding with a header
-pub encoding_length : (s header : List ℕ) (room : ℕ) → is_low_byte s ≡ false → header ≡ written_header 0x80 (length s)
-    → room < length header + length s → room < length (encoding (string s))
-encoding_length s header room other is less =
-    let len = length-append (written_header 0x80 (length s)) s in
-    let whole : length (encoding (string s)) ≡ length (written_header 0x80 (length s) ++ s) = ap length (encoding_other s other) in
-    let heads : length header ≡ length (written_header 0x80 (length s)) = ap length is in
-    omega arith
-
 -- a list's header is written over the bytes in front of its payload
 pub header_placed : (b view new header : List ℕ) (payload : ℕ) → b ≡ view
     → new ≡ take (payload - length header) b ++ (header ++ drop ((payload - length header) + length header) b)
@@ -110,10 +100,6 @@ header_placed b view new header payload same is heads within room =
     let place : begin + length header ≡ payload = omega (arith, room) in
     take_at new (drop (length new) b) (length b) size ∙ is ∙ ap (λ n. take begin b ++ (header ++ drop n b)) place
     ∙ ap (λ z. take begin z ++ (header ++ drop payload z)) same ∙ ap (λ h. take begin view ++ (h ++ drop payload view)) heads
-
--- two calls give up no room if neither does
-pub keeps_trans : (a b c : Held) → Keeps a b → Keeps b c → Keeps a c
-keeps_trans a b c g h = record { moved = le_trans g.moved h.moved; room = le_trans g.room h.room }
 
 -- the bytes of a string were put after the old ones, and then its header was inserted
 pub parts_written : (old mid new : List ℕ) (start : ℕ) (Gives : List ℕ → Type 0) → (s : List ℕ) × Gives s × (mid ≡ old ++ s) → start ≡ length old

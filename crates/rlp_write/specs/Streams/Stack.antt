@@ -1,5 +1,5 @@
 -- Open lists, one inside the other, and the payload of each. In a stream payloads are bytes. Over items the same moves say what the bytes mean.
-use Rattle.std.specs.Prelude.{ℕ, suc, ◌-◌, ◌<◌, Bool, true, false, if◌then◌else◌, nat_le, List, [], ◌∷◌, ◌++◌, Option, Some, None, is_none, All}
+use Rattle.std.specs.Prelude.{ℕ, zero, suc, ◌-◌, ◌<◌, Bool, true, false, if◌then◌else◌, nat_le, List, [], ◌∷◌, ◌++◌, Option, Some, None, is_none, All}
 
 -- An open list, seen from inside: the number of items that it still awaits, which is 1 or more, or `None` if it is unbounded; and the payload before it in the
 -- list around it.
@@ -132,3 +132,9 @@ unbounded_count (l ∷ ls) = if is_none l.awaits then suc (unbounded_count ls) e
 abbrev pub awaited : {A : Type 0} → List (OpenList A) → Option ℕ
 awaited [] = None
 awaited (l ∷ ls) = l.awaits
+
+-- the open lists, of which each of the n innermost awaits this number of items
+abbrev pub each_awaits : {A : Type 0} → ℕ → Option ℕ → List (OpenList A) → List (OpenList A)
+each_awaits zero awaits ls = ls
+each_awaits (suc n) awaits [] = []
+each_awaits (suc n) awaits (l ∷ ls) = record l { awaits = awaits } ∷ each_awaits n awaits ls

@@ -1,9 +1,9 @@
 -- The state of a stream of encodings, and its moves.
-use Rattle.std.specs.Prelude.{ℕ, ◌≡◌, ◌+◌, ◌^◌, ◌<◌, ◌≤◌, Bool, true, false, ◌||◌, if◌then◌else◌, List, [], ◌∷◌, ◌++◌, Option, length, flat_map, replicate}
+use Rattle.std.specs.Prelude.{ℕ, ◌≡◌, ◌+◌, ◌≤◌, Bool, true, false, ◌||◌, if◌then◌else◌, List, [], ◌∷◌, ◌++◌, Option, length, flat_map, replicate}
 use Rattle.rlp_format.specs.Format.WrittenHeader.{written_header}
 use Rattle.rlp_format.specs.Format.Item.{Item, is_list}
 use Rattle.rlp_format.specs.Format.Encoding.{encoding}
-use Rattle.rlp_write.specs.Streams.Stack.{Stack, empty_stack, top, levels, stack_put, stack_with_list, stack_shut, stack_count, closed_payload, is_counted_after}
+use Rattle.rlp_write.specs.Streams.Stack.{Stack, empty_stack, top, levels, stack_put, stack_with_list, stack_shut, stack_count, closed_payload, each_awaits, is_counted_after}
 
 -- The front, which is the bytes handed in; the payloads and the open lists; and `is_counted`, which tells `append` whether the value that it let be written is
 -- counted already. A list counts itself once it is whole, so what writes or closes a list makes `is_counted` true. `append` makes it false before the value is
@@ -13,12 +13,10 @@ pub record State : Type 0 where
   pub stack : Stack ℕ
   pub is_counted : Bool
 
--- What clauses see of a stream: its state; how many more bytes its buffer takes without an allocation; how many more lists it opens without one; and how many
--- payload bytes its closings have moved.
+-- What clauses see of a stream: its state; how many more bytes its buffer takes without an allocation; and how many payload bytes its closings have moved.
 pub record Seen : Type 0 where
   pub state : State
   pub spare : ℕ
-  pub spare_lists : ℕ
   pub moved : ℕ
 
 -- The state is the old one, including `is_counted`, and no payload byte was moved. The room may differ.
@@ -55,6 +53,10 @@ count k s = record { front = s.front; stack = stack_count list_encoding k s.stac
 -- the state with this value of `is_counted`
 abbrev pub with_is_counted : Bool → State → State
 with_is_counted is_counted s = record s { is_counted = is_counted }
+
+-- the state in which each of the n innermost lists awaits this number of items
+abbrev pub with_awaiting : ℕ → Option ℕ → State → State
+with_awaiting n awaits s = record s { stack = record s.stack { lists = each_awaits n awaits s.stack.lists } }
 
 -- a new list with an empty payload, which awaits the given number of items, and `is_counted` false
 abbrev pub with_list : Option ℕ → State → State
@@ -94,27 +96,8 @@ closed_size s = length (closed_text s)
 abbrev pub closed_size_with : ℕ → State → ℕ
 closed_size_with more s = closed_size (put (replicate more 0) s)
 
--- ---- room
+-- ---- bytes moved
 
--- the number of bytes that the buffer holds without an allocation, with its present bytes
-abbrev pub room : Seen → ℕ
-room v = length (raw_text v.state) + v.spare
-
--- the number of lists that may be open without an allocation, with the open ones
-abbrev pub list_room : Seen → ℕ
-list_room v = length v.state.stack.lists + v.spare_lists
-
--- what no call takes back: the count of moved bytes, and room
-pub record RetainsAll (old new : Seen) : Type 0 where
-  pub moved : old.moved ≤ new.moved
-  pub room : room old ≤ room new
-  pub list_room : list_room old ≤ list_room new
-
--- No call lowers the count of moved bytes, or gives room up. Proofs use its lemmas, or unfold it to see its fields.
-unfoldable pub Retains : Seen → Seen → Type 0
-Retains old new = RetainsAll old new
-
--- The buffer has room for all bytes of the other state, which are fewer than 2^63.
-pub record HasRoomFor (v : Seen) (s : State) : Type 0 where
-  pub enough : length (raw_text s) ≤ room v
-  pub few : length (raw_text s) < 2 ^ 63
+-- closings moved at most the final closed size in payload bytes
+abbrev pub MovesWithin : Seen → Seen → Type 0
+MovesWithin old new = (old.moved ≤ new.moved) × (new.moved ≤ old.moved + closed_size new.state)

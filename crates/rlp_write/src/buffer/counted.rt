@@ -4,7 +4,6 @@ ghost use Rattle.std.specs.Prelude.{◌≡◌, ◌<◌, ◌≤◌, ◌+◌, ◌-
 ghost use Rattle.bytes.specs.Filled.{MakesSpare};
 ghost use Rattle.rlp_format.specs.Format.WrittenHeader.{written_header};
 ghost use Rattle.rlp_write.specs.Streams.Closing.{header_len};
-ghost use Rattle.rlp_write.specs.Streams.Held.{Keeps};
 
 use super::moving::{bring, insert, write_at};
 use crate::header::{LIST, written_header};
@@ -99,7 +98,6 @@ impl Buffer {
         ensures ok { OnOk result (self.new.items ≡ self.old.items ++ part.now) }
         ensures refused { OnErr result (self.new.items ≡ self.old.items) }
         ensures room { OnErr result (self.old.spare < length part.now) }
-        ensures keeps { Keeps self.old self.new }
         ensures moved { self.new.moved ≡ self.old.moved }
     {
         self.bytes.reserve(part.len())?;
@@ -176,7 +174,6 @@ impl Buffer {
         ensures ok { OnOk result (self.new.items
             ≡ take at self.old.items ++ (part.now ++ drop at self.old.items)) }
         ensures refused { OnErr result (self.new.items ≡ self.old.items) }
-        ensures keeps { Keeps self.old self.new }
         ensures moved { self.new.moved ≡ self.old.moved }
     {
         self.bytes.extend_from_slice(part)?;

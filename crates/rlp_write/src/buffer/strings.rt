@@ -1,11 +1,10 @@
 //! Encodings of strings at the end of a buffer.
 
-ghost use Rattle.std.specs.Prelude.{◌≡◌, ◌≤◌, ◌<◌, ◌+◌, ◌-◌, ◌++◌, ℕ, List, OnOk, OnErr, IfOk, IfSome, length, take, drop, false};
+ghost use Rattle.std.specs.Prelude.{◌≡◌, ◌≤◌, ◌<◌, ◌+◌, ◌-◌, ◌++◌, ℕ, List, OnOk, OnErr, IfOk, length, take, drop, false};
 ghost use Rattle.std.specs.Iterator.{IsFiniteIterable};
 ghost use Rattle.rlp_format.specs.Format.Item.{string};
 ghost use Rattle.rlp_format.specs.Format.Encoding.{encoding, is_low_byte, BeginsWith};
 ghost use Rattle.rlp_format.specs.Values.Value.{number_item};
-ghost use Rattle.rlp_write.specs.Streams.Held.{Keeps};
 ghost use Rattle.rlp_write.specs.Streams.Iterated.{GivesAll};
 
 use super::counted::Buffer;
@@ -30,8 +29,6 @@ pub fn write_string(buffer: &mut Buffer, value: &[u8]) -> Result<(), AllocError>
     ensures ok { OnOk result
         (buffer.new.items ≡ buffer.old.items ++ encoding (string value.now)) }
     ensures refused { OnErr result (buffer.new.items ≡ buffer.old.items) }
-    ensures room { OnErr result (buffer.old.spare < length (encoding (string value.now))) }
-    ensures keeps { Keeps buffer.old buffer.new }
     ensures moved { buffer.new.moved ≡ buffer.old.moved }
 {
     if is_low_byte(value) {
@@ -55,8 +52,6 @@ fn write_short(buffer: &mut Buffer, value: &[u8]) -> Result<(), AllocError>
     ensures ok { OnOk result
         (buffer.new.items ≡ buffer.old.items ++ encoding (string value.now)) }
     ensures refused { OnErr result (buffer.new.items ≡ buffer.old.items) }
-    ensures room { OnErr result (buffer.old.spare < length (encoding (string value.now))) }
-    ensures keeps { Keeps buffer.old buffer.new }
     ensures moved { buffer.new.moved ≡ buffer.old.moved }
 {
     buffer.reserve(1 + value.len())?;
@@ -100,7 +95,6 @@ fn write_bytes_of<I: IntoIterator<Item = u8>>(
         × GivesAll I.into_iter_gives I.IntoIter.next_gives value s
         × (buffer.new.items ≡ buffer.old.items ++ s)) }
     ensures refused { OnErr result (BeginsWith buffer.new.items buffer.old.items) }
-    ensures keeps { Keeps buffer.old buffer.new }
     ensures moved { buffer.new.moved ≡ buffer.old.moved }
 {
     for byte in value {
@@ -116,7 +110,6 @@ fn write_header_before(buffer: &mut Buffer, start: usize) -> Result<(), AllocErr
     ensures ok { OnOk result (buffer.new.items
         ≡ take start buffer.old.items ++ encoding (string (drop start buffer.old.items))) }
     ensures refused { OnErr result (buffer.new.items ≡ buffer.old.items) }
-    ensures keeps { Keeps buffer.old buffer.new }
     ensures moved { buffer.new.moved ≡ buffer.old.moved }
 {
     let string = &buffer.as_slice()[start..];
@@ -139,7 +132,6 @@ pub fn write_string_of<I: IntoIterator<Item = u8>>(
         × GivesAll I.into_iter_gives I.IntoIter.next_gives value s
         × (buffer.new.items ≡ buffer.old.items ++ encoding (string s))) }
     ensures refused { OnErr result (buffer.new.items ≡ buffer.old.items) }
-    ensures keeps { Keeps buffer.old buffer.new }
     ensures moved { buffer.new.moved ≡ buffer.old.moved }
 {
     let start = buffer.len();
@@ -162,7 +154,6 @@ fn write_parts_of<I: IntoIterator<Item = u8>>(
         × GivesAll I.into_iter_gives I.IntoIter.next_gives value s
         × (buffer.new.items ≡ buffer.old.items ++ encoding (string s))) }
     ensures refused { OnErr result (BeginsWith buffer.new.items buffer.old.items) }
-    ensures keeps { Keeps buffer.old buffer.new }
     ensures moved { buffer.new.moved ≡ buffer.old.moved }
 {
     let start = buffer.len();

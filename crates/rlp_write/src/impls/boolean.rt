@@ -13,8 +13,6 @@ impl Encodable for bool {
 
     ghost fits = { λ b. ⊤ };
 
-    ghost at_once = { λ _. ⊤ };
-
     fn rlp_append(&self, s: &mut RlpStream) -> Result<(), AllocError> {
         (*self as u64).rlp_append(s)
     }

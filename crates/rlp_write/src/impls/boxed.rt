@@ -10,8 +10,6 @@ impl<T: Encodable> Encodable for Box<T> {
 
     ghost fits = { λ b. T.fits b.value };
 
-    ghost at_once = { λ b. T.at_once b.value };
-
     fn rlp_append(&self, s: &mut RlpStream) -> Result<(), AllocError> {
         T::rlp_append(self, s)
     }

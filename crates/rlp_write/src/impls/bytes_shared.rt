@@ -3,18 +3,16 @@
 ghost use Rattle.std.specs.Prelude.{⊤};
 ghost use Rattle.rlp_format.specs.Format.Item.{string};
 
+use crate::buffer::strings::encoded_string;
 use crate::stream::RlpStream;
 use crate::traits::Encodable;
 use bytes::{Bytes, BytesMut};
-use crate::buffer::strings::encoded_string;
 use std::alloc::{AllocError, Global};
 
 impl Encodable for Bytes {
     ghost item = { λ v. string v };
 
     ghost fits = { λ v. ⊤ };
-
-    ghost at_once = { λ _. ⊤ };
 
     fn rlp_append(&self, s: &mut RlpStream) -> Result<(), AllocError> {
         s.put_string(self.as_slice())

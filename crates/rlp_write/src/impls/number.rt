@@ -1,12 +1,11 @@
 //! Numbers: written as the string of their digits to the base 256, the most significant first.
 
-ghost use Rattle.std.specs.Prelude.{⊤};
 ghost use Rattle.rlp_format.specs.Values.Value.{FitsBytes, number_item};
 
+use crate::buffer::strings::{encoded_digit, encoded_string};
 use crate::stream::RlpStream;
 use crate::traits::Encodable;
 use bytes::BytesMut;
-use crate::buffer::strings::{encoded_digit, encoded_string};
 use rlp_format::digits::Digits;
 use std::alloc::{AllocError, Global};
 
@@ -14,8 +13,6 @@ impl Encodable for u8 {
     ghost item = { λ v. number_item v };
 
     ghost fits = { λ v. FitsBytes 1 v };
-
-    ghost at_once = { λ _. ⊤ };
 
     fn rlp_append(&self, s: &mut RlpStream) -> Result<(), AllocError> {
         (*self as u64).rlp_append(s)
@@ -31,8 +28,6 @@ impl Encodable for u16 {
 
     ghost fits = { λ v. FitsBytes 2 v };
 
-    ghost at_once = { λ _. ⊤ };
-
     fn rlp_append(&self, s: &mut RlpStream) -> Result<(), AllocError> {
         (*self as u64).rlp_append(s)
     }
@@ -47,8 +42,6 @@ impl Encodable for u32 {
 
     ghost fits = { λ v. FitsBytes 4 v };
 
-    ghost at_once = { λ _. ⊤ };
-
     fn rlp_append(&self, s: &mut RlpStream) -> Result<(), AllocError> {
         (*self as u64).rlp_append(s)
     }
@@ -62,8 +55,6 @@ impl Encodable for u64 {
     ghost item = { λ v. number_item v };
 
     ghost fits = { λ v. FitsBytes 8 v };
-
-    ghost at_once = { λ _. ⊤ };
 
     fn rlp_append(&self, s: &mut RlpStream) -> Result<(), AllocError> {
         s.put_string(Digits::of(*self).as_slice())
@@ -82,8 +73,6 @@ impl Encodable for usize {
 
     ghost fits = { λ v. FitsBytes 8 v };
 
-    ghost at_once = { λ _. ⊤ };
-
     fn rlp_append(&self, s: &mut RlpStream) -> Result<(), AllocError> {
         (*self as u64).rlp_append(s)
     }
@@ -97,8 +86,6 @@ impl Encodable for u128 {
     ghost item = { λ v. number_item v };
 
     ghost fits = { λ v. FitsBytes 16 v };
-
-    ghost at_once = { λ _. ⊤ };
 
     fn rlp_append(&self, s: &mut RlpStream) -> Result<(), AllocError> {
         s.put_string(Digits::of_wide(*self).as_slice())

@@ -1,6 +1,6 @@
 //! Options: written as a list of no items or of one item.
 
-ghost use Rattle.std.specs.Prelude.{IfSome, IsNone};
+ghost use Rattle.std.specs.Prelude.{IfSome};
 ghost use Rattle.rlp_format.specs.Values.Value.{option_item};
 
 use crate::stream::RlpStream;
@@ -11,8 +11,6 @@ impl<T: Encodable> Encodable for Option<T> {
     ghost item = { λ o. option_item T.item o };
 
     ghost fits = { λ o. IfSome o T.fits };
-
-    ghost at_once = { λ o. IsNone o };
 
     fn rlp_append(&self, s: &mut RlpStream) -> Result<(), AllocError> {
         match self {

@@ -1,21 +1,19 @@
 //! Text: written as the string of its bytes in UTF-8.
 
-ghost use Rattle.std.specs.Prelude.{⊤, IsUtf8};
+ghost use Rattle.std.specs.Prelude.{IsUtf8};
 ghost use Rattle.std.specs.String.{string_bytes};
 ghost use Rattle.rlp_format.specs.Format.Item.{string};
 
+use crate::buffer::strings::encoded_string;
 use crate::stream::RlpStream;
 use crate::traits::Encodable;
 use bytes::BytesMut;
-use crate::buffer::strings::encoded_string;
 use std::alloc::{AllocError, Global};
 
 impl Encodable for String {
     ghost item = { λ v. string (string_bytes v) };
 
     ghost fits = { λ v. IsUtf8 (string_bytes v) };
-
-    ghost at_once = { λ _. ⊤ };
 
     fn rlp_append(&self, s: &mut RlpStream) -> Result<(), AllocError> {
         s.put_string(self.as_str().as_bytes())
@@ -30,8 +28,6 @@ impl Encodable for &str {
     ghost item = { λ v. string v.now };
 
     ghost fits = { λ v. IsUtf8 v.now };
-
-    ghost at_once = { λ _. ⊤ };
 
     fn rlp_append(&self, s: &mut RlpStream) -> Result<(), AllocError> {
         s.put_string(self.as_bytes())

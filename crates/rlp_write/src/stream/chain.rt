@@ -1,13 +1,13 @@
 //! Calls on a stream, one after another.
 
-ghost use Rattle.std.specs.Prelude.{◌≡◌, ◌<◌, ◌≤◌, [], ℕ, List, IsTrue, IsOk, IfOk, OnOk, length, map, All};
+ghost use Rattle.std.specs.Prelude.{◌≡◌, ◌≤◌, ℕ, List, IsTrue, IsOk, IfOk, OnOk, length, map, All};
 ghost use Rattle.std.specs.Borrow.{sem};
 ghost use Rattle.std.specs.Iterator.{IsFiniteIterable};
 ghost use Rattle.rlp_format.specs.Format.Item.{string, list_of};
 ghost use Rattle.rlp_write.specs.Streams.Calls.{append, append_empty_data, append_raw, append_internal, begin_list, begin_unbounded_list, effect, is_admitted};
-ghost use Rattle.rlp_write.specs.Streams.Stream.{IsFinished, HasRoomFor};
+ghost use Rattle.rlp_write.specs.Streams.Stream.{IsFinished};
 ghost use Rattle.rlp_write.specs.Streams.Iterated.{GivesAll};
-ghost use Rattle.rlp_write.specs.Streams.Chain.{stays_if_refused, rests_if_refused, HoldsStream, LeavesState, MovesWithin, RetainsInChain};
+ghost use Rattle.rlp_write.specs.Streams.Chain.{stays_if_refused, rests_if_refused, HoldsStream, LeavesState, MovesInChain, KeepsCount};
 
 use crate::stream::RlpStream;
 use crate::traits::Encodable;
@@ -34,9 +34,7 @@ impl<'a> Chain<'a> {
         ensures* refused { sem 𝓛 (stays_if_refused self.entry.stream result) }
         ensures fits { OnOk result (E.fits value.now) }
         ensures ok { LeavesState result (effect (append (E.item value.now)) self.entry.stream.now.state) }
-        ensures room { E.at_once value.now → HasRoomFor self.entry.stream.now
-            (effect (append (E.item value.now)) self.entry.stream.now.state) → IsOk result }
-        ensures retains { RetainsInChain self.entry.stream.now result }
+        ensures moved { KeepsCount self.entry.stream.now result }
         ensures same_stream { HoldsStream self.entry.stream result }
     {
         let Chain { stream } = self;
@@ -50,7 +48,7 @@ impl<'a> Chain<'a> {
         ensures ok { IfOk result (λ c. (s : List ℕ)
             × GivesAll I.into_iter_gives I.IntoIter.next_gives value s
             × (c.stream.now.state ≡ effect (append (string s)) self.entry.stream.now.state)) }
-        ensures retains { RetainsInChain self.entry.stream.now result }
+        ensures moved { KeepsCount self.entry.stream.now result }
         ensures same_stream { HoldsStream self.entry.stream result }
     {
         let Chain { stream } = self;
@@ -63,10 +61,7 @@ impl<'a> Chain<'a> {
         ensures fits { OnOk result (All E.fits values.now) }
         ensures ok { LeavesState result
             (effect (append (list_of (map E.item values.now))) self.entry.stream.now.state) }
-        ensures room { values.now ≡ [] → HasRoomFor self.entry.stream.now
-            (effect (append (list_of (map E.item values.now))) self.entry.stream.now.state)
-            → IsOk result }
-        ensures retains { RetainsInChain self.entry.stream.now result }
+        ensures moved { KeepsCount self.entry.stream.now result }
         ensures same_stream { HoldsStream self.entry.stream result }
     {
         let Chain { stream } = self;
@@ -79,10 +74,7 @@ impl<'a> Chain<'a> {
         ensures fits { OnOk result (E.fits value.now) }
         ensures ok { LeavesState result
             (effect (append_internal (E.item value.now)) self.entry.stream.now.state) }
-        ensures room { E.at_once value.now → HasRoomFor self.entry.stream.now
-            (effect (append_internal (E.item value.now)) self.entry.stream.now.state)
-            → IsOk result }
-        ensures retains { RetainsInChain self.entry.stream.now result }
+        ensures moved { KeepsCount self.entry.stream.now result }
         ensures same_stream { HoldsStream self.entry.stream result }
     {
         let Chain { stream } = self;
@@ -95,10 +87,7 @@ impl<'a> Chain<'a> {
         ensures ok { LeavesState result (effect append_empty_data self.entry.stream.now.state) }
         ensures room { IsFinished self.entry.stream.now.state → 1 ≤ self.entry.stream.now.spare
             → IsOk result }
-        ensures room_with_lists { HasRoomFor self.entry.stream.now
-            (effect append_empty_data self.entry.stream.now.state) → IsOk result }
-        ensures moved { MovesWithin self.entry.stream.now result }
-        ensures retains { RetainsInChain self.entry.stream.now result }
+        ensures moved { MovesInChain self.entry.stream.now result }
         ensures same_stream { HoldsStream self.entry.stream result }
     {
         let Chain { stream } = self;
@@ -112,11 +101,7 @@ impl<'a> Chain<'a> {
         ensures ok { LeavesState result (effect (append_raw bytes.now item_count) self.entry.stream.now.state) }
         ensures room { IsFinished self.entry.stream.now.state
             → length bytes.now ≤ self.entry.stream.now.spare → IsOk result }
-        ensures room_with_lists { HasRoomFor self.entry.stream.now
-            (effect (append_raw bytes.now item_count) self.entry.stream.now.state)
-            → IsOk result }
-        ensures moved { MovesWithin self.entry.stream.now result }
-        ensures retains { RetainsInChain self.entry.stream.now result }
+        ensures moved { MovesInChain self.entry.stream.now result }
         ensures same_stream { HoldsStream self.entry.stream result }
     {
         let Chain { stream } = self;
@@ -127,14 +112,7 @@ impl<'a> Chain<'a> {
     pub fn begin_list(self, len: usize) -> Result<Chain<'a>, AllocError>
         ensures* refused { sem 𝓛 (rests_if_refused self.entry.stream result) }
         ensures ok { LeavesState result (effect (begin_list len) self.entry.stream.now.state) }
-        ensures room { 0 < len → 1 ≤ self.entry.stream.now.spare
-            → 1 ≤ self.entry.stream.now.spare_lists → IsOk result }
-        ensures room_at_once { len ≡ 0 → HasRoomFor self.entry.stream.now
-            (effect (begin_list 0) self.entry.stream.now.state) → IsOk result }
-        ensures moved { MovesWithin self.entry.stream.now result }
-        ensures not_moved { 0 < len → IfOk result
-            (λ c. c.stream.now.moved ≡ self.entry.stream.now.moved) }
-        ensures retains { RetainsInChain self.entry.stream.now result }
+        ensures moved { MovesInChain self.entry.stream.now result }
         ensures same_stream { HoldsStream self.entry.stream result }
     {
         let Chain { stream } = self;
@@ -145,12 +123,7 @@ impl<'a> Chain<'a> {
     pub fn begin_unbounded_list(self) -> Result<Chain<'a>, AllocError>
         ensures* refused { sem 𝓛 (rests_if_refused self.entry.stream result) }
         ensures ok { LeavesState result (effect begin_unbounded_list self.entry.stream.now.state) }
-        ensures room { 1 ≤ self.entry.stream.now.spare → 1 ≤ self.entry.stream.now.spare_lists
-            → IsOk result }
-        ensures moved { MovesWithin self.entry.stream.now result }
-        ensures not_moved { IfOk result
-            (λ c. c.stream.now.moved ≡ self.entry.stream.now.moved) }
-        ensures retains { RetainsInChain self.entry.stream.now result }
+        ensures moved { MovesInChain self.entry.stream.now result }
         ensures same_stream { HoldsStream self.entry.stream result }
     {
         let Chain { stream } = self;

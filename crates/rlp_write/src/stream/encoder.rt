@@ -1,11 +1,9 @@
 //! Strings that are written without being counted.
 
-ghost use Rattle.std.specs.Prelude.{◌≡◌, ◌<◌, ℕ, List, IsOk, OnOk, OnErr, length};
+ghost use Rattle.std.specs.Prelude.{◌≡◌, ℕ, List, OnOk, OnErr};
 ghost use Rattle.std.specs.Iterator.{IsFiniteIterable};
-ghost use Rattle.rlp_format.specs.Format.Item.{string};
-ghost use Rattle.rlp_format.specs.Format.Encoding.{encoding};
 ghost use Rattle.rlp_write.specs.Streams.Calls.{effect, encode_value};
-ghost use Rattle.rlp_write.specs.Streams.Stream.{IsAsBefore, Retains, HasRoomFor};
+ghost use Rattle.rlp_write.specs.Streams.Stream.{IsAsBefore};
 ghost use Rattle.rlp_write.specs.Streams.Iterated.{GivesAll};
 
 use crate::stream::RlpStream;
@@ -28,19 +26,13 @@ pub struct BasicEncoder<'a> {
 
 impl BasicEncoder<'_> {
     /// Puts the encoding of a string at the end of the innermost open list, or of the top. Fails
-    /// with `AllocError` if memory is refused, and then writes nothing. That happens only if the
-    /// room was less than the encoding.
+    /// with `AllocError` if memory is refused, and then writes nothing.
     pub fn encode_value(&mut self, value: &[u8]) -> Result<(), AllocError>
         ensures same_reference { self.new.stream.ghost_name ≡ self.old.stream.ghost_name }
         ensures ok { OnOk result (self.new.stream.now.state
             ≡ effect (encode_value value.now) self.old.stream.now.state) }
         ensures refused { OnErr result (IsAsBefore self.old.stream.now self.new.stream.now) }
-        ensures room { OnErr result
-            (self.old.stream.now.spare < length (encoding (string value.now))) }
-        ensures has_room { HasRoomFor self.old.stream.now
-            (effect (encode_value value.now) self.old.stream.now.state) → IsOk result }
         ensures moved { self.new.stream.now.moved ≡ self.old.stream.now.moved }
-        ensures retains { Retains self.old.stream.now self.new.stream.now }
     {
         self.stream.put_string(value)
     }
@@ -56,7 +48,6 @@ impl BasicEncoder<'_> {
             ≡ effect (encode_value s) self.old.stream.now.state)) }
         ensures refused { OnErr result (IsAsBefore self.old.stream.now self.new.stream.now) }
         ensures moved { self.new.stream.now.moved ≡ self.old.stream.now.moved }
-        ensures retains { Retains self.old.stream.now self.new.stream.now }
     {
         self.stream.put_string_of(value)
     }

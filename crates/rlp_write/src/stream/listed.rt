@@ -1,6 +1,6 @@
 //! Values that are written as one list.
 
-ghost use Rattle.std.specs.Prelude.{◌≡◌, [], map, All};
+ghost use Rattle.std.specs.Prelude.{map, All};
 ghost use Rattle.rlp_format.specs.Format.Item.{list_of};
 
 use crate::stream::RlpStream;
@@ -16,8 +16,6 @@ impl<E: Encodable> Encodable for Listed<'_, E> {
     ghost item = { λ v. list_of (map E.item v.0.now) };
 
     ghost fits = { λ v. All E.fits v.0.now };
-
-    ghost at_once = { λ v. v.0.now ≡ [] };
 
     fn rlp_append(&self, s: &mut RlpStream) -> Result<(), AllocError> {
         write_struct(s, &Each(self.0))

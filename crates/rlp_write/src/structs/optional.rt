@@ -1,6 +1,6 @@
 //! Last fields that may be missing.
 
-ghost use Rattle.std.specs.Prelude.{◌≡◌, ◌∷◌, [], All, IfSome, map};
+ghost use Rattle.std.specs.Prelude.{◌∷◌, [], All, IfSome, map};
 ghost use Rattle.std.specs.Vec.{vec_items};
 ghost use Rattle.std.specs.declared.alloc.Global.{Global};
 ghost use Rattle.rlp_format.specs.Format.Item.{list_of};
@@ -28,8 +28,6 @@ impl<T: Encodable> AppendFields for Optional<'_, T> {
 
     ghost fit = { λ v. IfSome v.0.now T.fits };
 
-    ghost at_once = { λ v. IfSome v.0.now T.at_once };
-
     fn field_count(&self) -> Option<usize> {
         match self.0 {
             Some(_) => Some(1),
@@ -52,9 +50,6 @@ impl<T: Encodable> AppendFields for OptionalListOf<'_, T> {
     ghost fit = { λ v. IfSome v.0.now
         (λ values. All T.fits (vec_items {X = T} {Z = Global} values)) };
 
-    ghost at_once = { λ v. IfSome v.0.now
-        (λ values. vec_items {X = T} {Z = Global} values ≡ []) };
-
     fn field_count(&self) -> Option<usize> {
         match self.0 {
             Some(_) => Some(1),
@@ -74,8 +69,6 @@ impl<S: AppendFields> AppendFields for OptionalGroupOf<'_, S> {
     ghost items = { λ v. items_if S.items v.0.now };
 
     ghost fit = { λ v. IfSome v.0.now S.fit };
-
-    ghost at_once = { λ v. IfSome v.0.now S.at_once };
 
     fn field_count(&self) -> Option<usize> {
         match self.0 {

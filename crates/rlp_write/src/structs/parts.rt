@@ -13,8 +13,6 @@ impl<S: AppendFields> AppendFields for FieldsOf<'_, S> {
 
     ghost fit = { λ v. S.fit v.0.now };
 
-    ghost at_once = { λ v. S.at_once v.0.now };
-
     fn field_count(&self) -> Option<usize> {
         self.0.field_count()
     }

@@ -1,6 +1,6 @@
 //! Fields that are the values of a slice.
 
-ghost use Rattle.std.specs.Prelude.{◌≡◌, ◌∷◌, [], All, map};
+ghost use Rattle.std.specs.Prelude.{◌∷◌, [], All, map};
 ghost use Rattle.rlp_format.specs.Format.Item.{list_of};
 ghost use Rattle.rlp_format.specs.Values.Value.{all_items};
 
@@ -25,8 +25,6 @@ impl<T: Encodable> AppendFields for ListOf<'_, T> {
     ghost items = { λ v. list_of (map T.item v.0.now) ∷ [] };
 
     ghost fit = { λ v. All T.fits v.0.now };
-
-    ghost at_once = { λ v. v.0.now ≡ [] };
 
     fn field_count(&self) -> Option<usize> {
         Some(1)

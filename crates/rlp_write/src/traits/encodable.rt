@@ -1,9 +1,9 @@
 //! Types whose values are written.
 
-ghost use Rattle.std.specs.Prelude.{◌≡◌, IsOk, OnOk, OnErr, IfOk};
+ghost use Rattle.std.specs.Prelude.{◌≡◌, ◌≤◌, OnOk, OnErr, IfOk};
 ghost use Rattle.rlp_format.specs.Format.Item.{Item};
 ghost use Rattle.rlp_format.specs.Format.Encoding.{encoding};
-ghost use Rattle.rlp_write.specs.Streams.Stream.{HasRoomFor, Retains, put_item};
+ghost use Rattle.rlp_write.specs.Streams.Stream.{put_item};
 ghost use Rattle.rlp_write.specs.Streams.Growth.{GrowsTo};
 
 use crate::stream::RlpStream;
@@ -42,25 +42,18 @@ pub trait Encodable {
     /// the type's range, and a text is UTF-8.
     ghost fits: { Self → Type 0 };
 
-    /// The value is written in one step: it is refused only if the stream has too little room. By
-    /// default this holds for no value.
-    ghost at_once: { Self → Type 0 } = { λ _. ⊥ };
-
     /// Writes the value into a stream. For a string it writes the encoding and counts no item. For
     /// a list it writes the encoding, counts one item, and sets `is_counted`, which says that the item
     /// is counted.
     ///
     /// Fails with `AllocError` if memory is refused, or for a reason of the type. The stream then
     /// holds its old bytes and its old open lists, and maybe more after them; [`RlpStream::append`]
-    /// then restores the old state. In any case the stream's room doesn't shrink, and neither does
-    /// its count of the bytes that were moved.
+    /// then restores the old state. In any case its count of the bytes that were moved doesn't shrink.
     fn rlp_append(&self, s: &mut RlpStream) -> Result<(), AllocError>
         ensures fits { OnOk result (fits self.now) }
         ensures ok { OnOk result (s.new.state ≡ put_item (item self.now) s.old.state) }
-        ensures room { at_once self.now → HasRoomFor s.old (put_item (item self.now) s.old.state)
-            → IsOk result }
         ensures refused { OnErr result (GrowsTo s.old.state s.new.state) }
-        ensures retains { Retains s.old s.new };
+        ensures moved { s.old.moved ≤ s.new.moved };
 
     /// Returns the encoding of the value. Fails with `AllocError` if memory is refused, or if
     /// [`Encodable::rlp_append`] fails.

@@ -1,14 +1,11 @@
-use Rattle.std.proofs.Common.{◌≡◌, ◌+◌, ◌-◌, length, reverse, suc, ap, sym, ◌∙◌, arith}
-use Rattle.std.proofs.lemmas.List.{length-reverse}
-use Rattle.rlp_write.proofs.Streams.Closings.{closes_all, closes_more, closes_fits, closes_popped, dropped_popped, left_popped, moved_within}
-use Rattle.rlp_write.proofs.Streams.Closings.{moved_more, header_some}
+use Rattle.std.proofs.Common.{◌≡◌, ◌+◌, ◌-◌, suc, arith}
+use Rattle.rlp_write.proofs.Streams.Closings.{closes_all, closes_more, closes_fits, closes_taken, moved_within, moved_more}
 use Rattle.rlp_write.proofs.closing.close_lists.Goals as goal
 
 pub write_list_header-to-requires-clause-room : goal.write_list_header-to-requires-clause-room
 write_list_header-to-requires-clause-room c =
     let next : c.loop-left.left ≡ suc (c.loop-left.left - 1) = omega arith in
-    let h = closes_popped _ _ (c.loop-left.left - 1) _ _ _ c.loop-left.lists.items c.pop.new.self.items c.in-Some.list c.loop-left.invariant.closes
-    c.in-Some.ensures.items next in
+    let h = closes_taken _ _ (c.loop-left.left - 1) _ _ _ _ _ _ c.loop-left.invariant.closes c.in-Some.ensures next in
     let order = h.order in
     let len = c.loop-left.from - (c.in-Some.list.position + 1) in
     let fits = closes_fits _ _ _ _ _ _ _ len (c.loop-left.to - len) c.shift.new.self.items h (omega (arith, order.0))
@@ -18,8 +15,7 @@ write_list_header-to-requires-clause-room c =
 pub loop-left-preserved : goal.loop-left-preserved
 loop-left-preserved c =
     let next : c.loop-left.left ≡ suc (c.loop-left.left - 1) = omega arith in
-    let h = closes_popped _ _ (c.loop-left.left - 1) _ _ _ c.loop-left.lists.items c.pop.new.self.items c.in-Some.list c.loop-left.invariant.closes
-    c.in-Some.ensures.items next in
+    let h = closes_taken _ _ (c.loop-left.left - 1) _ _ _ _ _ _ c.loop-left.invariant.closes c.in-Some.ensures next in
     let order = h.order in
     let len = c.loop-left.from - (c.in-Some.list.position + 1) in
     let at = c.loop-left.to - len in
@@ -29,16 +25,11 @@ loop-left-preserved c =
     let low = c.write_list_header-to.result in
     let closes = closes_more _ _ _ _ _ _ _ len at low c.shift.new.self.items c.write_list_header-to.new.self.items h is goes c.shift.ensures.items
     c.write_list_header-to.ensures.begin c.write_list_header-to.ensures.items in
-    let some = header_some (length c.shift.new.self.items - at) in
     let shifted = c.shift.ensures in
     record {
       closes = closes;
-      rest = sym (dropped_popped c.loop-left.left (c.loop-left.left - 1) c.loop-left.lists.items c.pop.new.self.items c.in-Some.list
-          c.in-Some.ensures.items next) ∙ c.loop-left.invariant.rest;
-      lowest = sym (left_popped c.loop-left.left (c.loop-left.left - 1) c.loop-left.from c.loop-left.lists.items c.pop.new.self.items c.in-Some.list
-          c.in-Some.ensures.items next) ∙ c.loop-left.invariant.lowest;
-      capacity = c.pop.ensures.capacity ∙ c.loop-left.invariant.capacity;
-      spare = c.write_list_header-to.ensures.spare ∙ shifted.spare ∙ c.loop-left.invariant.spare;
+      rest = rw (c.in-Some.ensures, next) at c.loop-left.invariant.rest;
+      lowest = rw (c.in-Some.ensures, next) at c.loop-left.invariant.lowest;
       counted = omega (
         arith,
         c.loop-left.invariant.counted,
@@ -55,19 +46,12 @@ loop-left-preserved c =
         moved_within (c.in-Some.list.position + 1) at len c.loop-left.buffer.moved c.shift.new.self.moved
             (omega (arith, h.room)) shifted.counted shifted.in_place,
       );
-      in_place = λ none.
-          let still = c.loop-left.invariant.in_place none in
-          let here : c.loop-left.to ≡ c.loop-left.from = omega (arith, still.0, c.loop-left.invariant.closes.room) in (
-            omega (arith, closes.room, some, here, is, goes, fits.0, c.write_list_header-to.ensures.begin),
-            c.write_list_header-to.ensures.moved
-                ∙ shifted.in_place (omega (arith, here, is, goes)) ∙ still.1,
-          );
     }
 
 pub returns-after-loop-left-clause-bytes : goal.returns-after-loop-left-clause-bytes
 returns-after-loop-left-clause-bytes c =
     let none : c.loop-left.left ≡ 0 = omega arith in
-    closes_all _ c.loop-left.buffer.items c.loop-left.from c.loop-left.to (reverse c.loop-left.lists.items) (rw none at c.loop-left.invariant.closes)
+    closes_all _ c.loop-left.buffer.items c.loop-left.from c.loop-left.to c.loop-left.lists (rw none at c.loop-left.invariant.closes)
 
 pub returns-after-loop-left-clause-moved : goal.returns-after-loop-left-clause-moved
 returns-after-loop-left-clause-moved c =
@@ -77,35 +61,24 @@ returns-after-loop-left-clause-moved c =
 
 pub overflow_sub-len : goal.overflow_sub-len
 overflow_sub-len c =
-    let next : c.loop-left.left ≡ suc (c.loop-left.left - 1) = omega arith in
-    let h = closes_popped _ _ (c.loop-left.left - 1) _ _ _ c.loop-left.lists.items c.pop.new.self.items c.in-Some.list c.loop-left.invariant.closes
-    c.in-Some.ensures.items next in
-    omega (arith, h.order.0)
+    let order = rw c.in-Some.ensures at c.loop-left.invariant.closes.order in
+    omega (arith, order.0)
+
+pub overflow_sub-to : goal.overflow_sub-to
+overflow_sub-to c = omega (arith, c.loop-left.invariant.closes.room)
 
 pub shift-requires-clause-within : goal.shift-requires-clause-within
 shift-requires-clause-within c =
-    let next : c.loop-left.left ≡ suc (c.loop-left.left - 1) = omega arith in
-    let h = closes_popped _ _ (c.loop-left.left - 1) _ _ _ c.loop-left.lists.items c.pop.new.self.items c.in-Some.list c.loop-left.invariant.closes
-    c.in-Some.ensures.items next in
-    omega (arith, h.order.0, h.room, h.within)
+    let order = rw c.in-Some.ensures at c.loop-left.invariant.closes.order in
+    omega (arith, order.0, c.loop-left.invariant.closes.room, c.loop-left.invariant.closes.within)
 
 pub shift-requires-clause-forward : goal.shift-requires-clause-forward
 shift-requires-clause-forward c =
-    let next : c.loop-left.left ≡ suc (c.loop-left.left - 1) = omega arith in
-    let h = closes_popped _ _ (c.loop-left.left - 1) _ _ _ c.loop-left.lists.items c.pop.new.self.items c.in-Some.list c.loop-left.invariant.closes
-    c.in-Some.ensures.items next in
-    omega (arith, h.order.0, h.room)
+    let order = rw c.in-Some.ensures at c.loop-left.invariant.closes.order in
+    omega (arith, order.0, c.loop-left.invariant.closes.room)
 
 pub returns-in-loop-left : goal.returns-in-loop-left
 returns-in-loop-left c =
-    let len = length-reverse c.loop-left.lists.items in
     let enough = c.loop-left.invariant.closes.enough in
-    let popped = ap length c.pop.ensures.items in
+    let popped = c.pop.ensures in
     absurd (grind arith)
-
-pub overflow_sub-to : goal.overflow_sub-to
-overflow_sub-to c =
-    let next : c.loop-left.left ≡ suc (c.loop-left.left - 1) = omega arith in
-    let h = closes_popped _ _ (c.loop-left.left - 1) _ _ _ c.loop-left.lists.items c.pop.new.self.items c.in-Some.list c.loop-left.invariant.closes
-    c.in-Some.ensures.items next in
-    omega (arith, h.room)

@@ -1,10 +1,9 @@
-use Rattle.std.proofs.Common.{◌++◌, [], ◌∷◌, refl, sym, ap, ◌∙◌, append-nil, append_assoc, le_refl}
+use Rattle.std.proofs.Common.{◌++◌, [], ◌∷◌, refl, sym, ap, ◌∙◌, append-nil, append_assoc}
 use Rattle.rlp_write.proofs.Streams.Refused.{on_err}
-use Rattle.rlp_write.proofs.Streams.Written.{keeps_trans}
 use Rattle.rlp_write.proofs.buffer.strings.write_bytes_of.Goals as goal
 
 pub loop-byte-init : goal.loop-byte-init
-loop-byte-init g c = record { items = sym (append-nil _); keeps = record { moved = le_refl _; room = le_refl _ }; moved = refl }
+loop-byte-init g c = record { items = sym (append-nil _); moved = refl }
 
 pub loop-byte-preserved : goal.loop-byte-preserved
 loop-byte-preserved g c =
@@ -13,7 +12,6 @@ loop-byte-preserved g c =
     let byte = c.in-Some.byte ∷ [] in
     record {
       items = put.ok ∙ ap (λ b. b ++ byte) so_far.items ∙ append_assoc c.args.buffer.now.items c.loop-byte.yielded byte;
-      keeps = keeps_trans c.args.buffer.now c.loop-byte.buffer c.extend_from_slice.new.self so_far.keeps put.keeps;
       moved = put.moved ∙ so_far.moved;
     }
 

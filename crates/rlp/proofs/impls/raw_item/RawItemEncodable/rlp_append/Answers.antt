@@ -28,25 +28,12 @@ returns-then-is_list-clause-ok c =
     c.append_list_encoding.ensures.ok (raw_item_of b) (raw_list b fits c.as_bytes-bytes.ensures.canonical.0 begins)
     (same ∙ sym c.as_bytes-bytes.ensures.written)
 
-pub returns-then-is_list-clause-room : goal.returns-then-is_list-clause-room
-returns-then-is_list-clause-room c once =
-    let b = c.args.self.now in
-    let same : c.as_bytes-bytes.result.now ≡ b = c.as_bytes-bytes.ensures.bytes in
-    let fits : length b < 2 ^ 64 = omega (arith, ap length same) in
-    let bytes : c.new_strict-item.result.bytes ≡ b = ap (λ (v : View). v.bytes) c.new_strict-item.ensures ∙ same in
-    let begins : begins_as_list b ≡ true = ap begins_as_list (sym bytes) ∙ sym c.is_list.ensures ∙ c.if-is_list.true in
-    c.append_list_encoding.ensures.room (raw_item_of b) (raw_list b fits c.as_bytes-bytes.ensures.canonical.0 begins)
-    (same ∙ sym c.as_bytes-bytes.ensures.written)
-
 pub returns-then-is_list-clause-refused : goal.returns-then-is_list-clause-refused
 returns-then-is_list-clause-refused c =
     on_err_weaker c.append_list_encoding.result (λ same. grows_same _ _ same.0) c.append_list_encoding.ensures.refused
 
 pub returns-in-Ok-clause-ok : goal.returns-in-Ok-clause-ok
 returns-in-Ok-clause-ok c = grind (arith, common_steps, raw_string_put)
-
-pub returns-in-Ok-clause-room : goal.returns-in-Ok-clause-room
-returns-in-Ok-clause-room c = grind (arith, common_steps, raw_string_put)
 
 pub returns-in-Ok-clause-refused : goal.returns-in-Ok-clause-refused
 returns-in-Ok-clause-refused c = grind (arith, common_steps, grows_same)

@@ -7,6 +7,3 @@ insert-requires c = grind (arith, common_steps)
 
 pub returns-clause-ok : goal.returns-clause-ok
 returns-clause-ok c = grind (arith, common_steps)
-
-pub returns-clause-keeps : goal.returns-clause-keeps
-returns-clause-keeps c = grind (arith, common_steps)

@@ -1,7 +1,6 @@
 use Rattle.std.proofs.Common.{◌≡◌, Some, [], ap, sym, ◌∙◌}
 use Rattle.rlp_format.specs.Values.Value.{option_item}
 use Rattle.rlp_write.specs.Streams.Stream.{IsAsBefore, add, put_item}
-use Rattle.rlp_write.proofs.Streams.Rooms.{retains_trans}
 use Rattle.rlp_write.proofs.Streams.Listed.{list_filled}
 use Rattle.rlp_write.proofs.Streams.Growth.{grows_same, grows_with_list}
 use Rattle.rlp_write.proofs.Streams.Refused.{on_err, on_err_too, on_ok_too}
@@ -25,6 +24,3 @@ returns-in_ok-try_begin-in-Some-clause-ok g c =
     on_ok_too _ _ _ (λ (added : c.try_append.new.self.state ≡ add x c.try_begin-in-Some.new.self.state).
     added ∙ ap (add x) c.in_ok-try_begin-in-Some.ensures.ok ∙ list_filled x [] c.args.s.now.state
     ∙ ap (λ o. put_item (option_item g.T.Encodable.item o) c.args.s.now.state) (sym c.in-Some.is)) c.try_append.ensures.ok
-
-pub returns-in_ok-try_begin-in-Some-clause-retains : goal.returns-in_ok-try_begin-in-Some-clause-retains
-returns-in_ok-try_begin-in-Some-clause-retains g c = retains_trans _ _ _ c.in_ok-try_begin-in-Some.ensures.retains c.try_append.ensures.retains

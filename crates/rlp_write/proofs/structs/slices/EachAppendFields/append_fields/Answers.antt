@@ -1,21 +1,17 @@
-use Rattle.std.proofs.Common.{◌≡◌, ◌+◌, [], ◌∷◌, ◌++◌, take, map, ap, sym, ◌∙◌, refl, rules}
+use Rattle.std.proofs.Common.{◌≡◌, ◌+◌, [], ◌∷◌, ◌++◌, take, map, ap, sym, ◌∙◌, refl, le_refl, arith, rules}
 use Rattle.std.proofs.lemmas.List.{map_more, take_all}
-use Rattle.rlp_write.proofs.Streams.Rooms.{retains_same, retains_trans}
 use Rattle.rlp_write.proofs.Streams.Filling.{all_more}
 use Rattle.rlp_write.proofs.Streams.Fields.{items_pushed, some_at}
 use Rattle.rlp_write.proofs.Streams.Refused.{on_err}
 use Rattle.rlp_write.proofs.structs.slices.EachAppendFields.append_fields.Goals as goal
 
 pub loop-value-init : goal.loop-value-init
-loop-value-init g c = record { state = refl; retains = retains_same _; fits = search rules }
+loop-value-init g c = record { state = refl; moved = le_refl _; fits = search rules }
 
 pub returns-in_err-try_append-clause-refused : goal.returns-in_err-try_append-clause-refused
 returns-in_err-try_append-clause-refused g c =
     on_err _ _ (some_at g.T.Encodable.item c.args.self.now.0.now c.loop-value.value-index c.args.s.now.state c.try_append.new.self.state
     c.loop-value-test.true (c.in_err-try_append.ensures.refused ∙ c.loop-value.invariant.state))
-
-pub returns-in_err-try_append-clause-retains : goal.returns-in_err-try_append-clause-retains
-returns-in_err-try_append-clause-retains g c = retains_trans _ _ _ c.loop-value.invariant.retains c.in_err-try_append.ensures.retains
 
 pub loop-value-preserved : goal.loop-value-preserved
 loop-value-preserved g c =
@@ -27,7 +23,7 @@ loop-value-preserved g c =
     record {
       state = items_pushed before (map item (take (c.loop-value.value-index + 1) values)) (item c.value-item.result) c.args.s.now.state c.loop-value.s.state
           c.try_append.new.self.state more c.loop-value.invariant.state c.in_ok-try_append.ensures.ok;
-      retains = retains_trans _ _ _ c.loop-value.invariant.retains c.in_ok-try_append.ensures.retains;
+      moved = omega arith;
       fits = all_more g.T.Encodable.fits values c.loop-value.value-index c.value-item.result c.value-item.result c.loop-value-test.true
           c.value-item.is c.loop-value.invariant.fits c.in_ok-try_append.ensures.fits;
     }

@@ -1,10 +1,8 @@
-use Rattle.std.proofs.Common.{Result, Ok, Err, rules, refl, arith}
+use Rattle.std.proofs.Common.{Result, Ok, Err, rules, refl, le_refl, arith}
 use Rattle.std.proofs.lemmas.Grind.{common_steps}
 use Rattle.std.specs.Prelude.{OnErr}
 use Rattle.rlp_write.proofs.Streams.Filling.{all_more}
 use Rattle.rlp_write.proofs.Streams.Fields.{flattened_at, flattened_pushed}
-use Rattle.rlp_write.proofs.Streams.Growth.{retains_trans}
-use Rattle.rlp_write.proofs.Streams.Rooms.{retains_same}
 use Rattle.rlp_write.proofs.structs.slices.FlattenedAppendFields.append_fields.Goals as goal
 
 on_err : {T E : Type 0} (r : Result T E) (P : Type 0) → P → OnErr r P
@@ -19,21 +17,17 @@ returns-in_err-append_fields-clause-refused g c =
 
 pub loop-value-preserved : goal.loop-value-preserved
 loop-value-preserved g c =
-    let more = retains_trans _ _ _ c.loop-value.invariant.retains c.append_fields.ensures.retains in
     record {
       state = flattened_pushed g.T.AppendFields.items c.args.self.now.0.now c.loop-value.value-index c.value-item.result c.value-item.result
           c.args.s.now.state c.loop-value.s.state c.append_fields.new.s.state c.loop-value-test.true c.value-item.is c.loop-value.invariant.state
           c.in_ok-append_fields.ensures.ok;
-      retains = search rules;
+      moved = omega arith;
       fits = all_more g.T.AppendFields.fit c.args.self.now.0.now c.loop-value.value-index c.value-item.result c.value-item.result c.loop-value-test.true
           c.value-item.is c.loop-value.invariant.fits c.in_ok-append_fields.ensures.fits;
     }
 
 pub loop-value-init : goal.loop-value-init
-loop-value-init g c = record { state = refl; retains = retains_same _; fits = search rules }
-
-pub returns-in_err-append_fields-clause-retains : goal.returns-in_err-append_fields-clause-retains
-returns-in_err-append_fields-clause-retains g c = retains_trans _ _ _ c.loop-value.invariant.retains c.append_fields.ensures.retains
+loop-value-init g c = record { state = refl; moved = le_refl _; fits = search rules }
 
 pub returns-clause-fits : goal.returns-clause-fits
 returns-clause-fits g c = grind (arith, common_steps)
