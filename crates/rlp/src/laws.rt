@@ -15,12 +15,6 @@ pub use reading::{
     number_is_read, option_is_read, option_of_bytes_is_read, option_of_option_is_read,
     options_are_read, raw_item_is_read, string_is_read, struct_is_read, text_is_read,
 };
-pub use rlp_write::laws::{
-    bytes_go_to_the_end, closed_size_goes_by_length, closing_keeps_what_is_closed,
-    constants_are_encodings, finished_streams_gain_encodings,
-    finished_streams_have_their_closed_size, growth_is_an_order, growth_of_moves,
-    open_lists_await_items, unbounded_lists_are_finalized_in_turn,
-};
 pub use rlp_values::laws::{
     cuts_begin_one_another, digits_are_canonical, encoding_has_its_depth,
     encoding_in_front_is_unique, encoding_is_framed, encoding_is_prefix_free, frame_is_of_framed,
@@ -28,6 +22,12 @@ pub use rlp_values::laws::{
     join_splits_into_encodings, list_gives_its_items, list_is_header_and_items,
     parts_of_sized_are_sized, rest_is_not_framed, split_goes_by_frames, split_is_longest,
     text_and_depth_go_by_items, what_follows_makes_no_difference,
+};
+pub use rlp_write::laws::{
+    bytes_go_to_the_end, closed_size_goes_by_length, closing_keeps_what_is_closed,
+    constants_are_encodings, finished_streams_gain_encodings,
+    finished_streams_have_their_closed_size, growth_is_an_order, growth_of_moves,
+    open_lists_await_items, unbounded_lists_are_finalized_in_turn,
 };
 pub use round_trip::{encoding_is_decoded, list_is_decoded, list_is_read_back, scalar_is_decoded};
 pub use strict::{

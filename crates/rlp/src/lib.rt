@@ -29,12 +29,12 @@ mod traits;
 
 pub use impls::RawItem;
 pub use rlp_format::Uint;
+pub use rlp_values::{DecoderError, FlatItem, PayloadInfo, Prototype, TreeFault};
 pub use rlp_write::{
     AppendFields, BasicEncoder, Chain, EMPTY_LIST_RLP, Each, Encodable, FieldsOf, Flattened,
     ListOf, NULL_RLP, Optional, OptionalGroupOf, OptionalListOf, RlpStream, encode, encode_list,
     write_envelope, write_struct,
 };
-pub use rlp_values::{DecoderError, FlatItem, PayloadInfo, Prototype, TreeFault};
 pub use rlpin::{BasicDecoder, Envelope, Fields, Rlp, RlpIterator};
 use std::alloc::Global;
 pub use structs::{

@@ -9,8 +9,8 @@ ghost use Rattle.rlp_c.specs.Written.{IsWritten};
 
 use crate::status::{RLP_NO_ROOM, RLP_OK, status_of};
 use rlp::DecoderError;
-use rlp_write::header::{LIST, STRING, written_header};
 use rlp_format::digits::Digits;
+use rlp_write::header::{LIST, STRING, written_header};
 
 /// Writes the header of a payload of this length. The caller writes the payload behind it: a
 /// string other than one byte below 0x80, or the encodings of a list's items.

@@ -14,8 +14,8 @@ ghost use Rattle.rlp_values.specs.Lemmas.RoundTrips.{itself};
 use crate::rlpin::Rlp;
 use crate::traits::{Decodable, RoundTrip, Scalar, StrictRead};
 use bytes::BytesMut;
-use rlp_write::{Encodable, RlpStream, append_list_encoding};
 use rlp_values::error::DecoderError;
+use rlp_write::{Encodable, RlpStream, append_list_encoding};
 use std::alloc::{AllocError, Global};
 use std::marker::Model;
 

@@ -16,8 +16,8 @@ ghost use Rattle.rlp_format.specs.Values.Value.{AreAlike, bit, number_item, opti
 ghost use Rattle.rlp_values.specs.Views.View.{HoldsItem, View, item_by, item_count, item_with_place, list_fault, strict_view_of, view_header, view_of, view_string, view_value};
 
 use crate::traits::{Decodable, StrictRead};
-use rlp_write::Encodable;
 use rlp_values::error::DecoderError;
+use rlp_write::Encodable;
 use std::alloc::Global;
 
 /// Why bytes aren't exactly one framed item: they aren't framed, or bytes follow the framed item.
