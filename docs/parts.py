@@ -14,8 +14,3 @@ def filled(page, made):
     """A page with these texts as its parts."""
     texts = iter(made)
     return PART.sub(lambda part: f"<!-- made: {part['order']} -->\n{next(texts)}<!-- end -->", page)
-
-
-def by_hand(page):
-    """What isn't made: a page without its parts."""
-    return PART.sub("", page)
