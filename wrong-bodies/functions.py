@@ -57,9 +57,10 @@ def functions_of(text):
     found = []
     for m, later in zip(heads, [*heads[1:], None]):
         block, sort = next((block[2:] for block in blocks if block[0] <= m.start() < block[1]), (("", "", []), ""))
-        last = re.compile(rf"^{m[1]}\}}$", re.M).search(text, m.end(), later.start() if later else len(text))
+        # A law's body is `{}`, which has nothing to change.
+        last = re.compile(rf"^{m[1]}(?:\{{)?\}}$", re.M).search(text, m.end(), later.start() if later else len(text))
         end = last.end() if last else text.find("\n", m.end())
-        has_body = bool(last) or text[:end].endswith("}")
+        has_body = text[:end].endswith("}") and not (last and last[0].endswith("{}"))
         is_public = has_body and bool(m["public"] or block[1] or sort == "pub trait")
         found.append(Function(m["name"], block, "trait" in sort, is_public, m.start(), end))
     return found

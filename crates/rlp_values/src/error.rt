@@ -23,11 +23,12 @@ pub enum DecoderError {
     RlpDataLenWithZeroPrefix,
     /// The length of a list begins with a zero byte.
     RlpListLenWithZeroPrefix,
-    /// The canonical encoding of the same value is shorter.
+    /// The bytes encode the value, but not canonically: a shorter header would serve, or a number
+    /// begins with a zero byte.
     RlpInvalidIndirection,
     /// The announced length of a string is more than the bytes that follow.
     RlpInconsistentLengthAndData,
-    /// The announced length is more than memory can hold.
+    /// The header and the string that it announces would be 2^64 bytes or longer.
     RlpInvalidLength,
     /// A fault of a custom type, with its own text.
     Custom(&'static str),

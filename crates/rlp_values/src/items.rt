@@ -12,9 +12,11 @@ use rlp_format::count::Count;
 use std::marker::Model;
 
 /// A reader of bytes, item by item, which counts the headers that it reads. Contracts see it as the
-/// record `Reading` of the bytes that are left and that number. Every walk over items uses
-/// [`ItemReader::next_framed`] or [`ItemReader::next_item`]. Only these methods read a header, and
-/// each counts it.
+/// record `Reading` of the bytes that are left and that number. Only [`ItemReader::next_framed`] and
+/// [`ItemReader::next_item`] read a header here, and each counts it.
+///
+/// Iterators go by it. Walks that no promise counts, such as `Rlp::at`, read headers by
+/// `first_framed` and don't count them.
 #[derive(Drop)]
 pub struct ItemReader<'a> {
     rest: &'a [u8],

@@ -9,8 +9,8 @@ use crate::traits::{Decodable, RoundTrip, StrictRead};
 use rlp_values::error::DecoderError;
 use std::alloc::Global;
 
-/// Reads `None` from a list of no items, and `Some` of the item's value from a list of one item. It
-/// looks at two items at most.
+/// Reads `None` from a list of no items, and `Some` of the item's value from a list of one item. Of
+/// a lenient view it looks at two items at most. Of a strict view it first walks over all items.
 ///
 /// Fails with `RlpExpectedToBeList` if there are no bytes or the first byte is one of a string, and
 /// with `RlpIncorrectListLen` if there is more than one item.

@@ -52,8 +52,11 @@ impl<'a> Rlp<'a> {
         Rlp::of_kind(bytes, false)
     }
 
-    /// A strict view of these bytes, which should be exactly one item. Methods that read the item
-    /// fail if bytes follow it. Its items are strict too. It doesn't read the bytes yet.
+    /// A strict view of these bytes, which should be exactly one item. `payload_info`, `data`,
+    /// `item_count`, `at` and every call that decodes a value fail if bytes follow the item. Calls
+    /// that can't fail answer as for a lenient view: `prototype`, `size`, `iter`, the `is_` tests,
+    /// `is_nested_within` and printing. The items of a strict view are strict too. It doesn't read
+    /// the bytes yet.
     ///
     /// ```rust
     /// let view = rlp::Rlp::new_strict(&[0xc1, 0x05, 0x06]);
