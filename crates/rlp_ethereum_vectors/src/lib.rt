@@ -41,3 +41,5 @@ mod signing;
 mod text;
 #[cfg(test)]
 mod unsigned;
+#[cfg(test)]
+mod uses;

@@ -5,7 +5,6 @@ ghost use Rattle.std.specs.Prelude.{◌≡◌};
 ghost use Rattle.std.specs.Vec.{vec_items};
 ghost use Rattle.rlp_examples.specs.Parcel.{parcel};
 
-use bytes::BytesMut;
 use rlp::{
     Decodable, DecoderError, Encodable, ListOf, Optional, Rlp, RlpStream, RoundTrip, StrictRead,
 };
@@ -67,13 +66,6 @@ impl RoundTrip for Parcel {
 
 impl StrictRead for Parcel {
     ghost strict = { parcel.reads_strictly };
-}
-
-/// Reads a parcel strictly, gives it another number, and returns its encoding.
-pub fn renumbered(alloc: Global, bytes: &[u8], number: u64) -> Result<BytesMut, DecoderError> {
-    let mut parcel = rlp::decode_strict::<Parcel>(alloc, bytes)?;
-    parcel.number = number;
-    rlp::encode(alloc, &parcel).map_err(|_| DecoderError::OutOfMemory)
 }
 
 /// A law: two parcels that are written as the same item have equal fields. It is the member `told`

@@ -3,7 +3,7 @@
 use crate::compare::finishes_as;
 use rlp::{DecoderError, Rlp, RlpStream};
 use rlp_examples::{
-    append_by_stream, append_each, chain_and_encoder, first_and_text, nested, renumbered,
+    append_by_stream, append_each, chain_and_encoder, first_and_text, nested, received, renumbered,
 };
 use std::alloc::{AllocError, Global};
 use std::test::Fail;
@@ -14,11 +14,12 @@ fn view_is_read(alloc: Global) -> Result<bool, DecoderError> {
 }
 
 fn parcel_is_renumbered(alloc: Global) -> Result<bool, DecoderError> {
-    let parcel = [0xc5, 0x05, 0x81, 0xff, 0xc1, 0x07];
-    let trailing = [0xc4, 0x05, 0x80, 0xc1, 0x07, 0x00];
+    let parcel = received(alloc, &[0xc5, 0x05, 0x81, 0xff, 0xc1, 0x07])?;
+    let other = renumbered(alloc, parcel, 6).or(Err(DecoderError::OutOfMemory))?;
+    let trailing = received(alloc, &[0xc4, 0x05, 0x80, 0xc1, 0x07, 0x00]).err();
     Ok(
-        renumbered(alloc, &parcel, 6)?.as_slice() == [0xc5, 0x06, 0x81, 0xff, 0xc1, 0x07].as_slice()
-            && renumbered(alloc, &trailing, 6).err() == Some(DecoderError::RlpIsTooBig),
+        other.as_slice() == [0xc5, 0x06, 0x81, 0xff, 0xc1, 0x07].as_slice()
+            && trailing == Some(DecoderError::RlpIsTooBig),
     )
 }
 
