@@ -40,7 +40,7 @@ text_fault Recipient d = if length d == 0 then None else length_fault 20 d
 text_fault Bytes d = None
 text_fault (list_of r) d = Some RlpExpectedToBeList
 
--- the fault of a field that has to be a string: it is none, or a string with a fault
+-- the fault of a field that has to be a string: the item isn't a string, or the string is invalid
 abbrev pub string_fault : Kind → Result (List ℕ) DecoderError → Option DecoderError
 string_fault k (Ok d) = text_fault k d
 string_fault k (Err e) = Some e
@@ -78,8 +78,8 @@ abbrev pub items_fault : (Option Kind → List ℕ → Option DecoderError) → 
 items_fault field r follows i [] = end_fault (may_end r i) i follows
 items_fault field r follows i (f ∷ fs) = fault_or i (field (kind_at r i) f) (items_fault field r follows (i + 1) fs)
 
--- The first fault of the payload of a record, in the order of its bytes, and the number of fields in front of it. So many lists may stand one in the
--- other, this one too. A transaction has 4: it, its access list, an element of that, and the storage keys of the element.
+-- The first fault of the payload of a record, in the order of its bytes, and the number of fields in front of it. The first argument
+-- is the number of lists that may be nested, this one included. A transaction has 4: it, its access list, an element of that, and the storage keys of the element.
 unfoldable pub fields_fault : ℕ → Record → List ℕ → Option (ℕ × DecoderError)
 fields_fault zero r p = Some (0, RlpExpectedToBeData)
 fields_fault (suc left) r p = items_fault (field_fault (fields_fault left)) r (fault_of_some (after_items p)) 0 (split p)

@@ -27,7 +27,7 @@ tree_of b (r ∷ rs) = item_of b r (items_of b 1 rs)
 abbrev pub depth_behind : RlpItem → ℕ
 depth_behind r = if r.is_list == 0 then r.depth else r.depth + 1
 
--- a row of a depth between these two, that of a list around fewer than `limit` lists, or that of a string within this number of bytes
+-- a row whose depth is in range, and which is a list inside fewer than `limit` lists, or a string inside the buffer
 pub record IsRow (limit len least most : ℕ) (r : RlpItem) : Type 0 where
   pub deep : least ≤ r.depth
   pub reached : r.depth ≤ most

@@ -140,8 +140,8 @@ fn write_tree(items: &[RlpItem], bytes: &[u8], out: &mut [u8], len: usize)
     }
 }
 
-/// Adds an item to those of its depth. What is inside it has the size of the items that are one
-/// deeper.
+/// Adds an item's size, its `front` and the size of its children, to the total at its depth, and
+/// resets the total of its children.
 #[inline(always)]
 fn put_size(sizes: &mut [usize; DEPTHS], depth: usize, front: usize)
     requires depth { depth ≤ 256 }

@@ -21,8 +21,8 @@ use std::alloc::{AllocError, Global};
 ///
 /// See section 4.4 of the yellow paper, and the EIPs of the fields. A list of 15 items is a header
 /// of the first forks, and one of 16, 17, 20 or 21 items is a header since [`London`], [`Shanghai`],
-/// [`Cancun`] or Prague. A list with any other number of items fails with `RlpIncorrectListLen`. No
-/// header has the fields of a fork without those of an earlier one: they stand in one another.
+/// [`Cancun`] or Prague. A list with any other number of items fails with `RlpIncorrectListLen`. A
+/// header that has the fields of a fork also has the fields of every earlier fork.
 #[derive(Debug, Clone, PartialEq, Eq, Drop)]
 pub struct Header {
     /// The hash of the parent's header.

@@ -69,7 +69,8 @@ impl TypedReceipt {
     }
 }
 
-// Reads a receipt from its bytes. That its own bytes have no fault follows in `from_bytes`.
+// Reads a receipt from its bytes. The clauses of `from_bytes` add that reading what `to_bytes`
+// wrote can't fail.
 fn read_alone(alloc: Global, bytes: &[u8]) -> Result<TypedReceipt, DecoderError>
     ensures value { IfOk result (λ r. typed_receipt.Fits r
         × (bytes.now ≡ bytes_alone (typed_receipt.item r))) }

@@ -6,7 +6,7 @@ use Rattle.std.specs.List.{before_first, after_first, starts_with}
 abbrev pub first_word : List ℕ → List ℕ
 first_word text = before_first (λ byte. byte == 32) text
 
--- a key within the record that it is of, where the fields of a block's header are those of the block
+-- the key without the name of the record; the fields of a block's header become fields of the block
 abbrev pub relative : List ℕ → List ℕ
 relative key =
     if starts_with nat_eq key (codes "block.header.") then drop 13 key

@@ -64,7 +64,7 @@ some_value key (g ∷ gs) (h ∷ hs) same =
     ap (λ k. is_some (if bytes_eq k key then Some g.value else value_among key gs)) first
     ∙ some_either (bytes_eq (vec_items h.key) key) g.value h.value (value_among key gs) (value_among key hs) (some_value key gs hs rest)
 
--- keys with a fault aren't those of pairs that have the same keys and are a record's
+-- if the keys have a fault, no valid record has these keys
 no_keys_fault : (gs hs : List NodePair) (e : DecoderError) → keys_of gs ≡ keys_of hs → AreRecordKeys gs → ¬ IsKeysFault hs e
 unfolding AreInOrder HasId
 no_keys_fault gs hs e same is (not_rising not custom) = not (subst (λ keys. IsTrue (keys_rise keys)) same is.0)

@@ -326,7 +326,7 @@ module _ {A : Type 0} (Fits : A → Type 0) (item : A → Item) (shape : Shape) 
       (both_shown _ _ (lines (prefix name ++ codes "content") w.content) []
       (ap (in_field 1) (shown (prefix name ++ codes "content") w.content fit.1.0 second)) refl))
 
-  -- and where only encodings of messages are shown, so it is with that number
+  -- the same holds if the message has a request id
   pub with_request_id_only : OnlyEncodings Fits item shape → OnlyEncodings (FitsWithRequestId Fits) (with_request_id_item item) (with_request_id_shape shape)
   with_request_id_only only =
       let content = field_only {Parts = Unit {0}} (λ (w : WithRequestId A). w.content) Fits item shape (λ w. tt) (λ w. ⊤) (λ w. []) [] (codes "content")

@@ -29,7 +29,7 @@ pub enum Form {
 /// How lines are answered.
 #[derive(Debug, Clone, Copy, PartialEq, Eq)]
 pub struct Answers {
-    /// The kind of the records. If there is none, [`guess`](crate::guess) tells that of each.
+    /// The kind of the records. If there is none, [`guess`](crate::guess) guesses the kind of each.
     pub kind: Option<Kind>,
     /// The form of the answers.
     pub form: Form,

@@ -78,7 +78,8 @@ impl Transaction {
     }
 }
 
-// Reads a transaction from its bytes. That its own bytes have no fault follows in `from_bytes`.
+// Reads a transaction from its bytes. The clauses of `from_bytes` add that reading what `to_bytes`
+// wrote can't fail.
 fn read_alone(alloc: Global, bytes: &[u8]) -> Result<Transaction, DecoderError>
     ensures value { IfOk result (λ t. transaction.Fits t
         × (bytes.now ≡ bytes_alone (transaction.item t))) }

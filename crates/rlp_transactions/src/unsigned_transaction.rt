@@ -101,7 +101,8 @@ impl UnsignedTransaction {
     }
 }
 
-// Reads a transaction from its bytes. That its own bytes have no fault follows in `from_bytes`.
+// Reads a transaction from its bytes. The clauses of `from_bytes` add that reading what `to_bytes`
+// wrote can't fail.
 fn read_alone(alloc: Global, bytes: &[u8]) -> Result<UnsignedTransaction, DecoderError>
     ensures value { IfOk result (λ t. unsigned_transaction.Fits t
         × (bytes.now ≡ bytes_alone (unsigned_transaction.item t))) }

@@ -26,7 +26,7 @@ proof_fault_text OutOfMemory = codes "OutOfMemory"
 abbrev pub IsKnown : List (List ℕ) → List ℕ → Type 0
 IsKnown nodes b = Contains nodes b ⊎ (b ≡ encoding (string []))
 
--- no encodings of two sets differ that have one hash
+-- an encoding of the first set and one of the second with equal hashes are equal
 abbrev pub TellApart : (List ℕ → Type 0) → (List ℕ → Type 0) → Type 0
 TellApart Known Other = (b c : List ℕ) → Known b → Other c → keccak256 b ≡ keccak256 c → b ≡ c
 

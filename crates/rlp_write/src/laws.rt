@@ -78,8 +78,8 @@ pub fn open_lists_await_items()
     ensures { (c : Call) (s : State) → AllAwait s.stack.lists → AllAwait (effect c s).stack.lists }
 {}
 
-/// To finalize innermost lists that are unbounded at once is to finalize them in turn: each call is
-/// admitted, and after all of them the state is the same.
+/// Finalizing the n innermost unbounded lists in one call equals n single calls: each of them is
+/// admitted, and the last leaves the same state.
 pub fn unbounded_lists_are_finalized_in_turn()
     ensures admitted { (n : ℕ) (s : State) → n < unbounded_count s.stack.lists
         → IsTrue (is_admitted finalize_unbounded_list s)

@@ -1,4 +1,4 @@
--- `be` writes a number's digits: they are the number's, they begin with no zero, and no others do.
+-- `big_endian` writes a number's digits: they denote the number, begin with no zero, and are the only digits that do both.
 use Rattle.std.proofs.Common.{◌≡◌, ℕ, zero, suc, ◌+◌, ◌*◌, ◌/◌, ◌%◌, ◌^◌, ◌<◌, ◌≤◌, List, [], ◌∷◌, ◌++◌, length, get_or, lt_of_lt_of_le, refl, false}
 use Rattle.std.proofs.Common.{Fits, w8, eqb, ne_eqb, sym, ap, ◌∙◌, arith, append_assoc, length-append, append-nil, zero-add}
 use Rattle.std.specs.Int.Digits.{digits_of, digits_with_fuel, number_from_digits, number_from_digits_after, AllBelowBase}

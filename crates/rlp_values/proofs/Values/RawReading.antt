@@ -28,7 +28,7 @@ same_or_other (x ∷ xs) (y ∷ ys) =
     (λ first. inr (λ same. let heads : x ≡ y = cc in first heads))
     (cases_eq x y)
 
--- bytes are a raw item exactly if they are the encoding of the item that they are read as
+-- bytes are a valid raw item if and only if encoding the item that they are read as gives them back
 raw_or_not : (f : List ℕ) → length f < 2 ^ 64 → IsRawItem f ⊎ (¬ IsRawItem f)
 raw_or_not f short =
     ⊎_elim

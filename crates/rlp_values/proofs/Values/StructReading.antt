@@ -109,7 +109,7 @@ module _ (least : ℕ) (IsMore : ℕ → Type 0) (some : ℕ → ℕ → View �
       let few = bad.few in
       later_fault m k given.count g is few (omega (arith, few, same)) given.each (fault_here m k g bad)
 
-  -- a struct has one reading, if its number of items can be told to be right or wrong
+  -- a struct has one reading, if `IsCount` is decidable
   pub struct_reading : ((m : ℕ) → item_count v ≡ Ok m → IsCount least IsMore m ⊎ (¬ IsCount least IsMore m)) → HoldsOrHasOneFault Given Fault
   struct_reading told = record { some = some_counted (item_count v) refl told; one_fault = one_struct_fault; not_both = not_both_struct }
 

@@ -115,7 +115,7 @@ FitsCase cases x = (cases.case (cases.tag x)).Fits x
 abbrev pub case_item : {A : Type 0} → Cases A → A → Item
 case_item cases x = (cases.case (cases.tag x)).item x
 
--- the tags are equal, and the values agree as the type with their tag says
+-- the tags are equal, and the payloads agree by the codec of the tag
 abbrev pub SameCase : {A : Type 0} → Cases A → A → A → Type 0
 SameCase cases x y = HaveOneTag cases.tag (λ k. (cases.case k).Same) x y
 

@@ -22,7 +22,7 @@ abbrev pub HasNoFaultOfHeld : {A : Type 0} → (A → Type 0) → (A → Item) �
 HasNoFaultOfHeld {A} Fits item faults = (v : View) (x : A) → length v.bytes < 2 ^ 64 → Fits x → HoldsItem v (item x) → (e : DecoderError) → ¬ faults v e
 
 module _ {A : Type 0} (Fits : A → Type 0) (item : A → Item) (faults : View → DecoderError → Type 0) (sound : HasNoFaultOfHeld Fits item faults) where
-  -- the values that are given are those alike to the one that is held
+  -- reading gives exactly the values alike to the encoded one
   pub exact_held_back : AlwaysReadsBack Fits item (λ v x. GivesValue Fits item v x) faults
   exact_held_back b x fits fit begins = record {
     alike = λ w. (

@@ -110,7 +110,7 @@ pub cuts_begin : (p : List ℕ) (fs gs : List (List ℕ)) → IsCut p fs → IsC
 cuts_begin p fs gs a b =
     cuts_agree fs gs a.begins.0 b.begins.0 (recursion_from_All IsFramedItem fs a.each) (recursion_from_All IsFramedItem gs b.each) (sym a.begins.1 ∙ b.begins.1)
 
--- what isn't longer than its beginning is that
+-- a list no longer than its own prefix equals the prefix
 pub longer_same : (fs gs more : List (List ℕ)) → gs ≡ fs ++ more → length gs ≤ length fs → fs ≡ gs
 longer_same fs gs [] e l = sym (append-nil fs) ∙ sym e
 longer_same fs gs (m ∷ more) e l = absurd (omega (arith, ap length e, length-append fs (m ∷ more)))
@@ -130,7 +130,7 @@ pub split_step : (turns : ℕ) (f more : List ℕ) → IsFramedItem f → split_
 split_step turns f more is = ap (frame_and_more (split_within turns) (f ++ more)) (frame_front f more is)
     ∙ ap (λ s. f ∷ split_within turns s) (drop_at f more (length f) refl)
 
--- the framed items that begin bytes which go on with none
+-- if x begins with no framed item, splitting `concat fs ++ x` gives fs
 pub split_of : (turns : ℕ) (fs : List (List ℕ)) (x : List ℕ) (e : DecoderError) → AllFramed fs → frame x ≡ Err e → length (concat fs ++ x) ≤ turns
     → split_within turns (concat fs ++ x) ≡ fs
 split_of zero [] x e a none l = refl
@@ -191,7 +191,7 @@ no_more (f ∷ fs) (g ∷ gs) more x y stop a e is =
     let below : length gs ≤ length fs = no_more fs gs more x y stop a.1 tails (append_cancel_left f _ _ cells) in
     omega arith
 
--- framed items are the longest cut of bytes that go on with none
+-- fs is the longest cut of `concat fs ++ x` if x begins with no framed item
 pub stopped_split : (fs : List (List ℕ)) (x : List ℕ) → AllFramed fs → ¬ IsFramed x → IsSplit (concat fs ++ x) fs
 stopped_split fs x a stop = record {
   cut = record { each = All-from_recursion IsFramedItem fs a; begins = (x, refl) };

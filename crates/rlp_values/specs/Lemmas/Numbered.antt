@@ -98,7 +98,7 @@ item_at-past v i p told is past =
 pub item_at-unframed : (v : View) (i : ℕ) (e : DecoderError) → items_fault v ≡ None → framing v.bytes ≡ Err e → item_at v i ≡ Err e
 item_at-unframed v i e told is = ap (map_ok (λ q. q.0)) (item_with_place-told v i (Err e) told is)
 
--- The answer to a number, by whether it is that of an item, is past the last one, or none is told.
+-- What `item_at i` returns: item i, or for an i past the last item the fault of what follows the items, or for every i the fault of the list.
 pub data Numbered (v : View) (i : ℕ) : Type 0 where
   item_there : items_fault v ≡ None → i < length (items v.bytes) → item_at v i ≡ Ok (record v { bytes = get_or (items v.bytes) i [] }) → Numbered v i
   no_item : (e : DecoderError) → items_fault v ≡ None → length (items v.bytes) ≤ i → item_at v i ≡ Err e

@@ -1,4 +1,4 @@
--- The item of a raw item is the one that its bytes are the encoding of.
+-- A raw item stands for the item that its bytes encode.
 use Rattle.std.proofs.Common.{◌≡◌, ◌≤◌, ◌<◌, ◌^◌, ℕ, zero, suc, Bool, true, false, List, [], ◌∷◌, ◌++◌, length, map, refl, sym, ap, ◌∙◌, subst, arith}
 use Rattle.std.proofs.Common.{append-nil, Result, Ok, Err, leb-true, ◌⊎◌, inl, inr}
 use Rattle.rlp_values.specs.declared.error.DecoderError.{DecoderError}

@@ -197,7 +197,7 @@ unfolding read_string
 stands [] bytes = stands_err _ _
 stands (first ∷ rest) bytes = first_stands first rest bytes.1
 
--- ---- the fault is that of the table
+-- ---- the fault is the first that applies
 
 cond_fault : (b : Bool) (r s : Result (List ℕ) DecoderError) (e f g : DecoderError) → (r ≡ Err e → e ≡ f) → (s ≡ Err e → e ≡ g)
     → (if b then r else s) ≡ Err e → e ≡ (if b then f else g)

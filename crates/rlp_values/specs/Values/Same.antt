@@ -16,6 +16,6 @@ SameSum Same Other (inl x) (inr y) = ⊥
 SameSum Same Other (inr x) (inl y) = ⊥
 SameSum Same Other (inr x) (inr y) = Other x y
 
--- the tags are equal, and the values agree as the type with their tag says
+-- the tags are equal, and the payloads agree by the `Same` of the tag
 abbrev pub HaveOneTag : {A : Type 0} → (A → ℕ) → (ℕ → A → A → Type 0) → A → A → Type 0
 HaveOneTag tag Same x y = (tag x ≡ tag y) × Same (tag x) x y

@@ -16,7 +16,7 @@ pub payload_moved : (grown moved : List ℕ) (len h : ℕ) → 1 ≤ h → lengt
     → length moved ≡ h + len
 payload_moved grown moved len h some all is = ap length is ∙ shifted_len grown 1 len h some (omega (arith, all)) ∙ all
 
--- The payload stands behind the first byte of b. The buffer grows by the header but for a byte, the payload is moved behind the header, and the header is
+-- The payload stands behind the first byte of b. The buffer grows by the header's length minus one, the payload is moved behind the header, and the header is
 -- written.
 pub alone_written : (b grown moved final : List ℕ) (len h at : ℕ) → len ≡ length b - 1 → 1 ≤ h → h ≡ length (written_header 0xc0 len)
     → take (length b) grown ≡ b → length grown ≡ h + len

@@ -122,7 +122,7 @@ counted_more items values i n m x d inside is before one =
     ap length (all_items-more items values i x d inside is) ∙ length-append (all_items items (take i values)) (items x) in
     omega (arith, whole, before, one)
 
--- one value and those before it have no more items than all
+-- the first values have at most as many items as all values
 pub counted_so_far : {A : Type 0} (items : A → List Item) (values : List A) (i : ℕ) (x d : A) → i < length values → x ≡ get_or values i d
     → length (all_items items (take i values)) + length (items x) ≤ length (all_items items values)
 counted_so_far items values i x d inside is =

@@ -84,7 +84,7 @@ counted_item (string b) s t start is counted =
     absurd (let both : false ≡ true = sym start ∙ sym (ap (λ (u : State). u.is_counted) is) ∙ counted in let no : ⊥ = cc in no)
 counted_item (list xs) s t start is counted = is
 
--- a value that doesn't is added once it is counted
+-- a value that leaves `is_counted` false still has to be counted
 pub item_counted : (x : Item) (s t u : State) → s.is_counted ≡ false → t ≡ put_item x s → t.is_counted ≡ false → u ≡ count 1 t → u ≡ add x s
 item_counted (string b) s t u start is uncounted counts =
     counts ∙ ap (count 1) is ∙ ap (λ m. count 1 (put (encoding (string b)) (with_is_counted m s))) start

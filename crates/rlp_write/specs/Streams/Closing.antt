@@ -34,7 +34,7 @@ growth (suc n) end tail (p ∷ ps) =
     let len : ℕ = (end - (p.position + 1)) + tail in
     (header_len len - 1) + growth n p.position (header_len len + len) ps
 
--- the number of bytes below `end` that are left of the n innermost lists
+-- the number of bytes in front of the n innermost lists, or `end` for n = 0
 abbrev pub left_of : ℕ → ℕ → List Placeholder → ℕ
 left_of zero end ps = end
 left_of (suc n) end [] = end
