@@ -1,7 +1,7 @@
 //! A stream as one flat buffer, and the moves on it. Only the functions of this module touch the
 //! fields of a stream: all others see its state.
 
-ghost use Rattle.std.specs.Prelude.{◌≡◌, ◌≤◌, ◌<◌, ◌+◌, ◌*◌, ◌^◌, ◌++◌, ◌↔◌, ℕ, List, IsTrue, OnOk, OnErr, false, length, min};
+ghost use Rattle.std.specs.Prelude.{◌≡◌, ◌≤◌, ◌<◌, ◌+◌, ◌*◌, ◌^◌, ◌++◌, ◌↔◌, ℕ, List, IsTrue, IsOk, OnOk, OnErr, false, length, min};
 ghost use Rattle.std.specs.Iterator.{IsFiniteIterable};
 ghost use Rattle.std.specs.Option.{SomeIff};
 ghost use Rattle.rlp_format.specs.Format.Item.{string};
@@ -119,6 +119,7 @@ impl RlpStream {
     pub(crate) fn put_string(&mut self, value: &[u8]) -> Result<(), AllocError>
         ensures ok { OnOk result
             (self.new.state ≡ put (encoding (string value.now)) self.old.state) }
+        ensures room { length (encoding (string value.now)) ≤ self.old.spare → IsOk result }
         ensures refused { OnErr result (IsAsBefore self.old self.new) }
         // This follows. An `rlp_append` that returns the result needs no lemma for it.
         ensures grows { OnErr result (GrowsTo self.old.state self.new.state) }

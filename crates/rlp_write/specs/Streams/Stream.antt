@@ -98,6 +98,10 @@ closed_size_with more s = closed_size (put (replicate more 0) s)
 
 -- ---- bytes moved
 
--- closings moved at most the final closed size in payload bytes
+-- the count of moved bytes doesn't fall
+abbrev pub MovedGrows : Seen → Seen → Type 0
+MovedGrows old new = old.moved ≤ new.moved
+
+-- the count of moved bytes doesn't fall, and grows by the final closed size at most
 abbrev pub MovesWithin : Seen → Seen → Type 0
-MovesWithin old new = (old.moved ≤ new.moved) × (new.moved ≤ old.moved + closed_size new.state)
+MovesWithin old new = MovedGrows old new × (new.moved ≤ old.moved + closed_size new.state)
