@@ -4,8 +4,7 @@ ghost use Rattle.std.specs.Prelude.{◌≡◌, ◌≤◌, ℕ, List, IsOk, OnOk,
 ghost use Rattle.std.specs.Iterator.{IsFiniteIterable};
 ghost use Rattle.rlp_format.specs.Format.Item.{string};
 ghost use Rattle.rlp_format.specs.Format.Encoding.{encoding};
-ghost use Rattle.rlp_write.specs.Streams.Calls.{effect, encode_value};
-ghost use Rattle.rlp_write.specs.Streams.Stream.{IsAsBefore};
+ghost use Rattle.rlp_write.specs.Streams.Stream.{effect, encode_value, IsAsBefore};
 ghost use Rattle.rlp_write.specs.Streams.Iterated.{GivesAll};
 
 use crate::stream::RlpStream;

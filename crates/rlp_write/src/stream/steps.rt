@@ -4,9 +4,7 @@ ghost use Rattle.std.specs.Prelude.{◌≡◌, ◌≤◌, ◌<◌, ℕ, List, Is
 ghost use Rattle.std.specs.Iterator.{IsFiniteIterable};
 ghost use Rattle.rlp_format.specs.Format.Item.{string};
 ghost use Rattle.rlp_format.specs.Format.Encoding.{encoding};
-ghost use Rattle.rlp_write.specs.Streams.Stack.{unbounded_count};
-ghost use Rattle.rlp_write.specs.Streams.Calls.{finalized, is_within_size, with_list_of};
-ghost use Rattle.rlp_write.specs.Streams.Stream.{IsAsBefore, IsFinished, MovedGrows, MovesWithin, count, add, put_item};
+ghost use Rattle.rlp_write.specs.Streams.Stream.{unbounded_count, finalized, is_within_size, with_list_of, IsAsBefore, IsFinished, MovedGrows, MovesWithin, count, add, put_item};
 ghost use Rattle.rlp_write.specs.Streams.Growth.{GrowsTo};
 ghost use Rattle.rlp_write.specs.Streams.Iterated.{GivesAll};
 
