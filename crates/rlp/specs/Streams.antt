@@ -1,11 +1,7 @@
--- open lists, and the moves on them
-pub use Rattle.rlp_write.specs.Streams.Stack
--- the state of a stream, and its texts
+-- the state of a stream, its calls, and the effect of each
 pub use Rattle.rlp_write.specs.Streams.Stream
 -- how a state grows
 pub use Rattle.rlp_write.specs.Streams.Growth
--- the calls, which of them are admitted, and the effect of each
-pub use Rattle.rlp_write.specs.Streams.Calls
 -- what a refusal leaves of a stream in a chain
 pub use Rattle.rlp_write.specs.Streams.Chain
 -- values that are appended one after another

@@ -1,7 +1,7 @@
 //! Calls on streams that have a condition. Each function tests the condition first.
 
 ghost use Rattle.std.specs.Prelude.{IsTrue};
-ghost use Rattle.rlp_write.specs.Streams.Stack.{has_room};
+ghost use Rattle.rlp_write.specs.Streams.Stream.{has_room};
 
 use rlp_write::RlpStream;
 use std::alloc::AllocError;

@@ -4,10 +4,9 @@ use Rattle.std.proofs.Common.{decimal, Result, Ok, Err, OnOk, IsTrue, nat_lt, re
 use Rattle.std.proofs.lemmas.Bool.Decides.{nat_tests}
 use Rattle.rlp.specs.Format.Item.{Item}
 use Rattle.rlp.specs.Format.Encoding.{join, BeginsWith, IsSized}
-use Rattle.rlp.specs.Streams.Stack.{OpenList, Stack}
-use Rattle.rlp.specs.Streams.Stream.{State, initial_state, closed_size, raw_text}
-use Rattle.rlp.specs.Streams.Calls.{Call, append, append_empty_data, append_raw, append_raw_checked, begin_list, begin_unbounded_list}
-use Rattle.rlp.specs.Streams.Calls.{finalize_unbounded_list, append_internal, encode_value, clear, effect, is_admitted, after, after_from}
+use Rattle.rlp.specs.Streams.Stream.{OpenList, Stack, State, initial_state, closed_size, raw_text}
+use Rattle.rlp.specs.Streams.Stream.{Call, append, append_empty_data, append_raw, append_raw_checked, begin_list, begin_unbounded_list}
+use Rattle.rlp.specs.Streams.Stream.{finalize_unbounded_list, append_internal, encode_value, clear, effect, is_admitted, after, after_from}
 use Rattle.rlp.specs.Streams.Described.{Step, DescribesWhere, by_append, by_empty_data, by_raw, by_checked_raw, by_refused_raw, by_empty_list}
 use Rattle.rlp.specs.Streams.Described.{by_list, by_unbounded_list, by_finalize, by_internal_list, by_clear, AreDescribedWhere, IsDescribedWhere}
 use Rattle.rlp.specs.Streams.Described.{FinishAs}

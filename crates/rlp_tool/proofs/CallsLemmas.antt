@@ -7,11 +7,9 @@ use Rattle.std.specs.List.{AllByRecursion}
 use Rattle.std.proofs.lemmas.List.Elements.{All-from_recursion}
 use Rattle.rlp.specs.Format.Item.{Item, string, list, list_of}
 use Rattle.rlp.specs.Format.Encoding.{join, IsSized}
-use Rattle.rlp.specs.Streams.Stack.{OpenList, Stack, empty_stack, has_room, awaited}
-use Rattle.rlp.specs.Streams.Stream.{State, initial_state, IsFinished, put, count, put_item}
-use Rattle.rlp.specs.Streams.Calls.{Call, append, append_empty_data, append_raw, append_raw_checked, begin_list, begin_unbounded_list}
-use Rattle.rlp.specs.Streams.Calls.{finalize_unbounded_list, append_internal, encode_value, clear, effect, is_admitted, is_within_size, after}
-use Rattle.rlp.specs.Streams.Calls.{after_from}
+use Rattle.rlp.specs.Streams.Stream.{OpenList, Stack, empty_stack, has_room, awaited, State, initial_state, IsFinished, put, count, put_item, after_from}
+use Rattle.rlp.specs.Streams.Stream.{Call, append, append_empty_data, append_raw, append_raw_checked, begin_list, begin_unbounded_list}
+use Rattle.rlp.specs.Streams.Stream.{finalize_unbounded_list, append_internal, encode_value, clear, effect, is_admitted, is_within_size, after}
 use Rattle.rlp.specs.Streams.Described.{Step, brings, opens, finishes, clears, DescribesWhere, Describes, by_append, by_empty_data, by_raw}
 use Rattle.rlp.specs.Streams.Described.{by_checked_raw, by_refused_raw, by_empty_list, by_list, by_unbounded_list, by_finalize, by_internal_list}
 use Rattle.rlp.specs.Streams.Described.{by_clear, AreDescribedWhere, AreDescribed, IsDescribed, IsDescribedWhere, IsAny, items_after_all, joined_list}

@@ -10,7 +10,7 @@ use Rattle.std.proofs.lemmas.List.Sums.{fails_before_first, position_or_len_is}
 use Rattle.std.proofs.lemmas.Bool.{and_parts, eqb-true}
 use Rattle.std.proofs.lemmas.Bool.Decides.{nat_tests}
 use Rattle.std.specs.Borrow.{Bor}
-use Rattle.rlp.specs.Streams.Calls.{Call, append}
+use Rattle.rlp.specs.Streams.Stream.{Call, append}
 use Rattle.hex.specs.Hex.{is_hex_digit}
 use Rattle.rlp.specs.Format.Item.{string}
 use Rattle.rlp_lines.specs.Digits.{number_in, bytes_in, digits_of}

@@ -6,9 +6,8 @@ use Rattle.std.specs.Borrow.{Bor}
 use Rattle.std.specs.List.{list_all, prefix_len}
 use Rattle.std.specs.Option.{IsSomeAnd}
 use Rattle.rlp.specs.Format.Item.{string}
-use Rattle.rlp.specs.Streams.Stack.{unbounded_count}
-use Rattle.rlp.specs.Streams.Stream.{State, initial_state}
-use Rattle.rlp.specs.Streams.Calls.{Call, append, append_raw, begin_list, begin_unbounded_list, clear, effect, finalize_unbounded_list, finalized, is_admitted}
+use Rattle.rlp.specs.Streams.Stream.{unbounded_count, State, initial_state}
+use Rattle.rlp.specs.Streams.Stream.{Call, append, append_raw, begin_list, begin_unbounded_list, clear, effect, finalize_unbounded_list, finalized, is_admitted}
 use Rattle.rlp.specs.Streams.Described.{finishes, by_finalize}
 use Rattle.rlp_tool.specs.declared.building.BuildFault.{BuildFault}
 use Rattle.rlp_tool.specs.declared.building.BuildFault.TheVariants.{TooManyItems, NothingToFinish, RawNotItems, OutOfMemory}

@@ -13,10 +13,9 @@ use Rattle.hex.specs.declared.error.FromHexError.{FromHexError}
 use Rattle.hex.proofs.HexLemmas.{decode_of-ok}
 use Rattle.rlp.specs.Format.Item.{Item, string}
 use Rattle.rlp.specs.Format.Encoding.{join, BeginsWith, IsSized}
-use Rattle.rlp.specs.Streams.Stack.{OpenList}
-use Rattle.rlp.specs.Streams.Stream.{State, IsFinished}
-use Rattle.rlp.specs.Streams.Calls.{Call, append, append_empty_data, append_raw, append_raw_checked, begin_list, begin_unbounded_list}
-use Rattle.rlp.specs.Streams.Calls.{finalize_unbounded_list, append_internal, encode_value, clear, effect, is_admitted, after_from}
+use Rattle.rlp.specs.Streams.Stream.{OpenList, State, IsFinished}
+use Rattle.rlp.specs.Streams.Stream.{Call, append, append_empty_data, append_raw, append_raw_checked, begin_list, begin_unbounded_list}
+use Rattle.rlp.specs.Streams.Stream.{finalize_unbounded_list, append_internal, encode_value, clear, effect, is_admitted, after_from}
 use Rattle.rlp.specs.Streams.Described.{Step, brings, opens, finishes, clears, by_append, by_unbounded_list, by_finalize, by_clear, AreDescribedWhere}
 use Rattle.rlp_tool.specs.Answer.{brings_items, outcome_answer, refusal_name, state_answer}
 use Rattle.rlp_tool.specs.Building.{IsSomeStep, is_raw}

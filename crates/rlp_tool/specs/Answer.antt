@@ -6,9 +6,7 @@ use Rattle.std.specs.Str.Lines.{strip_carriage_return}
 use Rattle.hex.specs.Hex.{encode_lower}
 use Rattle.rlp.specs.Views.Depth.{depth}
 use Rattle.rlp.specs.Views.Text.{text}
-use Rattle.rlp.specs.Streams.Stack.{OpenList}
-use Rattle.rlp.specs.Streams.Stream.{State, initial_state, closed_size, raw_text}
-use Rattle.rlp.specs.Streams.Calls.{Call, append_raw, effect, is_admitted}
+use Rattle.rlp.specs.Streams.Stream.{OpenList, State, initial_state, closed_size, raw_text, Call, append_raw, effect, is_admitted}
 use Rattle.rlp_tool.specs.Building.{is_raw}
 use Rattle.rlp_lines.specs.Digits.{bytes_in}
 use Rattle.rlp_lines.specs.Replies.{answer_by}

@@ -1,7 +1,6 @@
 -- Calls that are made one after another, for private functions.
 use Rattle.std.specs.Prelude.{ℕ, suc, ◌≡◌, IsTrue, List, [], ◌∷◌, ◌++◌, length, replicate, codes, decimal, Result, Ok, Err}
-use Rattle.rlp.specs.Streams.Stream.{State, IsFinished, closed_size, raw_text}
-use Rattle.rlp.specs.Streams.Calls.{Call, is_admitted, effect, finalize_unbounded_list, after}
+use Rattle.rlp.specs.Streams.Stream.{State, IsFinished, closed_size, raw_text, Call, is_admitted, effect, finalize_unbounded_list, after}
 use Rattle.rlp_tool.specs.declared.building.Built.{Built}
 use Rattle.rlp_tool.specs.declared.building.Built.TheVariants.{Finished, Open}
 use Rattle.rlp_tool.specs.declared.building.BuildFault.{BuildFault}

@@ -3,9 +3,7 @@ ghost use Rattle.std.specs.Prelude.{ℕ, ◌≡◌, ◌≢◌, ◌++◌, ◌∷�
 ghost use Rattle.rlp.specs.Format.Item.{Item};
 ghost use Rattle.rlp.specs.Format.Encoding.{join};
 ghost use Rattle.rlp.specs.Format.Framing.{IsFramed, frame};
-ghost use Rattle.rlp.specs.Streams.Stack.{has_room};
-ghost use Rattle.rlp.specs.Streams.Stream.{IsFinished};
-ghost use Rattle.rlp.specs.Streams.Calls.{Call, append_raw, effect, finalize_unbounded_list, is_admitted};
+ghost use Rattle.rlp.specs.Streams.Stream.{has_room, IsFinished, Call, append_raw, effect, finalize_unbounded_list, is_admitted};
 ghost use Rattle.rlp.specs.Streams.Described.{IsDescribed, IsDescribedWhere};
 ghost use Rattle.rlp_tool.specs.Building.{AreTaken, IsBuilt, IsRefusal, IsJoined, IsFinishedAs, IsSomeStep, takes_memory};
 ghost use Rattle.rlp_tool.specs.Making.{AreMadeBut, Goes, IsHeld, IsTaken, IsUnfit};

@@ -3,7 +3,7 @@
 ghost use Rattle.std.specs.Prelude.{◌≡◌, ◌++◌, ◌↔◌, ℕ, List, [], IsTrue, codes, decimal};
 ghost use Rattle.rlp.specs.Format.Item.{Item};
 ghost use Rattle.rlp.specs.Format.Encoding.{join, BeginsWith};
-ghost use Rattle.rlp.specs.Streams.Calls.{Call};
+ghost use Rattle.rlp.specs.Streams.Stream.{Call};
 ghost use Rattle.rlp.specs.Streams.Described.{FinishAs, IsDescribedWhere};
 ghost use Rattle.rlp_tool.specs.Answer.{SaysCalls, answer, finished_answer, open_answer};
 ghost use Rattle.rlp_tool.specs.Building.{AreJoined, AreRefused, AreTaken, BringsNoItems, BringsTooMany, HasNothingToFinish, StayOpen};

@@ -1,9 +1,5 @@
--- open lists, and the moves on them
-pub mod Stack
--- the state of a stream, and its texts
+-- the state of a stream, its calls, and the effect of each
 pub mod Stream
--- the calls, which of them are admitted, and the effect of each
-pub mod Calls
 -- the bytes that an iterator gives
 pub mod Iterated
 -- for the code only, cited by no public contract: the buffer of a stream

@@ -1,14 +1,12 @@
 //! A stream as one flat buffer, and the moves on it. Only the functions of this module touch the
 //! fields of a stream: all others see its state.
 
-ghost use Rattle.std.specs.Prelude.{◌≡◌, ◌≤◌, ◌<◌, ◌+◌, ◌*◌, ◌^◌, ◌++◌, ◌↔◌, ℕ, List, IsTrue, OnOk, OnErr, false, length, min};
+ghost use Rattle.std.specs.Prelude.{◌≡◌, ◌≤◌, ◌<◌, ◌+◌, ◌*◌, ◌^◌, ◌++◌, ◌↔◌, ℕ, List, IsTrue, IsOk, OnOk, OnErr, false, length, min};
 ghost use Rattle.std.specs.Iterator.{IsFiniteIterable};
 ghost use Rattle.std.specs.Option.{SomeIff};
 ghost use Rattle.rlp_format.specs.Format.Item.{string};
 ghost use Rattle.rlp_format.specs.Format.Encoding.{encoding};
-ghost use Rattle.rlp_write.specs.Streams.Stack.{AwaitsSome, awaited, is_counted_after, is_unbounded, unbounded_count};
-ghost use Rattle.rlp_write.specs.Streams.Calls.{clear, effect};
-ghost use Rattle.rlp_write.specs.Streams.Stream.{State, IsAsBefore, IsFinished, MovesWithin, closed_size, closed_size_with, count, initial_state, put, raw_text, with_awaiting, with_is_counted, with_list};
+ghost use Rattle.rlp_write.specs.Streams.Stream.{AwaitsSome, awaited, is_counted_after, is_unbounded, unbounded_count, clear, effect, State, IsAsBefore, IsFinished, MovesWithin, closed_size, closed_size_with, count, initial_state, put, raw_text, with_awaiting, with_is_counted, with_list};
 ghost use Rattle.rlp_write.specs.Streams.Growth.{GrowsTo};
 ghost use Rattle.rlp_write.specs.Streams.Places.{place_of};
 ghost use Rattle.rlp_write.specs.Streams.Iterated.{GivesAll};
@@ -119,6 +117,7 @@ impl RlpStream {
     pub(crate) fn put_string(&mut self, value: &[u8]) -> Result<(), AllocError>
         ensures ok { OnOk result
             (self.new.state ≡ put (encoding (string value.now)) self.old.state) }
+        ensures room { length (encoding (string value.now)) ≤ self.old.spare → IsOk result }
         ensures refused { OnErr result (IsAsBefore self.old self.new) }
         // This follows. An `rlp_append` that returns the result needs no lemma for it.
         ensures grows { OnErr result (GrowsTo self.old.state self.new.state) }

@@ -3,9 +3,7 @@
 ghost use Rattle.std.specs.Prelude.{◌≡◌, ◌<◌, ◌≤◌, ℕ, List, [], ◌∷◌, ◌++◌, ◌+◌, length, replicate, IsTrue, Ok, Option};
 ghost use Rattle.rlp_format.specs.Format.Item.{Item, string, list_of, is_list};
 ghost use Rattle.rlp_format.specs.Format.Encoding.{encoding};
-ghost use Rattle.rlp_write.specs.Streams.Stream.{State, IsFinished, put, shut, count, with_list, add, put_item, raw_text, closed_text, closed_size, closed_size_with};
-ghost use Rattle.rlp_write.specs.Streams.Stack.{AllAwait, unbounded_count};
-ghost use Rattle.rlp_write.specs.Streams.Calls.{Call, after_from, effect, finalize_unbounded_list, finalized, is_admitted};
+ghost use Rattle.rlp_write.specs.Streams.Stream.{State, IsFinished, put, shut, count, with_list, add, put_item, raw_text, closed_text, closed_size, closed_size_with, AllAwait, unbounded_count, Call, after_from, effect, finalize_unbounded_list, finalized, is_admitted};
 ghost use Rattle.rlp_write.specs.Streams.Growth.{GrowsTo};
 
 use crate::{EMPTY_LIST_RLP, NULL_RLP};

@@ -1,7 +1,7 @@
 //! The open lists of a stream. Contracts see them from the inside out.
 
 ghost use Rattle.std.specs.Prelude.{◌≡◌, ◌≤◌, ◌<◌, ◌*◌, ◌-◌, ◌^◌, ◌∷◌, ◌↔◌, [], drop, length, min, reverse, IsTrue, MatchOption, OnOk, OnErr};
-ghost use Rattle.rlp_write.specs.Streams.Stack.{awaits_after, is_last};
+ghost use Rattle.rlp_write.specs.Streams.Stream.{awaits_after, is_last};
 ghost use Rattle.rlp_write.specs.Streams.Placeholders.{closes, innermost_awaits, is_innermost_unbounded, unbounded_innermost, with_awaits, with_innermost};
 
 use std::alloc::{AllocError, Global};

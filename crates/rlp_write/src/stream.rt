@@ -4,11 +4,10 @@ ghost use Rattle.std.specs.Prelude.{◌≡◌, ◌≤◌, ◌<◌, ◌^◌, ℕ,
 ghost use Rattle.std.specs.Borrow.{sem};
 ghost use Rattle.std.specs.Iterator.{IsFiniteIterable};
 ghost use Rattle.rlp_format.specs.Format.Item.{string, list_of};
-ghost use Rattle.rlp_write.specs.Streams.Stack.{unbounded_count};
-ghost use Rattle.rlp_write.specs.Streams.Calls.{append, append_empty_data, append_raw, append_raw_checked, begin_list, begin_unbounded_list, finalize_unbounded_list, append_internal, effect, finalized, is_admitted, is_within_size};
-ghost use Rattle.rlp_write.specs.Streams.Stream.{initial_state, IsFinished, IsAsBefore, MovesWithin, closed_size, closed_size_with};
+ghost use Rattle.rlp_format.specs.Format.Encoding.{encoding};
+ghost use Rattle.rlp_write.specs.Streams.Stream.{unbounded_count, append, append_empty_data, append_raw, append_raw_checked, begin_list, begin_unbounded_list, finalize_unbounded_list, append_internal, effect, finalized, is_admitted, is_within_size, initial_state, IsFinished, IsAsBefore, MovedGrows, MovesWithin, closed_size, closed_size_with};
 ghost use Rattle.rlp_write.specs.Streams.Iterated.{GivesAll};
-ghost use Rattle.rlp_write.specs.Streams.Chain.{stays_if_refused, rests_if_refused, HoldsStream, LeavesState, MovesInChain, KeepsCount};
+ghost use Rattle.rlp_write.specs.Streams.Chain.{stays_if_refused, rests_if_refused, HoldsStream};
 
 mod chain;
 mod encoded;
@@ -42,7 +41,7 @@ impl RlpStream {
 
     /// A stream in which a list is begun, as by [`RlpStream::begin_list`].
     pub fn new_list(alloc: Global, len: usize) -> Result<RlpStream, AllocError>
-        ensures state { IfOk result
+        ensures ok { IfOk result
             (λ s. s.state ≡ effect (begin_list len) (initial_state [])) }
         ensures moved { IfOk result (λ s. s.moved ≤ closed_size s.state) }
     {
@@ -79,8 +78,11 @@ impl RlpStream {
     pub fn append<E: Encodable>(&mut self, value: &E) -> Result<Chain<'_>, AllocError>
         ensures* refused { sem 𝓛 (stays_if_refused self.entry result) }
         ensures fits { OnOk result (E.fits value.now) }
-        ensures ok { LeavesState result (effect (append (E.item value.now)) self.old.state) }
-        ensures moved { KeepsCount self.old result }
+        ensures ok { IfOk result
+            (λ c. c.stream.now.state ≡ effect (append (E.item value.now)) self.old.state) }
+        ensures room { E.needs_only_room value.now → IsFinished self.old.state
+            → length (encoding (E.item value.now)) ≤ self.old.spare → IsOk result }
+        ensures moved { IfOk result (λ c. MovedGrows self.old c.stream.now) }
         ensures same_stream { HoldsStream self.entry result }
     {
         self.try_append(value)?;
@@ -98,7 +100,7 @@ impl RlpStream {
         ensures ok { IfOk result (λ c. (s : List ℕ)
             × GivesAll I.into_iter_gives I.IntoIter.next_gives value s
             × (c.stream.now.state ≡ effect (append (string s)) self.old.state)) }
-        ensures moved { KeepsCount self.old result }
+        ensures moved { IfOk result (λ c. MovedGrows self.old c.stream.now) }
         ensures same_stream { HoldsStream self.entry result }
     {
         self.try_append_iter(value)?;
@@ -109,9 +111,9 @@ impl RlpStream {
     pub fn append_list<E: Encodable>(&mut self, values: &[E]) -> Result<Chain<'_>, AllocError>
         ensures* refused { sem 𝓛 (stays_if_refused self.entry result) }
         ensures fits { OnOk result (All E.fits values.now) }
-        ensures ok { LeavesState result
-            (effect (append (list_of (map E.item values.now))) self.old.state) }
-        ensures moved { KeepsCount self.old result }
+        ensures ok { IfOk result (λ c. c.stream.now.state
+            ≡ effect (append (list_of (map E.item values.now))) self.old.state) }
+        ensures moved { IfOk result (λ c. MovedGrows self.old c.stream.now) }
         ensures same_stream { HoldsStream self.entry result }
     {
         self.try_append(&Listed(values))?;
@@ -123,9 +125,11 @@ impl RlpStream {
     pub fn append_internal<E: Encodable>(&mut self, value: &E) -> Result<Chain<'_>, AllocError>
         ensures* refused { sem 𝓛 (stays_if_refused self.entry result) }
         ensures fits { OnOk result (E.fits value.now) }
-        ensures ok { LeavesState result
-            (effect (append_internal (E.item value.now)) self.old.state) }
-        ensures moved { KeepsCount self.old result }
+        ensures ok { IfOk result
+            (λ c. c.stream.now.state ≡ effect (append_internal (E.item value.now)) self.old.state) }
+        ensures room { E.needs_only_room value.now → IsFinished self.old.state
+            → length (encoding (E.item value.now)) ≤ self.old.spare → IsOk result }
+        ensures moved { IfOk result (λ c. MovedGrows self.old c.stream.now) }
         ensures same_stream { HoldsStream self.entry result }
     {
         self.try_append_internal(value)?;
@@ -135,9 +139,10 @@ impl RlpStream {
     /// Puts the encoding of the empty string, and counts one item.
     pub fn append_empty_data(&mut self) -> Result<Chain<'_>, AllocError>
         ensures* refused { sem 𝓛 (rests_if_refused self.entry result) }
-        ensures ok { LeavesState result (effect append_empty_data self.old.state) }
+        ensures ok { IfOk result
+            (λ c. c.stream.now.state ≡ effect append_empty_data self.old.state) }
         ensures room { IsFinished self.old.state → 1 ≤ self.old.spare → IsOk result }
-        ensures moved { MovesInChain self.old result }
+        ensures moved { IfOk result (λ c. MovesWithin self.old c.stream.now) }
         ensures same_stream { HoldsStream self.entry result }
     {
         self.put_counted(&NULL_RLP, 1)?;
@@ -151,10 +156,11 @@ impl RlpStream {
     pub fn append_raw(&mut self, bytes: &[u8], item_count: usize) -> Result<Chain<'_>, AllocError>
         requires { IsTrue (is_admitted (append_raw bytes.now item_count) self.old.state) }
         ensures* refused { sem 𝓛 (rests_if_refused self.entry result) }
-        ensures ok { LeavesState result (effect (append_raw bytes.now item_count) self.old.state) }
+        ensures ok { IfOk result
+            (λ c. c.stream.now.state ≡ effect (append_raw bytes.now item_count) self.old.state) }
         ensures room { IsFinished self.old.state
             → length bytes.now ≤ self.old.spare → IsOk result }
-        ensures moved { MovesInChain self.old result }
+        ensures moved { IfOk result (λ c. MovesWithin self.old c.stream.now) }
         ensures same_stream { HoldsStream self.entry result }
     {
         self.put_counted(bytes, item_count)?;
@@ -198,8 +204,9 @@ impl RlpStream {
     /// written at once.
     pub fn begin_list(&mut self, len: usize) -> Result<Chain<'_>, AllocError>
         ensures* refused { sem 𝓛 (rests_if_refused self.entry result) }
-        ensures ok { LeavesState result (effect (begin_list len) self.old.state) }
-        ensures moved { MovesInChain self.old result }
+        ensures ok { IfOk result
+            (λ c. c.stream.now.state ≡ effect (begin_list len) self.old.state) }
+        ensures moved { IfOk result (λ c. MovesWithin self.old c.stream.now) }
         ensures same_stream { HoldsStream self.entry result }
     {
         self.try_begin(len)?;
@@ -209,8 +216,9 @@ impl RlpStream {
     /// Begins an unbounded list, which [`RlpStream::finalize_unbounded_list`] closes.
     pub fn begin_unbounded_list(&mut self) -> Result<Chain<'_>, AllocError>
         ensures* refused { sem 𝓛 (rests_if_refused self.entry result) }
-        ensures ok { LeavesState result (effect begin_unbounded_list self.old.state) }
-        ensures moved { MovesInChain self.old result }
+        ensures ok { IfOk result
+            (λ c. c.stream.now.state ≡ effect begin_unbounded_list self.old.state) }
+        ensures moved { IfOk result (λ c. MovesWithin self.old c.stream.now) }
         ensures same_stream { HoldsStream self.entry result }
     {
         self.open(None)?;

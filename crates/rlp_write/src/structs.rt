@@ -2,7 +2,7 @@
 
 ghost use Rattle.std.specs.Prelude.{◌≡◌, ◌++◌, ◌∷◌, [], ◌^◌, ◌≤◌, List, OnOk, OnErr, length, MatchOption, ⊤};
 ghost use Rattle.rlp_format.specs.Format.Item.{Item, list_of};
-ghost use Rattle.rlp_write.specs.Streams.Stream.{add_all, put_item};
+ghost use Rattle.rlp_write.specs.Streams.Stream.{MovedGrows, add_all, put_item};
 ghost use Rattle.rlp_write.specs.Streams.Growth.{GrowsTo};
 ghost use Rattle.rlp_write.specs.Streams.Fields.{AppendsSome};
 
@@ -40,7 +40,7 @@ pub trait AppendFields {
         ensures fits { OnOk result (fit self.now) }
         ensures ok { OnOk result (s.new.state ≡ add_all (items self.now) s.old.state) }
         ensures refused { OnErr result (AppendsSome (items self.now) s.old.state s.new.state) }
-        ensures moved { s.old.moved ≤ s.new.moved };
+        ensures moved { MovedGrows s.old s.new };
 }
 
 impl<T: Encodable> AppendFields for &T {
@@ -100,7 +100,7 @@ pub fn write_struct<F: AppendFields>(s: &mut RlpStream, fields: &F) -> Result<()
     ensures fits { OnOk result (F.fit fields.now) }
     ensures ok { OnOk result (s.new.state ≡ put_item (list_of (F.items fields.now)) s.old.state) }
     ensures refused { OnErr result (GrowsTo s.old.state s.new.state) }
-    ensures moved { s.old.moved ≤ s.new.moved }
+    ensures moved { MovedGrows s.old s.new }
 {
     let count = match fields.field_count() {
         Some(count) => count,

@@ -6,9 +6,9 @@ use Rattle.std.proofs.lemmas.List.Concat.{flat_map-append}
 use Rattle.rlp_format.specs.Format.WrittenHeader.{big_endian, written_header}
 use Rattle.rlp_format.specs.Format.Item.{Item, string, list_of}
 use Rattle.rlp_format.specs.Format.Encoding.{encoding, join, IsSized}
-use Rattle.rlp_write.specs.Streams.Stack.{OpenList, Stack, empty_stack, stack_put, stack_shut, shut_around, stack_count, count_around, is_last}
+use Rattle.rlp_write.specs.Streams.Stream.{OpenList, Stack, empty_stack, stack_put, stack_shut, shut_around, stack_count, count_around, is_last}
 use Rattle.rlp_write.specs.Streams.Stream.{State, initial_state, list_encoding, put, count}
-use Rattle.rlp_write.specs.Streams.Calls.{Call, effect, is_within_size, is_admitted, after, after_from}
+use Rattle.rlp_write.specs.Streams.Stream.{Call, effect, is_within_size, is_admitted, after, after_from}
 use Rattle.rlp.specs.Streams.Described.{Step, one_list, items_after, items_after_all, Describes, by_append, by_empty_data, by_raw, by_checked_raw}
 use Rattle.rlp.specs.Streams.Described.{by_refused_raw, by_empty_list, by_list, by_unbounded_list, by_finalize, by_internal_list, by_clear}
 use Rattle.rlp.specs.Streams.Described.{AreDescribed, IsDescribed, DescribesWhere, AreDescribedWhere, IsDescribedWhere, joined_stack, joined_list}

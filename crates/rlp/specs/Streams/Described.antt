@@ -2,10 +2,10 @@
 use Rattle.std.specs.Prelude.{ℕ, suc, ◌≡◌, List, [], ◌∷◌, ◌++◌, Ok, length, map, All, Option, None, Some, IsTrue, not}
 use Rattle.rlp_format.specs.Format.Item.{Item, string, list_of}
 use Rattle.rlp_format.specs.Format.Encoding.{join, IsSized}
-use Rattle.rlp_write.specs.Streams.Stack.{OpenList, Stack, empty_stack, stack_put, stack_with_list, stack_shut, stack_count}
+use Rattle.rlp_write.specs.Streams.Stream.{OpenList, Stack, empty_stack, stack_put, stack_with_list, stack_shut, stack_count}
 use Rattle.rlp_write.specs.Streams.Stream.{State, initial_state, IsFinished}
-use Rattle.rlp_write.specs.Streams.Calls.{Call, append, append_empty_data, append_raw, append_raw_checked, begin_list, begin_unbounded_list}
-use Rattle.rlp_write.specs.Streams.Calls.{finalize_unbounded_list, append_internal, clear, effect, is_admitted, is_within_size, after}
+use Rattle.rlp_write.specs.Streams.Stream.{Call, append, append_empty_data, append_raw, append_raw_checked, begin_list, begin_unbounded_list}
+use Rattle.rlp_write.specs.Streams.Stream.{finalize_unbounded_list, append_internal, clear, effect, is_admitted, is_within_size, after}
 
 -- What a call does to the items: it adds some, opens a list, closes a list, drops all, or does nothing.
 pub data Step : Type 0 where

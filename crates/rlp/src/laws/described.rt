@@ -3,9 +3,7 @@
 ghost use Rattle.std.specs.Prelude.{◌≡◌, ℕ, Bool, List, [], All, IsTrue, Ok, ◌++◌, ◌↔◌};
 ghost use Rattle.rlp_format.specs.Format.Item.{Item};
 ghost use Rattle.rlp_format.specs.Format.Encoding.{join, IsSized};
-ghost use Rattle.rlp_write.specs.Streams.Stack.{empty_stack};
-ghost use Rattle.rlp_write.specs.Streams.Stream.{State, initial_state};
-ghost use Rattle.rlp_write.specs.Streams.Calls.{Call, after};
+ghost use Rattle.rlp_write.specs.Streams.Stream.{empty_stack, State, initial_state, Call, after};
 ghost use Rattle.rlp.specs.Streams.Described.{Step, AreDescribed, AreDescribedWhere, IsDescribed, IsDescribedWhere, items_after_all, joined_stack, FinishAs};
 
 /// Calls that describe items are admitted, and leave payloads that are each the join of their

@@ -6,8 +6,7 @@ use Rattle.std.proofs.lemmas.List.{take-take, take-append-le, drop_at, drop-drop
 use Rattle.std.proofs.lemmas.List.{take-append-drop, reverse-append, length-reverse, get_or-reverse, set-append_left}
 use Rattle.rlp_write.specs.declared.open_lists.Placeholder.{Placeholder}
 use Rattle.rlp_format.specs.Format.WrittenHeader.{big_endian, written_header}
-use Rattle.rlp_write.specs.Streams.Stack.{is_last, awaits_after}
-use Rattle.rlp_write.specs.Streams.Stream.{list_encoding}
+use Rattle.rlp_write.specs.Streams.Stream.{is_last, awaits_after, list_encoding}
 use Rattle.rlp_write.specs.Streams.Placeholders.{Descends, closes, with_innermost, with_awaits, unbounded_innermost}
 use Rattle.rlp_write.specs.Streams.Closing.{filled, counted, closed_bytes, header_len, growth}
 use Rattle.rlp_format.specs.Lemmas.Headers.{written_header_short, written_header_long}

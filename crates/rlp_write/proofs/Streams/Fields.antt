@@ -4,8 +4,7 @@ use Rattle.std.proofs.Common.{ap, ◌∙◌, subst, arith, append-nil, append_as
 use Rattle.std.proofs.lemmas.List.{length-map}
 use Rattle.std.specs.Prelude.{MatchOption, SomeIff}
 use Rattle.rlp_format.specs.Format.Item.{Item, list_of}
-use Rattle.rlp_write.specs.Streams.Stream.{State, add, add_all, put_item}
-use Rattle.rlp_write.specs.Streams.Calls.{with_list_of}
+use Rattle.rlp_write.specs.Streams.Stream.{State, add, add_all, put_item, with_list_of}
 use Rattle.rlp_write.specs.Streams.Growth.{GrowsTo}
 use Rattle.rlp_write.specs.Streams.Fields.{AppendsSome}
 use Rattle.rlp_format.specs.Values.Value.{all_items}

@@ -6,9 +6,7 @@ use Rattle.std.proofs.lemmas.List.Elements.{All-more}
 use Rattle.rlp_format.specs.Format.WrittenHeader.{written_header}
 use Rattle.rlp_format.specs.Format.Item.{Item, list, Items, no_items, item_and, list_of, is_list}
 use Rattle.rlp_format.specs.Format.Encoding.{encoding, join_items}
-use Rattle.rlp_write.specs.Streams.Stack.{OpenList}
-use Rattle.rlp_write.specs.Streams.Stream.{State, add, put_item, with_list, add_all}
-use Rattle.rlp_write.specs.Streams.Calls.{with_list_of}
+use Rattle.rlp_write.specs.Streams.Stream.{OpenList, State, add, put_item, with_list, add_all, with_list_of}
 use Rattle.rlp_write.specs.Streams.Growth.{GrowsTo}
 use Rattle.rlp_write.proofs.Streams.Listed.{list_filled, add_more, or_true}
 use Rattle.rlp_write.proofs.Streams.Growth.{grows_same, grows_put, grows_with_list, grows_in_list, grows_trans}

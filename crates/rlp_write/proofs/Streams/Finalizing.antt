@@ -1,9 +1,8 @@
 -- Unbounded lists that are finalized at once: they are closed like lists that each await their last item.
 use Rattle.std.proofs.Common.{◌≡◌, ◌<◌, ◌≤◌, ℕ, zero, suc, Bool, true, cond, is_none, List, [], ◌∷◌, ◌++◌, Option, None, Some, refl, sym, ap, ◌∙◌, append-nil, arith, length}
 use Rattle.std.proofs.lemmas.Bool.{cond_both}
-use Rattle.rlp_write.specs.Streams.Stack.{OpenList, Stack, count_around, each_awaits, unbounded_count}
+use Rattle.rlp_write.specs.Streams.Stream.{OpenList, Stack, count_around, each_awaits, unbounded_count, finalized}
 use Rattle.rlp_write.specs.Streams.Stream.{State, list_encoding, put, count, with_awaiting, with_is_counted}
-use Rattle.rlp_write.specs.Streams.Calls.{finalized}
 
 abbrev state_with : List ℕ → Stack ℕ → Bool → State
 state_with f s m = record { front = f; stack = s; is_counted = m }

@@ -3,7 +3,7 @@ use Rattle.std.proofs.Common.{◌≡◌, ℕ, zero, suc, ◌+◌, ◌≤◌, Boo
 use Rattle.std.proofs.Common.{drop, is_none, refl, sym, ◌∙◌, ap, arith, append_assoc, append-nil, length-append, length-drop, subst}
 use Rattle.std.proofs.lemmas.List.{take-take, take-append-le, drop-append-le, take_at, drop_all, length-take-le, length_push, take-append-drop}
 use Rattle.rlp_write.specs.declared.open_lists.Placeholder.{Placeholder}
-use Rattle.rlp_write.specs.Streams.Stack.{OpenList, AwaitsSome, each_awaits, is_last, awaits_after, count_around, is_counted_after, unbounded_count, closed_payload_around}
+use Rattle.rlp_write.specs.Streams.Stream.{OpenList, AwaitsSome, each_awaits, is_last, awaits_after, count_around, is_counted_after, unbounded_count, closed_payload_around}
 use Rattle.rlp_format.specs.Format.WrittenHeader.{written_header}
 use Rattle.rlp_write.specs.Streams.Stream.{State, IsFinished, list_encoding, put, with_list, with_awaiting, count, raw_text, closed_size}
 use Rattle.rlp_write.specs.Streams.Placeholders.{begin_of, lists_of, Placed, IsLaid, Descends, closes, with_awaits, with_innermost, unbounded_innermost}

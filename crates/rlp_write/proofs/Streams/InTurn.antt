@@ -2,9 +2,8 @@
 use Rattle.std.proofs.Common.{◌≡◌, ℕ, zero, suc, ◌+◌, ◌<◌, ◌≤◌, Bool, cond, IsTrue, List, [], ◌∷◌, ◌++◌, Option, None, Some, Ok}
 use Rattle.std.proofs.Common.{is_none, replicate, refl, ◌∙◌, arith}
 use Rattle.std.proofs.lemmas.Bool.{cond-true}
-use Rattle.rlp_write.specs.Streams.Stack.{OpenList, Stack, is_unbounded, unbounded_count}
-use Rattle.rlp_write.specs.Streams.Stream.{State, list_encoding}
-use Rattle.rlp_write.specs.Streams.Calls.{after_from, effect, finalize_unbounded_list, finalized, is_admitted}
+use Rattle.rlp_write.specs.Streams.Stream.{OpenList, Stack, is_unbounded, unbounded_count, State, list_encoding}
+use Rattle.rlp_write.specs.Streams.Stream.{after_from, effect, finalize_unbounded_list, finalized, is_admitted}
 use Rattle.rlp_write.proofs.Streams.Finalizing.{count_unbounded, unbounded_around}
 
 unbounded : (l : OpenList ℕ) (ls : List (OpenList ℕ)) → 0 < unbounded_count (l ∷ ls) → IsTrue (is_unbounded (l ∷ ls))

@@ -4,8 +4,7 @@ use Rattle.std.proofs.lemmas.List.{map_more}
 use Rattle.rlp_format.specs.Format.Item.{Item, string, list, list_of}
 use Rattle.rlp_format.specs.Format.Encoding.{encoding, join}
 use Rattle.rlp_format.specs.Lemmas.Encodings.{encoding_list}
-use Rattle.rlp_write.specs.Streams.Stack.{OpenList, Stack, count_around}
-use Rattle.rlp_write.specs.Streams.Stream.{State, IsFinished, list_encoding, put_item}
+use Rattle.rlp_write.specs.Streams.Stream.{OpenList, Stack, count_around, State, IsFinished, list_encoding, put_item}
 
 -- an item that was put with no list open
 pub record IsPutAlone (x : Item) (s t : State) : Type 0 where

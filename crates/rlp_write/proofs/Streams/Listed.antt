@@ -4,8 +4,7 @@ use Rattle.std.proofs.Common.{append_assoc, append-nil}
 use Rattle.std.proofs.lemmas.Bool.Decides.{nat_tests}
 use Rattle.rlp_format.specs.Format.Item.{Item, list_of, is_list}
 use Rattle.rlp_format.specs.Format.Encoding.{encoding, join}
-use Rattle.rlp_write.specs.Streams.Stack.{OpenList, count_around}
-use Rattle.rlp_write.specs.Streams.Stream.{State, list_encoding, add, put_item, with_list, add_all}
+use Rattle.rlp_write.specs.Streams.Stream.{OpenList, count_around, State, list_encoding, add, put_item, with_list, add_all}
 use Rattle.rlp_format.specs.Lemmas.Encodings.{encoding_list}
 
 -- `b || true` is true

@@ -3,8 +3,7 @@ use Rattle.std.proofs.Common.{◌≡◌, ℕ, true, IsTrue, List, [], ◌∷◌,
 use Rattle.rlp_format.specs.Format.WrittenHeader.{big_endian, written_header}
 use Rattle.rlp_format.specs.Format.Item.{Item, string, list, list_of, is_list}
 use Rattle.rlp_format.specs.Format.Encoding.{encoding, join_items}
-use Rattle.rlp_write.specs.Streams.Stream.{State, put, put_item, count, with_is_counted}
-use Rattle.rlp_write.specs.Streams.Calls.{with_list_of}
+use Rattle.rlp_write.specs.Streams.Stream.{State, put, put_item, count, with_is_counted, with_list_of}
 
 -- the encoding of the list of no items
 pub empty_list : encoding (list_of []) ≡ 0xc0 ∷ []

@@ -4,8 +4,7 @@ use Rattle.std.proofs.Common.{◌≡◌, ◌+◌, ◌-◌, ◌≤◌, ℕ, suc, 
 use Rattle.std.proofs.lemmas.List.{length-take-le, take-take, take_at, drop_at}
 use Rattle.rlp_write.specs.declared.open_lists.Placeholder.{Placeholder}
 use Rattle.rlp_write.specs.declared.flat.Place.{Place}
-use Rattle.rlp_write.specs.Streams.Stack.{OpenList, AwaitsSome, awaited}
-use Rattle.rlp_write.specs.Streams.Stream.{State, with_list, raw_text}
+use Rattle.rlp_write.specs.Streams.Stream.{OpenList, AwaitsSome, awaited, State, with_list, raw_text}
 use Rattle.rlp_write.specs.Streams.Growth.{AreSameAround, Stands, GrowsTo}
 use Rattle.rlp_write.specs.Streams.Growth.Stands.{here, within}
 use Rattle.rlp_write.specs.Streams.Places.{place_of}

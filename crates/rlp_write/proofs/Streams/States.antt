@@ -7,8 +7,8 @@ use Rattle.std.proofs.lemmas.List.Concat.{flat_map-append}
 use Rattle.rlp_format.specs.Format.Item.{Item, string, list, is_list}
 use Rattle.rlp_format.specs.Format.WrittenHeader.{written_header}
 use Rattle.rlp_format.specs.Format.Encoding.{encoding}
-use Rattle.rlp_write.specs.Streams.Stack.{OpenList, Level, Stack, top_around, levels_around, closed_payload_around, count_around, is_last}
-use Rattle.rlp_write.specs.Streams.Calls.{effect, finalize_unbounded_list, finalized, is_within_size}
+use Rattle.rlp_write.specs.Streams.Stream.{OpenList, Level, Stack, top_around, levels_around, closed_payload_around, count_around, is_last}
+use Rattle.rlp_write.specs.Streams.Stream.{effect, finalize_unbounded_list, finalized, is_within_size}
 use Rattle.rlp_write.specs.Streams.Stream.{State, IsFinished, list_encoding, put, shut, count, with_list, add, put_item, raw_text}
 use Rattle.rlp_write.specs.Streams.Stream.{closed_text, closed_size, closed_size_with}
 

@@ -76,6 +76,15 @@ rest_from b slice start same =
 pub header_none : (b : List ℕ) (start : ℕ) → is_low_byte (drop start b) ≡ true → b ≡ take start b ++ encoding (string (drop start b))
 header_none b start low = sym (ap (λ z. take start b ++ z) (encoding_low (drop start b) low) ∙ take-append-drop start b)
 
+-- the length of an encoding with a header
+pub encoding_length : (s header : List ℕ) (room : ℕ) → is_low_byte s ≡ false → header ≡ written_header 0x80 (length s)
+    → room < length header + length s → room < length (encoding (string s))
+encoding_length s header room other is less =
+    let len = length-append (written_header 0x80 (length s)) s in
+    let whole : length (encoding (string s)) ≡ length (written_header 0x80 (length s) ++ s) = ap length (encoding_other s other) in
+    let heads : length header ≡ length (written_header 0x80 (length s)) = ap length is in
+    omega arith
+
 -- a list's header is written over the bytes in front of its payload
 pub header_placed : (b view new header : List ℕ) (payload : ℕ) → b ≡ view
     → new ≡ take (payload - length header) b ++ (header ++ drop ((payload - length header) + length header) b)

@@ -2,8 +2,7 @@
 use Rattle.std.specs.Prelude.{ℕ, zero, suc, ◌+◌, ◌-◌, if◌then◌else◌, List, [], ◌∷◌, ◌++◌, length, take, drop}
 use Rattle.rlp_write.specs.declared.open_lists.Placeholder.{Placeholder}
 use Rattle.rlp_format.specs.Format.WrittenHeader.{written_header}
-use Rattle.rlp_write.specs.Streams.Stack.{is_last, awaits_after}
-use Rattle.rlp_write.specs.Streams.Stream.{list_encoding}
+use Rattle.rlp_write.specs.Streams.Stream.{is_last, awaits_after, list_encoding}
 
 -- the number of lists that the count of k items closes
 abbrev pub filled : ℕ → List Placeholder → ℕ

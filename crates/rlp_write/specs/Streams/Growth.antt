@@ -1,7 +1,6 @@
 -- What a refused call may leave of a stream: the old bytes and the old open lists, and perhaps more.
 use Rattle.std.specs.Prelude.{ℕ, ◌≡◌, List, [], ◌∷◌, ◌++◌}
-use Rattle.rlp_write.specs.Streams.Stack.{OpenList}
-use Rattle.rlp_write.specs.Streams.Stream.{State}
+use Rattle.rlp_write.specs.Streams.Stream.{OpenList, State}
 
 -- the same open lists, except for the number of items that the innermost awaits
 abbrev pub AreSameAround : List (OpenList ℕ) → List (OpenList ℕ) → Type 0

@@ -1,8 +1,7 @@
 -- The state that a stream's bytes and the places of its open lists stand for. The placeholders go from the inside out.
 use Rattle.std.specs.Prelude.{ℕ, Bool, List, take, drop}
 use Rattle.rlp_write.specs.declared.open_lists.Placeholder.{Placeholder}
-use Rattle.rlp_write.specs.Streams.Stack.{Stack}
-use Rattle.rlp_write.specs.Streams.Stream.{State}
+use Rattle.rlp_write.specs.Streams.Stream.{Stack, State}
 use Rattle.rlp_write.specs.Streams.Placeholders.{begin_of, lists_of}
 
 -- the stack that the bytes behind the front stand for, from the inside out

@@ -1,9 +1,151 @@
--- The state of a stream of encodings, and its moves.
-use Rattle.std.specs.Prelude.{ℕ, ◌≡◌, ◌+◌, ◌≤◌, Bool, true, false, ◌||◌, if◌then◌else◌, List, [], ◌∷◌, ◌++◌, Option, length, flat_map, replicate}
+-- A stream: its open lists, its state, its calls, and the effect of each call on the state.
+use Rattle.std.specs.Prelude.{ℕ, zero, suc, ◌-◌, ◌<◌, Bool, true, false, if◌then◌else◌, nat_le, List, [], ◌∷◌, ◌++◌}
+use Rattle.std.specs.Prelude.{Option, Some, None, is_none, All, ◌≡◌, ◌+◌, ◌≤◌, ◌||◌, length, flat_map, replicate, Result, Ok, Err}
 use Rattle.rlp_format.specs.Format.WrittenHeader.{written_header}
-use Rattle.rlp_format.specs.Format.Item.{Item, is_list}
+use Rattle.rlp_format.specs.Format.Item.{Item, is_list, string, list_of}
 use Rattle.rlp_format.specs.Format.Encoding.{encoding}
-use Rattle.rlp_write.specs.Streams.Stack.{Stack, empty_stack, top, levels, stack_put, stack_with_list, stack_shut, stack_count, closed_payload, each_awaits, is_counted_after}
+
+-- ==== Open lists, one inside the other, and the payload of each. In a stream payloads are bytes. Over items the same moves say what the bytes mean.
+
+-- An open list, seen from inside: the number of items that it still awaits, which is 1 or more, or `None` if it is unbounded; and the payload before it in the
+-- list around it.
+pub record OpenList (A : Type 0) : Type 0 where
+  pub awaits : Option ℕ
+  pub outer : List A
+
+-- The payload of the innermost open list, or of the top if no list is open; and the open lists, the innermost first.
+pub record Stack (A : Type 0) : Type 0 where
+  pub inner : List A
+  pub lists : List (OpenList A)
+
+-- an empty top, and no open list
+abbrev pub empty_stack : {A : Type 0} → Stack A
+empty_stack = record { inner = []; lists = [] }
+
+-- a bounded list is open only while it awaits an item
+abbrev pub AwaitsSome : Option ℕ → Type 0
+AwaitsSome None = Unit
+AwaitsSome (Some n) = 0 < n
+
+-- what holds for each open list of a stream
+abbrev pub AllAwait : {A : Type 0} → List (OpenList A) → Type 0
+AllAwait lists = All (λ l. AwaitsSome l.awaits) lists
+
+-- ---- the same stack, seen from the outside
+
+-- An open list with its payload.
+pub record Level (A : Type 0) : Type 0 where
+  pub payload : List A
+  pub awaits : Option ℕ
+
+-- the top's payload, if `payload` is inside the lists
+abbrev pub top_around : {A : Type 0} → List A → List (OpenList A) → List A
+top_around payload [] = payload
+top_around payload (l ∷ ls) = top_around l.outer ls
+
+-- the lists from the outside in, if `payload` is in the innermost
+abbrev pub levels_around : {A : Type 0} → List A → List (OpenList A) → List (Level A)
+levels_around payload [] = []
+levels_around payload (l ∷ ls) = levels_around l.outer ls ++ record { payload = payload; awaits = l.awaits } ∷ []
+
+-- the payload outside every open list
+abbrev pub top : {A : Type 0} → Stack A → List A
+top s = top_around s.inner s.lists
+
+-- the open lists from the outside in
+abbrev pub levels : {A : Type 0} → Stack A → List (Level A)
+levels s = levels_around s.inner s.lists
+
+-- ---- moves. `wrap` turns the payload of a closed list into its encoding in the payload around it.
+
+-- x is put at the end of the innermost payload
+abbrev pub stack_put : {A : Type 0} → List A → Stack A → Stack A
+stack_put x s = record s { inner = s.inner ++ x }
+
+-- a new list is open, and awaits the given number of items
+abbrev pub stack_with_list : {A : Type 0} → Option ℕ → Stack A → Stack A
+stack_with_list awaits s = record { inner = []; lists = record { awaits = awaits; outer = s.inner } ∷ s.lists }
+
+-- the innermost of the lists, which has this `payload`, is closed, and put at the end of the payload around it
+abbrev pub shut_around : {A : Type 0} → (List A → List A) → List A → List (OpenList A) → Stack A
+shut_around wrap payload [] = record { inner = payload; lists = [] }
+shut_around wrap payload (l ∷ ls) = record { inner = l.outer ++ wrap payload; lists = ls }
+
+-- the innermost open list is closed, and put at the end of the payload around it
+abbrev pub stack_shut : {A : Type 0} → (List A → List A) → Stack A → Stack A
+stack_shut wrap s = shut_around wrap s.inner s.lists
+
+-- whether the count of k items closes a list that awaits this number
+abbrev pub is_last : ℕ → Option ℕ → Bool
+is_last k None = false
+is_last k (Some n) = nat_le n k
+
+-- the number of items that a list awaits after k items
+abbrev pub awaits_after : ℕ → Option ℕ → Option ℕ
+awaits_after k None = None
+awaits_after k (Some n) = Some (n - k)
+
+-- K items were counted in the innermost of the lists, which has this `payload`: it awaits k fewer. The last item that it awaits shuts it, and one item is
+-- counted in the list around it.
+abbrev pub count_around : {A : Type 0} → (List A → List A) → ℕ → List A → List (OpenList A) → Stack A
+count_around wrap k payload [] = record { inner = payload; lists = [] }
+count_around wrap k payload (l ∷ ls) =
+    if is_last k l.awaits then count_around wrap 1 (l.outer ++ wrap payload) ls
+    else record { inner = payload; lists = record l { awaits = awaits_after k l.awaits } ∷ ls }
+
+-- k items were counted in the innermost list, if one is open
+abbrev pub stack_count : {A : Type 0} → (List A → List A) → ℕ → Stack A → Stack A
+stack_count wrap k s = count_around wrap k s.inner s.lists
+
+-- `is_counted` of a state after k items were counted: whether that closed a list, which is itself an item and counted by now; with no list open it stays
+abbrev pub is_counted_after : {A : Type 0} → ℕ → List (OpenList A) → Bool → Bool
+is_counted_after k [] is_counted = is_counted
+is_counted_after k (l ∷ ls) is_counted = is_last k l.awaits
+
+-- the top's payload after every list was shut, if `payload` is inside them
+abbrev pub closed_payload_around : {A : Type 0} → (List A → List A) → List A → List (OpenList A) → List A
+closed_payload_around wrap payload [] = payload
+closed_payload_around wrap payload (l ∷ ls) = closed_payload_around wrap (l.outer ++ wrap payload) ls
+
+-- the top's payload after every list was shut, even if it still awaits items
+abbrev pub closed_payload : {A : Type 0} → (List A → List A) → Stack A → List A
+closed_payload wrap s = closed_payload_around wrap s.inner s.lists
+
+-- whether k items may be counted: the innermost list is unbounded or awaits at least k, or no list is open
+abbrev pub has_room : {A : Type 0} → ℕ → List (OpenList A) → Bool
+has_room k [] = true
+has_room k (l ∷ ls) = room_in l.awaits
+  where
+    room_in : Option ℕ → Bool
+    room_in None = true
+    room_in (Some n) = nat_le k n
+
+-- whether a list is open and the innermost is unbounded
+abbrev pub is_unbounded : {A : Type 0} → List (OpenList A) → Bool
+is_unbounded [] = false
+is_unbounded (l ∷ ls) = none_in l.awaits
+  where
+    none_in : Option ℕ → Bool
+    none_in None = true
+    none_in (Some n) = false
+
+-- the number of innermost open lists that are unbounded: those inside the innermost bounded list, or all if none is bounded
+abbrev pub unbounded_count : {A : Type 0} → List (OpenList A) → ℕ
+unbounded_count [] = 0
+unbounded_count (l ∷ ls) = if is_none l.awaits then suc (unbounded_count ls) else 0
+
+-- the number of items that the innermost open list awaits, if a list is open and it is bounded
+abbrev pub awaited : {A : Type 0} → List (OpenList A) → Option ℕ
+awaited [] = None
+awaited (l ∷ ls) = l.awaits
+
+-- the open lists, of which each of the n innermost awaits this number of items
+abbrev pub each_awaits : {A : Type 0} → ℕ → Option ℕ → List (OpenList A) → List (OpenList A)
+each_awaits zero awaits ls = ls
+each_awaits (suc n) awaits [] = []
+each_awaits (suc n) awaits (l ∷ ls) = record l { awaits = awaits } ∷ each_awaits n awaits ls
+
+-- ==== The state of a stream, and its moves.
 
 -- The front, which is the bytes handed in; the payloads and the open lists; and `is_counted`, which tells `append` whether the value that it let be written is
 -- counted already. A list counts itself once it is whole, so what writes or closes a list makes `is_counted` true. `append` makes it false before the value is
@@ -98,6 +240,70 @@ closed_size_with more s = closed_size (put (replicate more 0) s)
 
 -- ---- bytes moved
 
--- closings moved at most the final closed size in payload bytes
+-- the count of moved bytes doesn't fall
+abbrev pub MovedGrows : Seen → Seen → Type 0
+MovedGrows old new = old.moved ≤ new.moved
+
+-- the count of moved bytes doesn't fall, and grows by the final closed size at most
 abbrev pub MovesWithin : Seen → Seen → Type 0
-MovesWithin old new = (old.moved ≤ new.moved) × (new.moved ≤ old.moved + closed_size new.state)
+MovesWithin old new = MovedGrows old new × (new.moved ≤ old.moved + closed_size new.state)
+
+-- ==== The calls of a stream, the effect of each on its state, and which of them are admitted.
+
+-- A call, with its items and bytes. `append` is also the call that appends a list of values, as the list of their items, and the call that appends the bytes of
+-- an iterator, as their string.
+pub data Call : Type 0 where
+  append : Item → Call
+  append_empty_data : Call
+  append_raw : List ℕ → ℕ → Call
+  append_raw_checked : List ℕ → ℕ → ℕ → Call
+  begin_list : ℕ → Call
+  begin_unbounded_list : Call
+  finalize_unbounded_list : Call
+  append_internal : Item → Call
+  encode_value : List ℕ → Call
+  clear : Call
+
+-- whether the closed size with these bytes put is at most the limit
+abbrev pub is_within_size : List ℕ → ℕ → State → Bool
+is_within_size bytes limit s = nat_le (closed_size (put bytes s)) limit
+
+-- a list of no items is appended as an item; any other list is opened
+abbrev pub with_list_of : ℕ → State → State
+with_list_of zero s = add (list_of []) s
+with_list_of (suc n) s = with_list (Some (suc n)) s
+
+-- The state after a call that is admitted.
+abbrev pub effect : Call → State → State
+effect (append x) s = add x s
+effect append_empty_data s = count 1 (put (0x80 ∷ []) s)
+effect (append_raw bytes k) s = count k (put bytes s)
+effect (append_raw_checked bytes k limit) s = if is_within_size bytes limit s then count k (put bytes s) else s
+effect (begin_list n) s = with_list_of n s
+effect begin_unbounded_list s = with_list None s
+effect finalize_unbounded_list s = with_is_counted true (count 1 (shut s))
+effect (append_internal x) s = put_item x s
+effect (encode_value t) s = put (encoding (string t)) s
+effect clear s = record s { stack = empty_stack }
+
+-- the state after n lists were finalized, one after another
+abbrev pub finalized : ℕ → State → State
+finalized zero s = s
+finalized (suc n) s = finalized n (effect finalize_unbounded_list s)
+
+-- Whether a call may be made. Raw bytes may count at most the number of items that the innermost list awaits. Only an unbounded list is finalized. All other
+-- calls may always be made.
+abbrev pub is_admitted : Call → State → Bool
+is_admitted (append_raw bytes k) s = has_room k s.stack.lists
+is_admitted (append_raw_checked bytes k limit) s = has_room k s.stack.lists
+is_admitted finalize_unbounded_list s = is_unbounded s.stack.lists
+is_admitted _ s = true
+
+-- the state after all calls from the state s on, or the place of the first that isn't admitted; n is the place of the next call
+abbrev pub after_from : ℕ → State → List Call → Result State ℕ
+after_from n s [] = Ok s
+after_from n s (c ∷ cs) = if is_admitted c s then after_from (n + 1) (effect c s) cs else Err n
+
+-- the state of a stream over the front after all calls, or the place, counted from 1, of the first call that isn't admitted
+abbrev pub after : List ℕ → List Call → Result State ℕ
+after front calls = after_from 1 (initial_state front) calls

@@ -29,6 +29,7 @@ pub fn write_string(buffer: &mut Buffer, value: &[u8]) -> Result<(), AllocError>
     ensures ok { OnOk result
         (buffer.new.items ≡ buffer.old.items ++ encoding (string value.now)) }
     ensures refused { OnErr result (buffer.new.items ≡ buffer.old.items) }
+    ensures room { OnErr result (buffer.old.spare < length (encoding (string value.now))) }
     ensures moved { buffer.new.moved ≡ buffer.old.moved }
 {
     if is_low_byte(value) {
@@ -52,6 +53,7 @@ fn write_short(buffer: &mut Buffer, value: &[u8]) -> Result<(), AllocError>
     ensures ok { OnOk result
         (buffer.new.items ≡ buffer.old.items ++ encoding (string value.now)) }
     ensures refused { OnErr result (buffer.new.items ≡ buffer.old.items) }
+    ensures room { OnErr result (buffer.old.spare < length (encoding (string value.now))) }
     ensures moved { buffer.new.moved ≡ buffer.old.moved }
 {
     buffer.reserve(1 + value.len())?;

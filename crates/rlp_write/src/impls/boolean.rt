@@ -13,6 +13,8 @@ impl Encodable for bool {
 
     ghost fits = { λ b. ⊤ };
 
+    ghost needs_only_room = { λ _. ⊤ };
+
     fn rlp_append(&self, s: &mut RlpStream) -> Result<(), AllocError> {
         (*self as u64).rlp_append(s)
     }

@@ -10,6 +10,8 @@ impl<T: Encodable> Encodable for Box<T> {
 
     ghost fits = { λ b. T.fits b.value };
 
+    ghost needs_only_room = { λ b. T.needs_only_room b.value };
+
     fn rlp_append(&self, s: &mut RlpStream) -> Result<(), AllocError> {
         T::rlp_append(self, s)
     }

@@ -1,6 +1,6 @@
 //! Byte arrays: written as the string of the bytes.
 
-ghost use Rattle.std.specs.Prelude.{◌≡◌, length};
+ghost use Rattle.std.specs.Prelude.{⊤, ◌≡◌, length};
 ghost use Rattle.rlp_format.specs.Format.Item.{string};
 
 use crate::buffer::strings::encoded_string;
@@ -14,6 +14,8 @@ impl<const N: usize> Encodable for [u8; N] {
     ghost item = { λ a. string a };
 
     ghost fits = { λ a. length a ≡ N };
+
+    ghost needs_only_room = { λ _. ⊤ };
 
     fn rlp_append(&self, s: &mut RlpStream) -> Result<(), AllocError> {
         s.put_string(self)

@@ -14,6 +14,8 @@ impl Encodable for Vec<u8> {
 
     ghost fits = { λ v. ⊤ };
 
+    ghost needs_only_room = { λ _. ⊤ };
+
     fn rlp_append(&self, s: &mut RlpStream) -> Result<(), AllocError> {
         s.put_string(self.as_slice())
     }
@@ -27,6 +29,8 @@ impl Encodable for &[u8] {
     ghost item = { λ v. string v.now };
 
     ghost fits = { λ v. ⊤ };
+
+    ghost needs_only_room = { λ _. ⊤ };
 
     fn rlp_append(&self, s: &mut RlpStream) -> Result<(), AllocError> {
         s.put_string(self)

@@ -14,6 +14,8 @@ impl Encodable for BytesMut {
 
     ghost fits = { λ v. ⊤ };
 
+    ghost needs_only_room = { λ _. ⊤ };
+
     fn rlp_append(&self, s: &mut RlpStream) -> Result<(), AllocError> {
         s.put_string(self.as_slice())
     }

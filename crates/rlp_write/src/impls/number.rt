@@ -1,5 +1,6 @@
 //! Numbers: written as the string of their digits to the base 256, the most significant first.
 
+ghost use Rattle.std.specs.Prelude.{⊤};
 ghost use Rattle.rlp_format.specs.Values.Value.{FitsBytes, number_item};
 
 use crate::buffer::strings::{encoded_digit, encoded_string};
@@ -13,6 +14,8 @@ impl Encodable for u8 {
     ghost item = { λ v. number_item v };
 
     ghost fits = { λ v. FitsBytes 1 v };
+
+    ghost needs_only_room = { λ _. ⊤ };
 
     fn rlp_append(&self, s: &mut RlpStream) -> Result<(), AllocError> {
         (*self as u64).rlp_append(s)
@@ -28,6 +31,8 @@ impl Encodable for u16 {
 
     ghost fits = { λ v. FitsBytes 2 v };
 
+    ghost needs_only_room = { λ _. ⊤ };
+
     fn rlp_append(&self, s: &mut RlpStream) -> Result<(), AllocError> {
         (*self as u64).rlp_append(s)
     }
@@ -42,6 +47,8 @@ impl Encodable for u32 {
 
     ghost fits = { λ v. FitsBytes 4 v };
 
+    ghost needs_only_room = { λ _. ⊤ };
+
     fn rlp_append(&self, s: &mut RlpStream) -> Result<(), AllocError> {
         (*self as u64).rlp_append(s)
     }
@@ -55,6 +62,8 @@ impl Encodable for u64 {
     ghost item = { λ v. number_item v };
 
     ghost fits = { λ v. FitsBytes 8 v };
+
+    ghost needs_only_room = { λ _. ⊤ };
 
     fn rlp_append(&self, s: &mut RlpStream) -> Result<(), AllocError> {
         s.put_string(Digits::of(*self).as_slice())
@@ -73,6 +82,8 @@ impl Encodable for usize {
 
     ghost fits = { λ v. FitsBytes 8 v };
 
+    ghost needs_only_room = { λ _. ⊤ };
+
     fn rlp_append(&self, s: &mut RlpStream) -> Result<(), AllocError> {
         (*self as u64).rlp_append(s)
     }
@@ -86,6 +97,8 @@ impl Encodable for u128 {
     ghost item = { λ v. number_item v };
 
     ghost fits = { λ v. FitsBytes 16 v };
+
+    ghost needs_only_room = { λ _. ⊤ };
 
     fn rlp_append(&self, s: &mut RlpStream) -> Result<(), AllocError> {
         s.put_string(Digits::of_wide(*self).as_slice())

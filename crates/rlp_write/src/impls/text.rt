@@ -1,6 +1,6 @@
 //! Text: written as the string of its bytes in UTF-8.
 
-ghost use Rattle.std.specs.Prelude.{IsUtf8};
+ghost use Rattle.std.specs.Prelude.{⊤, IsUtf8};
 ghost use Rattle.std.specs.String.{string_bytes};
 ghost use Rattle.rlp_format.specs.Format.Item.{string};
 
@@ -15,6 +15,8 @@ impl Encodable for String {
 
     ghost fits = { λ v. IsUtf8 (string_bytes v) };
 
+    ghost needs_only_room = { λ _. ⊤ };
+
     fn rlp_append(&self, s: &mut RlpStream) -> Result<(), AllocError> {
         s.put_string(self.as_str().as_bytes())
     }
@@ -28,6 +30,8 @@ impl Encodable for &str {
     ghost item = { λ v. string v.now };
 
     ghost fits = { λ v. IsUtf8 v.now };
+
+    ghost needs_only_room = { λ _. ⊤ };
 
     fn rlp_append(&self, s: &mut RlpStream) -> Result<(), AllocError> {
         s.put_string(self.as_bytes())

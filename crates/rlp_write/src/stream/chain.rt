@@ -4,10 +4,10 @@ ghost use Rattle.std.specs.Prelude.{◌≡◌, ◌≤◌, ℕ, List, IsTrue, IsO
 ghost use Rattle.std.specs.Borrow.{sem};
 ghost use Rattle.std.specs.Iterator.{IsFiniteIterable};
 ghost use Rattle.rlp_format.specs.Format.Item.{string, list_of};
-ghost use Rattle.rlp_write.specs.Streams.Calls.{append, append_empty_data, append_raw, append_internal, begin_list, begin_unbounded_list, effect, is_admitted};
-ghost use Rattle.rlp_write.specs.Streams.Stream.{IsFinished};
+ghost use Rattle.rlp_format.specs.Format.Encoding.{encoding};
+ghost use Rattle.rlp_write.specs.Streams.Stream.{append, append_empty_data, append_raw, append_internal, begin_list, begin_unbounded_list, effect, is_admitted, IsFinished, MovedGrows, MovesWithin};
 ghost use Rattle.rlp_write.specs.Streams.Iterated.{GivesAll};
-ghost use Rattle.rlp_write.specs.Streams.Chain.{stays_if_refused, rests_if_refused, HoldsStream, LeavesState, MovesInChain, KeepsCount};
+ghost use Rattle.rlp_write.specs.Streams.Chain.{stays_if_refused, rests_if_refused, HoldsStream};
 
 use crate::stream::RlpStream;
 use crate::traits::Encodable;
@@ -33,8 +33,11 @@ impl<'a> Chain<'a> {
     pub fn append<E: Encodable>(self, value: &E) -> Result<Chain<'a>, AllocError>
         ensures* refused { sem 𝓛 (stays_if_refused self.entry.stream result) }
         ensures fits { OnOk result (E.fits value.now) }
-        ensures ok { LeavesState result (effect (append (E.item value.now)) self.entry.stream.now.state) }
-        ensures moved { KeepsCount self.entry.stream.now result }
+        ensures ok { IfOk result (λ c. c.stream.now.state
+            ≡ effect (append (E.item value.now)) self.entry.stream.now.state) }
+        ensures room { E.needs_only_room value.now → IsFinished self.entry.stream.now.state
+            → length (encoding (E.item value.now)) ≤ self.entry.stream.now.spare → IsOk result }
+        ensures moved { IfOk result (λ c. MovedGrows self.entry.stream.now c.stream.now) }
         ensures same_stream { HoldsStream self.entry.stream result }
     {
         let Chain { stream } = self;
@@ -48,7 +51,7 @@ impl<'a> Chain<'a> {
         ensures ok { IfOk result (λ c. (s : List ℕ)
             × GivesAll I.into_iter_gives I.IntoIter.next_gives value s
             × (c.stream.now.state ≡ effect (append (string s)) self.entry.stream.now.state)) }
-        ensures moved { KeepsCount self.entry.stream.now result }
+        ensures moved { IfOk result (λ c. MovedGrows self.entry.stream.now c.stream.now) }
         ensures same_stream { HoldsStream self.entry.stream result }
     {
         let Chain { stream } = self;
@@ -59,9 +62,9 @@ impl<'a> Chain<'a> {
     pub fn append_list<E: Encodable>(self, values: &[E]) -> Result<Chain<'a>, AllocError>
         ensures* refused { sem 𝓛 (stays_if_refused self.entry.stream result) }
         ensures fits { OnOk result (All E.fits values.now) }
-        ensures ok { LeavesState result
-            (effect (append (list_of (map E.item values.now))) self.entry.stream.now.state) }
-        ensures moved { KeepsCount self.entry.stream.now result }
+        ensures ok { IfOk result (λ c. c.stream.now.state
+            ≡ effect (append (list_of (map E.item values.now))) self.entry.stream.now.state) }
+        ensures moved { IfOk result (λ c. MovedGrows self.entry.stream.now c.stream.now) }
         ensures same_stream { HoldsStream self.entry.stream result }
     {
         let Chain { stream } = self;
@@ -72,9 +75,11 @@ impl<'a> Chain<'a> {
     pub fn append_internal<E: Encodable>(self, value: &E) -> Result<Chain<'a>, AllocError>
         ensures* refused { sem 𝓛 (stays_if_refused self.entry.stream result) }
         ensures fits { OnOk result (E.fits value.now) }
-        ensures ok { LeavesState result
-            (effect (append_internal (E.item value.now)) self.entry.stream.now.state) }
-        ensures moved { KeepsCount self.entry.stream.now result }
+        ensures ok { IfOk result (λ c. c.stream.now.state
+            ≡ effect (append_internal (E.item value.now)) self.entry.stream.now.state) }
+        ensures room { E.needs_only_room value.now → IsFinished self.entry.stream.now.state
+            → length (encoding (E.item value.now)) ≤ self.entry.stream.now.spare → IsOk result }
+        ensures moved { IfOk result (λ c. MovedGrows self.entry.stream.now c.stream.now) }
         ensures same_stream { HoldsStream self.entry.stream result }
     {
         let Chain { stream } = self;
@@ -84,10 +89,11 @@ impl<'a> Chain<'a> {
     /// As [`RlpStream::append_empty_data`].
     pub fn append_empty_data(self) -> Result<Chain<'a>, AllocError>
         ensures* refused { sem 𝓛 (rests_if_refused self.entry.stream result) }
-        ensures ok { LeavesState result (effect append_empty_data self.entry.stream.now.state) }
+        ensures ok { IfOk result
+            (λ c. c.stream.now.state ≡ effect append_empty_data self.entry.stream.now.state) }
         ensures room { IsFinished self.entry.stream.now.state → 1 ≤ self.entry.stream.now.spare
             → IsOk result }
-        ensures moved { MovesInChain self.entry.stream.now result }
+        ensures moved { IfOk result (λ c. MovesWithin self.entry.stream.now c.stream.now) }
         ensures same_stream { HoldsStream self.entry.stream result }
     {
         let Chain { stream } = self;
@@ -98,10 +104,11 @@ impl<'a> Chain<'a> {
     pub fn append_raw(self, bytes: &[u8], item_count: usize) -> Result<Chain<'a>, AllocError>
         requires { IsTrue (is_admitted (append_raw bytes.now item_count) self.stream.now.state) }
         ensures* refused { sem 𝓛 (rests_if_refused self.entry.stream result) }
-        ensures ok { LeavesState result (effect (append_raw bytes.now item_count) self.entry.stream.now.state) }
+        ensures ok { IfOk result (λ c. c.stream.now.state
+            ≡ effect (append_raw bytes.now item_count) self.entry.stream.now.state) }
         ensures room { IsFinished self.entry.stream.now.state
             → length bytes.now ≤ self.entry.stream.now.spare → IsOk result }
-        ensures moved { MovesInChain self.entry.stream.now result }
+        ensures moved { IfOk result (λ c. MovesWithin self.entry.stream.now c.stream.now) }
         ensures same_stream { HoldsStream self.entry.stream result }
     {
         let Chain { stream } = self;
@@ -111,8 +118,9 @@ impl<'a> Chain<'a> {
     /// As [`RlpStream::begin_list`].
     pub fn begin_list(self, len: usize) -> Result<Chain<'a>, AllocError>
         ensures* refused { sem 𝓛 (rests_if_refused self.entry.stream result) }
-        ensures ok { LeavesState result (effect (begin_list len) self.entry.stream.now.state) }
-        ensures moved { MovesInChain self.entry.stream.now result }
+        ensures ok { IfOk result
+            (λ c. c.stream.now.state ≡ effect (begin_list len) self.entry.stream.now.state) }
+        ensures moved { IfOk result (λ c. MovesWithin self.entry.stream.now c.stream.now) }
         ensures same_stream { HoldsStream self.entry.stream result }
     {
         let Chain { stream } = self;
@@ -122,8 +130,9 @@ impl<'a> Chain<'a> {
     /// As [`RlpStream::begin_unbounded_list`].
     pub fn begin_unbounded_list(self) -> Result<Chain<'a>, AllocError>
         ensures* refused { sem 𝓛 (rests_if_refused self.entry.stream result) }
-        ensures ok { LeavesState result (effect begin_unbounded_list self.entry.stream.now.state) }
-        ensures moved { MovesInChain self.entry.stream.now result }
+        ensures ok { IfOk result
+            (λ c. c.stream.now.state ≡ effect begin_unbounded_list self.entry.stream.now.state) }
+        ensures moved { IfOk result (λ c. MovesWithin self.entry.stream.now c.stream.now) }
         ensures same_stream { HoldsStream self.entry.stream result }
     {
         let Chain { stream } = self;

@@ -3,7 +3,7 @@
 ghost use Rattle.std.specs.Prelude.{◌≡◌, ◌≤◌, IsTrue, OnOk, OnErr};
 ghost use Rattle.rlp_format.specs.Format.Item.{Item, is_list};
 ghost use Rattle.rlp_format.specs.Format.Encoding.{encoding};
-ghost use Rattle.rlp_write.specs.Streams.Stream.{IsAsBefore, put_item};
+ghost use Rattle.rlp_write.specs.Streams.Stream.{IsAsBefore, MovedGrows, put_item};
 
 use crate::stream::RlpStream;
 use std::alloc::AllocError;
@@ -18,7 +18,7 @@ pub fn append_list_encoding(s: &mut RlpStream, bytes: &[u8]) -> Result<(), Alloc
     ensures ok { (x : Item) → IsTrue (is_list x) → bytes.now ≡ encoding x
         → OnOk result (s.new.state ≡ put_item x s.old.state) }
     ensures refused { OnErr result (IsAsBefore s.old s.new) }
-    ensures moved { s.old.moved ≤ s.new.moved }
+    ensures moved { MovedGrows s.old s.new }
 {
     s.put_counted(bytes, 1)?;
     s.set_counted(true);

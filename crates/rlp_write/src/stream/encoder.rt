@@ -1,9 +1,10 @@
 //! Strings that are written without being counted.
 
-ghost use Rattle.std.specs.Prelude.{◌≡◌, ℕ, List, OnOk, OnErr};
+ghost use Rattle.std.specs.Prelude.{◌≡◌, ◌≤◌, ℕ, List, IsOk, OnOk, OnErr, length};
 ghost use Rattle.std.specs.Iterator.{IsFiniteIterable};
-ghost use Rattle.rlp_write.specs.Streams.Calls.{effect, encode_value};
-ghost use Rattle.rlp_write.specs.Streams.Stream.{IsAsBefore};
+ghost use Rattle.rlp_format.specs.Format.Item.{string};
+ghost use Rattle.rlp_format.specs.Format.Encoding.{encoding};
+ghost use Rattle.rlp_write.specs.Streams.Stream.{effect, encode_value, IsAsBefore};
 ghost use Rattle.rlp_write.specs.Streams.Iterated.{GivesAll};
 
 use crate::stream::RlpStream;
@@ -31,6 +32,8 @@ impl BasicEncoder<'_> {
         ensures same_reference { self.new.stream.ghost_name ≡ self.old.stream.ghost_name }
         ensures ok { OnOk result (self.new.stream.now.state
             ≡ effect (encode_value value.now) self.old.stream.now.state) }
+        ensures room { length (encoding (string value.now)) ≤ self.old.stream.now.spare
+            → IsOk result }
         ensures refused { OnErr result (IsAsBefore self.old.stream.now self.new.stream.now) }
         ensures moved { self.new.stream.now.moved ≡ self.old.stream.now.moved }
     {

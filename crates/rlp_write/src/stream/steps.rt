@@ -1,11 +1,10 @@
 //! The steps of a stream's public calls. They see its state alone.
 
-ghost use Rattle.std.specs.Prelude.{◌≡◌, ◌≤◌, ◌<◌, ℕ, List, OnOk, OnErr, false};
+ghost use Rattle.std.specs.Prelude.{◌≡◌, ◌≤◌, ◌<◌, ℕ, List, IsOk, OnOk, OnErr, false, length};
 ghost use Rattle.std.specs.Iterator.{IsFiniteIterable};
 ghost use Rattle.rlp_format.specs.Format.Item.{string};
-ghost use Rattle.rlp_write.specs.Streams.Stack.{unbounded_count};
-ghost use Rattle.rlp_write.specs.Streams.Calls.{finalized, is_within_size, with_list_of};
-ghost use Rattle.rlp_write.specs.Streams.Stream.{IsAsBefore, MovesWithin, count, add, put_item};
+ghost use Rattle.rlp_format.specs.Format.Encoding.{encoding};
+ghost use Rattle.rlp_write.specs.Streams.Stream.{unbounded_count, finalized, is_within_size, with_list_of, IsAsBefore, IsFinished, MovedGrows, MovesWithin, count, add, put_item};
 ghost use Rattle.rlp_write.specs.Streams.Growth.{GrowsTo};
 ghost use Rattle.rlp_write.specs.Streams.Iterated.{GivesAll};
 
@@ -70,11 +69,12 @@ impl RlpStream {
         }
     }
 
-    /// Counts items in the innermost open list.
+    /// Counts items in the innermost open list. With no list open it isn't refused.
     fn try_count(&mut self, items: usize) -> Result<(), AllocError>
         ensures ok { OnOk result (self.new.state ≡ count items self.old.state) }
+        ensures room { IsFinished self.old.state → IsOk result }
         ensures refused { OnErr result (IsAsBefore self.old self.new) }
-        ensures moved { self.old.moved ≤ self.new.moved }
+        ensures moved { MovedGrows self.old self.new }
     {
         self.put_counted(&[], items)
     }
@@ -84,8 +84,10 @@ impl RlpStream {
         requires { self.old.state.is_counted ≡ false }
         ensures fits { OnOk result (E.fits value.now) }
         ensures ok { OnOk result (self.new.state ≡ add (E.item value.now) self.old.state) }
+        ensures room { E.needs_only_room value.now → IsFinished self.old.state
+            → length (encoding (E.item value.now)) ≤ self.old.spare → IsOk result }
         ensures refused { OnErr result (GrowsTo self.old.state self.new.state) }
-        ensures moved { self.old.moved ≤ self.new.moved }
+        ensures moved { MovedGrows self.old self.new }
     {
         value.rlp_append(self)?;
         if self.is_counted() {
@@ -102,7 +104,7 @@ impl RlpStream {
             × GivesAll I.into_iter_gives I.IntoIter.next_gives value s
             × (self.new.state ≡ add (string s) self.old.state)) }
         ensures refused { OnErr result (GrowsTo self.old.state self.new.state) }
-        ensures moved { self.old.moved ≤ self.new.moved }
+        ensures moved { MovedGrows self.old self.new }
     {
         self.put_string_of(value)?;
         self.try_count(1)
@@ -112,8 +114,10 @@ impl RlpStream {
     pub(crate) fn try_append<E: Encodable>(&mut self, value: &E) -> Result<(), AllocError>
         ensures fits { OnOk result (E.fits value.now) }
         ensures ok { OnOk result (self.new.state ≡ add (E.item value.now) self.old.state) }
+        ensures room { E.needs_only_room value.now → IsFinished self.old.state
+            → length (encoding (E.item value.now)) ≤ self.old.spare → IsOk result }
         ensures refused { OnErr result (self.new.state ≡ self.old.state) }
-        ensures moved { self.old.moved ≤ self.new.moved }
+        ensures moved { MovedGrows self.old self.new }
     {
         let place = self.place();
         self.set_counted(false);
@@ -131,8 +135,10 @@ impl RlpStream {
     pub(super) fn try_append_internal<E: Encodable>(&mut self, value: &E) -> Result<(), AllocError>
         ensures fits { OnOk result (E.fits value.now) }
         ensures ok { OnOk result (self.new.state ≡ put_item (E.item value.now) self.old.state) }
+        ensures room { E.needs_only_room value.now → IsFinished self.old.state
+            → length (encoding (E.item value.now)) ≤ self.old.spare → IsOk result }
         ensures refused { OnErr result (self.new.state ≡ self.old.state) }
-        ensures moved { self.old.moved ≤ self.new.moved }
+        ensures moved { MovedGrows self.old self.new }
     {
         let place = self.place();
         match value.rlp_append(self) {
@@ -155,7 +161,7 @@ impl RlpStream {
             × GivesAll I.into_iter_gives I.IntoIter.next_gives value s
             × (self.new.state ≡ add (string s) self.old.state)) }
         ensures refused { OnErr result (self.new.state ≡ self.old.state) }
-        ensures moved { self.old.moved ≤ self.new.moved }
+        ensures moved { MovedGrows self.old self.new }
     {
         let place = self.place();
         self.set_counted(false);

@@ -1,9 +1,9 @@
 //! Types whose values are written.
 
-ghost use Rattle.std.specs.Prelude.{◌≡◌, ◌≤◌, OnOk, OnErr, IfOk};
+ghost use Rattle.std.specs.Prelude.{◌≡◌, ◌≤◌, IsOk, OnOk, OnErr, IfOk, length};
 ghost use Rattle.rlp_format.specs.Format.Item.{Item};
 ghost use Rattle.rlp_format.specs.Format.Encoding.{encoding};
-ghost use Rattle.rlp_write.specs.Streams.Stream.{put_item};
+ghost use Rattle.rlp_write.specs.Streams.Stream.{IsFinished, MovedGrows, put_item};
 ghost use Rattle.rlp_write.specs.Streams.Growth.{GrowsTo};
 
 use crate::stream::RlpStream;
@@ -42,18 +42,25 @@ pub trait Encodable {
     /// the type's range, and a text is UTF-8.
     ghost fits: { Self → Type 0 };
 
+    /// The value is refused only for want of room: if no list is open and the stream has room for
+    /// the encoding, [`Encodable::rlp_append`] writes it. The provided types that are strings
+    /// promise it of each value. By default a type promises it of none.
+    ghost needs_only_room: { Self → Type 0 } = { λ _. ⊥ };
+
     /// Writes the value into a stream. For a string it writes the encoding and counts no item. For
     /// a list it writes the encoding, counts one item, and sets `is_counted`, which says that the item
     /// is counted.
     ///
     /// Fails with `AllocError` if memory is refused, or for a reason of the type. The stream then
     /// holds its old bytes and its old open lists, and maybe more after them; [`RlpStream::append`]
-    /// then restores the old state. In any case its count of the bytes that were moved doesn't shrink.
+    /// then restores the old state. In any case its count of the bytes that were moved doesn't fall.
     fn rlp_append(&self, s: &mut RlpStream) -> Result<(), AllocError>
         ensures fits { OnOk result (fits self.now) }
         ensures ok { OnOk result (s.new.state ≡ put_item (item self.now) s.old.state) }
+        ensures room { needs_only_room self.now → IsFinished s.old.state
+            → length (encoding (item self.now)) ≤ s.old.spare → IsOk result }
         ensures refused { OnErr result (GrowsTo s.old.state s.new.state) }
-        ensures moved { s.old.moved ≤ s.new.moved };
+        ensures moved { MovedGrows s.old s.new };
 
     /// Returns the encoding of the value. Fails with `AllocError` if memory is refused, or if
     /// [`Encodable::rlp_append`] fails.

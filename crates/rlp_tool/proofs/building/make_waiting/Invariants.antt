@@ -1,5 +1,5 @@
 use Rattle.std.proofs.Common.{ℕ, ◌≤◌, List}
-use Rattle.rlp.specs.Streams.Calls.{Call}
+use Rattle.rlp.specs.Streams.Stream.{Call}
 use Rattle.rlp_tool.specs.Making.{AreMadeBut}
 use Rattle.rlp_tool.proofs.building.make_waiting.Given as goal
 

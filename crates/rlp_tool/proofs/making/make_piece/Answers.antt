@@ -1,5 +1,5 @@
 use Rattle.std.proofs.Common.{◌≡◌, ◌∙◌, [], Some, Err, ap}
-use Rattle.rlp.specs.Streams.Calls.{Call, finalize_unbounded_list}
+use Rattle.rlp.specs.Streams.Stream.{Call, finalize_unbounded_list}
 use Rattle.rlp_tool.specs.Making.{IsUnmade}
 use Rattle.rlp_tool.specs.Pieces.{piece_call}
 use Rattle.rlp_tool.proofs.MakingLemmas.{goes_anyhow, goes_next, one_waits, stops_before}

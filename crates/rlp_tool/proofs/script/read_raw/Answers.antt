@@ -1,5 +1,5 @@
 use Rattle.std.proofs.Common.{◌≡◌, ◌∙◌, ◌-◌, ℕ, List, Option, Some, None, ap, drop, length, option_map, refl, sym, take}
-use Rattle.rlp.specs.Streams.Calls.{append_raw}
+use Rattle.rlp.specs.Streams.Stream.{append_raw}
 use Rattle.rlp_lines.specs.Digits.{bytes_in}
 use Rattle.rlp_tool.specs.Script.{raw_call}
 use Rattle.rlp_tool.proofs.CutLemmas.{raw_parts-cut}

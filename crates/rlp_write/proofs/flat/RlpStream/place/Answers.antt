@@ -1,8 +1,7 @@
 use Rattle.std.proofs.Common.{◌≡◌, ℕ, List, [], ◌∷◌, Option, length, refl, ap, sym, ◌∙◌}
 use Rattle.rlp_write.specs.declared.open_lists.Placeholder.{Placeholder}
 use Rattle.rlp_write.specs.declared.flat.Place.{Place}
-use Rattle.rlp_write.specs.Streams.Stack.{awaited}
-use Rattle.rlp_write.specs.Streams.Stream.{Seen, raw_text}
+use Rattle.rlp_write.specs.Streams.Stream.{awaited, Seen, raw_text}
 use Rattle.rlp_write.specs.Streams.Places.{place_of}
 use Rattle.rlp_write.specs.Streams.Placeholders.{innermost_awaits, lists_of}
 use Rattle.rlp_write.specs.Streams.Layout.{state_of}

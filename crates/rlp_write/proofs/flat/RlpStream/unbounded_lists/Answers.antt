@@ -1,6 +1,5 @@
 use Rattle.std.proofs.Common.{ap, min, sym, ◌∙◌}
-use Rattle.rlp_write.specs.Streams.Stack.{unbounded_count}
-use Rattle.rlp_write.specs.Streams.Stream.{Seen}
+use Rattle.rlp_write.specs.Streams.Stream.{unbounded_count, Seen}
 use Rattle.rlp_write.proofs.Streams.FlatBuffer.{unbounded_lists}
 use Rattle.rlp_write.proofs.flat.RlpStream.unbounded_lists.Goals as goal
 
