@@ -1,4 +1,4 @@
-//! A generic list type, written as an unbounded list.
+//! A generic list type.
 
 ghost use Rattle.std.specs.Prelude.{[], ◌∷◌, ⊤, All, map};
 ghost use Rattle.std.specs.Vec.{vec_items};
@@ -6,7 +6,7 @@ ghost use Rattle.rlp.specs.Format.Item.{list_of};
 ghost use Rattle.rlp.specs.Codec.{codec_of};
 ghost use Rattle.rlp_examples.specs.Nest.{FaultsAsNest, GivesNest, MayLackAsNest, nest_reads_back, nest};
 
-use rlp::{Decodable, DecoderError, Encodable, Rlp, RlpStream, RoundTrip, StrictRead};
+use rlp::{Decodable, DecoderError, Encodable, ListOf, Rlp, RlpStream, RoundTrip, StrictRead};
 use std::alloc::{AllocError, Global};
 
 /// A list whose one item is the list of the values.
@@ -18,11 +18,8 @@ impl<T: Encodable> Encodable for Nest<T> {
 
     ghost fits = { λ n. All T.fits (vec_items n.0) × ⊤ };
 
-    #[tactic(auto, using(rlp::proofs::Writing::writing))]
     fn rlp_append(&self, s: &mut RlpStream) -> Result<(), AllocError> {
-        s.begin_unbounded_list()?.append_list(self.0.as_slice())?;
-        s.finalize_unbounded_list()?;
-        Ok(())
+        rlp::append_fields!(s, ListOf(&self.0))
     }
 }
 
