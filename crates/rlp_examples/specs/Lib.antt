@@ -1,3 +1,4 @@
+pub mod Inner
 pub mod Message
 pub mod Nest
 pub mod Pair

@@ -4,6 +4,7 @@
 
 mod appends;
 mod half_written;
+mod inner;
 mod message;
 mod nest;
 mod nonce;
@@ -17,6 +18,7 @@ mod uses;
 
 pub use appends::bytes_of_three;
 pub use half_written::HalfWritten;
+pub use inner::Inner;
 pub use message::Message;
 pub use nest::Nest;
 pub use nonce::Nonce;

@@ -31,7 +31,12 @@ impl<M: Encodable> Encodable for Trio<M> {
 
     ghost fits = { λ t. FitsBytes 8 t.0 × M.fits t.1 × FitsBytes 8 t.2 };
 
+    #[tactic(auto, using(rlp::proofs::Writing::writing))]
     fn rlp_append(&self, s: &mut RlpStream) -> Result<(), AllocError> {
-        rlp::append_fields!(s, &self.0, &self.1, &self.2)
+        s.begin_list(3)?
+            .append(&self.0)?
+            .append(&self.1)?
+            .append(&self.2)?;
+        Ok(())
     }
 }

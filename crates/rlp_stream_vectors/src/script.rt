@@ -7,7 +7,8 @@
 //!
 //! `!` stands before a call that isn't admitted, and `N times` before one that is made N times.
 //! `list`, `over` and `list_over` begin a new stream: a list, over bytes, and a list over bytes.
-//! `refused` appends a value that is refused each time, and `direct` calls the value's own `rlp_append`.
+//! `refused` appends a list of three items that is refused after the first, and `direct` calls the list's
+//! own `rlp_append`. `counted` appends a value that is refused and counts how often it is written.
 //! `chain_lists`, `chain_items` and `chain_raw BYTES` make several calls in one chain.
 //! `raw N BYTES` appends N items, and `within N BYTES` one item within the limit N.
 //! `finalize_up_to N M` closes at most N lists, and M in fact. `is SIZE AWAITED BYTES`, `size SIZE`
@@ -16,8 +17,9 @@
 use crate::guarded::{
     estimates, finalize, finishes_as, is_as, put_raw, put_raw_within, put_undotted, takes_items,
 };
-use crate::values::{Pair, Refused, Wrapper};
+use crate::values::{Counted, Wrapper};
 use bytes::BytesMut;
+use rlp_examples::{Pair, Refusing, Trio};
 use rlp_rows::{bytes_of, number};
 use rlp_write::{Encodable, RlpStream};
 use std::alloc::{AllocError, Global};
@@ -50,7 +52,9 @@ fn make(alloc: Global, s: &mut RlpStream, call: &str) -> Result<bool, AllocError
         "raw" | "within" => put_bytes(alloc, s, name, second, number(first)),
         "chain_lists" => chain_lists(s),
         "chain_items" => chain_items(s),
-        "refused" | "refused_internal" | "refused_list" | "direct" => Ok(!refuse(s, name)),
+        "refused" | "refused_internal" | "refused_list" => Ok(!refuse(s, name)),
+        "counted" | "counted_internal" | "counted_list" => Ok(!refuse_counted(s, name)),
+        "direct" => Ok(Trio(1, Refusing, 3).rlp_append(s).is_err()),
         _ => make_other(alloc, s, name, first, second),
     }
 }
@@ -112,6 +116,8 @@ fn append(s: &mut RlpStream, name: &str, first: u64, second: u64) -> Result<bool
         "wrapper" => s.append(&Wrapper(first)).and(Ok(true)),
         "none" => s.append_internal(&None::<u8>).and(Ok(true)),
         "no_numbers" => s.append_list::<u64>(&[]).and(Ok(true)),
+        "no_u32s" => s.append_list::<u32>(&[]).and(Ok(true)),
+        "u32" => s.append(&u32::try_from(first).unwrap_or(0)).and(Ok(true)),
         "pairs" => s.append_list(&[Pair(1, 2), Pair(3, 4)]).and(Ok(true)),
         _ => Ok(false),
     }
@@ -145,16 +151,25 @@ fn chain_raw(s: &mut RlpStream, bytes: &[u8]) -> Result<bool, AllocError> {
     Ok(true)
 }
 
-/// Makes a call that appends a refused value. Returns whether it is refused, after the value was
-/// written once.
+/// Makes a call that appends a list whose second item is refused. Returns whether the call is refused.
 fn refuse(s: &mut RlpStream, name: &str) -> bool {
-    let calls = Cell::new(0usize);
-    let values = [Refused(&calls)];
-    let refused = match name {
+    let values = [Trio(1, Refusing, 3)];
+    match name {
         "refused" => s.append(&values[0]).is_err(),
         "refused_internal" => s.append_internal(&values[0]).is_err(),
-        "refused_list" => s.append_list(&values).is_err(),
-        _ => values[0].rlp_append(s).is_ok(),
+        _ => s.append_list(&values).is_err(),
+    }
+}
+
+/// Makes a call that appends a refused value. Returns whether it is refused, after the value was
+/// written once.
+fn refuse_counted(s: &mut RlpStream, name: &str) -> bool {
+    let calls = Cell::new(0usize);
+    let values = [Counted(&calls)];
+    let refused = match name {
+        "counted" => s.append(&values[0]).is_err(),
+        "counted_internal" => s.append_internal(&values[0]).is_err(),
+        _ => s.append_list(&values).is_err(),
     };
     refused && calls.get() == 1
 }
@@ -309,10 +324,15 @@ pub(crate) fn all_met(alloc: Global, tables: &[&str]) -> Result<(), Fail> {
     Ok(())
 }
 
-/// Fails with the first row that isn't met, of those that a pattern stands for: each number from 1 to the
-/// greatest takes the places of `#`.
-pub(crate) fn all_met_to(alloc: Global, greatest: usize, pattern: &str) -> Result<(), Fail> {
-    for number in 1..=greatest {
+/// Fails with the first row that isn't met, of those that a pattern stands for: each number from the least
+/// to the greatest takes the places of `#`.
+pub(crate) fn all_met_to(
+    alloc: Global,
+    least: usize,
+    greatest: usize,
+    pattern: &str,
+) -> Result<(), Fail> {
+    for number in least..=greatest {
         let digits = format!(in alloc; "{number}")?;
         let row = pattern.replace(alloc, '#', digits.as_str())?;
         if !is_met_twice(alloc, row.as_str())? {

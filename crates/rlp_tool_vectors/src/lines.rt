@@ -9,13 +9,15 @@ use std::fmt::Write;
 use std::test::Fail;
 
 /// Lines of items, and their answers.
-const ITEMS: [Row; 14] = [
+const ITEMS: [Row; 16] = [
     (
         "c20506\nc0\n\n80",
         "[\"0x05\", \"0x06\"]\n[]\nnull\n\"0x\"\n",
     ),
     ("c0\r", "[]\n"),
     ("c0\r\r", "error hex\n"),
+    ("c0\r\n", "[]\n"),
+    ("c0\r\r\n", "error hex\n"),
     ("C20506", "[\"0x05\", \"0x06\"]\n"),
     ("0xc20506", "[\"0x05\", \"0x06\"]\n"),
     ("0x", "null\n"),

@@ -2,7 +2,7 @@
 
 use crate::rows::raw;
 use rlp::{DecoderError, Rlp};
-use rlp_rows::{Hex, Line};
+use rlp_rows::{Hex, Line, number};
 use std::fmt;
 use std::fmt::Write;
 
@@ -10,12 +10,8 @@ use std::fmt::Write;
 pub(crate) const ROWS: &str = "
     Items are found up to the first that isn't framed. Past them is the fault of what follows.
     lenient item:
-    c88363617483646f67 0 | Ok(83636174) Ok(83636174) 1
-    c88363617483646f67 1 | Ok(83646f67) Ok(83646f67) 5
     c983636174c20102c103 2 | Ok(c103) Ok(c103) 8
     c10102 0 | Ok(01) Ok(01) 1
-    c88363617483646f 0 | Err(RlpIsTooShort) RlpIsTooShort
-    c88363617483646f 1 | Err(RlpIsTooShort) RlpIsTooShort
     none 0 | Err(RlpExpectedToBeList) RlpExpectedToBeList
     05 0 | Err(RlpExpectedToBeList) RlpExpectedToBeList
     c10102 1 | Err(RlpIsTooShort) RlpIsTooShort
@@ -41,8 +37,6 @@ pub(crate) const ROWS: &str = "
 
     An iterator gives the framed items.
     lenient iterated:
-    c88363617483646f67 | 2 (2, Some(2)) Ok(83636174); 1 (1, Some(1)) Ok(83646f67); 0 (0, Some(0)); \
-     0 (0, Some(0));
     c5 | 0 (0, Some(0)); 0 (0, Some(0));
     05 | 0 (0, Some(0)); 0 (0, Some(0));
 
@@ -82,15 +76,57 @@ pub(crate) const ROWS: &str = "
     c88363617483646f67 | Ok(83636174)
 ";
 
-/// Tells what a view answers about its items and its value.
-pub(crate) fn tell_items(view: Rlp<'_>, call: &str, index: usize, out: &mut Line) -> fmt::Result {
+/// Tells what a view answers about its items and its value. After the call stand the numbers of the
+/// items that it is asked for.
+pub(crate) fn tell_items(view: Rlp<'_>, call: &str, given: &str, out: &mut Line) -> fmt::Result {
     let strict = view.is_strict();
     match call {
-        "item" => tell_item(&view, strict, index, out),
+        "item" => tell_item(&view, strict, number(given), out),
+        "at" => tell_texts(&view, strict, given, out),
+        "at_with_offset" => tell_places(&view, strict, given, out),
         "count" => tell_count(&view, out),
-        "iterated" => tell_iterated(&view, strict, out),
+        "iterated" => {
+            tell_iterated(&view, strict, out)?;
+            tell_texts(&view, strict, given, out)
+        }
         _ => tell_payload(view, strict, out),
     }
+}
+
+/// Tells the items of these numbers, one after another by `at` of the same view, and their values as
+/// texts.
+fn tell_texts(view: &Rlp<'_>, strict: bool, numbers: &str, out: &mut Line) -> fmt::Result {
+    for index in numbers.split_whitespace() {
+        out.debug(raw(view.at(number(index)), strict))?;
+        out.then(text_at(view, number(index)))?;
+        out.write_str("; ")?;
+    }
+    Ok(())
+}
+
+/// Returns the value of the item of a number, as a text.
+fn text_at<'a>(view: &Rlp<'a>, index: usize) -> Result<&'a str, DecoderError> {
+    let item = view.at(index)?;
+    match std::str::from_utf8(item.data()?) {
+        Ok(text) => Ok(text),
+        Err(_) => Err(DecoderError::Custom("no text")),
+    }
+}
+
+/// Tells the items of these numbers, one after another by `at_with_offset` of the same view, and their
+/// places.
+fn tell_places(view: &Rlp<'_>, strict: bool, numbers: &str, out: &mut Line) -> fmt::Result {
+    for index in numbers.split_whitespace() {
+        match view.at_with_offset(number(index)) {
+            Ok((item, place)) => {
+                out.debug(raw(Ok(item), strict))?;
+                out.then(place)?;
+            }
+            Err(fault) => out.debug(fault)?,
+        }
+        out.write_str("; ")?;
+    }
+    Ok(())
 }
 
 /// Tells the item of a number, by `at`, and by `at_with_offset` with its place.

@@ -10,12 +10,8 @@ use std::fmt::Write;
 
 /// Rows of lists.
 pub(crate) const ROWS: &str = "
-    Lists are read whole. Bytes that aren't a framed list are read as an empty list.
+    Bytes that aren't a framed list are read as an empty list.
     lenient list u64:
-    c0 | Ok([])
-    c10f | Ok([15])
-    c60102030781ff | Ok([1, 2, 3, 7, 255])
-    cb84ffffffff0102030781ff | Ok([4294967295, 1, 2, 3, 7, 255])
     c5 | Ok([])
     05 | Ok([])
     c3058105 | Err(RlpInvalidIndirection)
@@ -26,10 +22,6 @@ pub(crate) const ROWS: &str = "
     05 | Ok([])
     c3058105 | Err(RlpInvalidIndirection)
 
-    A list of texts is read.
-    lenient list String:
-    c88363617483646f67 | Ok([\"cat\", \"dog\"])
-
     The first faulty item gives its fault, and a cut item ends the list.
     lenient list Odd:
     c401030205 | Err(Custom(\"even\"))
@@ -37,19 +29,10 @@ pub(crate) const ROWS: &str = "
     c50103810502 | Err(RlpInvalidIndirection)
     c401038200 | Ok([Odd(1), Odd(3)])
 
-    A list whose length overflows, strings and lists that aren't canonical, and short lists that
-    end before or after their item.
+    An item is read as a text.
     lenient value_at String:
     c88363617483646f67 0 | Ok(\"cat\")
     c88363617483646f67 1 | Ok(\"dog\")
-    ffffffffffffffffff000000 0 | Err(RlpIsTooShort)
-    c4b8026162 0 | Err(RlpInvalidIndirection)
-    f803826162 0 | Err(RlpInvalidIndirection)
-    c0826162 0 | Err(RlpIsTooShort)
-    c1826162 0 | Err(RlpIsTooShort)
-    c2826162 0 | Err(RlpIsTooShort)
-    c3826162 0 | Ok(\"ab\")
-    c4826162 0 | Err(RlpIsTooShort)
     c983636174c20102c103 0 | Ok(\"cat\")
 
     The items of a list of the list of 1 and 2, and 3, as lists and as numbers, and the list of 1 and
@@ -64,15 +47,6 @@ pub(crate) const ROWS: &str = "
     lenient value_at u64:
     c4c2010203 1 | Ok(3)
     c103 0 | Ok(3)
-
-    A list, and then bytes that aren't part of it. Its third item holds a number, and the number
-    of its items is the same before and after that is read.
-    lenient third:
-    f83e82022bd79020010db83c4d001500000000abcdef12820cfa8215a8d79020010db885a308d313198a2e037073488\
-     208ae82823a8443b9a355c5010203040531b9019afde696e582a78fa8d95ea13ce3297d4afb8ba6433e4154caa5ac6\
-     431af1b80ba76023fa4090c408f6b4bc3701562c031041d4702971d102c9ab7fa5eed4cd6bab8f7af956f7d565ee19\
-     17084a95398b6a21eac920fe3dd1345ec0a7ef39367ee69ddf092cbfe5b93e5e568ebc491983c09c76d922dc3 | Ok\
-     (5) true Ok(33338) Ok(5)
 ";
 
 /// Tells what is read as a list of a type from bytes and from a view of them, which is to be the

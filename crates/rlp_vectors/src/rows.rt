@@ -58,6 +58,16 @@ pub(crate) fn check_row(alloc: Global, calls: &str, given: &str, want: &str, wro
     }
 }
 
+/// Tries rows of calls. A row has what a call is given, and what it answers, as those of a table.
+pub(crate) fn check_rows(alloc: Global, calls: &str, rows: &[&str]) -> Result<(), Fail> {
+    let mut wrong = Line::new();
+    for row in rows {
+        let (given, want) = row.split_once(" | ").unwrap_or((row, ""));
+        check_row(alloc, calls, given, want, &mut wrong);
+    }
+    wrong.none_noted()
+}
+
 /// Tries the rows of tables.
 fn check_all(alloc: Global, tables: &[&str]) -> Result<(), Fail> {
     let mut wrong = Line::new();
@@ -96,8 +106,8 @@ fn tell(alloc: Global, call: &str, given: &str, out: &mut Line) -> fmt::Result {
         "list_at" => tell_list_at(alloc, &view_of(bytes, strict), of, number(rest), out),
         "split" => tell_split(bytes, strict, out),
         "first" => tell_first(alloc, bytes, strict, out),
-        "item" | "count" | "iterated" | "payload" => {
-            tell_items(view_of(bytes, strict).clone(), call, number(rest), out)
+        "item" | "at" | "at_with_offset" | "count" | "iterated" | "payload" => {
+            tell_items(view_of(bytes, strict).clone(), call, rest, out)
         }
         _ => tell_other(alloc, bytes, call, number(rest), out),
     }

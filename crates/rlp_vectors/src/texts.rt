@@ -1,5 +1,6 @@
 //! The texts of views and of faults.
 
+use crate::carried::HASHES;
 use crate::rows::check_row;
 use rlp::{DecoderError, Rlp};
 use rlp_rows::Line;
@@ -45,28 +46,13 @@ pub(crate) const ROWS: &str = "
     none | [\"0x05\", \"0x06\"]|Custom(\"a \"b\"\")|Custom(\"a \"b\"\")
 ";
 
-/// A list of two numbers and two hashes.
-const HASHES: &str =
-    "f84d0589010efbef67941f79b2a056e81f171bcc55a6ff8345e692c0f86e5b48e01b996cadc00162\
-    2fb5e363b421a0c5d2460186f7233c927e7db2dcc703c0e500b653ca82273b7bfad8045d85a470";
-
-/// The text of that list.
-const HASHES_TEXT: &str =
-    "[\"0x05\", \"0x010efbef67941f79b2\", \"0x56e81f171bcc55a6ff8345e692c0f86e5\
-    b48e01b996cadc001622fb5e363b421\", \"0xc5d2460186f7233c927e7db2dcc703c0e500b653ca82273b7bfad8045d\
-    85a470\"]";
-
-// The first bytes of the list of hashes print as `null` if there are none, as the list's text if there
-// are all, and else as `RlpIsTooShort`.
+// The first bytes of the list of hashes print as `null` if there are none, and else as `RlpIsTooShort`.
+// The text of the whole list stands in `test_rlp_display`.
 #[test]
 fn texts_of_cut_lists(rt: HostRuntime) -> Result<(), Fail> {
     let mut wrong = Line::new();
-    for len in 0..=79usize {
-        let want = match len {
-            0 => "null",
-            79 => HASHES_TEXT,
-            _ => "RlpIsTooShort",
-        };
+    for len in 0..79usize {
+        let want = if len == 0 { "null" } else { "RlpIsTooShort" };
         let digits = HASHES.get(..2 * len).unwrap_or("");
         check_row(rt.alloc(), "lenient view text", digits, want, &mut wrong);
     }

@@ -9,12 +9,10 @@ use std::alloc::Global;
 use std::fmt;
 use std::fmt::Write;
 
-/// Rows of numbers and truth values.
+/// Rows of numbers.
 pub(crate) const NUMBERS: &str = "
     Numbers of each length are read. Leading zeros, long forms and lists are faults.
     lenient value u64:
-    8401000000 | Ok(16777216)
-    84ffffffff | Ok(4294967295)
     80 | Ok(0)
     7f | Ok(127)
     8180 | Ok(128)
@@ -34,67 +32,29 @@ pub(crate) const NUMBERS: &str = "
 
     A longer number is too big, and a length over the end of the bytes is a fault.
     lenient value u8:
-    80 | Ok(0)
-    77 | Ok(119)
-    81cc | Ok(204)
     none | Err(RlpIsTooShort)
     00 | Err(RlpInvalidIndirection)
     8105 | Err(RlpInvalidIndirection)
     820001 | Err(RlpIsTooBig)
     c0 | Err(RlpExpectedToBeData)
-    bfffffffffffffffffffffffe5 | Err(RlpInvalidLength)
     bffffffffffffffff7 | Err(RlpInvalidLength)
     bffffffffffffffff6 | Err(RlpInconsistentLengthAndData)
 
     A number of two bytes begins with no zero.
     lenient value u16:
-    820100 | Ok(256)
-    82ffff | Ok(65535)
     820001 | Err(RlpInvalidIndirection)
     83000001 | Err(RlpIsTooBig)
 
-    Numbers of three bytes are read.
-    lenient value u32:
-    83010000 | Ok(65536)
-    83ffffff | Ok(16777215)
-
-    Numbers of eight and of sixteen bytes are read.
+    A number of sixteen bytes is read.
     lenient value u128:
-    880100000000000000 | Ok(72057594037927936)
-    88ffffffffffffffff | Ok(18446744073709551615)
     90ffffffffffffffffffffffffffffffff | Ok(340282366920938463463374607431768211455)
-
-    Other numbers are no truth values.
-    lenient value bool:
-    02 | Err(Custom(\"invalid boolean value\"))
 ";
 
 /// Rows of strings and options.
 pub(crate) const OTHERS: &str = "
-    Strings of no byte, of a byte below 80 and of two bytes are read.
-    lenient value Vec:
-    80 | Ok([])
-    00 | Ok([0])
-    15 | Ok([21])
-    824000 | Ok([64, 0])
-
-    The same strings are read as `Bytes` and `BytesMut`.
-    lenient value Bytes, lenient value BytesMut:
-    80 | Ok(b\"\")
-    00 | Ok(b\"\\0\")
-    15 | Ok(b\"\\x15\")
-    824000 | Ok(b\"@\\0\")
-
-    Texts are read, also in front of other bytes. Cut, long and other strings are faults.
+    A text is read in front of other bytes. Long and other strings are faults.
     lenient value String:
-    83636174 | Ok(\"cat\")
-    83646f67 | Ok(\"dog\")
-    854d6172656b | Ok(\"Marek\")
-    80 | Ok(\"\")
-    b8384c6f72656d20697073756d20646f6c6f722073697420616d65742c20636f6e73656374657475722061646970697\
-     36963696e6720656c6974 | Ok(\"Lorem ipsum dolor sit amet, consectetur adipisicing elit\")
     8363617400 | Ok(\"cat\")
-    84636174 | Err(RlpInconsistentLengthAndData)
     b8026162 | Err(RlpInvalidIndirection)
     b802 | Err(RlpInvalidIndirection)
     b900 | Err(RlpInconsistentLengthAndData)

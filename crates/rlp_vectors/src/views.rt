@@ -67,8 +67,7 @@ pub(crate) const ROWS: &str = "
     c105 | false false true false
     c88363617483646f67 | false false true false
 
-    Numbers at the front. Among the others are the first bytes of the long headers of strings,
-    without other bytes.
+    Numbers at the front, and others.
     lenient view int:
     none | false
     81 | false
@@ -78,14 +77,6 @@ pub(crate) const ROWS: &str = "
     b838 | false
     b83805 | true
     c0 | false
-    b8 | false
-    b9 | false
-    ba | false
-    bb | false
-    bc | false
-    bd | false
-    be | false
-    bf | false
 
     Lists, and the limit within which they nest.
     lenient view nested:

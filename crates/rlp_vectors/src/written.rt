@@ -4,7 +4,7 @@ use crate::compare::{finishes_as, is_again, is_listed, is_written, put};
 use crate::structs::{Columns, LastField, Tagged};
 use bytes::{Bytes, BytesMut};
 use rlp::{EMPTY_LIST_RLP, Encodable, NULL_RLP, RlpStream};
-use rlp_examples::{HalfWritten, Nonce, Pair, bytes_of_three};
+use rlp_examples::{HalfWritten, Nonce, Pair, Refusing, Trio, bytes_of_three};
 use rlp_rows::{bytes_of, cut, number};
 use std::alloc::{AllocError, Global};
 use std::test::Fail;
@@ -12,27 +12,11 @@ use std::test::Fail;
 /// Numbers, and the bytes that they are written as. A number of eight bytes is written under its own
 /// name too.
 const NUMBERS: &str = "\
-bool false = 80
-bool true = 01
-u8 0 = 80
-u8 1 = 01
-u16 0 = 80
-u16 256 = 820100
-u16 65535 = 82ffff
-u32 0 = 80
 u32 40 = 28
-u32 65536 = 83010000
-u32 16777215 = 83ffffff
-u64 0 = 80
-u64 16777216 = 8401000000
-u64 4294967295 = 84ffffffff
 u64 127 = 7f
 u64 128 = 8180
 u64 256 = 820100
 u64 18446744073709551615 = 88ffffffffffffffff
-u128 0 = 80
-u128 72057594037927936 = 880100000000000000
-u128 18446744073709551615 = 88ffffffffffffffff
 usize 18446744073709551615 = 88ffffffffffffffff";
 
 /// Arrays of no byte, one and three; options, of a text and of an array of 55 bytes; and a pair.
@@ -63,14 +47,9 @@ tagged 127 5 = 827f05
 tagged 128 5 = 828005
 tagged 255 256 = 84ff820100";
 
-/// Lists of numbers, of texts, and of pairs.
+/// Lists of no number of four bytes, and of pairs.
 const LISTS: &str = "\
-no_numbers = c0
-one_number = c10f
-five_numbers = c60102030781ff
-six_numbers = cb84ffffffff0102030781ff
 no_u32s = c0
-texts = c88363617483646f67
 pairs = c6c20102c20304";
 
 /// Lists of equal values: what they are, their number, and the encoding. The values are 0 and the empty
@@ -88,22 +67,8 @@ zeros 65536 = fa010000+80*65536
 sevens 65537 = fa010001+07*65537
 same_pairs 600 = f90708+c20102*600";
 
-/// Texts, which are read again. The last has 56 bytes, the shortest length whose header has more than
-/// one byte.
-const TEXTS: &str = "\
-text cat = 83636174
-text dog = 83646f67
-text Marek = 854d6172656b
-text = 80
-text Lorem ipsum dolor sit amet, consectetur adipisicing elit \
-    = b838+'Lorem ipsum dolor sit amet, consectetur adipisicing elit";
-
-/// Strings of bytes, which are read again: single bytes, and lengths at which the header gets longer.
+/// Strings of bytes, which are read again: a single byte, and lengths at which the header gets longer.
 const STRINGS: &str = "\
-string 00*0 = 80
-string 00 = 00
-string 15 = 15
-string 4000 = 824000
 string 80 = 8180
 string 00*55 = b7+00*55
 string 00*56 = b838+00*56
@@ -192,12 +157,7 @@ fn has_columns(alloc: Global, field: u64, count: usize, want: &[u8]) -> bool {
 /// Returns whether a list of values is written as these bytes.
 fn is_list(alloc: Global, kind: &str, count: usize, want: &[u8]) -> bool {
     match kind {
-        "no_numbers" => is_listed::<u64>(alloc, &[], want),
-        "one_number" => is_listed(alloc, &[0x0fu64], want),
-        "five_numbers" => is_listed(alloc, &[1u64, 2, 3, 7, 0xff], want),
-        "six_numbers" => is_listed(alloc, &[0xffff_ffffu64, 1, 2, 3, 7, 0xff], want),
         "no_u32s" => is_listed::<u32>(alloc, &[], want),
-        "texts" => is_listed(alloc, &["cat", "dog"], want),
         "pairs" => is_listed(alloc, &[Pair(1, 2), Pair(3, 4)], want),
         "zeros" => are_listed(alloc, 0u64, count, want) && are_listed(alloc, "", count, want),
         "sevens" => are_listed(alloc, 7u8, count, want),
@@ -225,28 +185,59 @@ fn is_text(alloc: Global, text: &str, want: &[u8]) -> bool {
     is_written(alloc, &text, want) && is_again(alloc, read, want)
 }
 
-/// Returns whether a string is written as these bytes, as a slice and as a vector, and is read again.
-fn is_string(alloc: Global, string: Vec<u8>, want: &[u8]) -> bool {
-    is_written(alloc, &string.as_slice(), want)
-        && is_written(alloc, &string, want)
-        && is_again(alloc, rlp::decode_strict::<Bytes>(alloc, want), want)
-        && is_again(alloc, rlp::decode_strict::<BytesMut>(alloc, want), want)
+/// Returns whether a string is written as these bytes, as a slice and as a vector.
+fn is_vector(alloc: Global, string: &Vec<u8>, want: &[u8]) -> bool {
+    is_written(alloc, &string.as_slice(), want) && is_written(alloc, string, want)
 }
 
-/// Fails with the first row that isn't met. A row is a kind of value, what it is made from, and behind
-/// ` = ` its bytes.
-fn all_met(alloc: Global) -> Result<(), Fail> {
-    for table in [NUMBERS, PARTS, STRUCTS, LISTS, REPEATED, TEXTS, STRINGS] {
+/// Returns whether a string of this kind is written as these bytes, and is read again. A `string` is
+/// one of each kind.
+fn is_string(alloc: Global, kind: &str, string: &Vec<u8>, want: &[u8]) -> Result<bool, AllocError> {
+    let shared = is_again(alloc, rlp::decode_strict::<Bytes>(alloc, want), want);
+    let unique = is_again(alloc, rlp::decode_strict::<BytesMut>(alloc, want), want);
+    let is_met = match kind {
+        "Vec" => is_vector(alloc, string, want),
+        "Bytes" => {
+            shared
+                && is_written(
+                    alloc,
+                    &Bytes::copy_from_slice(alloc, string.as_slice())?,
+                    want,
+                )
+        }
+        "BytesMut" => {
+            unique
+                && is_written(
+                    alloc,
+                    &BytesMut::copy_from_slice(alloc, string.as_slice())?,
+                    want,
+                )
+        }
+        _ => shared && unique && is_vector(alloc, string, want),
+    };
+    Ok(is_met)
+}
+
+/// Returns whether a value of this kind is written as these bytes.
+fn is_met(alloc: Global, kind: &str, text: &str, want: &[u8]) -> Result<bool, AllocError> {
+    match kind {
+        "text" => Ok(is_text(alloc, text, want)),
+        "Vec" | "Bytes" | "BytesMut" | "string" => {
+            is_string(alloc, kind, &bytes_of(alloc, text)?, want)
+        }
+        _ => Ok(is_value(alloc, kind, text, want)),
+    }
+}
+
+/// Fails with the first row of some tables that isn't met. A table has a row on each line: a kind of
+/// value, what it is made from, and behind ` = ` its bytes.
+pub(crate) fn all_met(alloc: Global, tables: &[&str]) -> Result<(), Fail> {
+    for table in tables {
         for row in table.lines() {
             let (what, want) = row.split_once(" = ").unwrap_or((row, ""));
             let (kind, text) = cut(what);
             let want = bytes_of(alloc, want)?;
-            let is_met = match kind {
-                "text" => is_text(alloc, text, want.as_slice()),
-                "string" => is_string(alloc, bytes_of(alloc, text)?, want.as_slice()),
-                _ => is_value(alloc, kind, text, want.as_slice()),
-            };
-            if !is_met {
+            if !is_met(alloc, kind, text, want.as_slice())? {
                 return Err(Fail::new(row));
             }
         }
@@ -273,23 +264,29 @@ fn three_are_joined(alloc: Global) -> Result<bool, AllocError> {
     Ok(three.as_slice() == b"\x83cat\x81\x80\x80".as_slice())
 }
 
-/// Returns whether a value that is refused in the middle of its bytes leaves the stream, and has no
-/// encoding.
-fn refused_value_leaves(alloc: Global) -> Result<bool, AllocError> {
+/// Returns whether a value that is refused leaves the stream, and has no encoding.
+fn is_refused<E: Encodable>(alloc: Global, value: &E) -> Result<bool, AllocError> {
     let mut s = RlpStream::new(alloc)?;
     put(&mut s, &"cat")?;
-    let refused = put(&mut s, &HalfWritten).is_err();
-    let alone = rlp::encode(alloc, &HalfWritten).is_err() && HalfWritten.rlp_bytes(alloc).is_err();
+    let refused = put(&mut s, value).is_err();
+    let alone = rlp::encode(alloc, value).is_err() && value.rlp_bytes(alloc).is_err();
     Ok(refused && alone && finishes_as(s, b"\x83cat"))
 }
 
 #[test]
 fn values_are_written(rt: HostRuntime) -> Result<(), Fail> {
     let alloc = rt.alloc();
-    all_met(alloc)?;
+    all_met(alloc, &[NUMBERS, PARTS, STRUCTS, LISTS, REPEATED, STRINGS])?;
     assert!(rt; NULL_RLP == [0x80] && EMPTY_LIST_RLP == [0xc0]);
     assert!(rt; holds_appended(alloc)?, "values, strings and texts");
     assert!(rt; three_are_joined(alloc)?, "three values");
-    assert!(rt; refused_value_leaves(alloc)?, "a refused value");
+    assert!(rt;
+        is_refused(alloc, &Trio(1, Refusing, 3))?,
+        "a list with a refused value"
+    );
+    assert!(rt;
+        is_refused(alloc, &HalfWritten)?,
+        "a value refused in the middle of its bytes"
+    );
     Ok(())
 }

@@ -1,0 +1,8 @@
+//! Tests that the Rust crate has too. They keep its names.
+
+mod lists;
+mod values;
+mod views;
+mod written;
+
+pub(crate) use views::HASHES;

@@ -1,0 +1,95 @@
+//! Headers and items of views. None of the calls takes memory.
+
+use crate::rows::{check_row, check_rows};
+use rlp_rows::Line;
+use std::test::Fail;
+
+/// A list of two numbers and two hashes.
+pub(crate) const HASHES: &str =
+    "f84d0589010efbef67941f79b2a056e81f171bcc55a6ff8345e692c0f86e5b48e01b996cadc00162\
+    2fb5e363b421a0c5d2460186f7233c927e7db2dcc703c0e500b653ca82273b7bfad8045d85a470";
+
+/// The text of that list.
+const HASHES_TEXT: &str =
+    "[\"0x05\", \"0x010efbef67941f79b2\", \"0x56e81f171bcc55a6ff8345e692c0f86e5\
+    b48e01b996cadc001622fb5e363b421\", \"0xc5d2460186f7233c927e7db2dcc703c0e500b653ca82273b7bfad8045d\
+    85a470\"]";
+
+#[test]
+fn test_rlp_display(rt: HostRuntime) -> Result<(), Fail> {
+    let mut wrong = Line::new();
+    check_row(
+        rt.alloc(),
+        "lenient view text",
+        HASHES,
+        HASHES_TEXT,
+        &mut wrong,
+    );
+    wrong.none_noted()
+}
+
+// The first item is asked for again.
+#[test]
+fn rlp_at(rt: HostRuntime) -> Result<(), Fail> {
+    check_rows(
+        rt.alloc(),
+        "lenient at",
+        &[
+            "c88363617483646f67 0 1 0 \
+            | Ok(83636174) Ok(\"cat\"); Ok(83646f67) Ok(\"dog\"); Ok(83636174) Ok(\"cat\");",
+        ],
+    )
+}
+
+// The number of items that are left stands before each, and the first item is asked for at the end.
+#[test]
+fn rlp_iter(rt: HostRuntime) -> Result<(), Fail> {
+    check_rows(
+        rt.alloc(),
+        "lenient iterated",
+        &[
+            "c88363617483646f67 0 | 2 (2, Some(2)) Ok(83636174); 1 (1, Some(1)) Ok(83646f67); \
+            0 (0, Some(0)); 0 (0, Some(0)); Ok(83636174) Ok(\"cat\");",
+        ],
+    )
+}
+
+#[test]
+fn rlp_at_with_offset(rt: HostRuntime) -> Result<(), Fail> {
+    check_rows(
+        rt.alloc(),
+        "lenient at_with_offset",
+        &["c88363617483646f67 0 1 0 | Ok(83636174) 1; Ok(83646f67) 5; Ok(83636174) 1;"],
+    )
+}
+
+#[test]
+fn rlp_at_err(rt: HostRuntime) -> Result<(), Fail> {
+    check_rows(
+        rt.alloc(),
+        "lenient item",
+        &[
+            "c88363617483646f 0 | Err(RlpIsTooShort) RlpIsTooShort",
+            "c88363617483646f 1 | Err(RlpIsTooShort) RlpIsTooShort",
+        ],
+    )
+}
+
+// The first bytes of the long headers of strings, without other bytes.
+#[test]
+fn test_rlp_is_int(rt: HostRuntime) -> Result<(), Fail> {
+    check_rows(
+        rt.alloc(),
+        "lenient view int",
+        &[
+            "b8 | false",
+            "b9 | false",
+            "ba | false",
+            "bb | false",
+            "bc | false",
+            "bd | false",
+            "be | false",
+            "bf | false",
+        ],
+    )
+}
