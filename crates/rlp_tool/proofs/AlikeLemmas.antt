@@ -1,20 +1,17 @@
 -- Calls that finish, and calls that leave a list open.
-use Rattle.std.proofs.Common.{◌≡◌, ◌<◌, ◌↔◌, inl, inr, ℕ, List, length, Option, Some, None, IsNone, IsSome, IfSome, Result, Ok, Err, IfErr, ap, ◌∙◌}
+use Rattle.std.proofs.Common.{◌≡◌, ◌↔◌, inr, ℕ, List, Option, Some, None, IsNone, Result, Ok, Err, IfErr, ap, ◌∙◌}
 use Rattle.rlp.specs.Streams.Stream.{State}
 use Rattle.rlp.specs.Streams.Calls.{Call, after}
 use Rattle.rlp.specs.Streams.Described.{FinishAs}
 use Rattle.rlp_tool.specs.declared.building.BuildFault.{BuildFault}
-use Rattle.rlp_tool.specs.Building.{AreJoined, DescribeItems, IsRefusal, IsRefusalOver, LeaveOpen, StayOpen}
+use Rattle.rlp_tool.specs.Building.{AreJoined, DescribeItems, IsRefusal, IsRefusalOver, LeaveOpen}
+use Rattle.rlp_tool.proofs.CallsLemmas.{same_last}
 
 -- calls that finish leave no list open
 pub finished_closed : (front : List ℕ) (calls : List Call) (bytes : List ℕ) → FinishAs front calls bytes → ¬ LeaveOpen front calls
-finished_closed front calls bytes done (size, (raw, open)) =
-    let both : Ok {E = ℕ} open.last ≡ Ok done.last = sym_of open.admitted done.admitted in
-    let same : open.last ≡ done.last = cc in
-    open.unfinished (ap (λ (s : State). s.stack.lists) same ∙ done.closed)
-  where
-    sym_of : {s t : State} → after front calls ≡ Ok s → after front calls ≡ Ok t → Ok {E = ℕ} s ≡ Ok t
-    sym_of e f = cc
+finished_closed front calls bytes done (size, (raw, left)) =
+    let same : left.last ≡ done.last = same_last (after front calls) left.last done.last left.admitted done.admitted in
+    left.unfinished (ap (λ (s : State). s.stack.lists) same ∙ done.closed)
 
 -- ---- an option that is `None` exactly if P holds
 

@@ -37,7 +37,7 @@ fn finished_over<E: Encodable>(
         → IsDescribed front.items (calls_of E.item calls.now) items
         → IfOk result (λ buffer. IsSome buffer) }
     ensures taken { OnOk result (AreTaken front.items (calls_of E.item calls.now)) }
-    ensures open { IfOk result
+    ensures left_open { IfOk result
         (λ buffer. IsNone buffer ↔ LeaveOpen front.items (calls_of E.item calls.now)) }
     ensures refused { IfErr result (IsRefusal front.items (calls_of E.item calls.now)) }
 {
@@ -69,7 +69,7 @@ pub fn finished_buffer<E: Encodable>(
 
     // If it returns `Ok`, each call passed its test.
     ensures taken { OnOk result (AreTaken front.now (calls_of E.item calls.now)) }
-    ensures open { IfOk result
+    ensures left_open { IfOk result
         (λ buffer. IsNone buffer ↔ LeaveOpen front.now (calls_of E.item calls.now)) }
     ensures refused { IfErr result (IsRefusalOver front.now (calls_of E.item calls.now)) }
 {
@@ -110,7 +110,7 @@ pub fn finish_alike<A: Encodable, B: Encodable>(
     ensures first_taken { OnOk result (AreTaken front.now (calls_of A.item one.now)) }
     ensures other_taken { OnOk result (LeaveOpen front.now (calls_of A.item one.now)
         ⊎ AreTaken front.now (calls_of B.item other.now)) }
-    ensures open { IfOk result (λ answer. IsNone answer
+    ensures left_open { IfOk result (λ answer. IsNone answer
         ↔ (LeaveOpen front.now (calls_of A.item one.now)
         ⊎ LeaveOpen front.now (calls_of B.item other.now))) }
 

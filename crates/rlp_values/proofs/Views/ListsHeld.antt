@@ -72,8 +72,7 @@ module _ (v : View) (xs : List Item) (fits : length v.bytes < 2 ^ 64) (holds : H
   framed : (p : PayloadInfo) × (framing v.bytes ≡ Ok p)
   framed =
       let item = encoding_item (list_of xs) sized in
-      let header : HasHeader v.bytes item.header_len item.value_len = subst (λ b. HasHeader b item.header_len item.value_len) (sym begins.1) (longer begins.0 item.has_header) in
-      (
+      let header : HasHeader v.bytes item.header_len item.value_len = subst (λ b. HasHeader b item.header_len item.value_len) (sym begins.1) (longer begins.0 item.has_header) in (
         payload_info item.header_len item.value_len,
         framing_is v.bytes item.header_len item.value_len header
             (omega (arith, item.whole, ap length begins.1, length-append (encoding (list_of xs)) begins.0)),
@@ -95,6 +94,8 @@ module _ (v : View) (xs : List Item) (fits : length v.bytes < 2 ^ 64) (holds : H
 pub held_at : (v : View) (before after : List Item) (x : Item) → length v.bytes < 2 ^ 64 → HoldsItem v (list_of (before ++ x ∷ after))
     → item_at v (length before) ≡ Ok (record v { bytes = encoding x })
 held_at v before after x fits holds =
-    (item_at-in_order v (record v { bytes = encoding x }) (length before)).1
-    (no_fault v (before ++ x ∷ after) fits holds, ap (λ vs. slice_get vs (length before)) (held_views v (before ++ x ∷ after) fits holds)
-    ∙ slice_get-middle (λ (y : Item). record v { bytes = encoding y }) before after x)
+    (item_at-in_order v (record v { bytes = encoding x }) (length before)).1 (
+      no_fault v (before ++ x ∷ after) fits holds,
+      ap (λ vs. slice_get vs (length before)) (held_views v (before ++ x ∷ after) fits holds)
+          ∙ slice_get-middle (λ (y : Item). record v { bytes = encoding y }) before after x,
+    )

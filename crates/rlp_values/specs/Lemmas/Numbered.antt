@@ -194,7 +194,7 @@ unfolding viewed
 item_at-in_order v item i = (
   λ e. (read_as_list v item i e, item_at-slice_get v item i e),
   λ (none, e). slice_get-item_at v item i (cond-true (begins_as_list v.bytes) (list_fault v) (Some RlpExpectedToBeList)
-  (begins_some v (items v.bytes) i item refl e) ∙ none) e,
+      (begins_some v (items v.bytes) i item refl e) ∙ none) e,
 )
 
 past_by : (v : View) (i j : ℕ) → length (items v.bytes) ≤ i → length (items v.bytes) ≤ j → Numbered v i → item_at v i ≡ item_at v j
@@ -229,6 +229,8 @@ pub item_at-list_item : (before after : List Item) (x : Item) (b : List ℕ) →
     → BeginsWith b (encoding (list_of (before ++ x ∷ after)))
     → item_at (view_of b) (length before) ≡ Ok (view_of (encoding x))
 item_at-list_item before after x b sized begins =
-    (item_at-in_order (view_of b) (view_of (encoding x)) (length before)).1
-    (refl, ap (λ vs. slice_get vs (length before)) (item_views-list (before ++ x ∷ after) b sized begins)
-    ∙ slice_get-middle (λ (y : Item). view_of (encoding y)) before after x)
+    (item_at-in_order (view_of b) (view_of (encoding x)) (length before)).1 (
+      refl,
+      ap (λ vs. slice_get vs (length before)) (item_views-list (before ++ x ∷ after) b sized begins)
+          ∙ slice_get-middle (λ (y : Item). view_of (encoding y)) before after x,
+    )

@@ -42,23 +42,23 @@ pub returns-in_err-first-clause-refused : goal.returns-in_err-first-clause-refus
 returns-in_err-first-clause-refused g c = inl c.in_err-first.ensures.refused
 
 pub returns-in_default-clause-other_taken : goal.returns-in_default-clause-other_taken
-returns-in_default-clause-other_taken g c = inl (none_holds c.in_ok-first.field-0 c.in_default.is c.in_ok-first.ensures.open)
+returns-in_default-clause-other_taken g c = inl (none_holds c.in_ok-first.field-0 c.in_default.is c.in_ok-first.ensures.left_open)
 
-pub returns-in_default-clause-open : goal.returns-in_default-clause-open
-returns-in_default-clause-open g c = (λ none. inl (none_holds c.in_ok-first.field-0 c.in_default.is c.in_ok-first.ensures.open), λ open. tt)
+pub returns-in_default-clause-left_open : goal.returns-in_default-clause-left_open
+returns-in_default-clause-left_open g c = (λ none. inl (none_holds c.in_ok-first.field-0 c.in_default.is c.in_ok-first.ensures.left_open), λ left. tt)
 
 pub returns-in_err-second-clause-refused : goal.returns-in_err-second-clause-refused
 returns-in_err-second-clause-refused g c =
     let joined : AreJoined c.args.front.now (calls_of g.A.Encodable.item c.args.one.now) c.in-Some.first.items = rw c.in-Some.is at c.in_ok-first.ensures.joined in
     inr (described_by c.args.front.now (calls_of g.A.Encodable.item c.args.one.now) c.in-Some.first.items joined, c.in_err-second.ensures.refused)
 
-pub returns-in_default-2-clause-open : goal.returns-in_default-2-clause-open
-returns-in_default-2-clause-open g c = (λ none. inr (none_holds c.in_ok-second.field-0 c.in_default-2.is c.in_ok-second.ensures.open), λ open. tt)
+pub returns-in_default-2-clause-left_open : goal.returns-in_default-2-clause-left_open
+returns-in_default-2-clause-left_open g c = (λ none. inr (none_holds c.in_ok-second.field-0 c.in_default-2.is c.in_ok-second.ensures.left_open), λ left. tt)
 
-pub returns-clause-open : goal.returns-clause-open
-returns-clause-open g c = (
+pub returns-clause-left_open : goal.returns-clause-left_open
+returns-clause-left_open g c = (
   λ none. absurd none,
   ⊎_elim
-      (some_fails c.in_ok-first.field-0 c.in-Some.first c.in-Some.is c.in_ok-first.ensures.open)
-      (some_fails c.in_ok-second.field-0 c.in-Some-2.second c.in-Some-2.is c.in_ok-second.ensures.open),
+      (some_fails c.in_ok-first.field-0 c.in-Some.first c.in-Some.is c.in_ok-first.ensures.left_open)
+      (some_fails c.in_ok-second.field-0 c.in-Some-2.second c.in-Some-2.is c.in_ok-second.ensures.left_open),
 )

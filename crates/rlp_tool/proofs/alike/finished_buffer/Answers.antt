@@ -15,8 +15,8 @@ returns-in-Ok-clause-described g c = λ items d.
 pub returns-in-Ok-clause-taken : goal.returns-in-Ok-clause-taken
 returns-in-Ok-clause-taken g c = rw c.in-Ok.ensures at c.finished_over.ensures.taken
 
-pub returns-in-Ok-clause-open : goal.returns-in-Ok-clause-open
-returns-in-Ok-clause-open g c = rw c.in-Ok.ensures at c.finished_over.ensures.open
+pub returns-in-Ok-clause-left_open : goal.returns-in-Ok-clause-left_open
+returns-in-Ok-clause-left_open g c = rw c.in-Ok.ensures at c.finished_over.ensures.left_open
 
 pub returns-in-Ok-clause-refused : goal.returns-in-Ok-clause-refused
 returns-in-Ok-clause-refused g c =

@@ -7,14 +7,14 @@ use Rattle.rlp_tool.proofs.alike.finished_over.Goals as goal
 pub returns-in-Ok-Open-clause-described : goal.returns-in-Ok-Open-clause-described
 returns-in-Ok-Open-clause-described g c = λ items d. absurd (rw c.in-Ok-Open.field-0-is at (c.in-Ok-Open.ensures.described items d))
 
-pub returns-in-Ok-Finished-clause-open : goal.returns-in-Ok-Finished-clause-open
-returns-in-Ok-Finished-clause-open g c =
+pub returns-in-Ok-Finished-clause-left_open : goal.returns-in-Ok-Finished-clause-left_open
+returns-in-Ok-Finished-clause-left_open g c =
     let calls = calls_of g.E.Encodable.item c.args.calls.now in
     let done : FinishAs c.args.front.items calls c.in-Ok-Finished.bytes.items = rw c.in-Ok-Finished.field-0-is at c.in-Ok-Finished.ensures.ok in
-    (λ none. absurd none, λ open. finished_closed c.args.front.items calls c.in-Ok-Finished.bytes.items done open)
+    (λ none. absurd none, λ left. finished_closed c.args.front.items calls c.in-Ok-Finished.bytes.items done left)
 
-pub returns-in-Ok-Open-clause-open : goal.returns-in-Ok-Open-clause-open
-returns-in-Ok-Open-clause-open g c =
+pub returns-in-Ok-Open-clause-left_open : goal.returns-in-Ok-Open-clause-left_open
+returns-in-Ok-Open-clause-left_open g c =
     let calls = calls_of g.E.Encodable.item c.args.calls.now in
-    let open : StayOpen c.args.front.items calls c.in-Ok-Open.size c.in-Ok-Open.raw.items = rw c.in-Ok-Open.field-0-is at c.in-Ok-Open.ensures.ok in
-    (λ none. (c.in-Ok-Open.size, (c.in-Ok-Open.raw.items, open)), λ left. tt)
+    let left : StayOpen c.args.front.items calls c.in-Ok-Open.size c.in-Ok-Open.raw.items = rw c.in-Ok-Open.field-0-is at c.in-Ok-Open.ensures.ok in
+    (λ none. (c.in-Ok-Open.size, (c.in-Ok-Open.raw.items, left)), λ left. tt)
