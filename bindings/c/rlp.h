@@ -1,8 +1,8 @@
 /* The Recursive Length Prefix format of Ethereum. Link librlp.a or librlp.so; neither needs another library.
  *
- * It is proved, for all bytes, lengths and items, that each function answers and leaves its result parameters as stated
- * at the function. None takes memory, keeps a pointer, has a state, or writes elsewhere than through its result
- * parameters, so calls may run at the same time: that is how they are written, and no part of what is proved.
+ * What each function answers, and what it leaves in its result parameters, is proved to be as stated here, for all
+ * bytes, lengths and items. By the way they are written, and by no proof, none takes memory, keeps a pointer or has a
+ * state; none writes elsewhere than through its result parameters. So calls may run at the same time.
  *
  * A caller owes this, and nothing tests it: `bytes` are `len` readable bytes, `items` are `items_len` readable
  * elements, and `out` are `cap` writable ones. A pointer may be NULL if its length is 0. Result parameters are aligned,
