@@ -1,7 +1,8 @@
 /* The Recursive Length Prefix format of Ethereum. Link librlp.a or librlp.so; neither needs another library.
  *
- * The functions are proved to answer as stated here, for all bytes, lengths and items. None takes memory, keeps a
- * pointer, has a state, or writes elsewhere than through its result parameters, so calls may run at the same time.
+ * What each function answers, and what it leaves in its result parameters, is proved to be as stated here, for all
+ * bytes, lengths and items. By the way they are written, and by no proof, none takes memory, keeps a pointer or has a
+ * state; none writes elsewhere than through its result parameters. So calls may run at the same time.
  *
  * A caller owes this, and nothing tests it: `bytes` are `len` readable bytes, `items` are `items_len` readable
  * elements, and `out` are `cap` writable ones. A pointer may be NULL if its length is 0. Result parameters are aligned,
@@ -22,12 +23,13 @@ extern "C" {
 #define RLP_RESTRICT restrict
 #endif
 
-/* How a call went. After a status other than RLP_OK and RLP_NO_ROOM the result parameters are as they were, except for
- * the elements of `out` of functions that find several items, which then have no meaning, and as rlp_transaction says. */
+/* How a call went. After RLP_OK the elements of `out` behind the first `*count` are as they were. After a status other
+ * than RLP_OK and RLP_NO_ROOM the result parameters are as they were, except for the elements of `out` of functions that
+ * find several items, which then have no meaning, and as rlp_transaction says. */
 typedef enum rlp_status {
     RLP_OK = 0,
-    RLP_IS_TOO_BIG = 1,                     /* bytes follow the item, or a number or an address has too many */
-    RLP_IS_TOO_SHORT = 2,                   /* the bytes end before the item does, or an address has too few */
+    RLP_IS_TOO_BIG = 1,                     /* bytes follow the item, or a field or a number is too big */
+    RLP_IS_TOO_SHORT = 2,                   /* the bytes end before the item does, or a field is too short */
     RLP_EXPECTED_TO_BE_LIST = 3,            /* a string, or no bytes, in place of a list */
     RLP_EXPECTED_TO_BE_DATA = 4,            /* a list in place of a string */
     RLP_INCORRECT_LIST_LEN = 5,             /* a record of Ethereum has a field too few or too many */
@@ -39,10 +41,10 @@ typedef enum rlp_status {
     RLP_NO_ROOM = 13,                       /* `cap` is less than `*count`, which is what is needed */
     RLP_TOO_DEEP = 14,                      /* there are more lists, one in the other, than allowed */
     RLP_BAD_ITEMS = 15,                     /* the items describe no tree, or lie outside the bytes */
-    RLP_UNKNOWN_TYPE = 16                   /* a transaction has a type other than 0 to 4 */
+    RLP_UNKNOWN_TYPE = 16                   /* a transaction begins no list, and its first byte isn't 1 to 4 */
 } rlp_status;
 
-/* No call goes deeper into lists that hold lists, whatever the caller allows. It bounds the stack of a call at 64 KiB. */
+/* No call goes deeper into lists that hold lists, whatever the caller allows. */
 #define RLP_DEPTH_LIMIT 256
 
 /* An item of some bytes: 32 bytes on a 64-bit machine, without padding. */
@@ -76,20 +78,22 @@ uint32_t rlp_flatten(const uint8_t *RLP_RESTRICT bytes, size_t len, uint32_t max
 
 /* Finds the fields of the transaction that the bytes are by themselves, as in EIP-2718, at depth 1 and in order:
  * `*count` of them. `*transaction_type` is 0 for a legacy transaction, which is a list, and else the byte in front of the
- * list: 1 (EIP-2930), 2 (EIP-1559), 3 (EIP-4844) or 4 (EIP-7702). Each field is tested: numbers of at most 8 or 32 bytes,
- * addresses of 20, and the lists in a transaction to their last item. After RLP_NO_ROOM the elements of `out` have no
- * meaning. After a fault `*count` is the number of the field that has it or is missing, 1 for the first, and 0 if the
- * whole has it.
+ * list: 1 (EIP-2930), 2 (EIP-1559), 3 (EIP-4844) or 4 (EIP-7702). Each field is tested, and the lists in a transaction to
+ * their last item. A number has at most 8 or 32 bytes, an address 20 and a hash 32. The parity of a signature is 0 or 1;
+ * in an authorization it is a number of at most one byte. After RLP_NO_ROOM the elements of `out` have no meaning. After
+ * a fault `*count` is the number of the field that has it or is missing, 1 for the first, and 0 if the whole has it.
  * Status: 0, 1, 2, 3, 4, 5, 6, 7, 8, 13, 16; after 2 for no bytes, and 16, `*transaction_type` is as it was. */
 uint32_t rlp_transaction(const uint8_t *RLP_RESTRICT bytes, size_t len, uint32_t *RLP_RESTRICT transaction_type,
                          rlp_item *RLP_RESTRICT out, size_t cap, size_t *RLP_RESTRICT count);
 
 /* Finds the fields of the header of a block that the bytes are: 15, or since London 16, Shanghai 17, Cancun 20, Prague 21.
- * Otherwise as rlp_transaction. Status: 0, 1, 2, 3, 4, 5, 6, 7, 8, 13. */
+ * The bloom filter has 256 bytes, and the nonce 8. Otherwise as rlp_transaction.
+ * Status: 0, 1, 2, 3, 4, 5, 6, 7, 8, 13. */
 uint32_t rlp_header_fields(const uint8_t *RLP_RESTRICT bytes, size_t len, rlp_item *RLP_RESTRICT out, size_t cap,
                            size_t *RLP_RESTRICT count);
 
-/* Finds the string that the bytes begin with. If `strict`, nothing may follow it: use that for untrusted bytes.
+/* Finds the string that the bytes begin with, as rlp_header finds an item: it lies within the bytes, at `offset` 0 and
+ * `depth` 0. If `strict`, nothing may follow it: use that for untrusted bytes.
  * Status: 0, 1, 2, 4, 8, 9, 10. */
 uint32_t rlp_decode_bytes(const uint8_t *RLP_RESTRICT bytes, size_t len, bool strict, rlp_item *RLP_RESTRICT out);
 
@@ -97,7 +101,8 @@ uint32_t rlp_decode_bytes(const uint8_t *RLP_RESTRICT bytes, size_t len, bool st
 uint32_t rlp_decode_u64(const uint8_t *RLP_RESTRICT bytes, size_t len, bool strict, uint64_t *RLP_RESTRICT out);
 
 /* Finds the digits to the base 256 of the number that the bytes begin with, the greatest first, without a zero in front
- * and at most `width` of them. The number 0 has none. `strict` and status as for rlp_decode_bytes. */
+ * and at most `width` of them: the string that rlp_decode_bytes finds. The number 0 has none. `strict` and status as for
+ * rlp_decode_bytes. */
 uint32_t rlp_decode_uint(const uint8_t *RLP_RESTRICT bytes, size_t len, bool strict, size_t width,
                          rlp_item *RLP_RESTRICT out);
 

@@ -101,8 +101,29 @@ static void two_bytes(void) {
     }
 }
 
+/* The row that a string is found with is the one by its header, and elements behind the items stay. */
+static void rows(void) {
+    rlp_item row = {1, 2, 3, 4, 5}, cat = {0, 1, 3, 0, 0}, five = {0, 0, 1, 0, 0}, none = {0, 1, 0, 0, 0}, *items;
+    size_t count;
+    CHECK(rlp_decode_bytes(BYTES("\x83" "cat"), true, &row) == RLP_OK && same_items(&row, &cat, 1));
+    CHECK(rlp_decode_bytes(BYTES("\x83" "cat" "\x05"), false, &row) == RLP_OK && same_items(&row, &cat, 1));
+    CHECK(rlp_decode_uint(BYTES("\x83" "cat"), true, 3, &row) == RLP_OK && same_items(&row, &cat, 1));
+    CHECK(rlp_decode_bytes(BYTES("\x80"), true, &row) == RLP_OK && same_items(&row, &none, 1));
+    CHECK(rlp_decode_uint(BYTES("\x80"), true, 0, &row) == RLP_OK && same_items(&row, &none, 1));
+    CHECK(rlp_decode_uint(BYTES("\x05"), true, 1, &row) == RLP_OK && same_items(&row, &five, 1));
+    CHECK(rlp_decode_bytes(BYTES("\x05"), true, &row) == RLP_OK && same_items(&row, &five, 1));
+    CHECK(rlp_decode_bytes(BYTES("\xc0"), true, &row) == RLP_EXPECTED_TO_BE_DATA && same_items(&row, &five, 1));
+    items = items_for(0, 2);
+    CHECK(rlp_split(BYTES("\xc0"), items, 2, &count) == RLP_OK && count == 0 && are_marked(items, 2));
+    items = items_for(1, 1);
+    CHECK(rlp_split(BYTES("\xc1\x05"), items, 2, &count) == RLP_OK && count == 1 && are_marked(items + 1, 1));
+    items = items_for(2, 3);
+    CHECK(rlp_flatten(BYTES("\xc1\x05"), 1, items, 5, &count) == RLP_OK && count == 2 && are_marked(items + 2, 3));
+}
+
 int main(void) {
     each_status();
+    rows();
     null_and_nothing();
     depths();
     two_bytes();

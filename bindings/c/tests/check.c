@@ -42,6 +42,21 @@ uint8_t *copied(enum place place, const uint8_t *bytes, size_t len) {
     return room;
 }
 
+/* What an element is marked with. No item has such a row. */
+static const rlp_item MARK = {SIZE_MAX, 77, SIZE_MAX, 999, 2};
+
+rlp_item *items_for(size_t count, size_t behind) {
+    rlp_item *items = room_for(ITEMS, (count + behind) * sizeof *items);
+    for (size_t i = 0; i < behind; i++) items[count + i] = MARK;
+    return items;
+}
+
+bool are_marked(const rlp_item *items, size_t behind) {
+    for (size_t i = 0; i < behind; i++)
+        if (!same_items(&items[i], &MARK, 1)) return false;
+    return true;
+}
+
 bool same_items(const rlp_item *one, const rlp_item *other, size_t count) {
     return count == 0 || memcmp(one, other, count * sizeof *one) == 0;
 }

@@ -16,6 +16,10 @@ enum place { INPUT, ITEMS, OUTPUT, PLACES };
 void *room_for(enum place place, size_t size);
 uint8_t *copied(enum place place, const uint8_t *bytes, size_t len);
 
+/* Elements for items, and this number of elements behind them. Those behind are marked, and tell whether they still are. */
+rlp_item *items_for(size_t count, size_t behind);
+bool are_marked(const rlp_item *items, size_t behind);
+
 /* Whether two arrays of items are equal. */
 bool same_items(const rlp_item *one, const rlp_item *other, size_t count);
 

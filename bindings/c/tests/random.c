@@ -57,40 +57,36 @@ static size_t spoil(uint8_t *bytes, size_t len) {
     return len + (kind == 5) - (kind == 6);
 }
 
-/* The items of a whole tree, and with one element too few only their number. */
+/* The items of a whole tree, and with one element too few only their number. Elements behind the items stay. */
 static bool flattens(const uint8_t *bytes, size_t len, uint32_t max_depth, size_t *found) {
-    size_t count = 77, want = 77;
+    size_t count = 77, want = 77, behind = len % 3;
     uint32_t status = plain_flatten(bytes, len, max_depth, wanted, MOST, &want);
-    rlp_item *items = room_for(ITEMS, (status ? len : want) * sizeof *items);
-    if (rlp_flatten(bytes, len, max_depth, items, status ? len : want, &count) != status || count != want) return false;
+    size_t cap = status ? len : want + behind;
+    rlp_item *items = status ? room_for(ITEMS, cap * sizeof *items) : items_for(want, behind);
+    if (rlp_flatten(bytes, len, max_depth, items, cap, &count) != status || count != want) return false;
     if (rlp_is_canonical(bytes, len, max_depth) != (status == RLP_OK)) return false;
     *found = status ? 0 : count;
     if (status) return true;
-    if (!same_items(items, wanted, count)) return false;
+    if (!same_items(items, wanted, count) || !are_marked(items + count, behind)) return false;
     items = room_for(ITEMS, (want - 1) * sizeof *items);
     count = 0;
     return rlp_flatten(bytes, len, max_depth, items, want - 1, &count) == RLP_NO_ROOM && count == want;
 }
 
 static bool splits(const uint8_t *bytes, size_t len) {
-    size_t count = 77, want = 77;
+    size_t count = 77, want = 77, behind = len % 3;
     uint32_t status = plain_split(bytes, len, wanted, MOST, &want);
-    size_t cap = status ? len : want;
-    rlp_item *items = room_for(ITEMS, cap * sizeof *items);
+    size_t cap = status ? len : want + behind;
+    rlp_item *items = status ? room_for(ITEMS, cap * sizeof *items) : items_for(want, behind);
     if (rlp_split(bytes, len, items, cap, &count) != status || count != want) return false;
     if (status) return true;
-    if (!same_items(items, wanted, count)) return false;
+    if (!same_items(items, wanted, count) || !are_marked(items + count, behind)) return false;
     if (want == 0) return true;
     items = room_for(ITEMS, (want - 1) * sizeof *items);
     return rlp_split(bytes, len, items, want - 1, &count) == RLP_NO_ROOM && count == want;
 }
 
-/* Whether two calls found the same payload, or the same fault and left their results alone. */
-static bool same_place(uint32_t status, const rlp_item *one, uint32_t other_status, const rlp_item *other) {
-    return status == other_status && one->offset + one->header_len == other->offset + other->header_len
-        && one->payload_len == other->payload_len;
-}
-
+/* The item, string and numbers that the bytes begin with. After a fault the results are as they were. */
 static bool reads_values(const uint8_t *bytes, size_t len, bool strict, size_t width) {
     rlp_item untouched = {1, 2, 3, 4, 5}, *found = room_for(ITEMS, sizeof *found), want = untouched;
     uint64_t *number = room_for(OUTPUT, sizeof *number), want_number = 77;
@@ -99,10 +95,10 @@ static bool reads_values(const uint8_t *bytes, size_t len, bool strict, size_t w
     if (status != plain_header(bytes, len, &want) || !same_items(found, &want, 1)) return false;
     *found = want = untouched;
     status = rlp_decode_bytes(bytes, len, strict, found);
-    if (!same_place(status, found, plain_decode_bytes(bytes, len, strict, &want), &want)) return false;
+    if (status != plain_decode_bytes(bytes, len, strict, &want) || !same_items(found, &want, 1)) return false;
     *found = want = untouched;
     status = rlp_decode_uint(bytes, len, strict, width, found);
-    if (!same_place(status, found, plain_decode_uint(bytes, len, strict, width, &want), &want)) return false;
+    if (status != plain_decode_uint(bytes, len, strict, width, &want) || !same_items(found, &want, 1)) return false;
     *number = want_number;
     status = rlp_decode_u64(bytes, len, strict, number);
     return status == plain_decode_u64(bytes, len, strict, &want_number) && *number == want_number;

@@ -58,8 +58,11 @@ static bool is_answered(bool is_header, const uint8_t *bytes, size_t len, const 
     else snprintf(text, sizeof text, "type %u, %zu fields", (unsigned)type, count);
     rlp_item *items = room_for(ITEMS, (count - 1) * sizeof *items);
     if (call(is_header, bytes, len, &type, items, count - 1, &again) != RLP_NO_ROOM || again != count) return false;
-    items = room_for(ITEMS, count * sizeof *items);
+    items = items_for(count, 0);
     if (call(is_header, bytes, len, &type, items, count, &again) != RLP_OK || again != count) return false;
+    if (!are_items(bytes, len, bytes[0] < 0xc0, items, count)) return false;
+    items = items_for(count, 2);
+    if (call(is_header, bytes, len, &type, items, count + 2, &again) != RLP_OK || again != count || !are_marked(items + count, 2)) return false;
     return strcmp(text, row) == 0 && are_items(bytes, len, bytes[0] < 0xc0, items, count);
 }
 

@@ -131,12 +131,21 @@ pub fn decode_whole<T: StrictRead>(alloc: Global, bytes: &[u8]) -> Result<T, Dec
 }
 
 /// The values of the list whose whole encoding the bytes are, for a type with [`StrictRead`]:
-/// [`decode_list_strict`], with what the law of the trait says of a list.
+/// [`decode_list_strict`], with what the law of the trait says of a list:
+///
+/// - The values fit, and the bytes are the encoding of their list.
+/// - For the encoding of a list of values that fit, the result has values alike to them, or is
+///   `OutOfMemory` if memory is refused.
 ///
 /// ```rust
 /// assert_eq!(rt; rlp::decode_list_whole::<u64>(alloc, &[0xc2, 0x05, 0x06])?.as_slice(), [5, 6].as_slice());
 /// ```
 pub fn decode_list_whole<T: StrictRead>(alloc: Global, bytes: &[u8]) -> Result<Vec<T>, DecoderError>
+    ensures whole { IfOk result (λ ws. All T.fits ws.items
+        × (bytes.now ≡ encoding (list_of (map T.item ws.items)))) }
+    ensures fault { IfErr result
+        (λ e. (AreBytes bytes.now × FaultsAsList T.gives T.faults (strict_view_of bytes.now) e)
+        ⊎ ((e ≡ OutOfMemory) × MayLackAsList T.gives T.may_lack_memory (strict_view_of bytes.now))) }
     ensures only { (vs : List T)
         → IsOkAnd result (λ ws. map T.item ws.items ≡ map T.item vs)
         → bytes.now ≡ encoding (list_of (map T.item vs)) }

@@ -1,3 +1,5 @@
+-- the numbers of faults
+mod Statuses
 -- where the string that bytes begin with is
 mod Strings
 -- the answer of a whole walk

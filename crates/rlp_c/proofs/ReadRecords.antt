@@ -3,10 +3,6 @@ use Rattle.std.proofs.Common.{◌≡◌, ℕ, zero, suc, ◌+◌, ◌^◌, ◌<�
 use Rattle.std.proofs.Common.{arith, Some, None, leb-true}
 use Rattle.std.proofs.lemmas.Bool.{eqb-true}
 use Rattle.rlp_values.specs.declared.error.DecoderError.{DecoderError}
-use Rattle.rlp_values.specs.declared.error.DecoderError.TheVariants.{RlpIsTooBig, RlpIsTooShort, RlpExpectedToBeList, RlpExpectedToBeData}
-use Rattle.rlp_values.specs.declared.error.DecoderError.TheVariants.{RlpIncorrectListLen, RlpDataLenWithZeroPrefix, RlpListLenWithZeroPrefix}
-use Rattle.rlp_values.specs.declared.error.DecoderError.TheVariants.{RlpInvalidIndirection, RlpInconsistentLengthAndData, RlpInvalidLength, Custom}
-use Rattle.rlp_values.specs.declared.error.DecoderError.TheVariants.{OutOfMemory}
 use Rattle.rlp_values.specs.Format.Split.{begins_as_list, payload}
 use Rattle.rlp_values.specs.Format.Strict.{strict_list_fault}
 use Rattle.rlp_format.specs.Format.WrittenHeader.{AreBytes}
@@ -39,6 +35,7 @@ use Rattle.rlp_c.specs.Records.{legacy as read_legacy, typed as read_typed, unkn
 use Rattle.rlp_c.specs.Status.{fault_status}
 use Rattle.rlp_c.proofs.ReadFields.{IsSound, ◌⨟◌, after_part, bytes_sound, exactly_sound, fields_fine_as, list_sound, no_more, number_sound, parity_sound}
 use Rattle.rlp_c.proofs.ReadFields.{recipient_sound, struct_sound}
+use Rattle.rlp_c.proofs.Statuses.{status_within}
 use Rattle.rlp_c.proofs.WrittenRecords.{above_unknown}
 
 -- ---- the fields of each type
@@ -124,20 +121,6 @@ header_sound b bytes short whole none e = fields_fine_as 3 Header b bytes short 
     ⨟ number_sound 8 ⨟ number_sound 8 ⨟ exactly_sound 32 ⨟ exactly_sound 32 ⨟ no_more) e
 
 -- ---- the answers
-
-status_within : (e : DecoderError) → (0 < fault_status e) × (fault_status e < 13)
-status_within RlpIsTooBig = (omega arith, omega arith)
-status_within RlpIsTooShort = (omega arith, omega arith)
-status_within RlpExpectedToBeList = (omega arith, omega arith)
-status_within RlpExpectedToBeData = (omega arith, omega arith)
-status_within RlpIncorrectListLen = (omega arith, omega arith)
-status_within RlpDataLenWithZeroPrefix = (omega arith, omega arith)
-status_within RlpListLenWithZeroPrefix = (omega arith, omega arith)
-status_within RlpInvalidIndirection = (omega arith, omega arith)
-status_within RlpInconsistentLengthAndData = (omega arith, omega arith)
-status_within RlpInvalidLength = (omega arith, omega arith)
-status_within (Custom text) = (omega arith, omega arith)
-status_within OutOfMemory = (omega arith, omega arith)
 
 no_fault_found : (e : DecoderError) (status : ℕ) → status ≡ fault_status e → ¬ IsFound status
 no_fault_found e status is (inl ok) = let within = status_within e in omega (arith, is, ok, within.0)

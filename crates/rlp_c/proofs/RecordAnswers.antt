@@ -1,5 +1,5 @@
 -- The answers for transactions and headers.
-use Rattle.std.proofs.Common.{◌≡◌, ℕ, ◌+◌, ◌-◌, ◌<◌, ◌≤◌, ◌^◌, true, List, [], ◌∷◌, length, take, drop, slice_index_or, refl, sym, ap, ◌∙◌, arith, Option, Some, None, Ok}
+use Rattle.std.proofs.Common.{◌≡◌, ℕ, ◌+◌, ◌-◌, ◌<◌, ◌≤◌, ◌^◌, true, List, [], ◌∷◌, ◌++◌, length, take, drop, slice_index_or, refl, sym, ap, ◌∙◌, arith, Option, Some, None, Ok}
 use Rattle.std.proofs.lemmas.List.{take_all}
 use Rattle.rlp_values.specs.declared.error.DecoderError.{DecoderError}
 use Rattle.rlp_values.specs.declared.header.PayloadInfo.{PayloadInfo}
@@ -15,6 +15,7 @@ use Rattle.rlp_c.specs.Rows.{header_length, rows_at}
 use Rattle.rlp_c.specs.Status.{fault_status}
 use Rattle.rlp_values.specs.Format.Walk.{Extends}
 use Rattle.rlp_values.proofs.Trees.Needless.{whole_item}
+use Rattle.rlp_values.proofs.Trees.Rows.{extends_start}
 use Rattle.rlp_c.proofs.Splitting.{rows_counted}
 use Rattle.rlp_values.proofs.Trees.Walks.{content_payload}
 
@@ -44,11 +45,10 @@ module _ (r : Record) (place : ℕ) (b q : List ℕ) (h : PayloadInfo) (old new 
         → Extends old 0 (rows_at (place + h.header_len) 1 (split q)) new → IsRecordRead r place b old new n 0
     read_filled n fine count fits header wrote =
         let len = rows_counted (place + h.header_len) 1 (split q) in
-        let total : n ≡ 0 + length (rows_at (place + h.header_len) 1 (split q)) = omega (arith, count, len) in
         filled is_list (inside None fine) (count ∙ ap length (value-items b q kind found)) fits
-        (ap (λ k. take k new) total ∙ wrote.filled (omega (arith, fits, total))
-        ∙ ap (λ f. rows_at (place + header_length f) 1 (split q)) (sym header)
-        ∙ ap (rows_at (place + header_length (framing b)) 1) (value-items b q kind found)) refl
+        (extends_start old new n (rows_at (place + h.header_len) 1 (split q)) wrote (omega (arith, count, len)) fits
+        ∙ ap (λ f. rows_at (place + header_length f) 1 (split q) ++ drop n old) (sym header)
+        ∙ ap (λ fs. rows_at (place + header_length (framing b)) 1 fs ++ drop n old) (value-items b q kind found)) refl
 
 -- the first byte, and the others
 pub first_and_rest : (b : List ℕ) → 1 ≤ length b → b ≡ slice_index_or b 0 0 ∷ take (length b - 1) (drop 1 b)

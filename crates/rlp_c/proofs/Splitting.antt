@@ -1,5 +1,5 @@
 -- The walk over the items of one list.
-use Rattle.std.proofs.Common.{◌≡◌, ℕ, ◌+◌, ◌-◌, ◌<◌, ◌≤◌, ◌⊎◌, inl, inr, suc, true, List, [], ◌∷◌, ◌++◌, length, take, refl, sym, ap, ◌∙◌}
+use Rattle.std.proofs.Common.{◌≡◌, ℕ, ◌+◌, ◌-◌, ◌<◌, ◌≤◌, ◌⊎◌, inl, inr, suc, true, List, [], ◌∷◌, ◌++◌, length, drop, refl, sym, ap, ◌∙◌}
 use Rattle.std.proofs.Common.{subst, arith, Ok, Some, None, append-nil, append_assoc, length-append}
 use Rattle.rlp_values.specs.declared.error.DecoderError.{DecoderError}
 use Rattle.rlp_values.specs.declared.header.PayloadInfo.{PayloadInfo}
@@ -12,7 +12,7 @@ use Rattle.rlp_c.specs.declared.item.RlpItem.{RlpItem}
 use Rattle.rlp_c.specs.Rows.{IsItemized, header_length, row, row_by, rows_at}
 use Rattle.rlp_c.specs.Status.{fault_status}
 use Rattle.rlp_values.specs.Format.Walk.{Extends}
-use Rattle.rlp_values.proofs.Trees.Rows.{extends_both}
+use Rattle.rlp_values.proofs.Trees.Rows.{extends_both, extends_start}
 use Rattle.std.specs.List.{concat}
 
 -- the first items have rows, and the others are those of the rest
@@ -28,7 +28,7 @@ pub record IsSplitting (p rest : List ℕ) (place : ℕ) (old new : List RlpItem
 
 rows_none : (old : List RlpItem) (place : ℕ) → Extends old 0 (rows_at place 1 []) old
 unfolding rows_at
-rows_none old place = record { same_len = refl; filled = λ fits. refl }
+rows_none old place = record { same_len = refl; filled = λ fits. refl; behind = refl }
 
 length_none : (place : ℕ) → 0 ≡ length (rows_at place 1 [])
 unfolding rows_at
@@ -132,10 +132,9 @@ itemized b q h old new old_count n status kind whole found header none count row
     roomy : (b : List ℕ) (old new : List RlpItem) (n status : ℕ) → n ≡ length (items b) → Extends old 0 (rows_at (header_length (framing b)) 1 (items b)) new
         → length (rows_at (header_length (framing b)) 1 (items b)) ≡ length (items b)
         → ((n ≤ length old) × (status ≡ 0)) ⊎ ((length old < n) × (status ≡ 13))
-        → ((n ≤ length old) × (status ≡ 0) × (take n new ≡ rows_at (header_length (framing b)) 1 (items b))) ⊎ ((length old < n) × (status ≡ 13))
+        → ((n ≤ length old) × (status ≡ 0) × (new ≡ rows_at (header_length (framing b)) 1 (items b) ++ drop n old)) ⊎ ((length old < n) × (status ≡ 13))
     roomy b old new n status counted wrote len (inl (fits, ok)) =
-        let total : n ≡ 0 + length (rows_at (header_length (framing b)) 1 (items b)) = omega (arith, counted, len) in
-        inl (fits, ok, ap (λ k. take k new) total ∙ wrote.filled (omega (arith, fits, counted, len)))
+        inl (fits, ok, extends_start old new n (rows_at (header_length (framing b)) 1 (items b)) wrote (omega (arith, counted, len)) fits)
     roomy b old new n status counted wrote len (inr full) = inr full
 
 -- the answer for what isn't a list

@@ -1,5 +1,5 @@
 -- The answers for transactions and headers that are written.
-use Rattle.std.proofs.Common.{◌≡◌, ℕ, ◌+◌, ◌^◌, ◌<◌, Bool, true, false, nat_le, List, [], ◌∷◌, length, map, refl, sym, ap, ◌∙◌, suc, IfSome, All, subst, arith, append-nil, Option, Some, None, leb-true}
+use Rattle.std.proofs.Common.{◌≡◌, ℕ, ◌+◌, ◌^◌, ◌<◌, Bool, true, false, nat_le, List, [], ◌∷◌, ◌++◌, length, map, drop, refl, sym, ap, ◌∙◌, suc, IfSome, All, subst, arith, append-nil, Option, Some, None, leb-true}
 use Rattle.std.specs.Vec.{vec_items}
 use Rattle.std.proofs.lemmas.Bool.Decides.{nat_tests}
 use Rattle.std.proofs.lemmas.List.{length-map}
@@ -166,8 +166,8 @@ module _ (r : Record) (place : ℕ) (xs : List Item) (b : List ℕ) (short : len
 
   pub record_placed : IsRecordRead r place b old new count status → ArePlaced place (list_of xs) old new count status
   record_placed (read_filled whole fine number fits rows done) =
-      filled (number ∙ many) fits (rows ∙ ap (rows_at (place + header_length (framing b)) 1) same
-      ∙ ap (λ b. rows_at (place + header_length (framing b)) 1 (map encoding (fields_in (list_of xs)))) is) done
+      filled (number ∙ many) fits (rows ∙ ap (λ fs. rows_at (place + header_length (framing b)) 1 fs ++ drop count old) same
+      ∙ ap (λ b. rows_at (place + header_length (framing b)) 1 (map encoding (fields_in (list_of xs))) ++ drop count old) is) done
   record_placed (read_full whole fine number full done) = no_room (number ∙ many) full done
   record_placed (read_fault i e whole fault number done) = let none = no_fault in absurd (let no : ⊥ = cc in no)
   record_placed (read_no_list e fault number done) = let none = strict_list_fault-encoding xs b sized is in absurd (let no : ⊥ = cc in no)

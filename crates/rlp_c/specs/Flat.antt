@@ -1,5 +1,5 @@
 -- A tree as rows, one for each item, in the order in which the items begin.
-use Rattle.std.specs.Prelude.{ℕ, ◌≡◌, ◌<◌, ◌≤◌, List, length, take, Some}
+use Rattle.std.specs.Prelude.{ℕ, ◌≡◌, ◌<◌, ◌≤◌, List, ◌++◌, length, drop, Some}
 use Rattle.rlp_values.specs.declared.flat.FlatItem.{FlatItem}
 use Rattle.rlp_values.specs.declared.flat.TreeFault.{TreeFault}
 use Rattle.rlp_format.specs.Format.Item.{Item, Items, item_depth}
@@ -24,10 +24,10 @@ abbrev pub flat_items : ℕ → ℕ → Items → List RlpItem
 flat_items place depth xs = flat_rows_inside row_of place depth xs
 
 -- The answer for bytes: the rows of the item whose encoding they are, or their first fault if they aren't the encoding of an item within the depth. `count` is
--- the number of rows, and if the array has room for them, it begins with them.
+-- the number of rows, and if the array has room for them, it begins with them, and the elements behind them are as they were.
 pub data IsFlattened (most : ℕ) (b : List ℕ) (old new : List RlpItem) (old_count count status : ℕ) : Type 0 where
   filled : (x : Item) → b ≡ encoding x → item_depth x ≤ most → count ≡ length (flat 0 0 x) → count ≤ length old
-      → take count new ≡ flat 0 0 x → status ≡ 0 → IsFlattened most b old new old_count count status
+      → new ≡ flat 0 0 x ++ drop count old → status ≡ 0 → IsFlattened most b old new old_count count status
   no_room : (x : Item) → b ≡ encoding x → item_depth x ≤ most → count ≡ length (flat 0 0 x) → length old < count
       → status ≡ 13 → IsFlattened most b old new old_count count status
   refused : (e : TreeFault) → tree_fault most b ≡ Some e → ¬ IsCanonicalWithin most b → count ≡ old_count → status ≡ tree_status e → IsFlattened most b old new old_count count status

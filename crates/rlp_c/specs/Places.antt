@@ -1,5 +1,5 @@
 -- Where the fields of a transaction and of a header are, by the codecs of `rlp_ethereum`.
-use Rattle.std.specs.Prelude.{ℕ, ◌≡◌, ◌+◌, ◌<◌, ◌≤◌, ◌⊎◌, List, [], length, map, take}
+use Rattle.std.specs.Prelude.{ℕ, ◌≡◌, ◌+◌, ◌<◌, ◌≤◌, ◌⊎◌, List, [], ◌++◌, length, map, drop}
 use Rattle.rlp_format.specs.Format.Item.{Item, list, listed, string}
 use Rattle.rlp_format.specs.Format.Encoding.{encoding}
 use Rattle.rlp_values.specs.Format.Framing.{framing}
@@ -19,10 +19,10 @@ fields_in (string d) = []
 fields_in (list xs) = listed xs
 
 -- The answer for a list x, whose encoding begins at this place: `count` is the number of its items, and if the array has room for them, it begins with the
--- places of their encodings, in order.
+-- places of their encodings, in order, and the elements behind them are as they were.
 pub data ArePlaced (place : ℕ) (x : Item) (old new : List RlpItem) (count status : ℕ) : Type 0 where
   filled : count ≡ length (fields_in x) → count ≤ length old
-      → take count new ≡ rows_at (place + header_length (framing (encoding x))) 1 (map encoding (fields_in x)) → status ≡ 0
+      → new ≡ rows_at (place + header_length (framing (encoding x))) 1 (map encoding (fields_in x)) ++ drop count old → status ≡ 0
       → ArePlaced place x old new count status
   no_room : count ≡ length (fields_in x) → length old < count → status ≡ 13 → ArePlaced place x old new count status
 

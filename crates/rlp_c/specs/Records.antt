@@ -1,5 +1,5 @@
 -- The answers for transactions and headers.
-use Rattle.std.specs.Prelude.{ℕ, ◌≡◌, ◌+◌, ◌<◌, ◌≤◌, if◌then◌else◌, ◌==◌, true, false, List, [], ◌∷◌, length, take, Option, Some, None}
+use Rattle.std.specs.Prelude.{ℕ, ◌≡◌, ◌+◌, ◌<◌, ◌≤◌, if◌then◌else◌, ◌==◌, true, false, List, [], ◌∷◌, ◌++◌, length, drop, Option, Some, None}
 use Rattle.rlp_values.specs.declared.error.DecoderError.{DecoderError}
 use Rattle.rlp_values.specs.Format.Framing.{framing}
 use Rattle.rlp_values.specs.Format.Split.{begins_as_list, items, payload}
@@ -12,10 +12,11 @@ use Rattle.rlp_c.specs.Rows.{header_length, rows_at}
 use Rattle.rlp_c.specs.Status.{fault_status}
 
 -- The answer for the list b, which begins at this place. If it is the record, `count` is the number of its fields, and if the array has room for them,
--- it begins with the rows of their items. If a field has the first fault, `count` is its number, from 1 on; and if b isn't exactly one list, `count` is 0.
+-- it begins with the rows of their items, and the elements behind them are as they were. If a field has the first fault, `count` is its number, from 1 on;
+-- and if b isn't exactly one list, `count` is 0.
 pub data IsRecordRead (r : Record) (place : ℕ) (b : List ℕ) (old new : List RlpItem) (count status : ℕ) : Type 0 where
   filled : strict_list_fault b ≡ None → fields_fault 4 r (payload b) ≡ None → count ≡ length (items b) → count ≤ length old
-      → take count new ≡ rows_at (place + header_length (framing b)) 1 (items b) → status ≡ 0 → IsRecordRead r place b old new count status
+      → new ≡ rows_at (place + header_length (framing b)) 1 (items b) ++ drop count old → status ≡ 0 → IsRecordRead r place b old new count status
   no_room : strict_list_fault b ≡ None → fields_fault 4 r (payload b) ≡ None → count ≡ length (items b) → length old < count → status ≡ 13
       → IsRecordRead r place b old new count status
   field : (i : ℕ) (e : DecoderError) → strict_list_fault b ≡ None → fields_fault 4 r (payload b) ≡ Some (i, e) → count ≡ i + 1 → status ≡ fault_status e

@@ -1,5 +1,5 @@
 -- What C sees of items.
-use Rattle.std.specs.Prelude.{ℕ, ◌≡◌, ◌+◌, ◌<◌, ◌≤◌, ◌⊎◌, Bool, List, [], ◌∷◌, length, take, drop, Option, Some, None, Result, Ok, Err}
+use Rattle.std.specs.Prelude.{ℕ, ◌≡◌, ◌+◌, ◌<◌, ◌≤◌, ◌⊎◌, Bool, false, List, [], ◌∷◌, ◌++◌, length, take, drop, Option, Some, None, Result, Ok, Err, MatchResult}
 use Rattle.rlp_values.specs.declared.error.DecoderError.{DecoderError}
 use Rattle.rlp_values.specs.declared.header.PayloadInfo.{PayloadInfo}
 use Rattle.rlp_values.specs.Format.Framing.{framing}
@@ -14,6 +14,10 @@ use Rattle.rlp_c.specs.declared.item.RlpItem.{RlpItem}
 -- the row of an item with this header, at this place and depth
 abbrev pub row : ℕ → ℕ → Bool → PayloadInfo → RlpItem
 row place depth is_list p = record { offset = place; header_len = p.header_len; payload_len = p.value_len; depth = depth; is_list = bit is_list }
+
+-- the row of the string that the bytes begin with: its header begins at the first byte, and no list is around it
+abbrev pub IsRowOfString : List ℕ → RlpItem → Type 0
+IsRowOfString b r = MatchResult (framing b) (λ p. r ≡ row 0 0 false p) (λ e. ⊥)
 
 -- the payload that a row points at
 abbrev pub payload_at : List ℕ → RlpItem → List ℕ
@@ -43,9 +47,9 @@ header_length (Ok p) = p.header_len
 header_length (Err e) = 0
 
 -- The answer for the items of one list: if b isn't exactly one list, its fault. Else `count` is the number of items, and if the array has room for them,
--- it begins with their rows.
+-- it begins with their rows, and the elements behind them are as they were.
 abbrev pub IsItemized : List ℕ → List RlpItem → List RlpItem → ℕ → ℕ → ℕ → Option DecoderError → Type 0
 IsItemized b old new old_count count status (Some e) = (status ≡ fault_status e) × (count ≡ old_count)
 IsItemized b old new old_count count status None = (count ≡ length (items b))
-    × (((count ≤ length old) × (status ≡ 0) × (take count new ≡ rows_at (header_length (framing b)) 1 (items b)))
+    × (((count ≤ length old) × (status ≡ 0) × (new ≡ rows_at (header_length (framing b)) 1 (items b) ++ drop count old))
     ⊎ ((length old < count) × (status ≡ 13)))

@@ -5,8 +5,8 @@ ghost use Rattle.rlp_values.specs.Format.Strict.{IsCanonicalWithin};
 
 use rlp_values::walking::is_canonical;
 
-/// The greatest depth of lists that any function goes to, whatever the caller allows. It bounds the
-/// stack that a call takes.
+/// The greatest depth of lists that any function goes to, whatever the caller allows. It bounds how
+/// many calls of itself a function is in.
 pub const RLP_DEPTH_LIMIT: u32 = 256;
 
 /// The depth that a caller allows, but no more than the limit.

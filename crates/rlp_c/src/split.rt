@@ -13,8 +13,9 @@ use rlp_values::framed::{begins_as_list, first_framed, whole_framed};
 use rlp_values::walking::put;
 
 /// Writes a row for each item of the list that the bytes are. It doesn't look into the items.
-/// `count` gets the number of items. If the array has fewer elements, the status is
-/// [`RLP_NO_ROOM`], and a second call with `count` elements gives the rows.
+/// `count` gets the number of items. The elements behind their rows stay as they were. If the array
+/// has fewer elements, the status is [`RLP_NO_ROOM`], and a second call with `count` elements gives
+/// the rows.
 #[unsafe(no_mangle)]
 pub extern "C" fn rlp_split(bytes: &[u8], out: &mut [RlpItem], count: &mut usize) -> u32
     ensures { IsItemized bytes.now out.old out.new count.old count.new result

@@ -4,7 +4,7 @@ ghost use Rattle.std.specs.Prelude.{◌≡◌};
 ghost use Rattle.rlp_values.specs.Format.StringReading.{IsString};
 ghost use Rattle.rlp.specs.Values.ValueReading.{FaultsAsBytes, FaultsAsNumber, GivesNumber};
 ghost use Rattle.rlp_c.specs.Answers.{Answers, view_as};
-ghost use Rattle.rlp_c.specs.Rows.{PointsAtNumber, PointsAtString, payload_at};
+ghost use Rattle.rlp_c.specs.Rows.{IsRowOfString, PointsAtNumber, PointsAtString, payload_at};
 
 use crate::item::RlpItem;
 use crate::status::{RLP_OK, status_of};
@@ -39,7 +39,7 @@ pub extern "C" fn rlp_decode_u64(alloc: Global, bytes: &[u8], strict: bool, out:
 }
 
 /// Finds the digits of a number of at most `width` bytes, the greatest first and without leading
-/// zeros. If strict, nothing may follow it.
+/// zeros: the row is the one that [`rlp_decode_bytes`] finds. If strict, nothing may follow it.
 #[unsafe(no_mangle)]
 #[tactic(auto, using(rlp_values::specs::Lemmas::Numbers::number_answers))]
 pub extern "C" fn rlp_decode_uint(
@@ -48,8 +48,9 @@ pub extern "C" fn rlp_decode_uint(
     width: usize,
     out: &mut RlpItem,
 ) -> u32
-    ensures { Answers (λ r. PointsAtNumber width (view_as strict bytes.now) r)
+    ensures answer { Answers (λ r. PointsAtNumber width (view_as strict bytes.now) r)
         (λ e. FaultsAsNumber width (view_as strict bytes.now) e) result out.old out.new }
+    ensures row { result ≡ 0 → IsRowOfString bytes.now out.new }
 {
     let digits = match view_over(bytes, strict).decoder().string() {
         Ok(digits) => digits,
@@ -64,11 +65,12 @@ pub extern "C" fn rlp_decode_uint(
     }
 }
 
-/// Finds a byte string. If strict, nothing may follow it.
+/// Finds a byte string: the row is the one that `rlp_header` finds. If strict, nothing may follow it.
 #[unsafe(no_mangle)]
 pub extern "C" fn rlp_decode_bytes(bytes: &[u8], strict: bool, out: &mut RlpItem) -> u32
-    ensures { Answers (λ r. PointsAtString (view_as strict bytes.now) r)
+    ensures answer { Answers (λ r. PointsAtString (view_as strict bytes.now) r)
         (λ e. FaultsAsBytes (view_as strict bytes.now) e) result out.old out.new }
+    ensures row { result ≡ 0 → IsRowOfString bytes.now out.new }
 {
     match view_over(bytes, strict).decoder().string() {
         Ok(string) => {
@@ -82,7 +84,8 @@ pub extern "C" fn rlp_decode_bytes(bytes: &[u8], strict: bool, out: &mut RlpItem
 /// The row of the string that the bytes begin with.
 fn string_row(bytes: &[u8], string: &[u8]) -> RlpItem
     requires { IsString bytes.now string.now }
-    ensures { payload_at bytes.now result ≡ string.now }
+    ensures row { IsRowOfString bytes.now result }
+    ensures string { payload_at bytes.now result ≡ string.now }
 {
     let header_len = match PayloadInfo::from(bytes) {
         Ok(info) => info.header_len,

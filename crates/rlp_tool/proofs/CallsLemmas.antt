@@ -351,7 +351,7 @@ built front calls s (Open size raw) e same (unfinished, closed, text) = record {
 abbrev pub Leaves : List ℕ → List Call → List Item → Type 0
 Leaves front calls items = (last : State) × (after front calls ≡ Ok last) × (last.front ≡ front) × (last.stack ≡ record { inner = join items; lists = [] })
 
-same_last : (r : Result State ℕ) (s t : State) → r ≡ Ok s → r ≡ Ok t → s ≡ t
+pub same_last : (r : Result State ℕ) (s t : State) → r ≡ Ok s → r ≡ Ok t → s ≡ t
 same_last r s t e f = cc
 
 barred : (b : Bool) → IsTrue b → b ≡ false → ⊥

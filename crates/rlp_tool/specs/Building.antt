@@ -1,5 +1,5 @@
 -- The result of calls over a front.
-use Rattle.std.specs.Prelude.{ℕ, suc, ◌≡◌, Bool, true, false, IsTrue, List, [], ◌∷◌, ◌++◌, length, Ok}
+use Rattle.std.specs.Prelude.{ℕ, suc, ◌≡◌, ◌<◌, ◌⊎◌, Bool, true, false, IsTrue, List, [], ◌∷◌, ◌++◌, length, Ok}
 use Rattle.rlp.specs.Format.Item.{Item}
 use Rattle.rlp.specs.Format.Encoding.{join}
 use Rattle.rlp.specs.Streams.Stream.{Call, append_raw, append_raw_checked, clear, finalize_unbounded_list, is_admitted, after}
@@ -93,6 +93,18 @@ IsRefusal front calls (TooManyItems place) = AreRefused BringsTooMany front call
 IsRefusal front calls (NothingToFinish place) = AreRefused HasNothingToFinish front calls place
 IsRefusal front calls (RawNotItems place) = AreRefused BringsNoItems front calls place
 IsRefusal front calls OutOfMemory = TakesMemory front calls
+
+-- all calls over the front are admitted and leave a list open
+abbrev pub LeaveOpen : List ℕ → List Call → Type 0
+LeaveOpen front calls = (size : ℕ) × (raw : List ℕ) × StayOpen front calls size raw
+
+-- the calls describe items, of which none of raw bytes is too deep; so none fails, and no list is open at the end
+abbrev pub DescribeItems : List ℕ → List Call → Type 0
+DescribeItems front calls = (items : List Item) × IsDescribedWhere IsShallow front calls items
+
+-- why calls over a copy of the front have no result: memory was refused for the copy, which needs none if there are no bytes, or the calls fail
+abbrev pub IsRefusalOver : List ℕ → List Call → BuildFault → Type 0
+IsRefusalOver front calls fault = ((fault ≡ OutOfMemory) × (0 < length front)) ⊎ IsRefusal front calls fault
 
 -- the calls describe items, of which none of raw bytes is too deep, and the finished buffer is the front and the joined encodings of the items
 pub record AreJoined (front : List ℕ) (calls : List Call) (bytes : List ℕ) : Type 0 where

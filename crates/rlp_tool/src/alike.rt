@@ -1,9 +1,9 @@
 //! Whether calls finish as the same bytes.
 
-ghost use Rattle.std.specs.Prelude.{◌≡◌, ◌↔◌, List, IfOk, IfSome, IsSome, IsSomeAnd, IsTrue};
+ghost use Rattle.std.specs.Prelude.{◌≡◌, ◌<◌, ◌↔◌, ◌⊎◌, List, length, IfOk, IfErr, IfSome, IsNone, IsSome, IsSomeAnd, IsTrue, OnErr, OnOk};
 ghost use Rattle.rlp.specs.Format.Item.{Item};
 ghost use Rattle.rlp.specs.Streams.Described.{IsDescribed, FinishAs};
-ghost use Rattle.rlp_tool.specs.Building.{AreJoined};
+ghost use Rattle.rlp_tool.specs.Building.{AreJoined, AreTaken, DescribeItems, IsRefusal, IsRefusalOver, LeaveOpen};
 ghost use Rattle.rlp_tool.specs.StreamCalls.{calls_of};
 
 use crate::building::{BuildFault, Built, build};
@@ -15,7 +15,8 @@ use std::alloc::{AllocError, Global};
 
 /// Returns a buffer of these bytes.
 fn buffer_of(alloc: Global, bytes: &[u8]) -> Result<BytesMut, AllocError>
-    ensures { IfOk result (λ buffer. buffer.items ≡ bytes.now) }
+    ensures ok { IfOk result (λ buffer. buffer.items ≡ bytes.now) }
+    ensures refused { OnErr result (0 < length bytes.now) }
 {
     let mut buffer = BytesMut::new(alloc);
     buffer.extend_from_slice(bytes)?;
@@ -35,6 +36,10 @@ fn finished_over<E: Encodable>(
     ensures described { (items : List Item)
         → IsDescribed front.items (calls_of E.item calls.now) items
         → IfOk result (λ buffer. IsSome buffer) }
+    ensures taken { OnOk result (AreTaken front.items (calls_of E.item calls.now)) }
+    ensures left_open { IfOk result
+        (λ buffer. IsNone buffer ↔ LeaveOpen front.items (calls_of E.item calls.now)) }
+    ensures refused { IfErr result (IsRefusal front.items (calls_of E.item calls.now)) }
 {
     match build(alloc, front, calls) {
         Ok(Built::Finished(bytes)) => Ok(Some(bytes)),
@@ -43,9 +48,12 @@ fn finished_over<E: Encodable>(
     }
 }
 
-/// Returns the finished buffer of calls over a front, or `None` if they leave a list open. The buffer
-/// is the front and the encodings of the items that the calls describe, whatever raw bytes they put.
-/// Fails as [`build`] does, and with `OutOfMemory` if memory is refused for the front.
+/// Returns the finished buffer of calls over a front, or `None` exactly if they leave a list open.
+/// The buffer is the front and the encodings of the items that the calls describe, whatever raw bytes
+/// they put.
+///
+/// Fails as [`build`] does, and with `OutOfMemory` if memory is refused for a copy of the front. A
+/// front of no bytes needs none.
 pub fn finished_buffer<E: Encodable>(
     alloc: Global,
     front: &[u8],
@@ -58,6 +66,12 @@ pub fn finished_buffer<E: Encodable>(
     ensures described { (items : List Item)
         → IsDescribed front.now (calls_of E.item calls.now) items
         → IfOk result (λ buffer. IsSome buffer) }
+
+    // If it returns `Ok`, each call passed its test.
+    ensures taken { OnOk result (AreTaken front.now (calls_of E.item calls.now)) }
+    ensures left_open { IfOk result
+        (λ buffer. IsNone buffer ↔ LeaveOpen front.now (calls_of E.item calls.now)) }
+    ensures refused { IfErr result (IsRefusalOver front.now (calls_of E.item calls.now)) }
 {
     match buffer_of(alloc, front) {
         Ok(buffer) => finished_over(alloc, buffer, calls),
@@ -73,7 +87,10 @@ fn same_bytes(one: &[u8], other: &[u8]) -> bool
 }
 
 /// Returns whether two lists of calls over one front finish as the same bytes: `Some(true)` exactly if
-/// both describe the same items, whatever raw bytes they put, and `None` if either leaves a list open.
+/// both describe the same items, whatever raw bytes they put, and `None` exactly if one of them leaves
+/// a list open.
+///
+/// The calls of `one` are made first. Those of `other` are made only if `one` leaves no list open.
 /// Fails as [`finished_buffer`] does, for the first list of calls that fails.
 pub fn finish_alike<A: Encodable, B: Encodable>(
     alloc: Global,
@@ -88,6 +105,20 @@ pub fn finish_alike<A: Encodable, B: Encodable>(
     ensures described { (xs ys : List Item) → IsDescribed front.now (calls_of A.item one.now) xs
         → IsDescribed front.now (calls_of B.item other.now) ys
         → IfOk result (λ answer. IsSomeAnd answer (λ alike. IsTrue alike ↔ (xs ≡ ys))) }
+
+    // If it returns `Ok`, each call that was made passed its test.
+    ensures first_taken { OnOk result (AreTaken front.now (calls_of A.item one.now)) }
+    ensures other_taken { OnOk result (LeaveOpen front.now (calls_of A.item one.now)
+        ⊎ AreTaken front.now (calls_of B.item other.now)) }
+    ensures left_open { IfOk result (λ answer. IsNone answer
+        ↔ (LeaveOpen front.now (calls_of A.item one.now)
+        ⊎ LeaveOpen front.now (calls_of B.item other.now))) }
+
+    // The calls of `other` fail only after those of `one` have finished.
+    ensures refused { IfErr result
+        (λ fault. IsRefusalOver front.now (calls_of A.item one.now) fault
+        ⊎ (DescribeItems front.now (calls_of A.item one.now)
+        × IsRefusalOver front.now (calls_of B.item other.now) fault)) }
 {
     let Some(first) = finished_buffer(alloc, front, one)? else {
         return Ok(None);

@@ -4,6 +4,8 @@ pub mod Fronts
 pub mod ItemPlaces
 -- lenient and strict views
 pub mod ViewKinds
+-- a view that holds the encoding of a list
+pub mod ListsHeld
 -- items that are split off bytes
 pub mod SplitOff
 -- fields in order

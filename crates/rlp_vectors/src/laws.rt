@@ -35,9 +35,11 @@ fn laws_of_the_format() {
 
 #[test]
 fn laws_of_views_and_values() {
-    laws::items_by_number_are_in_order(&LIST);
+    laws::items_by_number_are_in_order(&Rlp::new(&LIST));
+    laws::items_by_number_are_in_order(&Rlp::new_strict(&LIST));
     laws::iteration_reads_few_headers();
-    laws::view_of_list_has_its_items(&LIST);
+    laws::view_of_list_has_its_items(&Rlp::new(&LIST));
+    laws::view_of_list_has_its_items(&Rlp::new_strict(&LIST));
     laws::string_is_read(&LIST);
     laws::number_is_read(&LIST);
     laws::bytes_are_read(&LIST);

@@ -1,36 +1,50 @@
 //! The items of a view of a list, and of the encodings of values in a list.
 
-ghost use Rattle.std.specs.Prelude.{◌≡◌, ◌≤◌, ◌+◌, ◌↔◌, ◌++◌, ◌∷◌, [], ℕ, List, None, Ok, Err, Some, IfOk, IsOkAnd, length, map, slice_get};
+ghost use Rattle.std.specs.Prelude.{◌≡◌, ◌≤◌, ◌+◌, ◌↔◌, ◌++◌, ◌∷◌, [], ℕ, List, None, Ok, Err, Some, IfOk, IsOkAnd, IsTrue, false, length, map, slice_get};
 ghost use Rattle.std.specs.Iterator.{Yields};
 ghost use Rattle.rlp_format.specs.Format.Item.{Item, list_of};
-ghost use Rattle.rlp_format.specs.Format.Encoding.{BeginsWith, encoding, join};
+ghost use Rattle.rlp_format.specs.Format.Encoding.{encoding, join};
+ghost use Rattle.rlp_values.specs.declared.error.DecoderError.{DecoderError};
 ghost use Rattle.rlp_values.specs.declared.error.DecoderError.TheVariants.{RlpIsTooShort};
-ghost use Rattle.rlp_values.specs.Views.View.{IsStep, Remaining, View, item_at, item_count, item_views, view_of};
+ghost use Rattle.rlp_values.specs.Views.View.{HoldsItem, IsStep, Remaining, View, item_at, item_count, item_views, list_fault};
 
 use crate::rlpin::Rlp;
 use rlp_values::error::DecoderError;
 
-/// Item number i of a view is the i-th of its items, counted from 0. All numbers past the last item
-/// have the same fault.
-pub fn items_by_number_are_in_order(bytes: &[u8])
-    ensures there { (i : ℕ) (item : View) → (item_at (view_of bytes.now) i ≡ Ok item)
-        ↔ (slice_get (item_views (view_of bytes.now)) i ≡ Some item) }
-    ensures past { (i j : ℕ) → length (item_views (view_of bytes.now)) ≤ i
-        → length (item_views (view_of bytes.now)) ≤ j
-        → item_at (view_of bytes.now) i ≡ item_at (view_of bytes.now) j }
+/// Item number i of a view, lenient or strict, is the i-th of its items, counted from 0, if the view
+/// can be read as a list. All numbers past the last item have the same fault.
+///
+/// Only a strict view may have a fault as a list. It then has that fault for every number, and
+/// otherwise `RlpIsTooShort` for every number past the last item.
+pub fn items_by_number_are_in_order(rlp: &Rlp<'_>)
+    ensures there { (i : ℕ) (item : View) → (item_at rlp.now i ≡ Ok item)
+        ↔ ((list_fault rlp.now ≡ None) × (slice_get (item_views rlp.now) i ≡ Some item)) }
+    ensures past { (i j : ℕ) → length (item_views rlp.now) ≤ i → length (item_views rlp.now) ≤ j
+        → item_at rlp.now i ≡ item_at rlp.now j }
+    ensures no_list { (i : ℕ) (e : DecoderError) → list_fault rlp.now ≡ Some e
+        → item_at rlp.now i ≡ Err e }
+    ensures lenient { rlp.now.is_strict ≡ false → list_fault rlp.now ≡ None }
+    ensures strict_past { (i : ℕ) → IsTrue rlp.now.is_strict → list_fault rlp.now ≡ None
+        → length (item_views rlp.now) ≤ i → item_at rlp.now i ≡ Err RlpIsTooShort }
 {}
 
-/// A view of bytes that begin with the encoding of a list has the same number of items. In order
-/// and by number, each is the encoding of the item in its place.
-pub fn view_of_list_has_its_items(bytes: &[u8])
-    ensures count { (xs : List Item) → BeginsWith bytes.now (encoding (list_of xs))
-        → item_count (view_of bytes.now) ≡ Ok (length xs) }
-    ensures items { (xs : List Item) → BeginsWith bytes.now (encoding (list_of xs))
-        → item_views (view_of bytes.now) ≡ map (λ x. view_of (encoding x)) xs }
+/// A lenient view of bytes that begin with the encoding of a list, and a strict view of bytes that
+/// are the encoding of a list, have the same number of items. In order and by number, each is the
+/// encoding of the item in its place. A number past the last item has the fault `RlpIsTooShort`.
+pub fn view_of_list_has_its_items(rlp: &Rlp<'_>)
+    ensures count { (xs : List Item) → HoldsItem rlp.now (list_of xs)
+        → item_count rlp.now ≡ Ok (length xs) }
+    ensures items { (xs : List Item) → HoldsItem rlp.now (list_of xs)
+        → item_views rlp.now ≡ map (λ x. record rlp.now { bytes = encoding x }) xs }
     ensures at { (before after : List Item) (x : Item)
-        → BeginsWith bytes.now (encoding (list_of (before ++ x ∷ after)))
-        → item_at (view_of bytes.now) (length before) ≡ Ok (view_of (encoding x)) }
-{}
+        → HoldsItem rlp.now (list_of (before ++ x ∷ after))
+        → item_at rlp.now (length before) ≡ Ok (record rlp.now { bytes = encoding x }) }
+    ensures past { (xs : List Item) (i : ℕ) → HoldsItem rlp.now (list_of xs) → length xs ≤ i
+        → item_at rlp.now i ≡ Err RlpIsTooShort }
+{
+    // The proof goes by what this returns: fewer than 2^64 bytes.
+    let _bytes = rlp.as_raw();
+}
 
 /// The calls of `next` until the first `None` return the items that were left. If one header was
 /// read before, as by `iter`, then n items and `None` read at most n + 2 headers.

@@ -25,8 +25,13 @@ use rlp_values::framed::{begins_as_list, whole_framed};
 
 /// Writes a row for each field of the transaction that the bytes are by themselves, as in EIP-2718,
 /// and its type, which is 0 for a legacy transaction. `count` gets the number of fields, or if one
-/// of them has a fault, its number from 1 on, or else 0. The transactions, their fields and their
-/// faults are those of `rlp_transactions`.
+/// of them has a fault, its number from 1 on, or else 0. The elements of the array behind the fields
+/// stay as they were.
+///
+/// The transactions and their fields are those of `rlp_transactions`: if all fields are found, that
+/// crate reads the bytes without a fault. A fault may have another status here than in that crate.
+/// Here it is the first one in the order of the bytes, so a faulty field comes before a missing one,
+/// and a parity of 2 is too big.
 #[unsafe(no_mangle)]
 pub extern "C" fn rlp_transaction(
     bytes: &[u8],
@@ -77,7 +82,7 @@ fn read_transaction(
 }
 
 /// Writes a row for each field of the header of a block that the bytes are, a header of
-/// `rlp_ethereum`. Otherwise as [`rlp_transaction`].
+/// `rlp_headers`. Otherwise as [`rlp_transaction`].
 #[unsafe(no_mangle)]
 pub extern "C" fn rlp_header_fields(bytes: &[u8], out: &mut [RlpItem], count: &mut usize) -> u32
     ensures answer { IsRecordRead Header 0 bytes.now out.old out.new count.new result }

@@ -1,5 +1,5 @@
 -- Where the string that bytes begin with is.
-use Rattle.std.proofs.Common.{◌≡◌, ℕ, ◌^◌, ◌<◌, List, ◌++◌, length, take, drop, refl, sym, ap, ◌∙◌, ⊎_elim, Ok, Result, append_assoc, take_at, drop_at}
+use Rattle.std.proofs.Common.{◌≡◌, ℕ, ◌+◌, ◌^◌, ◌<◌, ◌≤◌, List, ◌++◌, length, take, drop, refl, sym, ap, ◌∙◌, ⊎_elim, Ok, Result, append_assoc, take_at, drop_at, length-append, arith}
 use Rattle.rlp_values.specs.declared.error.DecoderError.{DecoderError}
 use Rattle.rlp_values.specs.declared.header.PayloadInfo.{PayloadInfo}
 use Rattle.rlp_format.specs.Format.Item.{string}
@@ -15,12 +15,14 @@ pub record IsPlaced (b d : List ℕ) : Type 0 where
   pub h : ℕ
   pub has : header b ≡ Ok (payload_info h (length d))
   pub there : take (length d) (drop h b) ≡ d
+  pub within : h + length d ≤ length b
 
 lone_placed : (b d more : List ℕ) → IsLone d → b ≡ d ++ more → IsPlaced b d
 lone_placed b d more l is = record {
   h = 0;
   has = ap header (is ∙ ap (λ s. s ++ more) l.is) ∙ read (lone l.byte more l.low) ∙ ap (λ s. Ok (payload_info 0 (length s))) (sym l.is);
   there = ap (take (length d)) is ∙ take_at d more (length d) refl;
+  within = omega (arith, ap length is, length-append d more);
 }
 
 written_placed : (b d e more : List ℕ) → IsWritten 0x80 d e → b ≡ e ++ more → IsPlaced b d
@@ -33,6 +35,7 @@ written_placed b d e more w is =
       there = ap (λ s. take (length d) (drop (length (written_header 0x80 (length d))) s)) whole
           ∙ ap (take (length d)) (drop_at (written_header 0x80 (length d)) (d ++ more) (length (written_header 0x80 (length d))) refl)
           ∙ take_at d more (length d) refl;
+      within = omega (arith, ap length whole, length-append (written_header 0x80 (length d)) (d ++ more), length-append d more);
     }
 
 pub string_placed : (b d : List ℕ) → length b < 2 ^ 64 → IsString b d → IsPlaced b d

@@ -16,6 +16,13 @@ use Rattle.rlp_values.specs.Lemmas.WholeLists.{whole_sized}
 whole_same : (x y : Item) (b : List ℕ) → length b < 2 ^ 64 → b ≡ encoding x → b ≡ encoding y → x ≡ y
 whole_same x y b fits one two = prefix_free x y [] [] (whole_sized x b fits one) (whole_sized y b fits two) (ap (λ s. s ++ []) (sym one ∙ two))
 
+-- a fault of these is one of bytes
+fault_of_bytes : {B : Type 0} (b : List ℕ) → AreBytes b → (r : Result B DecoderError) (F M : DecoderError → Type 0) → IfErr r (λ e. F e ⊎ M e)
+    → IfErr r (λ e. (AreBytes b × F e) ⊎ M e)
+fault_of_bytes b bytes (Ok w) F M faulty = tt
+fault_of_bytes b bytes (Err e) F M (inl fault) = inl (bytes, fault)
+fault_of_bytes b bytes (Err e) F M (inr memory) = inr memory
+
 -- ---- one value
 
 module _ {A : Type 0} (Fits : A → Type 0) (item : A → Item) (gives : View → A → Type 0) (faults : View → DecoderError → Type 0)
@@ -28,12 +35,9 @@ module _ {A : Type 0} (Fits : A → Type 0) (item : A → Item) (gives : View �
   strict_whole (Ok w) given = (law b w bytes fits).exact.0 given
   strict_whole (Err e) given = tt
 
-  -- the fault is one of bytes
   pub strict_fault_of : (r : Result A DecoderError) (M : DecoderError → Type 0) → IfErr r (λ e. faults (strict_view_of b) e ⊎ M e)
       → IfErr r (λ e. (AreBytes b × faults (strict_view_of b) e) ⊎ M e)
-  strict_fault_of (Ok w) M faulty = tt
-  strict_fault_of (Err e) M (inl fault) = inl (bytes, fault)
-  strict_fault_of (Err e) M (inr memory) = inr memory
+  strict_fault_of r M faulty = fault_of_bytes b bytes r (faults (strict_view_of b)) M faulty
 
   pub strict_alike : (r : Result A DecoderError) (v : A) → b ≡ encoding (item v) → IfOk r (λ w. gives (strict_view_of b) w)
       → IfOk r (λ w. Fits w × (item w ≡ item v))
@@ -56,6 +60,16 @@ module _ {A : Type 0} (Fits : A → Type 0) (item : A → Item) (gives : View �
   strict_list_only content (Ok x) vs given same = (list_whole Fits item gives faults law b bytes fits (content x) given).1
       ∙ ap (λ xs. encoding (list_of xs)) same
   strict_list_only content (Err e) vs given same = absurd same
+
+  pub strict_list_whole : {B : Type 0} (content : B → List A) (r : Result B DecoderError) → IfOk r (λ x. GivesList gives (strict_view_of b) (content x))
+      → IfOk r (λ x. All Fits (content x) × (b ≡ encoding (list_of (map item (content x)))))
+  strict_list_whole content (Ok x) given = list_whole Fits item gives faults law b bytes fits (content x) given
+  strict_list_whole content (Err e) given = tt
+
+  pub strict_list_fault_of : {B : Type 0} (r : Result B DecoderError) (M : DecoderError → Type 0)
+      → IfErr r (λ e. FaultsAsList gives faults (strict_view_of b) e ⊎ M e)
+      → IfErr r (λ e. (AreBytes b × FaultsAsList gives faults (strict_view_of b) e) ⊎ M e)
+  strict_list_fault_of r M faulty = fault_of_bytes b bytes r (FaultsAsList gives faults (strict_view_of b)) M faulty
 
   pub strict_list_alike : {B : Type 0} (content : B → List A) (r : Result B DecoderError) (vs : List A) → b ≡ encoding (list_of (map item vs))
       → IfOk r (λ x. GivesList gives (strict_view_of b) (content x))

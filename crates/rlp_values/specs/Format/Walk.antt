@@ -1,15 +1,17 @@
 -- What the walk over a tree has done.
-use Rattle.std.specs.Prelude.{ℕ, ◌≡◌, ◌+◌, ◌≤◌, List, ◌++◌, length, take}
+use Rattle.std.specs.Prelude.{ℕ, ◌≡◌, ◌+◌, ◌≤◌, List, ◌++◌, length, take, drop}
 use Rattle.rlp_values.specs.declared.flat.FlatItem.{FlatItem}
 use Rattle.rlp_format.specs.Format.Item.{Item, item_depth}
 use Rattle.rlp_format.specs.Format.Encoding.{encoding}
 use Rattle.rlp_values.specs.Format.Flat.{flat_rows}
 use Rattle.rlp_values.specs.Format.Strict.{IsCanonicalWithin}
 
--- the array has the same number of elements, and if there is room for them, the rows follow the first n elements
+-- The array has the same number of elements, and if there is room for them, the rows follow the first n elements. The elements behind the rows are as they
+-- were.
 pub record Extends {R : Type 0} (old : List R) (n : ℕ) (rows : List R) (new : List R) : Type 0 where
   pub same_len : length new ≡ length old
   pub filled : n + length rows ≤ length old → take (n + length rows) new ≡ take n old ++ rows
+  pub behind : drop (n + length rows) new ≡ drop (n + length rows) old
 
 -- b is the encoding of no item
 abbrev pub IsNeverCanonical : List ℕ → Type 0

@@ -1,5 +1,5 @@
 -- The items of a view by number.
-use Rattle.std.proofs.Common.{ℕ, ◌<◌, ◌≤◌, ◌≡◌, ◌⊎◌, inl, inr, ⊎_elim, true, false, List, [], ◌∷◌, ◌++◌, length, map, take, drop, get_or, Option}
+use Rattle.std.proofs.Common.{ℕ, ◌<◌, ◌≤◌, ◌≡◌, ◌⊎◌, inl, inr, ⊎_elim, Bool, true, false, List, [], ◌∷◌, ◌++◌, length, map, take, drop, get_or, Option}
 use Rattle.std.proofs.Common.{Some, None, option_map, Result, Ok, Err, ◌↔◌, refl, sym, ◌∙◌, ap, arith, ltb, lt-ltb, le-ltb}
 use Rattle.std.specs.List.{slice_get}
 use Rattle.std.proofs.lemmas.Bool.{cases_Bool, cases_lt, cond-true, cond-false}
@@ -14,7 +14,7 @@ use Rattle.rlp_format.specs.Format.Encoding.{BeginsWith, encoding, IsSized}
 use Rattle.rlp_values.specs.Format.Framing.{fault, framing, map_ok, value}
 use Rattle.rlp_values.specs.Format.Split.{begins_as_list, items, payload, payload_in, rest, split}
 use Rattle.rlp_values.specs.Views.View.{View, view_of, item_views, item_count, item_with_place, item_by, item_at, list_fault, items_fault}
-use Rattle.rlp_values.specs.Format.Strict.{unless}
+use Rattle.rlp_values.specs.Format.Strict.{fault_of_some, first_fault, strict_fault, strict_list_fault, unless}
 use Rattle.rlp_values.specs.Lemmas.Views.{items_of_list, list_shape}
 
 -- ---- a view whose items are asked for by number is a framed list
@@ -163,15 +163,39 @@ some_left : (b : List ℕ) (f : List ℕ) (fs : List (List ℕ)) → items b ≡
 some_left b f fs is = ⊎_elim (λ kind. kind)
     (λ kind. let none : items b ≡ [] = items-payload b (payload-string b kind) in absurd (let no : ⊥ = cc in no)) (cases_Bool (begins_as_list b))
 
-lenient_told_some : (b : List ℕ) (fs : List (List ℕ)) (i : ℕ) (item : View) → items b ≡ fs → slice_get (map (viewed (view_of b)) fs) i ≡ Some item
-    → items_fault (view_of b) ≡ None
-lenient_told_some b [] i item is e = absurd (let no : ⊥ = cc in no)
-lenient_told_some b (f ∷ fs) i item is e = lenient_told b (some_left b f fs is)
+begins_some : (v : View) (fs : List (List ℕ)) (i : ℕ) (item : View) → items v.bytes ≡ fs → slice_get (map (viewed v) fs) i ≡ Some item
+    → begins_as_list v.bytes ≡ true
+begins_some v [] i item is e = absurd (let no : ⊥ = cc in no)
+begins_some v (f ∷ fs) i item is e = some_left v.bytes f fs is
 
--- on a lenient view the two are one
-pub lenient_item_at : (b : List ℕ) (item : View) (i : ℕ) → (item_at (view_of b) i ≡ Ok item) ↔ (slice_get (item_views (view_of b)) i ≡ Some item)
+fault_by : (strict : Bool) (b : List ℕ) (e : DecoderError) → list_fault (record { bytes = b; is_strict = strict }) ≡ Some e
+    → items_fault (record { bytes = b; is_strict = strict }) ≡ Some e
+unfolding strict_list_fault
+fault_by false b e is = absurd (let no : ⊥ = cc in no)
+fault_by true b e is =
+    ⊎_elim
+    (λ kind. cond-true (begins_as_list b) (strict_list_fault b) (Some RlpExpectedToBeList) kind ∙ is)
+    (λ kind. cond-false (begins_as_list b) (strict_list_fault b) (Some RlpExpectedToBeList) kind
+    ∙ sym (cond-false (begins_as_list b) (first_fault (strict_fault b) (fault_of_some (rest b))) (Some RlpExpectedToBeList) kind) ∙ is)
+    (cases_Bool (begins_as_list b))
+
+-- a view that can't be read as a list has that fault for every number
+pub item_at-no_list : (v : View) (i : ℕ) (e : DecoderError) → list_fault v ≡ Some e → item_at v i ≡ Err e
+item_at-no_list v i e is = ap (map_ok (λ q. q.0)) (item_with_place-fault v i e (fault_by v.is_strict v.bytes e is))
+
+read_as_list : (v item : View) (i : ℕ) → item_at v i ≡ Ok item → list_fault v ≡ None
+read_as_list v item i e =
+    ⊎_elim (λ none. none) (λ (f, is). let no : item_at v i ≡ Err f = item_at-no_list v i f is in absurd (let never : ⊥ = cc in never))
+    (fault_cases (list_fault v) (list_fault v) refl)
+
+-- the items by number are those in order, if the view can be read as a list
+pub item_at-in_order : (v item : View) (i : ℕ) → (item_at v i ≡ Ok item) ↔ ((list_fault v ≡ None) × (slice_get (item_views v) i ≡ Some item))
 unfolding viewed
-lenient_item_at b item i = (item_at-slice_get (view_of b) item i, λ e. slice_get-item_at (view_of b) item i (lenient_told_some b (items b) i item refl e) e)
+item_at-in_order v item i = (
+  λ e. (read_as_list v item i e, item_at-slice_get v item i e),
+  λ (none, e). slice_get-item_at v item i (cond-true (begins_as_list v.bytes) (list_fault v) (Some RlpExpectedToBeList)
+      (begins_some v (items v.bytes) i item refl e) ∙ none) e,
+)
 
 past_by : (v : View) (i j : ℕ) → length (items v.bytes) ≤ i → length (items v.bytes) ≤ j → Numbered v i → item_at v i ≡ item_at v j
 past_by v i j l k (item_there told inside is) = absurd (omega arith)
@@ -196,7 +220,7 @@ item_count-list xs b sized begins =
     ∙ ap (λ fs. Ok (length fs)) (items_of_list xs b sized begins).0
     ∙ ap Ok (length-map xs encoding)
 
-slice_get-middle : {A B : Type 0} (f : A → B) (before after : List A) (x : A) → slice_get (map f (before ++ x ∷ after)) (length before) ≡ Some (f x)
+pub slice_get-middle : {A B : Type 0} (f : A → B) (before after : List A) (x : A) → slice_get (map f (before ++ x ∷ after)) (length before) ≡ Some (f x)
 slice_get-middle f [] after x = refl
 slice_get-middle f (y ∷ before) after x = slice_get-middle f before after x
 
@@ -205,6 +229,8 @@ pub item_at-list_item : (before after : List Item) (x : Item) (b : List ℕ) →
     → BeginsWith b (encoding (list_of (before ++ x ∷ after)))
     → item_at (view_of b) (length before) ≡ Ok (view_of (encoding x))
 item_at-list_item before after x b sized begins =
-    (lenient_item_at b (view_of (encoding x)) (length before)).1
-    (ap (λ vs. slice_get vs (length before)) (item_views-list (before ++ x ∷ after) b sized begins)
-    ∙ slice_get-middle (λ (y : Item). view_of (encoding y)) before after x)
+    (item_at-in_order (view_of b) (view_of (encoding x)) (length before)).1 (
+      refl,
+      ap (λ vs. slice_get vs (length before)) (item_views-list (before ++ x ∷ after) b sized begins)
+          ∙ slice_get-middle (λ (y : Item). view_of (encoding y)) before after x,
+    )

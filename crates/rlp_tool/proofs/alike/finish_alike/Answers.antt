@@ -1,7 +1,8 @@
-use Rattle.std.proofs.Common.{◌≡◌, Option, Some, None, IsSome, subst, sym}
+use Rattle.std.proofs.Common.{◌≡◌, inl, inr, ⊎_elim, Option, Some, None, IsSome, subst, sym}
 use Rattle.rlp.specs.Streams.Described.{FinishAs}
 use Rattle.rlp_tool.specs.Building.{AreJoined}
 use Rattle.rlp_tool.specs.StreamCalls.{calls_of}
+use Rattle.rlp_tool.proofs.AlikeLemmas.{described_by, none_holds, some_fails}
 use Rattle.rlp_tool.proofs.alike.finish_alike.Goals as goal
 
 none_some : {T : Type 0} (o : Option T) → o ≡ None → IsSome o → ⊥
@@ -34,3 +35,30 @@ returns-clause-told g c =
     let first : AreJoined front ones c.in-Some.first.items = rw c.in-Some.is at c.in_ok-first.ensures.joined in
     let second : AreJoined front others c.in-Some-2.second.items = rw c.in-Some-2.is at c.in_ok-second.ensures.joined in
     (first.items, second.items, first.described, second.described, returns-clause-described g c first.items second.items first.described second.described)
+
+-- ---- which list of calls is open, and which fails
+
+pub returns-in_err-first-clause-refused : goal.returns-in_err-first-clause-refused
+returns-in_err-first-clause-refused g c = inl c.in_err-first.ensures.refused
+
+pub returns-in_default-clause-other_taken : goal.returns-in_default-clause-other_taken
+returns-in_default-clause-other_taken g c = inl (none_holds c.in_ok-first.field-0 c.in_default.is c.in_ok-first.ensures.left_open)
+
+pub returns-in_default-clause-left_open : goal.returns-in_default-clause-left_open
+returns-in_default-clause-left_open g c = (λ none. inl (none_holds c.in_ok-first.field-0 c.in_default.is c.in_ok-first.ensures.left_open), λ left. tt)
+
+pub returns-in_err-second-clause-refused : goal.returns-in_err-second-clause-refused
+returns-in_err-second-clause-refused g c =
+    let joined : AreJoined c.args.front.now (calls_of g.A.Encodable.item c.args.one.now) c.in-Some.first.items = rw c.in-Some.is at c.in_ok-first.ensures.joined in
+    inr (described_by c.args.front.now (calls_of g.A.Encodable.item c.args.one.now) c.in-Some.first.items joined, c.in_err-second.ensures.refused)
+
+pub returns-in_default-2-clause-left_open : goal.returns-in_default-2-clause-left_open
+returns-in_default-2-clause-left_open g c = (λ none. inr (none_holds c.in_ok-second.field-0 c.in_default-2.is c.in_ok-second.ensures.left_open), λ left. tt)
+
+pub returns-clause-left_open : goal.returns-clause-left_open
+returns-clause-left_open g c = (
+  λ none. absurd none,
+  ⊎_elim
+      (some_fails c.in_ok-first.field-0 c.in-Some.first c.in-Some.is c.in_ok-first.ensures.left_open)
+      (some_fails c.in_ok-second.field-0 c.in-Some-2.second c.in-Some-2.is c.in_ok-second.ensures.left_open),
+)

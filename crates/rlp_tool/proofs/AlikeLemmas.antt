@@ -1,0 +1,35 @@
+-- Calls that finish, and calls that leave a list open.
+use Rattle.std.proofs.Common.{◌≡◌, ◌↔◌, inr, ℕ, List, Option, Some, None, IsNone, Result, Ok, Err, IfErr, ap, ◌∙◌}
+use Rattle.rlp.specs.Streams.Stream.{State}
+use Rattle.rlp.specs.Streams.Calls.{Call, after}
+use Rattle.rlp.specs.Streams.Described.{FinishAs}
+use Rattle.rlp_tool.specs.declared.building.BuildFault.{BuildFault}
+use Rattle.rlp_tool.specs.Building.{AreJoined, DescribeItems, IsRefusal, IsRefusalOver, LeaveOpen}
+use Rattle.rlp_tool.proofs.CallsLemmas.{same_last}
+
+-- calls that finish leave no list open
+pub finished_closed : (front : List ℕ) (calls : List Call) (bytes : List ℕ) → FinishAs front calls bytes → ¬ LeaveOpen front calls
+finished_closed front calls bytes done (size, (raw, left)) =
+    let same : left.last ≡ done.last = same_last (after front calls) left.last done.last left.admitted done.admitted in
+    left.unfinished (ap (λ (s : State). s.stack.lists) same ∙ done.closed)
+
+-- ---- an option that is `None` exactly if P holds
+
+pub none_holds : {T P : Type 0} (o : Option T) → o ≡ None → (IsNone o ↔ P) → P
+none_holds None e told = told.0 tt
+none_holds (Some x) e told = absurd (let no : ⊥ = cc in no)
+
+pub some_fails : {T P : Type 0} (o : Option T) (x : T) → o ≡ Some x → (IsNone o ↔ P) → ¬ P
+some_fails None x e told = absurd (let no : ⊥ = cc in no)
+some_fails (Some y) x e told = told.1
+
+-- the items that finished calls describe
+pub described_by : (front : List ℕ) (calls : List Call) (bytes : List ℕ) → AreJoined front calls bytes → DescribeItems front calls
+described_by front calls bytes done = (done.items, done.shallow)
+
+-- ---- faults
+
+pub refused_over : {T : Type 0} (front : List ℕ) (calls : List Call) (r : Result T BuildFault) → IfErr r (IsRefusal front calls)
+    → IfErr r (IsRefusalOver front calls)
+refused_over front calls (Ok x) told = tt
+refused_over front calls (Err fault) told = inr told
