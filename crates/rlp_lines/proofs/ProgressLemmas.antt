@@ -5,7 +5,7 @@ use Rattle.std.proofs.Common.{subst, take-append-drop}
 use Rattle.std.proofs.Math.Seq.{take-append_seam}
 use Rattle.std.proofs.KnownBytes.{Appends-nil, Appends-trans, Appends-kept, Consumes-nil, Consumes-trans}
 use Rattle.std.specs.Io.KnownBytes.{Appends, Consumes, Keeps, IsAtEnd}
-use Rattle.rlp_lines.specs.Run.{AppendsBefore, AppendsPart, AreRepliesBefore, RunLeaves, longest_read}
+use Rattle.rlp_lines.specs.Run.{AppendsBefore, AppendsPart, AreRepliesBefore, RunLeaves, TextLeaves, longest_read}
 use Rattle.rlp_lines.specs.Watched.{Watched}
 use Rattle.rlp_lines.specs.declared.serving.RunFault.{RunFault}
 use Rattle.rlp_lines.specs.declared.serving.RunFault.TheVariants.{Write}
@@ -387,3 +387,21 @@ module _ (longest : ℕ) (answer : List ℕ → List ℕ) where
     writer,
     flushed,
   )
+
+  -- memory or the writer stopped the answers to a text
+  pub TextLeaves-stop : {W : Type 0} (contents : W → Option (List ℕ)) (out0 out2 : Watched W) (fault : RunFault) (earlier text : List ℕ)
+      → IsStop answer fault (contents out0.inner) (contents out2.inner) earlier text out2.failed → TextLeaves answer text contents out0 out2 (Err fault)
+  TextLeaves-stop contents out0 out2 fault earlier text (inl refused) =
+      let before = refused.1 in
+      subst (λ (f : RunFault). TextLeaves answer text contents out0 out2 (Err f)) (sym refused.0) (record {
+        bytes = before.bytes;
+        replies = record {
+          refused = before.replies.refused;
+          unended = subst (λ (l : List (List ℕ)). length l ≤ before.replies.refused) (sym ended_lines-nil) (omega arith);
+          is_line = before.replies.is_line;
+          replies = before.replies.replies;
+        };
+        wrote = before.wrote;
+      })
+  TextLeaves-stop contents out0 out2 fault earlier text (inr broken) =
+      subst (λ (f : RunFault). TextLeaves answer text contents out0 out2 (Err f)) (sym broken.0) (broken.1, broken.2)

@@ -1,6 +1,6 @@
 -- What a run leaves. `answer` is the answer to each line. in0 and in1 are the bytes that the reader had left before and after the run.
 -- out0 and out1 are the bytes that the writer held.
-use Rattle.std.specs.Prelude.{ℕ, Bool, ◌≡◌, ◌<◌, ◌≤◌, ◌-◌, ◌^◌, ◌⊎◌, true, false, List, ◌++◌, length, take, Option, Result, Ok, Err}
+use Rattle.std.specs.Prelude.{ℕ, Bool, ◌≡◌, ◌<◌, ◌≤◌, ◌-◌, ◌^◌, ◌⊎◌, true, false, List, [], ◌++◌, length, take, Option, Result, Ok, Err}
 use Rattle.std.specs.Io.KnownBytes.{Consumes, Appends, IsAtEnd}
 use Rattle.rlp_lines.specs.Lines.{lines, ended_lines}
 use Rattle.rlp_lines.specs.Replies.{has_fault, replies_to, replies}
@@ -77,3 +77,13 @@ RunLeaves answer remaining contents in0 in1 out0 out1 (Err Read) =
     × ((in1.failed ≡ true) ⊎ (in1.reads ≡ 2 ^ 64 - 1))
 RunLeaves answer remaining contents in0 in1 out0 out1 (Err Write) =
     AnswersPart answer (remaining in0.inner) (remaining in1.inner) (contents out0.inner) (contents out1.inner) × (out1.failed ≡ true)
+
+-- What the answers to the lines of a text leave, by their result. No reader is involved, so no read fails.
+abbrev pub TextLeaves : {W : Type 0} → (List ℕ → List ℕ) → List ℕ → (W → Option (List ℕ)) → Watched W → Watched W → Result Bool RunFault → Type 0
+TextLeaves answer text contents out0 out1 (Ok faulty) =
+    Appends (contents out0.inner) (contents out1.inner) (replies answer text)
+    × (faulty ≡ has_fault answer (lines text)) × (out1.failed ≡ false) × (out1.flushed ≡ true)
+TextLeaves answer text contents out0 out1 (Err Memory) = AppendsBefore answer (contents out0.inner) (contents out1.inner) [] text
+TextLeaves answer text contents out0 out1 (Err Read) = ⊥
+TextLeaves answer text contents out0 out1 (Err Write) =
+    AppendsPart (contents out0.inner) (contents out1.inner) (replies answer text) × (out1.failed ≡ true)

@@ -4,7 +4,7 @@ ghost use Rattle.std.specs.Io.KnownBytes.{Appends};
 ghost use Rattle.rlp_lines.specs.Lines.{lines};
 ghost use Rattle.rlp_lines.specs.Replies.{answer_by, has_fault, replies};
 ghost use Rattle.rlp_lines.specs.Progress.{IsServed, IsStop};
-ghost use Rattle.rlp_lines.specs.Run.{AppendsPart, RunLeaves, TellsFault};
+ghost use Rattle.rlp_lines.specs.Run.{AppendsPart, RunLeaves, TellsFault, TextLeaves};
 
 use crate::answering::LineAnswers;
 use crate::line::Line;
@@ -64,8 +64,9 @@ fn write_whole<W: Write>(output: &mut Noted<W>, bytes: &[u8]) -> Result<(), RunF
     Ok(())
 }
 
-/// Writes all the bytes, and flushes.
-fn write_last<W: Write>(output: &mut Noted<W>, bytes: &[u8]) -> Result<(), RunFault>
+/// Writes all the bytes, and flushes. Fails with [`RunFault::Write`], and some first bytes may then be
+/// written.
+pub fn write_and_flush<W: Write>(output: &mut Noted<W>, bytes: &[u8]) -> Result<(), RunFault>
     ensures ok { OnOk result (Appends (W.contents output.old.inner)
         (W.contents output.new.inner) bytes.now) }
     ensures kept { OnOk result (output.new.failed ≡ output.old.failed) }
@@ -146,7 +147,7 @@ fn finish<A: LineAnswers, W: Write>(
 {
     pending.clear();
     match line.finish(alloc, answers, pending) {
-        Ok(()) => write_last(output, pending.as_bytes()),
+        Ok(()) => write_and_flush(output, pending.as_bytes()),
         Err(_) => Err(RunFault::Memory),
     }
 }
@@ -187,4 +188,27 @@ pub fn answer_lines<A: LineAnswers, R: Read, W: Write>(
         }
     }
     Err(RunFault::Read)
+}
+
+/// Answers each line of a text as `answers` says, as [`answer_lines`] answers those of an input, and
+/// flushes. Fails with [`RunFault::Memory`] or [`RunFault::Write`].
+pub fn answer_text<A: LineAnswers, W: Write>(
+    alloc: Global,
+    answers: &A,
+    text: &[u8],
+    output: &mut Noted<W>,
+) -> Result<bool, RunFault>
+    requires { output.old.failed ≡ false }
+    ensures { TextLeaves (answer_by A.longest (A.answer_within answers.now)) text.now W.contents
+        output.old output.new result }
+{
+    let mut line = Line::new(alloc);
+    let mut pending = String::new(alloc);
+    if let Err(fault) = serve(alloc, answers, &mut line, &mut pending, output, text) {
+        return Err(fault);
+    }
+    if let Err(fault) = finish(alloc, answers, &mut line, &mut pending, output) {
+        return Err(fault);
+    }
+    Ok(line.is_faulty())
 }

@@ -20,6 +20,8 @@ pub mod Guess
 pub mod LineAnswer
 -- what the arguments of the program ask for
 pub mod Request
+-- what the program does for its arguments, and its exit status
+pub mod Program
 -- lemmas on envelopes, and on strings that hold records
 pub mod EnvelopeLemmas
 -- lemmas on transactions that are shown without a fault

@@ -22,7 +22,8 @@ const LONGEST_LINE: usize = 33_554_432;
 pub enum Form {
     /// A line for each field.
     Text,
-    /// One JSON object, whose only key is the name of the kind.
+    /// One JSON object, whose only key is the name of the kind, as `accessList`. It has no key for
+    /// `ping` and `pong`, which have no fields.
     Json,
 }
 

@@ -1,10 +1,10 @@
 //! What the program prints of itself.
 
 /// What the program prints for `--version`.
-pub const VERSION: &str = "rlp_show 0.6.1";
+pub const VERSION: &str = "rlp_show 0.6.1\n";
 
 /// What the program prints for arguments that it doesn't know.
-pub const USAGE: &str = "usage: rlp_show [--json] [KIND] [RECORD]\nrlp_show --help says more.";
+pub const USAGE: &str = "usage: rlp_show [--json] [KIND] [RECORD]\nrlp_show --help says more.\n";
 
 /// The exit status of the program for such arguments.
 pub const UNKNOWN_ARGUMENTS: u8 = 4;
@@ -19,10 +19,11 @@ RECORD is the whole encoding in hexadecimal digits after 0x, or the text of a no
 record, which begins with enr:. Without RECORD, each line of standard input is a
 record, where 0x may be left out.
 
-With --json an answer is one JSON object in one line. Its only key is the kind. The
-names and values of records are those of Ethereum's execution API: numbers are in
-hexadecimal, and the fields of a header stand in its block. Only signingHash and
-whole ommers aren't there. Fields of messages have names of the same form.
+With --json an answer is one JSON object in one line. Its only key is the kind, as
+accessList for access_list; ping and pong have no fields, and are {}. The names and
+values of records are those of Ethereum's execution API: numbers are in hexadecimal,
+and the fields of a header stand in its block. Only signingHash and whole ommers
+aren't there. Fields of messages have names of the same form.
 
 KIND is one of
   transaction, receipt            with or without a type
@@ -75,4 +76,5 @@ Signatures aren't tested. The exit status is
 Examples:
   rlp_show 0xda808203e8945df9b87991262f6ba471f09758cde1c0fc1de73405
   rlp_show < block.txt
-  rlp_show --json header < headers.txt";
+  rlp_show --json header < headers.txt
+";

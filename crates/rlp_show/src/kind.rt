@@ -25,7 +25,7 @@ pub enum Kind {
     Receipt,
     /// Node records.
     NodeRecord,
-    /// Transactions, also in the envelopes of types 1 to 4.
+    /// Transactions, also in the envelope of any type.
     Transaction,
     /// Withdrawals.
     Withdrawal,

@@ -42,7 +42,7 @@ pub use paths::{ExtensionPath, Path};
 pub use request::Request;
 pub use rlp_lines::{Noted, RunFault};
 pub use rlp_show_text::{ItemFault, ShowFault};
-pub use serving::{exit_status, run};
+pub use serving::{exit_status, refuse_arguments, run, serve_request};
 pub use show::Show;
 pub use transactions::{ListOr, TransactionAlone, TypedTransaction, UnknownTransaction};
 pub use values::ShowValues;

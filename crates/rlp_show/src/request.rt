@@ -15,7 +15,7 @@ pub enum Request {
     Version,
     /// These answers to the lines of standard input.
     Lines(Answers),
-    /// This answer to the last argument, which is a record.
+    /// These answers to the lines of the last argument, which begins as a record does.
     Record(Answers),
     /// Nothing that the program knows.
     Unknown,
@@ -27,7 +27,7 @@ impl Request {
 
     /// What these arguments ask for, without the name of the program. They are a kind, a record, or
     /// a kind and then a record, all after `--json` if the answers are to be in JSON; or one of
-    /// `--help`, `-h`, `--version` and `-V`.
+    /// `--help`, `-h`, `--version` and `-V`. A record is what begins with `0x` or `enr:`.
     pub fn of(words: &[String]) -> Request
         ensures { result ≡ request_of (map string_bytes words.now) }
     {

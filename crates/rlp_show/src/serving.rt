@@ -1,15 +1,22 @@
-//! The loop over the input.
+//! The loop over the input, and what the program does for its arguments.
 
-ghost use Rattle.std.specs.Prelude.{◌≡◌, false, IfOk};
+ghost use Rattle.std.specs.Prelude.{◌≡◌, ◌≢◌, false, map, string_bytes, IfOk};
+ghost use Rattle.std.specs.IoError.{error_kind};
+ghost use Rattle.rlp_lines.specs.Lines.{last_of};
 ghost use Rattle.rlp_lines.specs.Replies.{answer_by};
 ghost use Rattle.rlp_lines.specs.Run.{RunLeaves, TellsFault};
 ghost use Rattle.rlp_show_text.specs.Answer.{exit_status, longest_line};
 ghost use Rattle.rlp_show.specs.LineAnswer.{answer_of};
+ghost use Rattle.rlp_show.specs.Program.{AnswersInput, AnswersWord, Prints, Refuses, Serves};
+ghost use Rattle.rlp_show.specs.Request.{request_of};
 
 use crate::answers::Answers;
-use rlp_lines::{Noted, RunFault, answer_lines};
+use crate::help::{HELP, UNKNOWN_ARGUMENTS, USAGE, VERSION};
+use crate::request::Request;
+use rlp_lines::{Noted, RunFault, answer_lines, answer_text, write_and_flush};
 use std::alloc::Global;
-use std::io::{Read, Write};
+use std::io;
+use std::io::{ErrorKind, Read, Write};
 
 /// Answers each line of the input, until its end, with the record that it is, or with what is wrong
 /// with it. The answer to a line of more than 32 MiB is `error long line`. Returns whether an answer
@@ -39,5 +46,105 @@ pub fn exit_status(outcome: &Result<bool, RunFault>) -> u8
         Ok(false) => 0,
         Ok(true) => 5,
         Err(fault) => fault.status(),
+    }
+}
+
+/// Answers the lines of the input, and returns the exit status.
+fn answer_input<R: Read, W: Write>(
+    alloc: Global,
+    answers: &Answers,
+    input: &mut Noted<R>,
+    output: &mut Noted<W>,
+) -> u8
+    requires input { input.old.failed ≡ false }
+    requires output { output.old.failed ≡ false }
+    ensures { AnswersInput answers.now R.remaining W.contents
+        input.old input.new output.old output.new result }
+{
+    exit_status(&run(alloc, answers, input, output))
+}
+
+/// Answers the lines of a word, and returns the exit status.
+fn answer_word<W: Write>(alloc: Global, answers: &Answers, word: &str, output: &mut Noted<W>) -> u8
+    requires { output.old.failed ≡ false }
+    ensures { AnswersWord answers.now word.now W.contents output.old output.new result }
+{
+    exit_status(&answer_text(alloc, answers, word.as_bytes(), output))
+}
+
+/// Prints a text, and returns the exit status.
+fn print<W: Write>(text: &str, output: &mut Noted<W>) -> u8
+    requires { output.old.failed ≡ false }
+    ensures { Prints text.now W.contents output.old output.new result }
+{
+    match write_and_flush(output, text.as_bytes()) {
+        Ok(()) => 0,
+        Err(fault) => fault.status(),
+    }
+}
+
+/// Prints on standard error how the program is called, and returns the exit status.
+fn refuse<E: Write>(errors: &mut Noted<E>) -> u8
+    requires { errors.old.failed ≡ false }
+    ensures { Refuses USAGE.now E.contents errors.old errors.new result }
+{
+    let _printed = print(USAGE, errors);
+    UNKNOWN_ARGUMENTS
+}
+
+/// The last word, or the empty text if there is none.
+fn last_word(words: &[String]) -> &str
+    ensures { result.now ≡ last_of (map string_bytes words.now) }
+{
+    match words {
+        [.., word] => word.as_str(),
+        [] => "",
+    }
+}
+
+/// Does what the arguments ask for, and returns the exit status of the program. `words` are the
+/// arguments after its name, `input` and `output` its standard input and output, and `errors` its
+/// standard error.
+///
+/// `--help` prints [`HELP`], and `--version` prints [`VERSION`]. A record among the arguments is
+/// answered as if it were the whole input, which then isn't read; without a record the lines of the
+/// input are answered. Arguments that ask for nothing that the program knows are answered by
+/// [`USAGE`] on standard error.
+pub fn serve_request<R: Read, W: Write, E: Write>(
+    alloc: Global,
+    words: &[String],
+    input: &mut Noted<R>,
+    output: &mut Noted<W>,
+    errors: &mut Noted<E>,
+) -> u8
+    requires input { input.old.failed ≡ false }
+    requires output { output.old.failed ≡ false }
+    requires errors { errors.old.failed ≡ false }
+    ensures { Serves (request_of (map string_bytes words.now)) (last_of (map string_bytes words.now))
+        R.remaining W.contents E.contents
+        input.old input.new output.old output.new errors.old errors.new result }
+{
+    let word = last_word(words);
+    match Request::of(words) {
+        Request::Help => print(HELP, output),
+        Request::Version => print(VERSION, output),
+        Request::Lines(answers) => answer_input(alloc, &answers, input, output),
+        Request::Record(answers) => answer_word(alloc, &answers, word, output),
+        Request::Unknown => refuse(errors),
+    }
+}
+
+/// Says why the arguments can't be read, and returns the exit status of the program: that of a lack
+/// of memory, or else that of unknown arguments, after [`USAGE`] on standard error.
+pub fn refuse_arguments<E: Write>(fault: &io::Error, errors: &mut Noted<E>) -> u8
+    requires { errors.old.failed ≡ false }
+    ensures memory { error_kind fault.now ≡ ErrorKind.OutOfMemory
+        → (result ≡ 1) × (errors.new ≡ errors.old) }
+    ensures unknown { error_kind fault.now ≢ ErrorKind.OutOfMemory
+        → Refuses USAGE.now E.contents errors.old errors.new result }
+{
+    match fault.kind() {
+        ErrorKind::OutOfMemory => RunFault::Memory.status(),
+        _ => refuse(errors),
     }
 }

@@ -6,15 +6,15 @@ use Rattle.rlp_lines.proofs.serving.finish.Goals as goal
 
 pub returns-in-Ok-clause-ok : goal.returns-in-Ok-clause-ok
 returns-in-Ok-clause-ok g c start text served =
-    Appends-last g.A.LineAnswers.longest (answer_by g.A.LineAnswers.longest (g.A.LineAnswers.answer_within c.args.answers.now)) c.write_last.result (g.W.Write.contents c.write_last.new.output.inner) c.as_bytes.result.now served
-    (c.as_bytes.ensures.value ∙ after_empty c.clear.ensures.bytes (c.in-Ok.ensures.ok text served.line)) c.write_last.ensures.ok
+    Appends-last g.A.LineAnswers.longest (answer_by g.A.LineAnswers.longest (g.A.LineAnswers.answer_within c.args.answers.now)) c.write_and_flush.result (g.W.Write.contents c.write_and_flush.new.output.inner) c.as_bytes.result.now served
+    (c.as_bytes.ensures.value ∙ after_empty c.clear.ensures.bytes (c.in-Ok.ensures.ok text served.line)) c.write_and_flush.ensures.ok
 
 pub returns-in-Ok-clause-stop : goal.returns-in-Ok-clause-stop
 returns-in-Ok-clause-stop g c start text served =
-    IsStop-last g.A.LineAnswers.longest (answer_by g.A.LineAnswers.longest (g.A.LineAnswers.answer_within c.args.answers.now)) c.write_last.result (g.W.Write.contents c.write_last.new.output.inner)
-    c.write_last.new.output.failed c.as_bytes.result.now served
-    (c.as_bytes.ensures.value ∙ after_empty c.clear.ensures.bytes (c.in-Ok.ensures.ok text served.line)) c.write_last.ensures.part
-    c.write_last.ensures.failed c.write_last.ensures.fault
+    IsStop-last g.A.LineAnswers.longest (answer_by g.A.LineAnswers.longest (g.A.LineAnswers.answer_within c.args.answers.now)) c.write_and_flush.result (g.W.Write.contents c.write_and_flush.new.output.inner)
+    c.write_and_flush.new.output.failed c.as_bytes.result.now served
+    (c.as_bytes.ensures.value ∙ after_empty c.clear.ensures.bytes (c.in-Ok.ensures.ok text served.line)) c.write_and_flush.ensures.part
+    c.write_and_flush.ensures.failed c.write_and_flush.ensures.fault
 
 pub returns-in-Err-clause-stop : goal.returns-in-Err-clause-stop
 returns-in-Err-clause-stop g c start text served =

@@ -1,5 +1,5 @@
 use Rattle.rlp_lines.proofs.ProgressLemmas.{AppendsPart-whole}
-use Rattle.rlp_lines.proofs.serving.write_last.Goals as goal
+use Rattle.rlp_lines.proofs.serving.write_and_flush.Goals as goal
 
 pub returns-in-Err-clause-part : goal.returns-in-Err-clause-part
 returns-in-Err-clause-part g c =
