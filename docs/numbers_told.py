@@ -8,6 +8,7 @@ from crates import crates_of
 from library import OPERATIONS
 from page import RATIO, measured
 from parts import PART
+from trusted import count as files_of_definitions
 
 WORDS = "zero one two three four five six seven eight nine ten eleven twelve thirteen fourteen fifteen sixteen seventeen eighteen nineteen twenty".split()
 # The files that say what the format is.
@@ -45,6 +46,7 @@ COUNTED = {
     "crates of tests": lambda root: sum(1 for name in crates_of(root) if name.endswith("_vectors")),
     "laws in all": laws,
     "lines of definitions": lines_of_format,
+    "files of definitions": files_of_definitions,
     "operations of the library": lambda root: len(OPERATIONS),
     "operations were measured": lambda root: len(measured(root)[2]),
 }

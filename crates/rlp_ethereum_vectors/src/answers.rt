@@ -3,12 +3,12 @@
 use crate::alone::Payload;
 use crate::fields::{fields, forks, london};
 use crate::reading::{Alone, Item, ways};
-use crate::{bounded, hashes, node_records, nodes, records, signing, unsigned};
+use crate::{bounded, by_name, hashes, node_records, nodes, records, signing, unsigned};
 use rlp_ethereum::{
-    AccessListTransaction, Account, AnyTransaction, Authorization, BlobTransaction, Block, Body,
-    Branch, BranchChild, Child, Extension, FeeMarketTransaction, Hash, Header, Leaf, Log,
-    NodeRecord, SetCodeTransaction, Signed, SignedLegacyTransaction, Transaction, TrieNode,
-    TypedReceipt, UnsignedLegacyTransaction, UnsignedTransaction, Withdrawal,
+    AccessListTransaction, AnyTransaction, Authorization, BlobTransaction, Block, Body, Branch,
+    BranchChild, Child, Extension, FeeMarketTransaction, Hash, Header, Leaf, Log, NodeRecord,
+    SetCodeTransaction, Signed, SignedLegacyTransaction, Transaction, TrieNode, TypedReceipt,
+    UnsignedLegacyTransaction, UnsignedTransaction,
 };
 use rlp_rows::Line;
 use std::alloc::Global;
@@ -18,7 +18,6 @@ use std::fmt::Write;
 /// Tells what a call answers about the bytes. The name of a type stands for reading it both ways.
 pub(crate) fn tell(alloc: Global, call: &str, bytes: &[u8], out: &mut Line) -> fmt::Result {
     match call {
-        "Account" => ways::<Item<Account>>(alloc, bytes, out),
         "AnyTransaction" => ways::<Item<AnyTransaction>>(alloc, bytes, out),
         "Block" => ways::<Item<Block>>(alloc, bytes, out),
         "Body" => ways::<Item<Body>>(alloc, bytes, out),
@@ -28,7 +27,6 @@ pub(crate) fn tell(alloc: Global, call: &str, bytes: &[u8], out: &mut Line) -> f
         "Log" => ways::<Item<Log>>(alloc, bytes, out),
         "Transaction" => ways::<Item<Transaction>>(alloc, bytes, out),
         "TypedReceipt" => ways::<Item<TypedReceipt>>(alloc, bytes, out),
-        "Withdrawal" => ways::<Item<Withdrawal>>(alloc, bytes, out),
         _ => tell_payload(alloc, call, bytes, out),
     }
 }
@@ -77,6 +75,7 @@ fn tell_named(alloc: Global, call: &str, bytes: &[u8], out: &mut Line) -> fmt::R
     let (table, name) = call.split_once(": ").unwrap_or((call, ""));
     match table {
         "record" => records::tell(alloc, name, bytes, out),
+        "by name" => by_name::tell(alloc, name, bytes, out),
         "signing" => unsigned::tell_signed(alloc, name, bytes, out),
         "sent" => signing::tell_sent(alloc, name, bytes, out),
         "signed" => unsigned::tell(alloc, name, bytes, out),

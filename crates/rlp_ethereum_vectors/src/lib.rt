@@ -14,6 +14,8 @@ mod answers;
 #[cfg(test)]
 mod bounded;
 #[cfg(test)]
+mod by_name;
+#[cfg(test)]
 mod fields;
 #[cfg(test)]
 mod hashes;

@@ -1,4 +1,4 @@
-//! Records by themselves: headers, blocks, receipts, accounts and their parts.
+//! Records by themselves: headers, blocks, receipts and their parts.
 
 use crate::reading::{digits, made, made_of};
 use rlp::Uint;
@@ -10,7 +10,7 @@ use rlp_rows::Line;
 use std::alloc::{AllocError, Global};
 use std::fmt;
 
-/// Rows of headers, blocks, receipts, accounts and their parts.
+/// Rows of headers, blocks, receipts and their parts.
 pub(crate) const ROWS: &str = "
     Hashes.
     record: hash | a028ef61340bd939bc2195fe537567866003e1a15d3c71ff63e1590620aa636276
@@ -29,11 +29,6 @@ pub(crate) const ROWS: &str = "
     record: access list | f872f85994de0b295669a9fd93d5f28d9ec85e40f4cb697baef842a000000000000000000\
      00000000000000000000000000000000000000000000003a0000000000000000000000000000000000000000000000\
      0000000000000000007d694bb9bc244d798123fde783fcc1c72d3bb8c189413c0
-
-    A withdrawal of 4 Gwei, and an account with one transaction and 256 Wei.
-    Withdrawal | d8010294030303030303030303030303030303030303030304
-    Account | f84601820100a00404040404040404040404040404040404040404040404040404040404040404a005050\
-     50505050505050505050505050505050505050505050505050505050505
 
     The receipt of a transaction that succeeded, with one log.
     record: receipt | f9014601825208b90100+00*256+f83df83b94111111111111111111111111111111111111111\

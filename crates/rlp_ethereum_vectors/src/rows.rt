@@ -2,18 +2,20 @@
 
 use crate::answers::tell;
 use crate::text::bytes_of;
-use crate::{bounded, hashes, node_records, nodes, records, signing, unsigned};
+use crate::{bounded, by_name, hashes, node_records, nodes, records, signing, unsigned};
 use rlp_rows::Line;
 use std::alloc::{AllocError, Global};
 use std::test::Fail;
 
 /// The tables.
-const TABLES: [&str; 7] = [
+const TABLES: [&str; 9] = [
     records::ROWS,
+    by_name::ROWS,
     signing::ROWS,
     unsigned::ROWS,
     hashes::ROWS,
     bounded::ROWS,
+    bounded::WITHOUT_MEMORY,
     nodes::ROWS,
     node_records::ROWS,
 ];

@@ -83,6 +83,22 @@ pub(crate) const ROWS: &str = "
     signing: what is signed | c98080808080801a0102 | None
     signing: what is signed | c98080808080801d0102 | None
     signing: signature again | c9808080808080220102 | None
+    The parity that v of a legacy transaction says: 27 and 28 without a chain, 35 and 36 for chain 0,
+    37 of the example of EIP-155, and the least and the greatest for the greatest chain of 64 bits.
+    The number after that is for a chain of 65 bits, and 26, 29 and 34 are no v.
+    signing: parity | c98080808080801b0102 | Some(false)
+    signing: parity | c98080808080801c0102 | Some(true)
+    signing: parity | c9808080808080230102 | Some(false)
+    signing: parity | c9808080808080240102 | Some(true)
+    signing: parity | SIGNED | Some(false)
+    signing: parity | d280808080808089+0200000000000000210102 | Some(false)
+    signing: parity | d280808080808089+0200000000000000220102 | Some(true)
+    signing: parity | d280808080808089+0200000000000000230102 | None
+    signing: parity | d280808080808089+0200000000000000240102 | None
+    signing: parity | c9808080808080800102 | None
+    signing: parity | c98080808080801a0102 | None
+    signing: parity | c98080808080801d0102 | None
+    signing: parity | c9808080808080220102 | None
     With one blob of zeros, as in EIP-4844 and EIP-7594.
     sent: with proofs | 03fa0200b1+f843018002030494+35*20+0780c008e1a001+00*31+800102+fa020004ba02\
      0000+00*131072+f1b0c0+00*47+f1b0c0+00*47
@@ -173,6 +189,14 @@ pub(crate) fn tell_again(
             out.write_str(if is_same { "the same" } else { "other bytes" })
         }
         None => out.write_str("None"),
+    }
+}
+
+/// Tells the parity that `v` of a legacy transaction says.
+pub(crate) fn tell_parity(signed: &Transaction, out: &mut Line) -> fmt::Result {
+    match signed {
+        Transaction::Legacy(tx) => out.debug(tx.y_parity()),
+        _ => Err(fmt::Error),
     }
 }
 

@@ -4,7 +4,7 @@
 
 use crate::fields::{second, tell_parts, tell_second, tell_typed};
 use crate::reading::{Alone, digits, fault, made, ways};
-use crate::signing::{tell_again, tell_fees, tell_payload};
+use crate::signing::{tell_again, tell_fees, tell_parity, tell_payload};
 use rlp::Uint;
 use rlp_ethereum::{
     Address, Authorization, LegacyTransaction, Recipient, Tagged, Transaction,
@@ -351,6 +351,7 @@ fn tell_of(alloc: Global, name: &str, signed: &Transaction, out: &mut Line) -> f
         "parts" => tell_parts(signed, out),
         "what is signed" => tell_payload(alloc, signed, out),
         "fees" => tell_fees(alloc, signed, out),
+        "parity" => tell_parity(signed, out),
         _ => match second(signed) {
             Some(second) => digits(second.payload.signing_payload(alloc), out),
             None => Err(fmt::Error),

@@ -19,6 +19,9 @@ pub(crate) const ROWS: &str = "
      deadc0de050580
     request: headers by number | ca820457c682270f050580
 
+    A request for five headers downwards, every eighth, worked out by hand.
+    request: headers downwards | ca820457c682270f050701
+
     The answer 1111 with one header, the header, and the answer with none, which was worked out by
     hand.
     BlockHeaders | f90202820457f901fc+HEADER
@@ -96,6 +99,16 @@ pub(crate) const ROWS: &str = "
      +00*256+LOGS+c0f9010fb9010c03f9010801825208b90100+00*256+c0 | 3: legacy fee market;; blob;
 ";
 
+/// Returns the request for five headers downwards, with seven blocks skipped before each next one.
+fn get_downwards() -> WithRequestId<GetBlockHeaders> {
+    with_id(GetBlockHeaders {
+        start_block: HashOrNumber::Number(9999),
+        limit: 5,
+        skip: 7,
+        reverse: true,
+    })
+}
+
 /// Returns the request for headers from this block on.
 fn get_headers(start_block: HashOrNumber) -> WithRequestId<GetBlockHeaders> {
     WithRequestId {
@@ -137,6 +150,7 @@ pub(crate) fn tell(alloc: Global, name: &str, bytes: &[u8], out: &mut Line) -> f
     match name {
         "headers by hash" => made(alloc, &get_headers(HashOrNumber::Hash(HASH)), bytes, out),
         "headers by number" => made(alloc, &get_headers(HashOrNumber::Number(9999)), bytes, out),
+        "headers downwards" => made(alloc, &get_downwards(), bytes, out),
         "no headers" => made(alloc, &with_id(BlockHeaders(Vec::new(alloc))), bytes, out),
         "bodies" => made(alloc, &with_id(GetBlockBodies(hashes(alloc)?)), bytes, out),
         "receipts" => made(alloc, &with_id(GetReceipts(hashes(alloc)?)), bytes, out),

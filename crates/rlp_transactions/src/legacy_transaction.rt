@@ -3,7 +3,7 @@
 ghost use Rattle.std.specs.Prelude.{◌≡◌, ◌+◌, ℕ, IfNone, IfSome, Option, refl};
 ghost use Rattle.rlp.specs.Codecs.Parts.{laws_of};
 ghost use Rattle.rlp.specs.Values.Value.{bit};
-ghost use Rattle.rlp_transactions.specs.Eip155.{even_v, v_of};
+ghost use Rattle.rlp_transactions.specs.Eip155.{FitsChain, even_v, v_of};
 ghost use Rattle.rlp_transactions.specs.LegacyTransaction.{legacy_transaction_fields};
 ghost use Rattle.rlp_transactions.specs.Signatures.{IsNoV, SaysChain, number_of};
 
@@ -59,7 +59,7 @@ impl Signed<LegacyTransaction, Uint<32>> {
     /// `None` where [`Eip155::from_v`] does.
     pub fn y_parity(&self) -> Option<bool>
         ensures some { IfSome result (λ p. (chain : Option ℕ)
-            × (number_of self.now.v ≡ bit p + even_v chain)) }
+            × (FitsChain chain × (number_of self.now.v ≡ bit p + even_v chain))) }
         ensures none { IfNone result (IsNoV (number_of self.now.v)) }
     {
         match self.eip155() {

@@ -10,17 +10,17 @@ use Rattle.std.specs.Str.{bytes_eq}
 use Rattle.std.specs.Vec.{vec_items}
 use Rattle.rlp.specs.Codec.{Codec, Fields, byte_string, each, end, field}
 use Rattle.rlp.specs.Format.Item.{Item, string}
-use Rattle.rlp.specs.Lemmas.RawItems.{raw_list}
 use Rattle.rlp.specs.Lemmas.Structs.{list_same}
 use Rattle.rlp_trie.specs.BranchChild.{branch_child, place_item}
 use Rattle.rlp_trie.specs.Child.{IsChild, child_item}
+use Rattle.rlp_trie.specs.ChildLaws.{child_some}
 use Rattle.rlp_trie.specs.HexPrefix.{AreNibbles, path_nibbles}
 use Rattle.rlp_trie.specs.Lookup.{branch_value, ends, extension_step, goes, place_step, step}
 use Rattle.rlp_trie.specs.Trie.{branch, branch_fields, child_at, extension, leaf}
 use Rattle.rlp_trie.specs.TrieNode.{IsTrieNode, node_item}
+use Rattle.rlp_trie.specs.TrieNodeLaws.{leaf_apart}
 use Rattle.rlp_trie.specs.declared.branch.Branch.{Branch}
 use Rattle.rlp_trie.specs.declared.child.Child.{Child}
-use Rattle.rlp_trie.specs.declared.child.Child.TheVariants as child
 use Rattle.rlp_trie.specs.declared.extension.Extension.{Extension}
 use Rattle.rlp_trie.specs.declared.leaf.Leaf.{Leaf}
 use Rattle.rlp_trie.specs.declared.trie_node.TrieNode.{TrieNode}
@@ -61,12 +61,6 @@ place_fits b nibble small fit = subst (λ i. IfSome (child_at i b).0 IsChild) (l
 
 -- ---- the item of a node says the step
 
--- a child isn't the empty string
-child_some : (c : Child) → IsChild c → child_item c ≢ string []
-child_some (child.Node hash) is = λ same. let none : hash.0 ≡ [] = cc in omega (arith, is, ap length none)
-child_some (child.Inline inline) is = λ same.
-    let kind = raw_list inline.item (let fits : length inline.item < 2 ^ 64 = omega (arith, inline.is_short) in fits) is inline.is_list in cc
-
 place_same : (o p : Option Child) (rest : List ℕ) → IfSome o IsChild → IfSome p IsChild → place_item o ≡ place_item p → place_step o rest ≡ place_step p rest
 place_same None None rest fit other same = refl
 place_same None (Some d) rest fit other same = absurd (child_some d other (sym same))
@@ -99,13 +93,6 @@ branch_same b c (nibble ∷ rest) fit other are same =
     let items : branch_fields.items b ≡ branch_fields.items c = list_same (branch_fields.items b) (branch_fields.items c) same in
     place_same (child_at nibble b).0 (child_at nibble c).0 rest (place_fits b nibble small fit) (place_fits c nibble small other)
     (sym (child_of_place b nibble small) ∙ ap (λ (xs : List Item). get_or xs nibble (string [])) items ∙ child_of_place c nibble small)
-
-leaf_apart : (l : Leaf) (e : Extension) → leaf.item l ≡ extension.item e → ⊥
-leaf_apart l e same =
-    let is_leaf = l.path.encoded in
-    let is_extension = e.path.encoded in
-    let paths : vec_items l.path.bytes ≡ vec_items e.path.bytes = cc in
-    cc
 
 -- nodes with one item say the same of a path
 pub same_step : (n m : TrieNode) (path : List ℕ) → IsTrieNode n → IsTrieNode m → AreNibbles path → node_item n ≡ node_item m → step n path ≡ step m path

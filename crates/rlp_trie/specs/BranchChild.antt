@@ -6,13 +6,14 @@ use Rattle.rlp.specs.DecoderError.TheVariants.{OutOfMemory}
 use Rattle.rlp.specs.Format.Item.{Item, string}
 use Rattle.rlp.specs.Format.Encoding.{encoding}
 use Rattle.rlp.specs.Values.RawItem.{view_frame}
+use Rattle.rlp.specs.Values.Same.{SameOption}
 use Rattle.rlp.specs.Values.ValueReading.{GivesValue}
 use Rattle.rlp.specs.Views.View.{View, Holds, HoldsItem}
 use Rattle.rlp.specs.Codec.{Codec, newtype}
 use Rattle.rlp.specs.Codecs.Exact.{exact_type}
 use Rattle.rlp.specs.Lemmas.RawItems.{view_frame-held}
-use Rattle.rlp_trie.specs.Child.{IsChild, IsChildFault, MayLackAsChild, child_item, faulty_child}
-use Rattle.rlp_trie.specs.ChildLaws.{child_sound}
+use Rattle.rlp_trie.specs.Child.{IsChild, IsChildFault, MayLackAsChild, SameChild, child_item, faulty_child}
+use Rattle.rlp_trie.specs.ChildLaws.{child_some, child_sound, same_child}
 use Rattle.rlp_trie.specs.Inline.{IsInlineNode}
 use Rattle.rlp_trie.specs.declared.branch_child.BranchChild.{BranchChild}
 use Rattle.rlp_trie.specs.declared.child.Child.{Child}
@@ -36,9 +37,19 @@ place_sound v None fits is holds e (faulty_place b framed other bad) =
     other (let same : b ≡ encoding (string []) = cc in same)
 place_sound v (Some c) fits is holds e (faulty_place b framed other bad) = child_sound v c fits is holds e (faulty_child b framed bad)
 
--- a place is given exactly by its encoding
+-- places that are written as one item have the same child, or none
+same_place : (o p : Option Child) → IfSome o IsChild → IfSome p IsChild → place_item o ≡ place_item p → SameOption SameChild o p
+same_place None None is also same = tt
+same_place None (Some d) is also same = absurd (child_some d also (sym same))
+same_place (Some c) None is also same = absurd (child_some c is same)
+same_place (Some c) (Some d) is also same = same_child c d is also same
+
+-- A place is given exactly by its encoding. Two places agree if they have the same child, or none.
 abbrev pub place : Codec (Option Child)
-place = exact_type (λ o. IfSome o IsChild) place_item FaultsAsPlace MayLackAsChild place_sound
+place = record (exact_type (λ o. IfSome o IsChild) place_item FaultsAsPlace MayLackAsChild place_sound) {
+  Same = λ o p. SameOption SameChild o p;
+  told = same_place;
+}
 
 -- the place that it holds
 abbrev pub branch_child : Codec BranchChild

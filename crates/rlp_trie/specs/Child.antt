@@ -21,6 +21,13 @@ abbrev pub IsChild : Child → Type 0
 IsChild (Node hash) = length hash.0 ≡ 32
 IsChild (Inline node) = IsRawItem node.item
 
+-- The two children are the same: nodes with one hash, or nodes that are kept and have the same bytes.
+abbrev pub SameChild : Child → Child → Type 0
+SameChild (Node hash) (Node other) = hash.0 ≡ other.0
+SameChild (Node hash) (Inline node) = ⊥
+SameChild (Inline node) (Node hash) = ⊥
+SameChild (Inline node) (Inline other) = node.item ≡ other.item
+
 -- Why bytes that are an item aren't a child: they aren't a string, or are one of fewer than 32 bytes or of more; or they are a list of 32 bytes or more, or no
 -- raw item.
 pub data IsChildFault (b : List ℕ) : DecoderError → Type 0 where

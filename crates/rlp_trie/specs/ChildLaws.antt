@@ -1,5 +1,5 @@
 -- Children are given exactly by their encodings.
-use Rattle.std.proofs.Common.{◌≡◌, ◌<◌, ◌^◌, ◌⊎◌, inl, inr, ℕ, List, length, true, sym, ap, ◌∙◌, subst, arith, Ok}
+use Rattle.std.proofs.Common.{◌≡◌, ◌≢◌, ◌<◌, ◌^◌, ◌⊎◌, inl, inr, ℕ, List, [], length, true, sym, ap, ◌∙◌, subst, arith, Ok}
 use Rattle.rlp.specs.DecoderError.{DecoderError}
 use Rattle.rlp.specs.DecoderError.TheVariants.{OutOfMemory}
 use Rattle.rlp.specs.Format.Item.{string}
@@ -10,14 +10,15 @@ use Rattle.rlp.specs.Values.ValueReading.{GivesValue}
 use Rattle.rlp.specs.Views.View.{View, Holds, HoldsItem, strict_view_of}
 use Rattle.rlp.specs.Codec.{Codec}
 use Rattle.rlp.specs.Codecs.Exact.{exact_type}
-use Rattle.rlp.specs.Lemmas.RawItems.{raw_encoding, raw_has_no_fault, string_kind, view_frame-held}
+use Rattle.rlp.specs.Lemmas.RawItems.{raw_encoding, raw_has_no_fault, raw_list, string_kind, view_frame-held}
 use Rattle.rlp.specs.Lemmas.StringsHeld.{held_begins, held_read, same_held}
 use Rattle.rlp.specs.Lemmas.Encodings.{front_sized}
-use Rattle.rlp_trie.specs.Child.{FaultsAsChild, IsChild, IsChildFault, MayLackAsChild, child_item, faulty_child, faulty_node}
+use Rattle.rlp_trie.specs.Child.{FaultsAsChild, IsChild, IsChildFault, MayLackAsChild, SameChild, child_item, faulty_child, faulty_node}
 use Rattle.rlp_trie.specs.Child.{longer_hash, longer_node, no_string, shorter_hash, unframed_child}
 use Rattle.rlp_trie.specs.Inline.{IsInlineNode}
 use Rattle.rlp_trie.specs.declared.child.Child.{Child}
 use Rattle.rlp_trie.specs.declared.child.Child.TheVariants.{Node, Inline}
+use Rattle.rlp_trie.specs.declared.inline_node.InlineNode.{InlineNode}
 
 -- a string of 32 bytes has no fault
 string_told : (b s : List ℕ) (e : DecoderError) → length b < 2 ^ 64 → b ≡ encoding (string s) → length s ≡ 32 → ¬ IsChildFault b e
@@ -55,9 +56,32 @@ child_sound v c fits is holds e (faulty_child b framed bad) =
     let sized : length (encoding (child_item c)) < 2 ^ 64 = front_sized (child_item c) v.bytes more fits begins in
     child_told b c e (let few : length b < 2 ^ 64 = omega (arith, sized, ap length same) in few) is same bad
 
--- a child is given exactly by its encoding
+inline_short : (node : InlineNode) → length node.item < 2 ^ 64
+inline_short node = omega (arith, node.is_short)
+
+-- no node that is kept is written as a string
+inline_apart : (node : InlineNode) (d : List ℕ) → IsRawItem node.item → raw_item_of node.item ≡ string d → ⊥
+inline_apart node d is same = let kind = raw_list node.item (inline_short node) is node.is_list in cc
+
+-- no child is written as the empty string
+pub child_some : (c : Child) → IsChild c → child_item c ≢ string []
+child_some (Node hash) is = λ same. let none : hash.0 ≡ [] = cc in omega (arith, is, ap length none)
+child_some (Inline node) is = λ same. inline_apart node [] is same
+
+-- children that are written as one item are the same
+pub same_child : (c d : Child) → IsChild c → IsChild d → child_item c ≡ child_item d → SameChild c d
+same_child (Node hash) (Node other) is also same = cc
+same_child (Node hash) (Inline node) is also same = inline_apart node hash.0 also (sym same)
+same_child (Inline node) (Node hash) is also same = inline_apart node hash.0 is same
+same_child (Inline node) (Inline other) is also same =
+    sym (raw_encoding node.item (inline_short node) is) ∙ ap encoding same ∙ raw_encoding other.item (inline_short other) also
+
+-- A child is given exactly by its encoding. Two children agree if they are the same.
 abbrev pub child : Codec Child
-child = exact_type IsChild child_item FaultsAsChild MayLackAsChild child_sound
+child = record (exact_type IsChild child_item FaultsAsChild MayLackAsChild child_sound) {
+  Same = λ c d. SameChild c d;
+  told = same_child;
+}
 
 -- ---- rules for bodies
 

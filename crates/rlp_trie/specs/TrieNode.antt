@@ -28,6 +28,14 @@ IsTrieNode (Leaf l) = leaf.Fits l
 IsTrieNode (Extension e) = extension.Fits e
 IsTrieNode (Branch b) = branch.Fits b
 
+-- The two nodes are the same: both are the empty trie, or both are leaves, extensions or branches, and each field of them is the same.
+abbrev pub SameNode : TrieNode → TrieNode → Type 0
+SameNode Empty Empty = ⊤
+SameNode (Leaf l) (Leaf m) = leaf.Same l m
+SameNode (Extension e) (Extension f) = extension.Same e f
+SameNode (Branch b) (Branch c) = branch.Same b c
+SameNode _ _ = ⊥
+
 -- ---- reading
 
 -- whether a string that was read is the path of a leaf

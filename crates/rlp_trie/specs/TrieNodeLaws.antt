@@ -21,7 +21,7 @@ use Rattle.rlp_trie.specs.EmptyString.{empty_string}
 use Rattle.rlp_trie.specs.HexPrefix.{is_leaf_flag}
 use Rattle.rlp_trie.specs.Path.{path}
 use Rattle.rlp_trie.specs.Trie.{branch, extension, leaf}
-use Rattle.rlp_trie.specs.TrieNode.{FaultsAsNode, IsNodeFault, IsTrieNode, MayLackAsNode, MayLackInNode, begins_as_leaf, faulty_branch, faulty_extension}
+use Rattle.rlp_trie.specs.TrieNode.{FaultsAsNode, IsNodeFault, IsTrieNode, MayLackAsNode, MayLackInNode, SameNode, begins_as_leaf, faulty_branch, faulty_extension}
 use Rattle.rlp_trie.specs.TrieNode.{faulty_leaf, faulty_node, is_leaf_item, is_leaf_string, lacks_branch, lacks_extension, lacks_leaf, no_list, node_item}
 use Rattle.rlp_trie.specs.TrieNode.{other_length, unframed_node}
 use Rattle.rlp_trie.specs.declared.branch.Branch.{Branch}
@@ -104,9 +104,39 @@ node_sound v n fits is holds e (faulty_node b framed bytes bad) =
     let sized : length (encoding (node_item n)) < 2 ^ 64 = front_sized (node_item n) v.bytes more fits begins in
     node_told b bytes (let few : length b < 2 ^ 64 = omega (arith, sized, ap length same) in few) n e is same bad
 
--- a node is given exactly by its encoding
+-- no leaf is written as an extension is
+pub leaf_apart : (l : Leaf) (e : Extension) → leaf.item l ≡ extension.item e → ⊥
+leaf_apart l e same =
+    let is_leaf = l.path.encoded in
+    let is_extension = e.path.encoded in
+    let paths : vec_items l.path.bytes ≡ vec_items e.path.bytes = cc in
+    cc
+
+-- nodes that are written as one item are the same
+same_node : (n m : TrieNode) → IsTrieNode n → IsTrieNode m → node_item n ≡ node_item m → SameNode n m
+same_node node.Empty node.Empty fit other same = tt
+same_node node.Empty (node.Leaf m) fit other same = absurd (let no : ⊥ = cc in no)
+same_node node.Empty (node.Extension f) fit other same = absurd (let no : ⊥ = cc in no)
+same_node node.Empty (node.Branch c) fit other same = absurd (let no : ⊥ = cc in no)
+same_node (node.Leaf l) node.Empty fit other same = absurd (let no : ⊥ = cc in no)
+same_node (node.Leaf l) (node.Leaf m) fit other same = leaf.told l m fit other same
+same_node (node.Leaf l) (node.Extension f) fit other same = absurd (leaf_apart l f same)
+same_node (node.Leaf l) (node.Branch c) fit other same = absurd (let no : ⊥ = cc in no)
+same_node (node.Extension e) node.Empty fit other same = absurd (let no : ⊥ = cc in no)
+same_node (node.Extension e) (node.Leaf m) fit other same = absurd (leaf_apart m e (sym same))
+same_node (node.Extension e) (node.Extension f) fit other same = extension.told e f fit other same
+same_node (node.Extension e) (node.Branch c) fit other same = absurd (let no : ⊥ = cc in no)
+same_node (node.Branch b) node.Empty fit other same = absurd (let no : ⊥ = cc in no)
+same_node (node.Branch b) (node.Leaf m) fit other same = absurd (let no : ⊥ = cc in no)
+same_node (node.Branch b) (node.Extension f) fit other same = absurd (let no : ⊥ = cc in no)
+same_node (node.Branch b) (node.Branch c) fit other same = branch.told b c fit other same
+
+-- A node is given exactly by its encoding. Two nodes agree if they are the same.
 abbrev pub trie_node : Codec TrieNode
-trie_node = exact_type IsTrieNode node_item FaultsAsNode MayLackAsNode node_sound
+trie_node = record (exact_type IsTrieNode node_item FaultsAsNode MayLackAsNode node_sound) {
+  Same = λ n m. SameNode n m;
+  told = same_node;
+}
 
 -- ---- rules for bodies
 

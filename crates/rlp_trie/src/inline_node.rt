@@ -6,8 +6,8 @@ ghost use Rattle.rlp_trie.specs.Inline.{IsInlineFault};
 
 use rlp::{DecoderError, RawItem};
 
-/// A node of the trie that is kept in its parent: a list of fewer than 32 bytes with its header.
-/// What is in the list isn't tested.
+/// A node of the trie that is kept in its parent: a list of fewer than 32 bytes with its header, which
+/// is canonical as each [`RawItem`] is. What else is in the list isn't tested.
 #[derive(Debug, PartialEq, Eq, Drop)]
 pub struct InlineNode {
     /// The list.

@@ -64,7 +64,8 @@ impl<const FLAG: u8> Path<FLAG> {
             × (p.bytes.items ≡ hex_prefix (is_leaf_flag FLAG) nibbles.now)) }
         ensures back { IfOk result (λ p. path_nibbles p.bytes.items ≡ nibbles.now) }
         ensures fault { IfErr result (λ e. IsNibbleFault (is_leaf_flag FLAG) nibbles.now e
-            ⊎ ((e ≡ OutOfMemory) × AreNibbles nibbles.now)) }
+            ⊎ ((e ≡ OutOfMemory) × (AreNibbles nibbles.now
+            × (is_leaf_flag FLAG ≡ false → nibbles.now ≢ [])))) }
     {
         if !are_nibbles(nibbles) {
             return Err(DecoderError::Custom("nibble is above 15"));
