@@ -1,7 +1,7 @@
 -- Calls that finish, and calls that leave a list open.
 use Rattle.std.proofs.Common.{◌≡◌, ◌↔◌, inr, ℕ, List, Option, Some, None, IsNone, Result, Ok, Err, IfErr, ap, ◌∙◌}
 use Rattle.rlp.specs.Streams.Stream.{State}
-use Rattle.rlp.specs.Streams.Calls.{Call, after}
+use Rattle.rlp.specs.Streams.Stream.{Call, after}
 use Rattle.rlp.specs.Streams.Described.{FinishAs}
 use Rattle.rlp_tool.specs.declared.building.BuildFault.{BuildFault}
 use Rattle.rlp_tool.specs.Building.{AreJoined, DescribeItems, IsRefusal, IsRefusalOver, LeaveOpen}
