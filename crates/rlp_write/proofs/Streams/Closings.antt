@@ -1,19 +1,16 @@
 -- What closing does, step by step, and the state after counting.
 use Rattle.std.proofs.Common.{◌≡◌, ℕ, zero, suc, ◌+◌, ◌-◌, ◌*◌, ◌<◌, ◌≤◌, Bool, true, false, min, List, [], ◌∷◌, ◌++◌, length, take, drop, reverse}
-use Rattle.std.proofs.Common.{get_or, set, Option, refl, sym, ◌∙◌, ap, subst, arith, length-append, length-drop, ⊎_elim}
+use Rattle.std.proofs.Common.{get_or, set, Option, refl, sym, ◌∙◌, ap, arith, length-append, length-drop, ⊎_elim}
 use Rattle.std.proofs.lemmas.Bool.{cases_lt, cond-true}
-use Rattle.std.proofs.lemmas.List.{take-take, take-append-le, drop_at, drop-drop, drop-take, length-take-le, set_at}
+use Rattle.std.proofs.lemmas.List.{take-take, drop_at, drop-drop, drop-take, length-take-le, set_at}
 use Rattle.std.proofs.lemmas.List.{take-append-drop, reverse-append, length-reverse, get_or-reverse, set-append_left}
 use Rattle.rlp_write.specs.declared.open_lists.Placeholder.{Placeholder}
 use Rattle.rlp_format.specs.Format.WrittenHeader.{big_endian, written_header}
 use Rattle.rlp_write.specs.Streams.Stream.{is_last, awaits_after, list_encoding}
 use Rattle.rlp_write.specs.Streams.Placeholders.{Descends, closes, with_innermost, with_awaits, unbounded_innermost}
 use Rattle.rlp_write.specs.Streams.Closing.{filled, counted, closed_bytes, header_len, growth}
+use Rattle.rlp_write.proofs.Streams.MovedBytes.{follows}
 use Rattle.rlp_format.specs.Lemmas.Headers.{written_header_short, written_header_long}
-
--- the last of a list is the first of its reverse
-pub reverse_push : (ps : List Placeholder) (p : Placeholder) → reverse (ps ++ p ∷ []) ≡ p ∷ reverse ps
-reverse_push ps p = reverse-append ps (p ∷ [])
 
 -- the first of a list are the last of its reverse
 pub reverse_kept : (n : ℕ) (ps : List Placeholder) → reverse (take n ps) ≡ drop (length (reverse ps) - n) (reverse ps)
@@ -76,114 +73,62 @@ planned_more k end whole closing grown left tail counts p ps len header h full i
       few = omega (arith, h.few);
     }
 
--- the growth of one list, and of those around it
-growth_more : (n from tail len : ℕ) (p : Placeholder) (ps : List Placeholder) → len + (p.position + 1) ≡ from
-    → growth (suc n) from tail (p ∷ ps) ≡ (header_len (len + tail) - 1) + growth n p.position (header_len (len + tail) + (len + tail)) ps
-growth_more n from tail len p ps is = let e : from - (p.position + 1) ≡ len = omega arith in rw e refl
+-- the payload of the innermost list is at its final place, from `at` on, and its header isn't written yet
+pub record Brings (whole : List ℕ) (n : ℕ) (bytes : List ℕ) (left at : ℕ) (ps : List Placeholder) : Type 0 where
+  pub known : closed_bytes n (take left bytes) (list_encoding (drop at bytes)) ps ≡ whole
+  pub room : left + growth n left (header_len (length bytes - at) + (length bytes - at)) ps + header_len (length bytes - at) ≡ at
+  pub within : at ≤ length bytes
+  pub order : Descends left ps
+  pub enough : n ≤ length ps
 
--- there is room for the header before the bytes, and for the headers of the lists around
-pub closes_room : (whole : List ℕ) (n : ℕ) (bytes : List ℕ) (from to : ℕ) (p : Placeholder) (ps : List Placeholder) (len at : ℕ)
+-- the payload was moved
+pub brings : (whole : List ℕ) (n : ℕ) (bytes : List ℕ) (from to : ℕ) (p : Placeholder) (ps : List Placeholder) (len at : ℕ) (moved : List ℕ)
     → Closes whole (suc n) bytes from to (p ∷ ps) → len + (p.position + 1) ≡ from → at + len ≡ to
-    → p.position + growth n p.position (header_len (len + (length bytes - to)) + (len + (length bytes - to))) ps + header_len (len + (length bytes - to)) ≡ at
-closes_room whole n bytes from to p ps len at h is goes =
-    let step = growth_more n from (length bytes - to) len p ps is in
-    let some = header_some (len + (length bytes - to)) in
-    omega (arith, h.room, step, some)
-
--- one more list is closed: its last bytes are moved to their final place, and its header is written before them
-pub closes_more : (whole : List ℕ) (n : ℕ) (bytes : List ℕ) (from to : ℕ) (p : Placeholder) (ps : List Placeholder) (len at low : ℕ) (moved placed : List ℕ)
-    → Closes whole (suc n) bytes from to (p ∷ ps) → len + (p.position + 1) ≡ from → at + len ≡ to
-    → moved ≡ take at bytes ++ (take len (drop (p.position + 1) bytes) ++ drop (at + len) bytes)
-    → low + header_len (length moved - at) ≡ at
-    → placed ≡ take low moved ++ (written_header 0xc0 (length moved - at) ++ drop at moved)
-    → Closes whole n placed p.position low ps
-closes_more whole n bytes from to p ps len at low moved placed h is goes moves fits places =
-    let header = written_header 0xc0 (length moved - at) in
-    let tail = drop to bytes in
+    → moved ≡ take at bytes ++ (take len (drop (p.position + 1) bytes) ++ drop (at + len) bytes) → Brings whole n moved p.position at ps
+brings whole n bytes from to p ps len at moved h is goes moves =
     let stretch = take len (drop (p.position + 1) bytes) in
     let order = h.order in
-    let below : p.position < from = order.0 in
+    let payload : ℕ = (from - (p.position + 1)) + (length bytes - to) in
+    let step : growth (suc n) from (length bytes - to) (p ∷ ps) ≡ (header_len payload - 1) + growth n p.position (header_len payload + payload) ps = refl in
+    let begins : from ≡ (p.position + 1) + len = omega arith in
     let from_to : from ≤ to = omega (arith, h.room) in
     let within : to ≤ length bytes = h.within in
-    let room = closes_room whole n bytes from to p ps len at h is goes in
-    let len_tail : length tail ≡ length bytes - to = length-drop to bytes in
-    let len_rest : length (drop (p.position + 1) bytes) ≡ length bytes - (p.position + 1) = length-drop (p.position + 1) bytes in
-    let len_stretch : length stretch ≡ len = length-take-le len (drop (p.position + 1) bytes) (omega (arith, len_rest, is, from_to, within)) in
-    let len_front : length (take at bytes) ≡ at = length-take-le at bytes (omega arith) in
-    let ends : drop (at + len) bytes ≡ tail = ap (λ n. drop n bytes) goes in
-    let is_moved : moved ≡ take at bytes ++ (stretch ++ tail) = moves ∙ ap (λ t. take at bytes ++ (stretch ++ t)) ends in
-    let len_payload : length (stretch ++ tail) ≡ len + (length bytes - to) = omega (arith, length-append stretch tail, len_stretch, len_tail) in
-    let len_moved : length moved ≡ at + (len + (length bytes - to)) = ap length is_moved
-    ∙ omega (arith, length-append (take at bytes) (stretch ++ tail), len_front, len_payload) in
-    let payload_is : length moved - at ≡ length (stretch ++ tail) = omega (arith, len_moved, len_payload) in
-    let heads_list : header ≡ written_header 0xc0 (length (stretch ++ tail)) = ap (λ n. written_header 0xc0 n) payload_is in
-    let closed : header ++ (stretch ++ tail) ≡ list_encoding (stretch ++ tail) = ap (λ b. b ++ (stretch ++ tail)) heads_list in
-    let header_is : length header ≡ header_len (len + (length bytes - to)) = ap length heads_list ∙ ap header_len len_payload in
-    let low_is : p.position + growth n p.position (header_len (len + (length bytes - to)) + (len + (length bytes - to))) ps ≡ low =
-    omega (arith, room, header_is, fits) in
-    let rest_moved : drop at moved ≡ stretch ++ tail = ap (λ b. drop at b) is_moved ∙ drop_at (take at bytes) (stretch ++ tail) at len_front in
-    let front_moved : take low moved ≡ take low bytes =
-    ap (λ b. take low b) is_moved ∙ take-append-le low (take at bytes) (stretch ++ tail) (omega arith) ∙ take-take low at bytes (omega arith) in
-    let is_placed : placed ≡ take low bytes ++ list_encoding (stretch ++ tail) = places ∙ ap (λ f. f ++ (header ++ drop at moved)) front_moved
-    ∙ ap (λ b. take low bytes ++ (header ++ b)) rest_moved ∙ ap (λ b. take low bytes ++ b) closed in
-    let len_low : length (take low bytes) ≡ low = length-take-le low bytes (omega arith) in
-    let left : take p.position placed ≡ take p.position (take from bytes) =
-    ap (λ b. take p.position b) is_placed ∙ take-append-le p.position (take low bytes) (list_encoding (stretch ++ tail)) (omega arith)
-    ∙ take-take p.position low bytes (omega arith) ∙ sym (take-take p.position from bytes (omega arith)) in
-    let stretch_is : drop (p.position + 1) (take from bytes) ≡ stretch =
-    ap (λ n. drop (p.position + 1) (take n bytes)) (let e : from ≡ (p.position + 1) + len = omega arith in e) ∙ drop-take (p.position + 1) len bytes in
-    let right : drop low placed ≡ list_encoding (drop (p.position + 1) (take from bytes) ++ tail) =
-    ap (λ b. drop low b) is_placed ∙ drop_at (take low bytes) (list_encoding (stretch ++ tail)) low len_low
-    ∙ ap (λ s. list_encoding (s ++ tail)) (sym stretch_is) in
-    let len_right : length placed - low ≡ header_len (len + (length bytes - to)) + (len + (length bytes - to)) =
-    let all : length placed ≡ low + length (list_encoding (stretch ++ tail)) = ap length is_placed
-    ∙ omega (arith, length-append (take low bytes) (list_encoding (stretch ++ tail)), len_low) in
-    let enc : length (list_encoding (stretch ++ tail)) ≡ header_len (length (stretch ++ tail)) + length (stretch ++ tail) =
-    length-append (written_header 0xc0 (length (stretch ++ tail))) (stretch ++ tail) in
-    let same : header_len (length (stretch ++ tail)) ≡ header_len (len + (length bytes - to)) = ap header_len len_payload in
-    omega (arith, all, enc, same, len_payload) in
+    let rest : stretch ++ drop (at + len) bytes ≡ drop (p.position + 1) (take from bytes) ++ drop to bytes =
+    rw (goes, begins, drop-take (p.position + 1) len bytes) refl in
+    let now = follows at bytes (stretch ++ drop (at + len) bytes) moved (omega arith) moves in
+    let size : length moved - at ≡ payload =
+    omega (
+      arith,
+      now.len,
+      length-append stretch (drop (at + len) bytes),
+      length-take-le len (drop (p.position + 1) bytes) (omega (arith, length-drop (p.position + 1) bytes)),
+      length-drop (at + len) bytes,
+    ) in
     record {
-      known = ap (λ b. closed_bytes n b (drop low placed) ps) left ∙ ap (λ t. closed_bytes n (take p.position (take from bytes)) t ps) right ∙ h.known;
-      room = ap (λ t. p.position + growth n p.position t ps) len_right ∙ low_is;
-      within = omega (arith, len_right, header_some (len + (length bytes - to)));
+      known = rw (now.front p.position (omega arith), now.rest, rest, ← take-take p.position from bytes (omega arith)) h.known;
+      room = rw size (omega (arith, h.room, step, header_some payload));
+      within = omega (arith, now.len);
       order = order.1;
       enough = omega (arith, h.enough);
     }
 
--- the same, by the list that was taken
-pub closes_taken : (whole : List ℕ) (left n : ℕ) (bytes : List ℕ) (from to : ℕ) (lists rest : List Placeholder) (p : Placeholder)
-    → Closes whole left bytes from to lists → lists ≡ p ∷ rest → left ≡ suc n → Closes whole (suc n) bytes from to (p ∷ rest)
-closes_taken whole left n bytes from to lists rest p h is more =
-    subst (λ m. Closes whole m bytes from to (p ∷ rest)) more (subst (λ ps. Closes whole left bytes from to ps) is h)
-
--- moving bytes doesn't change the length
-pub shifted_len : (bytes : List ℕ) (begin len at : ℕ) → begin ≤ at → at + len ≤ length bytes
-    → length (take at bytes ++ (take len (drop begin bytes) ++ drop (at + len) bytes)) ≡ length bytes
-shifted_len bytes begin len at forward within =
-    let stretch = take len (drop begin bytes) in
-    let tail = drop (at + len) bytes in
-    omega (
-      arith,
-      length-append (take at bytes) (stretch ++ tail),
-      length-append stretch tail,
-      length-take-le at bytes (omega arith),
-      length-take-le len (drop begin bytes) (omega (arith, length-drop begin bytes)),
-      length-drop begin bytes,
-      length-drop (at + len) bytes,
-    )
-
--- the header fits between the placeholder and the moved bytes
-pub closes_fits : (whole : List ℕ) (n : ℕ) (bytes : List ℕ) (from to : ℕ) (p : Placeholder) (ps : List Placeholder) (len at : ℕ) (moved : List ℕ)
-    → Closes whole (suc n) bytes from to (p ∷ ps) → len + (p.position + 1) ≡ from → at + len ≡ to
-    → moved ≡ take at bytes ++ (take len (drop (p.position + 1) bytes) ++ drop (at + len) bytes)
-    → (header_len (length moved - at) + p.position ≤ at) × (at ≤ length moved)
-closes_fits whole n bytes from to p ps len at moved h is goes moves =
-    let room = closes_room whole n bytes from to p ps len at h is goes in
-    let len_moved : length moved ≡ length bytes = ap length moves
-    ∙ shifted_len bytes (p.position + 1) len at (omega (arith, h.room)) (omega (arith, h.within)) in
-    let payload : length moved - at ≡ len + (length bytes - to) = omega (arith, len_moved, h.within) in
-    let header_is : header_len (length moved - at) ≡ header_len (len + (length bytes - to)) = ap header_len payload in
-    (omega (arith, room, header_is), omega (arith, len_moved, h.within))
+-- its header is written before it, and the list is closed
+pub closes_more : (whole : List ℕ) (n : ℕ) (moved : List ℕ) (left at low : ℕ) (ps : List Placeholder) (placed : List ℕ)
+    → Brings whole n moved left at ps → low + header_len (length moved - at) ≡ at
+    → placed ≡ take low moved ++ (written_header 0xc0 (length moved - at) ++ drop at moved) → Closes whole n placed left low ps
+closes_more whole n moved left at low ps placed h fits places =
+    let header = written_header 0xc0 (length moved - at) in
+    let within : low ≤ length moved = omega (arith, h.within) in
+    let now = follows low moved (header ++ drop at moved) placed within places in
+    let size : length placed - low ≡ header_len (length moved - at) + (length moved - at) =
+    omega (arith, now.len, length-append header (drop at moved), length-drop at moved) in
+    record {
+      known = rw (now.front left (omega (arith, h.room)), now.rest) (rw (length-drop at moved) at h.known);
+      room = rw size (omega (arith, h.room));
+      within = omega (arith, now.len);
+      order = h.order;
+      enough = h.enough;
+    }
 
 -- ---- the innermost list that stays open
 
@@ -281,6 +226,4 @@ pub record Found (most : ℕ) (whole : List Placeholder) (count : ℕ) (ps : Lis
 -- bytes that are already at their place
 pub shifted_none : (bytes : List ℕ) (from len to : ℕ) → from ≡ to → bytes ≡ take to bytes ++ (take len (drop from bytes) ++ drop (to + len) bytes)
 shifted_none bytes from len to same =
-    let back : take len (drop to bytes) ++ drop (to + len) bytes ≡ drop to bytes =
-    ap (λ t. take len (drop to bytes) ++ t) (sym (drop-drop len to bytes)) ∙ take-append-drop len (drop to bytes) in
-    sym (ap (λ n. take to bytes ++ (take len (drop n bytes) ++ drop (to + len) bytes)) same ∙ ap (λ t. take to bytes ++ t) back ∙ take-append-drop to bytes)
+    rw (same, ← drop-drop len to bytes, take-append-drop len (drop to bytes), take-append-drop to bytes) refl

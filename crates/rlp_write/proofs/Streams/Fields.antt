@@ -1,14 +1,16 @@
 -- Values that are appended one after another, such as the fields of a struct.
-use Rattle.std.proofs.Common.{◌≡◌, ◌<◌, ◌≤◌, ◌+◌, ◌^◌, ℕ, Option, Some, None, zero, suc, List, [], ◌∷◌, ◌++◌, length, take, get_or, map, refl, sym}
+use Rattle.std.proofs.Common.{◌≡◌, ◌<◌, ◌≤◌, ◌+◌, ◌^◌, ℕ, Option, Some, None, zero, suc, List, [], ◌∷◌, ◌++◌, length, take, drop, get_or, map, refl, sym}
 use Rattle.std.proofs.Common.{ap, ◌∙◌, subst, arith, append-nil, append_assoc, length-append}
-use Rattle.std.proofs.lemmas.List.{length-map}
+use Rattle.std.proofs.lemmas.List.{length-map, take_more, take-append-drop}
+use Rattle.std.proofs.lemmas.List.Concat.{flat_map-append, flat_map_single}
+use Rattle.std.specs.List.{All}
 use Rattle.std.specs.Prelude.{MatchOption, SomeIff}
 use Rattle.rlp_format.specs.Format.Item.{Item, list_of}
-use Rattle.rlp_write.specs.Streams.Stream.{State, add, add_all, put_item, with_list_of}
+use Rattle.rlp_write.specs.Streams.Stream.{State, Seen, add, add_all, put_item, with_list_of}
 use Rattle.rlp_write.specs.Streams.Growth.{GrowsTo}
 use Rattle.rlp_write.specs.Streams.Fields.{AppendsSome}
 use Rattle.rlp_format.specs.Values.Value.{all_items}
-use Rattle.rlp_write.proofs.Streams.Filling.{filled_list, grows_filling}
+use Rattle.rlp_write.proofs.Streams.Filling.{all_more, filled_list, grows_filling}
 
 add_all-append : (xs ys : List Item) (s : State) → add_all (xs ++ ys) s ≡ add_all ys (add_all xs s)
 add_all-append [] ys s = refl
@@ -54,21 +56,17 @@ some_grows xs n s t u many begun p =
 pub all_fill : (xs : List Item) (n : ℕ) (s t u : State) → n ≡ length xs → t ≡ with_list_of n s → u ≡ add_all xs t → u ≡ put_item (list_of xs) s
 all_fill xs n s t u many begun added = filled_list xs n s u (sym many) (added ∙ ap (add_all xs) begun)
 
--- ---- values of one type
-
-pub items_pushed : (xs ys : List Item) (x : Item) (s t u : State) → ys ≡ xs ++ x ∷ [] → t ≡ add_all xs s → u ≡ add x t → u ≡ add_all ys s
-items_pushed xs ys x s t u more added next = next ∙ ap (add x) added ∙ sym (add_all-append xs (x ∷ []) s) ∙ ap (λ zs. add_all zs s) (sym more)
-
--- some of the values, and not the last
-pub some_at : {A : Type 0} (item : A → Item) (values : List A) (i : ℕ) (s t : State) → i < length values → t ≡ add_all (map item (take i values)) s
-    → AppendsSome (map item values) s t
-some_at item [] i s t inside is = absurd (omega arith)
-some_at item (v ∷ vs) zero s t inside is = some_none (item v) (map item vs) s t is
-some_at item (v ∷ vs) (suc i) s t inside is =
-    let p = some_at item vs i (add (item v) s) t (omega arith) is in
-    record { before = item v ∷ p.before; next = p.next; after = p.after; all = ap (λ zs. item v ∷ zs) p.all; is = p.is }
-
 -- ---- values that are several items each
+
+-- values that are one item each
+pub one_each : {A : Type 0} (item : A → Item) (values : List A) → all_items (λ v. item v ∷ []) values ≡ map item values
+one_each item values = flat_map_single item values
+
+-- the progress of appending them: this many were appended
+pub record Appended {A : Type 0} (items : A → List Item) (fit : A → Type 0) (values : List A) (i : ℕ) (old new : Seen) : Type 0 where
+  pub state : new.state ≡ add_all (all_items items (take i values)) old.state
+  pub moved : old.moved ≤ new.moved
+  pub fits : All fit (take i values)
 
 -- all items of some values, and some of the next value's
 pub flattened_at : {A : Type 0} (items : A → List Item) (values : List A) (i : ℕ) (x d : A) (s t u : State) → i < length values
@@ -80,38 +78,41 @@ flattened_at items (v ∷ vs) (suc i) x d s t u inside is at part =
     some_second (items v) (all_items items vs) s (add_all (items v) s) u refl
     (flattened_at items vs i x d (add_all (items v) s) t u (omega arith) is (at ∙ add_all-append (items v) (all_items items (take i vs)) s) part)
 
-all_items-next : {A : Type 0} (items : A → List Item) (values : List A) (i : ℕ) (d : A) → i < length values
-    → all_items items (take (suc i) values) ≡ all_items items (take i values) ++ items (get_or values i d)
-all_items-next items [] i d inside = absurd (omega arith)
-all_items-next items (v ∷ vs) zero d inside = append-nil (items v)
-all_items-next items (v ∷ vs) (suc i) d inside = ap (λ zs. items v ++ zs) (all_items-next items vs i d (omega arith))
-    ∙ sym (append_assoc (items v) (all_items items (take i vs)) (items (get_or vs i d)))
+-- the same for values that are one item each
+pub some_at : {A : Type 0} (item : A → Item) (values : List A) (i : ℕ) (x d : A) (s t u : State) → i < length values → x ≡ get_or values i d
+    → t ≡ add_all (all_items (λ v. item v ∷ []) (take i values)) s → u ≡ t → AppendsSome (map item values) s u
+some_at item values i x d s t u inside is at same =
+    subst (λ zs. AppendsSome zs s u) (one_each item values)
+    (flattened_at (λ v. item v ∷ []) values i x d s t u inside is at (some_none (item x) [] t u same))
+
+all_items-append : {A : Type 0} (items : A → List Item) (xs ys : List A) → all_items items (xs ++ ys) ≡ all_items items xs ++ all_items items ys
+all_items-append items xs ys = flat_map-append items xs ys
 
 -- the items of one more value
 all_items-more : {A : Type 0} (items : A → List Item) (values : List A) (i : ℕ) (x d : A) → i < length values → x ≡ get_or values i d
     → all_items items (take (i + 1) values) ≡ all_items items (take i values) ++ items x
 all_items-more items values i x d inside is =
-    let one_more : i + 1 ≡ suc i = omega arith in
-    ap (λ n. all_items items (take n values)) one_more ∙ all_items-next items values i d inside ∙ ap (λ y. all_items items (take i values) ++ items y) (sym is)
+    ap (all_items items) (take_more values i d inside) ∙ all_items-append items (take i values) (get_or values i d ∷ [])
+    ∙ ap (λ zs. all_items items (take i values) ++ zs) (append-nil (items (get_or values i d)) ∙ ap items (sym is))
 
 -- one more value
-pub flattened_pushed : {A : Type 0} (items : A → List Item) (values : List A) (i : ℕ) (x d : A) (s t u : State) → i < length values
-    → x ≡ get_or values i d → t ≡ add_all (all_items items (take i values)) s → u ≡ add_all (items x) t
-    → u ≡ add_all (all_items items (take (i + 1) values)) s
-flattened_pushed items values i x d s t u inside is at next =
-    next ∙ ap (add_all (items x)) at ∙ sym (add_all-append (all_items items (take i values)) (items x) s)
-    ∙ ap (λ zs. add_all zs s) (sym (all_items-more items values i x d inside is))
+pub appended_more : {A : Type 0} (items : A → List Item) (fit : A → Type 0) (values : List A) (i : ℕ) (x d : A) (s t u : Seen) → i < length values
+    → x ≡ get_or values i d → Appended items fit values i s t → u.state ≡ add_all (items x) t.state → t.moved ≤ u.moved → fit x
+    → Appended items fit values (i + 1) s u
+appended_more items fit values i x d s t u inside is h next moved one = record {
+  state = next ∙ ap (add_all (items x)) h.state ∙ sym (add_all-append (all_items items (take i values)) (items x) s.state)
+      ∙ ap (λ zs. add_all zs s.state) (sym (all_items-more items values i x d inside is));
+  moved = omega (arith, h.moved);
+  fits = all_more fit values i x d inside is h.fits one;
+}
 
 -- ---- the number of items
 
 -- some values have no more items than all
 counted_within : {A : Type 0} (items : A → List Item) (values : List A) (i : ℕ) → length (all_items items (take i values)) ≤ length (all_items items values)
-counted_within items [] zero = omega arith
-counted_within items [] (suc i) = omega arith
-counted_within items (v ∷ vs) zero = omega arith
-counted_within items (v ∷ vs) (suc i) =
-    let others = counted_within items vs i in
-    omega (arith, others, length-append (items v) (all_items items (take i vs)), length-append (items v) (all_items items vs))
+counted_within items values i =
+    let all = ap (all_items items) (sym (take-append-drop i values)) ∙ all_items-append items (take i values) (drop i values) in
+    omega (arith, ap length all, length-append (all_items items (take i values)) (all_items items (drop i values)))
 
 -- with one more value
 pub counted_more : {A : Type 0} (items : A → List Item) (values : List A) (i n m : ℕ) (x d : A) → i < length values → x ≡ get_or values i d

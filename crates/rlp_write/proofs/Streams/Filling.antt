@@ -6,9 +6,9 @@ use Rattle.std.proofs.lemmas.List.Elements.{All-more}
 use Rattle.rlp_format.specs.Format.WrittenHeader.{written_header}
 use Rattle.rlp_format.specs.Format.Item.{Item, list, Items, no_items, item_and, list_of, is_list}
 use Rattle.rlp_format.specs.Format.Encoding.{encoding, join_items}
-use Rattle.rlp_write.specs.Streams.Stream.{OpenList, State, add, put_item, with_list, add_all, with_list_of}
+use Rattle.rlp_write.specs.Streams.Stream.{State, add, put_item, add_all, with_list_of}
 use Rattle.rlp_write.specs.Streams.Growth.{GrowsTo}
-use Rattle.rlp_write.proofs.Streams.Listed.{list_filled, add_more, or_true}
+use Rattle.rlp_write.proofs.Streams.Listed.{in_list, list_filled, add_more, or_true}
 use Rattle.rlp_write.proofs.Streams.Growth.{grows_same, grows_put, grows_with_list, grows_in_list, grows_trans}
 
 -- all items are added, and then one more
@@ -17,35 +17,17 @@ add_all-push [] x s = refl
 add_all-push (y ∷ xs) x s = add_all-push xs x (add y s)
 
 -- a list that awaits more than the items that were added stays open
-record StaysOpen (s t : State) (outer : List ℕ) (ls : List (OpenList ℕ)) : Type 0 where
-  pub l : OpenList ℕ
-  pub front : t.front ≡ s.front
-  pub lists : t.stack.lists ≡ l ∷ ls
-  pub around : l.outer ≡ outer
-
-stays_open : (xs : List Item) (n : ℕ) (f p outer : List ℕ) (ls : List (OpenList ℕ)) (m : Bool) → length xs < n
-    → StaysOpen (record { front = f; stack = record { inner = p; lists = record { awaits = Some n; outer = outer } ∷ ls }; is_counted = m })
-    (add_all xs (record { front = f; stack = record { inner = p; lists = record { awaits = Some n; outer = outer } ∷ ls }; is_counted = m })) outer ls
-stays_open [] n f p outer ls m few = record { l = record { awaits = Some n; outer = outer }; front = refl; lists = refl; around = refl }
-stays_open (x ∷ xs) zero f p outer ls m few = absurd (omega arith)
-stays_open (x ∷ xs) (suc zero) f p outer ls m few = absurd (omega arith)
-stays_open (x ∷ xs) (suc (suc n)) f p outer ls m few =
-    let r = stays_open xs (suc n) f (p ++ encoding x) outer ls (is_list x || false) (omega arith) in
-    let old : State = record { front = f; stack = record { inner = p; lists = record { awaits = Some (suc (suc n)); outer = outer } ∷ ls }; is_counted = m } in
-    let next : State = record {
-      front = f;
-      stack = record { inner = p ++ encoding x; lists = record { awaits = Some (suc n); outer = outer } ∷ ls };
-      is_counted = is_list x || false;
-    } in
-    subst (λ (t : State). StaysOpen old (add_all xs t) outer ls) (sym (add_more n x f p outer ls m))
-    (record { l = r.l; front = r.front; lists = r.lists; around = r.around })
+stays_open : (xs : List Item) (n : ℕ) (s : State) (p : List ℕ) (m : Bool) → length xs < n → GrowsTo s (add_all xs (in_list s n p m))
+stays_open [] n s p m few = grows_in_list s (in_list s n p m) (record { awaits = Some n; outer = s.stack.inner }) refl refl refl
+stays_open (x ∷ xs) zero s p m few = absurd (omega arith)
+stays_open (x ∷ xs) (suc zero) s p m few = absurd (omega arith)
+stays_open (x ∷ xs) (suc (suc n)) s p m few =
+    subst (λ (t : State). GrowsTo s (add_all xs t)) (sym (add_more n x s p m)) (stays_open xs (suc n) s (p ++ encoding x) (is_list x || false) (omega arith))
 
 -- if a call is refused before the list is full, the state has grown from the state before the list
 pub grows_filling : (xs : List Item) (n : ℕ) (s t : State) → length xs < n → t ≡ add_all xs (with_list_of n s) → GrowsTo s t
 grows_filling xs zero s t few is = absurd (omega arith)
-grows_filling xs (suc n) s t few is =
-    let r = stays_open xs (suc n) s.front [] s.stack.inner s.stack.lists false few in
-    subst (λ (u : State). GrowsTo s u) (sym is) (grows_in_list s (add_all xs (with_list (Some (suc n)) s)) r.l r.front r.lists r.around)
+grows_filling xs (suc n) s t few is = subst (λ (u : State). GrowsTo s u) (sym is) (stays_open xs (suc n) s [] false few)
 
 -- a full list is written as its item
 pub filled_list : (xs : List Item) (n : ℕ) (s t : State) → length xs ≡ n → t ≡ add_all xs (with_list_of n s) → t ≡ put_item (list_of xs) s

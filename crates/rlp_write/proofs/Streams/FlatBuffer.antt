@@ -1,7 +1,7 @@
 -- How putting, opening and counting change the state that a stream's bytes represent.
-use Rattle.std.proofs.Common.{◌≡◌, ℕ, zero, suc, ◌+◌, ◌≤◌, Bool, true, false, IsTrue, ◌&&◌, cond, List, [], ◌∷◌, ◌++◌, Option, length, take}
+use Rattle.std.proofs.Common.{◌≡◌, ℕ, zero, suc, ◌+◌, ◌≤◌, Bool, true, false, IsTrue, ◌&&◌, cond, List, [], ◌∷◌, ◌++◌, Option, length, get_or, take}
 use Rattle.std.proofs.Common.{drop, is_none, refl, sym, ◌∙◌, ap, arith, append_assoc, append-nil, length-append, length-drop, subst}
-use Rattle.std.proofs.lemmas.List.{take-take, take-append-le, drop-append-le, take_at, drop_all, length-take-le, length_push, take-append-drop}
+use Rattle.std.proofs.lemmas.List.{take-take, take-append-le, drop-append-le, take_at, drop_all, drop_more, length-take, length-take-le, length_push, take-append-drop, get_or-take, get_or_at, get_or_append_left}
 use Rattle.rlp_write.specs.declared.open_lists.Placeholder.{Placeholder}
 use Rattle.rlp_write.specs.Streams.Stream.{OpenList, AwaitsSome, each_awaits, is_last, awaits_after, count_around, is_counted_after, unbounded_count, closed_payload_around}
 use Rattle.rlp_format.specs.Format.WrittenHeader.{written_header}
@@ -23,7 +23,7 @@ start_le start b (p ∷ ps) h =
     let below : start ≤ length (take p.position b) = start_le start (take p.position b) ps h.1 in
     omega (arith, below, length-take-le p.position b (omega arith))
 
-begin_le : (start : ℕ) (b : List ℕ) (ps : List Placeholder) → IsLaid start b ps → begin_of start ps ≤ length b
+pub begin_le : (start : ℕ) (b : List ℕ) (ps : List Placeholder) → IsLaid start b ps → begin_of start ps ≤ length b
 begin_le start b [] h = h
 begin_le start b (p ∷ ps) h = omega (arith, h.0.within)
 
@@ -43,7 +43,7 @@ below_front start b p ps h =
 
 -- ---- bytes are put
 
-lists_append : (start : ℕ) (b x : List ℕ) (ps : List Placeholder) → IsLaid start b ps → lists_of start (b ++ x) ps ≡ lists_of start b ps
+pub lists_append : (start : ℕ) (b x : List ℕ) (ps : List Placeholder) → IsLaid start b ps → lists_of start (b ++ x) ps ≡ lists_of start b ps
 lists_append start b x [] h = refl
 lists_append start b x (p ∷ ps) h =
     let within = h.0.within in
@@ -56,11 +56,11 @@ state_put start b x ps m h =
 
 placed_append : (b x : List ℕ) (p : Placeholder) → Placed b p → Placed (b ++ x) p
 placed_append b x p h =
-    let within = h.within in
-    let placeholder : b ++ x ≡ take p.position (b ++ x) ++ (0 ∷ drop (p.position + 1) (b ++ x)) =
-    rw (take-append-le p.position b x (omega arith), drop-append-le (p.position + 1) b x (omega arith))
-    (ap (λ c. c ++ x) h.placeholder ∙ append_assoc (take p.position b) (0 ∷ drop (p.position + 1) b) x) in
-    record { within = omega (arith, length-append b x); placeholder = placeholder; awaits_some = h.awaits_some }
+    record {
+      within = omega (arith, h.within, length-append b x);
+      placeholder = get_or_append_left b x 1 p.position h.within ∙ h.placeholder;
+      awaits_some = h.awaits_some;
+    }
 
 -- with more bytes at the end, the layout of the open lists is as before
 pub laid_append : (start : ℕ) (b x : List ℕ) (ps : List Placeholder) → IsLaid start b ps → IsLaid start (b ++ x) ps
@@ -69,15 +69,15 @@ laid_append start b x (p ∷ ps) h =
     let within = h.0.within in
     (placed_append b x p h.0, rw (take-append-le p.position b x (omega arith)) h.1)
 
--- ---- a list opens at the end of the bytes
-
--- a byte 0 at the end of the buffer is a new list of the state
-pub state_opened : (start : ℕ) (b : List ℕ) (ps : List Placeholder) (m : Bool) (p : Placeholder) → IsLaid start b ps → p.position ≡ length b
-    → state_of start (b ++ 0 ∷ []) (p ∷ ps) false ≡ with_list p.awaits (state_of start b ps m)
-state_opened start b ps m p h e =
-    let none : drop (p.position + 1) (b ++ 0 ∷ []) ≡ [] = drop_all (p.position + 1) (b ++ 0 ∷ []) (omega (arith, length_push b 0)) in
-    let rest : take p.position (b ++ 0 ∷ []) ≡ b = take_at b (0 ∷ []) p.position (sym e) in
-    rw (take-append-le start b (0 ∷ []) (start_le start b ps h), none, rest) refl
+-- so it is with fewer bytes, if the innermost payload still begins in them
+pub laid_take : (n start : ℕ) (b : List ℕ) (ps : List Placeholder) → begin_of start ps ≤ n → IsLaid start b ps → IsLaid start (take n b) ps
+laid_take n start b [] some h = omega (arith, length-take n b, some, h)
+laid_take n start b (p ∷ ps) some h =
+    let within = h.0.within in
+    let placeholder : get_or (take n b) p.position 1 ≡ 0 = get_or-take n b p.position 1 (omega (arith, some)) ∙ h.0.placeholder in (
+      record { within = omega (arith, length-take n b, some); placeholder = placeholder; awaits_some = h.0.awaits_some },
+      rw (take-take p.position n b (omega (arith, some))) h.1,
+    )
 
 -- ---- the bytes are those of the state
 
@@ -89,7 +89,8 @@ raw_state start b (p ∷ ps) m h =
     let inside = put (drop (p.position + 1) b) (with_list p.awaits around) in
     let front : state_of start b (p ∷ ps) m ≡ record inside { front = take start b; is_counted = m } = refl in
     let same : raw_text inside ≡ raw_text (state_of start b (p ∷ ps) m) = rw (below_front start b p ps h) refl in
-    h.0.placeholder
+    let within = h.0.within in
+    sym (take-append-drop p.position b) ∙ ap (λ c. take p.position b ++ c) (drop_more b p.position 1 within ∙ ap (λ x. x ∷ drop (p.position + 1) b) h.0.placeholder)
     ∙ (ap (λ c. c ++ (0 ∷ drop (p.position + 1) b)) (raw_state start (take p.position b) ps m h.1)
     ∙ (sym (append_assoc (raw_text around) (0 ∷ []) (drop (p.position + 1) b))
     ∙ (ap (λ c. c ++ drop (p.position + 1) b) (sym (raw_text-with_list p.awaits around))
@@ -97,60 +98,35 @@ raw_state start b (p ∷ ps) m h =
 
 -- ---- items are counted
 
-count_laid_by : (full : Bool) (k start : ℕ) (b tail : List ℕ) (p : Placeholder) (ps : List Placeholder) → is_last k p.awaits ≡ full → IsLaid start b (p ∷ ps)
-    → stack_of start (closed_bytes (filled 1 ps) (take p.position b) (list_encoding (drop (p.position + 1) b ++ tail)) ps) (counted 1 ps)
-    ≡ count_around list_encoding 1 (drop (begin_of start ps) (take p.position b) ++ list_encoding (drop (p.position + 1) b ++ tail))
-    (lists_of start (take p.position b) ps)
-    → stack_of start (closed_bytes (filled k (p ∷ ps)) b tail (p ∷ ps)) (counted k (p ∷ ps))
-    ≡ count_around list_encoding k (drop (p.position + 1) b ++ tail) (lists_of start b (p ∷ ps))
-count_laid_by true k start b tail p ps e h around = rw e around
-count_laid_by false k start b tail p ps e h around =
+-- what is left once all lists that a count fills are closed, if `tail` was put after the bytes b
+record Counts (k start : ℕ) (b tail : List ℕ) (ps : List Placeholder) (c : List ℕ) (qs : List Placeholder) : Type 0 where
+  front : take start c ≡ take start b
+  laid : IsLaid start c qs
+  stack : stack_of start c qs ≡ count_around list_encoding k (drop (begin_of start ps) b ++ tail) (lists_of start b ps)
+
+laid_counts_by : (full : Bool) (k start : ℕ) (b tail : List ℕ) (p : Placeholder) (ps : List Placeholder) → is_last k p.awaits ≡ full → IsLaid start b (p ∷ ps)
+    → Counts 1 start (take p.position b) (list_encoding (drop (p.position + 1) b ++ tail)) ps
+    (closed_bytes (filled 1 ps) (take p.position b) (list_encoding (drop (p.position + 1) b ++ tail)) ps) (counted 1 ps)
+    → Counts k start b tail (p ∷ ps) (closed_bytes (filled k (p ∷ ps)) b tail (p ∷ ps)) (counted k (p ∷ ps))
+laid_counts_by true k start b tail p ps e h r =
+    rw e (record { front = r.front ∙ below_front start b p ps h; laid = r.laid; stack = rw e r.stack })
+laid_counts_by false k start b tail p ps e h r =
     let within = h.0.within in
-    rw (e, drop-append-le (p.position + 1) b tail (omega arith), take-append-le p.position b tail (omega arith)) refl
-
--- closing all lists that the count fills is counting, if `tail` was put after the bytes
-pub count_laid : (k start : ℕ) (b tail : List ℕ) (ps : List Placeholder) → IsLaid start b ps
-    → stack_of start (closed_bytes (filled k ps) b tail ps) (counted k ps)
-    ≡ count_around list_encoding k (drop (begin_of start ps) b ++ tail) (lists_of start b ps)
-count_laid k start b tail [] h = rw (drop-append-le start b tail h) refl
-count_laid k start b tail (p ∷ ps) h =
-    count_laid_by (is_last k p.awaits) k start b tail p ps refl h
-    (count_laid 1 start (take p.position b) (list_encoding (drop (p.position + 1) b ++ tail)) ps h.1)
-
-front_closed : (n start : ℕ) (b tail : List ℕ) (ps : List Placeholder) → IsLaid start b ps → take start (closed_bytes n b tail ps) ≡ take start b
-front_closed zero start b tail ps h = take-append-le start b tail (start_le start b ps h)
-front_closed (suc n) start b tail [] h = take-append-le start b tail h
-front_closed (suc n) start b tail (p ∷ ps) h =
-    front_closed n start (take p.position b) (list_encoding (drop (p.position + 1) b ++ tail)) ps h.1 ∙ below_front start b p ps h
-
-laid_counted_by : (full : Bool) (k start : ℕ) (b tail : List ℕ) (p : Placeholder) (ps : List Placeholder) → is_last k p.awaits ≡ full → IsLaid start b (p ∷ ps)
-    → IsLaid start (closed_bytes (filled 1 ps) (take p.position b) (list_encoding (drop (p.position + 1) b ++ tail)) ps) (counted 1 ps)
-    → IsLaid start (closed_bytes (filled k (p ∷ ps)) b tail (p ∷ ps)) (counted k (p ∷ ps))
-laid_counted_by true k start b tail p ps e h around = rw e around
-laid_counted_by false k start b tail p ps e h around =
     let q : Placeholder = record { position = p.position; awaits = awaits_after k p.awaits } in
-    let placed : Placed b q = record { within = h.0.within; placeholder = h.0.placeholder; awaits_some = await-after k p.awaits h.0.awaits_some e } in
-    rw e (laid_append start b tail (q ∷ ps) (placed, h.1))
+    let placed : Placed b q = record { within = within; placeholder = h.0.placeholder; awaits_some = await-after k p.awaits h.0.awaits_some e } in
+    rw e (record {
+      front = take-append-le start b tail (start_le start b (p ∷ ps) h);
+      laid = laid_append start b tail (q ∷ ps) (placed, h.1);
+      stack = rw (e, drop-append-le (p.position + 1) b tail (omega arith), take-append-le p.position b tail (omega arith)) refl;
+    })
 
-laid_counted_with : (k start : ℕ) (b tail : List ℕ) (ps : List Placeholder) → IsLaid start b ps
-    → IsLaid start (closed_bytes (filled k ps) b tail ps) (counted k ps)
-laid_counted_with k start b tail [] h = laid_append start b tail [] h
-laid_counted_with k start b tail (p ∷ ps) h =
-    laid_counted_by (is_last k p.awaits) k start b tail p ps refl h
-    (laid_counted_with 1 start (take p.position b) (list_encoding (drop (p.position + 1) b ++ tail)) ps h.1)
-
--- the lists that a count leaves open have their layout in the bytes that it leaves
-pub laid_counted : (k start : ℕ) (b : List ℕ) (ps : List Placeholder) → IsLaid start b ps → IsLaid start (closed_bytes (filled k ps) b [] ps) (counted k ps)
-laid_counted k start b ps h = laid_counted_with k start b [] ps h
-
--- the flat bytes after counting are those of the counted state
-pub state_counted : (k start : ℕ) (b : List ℕ) (ps : List Placeholder) (m n : Bool) → IsLaid start b ps → n ≡ is_counted_after k (lists_of start b ps) m
-    → state_of start (closed_bytes (filled k ps) b [] ps) (counted k ps) n ≡ count k (state_of start b ps m)
-state_counted k start b ps m n h e =
-    let stack : stack_of start (closed_bytes (filled k ps) b [] ps) (counted k ps)
-    ≡ count_around list_encoding k (drop (begin_of start ps) b) (lists_of start b ps) =
-    count_laid k start b [] ps h ∙ ap (λ payload. count_around list_encoding k payload (lists_of start b ps)) (append-nil (drop (begin_of start ps) b)) in
-    rw (front_closed (filled k ps) start b [] ps h, stack, e) refl
+laid_counts : (k start : ℕ) (b tail : List ℕ) (ps : List Placeholder) → IsLaid start b ps
+    → Counts k start b tail ps (closed_bytes (filled k ps) b tail ps) (counted k ps)
+laid_counts k start b tail [] h =
+    record { front = take-append-le start b tail h; laid = laid_append start b tail [] h; stack = rw (drop-append-le start b tail h) refl }
+laid_counts k start b tail (p ∷ ps) h =
+    laid_counts_by (is_last k p.awaits) k start b tail p ps refl h
+    (laid_counts 1 start (take p.position b) (list_encoding (drop (p.position + 1) b ++ tail)) ps h.1)
 
 -- ---- the test whether a count closes a list
 
@@ -175,7 +151,7 @@ laid_bytes start b (p ∷ ps) h =
     let around = laid_bytes start (take p.position b) ps h.1 in
     omega (arith, around, length-take-le p.position b (omega arith), length-drop (p.position + 1) b)
 
-bytes_longer : (p x : List ℕ) (ls : List (OpenList ℕ)) → bytes_around (p ++ x) ls ≡ bytes_around p ls + length x
+pub bytes_longer : (p x : List ℕ) (ls : List (OpenList ℕ)) → bytes_around (p ++ x) ls ≡ bytes_around p ls + length x
 bytes_longer p x [] = length-append p x
 bytes_longer p x (l ∷ ls) = omega (arith, length-append p x)
 
@@ -207,19 +183,19 @@ left_behind (suc n) start b (p ∷ ps) h =
 -- ---- what lists await
 
 -- lists that await something else have the same layout
-laid_awaits : (n : ℕ) (w : Option ℕ) → AwaitsSome w → (start : ℕ) (b : List ℕ) (ps : List Placeholder) → IsLaid start b ps
+pub laid_awaits : (n : ℕ) (w : Option ℕ) → AwaitsSome w → (start : ℕ) (b : List ℕ) (ps : List Placeholder) → IsLaid start b ps
     → IsLaid start b (with_awaits n w ps)
 laid_awaits zero w some start b ps h = h
 laid_awaits (suc n) w some start b [] h = h
 laid_awaits (suc n) w some start b (p ∷ ps) h =
     (record { within = h.0.within; placeholder = h.0.placeholder; awaits_some = some }, laid_awaits n w some start (take p.position b) ps h.1)
 
-begin_awaits : (n : ℕ) (w : Option ℕ) (start : ℕ) (ps : List Placeholder) → begin_of start (with_awaits n w ps) ≡ begin_of start ps
+pub begin_awaits : (n : ℕ) (w : Option ℕ) (start : ℕ) (ps : List Placeholder) → begin_of start (with_awaits n w ps) ≡ begin_of start ps
 begin_awaits zero w start ps = refl
 begin_awaits (suc n) w start [] = refl
 begin_awaits (suc n) w start (p ∷ ps) = refl
 
-lists_awaits : (n : ℕ) (w : Option ℕ) (start : ℕ) (b : List ℕ) (ps : List Placeholder)
+pub lists_awaits : (n : ℕ) (w : Option ℕ) (start : ℕ) (b : List ℕ) (ps : List Placeholder)
     → lists_of start b (with_awaits n w ps) ≡ each_awaits n w (lists_of start b ps)
 lists_awaits zero w start b ps = refl
 lists_awaits (suc n) w start b [] = refl
@@ -269,10 +245,12 @@ stands_opened {s} {start} {b} {ps} {m} h awaits position some at c qs e f =
     let p : Placeholder = record { position = position; awaits = awaits } in
     let rest : take position (b ++ 0 ∷ []) ≡ b = take_at b (0 ∷ []) position (sym at) in
     let none : drop (position + 1) (b ++ 0 ∷ []) ≡ [] = drop_all (position + 1) (b ++ 0 ∷ []) (omega (arith, length_push b 0)) in
+    let opened : state_of start (b ++ 0 ∷ []) (p ∷ ps) false ≡ with_list awaits (state_of start b ps m) =
+    rw (take-append-le start b (0 ∷ []) (start_le start b ps h.laid), none, rest) refl in
     let placed : Placed (b ++ 0 ∷ []) p =
-    record { within = omega (arith, length_push b 0); placeholder = rw (rest, none) refl; awaits_some = some } in
+    record { within = omega (arith, length_push b 0); placeholder = get_or_at b 0 [] 1 position (sym at); awaits_some = some } in
     let laid : IsLaid start (b ++ 0 ∷ []) (p ∷ ps) = (placed, rw rest h.laid) in
-    record { laid = rw (e, f) laid; is = rw (e, f) (state_opened start b ps m p h.laid at ∙ ap (with_list awaits) h.is) }
+    record { laid = rw (e, f) laid; is = rw (e, f) (opened ∙ ap (with_list awaits) h.is) }
 
 and_yes : (m a : Bool) → a ≡ true → (m && a) ≡ m
 and_yes true true e = refl
@@ -305,14 +283,15 @@ stands_closed : {s : State} {start : ℕ} {b : List ℕ} {ps : List Placeholder}
     → (k : ℕ) (c : List ℕ) (qs : List Placeholder) → closes k ps ≡ true → c ≡ closed_bytes (filled k ps) b [] ps
     → qs ≡ counted k ps → StandsFor (count k s) start c qs true
 stands_closed {s} {start} {b} {ps} {m} h k c qs closing e f =
-    record {
-      laid = rw (e, f) (laid_counted k start b ps h.laid);
-      is = rw (e, f) (state_counted k start b ps m true h.laid (closes_counted ps m closing) ∙ ap (count k) h.is);
-    }
+    let r = laid_counts k start b [] ps h.laid in
+    let stack = r.stack ∙ ap (λ p. count_around list_encoding k p (lists_of start b ps)) (append-nil (drop (begin_of start ps) b)) in
+    let now : state_of start (closed_bytes (filled k ps) b [] ps) (counted k ps) true ≡ count k (state_of start b ps m) =
+    rw (r.front, stack, counts_closed ps m closing) refl in
+    record { laid = rw (e, f) r.laid; is = rw (e, f) (now ∙ ap (count k) h.is) }
   where
-    closes_counted : (ps : List Placeholder) (m : Bool) → closes k ps ≡ true → true ≡ is_counted_after k (lists_of start b ps) m
-    closes_counted [] m never = absurd (let no : ⊥ = cc in no)
-    closes_counted (p ∷ ps) m full = sym full
+    counts_closed : (ps : List Placeholder) (m : Bool) → closes k ps ≡ true → is_counted_after k (lists_of start b ps) m ≡ true
+    counts_closed [] m never = absurd (let no : ⊥ = cc in no)
+    counts_closed (p ∷ ps) m full = full
 
 -- after bytes were put, with room behind them for the headers
 pub stands_filled : {s : State} {start : ℕ} {b : List ℕ} {ps : List Placeholder} {m : Bool} → StandsFor s start b ps m

@@ -38,8 +38,7 @@ grows_in_list s t l front lists outer =
 -- one more open list
 pub grows_with_list : (s t : State) (awaits : Option ℕ) → t ≡ with_list awaits s → GrowsTo s t
 grows_with_list s t awaits e =
-    subst (λ (u : State). GrowsTo s u) (sym e)
-    (record { front = refl; stands = within [] (record { awaits = awaits; outer = s.stack.inner }) s.stack.lists (stands_same s.stack.inner s.stack.lists) })
+    grows_in_list s t (record { awaits = awaits; outer = s.stack.inner }) (ap (λ (u : State). u.front) e) (ap (λ (u : State). u.stack.lists) e) refl
 
 same_around_trans : (ls ms ns : List (OpenList ℕ)) → AreSameAround ls ms → AreSameAround ms ns → AreSameAround ls ns
 same_around_trans [] [] [] h k = tt

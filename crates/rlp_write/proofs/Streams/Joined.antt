@@ -1,10 +1,11 @@
 -- Values whose encodings are put one after another with no list open.
-use Rattle.std.proofs.Common.{◌≡◌, ℕ, ◌+◌, ◌<◌, List, [], ◌∷◌, ◌++◌, length, take, drop, map, get_or, sym, ap, ◌∙◌, append_assoc, append-nil}
-use Rattle.std.proofs.lemmas.List.{map_more}
+use Rattle.std.proofs.Common.{◌≡◌, ℕ, ◌+◌, ◌<◌, List, [], ◌∷◌, ◌++◌, length, take, drop, map, get_or, refl, sym, ap, ◌∙◌}
+use Rattle.std.proofs.lemmas.List.{map_more, flat_map_more}
 use Rattle.rlp_format.specs.Format.Item.{Item, string, list, list_of}
 use Rattle.rlp_format.specs.Format.Encoding.{encoding, join}
 use Rattle.rlp_format.specs.Lemmas.Encodings.{encoding_list}
-use Rattle.rlp_write.specs.Streams.Stream.{OpenList, Stack, count_around, State, IsFinished, list_encoding, put_item}
+use Rattle.rlp_write.specs.Streams.Stream.{Stack, State, IsFinished, list_encoding, put_item}
+use Rattle.rlp_write.proofs.Streams.States.{put_item-finished}
 
 -- an item that was put with no list open
 pub record IsPutAlone (x : Item) (s t : State) : Type 0 where
@@ -14,28 +15,19 @@ pub record IsPutAlone (x : Item) (s t : State) : Type 0 where
 
 -- with no list open, an item's encoding is put, and nothing is counted
 pub put_alone : (x : Item) (s t : State) → IsFinished s → t ≡ put_item x s → IsPutAlone x s t
-put_alone (string b) s t none is = record {
-  front = ap (λ (u : State). u.front) is;
-  top = ap (λ (u : State). u.stack.inner) is;
-  finished = ap (λ (u : State). u.stack.lists) is ∙ none;
-}
-put_alone (list xs) s t none is =
-    let counted : List (OpenList ℕ) → Stack ℕ = λ ls. count_around list_encoding 1 (s.stack.inner ++ encoding (list xs)) ls in
-    record {
-      front = ap (λ (u : State). u.front) is;
-      top = ap (λ (u : State). u.stack.inner) is ∙ ap (λ ls. (counted ls).inner) none;
-      finished = ap (λ (u : State). u.stack.lists) is ∙ ap (λ ls. (counted ls).lists) none;
-    }
-
-join_push : (xs : List Item) (x : Item) → join (xs ++ x ∷ []) ≡ join xs ++ encoding x
-join_push [] x = append-nil (encoding x)
-join_push (y ∷ xs) x = ap (λ b. encoding y ++ b) (join_push xs x) ∙ sym (append_assoc (encoding y) (join xs) (encoding x))
+put_alone x s t none is =
+    let stack = ap (λ (u : State). u.stack) is ∙ put_item-finished x s none in
+    record { front = ap (λ (u : State). u.front) is ∙ front_kept x s; top = ap (λ (k : Stack ℕ). k.inner) stack; finished = ap (λ (k : Stack ℕ). k.lists) stack }
+  where
+    front_kept : (x : Item) (s : State) → (put_item x s).front ≡ s.front
+    front_kept (string b) s = refl
+    front_kept (list xs) s = refl
 
 -- the joined encodings of one more value
 pub joined_more : {A : Type 0} (item : A → Item) (values : List A) (i : ℕ) (x d : A) → i < length values → x ≡ get_or values i d
     → join (map item (take (i + 1) values)) ≡ join (map item (take i values)) ++ encoding (item x)
 joined_more item values i x d inside is =
-    ap join (map_more item values i d inside ∙ ap (λ y. map item (take i values) ++ item y ∷ []) (sym is)) ∙ join_push (map item (take i values)) (item x)
+    ap join (map_more item values i d inside ∙ ap (λ y. map item (take i values) ++ item y ∷ []) (sym is)) ∙ sym (flat_map_more encoding [] (map item (take i values)) (item x))
 
 -- behind one byte, joined encodings are the payload of the list of their items
 pub joined_list : (xs : List Item) (front inner out : List ℕ) (first : ℕ) → out ≡ front ++ inner → front ≡ first ∷ [] → inner ≡ join xs

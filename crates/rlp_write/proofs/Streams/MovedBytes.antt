@@ -1,14 +1,29 @@
--- Bytes that are moved to a later place, one by one from the last on.
+-- Bytes that are written from a place on, and bytes that are moved to a later place.
 use Rattle.std.proofs.Common.{◌≡◌, ℕ, suc, ◌+◌, ◌≤◌, List, ◌∷◌, ◌++◌, length, take, drop, sym, ap, subst, ◌∙◌, arith, take-append-drop, length-append}
 use Rattle.std.proofs.Common.{length-drop}
 use Rattle.std.proofs.Math.ListN.{set, get_or}
 use Rattle.std.proofs.Math.Seq.{take-add}
 use borrow.Rule.Slice.PartMut.{put_mid}
-use Rattle.std.proofs.lemmas.List.{take-set-le, take-take, get_or-take, drop_more, append_assoc, length-take-le}
+use Rattle.std.proofs.lemmas.List.{take-set-le, take-append-le, take-take, get_or-take, drop_at, drop_more, append_assoc, length-take-le}
 use Rattle.std.proofs.lemmas.Slice.{take-put_mid, drop-put_mid}
 use Rattle.std.proofs.lemmas.Grind.{drop-set_at}
 
--- the progress of this: the number of bytes that are left, and the number of bytes that are already `gap` places later
+-- the bytes before a place stay, and these come behind them
+pub record Follows (n : ℕ) (old behind new : List ℕ) : Type 0 where
+  pub front : (m : ℕ) → m ≤ n → take m new ≡ take m old
+  pub rest : drop n new ≡ behind
+  pub len : length new ≡ n + length behind
+
+pub follows : (n : ℕ) (old behind new : List ℕ) → n ≤ length old → new ≡ take n old ++ behind → Follows n old behind new
+follows n old behind new within is =
+    let len = length-take-le n old within in
+    record {
+      front = λ m below. ap (take m) is ∙ take-append-le m (take n old) behind (omega arith) ∙ take-take m n old below;
+      rest = ap (drop n) is ∙ drop_at (take n old) behind n len;
+      len = omega (arith, ap length is, length-append (take n old) behind);
+    }
+
+-- the progress of moving bytes one by one, from the last on: the number of bytes that are left, and the number of bytes that are already `gap` places later
 pub record Brought (old bytes : List ℕ) (gap left done : ℕ) : Type 0 where
   pub front : take (gap + left) bytes ≡ take (gap + left) old
   pub back : drop (gap + left) bytes ≡ take done (drop left old)

@@ -1,138 +1,86 @@
 -- Going back to the state before a call. The stream grew from that state, so its bytes and its open lists are still there, but the innermost list may await another
 -- number of items.
-use Rattle.std.proofs.Common.{◌≡◌, ◌+◌, ◌-◌, ◌≤◌, ℕ, suc, Bool, List, [], ◌∷◌, ◌++◌, length, take, drop, Option, refl, sym, ap, ◌∙◌, subst, arith, append_assoc, append-nil, length-append, length-drop, take-append-drop}
-use Rattle.std.proofs.lemmas.List.{length-take-le, take-take, take_at, drop_at}
+use Rattle.std.proofs.Common.{◌≡◌, ◌+◌, ◌-◌, ◌≤◌, ℕ, suc, Bool, List, [], ◌∷◌, ◌++◌, length, get_or, take, drop, Option, refl, sym, ap, ◌∙◌, subst, arith, length-append, length-drop, take-append-drop}
+use Rattle.std.proofs.lemmas.List.{length-take-le, take-take, take_at, drop-take}
 use Rattle.rlp_write.specs.declared.open_lists.Placeholder.{Placeholder}
 use Rattle.rlp_write.specs.declared.flat.Place.{Place}
-use Rattle.rlp_write.specs.Streams.Stream.{OpenList, AwaitsSome, awaited, State, with_list, raw_text}
+use Rattle.rlp_write.specs.Streams.Stream.{OpenList, AwaitsSome, awaited, each_awaits, State, raw_text}
 use Rattle.rlp_write.specs.Streams.Growth.{AreSameAround, Stands, GrowsTo}
 use Rattle.rlp_write.specs.Streams.Growth.Stands.{here, within}
 use Rattle.rlp_write.specs.Streams.Places.{place_of}
-use Rattle.rlp_write.specs.Streams.Placeholders.{begin_of, lists_of, Placed, IsLaid, with_innermost}
+use Rattle.rlp_write.specs.Streams.Placeholders.{begin_of, lists_of, IsLaid, with_awaits, with_innermost}
 use Rattle.rlp_write.specs.Streams.Layout.{state_of}
-use Rattle.rlp_write.proofs.Streams.States.{raw_text-put, raw_text-with_list}
-use Rattle.rlp_write.proofs.Streams.FlatBuffer.{bytes_around, laid_bytes, start_le, length-lists_of, StandsFor}
+use Rattle.rlp_write.proofs.Streams.FlatBuffer.{begin_le, bytes_around, bytes_longer, laid_bytes, laid_take, lists_append, length-lists_of, raw_state, StandsFor, stands_awaiting}
+use Rattle.rlp_write.proofs.Streams.Finalizing.{length-each_awaits}
 
-length-raw_text : (f p : List ℕ) (ls : List (OpenList ℕ)) (m : Bool)
-    → length (raw_text (record { front = f; stack = record { inner = p; lists = ls }; is_counted = m })) ≡ length f + bytes_around p ls
-length-raw_text f p [] m = omega (arith, length-append f (p ++ []), ap length (append-nil p))
-length-raw_text f p (l ∷ ls) m =
-    let around : State = record { front = f; stack = record { inner = l.outer; lists = ls }; is_counted = m } in
-    omega (
-      arith,
-      ap length (raw_text-put p (with_list l.awaits around)),
-      ap length (raw_text-with_list l.awaits around),
-      length-append (raw_text (with_list l.awaits around)) p,
-      length-append (raw_text around) (0 ∷ []),
-      length-raw_text f l.outer ls m,
-    )
+-- apart from what the innermost awaits, the lists are the same
+same_again : (ls ms : List (OpenList ℕ)) → AreSameAround ls ms → each_awaits 1 (awaited ls) ms ≡ ls
+same_again [] [] same = refl
+same_again [] (m ∷ ms) same = absurd same
+same_again (l ∷ ls) [] same = absurd same
+same_again (l ∷ ls) (m ∷ ms) same =
+    ap (λ o. record { awaits = l.awaits; outer = o } ∷ ms) (sym same.0) ∙ ap (λ ns. l ∷ ns) (sym same.1)
 
-abbrev head_outer : List (OpenList ℕ) → List ℕ
-head_outer [] = []
-head_outer (l ∷ ls) = l.outer
+bytes_awaits : (w : Option ℕ) (p : List ℕ) (ms : List (OpenList ℕ)) → bytes_around p (each_awaits 1 w ms) ≡ bytes_around p ms
+bytes_awaits w p [] = refl
+bytes_awaits w p (m ∷ ms) = refl
 
-abbrev tail_of : List (OpenList ℕ) → List (OpenList ℕ)
-tail_of [] = []
-tail_of (l ∷ ls) = ls
-
-nil_cons : {A : Type 0} (x : A) (xs : List A) → [] ≡ x ∷ xs → ⊥
-nil_cons x xs e = cc
-
--- the first n bytes, and the lists that are open there, stand for a payload within its lists
-record IsBack (start : ℕ) (p : List ℕ) (ls : List (OpenList ℕ)) (c : List ℕ) (qs : List Placeholder) (n k : ℕ) : Type 0 where
-  pub bytes : start + bytes_around p ls ≡ n
-  pub few : n ≤ length c
-  pub lists_left : k + length ls ≡ length qs
-  pub laid : IsLaid start (take n c) (with_innermost (λ _. awaited ls) (drop k qs))
-  pub inner : drop (begin_of start (drop k qs)) (take n c) ≡ p
-  pub lists : lists_of start (take n c) (with_innermost (λ _. awaited ls) (drop k qs)) ≡ ls
+-- the first bytes, and the lists that are open there, stand for a payload within its lists
+record GoesBack (start : ℕ) (p : List ℕ) (ls : List (OpenList ℕ)) (c : List ℕ) (qs : List Placeholder) : Type 0 where
+  k : ℕ
+  few : start + bytes_around p ls ≤ length c
+  lists_left : k + length ls ≡ length qs
+  laid : IsLaid start (take (start + bytes_around p ls) c) (drop k qs)
+  inner : drop (begin_of start (drop k qs)) (take (start + bytes_around p ls) c) ≡ p
+  lists : each_awaits 1 (awaited ls) (lists_of start (take (start + bytes_around p ls) c) (drop k qs)) ≡ ls
 
 -- a payload that grew in its place
-back_here : (start : ℕ) (p : List ℕ) (ls : List (OpenList ℕ)) (more c : List ℕ) (qs : List Placeholder) → IsLaid start c qs → AwaitsSome (awaited ls)
-    → p ++ more ≡ drop (begin_of start qs) c → AreSameAround ls (lists_of start c qs) → IsBack start p ls c qs (start + bytes_around p ls) 0
-back_here start p [] more c [] h some is same =
-    let size : length c ≡ start + length (p ++ more) = omega (arith, length-drop start c, h, ap length is) in
-    let front : length (take start c) ≡ start = length-take-le start c h in
-    let whole : c ≡ (take start c ++ p) ++ more =
-    sym (take-append-drop start c) ∙ ap (λ b. take start c ++ b) (sym is) ∙ sym (append_assoc (take start c) p more) in
-    let first : take (start + length p) c ≡ take start c ++ p =
-    ap (take (start + length p)) whole ∙ take_at (take start c ++ p) more (start + length p) (omega (arith, front, length-append (take start c) p)) in
+back_here : (start : ℕ) (p : List ℕ) (ls : List (OpenList ℕ)) (more c : List ℕ) (qs : List Placeholder) → IsLaid start c qs
+    → p ++ more ≡ drop (begin_of start qs) c → AreSameAround ls (lists_of start c qs) → GoesBack start p ls c qs
+back_here start p ls more c qs h is same =
+    let n : ℕ = start + bytes_around p ls in
+    let begin = begin_of start qs in
+    let ms = lists_of start c qs in
+    let again = same_again ls ms same in
+    let low = begin_le start c qs h in
+    let around : bytes_around p ls ≡ bytes_around p ms = ap (bytes_around p) (sym again) ∙ bytes_awaits (awaited ls) p ms in
+    let size : length c ≡ n + length more =
+    omega (arith, laid_bytes start c qs h, ap (λ q. bytes_around q ms) is, bytes_longer p more ms, around) in
+    let ends : n ≡ begin + length p = omega (arith, size, low, length-drop begin c, ap length is, length-append p more) in
+    let laid = laid_take n start c qs (omega (arith, ends)) h in
+    let kept : lists_of start (take n c) qs ≡ ms =
+    sym (lists_append start (take n c) (drop n c) qs laid) ∙ ap (λ b. lists_of start b qs) (take-append-drop n c) in
     record {
-      bytes = refl;
-      few = omega (arith, size, length-append p more);
-      lists_left = refl;
-      laid = rw first (let le : start ≤ length (take start c ++ p) = omega (arith, front, length-append (take start c) p) in le);
-      inner = rw first (drop_at (take start c) p start front);
-      lists = refl;
-    }
-back_here start p [] more c (q ∷ qs) h some is same = absurd same
-back_here start p (l ∷ ls) more c [] h some is same = absurd same
-back_here start p (l ∷ ls) more c (q ∷ qs) h some is same =
-    let inside = h.0.within in
-    let below = take q.position c in
-    let kept : Placeholder = record { position = q.position; awaits = l.awaits } in
-    let len : length below ≡ q.position = length-take-le q.position c (omega arith) in
-    let place : q.position ≡ start + bytes_around l.outer ls =
-    sym len ∙ laid_bytes start below qs h.1 ∙ ap (λ o. start + bytes_around o (lists_of start below qs)) (sym same.0)
-    ∙ ap (λ ms. start + bytes_around l.outer ms) (sym same.1) in
-    let whole : c ≡ (below ++ (0 ∷ p)) ++ more =
-    h.0.placeholder ∙ ap (λ b. below ++ (0 ∷ b)) (sym is) ∙ sym (append_assoc below (0 ∷ p) more) in
-    let size : length (below ++ (0 ∷ p)) ≡ start + bytes_around p (l ∷ ls) = omega (arith, len, place, length-append below (0 ∷ p)) in
-    let first : take (start + bytes_around p (l ∷ ls)) c ≡ below ++ (0 ∷ p) =
-    ap (take (start + bytes_around p (l ∷ ls))) whole ∙ take_at (below ++ (0 ∷ p)) more (start + bytes_around p (l ∷ ls)) size in
-    let before : take q.position (below ++ (0 ∷ p)) ≡ below = take_at below (0 ∷ p) q.position len in
-    let behind : drop (q.position + 1) (below ++ (0 ∷ p)) ≡ p =
-    ap (drop (q.position + 1)) (sym (append_assoc below (0 ∷ []) p))
-    ∙ drop_at (below ++ (0 ∷ [])) p (q.position + 1) (omega (arith, len, length-append below (0 ∷ []))) in
-    let placed : Placed (below ++ (0 ∷ p)) kept =
-    record { within = omega (arith, len, length-append below (0 ∷ p)); placeholder = rw (before, behind) refl; awaits_some = some } in
-    let laid : IsLaid start (below ++ (0 ∷ p)) (kept ∷ qs) = (placed, rw before h.1) in
-    let list : List ℕ → List (OpenList ℕ) → List (OpenList ℕ) = λ o ms. record { awaits = l.awaits; outer = o } ∷ ms in
-    let lists : lists_of start (below ++ (0 ∷ p)) (kept ∷ qs) ≡ l ∷ ls =
-    rw before (ap (λ o. list o (lists_of start below qs)) (sym same.0) ∙ ap (list l.outer) (sym same.1)) in
-    record {
-      bytes = refl;
-      few = omega (arith, size, ap length whole, length-append (below ++ (0 ∷ p)) more);
-      lists_left = omega (arith, ap length same.1, length-lists_of start below qs);
-      laid = rw first laid;
-      inner = rw first behind;
-      lists = rw first lists;
+      k = 0;
+      few = omega (arith, size);
+      lists_left = omega (arith, ap length again, length-each_awaits 1 (awaited ls) ms, length-lists_of start c qs);
+      laid = laid;
+      inner = ap (λ e. drop begin (take e c)) ends ∙ drop-take begin (length p) c ∙ ap (take (length p)) (sym is) ∙ take_at p more (length p) refl;
+      lists = ap (each_awaits 1 (awaited ls)) kept ∙ again;
     }
 
--- one open list further out
-back_within : (start : ℕ) (p : List ℕ) (ls : List (OpenList ℕ)) (c : List ℕ) (q : Placeholder) (qs : List Placeholder) (n k : ℕ) → Placed c q
-    → IsBack start p ls (take q.position c) qs n k → IsBack start p ls c (q ∷ qs) n (suc k)
-back_within start p ls c q qs n k placed r =
-    let inside = placed.within in
-    let len : length (take q.position c) ≡ q.position = length-take-le q.position c (omega arith) in
+back_step : (start : ℕ) (p : List ℕ) (ls : List (OpenList ℕ)) {inner : List ℕ} {ms : List (OpenList ℕ)} → Stands p ls inner ms
+    → (c : List ℕ) (qs : List Placeholder) → IsLaid start c qs → inner ≡ drop (begin_of start qs) c → ms ≡ lists_of start c qs → GoesBack start p ls c qs
+back_step start p ls (here more ms same) c qs h i e = back_here start p ls more c qs h i (subst (λ z. AreSameAround ls z) e same)
+back_step start p ls (within inner l ms st) c [] h i e = absurd (let never : l ∷ ms ≡ [] = e in let no : ⊥ = cc in no)
+back_step start p ls (within inner l ms st) c (q ∷ qs) h i e =
+    let r = back_step start p ls st (take q.position c) qs h.1 (ap (λ (ls : List (OpenList ℕ)). (get_or ls 0 l).outer) e) (ap (drop 1) e) in
+    let inside = h.0.within in
     let low = r.few in
-    let first : take n (take q.position c) ≡ take n c = take-take n q.position c (omega arith) in
+    let len : length (take q.position c) ≡ q.position = length-take-le q.position c (omega arith) in
+    let first = take-take (start + bytes_around p ls) q.position c (omega arith) in
     record {
-      bytes = r.bytes;
+      k = suc r.k;
       few = omega arith;
       lists_left = omega (arith, r.lists_left);
-      laid = subst (λ b. IsLaid start b (with_innermost (λ _. awaited ls) (drop k qs))) first r.laid;
-      inner = subst (λ b. drop (begin_of start (drop k qs)) b ≡ p) first r.inner;
-      lists = subst (λ b. lists_of start b (with_innermost (λ _. awaited ls) (drop k qs)) ≡ ls) first r.lists;
+      laid = rw first at r.laid;
+      inner = rw first at r.inner;
+      lists = rw first at r.lists;
     }
 
-record GoesBack (start : ℕ) (p : List ℕ) (ls : List (OpenList ℕ)) (c : List ℕ) (qs : List Placeholder) : Type 0 where
-  n : ℕ
-  k : ℕ
-  is : IsBack start p ls c qs n k
-
-back_step : (start : ℕ) (p : List ℕ) (ls : List (OpenList ℕ)) → AwaitsSome (awaited ls) → {inner : List ℕ} {ms : List (OpenList ℕ)} → Stands p ls inner ms
-    → (c : List ℕ) (qs : List Placeholder) → IsLaid start c qs → inner ≡ drop (begin_of start qs) c → ms ≡ lists_of start c qs → GoesBack start p ls c qs
-back_step start p ls some (here more ms same) c qs h i e =
-    record { n = start + bytes_around p ls; k = 0; is = back_here start p ls more c qs h some i (subst (λ z. AreSameAround ls z) e same) }
-back_step start p ls some (within inner l ms st) c [] h i e = absurd (nil_cons _ _ (sym e))
-back_step start p ls some (within inner l ms st) c (q ∷ qs) h i e =
-    let r = back_step start p ls some st (take q.position c) qs h.1 (ap head_outer e) (ap tail_of e) in
-    record { n = r.n; k = suc r.k; is = back_within start p ls c q qs r.n r.k h.0 r.is }
-
-begin_kept : (change : Option ℕ → Option ℕ) (start : ℕ) (ps : List Placeholder) → begin_of start (with_innermost change ps) ≡ begin_of start ps
-begin_kept change start [] = refl
-begin_kept change start (p ∷ ps) = refl
+with_innermost_is : (w : Option ℕ) (ps : List Placeholder) → with_innermost (λ _. w) ps ≡ with_awaits 1 w ps
+with_innermost_is w [] = refl
+with_innermost_is w (p ∷ ps) = refl
 
 -- a stream that goes back to the place of a state from which it grew has that state again
 pub stands_back : (s t : State) (start : ℕ) (c : List ℕ) (qs : List Placeholder) (m : Bool) → StandsFor t start c qs m → GrowsTo s t
@@ -142,27 +90,29 @@ pub stands_back : (s t : State) (start : ℕ) (c : List ℕ) (qs : List Placehol
 stands_back s t start c qs m now grown place at some d rs cut kept =
     let inner = ap (λ (u : State). u.stack.inner) (sym now.is) in
     let lists = ap (λ (u : State). u.stack.lists) (sym now.is) in
+    let r = back_step start s.stack.inner s.stack.lists grown.stands c qs now.laid inner lists in
+    let n : ℕ = start + bytes_around s.stack.inner s.stack.lists in
     let awaits : place.awaits ≡ awaited s.stack.lists = ap (λ (q : Place). q.awaits) at in
-    let r = back_step start s.stack.inner s.stack.lists (subst AwaitsSome awaits some) grown.stands c qs now.laid inner lists in
-    let front : take start c ≡ s.front = ap (λ (u : State). u.front) now.is ∙ grown.front in
-    let low = start_le start c qs now.laid in
-    let len : place.len ≡ r.n = ap (λ (q : Place). q.len) at ∙ length-raw_text s.front s.stack.inner s.stack.lists s.is_counted
-    ∙ ap (λ k. k + bytes_around s.stack.inner s.stack.lists) (sym (ap length front) ∙ length-take-le start c low) ∙ r.is.bytes in
-    let number : length qs - place.open_count ≡ r.k = omega (arith, ap (λ (q : Place). q.open_count) at, r.is.lists_left) in
-    let bytes : d ≡ take r.n c = cut ∙ ap (λ k. take k c) len in
-    let change = λ (w : Option ℕ) (k : ℕ). with_innermost (λ _. w) (drop k qs) in
-    let places : rs ≡ change (awaited s.stack.lists) r.k =
-    kept ∙ ap (λ k. change place.awaits k) number ∙ ap (λ w. change w r.k) awaits in
     let counted = ap (λ (q : Place). q.is_counted) at in
-    let first : take start (take r.n c) ≡ s.front = take-take start r.n c (omega (arith, r.is.bytes)) ∙ front in
-    let payload : drop (begin_of start (change (awaited s.stack.lists) r.k)) (take r.n c) ≡ s.stack.inner =
-    ap (λ n. drop n (take r.n c)) (begin_kept (λ _. awaited s.stack.lists) start (drop r.k qs)) ∙ r.is.inner in
-    let whole : state_of start (take r.n c) (change (awaited s.stack.lists) r.k) s.is_counted ≡ s =
-    let make : List ℕ → List ℕ → List (OpenList ℕ) → State =
-    λ f p ls. record { front = f; stack = record { inner = p; lists = ls }; is_counted = s.is_counted } in
-    ap (λ f. make f (drop (begin_of start (change (awaited s.stack.lists) r.k)) (take r.n c)) (lists_of start (take r.n c) (change (awaited s.stack.lists) r.k))) first
-    ∙ ap (λ p. make s.front p (lists_of start (take r.n c) (change (awaited s.stack.lists) r.k))) payload ∙ ap (make s.front s.stack.inner) r.is.lists in
-    record { laid = rw (bytes, places) r.is.laid; is = rw (bytes, places, counted) whole }
+    let ps = with_awaits 1 (awaited s.stack.lists) (drop r.k qs) in
+    let kept_lists : StandsFor (state_of start (take n c) (drop r.k qs) s.is_counted) start (take n c) (drop r.k qs) s.is_counted =
+    record { laid = r.laid; is = refl } in
+    let open_here = stands_awaiting kept_lists 1 (awaited s.stack.lists) ps (subst AwaitsSome awaits some) refl in
+    let front : take start (take n c) ≡ s.front =
+    take-take start n c (omega arith) ∙ ap (λ (u : State). u.front) now.is ∙ grown.front in
+    let is : state_of start (take n c) ps s.is_counted ≡ s = open_here.is ∙ rw (front, r.inner, r.lists) refl in
+    let len : place.len ≡ n = omega (
+      arith,
+      ap (λ (q : Place). q.len) at,
+      ap length (raw_state start (take n c) ps s.is_counted open_here.laid),
+      ap (λ (u : State). length (raw_text u)) is,
+      length-take-le n c r.few,
+    ) in
+    let bytes : d ≡ take n c = cut ∙ ap (λ k. take k c) len in
+    let number : length qs - place.open_count ≡ r.k = omega (arith, ap (λ (q : Place). q.open_count) at, r.lists_left) in
+    let places : rs ≡ ps = kept ∙ ap (λ k. with_innermost (λ _. place.awaits) (drop k qs)) number ∙ with_innermost_is place.awaits (drop r.k qs)
+    ∙ ap (λ w. with_awaits 1 w (drop r.k qs)) awaits in
+    record { laid = rw (bytes, places) open_here.laid; is = rw (bytes, places, counted) is }
 
 -- which `is_counted` a stream has doesn't matter for what it grows to
 pub grown_uncounted : (s t u : State) (m : Bool) → u ≡ record s { is_counted = m } → GrowsTo u t → GrowsTo s t

@@ -1,6 +1,7 @@
 -- How the steps of a stream change the texts of its state.
-use Rattle.std.proofs.Common.{◌≡◌, ℕ, zero, suc, ◌+◌, ◌<◌, ◌≤◌, ◌^◌, nat_le, arith, Bool, true, false, cond, List, [], ◌∷◌, ◌++◌, length, replicate, flat_map}
+use Rattle.std.proofs.Common.{◌≡◌, ℕ, zero, suc, ◌+◌, ◌<◌, ◌≤◌, ◌^◌, nat_le, arith, Bool, true, false, List, [], ◌∷◌, ◌++◌, length, replicate, flat_map}
 use Rattle.std.proofs.Common.{Option, refl, sym, ap, ◌∙◌, append-nil, append_assoc, length-append}
+use Rattle.std.proofs.lemmas.Bool.{cond_both}
 use Rattle.std.proofs.lemmas.Bool.Decides.{nat_tests}
 use Rattle.std.proofs.lemmas.List.{length-replicate}
 use Rattle.std.proofs.lemmas.List.Concat.{flat_map-append}
@@ -23,18 +24,13 @@ closed_shut_around f p (l ∷ ls) m = refl
 pub closed_text-shut : (s : State) → closed_text (shut s) ≡ closed_text s
 closed_text-shut s = closed_shut_around s.front s.stack.inner s.stack.lists s.is_counted
 
-cond_closed : (b : Bool) (x y : Stack ℕ) (c : List ℕ) → closed_payload_around list_encoding x.inner x.lists ≡ c
-    → closed_payload_around list_encoding y.inner y.lists ≡ c
-    → closed_payload_around list_encoding (cond b x y).inner (cond b x y).lists ≡ c
-cond_closed true x y c e f = e
-cond_closed false x y c e f = f
-
 closed_count_around : (k : ℕ) (p : List ℕ) (ls : List (OpenList ℕ)) →
     closed_payload_around list_encoding (count_around list_encoding k p ls).inner (count_around list_encoding k p ls).lists
     ≡ closed_payload_around list_encoding p ls
 closed_count_around k p [] = refl
 closed_count_around k p (l ∷ ls) =
-    cond_closed (is_last k l.awaits) _ _ _ (closed_count_around 1 (l.outer ++ list_encoding p) ls) refl
+    cond_both (is_last k l.awaits) _ _ (λ (s : Stack ℕ). closed_payload_around list_encoding s.inner s.lists ≡ closed_payload_around list_encoding p (l ∷ ls))
+    (λ _. closed_count_around 1 (l.outer ++ list_encoding p) ls) (λ _. refl)
 
 -- neither does a count
 pub closed_text-count : (k : ℕ) (s : State) → closed_text (count k s) ≡ closed_text s
@@ -143,26 +139,15 @@ raw_text-with_list awaits s =
 
 -- ---- with no list open
 
-add_with : (x : Item) (f p : List ℕ) (ls : List (OpenList ℕ)) (m : Bool) → ls ≡ []
-    → add x (record { front = f; stack = record { inner = p; lists = ls }; is_counted = m })
-    ≡ record { front = f; stack = record { inner = p ++ encoding x; lists = [] }; is_counted = is_list x }
-add_with (string t) f p [] m e = refl
-add_with (list xs) f p [] m e = refl
-add_with x f p (l ∷ ls) m e = absurd (let no : ⊥ = cc in no)
-
 -- an item that is added to a finished stream
 pub add-finished : (x : Item) (s : State) → IsFinished s
     → add x s ≡ record { front = s.front; stack = record { inner = s.stack.inner ++ encoding x; lists = [] }; is_counted = is_list x }
-add-finished x s e = add_with x s.front s.stack.inner s.stack.lists s.is_counted e
-
-put_item_with : (x : Item) (f p : List ℕ) (ls : List (OpenList ℕ)) (m : Bool) → ls ≡ []
-    → (put_item x (record { front = f; stack = record { inner = p; lists = ls }; is_counted = m })).stack ≡ record { inner = p ++ encoding x; lists = [] }
-put_item_with (string t) f p [] m e = refl
-put_item_with (list xs) f p [] m e = refl
-put_item_with x f p (l ∷ ls) m e = absurd (let no : ⊥ = cc in no)
+add-finished (string t) s e = rw e refl
+add-finished (list xs) s e = rw e refl
 
 -- an item that is put in a finished stream
 pub put_item-finished : (x : Item) (s : State) → IsFinished s → (put_item x s).stack ≡ record { inner = s.stack.inner ++ encoding x; lists = [] }
-put_item-finished x s e = put_item_with x s.front s.stack.inner s.stack.lists s.is_counted e
+put_item-finished (string t) s e = rw e refl
+put_item-finished (list xs) s e = rw e refl
 
 pub ruleset states = (raw_text-put, raw_text-with_list, closed_size-put, closed_text-shut, closed_text-count, add-finished, put_item-finished)

@@ -3,12 +3,13 @@ use Rattle.std.proofs.Common.{◌≡◌, ℕ, ◌+◌, ◌-◌, ◌/◌, ◌%◌
 use Rattle.std.proofs.Common.{false, refl, sym, ap, ◌∙◌, arith, add-one, append_assoc}
 use Rattle.std.proofs.lemmas.Bool.Decides.{nat_tests}
 use Rattle.std.proofs.lemmas.Bool.{cond-true, cond-false}
-use Rattle.std.proofs.lemmas.List.{drop-set, take-append-le, take-take, take_at, drop_at, drop_all, length-take-le, take-append-drop, take_all}
+use Rattle.std.proofs.lemmas.List.{drop-set, take_at, drop_at, drop_all, take-append-drop, take_all}
 use Rattle.std.specs.Prelude.{slice_set}
 use Rattle.rlp_format.specs.Format.Item.{string}
 use Rattle.rlp_format.specs.Format.WrittenHeader.{big_endian, written_header}
 use Rattle.rlp_format.specs.Format.Encoding.{encoding, is_low_byte, BeginsWith}
 use Rattle.rlp_format.specs.Values.Value.{number_item}
+use Rattle.rlp_write.proofs.Streams.MovedBytes.{follows}
 use Rattle.rlp_format.specs.Lemmas.Digits.{big_endian_step}
 use Rattle.rlp_format.specs.Lemmas.Headers.{written_header_short, written_header_long}
 
@@ -43,23 +44,21 @@ header_set base n zeros first bytes long digits len within is =
     drop-set (0 ∷ bytes) zeros first (omega arith) ∙ ap (λ ds. first ∷ ds) (after ∙ digits) ∙ ap (λ d. d ∷ big_endian n) value
     ∙ sym (written_header_long base n long)
 
--- the header and the string, after the old bytes
-pub header_and_string : (old s : List ℕ) → is_low_byte s ≡ false → (old ++ written_header 0x80 (length s)) ++ s ≡ old ++ encoding (string s)
-header_and_string old s e = append_assoc old (written_header 0x80 (length s)) s ∙ ap (λ b. old ++ b) (sym (encoding_other s e))
+-- the header and the string, one after the other behind the old bytes
+pub string_written : (old value header : List ℕ) {first second new : List ℕ} → is_low_byte value ≡ false → header ≡ written_header 0x80 (length value)
+    → first ≡ old → second ≡ first ++ header → new ≡ second ++ value → new ≡ old ++ encoding (string value)
+string_written old value header other heads same headed is =
+    is ∙ ap (λ b. b ++ value) (headed ∙ ap (λ b. b ++ header) same) ∙ append_assoc old header value
+    ∙ ap (λ b. old ++ b) (ap (λ h. h ++ value) heads ∙ sym (encoding_other value other))
 
 -- a part is inserted at a place from which the bytes were moved further
 pub inserted : (b part moved : List ℕ) (at n : ℕ) → n + at + length part ≡ length b
     → moved ≡ take (at + length part) b ++ (take n (drop at b) ++ drop ((at + length part) + n) b)
     → take at moved ++ (part ++ drop (at + length part) moved) ≡ take at b ++ (part ++ take n (drop at b))
 inserted b part moved at n all is =
-    let front : length (take (at + length part) b) ≡ at + length part = length-take-le (at + length part) b (omega (arith, all)) in
     let last : drop ((at + length part) + n) b ≡ [] = drop_all ((at + length part) + n) b (omega (arith, all)) in
-    let rest : List ℕ = take n (drop at b) ++ drop ((at + length part) + n) b in
-    let first : take at (take (at + length part) b ++ rest) ≡ take at b =
-    take-append-le at (take (at + length part) b) rest (omega (arith, front)) ∙ take-take at (at + length part) b (omega arith) in
-    let behind : drop (at + length part) (take (at + length part) b ++ rest) ≡ rest = drop_at (take (at + length part) b) rest (at + length part) front in
-    let stays : rest ≡ take n (drop at b) = ap (λ z. take n (drop at b) ++ z) last ∙ append-nil (take n (drop at b)) in
-    rw is (ap (λ z. z ++ (part ++ drop (at + length part) (take (at + length part) b ++ rest))) first ∙ ap (λ z. take at b ++ (part ++ z)) (behind ∙ stays))
+    let now = follows (at + length part) b (take n (drop at b) ++ drop ((at + length part) + n) b) moved (omega (arith, all)) is in
+    rw (now.front at (omega arith), now.rest, last, append-nil) refl
 
 -- a string in a buffer, with its header inserted before it
 pub header_inserted : (b header new : List ℕ) (start : ℕ) → is_low_byte (drop start b) ≡ false → header ≡ written_header 0x80 (length (drop start b))
@@ -93,22 +92,11 @@ pub header_placed : (b view new header : List ℕ) (payload : ℕ) → b ≡ vie
 header_placed b view new header payload same is heads within room =
     let begin : ℕ = payload - length header in
     let rest : List ℕ = drop (begin + length header) b in
-    let front : length (take begin b) ≡ begin = length-take-le begin b (omega (arith, within, ap length same)) in
+    let now = follows begin b (header ++ rest) new (omega (arith, within, ap length same)) is in
     let size : length new ≡ length b =
-    omega (
-      arith,
-      ap length is,
-      length-append (take begin b) (header ++ rest),
-      length-append header rest,
-      front,
-      length-drop (begin + length header) b,
-      within,
-      room,
-      ap length same,
-    ) in
+    omega (arith, now.len, length-append header rest, length-drop (begin + length header) b, within, room, ap length same) in
     let place : begin + length header ≡ payload = omega (arith, room) in
-    take_at new (drop (length new) b) (length b) size ∙ is ∙ ap (λ n. take begin b ++ (header ++ drop n b)) place
-    ∙ ap (λ z. take begin z ++ (header ++ drop payload z)) same ∙ ap (λ h. take begin view ++ (h ++ drop payload view)) heads
+    take_at new (drop (length new) b) (length b) size ∙ is ∙ rw (place, same, heads) refl
 
 -- the bytes of a string were put after the old ones, and then its header was inserted
 pub parts_written : (old mid new : List ℕ) (start : ℕ) (Gives : List ℕ → Type 0) → (s : List ℕ) × Gives s × (mid ≡ old ++ s) → start ≡ length old
@@ -124,4 +112,4 @@ parts_written old mid new start Gives (s, gives, put) at is = (
 pub parts_left : (old mid new : List ℕ) (Gives : List ℕ → Type 0) → (s : List ℕ) × Gives s × (mid ≡ old ++ s) → new ≡ mid → BeginsWith new old
 parts_left old mid new Gives (s, gives, put) same = (s, same ∙ put)
 
-pub ruleset written = (encoding_low, written_header_short, header_set, header_and_string)
+pub ruleset written = (encoding_low, written_header_short, header_set)

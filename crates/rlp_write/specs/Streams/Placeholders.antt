@@ -1,5 +1,5 @@
 -- The places of the open lists in a stream's bytes. The placeholders go from the inside out.
-use Rattle.std.specs.Prelude.{ℕ, zero, suc, if◌then◌else◌, ◌≡◌, ◌+◌, ◌<◌, ◌≤◌, List, [], ◌∷◌, ◌++◌, length, take, drop, Option, None, Bool, false, is_none}
+use Rattle.std.specs.Prelude.{ℕ, zero, suc, if◌then◌else◌, ◌≡◌, ◌+◌, ◌<◌, ◌≤◌, List, [], ◌∷◌, length, get_or, take, drop, Option, None, Bool, false, is_none}
 use Rattle.rlp_write.specs.declared.open_lists.Placeholder.{Placeholder}
 use Rattle.rlp_write.specs.Streams.Stream.{OpenList, AwaitsSome, is_last}
 
@@ -16,7 +16,7 @@ lists_of start b (p ∷ ps) = record { awaits = p.awaits; outer = drop (begin_of
 -- there is a byte 0 in the place of the list's header, and the list awaits an item if it is bounded
 pub record Placed (b : List ℕ) (p : Placeholder) : Type 0 where
   pub within : p.position < length b
-  pub placeholder : b ≡ take p.position b ++ (0 ∷ drop (p.position + 1) b)
+  pub placeholder : get_or b p.position 1 ≡ 0
   pub awaits_some : AwaitsSome p.awaits
 
 -- each list is within the bytes that are left of the one inside it, and all are behind the front

@@ -1,51 +1,35 @@
-use Rattle.std.proofs.Common.{◌≡◌, ◌+◌, ◌-◌, suc, arith}
-use Rattle.rlp_write.proofs.Streams.Closings.{closes_all, closes_more, closes_fits, closes_taken, moved_within, moved_more}
+use Rattle.std.proofs.Common.{◌≡◌, ◌+◌, ◌-◌, [], suc, take, arith}
+use Rattle.rlp_write.specs.Streams.Closing.{closed_bytes}
+use Rattle.rlp_write.proofs.Streams.Closings.{Brings, brings, closes_all, closes_more}
 use Rattle.rlp_write.proofs.closing.close_lists.Goals as goal
+use Rattle.rlp_write.proofs.closing.close_lists.Goals.{After-shift}
+
+moved : (c : After-shift)
+    → Brings (closed_bytes c.args.closing (take c.args.end c.args.buffer.now.items) [] c.args.lists.now) (c.loop-left.left - 1) c.shift.new.self.items
+    c.in-Some.list.position (c.loop-left.to - (c.loop-left.from - (c.in-Some.list.position + 1))) c.pop.new.self
+moved c =
+    let next : c.loop-left.left ≡ suc (c.loop-left.left - 1) = omega arith in
+    let h = rw (c.in-Some.ensures, next) at c.loop-left.invariant.closes in
+    let order = h.order in
+    brings _ _ _ _ _ _ _ (c.loop-left.from - (c.in-Some.list.position + 1)) _ _ h (omega (arith, order.0)) (omega (arith, h.room)) c.shift.ensures.items
 
 pub write_list_header-to-requires-clause-room : goal.write_list_header-to-requires-clause-room
 write_list_header-to-requires-clause-room c =
-    let next : c.loop-left.left ≡ suc (c.loop-left.left - 1) = omega arith in
-    let h = closes_taken _ _ (c.loop-left.left - 1) _ _ _ _ _ _ c.loop-left.invariant.closes c.in-Some.ensures next in
-    let order = h.order in
-    let len = c.loop-left.from - (c.in-Some.list.position + 1) in
-    let fits = closes_fits _ _ _ _ _ _ _ len (c.loop-left.to - len) c.shift.new.self.items h (omega (arith, order.0))
-    (omega (arith, h.room)) c.shift.ensures.items in
-    omega (arith, fits.0)
+    let h = moved (goal.at.write_list_header-to-requires-clause-room c).After-shift in
+    omega (arith, h.room)
 
 pub loop-left-preserved : goal.loop-left-preserved
 loop-left-preserved c =
     let next : c.loop-left.left ≡ suc (c.loop-left.left - 1) = omega arith in
-    let h = closes_taken _ _ (c.loop-left.left - 1) _ _ _ _ _ _ c.loop-left.invariant.closes c.in-Some.ensures next in
-    let order = h.order in
-    let len = c.loop-left.from - (c.in-Some.list.position + 1) in
-    let at = c.loop-left.to - len in
-    let is : len + (c.in-Some.list.position + 1) ≡ c.loop-left.from = omega (arith, order.0) in
-    let goes : at + len ≡ c.loop-left.to = omega (arith, h.room) in
-    let fits = closes_fits _ _ _ _ _ _ _ len at c.shift.new.self.items h is goes c.shift.ensures.items in
-    let low = c.write_list_header-to.result in
-    let closes = closes_more _ _ _ _ _ _ _ len at low c.shift.new.self.items c.write_list_header-to.new.self.items h is goes c.shift.ensures.items
-    c.write_list_header-to.ensures.begin c.write_list_header-to.ensures.items in
-    let shifted = c.shift.ensures in
+    let now = rw (c.in-Some.ensures, next) at c.loop-left.invariant in
+    let order = now.closes.order in
+    let written = c.write_list_header-to.ensures in
     record {
-      closes = closes;
-      rest = rw (c.in-Some.ensures, next) at c.loop-left.invariant.rest;
-      lowest = rw (c.in-Some.ensures, next) at c.loop-left.invariant.lowest;
-      counted = omega (
-        arith,
-        c.loop-left.invariant.counted,
-        c.write_list_header-to.ensures.moved,
-        moved_more (c.in-Some.list.position + 1) at len c.loop-left.buffer.moved c.shift.new.self.moved
-            (omega (arith, h.room)) shifted.counted shifted.in_place,
-      );
-      moved = omega (
-        arith,
-        h.room,
-        order.0,
-        c.loop-left.invariant.moved,
-        c.write_list_header-to.ensures.moved,
-        moved_within (c.in-Some.list.position + 1) at len c.loop-left.buffer.moved c.shift.new.self.moved
-            (omega (arith, h.room)) shifted.counted shifted.in_place,
-      );
+      closes = closes_more _ _ _ _ _ _ _ _ (moved (goal.at.loop-left-preserved c).After-shift) written.begin written.items;
+      rest = now.rest;
+      lowest = now.lowest;
+      counted = grind (arith, now.closes.room, now.counted, written.moved, c.shift.ensures.counted, c.shift.ensures.in_place);
+      moved = grind (arith, now.closes.room, order.0, now.moved, written.moved, c.shift.ensures.counted, c.shift.ensures.in_place);
     }
 
 pub returns-after-loop-left-clause-bytes : goal.returns-after-loop-left-clause-bytes

@@ -1,5 +1,4 @@
-use Rattle.std.proofs.Common.{◌++◌, map, take, ap, sym, ◌∙◌, append_assoc, arith}
-use Rattle.std.proofs.lemmas.Grind.{common_steps}
+use Rattle.std.proofs.Common.{◌++◌, map, take, ap, sym, ◌∙◌, append_assoc}
 use Rattle.rlp_format.specs.Format.Encoding.{encoding, join}
 use Rattle.rlp_write.proofs.Streams.Filling.{all_more}
 use Rattle.rlp_write.proofs.Streams.Joined.{put_alone, joined_more}
@@ -22,9 +21,3 @@ loop-value-preserved g c =
           ∙ append_assoc old (join (map item (take i values))) (encoding (item x)) ∙ ap (λ b. old ++ b) (sym more);
       finished = put.finished;
     }
-
-pub returns-clause-fits : goal.returns-clause-fits
-returns-clause-fits g c = grind (arith, common_steps)
-
-pub returns-clause-top : goal.returns-clause-top
-returns-clause-top g c = grind (arith, common_steps)

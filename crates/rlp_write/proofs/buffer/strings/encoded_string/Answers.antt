@@ -1,5 +1,5 @@
-use Rattle.std.proofs.Common.{◌++◌, sym, ap, ◌∙◌}
-use Rattle.rlp_write.proofs.Streams.Written.{encoding_low, encoding_other}
+use Rattle.std.proofs.Common.{[], sym, ◌∙◌}
+use Rattle.rlp_write.proofs.Streams.Written.{encoding_low, string_written}
 use Rattle.rlp_write.proofs.buffer.strings.encoded_string.Goals as goal
 
 pub returns-then-is_low_byte : goal.returns-then-is_low_byte
@@ -9,8 +9,7 @@ returns-then-is_low_byte c =
 
 pub returns : goal.returns
 returns c =
-    let value = c.args.value.now in
-    let header = c.in_ok-extend_from_slice.ensures.items ∙ ap (λ b. b ++ c.as_slice-2.result.now) c.in_ok-bytes.ensures.items
-    ∙ c.as_slice-2.ensures ∙ c.written_header-header.ensures in
-    c.from_vec-2.ensures ∙ c.in_ok-extend_from_slice-2.ensures.items ∙ ap (λ b. b ++ value) header
-    ∙ sym (encoding_other value (sym c.is_low_byte.ensures ∙ c.if-is_low_byte.false))
+    c.from_vec-2.ensures
+    ∙ string_written [] c.args.value.now c.as_slice-2.result.now (sym c.is_low_byte.ensures ∙ c.if-is_low_byte.false)
+    (c.as_slice-2.ensures ∙ c.written_header-header.ensures) c.in_ok-bytes.ensures.items c.in_ok-extend_from_slice.ensures.items
+    c.in_ok-extend_from_slice-2.ensures.items

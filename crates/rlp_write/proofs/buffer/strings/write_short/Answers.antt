@@ -1,6 +1,6 @@
-use Rattle.std.proofs.Common.{rules, ◌+◌, ◌++◌, ◌∷◌, [], length, sym, ap, ◌∙◌}
+use Rattle.std.proofs.Common.{rules, ◌+◌, ◌∷◌, [], length, sym}
 use Rattle.rlp_format.specs.Lemmas.Headers.{written_header_short}
-use Rattle.rlp_write.proofs.Streams.Written.{encoding_length, header_and_string}
+use Rattle.rlp_write.proofs.Streams.Written.{encoding_length, string_written}
 use Rattle.rlp_write.proofs.buffer.strings.write_short.Goals as goal
 
 pub returns-in_err-reserve-clause-room : goal.returns-in_err-reserve-clause-room
@@ -12,9 +12,5 @@ returns-in_err-reserve-clause-room c =
 
 pub returns-clause-ok : goal.returns-clause-ok
 returns-clause-ok c =
-    let value = c.args.value.now in
-    let old = c.args.buffer.now.items in
-    let header = sym (written_header_short 0x80 (length value) c.requires.short) in
-    c.extend_reserved-2.ensures.items
-    ∙ ap (λ b. b ++ value) (c.extend_reserved.ensures.items ∙ ap (λ b. b ++ (0x80 + length value) ∷ []) c.in_ok-reserve.ensures.items
-    ∙ ap (λ h. old ++ h) header) ∙ header_and_string old value c.requires.headed
+    string_written c.args.buffer.now.items c.args.value.now _ c.requires.headed (sym (written_header_short 0x80 (length c.args.value.now) c.requires.short))
+    c.in_ok-reserve.ensures.items c.extend_reserved.ensures.items c.extend_reserved-2.ensures.items

@@ -1,10 +1,8 @@
-use Rattle.std.proofs.Common.{◌≡◌, ℕ, List, [], ◌∷◌, Option, length, refl, ap, sym, ◌∙◌}
+use Rattle.std.proofs.Common.{◌≡◌, ℕ, List, [], ◌∷◌, length, refl, ap, sym, ◌∙◌}
 use Rattle.rlp_write.specs.declared.open_lists.Placeholder.{Placeholder}
-use Rattle.rlp_write.specs.declared.flat.Place.{Place}
-use Rattle.rlp_write.specs.Streams.Stream.{awaited, Seen, raw_text}
+use Rattle.rlp_write.specs.Streams.Stream.{awaited, Seen}
 use Rattle.rlp_write.specs.Streams.Places.{place_of}
 use Rattle.rlp_write.specs.Streams.Placeholders.{innermost_awaits, lists_of}
-use Rattle.rlp_write.specs.Streams.Layout.{state_of}
 use Rattle.rlp_write.proofs.Streams.FlatBuffer.{raw_state, length-lists_of}
 use Rattle.rlp_write.proofs.flat.RlpStream.place.Goals as goal
 
@@ -15,11 +13,7 @@ innermost_awaited start b (p ∷ ps) = refl
 pub returns-clause-is : goal.returns-clause-is
 returns-clause-is c =
     let i = c.self.inside in
-    let place : ℕ → ℕ → Option ℕ → Place = λ len open_count awaits. record { len = len; open_count = open_count; awaits = awaits; is_counted = i.is_counted } in
     let len = c.len.ensures.value ∙ ap length (raw_state i.start i.buffer.items i.lists i.is_counted c.self.invariant) in
     let number = c.len-2.ensures.value ∙ sym (length-lists_of i.start i.buffer.items i.lists) in
     let awaits = c.innermost_awaits.ensures ∙ innermost_awaited i.start i.buffer.items i.lists in
-    let s = state_of i.start i.buffer.items i.lists i.is_counted in
-    ap (λ n. place n c.len-2.result c.innermost_awaits.result) len
-    ∙ ap (λ n. place (length (raw_text s)) n c.innermost_awaits.result) number
-    ∙ ap (place (length (raw_text s)) (length s.stack.lists)) awaits ∙ ap (λ (v : Seen). place_of v.state) c.self.view_is
+    rw (len, number, awaits) (ap (λ (v : Seen). place_of v.state) c.self.view_is)

@@ -1,5 +1,3 @@
-use Rattle.std.proofs.Common.{arith}
-use Rattle.std.proofs.lemmas.Grind.{common_steps}
 use Rattle.rlp_write.proofs.Streams.Fields.{counted_both}
 use Rattle.rlp_write.proofs.structs.Tuple2AppendFields.field_count.Goals as goal
 
@@ -7,9 +5,3 @@ pub returns : goal.returns
 returns g c =
     counted_both (g.P.AppendFields.items c.args.self.now.0) (g.Q.AppendFields.items c.args.self.now.1) _ _ _ c.in_ok-first.ensures c.in_ok-others.ensures
     c.checked_add.ensures
-
-pub returns-in_err-first : goal.returns-in_err-first
-returns-in_err-first g c = grind (arith, common_steps)
-
-pub returns-in_err-others : goal.returns-in_err-others
-returns-in_err-others g c = grind (arith, common_steps)

@@ -1,12 +1,6 @@
-use Rattle.std.proofs.Common.{◌≡◌, ◌≤◌, take, map}
-use Rattle.std.specs.List.{All}
-use Rattle.rlp_write.specs.Streams.Stream.{add_all}
+use Rattle.std.proofs.Common.{[], ◌∷◌}
+use Rattle.rlp_write.proofs.Streams.Fields.{Appended}
 use Rattle.rlp_write.proofs.structs.slices.EachAppendFields.append_fields.Given as goal
 
 abbrev pub invariant-loop-value : goal.invariant-loop-value
-invariant-loop-value g l =
-    record {
-      state : l.s.state ≡ add_all (map g.T.Encodable.item (take l.value-index l.values)) l.fn.s.state;
-      moved : l.fn.s.moved ≤ l.s.moved;
-      fits : All g.T.Encodable.fits (take l.value-index l.values);
-    }
+invariant-loop-value g l = Appended (λ v. g.T.Encodable.item v ∷ []) g.T.Encodable.fits l.values l.value-index l.fn.s l.s
