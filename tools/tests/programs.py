@@ -42,7 +42,7 @@ class NotBuilt(StandIn):
     def test_line_of_errors(self):
         self.answer(b"", ENDED % 0)
         ran = self.run_script("./rlp_tool")
-        self.assertRegex(ran.stderr.decode(), r"^rlp_tool: .*not proved.*; tools/build rlp_tool proves and builds it in about \d+ minutes\n$")
+        self.assertRegex(ran.stderr.decode(), r"^rlp_tool: .*not proved.*; tools/build rlp_tool proves and builds the program, in about \d+ minutes\n$")
 
     def test_errors_of_the_program(self):
         for errors in (b"usage: run=ended status=1\nchecked: mine\n", b"interpreter: ended status=1\nmore\n"):
@@ -59,8 +59,8 @@ class NotBuilt(StandIn):
 
     def test_input(self):
         for given in (b"", b"c0", b"c0\n" * 500_000):
-            for script in ("rlp_tool", "rlp_show"):
-                self.run_script(f"./{script}", input=given)
+            for words in (["./rlp_tool"], ["./rlp_tool", "--help"], ["./rlp_show"], ["./rlp_show", "--json"], ["./rlp_show", "--json", "block"]):
+                self.run_script(*words, input=given)
                 self.assertEqual((self.notes / "input").read_bytes(), given)
 
     def test_input_that_is_slow(self):
@@ -74,7 +74,7 @@ class NotBuilt(StandIn):
 
     def test_input_that_is_not_read(self):
         reads, writes = os.pipe()
-        for words in (["--help"], ["-V"], ["0xc0"], ["block", "0xc0"], ["--json", "enr:-I"]):
+        for words in (["--help"], ["-V"], ["0xc0"], ["block", "0xc0"], ["--json", "enr:-I"], ["block", "header"]):
             self.assertEqual(self.run_script("./rlp_show", *words, stdin=reads).returncode, 0)
         os.close(writes)
         os.close(reads)
