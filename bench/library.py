@@ -2,7 +2,8 @@
 
 usage: library.py PROGRAM [--against PROGRAM [--called NAME]] [--instructions] [--write FILE] [WORD..]
 
-With a WORD it runs the operations whose names hold one. `--write` writes what `page.py` makes a table of.
+With a WORD it runs the operations whose names hold one. `--write` writes what `page.py` makes a table of. An operation whose results have
+another sum in the other program isn't measured, and then nothing is written and the status is 1.
 """
 
 import argparse
@@ -18,6 +19,8 @@ RUNS = 5
 SECONDS = 0.3
 # what the other program is called, if nothing else is said
 RUST = "Rust crate"
+# how often an operation is run for the sum of its results, which both programs must print
+TURNS = 1000
 # operations, by what one of them reads or writes
 OPERATIONS = {
     "encode_small_number": "the encoding of a number below 128",
@@ -37,7 +40,9 @@ OPERATIONS = {
     "decode_text_of_32": "decode text of 32 bytes",
     "decode_text_of_1000": "decode text of 1,000 bytes",
     "decode_list": "decode_list of 1,000 numbers",
+    "as_list": "as_list of 1,000 numbers",
     "decode_transaction": "decode a transaction of nine fields, typed",
+    "decode_transaction_strictly": "decode a transaction of nine fields, typed and strictly",
     "transaction_by_iter": "nine fields by iter",
     "transaction_by_at": "nine fields by at(0) to at(8)",
     "transaction_by_fields": "nine fields by Fields",
@@ -59,15 +64,15 @@ OPERATIONS = {
 
 
 def summed(program, operation, times):
-    """Runs an operation, and returns whether the program has it."""
+    """Runs an operation, and returns the sum of its results, or `None` if the program doesn't have it."""
     out = subprocess.run([program, operation, str(times)], capture_output=True, text=True, check=True).stdout.strip()
-    return out.isdigit()
+    return int(out) if out.isdigit() else None
 
 
 def seconds(program, operation, times):
     """The processor time of one run."""
     before = resource.getrusage(resource.RUSAGE_CHILDREN)
-    if not summed(program, operation, times):
+    if summed(program, operation, times) is None:
         raise SystemExit(f"{program} doesn't run {operation}")
     after = resource.getrusage(resource.RUSAGE_CHILDREN)
     return after.ru_utime + after.ru_stime - before.ru_utime - before.ru_stime
@@ -129,7 +134,7 @@ def words():
 
 
 def main():
-    given, rows = words(), []
+    given, rows, unequal = words(), [], []
     if given.write and not given.against:
         raise SystemExit("--write needs another program")
     programs = [given.program] + ([given.against] if given.against else [])
@@ -139,13 +144,20 @@ def main():
         if given.words and not any(word in operation for word in given.words):
             continue
         # The Rust crate has fewer operations.
-        some = [program for program in programs if summed(program, operation, 1)]
+        sums = {program: summed(program, operation, TURNS) for program in programs}
+        some = [program for program in programs if sums[program] is not None]
+        if len({sums[program] for program in some}) > 1:
+            unequal.append(what)
+            print(f"{what:50} refused: the sums of the results are {' and '.join(str(sums[program]) for program in some)}", flush=True)
+            continue
         medians, least = nanoseconds(some, operation)
         counts = instructions(some, operation) if given.instructions else []
         ratio = f"{medians[0] / medians[1]:8.2f}" if len(some) > 1 else ""
         told = "; instructions" + "".join(f" {count:,.1f}" for count in counts) if counts else ""
         print(f"{what:50}" + "".join(f"{median:13.1f} {low:13.1f}" for median, low in zip(medians, least)) + ratio + told, flush=True)
         rows.append((what, medians, counts))
+    if unequal:
+        raise SystemExit(f"the sums of the results differ: {', '.join(unequal)}; nothing was written")
     if given.write:
         write(given.write, rows, given.called)
 

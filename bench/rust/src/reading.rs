@@ -1,7 +1,7 @@
 //! Operations that read.
 
 use crate::inputs::{Inputs, Transaction};
-use rlp::{Decodable, DecoderError, Rlp};
+use rlp::{DecoderError, Rlp};
 
 /// Runs an operation that reads, and returns the sum of the lengths or numbers that it read.
 pub fn run(inputs: &Inputs, operation: &str, times: usize) -> Option<usize> {
@@ -12,13 +12,14 @@ pub fn run(inputs: &Inputs, operation: &str, times: usize) -> Option<usize> {
         "decode_1000_bytes" => summed(&inputs.long_string, times, |rlp| Ok(rlp.as_val::<Vec<u8>>()?.len())),
         "decode_text_of_32" => summed(&inputs.short_string, times, |rlp| Ok(rlp.as_val::<String>()?.len())),
         "decode_text_of_1000" => summed(&inputs.long_string, times, |rlp| Ok(rlp.as_val::<String>()?.len())),
-        "decode_list" => summed(&inputs.list, times, |rlp| Ok(rlp.as_list::<u64>()?.len())),
+        "decode_list" => summed(&inputs.list, times, |rlp| Ok(rlp::decode_list::<u64>(rlp.as_raw()).len())),
+        "as_list" => summed(&inputs.list, times, |rlp| Ok(rlp.as_list::<u64>()?.len())),
         "decode_transaction" => summed(&inputs.transaction_bytes, times, |rlp| Ok(rlp.as_val::<Transaction>()?.gas_limit as usize)),
         "transaction_by_iter" => summed(&inputs.transaction_bytes, times, by_iter),
         "transaction_by_at" => summed(&inputs.transaction_bytes, times, |rlp| by_at(rlp, 9)),
         "branch_by_iter" => summed(&inputs.branch, times, by_iter),
         "branch_by_at" => summed(&inputs.branch, times, |rlp| by_at(rlp, 17)),
-        "branch_by_val_at" => summed(&inputs.branch, times, |rlp| by_val_at::<Vec<u8>>(rlp, 17)),
+        "branch_by_val_at" => summed(&inputs.branch, times, |rlp| by_val_at(rlp, 17)),
         "hashes_by_at" => summed(&inputs.hashes, times, |rlp| by_at(rlp, 200)),
         "item_count_of_1000" => summed(&inputs.list, times, |rlp| rlp.item_count()),
         "item_count_of_9" => summed(&inputs.transaction_bytes, times, |rlp| rlp.item_count()),
@@ -35,8 +36,9 @@ pub fn run(inputs: &Inputs, operation: &str, times: usize) -> Option<usize> {
 /// Reads a view of one of the two encodings in the bytes many times. Each turn takes the other one.
 fn summed(bytes: &[u8], times: usize, read: impl Fn(&Rlp) -> Result<usize, DecoderError>) -> Option<usize> {
     let mut sum: usize = 0;
+    let encodings = bytes.split_at(bytes.len() / 2);
     for turn in 0..times {
-        let view = Rlp::new(&bytes[turn % 2 * (bytes.len() / 2)..]);
+        let view = Rlp::new(if turn % 2 == 0 { encodings.0 } else { encodings.1 });
         sum = sum.wrapping_add(read(&view).ok()?);
     }
     Some(sum)
@@ -62,11 +64,12 @@ fn by_at(rlp: &Rlp, count: usize) -> Result<usize, DecoderError> {
     Ok(sum)
 }
 
-fn by_val_at<T: Decodable>(rlp: &Rlp, count: usize) -> Result<usize, DecoderError> {
+fn by_val_at(rlp: &Rlp, count: usize) -> Result<usize, DecoderError> {
+    let mut sum: usize = 0;
     for index in 0..count {
-        rlp.val_at::<T>(index)?;
+        sum = sum.wrapping_add(rlp.val_at::<Vec<u8>>(index)?.len());
     }
-    Ok(count)
+    Ok(sum)
 }
 
 fn kinds(rlp: &Rlp) -> Result<usize, DecoderError> {

@@ -2,7 +2,7 @@
 
 use crate::inputs::Inputs;
 use keccak::keccak256;
-use rlp::{Decodable, Rlp, decode, decode_list};
+use rlp::{Rlp, decode, decode_list, decode_strict};
 use rlp_transactions::SignedLegacyTransaction;
 use std::alloc::Global;
 
@@ -16,14 +16,16 @@ pub(crate) fn run(alloc: Global, inputs: &Inputs, operation: &str, times: usize)
         "decode_text_of_32" => decode_text(alloc, inputs.short_string.as_slice(), times),
         "decode_text_of_1000" => decode_text(alloc, inputs.long_string.as_slice(), times),
         "decode_list" => decode_numbers(alloc, inputs.list.as_slice(), times),
+        "as_list" => as_numbers(alloc, inputs.list.as_slice(), times),
         "decode_transaction" => decode_transaction(alloc, inputs, times),
+        "decode_transaction_strictly" => decode_transaction_strictly(alloc, inputs, times),
         "transaction_by_iter" => by_iter(inputs.transaction_bytes.as_slice(), times),
         "transaction_by_at" => by_at(inputs.transaction_bytes.as_slice(), 9, times),
         "transaction_by_fields" => by_fields(inputs.transaction_bytes.as_slice(), 9, times),
         "branch_by_iter" => by_iter(inputs.branch.as_slice(), times),
         "branch_by_at" => by_at(inputs.branch.as_slice(), 17, times),
         "branch_by_fields" => by_fields(inputs.branch.as_slice(), 17, times),
-        "branch_by_val_at" => by_val_at::<Vec<u8>>(alloc, inputs.branch.as_slice(), 17, times),
+        "branch_by_val_at" => by_val_at(alloc, inputs.branch.as_slice(), 17, times),
         "hashes_by_at" => by_at(inputs.hashes.as_slice(), 200, times),
         "item_count_of_1000" => item_count(inputs.list.as_slice(), times),
         "item_count_of_9" => item_count(inputs.transaction_bytes.as_slice(), times),
@@ -41,10 +43,11 @@ pub(crate) fn run(alloc: Global, inputs: &Inputs, operation: &str, times: usize)
 /// Returns one of the two encodings in the bytes. Each turn takes the other one, so that a turn
 /// can't reuse the work of the turn before.
 fn turned(bytes: &[u8], turn: usize) -> Option<&[u8]> {
-    if turn % 2 == 0 {
-        return Some(bytes);
+    let half = bytes.len() / 2;
+    match turn % 2 {
+        0 => bytes.get(..half),
+        _ => bytes.get(half..),
     }
-    bytes.get(bytes.len() / 2..)
 }
 
 fn decode_number(alloc: Global, bytes: &[u8], times: usize) -> Option<usize> {
@@ -83,11 +86,30 @@ fn decode_numbers(alloc: Global, bytes: &[u8], times: usize) -> Option<usize> {
     Some(sum)
 }
 
+fn as_numbers(alloc: Global, bytes: &[u8], times: usize) -> Option<usize> {
+    let mut sum: usize = 0;
+    for turn in 0..times {
+        let list = Rlp::new(turned(bytes, turn)?);
+        sum = sum.wrapping_add(list.as_list::<u64>(alloc).ok()?.len());
+    }
+    Some(sum)
+}
+
 fn decode_transaction(alloc: Global, inputs: &Inputs, times: usize) -> Option<usize> {
     let mut sum: usize = 0;
     for turn in 0..times {
         let bytes = turned(inputs.transaction_bytes.as_slice(), turn)?;
         let transaction = decode::<SignedLegacyTransaction>(alloc, bytes).ok()?;
+        sum = sum.wrapping_add(transaction.payload.gas_limit as usize);
+    }
+    Some(sum)
+}
+
+fn decode_transaction_strictly(alloc: Global, inputs: &Inputs, times: usize) -> Option<usize> {
+    let mut sum: usize = 0;
+    for turn in 0..times {
+        let bytes = turned(inputs.transaction_bytes.as_slice(), turn)?;
+        let transaction = decode_strict::<SignedLegacyTransaction>(alloc, bytes).ok()?;
         sum = sum.wrapping_add(transaction.payload.gas_limit as usize);
     }
     Some(sum)
@@ -126,18 +148,12 @@ fn by_at(bytes: &[u8], count: usize, times: usize) -> Option<usize> {
     Some(sum)
 }
 
-fn by_val_at<T: Decodable>(
-    alloc: Global,
-    bytes: &[u8],
-    count: usize,
-    times: usize,
-) -> Option<usize> {
+fn by_val_at(alloc: Global, bytes: &[u8], count: usize, times: usize) -> Option<usize> {
     let mut sum: usize = 0;
     for turn in 0..times {
         let list = Rlp::new(turned(bytes, turn)?);
         for index in 0..count {
-            let _value = list.val_at::<T>(alloc, index).ok()?;
-            sum = sum.wrapping_add(1);
+            sum = sum.wrapping_add(list.val_at::<Vec<u8>>(alloc, index).ok()?.len());
         }
     }
     Some(sum)
