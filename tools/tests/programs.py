@@ -1,4 +1,4 @@
-"""Tests `rlp_tool` and `rlp_show`, and `tools/run`, which they call."""
+"""Tests `rlp_tool` and `rlp_show`, and `tools/run` and `tools/unproved`, which they call."""
 
 import os
 import pathlib
@@ -107,7 +107,7 @@ class NotBuilt(StandIn):
     def test_no_rt(self):
         (self.folder / "bin" / "rt").unlink()
         (self.folder / "bin" / "python3").symlink_to(shutil.which("python3"))
-        for name in ("sh", "env", "dirname", "realpath"):
+        for name in ("sh", "env", "dirname", "find", "realpath"):
             (self.folder / "bin" / name).symlink_to(shutil.which(name))
         self.variables["PATH"] = str(self.folder / "bin")
         self.assertIn("no command rt", self.fails("./rlp_tool"))
@@ -120,8 +120,8 @@ class NotBuilt(StandIn):
         self.assertEqual((ran.stdout, ran.returncode), (b"one\n", 0))
 
     def test_usage(self):
-        self.assertIn("usage: tools/run", self.fails("tools/run"))
-        self.assertIn("usage: tools/run", self.fails("tools/run", "low"))
+        for words in (["tools/run"], ["tools/run", "low"], ["tools/unproved"]):
+            self.assertIn("usage: tools/unproved", self.fails(*words))
 
 
 class Built(StandIn):

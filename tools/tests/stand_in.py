@@ -53,6 +53,7 @@ class StandIn(Scratch):
         for name in ("rlp_tool_main", "rlp_show_main"):
             self.write(f"crates/{name}/src/main.rt")
         shutil.copytree(ROOT / "bench", self.folder / "bench", ignore=shutil.ignore_patterns("rust"))
+        self.write("crates/low/specs/Lib.antt")
         self.notes = self.folder / "notes"
         self.write("bin/rt", RT, 0o755)
         self.write("notes/program", PROGRAM, 0o755)
