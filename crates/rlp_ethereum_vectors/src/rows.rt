@@ -8,13 +8,14 @@ use std::alloc::{AllocError, Global};
 use std::test::Fail;
 
 /// The tables.
-const TABLES: [&str; 8] = [
+const TABLES: [&str; 9] = [
     records::ROWS,
     by_name::ROWS,
     signing::ROWS,
     unsigned::ROWS,
     hashes::ROWS,
     bounded::ROWS,
+    bounded::WITHOUT_MEMORY,
     nodes::ROWS,
     node_records::ROWS,
 ];

@@ -2,3 +2,4 @@ pub mod AfterByte
 pub mod Alone
 pub mod Bounds
 mod Faults
+pub mod Scanning

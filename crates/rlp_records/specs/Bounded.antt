@@ -1,10 +1,14 @@
 -- Bounds on what is read from strangers.
-use Rattle.std.specs.Prelude.{ℕ, ◌≡◌, ◌≤◌, ◌<◌, List, Some, length, codes}
+use Rattle.std.specs.Prelude.{ℕ, ◌≡◌, ◌+◌, ◌≤◌, ◌<◌, ◌&&◌, nat_le, if◌then◌else◌, Bool, List, [], ◌∷◌, Option, Some, None, length, codes}
+use Rattle.std.specs.Str.{bytes_eq}
 use Rattle.rlp.specs.DecoderError.{DecoderError}
-use Rattle.rlp.specs.Format.Item.{Item, item_depth}
+use Rattle.rlp.specs.Format.Item.{Item, Items, item_and, item_depth, list, no_items, string}
 use Rattle.rlp.specs.Format.Encoding.{encoding}
 use Rattle.rlp.specs.Format.Flat.{flat}
+use Rattle.rlp.specs.Format.Split.{begins_as_list}
+use Rattle.rlp.specs.Format.Strict.{strict_fault}
 use Rattle.rlp.specs.Format.TreeFaults.{tree_fault}
+use Rattle.rlp.specs.Values.RawItem.{raw_item_of}
 use Rattle.rlp.specs.Values.ValueReading.{IsCustom}
 use Rattle.rlp_values.specs.declared.flat.TreeFault.TheVariants.{Decoding, TooDeep}
 
@@ -12,15 +16,58 @@ use Rattle.rlp_values.specs.declared.flat.TreeFault.TheVariants.{Decoding, TooDe
 abbrev pub items_in : Item → ℕ
 items_in x = length (flat x)
 
--- the item has at most this number of items, and its lists nest at most 256 deep
+-- ---- envelopes
+
+-- whether a byte is the type of a transaction or a receipt that is read: 1 to 4, as in EIP-2930, EIP-1559, EIP-4844 and EIP-7702
+abbrev pub is_read_type : ℕ → Bool
+is_read_type kind = nat_le 1 kind && nat_le kind 4
+
+-- whether bytes are the encoding of an item whose lists nest at most 256 deep
+abbrev pub is_encoding : List ℕ → Bool
+is_encoding b = bytes_eq (encoding (raw_item_of b)) b
+
+-- what is counted of bytes that begin as a list and have this strict fault: a list with its header is counted as its number of bytes, and nothing of other bytes
+abbrev pub bytes_counted : List ℕ → Option DecoderError → ℕ
+bytes_counted b None = length b
+bytes_counted b (Some e) = 0
+
+-- What is counted of the payload of an envelope. A list counts as the number of the items in it, with itself. A list that isn't an encoding, or in which lists
+-- nest deeper than 256, counts as many items as it has bytes, since reading it ends with a fault after fewer. Other payloads have a fault at once, and count nothing.
+abbrev pub payload_items : List ℕ → ℕ
+payload_items payload =
+    if begins_as_list payload then (if is_encoding payload then items_in (raw_item_of payload) else bytes_counted payload (strict_fault payload))
+    else 0
+
+-- what is counted of a string besides itself: the payload, if the string is an envelope of a type that is read
+abbrev pub items_in_string : List ℕ → ℕ
+items_in_string [] = 0
+items_in_string (kind ∷ payload) = if is_read_type kind then payload_items payload else 0
+
+-- what is counted of the strings in an item besides themselves
+abbrev mutual
+  pub items_in_envelopes : Item → ℕ
+  items_in_envelopes (string d) = items_in_string d
+  items_in_envelopes (list xs) = items_in_all_envelopes xs
+
+  pub items_in_all_envelopes : Items → ℕ
+  items_in_all_envelopes no_items = 0
+  items_in_all_envelopes (item_and x xs) = items_in_envelopes x + items_in_all_envelopes xs
+
+-- ---- the bounds
+
+-- the item and its envelopes have at most this number of items, and its lists nest at most 256 deep
 abbrev pub IsBounded : ℕ → Item → Type 0
-IsBounded most x = (items_in x ≤ most) × (item_depth x ≤ 256)
+IsBounded most x = (items_in x + items_in_envelopes x ≤ most) × (item_depth x ≤ 256)
+
+-- the bytes are the encoding of an item within the bounds
+pub record IsWithinBounds (most : ℕ) (b : List ℕ) : Type 0 where
+  pub x : Item
+  pub is : b ≡ encoding x
+  pub bounded : IsBounded most x
 
 -- Why bytes are refused before a value is read: they are the encoding of an item with more items, or lists nest too deep, or they aren't the encoding of an
 -- item, and the fault is the first in the order of the bytes.
 pub data IsBoundFault (most : ℕ) (b : List ℕ) (e : DecoderError) : Type 0 where
-  too_many : (x : Item) → b ≡ encoding x → most < items_in x → IsCustom (codes "too many items") e → IsBoundFault most b e
+  too_many : (x : Item) → b ≡ encoding x → most < items_in x + items_in_envelopes x → IsCustom (codes "too many items") e → IsBoundFault most b e
   too_deep : tree_fault 256 b ≡ Some TooDeep → IsCustom (codes "nested too deep") e → IsBoundFault most b e
   no_item : tree_fault 256 b ≡ Some (Decoding e) → IsBoundFault most b e
-
-pub ruleset bound_faults = (too_many, too_deep, no_item)

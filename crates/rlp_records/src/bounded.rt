@@ -1,25 +1,27 @@
 //! Reading with a bound on the number of items, for bytes of strangers.
 
-ghost use Rattle.std.specs.Prelude.{◌≡◌, ◌⊎◌, IfErr, IfOk};
+ghost use Rattle.std.specs.Prelude.{◌≡◌, ◌⊎◌, IfErr, IfOk, MatchResult};
 ghost use Rattle.rlp.specs.DecoderError.TheVariants.{OutOfMemory};
 ghost use Rattle.rlp.specs.Format.Encoding.{encoding};
 ghost use Rattle.rlp.specs.Format.WrittenHeader.{AreBytes};
 ghost use Rattle.rlp.specs.Values.Value.{AreAlike};
 ghost use Rattle.rlp.specs.Views.View.{strict_view_of};
-ghost use Rattle.rlp_records.specs.Bounded.{IsBounded, IsBoundFault};
+ghost use Rattle.rlp_records.specs.Bounded.{IsBounded, IsBoundFault, IsWithinBounds};
 
 use crate::Record;
+use crate::envelope_items::{GREATEST_DEPTH, items_in_envelopes};
 use rlp::{DecoderError, FlatItem, TreeFault};
 use rlp_values::walking::walk_whole;
 use std::alloc::Global;
 
-/// How deep lists may nest in what [`decode_at_most`] reads.
-const GREATEST_DEPTH: usize = 256;
-
 /// The record whose whole encoding the bytes are, if it has at most `most` items. Each string and
-/// each list counts, at every depth, and the record itself. An envelope is one string.
+/// each list counts, at every depth, and the record itself.
 ///
-/// It goes over the bytes once before it reads the record, and takes no memory for bytes that this
+/// So do the items in each string that is an envelope: a byte from 1 to 4, the type of a transaction or
+/// a receipt, and a list. Any string of this form counts so, also the input of a call. If
+/// reading the list would fail, each of its bytes counts as an item.
+///
+/// It goes over the bytes before it reads the record, and takes no memory for bytes that this
 /// refuses. For the encoding of a record within the bounds it fails only if memory runs out.
 ///
 /// Fails with the first fault of the bytes if they aren't the encoding of an item, with
@@ -33,17 +35,37 @@ pub fn decode_at_most<R: Record>(
     ensures whole { IfOk result (λ w. R.fits w × (bytes.now ≡ encoding (R.item w))) }
     ensures bounded { IfOk result (λ w. IsBounded most (R.item w)) }
     ensures fault { IfErr result (λ e. IsBoundFault most bytes.now e
-        ⊎ ((AreBytes bytes.now × R.faults (strict_view_of bytes.now) e)
-        ⊎ ((e ≡ OutOfMemory) × R.may_lack_memory (strict_view_of bytes.now)))) }
+        ⊎ (IsWithinBounds most bytes.now
+        × ((AreBytes bytes.now × R.faults (strict_view_of bytes.now) e)
+        ⊎ ((e ≡ OutOfMemory) × R.may_lack_memory (strict_view_of bytes.now))))) }
     ensures alike { (v : R) → R.fits v → bytes.now ≡ encoding (R.item v)
         → IfOk result (λ w. R.fits w × AreAlike R.item w v) }
     ensures memory { (v : R) → R.fits v → IsBounded most (R.item v)
         → bytes.now ≡ encoding (R.item v) → IfErr result (λ e. e ≡ OutOfMemory) }
 {
-    match walk_whole::<FlatItem>(bytes, GREATEST_DEPTH, &mut []) {
-        Ok(count) if count <= most => rlp::decode_whole(alloc, bytes),
-        Ok(_) => Err(DecoderError::Custom("too many items")),
-        Err(TreeFault::Decoding(fault)) => Err(fault),
-        Err(TreeFault::TooDeep) => Err(DecoderError::Custom("nested too deep")),
+    match test_bounds(bytes, most) {
+        Ok(()) => rlp::decode_whole(alloc, bytes),
+        Err(fault) => Err(fault),
     }
+}
+
+/// Tests that the bytes are the encoding of an item within the bounds.
+#[tactic(auto, using(crate::proofs::Bounds::bounding))]
+fn test_bounds(bytes: &[u8], most: usize) -> Result<(), DecoderError>
+    ensures within { MatchResult result (λ _. IsWithinBounds most bytes.now)
+        (λ _. ¬ IsWithinBounds most bytes.now) }
+    ensures fault { IfErr result (λ e. IsBoundFault most bytes.now e) }
+{
+    let count = match walk_whole::<FlatItem>(bytes, GREATEST_DEPTH, &mut []) {
+        Ok(count) => count,
+        Err(TreeFault::Decoding(fault)) => return Err(fault),
+        Err(TreeFault::TooDeep) => return Err(DecoderError::Custom("nested too deep")),
+    };
+    if count > most {
+        return Err(DecoderError::Custom("too many items"));
+    }
+    if items_in_envelopes(bytes) > most - count {
+        return Err(DecoderError::Custom("too many items"));
+    }
+    Ok(())
 }

@@ -1,6 +1,6 @@
 //! What holds of each type with [`Record`]: its encoding is that of its item, strict reading gives a
 //! value exactly for its whole encoding, what is written is read back, and two values with equal
-//! encodings have the same fields.
+//! encodings have the same fields. [`Record`] says when fields are the same.
 
 ghost use Rattle.std.specs.Prelude.{◌≡◌, ◌↔◌, IfErr, IfOk, IsOkAnd, OnOk};
 ghost use Rattle.rlp.specs.DecoderError.TheVariants.{OutOfMemory};

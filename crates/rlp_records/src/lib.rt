@@ -4,6 +4,7 @@
 mod address;
 mod bounded;
 mod envelope;
+mod envelope_items;
 mod enveloped;
 mod hash;
 mod hashing;

@@ -8,9 +8,11 @@ use crate::{Address, Hash};
 use rlp::StrictRead;
 
 /// A record of Ethereum: a type whose values are written as items and read back, also strictly.
-/// The laws of [`crate::laws`] hold for each such type. Both members are those of its codec.
+/// The laws of [`crate::laws`] hold for each such type. An implementation takes both members from the
+/// codec of its type, whose `Same` goes by the fields.
 pub trait Record: StrictRead {
-    /// Each field of the two values is the same.
+    /// Each field of the two values is the same. For raw items and values in envelopes it says so only
+    /// if their encodings are shorter than 2^64 bytes.
     ghost same: { Self → Self → Type 0 };
 
     /// Values that fit and are written as the same item have the same fields.

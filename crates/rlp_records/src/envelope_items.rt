@@ -1,0 +1,77 @@
+//! How many items are in the envelopes in an item.
+
+ghost use Rattle.std.specs.Prelude.{◌≡◌, ◌≤◌, length};
+ghost use Rattle.rlp.specs.Format.Encoding.{encoding};
+ghost use Rattle.rlp.specs.Format.Item.{Item};
+ghost use Rattle.rlp.specs.Format.Strict.{IsCanonical};
+ghost use Rattle.rlp_records.specs.Bounded.{is_read_type, items_in_envelopes, items_in_string, payload_items};
+
+use crate::{ACCESS_LIST_TYPE, SET_CODE_TYPE};
+use rlp::FlatItem;
+use rlp_values::framed::{begins_as_list, first_framed, whole_framing};
+use rlp_values::walking::walk_whole;
+
+/// How deep lists may nest in an item, or in the payload of an envelope.
+pub(crate) const GREATEST_DEPTH: usize = 256;
+
+/// Returns how many items are in the envelopes in an item, whose encoding the bytes are. It goes over
+/// the bytes once, and over the payloads of envelopes once more.
+#[tactic(auto, using(crate::proofs::Scanning::scanning))]
+pub(crate) fn items_in_envelopes(bytes: &[u8]) -> usize
+    requires { IsCanonical bytes.now }
+    ensures { (x : Item) → bytes.now ≡ encoding x → result ≡ items_in_envelopes x }
+{
+    let mut rest = bytes;
+    let mut count = 0;
+    while let Ok((framed, others)) = first_framed(rest) {
+        if framed.is_list() {
+            rest = &rest[framed.header.header_len..];
+        } else {
+            count += items_in_string(framed.content);
+            rest = others;
+        }
+    }
+    count
+}
+
+/// Returns how many items are in a string, if it is an envelope.
+#[tactic(auto, using(crate::proofs::Scanning::strings_counted))]
+fn items_in_string(string: &[u8]) -> usize
+    ensures count { result ≡ items_in_string string.now }
+    ensures few { result ≤ length string.now }
+{
+    match string {
+        [kind, payload @ ..] => {
+            if is_read_type(*kind) {
+                return items_in_payload(payload);
+            }
+            0
+        }
+        [] => 0,
+    }
+}
+
+/// Returns whether a byte is the type of a transaction or a receipt that is read.
+fn is_read_type(kind: u8) -> bool
+    ensures { result ≡ is_read_type kind }
+{
+    ACCESS_LIST_TYPE <= kind && kind <= SET_CODE_TYPE
+}
+
+/// Returns how many items are in the payload of an envelope, or how many bytes it has if it is a list
+/// that isn't an encoding.
+fn items_in_payload(payload: &[u8]) -> usize
+    ensures count { result ≡ payload_items payload.now }
+    ensures few { result ≤ length payload.now }
+{
+    if !begins_as_list(payload) {
+        return 0;
+    }
+    if let Ok(count) = walk_whole::<FlatItem>(payload, GREATEST_DEPTH, &mut []) {
+        return count;
+    }
+    match whole_framing(payload) {
+        Ok(_) => payload.len(),
+        Err(_) => 0,
+    }
+}
