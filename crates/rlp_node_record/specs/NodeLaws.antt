@@ -92,7 +92,7 @@ record_sound v r fits is holds e (faulty_record b framed bad) =
     record_told b r e (let few : length b < 2 ^ 64 = omega (arith, is.short, ap length same) in few) is same bad
 
 -- node records that are written as one item have the same fields
-same_record : (r s : NodeFields) → IsNodeRecord r → IsNodeRecord s → node_fields.item r ≡ node_fields.item s → node_fields.Same r s
+pub same_record : (r s : NodeFields) → IsNodeRecord r → IsNodeRecord s → node_fields.item r ≡ node_fields.item s → node_fields.Same r s
 same_record r s is also same = node_fields.told r s is.fits also.fits same
 
 -- A node record, seen as its fields: the list of the fields. It is given exactly by its encoding, also by a lenient view. Two records agree if each field does.

@@ -7,7 +7,7 @@ pub fault_first : {R : Type 0} (r : Result R DecoderError) (P Q : DecoderError �
 fault_first (Ok w) P Q both = tt
 fault_first (Err e) P Q both = both.0
 
--- the second of two kinds of faults
-pub fault_second : {R : Type 0} (r : Result R DecoderError) (P Q : DecoderError → Type 0) → IfErr r Q → IfErr r (λ e. P e ⊎ Q e)
-fault_second (Ok w) P Q fault = tt
-fault_second (Err e) P Q fault = inr fault
+-- the second of two kinds of faults, for which something holds
+pub fault_within : {R : Type 0} (r : Result R DecoderError) (P Q : DecoderError → Type 0) (W : Type 0) → W → IfErr r Q → IfErr r (λ e. P e ⊎ (W × Q e))
+fault_within (Ok w) P Q W holds fault = tt
+fault_within (Err e) P Q W holds fault = inr (holds, fault)

@@ -38,7 +38,7 @@ place_sound v None fits is holds e (faulty_place b framed other bad) =
 place_sound v (Some c) fits is holds e (faulty_place b framed other bad) = child_sound v c fits is holds e (faulty_child b framed bad)
 
 -- places that are written as one item have the same child, or none
-same_place : (o p : Option Child) → IfSome o IsChild → IfSome p IsChild → place_item o ≡ place_item p → SameOption SameChild o p
+pub same_place : (o p : Option Child) → IfSome o IsChild → IfSome p IsChild → place_item o ≡ place_item p → SameOption SameChild o p
 same_place None None is also same = tt
 same_place None (Some d) is also same = absurd (child_some d also (sym same))
 same_place (Some c) None is also same = absurd (child_some c is same)

@@ -113,7 +113,7 @@ leaf_apart l e same =
     cc
 
 -- nodes that are written as one item are the same
-same_node : (n m : TrieNode) → IsTrieNode n → IsTrieNode m → node_item n ≡ node_item m → SameNode n m
+pub same_node : (n m : TrieNode) → IsTrieNode n → IsTrieNode m → node_item n ≡ node_item m → SameNode n m
 same_node node.Empty node.Empty fit other same = tt
 same_node node.Empty (node.Leaf m) fit other same = absurd (let no : ⊥ = cc in no)
 same_node node.Empty (node.Extension f) fit other same = absurd (let no : ⊥ = cc in no)
