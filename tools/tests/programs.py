@@ -85,13 +85,6 @@ class NotBuilt(StandIn):
         self.assertEqual((self.notes / "input").read_bytes(), b"c0\nc1\n")
 
     def test_no_answer(self):
-<<<<<<< HEAD
-        why = b"checked: no-answer: the run wrote more than 1048576 bytes\nrun=no-answer runners=0 races=unchecked proved=no\n"
-        self.answer(b"a part", why)
-        said = self.fails("./rlp_tool")
-        self.assertIn(why.decode(), said)
-        self.assertRegex(said, r"rlp_tool: no answer: .*1 MiB of output.*run tools/build rlp_tool first\n$")
-=======
         why = b"checked: no-answer: the program wrote more than 1048576 bytes to standard output or to standard error, the limit on each\nrun=no-answer proved=no\n"
         self.answer(b"a part", why)
         said = self.fails("./rlp_tool")
@@ -102,7 +95,6 @@ class NotBuilt(StandIn):
             self.answer(b"a part", why)
             said = self.fails("./rlp_tool").split("\n", 1)[1]
             self.assertEqual(said, why.decode() + "rlp_tool: no answer, since rt try failed; tools/build rlp_tool proves and builds the program\n")
->>>>>>> 0a42af720d52786969ed3cee5bc8e12d2f0ab19a
 
     def test_too_much_input(self):
         big = self.folder / "big"

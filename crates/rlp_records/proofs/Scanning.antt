@@ -1,24 +1,13 @@
 -- The scan of the encoding of an item for envelopes, header by header.
-<<<<<<< HEAD
-use Rattle.std.specs.Str.{bytes_eq}
-use Rattle.std.proofs.Common.{◌≡◌, ℕ, ◌+◌, ◌-◌, ◌^◌, ◌<◌, ◌≤◌, ◌⊎◌, inl, inr, ⊎_elim, Bool, true, false, if◌then◌else◌, List, [], ◌∷◌, ◌++◌, length, take, drop, get_or}
-use Rattle.std.proofs.Common.{refl, sym, ap, ◌∙◌, subst, arith, length-append, append_assoc, append-nil, take_at, drop_at, zero-add, Option, Some, None, Result, Ok, Err}
-=======
 use Rattle.std.proofs.Common.{◌≡◌, ℕ, ◌+◌, ◌-◌, ◌^◌, ◌<◌, ◌≤◌, ⊎_elim, Bool, true, false, if◌then◌else◌, List, [], ◌∷◌, ◌++◌, length, take, drop, get_or}
 use Rattle.std.proofs.Common.{refl, sym, ap, ◌∙◌, subst, arith, length-append, append_assoc, append-nil, take_at, drop_at, zero-add, Some, None, Ok, Err}
->>>>>>> 526d2929bf4ac77d4cf62a31981d4e1d33d734a4
 use Rattle.std.proofs.lemmas.Bool.{cond-false, cond-true}
 use Rattle.std.proofs.lemmas.Slice.Eq.{bytes_eq-Decides}
 use Rattle.rlp.specs.DecoderError.{DecoderError}
 use Rattle.rlp.specs.FlatItem.{FlatItem}
 use Rattle.rlp.specs.PayloadInfo.{PayloadInfo}
-<<<<<<< HEAD
-use Rattle.rlp.specs.Format.Item.{Item, Items, is_list, item_and, list, listed, no_items, string}
-use Rattle.rlp.specs.Format.Encoding.{IsSized, encoding, join, join_items, string_encoding}
-=======
 use Rattle.rlp.specs.Format.Item.{Item, Items, item_and, list, listed, no_items, string}
 use Rattle.rlp.specs.Format.Encoding.{IsSized, encoding, join, join_items}
->>>>>>> 526d2929bf4ac77d4cf62a31981d4e1d33d734a4
 use Rattle.rlp.specs.Format.WrittenHeader.{written_header}
 use Rattle.rlp.specs.Format.Framing.{IsFramedItem, frame, framing, total_len, value}
 use Rattle.rlp.specs.Format.Header.{HasHeader, lone, payload_info, written}
@@ -85,25 +74,11 @@ pub none_in_string : (d payload : List ℕ) (kind : ℕ) → d ≡ kind ∷ payl
 none_in_string d payload kind is other = sym (cond-false (is_read_type kind) (payload_items payload) 0 other) ∙ sym (ap items_in_string is)
 
 -- the same by the first byte and the others
-<<<<<<< HEAD
-front_counted : (d : List ℕ) (n : ℕ) → 1 ≤ length d → is_read_type (get_or d 0 0) ≡ true → n ≡ payload_items (take (length d - 1) (drop 1 d))
-=======
 pub front_counted : (d : List ℕ) (n : ℕ) → 1 ≤ length d → is_read_type (get_or d 0 0) ≡ true → n ≡ payload_items (take (length d - 1) (drop 1 d))
->>>>>>> 526d2929bf4ac77d4cf62a31981d4e1d33d734a4
     → n ≡ items_in_string d
 front_counted d n some known counted =
     payload_in_string d (take (length d - 1) (drop 1 d)) (get_or d 0 0) n (with_first (get_or d 0 0) d some refl) known counted
 
-<<<<<<< HEAD
-front_other : (d : List ℕ) → 1 ≤ length d → is_read_type (get_or d 0 0) ≡ false → 0 ≡ items_in_string d
-front_other d some other = none_in_string d (take (length d - 1) (drop 1 d)) (get_or d 0 0) (with_first (get_or d 0 0) d some refl) other
-
-none_in_empty : (d : List ℕ) → length d ≡ 0 → 0 ≡ items_in_string d
-none_in_empty [] none = refl
-none_in_empty (byte ∷ d) none = absurd (omega (arith, none))
-
-few_in_string : (d : List ℕ) (n : ℕ) → 1 ≤ length d → n ≤ length (take (length d - 1) (drop 1 d)) → n ≤ length d
-=======
 pub front_other : (d : List ℕ) → 1 ≤ length d → is_read_type (get_or d 0 0) ≡ false → 0 ≡ items_in_string d
 front_other d some other = none_in_string d (take (length d - 1) (drop 1 d)) (get_or d 0 0) (with_first (get_or d 0 0) d some refl) other
 
@@ -112,7 +87,6 @@ none_in_empty [] none = refl
 none_in_empty (byte ∷ d) none = absurd (omega (arith, none))
 
 pub few_in_string : (d : List ℕ) (n : ℕ) → 1 ≤ length d → n ≤ length (take (length d - 1) (drop 1 d)) → n ≤ length d
->>>>>>> 526d2929bf4ac77d4cf62a31981d4e1d33d734a4
 few_in_string d n some few =
     let whole = ap length (with_first (get_or d 0 0) d some refl) in omega (arith, few, whole)
 

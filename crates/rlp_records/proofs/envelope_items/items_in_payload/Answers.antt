@@ -1,8 +1,4 @@
-<<<<<<< HEAD
-use Rattle.std.proofs.Common.{rules, arith, ◌≡◌, ◌<◌, ◌^◌, length, true, sym}
-=======
 use Rattle.std.proofs.Common.{rules, ◌≡◌, true, sym}
->>>>>>> 526d2929bf4ac77d4cf62a31981d4e1d33d734a4
 use Rattle.rlp.specs.Format.Split.{begins_as_list}
 use Rattle.rlp_records.proofs.Scanning.{cut_counted, walk_counted, whole_counted}
 use Rattle.rlp_records.proofs.envelope_items.items_in_payload.Goals as goal
