@@ -19,9 +19,6 @@ use bytes::BytesMut;
 use std::alloc::{AllocError, Global};
 use std::marker::Model;
 
-// A buffer holds fewer bytes than this.
-const LARGEST: usize = 1 << 63;
-
 /// A stream of encodings, which grows as values are appended.
 ///
 /// A list is opened with the number of items that it awaits, and its last item closes it. An
@@ -185,13 +182,13 @@ impl RlpStream {
         ensures refused { OnErr result (IsAsBefore self.old self.new) }
         ensures moved { MovesWithin self.old self.new }
     {
-        let end = match self.buffer.len().checked_add(bytes.len()) {
-            Some(end) if end < LARGEST => end,
-            _ => return Err(AllocError),
-        };
+        self.buffer.extend_from_slice(bytes)?;
+        let end = self.buffer.len();
         let plan = plan_count(&self.lists, end, items);
-        self.buffer.reserve(bytes.len() + plan.growth)?;
-        self.buffer.extend_reserved(bytes);
+        if let Err(refused) = self.buffer.reserve(plan.growth) {
+            self.buffer.truncate(end - bytes.len());
+            return Err(refused);
+        }
         self.buffer.advance_mut(plan.growth);
         close_lists(&mut self.buffer, &mut self.lists, plan.closing, end);
         self.lists.count_innermost(1);
