@@ -1,4 +1,4 @@
-use Rattle.std.proofs.Common.{◌≡◌, ◌+◌, ◌++◌, length, length-append, ap, refl, ◌∙◌, arith}
+use Rattle.std.proofs.Common.{◌≡◌, ◌+◌, length, length-append, ap, refl, ◌∙◌, arith}
 use Rattle.rlp_write.specs.Streams.Stream.{Seen, closed_size}
 use Rattle.rlp_write.proofs.Streams.Closings.{descends_le}
 use Rattle.rlp_write.proofs.Streams.FlatBuffer.{laid_descends, stands_filled, stands_moved}
