@@ -1,5 +1,5 @@
-//! What holds of each type with [`Record`]: its encoding is that of its item, strict reading gives a
-//! value exactly for its whole encoding, what is written is read back, and two values with equal
+//! What holds of each type with [`Record`]: its encoding is that of its item, strict reading gives
+//! a value exactly for its whole encoding, what is written is read back, and two values with equal
 //! encodings have the same fields. [`Record`] says when fields are the same.
 
 ghost use Rattle.std.specs.Prelude.{◌≡◌, ◌↔◌, IfErr, IfOk, IsOkAnd, OnOk};
@@ -21,10 +21,10 @@ pub fn record_is_written<R: Record>(alloc: Global, value: &R) -> Result<BytesMut
     rlp::encode(alloc, value)
 }
 
-/// The record that bytes are, read strictly. The call gives a value exactly if the bytes are the
-/// whole encoding of a value that fits: `whole` says that no other bytes give one, and `alike` and
-/// `memory` that those bytes do, if memory doesn't run out. `only` says `whole` of each value that
-/// is alike to the result.
+/// The record that bytes are, read strictly. The call gives a value if and only if the bytes are
+/// the whole encoding of a value that fits: `whole` says that no other bytes give one, and `alike`
+/// and `memory` that those bytes do, if memory doesn't run out. `only` says `whole` of each value
+/// that is alike to the result.
 pub fn record_is_read<R: Record>(alloc: Global, bytes: &[u8]) -> Result<R, DecoderError>
     ensures whole { IfOk result (λ w. R.fits w × (bytes.now ≡ encoding (R.item w))) }
     ensures only { (v : R) → IsOkAnd result (λ w. AreAlike R.item w v)
@@ -64,8 +64,9 @@ pub fn reading_without_memory_is_total<R: Record>(
     rlp::decode_whole(alloc, bytes)
 }
 
-/// Two records whose encodings are shorter than 2^64 bytes have equal encodings exactly if they are
-/// alike: they are written as the same item. If both fit, each of their fields is then the same.
+/// Two records whose encodings are shorter than 2^64 bytes have equal encodings if and only if they
+/// are alike: they are written as the same item. If both fit, each of their fields is then the
+/// same.
 pub fn encodings_tell_records<R: Record>(one: &R, other: &R)
     ensures alike { IsSized (R.item one.now) → IsSized (R.item other.now)
         → ((encoding (R.item one.now) ≡ encoding (R.item other.now))

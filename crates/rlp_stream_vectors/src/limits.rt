@@ -9,8 +9,8 @@ use rlp_write::RlpStream;
 use std::alloc::{AllocError, Global};
 use std::test::Fail;
 
-/// A row has the number of open lists, one inside another; the number of bytes 00 in the innermost; the
-/// number of bytes 00 that are appended; and the closed size after that.
+/// A row has the number of open lists, one inside another; the number of bytes 00 in the innermost;
+/// the number of bytes 00 that are appended; and the closed size after that.
 const ROWS: &str = "\
 0 0 0 0
 0 0 1 1
@@ -53,8 +53,8 @@ fn numbers_of(row: &str) -> (usize, usize, usize, usize) {
     (number(lists), number(held), number(added), number(size))
 }
 
-/// Returns how many items the outer lists await, and the innermost: any number (`any`), more items than
-/// are appended (`more`), or exactly these (`these`).
+/// Returns how many items the outer lists await, and the innermost: any number (`any`), more items
+/// than are appended (`more`), or exactly these (`these`).
 fn awaits(awaited: &str) -> (Option<usize>, Option<usize>) {
     match awaited {
         "any" => (None, None),
@@ -63,8 +63,8 @@ fn awaits(awaited: &str) -> (Option<usize>, Option<usize>) {
     }
 }
 
-/// Opens lists, and appends the bytes in the innermost as one item. If the lists await exactly the items
-/// that are appended, the last of them closes each list.
+/// Opens lists, and appends the bytes in the innermost as one item. If the lists await exactly the
+/// items that are appended, the last of them closes each list.
 fn open(s: &mut RlpStream, lists: usize, awaited: &str, bytes: &[u8]) -> Result<bool, AllocError> {
     let (outer, innermost) = awaits(awaited);
     for _ in 1..lists {
@@ -76,9 +76,9 @@ fn open(s: &mut RlpStream, lists: usize, awaited: &str, bytes: &[u8]) -> Result<
     put_raw(s, bytes, 1)
 }
 
-/// Returns whether the bytes of a row are appended exactly if the resulting closed size is within
-/// the limit, and else leave the stream as it was. The lists are opened by `open`. All bytes are
-/// taken from `zeros`.
+/// Returns whether the bytes of a row are appended if and only if the resulting closed size is
+/// within the limit, and else leave the stream as it was. The lists are opened by `open`. All bytes
+/// are taken from `zeros`.
 fn is_answered(
     alloc: Global,
     front: &[u8],
@@ -117,8 +117,8 @@ fn is_answered(
     )
 }
 
-/// Fails with the first row that is wrong with one of these limits: 0, around the size, around the size
-/// with nine bytes for each header, or the greatest `usize`.
+/// Fails with the first row that is wrong with one of these limits: 0, around the size, around the
+/// size with nine bytes for each header, or the greatest `usize`.
 fn all_answered(alloc: Global, front: &[u8], awaited: &str) -> Result<(), Fail> {
     let zeros = vec![in alloc; 0u8; 65_536]?;
     for row in ROWS.lines() {

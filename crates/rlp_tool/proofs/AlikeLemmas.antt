@@ -13,7 +13,7 @@ finished_closed front calls bytes done (size, (raw, left)) =
     let same : left.last ≡ done.last = same_last (after front calls) left.last done.last left.admitted done.admitted in
     left.unfinished (ap (λ (s : State). s.stack.lists) same ∙ done.closed)
 
--- ---- an option that is `None` exactly if P holds
+-- ---- an option that is `None` if and only if P holds
 
 pub none_holds : {T P : Type 0} (o : Option T) → o ≡ None → (IsNone o ↔ P) → P
 none_holds None e told = told.0 tt

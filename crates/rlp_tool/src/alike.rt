@@ -48,9 +48,9 @@ fn finished_over<E: Encodable>(
     }
 }
 
-/// Returns the finished buffer of calls over a front, or `None` exactly if they leave a list open.
-/// The buffer is the front and the encodings of the items that the calls describe, whatever raw bytes
-/// they put.
+/// Returns the finished buffer of calls over a front, or `None` if and only if they leave a list
+/// open. The buffer is the front and the encodings of the items that the calls describe, whatever
+/// raw bytes they put.
 ///
 /// Fails as [`build`] does, and with `OutOfMemory` if memory is refused for a copy of the front. A
 /// front of no bytes needs none.
@@ -86,9 +86,9 @@ fn same_bytes(one: &[u8], other: &[u8]) -> bool
     one == other
 }
 
-/// Returns whether two lists of calls over one front finish as the same bytes: `Some(true)` exactly if
-/// both describe the same items, whatever raw bytes they put, and `None` exactly if one of them leaves
-/// a list open.
+/// Returns whether two lists of calls over one front finish as the same bytes: `Some(true)` if and
+/// only if both describe the same items, whatever raw bytes they put, and `None` if and only if one
+/// of them leaves a list open.
 ///
 /// The calls of `one` are made first. Those of `other` are made only if `one` leaves no list open.
 /// Fails as [`finished_buffer`] does, for the first list of calls that fails.

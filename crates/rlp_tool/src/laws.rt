@@ -11,7 +11,7 @@ ghost use Rattle.rlp_tool.specs.RawItems.{AreRawItems, IsShallow, are_raw_items}
 
 use rlp::laws::{parts_of_sized_are_sized, stream_joins_what_is_described};
 
-/// Raw bytes pass the test of the answers exactly if they are the joined encodings of the
+/// Raw bytes pass the test of the answers if and only if they are the joined encodings of the
 /// announced number of items, and none is too deep.
 pub fn raw_items_are_tested(bytes: &[u8])
     ensures { (count : ℕ) → IsTrue (are_raw_items bytes.now count) ↔ AreRawItems bytes.now count }

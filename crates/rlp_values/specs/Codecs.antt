@@ -1,4 +1,4 @@
--- a type whose values a view gives exactly if it holds their encodings
+-- a type whose values a view gives if and only if it holds their encodings
 pub mod Exact
 -- an item that is kept as the bytes of its encoding
 pub mod RawItem

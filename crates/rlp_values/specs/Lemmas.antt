@@ -46,7 +46,7 @@ pub mod StrictLists
 pub mod StrictStructs
 -- a field and those after it
 pub mod Fields
--- types whose values a view gives exactly if it holds their encodings
+-- types whose values a view gives if and only if it holds their encodings
 pub mod ExactReads
 -- text and depth, by those of the items
 pub mod Texts

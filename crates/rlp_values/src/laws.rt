@@ -78,7 +78,7 @@ pub fn encoding_in_front_is_unique(bytes: &[u8])
         → x ≡ y }
 {}
 
-/// The joined encodings of two lists of items are equal exactly if the lists are.
+/// The joined encodings of two lists of items are equal if and only if the lists are.
 #[tactic(auto, using(rlp_format::specs::Lemmas::Encodings::join_same))]
 pub fn join_is_injective()
     ensures { (xs ys : List Item) → All IsSized xs → All IsSized ys → (join xs ≡ join ys)

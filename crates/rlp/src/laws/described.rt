@@ -32,7 +32,7 @@ pub fn stream_joins_what_is_described()
 {}
 
 /// If calls describe items, the finished buffer is the front and the join of the items. Over one
-/// front, two finished buffers are equal exactly if the items described are.
+/// front, two finished buffers are equal if and only if the items described are.
 pub fn finished_buffers_tell_items(one: &[u8], other: &[u8])
     ensures joined { (front : List ℕ) (calls : List Call) (xs : List Item)
         → IsDescribed front calls xs → FinishAs front calls (front ++ join xs) }

@@ -40,8 +40,8 @@ pub fn encoding_is_decoded<T: RoundTrip>(alloc: Global, bytes: &[u8]) -> Result<
     crate::decode(alloc, bytes)
 }
 
-/// The value that bytes begin with. It is alike to a value that fits exactly if they begin with the
-/// encoding of that value. If they do, the call fails only if memory runs out.
+/// The value that bytes begin with. It is alike to a value that fits if and only if they begin with
+/// the encoding of that value. If they do, the call fails only if memory runs out.
 pub fn scalar_is_decoded<T: Scalar>(alloc: Global, bytes: &[u8]) -> Result<T, DecoderError>
     ensures only { (v : T) → IsOkAnd result (λ w. AreAlike T.item w v)
         → BeginsWith bytes.now (encoding (T.item v)) }

@@ -20,15 +20,15 @@ pub trait RoundTrip: Encodable + Decodable {
 
 /// A type whose values are read from bytes that begin with their encodings, and from no others.
 pub trait Scalar: RoundTrip {
-    /// Bytes give a value exactly if it fits and they begin with its encoding. They have no fault
-    /// then, by the law of `RoundTrip`.
+    /// Bytes give a value if and only if it fits and they begin with its encoding. They have no
+    /// fault then, by the law of `RoundTrip`.
     ghost exact: { (b : List ℕ) (v : Self) → Self.gives (view_of b) v
         ↔ GivesValue Self.fits Self.item (view_of b) v };
 }
 
-/// A type whose values a strict view gives exactly if its bytes are the encoding of the value.
+/// A type whose values a strict view gives if and only if its bytes are the encoding of the value.
 pub trait StrictRead: RoundTrip {
-    /// On a strict view, bytes give a value exactly if it fits and they are the encoding of its
+    /// On a strict view, bytes give a value if and only if it fits and they are the encoding of its
     /// item. They have no fault then.
     ghost strict: { (b : List ℕ) (v : Self) → AreBytes b → length b < 2 ^ 64
         → ReadsStrictly Self.fits Self.item Self.gives Self.faults b v };

@@ -1,4 +1,4 @@
--- The codec of a type whose values a view gives exactly if it holds their encodings.
+-- The codec of a type whose values a view gives if and only if it holds their encodings.
 use Rattle.std.specs.Prelude.{◌≡◌, ◌^◌, ◌<◌, length}
 use Rattle.rlp_values.specs.declared.error.DecoderError.{DecoderError}
 use Rattle.rlp_format.specs.Format.Item.{Item}
@@ -7,7 +7,7 @@ use Rattle.rlp_values.specs.Values.ValueReading.{GivesValue}
 use Rattle.rlp_values.specs.Codec.{Codec}
 use Rattle.rlp_values.specs.Lemmas.ExactReads.{exact_held_back, exact_strict}
 
--- A type whose values a view gives exactly if it holds their encodings. A view that holds the encoding of a value that fits has none of the
+-- A type whose values a view gives if and only if it holds their encodings. A view that holds the encoding of a value that fits has none of the
 -- faults. Two values agree if their items are equal.
 abbrev pub exact_type : {A : Type 0} (Fits : A → Type 0) (item : A → Item) (faults : View → DecoderError → Type 0) (may_lack : View → Type 0)
     → ((v : View) (x : A) → length v.bytes < 2 ^ 64 → Fits x → HoldsItem v (item x) → (e : DecoderError) → ¬ faults v e) → Codec A

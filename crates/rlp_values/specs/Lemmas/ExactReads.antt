@@ -1,4 +1,4 @@
--- Types whose values a view gives exactly if it holds their encodings: they are read back, and read strictly.
+-- Types whose values a view gives if and only if it holds their encodings: they are read back, and read strictly.
 use Rattle.std.proofs.Common.{◌≡◌, ℕ, ◌^◌, ◌<◌, List, length, sym, ◌∙◌, subst}
 use Rattle.rlp_values.specs.declared.error.DecoderError.{DecoderError}
 use Rattle.rlp_format.specs.Format.Item.{Item}
@@ -32,7 +32,7 @@ module _ {A : Type 0} (Fits : A → Type 0) (item : A → Item) (faults : View �
     no_fault = sound (view_of b) x fits fit begins;
   }
 
-  -- a strict view gives a value exactly if it is its encoding
+  -- a strict view gives a value if and only if it is its encoding
   pub exact_strict : AlwaysReadsStrictly Fits item (λ v x. GivesValue Fits item v x) faults
   exact_strict b x bytes fits = record {
     exact = (λ given. (given.fits, given.begins), λ (fit, is). record { fits = fit; begins = is });

@@ -36,7 +36,7 @@ module _ {A : Type 0} (Fits : A → Type 0) (item : A → Item) (gives : View �
       let place : i + suc k ≡ suc i + k = omega arith in
       later fits others k e (omega arith) (subst (λ j. FaultsAt (faultMore k) view j e) place at)
 
-  -- if read strictly, a field and the fields after it are given exactly if the items are their whole encodings
+  -- if read strictly, a field and the fields after it are given if and only if the items are their whole encodings
   pub field_exact : AlwaysReadsStrictly Fits item gives faults →
       (i : ℕ) (view : View) (parts : List (List ℕ)) (x : A) (xs : List Item) (FitsO givesO : Type 0)
       → ((more : List (List ℕ)) → PartsFrom view (suc i) more → length more ≡ length xs → givesO ↔ (FitsO × (more ≡ map encoding xs)))

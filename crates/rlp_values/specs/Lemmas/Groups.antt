@@ -101,7 +101,7 @@ module _ {G : Type 0} (width : ℕ) (Fits : G → Type 0) (items_of : G → List
               (one.1 (All-head Fits h hs fits, both.0), more.1 (All-tail Fits h hs fits, both.1)),
         )
 
-    -- if read strictly, groups are given exactly if the items are their whole encodings
+    -- if read strictly, groups are given if and only if the items are their whole encodings
     pub groups_exact : ((i : ℕ) (view : View) (parts : List (List ℕ)) (g : G) → PartsFrom view i parts → length parts ≡ width
         → gives i view g ↔ (Fits g × (parts ≡ map encoding (items_of g))))
         → (i : ℕ) (view : View) (parts : List (List ℕ)) (gs : List G) → PartsFrom view i parts → length parts ≡ length (all_items items_of gs)

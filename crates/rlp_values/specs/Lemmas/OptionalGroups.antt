@@ -38,7 +38,7 @@ module _ {A : Type 0} (Fits : A → Type 0) (items_of : A → List Item) (count 
   if_alike least some enough gives alike i view (Some x) None fit holds many = absurd (some_here least some enough x (sym many))
   if_alike least some enough gives alike i view (Some x) (Some y) fit holds many = alike i view x fit holds y many
 
-  -- if read strictly, they are given exactly if the items are their whole encodings
+  -- if read strictly, they are given if and only if the items are their whole encodings
   pub if_exact : (gives : ℕ → View → A → Type 0)
       → ((i : ℕ) (view : View) (parts : List (List ℕ)) (x : A) → PartsFrom view i parts → length parts ≡ length (items_of x)
       → gives i view x ↔ (Fits x × (parts ≡ map encoding (items_of x))))

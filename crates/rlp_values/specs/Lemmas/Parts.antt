@@ -122,7 +122,7 @@ module _ {A P : Type 0} (value : P → A) (f : Fields A) where
         fault_in more i k view e p few at (λ j within. f.sound i view (value p) fit.0 front j e within)
         (λ j within. more.sound (i + f.reading.least) view p fit.1 after j e within)
 
-    -- if read strictly, they are given exactly if the items are their whole encodings
+    -- if read strictly, they are given if and only if the items are their whole encodings
     pub part_exact : (more : Fields P) (i : ℕ) (view : View) (parts : List (List ℕ)) (p : P) → PartsFrom view i parts
         → length parts ≡ length (f.items (value p) ++ more.items p)
         → (f.reading.gives i view (value p) × more.reading.gives (i + f.reading.least) view p)

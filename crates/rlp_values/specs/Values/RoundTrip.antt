@@ -13,7 +13,7 @@ pub record ReadsBack {A : Type 0} (Fits : A → Type 0) (item : A → Item) (giv
   pub alike : (w : A) → gives view w ↔ (Fits w × AreAlike item w v)
   pub no_fault : (e : DecoderError) → ¬ faults view e
 
--- Read strictly, bytes give a value exactly if it fits and they are the encoding of its item, and then have no fault.
+-- Read strictly, bytes give a value if and only if it fits and they are the encoding of its item, and then have no fault.
 pub record ReadsStrictly {A : Type 0} (Fits : A → Type 0) (item : A → Item) (gives : View → A → Type 0) (faults : View → DecoderError → Type 0)
     (b : List ℕ) (v : A) : Type 0 where
   pub exact : gives (strict_view_of b) v ↔ (Fits v × (b ≡ encoding (item v)))
