@@ -5,9 +5,9 @@ ghost use Rattle.rlp_format.specs.Values.Value.{bit};
 
 use rlp_values::flat::{FlatItem, FlatRow};
 
-/// An item of some bytes. Its header begins at `offset`, and its payload follows the header. `depth`
-/// is the number of lists around it. `is_list` is 1 for a list and 0 for a string: a number, so that
-/// an array of any bytes is one of items.
+/// An item of some bytes. Its header begins at `offset`, and its payload follows the header.
+/// `depth` is the number of lists around it. `is_list` is 1 for a list and 0 for a string: a
+/// number, so that an array of any bytes is one of items.
 #[repr(C)]
 #[derive(Clone, Copy)]
 pub struct RlpItem {
@@ -37,7 +37,7 @@ impl FlatRow for RlpItem {
     }
 }
 
-/// A truth value as a number.
+/// A `bool` as a number.
 pub fn bit(flag: bool) -> u32
     ensures { result ≡ bit flag }
 {

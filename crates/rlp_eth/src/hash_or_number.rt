@@ -32,7 +32,7 @@ impl Encodable for HashOrNumber {
 
 /// Reading fails as reading a number does: with `RlpIsTooBig` if the string has more than eight
 /// bytes and not 32, and with `RlpInvalidIndirection` if it is shorter and begins with a zero. It
-/// takes no memory.
+/// doesn't allocate.
 impl Decodable for HashOrNumber {
     ghost gives = { hash_or_number.gives };
 

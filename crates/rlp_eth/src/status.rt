@@ -22,7 +22,7 @@ impl Encodable for ForkHash {
 }
 
 /// Read as the array of the bytes is. Fails with `RlpIsTooShort` if the string is shorter, and with
-/// `RlpIsTooBig` if it is longer. It takes no memory.
+/// `RlpIsTooBig` if it is longer. It doesn't allocate.
 impl Decodable for ForkHash {
     ghost gives = { fork_hash.gives };
 

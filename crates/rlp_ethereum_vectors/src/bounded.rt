@@ -8,8 +8,8 @@ use std::fmt;
 use std::fmt::Write;
 use std::test::Fail;
 
-/// Rows of the most items, a type, bytes, and the answer: `Ok`, or the text of the fault. Their calls take
-/// no memory.
+/// Rows of the most items, a type, bytes, and the answer: `Ok`, or the text of the fault. Their
+/// calls take no memory.
 pub(crate) const WITHOUT_MEMORY: &str = "
     A withdrawal has five items: four numbers or strings, and their list.
     at most: 5 Withdrawal | d8010294030303030303030303030303030303030303030304 | Ok
@@ -54,7 +54,8 @@ pub(crate) const ROWS: &str = "
     at most: 1 AnyTransaction | 8205c0 | Ok
 ";
 
-/// Tells the answer for a type with at most a number of items, which stands before the name of the type.
+/// Tells the answer for a type with at most a number of items, which stands before the name of the
+/// type.
 pub(crate) fn tell(alloc: Global, asked: &str, bytes: &[u8], out: &mut Line) -> fmt::Result {
     let (most, kind) = cut(asked);
     match kind {
@@ -74,7 +75,7 @@ fn tell_read<R: Record>(alloc: Global, most: &str, bytes: &[u8], out: &mut Line)
     }
 }
 
-/// Notes a row whose call tells something else. It takes no memory for the bytes.
+/// Notes a row whose call tells something else. It doesn't allocate for the bytes.
 fn check_row(alloc: Global, call: &str, rest: &str, wrong: &mut Line) {
     let (_, asked) = call.split_once(": ").unwrap_or(("", call));
     let (digits, want) = rest.split_once(" | ").unwrap_or((rest, ""));

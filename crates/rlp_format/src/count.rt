@@ -5,7 +5,7 @@ ghost use Rattle.std.specs.Borrow.{ftrue};
 
 use std::marker::{Model, PhantomData};
 
-/// A number of things done, such as bytes moved or headers read. It takes no memory, and its calls
+/// A number of things done, such as bytes moved or headers read. It doesn't allocate, and its calls
 /// do nothing at run time. Only [`Count::add`] changes the number.
 #[derive(Drop)]
 pub struct Count {

@@ -23,7 +23,7 @@ impl Encodable for Bloom {
 }
 
 /// Read as the array of the bytes is. Fails with `RlpIsTooShort` if the string is shorter, and with
-/// `RlpIsTooBig` if it is longer. It takes no memory.
+/// `RlpIsTooBig` if it is longer. It doesn't allocate.
 impl Decodable for Bloom {
     ghost gives = { bloom.gives };
 

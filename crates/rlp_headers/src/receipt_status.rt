@@ -35,7 +35,7 @@ impl Encodable for ReceiptStatus {
 }
 
 /// Reading fails with `Custom("unknown receipt status")` if the string isn't empty, isn't the byte
-/// 1, and hasn't 32 bytes. It takes no memory.
+/// 1, and hasn't 32 bytes. It doesn't allocate.
 impl Decodable for ReceiptStatus {
     ghost gives = { receipt_status.gives };
 

@@ -93,7 +93,7 @@ impl NodeRecord {
     }
 }
 
-/// The value of a key as a value of a type whose reading takes no memory, or `None` if the record
+/// The value of a key as a value of a type whose reading doesn't allocate, or `None` if the record
 /// hasn't the key or its value isn't one of this type.
 fn known<T: StrictRead>(node: &NodeRecord, key: &[u8]) -> Option<T>
     requires { (view : View) → ¬ T.may_lack_memory view }

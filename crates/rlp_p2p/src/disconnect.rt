@@ -97,7 +97,7 @@ impl Encodable for DisconnectReason {
     }
 }
 
-/// Read as its number is. It takes no memory.
+/// Read as its number is. It doesn't allocate.
 impl Decodable for DisconnectReason {
     ghost gives = { reason.gives };
 

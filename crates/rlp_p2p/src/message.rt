@@ -11,8 +11,8 @@ use bytes::BytesMut;
 use rlp::{DecoderError, Encodable, Rlp, RlpStream};
 use std::alloc::{AllocError, Global};
 
-/// Returns the bytes of a message: the encoding of its id, which is the number after the offset, and
-/// the encoding of its body.
+/// Returns the bytes of a message: the encoding of its id, which is the number after the offset,
+/// and the encoding of its body.
 pub fn write<T: Encodable>(
     alloc: Global,
     offset: u8,
@@ -39,7 +39,7 @@ pub struct Numbered<'a> {
 }
 
 impl<'a> Numbered<'a> {
-    /// Reads the id that the bytes begin with. It takes no memory.
+    /// Reads the id that the bytes begin with. It doesn't allocate.
     ///
     /// Fails as reading a `u64` does, and with `Custom("unknown message")` for an id below the
     /// offset.
@@ -68,8 +68,8 @@ impl<'a> Numbered<'a> {
     }
 }
 
-/// Reads the body of a message by its number. The arguments are the allocator, the message, and then
-/// for each number the variant that holds the body. It is the whole body of a function.
+/// Reads the body of a message by its number. The arguments are the allocator, the message, and
+/// then for each number the variant that holds the body. It is the whole body of a function.
 ///
 /// Fails with `Custom("unknown message")` for another number, and else with the strict fault of the
 /// body.

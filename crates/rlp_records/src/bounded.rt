@@ -17,11 +17,11 @@ use std::alloc::Global;
 /// The record whose whole encoding the bytes are, if it has at most `most` items. Each string and
 /// each list counts, at every depth, and the record itself.
 ///
-/// So do the items in each string that is an envelope: a byte from 1 to 4, the type of a transaction or
-/// a receipt, and a list. Any string of this form counts so, also the input of a call. If
-/// reading the list would fail, each of its bytes counts as an item.
+/// So do the items in each string that is an envelope: a byte from 1 to 4, the type of a
+/// transaction or a receipt, and a list. Any string of this form counts so, also the input of a
+/// call. If reading the list would fail, each of its bytes counts as an item.
 ///
-/// It goes over the bytes before it reads the record, and takes no memory for bytes that this
+/// It goes over the bytes before it reads the record, and doesn't allocate for bytes that this
 /// refuses. For the encoding of a record within the bounds it fails only if memory runs out.
 ///
 /// Fails with the first fault of the bytes if they aren't the encoding of an item, with

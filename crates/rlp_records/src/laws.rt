@@ -49,7 +49,7 @@ pub fn record_round_trips<R: Record>(alloc: Global, value: &R) -> Result<R, Deco
     }
 }
 
-/// The record that bytes are, read strictly, for a type whose reading takes no memory, such as a
+/// The record that bytes are, read strictly, for a type whose reading doesn't allocate, such as a
 /// withdrawal. The encoding of a value gives a value with its fields, and for
 /// other bytes the call fails with a fault of the type.
 pub fn reading_without_memory_is_total<R: Record>(

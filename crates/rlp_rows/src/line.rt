@@ -8,7 +8,7 @@ use std::test::Fail;
 /// The greatest number of bytes of a line.
 const ROOM: usize = 1024;
 
-/// A text of at most 1,024 bytes, which takes no memory.
+/// A text of at most 1,024 bytes, which doesn't allocate.
 #[derive(Drop)]
 pub struct Line {
     bytes: [u8; ROOM],

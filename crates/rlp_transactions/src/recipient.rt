@@ -33,7 +33,7 @@ impl Encodable for Recipient {
 }
 
 /// Reading fails with `RlpIsTooShort` if the string has 1 to 19 bytes, and with `RlpIsTooBig` if
-/// it has more than 20. It takes no memory.
+/// it has more than 20. It doesn't allocate.
 impl Decodable for Recipient {
     ghost gives = { recipient.gives };
 

@@ -37,7 +37,7 @@ pub enum DecoderError {
 }
 
 impl DecoderError {
-    /// The same fault. It takes no memory.
+    /// The same fault. It doesn't allocate.
     pub fn clone(&self) -> DecoderError
         ensures { result ≡ self.now }
     {

@@ -19,7 +19,7 @@ pub(crate) struct Plan {
 }
 
 /// Finds how many lists the count of these items closes, and by how many bytes the buffer then
-/// grows. It walks these lists from the inside out, and takes no memory.
+/// grows. It walks these lists from the inside out, and doesn't allocate.
 pub(crate) fn plan_count(lists: &OpenLists, end: usize, items: usize) -> Plan
     requires order { Descends end lists.now }
     requires size { end < 2 ^ 63 }

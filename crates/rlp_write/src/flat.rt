@@ -78,7 +78,7 @@ pub(crate) struct Place {
 }
 
 impl RlpStream {
-    /// A stream whose front is the given bytes. It takes no memory.
+    /// A stream whose front is the given bytes. It doesn't allocate.
     pub fn new_with_buffer(alloc: Global, buffer: BytesMut) -> RlpStream
         ensures state { result.state ≡ initial_state buffer.items }
         ensures spare { result.spare ≡ buffer.spare }

@@ -1,4 +1,4 @@
-//! Truth values: written as the numbers 0 and 1.
+//! `bool`: written as the numbers 0 and 1.
 
 ghost use Rattle.rlp_values.specs.Values.ValueReading.{GivesBool, FaultsAsBool};
 ghost use Rattle.rlp_values.specs.Lemmas.RoundTrips.{bool_reads_back, bool_exact};
@@ -10,7 +10,7 @@ use rlp_values::error::DecoderError;
 use std::alloc::Global;
 
 /// Reads a number as `u8` does: 0 is `false` and 1 is `true`. Fails with
-/// `Custom("invalid boolean value")` for other numbers. It takes no memory.
+/// `Custom("invalid boolean value")` for other numbers. It doesn't allocate.
 impl Decodable for bool {
     ghost gives = { GivesBool };
 

@@ -11,7 +11,7 @@ use crate::traits::{Decodable, RoundTrip, Scalar, StrictRead};
 use rlp_values::error::DecoderError;
 use std::alloc::Global;
 
-/// Reads a string of exactly `N` bytes. It takes no memory.
+/// Reads a string of exactly `N` bytes. It doesn't allocate.
 ///
 /// Fails with `RlpIsTooShort` if the string is shorter, and with `RlpIsTooBig` if it is longer.
 impl<const N: usize> Decodable for [u8; N] {

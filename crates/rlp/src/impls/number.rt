@@ -54,7 +54,7 @@ impl Decodable for u32 {
     }
 }
 
-/// Reads a number of at most eight bytes. It takes no memory.
+/// Reads a number of at most eight bytes. It doesn't allocate.
 ///
 /// Fails with `RlpIsTooBig` if the string has more bytes, and with `RlpInvalidIndirection` if it
 /// begins with a zero byte. The number zero is the empty string.

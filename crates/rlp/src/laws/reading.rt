@@ -77,7 +77,7 @@ pub fn option_of_bytes_is_read(bytes: &[u8])
         (λ e. FaultsAsOption FaultsAsBytes (view_of bytes.now) e) }
 {}
 
-/// Bytes give one option of a number of each width, of a truth value or of a text, or have one
+/// Bytes give one option of a number of each width, of a `bool` or of a text, or have one
 /// fault.
 pub fn options_are_read(bytes: &[u8])
     ensures numbers { (width : ℕ) → HasOneReading (option_item number_item)
@@ -100,7 +100,7 @@ pub fn option_of_option_is_read<T: Encodable + Decodable>(bytes: &[u8])
         (λ e. FaultsAsOption (λ v f. FaultsAsOption T.faults v f) (view_of bytes.now) e) }
 {}
 
-/// Bytes give one truth value and have no fault, or give none and have one fault.
+/// Bytes give one `bool` and have no fault, or give none and have one fault.
 pub fn bool_is_read(bytes: &[u8])
     ensures { HasOneReading (λ b. number_item (bit b)) (λ b. GivesBool (view_of bytes.now) b)
         (λ e. FaultsAsBool (view_of bytes.now) e) }

@@ -50,7 +50,7 @@ pub fn lenient_views_ignore_what_follows(bytes: &[u8])
         else Err RlpExpectedToBeList) }
 {}
 
-/// A strict view gives one value of a number of each width, of a truth value, of a byte string, of
+/// A strict view gives one value of a number of each width, of a `bool`, of a byte string, of
 /// a text or of an array of each length, and has no fault, or gives none and has one fault. The
 /// numbers of `N` bytes are those of `Uint<N>` too. See also [`crate::laws::raw_item_is_read`] and
 /// [`strict_option_is_read`].

@@ -24,7 +24,8 @@ pub struct Envelope<'a> {
 }
 
 impl<'a> Envelope<'a> {
-    /// Reads the string that a view begins with, and splits off its first byte. It takes no memory.
+    /// Reads the string that a view begins with, and splits off its first byte. It doesn't
+    /// allocate.
     ///
     /// Fails as [`crate::BasicDecoder::string`] does, or with `RlpIsTooShort` if the string is
     /// empty.
@@ -41,8 +42,8 @@ impl<'a> Envelope<'a> {
         }
     }
 
-    /// Splits an envelope that isn't in a string: the first byte, and the bytes after it. Fails with
-    /// `RlpIsTooShort` if there are no bytes.
+    /// Splits an envelope that isn't in a string: the first byte, and the bytes after it. Fails
+    /// with `RlpIsTooShort` if there are no bytes.
     pub fn split(bytes: &'a [u8]) -> Result<Envelope<'a>, DecoderError>
         ensures value { IfOk result (λ x. bytes.now ≡ x.tag ∷ x.payload.now) }
         ensures fault { IfErr result (λ e. (bytes.now ≡ []) × (e ≡ RlpIsTooShort)) }

@@ -75,7 +75,7 @@ impl<'a> Rlp<'a> {
         self.strict
     }
 
-    /// Another view of the same bytes. It takes no memory.
+    /// Another view of the same bytes. It doesn't allocate.
     pub fn clone(&self) -> Rlp<'a>
         ensures { result ≡ self.now }
     {
@@ -397,7 +397,7 @@ impl<'a> Rlp<'a> {
     /// `max_depth`. A string has depth 0. A list has a depth of 1 more than the deepest of its
     /// items, or 1 without items. The result is the same on lenient and strict views.
     ///
-    /// It reads each header once, takes no memory, and goes no deeper than `max_depth` lists.
+    /// It reads each header once, doesn't allocate, and goes no deeper than `max_depth` lists.
     ///
     /// ```rust
     /// assert!(rt; rlp::Rlp::new(&[0xc2, 0xc1, 0x05]).is_canonical(2));

@@ -13,9 +13,9 @@ impl<'a> Rlp<'a> {
     /// it. To read joined items one by one, call it again on a view of these, until no bytes are
     /// left.
     ///
-    /// It takes no memory, and doesn't read what is in a list. Fails as [`Rlp::payload_info`] does:
-    /// with `RlpIsTooShort` if there are no bytes, and for a strict view with `RlpIsTooBig` if bytes
-    /// follow the item.
+    /// It doesn't allocate, and doesn't read what is in a list. Fails as [`Rlp::payload_info`]
+    /// does: with `RlpIsTooShort` if there are no bytes, and for a strict view with `RlpIsTooBig`
+    /// if bytes follow the item.
     ///
     /// ```rust
     /// let (id, rest) = rlp::Rlp::new(&[0x05, 0xc1, 0x06]).split_first()?;

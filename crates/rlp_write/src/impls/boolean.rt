@@ -1,4 +1,4 @@
-//! Truth values: written as the numbers 0 and 1.
+//! `bool`: written as the numbers 0 and 1.
 
 ghost use Rattle.std.specs.Prelude.{⊤};
 ghost use Rattle.rlp_format.specs.Values.Value.{bit, number_item};
