@@ -1,8 +1,8 @@
-use Rattle.std.proofs.Common.{◌≡◌, inl, inr, ⊎_elim, Option, Some, None, IsSome, subst, sym}
+use Rattle.std.proofs.Common.{rules, ◌≡◌, inl, inr, refl, ⊎_elim, Option, Some, None, IsSome, subst, sym}
 use Rattle.rlp.specs.Streams.Described.{FinishAs}
 use Rattle.rlp_tool.specs.Building.{AreJoined}
 use Rattle.rlp_tool.specs.StreamCalls.{calls_of}
-use Rattle.rlp_tool.proofs.AlikeLemmas.{described_by, none_holds, some_fails}
+use Rattle.rlp_tool.proofs.AlikeLemmas.{described_by, none_holds, second_refused, some_fails}
 use Rattle.rlp_tool.proofs.alike.finish_alike.Goals as goal
 
 none_some : {T : Type 0} (o : Option T) → o ≡ None → IsSome o → ⊥
@@ -39,26 +39,29 @@ returns-clause-told g c =
 -- ---- which list of calls is open, and which fails
 
 pub returns-in_err-first-clause-refused : goal.returns-in_err-first-clause-refused
-returns-in_err-first-clause-refused g c = inl c.in_err-first.ensures.refused
+returns-in_err-first-clause-refused g c = search (rules, c.in_err-first.ensures.refused)
 
 pub returns-in_default-clause-other_taken : goal.returns-in_default-clause-other_taken
 returns-in_default-clause-other_taken g c = inl (none_holds c.in_ok-first.field-0 c.in_default.is c.in_ok-first.ensures.left_open)
 
 pub returns-in_default-clause-left_open : goal.returns-in_default-clause-left_open
-returns-in_default-clause-left_open g c = (λ none. inl (none_holds c.in_ok-first.field-0 c.in_default.is c.in_ok-first.ensures.left_open), λ left. tt)
+returns-in_default-clause-left_open g c = (λ none. inl (none_holds c.in_ok-first.field-0 c.in_default.is c.in_ok-first.ensures.left_open), λ left. refl)
 
 pub returns-in_err-second-clause-refused : goal.returns-in_err-second-clause-refused
 returns-in_err-second-clause-refused g c =
-    let joined : AreJoined c.args.front.now (calls_of g.A.Encodable.item c.args.one.now) c.in-Some.first.items = rw c.in-Some.is at c.in_ok-first.ensures.joined in
-    inr (described_by c.args.front.now (calls_of g.A.Encodable.item c.args.one.now) c.in-Some.first.items joined, c.in_err-second.ensures.refused)
+    let ones = calls_of g.A.Encodable.item c.args.one.now in
+    let others = calls_of g.B.Encodable.item c.args.other.now in
+    let joined : AreJoined c.args.front.now ones c.in-Some.first.items = rw c.in-Some.is at c.in_ok-first.ensures.joined in
+    second_refused c.args.front.now ones others c.from_residual-in_err-second.result (described_by c.args.front.now ones c.in-Some.first.items joined)
+    (search (rules, c.in_err-second.ensures.refused))
 
 pub returns-in_default-2-clause-left_open : goal.returns-in_default-2-clause-left_open
-returns-in_default-2-clause-left_open g c = (λ none. inr (none_holds c.in_ok-second.field-0 c.in_default-2.is c.in_ok-second.ensures.left_open), λ left. tt)
+returns-in_default-2-clause-left_open g c = (λ none. inr (none_holds c.in_ok-second.field-0 c.in_default-2.is c.in_ok-second.ensures.left_open), λ left. refl)
 
 pub returns-clause-left_open : goal.returns-clause-left_open
 returns-clause-left_open g c = (
-  λ none. absurd none,
-  ⊎_elim
+  λ none. absurd (let never : ⊥ = cc in never),
+  λ left. absurd (⊎_elim
       (some_fails c.in_ok-first.field-0 c.in-Some.first c.in-Some.is c.in_ok-first.ensures.left_open)
-      (some_fails c.in_ok-second.field-0 c.in-Some-2.second c.in-Some-2.is c.in_ok-second.ensures.left_open),
+      (some_fails c.in_ok-second.field-0 c.in-Some-2.second c.in-Some-2.is c.in_ok-second.ensures.left_open) left),
 )

@@ -1,3 +1,4 @@
+use Rattle.std.proofs.Common.{refl}
 use Rattle.rlp.specs.Streams.Described.{FinishAs}
 use Rattle.rlp_tool.specs.Building.{StayOpen}
 use Rattle.rlp_tool.specs.StreamCalls.{calls_of}
@@ -11,10 +12,10 @@ pub returns-in-Ok-Finished-clause-left_open : goal.returns-in-Ok-Finished-clause
 returns-in-Ok-Finished-clause-left_open g c =
     let calls = calls_of g.E.Encodable.item c.args.calls.now in
     let done : FinishAs c.args.front.items calls c.in-Ok-Finished.bytes.items = rw c.in-Ok-Finished.field-0-is at c.in-Ok-Finished.ensures.ok in
-    (λ none. absurd none, λ left. finished_closed c.args.front.items calls c.in-Ok-Finished.bytes.items done left)
+    (λ none. absurd (let never : ⊥ = cc in never), λ left. absurd (finished_closed c.args.front.items calls c.in-Ok-Finished.bytes.items done left))
 
 pub returns-in-Ok-Open-clause-left_open : goal.returns-in-Ok-Open-clause-left_open
 returns-in-Ok-Open-clause-left_open g c =
     let calls = calls_of g.E.Encodable.item c.args.calls.now in
-    let left : StayOpen c.args.front.items calls c.in-Ok-Open.size c.in-Ok-Open.raw.items = rw c.in-Ok-Open.field-0-is at c.in-Ok-Open.ensures.ok in
-    (λ none. (c.in-Ok-Open.size, (c.in-Ok-Open.raw.items, left)), λ left. tt)
+    let left : StayOpen c.args.front.items calls c.in-Ok-Open.field-0-0 c.in-Ok-Open.field-0-1.items = rw c.in-Ok-Open.field-0-is at c.in-Ok-Open.ensures.ok in
+    (λ none. (c.in-Ok-Open.field-0-0, c.in-Ok-Open.field-0-1.items, left), λ open_list. refl)
