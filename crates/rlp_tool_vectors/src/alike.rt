@@ -8,8 +8,8 @@ use std::test::Fail;
 
 /// A script and its finished buffer over the bytes of `junk`.
 const FINISHED: [Row; 5] = [
-    ("l:2 d:01 d:02", "Ok(Some([106, 117, 110, 107, 194, 1, 2]))"),
-    ("", "Ok(Some([106, 117, 110, 107]))"),
+    ("l:2 d:01 d:02", "Ok(Some(b\"junk\\xc2\\x01\\x02\"))"),
+    ("", "Ok(Some(b\"junk\"))"),
     ("u d:01", "Ok(None)"),
     ("d:01 e", "Err(NothingToFinish(2))"),
     ("u d:01 r:1:8105", "Err(RawNotItems(3))"),
