@@ -1,9 +1,9 @@
 """Runs each operation of the library many times over, and prints nanoseconds of processor time for one, or instructions.
 
-usage: library.py PROGRAM [--against PROGRAM [--called NAME]] [--instructions] [--write FILE] [WORD..]
+usage: library.py PROGRAM [--against PROGRAM [--called NAME]].. [--instructions] [--write FILE] [WORD..]
 
 With a WORD it runs the operations whose names hold one. `--write` writes what `page.py` makes a table of. An operation whose results have
-another sum in the other program isn't measured, and then nothing is written and the status is 1.
+another sum in another program isn't measured, and then nothing is written and the status is 1.
 """
 
 import argparse
@@ -13,13 +13,12 @@ import statistics
 import subprocess
 
 from machine import told_of_run
-from page import RATIO
 
 RUNS = 5
 SECONDS = 0.3
-# what the other program is called, if nothing else is said
-RUST = "Rust crate"
-# how often an operation is run for the sum of its results, which both programs must print
+# what another program is called, if nothing else is said
+OTHER = "other build"
+# how often an operation is run for the sum of its results, which all programs must print
 TURNS = 1000
 # operations, by what one of them reads or writes
 OPERATIONS = {
@@ -110,13 +109,15 @@ def instructions(programs, operation):
 
 def write(file, rows, called):
     """Writes the medians, the instructions and their ratios, with the version, the day and the machine."""
-    lines, ratio = told_of_run(RUNS), RATIO if called == RUST else "ratio"
-    lines.append("\t".join(["operation", "ns", f"ns, {called}", ratio, "instructions", f"instructions, {called}", "ratio of instructions"]))
-    for name, *pairs in rows:
+    heads = ["operation"]
+    for unit, ratio in (("ns", "ratio"), ("instructions", "ratio of instructions"))[: 2 if rows and rows[0][2] else 1]:
+        heads += [unit, *(f"{unit}, {name}" for name in called), *(f"{ratio}, {name}" for name in called)]
+    lines = [*told_of_run(RUNS), "\t".join(heads)]
+    for name, *numbers in rows:
         cells = [name]
-        for pair in pairs:
-            cells += [f"{number:.1f}" for number in pair] + [""] * (2 - len(pair))
-            cells.append(f"{pair[0] / pair[1]:.2f}" if len(pair) > 1 else "")
+        for own, *others in filter(None, numbers):
+            missing = [""] * (len(called) - len(others))
+            cells += [f"{number:.1f}" for number in (own, *others)] + missing + [f"{own / number:.2f}" for number in others] + missing
         lines.append("\t".join(cells))
     with open(file, "w", encoding="utf-8") as out:
         out.write("\n".join(lines) + "\n")
@@ -125,8 +126,8 @@ def write(file, rows, called):
 def words():
     given = argparse.ArgumentParser()
     given.add_argument("program")
-    given.add_argument("--against", metavar="PROGRAM")
-    given.add_argument("--called", metavar="NAME", default=RUST)
+    given.add_argument("--against", metavar="PROGRAM", action="append", default=[])
+    given.add_argument("--called", metavar="NAME", action="append", default=[])
     given.add_argument("--instructions", action="store_true")
     given.add_argument("--write", metavar="FILE")
     given.add_argument("words", nargs="*")
@@ -137,13 +138,13 @@ def main():
     given, rows, unequal = words(), [], []
     if given.write and not given.against:
         raise SystemExit("--write needs another program")
-    programs = [given.program] + ([given.against] if given.against else [])
-    other = "; then those of the other program, and this one's median by the other's" if given.against else ""
+    programs, called = [given.program, *given.against], (given.called + [OTHER] * len(given.against))[: len(given.against)]
+    other = "; then those of each other program, and this one's median by theirs" if given.against else ""
     print(f"nanoseconds of processor time: the median and the smallest of {RUNS} runs{other}")
     for operation, what in OPERATIONS.items():
         if given.words and not any(word in operation for word in given.words):
             continue
-        # The Rust crate has fewer operations.
+        # Other programs have fewer operations: all of them, or none, run this one.
         sums = {program: summed(program, operation, TURNS) for program in programs}
         some = [program for program in programs if sums[program] is not None]
         if len({sums[program] for program in some}) > 1:
@@ -152,14 +153,14 @@ def main():
             continue
         medians, least = nanoseconds(some, operation)
         counts = instructions(some, operation) if given.instructions else []
-        ratio = f"{medians[0] / medians[1]:8.2f}" if len(some) > 1 else ""
+        ratio = "".join(f"{medians[0] / median:8.2f}" for median in medians[1:])
         told = "; instructions" + "".join(f" {count:,.1f}" for count in counts) if counts else ""
         print(f"{what:50}" + "".join(f"{median:13.1f} {low:13.1f}" for median, low in zip(medians, least)) + ratio + told, flush=True)
         rows.append((what, medians, counts))
     if unequal:
         raise SystemExit(f"the sums of the results differ: {', '.join(unequal)}; nothing was written")
     if given.write:
-        write(given.write, rows, given.called)
+        write(given.write, rows, called)
 
 
 if __name__ == "__main__":

@@ -6,7 +6,7 @@ ROW, LEFT, WIDTH, TOP = 18, 330, 420, 34
 # The ratios at the ends of the chart.
 LEAST, MOST = 0.01, 60
 # The column of the chart: times by those of the Rust crate, built as one unit with its caller, as the library here is.
-RATIO = "ratio, with link-time optimisation"
+RATIO = "ratio, Rust crate with link-time optimisation"
 # The chart of sizes: its left upper corner, its width and height, the bytes and the ratios at its ends, and the colours of its lines.
 X, Y, ACROSS, HIGH = 60, 20, 420, 300
 BYTES, RATIOS = (10, 2**30), (0.02, 300)
