@@ -1,0 +1,11 @@
+import type { Codec } from "./codec.js";
+
+export * from "./codec.js";
+export const encode: Codec["encode"];
+export const decode: Codec["decode"];
+export const isCanonical: Codec["isCanonical"];
+export const flatten: Codec["flatten"];
+export const inspect: Codec["inspect"];
+export const header: Codec["header"];
+export const transaction: Codec["transaction"];
+export const headerFields: Codec["headerFields"];
