@@ -7,9 +7,18 @@ export type Decoded = Uint8Array | Decoded[];
 /** Bytes to read: as they are, or as hexadecimal digits behind `0x`. */
 export type Bytes = Uint8Array | `0x${string}`;
 
+/** A byte string: bytes, hexadecimal digits behind `0x`, other text as UTF-8, a number, or nothing for the empty string. */
+export type Text = Exclude<Input, readonly Input[]>;
+
 export interface Options {
   /** How many lists may lie one in the other: 256 if not given, and never more. */
   maxDepth?: number;
+}
+
+/** The first item of some bytes, and the bytes behind it. */
+export interface First {
+  data: Decoded;
+  remainder: Uint8Array;
 }
 
 /** The number of a fault, as in `rlp.h`. */
@@ -73,6 +82,25 @@ export class Rows implements Iterable<Item> {
   [Symbol.iterator](): Iterator<Item>;
   /** The same rows in memory of their own. */
   copy(): Rows;
+}
+
+/** An item of an encoding, with the items in it, which are made when they are asked for. It stays as it is. */
+export class Tree implements Iterable<Tree>, Item {
+  private constructor();
+  readonly offset: number;
+  readonly headerLength: number;
+  readonly payloadLength: number;
+  readonly depth: number;
+  readonly isList: boolean;
+  /** The payload: the bytes of a string, or the encodings of a list's items. The whole tree shares one copy of the bytes. */
+  readonly bytes: Uint8Array;
+  /** The number of a list's items. A string has none. */
+  readonly length: number;
+  /** An item of a list by its place, which counts from the end if it is negative. */
+  at(index: number): Tree | undefined;
+  [Symbol.iterator](): Iterator<Tree>;
+  /** The value, as `decode` gives it. */
+  value(): Decoded;
 }
 
 export interface Field extends Item {
@@ -180,11 +208,15 @@ export class Codec {
   readonly memorySize: number;
   /** The encoding. Throws a TypeError for a value that has none, and an RlpError for lists that nest too deep. */
   encode(input: Input): Uint8Array;
-  /** The value whose canonical encoding the bytes are. */
-  decode(bytes: Bytes, options?: Options): Decoded;
+  /** The value whose canonical encoding the bytes are. No bytes at all are the empty string, as for `@ethereumjs/rlp`. */
+  decode(bytes: Text, options?: false | (Options & { stream?: false })): Decoded;
+  /** The value of the item that the bytes begin with, and the bytes behind it. */
+  decode(bytes: Text, options: true | (Options & { stream: true })): First;
   isCanonical(bytes: Bytes, options?: Options): boolean;
   /** The items of the canonical encoding that the bytes are. Nothing is copied out of the library's memory. */
   flatten(bytes: Bytes, options?: Options): Rows;
+  /** The item whose canonical encoding the bytes are, of which only what is asked for is made. */
+  tree(bytes: Bytes, options?: Options): Tree;
   /** The items up to the first fault, which is null if there is none. */
   inspect(bytes: Bytes, options?: Options): { rows: Rows; fault: RlpError | null };
   /** The item that the bytes begin with. Others may follow it. */
@@ -197,7 +229,7 @@ export class Codec {
 
 export type Functions = Pick<
   Codec,
-  "encode" | "decode" | "isCanonical" | "flatten" | "inspect" | "header" | "transaction" | "headerFields"
+  "encode" | "decode" | "isCanonical" | "flatten" | "tree" | "inspect" | "header" | "transaction" | "headerFields"
 >;
 
 /** Compiles the module, from its bytes or the answer of `fetch`, and makes a codec with a memory of its own. */

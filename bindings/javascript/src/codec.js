@@ -212,6 +212,78 @@ function itemAt(words, at) {
   };
 }
 
+/** An item of an encoding, with the items in it, which are made when they are asked for. */
+export class Tree {
+  #words;
+  #buffer;
+  #at;
+  #places;
+
+  /** The words are the rows of all items, and the buffer begins with the bytes. */
+  constructor(words, buffer, at) {
+    this.#words = words;
+    this.#buffer = buffer;
+    this.#at = at;
+  }
+
+  get offset() {
+    return wordsAt(this.#words, this.#at);
+  }
+
+  get headerLength() {
+    return this.#words[this.#at + HEADER_LEN];
+  }
+
+  get payloadLength() {
+    return wordsAt(this.#words, this.#at + PAYLOAD_LEN);
+  }
+
+  get depth() {
+    return this.#words[this.#at + DEPTH];
+  }
+
+  get isList() {
+    return this.#words[this.#at + IS_LIST] !== 0;
+  }
+
+  /** The payload: the bytes of a string, or the encodings of a list's items. */
+  get bytes() {
+    return new Uint8Array(this.#buffer, this.offset + this.headerLength, this.payloadLength);
+  }
+
+  /** Where the rows of a list's items are. */
+  #items() {
+    if (this.#places) return this.#places;
+    const words = this.#words;
+    const depth = words[this.#at + DEPTH];
+    this.#places = [];
+    for (let at = this.#at + 8; at < words.length && words[at + DEPTH] > depth; at += 8) {
+      if (words[at + DEPTH] === depth + 1) this.#places.push(at);
+    }
+    return this.#places;
+  }
+
+  /** The number of a list's items. A string has none. */
+  get length() {
+    return this.#items().length;
+  }
+
+  /** An item of a list by its place, which counts from the end if it is negative. */
+  at(index) {
+    const at = this.#items().at(index);
+    return at === undefined ? undefined : new Tree(this.#words, this.#buffer, at);
+  }
+
+  *[Symbol.iterator]() {
+    for (const at of this.#items()) yield new Tree(this.#words, this.#buffer, at);
+  }
+
+  /** The value, as `decode` gives it. */
+  value() {
+    return this.isList ? Array.from(this, (item) => item.value()) : this.bytes;
+  }
+}
+
 /** The memory of the library behind what it needs itself. Each call takes it from its begin, so nothing has to be freed. */
 class Arena {
   constructor({ memory, __heap_base: base }) {
@@ -288,28 +360,37 @@ export class Codec {
     return bytes.buffer === this.#arena.buffer ? bytes.slice() : bytes;
   }
 
+  /** Where the item ends that the bytes in the arena begin with. */
+  #firstEnd(length) {
+    const { start, result, words } = this.#arena;
+    const status = this.#calls.rlp_header(BigInt(start), BigInt(length), BigInt(result));
+    if (status !== OK) throw new RlpError(status, { place: 0 });
+    return wordsAt(words, result / 4 + HEADER_LEN) + wordsAt(words, result / 4 + PAYLOAD_LEN);
+  }
+
   /** Calls a function that fills rows behind the bytes, with all the room that there is, and once more with what it needs. */
-  #fill(bytes, call) {
+  #fill(bytes, call, isFirst = false) {
     const arena = this.#arena;
     const rows = arena.begin(bytes);
-    const ask = () => call(BigInt(arena.start), BigInt(bytes.length), BigInt(rows), BigInt(Math.floor((arena.size - rows) / ROW)), BigInt(arena.result));
+    const length = isFirst ? this.#firstEnd(bytes.length) : bytes.length;
+    const ask = () => call(BigInt(arena.start), BigInt(length), BigInt(rows), BigInt(Math.floor((arena.size - rows) / ROW)), BigInt(arena.result));
     let status = ask();
     if (status === NO_ROOM) {
       arena.reach(rows + arena.count * ROW);
       status = ask();
     }
-    return { status, rows, count: arena.count };
+    return { status, rows, length, count: arena.count };
   }
 
-  #flattened(bytes, depth) {
-    return this.#fill(bytes, (at, len, rows, cap, count) => this.#calls.rlp_flatten(at, len, depth, rows, cap, count));
+  #flattened(bytes, depth, isFirst) {
+    return this.#fill(bytes, (at, len, rows, cap, count) => this.#calls.rlp_flatten(at, len, depth, rows, cap, count), isFirst);
   }
 
-  #rowsOf(bytes, maxDepth) {
+  /** The rows of all the bytes, or of the item that they begin with. */
+  #rowsOf(bytes, maxDepth, isFirst = false) {
     const depth = depthOf(maxDepth);
-    const { length } = bytes;
-    const found = this.#flattened(bytes, depth);
-    if (found.status !== OK) throw new RlpError(found.status, { place: this.#walk(length, depth) });
+    const found = this.#flattened(bytes, depth, isFirst);
+    if (found.status !== OK) throw new RlpError(found.status, { place: this.#walk(found.length, depth) });
     return found;
   }
 
@@ -321,7 +402,7 @@ export class Codec {
 
   /** Where the item begins that rlp_flatten refuses: its walk once more, header by header, over the bytes in the arena. */
   #walk(length, maxDepth, see) {
-    const { rlp_header: header, rlp_decode_bytes: string } = this.#calls;
+    const calls = this.#calls;
     const { start, result, words } = this.#arena;
     const [at, out] = [result / 4, BigInt(result)];
     const ends = [length];
@@ -330,7 +411,7 @@ export class Codec {
       while (ends.length > 1 && place === ends[ends.length - 1]) ends.pop();
       const open = ends.length - 1;
       const from = BigInt(start + place);
-      if (header(from, BigInt(ends[open] - place), out) !== OK) return place;
+      if (calls.rlp_header(from, BigInt(ends[open] - place), out) !== OK) return place;
       const begin = place + words[at + HEADER_LEN];
       const size = wordsAt(words, at + PAYLOAD_LEN);
       const isList = words[at + IS_LIST];
@@ -338,7 +419,7 @@ export class Codec {
       if (open === 0 && end < length) return place;
       if (isList && open === maxDepth) return place;
       // Only a string of one byte with a header may have a fault that its header doesn't.
-      if (!isList && size === 1 && begin > place && string(from, BigInt(end - place), 1, out) !== OK) return place;
+      if (!isList && size === 1 && begin > place && calls.rlp_decode_bytes(from, BigInt(end - place), 1, out) !== OK) return place;
       see?.(place, begin - place, size, open, isList);
       if (isList) ends.push(end);
       else if (open === 0) return end;
@@ -399,12 +480,9 @@ export class Codec {
     return bytes.slice(to, to + arena.count);
   }
 
-  decode(input, { maxDepth = DEPTH_LIMIT } = {}) {
-    const bytes = this.#outside(bytesOf(input));
-    const { length } = bytes;
-    const { rows, count } = this.#rowsOf(bytes, maxDepth);
+  /** The values of rows, whose strings share one copy of the bytes. */
+  #valuesOf({ rows, count, length }) {
     const { words, start } = this.#arena;
-    // One copy holds all strings.
     const { buffer } = this.#arena.bytes.slice(start, start + length);
     const lists = [];
     let whole;
@@ -422,6 +500,24 @@ export class Codec {
       else lists[depth - 1].push(value);
     }
     return whole;
+  }
+
+  decode(input, options = false) {
+    const { maxDepth = DEPTH_LIMIT, stream = false } = typeof options === "object" && options !== null ? options : { stream: Boolean(options) };
+    const bytes = this.#outside(stringOf(input));
+    const found = bytes.length > 0 && this.#rowsOf(bytes, maxDepth, stream);
+    const data = found ? this.#valuesOf(found) : new Uint8Array(0);
+    return stream ? { data, remainder: bytes.slice(found ? found.length : 0) } : data;
+  }
+
+  /** The whole item. Its rows and bytes are copied, and what is in it is made when it is asked for. */
+  tree(input, { maxDepth = DEPTH_LIMIT } = {}) {
+    const bytes = this.#outside(bytesOf(input));
+    const { rows, count } = this.#rowsOf(bytes, maxDepth);
+    const { buffer, start } = this.#arena;
+    // The rows follow the bytes, so that one copy has both.
+    const copy = buffer.slice(start, rows + count * ROW);
+    return new Tree(new Uint32Array(copy, rows - start, count * 8), copy, 0);
   }
 
   isCanonical(input, { maxDepth = DEPTH_LIMIT } = {}) {
@@ -554,7 +650,7 @@ export async function load(source) {
 
 /** The functions of a codec, each by itself. */
 export function functionsOf(codec) {
-  const names = ["encode", "decode", "isCanonical", "flatten", "inspect", "header", "transaction", "headerFields"];
+  const names = ["encode", "decode", "isCanonical", "flatten", "tree", "inspect", "header", "transaction", "headerFields"];
   return Object.fromEntries(names.map((name) => [name, codec[name].bind(codec)]));
 }
 

@@ -1,4 +1,4 @@
-// page.js PAGE [PICTURES]: tests inspector.html in Chromium, which CHROMIUM may name, and puts pictures into a folder.
+// page.js PAGE PACKAGE [PICTURES]: tests inspector.html and the package in Chromium, which CHROMIUM may name, and puts pictures into a folder.
 // It ends with `N passed, M failed`. It speaks to the browser through a pipe, so it needs no package.
 import { spawn } from "node:child_process";
 import fs from "node:fs";
@@ -8,7 +8,7 @@ import path from "node:path";
 import { fileURLToPath, pathToFileURL } from "node:url";
 
 const here = path.dirname(fileURLToPath(import.meta.url));
-const [page, pictures] = process.argv.slice(2);
+const [page, packaged, pictures] = process.argv.slice(2);
 const folder = fs.mkdtempSync(path.join(os.tmpdir(), "page-"));
 const flags = ["--headless=new", "--remote-debugging-pipe", `--user-data-dir=${folder}`, "--no-first-run", "--disable-gpu", "--hide-scrollbars", "--disable-background-networking", "--disable-component-update", "--no-sandbox"];
 const browser = spawn(process.env.CHROMIUM ?? "chromium", [...flags, "about:blank"], { stdio: ["ignore", "ignore", "ignore", "pipe", "pipe"] });
@@ -309,7 +309,7 @@ const cases = {
   async "the package in a browser"() {
     const types = { ".js": "text/javascript", ".wasm": "application/wasm" };
     const server = createServer((request, answer) => {
-      const file = path.join(path.dirname(page), path.normalize(request.url));
+      const file = path.join(packaged, path.normalize(request.url));
       if (!file.endsWith(".html") && !fs.existsSync(file)) return void answer.writeHead(404).end();
       answer.writeHead(200, { "Content-Type": types[path.extname(file)] ?? "text/html" }).end(file.endsWith(".html") ? "<!doctype html><title>empty</title>" : fs.readFileSync(file));
     });

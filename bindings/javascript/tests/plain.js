@@ -54,6 +54,12 @@ export function decode(data, maxDepth = 256) {
   return item(data, 0, data.length, maxDepth)[0];
 }
 
+/** The value of the item that the bytes begin with, and the bytes behind it. */
+export function first(data, maxDepth = 256) {
+  const [value, end] = item(data, 0, data.length, maxDepth);
+  return [value, data.slice(end)];
+}
+
 /** The rows of the items, as objects. */
 export function flatten(data) {
   if (header(data, 0, data.length)[1] < data.length) throw new Fault("RlpIsTooBig", 0);

@@ -91,9 +91,11 @@ const rowsOf = (name) => fs.readFileSync(path.join(here, "../..", name), "utf8")
 function testVectors() {
   for (const row of rowsOf("vectors")) {
     const [digits, wanted] = row.split(" => ");
-    const found = told(rlp.decode, `0x${digits}`);
-    const told_ = found.fault ? `${found.fault} at ${found.place}` : text(found);
-    check(row.slice(0, 99), told_, wanted);
+    // No bytes have a value for `decode` alone.
+    const found = digits ? told(rlp.decode, `0x${digits}`) : told(rlp.flatten, "0x");
+    check(row.slice(0, 99), found.fault ? `${found.fault} at ${found.place}` : text(found), wanted);
+    const read = told(rlp.tree, `0x${digits}`);
+    check(`tree ${digits.slice(0, 99)}`, read.fault ? `${read.fault} at ${read.place}` : text(read.value()), wanted);
     check(`canonical ${digits.slice(0, 99)}`, rlp.isCanonical(`0x${digits}`), !wanted.includes(" at "));
     if (!found.fault) check(`again ${digits.slice(0, 99)}`, rlp.toHex(rlp.encode(found)), `0x${digits}`);
   }
@@ -138,6 +140,25 @@ function testRecords() {
   }
 }
 
+/** The value by the items that are asked for one by one, from the last, or the fault. */
+function treeOf(data, maxDepth) {
+  const read = (item) => {
+    if (!item.isList) return Uint8Array.from(item.bytes);
+    return Array.from({ length: item.length }, (_, at) => read(item.at(-1 - at))).reverse();
+  };
+  const found = told(rlp.tree, data, { maxDepth });
+  return found.fault ? found : read(found);
+}
+
+/** Whether the first item and the bytes behind it are as plain code finds them, where bytes follow. */
+function holdsInStream(data, maxDepth) {
+  const more = plain.joined([data, Uint8Array.from({ length: below(4) }, () => below(256))]);
+  const wanted = told(plain.first, more, maxDepth);
+  const found = told(rlp.decode, more, { maxDepth, stream: true });
+  if (more.length === 0) return isDeepStrictEqual(found, { data: more, remainder: more });
+  return isDeepStrictEqual(found.fault ? found : [plainBytes(found.data), found.remainder], wanted);
+}
+
 function testRandom() {
   for (let count = 0; count < COUNT; count++) {
     const value = randomValue(below(6));
@@ -149,7 +170,9 @@ function testRandom() {
     const maxDepth = random() < 0.75 ? 256 : below(5);
     const wanted = told(plain.decode, data, maxDepth);
     const found = told(rlp.decode, data, { maxDepth });
-    let holds = wrote && isDeepStrictEqual(wanted.fault ? found : plainBytes(found), wanted);
+    let holds = wrote && (data.length === 0 || isDeepStrictEqual(wanted.fault ? found : plainBytes(found), wanted));
+    holds &&= holdsInStream(data, maxDepth);
+    holds &&= isDeepStrictEqual(treeOf(data, maxDepth), wanted);
     holds &&= rlp.isCanonical(data, { maxDepth }) === !wanted.fault;
     if (holds && !wanted.fault) {
       holds &&= isDeepStrictEqual([...rlp.flatten(data, { maxDepth })], plain.flatten(data));
@@ -243,6 +266,43 @@ function testNames() {
   check("no address", rlp.transaction(rlp.encode([1, 1, 1, null, 1, "", 27, 1, 1])).fields.to, null);
 }
 
+/** What `decode` takes and gives, as `@ethereumjs/rlp` has it. */
+function testDecode() {
+  const [empty, cat] = [new Uint8Array(0), rlp.fromHex("0x636174")];
+  const cases = [
+    [null, empty], [undefined, empty], ["", empty], ["0x", empty], [empty, empty], [0, empty], [0n, empty], [5, Uint8Array.of(5)],
+    [0x83636174, cat], [0x83636174n, cat], ["0x83636174", cat], ["0x5", Uint8Array.of(5)], ["k", Uint8Array.of(0x6b)], [0xc0, []],
+    [Buffer.from("83636174", "hex"), cat], [0xc3c20102, [[Uint8Array.of(1), Uint8Array.of(2)]]],
+  ];
+  for (const [given, wanted] of cases) {
+    check(`decode ${String(given)}`, rlp.decode(given), wanted);
+    check(`decode ${String(given)}, no stream`, rlp.decode(given, false), wanted);
+  }
+  for (const given of [[], ["0x80"], {}, true, -1, 1.5, 2 ** 53, "0xgg", () => 1]) check(`no byte string: ${String(given)}`, thrown(rlp.decode, given), "TypeError");
+  check("text with more behind it", thrown(rlp.decode, "cat"), "RlpIsTooBig");
+  check("stream", rlp.decode("0x83636174c0ff", true), { data: cat, remainder: Uint8Array.of(0xc0, 0xff) });
+  check("stream, the last", rlp.decode(Uint8Array.of(0xc0), true), { data: [], remainder: empty });
+  check("stream, nothing", rlp.decode(null, true), { data: empty, remainder: empty });
+  check("stream, a fault", told(rlp.decode, "0xc3028105c0", true), { fault: "RlpInvalidIndirection", place: 2 });
+  check("stream, too short", told(rlp.decode, "0x836361", true), { fault: "RlpIsTooShort", place: 0 });
+  const bytes = rlp.fromHex("0x83636174c0");
+  const { data, remainder } = rlp.decode(bytes, true);
+  bytes.fill(0);
+  check("what was given may change", [data, remainder], [cat, Uint8Array.of(0xc0)]);
+  check("RLP", [rlp.RLP.encode, rlp.RLP.decode], [rlp.encode, rlp.decode]);
+}
+
+function testTree() {
+  const item = rlp.tree("0xca83636174c583646f6780");
+  check("its parts", [item.isList, item.length, item.offset, item.headerLength, item.payloadLength, item.depth], [true, 2, 0, 1, 10, 0]);
+  const [cat, list] = item;
+  check("a string", [cat.isList, cat.length, rlp.toHex(cat.bytes), cat.at(0), [...cat]], [false, 0, "0x636174", undefined, []]);
+  check("a list", [list.isList, list.length, list.offset, list.depth, rlp.toHex(list.bytes)], [true, 2, 5, 1, "0x83646f6780"]);
+  check("by place", [rlp.toHex(list.at(0).bytes), list.at(-1).payloadLength, list.at(2), list.at(-3)], ["0x646f67", 0, undefined, undefined]);
+  rlp.tree("0x80");
+  check("after another call", rlp.toHex(rlp.encode(item.value())), "0xca83636174c583646f6780");
+}
+
 function testValues() {
   const hex = (value) => rlp.toHex(rlp.encode(value));
   const cases = [
@@ -257,8 +317,9 @@ function testValues() {
     check(`no encoding: ${String(value)}`, thrown(rlp.encode, [value]), "TypeError");
   }
   for (const value of ["cat", 5, null, undefined, [], "0xabc", "0xzz"]) {
-    for (const name of ["decode", "isCanonical", "flatten", "header", "transaction", "headerFields"]) check(`no bytes: ${name} ${value}`, thrown(rlp[name], value), "TypeError");
+    for (const name of ["tree", "isCanonical", "flatten", "header", "transaction", "headerFields"]) check(`no bytes: ${name} ${value}`, thrown(rlp[name], value), "TypeError");
   }
+  testDecode();
   for (const maxDepth of [-1, 1.5, "9", NaN]) check(`depth ${maxDepth}`, thrown(rlp.decode, "0x80", { maxDepth }), "RangeError");
   const round = [];
   round.push(round);
@@ -303,6 +364,7 @@ async function testMemory() {
   const data = rlp.fromHex("0xcc83646f6783676f6483636174");
   const turn = () => {
     codec.decode(data);
+    codec.tree(data).at(1);
     codec.encode(["dog", ["god", 5]]);
     codec.isCanonical(data);
     codec.flatten(data);
@@ -311,14 +373,14 @@ async function testMemory() {
   for (let count = 0; count < 20_000; count++) turn();
   globalThis.gc?.();
   const [size, heap] = [codec.memorySize, process.memoryUsage().heapUsed];
-  for (let count = 0; count < 200_000; count++) turn();
+  for (let count = 0; count < 170_000; count++) turn();
   globalThis.gc?.();
   check("the memory after 10^6 calls more", codec.memorySize, size);
   checkThat("the heap after them", process.memoryUsage().heapUsed - heap < 2 ** 21);
 }
 
 const began = Date.now();
-for (const test of [testVectors, testRecords, testNames, testValues, testRandom, testSpoiledRecords, testStatuses, testMemory]) {
+for (const test of [testVectors, testRecords, testNames, testValues, testTree, testRandom, testSpoiledRecords, testStatuses, testMemory]) {
   await test();
   console.log(`${test.name}: ${((Date.now() - began) / 1000).toFixed(1)} s`);
 }
