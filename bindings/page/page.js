@@ -10,6 +10,15 @@ const LARGE_JSON = 1 << 15;
 const LINE = 22;
 const NODE = 24;
 const NOTHING = -1;
+// A node record has no more bytes than this, and a link carries no more.
+const MOST_OF_NODE = 300;
+const MOST_OF_LINK = 1 << 15;
+// Statuses of the library.
+const TOO_BIG = 1;
+const MISSING_FIELD = 5;
+const UNKNOWN_TYPE = 16;
+// The number of the first field of a signature, by type.
+const FIRST_OF_SIGNATURE = { 0: 7, 1: 9, 2: 10, 3: 12, 4: 11 };
 
 const EXAMPLES = {
   "first transaction of the main network":
@@ -21,6 +30,10 @@ const EXAMPLES = {
     "f90211a0d4e56740f876aef8c010b86a40d5f56745a118d0906a34e69aec8c0db1cb8fa3a01dcc4de8dec75d7aab85b567b6ccd41ad312451b948a7413f0a142fd40d493479405a56e2d52c817161883f50c441c3228cfe54d9fa0d67e4d450343046425ae4271474353857ab860dbc0a1dde64b41b5cd3a532bf3a056e81f171bcc55a6ff8345e692c0f86e5b48e01b996cadc001622fb5e363b421a056e81f171bcc55a6ff8345e692c0f86e5b48e01b996cadc001622fb5e363b421b90100" +
     "00".repeat(256) +
     "8503ff80000001821388808455ba422499476574682f76312e302e302f6c696e75782f676f312e342e32a0969b900de27b6ac6a67742365dd65f55a0526c41fd18e1b16f1a1215c2e66f5988539bd4979fef1ec4",
+  "unsigned transaction of EIP-155":
+    "ec098504a817c800825208943535353535353535353535353535353535353535880de0b6b3a764000080018080",
+  "node record of EIP-778":
+    "enr:-IS4QHCYrYZbAKWCBRlAy5zzaDZXJBGkcnh4MHcBFZntXNFrdvJjX04jRzjzCBOonrkTfj499SZuOh8R33Ls8RRcy5wBgmlkgnY0gmlwhH8AAAGJc2VjcDI1NmsxoQPKY0yuDUmstAHYpMa2_oxVtw0RW_QAdpzBQA8yWM0xOIN1ZHCCdl8",
   "lists in lists": "cc83646f67c783676f64c2c180",
   "a needless header": "cd83646f6783676f648105c20102",
 };
@@ -83,50 +96,142 @@ let cursor = 0;
 let perLine = 16;
 let hasText = true;
 let waiting;
+// How many inputs were given. What is read of an earlier one isn't wanted any more.
+let turn = 0;
 
 // ---- What is read ----
 
+/** The transaction that some bytes are, or that they are the signing bytes of: then it is one with an empty signature. */
+function transactionOf(bytes) {
+  try {
+    const found = codec.transaction(bytes);
+    const { v, r, s } = found.fields;
+    const isUnsigned = found.type === 0 && v > 0n && r === 0n && s === 0n;
+    return isUnsigned ? { ...found, isUnsigned, chain: v } : found;
+  } catch (error) {
+    const isShort = error instanceof RlpError && error.status === MISSING_FIELD && error.field === FIRST_OF_SIGNATURE[bytes[0] < 0xc0 ? bytes[0] : 0];
+    if (!isShort) throw error;
+    return unsignedOf(bytes, error);
+  }
+}
+
+/** The transaction of signing bytes, which lack the three fields of the signature. Otherwise it throws the error. */
+function unsignedOf(bytes, error) {
+  const start = bytes[0] < 0xc0 ? 1 : 0;
+  const part = bytes.subarray(start);
+  if (!codec.isCanonical(part)) throw error;
+  const signed = codec.encode([...codec.decode(part), "", "", ""]);
+  const whole = new Uint8Array(start + signed.length);
+  whole.set(bytes.subarray(0, start));
+  whole.set(signed, start);
+  let found;
+  try {
+    found = codec.transaction(whole);
+  } catch {
+    throw error;
+  }
+  const places = Array.from(codec.tree(part), ({ offset, headerLength, payloadLength }) => ({ offset: offset + start, headerLength, payloadLength }));
+  return { ...found, isUnsigned: true, items: places.map((place, at) => ({ ...found.items[at], ...place })) };
+}
+
+const NUMBERS_OF_NODES = ["seq", "tcp", "tcp6", "udp", "udp6"];
+
+/** The node record that some bytes are, by its shape: a signature of 64 bytes, a number, and keys in order with values. */
+function nodeRecordOf(bytes) {
+  if (bytes.length > MOST_OF_NODE || bytes[0] < 0xc0 || !codec.isCanonical(bytes)) return null;
+  const items = [...codec.tree(bytes)];
+  const keys = items.filter((_, at) => at >= 2 && at % 2 === 0);
+  const isNamed = keys.every((key) => !key.isList && key.payloadLength > 0 && printable(key.bytes));
+  if (items.length < 2 || items.length % 2 || items[0].payloadLength !== 64 || items[0].isList || items[1].payloadLength > 8 || !isNamed) return null;
+  const names = keys.map((key) => letters(key.bytes));
+  if (names.some((name, at) => at > 0 && name <= names[at - 1])) return null;
+  const all = [["signature", items[0]], ["seq", items[1]], ...names.map((name, at) => [name, items[3 + at * 2]])];
+  const shown = all.map(([name, { offset, headerLength, payloadLength, isList }]) => ({
+    name, offset, headerLength, payloadLength, kind: isList ? "list" : NUMBERS_OF_NODES.includes(name) ? "number" : name === "id" ? "text" : "bytes",
+  }));
+  const valueOf = (item, { name, kind }) => {
+    if (kind === "list") return item.value();
+    if (kind === "number") return item.payloadLength > 0 ? BigInt(toHex(item.bytes)) : 0n;
+    return item.bytes;
+  };
+  return { what: "node record", items: shown, fields: Object.fromEntries(all.map(([name, item], at) => [name, valueOf(item, shown[at])])) };
+}
+
+/** Gives others a turn. */
+const others = () => new Promise((resolve) => setTimeout(resolve));
+
+/** What an iterator returns in the end, with turns for others in between, or null if it isn't wanted any more. */
+async function inTurns(steps, isWanted) {
+  for (;;) {
+    const { done, value } = steps.next();
+    if (done) return value;
+    await others();
+    if (!isWanted()) return null;
+  }
+}
+
 /** The items of some bytes, the first fault, and the fields where they are a record. */
 class View {
-  constructor(bytes, kind) {
+  constructor(bytes) {
     this.bytes = bytes;
     this.fault = null;
     this.record = null;
     this.recordFault = null;
     this.hints = [];
+    this.marks = new Map();
+    this.closed = new Set();
     this.start = 0;
-    this.#readRecord(kind);
-    const part = bytes.subarray(this.start);
-    let { rows, fault } = codec.inspect(part);
-    if (fault) {
-      const place = fault.place + this.start;
-      this.fault = { name: fault.name, why: new RlpError(fault.status, { place }).message, place, mark: place };
-    }
-    if (fault?.status === 1 && fault.place === 0) {
-      // The item is shown, and the bytes behind it are marked.
-      const { headerLength, payloadLength } = codec.header(part);
-      ({ rows } = codec.inspect(part.subarray(0, headerLength + payloadLength)));
-      this.fault.mark = this.start + headerLength + payloadLength;
-    }
-    this.words = rows.words;
-    this.count = rows.length;
-    this.parents = new Int32Array(this.count).fill(NOTHING);
-    this.children = new Uint32Array(this.count);
-    this.ranks = new Uint32Array(this.count);
+  }
+
+  /** Reads bytes, with turns for others in between. If the view isn't wanted any more, there is none. */
+  static async of(bytes, kind, isWanted) {
+    const made = new View(bytes);
+    made.#readRecord(kind);
+    if (bytes.length > LARGE_JSON) await others();
+    const rows = isWanted() && (await made.#rows(isWanted));
+    if (!rows) return null;
+    if (bytes.length > LARGE_JSON) await others();
+    made.#read(rows);
+    return made;
+  }
+
+  /** The rows of the items up to the first fault, which is kept. */
+  async #rows(isWanted) {
+    const part = this.bytes.subarray(this.start);
+    const found = await inTurns(codec.inspectInSteps(part), isWanted);
+    if (!found?.fault) return found?.rows;
+    const { fault } = found;
+    const place = fault.place + this.start;
+    this.fault = { name: fault.name, why: new RlpError(fault.status, { place }).message, place, mark: place };
+    if (fault.status !== TOO_BIG || fault.place > 0) return found.rows;
+    // The item is shown, and the bytes behind it are marked.
+    const { headerLength, payloadLength } = codec.header(part);
+    this.fault.mark = this.start + headerLength + payloadLength;
+    return (await inTurns(codec.inspectInSteps(part.subarray(0, headerLength + payloadLength)), isWanted))?.rows;
+  }
+
+  /** What the page asks of each item, by its row. */
+  #read({ words, length }) {
+    this.words = words;
+    this.count = length;
+    this.parents = new Int32Array(length).fill(NOTHING);
+    this.children = new Uint32Array(length);
+    this.ranks = new Uint32Array(length);
     this.deepest = 0;
     const open = [];
-    for (let item = 0; item < this.count; item++) {
-      const depth = this.depth(item);
+    for (let item = 0; item < length; item++) {
+      const depth = words[item * 8 + 6];
       open[depth] = item;
       if (depth === 0) continue;
       this.parents[item] = open[depth - 1];
       this.ranks[item] = ++this.children[open[depth - 1]];
-      this.deepest = Math.max(this.deepest, depth);
+      if (depth > this.deepest) this.deepest = depth;
     }
-    this.closed = new Set();
     this.names = new Map(this.record?.items.map(({ offset, name }) => [offset, name]));
     const fits = { transaction: [9], header: [15, 16, 17, 20, 21] };
     this.hints = this.hints.filter(({ what }) => !this.fault && fits[what].includes(this.children[0]));
+    if (this.recordFault?.error.place !== undefined) this.marks.set(this.recordFault.error.place, toldOf(this.recordFault.error));
+    if (this.fault) this.marks.set(this.fault.mark, `${this.fault.name}: ${this.fault.why}`);
     this.list();
   }
 
@@ -142,15 +247,19 @@ class View {
       }
       return this.record !== null;
     };
-    const isTransaction = () => attempt("transaction", () => codec.transaction(bytes));
+    const isTransaction = () => attempt("transaction", () => transactionOf(bytes));
     if (kind === "transaction") isTransaction();
     if (kind === "header") attempt("header", () => codec.headerFields(bytes));
+    if (kind === "node record") {
+      this.record = nodeRecordOf(bytes);
+      this.recordFault = { what: kind, error: new TypeError("it has a signature of 64 bytes, a number, and keys in order with their values") };
+    }
     if (kind === "guess" && bytes.length > 0 && !isTransaction()) {
       const ofTransaction = this.recordFault;
-      const known = isTyped && ofTransaction.error.status !== 16;
-      if (!known) attempt("header", () => codec.headerFields(bytes));
+      const known = isTyped && ofTransaction.error.status !== UNKNOWN_TYPE;
+      if (!known && !attempt("header", () => codec.headerFields(bytes))) this.record = nodeRecordOf(bytes);
       // A list with the right number of fields may be meant as a record.
-      const isMeant = ({ error }) => error.field > 0 && error.status !== 5;
+      const isMeant = ({ error }) => error.field > 0 && error.status !== MISSING_FIELD;
       this.hints = this.record || known ? [] : [ofTransaction, this.recordFault].filter(isMeant);
       if (!known) this.recordFault = null;
     }
@@ -228,6 +337,7 @@ class View {
 
 // ---- What is shown ----
 
+const TEXTS = ["data", "extraData", "id"];
 const printable = (bytes) => bytes.length > 0 && bytes.every((byte) => byte >= 0x20 && byte < 0x7f);
 const letters = (bytes) => String.fromCharCode(...bytes);
 
@@ -237,6 +347,14 @@ function shortHex(bytes, most) {
 
 function nameOf(item) {
   return view.depth(item) === 1 ? view.names.get(view.offset(item)) : undefined;
+}
+
+/** Whether a string may be shown as text: not an address, a hash or a number, whatever its bytes are. */
+function isText(item) {
+  const length = view.payload(item);
+  if (!view.record) return length !== 20 && length !== 32;
+  const name = nameOf(item);
+  return TEXTS.includes(name) || (view.record.what === "node record" && name === undefined);
 }
 
 function whatOf(item) {
@@ -314,7 +432,7 @@ function nodeOf(line) {
   if (!isList && view.payload(item) > 0) {
     const from = view.offset(item) + view.head(item);
     const bytes = view.bytes.subarray(from, from + Math.min(view.payload(item), 48));
-    node.append(element("span", "value", printable(bytes) ? `“${letters(bytes)}”` : toHex(bytes)));
+    node.append(element("span", "value", isText(item) && printable(bytes) ? `“${letters(bytes)}”` : toHex(bytes)));
   }
   return node;
 }
@@ -458,7 +576,8 @@ function showRecord() {
     row.dataset.item = item;
     if (kind === "number") shown.append(element("span", "", value.toString()), element("span", "hex", `0x${value.toString(16)}`));
     else shown.append(element("span", "", textOf(value)));
-    if ((name === "data" || name === "extraData") && printable(value)) shown.append(element("span", "hex", `“${letters(value.subarray(0, 200))}”`));
+    if (name === "ip" && payloadLength === 4) shown.append(element("span", "hex", [...value].join(".")));
+    if (TEXTS.includes(name) && printable(value)) shown.append(element("span", "hex", `“${letters(value.subarray(0, 200))}”`));
     const cell = element("td");
     cell.append(button);
     row.append(cell, shown, element("td", "", numbered(offset)), element("td", "", `${headerLength} + ${numbered(payloadLength)}`));
@@ -466,10 +585,20 @@ function showRecord() {
     return row;
   });
   the("record").tBodies[0].replaceChildren(...rows);
-  if (record) the("record-note").textContent = record.what === "header" ? `A block header with ${record.items.length} fields, as since ${record.fork}.` : `${named(record)}, type ${record.type}. Length is header + payload.`;
+  if (record) the("record-note").textContent = `${named(record)} Length is header + payload.${record.what === "node record" ? " Its names are read by this page alone, and its signature isn't checked." : ""}`;
 }
 
-const named = ({ typeName }) => `${typeName.startsWith("EIP") ? "An" : "A"} ${typeName} transaction`;
+/** What a record is. */
+function named(record) {
+  const { what, typeName, isUnsigned, chain } = record;
+  if (what === "node record") return "A node record, by its shape.";
+  if (what === "header") return `A block header, as since ${record.fork}.`;
+  const forChain = chain === undefined ? "" : ` for chain ${chain}`;
+  if (isUnsigned) return `An unsigned ${typeName} transaction${forChain}: these are the bytes that are signed.`;
+  return `${typeName.startsWith("EIP") ? "An" : "A"} ${typeName} transaction.`;
+}
+
+const toldOf = (error) => (error instanceof RlpError ? `${error.name}: ${error.message}` : error.message);
 
 function showVerdict() {
   const { fault, record, recordFault, count, bytes } = view;
@@ -480,9 +609,9 @@ function showVerdict() {
     parts.push(count > 1 ? `, ${counted(count, "item")} in all, lists ${view.deepest} deep.` : ".");
   }
   if (fault && fault.mark !== fault.place) parts.push(` The item ends before byte ${numbered(fault.mark)}, which is marked.`);
-  if (record) parts.push(record.what === "header" ? ` A block header, as since ${record.fork}.` : ` ${named(record)}.`);
+  if (record) parts.push(` ${named(record)}`);
   for (const { what, error } of view.hints) parts.push(` As a ${what === "header" ? "block header" : what} it has a fault: ${error.name}: ${error.message}.`);
-  if (recordFault) parts.push(` No ${recordFault.what === "header" ? "block header" : "transaction"}: ${recordFault.error.name}: ${recordFault.error.message}.`);
+  if (recordFault) parts.push(` No ${recordFault.what === "header" ? "block header" : recordFault.what}: ${toldOf(recordFault.error)}.`);
   the("verdict").textContent = parts.join("");
   the("verdict").className = `verdict ${fault || recordFault ? "bad" : "good"}`;
 }
@@ -503,17 +632,20 @@ function showJson(asked) {
 }
 
 /** Shows bytes, which come from a box, a file or the JSON. */
-function show(bytes, { note = "", fromJson = false } = {}) {
+async function show(bytes, { note = "", fromJson = false } = {}) {
+  const mine = ++turn;
   the("input-note").textContent = note;
+  the("link-note").textContent = "";
   active = NOTHING;
   cursor = 0;
   view = null;
   if (bytes.length > MOST_BYTES) return refuse(`There are ${counted(bytes.length, "byte")}. This page reads up to ${numbered(MOST_BYTES)}.`);
+  const made = await View.of(bytes, the("kind").value, () => turn === mine);
+  if (bytes.length > LARGE_JSON) await others();
+  if (turn !== mine) return;
+  view = made;
+  the("link").disabled = false;
   the("panes").hidden = false;
-  view = new View(bytes, the("kind").value);
-  view.marks = new Map();
-  if (view.recordFault) view.marks.set(view.recordFault.error.place, `${view.recordFault.error.name}: ${view.recordFault.error.message}`);
-  if (view.fault) view.marks.set(view.fault.mark, `${view.fault.name}: ${view.fault.why}`);
   measure();
   tree.box.scrollTop = 0;
   tree.set(linesOfTree());
@@ -526,7 +658,10 @@ function show(bytes, { note = "", fromJson = false } = {}) {
 }
 
 function refuse(text) {
+  turn++;
   view = null;
+  the("link").disabled = true;
+  the("link-note").textContent = "";
   the("verdict").textContent = text;
   the("verdict").className = "verdict bad";
   the("panes").hidden = true;
@@ -546,18 +681,61 @@ function measure() {
 
 // ---- What is given ----
 
-/** The bytes of digits, between which there may be spaces. */
+/** The bytes of the text of a node record: base64 for addresses of the web, without the equals signs. */
+function bytesOfNodeText(text) {
+  const base64 = text.trim().slice(4);
+  const wrong = /[^A-Za-z0-9_-]/.exec(base64);
+  if (wrong || base64.length % 4 === 1) throw new TypeError("The text behind “enr:” isn't base64 for addresses of the web.");
+  return fromBase64(base64.replaceAll("-", "+").replaceAll("_", "/"));
+}
+
+/** The value of a hexadecimal digit by its character code, or -1. */
+function digitOf(code) {
+  if (code >= 48 && code <= 57) return code - 48;
+  const lower = code | 32;
+  return lower >= 97 && lower <= 102 ? lower - 87 : -1;
+}
+
+function wrongDigit(count, letter) {
+  const shown = printable([letter.codePointAt(0)]) ? `“${letter}”` : `U+${letter.codePointAt(0).toString(16).toUpperCase().padStart(4, "0")}`;
+  return new TypeError(`There is no hexadecimal digit at digit ${numbered(count + 1)}, but ${shown}.`);
+}
+
+/** The bytes of digits, between which there may be spaces, or of the text of a node record. */
 function bytesOfText(text) {
-  const digits = text.replace(/\s+/g, "").replace(/^0x/i, "");
-  const wrong = /[^0-9a-f]/i.exec(digits);
-  if (wrong) {
-    const letter = String.fromCodePoint(digits.codePointAt(wrong.index));
-    throw new TypeError(`There is no hexadecimal digit at digit ${numbered(wrong.index + 1)}, but ${printable([letter.codePointAt(0)]) ? `“${letter}”` : `U+${letter.codePointAt(0).toString(16).toUpperCase().padStart(4, "0")}`}.`);
+  if (/^\s*enr:/.test(text)) return bytesOfNodeText(text);
+  const bytes = new Uint8Array(Math.ceil(text.length / 2));
+  let count = 0;
+  for (let at = /^\s*(?:0x)?/i.exec(text)[0].length; at < text.length; at++) {
+    const digit = digitOf(text.charCodeAt(at));
+    if (digit >= 0) {
+      bytes[count >> 1] = bytes[count >> 1] * 16 + digit;
+      count++;
+    } else if (!/\s/.test(text[at])) throw wrongDigit(count, String.fromCodePoint(text.codePointAt(at)));
   }
-  if (digits.length % 2) throw new TypeError(`There are ${numbered(digits.length)} digits: the last byte has only one.`);
-  const bytes = new Uint8Array(digits.length / 2);
-  for (let at = 0; at < bytes.length; at++) bytes[at] = parseInt(digits.substr(at * 2, 2), 16);
-  return bytes;
+  if (count % 2) throw new TypeError(`There are ${numbered(count)} digits: the last byte has only one.`);
+  return bytes.slice(0, count / 2);
+}
+
+/** Shows the bytes of the address, behind its #. */
+function readLink() {
+  const text = decodeURIComponent(location.hash.slice(1));
+  if (!text) return;
+  the("input").value = text.length > LARGE_TEXT ? "" : text;
+  readText(text);
+}
+
+/** Puts the bytes into the address behind a #, which no browser sends, and copies the address where that is allowed. */
+async function link() {
+  if (!view) return;
+  const { length } = view.bytes;
+  if (length > MOST_OF_LINK) {
+    the("link-note").textContent = `There are ${counted(length, "byte")}. A link carries up to ${numbered(MOST_OF_LINK)}.`;
+    return;
+  }
+  history.replaceState(null, "", `#${toHex(view.bytes)}`);
+  const copied = await navigator.clipboard?.writeText(location.href).then(() => true, () => false);
+  the("link-note").textContent = copied ? "The link is copied. It carries the bytes behind its #, which is sent to nobody." : "The address of this page now carries the bytes behind its #, which is sent to nobody.";
 }
 
 function readText(text) {
@@ -641,6 +819,8 @@ function listen() {
     readText("");
     the("input").focus();
   });
+  the("link").addEventListener("click", link);
+  window.addEventListener("hashchange", readLink);
   the("file").addEventListener("change", () => the("file").files[0] && readFile(the("file").files[0]));
   the("example").append(...Object.keys(EXAMPLES).map((name) => new Option(name, name)));
   the("example").addEventListener("change", () => {
@@ -671,7 +851,8 @@ function listen() {
 try {
   codec = await load(fromBase64(MODULE));
   listen();
-  readText(the("input").value);
+  if (location.hash.length > 1) readLink();
+  else readText(the("input").value);
 } catch (error) {
   refuse(error.message);
 }

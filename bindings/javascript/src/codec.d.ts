@@ -103,6 +103,12 @@ export class Tree implements Iterable<Tree>, Item {
   value(): Decoded;
 }
 
+/** The items of some bytes up to the first fault, which is null if there is none. */
+export interface Inspected {
+  rows: Rows;
+  fault: RlpError | null;
+}
+
 export interface Field extends Item {
   name: string;
   kind: "number" | "bytes" | "to" | "list" | "access" | "authorizations";
@@ -218,7 +224,9 @@ export class Codec {
   /** The item whose canonical encoding the bytes are, of which only what is asked for is made. */
   tree(bytes: Bytes, options?: Options): Tree;
   /** The items up to the first fault, which is null if there is none. */
-  inspect(bytes: Bytes, options?: Options): { rows: Rows; fault: RlpError | null };
+  inspect(bytes: Bytes, options?: Options): Inspected;
+  /** The same in steps of some thousands of items, so that a page stays at work. Other calls of the codec end it by an Error. */
+  inspectInSteps(bytes: Bytes, options?: Options): Generator<number, Inspected, void>;
   /** The item that the bytes begin with. Others may follow it. */
   header(bytes: Bytes): Item;
   /** The transaction that the bytes are by themselves, as in EIP-2718. */
@@ -229,7 +237,7 @@ export class Codec {
 
 export type Functions = Pick<
   Codec,
-  "encode" | "decode" | "isCanonical" | "flatten" | "tree" | "inspect" | "header" | "transaction" | "headerFields"
+  "encode" | "decode" | "isCanonical" | "flatten" | "tree" | "inspect" | "inspectInSteps" | "header" | "transaction" | "headerFields"
 >;
 
 /** Compiles the module, from its bytes or the answer of `fetch`, and makes a codec with a memory of its own. */

@@ -128,6 +128,8 @@ function numberOf(bytes) {
 
 // Where the words of 4 bytes of an item are in its row of 8.
 const ROW = 32;
+// How many items a walk looks at before others have a turn.
+const STEP = 1 << 14;
 const HEADER_LEN = 2;
 const PAYLOAD_LEN = 4;
 const DEPTH = 6;
@@ -340,6 +342,37 @@ class Arena {
   }
 }
 
+/** Rows that are added one by one. */
+class WordsOfRows {
+  words = new Uint32Array(1024);
+  used = 0;
+
+  add(offset, headerLength, payloadLength, depth, isList) {
+    if (this.used === this.words.length) {
+      const wider = new Uint32Array(this.used * 2);
+      wider.set(this.words);
+      this.words = wider;
+    }
+    const { words, used } = this;
+    words[used] = offset;
+    words[used + 1] = offset / 0x1_0000_0000;
+    words[used + HEADER_LEN] = headerLength;
+    words[used + PAYLOAD_LEN] = payloadLength;
+    words[used + PAYLOAD_LEN + 1] = payloadLength / 0x1_0000_0000;
+    words[used + DEPTH] = depth;
+    words[used + IS_LIST] = isList;
+    this.used += 8;
+  }
+}
+
+/** What an iterator returns in the end. */
+function finished(steps) {
+  for (;;) {
+    const { done, value } = steps.next();
+    if (done) return value;
+  }
+}
+
 /** The functions of the library over an instance of its module. */
 export class Codec {
   #arena;
@@ -400,14 +433,24 @@ export class Codec {
     return new Rows(this.#arena, words.subarray(rows / 4, rows / 4 + count * 8), bytes.subarray(start, start + length));
   }
 
-  /** Where the item begins that rlp_flatten refuses: its walk once more, header by header, over the bytes in the arena. */
-  #walk(length, maxDepth, see) {
+  /** Where the item begins that rlp_flatten refuses. */
+  #walk(length, maxDepth) {
+    return finished(this.#steps(length, maxDepth));
+  }
+
+  /** The walk of rlp_flatten once more, header by header, over the bytes in the arena, up to the item that is refused. Others are seen. */
+  *#steps(length, maxDepth, seen) {
     const calls = this.#calls;
+    const call = this.#arena.calls;
     const { start, result, words } = this.#arena;
     const [at, out] = [result / 4, BigInt(result)];
     const ends = [length];
     let place = 0;
-    while (place < length || ends.length === 1) {
+    for (let count = 1; place < length || ends.length === 1; count++) {
+      if (count % STEP === 0) {
+        yield place;
+        if (this.#arena.calls !== call) throw new Error("another call has taken the memory of this one");
+      }
       while (ends.length > 1 && place === ends[ends.length - 1]) ends.pop();
       const open = ends.length - 1;
       const from = BigInt(start + place);
@@ -420,7 +463,7 @@ export class Codec {
       if (isList && open === maxDepth) return place;
       // Only a string of one byte with a header may have a fault that its header doesn't.
       if (!isList && size === 1 && begin > place && calls.rlp_decode_bytes(from, BigInt(end - place), 1, out) !== OK) return place;
-      see?.(place, begin - place, size, open, isList);
+      seen?.add(place, begin - place, size, open, isList);
       if (isList) ends.push(end);
       else if (open === 0) return end;
       place = isList ? begin : end;
@@ -535,30 +578,21 @@ export class Codec {
   }
 
   /** The items up to the first fault, and the fault or null. */
-  inspect(input, { maxDepth = DEPTH_LIMIT } = {}) {
+  inspect(input, options) {
+    return finished(this.inspectInSteps(input, options));
+  }
+
+  /** The same as an iterator, which looks at some thousands of items at a time, and returns what `inspect` does. */
+  *inspectInSteps(input, { maxDepth = DEPTH_LIMIT } = {}) {
     const bytes = this.#outside(bytesOf(input));
     const depth = depthOf(maxDepth);
     const { length } = bytes;
     const { status, rows, count } = this.#flattened(bytes, depth);
     if (status === OK) return { rows: this.#view(rows, count, length).copy(), fault: null };
-    let words = new Uint32Array(1024);
-    let used = 0;
-    const place = this.#walk(length, depth, (offset, headerLength, payloadLength, open, isList) => {
-      if (used === words.length) {
-        const wider = new Uint32Array(used * 2);
-        wider.set(words);
-        words = wider;
-      }
-      words[used] = offset;
-      words[used + 1] = offset / 0x1_0000_0000;
-      words[used + HEADER_LEN] = headerLength;
-      words[used + PAYLOAD_LEN] = payloadLength;
-      words[used + PAYLOAD_LEN + 1] = payloadLength / 0x1_0000_0000;
-      words[used + DEPTH] = open;
-      words[used + IS_LIST] = isList;
-      used += 8;
-    });
-    return { rows: new Rows(null, words.slice(0, used), bytes.slice()), fault: new RlpError(status, { place }) };
+    const seen = new WordsOfRows();
+    const copy = bytes.slice();
+    const place = yield* this.#steps(length, depth, seen);
+    return { rows: new Rows(null, seen.words.slice(0, seen.used), copy), fault: new RlpError(status, { place }) };
   }
 
   header(input) {
@@ -650,7 +684,7 @@ export async function load(source) {
 
 /** The functions of a codec, each by itself. */
 export function functionsOf(codec) {
-  const names = ["encode", "decode", "isCanonical", "flatten", "tree", "inspect", "header", "transaction", "headerFields"];
+  const names = ["encode", "decode", "isCanonical", "flatten", "tree", "inspect", "inspectInSteps", "header", "transaction", "headerFields"];
   return Object.fromEntries(names.map((name) => [name, codec[name].bind(codec)]));
 }
 

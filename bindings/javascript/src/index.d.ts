@@ -7,6 +7,7 @@ export const isCanonical: Codec["isCanonical"];
 export const flatten: Codec["flatten"];
 export const tree: Codec["tree"];
 export const inspect: Codec["inspect"];
+export const inspectInSteps: Codec["inspectInSteps"];
 export const header: Codec["header"];
 export const transaction: Codec["transaction"];
 export const headerFields: Codec["headerFields"];

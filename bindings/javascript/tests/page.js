@@ -144,6 +144,52 @@ const cases = {
     check("number, timestamp", [found.number, found.timestamp], [["1", "0x1"], ["1438269988", "0x55ba4224"]]);
     check("verdict", await textOf("verdict"), /A block header, as since Frontier/);
   },
+  async "signing bytes"() {
+    const eip155 = "ec098504a817c800825208943535353535353535353535353535353535353535880de0b6b3a764000080018080";
+    check("EIP-155", await give("input", eip155), /^Canonical: 45 bytes, .* An unsigned legacy transaction for chain 1: these are the bytes that are signed\.$/);
+    check("an address as digits", await ask(`document.querySelector("#n4 .value").textContent`), `0x${"35".repeat(20)}`);
+    check("value", (await fields()).value, ["1000000000000000000", "0xde0b6b3a7640000"]);
+    check("six fields", await give("input", "e9098504a817c800825208943535353535353535353535353535353535353535880de0b6b3a764000080"), /An unsigned legacy transaction: these/);
+    check("names", Object.keys(await fields()), ["nonce", "gasPrice", "gasLimit", "to", "value", "data"]);
+    check("EIP-1559", await give("input", "02d40108843b9aca008504a817c800825208800600c0"), /An unsigned EIP-1559 transaction: these are the bytes that are signed\.$/);
+    const found = await ask(`[...document.querySelectorAll("#record tbody tr")].map((row) => [row.cells[0].textContent, row.cells[2].textContent])`);
+    check("names and places", found, [["chainId", "2"], ["nonce", "3"], ["maxPriorityFeePerGas", "4"], ["maxFeePerGas", "9"], ["gasLimit", "15"], ["to", "18"], ["value", "19"], ["data", "20"], ["accessList", "21"]]);
+    check("a fault in a field", await give("input", "02d40108843b9aca008504a817c800820008800600c0"), /No transaction: RlpInvalidIndirection: .* in field 5, gasLimit/);
+  },
+  async "a node record"() {
+    const text = "enr:-IS4QHCYrYZbAKWCBRlAy5zzaDZXJBGkcnh4MHcBFZntXNFrdvJjX04jRzjzCBOonrkTfj499SZuOh8R33Ls8RRcy5wBgmlkgnY0gmlwhH8AAAGJc2VjcDI1NmsxoQPKY0yuDUmstAHYpMa2_oxVtw0RW_QAdpzBQA8yWM0xOIN1ZHCCdl8";
+    check("verdict", await give("input", text), /^Canonical: 134 bytes, a list of 10 items, .* A node record, by its shape\.$/);
+    const found = await fields();
+    check("names", Object.keys(found), ["signature", "seq", "id", "ip", "secp256k1", "udp"]);
+    check("values", [found.seq, found.id, found.ip, found.udp], [["1", "0x1"], ["0x7634", "“v4”"], ["0x7f000001", "127.0.0.1"], ["30303", "0x765f"]]);
+    check("key", found.secp256k1, ["0x03ca634cae0d49acb401d8a4c6b6fe8c55b70d115bf400769cc1400f3258cd3138"]);
+    check("no base64", await give("input", "enr:-IS4*"), "The text behind “enr:” isn't base64 for addresses of the web.");
+    check("keys out of order", await give("input", `f84bb840${"11".repeat(64)}018275640182696402`), /^Canonical: 77 bytes, a list of 6 items, 7 items in all, lists 1 deep\.$/);
+    await ask(`document.getElementById("kind").value = "node record", document.getElementById("kind").dispatchEvent(new Event("change"))`);
+    check("asked for", await textOf("verdict"), /No node record: it has a signature of 64 bytes, a number, and keys in order with their values\.$/);
+    await ask(`document.getElementById("kind").value = "guess"`);
+  },
+  async "a link"() {
+    await give("input", TYPED);
+    check("offered", await ask(`document.getElementById("link").disabled`), false);
+    await ask(`document.getElementById("link").click()`);
+    await pause(100);
+    check("the address", await ask("location.hash"), `#0x${TYPED}`);
+    check("told", await textOf("link-note"), /behind its #, which is sent to nobody\.$/);
+    await give("input", "");
+    check("not offered", await ask(`document.getElementById("link").disabled`), true);
+    await ask(`location.hash = "0x${LEGACY}"`);
+    await pause(200);
+    check("followed", await textOf("verdict"), /A legacy transaction\.$/);
+    await send("Page.navigate", { url: "about:blank" });
+    await send("Page.navigate", { url: `${pathToFileURL(page).href}#${TYPED}` });
+    await pause(1000);
+    check("opened", [await textOf("verdict"), await ask(`document.getElementById("input").value`)], [await textOf("verdict"), TYPED]);
+    check("read", await textOf("verdict"), /An EIP-1559 transaction\.$/);
+    await ask(`location.hash = "<img src=x onerror=alert(1)>"`);
+    await pause(200);
+    check("hostile", await textOf("verdict"), "There is no hexadecimal digit at digit 1, but “<”.");
+  },
   async "faults at their bytes"() {
     check("needless header", await give("input", "cd83646f6783676f648105c20102"), /^Not canonical. RlpInvalidIndirection: .*at byte 9\./);
     check("marked", await marked(), [9]);
