@@ -13,6 +13,8 @@ TOP = pathlib.Path(__file__).resolve().parent.parent
 BINDINGS, PREFIX = TOP / "bindings", TOP / "out" / "bindings"
 SEED = 20151007
 OPERATIONS = ("decode", "is_canonical", "encode", "plain_decode", "plain_encode")
+# What JavaScript alone has.
+OTHERS = ("flatten", "tree")
 
 
 def first_transaction():
@@ -74,7 +76,7 @@ def main():
         path.write_bytes(data)
         for language, words in found.items():
             times = measured(words, path)
-            others = "".join(f", {other} {time:,.0f}" for other, time in times.items() if other not in OPERATIONS)
+            others = "".join(f", {other} {time:,.0f}" for other, time in times.items() if other in OTHERS)
             print(f"{name:30}{language:10}" + "".join(f"{times[operation]:14,.0f}" for operation in OPERATIONS) + others, flush=True)
 
 

@@ -1,14 +1,14 @@
-/** What can be encoded. Text is hexadecimal digits behind `0x`, and else UTF-8. `null` and `undefined` are empty strings. */
-export type Input = Uint8Array | string | number | bigint | null | undefined | readonly Input[];
+/** A byte string: bytes, hexadecimal digits behind `0x`, other text as UTF-8, a number, or nothing for the empty string. */
+export type ByteString = Uint8Array | string | number | bigint | null | undefined;
+
+/** What can be encoded: a byte string, or a list. */
+export type Input = ByteString | readonly Input[];
 
 /** What bytes are: a string, or a list. The strings of one call share one copy of the bytes. */
 export type Decoded = Uint8Array | Decoded[];
 
 /** Bytes to read: as they are, or as hexadecimal digits behind `0x`. */
 export type Bytes = Uint8Array | `0x${string}`;
-
-/** A byte string: bytes, hexadecimal digits behind `0x`, other text as UTF-8, a number, or nothing for the empty string. */
-export type Text = Exclude<Input, readonly Input[]>;
 
 export interface Options {
   /** How many lists may lie one in the other: 256 if not given, and never more. */
@@ -215,9 +215,9 @@ export class Codec {
   /** The encoding. Throws a TypeError for a value that has none, and an RlpError for lists that nest too deep. */
   encode(input: Input): Uint8Array;
   /** The value whose canonical encoding the bytes are. No bytes at all are the empty string, as for `@ethereumjs/rlp`. */
-  decode(bytes: Text, options?: false | (Options & { stream?: false })): Decoded;
+  decode(bytes: ByteString, options?: false | (Options & { stream?: false })): Decoded;
   /** The value of the item that the bytes begin with, and the bytes behind it. */
-  decode(bytes: Text, options: true | (Options & { stream: true })): First;
+  decode(bytes: ByteString, options: true | (Options & { stream: true })): First;
   isCanonical(bytes: Bytes, options?: Options): boolean;
   /** The items of the canonical encoding that the bytes are. Nothing is copied out of the library's memory. */
   flatten(bytes: Bytes, options?: Options): Rows;

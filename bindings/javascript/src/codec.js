@@ -526,7 +526,7 @@ export class Codec {
   /** The values of rows, whose strings share one copy of the bytes. */
   #valuesOf({ rows, count, length }) {
     const { words, start } = this.#arena;
-    const { buffer } = this.#arena.bytes.slice(start, start + length);
+    const buffer = this.#arena.buffer.slice(start, start + length);
     const lists = [];
     let whole;
     for (let item = 0, at = rows / 4; item < count; item++, at += 8) {

@@ -10,8 +10,14 @@ import { fileURLToPath, pathToFileURL } from "node:url";
 const here = path.dirname(fileURLToPath(import.meta.url));
 const [page, packaged, pictures] = process.argv.slice(2);
 const folder = fs.mkdtempSync(path.join(os.tmpdir(), "page-"));
-const flags = ["--headless=new", "--remote-debugging-pipe", `--user-data-dir=${folder}`, "--no-first-run", "--disable-gpu", "--hide-scrollbars", "--disable-background-networking", "--disable-component-update", "--no-sandbox"];
+const flags = ["--headless=new", "--remote-debugging-pipe", `--user-data-dir=${folder}`, "--no-first-run", "--disable-gpu", "--hide-scrollbars", "--disable-background-networking", "--disable-component-update", "--disable-dev-shm-usage", "--no-sandbox"];
 const browser = spawn(process.env.CHROMIUM ?? "chromium", [...flags, "about:blank"], { stdio: ["ignore", "ignore", "ignore", "pipe", "pipe"] });
+
+setTimeout(() => {
+  console.log("The browser has no answer.");
+  browser.kill();
+  process.exit(1);
+}, 300_000).unref();
 
 const waiting = new Map();
 const requests = [];
@@ -327,6 +333,7 @@ const cases = {
       }, digits(bytes));
       console.log(`170 KB, ${name}:`, JSON.stringify(times), (await textOf("verdict")).slice(0, 160));
       check(`${name}: shown in a second`, times.shown < 1000, true);
+      check(`${name}: no long stall`, times.longest < 400, true);
       check(`${name}: few nodes`, times.nodes < 3000, true);
     }
     check("no JSON unasked", await ask(`[document.getElementById("json").value, document.getElementById("json-fill").hidden]`), ["", true]);

@@ -1,12 +1,26 @@
 // What the declarations have to allow and to refuse. It is compiled, not run.
-import { decode, encode, flatten, headerFields, load, transaction, RlpError, type Decoded, type Input } from "../src/index.js";
+import { decode, encode, flatten, headerFields, inspectInSteps, load, transaction, tree, RLP, RlpError, type Decoded, type Input, type Tree } from "../src/index.js";
 
 const value: Input = ["cat", ["dog", ""], 1000, 5n, new Uint8Array(2), null];
 const bytes: Uint8Array = encode(value);
 const back: Decoded = decode(bytes, { maxDepth: 4 });
 decode("0xc0");
+decode(5n, false);
+const { data, remainder } = decode(bytes, true);
+const rest: Uint8Array = decode(remainder, { stream: true, maxDepth: 1 }).remainder;
+const same: Decoded = RLP.decode(RLP.encode([1, "2"]));
+// @ts-expect-error: a list is no byte string
+decode(["c0"]);
 // @ts-expect-error: text is digits behind 0x
-decode("c0");
+flatten("c0");
+// @ts-expect-error: without stream there is no remainder
+decode(bytes, {}).remainder;
+const item: Tree | undefined = tree(bytes).at(-1);
+const strings: Uint8Array[] = Array.from(tree(bytes), (each) => each.bytes);
+// @ts-expect-error: there may be no such item
+item.bytes;
+const steps = inspectInSteps(bytes).next();
+if (steps.done) void steps.value.fault?.place;
 // @ts-expect-error: a value with no encoding
 encode({ a: 1 });
 // @ts-expect-error: a truth value has none either
@@ -37,4 +51,4 @@ try {
 }
 const codec = await load(fetch("rlp.wasm"));
 const size: number = codec.memorySize;
-void [back, offsets, fee, size];
+void [back, offsets, fee, size, data, rest, same, strings];
