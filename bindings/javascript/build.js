@@ -11,6 +11,10 @@ const here = path.dirname(fileURLToPath(import.meta.url));
 const [module, to] = process.argv.slice(2);
 if (!to) throw new Error("usage: bindings/javascript/build.js MODULE FOLDER");
 
+// What the page's script is made of, in this order.
+const CODEC = ["values.js", "faults.js", "records.js", "rows.js", "codec.js"];
+const PAGE = ["lines.js", "view.js", "panes.js", "page.js"];
+
 const wasm = fs.readFileSync(module);
 const base64 = wasm.toString("base64");
 
@@ -23,16 +27,17 @@ function makePackage(folder) {
 }
 
 /** The codec and the page as one script, so what one imports from the other is there already. */
-function scriptOf(page) {
-  const codec = fs.readFileSync(path.join(here, "src/codec.js"), "utf8").replace(/^export /gm, "");
-  const script = `\nconst MODULE = "${base64}";\n${codec}\n${page.replace(/^import .*\n/gm, "")}`;
+function scriptOf() {
+  const parts = [...CODEC.map((name) => path.join(here, "src", name)), ...PAGE.map((name) => path.join(here, "../page", name))];
+  const text = parts.map((file) => fs.readFileSync(file, "utf8").replace(/^(?:import|export) \{.*\n/gm, "").replace(/^export /gm, ""));
+  const script = `\nconst MODULE = "${base64}";\n${text.join("\n")}`;
   if (script.includes("</script")) throw new Error("the script would end the page's element");
   return script;
 }
 
 function pageOf() {
   const source = (name) => fs.readFileSync(path.join(here, "../page", name), "utf8");
-  const script = scriptOf(source("page.js"));
+  const script = scriptOf();
   const style = `\n${source("page.css")}`;
   const hash = (text) => `'sha256-${createHash("sha256").update(text).digest("base64")}'`;
   // The policy lets the page run this script, use this style and compile the module. It can't ask for anything.
