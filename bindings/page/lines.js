@@ -1,6 +1,6 @@
 import { fromBase64, load, RlpError, toHex } from "../javascript/src/codec.js";
 
-// The page, of which lines.js, view.js, panes.js and page.js are parts of one script. What it shows of the input is set as
+// The page, of which lines.js, records.js, view.js, panes.js and page.js are parts of one script. What it shows of the input is set as
 // text, never as HTML.
 
 const MOST_BYTES = 4 << 20;
@@ -14,6 +14,9 @@ const NOTHING = -1;
 // A node record has no more bytes than this, and a link carries no more.
 const MOST_OF_NODE = 300;
 const MOST_OF_LINK = 1 << 15;
+// Of a block so many transactions have names for their fields, and a receipt has no more bytes than this.
+const MOST_NAMED = 2000;
+const MOST_OF_RECEIPT = 1 << 16;
 // Statuses of the library.
 const TOO_BIG = 1;
 const MISSING_FIELD = 5;

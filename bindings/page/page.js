@@ -2,6 +2,7 @@
 
 function textOf(value) {
   if (value === null) return "none: it makes a contract";
+  if (typeof value === "string") return value;
   if (value instanceof Uint8Array) return value.length === 0 ? "empty" : shortHex(value, 64);
   const plain = (_, each) => (typeof each === "bigint" ? each.toString() : each instanceof Uint8Array ? toHex(each) : each);
   const text = JSON.stringify(value, plain, 1).replace(/\n\s*/g, " ");
@@ -30,13 +31,20 @@ function showRecord() {
     return row;
   });
   the("record").tBodies[0].replaceChildren(...rows);
-  if (record) the("record-note").textContent = `${named(record)} Length is header + payload.${record.what === "node record" ? " Its names are read by this page alone, and its signature isn't checked." : ""}`;
+  if (record) the("record-note").textContent = `${named(record)} Length is header + payload.${BY_SHAPE[record.what] ?? ""}`;
 }
+
+// What the library doesn't read by fields.
+const BY_SHAPE = {
+  "node record": " Its names are read by this page alone, and its signature isn't checked.",
+  block: " That it is a block is found by this page alone, from its header and its lists.",
+  receipt: " Its names are read by this page alone.",
+};
 
 /** What a record is. */
 function named(record) {
   const { what, typeName, isUnsigned, chain } = record;
-  if (what === "node record") return "A node record, by its shape.";
+  if (what in BY_SHAPE) return `A ${what}, by its shape.`;
   if (what === "header") return `A block header, as since ${record.fork}.`;
   const forChain = chain === undefined ? "" : ` for chain ${chain}`;
   if (isUnsigned) return `An unsigned ${typeName} transaction${forChain}: these are the bytes that are signed.`;

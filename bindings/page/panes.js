@@ -9,7 +9,7 @@ function shortHex(bytes, most) {
 }
 
 function nameOf(item) {
-  return view.depth(item) === 1 ? view.names.get(view.offset(item)) : undefined;
+  return view.depth(item) > 0 ? view.names.get(view.offset(item)) : undefined;
 }
 
 /** Whether a string may be shown as text: not an address, a hash or a number, whatever its bytes are. */

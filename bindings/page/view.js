@@ -1,61 +1,5 @@
 // What is read of some bytes.
 
-/** The transaction that some bytes are, or that they are the signing bytes of: then it is one with an empty signature. */
-function transactionOf(bytes) {
-  try {
-    const found = codec.transaction(bytes);
-    const { v, r, s } = found.fields;
-    const isUnsigned = found.type === 0 && v > 0n && r === 0n && s === 0n;
-    return isUnsigned ? { ...found, isUnsigned, chain: v } : found;
-  } catch (error) {
-    const isShort = error instanceof RlpError && error.status === MISSING_FIELD && error.field === FIRST_OF_SIGNATURE[bytes[0] < 0xc0 ? bytes[0] : 0];
-    if (!isShort) throw error;
-    return unsignedOf(bytes, error);
-  }
-}
-
-/** The transaction of signing bytes, which lack the three fields of the signature. Otherwise it throws the error. */
-function unsignedOf(bytes, error) {
-  const start = bytes[0] < 0xc0 ? 1 : 0;
-  const part = bytes.subarray(start);
-  if (!codec.isCanonical(part)) throw error;
-  const signed = codec.encode([...codec.decode(part), "", "", ""]);
-  const whole = new Uint8Array(start + signed.length);
-  whole.set(bytes.subarray(0, start));
-  whole.set(signed, start);
-  let found;
-  try {
-    found = codec.transaction(whole);
-  } catch {
-    throw error;
-  }
-  const places = Array.from(codec.tree(part), ({ offset, headerLength, payloadLength }) => ({ offset: offset + start, headerLength, payloadLength }));
-  return { ...found, isUnsigned: true, items: places.map((place, at) => ({ ...found.items[at], ...place })) };
-}
-
-const NUMBERS_OF_NODES = ["seq", "tcp", "tcp6", "udp", "udp6"];
-
-/** The node record that some bytes are, by its shape: a signature of 64 bytes, a number, and keys in order with values. */
-function nodeRecordOf(bytes) {
-  if (bytes.length > MOST_OF_NODE || bytes[0] < 0xc0 || !codec.isCanonical(bytes)) return null;
-  const items = [...codec.tree(bytes)];
-  const keys = items.filter((_, at) => at >= 2 && at % 2 === 0);
-  const isNamed = keys.every((key) => !key.isList && key.payloadLength > 0 && printable(key.bytes));
-  if (items.length < 2 || items.length % 2 || items[0].payloadLength !== 64 || items[0].isList || items[1].payloadLength > 8 || !isNamed) return null;
-  const names = keys.map((key) => letters(key.bytes));
-  if (names.some((name, at) => at > 0 && name <= names[at - 1])) return null;
-  const all = [["signature", items[0]], ["seq", items[1]], ...names.map((name, at) => [name, items[3 + at * 2]])];
-  const shown = all.map(([name, { offset, headerLength, payloadLength, isList }]) => ({
-    name, offset, headerLength, payloadLength, kind: isList ? "list" : NUMBERS_OF_NODES.includes(name) ? "number" : name === "id" ? "text" : "bytes",
-  }));
-  const valueOf = (item, { name, kind }) => {
-    if (kind === "list") return item.value();
-    if (kind === "number") return item.payloadLength > 0 ? BigInt(toHex(item.bytes)) : 0n;
-    return item.bytes;
-  };
-  return { what: "node record", items: shown, fields: Object.fromEntries(all.map(([name, item], at) => [name, valueOf(item, shown[at])])) };
-}
-
 /** Gives others a turn. */
 const others = () => new Promise((resolve) => setTimeout(resolve));
 
@@ -128,7 +72,7 @@ class View {
       this.ranks[item] = ++this.children[open[depth - 1]];
       if (depth > this.deepest) this.deepest = depth;
     }
-    this.names = new Map(this.record?.items.map(({ offset, name }) => [offset, name]));
+    this.names = new Map([...(this.record?.items.map(({ offset, name }) => [offset, name]) ?? []), ...(this.record?.names ?? [])]);
     const fits = { transaction: [9], header: [15, 16, 17, 20, 21] };
     this.hints = this.hints.filter(({ what }) => !this.fault && fits[what].includes(this.children[0]));
     if (this.recordFault?.error.place !== undefined) this.marks.set(this.recordFault.error.place, toldOf(this.recordFault.error));
@@ -158,14 +102,15 @@ class View {
     if (kind === "guess" && bytes.length > 0 && !isTransaction()) {
       const ofTransaction = this.recordFault;
       const known = isTyped && ofTransaction.error.status !== UNKNOWN_TYPE;
-      if (!known && !attempt("header", () => codec.headerFields(bytes))) this.record = nodeRecordOf(bytes);
+      const isHeader = !known && attempt("header", () => codec.headerFields(bytes));
+      if (!isHeader) this.record = (known ? null : nodeRecordOf(bytes) ?? blockOf(bytes)) ?? receiptOf(bytes);
       // A list with the right number of fields may be meant as a record.
       const isMeant = ({ error }) => error.field > 0 && error.status !== MISSING_FIELD;
       this.hints = this.record || known ? [] : [ofTransaction, this.recordFault].filter(isMeant);
       if (!known) this.recordFault = null;
     }
     if (this.record) this.recordFault = null;
-    if (isTyped && (this.record?.what ?? this.recordFault?.what) === "transaction") this.start = 1;
+    if (isTyped && ["transaction", "receipt"].includes(this.record?.what ?? this.recordFault?.what)) this.start = 1;
   }
 
   offset(item) {

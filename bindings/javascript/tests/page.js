@@ -175,6 +175,27 @@ const cases = {
     check("asked for", await textOf("verdict"), /No node record: it has a signature of 64 bytes, a number, and keys in order with their values\.$/);
     await ask(`document.getElementById("kind").value = "guess"`);
   },
+  async "a block and receipts"() {
+    const header = await ask(`(document.getElementById("example").value = "header of block 1", document.getElementById("example").dispatchEvent(new Event("change")), document.getElementById("input").value)`);
+    const listOf = (...parts) => {
+      const payload = Buffer.concat(parts.map((part) => Buffer.from(part, "hex")));
+      return Buffer.concat([Buffer.of(0xf9, payload.length >> 8, payload.length & 255), payload]).toString("hex");
+    };
+    const block = listOf(header, listOf(...Array(3).fill(LEGACY)), "c0");
+    check("block", await give("input", block), /^Canonical: 854 bytes, a list of 3 items, .* A block, by its shape\.$/);
+    check("its parts", await fields(), { header: ["block 1, as since Frontier"], transactions: ["3 entries"], ommers: ["0 entries"] });
+    check("names in it", await ask(`[...document.querySelectorAll("#tree .what:not(.kind)")].slice(0, 4).map((each) => each.textContent)`), ["list of 3 items", "header", "parentHash", "ommersHash"]);
+    await ask(`document.getElementById("tree").scrollTop = 24 * 19`);
+    await pause(100);
+    check("and in a transaction", await ask(`[...document.querySelectorAll("#tree .what:not(.kind)")].some((each) => each.textContent === "gasPrice")`), true);
+    check("no block", await give("input", listOf(header, "c0")), /^Canonical: 536 bytes, a list of 2 items, 18 items in all, lists 2 deep\.$/);
+    const log = `f83a94${"11".repeat(20)}e1a0${"22".repeat(32)}820102`;
+    const receipt = listOf("01", "825208", `b90100${"00".repeat(256)}`, `f83c${log}`);
+    check("receipt", await give("input", receipt), /^Canonical: 328 bytes, a list of 4 items, 10 items in all, lists 4 deep\. A receipt, by its shape\.$/);
+    const found = await fields();
+    check("its fields", [found.status, found.cumulativeGasUsed, found.logs], [["1", "0x1"], ["21000", "0x5208"], [`1 entry: [ [ "0x${"11".repeat(20)}", [ "0x${"22".repeat(32)}" ], "0x0102" ] ]`]]);
+    check("typed receipt", await give("input", `02${receipt}`), /^Canonical: 329 bytes, a list of 4 items, .* A receipt, by its shape\.$/);
+  },
   async "a link"() {
     await give("input", TYPED);
     check("offered", await ask(`document.getElementById("link").disabled`), false);
