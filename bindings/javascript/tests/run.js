@@ -303,6 +303,20 @@ function testTree() {
   check("after another call", rlp.toHex(rlp.encode(item.value())), "0xca83636174c583646f6780");
 }
 
+function testSteps() {
+  const data = plain.joined([plain.writtenHeader(0xc0, 40_002), new Uint8Array(40_000).fill(5), Uint8Array.of(0x81, 5)]);
+  let count = 0;
+  const steps = rlp.inspectInSteps(data);
+  let step;
+  for (step = steps.next(); !step.done; step = steps.next()) count++;
+  check("steps", [count, step.value.rows.length, step.value.fault.name, step.value.fault.place], [2, 40_001, "RlpInvalidIndirection", 40_003]);
+  check("the same at once", [...rlp.inspect(data).rows], [...step.value.rows]);
+  const ended = rlp.inspectInSteps(data);
+  ended.next();
+  rlp.isCanonical("0x80");
+  check("steps after another call", thrown(() => ended.next()), "Error");
+}
+
 function testValues() {
   const hex = (value) => rlp.toHex(rlp.encode(value));
   const cases = [
@@ -358,6 +372,11 @@ async function testMemory() {
   const large = new Uint8Array(30 << 20).fill(7);
   const { length } = codec.encode(codec.flatten(codec.encode(large)).bytes);
   check("growth under bytes that lie in the memory", length, large.length + 10);
+  const fresh = await rlp.load(fs.readFileSync(path.join(folder, "src/rlp.wasm")));
+  const inner = plain.encode(Array.from({ length: 100_000 }, () => Uint8Array.of(5)));
+  const outer = fresh.flatten(plain.encode(inner));
+  const { data: list, remainder } = fresh.decode(outer.bytes.subarray(outer.headerLength(0)), true);
+  check("growth under bytes of a stream that lie in the memory", [list.length, remainder.length], [100_000, 0]);
   const wide = codec.encode(Array.from({ length: 1_000_000 }, (_, number) => number));
   check("a million numbers", codec.decode(wide).length, 1_000_000);
   check("bytes of a spoiled length", thrown(() => codec.decode(Uint8Array.of(0xfb, 0xff, 0xff, 0xff, 0xff))), "RlpIsTooShort");
@@ -380,7 +399,7 @@ async function testMemory() {
 }
 
 const began = Date.now();
-for (const test of [testVectors, testRecords, testNames, testValues, testTree, testRandom, testSpoiledRecords, testStatuses, testMemory]) {
+for (const test of [testVectors, testRecords, testNames, testValues, testTree, testSteps, testRandom, testSpoiledRecords, testStatuses, testMemory]) {
   await test();
   console.log(`${test.name}: ${((Date.now() - began) / 1000).toFixed(1)} s`);
 }
