@@ -1,4 +1,4 @@
-"""bindings.py FOLDER [WORD..]: runs the library from C, Rust and Python over each input, which it makes in the folder, beside a plain loop of the same language, and prints nanoseconds of processor time for a call: the shortest of 15 runs."""
+"""bindings.py FOLDER [WORD..]: runs the library from C, Rust, Python and JavaScript over each input, which it makes in the folder, beside a plain loop of the same language, and prints nanoseconds of processor time for a call: the shortest of 15 runs."""
 
 import os
 import pathlib
@@ -13,6 +13,8 @@ TOP = pathlib.Path(__file__).resolve().parent.parent
 BINDINGS, PREFIX = TOP / "bindings", TOP / "out" / "bindings"
 SEED = 20151007
 OPERATIONS = ("decode", "is_canonical", "encode", "plain_decode", "plain_encode")
+# What JavaScript alone has.
+OTHERS = ("flatten", "tree")
 
 
 def first_transaction():
@@ -49,6 +51,9 @@ def programs(folder):
         found["Rust"] = [folder / "cargo" / "release" / "examples" / "bench"]
     if (PREFIX / "python").exists():
         found["Python"] = [sys.executable, "-B", BINDINGS / "python" / "bench.py"]
+    node = BINDINGS / "javascript" / "node"
+    if (PREFIX / "javascript").exists() and subprocess.run([node, "-e", ""], check=False).returncode == 0:
+        found["JavaScript"] = [node, BINDINGS / "javascript" / "bench.js", PREFIX / "javascript"]
     return found
 
 
@@ -63,7 +68,7 @@ def main():
     folder, wanted = pathlib.Path(sys.argv[1]).resolve(), sys.argv[2:]
     folder.mkdir(parents=True, exist_ok=True)
     found = programs(folder)
-    print(f"{'nanoseconds':38}" + "".join(f"{operation:>14}" for operation in OPERATIONS))
+    print(f"{'nanoseconds':40}" + "".join(f"{operation:>14}" for operation in OPERATIONS))
     for name, data in inputs().items():
         if wanted and not any(word in name for word in wanted):
             continue
@@ -71,7 +76,8 @@ def main():
         path.write_bytes(data)
         for language, words in found.items():
             times = measured(words, path)
-            print(f"{name:30}{language:8}" + "".join(f"{times[operation]:14,.0f}" for operation in OPERATIONS), flush=True)
+            others = "".join(f", {other} {time:,.0f}" for other, time in times.items() if other in OTHERS)
+            print(f"{name:30}{language:10}" + "".join(f"{times[operation]:14,.0f}" for operation in OPERATIONS) + others, flush=True)
 
 
 main()

@@ -1,0 +1,311 @@
+// The fields, the verdict and the JSON, and what is given.
+
+function textOf(value) {
+  if (value === null) return "none: it makes a contract";
+  if (typeof value === "string") return value;
+  if (value instanceof Uint8Array) return value.length === 0 ? "empty" : shortHex(value, 64);
+  const plain = (_, each) => (typeof each === "bigint" ? each.toString() : each instanceof Uint8Array ? toHex(each) : each);
+  const text = JSON.stringify(value, plain, 1).replace(/\n\s*/g, " ");
+  return `${counted(value.length, "entry", "entries")}${value.length ? `: ${text.length > 600 ? `${text.slice(0, 600)}…` : text}` : ""}`;
+}
+
+function showRecord() {
+  const { record } = view;
+  the("record-section").hidden = record === null;
+  const rows = (record?.items ?? []).map(({ name, kind, offset, headerLength, payloadLength }) => {
+    const row = element("tr");
+    const button = element("button", "", name);
+    const item = view.itemAt(offset);
+    const value = record.fields[name];
+    const shown = element("td");
+    button.type = "button";
+    row.dataset.item = item;
+    if (kind === "number") shown.append(element("span", "", value.toString()), element("span", "hex", `0x${value.toString(16)}`));
+    else shown.append(element("span", "", textOf(value)));
+    if (name === "ip" && payloadLength === 4) shown.append(element("span", "hex", [...value].join(".")));
+    if (TEXTS.includes(name) && printable(value)) shown.append(element("span", "hex", `“${letters(value.subarray(0, 200))}”`));
+    const cell = element("td");
+    cell.append(button);
+    row.append(cell, shown, element("td", "", numbered(offset)), element("td", "", `${headerLength} + ${numbered(payloadLength)}`));
+    for (const kindOf of ["mousemove", "focusin", "click"]) row.addEventListener(kindOf, () => active !== item && chooseItem(item, "record"));
+    return row;
+  });
+  the("record").tBodies[0].replaceChildren(...rows);
+  if (record) the("record-note").textContent = `${named(record)} Length is header + payload.${BY_SHAPE[record.what] ?? ""}`;
+}
+
+// What the library doesn't read by fields.
+const BY_SHAPE = {
+  "node record": " Its names are read by this page alone, and its signature isn't checked.",
+  block: " That it is a block is found by this page alone, from its header and its lists.",
+  receipt: " Its names are read by this page alone.",
+};
+
+/** What a record is. */
+function named(record) {
+  const { what, typeName, isUnsigned, chain } = record;
+  if (what in BY_SHAPE) return `A ${what}, by its shape.`;
+  if (what === "header") return `A block header, as since ${record.fork}.`;
+  const forChain = chain === undefined ? "" : ` for chain ${chain}`;
+  if (isUnsigned) return `An unsigned ${typeName} transaction${forChain}: these are the bytes that are signed.`;
+  return `${typeName.startsWith("EIP") ? "An" : "A"} ${typeName} transaction.`;
+}
+
+const toldOf = (error) => (error instanceof RlpError ? `${error.name}: ${error.message}` : error.message);
+
+function showVerdict() {
+  const { fault, record, recordFault, count, bytes } = view;
+  const parts = [];
+  if (fault) parts.push(`Not canonical. ${fault.name}: ${fault.why}.`);
+  else {
+    parts.push(`Canonical: ${counted(bytes.length, "byte")}, a ${whatOf(0)}`);
+    parts.push(count > 1 ? `, ${counted(count, "item")} in all, lists ${view.deepest} deep.` : ".");
+  }
+  if (fault && fault.mark !== fault.place) parts.push(` The item ends before byte ${numbered(fault.mark)}, which is marked.`);
+  if (record) parts.push(` ${named(record)}`);
+  for (const { what, error } of view.hints) parts.push(` As a ${what === "header" ? "block header" : what} it has a fault: ${error.name}: ${error.message}.`);
+  if (recordFault) parts.push(` No ${recordFault.what === "header" ? "block header" : recordFault.what}: ${toldOf(recordFault.error)}.`);
+  the("verdict").textContent = parts.join("");
+  the("verdict").className = `verdict ${fault || recordFault ? "bad" : "good"}`;
+}
+
+function hexTree(value) {
+  return value instanceof Uint8Array ? toHex(value) : value.map(hexTree);
+}
+
+function showJson(asked) {
+  the("json-fault").textContent = "";
+  const isLarge = view.bytes.length > LARGE_JSON && !asked;
+  the("json-fill").hidden = !isLarge || view.fault !== null;
+  const kept = view.start ? " The type byte in front is kept." : "";
+  the("json-note").textContent = view.fault
+    ? "Only canonical bytes have a JSON here. What is written in the box becomes the bytes above."
+    : `Nested arrays of hexadecimal strings. A change here is written as bytes above.${kept}`;
+  the("json").value = isLarge || view.fault ? "" : JSON.stringify(hexTree(codec.decode(view.bytes.subarray(view.start))), null, 1);
+}
+
+/** Shows bytes, which come from a box, a file or the JSON. */
+async function show(bytes, { note = "", fromJson = false } = {}) {
+  const mine = ++turn;
+  the("input-note").textContent = note;
+  the("link-note").textContent = "";
+  active = NOTHING;
+  cursor = 0;
+  view = null;
+  if (bytes.length > MOST_BYTES) return refuse(`There are ${counted(bytes.length, "byte")}. This page reads up to ${numbered(MOST_BYTES)}.`);
+  const made = await View.of(bytes, the("kind").value, () => turn === mine);
+  if (bytes.length > LARGE_JSON) await others();
+  if (turn !== mine) return;
+  view = made;
+  the("link").disabled = false;
+  the("panes").hidden = false;
+  measure();
+  tree.box.scrollTop = 0;
+  tree.set(linesOfTree());
+  showRecord();
+  showVerdict();
+  if (!fromJson) showJson(false);
+  const marked = [...view.marks.keys()][0];
+  if (marked !== undefined && marked < bytes.length) choose(view.itemAt(marked), marked, "input");
+  else the("place").textContent = "\u00a0";
+}
+
+function refuse(text) {
+  turn++;
+  view = null;
+  the("link").disabled = true;
+  the("link-note").textContent = "";
+  the("verdict").textContent = text;
+  the("verdict").className = "verdict bad";
+  the("panes").hidden = true;
+  the("record-section").hidden = true;
+  the("place").textContent = "\u00a0";
+}
+
+/** How many bytes a line has room for. */
+function measure() {
+  if (!view) return;
+  const room = the("dump").clientWidth - 66;
+  perLine = room >= 16 * 24 ? 16 : 8;
+  hasText = room >= perLine * 24 + perLine * 8 + 18;
+  the("dump").scrollTop = 0;
+  dump.set(Math.ceil(view.bytes.length / perLine));
+}
+
+// ---- What is given ----
+
+/** The bytes of the text of a node record: base64 for addresses of the web, without the equals signs. */
+function bytesOfNodeText(text) {
+  const base64 = text.trim().slice(4);
+  const wrong = /[^A-Za-z0-9_-]/.exec(base64);
+  if (wrong || base64.length % 4 === 1) throw new TypeError("The text behind “enr:” isn't base64 for addresses of the web.");
+  return fromBase64(base64.replaceAll("-", "+").replaceAll("_", "/"));
+}
+
+/** The value of a hexadecimal digit by its character code, or -1. */
+function digitOf(code) {
+  if (code >= 48 && code <= 57) return code - 48;
+  const lower = code | 32;
+  return lower >= 97 && lower <= 102 ? lower - 87 : -1;
+}
+
+function wrongDigit(count, letter) {
+  const shown = printable([letter.codePointAt(0)]) ? `“${letter}”` : `U+${letter.codePointAt(0).toString(16).toUpperCase().padStart(4, "0")}`;
+  return new TypeError(`There is no hexadecimal digit at digit ${numbered(count + 1)}, but ${shown}.`);
+}
+
+/** The bytes of digits, between which there may be spaces, or of the text of a node record. */
+function bytesOfText(text) {
+  if (/^\s*enr:/.test(text)) return bytesOfNodeText(text);
+  const bytes = new Uint8Array(Math.ceil(text.length / 2));
+  let count = 0;
+  for (let at = /^\s*(?:0x)?/i.exec(text)[0].length; at < text.length; at++) {
+    const digit = digitOf(text.charCodeAt(at));
+    if (digit >= 0) {
+      bytes[count >> 1] = bytes[count >> 1] * 16 + digit;
+      count++;
+    } else if (!/\s/.test(text[at])) throw wrongDigit(count, String.fromCodePoint(text.codePointAt(at)));
+  }
+  if (count % 2) throw new TypeError(`There are ${numbered(count)} digits: the last byte has only one.`);
+  return bytes.slice(0, count / 2);
+}
+
+/** Shows the bytes of the address, behind its #. */
+function readLink() {
+  const text = decodeURIComponent(location.hash.slice(1));
+  if (!text) return;
+  the("input").value = text.length > LARGE_TEXT ? "" : text;
+  readText(text);
+}
+
+/** Puts the bytes into the address behind a #, which no browser sends, and copies the address where that is allowed. */
+async function link() {
+  if (!view) return;
+  const { length } = view.bytes;
+  if (length > MOST_OF_LINK) {
+    the("link-note").textContent = `There are ${counted(length, "byte")}. A link carries up to ${numbered(MOST_OF_LINK)}.`;
+    return;
+  }
+  history.replaceState(null, "", `#${toHex(view.bytes)}`);
+  const copied = await navigator.clipboard?.writeText(location.href).then(() => true, () => false);
+  the("link-note").textContent = copied ? "The link is copied. It carries the bytes behind its #, which is sent to nobody." : "The address of this page now carries the bytes behind its #, which is sent to nobody.";
+}
+
+function readText(text) {
+  the("example").value = "";
+  if (text.trim() === "") {
+    refuse("Paste bytes, or choose an example.");
+    the("verdict").className = "verdict";
+    the("input-note").textContent = "";
+    return;
+  }
+  const isLarge = text.length > LARGE_TEXT;
+  if (isLarge) the("input").value = "";
+  try {
+    const bytes = bytesOfText(text);
+    show(bytes, { note: isLarge ? `${counted(bytes.length, "byte")} were pasted, which is too many to be edited in the box. The box is empty for other input.` : "" });
+  } catch (error) {
+    if (!(error instanceof TypeError)) throw error;
+    refuse(error.message);
+  }
+}
+
+async function readFile(file) {
+  if (file.size > MOST_BYTES * 2) return refuse(`The file has ${counted(file.size, "byte")}. This page reads up to ${numbered(MOST_BYTES)}.`);
+  const bytes = new Uint8Array(await file.arrayBuffer());
+  // A file of digits is read as digits.
+  const isText = bytes.length > 1 && /^\s*(0x)?[0-9a-f\s]+$/i.test(new TextDecoder("latin1").decode(bytes));
+  the("input").value = "";
+  try {
+    const given = isText ? bytesOfText(new TextDecoder("latin1").decode(bytes)) : bytes;
+    show(given, { note: `The file “${file.name}”, read as ${isText ? "hexadecimal digits" : "bytes"}: ${counted(given.length, "byte")}.` });
+  } catch (error) {
+    if (!(error instanceof TypeError)) throw error;
+    refuse(error.message);
+  }
+}
+
+/** The strings and lists of a JSON. */
+function checked(value, path) {
+  if (path.length > 256) throw new TypeError("There are more than 256 lists, one in the other.");
+  const where = path.length ? `At [${path.join("][")}]` : "The whole";
+  if (Array.isArray(value)) return value.map((each, at) => checked(each, [...path, at]));
+  if (typeof value !== "string" || !/^0x(?:[0-9a-f]{2})*$/i.test(value)) throw new TypeError(`${where} is neither an array nor a string of 0x and pairs of hexadecimal digits.`);
+  return `0x${value.slice(2)}`;
+}
+
+function readJson() {
+  the("json-fault").textContent = "";
+  try {
+    const item = codec.encode(checked(JSON.parse(the("json").value), []));
+    const front = view ? view.bytes.slice(0, view.start) : new Uint8Array(0);
+    const bytes = new Uint8Array(front.length + item.length);
+    bytes.set(front);
+    bytes.set(item, front.length);
+    const isLarge = bytes.length * 2 > LARGE_TEXT;
+    the("input").value = isLarge ? "" : toHex(bytes);
+    show(bytes, { note: `Written from the JSON: ${counted(bytes.length, "byte")}.`, fromJson: true });
+  } catch (error) {
+    if (!(error instanceof TypeError || error instanceof SyntaxError || error instanceof RlpError)) throw error;
+    the("json-fault").textContent = error instanceof SyntaxError ? `This is no JSON: ${error.message}` : error.message;
+  }
+}
+
+function soon(call) {
+  clearTimeout(waiting);
+  waiting = setTimeout(call, 150);
+}
+
+function listen() {
+  the("input").addEventListener("input", () => soon(() => readText(the("input").value)));
+  the("input").addEventListener("paste", (event) => {
+    const text = event.clipboardData?.getData("text/plain") ?? "";
+    if (text.length <= LARGE_TEXT) return;
+    event.preventDefault();
+    readText(text);
+  });
+  the("json").addEventListener("input", () => soon(readJson));
+  the("json-fill").addEventListener("click", () => showJson(true));
+  the("kind").addEventListener("change", () => view && show(view.bytes, { note: the("input-note").textContent }));
+  the("clear").addEventListener("click", () => {
+    the("input").value = the("json").value = "";
+    readText("");
+    the("input").focus();
+  });
+  the("link").addEventListener("click", link);
+  window.addEventListener("hashchange", readLink);
+  the("file").addEventListener("change", () => the("file").files[0] && readFile(the("file").files[0]));
+  the("example").append(...Object.keys(EXAMPLES).map((name) => new Option(name, name)));
+  the("example").addEventListener("change", () => {
+    const name = the("example").value;
+    if (!name) return;
+    the("input").value = EXAMPLES[name];
+    readText(EXAMPLES[name]);
+    the("example").value = name;
+  });
+  document.addEventListener("dragover", (event) => {
+    if (!event.dataTransfer.types.includes("Files")) return;
+    event.preventDefault();
+    document.body.classList.add("drop");
+  });
+  for (const kind of ["drop", "dragleave"]) document.addEventListener(kind, () => document.body.classList.remove("drop"));
+  document.addEventListener("drop", (event) => {
+    if (!event.dataTransfer.files.length) return;
+    event.preventDefault();
+    readFile(event.dataTransfer.files[0]);
+  });
+  let width = window.innerWidth;
+  window.addEventListener("resize", () => {
+    if (window.innerWidth !== width) measure();
+    width = window.innerWidth;
+  });
+}
+
+try {
+  codec = await load(fromBase64(MODULE));
+  listen();
+  if (location.hash.length > 1) readLink();
+  else readText(the("input").value);
+} catch (error) {
+  refuse(error.message);
+}

@@ -1,0 +1,109 @@
+// What records the bytes are.
+
+/** The transaction that some bytes are, or that they are the signing bytes of: then it is one with an empty signature. */
+function transactionOf(bytes) {
+  try {
+    const found = codec.transaction(bytes);
+    const { v, r, s } = found.fields;
+    const isUnsigned = found.type === 0 && v > 0n && r === 0n && s === 0n;
+    return isUnsigned ? { ...found, isUnsigned, chain: v } : found;
+  } catch (error) {
+    const isShort = error instanceof RlpError && error.status === MISSING_FIELD && error.field === FIRST_OF_SIGNATURE[bytes[0] < 0xc0 ? bytes[0] : 0];
+    if (!isShort) throw error;
+    return unsignedOf(bytes, error);
+  }
+}
+
+/** The transaction of signing bytes, which lack the three fields of the signature. Otherwise it throws the error. */
+function unsignedOf(bytes, error) {
+  const start = bytes[0] < 0xc0 ? 1 : 0;
+  const part = bytes.subarray(start);
+  if (!codec.isCanonical(part)) throw error;
+  const signed = codec.encode([...codec.decode(part), "", "", ""]);
+  const whole = new Uint8Array(start + signed.length);
+  whole.set(bytes.subarray(0, start));
+  whole.set(signed, start);
+  let found;
+  try {
+    found = codec.transaction(whole);
+  } catch {
+    throw error;
+  }
+  const places = Array.from(codec.tree(part), ({ offset, headerLength, payloadLength }) => ({ offset: offset + start, headerLength, payloadLength }));
+  return { ...found, isUnsigned: true, items: places.map((place, at) => ({ ...found.items[at], ...place })) };
+}
+
+const NUMBERS_OF_NODES = ["seq", "tcp", "tcp6", "udp", "udp6"];
+
+/** The node record that some bytes are, by its shape: a signature of 64 bytes, a number, and keys in order with values. */
+function nodeRecordOf(bytes) {
+  if (bytes.length > MOST_OF_NODE || bytes[0] < 0xc0 || !codec.isCanonical(bytes)) return null;
+  const items = [...codec.tree(bytes)];
+  const keys = items.filter((_, at) => at >= 2 && at % 2 === 0);
+  const isNamed = keys.every((key) => !key.isList && key.payloadLength > 0 && printable(key.bytes));
+  if (items.length < 2 || items.length % 2 || items[0].payloadLength !== 64 || items[0].isList || items[1].payloadLength > 8 || !isNamed) return null;
+  const names = keys.map((key) => letters(key.bytes));
+  if (names.some((name, at) => at > 0 && name <= names[at - 1])) return null;
+  const all = [["signature", items[0]], ["seq", items[1]], ...names.map((name, at) => [name, items[3 + at * 2]])];
+  const shown = all.map(([name, { offset, headerLength, payloadLength, isList }]) => ({
+    name, offset, headerLength, payloadLength, kind: isList ? "list" : NUMBERS_OF_NODES.includes(name) ? "number" : name === "id" ? "text" : "bytes",
+  }));
+  const valueOf = (item, { name, kind }) => {
+    if (kind === "list") return item.value();
+    if (kind === "number") return item.payloadLength > 0 ? BigInt(toHex(item.bytes)) : 0n;
+    return item.bytes;
+  };
+  return { what: "node record", items: shown, fields: Object.fromEntries(all.map(([name, item], at) => [name, valueOf(item, shown[at])])) };
+}
+
+/** What a call gives, or null where bytes are refused. */
+function orNull(call) {
+  try {
+    return call();
+  } catch (error) {
+    if (!(error instanceof RlpError)) throw error;
+    return null;
+  }
+}
+
+const PARTS_OF_BLOCK = ["header", "transactions", "ommers", "withdrawals"];
+
+/** The header that a list begins with, by its fields, or null. */
+function firstHeaderOf(bytes) {
+  return orNull(() => {
+    const first = bytes.subarray(codec.header(bytes).headerLength);
+    const { headerLength, payloadLength, isList } = codec.header(first);
+    return isList ? codec.headerFields(first.subarray(0, headerLength + payloadLength)) : null;
+  });
+}
+
+/** The block that some bytes are, by its shape: a header and lists of transactions, of ommers, and since Shanghai of withdrawals. */
+function blockOf(bytes) {
+  const header = bytes[0] >= 0xc0 ? firstHeaderOf(bytes) : null;
+  const parts = header && orNull(() => [...codec.tree(bytes)]);
+  if (!parts || parts.length < 3 || parts.length > 4 || !parts.every(({ isList }) => isList)) return null;
+  const names = new Map(header.items.map(({ name, offset }) => [parts[0].offset + offset, name]));
+  for (const { isList, offset, headerLength, payloadLength } of [...parts[1]].slice(0, MOST_NAMED)) {
+    const found = isList ? orNull(() => codec.transaction(bytes.subarray(offset, offset + headerLength + payloadLength))) : null;
+    for (const { name, offset: inner } of found?.items ?? []) names.set(offset + inner, name);
+  }
+  const told = ({ length }, at) => (at === 0 ? `block ${header.fields.number}, as since ${header.fork}` : counted(length, "entry", "entries"));
+  const items = parts.map(({ offset, headerLength, payloadLength }, at) => ({ name: PARTS_OF_BLOCK[at], kind: "told", offset, headerLength, payloadLength }));
+  return { what: "block", fork: header.fork, items, names, fields: Object.fromEntries(parts.map((part, at) => [PARTS_OF_BLOCK[at], told(part, at)])) };
+}
+
+/** The receipt that some bytes are, by its shape: a status or a root, gas, a bloom filter of 256 bytes, and logs. */
+function receiptOf(bytes) {
+  const start = bytes[0] < 0x80 ? 1 : 0;
+  const parts = bytes.length > start && bytes.length <= MOST_OF_RECEIPT && bytes[start] >= 0xc0 ? orNull(() => [...codec.tree(bytes.subarray(start))]) : null;
+  const isLog = ({ isList, length }) => isList && length === 3;
+  if (parts?.length !== 4 || parts[2].payloadLength !== 256 || parts[1].payloadLength > 8 || !parts[3].isList || ![...parts[3]].every(isLog)) return null;
+  const [first, gas, bloom, logs] = parts;
+  if ([first, gas, bloom].some(({ isList }) => isList) || (first.payloadLength > 1 && first.payloadLength !== 32)) return null;
+  const names = [first.payloadLength === 32 ? "stateRoot" : "status", "cumulativeGasUsed", "logsBloom", "logs"];
+  const kinds = [first.payloadLength === 32 ? "bytes" : "number", "number", "bytes", "list"];
+  const number = ({ bytes: digits }) => (digits.length > 0 ? BigInt(toHex(digits)) : 0n);
+  const values = parts.map((part, at) => (kinds[at] === "number" ? number(part) : part.value()));
+  const items = parts.map(({ offset, headerLength, payloadLength }, at) => ({ name: names[at], kind: kinds[at], offset: offset + start, headerLength, payloadLength }));
+  return { what: "receipt", items, fields: Object.fromEntries(names.map((name, at) => [name, values[at]])) };
+}
