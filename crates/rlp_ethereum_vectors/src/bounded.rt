@@ -75,12 +75,22 @@ fn tell_read<R: Record>(alloc: Global, most: &str, bytes: &[u8], out: &mut Line)
     }
 }
 
-/// Notes a row whose call tells something else. It doesn't allocate for the bytes.
+/// Tells the answer for the bytes of digits, which take no memory.
+fn tell_digits(alloc: Global, asked: &str, digits: &str, out: &mut Line) -> fmt::Result {
+    let mut buffer = [0; 256];
+    let bytes = bytes_in(digits, &mut buffer);
+    tell(alloc, asked, bytes, out)
+}
+
+/// Notes a row whose call tells something else.
 fn check_row(alloc: Global, call: &str, rest: &str, wrong: &mut Line) {
-    let (_, asked) = call.split_once(": ").unwrap_or(("", call));
+    let asked = match call.strip_prefix("at most: ") {
+        Some(asked) => asked,
+        None => call,
+    };
     let (digits, want) = rest.split_once(" | ").unwrap_or((rest, ""));
-    let (mut buffer, mut said) = ([0; 256], Line::new());
-    let _ = tell(alloc, asked, bytes_in(digits, &mut buffer), &mut said);
+    let mut said = Line::new();
+    let _ = tell_digits(alloc, asked, digits, &mut said);
     wrong.note(call, digits, said.as_str(), want);
 }
 
