@@ -25,6 +25,8 @@ GUESSED = "".join([f"withdrawal.{line}\n" for line in LINES.splitlines() if line
 JSON = f'{{"withdrawal":{{"index":"0x0","validatorIndex":"0x3e8","address":"0x{ADDRESS}","amount":"0x5"}}}}\n'
 ACCESS_LIST = "access_list: []\n\n"
 WRONG = "error RlpIncorrectListLen\n"
+# With --json a fault names the kind.
+WRONG_IN_JSON = "error withdrawal: RlpIncorrectListLen\n"
 # Two lines, of which the second is no withdrawal.
 INPUT = f"{RECORD}\nc0\n"
 
@@ -34,14 +36,14 @@ CALLS = (
     ("", INPUT, 0, GUESSED + ACCESS_LIST, ""),
     ("withdrawal", INPUT, 5, LINES + WRONG, ""),
     ("--json", f"{RECORD}\n", 0, JSON, ""),
-    ("--json withdrawal", INPUT, 5, JSON + WRONG, ""),
+    ("--json withdrawal", INPUT, 5, JSON + WRONG_IN_JSON, ""),
     ("withdrawal", "", 0, "", ""),
     (RECORD, INPUT, 0, GUESSED, ""),
     (f"withdrawal {RECORD}", INPUT, 0, LINES, ""),
     (f"--json {RECORD}", INPUT, 0, JSON, ""),
     (f"--json withdrawal {RECORD}", INPUT, 0, JSON, ""),
     ("withdrawal 0xc0", INPUT, 5, WRONG, ""),
-    ("--json withdrawal 0xc0", INPUT, 5, WRONG, ""),
+    ("--json withdrawal 0xc0", INPUT, 5, WRONG_IN_JSON, ""),
     (f"withdrawal {RECORD}\nc0\n{RECORD}", INPUT, 5, LINES + WRONG + LINES, ""),
     (f"withdrawal {RECORD}\r", INPUT, 0, LINES, ""),
     ("0x0", INPUT, 5, "error hex\n", ""),
