@@ -79,15 +79,12 @@ def places():
     return max(1, min(len(os.sched_getaffinity(0)), free // JOB))
 
 
-def minutes(seconds, uses, jobs):
-    """How long the proofs of crates take that still need these seconds: all divided among the jobs, or the longest chain of crates."""
-    chains = {}
-    for name in sorted(seconds, key=lambda name: len(needed([name], uses))):
-        chains[name] = seconds[name] + max((chains.get(other, 0) for other in uses[name]), default=0)
-    return max(sum(seconds.values()) / jobs, max(chains.values(), default=0)) / 60
+def minutes(seconds, jobs):
+    """How long proofs take, one after another, that need these processor seconds with one job. Several jobs share about a third of the work."""
+    return seconds * (2 + 1 / jobs) / 3 / 60
 
 
 def minutes_to_build(crate):
     """How long it takes to prove and build a crate and all that it uses, from nothing on this machine."""
-    uses = uses_of(lines_of(ROOT / "crates.txt"))
-    return minutes({name: seconds for name, (seconds, _) in costs(needed([crate], uses)).items()}, uses, places())
+    crates = needed([crate], uses_of(lines_of(ROOT / "crates.txt")))
+    return minutes(sum(seconds for seconds, _ in costs(crates).values()), places())
