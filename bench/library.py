@@ -87,11 +87,11 @@ def enough(program, operation):
 
 def nanoseconds(programs, operation):
     """The median for each program, which run by turns, and their smallest times."""
-    times = enough(programs[0], operation)
+    times = [enough(program, operation) for program in programs]
     taken = [[] for _ in programs]
     for _ in range(RUNS):
-        for program, each in zip(programs, taken):
-            each.append((seconds(program, operation, times) - seconds(program, operation, 0)) * 1e9 / times)
+        for program, count, each in zip(programs, times, taken):
+            each.append((seconds(program, operation, count) - seconds(program, operation, 0)) * 1e9 / count)
     return [statistics.median(each) for each in taken], [min(each) for each in taken]
 
 
