@@ -93,6 +93,11 @@ def v_text(value):
     return f"{value} (chain {chain}, parity {parity})" if 0 <= chain < 1 << 64 else str(value)
 
 
+def unsigned_v_text(chain):
+    """The number of the chain, which is in the place of a `v` in a transaction without a type that isn't signed."""
+    return f"{chain} (unsigned, chain {chain})"
+
+
 def bloom_text(string):
     return "256 zero bytes" if string == bytes(256) else fixed_text(256)(string)
 
@@ -218,6 +223,26 @@ class Signed:
         payload = b"".join(items[:-3]) + added
         signed = keccak256(self.front + written_header(0xC0, len(payload)) + payload)
         return lines + [f"{name + '.' if name else ''}signing_hash: 0x{signed.hex()}"]
+
+
+class Legacy:
+    """A transaction without a type, of which what isn't signed is shown in a way of its own. It isn't signed if its last two items are empty
+    strings, and is then what EIP-155 signs."""
+
+    def __init__(self, signed, unsigned):
+        self.signed, self.unsigned = signed, unsigned
+
+    def lines(self, name, data):
+        try:
+            is_unsigned = strict_items(data)[-2:] == [b"\x80", b"\x80"]
+        except Answered:
+            is_unsigned = False
+        if not is_unsigned:
+            return self.signed.lines(name, data)
+        return self.unsigned.lines(name, data) + [f"{name + '.' if name else ''}signing_hash: 0x{keccak256(data).hex()}"]
+
+    def written(self, dice):
+        return dice.choice((self.signed, self.signed, self.unsigned)).written(dice)
 
 
 class Typed:
@@ -500,6 +525,7 @@ def fields(text, types):
 
 TYPES = {"u8": number(1), "u64": number(8), "u256": number(32), "hash": HASH, "address": ADDRESS, "bloom": BLOOM, "string": STRING}
 TYPES |= {"scalar": number(32, hex), "v": number(32, v_text, (27, 28, 35, 36, 37, 38, (2 << 64) + 34, (2 << 64) + 35))}
+TYPES |= {"chain": number(32, unsigned_v_text, (0, 1, 27, 28, 36, 37, 137)), "none": number(32, hex, (0,))}
 TYPES |= {"truth": TRUTH, "recipient": RECIPIENT, "status": STATUS, "nonce": fixed(8), "hashes": ListOf(HASH)}
 TYPES["log"] = Record(fields("address:address topics:hashes data:string", TYPES))
 TYPES["access"] = Record(fields("address:address storage_keys:hashes", TYPES))
@@ -515,6 +541,7 @@ CALL = "gas_limit:u64 to:recipient value:u256 data:string"
 POINT = "y_parity:truth r:scalar s:scalar"
 SIGNED = f"access_list:access_list {POINT}"
 LEGACY = f"nonce:u64 gas_price:u256 {CALL} v:v r:scalar s:scalar"
+UNSIGNED = f"nonce:u64 gas_price:u256 {CALL} v:chain r:none s:none"
 TYPE_1 = f"chain_id:u64 nonce:u64 gas_price:u256 {CALL} {SIGNED}"
 FEES = "chain_id:u64 nonce:u64 max_priority_fee_per_gas:u256 max_fee_per_gas:u256"
 TYPE_2 = f"{FEES} {CALL} {SIGNED}"
@@ -525,7 +552,8 @@ TYPE_4 = f"""{FEES} gas_limit:u64 destination:address value:u256 data:string acc
 TYPES["header"] = Hashed(Record(fields(HEADER, TYPES), counts=(15, 16, 17, 20, 21)))
 TYPES["withdrawal"] = Record(fields("index:u64 validator_index:u64 address:address amount:u64", TYPES))
 PAYLOADS = {kind: Signed(bytes([kind]), Record(fields(text, TYPES))) for kind, text in enumerate((TYPE_1, TYPE_2, TYPE_3, TYPE_4), 1)}
-TRANSACTION = Typed(PAYLOADS, Signed(b"", Record(fields(LEGACY, TYPES))), Kept())
+UNTYPED = Legacy(Signed(b"", Record(fields(LEGACY, TYPES))), Record(fields(UNSIGNED, TYPES)))
+TRANSACTION = Typed(PAYLOADS, UNTYPED, Kept())
 TYPES["transactions"] = ListOf(Held(PAYLOADS, TRANSACTION.other))
 TYPES |= {"headers": ListOf(TYPES["header"]), "withdrawals": ListOf(TYPES["withdrawal"])}
 BLOCK = "header:header transactions:transactions ommers:headers withdrawals:withdrawals"

@@ -19,7 +19,6 @@ use Rattle.rlp.specs.Views.Text.{error_name}
 use Rattle.rlp.specs.Views.View.{item_count, item_views, strict_view_of}
 use Rattle.rlp_trie.specs.BranchChild.{place_item}
 use Rattle.rlp_trie.specs.Child.{IsChild, child_item}
-use Rattle.rlp_trie.specs.EmptyString.{empty_string}
 use Rattle.rlp_trie.specs.HexPrefix.{ends_in_leaf, is_empty_extension, is_leaf_path}
 use Rattle.rlp_trie.specs.Trie.{branch as branch_codec, child_at, extension as extension_codec, leaf as leaf_codec}
 use Rattle.rlp_trie.specs.TrieNode.{IsTrieNode, is_leaf_string, node_item}
@@ -29,11 +28,12 @@ use Rattle.rlp_trie.specs.declared.child.Child.TheVariants.{Inline, Node}
 use Rattle.rlp_trie.specs.declared.trie_node.TrieNode.TheVariants as node
 use Rattle.rlp_show_text.specs.ConverseLemmas.{IsEncoded, IsSlice, OnlyEncodings, OnlyItems, below, both_ok, bytes_only, end_only, field_only, fixed_length}
 use Rattle.rlp_show_text.specs.ConverseLemmas.{fixed_only, hashed_only, if_ok, record_only, strings_only, vec_of}
-use Rattle.rlp_show_text.specs.Lines.{Field, Shape, Worded, byte_string, field, hash, line, prefix, record_of, string_shape}
+use Rattle.rlp_show_text.specs.Lines.{Field, Shape, Worded, byte_string, field, hash, is_empty_string, line, prefix, record_of, string_shape}
 use Rattle.rlp_show_text.specs.Lines.{wrong}
 use Rattle.rlp_show_text.specs.NodeRecordLemmas.{item_only}
-use Rattle.rlp_show_text.specs.Nodes.{any_item, are_leaf, branch, branch_child, child, child_hash_in, extension, extension_path_in, inline_node, is_empty_node}
+use Rattle.rlp_show_text.specs.Nodes.{any_item, are_leaf, branch, branch_child, child, child_hash_in, extension, extension_path_in, inline_node}
 use Rattle.rlp_show_text.specs.Nodes.{kept_nodes, leaf, node as node_shape, node_keeping, node_lines, node_of, path_in}
+use Rattle.rlp_show_text.specs.SigningLemmas.{empty_told}
 use Rattle.rlp_show_text.specs.Text.{bytes_text}
 use Rattle.rlp_show_text.specs.ValueLemmas.{first_sized, joined_small, views-encoding}
 
@@ -199,12 +199,6 @@ leaf_only name b slice kind ok =
     let ends = path_kind (vec_items v) true fit.0 told in
     (record { path = record { bytes = v; encoded = ends; some_nibble = leaf_some (vec_items v) ends }; value = x }, (tt, (tt, tt)), is)
 
--- the empty string is the byte 0x80
-empty_told : (b : List ℕ) → is_empty_node b ≡ true → b ≡ encoding (string [])
-empty_told [] is = absurd (let no : ⊥ = cc in no)
-empty_told (first ∷ []) is = let same : first ≡ 0x80 = grind (arith, nat_tests) in ap (λ c. c ∷ []) same ∙ sym empty_string
-empty_told (first ∷ next ∷ more) is = absurd (let no : ⊥ = cc in no)
-
 module _ (kept : Shape) (only : OnlyCanonical kept) where
   -- and another is an extension
   extension_only : (name b : List ℕ) → IsSlice b → are_leaf (item_views (strict_view_of b)) ≡ false → IsOk (extension kept name (strict_view_of b))
@@ -249,7 +243,7 @@ module _ (kept : Shape) (only : OnlyCanonical kept) where
 
   -- only encodings of nodes are shown as nodes
   node_only : OnlyEncodings IsTrieNode node_item (node_keeping kept)
-  node_only name b slice ok = by (is_empty_node b) refl ok
+  node_only name b slice ok = by (is_empty_string b) refl ok
     where
       two : (kind : Bool) → are_leaf (item_views (strict_view_of b)) ≡ kind
           → IsOk (if kind then node_of (codes "leaf") leaf name (strict_view_of b) else node_of (codes "extension") (extension kept) name (strict_view_of b))
@@ -279,7 +273,7 @@ module _ (kept : Shape) (only : OnlyCanonical kept) where
       counted (Ok n) ok = many (n == 17) (n == 2) ok
       counted (Err e) ok = absurd (let no : ⊥ = cc in no)
 
-      by : (empty : Bool) → is_empty_node b ≡ empty
+      by : (empty : Bool) → is_empty_string b ≡ empty
           → IsOk (if empty then Ok (line (prefix name ++ codes "node") (codes "empty")) else node_lines kept name (strict_view_of b) (item_count (strict_view_of b)))
           → IsEncoded IsTrieNode node_item b
       by true empty ok = (node.Empty, tt, empty_told b empty)

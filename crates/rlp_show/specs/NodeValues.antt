@@ -30,10 +30,10 @@ use Rattle.rlp_trie.specs.declared.trie_node.TrieNode.{TrieNode}
 use Rattle.rlp_trie.specs.declared.trie_node.TrieNode.TheVariants as node
 use Rattle.rlp_show_text.specs.Answer.{record_answer, shown_answer}
 use Rattle.rlp_show.specs.EnvelopeLemmas.{list_kind}
-use Rattle.rlp_show_text.specs.Lines.{Field, Shape, Shown, byte_string, field, fields_lines, hash as hash_shape, hash_line, in_field, line, named, place, prefix, string_shape}
-use Rattle.rlp_show_text.specs.Lines.{then_lines}
+use Rattle.rlp_show_text.specs.Lines.{Field, Shape, Shown, byte_string, field, fields_lines, hash as hash_shape, hash_line, in_field, is_empty_string, line, named, place, prefix}
+use Rattle.rlp_show_text.specs.Lines.{string_shape, then_lines}
 use Rattle.rlp_show.specs.NodeConverse.{pair_kind}
-use Rattle.rlp_show_text.specs.Nodes.{are_leaf, branch, branch_child, child, child_hash_in, extension, extension_path, extension_path_in, inline_node, is_empty_node}
+use Rattle.rlp_show_text.specs.Nodes.{are_leaf, branch, branch_child, child, child_hash_in, extension, extension_path, extension_path_in, inline_node}
 use Rattle.rlp_show_text.specs.Nodes.{kept_nodes, leaf, node as node_shape, node_keeping, node_lines, path, path_in}
 use Rattle.rlp_show_text.specs.StringLemmas.{bytes_given, fixed_as_given, fixed_right, shown_string}
 use Rattle.rlp_show_text.specs.Text.{bytes_text, path_text}
@@ -207,7 +207,7 @@ branch_shown kept name b fit sized =
     (places_shown kept (prefix name) b 0 16 fit (joined_small (branch_fields.items b) sized))
 
 -- a list isn't the empty trie
-list_told : (b : List ℕ) → begins_as_list b ≡ true → is_empty_node b ≡ false
+list_told : (b : List ℕ) → begins_as_list b ≡ true → is_empty_string b ≡ false
 list_told [] kind = refl
 list_told (first ∷ []) kind = grind (arith, nat_tests)
 list_told (first ∷ next ∷ more) kind = refl
@@ -217,13 +217,13 @@ listed_shown : (kept : Shape) (name : List ℕ) (xs : List Item) → IsSized (li
     → node_keeping kept name (strict_view_of (encoding (list_of xs))) ≡ node_lines kept name (strict_view_of (encoding (list_of xs))) (Ok (length xs))
 listed_shown kept name xs sized =
     let b = encoding (list_of xs) in
-    cond-false (is_empty_node b) _ _ (list_told b (list_kind xs sized))
+    cond-false (is_empty_string b) _ _ (list_told b (list_kind xs sized))
     ∙ ap (node_lines kept name (strict_view_of b)) (strict_item_count xs b sized refl)
 
 -- the encoding of a node is shown as its value
 node_shown : (kept : Shape) (name : List ℕ) (n : TrieNode) → IsTrieNode n → IsSized (node_item n)
     → node_keeping kept name (strict_view_of (encoding (node_item n))) ≡ node_value kept name n
-node_shown kept name node.Empty fit sized = cond-true (is_empty_node (encoding (string []))) _ _ (ap is_empty_node empty_string)
+node_shown kept name node.Empty fit sized = cond-true (is_empty_string (encoding (string []))) _ _ (ap is_empty_string empty_string)
 node_shown kept name (node.Leaf l) fit sized =
     let d = vec_items l.path.bytes in
     let x = string (vec_items l.value) in

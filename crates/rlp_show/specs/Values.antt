@@ -2,6 +2,7 @@
 use Rattle.std.specs.Prelude.{codes}
 use Rattle.std.specs.Vec.{vec_items}
 use Rattle.std.proofs.Common.{refl}
+use Rattle.rlp.specs.Codec.{uint}
 use Rattle.rlp_headers.specs.declared.withdrawal.Withdrawal.{Withdrawal}
 use Rattle.rlp_headers.specs.Withdrawal.{withdrawal as withdrawal_codec}
 use Rattle.rlp_headers.specs.declared.account.Account.{Account}
@@ -34,7 +35,7 @@ use Rattle.rlp_show_text.specs.ConverseLemmas.{vec_of}
 use Rattle.rlp_show_text.specs.Displays.{Display, address_display, alone_display, bloom_display, bytes_display, end_display, field_display, fixed_display}
 use Rattle.rlp_show_text.specs.Displays.{hash_display, hashed_display, legacy_signing_display, legacy_v_display, list_display, number_display}
 use Rattle.rlp_show_text.specs.Displays.{optional_display, optional_group_display, recipient_display, record_display, signed_display, status_display}
-use Rattle.rlp_show_text.specs.Displays.{tagged_display, truth_display, uint_display, vec_display}
+use Rattle.rlp_show_text.specs.Displays.{tagged_display, truth_display, uint_display, unsigned_v_display, vec_display}
 
 -- withdrawals
 abbrev pub withdrawal_display : Display withdrawal_codec
@@ -87,16 +88,20 @@ access_list_display = list_display (λ (a : AccessList). vec_items a.0) (λ xs f
 abbrev pub access_list_alone_display : Display access_list_codec
 access_list_alone_display = alone_display (codes "access_list") access_list_display
 
--- transactions without a type, and the hash of what is signed
-abbrev pub legacy_transaction_display : Display signed_legacy_transaction
-legacy_transaction_display = legacy_signing_display (signed_display (λ p. refl) (codes "v") legacy_v_display (
+-- the fields of transactions without a type and of their signatures, by how `v` is shown
+abbrev pub legacy_fields_display : Display (uint 32) → Display signed_legacy_transaction
+legacy_fields_display v = signed_display (λ p. refl) (codes "v") v (
     field_display (codes "nonce") (λ (l : LegacyTransaction). l.nonce) (number_display 8) (
     field_display (codes "gas_price") (λ (l : LegacyTransaction). l.gas_price) (uint_display 32) (
     field_display (codes "gas_limit") (λ (l : LegacyTransaction). l.gas_limit) (number_display 8) (
     field_display (codes "to") (λ (l : LegacyTransaction). l.to) recipient_display (
     field_display (codes "value") (λ (l : LegacyTransaction). l.value) (uint_display 32) (
     field_display (codes "data") (λ (l : LegacyTransaction). l.data) (bytes_display vec_items vec_of) end_display)))))) refl
-    (λ (a, (b, (c, (d, (e, (f, end)))))). record { nonce = a; gas_price = b; gas_limit = c; to = d; value = e; «data» = f }) (λ t. refl))
+    (λ (a, (b, (c, (d, (e, (f, end)))))). record { nonce = a; gas_price = b; gas_limit = c; to = d; value = e; «data» = f }) (λ t. refl)
+
+-- transactions without a type, signed or not, and the hash of what is signed
+abbrev pub legacy_transaction_display : Display signed_legacy_transaction
+legacy_transaction_display = legacy_signing_display (legacy_fields_display unsigned_v_display) (legacy_fields_display legacy_v_display)
 
 -- transactions of type 1, without the byte of the type
 abbrev pub access_list_transaction_display : Display signed_access_list_transaction

@@ -36,7 +36,7 @@ pub use kind::Kind;
 pub use lists::Items;
 pub use messages::MessageKind;
 pub use nodes::{BranchChildOf, BranchOf, ChildOf, ExtensionOf, Node, NodeKeeping};
-pub use numbers::{LegacyV, SignatureNumber};
+pub use numbers::{LegacyV, SignatureNumber, UnsignedV};
 pub use pairs::NodeKey;
 pub use paths::{ExtensionPath, Path};
 pub use request::Request;

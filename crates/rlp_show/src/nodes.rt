@@ -11,7 +11,7 @@ use crate::paths::{ExtensionPath, Path};
 use crate::show::Show;
 use rlp::{DecoderError, Rlp};
 use rlp_ethereum::{Hash, Leaf};
-use rlp_show_text::{ShowFault, is_empty_node, is_leaf, put_kind, show_child_hash};
+use rlp_show_text::{ShowFault, is_empty_string, is_leaf, put_kind, show_child_hash};
 use std::alloc::Global;
 use std::marker::PhantomData;
 
@@ -154,7 +154,7 @@ impl<K: Show> Show for NodeKeeping<K> {
     ghost shape = { node_keeping K.shape };
 
     fn show(alloc: Global, name: &str, item: &Rlp<'_>, out: &mut String) -> Result<(), ShowFault> {
-        if is_empty_node(item.as_raw()) {
+        if is_empty_string(item.as_raw()) {
             return Ok(put_kind(alloc, name, "empty", out)?);
         }
         match item.item_count() {

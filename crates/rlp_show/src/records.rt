@@ -7,7 +7,7 @@ ghost use Rattle.rlp_show.specs.BodyValues.{body_display};
 use crate::fields::{Label, show_fields, show_record};
 use crate::hashes::Hashed;
 use crate::lists::Items;
-use crate::numbers::{LegacyV, SignatureNumber};
+use crate::numbers::{LegacyV, SignatureNumber, UnsignedV};
 use crate::show::Show;
 use rlp::{Rlp, Uint};
 use rlp_ethereum::{
@@ -17,7 +17,9 @@ use rlp_ethereum::{
     SET_CODE_TYPE, SetCodeTransaction, Signed, SignedAuthorization, SignedLegacyTransaction,
     Withdrawal,
 };
-use rlp_show_text::{ShowFault, put_typed_signing_hash, show_legacy_signing};
+use rlp_show_text::{
+    ShowFault, is_unsigned, put_hash, put_typed_signing_hash, show_legacy_signing,
+};
 use std::alloc::Global;
 
 impl Show for Withdrawal {
@@ -148,26 +150,40 @@ impl Show for AccessListItem {
     }
 }
 
-impl Show for SignedLegacyTransaction {
-    ghost shape = { legacy_transaction_display.shape };
-
-    #[tactic(auto, using(rlp_show_text::proofs::FieldLemmas::fields_in_order))]
-    fn show(alloc: Global, name: &str, item: &Rlp<'_>, out: &mut String) -> Result<(), ShowFault> {
+/// Shows the fields of a transaction without a type, and the item in the place of its `v` as one of
+/// this type.
+macro_rules! show_legacy_fields {
+    ($alloc:expr, $name:expr, $item:expr, $out:expr, $v:ty) => {
         show_fields!(
-            alloc,
-            name,
-            item,
-            out,
+            $alloc,
+            $name,
+            $item,
+            $out,
             "nonce": u64,
             "gas_price": Uint<32>,
             "gas_limit": u64,
             "to": Recipient,
             "value": Uint<32>,
             "data": Vec<u8>,
-            "v": LegacyV,
+            "v": $v,
             "r": SignatureNumber,
             "s": SignatureNumber
-        )?;
+        )
+    };
+}
+
+/// A transaction whose `r` and `s` are empty strings isn't signed. In the place of `v` it has the
+/// number of the chain, and its own bytes are what is signed.
+impl Show for SignedLegacyTransaction {
+    ghost shape = { legacy_transaction_display.shape };
+
+    #[tactic(auto, using(rlp_show_text::proofs::FieldLemmas::fields_in_order))]
+    fn show(alloc: Global, name: &str, item: &Rlp<'_>, out: &mut String) -> Result<(), ShowFault> {
+        if is_unsigned(item) {
+            show_legacy_fields!(alloc, name, item, out, UnsignedV)?;
+            return Ok(put_hash(alloc, name, "signing_hash", item.as_raw(), out)?);
+        }
+        show_legacy_fields!(alloc, name, item, out, LegacyV)?;
         show_legacy_signing(alloc, name, item, out)
     }
 }

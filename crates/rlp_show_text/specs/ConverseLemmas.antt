@@ -157,6 +157,15 @@ pub first_only : {A : Type 0} (Fits : A → Type 0) (item : A → Item) (shape o
 first_only Fits item shape others only name b slice ok =
     only name b slice (both_ok (shape name (strict_view_of b)) (others name (strict_view_of b)) ok).0
 
+-- and by a test, where it is so both ways
+pub either_only : {A : Type 0} (Fits : A → Type 0) (item : A → Item) (test : View → Bool) (shape other : Shape) → OnlyEncodings Fits item shape
+    → OnlyEncodings Fits item other → OnlyEncodings Fits item (λ name v. if test v then shape name v else other name v)
+either_only Fits item test shape other only others name b slice ok = by (test (strict_view_of b)) ok
+  where
+    by : (t : Bool) → IsOk (if t then shape name (strict_view_of b) else other name (strict_view_of b)) → IsEncoded Fits item b
+    by true ok = only name b slice ok
+    by false ok = others name b slice ok
+
 -- ---- strings
 
 -- a type that is read from one string: each string that has a text is that of a value

@@ -32,9 +32,9 @@ use Rattle.rlp_show_text.specs.ConverseLemmas.{OnlyEncodings, OnlyItems, bytes_o
 use Rattle.rlp_show_text.specs.ConverseLemmas.{number_only, optional_only, part_only, recipient_only, record_only, status_only, truth_only, vec_of}
 use Rattle.rlp_show_text.specs.Lines.{Field, Shape, byte_string, field, fields_lines, fixed_bytes_as, hash_line, hashed, in_field, line, lines_if, list_of, list_value_lines, may_have}
 use Rattle.rlp_show_text.specs.Lines.{number_as, optional, prefix, receipt_status, recipient, record_of, then_lines, truth_value}
-use Rattle.rlp_show_text.specs.Signing.{first_bytes, legacy_signing, legacy_signing_lines, signing_line, with_signing_hash}
-use Rattle.rlp_show_text.specs.SigningLemmas.{legacy_signed, signed_list}
-use Rattle.rlp_show_text.specs.Text.{bloom_text, bytes_text, hex_text, number_text, said_by, v_text}
+use Rattle.rlp_show_text.specs.Signing.{first_bytes, legacy_lines, signing_line, with_legacy_signing, with_signing_hash}
+use Rattle.rlp_show_text.specs.SigningLemmas.{legacy_only, legacy_shown, signed_list}
+use Rattle.rlp_show_text.specs.Text.{bloom_text, bytes_text, hex_text, number_text, unsigned_v_text, v_text}
 use Rattle.rlp_show_text.specs.StringLemmas.{bytes_given, fixed_as_given, number_as_given, recipient_given, status_given, truth_given}
 use Rattle.rlp_show_text.specs.ValueLemmas.{both_shown, first_sized, front_small, group_right, group_shown, joined_small, list_shown, optional_right, optional_shown}
 use Rattle.rlp_show_text.specs.ValueLemmas.{may_have-append, others_small, part_shown, record_shown, rest_small, views_of}
@@ -86,6 +86,9 @@ signature_number_display = uint_as_display hex_text 32
 
 abbrev pub legacy_v_display : Display (uint 32)
 legacy_v_display = uint_as_display v_text 32
+
+abbrev pub unsigned_v_display : Display (uint 32)
+unsigned_v_display = uint_as_display unsigned_v_text 32
 
 -- exactly n bytes, as their text
 abbrev pub fixed_as_display : (text : List ℕ → List ℕ) (n : ℕ) → Display (byte_array n)
@@ -287,13 +290,14 @@ abbrev pub tagged_display : {T V : Type 0} {f : Fields T} {c : Codec V} (kind n 
 tagged_display {f = f} {c = c} kind n fixed least name v d many make same =
     signing_display kind n f c fixed least (signed_display fixed name v d many make same)
 
--- a transaction without a type, and the hash of what is signed
-abbrev pub legacy_signing_display : Display signed_legacy_transaction → Display signed_legacy_transaction
-legacy_signing_display d = record {
-  shape = λ name v. then_lines (d.shape name v) (legacy_signing name v);
-  lines = λ name t. d.lines name t ++ legacy_signing_lines name t.payload (said_by (number_from_digits 256 t.v.bytes));
-  shown = λ name t fit sized. both_shown _ _ (d.lines name t) _ (d.shown name t fit sized) (legacy_signed name t fit sized);
-  only = first_only signed_legacy_transaction.Fits signed_legacy_transaction.item d.shape legacy_signing d.only;
+-- a transaction without a type, shown in the first way if it isn't signed and else in the second, and the hash of what is signed
+abbrev pub legacy_signing_display : (unsigned signed : Display signed_legacy_transaction) → Display signed_legacy_transaction
+legacy_signing_display unsigned signed = record {
+  shape = with_legacy_signing unsigned.shape signed.shape;
+  lines = λ name t. legacy_lines (unsigned.lines name t) (signed.lines name t) name t;
+  shown = λ name t fit sized. legacy_shown unsigned.shape signed.shape (unsigned.lines name t) (signed.lines name t) name t fit sized
+      (unsigned.shown name t fit sized) (signed.shown name t fit sized);
+  only = legacy_only unsigned.shape signed.shape unsigned.only signed.only;
 }
 
 -- values under this name, also by themselves

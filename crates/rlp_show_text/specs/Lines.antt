@@ -8,7 +8,7 @@ use Rattle.rlp.specs.DecoderError.TheVariants.{RlpIsTooBig, RlpIsTooShort, RlpIn
 use Rattle.rlp.specs.Format.Split.{begins_as_list}
 use Rattle.rlp.specs.Views.Text.{error_name}
 use Rattle.rlp.specs.Views.View.{View, item_count, item_views, strict_view_of, view_string}
-use Rattle.rlp_show_text.specs.Text.{bloom_text, bytes_text, hex_text, number_text, v_text}
+use Rattle.rlp_show_text.specs.Text.{bloom_text, bytes_text, hex_text, number_text, unsigned_v_text, v_text}
 
 -- What is wrong with an item: the place of the field that has the item, counted from 0 in the outermost record; the name of the item; and the name of the
 -- fault. A whole record has no field and no name.
@@ -69,6 +69,12 @@ in_string text_in (Err e) = Err (error_name e)
 -- a type that is read from one string: `text_in` is the text of a string, or the name of its fault
 abbrev pub string_shape : (List ℕ → Worded) → Shape
 string_shape text_in name v = named name (in_string text_in (view_string v))
+
+-- whether bytes are the encoding of the empty string
+abbrev pub is_empty_string : List ℕ → Bool
+is_empty_string [] = false
+is_empty_string (first ∷ []) = first == 0x80
+is_empty_string (first ∷ next ∷ more) = false
 
 -- whether a string begins with a zero byte
 abbrev pub begins_with_zero : List ℕ → Bool
@@ -283,3 +289,7 @@ signature_number = number_as hex_text 32
 -- the number v of the signature of a transaction without a type
 abbrev pub legacy_v : Shape
 legacy_v = number_as v_text 32
+
+-- the number of the chain, which is in the place of v in a transaction without a type that isn't signed
+abbrev pub unsigned_v : Shape
+unsigned_v = number_as unsigned_v_text 32

@@ -7,8 +7,8 @@ use Rattle.rlp.specs.Views.Text.{error_name}
 use Rattle.rlp.specs.Views.View.{View, item_count, item_views, view_string}
 use Rattle.rlp_trie.specs.HexPrefix.{ends_in_leaf, is_empty_extension}
 use Rattle.rlp_trie.specs.TrieNode.{is_leaf_string}
-use Rattle.rlp_show_text.specs.Lines.{Shape, Shown, Worded, byte_string, field, fixed_bytes_in, hash, hashed, item_within, line, prefix, record_of, string_shape}
-use Rattle.rlp_show_text.specs.Lines.{then_lines, wrong}
+use Rattle.rlp_show_text.specs.Lines.{Shape, Shown, Worded, byte_string, field, fixed_bytes_in, hash, hashed, is_empty_string, item_within, line, prefix, record_of}
+use Rattle.rlp_show_text.specs.Lines.{string_shape, then_lines, wrong}
 use Rattle.rlp_show_text.specs.Text.{bytes_text, path_text}
 
 -- ---- items of any kind
@@ -103,16 +103,10 @@ node_lines kept name v (Ok n) =
     else if n == 2 then (if are_leaf (item_views v) then node_of (codes "leaf") leaf name v else node_of (codes "extension") (extension kept) name v)
     else Err (wrong name (error_name RlpIncorrectListLen))
 
--- whether bytes are the encoding of the empty string
-abbrev pub is_empty_node : List ℕ → Bool
-is_empty_node [] = false
-is_empty_node (first ∷ []) = first == 0x80
-is_empty_node (first ∷ next ∷ more) = false
-
 -- a node without its hash: the empty string is the empty trie
 abbrev pub node_keeping : Shape → Shape
 node_keeping kept name v =
-    if is_empty_node v.bytes then Ok (line (prefix name ++ codes "node") (codes "empty"))
+    if is_empty_string v.bytes then Ok (line (prefix name ++ codes "node") (codes "empty"))
     else node_lines kept name v (item_count v)
 
 -- Nodes that are kept in a node. In a trie at most three nodes are kept one in another: an extension, a branch and a leaf. The items of others are shown.

@@ -27,7 +27,7 @@ use Rattle.rlp.specs.Lemmas.StringsHeld.{held_only}
 use Rattle.rlp_show_text.specs.Lines.{Worded, line, wrong, named, in_string, string_shape, number, number_as, number_in, fixed_bytes, fixed_bytes_as, fixed_bytes_in, begins_with_zero}
 use Rattle.rlp_show_text.specs.Lines.{byte_string, receipt_status, recipient, recipient_in, status_in, truth_value, truth_value_in}
 use Rattle.rlp_show_text.specs.Signing.{said_line, signing_of, worded}
-use Rattle.rlp_show_text.specs.Text.{bloom_text, bytes_text, hex_text, number_text, said_by, v_text}
+use Rattle.rlp_show_text.specs.Text.{bloom_text, bytes_text, hex_text, number_text, said_by, unsigned_v_text, v_text}
 
 -- the text of the string that a view holds
 held_text : (text_in : List ℕ → Worded) (v : View) (d : List ℕ) → length v.bytes < 2 ^ 64 → HoldsString v d
@@ -150,6 +150,14 @@ pub v_faulty : (width : ℕ) (name : List ℕ) (v : View) (e : DecoderError) →
     → number_as v_text width name v ≡ Err (wrong name (error_name e))
 v_faulty = number_as_faulty v_text
 
+pub unsigned_v_given : (width n : ℕ) (name : List ℕ) (v : View) → length v.bytes < 2 ^ 64 → GivesNumber width v n
+    → number_as unsigned_v_text width name v ≡ Ok (line name (unsigned_v_text n))
+unsigned_v_given = number_as_given unsigned_v_text
+
+pub unsigned_v_faulty : (width : ℕ) (name : List ℕ) (v : View) (e : DecoderError) → length v.bytes < 2 ^ 64 → FaultsAsNumber width v e
+    → number_as unsigned_v_text width name v ≡ Err (wrong name (error_name e))
+unsigned_v_faulty = number_as_faulty unsigned_v_text
+
 -- the hash of what is signed, by the number v
 pub signing_given : (name six : List ℕ) (n : ℕ) (v : View) → length v.bytes < 2 ^ 64 → GivesNumber 32 v n
     → signing_of six name v ≡ Ok (said_line name six (said_by n))
@@ -164,6 +172,8 @@ pub ruleset number_strings = (number_given, number_faulty)
 pub ruleset hex_strings = (hex_given, hex_faulty)
 
 pub ruleset v_strings = (v_given, v_faulty)
+
+pub ruleset unsigned_v_strings = (unsigned_v_given, unsigned_v_faulty)
 
 pub ruleset signing_strings = (signing_given, signing_faulty)
 

@@ -26,11 +26,14 @@ pub use input::{is_node_text, is_record, read_record};
 pub use line::{put_bytes_line, put_line};
 pub use lists::{place_in, put_empty};
 pub use node_records::{by_keys, show_pairs, skip};
-pub use nodes::{is_empty_node, is_leaf, put_kind, show_child_hash};
+pub use nodes::{is_leaf, put_kind, show_child_hash};
 pub use numbers::{
     put_number_line, show_legacy_v, show_number, show_signature_number, show_truth_value,
+    show_unsigned_v,
 };
 pub use pairs::show_key;
 pub use paths::{show_extension_path, show_leaf_path};
-pub use signing::{put_typed_signing_hash, show_legacy_signing};
-pub use strings::{show_bloom, show_bytes, show_fixed, show_receipt_status, show_recipient};
+pub use signing::{is_unsigned, put_typed_signing_hash, show_legacy_signing};
+pub use strings::{
+    is_empty_string, show_bloom, show_bytes, show_fixed, show_receipt_status, show_recipient,
+};

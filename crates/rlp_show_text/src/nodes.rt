@@ -4,7 +4,7 @@ ghost use Rattle.std.specs.Prelude.{◌≡◌, ◌++◌, codes, string_bytes, On
 ghost use Rattle.rlp.specs.Views.View.{item_views};
 ghost use Rattle.rlp_show_text.specs.Answer.{Shows};
 ghost use Rattle.rlp_show_text.specs.Lines.{line, prefix, string_shape};
-ghost use Rattle.rlp_show_text.specs.Nodes.{are_leaf, child_hash_in, is_empty_node};
+ghost use Rattle.rlp_show_text.specs.Nodes.{are_leaf, child_hash_in};
 
 use crate::fault::ShowFault;
 use crate::fields::name_in;
@@ -34,13 +34,6 @@ pub fn show_child_hash(
         return Err(ShowFault::of(alloc, name, DecoderError::RlpIsTooBig));
     }
     Ok(put_bytes_line(name, bytes, out)?)
-}
-
-/// Returns whether bytes are the encoding of the empty string.
-pub fn is_empty_node(bytes: &[u8]) -> bool
-    ensures { result ≡ is_empty_node bytes.now }
-{
-    matches!(bytes, [0x80])
 }
 
 /// Returns whether the first item of a node is the path of a leaf.

@@ -4,8 +4,8 @@ ghost use Rattle.std.specs.Prelude.{◌≡◌, ◌++◌, ◌^◌, ◌<◌, strin
 ghost use Rattle.std.specs.Int.Digits.{number_from_digits};
 ghost use Rattle.rlp.specs.Values.Value.{bit};
 ghost use Rattle.rlp_show_text.specs.Answer.{Shows};
-ghost use Rattle.rlp_show_text.specs.Lines.{legacy_v, line, number, signature_number, truth_value};
-ghost use Rattle.rlp_show_text.specs.Text.{hex_text, meaning_text, number_text, said_by, v_text};
+ghost use Rattle.rlp_show_text.specs.Lines.{legacy_v, line, number, signature_number, truth_value, unsigned_v};
+ghost use Rattle.rlp_show_text.specs.Text.{hex_text, meaning_text, number_text, said_by, unsigned_text, unsigned_v_text, v_text};
 
 use crate::fault::ShowFault;
 use crate::line::put_line;
@@ -123,6 +123,45 @@ pub fn show_legacy_v(
     let _bytes = item.as_raw();
     match item.as_val::<Uint<32>>(alloc) {
         Ok(v) => Ok(put_v_line(name, &v, out)?),
+        Err(DecoderError::OutOfMemory) => Err(ShowFault::OutOfMemory),
+        Err(fault) => Err(ShowFault::of(alloc, name, fault)),
+    }
+}
+
+/// Appends that the number in the place of a `v` is the number of the chain.
+fn put_unsigned(chain: &Uint<32>, out: &mut String) -> Result<(), AllocError>
+    ensures { OnOk result (string_bytes out.new ≡ string_bytes out.old
+        ++ unsigned_text (number_from_digits 256 chain.now.bytes)) }
+{
+    write!(out, " (unsigned, chain {chain})")
+}
+
+/// Appends the line of the number of the chain in the place of a `v`.
+fn put_unsigned_v_line(name: &str, chain: &Uint<32>, out: &mut String) -> Result<(), AllocError>
+    ensures { OnOk result (string_bytes out.new ≡ string_bytes out.old
+        ++ line name.now (unsigned_v_text (number_from_digits 256 chain.now.bytes))) }
+{
+    write!(out, "{name}: {chain}")?;
+    put_unsigned(chain, out)?;
+    out.push('\n')
+}
+
+/// Appends the line of the number of the chain, which is in the place of the number v in a
+/// transaction without a type that isn't signed.
+#[tactic(auto, using(crate::specs::StringLemmas::unsigned_v_strings))]
+pub fn show_unsigned_v(
+    alloc: Global,
+    name: &str,
+    item: &Rlp<'_>,
+    out: &mut String,
+) -> Result<(), ShowFault>
+    ensures { Shows (unsigned_v name.now item.now) (string_bytes out.old) (string_bytes out.new)
+        result }
+{
+    // Only the proof needs this: a slice has fewer than 2^64 bytes, each below 256.
+    let _bytes = item.as_raw();
+    match item.as_val::<Uint<32>>(alloc) {
+        Ok(chain) => Ok(put_unsigned_v_line(name, &chain, out)?),
         Err(DecoderError::OutOfMemory) => Err(ShowFault::OutOfMemory),
         Err(fault) => Err(ShowFault::of(alloc, name, fault)),
     }

@@ -4,11 +4,13 @@ ghost use Rattle.std.specs.Prelude.{◌≡◌, ◌++◌, ◌∷◌, drop, string
 ghost use Rattle.rlp.specs.Streams.Stream.{IsFinished, list_encoding};
 ghost use Rattle.rlp.specs.Views.View.{item_views};
 ghost use Rattle.rlp_show_text.specs.Answer.{Shows};
-ghost use Rattle.rlp_show_text.specs.Signing.{chain_bytes, first_bytes, legacy_signing, said_line, signing_line, signing_of};
+ghost use Rattle.rlp_show_text.specs.Signing.{chain_bytes, first_bytes, is_unsigned, legacy_signing, said_line, signing_line, signing_of};
 
 use crate::fault::ShowFault;
 use crate::hashes::put_hash;
+use crate::node_records::skip;
 use crate::numbers::said_by;
+use crate::strings::is_empty_string;
 use rlp::{DecoderError, Rlp, RlpIterator, RlpStream, Uint};
 use rlp_transactions::Eip155;
 use std::alloc::{AllocError, Global};
@@ -33,6 +35,35 @@ fn next_bytes(
         left -= 1;
     }
     Ok(bytes)
+}
+
+/// The items after the first `count`.
+#[tactic(auto, using(crate::proofs::SigningLemmas::next_items))]
+fn items_after<'a, 'view>(item: &'view Rlp<'a>, count: usize) -> RlpIterator<'a, 'view>
+    ensures { result.left ≡ drop count (item_views item.now) }
+{
+    let mut items = item.iter();
+    let mut left = count;
+    while left > 0 {
+        skip(&mut items);
+        left -= 1;
+    }
+    items
+}
+
+/// Returns whether a transaction without a type isn't signed: its `r` and `s` are empty strings, as
+/// in the list that EIP-155 signs.
+pub fn is_unsigned(item: &Rlp<'_>) -> bool
+    ensures { result ≡ is_unsigned item.now }
+{
+    let mut items = items_after(item, 7);
+    let Some(r) = items.next() else {
+        return false;
+    };
+    let Some(s) = items.next() else {
+        return false;
+    };
+    is_empty_string(r.as_raw()) && is_empty_string(s.as_raw())
 }
 
 /// Returns some bytes and, after them, the encoding of a list, by the bytes of its items.

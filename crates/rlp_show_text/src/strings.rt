@@ -5,7 +5,7 @@ ghost use Rattle.std.specs.Prelude.{◌≡◌, ◌==◌, ◌++◌, ◌^◌, ◌<
 ghost use Rattle.rlp_headers.specs.ReceiptStatus.{status_bytes};
 ghost use Rattle.rlp_transactions.specs.Recipient.{recipient_bytes};
 ghost use Rattle.rlp_show_text.specs.Answer.{Shows};
-ghost use Rattle.rlp_show_text.specs.Lines.{bloom, byte_string, fixed_bytes, line, receipt_status, recipient};
+ghost use Rattle.rlp_show_text.specs.Lines.{bloom, byte_string, fixed_bytes, is_empty_string, line, receipt_status, recipient};
 ghost use Rattle.rlp_show_text.specs.Text.{bloom_text};
 
 use crate::fault::ShowFault;
@@ -14,6 +14,13 @@ use rlp::{DecoderError, Rlp};
 use rlp_headers::ReceiptStatus;
 use rlp_transactions::Recipient;
 use std::alloc::{AllocError, Global};
+
+/// Returns whether bytes are the encoding of the empty string.
+pub fn is_empty_string(bytes: &[u8]) -> bool
+    ensures { result ≡ is_empty_string bytes.now }
+{
+    matches!(bytes, [0x80])
+}
 
 /// Appends the line of an item of exactly `N` bytes.
 #[tactic(auto, using(crate::specs::StringLemmas::fixed_strings))]

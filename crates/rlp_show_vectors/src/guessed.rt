@@ -1,13 +1,14 @@
 //! Records whose kind is guessed, and the text of a node record.
 //!
-//! The transaction is the first of the main network, and the node record is the example of EIP-778. Other
+//! The signed transaction is the first of the main network. The unsigned ones are the bytes that the
+//! example of EIP-155 signs, for chains 1 and 137. The node record is the example of EIP-778. Other
 //! bytes and all expected lines were written by a Python script from the fields of the records.
 
 use crate::support::{Row, check};
 use std::test::Fail;
 
 /// `any` and a record, and its lines under the name of its kind; and a node record of the kind that is named.
-const GUESSED: [Row; 9] = [
+const GUESSED: [Row; 11] = [
     (
         "any f86780862d79883d2000825208945df9b87991262f6ba471f09758cde1c0fc1de734827a\
          69801ca088ff6cf0fefd94db46111149ae4bfc179e9b94721fffd821d38d16464b3f71d0a045\
@@ -48,6 +49,42 @@ const GUESSED: [Row; 9] = [
          6a33a\n\
          transaction.signing_hash: 0x19b1e28c14f33e74b96b88eba97d4a4fc8a97638d72e9723\
          10025b7e1189b049\n\
+         \n",
+    ),
+    (
+        "any ec098504a817c800825208943535353535353535353535353535353535353535880de0b6b3a7\
+         64000080018080",
+        "transaction.hash: 0xdaf5a779ae972f972197303d7b574746c7ef83eadac0f2791ad23db9\
+         2e4c8e53\n\
+         transaction.nonce: 9\n\
+         transaction.gas_price: 20000000000\n\
+         transaction.gas_limit: 21000\n\
+         transaction.to: 0x3535353535353535353535353535353535353535\n\
+         transaction.value: 1000000000000000000\n\
+         transaction.data: 0x\n\
+         transaction.v: 1 (unsigned, chain 1)\n\
+         transaction.r: 0x0\n\
+         transaction.s: 0x0\n\
+         transaction.signing_hash: 0xdaf5a779ae972f972197303d7b574746c7ef83eadac0f279\
+         1ad23db92e4c8e53\n\
+         \n",
+    ),
+    (
+        "any ed098504a817c800825208943535353535353535353535353535353535353535880de0b6b3a7\
+         6400008081898080",
+        "transaction.hash: 0x4bc497ae18410a9c4732e6d80d4dd0fe13ead15b1b551000ee2079dc\
+         9a761a04\n\
+         transaction.nonce: 9\n\
+         transaction.gas_price: 20000000000\n\
+         transaction.gas_limit: 21000\n\
+         transaction.to: 0x3535353535353535353535353535353535353535\n\
+         transaction.value: 1000000000000000000\n\
+         transaction.data: 0x\n\
+         transaction.v: 137 (unsigned, chain 137)\n\
+         transaction.r: 0x0\n\
+         transaction.s: 0x0\n\
+         transaction.signing_hash: 0x4bc497ae18410a9c4732e6d80d4dd0fe13ead15b1b551000\
+         ee2079dc9a761a04\n\
          \n",
     ),
     (

@@ -8,7 +8,7 @@ use crate::support::{Row, check_json};
 use std::test::Fail;
 
 /// The kind, the digits of a record, and the answer.
-const JSON: [Row; 11] = [
+const JSON: [Row; 12] = [
     (
         "header f90211a0d4e56740f876aef8c010b86a40d5f56745a118d0906a34e69aec8c0db1cb8fa3a01dc\
          c4de8dec75d7aab85b567b6ccd41ad312451b948a7413f0a142fd40d493479405a56e2d52c817161883f\
@@ -53,6 +53,15 @@ const JSON: [Row; 11] = [
          d16464b3f71d0\",\"s\":\"0x45e0aff800961cfce805daef7016b9b675c137a6a41a548f7b60a3484c\
          06a33a\",\"signingHash\":\"0x19b1e28c14f33e74b96b88eba97d4a4fc8a97638d72e972310025b7\
          e1189b049\"}}\n",
+    ),
+    (
+        "transaction ed098504a817c800825208943535353535353535353535353535353535353535880de0b6\
+         b3a76400008081898080",
+        "{\"transaction\":{\"hash\":\"0x4bc497ae18410a9c4732e6d80d4dd0fe13ead15b1b551000\
+         ee2079dc9a761a04\",\"nonce\":\"0x9\",\"gasPrice\":\"0x4a817c800\",\"gas\":\"0x5208\",\
+         \"to\":\"0x3535353535353535353535353535353535353535\",\"value\":\"0xde0b6b3a7640000\",\
+         \"input\":\"0x\",\"v\":\"0x89\",\"r\":\"0x0\",\"s\":\"0x0\",\"signingHash\":\
+         \"0x4bc497ae18410a9c4732e6d80d4dd0fe13ead15b1b551000ee2079dc9a761a04\"}}\n",
     ),
     (
         "any f86780862d79883d2000825208945df9b87991262f6ba471f09758cde1c0fc1de734827a69801ca0\

@@ -12,6 +12,8 @@ mod guessed;
 #[cfg(test)]
 mod json;
 #[cfg(test)]
+mod json_print;
+#[cfg(test)]
 mod laws;
 #[cfg(test)]
 mod messages;
@@ -21,6 +23,8 @@ mod node_records;
 mod nodes;
 #[cfg(test)]
 mod parts;
+#[cfg(test)]
+mod printed;
 #[cfg(test)]
 mod records;
 #[cfg(test)]

@@ -1,14 +1,15 @@
 //! Whole records.
 //!
-//! The transactions without a type are the signed example of EIP-155, and the first of the main
-//! network. The other bytes and all expected lines were written by a Python script from the fields
-//! of the records, in the order of the EIPs and the yellow paper.
+//! The transactions without a type are the signed example of EIP-155, the bytes that it signs, with the
+//! hash that the EIP publishes, the same bytes for chain 137, and the first of the main network. The
+//! other bytes and all expected lines were written by a Python script from the fields of the records,
+//! in the order of the EIPs and the yellow paper.
 
 use crate::support::{Row, check};
 use std::test::Fail;
 
 /// The kind, the digits of a record, and its lines.
-const RECORDS: [Row; 8] = [
+const RECORDS: [Row; 10] = [
     (
         "transaction f86c098504a817c800825208943535353535353535353535353535353535353535880de0\
          b6b3a76400008025a028ef61340bd939bc2195fe537567866003e1a15d3c71ff63e15906\
@@ -26,6 +27,42 @@ const RECORDS: [Row; 8] = [
          s: 0x67cbe9d8997f761aecb703304b3800ccf555c9f3dc64214b297fb1966a3b6d83\n\
          signing_hash: 0xdaf5a779ae972f972197303d7b574746c7ef83eadac0f2791ad23db92e\
          4c8e53\n\
+         \n",
+    ),
+    (
+        "transaction ec098504a817c800825208943535353535353535353535353535353535353535880de0b6b3a7\
+         64000080018080",
+        "hash: 0xdaf5a779ae972f972197303d7b574746c7ef83eadac0f2791ad23db9\
+         2e4c8e53\n\
+         nonce: 9\n\
+         gas_price: 20000000000\n\
+         gas_limit: 21000\n\
+         to: 0x3535353535353535353535353535353535353535\n\
+         value: 1000000000000000000\n\
+         data: 0x\n\
+         v: 1 (unsigned, chain 1)\n\
+         r: 0x0\n\
+         s: 0x0\n\
+         signing_hash: 0xdaf5a779ae972f972197303d7b574746c7ef83eadac0f279\
+         1ad23db92e4c8e53\n\
+         \n",
+    ),
+    (
+        "transaction ed098504a817c800825208943535353535353535353535353535353535353535880de0b6b3a7\
+         6400008081898080",
+        "hash: 0x4bc497ae18410a9c4732e6d80d4dd0fe13ead15b1b551000ee2079dc\
+         9a761a04\n\
+         nonce: 9\n\
+         gas_price: 20000000000\n\
+         gas_limit: 21000\n\
+         to: 0x3535353535353535353535353535353535353535\n\
+         value: 1000000000000000000\n\
+         data: 0x\n\
+         v: 137 (unsigned, chain 137)\n\
+         r: 0x0\n\
+         s: 0x0\n\
+         signing_hash: 0x4bc497ae18410a9c4732e6d80d4dd0fe13ead15b1b551000\
+         ee2079dc9a761a04\n\
          \n",
     ),
     (

@@ -1,5 +1,6 @@
 //! What the tests of this crate share.
 
+use crate::printed::{note_json, note_lines};
 use rlp_rows::{Line, cut};
 use rlp_show::{Answers, Form, Kind, Noted, run};
 use std::alloc::{AllocError, Global};
@@ -61,6 +62,9 @@ fn note_guess(alloc: Global, given: &str, wrong: &mut Line) -> Result<(), AllocE
 fn check_row(alloc: Global, row: &Row, wrong: &mut Line) -> Result<(), AllocError> {
     let (given, want) = row;
     let (name, _) = cut(given);
+    if !want.starts_with("error") {
+        note_lines(alloc, given, want, wrong)?;
+    }
     match Kind::named(name) {
         None if name == "any" => note_answer(alloc, &as_text(None), row, wrong),
         None => {
@@ -95,6 +99,12 @@ pub(crate) fn check(alloc: Global, rows: &[Row]) -> Result<(), Fail> {
     wrong.none_noted()
 }
 
+/// Returns whether JSON has a transaction without a type, which has `v`, or a receipt without a
+/// type.
+fn lacks_type(json: &str) -> bool {
+    json.split_once("\"v\":").is_some() || json.starts_with("{\"receipt\":{\"status\":")
+}
+
 /// Fails with the rows that aren't answered as expected in JSON.
 pub(crate) fn check_json(alloc: Global, rows: &[Row]) -> Result<(), Fail> {
     let mut wrong = Line::new();
@@ -105,6 +115,10 @@ pub(crate) fn check_json(alloc: Global, rows: &[Row]) -> Result<(), Fail> {
             form: Form::Json,
         };
         note_answer(alloc, &answers, row, &mut wrong)?;
+        // `rlp_print` has more members where a type is missing. The rows of `json_print` have them.
+        if !row.1.starts_with("error") && !lacks_type(row.1) {
+            note_json(alloc, row.0, row.1, &mut wrong)?;
+        }
     }
     wrong.none_noted()
 }

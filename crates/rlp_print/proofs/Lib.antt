@@ -1,0 +1,6 @@
+pub mod NumberLemmas
+pub mod ListLemmas
+pub mod ItemLemmas
+pub mod LineLemmas
+pub mod KeptLemmas
+pub mod KeyLemmas

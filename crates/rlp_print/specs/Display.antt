@@ -1,0 +1,183 @@
+-- How the values of a type are shown, by the parts of the type. Each way to show values comes with what two values have in common that are shown alike.
+use Rattle.std.specs.Prelude.{ℕ, ◌≡◌, ⊤, Bool, List, Option}
+use Rattle.std.specs.List.{AllZip}
+use Rattle.std.specs.Int.Digits.{number_from_digits}
+use Rattle.rlp.specs.Uint.{Uint}
+use Rattle.rlp.specs.Values.Same.{SameOption}
+use Rattle.rlp.specs.Values.Value.{bit}
+use Rattle.rlp_print.specs.Value.{Value, Entries, content, object, array, number, quantity, bytes, sparse, text, nothing, both, field as put, by_form, entries_if, values_of}
+use Rattle.rlp_print.specs.DisplayLemmas.{bit_same, both_told, bytes_same, content_same, entries_same, field_same, if_told, lines_same, named_told, number_same, quantity_same, rest_told, sparse_same, text_same, values_told}
+
+-- What is shown of a value. Values that are shown alike are the same, as far as `Same` says.
+pub record Display (A : Type 0) : Type 1 where
+  pub value : A → Value
+  pub Same : A → A → Type 0
+  pub told : (x y : A) → value x ≡ value y → Same x y
+
+-- the fields of a value that is shown as an object
+pub record Fields (A : Type 0) : Type 1 where
+  pub entries : A → Entries
+  pub Same : A → A → Type 0
+  pub told : (x y : A) → entries x ≡ entries y → Same x y
+
+-- ---- contents
+
+-- numbers
+abbrev pub a_number : Display ℕ
+a_number = record {
+  value = λ n. content (number n);
+  Same = λ m n. m ≡ n;
+  told = λ m n is. number_same m n (content_same (number m) (number n) is);
+}
+
+-- numbers that are hexadecimal in lines too
+abbrev pub a_quantity : Display ℕ
+a_quantity = record {
+  value = λ n. content (quantity n);
+  Same = λ m n. m ≡ n;
+  told = λ m n is. quantity_same m n (content_same (quantity m) (quantity n) is);
+}
+
+-- truth values, as 0 or 1
+abbrev pub a_bit : Display Bool
+a_bit = record {
+  value = λ b. content (number (bit b));
+  Same = λ b c. b ≡ c;
+  told = λ b c is. bit_same b c (number_same (bit b) (bit c) (content_same (number (bit b)) (number (bit c)) is));
+}
+
+-- byte strings
+abbrev pub a_string : Display (List ℕ)
+a_string = record {
+  value = λ b. content (bytes b);
+  Same = λ b c. b ≡ c;
+  told = λ b c is. bytes_same b c (content_same (bytes b) (bytes c) is);
+}
+
+-- texts that need no escape in JSON
+abbrev pub a_text : Display (List ℕ)
+a_text = record { value = λ t. content (text t); Same = λ t u. t ≡ u; told = λ t u is. text_same t u (content_same (text t) (text u) is) }
+
+-- byte strings that are mostly zero
+abbrev pub a_sparse_string : Display (List ℕ)
+a_sparse_string = record {
+  value = λ b. content (sparse b);
+  Same = λ b c. b ≡ c;
+  told = λ b c is. sparse_same b c (content_same (sparse b) (sparse c) is);
+}
+
+-- ---- values of another type's values, lists, and objects
+
+-- a type whose values are shown as what they have of another type
+abbrev pub through : {A B : Type 0} → (B → A) → Display A → Display B
+through get d = record { value = λ b. d.value (get b); Same = λ b c. d.Same (get b) (get c); told = λ b c is. d.told (get b) (get c) is }
+
+-- a type whose values contracts see as bytes
+abbrev pub the_bytes : {B : Type 0} → (B → List ℕ) → Display B
+the_bytes seen = through seen a_string
+
+-- numbers that are kept as n bytes
+abbrev pub wide_number : {n : ℕ} → Display (Uint n)
+wide_number {n} = through (λ (u : Uint n). number_from_digits 256 u.bytes) a_number
+
+abbrev pub wide_quantity : {n : ℕ} → Display (Uint n)
+wide_quantity {n} = through (λ (u : Uint n). number_from_digits 256 u.bytes) a_quantity
+
+-- a type whose values contracts see as lists of values
+abbrev pub a_list : {A B : Type 0} → (B → List A) → Display A → Display B
+a_list seen d = record {
+  value = λ b. array (values_of d.value (seen b));
+  Same = λ b c. AllZip d.Same (seen b) (seen c);
+  told = λ b c is. values_told d.value d.Same d.told (seen b) (seen c) is;
+}
+
+-- an object with these fields
+abbrev pub an_object : {A : Type 0} → Fields A → Display A
+an_object f = record {
+  value = λ x. object (f.entries x);
+  Same = f.Same;
+  told = λ x y is. f.told x y (entries_same (f.entries x) (f.entries y) is);
+}
+
+-- ---- fields
+
+-- no more fields
+abbrev pub end : {A : Type 0} → Fields A
+end = record { entries = λ x. nothing; Same = λ x y. ⊤; told = λ x y is. tt }
+
+-- a field, by its name in lines, its name in JSON and what it has of the value
+abbrev pub named : {A B : Type 0} → (A → List ℕ) → (A → List ℕ) → (A → B) → Display B → Fields A
+named name json get d = record {
+  entries = λ x. put (name x) (json x) (d.value (get x));
+  Same = λ x y. d.Same (get x) (get y);
+  told = λ x y is. d.told (get x) (get y) (field_same (name x) (name y) (json x) (json y) (d.value (get x)) (d.value (get y)) is);
+}
+
+-- the fields of a part
+abbrev pub part : {A B : Type 0} → (A → B) → Fields B → Fields A
+part get f = record { entries = λ x. f.entries (get x); Same = λ x y. f.Same (get x) (get y); told = λ x y is. f.told (get x) (get y) is }
+
+-- the fields of a part, if it is there
+abbrev pub part_if : {A B : Type 0} → (A → Option B) → Fields B → Fields A
+part_if get f = record {
+  entries = λ x. entries_if f.entries (get x);
+  Same = λ x y. SameOption f.Same (get x) (get y);
+  told = λ x y is. if_told f.entries f.Same f.told (get x) (get y) is;
+}
+
+-- a field that may be missing
+abbrev pub named_if : {A B : Type 0} → (A → List ℕ) → (A → List ℕ) → (A → Option B) → Display B → Fields A
+named_if name json get d = record {
+  entries = λ x. entries_if (λ b. put (name x) (json x) (d.value b)) (get x);
+  Same = λ x y. SameOption d.Same (get x) (get y);
+  told = λ x y is. named_told d.value d.Same d.told (name x) (name y) (json x) (json y) (get x) (get y) is;
+}
+
+-- fields, and then other fields
+abbrev pub then_fields : {A : Type 0} → Fields A → Fields A → Fields A
+then_fields f more = record {
+  entries = λ x. both (f.entries x) (more.entries x);
+  Same = λ x y. f.Same x y × more.Same x y;
+  told = λ x y is. both_told (f.entries x) (f.entries y) (more.entries x) (more.entries y) (f.told x y) (more.told x y) is;
+}
+
+-- the fields of a pair
+abbrev pub in_order : {A B : Type 0} → Fields A → Fields B → Fields (A × B)
+in_order f g = then_fields (part (λ p. p.0) f) (part (λ p. p.1) g)
+
+-- fields that follow from others, and tell only themselves
+abbrev pub as_shown : {A : Type 0} → (A → Entries) → Fields A
+as_shown shown = record { entries = shown; Same = λ x y. shown x ≡ shown y; told = λ x y is. is }
+
+-- fields that follow from others, and tell nothing more
+abbrev pub derived : {A : Type 0} → (A → Entries) → Fields A → Fields A
+derived shown more = record {
+  entries = λ x. both (shown x) (more.entries x);
+  Same = more.Same;
+  told = λ x y is. more.told x y (rest_told (shown x) (shown y) (more.entries x) (more.entries y) is);
+}
+
+-- fields of lines, and what JSON has in their place
+abbrev pub by_lines : {A B : Type 0} → (A → B) → Fields B → (A → Entries) → Fields A
+by_lines get f json = record {
+  entries = λ x. by_form (f.entries (get x)) (json x);
+  Same = λ x y. f.Same (get x) (get y);
+  told = λ x y is. f.told (get x) (get y) (lines_same (f.entries (get x)) (f.entries (get y)) (json x) (json y) is);
+}
+
+-- ---- the fields of a struct
+
+-- a field before others
+abbrev pub field : {A B : Type 0} → List ℕ → List ℕ → (A → B) → Display B → Fields A → Fields A
+field name json get d more = then_fields (named (λ x. name) (λ x. json) get d) more
+
+-- a field that may be missing, before others
+abbrev pub field_if : {A B : Type 0} → List ℕ → List ℕ → (A → Option B) → Display B → Fields A → Fields A
+field_if name json get d more = then_fields (part_if get (named (λ x. name) (λ x. json) (λ x. x) d)) more
+
+-- the fields of a part, and of a part that may be missing, before others
+abbrev pub fields_of : {A B : Type 0} → (A → B) → Fields B → Fields A → Fields A
+fields_of get f more = then_fields (part get f) more
+
+abbrev pub fields_if : {A B : Type 0} → (A → Option B) → Fields B → Fields A → Fields A
+fields_if get f more = then_fields (part_if get f) more

@@ -1,0 +1,81 @@
+//! A line for each content.
+
+ghost use Rattle.std.specs.Prelude.{◌≡◌, ◌++◌, [], List, ℕ, string_bytes, OnOk};
+ghost use Rattle.rlp_print.specs.Lines.{content_text, line_steps};
+ghost use Rattle.rlp_print.specs.Seen.{content_of};
+
+use crate::numbers::{put_bytes, put_decimal, put_hex, put_sparse, put_v};
+use crate::paths::put_path;
+use crate::sink::{Bracket, Shown, Sink};
+use crate::words::put_word_or_bytes;
+use std::alloc::{AllocError, Global};
+use std::fmt::Write;
+
+/// A text to which a line is added for each content: its name, a colon and the content.
+#[derive(Drop)]
+pub struct Lines {
+    /// The lines so far.
+    pub text: String,
+}
+
+impl Lines {
+    /// Returns no lines.
+    pub fn new(alloc: Global) -> Lines
+        ensures { string_bytes result.text ≡ [] }
+    {
+        Lines {
+            text: String::new(alloc),
+        }
+    }
+}
+
+/// Appends a content.
+fn put_content(shown: Shown<'_>, out: &mut String) -> Result<(), AllocError>
+    ensures { OnOk result
+        (string_bytes out.new ≡ string_bytes out.old ++ content_text (content_of shown.entry)) }
+{
+    match shown {
+        Shown::Number(n) => put_decimal(n, out),
+        Shown::Place(n) => write!(out, "{n}"),
+        Shown::Wide(n) => write!(out, "{n}"),
+        Shown::Quantity(n) => put_hex(n, out),
+        Shown::LegacyV(n) => put_v(n, out),
+        Shown::Bytes(bytes) | Shown::BytesOrNull(bytes) => put_bytes(bytes, out),
+        Shown::Sparse(bytes) => put_sparse(bytes, out),
+        Shown::Path(bytes) => put_path(bytes, out),
+        Shown::Word(bytes) => put_word_or_bytes(bytes, out),
+        Shown::Text(text) => out.push_str(text),
+        Shown::EmptyList => out.push_str("[]"),
+    }
+}
+
+impl Sink for Lines {
+    ghost Seen = { List ℕ };
+
+    ghost seen = { λ s. string_bytes s.text };
+
+    ghost steps = { line_steps };
+
+    fn is_json(&self) -> bool {
+        false
+    }
+
+    fn key(&mut self, _json: &str) -> Result<(), AllocError> {
+        Ok(())
+    }
+
+    fn put(&mut self, name: &str, shown: Shown<'_>) -> Result<(), AllocError> {
+        self.text.push_str(name)?;
+        self.text.push_str(": ")?;
+        put_content(shown, &mut self.text)?;
+        self.text.push('\n')
+    }
+
+    fn begin(&mut self, _bracket: Bracket) -> Result<(), AllocError> {
+        Ok(())
+    }
+
+    fn finish(&mut self, _bracket: Bracket) -> Result<(), AllocError> {
+        Ok(())
+    }
+}

@@ -1,0 +1,7 @@
+//! Messages between clients.
+
+mod announcements;
+mod p2p;
+mod receipts;
+mod requests;
+mod status;

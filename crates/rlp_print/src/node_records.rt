@@ -1,0 +1,163 @@
+//! Node records.
+
+ghost use Rattle.std.specs.Net.Addr.{segments_of};
+ghost use Rattle.std.specs.Net.Text.{ipv4_text, ipv6_text};
+ghost use Rattle.std.specs.Prelude.{◌≡◌, bytes_eq, OnOk};
+ghost use Rattle.rlp.specs.Values.RawItem.{raw_item_of};
+ghost use Rattle.rlp_print.specs.Display.{through};
+ghost use Rattle.rlp_print.specs.NodeRecords.{is_port_key, key_value_display, node_fields_display, node_pair_display, port_content, string_content};
+ghost use Rattle.rlp_print.specs.Seen.{content_of};
+ghost use Rattle.rlp_print.specs.Value.{text};
+
+use crate::fields::{Named, fields, show_object};
+use crate::lists::Items;
+use crate::show::Show;
+use crate::sink::{Shown, Sink};
+use rlp::{RawItem, Rlp};
+use rlp_node_record::{NodeFields, NodePair, NodeRecord};
+use std::alloc::{AllocError, Global};
+use std::net::{Ipv4Addr, Ipv6Addr};
+
+/// Returns whether a key is this one.
+fn is_key(key: &[u8], name: &str) -> bool
+    ensures { result ≡ bytes_eq key.now name.now }
+{
+    key == name.as_bytes()
+}
+
+/// Returns whether the value of a key is a port.
+fn is_port_key(key: &[u8]) -> bool
+    ensures { result ≡ is_port_key key.now }
+{
+    (is_key(key, "tcp") || is_key(key, "udp")) || (is_key(key, "tcp6") || is_key(key, "udp6"))
+}
+
+/// Returns a port, or the bytes if they are none.
+fn port_in(bytes: &[u8]) -> Shown<'_>
+    ensures { content_of result ≡ port_content bytes.now }
+{
+    match bytes {
+        [] => Shown::Number(0),
+        [0, ..] => Shown::Bytes(bytes),
+        [low] => Shown::Number(u64::from(*low)),
+        [high, low] => Shown::Number(256 * u64::from(*high) + u64::from(*low)),
+        _ => Shown::Bytes(bytes),
+    }
+}
+
+/// Gives an IPv4 address to a sink.
+fn show_ipv4<S: Sink>(
+    alloc: Global,
+    name: &str,
+    octets: [u8; 4],
+    sink: &mut S,
+) -> Result<(), AllocError>
+    ensures { OnOk result (S.seen sink.new
+        ≡ S.steps.put name.now (text (ipv4_text octets)) (S.seen sink.old)) }
+{
+    let text = format!(in alloc; "{}", Ipv4Addr::from(octets))?;
+    sink.put(name, Shown::Text(text.as_str()))
+}
+
+/// Gives an IPv6 address to a sink.
+fn show_ipv6<S: Sink>(
+    alloc: Global,
+    name: &str,
+    octets: [u8; 16],
+    sink: &mut S,
+) -> Result<(), AllocError>
+    ensures { OnOk result (S.seen sink.new
+        ≡ S.steps.put name.now (text (ipv6_text (segments_of octets))) (S.seen sink.old)) }
+{
+    let text = format!(in alloc; "{}", Ipv6Addr::from(octets))?;
+    sink.put(name, Shown::Text(text.as_str()))
+}
+
+/// Gives the string at a key to a sink.
+fn show_string<S: Sink>(
+    alloc: Global,
+    name: &str,
+    key: &[u8],
+    bytes: &[u8],
+    sink: &mut S,
+) -> Result<(), AllocError>
+    ensures { OnOk result (S.seen sink.new
+        ≡ S.steps.put name.now (string_content key.now bytes.now) (S.seen sink.old)) }
+{
+    if is_key(key, "id") {
+        return sink.put(name, Shown::Word(bytes));
+    }
+    if is_key(key, "ip") {
+        return match <[u8; 4]>::try_from(bytes) {
+            Ok(octets) => show_ipv4(alloc, name, octets, sink),
+            Err(_) => sink.put(name, Shown::Bytes(bytes)),
+        };
+    }
+    if is_key(key, "ip6") {
+        return match <[u8; 16]>::try_from(bytes) {
+            Ok(octets) => show_ipv6(alloc, name, octets, sink),
+            Err(_) => sink.put(name, Shown::Bytes(bytes)),
+        };
+    }
+    if is_port_key(key) {
+        return sink.put(name, port_in(bytes));
+    }
+    sink.put(name, Shown::Bytes(bytes))
+}
+
+/// The value of a key.
+#[derive(Clone, Copy)]
+struct KeyValue<'a> {
+    key: &'a [u8],
+    value: &'a RawItem,
+}
+
+impl Show for KeyValue<'_> {
+    ghost display = { through (λ v. (v.key.now, raw_item_of v.value.now)) key_value_display };
+
+    #[tactic(auto, using(crate::proofs::KeyLemmas::values_of_keys))]
+    fn show<S: Sink>(&self, alloc: Global, name: &str, sink: &mut S) -> Result<(), AllocError> {
+        match Rlp::new(self.value.as_bytes()).decoder().string() {
+            Ok(string) => show_string(alloc, name, self.key, string, sink),
+            Err(_) => self.value.show(alloc, name, sink),
+        }
+    }
+}
+
+impl Show for NodePair {
+    ghost display = { node_pair_display };
+
+    fn show<S: Sink>(&self, alloc: Global, name: &str, sink: &mut S) -> Result<(), AllocError> {
+        let key = self.key.as_slice();
+        let value = KeyValue {
+            key,
+            value: &self.value,
+        };
+        let fields = fields!(
+            "key" "key" Shown::Word(key);
+            "value" "value" value;
+        );
+        show_object(alloc, name, sink, &fields)
+    }
+}
+
+impl Show for NodeFields {
+    ghost display = { node_fields_display };
+
+    fn show<S: Sink>(&self, alloc: Global, name: &str, sink: &mut S) -> Result<(), AllocError> {
+        let fields = fields!(
+            "signature" "signature" &self.signature;
+            "sequence" "sequence" &self.sequence;
+            "pairs" "pairs" Items(&self.pairs);
+        );
+        show_object(alloc, name, sink, &fields)
+    }
+}
+
+impl Show for NodeRecord {
+    ghost display = { node_fields_display };
+
+    fn show<S: Sink>(&self, alloc: Global, name: &str, sink: &mut S) -> Result<(), AllocError> {
+        self.fields().show(alloc, name, sink)
+    }
+}

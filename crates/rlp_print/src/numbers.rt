@@ -1,0 +1,102 @@
+//! Numbers and bytes as text.
+
+ghost use Rattle.std.specs.Prelude.{◌≡◌, ◌==◌, ◌++◌, string_bytes, OnOk, Some};
+ghost use Rattle.std.specs.Int.Digits.{number_from_digits};
+ghost use Rattle.std.specs.List.{list_all};
+ghost use Rattle.rlp_print.specs.Texts.{bytes_text, hex_text, meaning_text, number_text, said_by, sparse_text, v_text};
+
+use rlp::Uint;
+use rlp_lines::push_bytes;
+use rlp_transactions::Eip155;
+use std::alloc::AllocError;
+use std::fmt;
+use std::fmt::Write;
+
+/// A number that prints in hexadecimal, after `0x`.
+#[derive(Clone, Copy)]
+struct Hexadecimal<'a>(&'a Uint<32>);
+
+impl fmt::Display for Hexadecimal<'_> {
+    ghost output = { λ h. Some (hex_text (number_from_digits 256 h.0.now.bytes)) };
+
+    fn fmt<W: fmt::Write>(&self, f: &mut fmt::Formatter<W>) -> fmt::Result {
+        f.write_str("0x")?;
+        fmt::LowerHex::fmt(self.0, f)
+    }
+}
+
+/// Appends a number in hexadecimal.
+pub(crate) fn put_hex(number: &Uint<32>, out: &mut String) -> Result<(), AllocError>
+    ensures { OnOk result (string_bytes out.new
+        ≡ string_bytes out.old ++ hex_text (number_from_digits 256 number.now.bytes)) }
+{
+    write!(out, "{}", Hexadecimal(number))
+}
+
+/// Appends a number in decimal.
+pub(crate) fn put_decimal(number: u64, out: &mut String) -> Result<(), AllocError>
+    ensures { OnOk result (string_bytes out.new ≡ string_bytes out.old ++ number_text number) }
+{
+    let number = Uint::<8> {
+        bytes: number.to_be_bytes(),
+    };
+    write!(out, "{number}")
+}
+
+/// Appends bytes in hexadecimal.
+pub(crate) fn put_bytes(bytes: &[u8], out: &mut String) -> Result<(), AllocError>
+    ensures { OnOk result
+        (string_bytes out.new ≡ string_bytes out.old ++ bytes_text bytes.now) }
+{
+    out.push_str("0x")?;
+    push_bytes(bytes, out)
+}
+
+/// Returns whether all bytes are zero.
+pub(crate) fn are_zero(bytes: &[u8]) -> bool
+    ensures { result ≡ list_all (λ byte. byte == 0) bytes.now }
+{
+    bytes.iter().all(|byte| *byte == 0)
+}
+
+/// Appends bytes, or in short that all are zero.
+pub(crate) fn put_sparse(bytes: &[u8], out: &mut String) -> Result<(), AllocError>
+    ensures { OnOk result
+        (string_bytes out.new ≡ string_bytes out.old ++ sparse_text bytes.now) }
+{
+    if are_zero(bytes) {
+        return write!(out, "{} zero bytes", bytes.len());
+    }
+    put_bytes(bytes, out)
+}
+
+/// Returns what `v` says of the chain and the parity.
+#[tactic(auto, using(crate::proofs::NumberLemmas::what_v_says))]
+pub(crate) fn said_by(v: &Uint<32>) -> Option<Eip155>
+    ensures { result ≡ said_by (number_from_digits 256 v.now.bytes) }
+{
+    Eip155::from_v(v)
+}
+
+/// Appends what a `v` says, if it says something.
+fn put_meaning(said: Option<Eip155>, out: &mut String) -> Result<(), AllocError>
+    ensures { OnOk result (string_bytes out.new ≡ string_bytes out.old ++ meaning_text said) }
+{
+    let Some(said) = said else {
+        return Ok(());
+    };
+    let parity = said.y_parity as u8;
+    match said.chain_id {
+        Some(chain) => write!(out, " (chain {chain}, parity {parity})"),
+        None => write!(out, " (parity {parity})"),
+    }
+}
+
+/// Appends a `v` and what it says.
+pub(crate) fn put_v(v: &Uint<32>, out: &mut String) -> Result<(), AllocError>
+    ensures { OnOk result (string_bytes out.new
+        ≡ string_bytes out.old ++ v_text (number_from_digits 256 v.now.bytes)) }
+{
+    write!(out, "{v}")?;
+    put_meaning(said_by(v), out)
+}

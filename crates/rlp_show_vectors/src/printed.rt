@@ -1,0 +1,201 @@
+//! The rows again, by `rlp_print`: each record is read by its type in the library, and its value is
+//! printed.
+
+use rlp::{DecoderError, StrictRead};
+use rlp_eth::{
+    BlockBodies, BlockHeaders, BlockRangeUpdate, GetBlockBodies, GetBlockHeaders,
+    GetPooledTransactions, GetReceipts, NewBlock, NewBlockHashes, NewPooledTransactionHashes,
+    PooledTransactions, Receipts, Receipts69, Status68, Status69, Transactions, WithRequestId,
+};
+use rlp_ethereum::{
+    AccessList, Account, AnyTransaction, Block, Body, Header, NodeRecord, SignedAuthorization,
+    TrieNode, TypedReceipt, Withdrawal,
+};
+use rlp_p2p::{Disconnect, Hello, Ping, Pong};
+use rlp_print::{Show, json_of, lines_of};
+use rlp_rows::{Line, cut};
+use rlp_show::{Kind, MessageKind};
+use std::alloc::{AllocError, Global};
+
+/// How a value is printed: as lines under a name, or as JSON.
+#[derive(Clone, Copy)]
+pub(crate) enum Print<'a> {
+    /// Lines.
+    Lines(&'a str),
+    /// JSON.
+    Json,
+}
+
+/// Prints a value.
+pub(crate) fn text_of<T: Show>(
+    alloc: Global,
+    how: Print<'_>,
+    value: &T,
+) -> Result<String, DecoderError> {
+    let text = match how {
+        Print::Lines(name) => lines_of(alloc, name, value),
+        Print::Json => json_of(alloc, value),
+    };
+    match text {
+        Ok(text) => Ok(text),
+        Err(AllocError) => Err(DecoderError::OutOfMemory),
+    }
+}
+
+/// Reads a value strictly, and prints it.
+pub(crate) fn whole<T: StrictRead + Show>(
+    alloc: Global,
+    how: Print<'_>,
+    bytes: &[u8],
+) -> Result<String, DecoderError> {
+    let value = rlp::decode_whole::<T>(alloc, bytes)?;
+    text_of(alloc, how, &value)
+}
+
+/// Reads a record of a kind, and prints it.
+pub(crate) fn record(
+    alloc: Global,
+    kind: Kind,
+    how: Print<'_>,
+    bytes: &[u8],
+) -> Result<String, DecoderError> {
+    match kind {
+        Kind::AccessList => whole::<AccessList>(alloc, how, bytes),
+        Kind::Account => whole::<Account>(alloc, how, bytes),
+        Kind::Authorization => whole::<SignedAuthorization>(alloc, how, bytes),
+        Kind::Block => whole::<Block>(alloc, how, bytes),
+        Kind::Body => whole::<Body>(alloc, how, bytes),
+        Kind::Header => whole::<Header>(alloc, how, bytes),
+        Kind::Node => whole::<TrieNode>(alloc, how, bytes),
+        Kind::Receipt => text_of(alloc, how, &TypedReceipt::from_bytes(alloc, bytes)?),
+        Kind::NodeRecord => whole::<NodeRecord>(alloc, how, bytes),
+        Kind::Transaction => text_of(alloc, how, &AnyTransaction::from_bytes(alloc, bytes)?),
+        Kind::Withdrawal => whole::<Withdrawal>(alloc, how, bytes),
+        Kind::Message(kind) => message(alloc, kind, how, bytes),
+    }
+}
+
+/// Reads the body of a message of a kind, and prints it.
+fn message(
+    alloc: Global,
+    kind: MessageKind,
+    how: Print<'_>,
+    bytes: &[u8],
+) -> Result<String, DecoderError> {
+    match kind {
+        MessageKind::Hello => whole::<Hello>(alloc, how, bytes),
+        MessageKind::Disconnect => whole::<Disconnect>(alloc, how, bytes),
+        MessageKind::Ping => whole::<Ping>(alloc, how, bytes),
+        MessageKind::Pong => whole::<Pong>(alloc, how, bytes),
+        MessageKind::Status68 => whole::<Status68>(alloc, how, bytes),
+        MessageKind::Status69 => whole::<Status69>(alloc, how, bytes),
+        MessageKind::NewBlockHashes => whole::<NewBlockHashes>(alloc, how, bytes),
+        MessageKind::Transactions => whole::<Transactions>(alloc, how, bytes),
+        MessageKind::NewBlock => whole::<NewBlock>(alloc, how, bytes),
+        MessageKind::NewPooledTransactionHashes => {
+            whole::<NewPooledTransactionHashes>(alloc, how, bytes)
+        }
+        MessageKind::BlockRangeUpdate => whole::<BlockRangeUpdate>(alloc, how, bytes),
+        _ => numbered(alloc, kind, how, bytes),
+    }
+}
+
+/// Reads the body of a message that has the number of a request, and prints it.
+fn numbered(
+    alloc: Global,
+    kind: MessageKind,
+    how: Print<'_>,
+    bytes: &[u8],
+) -> Result<String, DecoderError> {
+    match kind {
+        MessageKind::GetBlockHeaders => whole::<WithRequestId<GetBlockHeaders>>(alloc, how, bytes),
+        MessageKind::BlockHeaders => whole::<WithRequestId<BlockHeaders>>(alloc, how, bytes),
+        MessageKind::GetBlockBodies => whole::<WithRequestId<GetBlockBodies>>(alloc, how, bytes),
+        MessageKind::BlockBodies => whole::<WithRequestId<BlockBodies>>(alloc, how, bytes),
+        MessageKind::GetPooledTransactions => {
+            whole::<WithRequestId<GetPooledTransactions>>(alloc, how, bytes)
+        }
+        MessageKind::PooledTransactions => {
+            whole::<WithRequestId<PooledTransactions>>(alloc, how, bytes)
+        }
+        MessageKind::GetReceipts => whole::<WithRequestId<GetReceipts>>(alloc, how, bytes),
+        MessageKind::Receipts68 => whole::<WithRequestId<Receipts>>(alloc, how, bytes),
+        MessageKind::Receipts69 => whole::<WithRequestId<Receipts69>>(alloc, how, bytes),
+        _ => Err(DecoderError::Custom("a message without the number of a request")),
+    }
+}
+
+/// Returns the bytes of a row: digits, or the text of a node record.
+fn bytes_of(alloc: Global, text: &str) -> Result<Option<Vec<u8>>, AllocError> {
+    if text.starts_with("enr:") {
+        return Ok(None);
+    }
+    let digits = text.strip_prefix("0x").unwrap_or(text);
+    match hex::decode(alloc, digits.as_bytes()) {
+        Ok(bytes) => Ok(Some(bytes)),
+        Err(_) => Ok(None),
+    }
+}
+
+/// Returns the name of a whole record of a kind, where the kind is named: a list has the name of its
+/// kind, and other records have none.
+fn own_name(kind: Kind) -> &'static str {
+    match kind {
+        Kind::AccessList => "access_list",
+        Kind::Message(MessageKind::NewBlockHashes) => "new_block_hashes",
+        Kind::Message(MessageKind::Transactions) => "transactions",
+        _ => "",
+    }
+}
+
+/// Notes a record whose lines by `rlp_print` aren't as expected. What EIP-155 signs is passed: as a
+/// signed transaction it has a plain `v` there, and no hash that is signed.
+pub(crate) fn note_lines(
+    alloc: Global,
+    given: &'static str,
+    want: &'static str,
+    wrong: &mut Line,
+) -> Result<(), AllocError> {
+    if want.contains("(unsigned, chain") {
+        return Ok(());
+    }
+    let (name, text) = cut(given);
+    let first = want.split_once('.').unwrap_or((want, "")).0;
+    let (kind, name) = match Kind::named(name) {
+        Some(kind) => (Some(kind), own_name(kind)),
+        None => (Kind::named(first), first),
+    };
+    let (Some(kind), Some(bytes)) = (kind, bytes_of(alloc, text)?) else {
+        return Ok(());
+    };
+    let text = match record(alloc, kind, Print::Lines(name), bytes.as_slice()) {
+        Ok(text) => text,
+        Err(_) => String::from_str(alloc, "a fault")?,
+    };
+    if text.as_str() != want.strip_suffix('\n').unwrap_or(want) {
+        wrong.note("print", given, text.as_str(), want);
+    }
+    Ok(())
+}
+
+/// Notes a record whose JSON by `rlp_print` isn't as expected.
+pub(crate) fn note_json(
+    alloc: Global,
+    given: &'static str,
+    want: &'static str,
+    wrong: &mut Line,
+) -> Result<(), AllocError> {
+    let (name, text) = cut(given);
+    let (Some(kind), Some(bytes)) = (Kind::named(name), bytes_of(alloc, text)?) else {
+        return Ok(());
+    };
+    let text = match record(alloc, kind, Print::Json, bytes.as_slice()) {
+        Ok(text) => text,
+        Err(_) => String::from_str(alloc, "a fault")?,
+    };
+    let (_, rest) = want.split_once(':').unwrap_or((want, ""));
+    if text.as_str() != rest.strip_suffix("}\n").unwrap_or(rest) {
+        wrong.note("print", given, text.as_str(), want);
+    }
+    Ok(())
+}
