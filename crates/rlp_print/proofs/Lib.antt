@@ -4,3 +4,4 @@ pub mod ItemLemmas
 pub mod LineLemmas
 pub mod KeptLemmas
 pub mod KeyLemmas
+pub mod DumpLemmas

@@ -3,10 +3,10 @@ use Rattle.std.specs.Prelude.{◌≡◌}
 use Rattle.std.specs.Int.Digits.{number_from_digits}
 use Rattle.rlp_print.specs.Display.{Display}
 use Rattle.rlp_print.specs.DisplayLemmas.{content_same}
-use Rattle.rlp_print.specs.Value.{Content, content, number, place, quantity, legacy_v, bytes, bytes_or_null, sparse, path, word, text, empty_list}
+use Rattle.rlp_print.specs.Value.{Content, content, number, place, quantity, legacy_v, bytes, bytes_or_null, sparse, path, word, ip, type_byte, payload, text, empty_list}
 use Rattle.rlp_print.specs.Steps.{Brackets, braces, squares}
 use Rattle.rlp_print.specs.declared.sink.Shown.{Shown}
-use Rattle.rlp_print.specs.declared.sink.Shown.TheVariants.{Number, Place, Wide, Quantity, LegacyV, Bytes, BytesOrNull, Sparse, Path, Word, Text, EmptyList}
+use Rattle.rlp_print.specs.declared.sink.Shown.TheVariants.{Number, Place, Wide, Quantity, LegacyV, Bytes, BytesOrNull, Sparse, Path, Word, Ip, TypeByte, Payload, Text, EmptyList}
 use Rattle.rlp_print.specs.declared.sink.Bracket.{Bracket}
 use Rattle.rlp_print.specs.declared.sink.Bracket.TheVariants.{Brace, Square}
 
@@ -22,6 +22,9 @@ content_of (BytesOrNull b) = bytes_or_null b.now
 content_of (Sparse b) = sparse b.now
 content_of (Path b) = path b.now
 content_of (Word b) = word b.now
+content_of (Ip b) = ip b.now
+content_of (TypeByte n) = type_byte n
+content_of (Payload b) = payload b.now
 content_of (Text t) = text t.now
 content_of EmptyList = empty_list
 

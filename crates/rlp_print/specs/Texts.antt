@@ -3,6 +3,8 @@ use Rattle.std.specs.Prelude.{ℕ, ◌-◌, ◌+◌, ◌/◌, ◌%◌, ◌^◌, 
 use Rattle.std.specs.Char.{is_ascii_digit, is_ascii_lowercase}
 use Rattle.std.specs.Fmt.{digit_glyph}
 use Rattle.std.specs.List.{list_all}
+use Rattle.std.specs.Net.Addr.{segments_of}
+use Rattle.std.specs.Net.Text.{ipv4_text, ipv6_text}
 use Rattle.hex.specs.Hex.{encode_lower}
 use Rattle.rlp.specs.NumberText.{number_text as text_in_base}
 use Rattle.rlp.specs.Values.Value.{bit}
@@ -61,6 +63,12 @@ nibbles_text nibbles = codes " (nibbles [" ++ digits_text nibbles ++ codes "])"
 -- a hex-prefix encoded path: its bytes and its nibbles
 abbrev pub path_text : List ℕ → List ℕ
 path_text d = bytes_text d ++ nibbles_text (path_nibbles d)
+
+-- ---- addresses
+
+-- an IPv4 address has 4 bytes, and an IPv6 address 16; other bytes are in hexadecimal
+abbrev pub ip_text : List ℕ → List ℕ
+ip_text d = if length d == 4 then ipv4_text d else if length d == 16 then ipv6_text (segments_of d) else bytes_text d
 
 -- ---- words
 

@@ -4,9 +4,9 @@ ghost use Rattle.std.specs.Prelude.{◌≡◌, ◌++◌, [], true, string_bytes,
 ghost use Rattle.std.specs.Int.Digits.{number_from_digits};
 ghost use Rattle.rlp_print.specs.Json.{Json as JsonSeen, comma, content_json, json_steps, quoted};
 ghost use Rattle.rlp_print.specs.Seen.{content_of};
-ghost use Rattle.rlp_print.specs.Texts.{bytes_text, hex_text, word_text};
+ghost use Rattle.rlp_print.specs.Texts.{bytes_text, hex_text, ip_text, word_text};
 
-use crate::numbers::{put_bytes, put_hex};
+use crate::numbers::{put_bytes, put_hex, put_ip};
 use crate::sink::{Bracket, Shown, Sink};
 use crate::words::put_word_or_bytes;
 use rlp::Uint;
@@ -52,6 +52,16 @@ fn put_quoted_word(bytes: &[u8], out: &mut String) -> Result<(), AllocError>
     out.push('"')
 }
 
+/// Appends an IP address in quotes.
+fn put_quoted_ip(bytes: &[u8], out: &mut String) -> Result<(), AllocError>
+    ensures { OnOk result
+        (string_bytes out.new ≡ string_bytes out.old ++ quoted (ip_text bytes.now)) }
+{
+    out.push('"')?;
+    put_ip(bytes, out)?;
+    out.push('"')
+}
+
 /// Appends a text in quotes.
 fn put_quoted(text: &str, out: &mut String) -> Result<(), AllocError>
     ensures { OnOk result (string_bytes out.new ≡ string_bytes out.old ++ quoted text.now) }
@@ -71,10 +81,14 @@ fn put_content(shown: Shown<'_>, out: &mut String) -> Result<(), AllocError>
         Shown::Place(n) => write!(out, "{n}"),
         Shown::Wide(n) | Shown::Quantity(n) | Shown::LegacyV(n) => put_quoted_hex(n, out),
         Shown::BytesOrNull([]) => out.push_str("null"),
-        Shown::Bytes(b) | Shown::BytesOrNull(b) | Shown::Sparse(b) | Shown::Path(b) => {
-            put_quoted_bytes(b, out)
-        }
+        Shown::Bytes(b)
+        | Shown::BytesOrNull(b)
+        | Shown::Sparse(b)
+        | Shown::Path(b)
+        | Shown::Payload(b) => put_quoted_bytes(b, out),
         Shown::Word(bytes) => put_quoted_word(bytes, out),
+        Shown::Ip(bytes) => put_quoted_ip(bytes, out),
+        Shown::TypeByte(n) => put_quoted_hex(&Uint::from(u64::from(n)), out),
         Shown::Text(text) => put_quoted(text, out),
         Shown::EmptyList => out.push_str("[]"),
     }

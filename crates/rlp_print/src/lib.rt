@@ -2,6 +2,7 @@
 #![tactic(auto)]
 
 mod blocks;
+mod dump;
 mod faults;
 mod fields;
 mod headers;
@@ -29,6 +30,7 @@ mod sums;
 mod transactions;
 mod words;
 
+pub use dump::dump_of;
 pub use faults::{Fault, Place};
 pub use fields::{ByForm, FieldsIf, FieldsOf, Named, NamedIf, Object, ShowFields};
 pub use json::Json;

@@ -1,13 +1,10 @@
 //! Node records.
 
-ghost use Rattle.std.specs.Net.Addr.{segments_of};
-ghost use Rattle.std.specs.Net.Text.{ipv4_text, ipv6_text};
-ghost use Rattle.std.specs.Prelude.{◌≡◌, bytes_eq, OnOk};
+ghost use Rattle.std.specs.Prelude.{◌≡◌, bytes_eq};
 ghost use Rattle.rlp.specs.Values.RawItem.{raw_item_of};
 ghost use Rattle.rlp_print.specs.Display.{through};
-ghost use Rattle.rlp_print.specs.NodeRecords.{is_port_key, key_value_display, node_fields_display, node_pair_display, port_content, string_content};
+ghost use Rattle.rlp_print.specs.NodeRecords.{is_ip, is_port_key, key_value_display, node_fields_display, node_pair_display, port_content, string_content};
 ghost use Rattle.rlp_print.specs.Seen.{content_of};
-ghost use Rattle.rlp_print.specs.Value.{text};
 
 use crate::fields::{Named, fields, show_object};
 use crate::lists::Items;
@@ -16,7 +13,6 @@ use crate::sink::{Shown, Sink};
 use rlp::{RawItem, Rlp};
 use rlp_node_record::{NodeFields, NodePair, NodeRecord};
 use std::alloc::{AllocError, Global};
-use std::net::{Ipv4Addr, Ipv6Addr};
 
 /// Returns whether a key is this one.
 fn is_key(key: &[u8], name: &str) -> bool
@@ -45,64 +41,27 @@ fn port_in(bytes: &[u8]) -> Shown<'_>
     }
 }
 
-/// Gives an IPv4 address to a sink.
-fn show_ipv4<S: Sink>(
-    alloc: Global,
-    name: &str,
-    octets: [u8; 4],
-    sink: &mut S,
-) -> Result<(), AllocError>
-    ensures { OnOk result (S.seen sink.new
-        ≡ S.steps.put name.now (text (ipv4_text octets)) (S.seen sink.old)) }
+/// Returns whether the value of a key is an IP address.
+fn is_ip(key: &[u8], bytes: &[u8]) -> bool
+    ensures { result ≡ is_ip key.now bytes.now }
 {
-    let text = format!(in alloc; "{}", Ipv4Addr::from(octets))?;
-    sink.put(name, Shown::Text(text.as_str()))
+    (is_key(key, "ip") && bytes.len() == 4) || (is_key(key, "ip6") && bytes.len() == 16)
 }
 
-/// Gives an IPv6 address to a sink.
-fn show_ipv6<S: Sink>(
-    alloc: Global,
-    name: &str,
-    octets: [u8; 16],
-    sink: &mut S,
-) -> Result<(), AllocError>
-    ensures { OnOk result (S.seen sink.new
-        ≡ S.steps.put name.now (text (ipv6_text (segments_of octets))) (S.seen sink.old)) }
-{
-    let text = format!(in alloc; "{}", Ipv6Addr::from(octets))?;
-    sink.put(name, Shown::Text(text.as_str()))
-}
-
-/// Gives the string at a key to a sink.
-fn show_string<S: Sink>(
-    alloc: Global,
-    name: &str,
-    key: &[u8],
-    bytes: &[u8],
-    sink: &mut S,
-) -> Result<(), AllocError>
-    ensures { OnOk result (S.seen sink.new
-        ≡ S.steps.put name.now (string_content key.now bytes.now) (S.seen sink.old)) }
+/// Returns what is shown of the string at a key.
+fn string_at<'a>(key: &[u8], bytes: &'a [u8]) -> Shown<'a>
+    ensures { content_of result ≡ string_content key.now bytes.now }
 {
     if is_key(key, "id") {
-        return sink.put(name, Shown::Word(bytes));
+        return Shown::Word(bytes);
     }
-    if is_key(key, "ip") {
-        return match <[u8; 4]>::try_from(bytes) {
-            Ok(octets) => show_ipv4(alloc, name, octets, sink),
-            Err(_) => sink.put(name, Shown::Bytes(bytes)),
-        };
-    }
-    if is_key(key, "ip6") {
-        return match <[u8; 16]>::try_from(bytes) {
-            Ok(octets) => show_ipv6(alloc, name, octets, sink),
-            Err(_) => sink.put(name, Shown::Bytes(bytes)),
-        };
+    if is_ip(key, bytes) {
+        return Shown::Ip(bytes);
     }
     if is_port_key(key) {
-        return sink.put(name, port_in(bytes));
+        return port_in(bytes);
     }
-    sink.put(name, Shown::Bytes(bytes))
+    Shown::Bytes(bytes)
 }
 
 /// The value of a key.
@@ -118,7 +77,7 @@ impl Show for KeyValue<'_> {
     #[tactic(auto, using(crate::proofs::KeyLemmas::values_of_keys))]
     fn show<S: Sink>(&self, alloc: Global, name: &str, sink: &mut S) -> Result<(), AllocError> {
         match Rlp::new(self.value.as_bytes()).decoder().string() {
-            Ok(string) => show_string(alloc, name, self.key, string, sink),
+            Ok(string) => sink.put(name, string_at(self.key, string)),
             Err(_) => self.value.show(alloc, name, sink),
         }
     }

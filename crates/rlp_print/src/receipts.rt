@@ -51,7 +51,7 @@ impl Show for TypedReceipt {
     fn show<S: Sink>(&self, alloc: Global, name: &str, sink: &mut S) -> Result<(), AllocError> {
         let (kind, receipt) = match self {
             TypedReceipt::Legacy(receipt) => {
-                let none = field!("type" "type" Shown::Number(0));
+                let none = field!("type" "type" Shown::TypeByte(0));
                 return show_object(alloc, name, sink, &(ByForm((), none), FieldsOf(receipt)));
             }
             TypedReceipt::AccessList(receipt) => (1, receipt),
@@ -59,7 +59,7 @@ impl Show for TypedReceipt {
             TypedReceipt::Blob(receipt) => (3, receipt),
             TypedReceipt::SetCode(receipt) => (4, receipt),
         };
-        let kind = field!("type" "type" Shown::Number(kind));
+        let kind = field!("type" "type" Shown::TypeByte(kind));
         show_object(alloc, name, sink, &(kind, FieldsOf(receipt)))
     }
 }

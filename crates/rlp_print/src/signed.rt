@@ -30,7 +30,7 @@ impl<T: TypedTransaction + ShowFields> ShowFields for Signed<T, bool> {
     fn give<S: Sink>(&self, alloc: Global, name: &str, sink: &mut S) -> Result<(), AllocError> {
         let hash = signing_hash(alloc, &self.payload)?;
         let fields = fields!(
-            "type" "type" Shown::Number(u64::from(T::TAG));
+            "type" "type" Shown::TypeByte(T::TAG);
             FieldsOf(&self.payload);
             "y_parity" "yParity" &self.v;
             ByForm((), field!("v" "v" &self.v));
@@ -156,7 +156,7 @@ impl ShowFields for SignedLegacyTransaction {
 
     fn give<S: Sink>(&self, alloc: Global, name: &str, sink: &mut S) -> Result<(), AllocError> {
         let said = said_of(self);
-        let kind = field!("type" "type" Shown::Number(0));
+        let kind = field!("type" "type" Shown::TypeByte(0));
         let fields = fields!(
             ByForm((), kind);
             FieldsOf(&self.payload);

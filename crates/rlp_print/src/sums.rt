@@ -40,8 +40,8 @@ impl ShowFields for ByType<'_> {
         match self.0 {
             AnyTransaction::Known(tx) => tx.give(alloc, name, sink),
             AnyTransaction::Other(tx) => {
-                let kind = field!("type" "type" Shown::Number(u64::from(tx.transaction_type())));
-                let payload = field!("payload" "payload" Shown::Bytes(tx.payload()));
+                let kind = field!("type" "type" Shown::TypeByte(tx.transaction_type()));
+                let payload = field!("payload" "payload" Shown::Payload(tx.payload()));
                 (kind, payload).give(alloc, name, sink)
             }
         }
@@ -66,7 +66,7 @@ impl ShowFields for UnsignedLegacyTransaction {
     ghost fields = { unsigned_legacy_display };
 
     fn give<S: Sink>(&self, alloc: Global, name: &str, sink: &mut S) -> Result<(), AllocError> {
-        let kind = field!("type" "type" Shown::Number(0));
+        let kind = field!("type" "type" Shown::TypeByte(0));
         fields!(ByForm((), kind); FieldsOf(&self.payload); "chain_id" "chainId" ? &self.chain_id;).give(
             alloc, name, sink,
         )
@@ -83,7 +83,7 @@ fn give_payload<T: TypedTransaction + ShowFields, S: Sink>(
     ensures { OnOk result (S.seen sink.new ≡ after_fields S.steps name.now
         (both (type_entries T.TAG) (T.fields.entries payload.now)) (S.seen sink.old)) }
 {
-    let kind = field!("type" "type" Shown::Number(u64::from(T::TAG)));
+    let kind = field!("type" "type" Shown::TypeByte(T::TAG));
     (kind, FieldsOf(payload)).give(alloc, name, sink)
 }
 
