@@ -154,14 +154,23 @@ impl<'a> Dump<'a> {
         self.rows.push(' ')
     }
 
+    /// Appends a row for a header that comes next, and what has the header.
+    fn put_header(&mut self, header_len: usize, what: &str) -> Result<(), AllocError>
+        requires { header_len ≤ length self.old.rest }
+        ensures { OnOk result (self.new ≡ row header_len 0 what.now self.old) }
+    {
+        self.begin_row(header_len, 0)?;
+        self.rows.push_str(what)
+    }
+
     /// Appends rows for the headers of the lists that come next.
+    #[tactic(auto, using(crate::proofs::DumpLemmas::lists_entered))]
     fn enter_lists(&mut self) -> Result<(), AllocError>
         ensures { OnOk result (self.new ≡ enter_lists (length self.old.rest) self.old) }
     {
         let mut header_len = list_header(self.rest);
         while header_len > 0 {
-            self.begin_row(header_len, 0)?;
-            self.rows.push_str("list\n")?;
+            self.put_header(header_len, "list\n")?;
             header_len = list_header(self.rest);
         }
         Ok(())
@@ -175,8 +184,7 @@ impl<'a> Dump<'a> {
         if header_len == 0 {
             return Ok(());
         }
-        self.begin_row(header_len, 0)?;
-        self.rows.push_str("envelope\n")
+        self.put_header(header_len, "envelope\n")
     }
 
     /// Appends rows for the headers in front of a content.
