@@ -179,7 +179,8 @@ fn add(alloc: Global, told: &mut Told, row: &str) -> Result<bool, AllocError> {
         return Ok(false);
     };
     let is_payload = what.contains("payload: ");
-    Ok(number(place) == start && (is_payload || header_end - start == header_len(*first)))
+    let found = header_end.checked_sub(start);
+    Ok(number(place) == start && (is_payload || found == Some(header_len(*first))))
 }
 
 /// Notes a record whose rows don't show all of its bytes in order, or don't have the expected lines.
