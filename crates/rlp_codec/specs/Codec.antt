@@ -167,7 +167,7 @@ read_option read [] = here (Ok None)
 read_option read (v ∷ []) = within 0 (map_answer Some (read v))
 read_option read (v ∷ w ∷ vs) = here (Err incorrect_list_len)
 
--- The values that the last items of a list of n items give, in order, or the fault of the first of them that has a fault.
+-- The values that the last items of a list of n items give, in order, or the fault of the first item that has a fault.
 abbrev pub read_each : {M : Type 0} → (View → Answer M Fault) → ℕ → List View → Answer (List M) Fault
 read_each read n [] = here (Ok [])
 read_each read n (v ∷ vs) = go_on (within (n - 1 - length vs) (read v)) (λ x. map_answer (λ xs. x ∷ xs) (read_each read n vs))
@@ -314,12 +314,12 @@ abbrev pub all_taken : {M : Type 0} → M → List View → Taken M
 all_taken x [] = here (Ok (x, []))
 all_taken x (v ∷ vs) = here (Err (vs, incorrect_list_len))
 
--- The path in a list of n items to the item after which the views of a fault follow, and from there on `path`.
+-- The path of a fault in a list of n items: the place of the item that the views of the fault come after, and then the path in the item.
 abbrev pub path_in : {A : Type 0} → ℕ → Result A (List View × Fault) → Path → Path
 path_in n (Ok x) path = []
 path_in n (Err e) path = (n - 1 - length e.0) ∷ path
 
--- The answer of a list of n items that gives `t`.
+-- The answer of a list of n items, if `t` is what the items give.
 abbrev pub in_list : {M : Type 0} → ℕ → Taken M → Answer M Fault
 in_list n t = record { result = map_fault (λ e. e.1) (map_value (λ m. m.0) t.result); path = path_in n t.result t.path }
 
