@@ -1,0 +1,6 @@
+pub mod Message
+pub mod Nest
+pub mod Odd
+pub mod Pair
+pub mod Parcel
+pub mod Row

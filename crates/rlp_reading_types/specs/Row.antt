@@ -1,0 +1,40 @@
+-- How values of `Row` are written and read.
+use Rattle.std.specs.Vec.{vec_items}
+use Rattle.rlp_reading.specs.Lawful.{Lawful, byte_array, byte_string, end, field, number, struct_of}
+use Rattle.rlp_reading_types.specs.declared.row.Row.{Row}
+
+-- the fields, in order
+abbrev pub row : Lawful Row
+row = struct_of (
+    field (λ (r : Row). r.column_1) (number 8) (
+    field (λ (r : Row). r.column_2) (byte_array 32) (
+    field (λ (r : Row). r.column_3) (byte_string vec_items) (
+    field (λ (r : Row). r.column_4) (byte_array 8) (
+    field (λ (r : Row). r.column_5) (number 8) (
+    field (λ (r : Row). r.column_6) (byte_array 32) (
+    field (λ (r : Row). r.column_7) (byte_string vec_items) (
+    field (λ (r : Row). r.column_8) (byte_array 8) (
+    field (λ (r : Row). r.column_9) (number 8) (
+    field (λ (r : Row). r.column_10) (byte_array 32) (
+    field (λ (r : Row). r.column_11) (byte_string vec_items) (
+    field (λ (r : Row). r.column_12) (byte_array 8) (
+    field (λ (r : Row). r.column_13) (number 8) (
+    field (λ (r : Row). r.column_14) (byte_array 32) (
+    field (λ (r : Row). r.column_15) (byte_string vec_items) (
+    field (λ (r : Row). r.column_16) (byte_array 8) (
+    field (λ (r : Row). r.column_17) (number 8) (
+    field (λ (r : Row). r.column_18) (byte_array 32) (
+    field (λ (r : Row). r.column_19) (byte_string vec_items) (
+    field (λ (r : Row). r.column_20) (byte_array 8) (
+    field (λ (r : Row). r.column_21) (number 8) (
+    field (λ (r : Row). r.column_22) (byte_array 32) (
+    field (λ (r : Row). r.column_23) (byte_string vec_items) (
+    field (λ (r : Row). r.column_24) (byte_array 8) (
+    field (λ (r : Row). r.column_25) (number 8) (
+    field (λ (r : Row). r.column_26) (byte_array 32) (
+    field (λ (r : Row). r.column_27) (byte_string vec_items) (
+    field (λ (r : Row). r.column_28) (byte_array 8) (
+    field (λ (r : Row). r.column_29) (number 8) (
+    field (λ (r : Row). r.column_30) (byte_array 32) (
+    field (λ (r : Row). r.column_31) (byte_string vec_items) (
+    field (λ (r : Row). r.column_32) (byte_array 8) end))))))))))))))))))))))))))))))))

@@ -1,0 +1,41 @@
+//! A generic list type.
+
+ghost use Rattle.std.specs.Prelude.{[], ◌∷◌, ⊤, All, false, map, refl};
+ghost use Rattle.std.specs.Vec.{vec_items};
+ghost use Rattle.rlp_format.specs.Format.Item.{list_of};
+ghost use Rattle.rlp_codec.specs.Laws.{codec_of};
+ghost use Rattle.rlp_reading_types.specs.Nest.{nest_lawful, nest_read_back, nest_reading};
+
+use rlp::{DecoderError, Encodable, ListOf, Rlp, RlpStream};
+use rlp_reading::{Decodable, RoundTrip, StrictRead};
+use std::alloc::{AllocError, Global};
+
+/// A list whose one item is the list of the values.
+#[derive(Drop)]
+pub struct Nest<T>(pub Vec<T>);
+
+impl<T: Encodable> Encodable for Nest<T> {
+    ghost item = { λ n. list_of (list_of (map T.item (vec_items n.0)) ∷ []) };
+
+    ghost fits = { λ n. All T.fits (vec_items n.0) × ⊤ };
+
+    fn rlp_append(&self, s: &mut RlpStream) -> Result<(), AllocError> {
+        rlp::append_fields!(s, ListOf(&self.0))
+    }
+}
+
+impl<T: Decodable> Decodable for Nest<T> {
+    ghost reading = { nest_reading T.reading };
+
+    fn decode(alloc: Global, rlp: &Rlp<'_>) -> Result<Nest<T>, DecoderError> {
+        rlp_reading::decode_fields!(alloc, rlp, Nest(values: [..]))
+    }
+}
+
+impl<T: RoundTrip> RoundTrip for Nest<T> {
+    ghost round_trip = { nest_read_back (codec_of T.fits T.item T.reading) T.round_trip };
+}
+
+impl<T: StrictRead> StrictRead for Nest<T> {
+    ghost strict = { nest_lawful (codec_of T.fits T.item T.reading) T.strict };
+}

@@ -1,0 +1,174 @@
+//! A row of a table: the list of its thirty-two columns.
+
+ghost use Rattle.rlp_codec.proofs.ListLaws.{read_back};
+ghost use Rattle.rlp_reading_types.specs.Row.{row};
+
+use rlp::{DecoderError, Encodable, Rlp, RlpStream};
+use rlp_reading::{Decodable, RoundTrip, StrictRead};
+use std::alloc::{AllocError, Global};
+
+/// A row of a table with thirty-two columns. It shows a struct of many fields.
+#[derive(Drop)]
+pub struct Row {
+    /// Column 1.
+    pub column_1: u64,
+    /// Column 2.
+    pub column_2: [u8; 32],
+    /// Column 3.
+    pub column_3: Vec<u8>,
+    /// Column 4.
+    pub column_4: [u8; 8],
+    /// Column 5.
+    pub column_5: u64,
+    /// Column 6.
+    pub column_6: [u8; 32],
+    /// Column 7.
+    pub column_7: Vec<u8>,
+    /// Column 8.
+    pub column_8: [u8; 8],
+    /// Column 9.
+    pub column_9: u64,
+    /// Column 10.
+    pub column_10: [u8; 32],
+    /// Column 11.
+    pub column_11: Vec<u8>,
+    /// Column 12.
+    pub column_12: [u8; 8],
+    /// Column 13.
+    pub column_13: u64,
+    /// Column 14.
+    pub column_14: [u8; 32],
+    /// Column 15.
+    pub column_15: Vec<u8>,
+    /// Column 16.
+    pub column_16: [u8; 8],
+    /// Column 17.
+    pub column_17: u64,
+    /// Column 18.
+    pub column_18: [u8; 32],
+    /// Column 19.
+    pub column_19: Vec<u8>,
+    /// Column 20.
+    pub column_20: [u8; 8],
+    /// Column 21.
+    pub column_21: u64,
+    /// Column 22.
+    pub column_22: [u8; 32],
+    /// Column 23.
+    pub column_23: Vec<u8>,
+    /// Column 24.
+    pub column_24: [u8; 8],
+    /// Column 25.
+    pub column_25: u64,
+    /// Column 26.
+    pub column_26: [u8; 32],
+    /// Column 27.
+    pub column_27: Vec<u8>,
+    /// Column 28.
+    pub column_28: [u8; 8],
+    /// Column 29.
+    pub column_29: u64,
+    /// Column 30.
+    pub column_30: [u8; 32],
+    /// Column 31.
+    pub column_31: Vec<u8>,
+    /// Column 32.
+    pub column_32: [u8; 8],
+}
+
+impl Encodable for Row {
+    ghost item = { row.item };
+
+    ghost fits = { row.Fits };
+
+    fn rlp_append(&self, s: &mut RlpStream) -> Result<(), AllocError> {
+        rlp::append_fields!(
+            s,
+            &self.column_1,
+            &self.column_2,
+            &self.column_3,
+            &self.column_4,
+            &self.column_5,
+            &self.column_6,
+            &self.column_7,
+            &self.column_8,
+            &self.column_9,
+            &self.column_10,
+            &self.column_11,
+            &self.column_12,
+            &self.column_13,
+            &self.column_14,
+            &self.column_15,
+            &self.column_16,
+            &self.column_17,
+            &self.column_18,
+            &self.column_19,
+            &self.column_20,
+            &self.column_21,
+            &self.column_22,
+            &self.column_23,
+            &self.column_24,
+            &self.column_25,
+            &self.column_26,
+            &self.column_27,
+            &self.column_28,
+            &self.column_29,
+            &self.column_30,
+            &self.column_31,
+            &self.column_32
+        )
+    }
+}
+
+impl Decodable for Row {
+    ghost reading = { row.reading };
+
+    fn decode(alloc: Global, rlp: &Rlp<'_>) -> Result<Row, DecoderError> {
+        rlp_reading::decode_fields!(
+            alloc,
+            rlp,
+            Row {
+                column_1,
+                column_2,
+                column_3,
+                column_4,
+                column_5,
+                column_6,
+                column_7,
+                column_8,
+                column_9,
+                column_10,
+                column_11,
+                column_12,
+                column_13,
+                column_14,
+                column_15,
+                column_16,
+                column_17,
+                column_18,
+                column_19,
+                column_20,
+                column_21,
+                column_22,
+                column_23,
+                column_24,
+                column_25,
+                column_26,
+                column_27,
+                column_28,
+                column_29,
+                column_30,
+                column_31,
+                column_32
+            }
+        )
+    }
+}
+
+impl RoundTrip for Row {
+    ghost round_trip = { read_back row.laws };
+}
+
+impl StrictRead for Row {
+    ghost strict = { row.laws };
+}
