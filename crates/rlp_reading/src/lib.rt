@@ -15,6 +15,7 @@ mod fields;
 mod impls;
 pub mod laws;
 mod lists;
+pub mod placed;
 mod round_trip;
 mod structs;
 mod traits;
