@@ -119,10 +119,7 @@ const ROWS: [(&str, &str); 8] = [
          2e972310025b7e1189b049\n\
          109 c0 - ommers: []\n",
     ),
-    (
-        "access_list c0",
-        "0 c0 - access_list: []\n",
-    ),
+    ("access_list c0", "0 c0 - access_list: []\n"),
 ];
 
 /// What rows say.
