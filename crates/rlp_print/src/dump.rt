@@ -1,8 +1,7 @@
 //! Where the contents of a value stand in its encoding.
 
-ghost use Rattle.std.specs.Prelude.{◌≡◌, ◌+◌, ◌≤◌, ◌++◌, [], codes, drop, length, string_bytes, IfOk, OnOk};
-ghost use Rattle.rlp.specs.Format.Framing.{framing};
-ghost use Rattle.rlp_print.specs.Dump.{Dump as DumpSeen, content_bytes, content_header, dump_of, dump_steps, enter, enter_envelope, enter_lists, header_length, list_header, part_text, place_text, row, string_header};
+ghost use Rattle.std.specs.Prelude.{◌≡◌, ◌+◌, ◌≤◌, ◌++◌, [], length, string_bytes, IfOk, OnOk};
+ghost use Rattle.rlp_print.specs.Dump.{Dump as DumpSeen, content_bytes, content_header, dump_of, dump_steps, enter, enter_envelope, enter_lists, list_header, part_text, row, string_header};
 ghost use Rattle.rlp_print.specs.Seen.{content_of};
 
 use crate::lines::put_line;
