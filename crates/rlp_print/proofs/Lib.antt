@@ -1,6 +1,2 @@
 pub mod NumberLemmas
-pub mod ListLemmas
 pub mod ItemLemmas
-pub mod LineLemmas
-pub mod KeptLemmas
-pub mod KeyLemmas

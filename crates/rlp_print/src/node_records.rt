@@ -1,15 +1,12 @@
 //! Node records.
 
-ghost use Rattle.std.specs.Net.Addr.{segments_of};
-ghost use Rattle.std.specs.Net.Text.{ipv4_text, ipv6_text};
 ghost use Rattle.std.specs.Prelude.{◌≡◌, bytes_eq, OnOk};
 ghost use Rattle.rlp.specs.Values.RawItem.{raw_item_of};
 ghost use Rattle.rlp_print.specs.Display.{through};
 ghost use Rattle.rlp_print.specs.NodeRecords.{is_port_key, key_value_display, node_fields_display, node_pair_display, port_content, string_content};
 ghost use Rattle.rlp_print.specs.Seen.{content_of};
-ghost use Rattle.rlp_print.specs.Value.{text};
 
-use crate::fields::{Named, fields, show_object};
+use crate::fields::{Object, show_fields};
 use crate::lists::Items;
 use crate::show::Show;
 use crate::sink::{Shown, Sink};
@@ -45,34 +42,6 @@ fn port_in(bytes: &[u8]) -> Shown<'_>
     }
 }
 
-/// Gives an IPv4 address to a sink.
-fn show_ipv4<S: Sink>(
-    alloc: Global,
-    name: &str,
-    octets: [u8; 4],
-    sink: &mut S,
-) -> Result<(), AllocError>
-    ensures { OnOk result (S.seen sink.new
-        ≡ S.steps.put name.now (text (ipv4_text octets)) (S.seen sink.old)) }
-{
-    let text = format!(in alloc; "{}", Ipv4Addr::from(octets))?;
-    sink.put(name, Shown::Text(text.as_str()))
-}
-
-/// Gives an IPv6 address to a sink.
-fn show_ipv6<S: Sink>(
-    alloc: Global,
-    name: &str,
-    octets: [u8; 16],
-    sink: &mut S,
-) -> Result<(), AllocError>
-    ensures { OnOk result (S.seen sink.new
-        ≡ S.steps.put name.now (text (ipv6_text (segments_of octets))) (S.seen sink.old)) }
-{
-    let text = format!(in alloc; "{}", Ipv6Addr::from(octets))?;
-    sink.put(name, Shown::Text(text.as_str()))
-}
-
 /// Gives the string at a key to a sink.
 fn show_string<S: Sink>(
     alloc: Global,
@@ -89,13 +58,19 @@ fn show_string<S: Sink>(
     }
     if is_key(key, "ip") {
         return match <[u8; 4]>::try_from(bytes) {
-            Ok(octets) => show_ipv4(alloc, name, octets, sink),
+            Ok(octets) => {
+                let text = format!(in alloc; "{}", Ipv4Addr::from(octets))?;
+                sink.put(name, Shown::Text(text.as_str()))
+            }
             Err(_) => sink.put(name, Shown::Bytes(bytes)),
         };
     }
     if is_key(key, "ip6") {
         return match <[u8; 16]>::try_from(bytes) {
-            Ok(octets) => show_ipv6(alloc, name, octets, sink),
+            Ok(octets) => {
+                let text = format!(in alloc; "{}", Ipv6Addr::from(octets))?;
+                sink.put(name, Shown::Text(text.as_str()))
+            }
             Err(_) => sink.put(name, Shown::Bytes(bytes)),
         };
     }
@@ -115,7 +90,7 @@ struct KeyValue<'a> {
 impl Show for KeyValue<'_> {
     ghost display = { through (λ v. (v.key.now, raw_item_of v.value.now)) key_value_display };
 
-    #[tactic(auto, using(crate::proofs::KeyLemmas::values_of_keys))]
+    #[tactic(auto, using(crate::proofs::ItemLemmas::values_of_keys))]
     fn show<S: Sink>(&self, alloc: Global, name: &str, sink: &mut S) -> Result<(), AllocError> {
         match Rlp::new(self.value.as_bytes()).decoder().string() {
             Ok(string) => show_string(alloc, name, self.key, string, sink),
@@ -133,11 +108,10 @@ impl Show for NodePair {
             key,
             value: &self.value,
         };
-        let fields = fields!(
+        show_fields!(alloc, name, sink;
             "key" "key" Shown::Word(key);
             "value" "value" value;
-        );
-        show_object(alloc, name, sink, &fields)
+        )
     }
 }
 
@@ -145,12 +119,11 @@ impl Show for NodeFields {
     ghost display = { node_fields_display };
 
     fn show<S: Sink>(&self, alloc: Global, name: &str, sink: &mut S) -> Result<(), AllocError> {
-        let fields = fields!(
+        show_fields!(alloc, name, sink;
             "signature" "signature" &self.signature;
             "sequence" "sequence" &self.sequence;
             "pairs" "pairs" Items(&self.pairs);
-        );
-        show_object(alloc, name, sink, &fields)
+        )
     }
 }
 
