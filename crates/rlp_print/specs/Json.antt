@@ -1,8 +1,8 @@
 -- The JSON of a value, with the names of Ethereum's execution API and without spaces.
 use Rattle.std.specs.Prelude.{ℕ, Bool, true, false, List, [], ◌∷◌, ◌++◌, codes, decimal}
 use Rattle.rlp_print.specs.Steps.{Brackets, braces, squares, Steps, after}
-use Rattle.rlp_print.specs.Texts.{bytes_text, hex_text, word_text}
-use Rattle.rlp_print.specs.Value.{Content, Value, number, place, quantity, legacy_v, bytes, bytes_or_null, sparse, path, word, text, empty_list}
+use Rattle.rlp_print.specs.Texts.{bytes_text, hex_text, ip_text, word_text}
+use Rattle.rlp_print.specs.Value.{Content, Value, number, place, quantity, legacy_v, bytes, bytes_or_null, sparse, path, word, ip, type_byte, payload, text, empty_list}
 
 -- the text so far, and whether a value may come next without a comma before it
 pub record Json : Type 0 where
@@ -34,6 +34,9 @@ content_json (bytes_or_null b) = or_null b
 content_json (sparse b) = quoted (bytes_text b)
 content_json (path b) = quoted (bytes_text b)
 content_json (word b) = quoted (word_text b)
+content_json (ip b) = quoted (ip_text b)
+content_json (type_byte n) = quoted (hex_text n)
+content_json (payload b) = quoted (bytes_text b)
 content_json (text t) = quoted t
 content_json empty_list = codes "[]"
 

@@ -10,6 +10,8 @@ pub mod Json
 -- how the values of a type are shown, by its parts
 pub mod DisplayLemmas
 pub mod Display
+-- where contents stand in the encoding
+pub mod Dump
 -- what the code gives to a sink
 pub mod Seen
 -- the numbers of types, and sums of types

@@ -1,11 +1,11 @@
 -- What is shown of node records.
-use Rattle.std.specs.Prelude.{ℕ, ◌≡◌, ◌==◌, ◌||◌, nat_lt, if◌then◌else◌, Bool, false, List, [], ◌∷◌, codes, length}
-use Rattle.std.specs.{Int.Digits.number_from_digits, Net.Addr.segments_of, Net.Text.ipv4_text, Net.Text.ipv6_text, Str.bytes_eq, Vec.vec_items}
+use Rattle.std.specs.Prelude.{ℕ, ◌≡◌, ◌==◌, ◌&&◌, ◌||◌, nat_lt, if◌then◌else◌, Bool, false, List, [], ◌∷◌, codes, length}
+use Rattle.std.specs.{Int.Digits.number_from_digits, Str.bytes_eq, Vec.vec_items}
 use Rattle.rlp.specs.Format.Item.{Item, string, list}
 use Rattle.rlp.specs.Values.RawItem.{raw_item_of}
 use Rattle.rlp_node_record.specs.declared.{node_fields.NodeFields.NodeFields, node_fields.NodePair.NodePair}
 use Rattle.rlp_print.specs.Display.{Display, a_list, a_number, a_word, an_object, end, field, the_bytes}
-use Rattle.rlp_print.specs.Value.{Content, Value, content, bytes, number, text, word}
+use Rattle.rlp_print.specs.Value.{Content, Value, content, bytes, ip, number, word}
 use Rattle.rlp_print.specs.{DisplayLemmas.content_same, Items.item_told, Items.item_value}
 
 -- ---- values of the keys that EIP-778 defines
@@ -23,12 +23,15 @@ port_content d = if nat_lt 2 (length d) || begins_with_zero d then bytes d else 
 abbrev pub is_port_key : List ℕ → Bool
 is_port_key key = (bytes_eq key (codes "tcp") || bytes_eq key (codes "udp")) || (bytes_eq key (codes "tcp6") || bytes_eq key (codes "udp6"))
 
+-- whether the value of a key is an IP address
+abbrev pub is_ip : List ℕ → List ℕ → Bool
+is_ip key d = (bytes_eq key (codes "ip") && (length d == 4)) || (bytes_eq key (codes "ip6") && (length d == 16))
+
 -- the string at a key: the name of a scheme, an address, a port, or any bytes
 abbrev pub string_content : List ℕ → List ℕ → Content
 string_content key d =
     if bytes_eq key (codes "id") then word d
-    else if bytes_eq key (codes "ip") then (if length d == 4 then text (ipv4_text d) else bytes d)
-    else if bytes_eq key (codes "ip6") then (if length d == 16 then text (ipv6_text (segments_of d)) else bytes d)
+    else if is_ip key d then ip d
     else if is_port_key key then port_content d
     else bytes d
 

@@ -1,10 +1,10 @@
 -- What the code gives to a sink.
 use Rattle.std.specs.{Prelude.refl, Int.Digits.number_from_digits}
 use Rattle.rlp_print.specs.Display.{Display, a_content}
-use Rattle.rlp_print.specs.Value.{Content, number, place, quantity, legacy_v, bytes, bytes_or_null, sparse, path, word, text, empty_list}
+use Rattle.rlp_print.specs.Value.{Content, number, place, quantity, legacy_v, bytes, bytes_or_null, sparse, path, word, ip, type_byte, payload, text, empty_list}
 use Rattle.rlp_print.specs.Steps.{Brackets, braces, squares}
 use Rattle.rlp_print.specs.declared.sink.{Shown.Shown, Bracket.Bracket, Bracket.TheVariants.Brace, Bracket.TheVariants.Square}
-use Rattle.rlp_print.specs.declared.sink.Shown.TheVariants.{Number, Place, Wide, Quantity, LegacyV, Bytes, BytesOrNull, Sparse, Path, Word, Text, EmptyList}
+use Rattle.rlp_print.specs.declared.sink.Shown.TheVariants.{Number, Place, Wide, Quantity, LegacyV, Bytes, BytesOrNull, Sparse, Path, Word, Ip, TypeByte, Payload, Text, EmptyList}
 
 -- a content
 abbrev pub content_of : Shown → Content
@@ -18,6 +18,9 @@ content_of (BytesOrNull b) = bytes_or_null b.now
 content_of (Sparse b) = sparse b.now
 content_of (Path b) = path b.now
 content_of (Word b) = word b.now
+content_of (Ip b) = ip b.now
+content_of (TypeByte n) = type_byte n
+content_of (Payload b) = payload b.now
 content_of (Text t) = text t.now
 content_of EmptyList = empty_list
 

@@ -1,6 +1,6 @@
 -- The text of numbers and bytes, and of what some bytes mean.
 use Rattle.std.specs.Prelude.{ℕ, ◌-◌, ◌+◌, ◌/◌, ◌%◌, ◌^◌, ◌==◌, ◌&&◌, ◌||◌, nat_lt, if◌then◌else◌, Bool, false, List, ◌++◌, [], ◌∷◌, codes, decimal, length, map, Option, Some, None}
-use Rattle.std.specs.{Char.is_ascii_digit, Char.is_ascii_lowercase, Fmt.digit_glyph, List.list_all}
+use Rattle.std.specs.{Char.is_ascii_digit, Char.is_ascii_lowercase, Fmt.digit_glyph, List.list_all, Net.Addr.segments_of, Net.Text.ipv4_text, Net.Text.ipv6_text}
 use Rattle.hex.specs.Hex.{encode_lower}
 use Rattle.rlp.specs.{NumberText.number_text as text_in_base, Values.Value.bit}
 use Rattle.rlp_transactions.specs.declared.eip155.Eip155.{Eip155}
@@ -58,6 +58,12 @@ nibbles_text nibbles = codes " (nibbles [" ++ digits_text nibbles ++ codes "])"
 -- a hex-prefix encoded path: its bytes and its nibbles
 abbrev pub path_text : List ℕ → List ℕ
 path_text d = bytes_text d ++ nibbles_text (path_nibbles d)
+
+-- ---- addresses
+
+-- an IPv4 address has 4 bytes, and an IPv6 address 16; other bytes are in hexadecimal
+abbrev pub ip_text : List ℕ → List ℕ
+ip_text d = if length d == 4 then ipv4_text d else if length d == 16 then ipv6_text (segments_of d) else bytes_text d
 
 -- ---- words
 

@@ -20,6 +20,11 @@ pub data Content : Type 0 where
   path : List ℕ → Content
   -- bytes that are mostly a word
   word : List ℕ → Content
+  -- the bytes of an IP address
+  ip : List ℕ → Content
+  -- the number of a type of EIP-2718, and the bytes after it
+  type_byte : ℕ → Content
+  payload : List ℕ → Content
   -- letters, digits and punctuation that need no escape in JSON
   text : List ℕ → Content
   empty_list : Content

@@ -25,7 +25,8 @@ impl Show for RawItem {
     ghost display = { raw_item_display };
 
     fn show<S: Sink>(&self, alloc: Global, name: &str, sink: &mut S) -> Result<(), AllocError> {
-        show_item(alloc, name, self.as_bytes(), RawItem::MAX_DEPTH, false, sink)
+        let bytes = self.as_bytes();
+        show_item(alloc, name, bytes, RawItem::MAX_DEPTH, false, sink)
     }
 }
 

@@ -4,7 +4,7 @@ ghost use Rattle.std.specs.Prelude.{◌≡◌, ◌++◌, [], true, string_bytes,
 ghost use Rattle.rlp_print.specs.Json.{Json as JsonSeen, comma, content_json, json_steps};
 ghost use Rattle.rlp_print.specs.Seen.{content_of};
 
-use crate::numbers::{put_bytes, put_hex};
+use crate::numbers::{put_bytes, put_hex, put_ip};
 use crate::sink::{Bracket, Shown, Sink};
 use crate::words::put_word_or_bytes;
 use rlp::Uint;
@@ -41,10 +41,14 @@ fn put_content(shown: Shown<'_>, out: &mut String) -> Result<(), AllocError>
             put_quoted!(out, put_hex(n, out))
         }
         Shown::BytesOrNull([]) => out.push_str("null"),
-        Shown::Bytes(b) | Shown::BytesOrNull(b) | Shown::Sparse(b) | Shown::Path(b) => {
-            put_quoted!(out, put_bytes(b, out))
-        }
+        Shown::Bytes(b)
+        | Shown::BytesOrNull(b)
+        | Shown::Sparse(b)
+        | Shown::Path(b)
+        | Shown::Payload(b) => put_quoted!(out, put_bytes(b, out)),
         Shown::Word(bytes) => put_quoted!(out, put_word_or_bytes(bytes, out)),
+        Shown::Ip(bytes) => put_quoted!(out, put_ip(bytes, out)),
+        Shown::TypeByte(n) => put_quoted!(out, put_hex(&Uint::from(u64::from(n)), out)),
         Shown::Text(text) => put_quoted!(out, out.push_str(text)),
         Shown::EmptyList => out.push_str("[]"),
     }

@@ -2,6 +2,7 @@
 #![tactic(auto)]
 
 mod blocks;
+mod dump;
 mod faults;
 mod fields;
 mod items;
@@ -25,6 +26,7 @@ mod sums;
 mod transactions;
 mod words;
 
+pub use dump::dump_of;
 pub use faults::{Fault, Place};
 pub use fields::{ByForm, Named, NamedIf, Object, ShowFields};
 pub use json::Json;

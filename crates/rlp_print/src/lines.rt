@@ -1,10 +1,10 @@
 //! A line for each content.
 
 ghost use Rattle.std.specs.Prelude.{◌≡◌, ◌++◌, [], List, ℕ, string_bytes, OnOk};
-ghost use Rattle.rlp_print.specs.Lines.{content_text, line_steps};
+ghost use Rattle.rlp_print.specs.Lines.{content_text, line, line_steps};
 ghost use Rattle.rlp_print.specs.Seen.{content_of};
 
-use crate::numbers::{put_bytes, put_decimal, put_hex, put_sparse, put_v};
+use crate::numbers::{put_bytes, put_decimal, put_hex, put_ip, put_sparse, put_v};
 use crate::paths::put_path;
 use crate::sink::{Bracket, Shown, Sink};
 use crate::words::put_word_or_bytes;
@@ -29,6 +29,17 @@ impl Lines {
     }
 }
 
+/// Appends the line of a content of this name.
+pub(crate) fn put_line(name: &str, shown: Shown<'_>, out: &mut String) -> Result<(), AllocError>
+    ensures { OnOk result (string_bytes out.new
+        ≡ string_bytes out.old ++ line name.now (content_of shown.entry)) }
+{
+    out.push_str(name)?;
+    out.push_str(": ")?;
+    put_content(shown, out)?;
+    out.push('\n')
+}
+
 /// Appends a content.
 fn put_content(shown: Shown<'_>, out: &mut String) -> Result<(), AllocError>
     ensures { OnOk result
@@ -40,10 +51,14 @@ fn put_content(shown: Shown<'_>, out: &mut String) -> Result<(), AllocError>
         Shown::Wide(n) => write!(out, "{n}"),
         Shown::Quantity(n) => put_hex(n, out),
         Shown::LegacyV(n) => put_v(n, out),
-        Shown::Bytes(bytes) | Shown::BytesOrNull(bytes) => put_bytes(bytes, out),
+        Shown::Bytes(bytes) | Shown::BytesOrNull(bytes) | Shown::Payload(bytes) => {
+            put_bytes(bytes, out)
+        }
         Shown::Sparse(bytes) => put_sparse(bytes, out),
         Shown::Path(bytes) => put_path(bytes, out),
         Shown::Word(bytes) => put_word_or_bytes(bytes, out),
+        Shown::Ip(bytes) => put_ip(bytes, out),
+        Shown::TypeByte(n) => put_decimal(u64::from(n), out),
         Shown::Text(text) => out.push_str(text),
         Shown::EmptyList => out.push_str("[]"),
     }
@@ -65,10 +80,7 @@ impl Sink for Lines {
     }
 
     fn put(&mut self, name: &str, shown: Shown<'_>) -> Result<(), AllocError> {
-        self.text.push_str(name)?;
-        self.text.push_str(": ")?;
-        put_content(shown, &mut self.text)?;
-        self.text.push('\n')
+        put_line(name, shown, &mut self.text)
     }
 
     fn begin(&mut self, _bracket: Bracket) -> Result<(), AllocError> {

@@ -1,19 +1,18 @@
 //! Node records.
 
-ghost use Rattle.std.specs.Prelude.{◌≡◌, bytes_eq, OnOk};
+ghost use Rattle.std.specs.Prelude.{◌≡◌, bytes_eq};
 ghost use Rattle.rlp.specs.Values.RawItem.{raw_item_of};
 ghost use Rattle.rlp_print.specs.Display.{through};
-ghost use Rattle.rlp_print.specs.NodeRecords.{is_port_key, key_value_display, node_fields_display, node_pair_display, port_content, string_content};
+ghost use Rattle.rlp_print.specs.NodeRecords.{is_ip, is_port_key, key_value_display, node_fields_display, node_pair_display, port_content, string_content};
 ghost use Rattle.rlp_print.specs.Seen.{content_of};
 
-use crate::fields::{Object, show_fields};
+use crate::fields::show_fields;
 use crate::lists::Items;
 use crate::show::Show;
 use crate::sink::{Shown, Sink};
 use rlp::{RawItem, Rlp};
 use rlp_node_record::{NodeFields, NodePair, NodeRecord};
 use std::alloc::{AllocError, Global};
-use std::net::{Ipv4Addr, Ipv6Addr};
 
 /// Returns whether a key is this one.
 fn is_key(key: &[u8], name: &str) -> bool
@@ -42,42 +41,27 @@ fn port_in(bytes: &[u8]) -> Shown<'_>
     }
 }
 
-/// Gives the string at a key to a sink.
-fn show_string<S: Sink>(
-    alloc: Global,
-    name: &str,
-    key: &[u8],
-    bytes: &[u8],
-    sink: &mut S,
-) -> Result<(), AllocError>
-    ensures { OnOk result (S.seen sink.new
-        ≡ S.steps.put name.now (string_content key.now bytes.now) (S.seen sink.old)) }
+/// Returns whether the value of a key is an IP address.
+fn is_ip(key: &[u8], bytes: &[u8]) -> bool
+    ensures { result ≡ is_ip key.now bytes.now }
+{
+    (is_key(key, "ip") && bytes.len() == 4) || (is_key(key, "ip6") && bytes.len() == 16)
+}
+
+/// Returns what is shown of the string at a key.
+fn string_at<'a>(key: &[u8], bytes: &'a [u8]) -> Shown<'a>
+    ensures { content_of result ≡ string_content key.now bytes.now }
 {
     if is_key(key, "id") {
-        return sink.put(name, Shown::Word(bytes));
+        return Shown::Word(bytes);
     }
-    if is_key(key, "ip") {
-        return match <[u8; 4]>::try_from(bytes) {
-            Ok(octets) => {
-                let text = format!(in alloc; "{}", Ipv4Addr::from(octets))?;
-                sink.put(name, Shown::Text(text.as_str()))
-            }
-            Err(_) => sink.put(name, Shown::Bytes(bytes)),
-        };
-    }
-    if is_key(key, "ip6") {
-        return match <[u8; 16]>::try_from(bytes) {
-            Ok(octets) => {
-                let text = format!(in alloc; "{}", Ipv6Addr::from(octets))?;
-                sink.put(name, Shown::Text(text.as_str()))
-            }
-            Err(_) => sink.put(name, Shown::Bytes(bytes)),
-        };
+    if is_ip(key, bytes) {
+        return Shown::Ip(bytes);
     }
     if is_port_key(key) {
-        return sink.put(name, port_in(bytes));
+        return port_in(bytes);
     }
-    sink.put(name, Shown::Bytes(bytes))
+    Shown::Bytes(bytes)
 }
 
 /// The value of a key.
@@ -93,7 +77,7 @@ impl Show for KeyValue<'_> {
     #[tactic(auto, using(crate::proofs::ItemLemmas::values_of_keys))]
     fn show<S: Sink>(&self, alloc: Global, name: &str, sink: &mut S) -> Result<(), AllocError> {
         match Rlp::new(self.value.as_bytes()).decoder().string() {
-            Ok(string) => show_string(alloc, name, self.key, string, sink),
+            Ok(string) => sink.put(name, string_at(self.key, string)),
             Err(_) => self.value.show(alloc, name, sink),
         }
     }

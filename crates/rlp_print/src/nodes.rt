@@ -31,7 +31,8 @@ impl Show for Child {
         match self {
             Child::Node(hash) => sink.put(name, Shown::Bytes(&hash.0)),
             Child::Inline(node) => {
-                show_item(alloc, name, node.item.as_bytes(), RawItem::MAX_DEPTH, true, sink)
+                let bytes = node.item.as_bytes();
+                show_item(alloc, name, bytes, RawItem::MAX_DEPTH, true, sink)
             }
         }
     }

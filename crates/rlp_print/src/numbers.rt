@@ -3,7 +3,7 @@
 ghost use Rattle.std.specs.Prelude.{◌≡◌, ◌==◌, ◌++◌, string_bytes, OnOk, Some};
 ghost use Rattle.std.specs.Int.Digits.{number_from_digits};
 ghost use Rattle.std.specs.List.{list_all};
-ghost use Rattle.rlp_print.specs.Texts.{bytes_text, hex_text, meaning_text, number_text, said_by, sparse_text, v_text};
+ghost use Rattle.rlp_print.specs.Texts.{bytes_text, hex_text, ip_text, meaning_text, number_text, said_by, sparse_text, v_text};
 
 use rlp::Uint;
 use rlp_lines::push_bytes;
@@ -11,6 +11,7 @@ use rlp_transactions::Eip155;
 use std::alloc::AllocError;
 use std::fmt;
 use std::fmt::Write;
+use std::net::{Ipv4Addr, Ipv6Addr};
 
 /// A number that prints in hexadecimal, after `0x`.
 #[derive(Clone, Copy)]
@@ -50,6 +51,20 @@ pub(crate) fn put_bytes(bytes: &[u8], out: &mut String) -> Result<(), AllocError
 {
     out.push_str("0x")?;
     push_bytes(bytes, out)
+}
+
+/// Appends an IP address, or other bytes in hexadecimal.
+pub(crate) fn put_ip(bytes: &[u8], out: &mut String) -> Result<(), AllocError>
+    ensures { OnOk result
+        (string_bytes out.new ≡ string_bytes out.old ++ ip_text bytes.now) }
+{
+    if let Ok(octets) = <[u8; 4]>::try_from(bytes) {
+        return write!(out, "{}", Ipv4Addr::from(octets));
+    }
+    if let Ok(octets) = <[u8; 16]>::try_from(bytes) {
+        return write!(out, "{}", Ipv6Addr::from(octets));
+    }
+    put_bytes(bytes, out)
 }
 
 /// Returns whether all bytes are zero.

@@ -92,7 +92,7 @@ impl Show for TypedReceipt {
     fn show<S: Sink>(&self, alloc: Global, name: &str, sink: &mut S) -> Result<(), AllocError> {
         let (kind, receipt) = match self {
             TypedReceipt::Legacy(receipt) => {
-                let kind = ByForm((), field!("type" "type" Shown::Number(0)));
+                let kind = ByForm((), field!("type" "type" Shown::TypeByte(0)));
                 return show_fields!(alloc, name, sink; kind; receipt;);
             }
             TypedReceipt::AccessList(receipt) => (1, receipt),
@@ -100,6 +100,6 @@ impl Show for TypedReceipt {
             TypedReceipt::Blob(receipt) => (3, receipt),
             TypedReceipt::SetCode(receipt) => (4, receipt),
         };
-        show_fields!(alloc, name, sink; "type" "type" Shown::Number(kind); receipt;)
+        show_fields!(alloc, name, sink; "type" "type" Shown::TypeByte(kind); receipt;)
     }
 }

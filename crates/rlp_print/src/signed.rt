@@ -28,7 +28,7 @@ impl<T: TypedTransaction + ShowFields> ShowFields for Signed<T, bool> {
     fn give<S: Sink>(&self, alloc: Global, name: &str, sink: &mut S) -> Result<(), AllocError> {
         let hash = signing_hash(alloc, &self.payload)?;
         give_fields!(alloc, name, sink;
-            "type" "type" Shown::Number(u64::from(T::TAG));
+            "type" "type" Shown::TypeByte(T::TAG);
             &self.payload;
             "y_parity" "yParity" &self.v;
             ByForm((), field!("v" "v" &self.v));
@@ -152,7 +152,7 @@ impl ShowFields for SignedLegacyTransaction {
     fn give<S: Sink>(&self, alloc: Global, name: &str, sink: &mut S) -> Result<(), AllocError> {
         let said = said_of(self);
         give_fields!(alloc, name, sink;
-            ByForm((), field!("type" "type" Shown::Number(0)));
+            ByForm((), field!("type" "type" Shown::TypeByte(0)));
             &self.payload;
             "v" "v" LegacyV(self);
             ByForm((), &said);

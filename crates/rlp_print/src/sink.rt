@@ -30,6 +30,12 @@ pub enum Shown<'a> {
     Path(&'a [u8]),
     /// Bytes that are mostly a word: lower-case letters and digits.
     Word(&'a [u8]),
+    /// An IP address of 4 or 16 bytes.
+    Ip(&'a [u8]),
+    /// The number of a type of EIP-2718, which stands in front of a payload.
+    TypeByte(u8),
+    /// The bytes after the number of a type.
+    Payload(&'a [u8]),
     /// A text without quotes, backslashes and control characters, which JSON would escape.
     Text(&'a str),
     /// A list without items.

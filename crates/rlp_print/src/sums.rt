@@ -41,8 +41,8 @@ impl ShowFields for AnyTransaction {
             AnyTransaction::Known(tx) => tx.give(alloc, name, sink),
             AnyTransaction::Other(tx) => {
                 give_fields!(alloc, name, sink;
-                    "type" "type" Shown::Number(u64::from(tx.transaction_type()));
-                    "payload" "payload" Shown::Bytes(tx.payload());
+                    "type" "type" Shown::TypeByte(tx.transaction_type());
+                    "payload" "payload" Shown::Payload(tx.payload());
                 )
             }
         }
@@ -63,7 +63,7 @@ impl ShowFields for UnsignedLegacyTransaction {
 
     fn give<S: Sink>(&self, alloc: Global, name: &str, sink: &mut S) -> Result<(), AllocError> {
         give_fields!(alloc, name, sink;
-            ByForm((), field!("type" "type" Shown::Number(0)));
+            ByForm((), field!("type" "type" Shown::TypeByte(0)));
             &self.payload;
             "chain_id" "chainId" ? &self.chain_id;
         )
@@ -78,7 +78,7 @@ impl<T: TypedTransaction + ShowFields> ShowFields for Typed<'_, T> {
     ghost fields = { part (λ t. t.0.now) (derived (λ t. type_entries T.TAG) T.fields) };
 
     fn give<S: Sink>(&self, alloc: Global, name: &str, sink: &mut S) -> Result<(), AllocError> {
-        give_fields!(alloc, name, sink; "type" "type" Shown::Number(u64::from(T::TAG)); self.0;)
+        give_fields!(alloc, name, sink; "type" "type" Shown::TypeByte(T::TAG); self.0;)
     }
 }
 

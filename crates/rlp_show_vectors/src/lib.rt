@@ -6,6 +6,8 @@ mod blocks;
 #[cfg(test)]
 mod chain;
 #[cfg(test)]
+mod dumped;
+#[cfg(test)]
 mod faults;
 #[cfg(test)]
 mod guessed;

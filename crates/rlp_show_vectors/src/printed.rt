@@ -1,6 +1,7 @@
 //! The rows again, by `rlp_print`: each record is read by its type in the library, and its value is
 //! printed.
 
+use crate::dumped::note_rows;
 use rlp::{DecoderError, StrictRead};
 use rlp_eth::{
     BlockBodies, BlockHeaders, BlockRangeUpdate, GetBlockBodies, GetBlockHeaders,
@@ -12,7 +13,7 @@ use rlp_ethereum::{
     TrieNode, TypedReceipt, Withdrawal,
 };
 use rlp_p2p::{Disconnect, Hello, Ping, Pong};
-use rlp_print::{Show, json_of, lines_of};
+use rlp_print::{Show, dump_of, json_of, lines_of};
 use rlp_rows::{Line, cut};
 use rlp_show::{Kind, MessageKind};
 use std::alloc::{AllocError, Global};
@@ -24,6 +25,8 @@ pub(crate) enum Print<'a> {
     Lines(&'a str),
     /// JSON.
     Json,
+    /// Rows under a name, with the places in an encoding.
+    Rows(&'a str, &'a [u8]),
 }
 
 /// Prints a value.
@@ -35,6 +38,7 @@ pub(crate) fn text_of<T: Show>(
     let text = match how {
         Print::Lines(name) => lines_of(alloc, name, value),
         Print::Json => json_of(alloc, value),
+        Print::Rows(name, bytes) => dump_of(alloc, bytes, name, value),
     };
     match text {
         Ok(text) => Ok(text),
@@ -139,7 +143,7 @@ fn bytes_of(alloc: Global, text: &str) -> Result<Option<Vec<u8>>, AllocError> {
 
 /// Returns the name of a whole record of a kind, where the kind is named: a list has the name of its
 /// kind, and other records have none.
-fn own_name(kind: Kind) -> &'static str {
+pub(crate) fn own_name(kind: Kind) -> &'static str {
     match kind {
         Kind::AccessList => "access_list",
         Kind::Message(MessageKind::NewBlockHashes) => "new_block_hashes",
@@ -148,7 +152,7 @@ fn own_name(kind: Kind) -> &'static str {
     }
 }
 
-/// Notes a record whose lines by `rlp_print` aren't as expected. What EIP-155 signs is passed: as a
+/// Notes a record whose lines or rows by `rlp_print` aren't as expected. What EIP-155 signs is passed: as a
 /// signed transaction it has a plain `v` there, and no hash that is signed.
 pub(crate) fn note_lines(
     alloc: Global,
@@ -172,10 +176,11 @@ pub(crate) fn note_lines(
         Ok(text) => text,
         Err(_) => String::from_str(alloc, "a fault")?,
     };
-    if text.as_str() != want.strip_suffix('\n').unwrap_or(want) {
+    let lines = want.strip_suffix('\n').unwrap_or(want);
+    if text.as_str() != lines {
         wrong.note("print", given, text.as_str(), want);
     }
-    Ok(())
+    note_rows(alloc, given, kind, name, bytes.as_slice(), lines, wrong)
 }
 
 /// Notes a record whose JSON by `rlp_print` isn't as expected.

@@ -13,7 +13,7 @@ show_node-returns-then-items-eq17 g t c =
 pub show_node-returns-in-None : goal.show_node-returns-in-None
 show_node-returns-in-None g t c =
     let shown = no_pair_shown c.args.most c.args.items.now c.in-Some-pair_in.first.now c.in-Some-pair_in.second.now (grind (arith, common_steps))
-        c.string_in-path.result.now (grind (arith, common_steps)) (grind (arith, common_steps)) in
+    c.string_in-path.result.now (grind (arith, common_steps)) (grind (arith, common_steps)) in
     grind (arith, common_steps)
 
 pub show_item-returns-then-is_node : goal.show_item-returns-then-is_node
@@ -25,5 +25,5 @@ pub show_item-returns : goal.show_item-returns
 show_item-returns g t c =
     let shown = list_shown c.args.is_node c.args.most c.args.bytes.now c.in-Err.field-0 (grind (arith, common_steps)) (grind (arith, common_steps)) (grind (arith, common_steps)) in
     let same : value_by c.args.is_node (item_within c.args.most c.args.bytes.now)
-        ≡ array (values_of (λ (v : View). value_by false (item_within (c.args.most - 1) v.bytes)) c.as_slice-2.result.now) = cc (shown, c.as_slice-2.ensures.value, c.in_ok-items.ensures, ap item_views c.new-item.ensures) in
+    ≡ array (values_of (λ (v : View). value_by false (item_within (c.args.most - 1) v.bytes)) c.as_slice-2.result.now) = cc (shown, c.as_slice-2.ensures.value, c.in_ok-items.ensures, ap item_views c.new-item.ensures) in
     subst (λ w. OnOk c.show_items.result (g.S.Sink.seen c.show_items.new.sink ≡ after g.S.Sink.steps c.args.name.now w (g.S.Sink.seen c.args.sink.now))) (sym same) c.show_items.ensures

@@ -24,7 +24,7 @@ abbrev pub invariant-show_items-loop-rest : goal.invariant-show_items-loop-rest
 invariant-show_items-loop-rest g l = record {
   left : after g.S.Sink.steps l.name (array (values_of (λ (v : View). value_by l.is_node (item_within l.most v.bytes)) l.items)) (g.S.Sink.seen l.fn.sink)
       ≡ g.S.Sink.steps.finish squares (
-        after_items g.S.Sink.steps l.name l.index (values_of (λ (v : View). value_by l.is_node (item_within l.most v.bytes)) l.rest) (g.S.Sink.seen l.sink));
+      after_items g.S.Sink.steps l.name l.index (values_of (λ (v : View). value_by l.is_node (item_within l.most v.bytes)) l.rest) (g.S.Sink.seen l.sink));
   few : l.index + length l.rest < 2 ^ 64;
 }
 

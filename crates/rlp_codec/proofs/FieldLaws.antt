@@ -1,0 +1,265 @@
+-- Fields are read back, and strictly from nothing else.
+use Rattle.std.proofs.Common.{Bool, IfSome, List, None, Ok, Option, Result, Some, [], ap, append-nil, append_assoc, arith, false, le-leb, leb, length, length-append, option_map, refl, subst, suc, sym, true, zero, ℕ, ◌&&◌, ◌++◌, ◌-◌, ◌==◌, ◌||◌, ◌∙◌, ◌∷◌, ◌≡◌}
+use Rattle.std.proofs.lemmas.List.{map-append}
+use Rattle.std.specs.List.{AllByRecursion}
+use Rattle.rlp_format.specs.Format.Encoding.{IsSized, encoding}
+use Rattle.rlp_format.specs.Format.Item.{Item}
+use Rattle.rlp_format.specs.Values.Value.{items_if}
+use Rattle.rlp_values.specs.Views.View.{View}
+use Rattle.rlp_codec.proofs.ListLaws.{not_faulty, goes_on, is_mapped, item_back, item_only}
+use Rattle.rlp_codec.specs.Codec.{Answer, Codec, Fault, Fields, Taken, and_then, each, end, field, group, map_fault, map_value, one, optional, optional_group, take_both, take_if, take_item}
+use Rattle.rlp_codec.specs.Laws.{AreLawful, AreSeen, GivesOnly, IsLawful, IsSeen, IsStrictPart, ReadsBack, TakesBack, TakesOnly, viewed, views_of}
+
+-- ---- what was taken
+
+-- two parts were taken, one after the other
+pub record AreTaken {M N : Type 0} (read : List View → Taken M) (more : List View → Taken N) (vs : List View) (z : M × N) (rest : List View) : Type 0 where
+  pub left : List View
+  pub first : (read vs).result ≡ Ok (z.0, left)
+  pub second : (more left).result ≡ Ok (z.1, rest)
+
+pub both_taken : {M N : Type 0} (read : List View → Taken M) (more : List View → Taken N) (vs : List View) (z : M × N) (rest : List View)
+    → (take_both read more vs).result ≡ Ok (z, rest) → AreTaken read more vs z rest
+both_taken {M} {N} read more vs z rest is =
+    let g = goes_on (read vs).result (λ (t : M × List View). map_value (λ (u : N × List View). ((t.0, u.0), u.1)) (more t.1).result) (z, rest) is in
+    let m = is_mapped (more g.value.1).result (λ (t : N × List View). ((g.value.0, t.0), t.1)) (z, rest) g.then in
+    let one : g.value ≡ (z.0, g.value.1) = ap (λ p. (p.0.0, g.value.1)) m.then in
+    let two : m.value ≡ (z.1, rest) = ap (λ p. (p.0.1, p.1)) m.then in
+    record { left = g.value.1; first = g.is ∙ ap Ok one; second = m.is ∙ ap Ok two }
+
+-- one item was taken
+pub record IsTaken {M : Type 0} (read : View → Answer M Fault) (vs : List View) (x : M) (rest : List View) : Type 0 where
+  pub item : View
+  pub all : vs ≡ item ∷ rest
+  pub is : (read item).result ≡ Ok x
+
+pub item_taken : {M : Type 0} (read : View → Answer M Fault) (vs : List View) (x : M) (rest : List View) → (take_item read vs).result ≡ Ok (x, rest)
+    → IsTaken read vs x rest
+item_taken read [] x rest is = absurd (let no : ⊥ = cc in no)
+item_taken {M} read (v ∷ vs) x rest is =
+    let m = is_mapped (read v).result (λ (y : M). (y, vs)) (x, rest) (not_faulty (λ e. (vs, e)) (map_value (λ (y : M). (y, vs)) (read v).result) (x, rest) is) in
+    record { item = v; all = ap (λ ws. v ∷ ws) (ap (λ p. p.1) m.then); is = m.is ∙ ap Ok (ap (λ p. p.0) m.then) }
+
+-- ---- no more fields
+
+pub end_back : {P : Type 0} (is_strict : Bool) → TakesBack is_strict (end {P = P})
+end_back is_strict = record { counted = λ p fit. refl; wide = λ p fixed. refl; back = λ p rest last fit sized. refl }
+
+pub ok_same : {A E : Type 0} (x y : A) → (let r : Result A E = Ok x in r) ≡ Ok y → x ≡ y
+ok_same x y is = cc
+
+pub end_only : {P : Type 0} → TakesOnly (end {P = P})
+end_only = record { only = λ p vs rest parts is. (tt, ap (λ t. t.1) (ok_same _ _ is)) }
+
+pub end_told : {P : Type 0} → AreSeen (end {P = P})
+end_told = record { told = λ p q same fit. (tt, refl) }
+
+pub end_lawful : {P : Type 0} → AreLawful (end {P = P})
+end_lawful = record { told = end_told; back = end_back; exact = end_only }
+
+pub views_append : (is_strict : Bool) (xs ys : List Item) → views_of is_strict (xs ++ ys) ≡ views_of is_strict xs ++ views_of is_strict ys
+views_append is_strict xs ys = map-append (λ x. viewed is_strict (encoding x)) xs ys
+
+pub all_first : {A : Type 0} (P : A → Type 0) (xs ys : List A) → AllByRecursion P (xs ++ ys) → AllByRecursion P xs × AllByRecursion P ys
+all_first P [] ys all = (tt, all)
+all_first P (x ∷ xs) ys (one, all) = let both = all_first P xs ys all in ((one, both.0), both.1)
+
+-- ---- one field
+
+module _ {A : Type 0} (c : Codec A) where
+  pub one_back : (is_strict : Bool) → ReadsBack is_strict c → TakesBack is_strict (one c)
+  one_back is_strict law = record {
+    counted = λ x fit. refl;
+    wide = λ x fixed. refl;
+    back = λ x rest last fit sized. ap (λ r. map_fault (λ e. (rest, e)) (map_value (λ (m : c.reading.M). (m, rest)) r)) (item_back c is_strict law x sized.0 fit);
+  }
+
+  pub one_only : GivesOnly true c → TakesOnly (one c)
+  one_only law = record {
+    only = λ x vs rest parts is.
+        let t = item_taken c.reading.read vs (c.reading.seen x) rest is in
+        let both : AllByRecursion IsStrictPart (t.item ∷ rest) = subst (AllByRecursion IsStrictPart) t.all parts in
+        let h = item_only c law t.item x both.0 t.is in
+        (h.0, t.all ∙ ap (λ v. v ∷ rest) h.1);
+  }
+
+  pub one_told : IsSeen c → AreSeen (one c)
+  one_told law = record { told = λ x y same fit. let h = law.told x y same fit in (h.0, ap (λ i. i ∷ []) h.1) }
+
+  pub one_lawful : IsLawful c → AreLawful (one c)
+  one_lawful law = record { told = one_told law.told; back = λ is_strict. one_back is_strict (law.back is_strict); exact = one_only law.exact }
+
+-- ---- fields of a part, before others
+
+module _ {A P : Type 0} (value : P → A) (f : Fields A) (more : Fields P) (fixed : f.reading.is_fixed ≡ true) where
+  not_open : f.reading.is_fixed ≡ false → {T : Type 0} → T
+  not_open other = absurd (let no : ⊥ = cc in no)
+
+  abbrev beside : f.reading.M → Result (more.reading.M × List View) (List View × Fault) → Result ((f.reading.M × more.reading.M) × List View) (List View × Fault)
+  beside x r = map_value (λ t. ((x, t.0), t.1)) r
+
+  group_counted : (w n : ℕ) (xs ys : List Item) → length xs ≡ w → more.reading.accepts (length ys) ≡ true
+      → (leb w (length (xs ++ ys)) && more.reading.accepts (length (xs ++ ys) - w)) ≡ true
+  group_counted w n xs ys many right =
+      let wide : leb w (length (xs ++ ys)) ≡ true = le-leb _ _ (omega (arith, length-append xs ys)) in
+      let others : length (xs ++ ys) - w ≡ length ys = omega (arith, length-append xs ys) in
+      ap (λ b. b && more.reading.accepts (length (xs ++ ys) - w)) wide ∙ ap more.reading.accepts others ∙ right
+
+  group_back_by : (is_strict : Bool) → TakesBack is_strict f → TakesBack is_strict more → (p : P) (rest : List View)
+      → (more.reading.is_fixed ≡ false → rest ≡ []) → f.Fits (value p) × more.Fits p → AllByRecursion IsSized (f.items (value p) ++ more.items p)
+      → (take_both f.reading.read more.reading.read (views_of is_strict (f.items (value p) ++ more.items p) ++ rest)).result
+      ≡ Ok ((f.reading.seen (value p), more.reading.seen p), rest)
+  group_back_by is_strict law others p rest last (fit, fits) sized =
+      let both = all_first IsSized (f.items (value p)) (more.items p) sized in
+      let mine = views_of is_strict (f.items (value p)) in
+      let next = views_of is_strict (more.items p) in
+      let whole : views_of is_strict (f.items (value p) ++ more.items p) ++ rest
+      ≡ views_of is_strict (f.items (value p)) ++ (views_of is_strict (more.items p) ++ rest) =
+      ap (λ vs. vs ++ rest) (views_append is_strict (f.items (value p)) (more.items p)) ∙ append_assoc mine next rest in
+      ap (λ vs. (take_both f.reading.read more.reading.read vs).result) whole
+      ∙ ap (λ r. and_then {A = f.reading.M × List View} r (λ t. beside t.0 (more.reading.read t.1).result))
+      (law.back (value p) (views_of is_strict (more.items p) ++ rest) (λ other. not_open other) fit both.0)
+      ∙ ap (beside (f.reading.seen (value p))) (others.back p rest last fits both.1)
+
+  pub group_back : (is_strict : Bool) → TakesBack is_strict f → TakesBack is_strict more → TakesBack is_strict (group value f more)
+  group_back is_strict law others = record {
+    counted = λ p fit. group_counted f.reading.width 0 (f.items (value p)) (more.items p) (law.wide (value p) fixed) (others.counted p fit.1);
+    wide = λ p last. omega (arith, length-append (f.items (value p)) (more.items p), law.wide (value p) fixed, others.wide p last);
+    back = group_back_by is_strict law others;
+  }
+
+  group_only_by : TakesOnly f → TakesOnly more → (p : P) (vs left rest : List View) → AllByRecursion IsStrictPart vs
+      → (f.reading.read vs).result ≡ Ok (f.reading.seen (value p), left) → (more.reading.read left).result ≡ Ok (more.reading.seen p, rest)
+      → (f.Fits (value p) × more.Fits p) × (vs ≡ views_of true (f.items (value p) ++ more.items p) ++ rest)
+  group_only_by law others p vs left rest parts first second =
+      let h = law.only (value p) vs left parts first in
+      let both = all_first IsStrictPart (views_of true (f.items (value p))) left (subst (AllByRecursion IsStrictPart) h.1 parts) in
+      let hs = others.only p left rest both.1 second in (
+        (h.0, hs.0),
+        h.1 ∙ ap (λ ws. views_of true (f.items (value p)) ++ ws) hs.1
+            ∙ sym (append_assoc (views_of true (f.items (value p))) (views_of true (more.items p)) rest)
+            ∙ ap (λ ws. ws ++ rest) (sym (views_append true (f.items (value p)) (more.items p))),
+      )
+
+  pub group_only : TakesOnly f → TakesOnly more → TakesOnly (group value f more)
+  group_only law others = record {
+    only = λ p vs rest parts is.
+        let b = both_taken f.reading.read more.reading.read vs (f.reading.seen (value p), more.reading.seen p) rest is in
+        group_only_by law others p vs b.left rest parts b.first b.second;
+  }
+
+  pub group_told : AreSeen f → AreSeen more → AreSeen (group value f more)
+  group_told law others = record {
+    told = λ p q same (fit, fits).
+        let h = law.told (value p) (value q) (ap (λ m. m.0) same) fit in
+        let hs = others.told p q (ap (λ m. m.1) same) fits in
+        ((h.0, hs.0), ap (λ is. is ++ more.items q) h.1 ∙ ap (λ is. f.items (value p) ++ is) hs.1);
+  }
+
+  -- that the fields of the part are always the same number of items is proved by `refl`
+  pub group_lawful : AreLawful f → AreLawful more → AreLawful (group value f more)
+  group_lawful law others = record {
+    told = group_told law.told others.told;
+    back = λ is_strict. group_back is_strict (law.back is_strict) (others.back is_strict);
+    exact = group_only law.exact others.exact;
+  }
+
+-- ---- a field before others
+
+module _ {A P : Type 0} (value : P → A) (c : Codec A) (more : Fields P) where
+  pub field_told : IsSeen c → AreSeen more → AreSeen (field value c more)
+  field_told law others = group_told value (one c) more refl (one_told c law) others
+
+  pub field_back : (is_strict : Bool) → ReadsBack is_strict c → TakesBack is_strict more → TakesBack is_strict (field value c more)
+  field_back is_strict law others = group_back value (one c) more refl is_strict (one_back c is_strict law) others
+
+  pub field_lawful : IsLawful c → AreLawful more → AreLawful (field value c more)
+  field_lawful law others = group_lawful value (one c) more refl (one_lawful c law) others
+
+-- ---- fields of one type
+
+pub each_lawful : {A P : Type 0} (value : ℕ → P → A) (c : Codec A) (more : Fields P) → IsLawful c → AreLawful more → (k n : ℕ) → AreLawful (each value c more k n)
+each_lawful value c more law others k zero = others
+each_lawful value c more law others k (suc n) =
+    field_lawful (value k) c (each value c more (suc k) n) law (each_lawful value c more law others (suc k) n)
+
+none_left : (xs : List Item) (is_strict : Bool) (rest : List View) → rest ≡ [] → views_of is_strict xs ++ rest ≡ views_of is_strict xs
+none_left xs is_strict rest none = ap (λ ws. views_of is_strict xs ++ ws) none ∙ append-nil (views_of is_strict xs)
+
+-- ---- last fields that may be missing together
+
+module _ {A P : Type 0} (value : P → Option A) (f : Fields A) where
+  some_counted : (is_strict : Bool) → TakesBack is_strict f → (o : Option A) → IfSome o f.Fits
+      → ((length (items_if f.items o) == 0) || f.reading.accepts (length (items_if f.items o))) ≡ true
+  some_counted is_strict law None fit = refl
+  some_counted is_strict law (Some x) fit = by_zero (length (f.items x) == 0) (law.counted x fit)
+    where
+      by_zero : (b : Bool) → f.reading.accepts (length (f.items x)) ≡ true → (b || f.reading.accepts (length (f.items x))) ≡ true
+      by_zero true is = refl
+      by_zero false is = is
+
+  some_back : (is_strict : Bool) (x : A) (xs : List Item) (rest : List View) → f.reading.accepts (length xs) ≡ true → f.reading.accepts 0 ≡ false
+      → (f.reading.read (views_of is_strict xs ++ rest)).result ≡ Ok (f.reading.seen x, rest)
+      → (take_if f.reading.read (views_of is_strict xs ++ rest)).result ≡ Ok (Some (f.reading.seen x), rest)
+  some_back is_strict x [] rest some none is = absurd (let no : ⊥ = cc in no)
+  some_back is_strict x (y ∷ xs) rest some none is = ap (map_value (λ (t : f.reading.M × List View). (Some t.0, t.1))) is
+
+  if_back : (is_strict : Bool) → f.reading.accepts 0 ≡ false → TakesBack is_strict f → (o : Option A) (rest : List View) → rest ≡ [] → IfSome o f.Fits
+      → AllByRecursion IsSized (items_if f.items o)
+      → (take_if f.reading.read (views_of is_strict (items_if f.items o) ++ rest)).result ≡ Ok (option_map f.reading.seen o, rest)
+  if_back is_strict some law None rest none fit sized = ap (λ vs. (take_if f.reading.read vs).result) none ∙ ap (λ ws. Ok (None, ws)) (sym none)
+  if_back is_strict some law (Some x) rest none fit sized =
+      some_back is_strict x (f.items x) rest (law.counted x fit) some (law.back x rest (λ fixed. none) fit sized)
+
+  pub optional_group_back : (is_strict : Bool) → f.reading.accepts 0 ≡ false → TakesBack is_strict f → TakesBack is_strict (optional_group value f)
+  optional_group_back is_strict some law = record {
+    counted = λ p fit. some_counted is_strict law (value p) fit;
+    wide = λ p fixed. absurd (let no : ⊥ = cc in no);
+    back = λ p rest last fit sized. if_back is_strict some law (value p) rest (last refl) fit sized;
+  }
+
+  if_only : TakesOnly f → (o : Option A) (vs rest : List View) → AllByRecursion IsStrictPart vs
+      → (take_if f.reading.read vs).result ≡ Ok (option_map f.reading.seen o, rest) → IfSome o f.Fits × (vs ≡ views_of true (items_if f.items o) ++ rest)
+  if_only law None [] rest parts is = (tt, ap (λ t. t.1) (ok_same _ _ is))
+  if_only law (Some x) [] rest parts is = absurd (let no : ⊥ = let same = ap (λ t. t.0) (ok_same _ _ is) in cc in no)
+  if_only law None (v ∷ vs) rest parts is =
+      let m = is_mapped (f.reading.read (v ∷ vs)).result (λ (t : f.reading.M × List View). (Some t.0, t.1)) (None, rest) is in
+      absurd (let no : ⊥ = let same = ap (λ t. t.0) m.then in cc in no)
+  if_only law (Some x) (v ∷ vs) rest parts is =
+      let m = is_mapped (f.reading.read (v ∷ vs)).result (λ (t : f.reading.M × List View). (Some t.0, t.1)) (Some (f.reading.seen x), rest) is in
+      let head : m.value.0 ≡ f.reading.seen x = let same = ap (λ t. t.0) m.then in cc in
+      let tail : m.value.1 ≡ rest = ap (λ t. t.1) m.then in
+      law.only x (v ∷ vs) rest parts (m.is ∙ ap (λ y. Ok (y, m.value.1)) head ∙ ap (λ ws. Ok (f.reading.seen x, ws)) tail)
+
+  pub optional_group_only : TakesOnly f → TakesOnly (optional_group value f)
+  optional_group_only law = record { only = λ p vs rest parts is. if_only law (value p) vs rest parts is }
+
+  if_told : AreSeen f → (o u : Option A) → option_map f.reading.seen o ≡ option_map f.reading.seen u → IfSome o f.Fits
+      → IfSome u f.Fits × (items_if f.items u ≡ items_if f.items o)
+  if_told law None None same fit = (tt, refl)
+  if_told law None (Some y) same fit = absurd (let no : ⊥ = cc in no)
+  if_told law (Some x) None same fit = absurd (let no : ⊥ = cc in no)
+  if_told law (Some x) (Some y) same fit = let one : f.reading.seen x ≡ f.reading.seen y = cc in law.told x y one fit
+
+  pub optional_group_told : AreSeen f → AreSeen (optional_group value f)
+  optional_group_told law = record { told = λ p q. if_told law (value p) (value q) }
+
+  -- that one of the fields is always present is proved by `refl`
+  pub optional_group_lawful : f.reading.accepts 0 ≡ false → AreLawful f → AreLawful (optional_group value f)
+  optional_group_lawful some law = record {
+    told = optional_group_told law.told;
+    back = λ is_strict. optional_group_back is_strict some (law.back is_strict);
+    exact = optional_group_only law.exact;
+  }
+
+-- ---- a last field that may be missing
+
+module _ {A P : Type 0} (value : P → Option A) (c : Codec A) where
+  pub optional_told : IsSeen c → AreSeen (optional value c)
+  optional_told law = optional_group_told value (one c) (one_told c law)
+
+  pub optional_back : (is_strict : Bool) → ReadsBack is_strict c → TakesBack is_strict (optional value c)
+  optional_back is_strict law = optional_group_back value (one c) is_strict refl (one_back c is_strict law)
+
+  pub optional_lawful : IsLawful c → AreLawful (optional value c)
+  optional_lawful law = optional_group_lawful value (one c) refl (one_lawful c law)

@@ -1,0 +1,191 @@
+-- Groups of fields at the end of a struct.
+use Rattle.std.proofs.Common.{Bool, Err, List, Ok, Result, [], ap, append-nil, append_assoc, arith, eq-eqb, false, length, length-append, map, refl, subst, suc, sym, true, zero, ℕ, ◌%◌, ◌++◌, ◌-◌, ◌<◌, ◌==◌, ◌^◌, ◌∙◌, ◌∷◌, ◌≡◌, ◌≤◌}
+use Rattle.std.proofs.Math.Nat.{mod-eq_of_lt}
+use Rattle.std.proofs.lemmas.List.{length-map, map-append}
+use Rattle.std.proofs.lemmas.List.Elements.{All-from_recursion, recursion_from_All}
+use Rattle.std.specs.List.{AllByRecursion}
+use Rattle.rlp_format.specs.Format.Encoding.{IsSized, encoding}
+use Rattle.rlp_format.specs.Format.Item.{Item}
+use Rattle.rlp_format.specs.Values.Value.{all_items}
+use Rattle.rlp_values.specs.Lemmas.Groups.{groups_counted, groups_right}
+use Rattle.rlp_values.specs.Views.View.{View}
+use Rattle.rlp_codec.proofs.ListLaws.{goes_on, is_mapped}
+use Rattle.rlp_codec.specs.Codec.{Fault, Fields, Taken, and_then, groups, map_value, take_each}
+use Rattle.rlp_codec.specs.Laws.{AreLawful, AreSeen, IsStrictPart, TakesBack, TakesOnly, viewed, views_of}
+use Rattle.rlp_codec.proofs.FieldLaws.{all_first, ok_same, views_append}
+
+-- ---- groups at the end
+
+module _ {A P : Type 0} (values : P → List A) (f : Fields A) (fixed : f.reading.is_fixed ≡ true) (some : (0 == f.reading.width) ≡ false) where
+  not_zero : 0 < f.reading.width
+  not_zero = by f.reading.width some
+    where
+      by : (n : ℕ) → (0 == n) ≡ false → 0 < n
+      by zero is = absurd (let no : ⊥ = cc in no)
+      by (suc n) is = omega arith
+
+  abbrev each : ℕ → List View → Result (List f.reading.M × List View) (List View × Fault)
+  each turns vs = (take_each f.reading.read turns vs).result
+
+  abbrev before : f.reading.M → Result (List f.reading.M × List View) (List View × Fault) → Result (List f.reading.M × List View) (List View × Fault)
+  before x r = map_value (λ t. (x ∷ t.0, t.1)) r
+
+  one_more : (is_strict : Bool) (x : A) (xs : List Item) (turns : ℕ) (ys : List View) → 0 < length xs
+      → (f.reading.read (views_of is_strict xs ++ ys)).result ≡ Ok (f.reading.seen x, ys)
+      → each (suc turns) (views_of is_strict xs ++ ys) ≡ before (f.reading.seen x) (each turns ys)
+  one_more is_strict x [] turns ys many is = absurd (omega arith)
+  one_more is_strict x (i ∷ xs) turns ys many is =
+      ap (λ r. and_then {A = f.reading.M × List View} r (λ t. before t.0 (each turns t.1))) is
+
+  each_back : (is_strict : Bool) → TakesBack is_strict f → (xs : List A) (turns : ℕ) → AllByRecursion f.Fits xs → AllByRecursion IsSized (all_items f.items xs)
+      → length (all_items f.items xs) ≤ turns → each turns (views_of is_strict (all_items f.items xs)) ≡ Ok (map f.reading.seen xs, [])
+  each_back is_strict law [] zero all sized enough = refl
+  each_back is_strict law [] (suc turns) all sized enough = refl
+  each_back is_strict law (x ∷ xs) zero all sized enough =
+      absurd (omega (arith, length-append (f.items x) (all_items f.items xs), law.wide x fixed, not_zero))
+  each_back is_strict law (x ∷ xs) (suc turns) (fit, all) sized enough =
+      let both = all_first IsSized (f.items x) (all_items f.items xs) sized in
+      let wide : length (f.items x) ≡ f.reading.width = law.wide x fixed in
+      let many : 0 < length (f.items x) = omega (arith, not_zero) in
+      let less : length (all_items f.items xs) ≤ turns = omega (arith, length-append (f.items x) (all_items f.items xs)) in
+      let ys = views_of is_strict (all_items f.items xs) in
+      ap (each (suc turns)) (views_append is_strict (f.items x) (all_items f.items xs))
+      ∙ one_more is_strict x (f.items x) turns ys many
+      (law.back x ys (λ other. absurd (let no : ⊥ = cc in no)) fit both.0)
+      ∙ ap (before (f.reading.seen x)) (each_back is_strict law xs turns all both.1 less)
+
+  groups_right_by : (is_strict : Bool) → TakesBack is_strict f → (xs : List A) → (length (all_items f.items xs) % f.reading.width == 0) ≡ true
+  groups_right_by is_strict law xs =
+      eq-eqb _ _ (ap (λ n. n % f.reading.width) (groups_counted f.reading.width f.items (λ x. law.wide x fixed) xs)
+      ∙ groups_right f.reading.width (length xs) not_zero)
+
+  groups_back_by : (is_strict : Bool) → TakesBack is_strict f → (p : P) (rest : List View) → rest ≡ [] → AllByRecursion f.Fits (values p)
+      → AllByRecursion IsSized (all_items f.items (values p))
+      → each (length (views_of is_strict (all_items f.items (values p)) ++ rest)) (views_of is_strict (all_items f.items (values p)) ++ rest)
+      ≡ Ok (map f.reading.seen (values p), rest)
+  groups_back_by is_strict law p rest none all sized =
+      let vs = views_of is_strict (all_items f.items (values p)) in
+      let whole : views_of is_strict (all_items f.items (values p)) ++ rest ≡ views_of is_strict (all_items f.items (values p)) =
+      ap (λ ws. vs ++ ws) none ∙ append-nil vs in
+      let many : length (views_of is_strict (all_items f.items (values p))) ≡ length (all_items f.items (values p)) =
+      length-map (all_items f.items (values p)) (λ x. viewed is_strict (encoding x)) in
+      ap (λ ws. each (length ws) ws) whole ∙ each_back is_strict law (values p) (length vs) all sized (omega arith)
+      ∙ ap (λ ws. Ok (map f.reading.seen (values p), ws)) (sym none)
+
+  pub groups_back : (is_strict : Bool) → TakesBack is_strict f → TakesBack is_strict (groups values f)
+  groups_back is_strict law = record {
+    counted = λ p fit. groups_right_by is_strict law (values p);
+    wide = λ p last. absurd (let no : ⊥ = cc in no);
+    back = λ p rest last fit sized. groups_back_by is_strict law p rest (last refl) (recursion_from_All f.Fits (values p) fit) sized;
+  }
+
+  -- what is known of the groups that follow goes on with one more
+  each_more : TakesOnly f → (vs rest : List View) (xs : List A) → AllByRecursion IsStrictPart vs → (m : f.reading.M) (left : List View)
+      → (f.reading.read vs).result ≡ Ok (m, left)
+      → (ms : List f.reading.M)
+      → ((ys : List A) → AllByRecursion IsStrictPart left → ms ≡ map f.reading.seen ys
+      → AllByRecursion f.Fits ys × (left ≡ views_of true (all_items f.items ys) ++ rest))
+      → m ∷ ms ≡ map f.reading.seen xs
+      → AllByRecursion f.Fits xs × (vs ≡ views_of true (all_items f.items xs) ++ rest)
+  each_more law vs rest [] parts m left first ms known same = absurd (let no : ⊥ = cc in no)
+  each_more law vs rest (x ∷ xs) parts m left first ms known same =
+      let head : m ≡ f.reading.seen x = cc in
+      let tail : ms ≡ map f.reading.seen xs = cc in
+      let h = law.only x vs left parts (first ∙ ap (λ y. Ok (y, left)) head) in
+      let both = all_first IsStrictPart (views_of true (f.items x)) left (subst (AllByRecursion IsStrictPart) h.1 parts) in
+      let hs = known xs both.1 tail in (
+        (h.0, hs.0),
+        h.1 ∙ ap (λ ws. views_of true (f.items x) ++ ws) hs.1
+            ∙ sym (append_assoc (views_of true (f.items x)) (views_of true (all_items f.items xs)) rest)
+            ∙ ap (λ ws. ws ++ rest) (sym (views_append true (f.items x) (all_items f.items xs))),
+      )
+
+  none_more : (xs : List A) (vs rest : List View) → (let r : Result (List f.reading.M × List View) (List View × Fault) = Ok ([], vs) in r) ≡ Ok (map f.reading.seen xs, rest)
+      → AllByRecursion f.Fits xs × (vs ≡ views_of true (all_items f.items xs) ++ rest)
+  none_more [] vs rest is = (tt, ap (λ t. t.1) (ok_same _ _ is))
+  none_more (x ∷ xs) vs rest is = absurd (let no : ⊥ = let same = ap (λ t. t.0) (ok_same _ _ is) in cc in no)
+
+  each_only : TakesOnly f → (turns : ℕ) (vs rest : List View) (xs : List A) → AllByRecursion IsStrictPart vs
+      → each turns vs ≡ Ok (map f.reading.seen xs, rest) → AllByRecursion f.Fits xs × (vs ≡ views_of true (all_items f.items xs) ++ rest)
+  each_only law zero vs rest xs parts is = none_more xs vs rest is
+  each_only law (suc turns) [] rest xs parts is = none_more xs [] rest is
+  each_only law (suc turns) (v ∷ vs) rest xs parts is =
+      let g = goes_on (f.reading.read (v ∷ vs)).result (λ t. before t.0 (each turns t.1)) (map f.reading.seen xs, rest) is in
+      let m = is_mapped (each turns g.value.1) (λ (t : List f.reading.M × List View). (g.value.0 ∷ t.0, t.1)) (map f.reading.seen xs, rest) g.then in
+      each_more law (v ∷ vs) rest xs parts g.value.0 g.value.1 g.is m.value.0
+      (λ ys parts same. each_only law turns g.value.1 rest ys parts (m.is ∙ ap (λ zs. Ok (zs, m.value.1)) same ∙ ap (λ ws. Ok (map f.reading.seen ys, ws)) (ap (λ t. t.1) m.then)))
+      (ap (λ t. t.0) m.then)
+
+  pub groups_only : TakesOnly f → TakesOnly (groups values f)
+  groups_only law = record {
+    only = λ p vs rest parts is.
+        let h = each_only law (length vs) vs rest (values p) parts is in (All-from_recursion f.Fits (values p) h.0, h.1);
+  }
+
+  each_told : AreSeen f → (xs ys : List A) → map f.reading.seen xs ≡ map f.reading.seen ys → AllByRecursion f.Fits xs
+      → AllByRecursion f.Fits ys × (all_items f.items ys ≡ all_items f.items xs)
+  each_told law [] [] same all = (tt, refl)
+  each_told law [] (y ∷ ys) same all = absurd (let no : ⊥ = cc in no)
+  each_told law (x ∷ xs) [] same all = absurd (let no : ⊥ = cc in no)
+  each_told law (x ∷ xs) (y ∷ ys) same (fit, all) =
+      let head : f.reading.seen x ≡ f.reading.seen y = cc in
+      let tail : map f.reading.seen xs ≡ map f.reading.seen ys = cc in
+      let h = law.told x y head fit in
+      let hs = each_told law xs ys tail all in
+      ((h.0, hs.0), ap (λ is. is ++ all_items f.items ys) h.1 ∙ ap (λ is. f.items x ++ is) hs.1)
+
+  pub groups_told : AreSeen f → AreSeen (groups values f)
+  groups_told law = record {
+    told = λ p q same fit.
+        let h = each_told law (values p) (values q) same (recursion_from_All f.Fits (values p) fit) in (All-from_recursion f.Fits (values q) h.0, h.1);
+  }
+
+  -- that each group is the same number of items, and not none, is proved by `refl`
+  pub groups_lawful : AreLawful f → AreLawful (groups values f)
+  groups_lawful law = record { told = groups_told law.told; back = λ is_strict. groups_back is_strict (law.back is_strict); exact = groups_only law.exact }
+
+-- ---- for bodies of `decode_fields`
+
+-- one more turn takes one more group
+pub one_turn : {M : Type 0} (read : List View → Taken M) (n : ℕ) (vs left : List View) (m : M) → 0 < n → ¬ (vs ≡ []) → (read vs).result ≡ Ok (m, left)
+    → (take_each read n vs).result ≡ map_value (λ (t : List M × List View). (m ∷ t.0, t.1)) (take_each read (n - 1) left).result
+one_turn read zero vs left m some more is = absurd (omega arith)
+one_turn read (suc n) [] left m some more is = absurd (more refl)
+one_turn {M} read (suc n) (v ∷ vs) left m some more is =
+    let less : suc n - 1 ≡ n = omega arith in
+    ap (λ r. and_then r (λ (t : M × List View). map_value (λ (u : List M × List View). (t.0 ∷ u.0, u.1)) (take_each read n t.1).result)) is
+    ∙ ap (λ k. map_value (λ (t : List M × List View). (m ∷ t.0, t.1)) (take_each read k left).result) (sym less)
+
+-- a turn whose group fails has the fault of the group
+pub turn_fails : {M : Type 0} (read : List View → Taken M) (n : ℕ) (vs : List View) (e : List View × Fault) → 0 < n → ¬ (vs ≡ []) → (read vs).result ≡ Err e
+    → (take_each read n vs).result ≡ Err e
+turn_fails read zero vs e some more is = absurd (omega arith)
+turn_fails read (suc n) [] e some more is = absurd (more refl)
+turn_fails {M} read (suc n) (v ∷ vs) e some more is =
+    ap (λ r. and_then r (λ (t : M × List View). map_value (λ (u : List M × List View). (t.0 ∷ u.0, u.1)) (take_each read n t.1).result)) is
+
+-- no turn is left, or no view
+pub no_turn : {M : Type 0} (read : List View → Taken M) (n : ℕ) (vs : List View) → n ≤ 0 → (take_each read n vs).result ≡ Ok ([], vs)
+no_turn read zero vs none = refl
+no_turn read (suc n) vs none = absurd (omega arith)
+
+pub no_view : {M : Type 0} (read : List View → Taken M) (n : ℕ) (vs : List View) → vs ≡ [] → (take_each read n vs).result ≡ Ok ([], vs)
+no_view read zero vs none = refl
+no_view read (suc n) [] none = refl
+no_view read (suc n) (v ∷ vs) none = absurd (let no : ⊥ = cc in no)
+
+-- one more group, after those that were read
+pub one_pushed : {A M : Type 0} (seen : A → M) (xs : List A) (x : A) (r : Result (List M × List View) (List View × Fault))
+    → map_value {B = List M × List View} (λ t. (map seen xs ++ t.0, t.1)) (map_value {B = List M × List View} (λ t. (seen x ∷ t.0, t.1)) r)
+    ≡ map_value {B = List M × List View} (λ t. (map seen (xs ++ x ∷ []) ++ t.0, t.1)) r
+one_pushed seen xs x (Err e) = refl
+one_pushed seen xs x (Ok t) =
+    ap (λ zs. Ok (zs, t.1)) (sym (append_assoc (map seen xs) (seen x ∷ []) t.0) ∙ ap (λ zs. zs ++ t.0) (sym (map-append seen xs (x ∷ []))))
+
+pub ruleset take_steps = (one_turn, turn_fails, no_turn, no_view, one_pushed)
+
+-- a number of items that is smaller than the width is a number of whole groups if it is none
+pub few_items : (n w : ℕ) → 2 ^ 64 ≤ w → n < 2 ^ 64 → n % w ≡ n
+few_items n w wide few = mod-eq_of_lt (omega (arith, wide, few))
+
+pub ruleset whole_groups = (few_items)

@@ -1,0 +1,20 @@
+-- types that are one string
+pub mod StringLaws
+-- types that are lists
+pub mod ListLaws
+-- fields of structs
+pub mod FieldLaws
+-- structs
+pub mod StructLaws
+-- values of several types
+pub mod SumLaws
+-- what follows from the laws
+pub mod Corollaries
+-- groups at the end of structs
+pub mod GroupLaws
+-- raw items
+pub mod RawLaws
+-- fields of one type, as the values of an array
+pub mod EachField
+-- the paths of faults
+pub mod Places

@@ -1,0 +1,144 @@
+-- Structs are read back, and strictly from nothing else.
+use Rattle.std.proofs.Common.{Bool, Err, List, Ok, Result, [], ap, append-nil, arith, false, leb, length, refl, sym, true, ℕ, ◌&&◌, ◌-◌, ◌<◌, ◌^◌, ◌∙◌, ◌∷◌, ◌≡◌, ◌≤◌}
+use Rattle.std.proofs.lemmas.Bool.{cond-false, cond-true, lt-leb}
+use Rattle.std.proofs.lemmas.List.{length-map}
+use Rattle.std.specs.List.{AllByRecursion}
+use Rattle.rlp_format.specs.Format.Encoding.{IsSized, encoding}
+use Rattle.rlp_format.specs.Format.Item.{list_of}
+use Rattle.rlp_values.specs.Views.View.{View, item_count, item_views, strict_view_of}
+use Rattle.rlp_codec.proofs.ListLaws.{not_faulty, counted_length, goes_on, is_mapped, items_held, items_only, items_sized}
+use Rattle.rlp_codec.specs.Codec.{Answer, Fault, Fields, Path, Taken, and_then, go_on, here, incorrect_list_len, items_of, map_fault, map_value, path_by, path_in, read_struct, seen_fault, struct_of, all_taken}
+use Rattle.rlp_codec.specs.Laws.{AreLawful, AreSeen, GivesOnly, IsLawful, IsSeen, ReadsBack, TakesBack, TakesOnly, viewed, views_of}
+use Rattle.rlp_codec.proofs.FieldLaws.{ok_same}
+
+-- ---- for bodies of `decode`
+
+-- the result of fields, if no view is left
+abbrev ended : {M : Type 0} → Result (M × List View) (List View × Fault) → Result (M × List View) (List View × Fault)
+ended {M} r = and_then r (λ (t : M × List View). (all_taken t.0 t.1).result)
+
+-- the result of a struct, by the result of fields
+abbrev outcome : {M : Type 0} → Result (M × List View) (List View × Fault) → Result M Fault
+outcome {M} r = map_fault (λ (e : List View × Fault). e.1) (map_value (λ (m : M × List View). m.0) r)
+
+module _ {M : Type 0} (accepts : ℕ → Bool) (read : List View → Taken M) (v : View) where
+  counted_as : (n : ℕ) (right : Bool) → Ok n ≡ item_count v → accepts n ≡ right → accepts (length (item_views v)) ≡ right
+  counted_as n right count is = ap accepts (sym (counted_length v n count)) ∙ is
+
+  -- a struct is read from the items of a view that has a number of items
+  by_items : (n : ℕ) (a : Answer M Fault) → Ok n ≡ item_count v → read_struct accepts read (item_views v) ≡ a
+      → ((go_on (here (items_of v)) (read_struct accepts read)).result ≡ a.result) × ((go_on (here (items_of v)) (read_struct accepts read)).path ≡ a.path)
+  by_items n a count is = (
+    ap (λ r. and_then (map_value (λ (n : ℕ). item_views v) (seen_fault r)) (λ vs. (read_struct accepts read vs).result)) (sym count) ∙ ap (λ a. a.result) is,
+    ap (λ r. path_by (map_value (λ (n : ℕ). item_views v) (seen_fault r)) [] (λ vs. (read_struct accepts read vs).path)) (sym count) ∙ ap (λ a. a.path) is,
+  )
+
+  -- Why a struct isn't read: the fault, and the path.
+  pub record StructFails (path : Path) (e : Fault) : Type 0 where
+    pub fault : (go_on (here (items_of v)) (read_struct accepts read)).result ≡ Err e
+    pub at : (go_on (here (items_of v)) (read_struct accepts read)).path ≡ path
+
+  -- there is another number of items
+  pub other_number : (n : ℕ) → Ok n ≡ item_count v → accepts n ≡ false → StructFails [] incorrect_list_len
+  other_number n count wrong =
+      let h = by_items n (here (Err incorrect_list_len)) count (cond-false (accepts (length (item_views v))) _ _ (counted_as n false count wrong)) in
+      record { fault = h.0; at = h.1 }
+
+  fails_by : (n : ℕ) (inner : Path) (left : List View) (e : Fault) → Ok n ≡ item_count v → accepts n ≡ true
+      → ended (read (item_views v)).result ≡ Err (left, e) → (go_on (read (item_views v)) (λ t. all_taken t.0 t.1)).path ≡ inner
+      → StructFails ((n - 1 - length left) ∷ inner) e
+  fails_by n inner left e count right fails within =
+      let h = by_items n _ count (cond-true (accepts (length (item_views v))) _ _ (counted_as n true count right)) in
+      record {
+        fault = h.0 ∙ ap outcome fails;
+        at = h.1 ∙ ap (λ r. path_in (length (item_views v)) r (go_on (read (item_views v)) (λ t. all_taken t.0 t.1)).path) fails
+            ∙ ap (λ m. (m - 1 - length left) ∷ (go_on (read (item_views v)) (λ t. all_taken t.0 t.1)).path) (sym (counted_length v n count))
+            ∙ ap (λ p. (n - 1 - length left) ∷ p) within;
+      }
+
+  -- a field fails, and these views are after its item
+  pub field_failed : (n : ℕ) (left : List View) (e : Fault) → Ok n ≡ item_count v → accepts n ≡ true → (read (item_views v)).result ≡ Err (left, e)
+      → StructFails ((n - 1 - length left) ∷ (read (item_views v)).path) e
+  field_failed n left e count right fails =
+      fails_by n (read (item_views v)).path left e count right
+      (ap ended fails)
+      (ap (λ r. path_by r (read (item_views v)).path (λ t. (all_taken t.0 t.1).path)) fails)
+
+  -- an item is left, and these views after it
+  pub item_left : (n : ℕ) (m : M) (item : View) (left : List View) → Ok n ≡ item_count v → accepts n ≡ true
+      → (read (item_views v)).result ≡ Ok (m, item ∷ left) → StructFails ((n - 1 - length left) ∷ []) incorrect_list_len
+  item_left n m item left count right took =
+      fails_by n [] left incorrect_list_len count right
+      (ap ended took)
+      (ap (λ r. path_by r (read (item_views v)).path (λ t. (all_taken t.0 t.1).path)) took)
+
+  -- all fields are read
+  pub all_read : (n : ℕ) (m : M) → Ok n ≡ item_count v → accepts n ≡ true → (read (item_views v)).result ≡ Ok (m, [])
+      → (go_on (here (items_of v)) (read_struct accepts read)).result ≡ Ok m
+  all_read n m count right took =
+      let h = by_items n _ count (cond-true (accepts (length (item_views v))) _ _ (counted_as n true count right)) in
+      h.0 ∙ ap outcome (ap ended took)
+
+-- a list of fewer than 2^64 items isn't as wide as this
+pub too_wide : (w n : ℕ) (b : Bool) → 2 ^ 64 ≤ w → n < 2 ^ 64 → (leb w n && b) ≡ false
+too_wide w n b wide few = ap (λ c. c && b) (lt-leb w n (omega (arith, wide, few)))
+
+-- ---- a struct
+
+module _ {P : Type 0} (f : Fields P) where
+  abbrev read_items : List View → Result f.reading.M Fault
+  read_items vs = (read_struct f.reading.accepts f.reading.read vs).result
+
+  struct_by : (is_strict : Bool) → TakesBack is_strict f → (p : P) → f.Fits p → AllByRecursion IsSized (f.items p)
+      → (read_struct f.reading.accepts f.reading.read (views_of is_strict (f.items p))).result ≡ Ok (f.reading.seen p)
+  struct_by is_strict law p fit sized =
+      let vs : List View = views_of is_strict (f.items p) in
+      let many : length (views_of is_strict (f.items p)) ≡ length (f.items p) = length-map (f.items p) (λ x. viewed is_strict (encoding x)) in
+      ap (λ (a : Answer f.reading.M Fault). a.result) (cond-true (f.reading.accepts (length vs)) _ _ (ap f.reading.accepts many ∙ law.counted p fit))
+      ∙ ap (λ r. outcome (ended r))
+      (ap (λ vs. (f.reading.read vs).result) (sym (append-nil (views_of is_strict (f.items p)))) ∙ law.back p [] (λ fixed. refl) fit sized)
+
+  pub struct_back : (is_strict : Bool) → TakesBack is_strict f → ReadsBack is_strict (struct_of f)
+  struct_back is_strict law = record {
+    back = λ b p fits fit holds.
+        ap (λ r. and_then r read_items) (items_held is_strict b (f.items p) fits holds)
+        ∙ struct_by is_strict law p fit (items_sized is_strict b (f.items p) fits holds);
+  }
+
+  record IsAllTaken (vs : List View) (p : P) : Type 0 where
+    is : (f.reading.read vs).result ≡ Ok (f.reading.seen p, [])
+
+  none_by : (x : f.reading.M) (vs : List View) (y : f.reading.M × List View) → (all_taken x vs).result ≡ Ok y → (vs ≡ []) × (x ≡ y.0)
+  none_by x [] y is = (refl, ap (λ t. t.0) (ok_same _ y is))
+  none_by x (v ∷ vs) y is = absurd (let no : ⊥ = cc in no)
+
+  taken_by : (vs : List View) (p : P) (right : Bool) → f.reading.accepts (length vs) ≡ right
+      → (read_struct f.reading.accepts f.reading.read vs).result ≡ Ok (f.reading.seen p) → IsAllTaken vs p
+  taken_by vs p false right is =
+      let r = ap (λ (a : Answer f.reading.M Fault). a.result) (cond-false (f.reading.accepts (length vs)) _ (here {M = f.reading.M} (Err incorrect_list_len)) right) in
+      let other : (let r : Result f.reading.M Fault = Err incorrect_list_len in r) ≡ Ok (f.reading.seen p) = sym r ∙ is in absurd (let no : ⊥ = cc in no)
+  taken_by vs p true right is =
+      let all : Result (f.reading.M × List View) (List View × Fault) = ended (f.reading.read vs).result in
+      let m = is_mapped all (λ (t : f.reading.M × List View). t.0) (f.reading.seen p)
+      (not_faulty (λ e. e.1) (map_value (λ (t : f.reading.M × List View). t.0) all) (f.reading.seen p)
+      (sym (ap (λ (a : Answer f.reading.M Fault). a.result) (cond-true (f.reading.accepts (length vs)) _ _ right)) ∙ is)) in
+      let g = goes_on (f.reading.read vs).result (λ (t : f.reading.M × List View). (all_taken t.0 t.1).result) m.value m.is in
+      let h = none_by g.value.0 g.value.1 m.value g.then in
+      let same : g.value ≡ (f.reading.seen p, []) = ap (λ ws. (g.value.0, ws)) h.0 ∙ ap (λ x. (x, [])) (h.1 ∙ m.then) in
+      record { is = g.is ∙ ap Ok same }
+
+  pub struct_only : TakesOnly f → GivesOnly true (struct_of f)
+  struct_only law = record {
+    only = λ b p bytes fits is.
+        let g = goes_on (items_of (strict_view_of b)) read_items (f.reading.seen p) is in
+        let are = items_only b g.value bytes fits g.is in
+        let t = taken_by g.value p (f.reading.accepts (length g.value)) refl g.then in
+        let h = law.only p g.value [] are.parts t.is in
+        (h.0, are.whole (f.items p) (h.1 ∙ append-nil (views_of true (f.items p))));
+  }
+
+  pub struct_told : AreSeen f → IsSeen (struct_of f)
+  struct_told law = record { told = λ p q same fit. let h = law.told p q same fit in (h.0, ap list_of h.1) }
+
+  pub struct_lawful : AreLawful f → IsLawful (struct_of f)
+  struct_lawful law = record { told = struct_told law.told; back = λ is_strict. struct_back is_strict (law.back is_strict); exact = struct_only law.exact }

@@ -1,0 +1,263 @@
+-- Values of several types are read back, and strictly from nothing else.
+use Rattle.std.proofs.Common.{◌≡◌, ℕ, ◌^◌, ◌<◌, ◌⊎◌, inl, inr, ⊎_elim, ◌==◌, Bool, true, false, List, [], ◌∷◌, length, refl, sym, ap, ◌∙◌, subst}
+use Rattle.std.proofs.Common.{arith, Result, Ok, Err, append-nil, eq-eqb}
+use Rattle.std.proofs.lemmas.Bool.{cases_lt, cond-true, cond-false, lt-leb}
+use Rattle.std.proofs.lemmas.Bool.{eqb-true}
+use Rattle.std.proofs.lemmas.List.Elements.{All-from_recursion, recursion_from_All}
+use Rattle.rlp_values.specs.declared.error.DecoderError.TheVariants.{RlpExpectedToBeData}
+use Rattle.rlp_format.specs.Format.Item.{Item, is_list, list, list_of, string}
+use Rattle.rlp_format.specs.Format.WrittenHeader.{AreBytes}
+use Rattle.rlp_format.specs.Format.Encoding.{BeginsWith, IsSized, encoding}
+use Rattle.rlp_values.specs.Format.Split.{begins_as_list}
+use Rattle.rlp_values.specs.Format.StringReading.{IsString}
+use Rattle.rlp_values.specs.Views.View.{View, Holds, strict_view_of}
+use Rattle.rlp_values.specs.Values.Sums.{OnSum, sum_item}
+use Rattle.rlp_values.specs.Lemmas.Strings.{string_list, string_only}
+use Rattle.rlp_values.specs.Lemmas.Sums.{list_first}
+use Rattle.std.specs.List.{AllByRecursion}
+use Rattle.rlp_format.specs.Values.Value.{FitsBytes, number_item}
+use Rattle.rlp_codec.specs.Codec.{Answer, Codec, Fault, and_then, custom, items_of, map_value, number}
+use Rattle.rlp_codec.specs.Sums.{Cases, Unless, and_case, envelope, envelope_of, enveloped, last_case, list_or_string, read_either, read_first, read_last, read_tagged, sum_map, tagged_list}
+use Rattle.rlp_codec.specs.Laws.{CasesAreLawful, ReadsBack, GivesOnly, IsLawful, IsSeen, IsStrictPart, viewed, views_of}
+use Rattle.rlp_codec.proofs.ListLaws.{goes_on, held_itself, is_mapped, item_back, item_only, items_held, items_only, items_sized}
+use Rattle.rlp_codec.proofs.StringLaws.{ReadsStrings, number_lawful, string_lawful}
+
+-- ---- lists and strings
+
+string_first : (b d : List ℕ) → length b < 2 ^ 64 → IsString b d → begins_as_list b ≡ false
+string_first [] d fits begins = refl
+string_first (first ∷ rest) d fits begins =
+    ⊎_elim
+    (λ low. lt-leb 0xc0 first low)
+    (λ high. let same : Ok d ≡ Err RlpExpectedToBeData = sym (string_only (first ∷ rest) d fits begins) ∙ string_list first rest high in absurd (let no : ⊥ =
+    cc in no))
+    (cases_lt first 0xc0)
+
+not_list_first : (x : Item) (b : List ℕ) → length b < 2 ^ 64 → BeginsWith b (encoding x) → is_list x ≡ false → begins_as_list b ≡ false
+not_list_first (string d) b fits begins kind = string_first b d fits begins
+not_list_first (list xs) b fits begins kind = cc
+
+begins_by : (is_strict : Bool) (b s : List ℕ) → Holds is_strict b s → BeginsWith b s
+begins_by false b s holds = holds
+begins_by true b s holds = ([], holds ∙ sym (append-nil s))
+
+-- answers that are equal have equal results
+whole : {M : Type 0} {a b : Answer M Fault} → a ≡ b → a.result ≡ b.result
+whole {M} same = ap (λ (a : Answer M Fault). a.result) same
+
+-- ---- a value that was put on one side
+
+same_left : {M N : Type 0} (x y : M) → (let z : M ⊎ N = inl x in z) ≡ inl y → x ≡ y
+same_left x y is = cc
+
+same_right : {M N : Type 0} (x y : N) → (let z : M ⊎ N = inr x in z) ≡ inr y → x ≡ y
+same_right x y is = cc
+
+left_taken : {M N : Type 0} (r : Result M Fault) (y : M) → map_value {B = M ⊎ N} inl r ≡ Ok (inl y) → r ≡ Ok y
+left_taken {M} {N} r y is = let m = is_mapped r (λ (x : M). (let z : M ⊎ N = inl x in z)) (inl y) is in m.is ∙ ap Ok (same_left m.value y m.then)
+
+right_taken : {M N : Type 0} (r : Result N Fault) (y : N) → map_value {B = M ⊎ N} inr r ≡ Ok (inr y) → r ≡ Ok y
+right_taken {M} {N} r y is = let m = is_mapped r (λ (x : N). (let z : M ⊎ N = inr x in z)) (inr y) is in m.is ∙ ap Ok (same_right m.value y m.then)
+
+not_left : {M N : Type 0} (r : Result M Fault) (y : N) → map_value {B = M ⊎ N} inl r ≡ Ok (inr y) → ⊥
+not_left (Ok x) y is = cc
+not_left (Err e) y is = cc
+
+not_right : {M N : Type 0} (r : Result N Fault) (y : M) → map_value {B = M ⊎ N} inr r ≡ Ok (inl y) → ⊥
+not_right (Ok x) y is = cc
+not_right (Err e) y is = cc
+
+module _ {A B : Type 0} (c : Codec A) (d : Codec B) (lists : (x : A) → is_list (c.item x) ≡ true) (strings : (y : B) → is_list (d.item y) ≡ false) where
+  either_back_by : (is_strict : Bool) → ReadsBack is_strict c → ReadsBack is_strict d → (b : List ℕ) (s : A ⊎ B) → length b < 2 ^ 64 → OnSum c.Fits d.Fits s
+      → Holds is_strict b (encoding (sum_item c.item d.item s))
+      → (read_either c.reading.read d.reading.read (viewed is_strict b)).result ≡ Ok (sum_map c.reading.seen d.reading.seen s)
+  either_back_by is_strict law other b (inl x) fits fit holds =
+      whole (cond-true (begins_as_list b) _ _ (list_first (c.item x) b fits (begins_by is_strict b (encoding (c.item x)) holds) (lists x)))
+      ∙ ap (map_value inl) (law.back b x fits fit holds)
+  either_back_by is_strict law other b (inr y) fits fit holds =
+      whole (cond-false (begins_as_list b) _ _ (not_list_first (d.item y) b fits (begins_by is_strict b (encoding (d.item y)) holds) (strings y)))
+      ∙ ap (map_value inr) (other.back b y fits fit holds)
+
+  either_only_by : GivesOnly true c → GivesOnly true d → (b : List ℕ) (s : A ⊎ B) (kind : Bool) → AreBytes b → length b < 2 ^ 64 → begins_as_list b ≡ kind
+      → (read_either c.reading.read d.reading.read (strict_view_of b)).result ≡ Ok (sum_map c.reading.seen d.reading.seen s)
+      → OnSum c.Fits d.Fits s × (b ≡ encoding (sum_item c.item d.item s))
+  either_only_by law other b (inl x) true bytes fits kind is =
+      law.only b x bytes fits (left_taken (c.reading.read (strict_view_of b)).result (c.reading.seen x) (sym (whole (cond-true (begins_as_list b) _ _ kind)) ∙ is))
+  either_only_by law other b (inl x) false bytes fits kind is =
+      absurd (not_right (d.reading.read (strict_view_of b)).result (c.reading.seen x) (sym (whole (cond-false (begins_as_list b) _ _ kind)) ∙ is))
+  either_only_by law other b (inr y) true bytes fits kind is =
+      absurd (not_left (c.reading.read (strict_view_of b)).result (d.reading.seen y) (sym (whole (cond-true (begins_as_list b) _ _ kind)) ∙ is))
+  either_only_by law other b (inr y) false bytes fits kind is =
+      other.only b y bytes fits (right_taken (d.reading.read (strict_view_of b)).result (d.reading.seen y) (sym (whole (cond-false (begins_as_list b) _ _ kind)) ∙ is))
+
+  either_told : IsSeen c → IsSeen d → (s t : A ⊎ B) → sum_map c.reading.seen d.reading.seen s ≡ sum_map c.reading.seen d.reading.seen t → OnSum c.Fits d.Fits s
+      → OnSum c.Fits d.Fits t × (sum_item c.item d.item t ≡ sum_item c.item d.item s)
+  either_told law other (inl x) (inl y) same fit = law.told x y (same_left _ _ same) fit
+  either_told law other (inl x) (inr y) same fit = absurd (let no : ⊥ = cc in no)
+  either_told law other (inr x) (inl y) same fit = absurd (let no : ⊥ = cc in no)
+  either_told law other (inr x) (inr y) same fit = other.told x y (same_right _ _ same) fit
+
+  pub either_lawful : IsLawful c → IsLawful d → IsLawful (list_or_string c d)
+  either_lawful law other = record {
+    told = record { told = either_told law.told other.told };
+    back = λ is_strict. record { back = either_back_by is_strict (law.back is_strict) (other.back is_strict) };
+    exact = record { only = λ b s bytes fits is. either_only_by law.exact other.exact b s (begins_as_list b) bytes fits refl is };
+  }
+
+-- ---- tags
+
+module _ {A : Type 0} (unknown : List ℕ) (tag : ℕ) (c : Codec A) where
+  last_only_by : GivesOnly true c → (k : ℕ) (b : List ℕ) (x : A) (same : Bool) → AreBytes b → length b < 2 ^ 64 → (k == tag) ≡ same
+      → (read_last unknown tag c.reading.read k (strict_view_of b)).result ≡ Ok (c.reading.seen x) → c.Fits x × (k ≡ tag) × (b ≡ encoding (c.item x))
+  last_only_by law k b x true bytes fits same is =
+      let h = law.only b x bytes fits (sym (whole (cond-true (k == tag) _ _ same)) ∙ is) in (h.0, eqb-true k tag same, h.1)
+  last_only_by law k b x false bytes fits same is =
+      let r : (read_last unknown tag c.reading.read k (strict_view_of b)).result ≡ Err (custom unknown) = whole (cond-false (k == tag) _ _ same) in
+      absurd (let no : ⊥ = cc in no)
+
+  pub last_case_lawful : IsLawful c → CasesAreLawful (last_case unknown tag c)
+  last_case_lawful law = record {
+    told = λ x y same fit. let h = law.told.told x y same fit in (h.0, refl, h.1);
+    back = λ is_strict b x fits fit is. whole (cond-true (tag == tag) _ _ (eq-eqb tag tag refl)) ∙ (law.back is_strict).back b x fits fit is;
+    only = λ k b x bytes fits is. last_only_by law.exact k b x (k == tag) bytes fits refl is;
+  }
+
+module _ {A B : Type 0} (tag : ℕ) (c : Codec A) (more : Cases B) where
+  first_back : IsLawful c → CasesAreLawful more → (is_strict : Bool) (b : List ℕ) (s : A ⊎ B) → length b < 2 ^ 64 → (and_case tag c more).Fits s
+      → Holds is_strict b (encoding ((and_case tag c more).item s))
+      → (read_first tag c.reading.read more.read ((and_case tag c more).tag s) (viewed is_strict b)).result ≡ Ok (sum_map c.reading.seen more.seen s)
+  first_back law others is_strict b (inl x) fits fit is =
+      whole (cond-true (tag == tag) _ _ (eq-eqb tag tag refl)) ∙ ap (map_value inl) ((law.back is_strict).back b x fits fit is)
+  first_back law others is_strict b (inr y) fits fit is = other_back (more.tag y == tag) refl fit
+    where
+      other_back : (same : Bool) → (more.tag y == tag) ≡ same → Unless same (more.Fits y)
+          → (read_first tag c.reading.read more.read (more.tag y) (viewed is_strict b)).result ≡ Ok (inr (more.seen y))
+      other_back true same fit = absurd fit
+      other_back false same fit = whole (cond-false (more.tag y == tag) _ _ same) ∙ ap (map_value inr) (others.back is_strict b y fits fit is)
+
+  first_only : IsLawful c → CasesAreLawful more → (k : ℕ) (b : List ℕ) (s : A ⊎ B) (same : Bool) → AreBytes b → length b < 2 ^ 64 → (k == tag) ≡ same
+      → (read_first tag c.reading.read more.read k (strict_view_of b)).result ≡ Ok (sum_map c.reading.seen more.seen s)
+      → (and_case tag c more).Fits s × (k ≡ (and_case tag c more).tag s) × (b ≡ encoding ((and_case tag c more).item s))
+  first_only law others k b (inl x) true bytes fits same is =
+      let h = law.exact.only b x bytes fits (left_taken (c.reading.read (strict_view_of b)).result (c.reading.seen x) (sym (whole (cond-true (k == tag) _ _ same)) ∙ is)) in
+      (h.0, eqb-true k tag same, h.1)
+  first_only law others k b (inl x) false bytes fits same is =
+      absurd (not_right (more.read k (strict_view_of b)).result (c.reading.seen x) (sym (whole (cond-false (k == tag) _ _ same)) ∙ is))
+  first_only law others k b (inr y) true bytes fits same is =
+      absurd (not_left (c.reading.read (strict_view_of b)).result (more.seen y) (sym (whole (cond-true (k == tag) _ _ same)) ∙ is))
+  first_only law others k b (inr y) false bytes fits same is =
+      let h = others.only k b y bytes fits (right_taken (more.read k (strict_view_of b)).result (more.seen y) (sym (whole (cond-false (k == tag) _ _ same)) ∙ is)) in
+      let other : (more.tag y == tag) ≡ false = ap (λ n. n == tag) (sym h.1) ∙ same in
+      (subst (λ b. Unless b (more.Fits y)) (sym other) h.0, h.1, h.2)
+
+  unless_told : (s t : Bool) (F G : Type 0) → s ≡ t → (F → G) → Unless s F → Unless t G
+  unless_told true true F G same f fit = absurd fit
+  unless_told true false F G same f fit = absurd fit
+  unless_told false true F G same f fit = absurd (let no : ⊥ = cc in no)
+  unless_told false false F G same f fit = f fit
+
+  unless_fits : (s : Bool) (F : Type 0) → Unless s F → F
+  unless_fits true F fit = absurd fit
+  unless_fits false F fit = fit
+
+  first_told : IsLawful c → CasesAreLawful more → (s t : A ⊎ B) → sum_map c.reading.seen more.seen s ≡ sum_map c.reading.seen more.seen t
+      → (and_case tag c more).Fits s
+      → (and_case tag c more).Fits t × ((and_case tag c more).tag t ≡ (and_case tag c more).tag s) × ((and_case tag c more).item t ≡ (and_case tag c more).item s)
+  first_told law others (inl x) (inl y) same fit = let h = law.told.told x y (same_left _ _ same) fit in (h.0, refl, h.1)
+  first_told law others (inl x) (inr y) same fit = absurd (let no : ⊥ = cc in no)
+  first_told law others (inr x) (inl y) same fit = absurd (let no : ⊥ = cc in no)
+  first_told law others (inr x) (inr y) same fit =
+      let h = others.told x y (same_right _ _ same) (unless_fits (more.tag x == tag) (more.Fits x) fit) in (
+        unless_told (more.tag x == tag) (more.tag y == tag) (more.Fits x) (more.Fits y) (ap (λ n. n == tag) (sym h.1)) (λ fit. h.0) fit,
+        h.1,
+        h.2,
+      )
+
+  pub and_case_lawful : IsLawful c → CasesAreLawful more → CasesAreLawful (and_case tag c more)
+  and_case_lawful law others = record {
+    told = first_told law others;
+    back = first_back law others;
+    only = λ k b s bytes fits is. first_only law others k b s (k == tag) bytes fits refl is;
+  }
+
+-- ---- envelopes
+
+module _ {A : Type 0} (cases : Cases A) (law : CasesAreLawful cases) where
+  envelope_only : (d : List ℕ) (x : A) → AreBytes d → length d < 2 ^ 64 → (envelope_of cases.read d).result ≡ Ok (cases.seen x) → cases.Fits x × (d ≡ envelope cases x)
+  envelope_only [] x bytes fits is = absurd (let no : ⊥ = cc in no)
+  envelope_only (tag ∷ payload) x bytes fits is =
+      let held = All-from_recursion (λ byte. byte < 2 ^ 8) payload (recursion_from_All (λ byte. byte < 2 ^ 8) (tag ∷ payload) bytes).1 in
+      let h = law.only tag payload x held (omega arith) is in
+      (h.0, ap (λ k. k ∷ payload) h.1 ∙ ap (λ p. cases.tag x ∷ p) h.2)
+
+  -- the result of an envelope
+  abbrev opened : List ℕ → Result cases.M Fault
+  opened d = (envelope_of cases.read d).result
+
+  pub envelope_strings : ReadsStrings cases.Fits (envelope cases) cases.seen opened
+  envelope_strings = record {
+    back = λ x fit short. law.back true (encoding (cases.item x)) x (omega arith) fit refl;
+    only = envelope_only;
+    told = λ x y same fit. let h = law.told x y same fit in (h.0, ap (λ k. k ∷ encoding (cases.item y)) h.1 ∙ ap (λ i. cases.tag x ∷ encoding i) h.2);
+  }
+
+  pub enveloped_lawful : IsLawful (enveloped cases)
+  enveloped_lawful =
+      let law = string_lawful cases.Fits (envelope cases) cases.seen opened cases.takes_memory envelope_strings in
+      record {
+        told = record { told = law.told.told };
+        back = λ is_strict. record { back = (law.back is_strict).back };
+        exact = record { only = law.exact.only };
+      }
+
+-- ---- lists of a tag and a payload
+
+module _ {A : Type 0} (width : ℕ) (cases : Cases A) (law : CasesAreLawful cases) where
+  abbrev read_pair : List View → Result cases.M Fault
+  read_pair vs = (read_tagged width cases.read vs).result
+
+  tagged_back_by : (is_strict : Bool) (x : A) → FitsBytes width (cases.tag x) → cases.Fits x → IsSized (number_item (cases.tag x)) → IsSized (cases.item x)
+      → (read_tagged width cases.read (views_of is_strict (number_item (cases.tag x) ∷ cases.item x ∷ []))).result ≡ Ok (cases.seen x)
+  tagged_back_by is_strict x tag_fits fit sized small =
+      let second = viewed is_strict (encoding (cases.item x)) in
+      ap (λ r. and_then r (λ tag. (cases.read tag second).result))
+      (item_back (number width) is_strict ((number_lawful width).back is_strict) (cases.tag x) sized tag_fits)
+      ∙ law.back is_strict (encoding (cases.item x)) x small fit (held_itself is_strict (encoding (cases.item x)))
+
+  tagged_only_by : (vs : List View) (x : A) → AllByRecursion IsStrictPart vs → (read_tagged width cases.read vs).result ≡ Ok (cases.seen x)
+      → (FitsBytes width (cases.tag x) × cases.Fits x) × (vs ≡ views_of true (number_item (cases.tag x) ∷ cases.item x ∷ []))
+  tagged_only_by [] x parts is = absurd (let no : ⊥ = cc in no)
+  tagged_only_by (v ∷ []) x parts is = absurd (let no : ⊥ = cc in no)
+  tagged_only_by (v ∷ w ∷ u ∷ vs) x parts is = absurd (let no : ⊥ = cc in no)
+  tagged_only_by (v ∷ w ∷ []) x (one, (two, parts)) is =
+      let g = goes_on ((number width).reading.read v).result (λ tag. (cases.read tag w).result) (cases.seen x) is in
+      let h = item_only (number width) (number_lawful width).exact v g.value one g.is in
+      let hs = law.only g.value w.bytes x two.held two.short (ap (λ w. (cases.read g.value w).result) (sym two.is) ∙ g.then) in (
+        (subst (FitsBytes width) hs.1 h.0, hs.0),
+        ap (λ v. v ∷ w ∷ []) (h.1 ∙ ap (λ n. viewed true (encoding (number_item n))) hs.1)
+            ∙ ap (λ w. viewed true (encoding (number_item (cases.tag x))) ∷ w ∷ []) (two.is ∙ ap strict_view_of hs.2),
+      )
+
+  pub tagged_lawful : IsLawful (tagged_list width cases)
+  tagged_lawful = record {
+    told = record {
+      told = λ x y same fit.
+          let h = law.told x y same fit.1 in (
+            (subst (FitsBytes width) (sym h.1) fit.0, h.0),
+            ap (λ n. list_of (number_item n ∷ cases.item y ∷ [])) h.1 ∙ ap (λ i. list_of (number_item (cases.tag x) ∷ i ∷ [])) h.2,
+          );
+    };
+    back = λ is_strict. record {
+      back = λ b x fits fit holds.
+          let sized = items_sized is_strict b (number_item (cases.tag x) ∷ cases.item x ∷ []) fits holds in
+          ap (λ r. and_then r read_pair) (items_held is_strict b (number_item (cases.tag x) ∷ cases.item x ∷ []) fits holds)
+          ∙ tagged_back_by is_strict x fit.0 fit.1 sized.0 sized.1.0;
+    };
+    exact = record {
+      only = λ b x bytes fits is.
+          let g = goes_on (items_of (strict_view_of b)) read_pair (cases.seen x) is in
+          let are = items_only b g.value bytes fits g.is in
+          let h = tagged_only_by g.value x are.parts g.then in
+          (h.0, are.whole (number_item (cases.tag x) ∷ cases.item x ∷ []) h.1);
+    };
+  }

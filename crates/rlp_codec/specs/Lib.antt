@@ -1,0 +1,6 @@
+-- how values are written as items and read from views
+pub mod Codec
+-- values of several types
+pub mod Sums
+-- the laws of codecs
+pub mod Laws

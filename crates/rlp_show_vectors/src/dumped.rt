@@ -1,0 +1,233 @@
+//! Where contents stand in their encodings, by `rlp_print`.
+//!
+//! A Python script wrote the rows from bytes and lines that stand in the other tests: it reads each
+//! header by the yellow paper, appendix B, and puts the lines beside the strings in order.
+
+use crate::printed::{Print, own_name, record};
+use rlp_rows::{Line, cut, number};
+use rlp_show::Kind;
+use std::alloc::{AllocError, Global};
+use std::test::Fail;
+
+/// The kind and the digits of a record, and its rows.
+const ROWS: [(&str, &str); 8] = [
+    (
+        "transaction f86c098504a817c800825208943535353535353535353535353535353535353535880de0b6b3\
+         a76400008025a028ef61340bd939bc2195fe537567866003e1a15d3c71ff63e1590620aa6362\
+         76a067cbe9d8997f761aecb703304b3800ccf555c9f3dc64214b297fb1966a3b6d83",
+        "0 f86c - list\n\
+         - - - hash: 0x33469b22e9f636356c4160a87eb19df52b7412e8eac32a4a55ffe88ea8350788\n\
+         2 - 09 nonce: 9\n\
+         3 85 04a817c800 gas_price: 20000000000\n\
+         9 82 5208 gas_limit: 21000\n\
+         12 94 3535353535353535353535353535353535353535 to: 0x353535353535353535353535353\
+         5353535353535\n\
+         33 88 0de0b6b3a7640000 value: 1000000000000000000\n\
+         42 80 - data: 0x\n\
+         43 - 25 v: 37 (chain 1, parity 0)\n\
+         44 a0 28ef61340bd939bc2195fe537567866003e1a15d3c71ff63e1590620aa636276 r: 0x28ef\
+         61340bd939bc2195fe537567866003e1a15d3c71ff63e1590620aa636276\n\
+         77 a0 67cbe9d8997f761aecb703304b3800ccf555c9f3dc64214b297fb1966a3b6d83 s: 0x67cb\
+         e9d8997f761aecb703304b3800ccf555c9f3dc64214b297fb1966a3b6d83\n\
+         - - - signing_hash: 0xdaf5a779ae972f972197303d7b574746c7ef83eadac0f2791ad23db92e\
+         4c8e53\n",
+    ),
+    (
+        "access_list f838f7940102030405060708090a0b0c0d0e0f1011121314e1a0000102030405060708090a0b\
+         0c0d0e0f101112131415161718191a1b1c1d1e1f",
+        "0 f838 - list\n\
+         2 f7 - list\n\
+         3 94 0102030405060708090a0b0c0d0e0f1011121314 access_list[0].address: 0x01020304\
+         05060708090a0b0c0d0e0f1011121314\n\
+         24 e1 - list\n\
+         25 a0 000102030405060708090a0b0c0d0e0f101112131415161718191a1b1c1d1e1f access_li\
+         st[0].storage_keys[0]: 0x000102030405060708090a0b0c0d0e0f101112131415161718191a1\
+         b1c1d1e1f\n",
+    ),
+    (
+        "node c91ac782201183646f67",
+        "0 c9 - list\n\
+         - - - hash: 0x0314f24d71c05e53e3de71206245b312d3070253482d8b9ed6b1c34d3448849b\n\
+         - - - node: extension\n\
+         1 - 1a path: 0x1a (nibbles [a])\n\
+         2 c7 - list\n\
+         - - - child.node: leaf\n\
+         3 82 2011 child.path: 0x2011 (nibbles [11])\n\
+         6 83 646f67 child.value: 0x646f67\n",
+    ),
+    (
+        "record f884b8407098ad865b00a582051940cb9cf36836572411a47278783077011599ed5cd16b76f2\
+         635f4e234738f30813a89eb9137e3e3df5266e3a1f11df72ecf1145ccb9c0182696482763482\
+         6970847f00000189736563703235366b31a103ca634cae0d49acb401d8a4c6b6fe8c55b70d11\
+         5bf400769cc1400f3258cd31388375647082765f",
+        "0 f884 - list\n\
+         2 b840 7098ad865b00a582051940cb9cf36836572411a47278783077011599ed5cd16b76f2635f4\
+         e234738f30813a89eb9137e3e3df5266e3a1f11df72ecf1145ccb9c signature: 0x7098ad865b0\
+         0a582051940cb9cf36836572411a47278783077011599ed5cd16b76f2635f4e234738f30813a89eb\
+         9137e3e3df5266e3a1f11df72ecf1145ccb9c\n\
+         68 - 01 sequence: 1\n\
+         69 82 6964 pairs[0].key: id\n\
+         72 82 7634 pairs[0].value: v4\n\
+         75 82 6970 pairs[1].key: ip\n\
+         78 84 7f000001 pairs[1].value: 127.0.0.1\n\
+         83 89 736563703235366b31 pairs[2].key: secp256k1\n\
+         93 a1 03ca634cae0d49acb401d8a4c6b6fe8c55b70d115bf400769cc1400f3258cd3138 pairs[2\
+         ].value: 0x03ca634cae0d49acb401d8a4c6b6fe8c55b70d115bf400769cc1400f3258cd3138\n\
+         127 83 756470 pairs[3].key: udp\n\
+         131 82 765f pairs[3].value: 30303\n",
+    ),
+    (
+        "transactions c40582067f",
+        "0 c4 - list\n\
+         - - - transactions[0].hash: 0xdbb8d0f4c497851a5043c6363657698cb1387682cac2f786c7\
+         31f8936109d795\n\
+         1 - 05 transactions[0].type: 5\n\
+         - - - transactions[0].payload: 0x\n\
+         - - - transactions[1].hash: 0xca136295f34176aa30ef7fabff6431ee762816a3350571441d\
+         ad7f90e89b6c77\n\
+         2 82 - envelope\n\
+         3 - 06 transactions[1].type: 6\n\
+         4 - 7f transactions[1].payload: 0x7f\n",
+    ),
+    (
+        "disconnect c104",
+        "0 c1 - list\n\
+         1 - 04 reason: 4\n",
+    ),
+    (
+        "body f86cf869f86780862d79883d2000825208945df9b87991262f6ba471f09758cde1c0fc1de734\
+         827a69801ca088ff6cf0fefd94db46111149ae4bfc179e9b94721fffd821d38d16464b3f71d0\
+         a045e0aff800961cfce805daef7016b9b675c137a6a41a548f7b60a3484c06a33ac0",
+        "0 f86c - list\n\
+         2 f869 - list\n\
+         4 f867 - list\n\
+         - - - transactions[0].hash: 0x5c504ed432cb51138bcf09aa5e8a410dd4a1e204ef84bfed1b\
+         e16dfba1b22060\n\
+         6 80 - transactions[0].nonce: 0\n\
+         7 86 2d79883d2000 transactions[0].gas_price: 50000000000000\n\
+         14 82 5208 transactions[0].gas_limit: 21000\n\
+         17 94 5df9b87991262f6ba471f09758cde1c0fc1de734 transactions[0].to: 0x5df9b879912\
+         62f6ba471f09758cde1c0fc1de734\n\
+         38 82 7a69 transactions[0].value: 31337\n\
+         41 80 - transactions[0].data: 0x\n\
+         42 - 1c transactions[0].v: 28 (parity 1)\n\
+         43 a0 88ff6cf0fefd94db46111149ae4bfc179e9b94721fffd821d38d16464b3f71d0 transacti\
+         ons[0].r: 0x88ff6cf0fefd94db46111149ae4bfc179e9b94721fffd821d38d16464b3f71d0\n\
+         76 a0 45e0aff800961cfce805daef7016b9b675c137a6a41a548f7b60a3484c06a33a transacti\
+         ons[0].s: 0x45e0aff800961cfce805daef7016b9b675c137a6a41a548f7b60a3484c06a33a\n\
+         - - - transactions[0].signing_hash: 0x19b1e28c14f33e74b96b88eba97d4a4fc8a97638d7\
+         2e972310025b7e1189b049\n\
+         109 c0 - ommers: []\n",
+    ),
+    ("access_list c0", "0 c0 - access_list: []\n"),
+];
+
+/// What rows say.
+#[derive(Drop)]
+struct Told {
+    /// The bytes that they show, one after another.
+    bytes: Vec<u8>,
+    /// The lines of the contents.
+    lines: String,
+}
+
+/// Returns the length of a header by its first byte.
+fn header_len(first: u8) -> usize {
+    match first {
+        0..=0x7f => 0,
+        0x80..=0xb7 | 0xc0..=0xf7 => 1,
+        0xb8..=0xbf => 1 + usize::from(first - 0xb7),
+        _ => 1 + usize::from(first - 0xf7),
+    }
+}
+
+/// Appends the bytes of digits, or no bytes for a dash.
+fn push_part(alloc: Global, digits: &str, out: &mut Vec<u8>) -> Result<(), AllocError> {
+    match hex::decode(alloc, digits.as_bytes()) {
+        Ok(bytes) => out.extend_from_slice(bytes.as_slice()),
+        Err(_) => Ok(()),
+    }
+}
+
+/// Returns whether a line may be of what isn't in the encoding.
+fn may_lack_place(line: &str) -> bool {
+    let (name, _) = line.split_once(':').unwrap_or((line, ""));
+    name.ends_with("hash") || name.ends_with("node") || line.ends_with("payload: 0x")
+}
+
+/// Adds what a row says. Returns whether it stands where the bytes so far end, and whether its
+/// header has the length that its first byte says.
+fn add(alloc: Global, told: &mut Told, row: &str) -> Result<bool, AllocError> {
+    let (place, rest) = cut(row);
+    let (header, rest) = cut(rest);
+    let (payload, what) = cut(rest);
+    if what != "list" && what != "envelope" {
+        told.lines.push_str(what)?;
+        told.lines.push('\n')?;
+    }
+    if place == "-" {
+        return Ok(may_lack_place(what));
+    }
+    let start = told.bytes.len();
+    push_part(alloc, header, &mut told.bytes)?;
+    let header_end = told.bytes.len();
+    push_part(alloc, payload, &mut told.bytes)?;
+    let Some(first) = told.bytes.get(start) else {
+        return Ok(false);
+    };
+    let is_payload = what.contains("payload: ");
+    let found = header_end.checked_sub(start);
+    Ok(number(place) == start && (is_payload || found == Some(header_len(*first))))
+}
+
+/// Notes a record whose rows don't show all of its bytes in order, or don't have the expected lines.
+pub(crate) fn note_rows(
+    alloc: Global,
+    given: &'static str,
+    kind: Kind,
+    name: &str,
+    bytes: &[u8],
+    want: &str,
+    wrong: &mut Line,
+) -> Result<(), AllocError> {
+    let Ok(rows) = record(alloc, kind, Print::Rows(name, bytes), bytes) else {
+        wrong.note("rows", given, "a fault", want);
+        return Ok(());
+    };
+    let mut told = Told {
+        bytes: Vec::new(alloc),
+        lines: String::new(alloc),
+    };
+    for row in rows.as_str().lines() {
+        if !add(alloc, &mut told, row)? {
+            wrong.note("row", given, row, "at its place");
+        }
+    }
+    // A whole empty list has no content, and of the empty trie only the kind is shown.
+    let is_all = bytes.len() == 1 || told.bytes.as_slice() == bytes;
+    if !is_all || told.lines.as_str() != want {
+        wrong.note("rows", given, rows.as_str(), want);
+    }
+    Ok(())
+}
+
+#[test]
+fn rows_have_places_headers_and_payloads(rt: HostRuntime) -> Result<(), Fail> {
+    let mut wrong = Line::new();
+    for (given, want) in &ROWS {
+        let (name, digits) = cut(given);
+        let (Some(kind), Ok(bytes)) = (
+            Kind::named(name),
+            hex::decode(rt.alloc(), digits.as_bytes()),
+        ) else {
+            wrong.note("rows", given, "no record", want);
+            continue;
+        };
+        let how = Print::Rows(own_name(kind), bytes.as_slice());
+        match record(rt.alloc(), kind, how, bytes.as_slice()) {
+            Ok(rows) => wrong.note("rows", given, rows.as_str(), want),
+            Err(_) => wrong.note("rows", given, "a fault", want),
+        }
+    }
+    wrong.none_noted()
+}
