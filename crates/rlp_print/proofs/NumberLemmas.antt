@@ -1,14 +1,13 @@
 -- Numbers: of one digit, and what `v` says.
-use Rattle.std.proofs.Common.{◌≡◌, ◌≢◌, ◌==◌, ◌||◌, ◌∙◌, ℕ, zero, suc, ◌+◌, ◌-◌, ◌*◌, ◌/◌, ◌%◌, ◌^◌, ◌<◌, ◌≤◌, ◌⊎◌, inl, inr, Bool, true, false, nat_lt, Option, Some, None, [], ◌∷◌}
-use Rattle.std.proofs.Common.{refl, ap, arith, ⊎_elim}
-use Rattle.std.specs.Int.Digits.{number_from_digits}
+use Rattle.std.proofs.Common.{◌≡◌, ◌≢◌, ◌==◌, ◌||◌, ◌∙◌, ℕ, zero, suc, ◌+◌, ◌-◌, ◌*◌, ◌/◌, ◌%◌, ◌^◌, ◌<◌, ◌≤◌, ◌⊎◌, inl, inr, Bool, true, false, nat_lt, Option, Some, None, [], ◌∷◌, refl, ap, arith, ⊎_elim}
 use Rattle.std.proofs.lemmas.Bool.{cases_lt, cond-true, cond-false}
 use Rattle.std.proofs.lemmas.Bool.Decides.{nat_tests}
 use Rattle.std.proofs.lemmas.Nat.{div-mul-add, mod-mul-add}
+use Rattle.std.specs.Int.Digits.{number_from_digits}
 use Rattle.rlp.specs.Values.Value.{bit}
 use Rattle.rlp_transactions.specs.Eip155.{FitsChain, even_v, v_of}
 use Rattle.rlp_transactions.specs.declared.eip155.Eip155.{Eip155}
-use Rattle.rlp_print.specs.Texts.{said_by}
+use Rattle.rlp_print.specs.{DisplayLemmas.bit_back, Texts.said_by}
 
 -- the number of one digit
 pub one_digit : (d : ℕ) → number_from_digits 256 (d ∷ []) ≡ d
@@ -20,10 +19,6 @@ low_bit : (p : Bool) → bit p ≤ 1
 low_bit true = omega arith
 low_bit false = omega arith
 
-bit_told : (p : Bool) → (bit p == 1) ≡ p
-bit_told true = refl
-bit_told false = refl
-
 -- the numbers of a chain
 said_chain : (v chain : ℕ) (p : Bool) → v ≡ bit p + (chain * 2 + 35) → chain < 2 ^ 64 → said_by v ≡ Some (record { chain_id = Some chain; y_parity = p })
 said_chain v chain p is few =
@@ -34,7 +29,7 @@ said_chain v chain p is few =
     cond-false ((v == 27) || (v == 28)) _ _ (grind (arith, nat_tests))
     ∙ cond-false (nat_lt v 35 || nat_lt (2 ^ 65 + 34) v) _ _ (grind (arith, nat_tests))
     ∙ ap (λ c. Some (record { chain_id = Some c; y_parity = (v - 35) % 2 == 1 })) half
-    ∙ ap (λ q. Some (record { chain_id = Some chain; y_parity = q })) (ap (λ n. n == 1) odd ∙ bit_told p)
+    ∙ ap (λ q. Some (record { chain_id = Some chain; y_parity = q })) (ap (λ n. n == 1) odd ∙ bit_back p)
 
 said : (v : ℕ) (chain : Option ℕ) (p : Bool) → v ≡ bit p + even_v chain → FitsChain chain → said_by v ≡ Some (record { chain_id = chain; y_parity = p })
 said v None true is fits = ap said_by is

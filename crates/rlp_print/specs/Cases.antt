@@ -1,9 +1,35 @@
 -- How the values of a sum are shown, such as transactions of all types.
-use Rattle.std.specs.Prelude.{ℕ, ◌≡◌, ◌≤◌, ◌⊎◌, nat_lt, true}
+use Rattle.std.specs.Prelude.{ℕ, nat_lt, true}
+use Rattle.std.proofs.Common.{◌≡◌, ◌<◌, ◌≤◌, ◌⊎◌, inl, inr, ap, sym, arith}
+use Rattle.std.proofs.lemmas.Bool.Decides.{nat_tests}
 use Rattle.rlp.specs.Values.Same.{SameSum}
-use Rattle.rlp_print.specs.CaseLemmas.{case_above, cases_above, cases_told}
-use Rattle.rlp_print.specs.Display.{Fields}
-use Rattle.rlp_print.specs.Types.{on_either, shown_type}
+use Rattle.rlp_print.specs.{Display.Fields, Types.on_either, Types.shown_type, Value.Entries}
+
+-- ---- values of a sum that are shown alike are of one type
+
+below : (m n : ℕ) → nat_lt m n ≡ true → m < n
+below m n is = grind (arith, nat_tests, is)
+
+pub at_least : (tag : ℕ) (es : Entries) → shown_type es ≡ tag → tag ≤ shown_type es
+at_least tag es is = omega (arith, is)
+
+module _ {A B : Type 0} (tag least : ℕ) (first : A → Entries) (second : B → Entries) (is : (x : A) → shown_type (first x) ≡ tag)
+    (above : (y : B) → least ≤ shown_type (second y)) (less : nat_lt tag least ≡ true) where
+  apart : (x : A) (y : B) → first x ≡ second y → ⊥
+  apart x y same = omega (arith, ap shown_type same, is x, above y, below tag least less)
+
+  pub all_above : (s : A ⊎ B) → tag ≤ shown_type (on_either first second s)
+  all_above (inl x) = omega (arith, is x)
+  all_above (inr y) = omega (arith, above y, below tag least less)
+
+  pub all_told : (Same : A → A → Type 0) (Other : B → B → Type 0) → ((x y : A) → first x ≡ first y → Same x y) → ((x y : B) → second x ≡ second y → Other x y)
+      → (s t : A ⊎ B) → on_either first second s ≡ on_either first second t → SameSum Same Other s t
+  all_told Same Other told more (inl x) (inl y) same = told x y same
+  all_told Same Other told more (inl x) (inr y) same = apart x y same
+  all_told Same Other told more (inr x) (inl y) same = apart y x (sym same)
+  all_told Same Other told more (inr x) (inr y) same = more x y same
+
+-- ---- the cases of a sum
 
 -- The fields of the cases of a sum. They begin with the number of a type, which is at least this number.
 pub record Cases (A : Type 0) : Type 1 where
@@ -13,7 +39,7 @@ pub record Cases (A : Type 0) : Type 1 where
 
 -- one type
 abbrev pub last_case : {A : Type 0} (tag : ℕ) (f : Fields A) → ((x : A) → shown_type (f.entries x) ≡ tag) → Cases A
-last_case tag f is = record { fields = f; least = tag; above = λ x. case_above tag (f.entries x) (is x) }
+last_case tag f is = record { fields = f; least = tag; above = λ x. at_least tag (f.entries x) (is x) }
 
 -- one type, and further types with greater numbers
 abbrev pub and_case : {A B : Type 0} (tag : ℕ) (f : Fields A) → ((x : A) → shown_type (f.entries x) ≡ tag) → (more : Cases B)
@@ -22,8 +48,8 @@ and_case tag f is more less = record {
   fields = record {
     entries = on_either f.entries more.fields.entries;
     Same = SameSum f.Same more.fields.Same;
-    told = cases_told tag f.entries f.Same f.told is more.least more.fields.entries more.fields.Same more.fields.told more.above less;
+    told = all_told tag more.least f.entries more.fields.entries is more.above less f.Same more.fields.Same f.told more.fields.told;
   };
   least = tag;
-  above = cases_above tag f.entries is more.least more.fields.entries more.above less;
+  above = all_above tag more.least f.entries more.fields.entries is more.above less;
 }

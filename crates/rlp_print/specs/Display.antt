@@ -1,12 +1,9 @@
 -- How the values of a type are shown, by the parts of the type. Each way to show values comes with what two values have in common that are shown alike.
-use Rattle.std.specs.Prelude.{ℕ, ◌≡◌, ⊤, Bool, List, Option}
-use Rattle.std.specs.List.{AllZip}
-use Rattle.std.specs.Int.Digits.{number_from_digits}
-use Rattle.rlp.specs.Uint.{Uint}
-use Rattle.rlp.specs.Values.Same.{SameOption}
-use Rattle.rlp.specs.Values.Value.{bit}
-use Rattle.rlp_print.specs.Value.{Value, Entries, content, object, array, number, quantity, bytes, sparse, text, nothing, both, field as put, by_form, entries_if, values_of}
-use Rattle.rlp_print.specs.DisplayLemmas.{bit_same, both_told, bytes_same, content_same, entries_same, field_same, if_told, lines_same, named_told, number_same, quantity_same, rest_told, sparse_same, text_same, values_told}
+use Rattle.std.specs.Prelude.{ℕ, ◌≡◌, ◌==◌, ⊤, refl, Bool, List, Option}
+use Rattle.std.specs.{List.AllZip, Int.Digits.number_from_digits}
+use Rattle.rlp.specs.{Uint.Uint, Values.Same.SameOption, Values.Value.bit}
+use Rattle.rlp_print.specs.Value.{Content, Value, Entries, content, object, array, number, quantity, bytes, sparse, text, word, nothing, both, field as put, by_form, entries_if, values_of}
+use Rattle.rlp_print.specs.DisplayLemmas.{bit_back, content_bytes, content_number, content_told, entries_same, field_same, first_same, if_told, lines_same, rest_same, values_told}
 
 -- What is shown of a value. Values that are shown alike are the same, as far as `Same` says.
 pub record Display (A : Type 0) : Type 1 where
@@ -22,49 +19,37 @@ pub record Fields (A : Type 0) : Type 1 where
 
 -- ---- contents
 
+-- values that are shown as contents, from which they are told by this part
+abbrev pub a_content : {A B : Type 0} (make : B → Content) (back : Content → A) (get : B → A) → ((x : B) → back (make x) ≡ get x) → Display B
+a_content make back get is = record { value = λ x. content (make x); Same = λ x y. get x ≡ get y; told = content_told make back get is }
+
 -- numbers
 abbrev pub a_number : Display ℕ
-a_number = record {
-  value = λ n. content (number n);
-  Same = λ m n. m ≡ n;
-  told = λ m n is. number_same m n (content_same (number m) (number n) is);
-}
+a_number = a_content number content_number (λ n. n) (λ n. refl)
 
 -- numbers that are hexadecimal in lines too
 abbrev pub a_quantity : Display ℕ
-a_quantity = record {
-  value = λ n. content (quantity n);
-  Same = λ m n. m ≡ n;
-  told = λ m n is. quantity_same m n (content_same (quantity m) (quantity n) is);
-}
+a_quantity = a_content quantity content_number (λ n. n) (λ n. refl)
 
 -- truth values, as 0 or 1
 abbrev pub a_bit : Display Bool
-a_bit = record {
-  value = λ b. content (number (bit b));
-  Same = λ b c. b ≡ c;
-  told = λ b c is. bit_same b c (number_same (bit b) (bit c) (content_same (number (bit b)) (number (bit c)) is));
-}
+a_bit = a_content (λ b. number (bit b)) (λ c. content_number c == 1) (λ b. b) bit_back
 
 -- byte strings
 abbrev pub a_string : Display (List ℕ)
-a_string = record {
-  value = λ b. content (bytes b);
-  Same = λ b c. b ≡ c;
-  told = λ b c is. bytes_same b c (content_same (bytes b) (bytes c) is);
-}
+a_string = a_content bytes content_bytes (λ b. b) (λ b. refl)
 
 -- texts that need no escape in JSON
 abbrev pub a_text : Display (List ℕ)
-a_text = record { value = λ t. content (text t); Same = λ t u. t ≡ u; told = λ t u is. text_same t u (content_same (text t) (text u) is) }
+a_text = a_content text content_bytes (λ t. t) (λ t. refl)
 
 -- byte strings that are mostly zero
 abbrev pub a_sparse_string : Display (List ℕ)
-a_sparse_string = record {
-  value = λ b. content (sparse b);
-  Same = λ b c. b ≡ c;
-  told = λ b c is. sparse_same b c (content_same (sparse b) (sparse c) is);
-}
+a_sparse_string = a_content sparse content_bytes (λ b. b) (λ b. refl)
+
+-- byte strings that are mostly a word
+abbrev pub a_word : Display (List ℕ)
+a_word = a_content word content_bytes (λ b. b) (λ b. refl)
 
 -- ---- values of another type's values, lists, and objects
 
@@ -93,11 +78,7 @@ a_list seen d = record {
 
 -- an object with these fields
 abbrev pub an_object : {A : Type 0} → Fields A → Display A
-an_object f = record {
-  value = λ x. object (f.entries x);
-  Same = f.Same;
-  told = λ x y is. f.told x y (entries_same (f.entries x) (f.entries y) is);
-}
+an_object f = record { value = λ x. object (f.entries x); Same = f.Same; told = λ x y is. f.told x y (entries_same is) }
 
 -- ---- fields
 
@@ -110,7 +91,7 @@ abbrev pub named : {A B : Type 0} → (A → List ℕ) → (A → List ℕ) → 
 named name json get d = record {
   entries = λ x. put (name x) (json x) (d.value (get x));
   Same = λ x y. d.Same (get x) (get y);
-  told = λ x y is. d.told (get x) (get y) (field_same (name x) (name y) (json x) (json y) (d.value (get x)) (d.value (get y)) is);
+  told = λ x y is. d.told (get x) (get y) (field_same is);
 }
 
 -- the fields of a part
@@ -122,7 +103,7 @@ abbrev pub part_if : {A B : Type 0} → (A → Option B) → Fields B → Fields
 part_if get f = record {
   entries = λ x. entries_if f.entries (get x);
   Same = λ x y. SameOption f.Same (get x) (get y);
-  told = λ x y is. if_told f.entries f.Same f.told (get x) (get y) is;
+  told = λ x y is. if_told f.entries f.entries f.Same f.told (get x) (get y) is;
 }
 
 -- a field that may be missing
@@ -130,7 +111,8 @@ abbrev pub named_if : {A B : Type 0} → (A → List ℕ) → (A → List ℕ) �
 named_if name json get d = record {
   entries = λ x. entries_if (λ b. put (name x) (json x) (d.value b)) (get x);
   Same = λ x y. SameOption d.Same (get x) (get y);
-  told = λ x y is. named_told d.value d.Same d.told (name x) (name y) (json x) (json y) (get x) (get y) is;
+  told = λ x y is. if_told (λ b. put (name x) (json x) (d.value b)) (λ b. put (name y) (json y) (d.value b)) d.Same
+      (λ b c same. d.told b c (field_same same)) (get x) (get y) is;
 }
 
 -- fields, and then other fields
@@ -138,7 +120,7 @@ abbrev pub then_fields : {A : Type 0} → Fields A → Fields A → Fields A
 then_fields f more = record {
   entries = λ x. both (f.entries x) (more.entries x);
   Same = λ x y. f.Same x y × more.Same x y;
-  told = λ x y is. both_told (f.entries x) (f.entries y) (more.entries x) (more.entries y) (f.told x y) (more.told x y) is;
+  told = λ x y is. (f.told x y (first_same is), more.told x y (rest_same is));
 }
 
 -- the fields of a pair
@@ -151,18 +133,14 @@ as_shown shown = record { entries = shown; Same = λ x y. shown x ≡ shown y; t
 
 -- fields that follow from others, and tell nothing more
 abbrev pub derived : {A : Type 0} → (A → Entries) → Fields A → Fields A
-derived shown more = record {
-  entries = λ x. both (shown x) (more.entries x);
-  Same = more.Same;
-  told = λ x y is. more.told x y (rest_told (shown x) (shown y) (more.entries x) (more.entries y) is);
-}
+derived shown more = record { entries = λ x. both (shown x) (more.entries x); Same = more.Same; told = λ x y is. more.told x y (rest_same is) }
 
 -- fields of lines, and what JSON has in their place
 abbrev pub by_lines : {A B : Type 0} → (A → B) → Fields B → (A → Entries) → Fields A
 by_lines get f json = record {
   entries = λ x. by_form (f.entries (get x)) (json x);
   Same = λ x y. f.Same (get x) (get y);
-  told = λ x y is. f.told (get x) (get y) (lines_same (f.entries (get x)) (f.entries (get y)) (json x) (json y) is);
+  told = λ x y is. f.told (get x) (get y) (lines_same is);
 }
 
 -- ---- the fields of a struct

@@ -1,49 +1,21 @@
 -- What is shown of messages of `eth`.
-use Rattle.std.specs.Prelude.{codes}
+use Rattle.std.specs.Prelude.{codes, ◌≡◌}
 use Rattle.std.specs.Vec.{vec_items}
 use Rattle.rlp_eth.specs.HashOrNumber.{SameHashOrNumber}
-use Rattle.rlp_eth.specs.declared.announcements.BlockRangeUpdate.{BlockRangeUpdate}
-use Rattle.rlp_eth.specs.declared.announcements.NewBlock.{NewBlock}
-use Rattle.rlp_eth.specs.declared.announcements.NewBlockHash.{NewBlockHash}
-use Rattle.rlp_eth.specs.declared.announcements.NewBlockHashes.{NewBlockHashes}
-use Rattle.rlp_eth.specs.declared.announcements.NewPooledTransactionHashes.{NewPooledTransactionHashes}
-use Rattle.rlp_eth.specs.declared.announcements.Transactions.{Transactions}
-use Rattle.rlp_eth.specs.declared.hash_or_number.HashOrNumber.{HashOrNumber}
-use Rattle.rlp_eth.specs.declared.receipts.BlockReceipts.{BlockReceipts}
-use Rattle.rlp_eth.specs.declared.receipts.Receipts.{Receipts}
-use Rattle.rlp_eth.specs.declared.receipts69.BlockReceipts69.{BlockReceipts69}
-use Rattle.rlp_eth.specs.declared.receipts69.Receipt69.{Receipt69}
-use Rattle.rlp_eth.specs.declared.receipts69.Receipts69.{Receipts69}
-use Rattle.rlp_eth.specs.declared.requests.BlockBodies.{BlockBodies}
-use Rattle.rlp_eth.specs.declared.requests.BlockHeaders.{BlockHeaders}
-use Rattle.rlp_eth.specs.declared.requests.GetBlockBodies.{GetBlockBodies}
-use Rattle.rlp_eth.specs.declared.requests.GetBlockHeaders.{GetBlockHeaders}
-use Rattle.rlp_eth.specs.declared.requests.GetPooledTransactions.{GetPooledTransactions}
-use Rattle.rlp_eth.specs.declared.requests.GetReceipts.{GetReceipts}
-use Rattle.rlp_eth.specs.declared.requests.PooledTransactions.{PooledTransactions}
-use Rattle.rlp_eth.specs.declared.status.ForkHash.{ForkHash}
-use Rattle.rlp_eth.specs.declared.status.ForkId.{ForkId}
-use Rattle.rlp_eth.specs.declared.status.Status68.{Status68}
-use Rattle.rlp_eth.specs.declared.status.Status69.{Status69}
-use Rattle.rlp_eth.specs.declared.with_request_id.WithRequestId.{WithRequestId}
-use Rattle.rlp_print.specs.Blocks.{block_display, body_display}
-use Rattle.rlp_print.specs.Display.{Display, a_bit, a_list, a_number, an_object, end, field, fields_of, the_bytes, wide_number}
-use Rattle.rlp_print.specs.EthLemmas.{hash_or_number_content, hash_or_number_told}
-use Rattle.rlp_print.specs.Headers.{header_display}
-use Rattle.rlp_print.specs.Parts.{hash_display}
-use Rattle.rlp_print.specs.Receipts.{status_display, typed_receipt_display}
-use Rattle.rlp_print.specs.Records.{log_display}
-use Rattle.rlp_print.specs.Sums.{any_transaction_display}
-use Rattle.rlp_print.specs.Value.{content}
+use Rattle.rlp_eth.specs.declared.{announcements.BlockRangeUpdate.BlockRangeUpdate, announcements.NewPooledTransactionHashes.NewPooledTransactionHashes, receipts.BlockReceipts.BlockReceipts}
+use Rattle.rlp_eth.specs.declared.{hash_or_number.HashOrNumber.TheVariants.Hash, hash_or_number.HashOrNumber.TheVariants.Number, with_request_id.WithRequestId.WithRequestId}
+use Rattle.rlp_eth.specs.declared.{hash_or_number.HashOrNumber.HashOrNumber, receipts69.BlockReceipts69.BlockReceipts69, requests.GetBlockHeaders.GetBlockHeaders, status.Status68.Status68}
+use Rattle.rlp_eth.specs.declared.{announcements.NewBlock.NewBlock, announcements.NewBlockHash.NewBlockHash, receipts69.Receipt69.Receipt69, status.ForkId.ForkId, status.Status69.Status69}
+use Rattle.rlp_print.specs.Blocks.{block_display, body_display, header_display}
+use Rattle.rlp_print.specs.Display.{Display, a_bit, a_list, a_number, a_string, an_object, end, field, fields_of, the_bytes, wide_number}
+use Rattle.rlp_print.specs.Value.{content, Content, bytes, number}
+use Rattle.rlp_print.specs.{Receipts.status_display, Receipts.typed_receipt_display, Records.hash_display, Records.log_display, Sums.any_transaction_display}
 
 -- ---- what a client knows of the chain
 
-abbrev pub fork_hash_display : Display ForkHash
-fork_hash_display = the_bytes (λ (f : ForkHash). f.0)
-
 abbrev pub fork_id_display : Display ForkId
 fork_id_display = an_object (
-    field (codes "fork_hash") (codes "forkHash") (λ (f : ForkId). f.fork_hash) fork_hash_display (
+    field (codes "fork_hash") (codes "forkHash") (λ (f : ForkId). f.fork_hash.0) a_string (
     field (codes "fork_next") (codes "forkNext") (λ (f : ForkId). f.fork_next) a_number end))
 
 abbrev pub status68_display : Display Status68
@@ -78,9 +50,6 @@ new_block_hash_display = an_object (
     field (codes "hash") (codes "hash") (λ (b : NewBlockHash). b.hash) hash_display (
     field (codes "number") (codes "number") (λ (b : NewBlockHash). b.number) a_number end))
 
-abbrev pub new_block_hashes_display : Display NewBlockHashes
-new_block_hashes_display = a_list (λ (b : NewBlockHashes). vec_items b.0) new_block_hash_display
-
 abbrev pub new_pooled_transaction_hashes_display : Display NewPooledTransactionHashes
 new_pooled_transaction_hashes_display = an_object (
     field (codes "types") (codes "types") (λ (h : NewPooledTransactionHashes). h.types) (the_bytes vec_items) (
@@ -92,9 +61,6 @@ new_block_display = an_object (
     field (codes "block") (codes "block") (λ (b : NewBlock). b.block) block_display (
     field (codes "total_difficulty") (codes "totalDifficulty") (λ (b : NewBlock). b.total_difficulty) wide_number end))
 
-abbrev pub transactions_display : Display Transactions
-transactions_display = a_list (λ (t : Transactions). vec_items t.0) any_transaction_display
-
 -- ---- requests and their answers
 
 -- the number of a request, and the request or its answer
@@ -102,6 +68,16 @@ abbrev pub with_request_id_display : {T : Type 0} → Display T → Display (Wit
 with_request_id_display {T} d = an_object (
     field (codes "request_id") (codes "requestId") (λ (w : WithRequestId T). w.request_id) a_number (
     field (codes "content") (codes "content") (λ (w : WithRequestId T). w.content) d end))
+
+-- the hash or the number
+abbrev pub hash_or_number_content : HashOrNumber → Content
+hash_or_number_content (Hash h) = bytes h.0
+hash_or_number_content (Number n) = number n
+
+pub hash_or_number_told : (x y : HashOrNumber) → content (hash_or_number_content x) ≡ content (hash_or_number_content y) → SameHashOrNumber x y
+hash_or_number_told (Hash h) (Hash k) is = cc
+hash_or_number_told (Number n) (Number m) is = cc
+hash_or_number_told _ _ is = absurd cc
 
 -- a block by its hash or its number
 abbrev pub hash_or_number_display : Display HashOrNumber
@@ -114,31 +90,10 @@ get_block_headers_display = an_object (
     field (codes "skip") (codes "skip") (λ (g : GetBlockHeaders). g.skip) a_number (
     field (codes "reverse") (codes "reverse") (λ (g : GetBlockHeaders). g.reverse) a_bit end))))
 
-abbrev pub block_headers_display : Display BlockHeaders
-block_headers_display = a_list (λ (b : BlockHeaders). vec_items b.0) header_display
-
-abbrev pub get_block_bodies_display : Display GetBlockBodies
-get_block_bodies_display = a_list (λ (g : GetBlockBodies). vec_items g.0) hash_display
-
-abbrev pub block_bodies_display : Display BlockBodies
-block_bodies_display = a_list (λ (b : BlockBodies). vec_items b.0) body_display
-
-abbrev pub get_pooled_transactions_display : Display GetPooledTransactions
-get_pooled_transactions_display = a_list (λ (g : GetPooledTransactions). vec_items g.0) hash_display
-
-abbrev pub pooled_transactions_display : Display PooledTransactions
-pooled_transactions_display = a_list (λ (p : PooledTransactions). vec_items p.0) any_transaction_display
-
-abbrev pub get_receipts_display : Display GetReceipts
-get_receipts_display = a_list (λ (g : GetReceipts). vec_items g.0) hash_display
-
 -- ---- receipts of blocks
 
 abbrev pub block_receipts_display : Display BlockReceipts
 block_receipts_display = a_list (λ (b : BlockReceipts). vec_items b.0) typed_receipt_display
-
-abbrev pub receipts_display : Display Receipts
-receipts_display = a_list (λ (r : Receipts). vec_items r.0) block_receipts_display
 
 -- a receipt since `eth/69`
 abbrev pub receipt69_display : Display Receipt69
@@ -150,6 +105,3 @@ receipt69_display = an_object (
 
 abbrev pub block_receipts69_display : Display BlockReceipts69
 block_receipts69_display = a_list (λ (b : BlockReceipts69). vec_items b.0) receipt69_display
-
-abbrev pub receipts69_display : Display Receipts69
-receipts69_display = a_list (λ (r : Receipts69). vec_items r.0) block_receipts69_display

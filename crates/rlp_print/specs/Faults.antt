@@ -1,18 +1,12 @@
 -- What is shown of the fault of a record.
-use Rattle.std.specs.Prelude.{◌≡◌, codes}
-use Rattle.rlp_print.specs.Display.{Display, Fields, a_text, an_object, end, field, field_if}
-use Rattle.rlp_print.specs.DisplayLemmas.{content_same, place_same}
-use Rattle.rlp_print.specs.Value.{content, place}
-use Rattle.rlp_print.specs.declared.faults.Fault.{Fault}
-use Rattle.rlp_print.specs.declared.faults.Place.{Place}
+use Rattle.std.specs.Prelude.{codes, refl}
+use Rattle.rlp_print.specs.Display.{Display, Fields, a_content, a_text, an_object, end, field, field_if}
+use Rattle.rlp_print.specs.{DisplayLemmas.content_number, Value.place}
+use Rattle.rlp_print.specs.declared.faults.{Fault.Fault, Place.Place}
 
 -- a place, counted from 0
 abbrev pub place_display : Display Place
-place_display = record {
-  value = λ p. content (place p.0);
-  Same = λ p q. p.0 ≡ q.0;
-  told = λ p q is. place_same p.0 q.0 (content_same (place p.0) (place q.0) is);
-}
+place_display = a_content (λ (p : Place). place p.0) content_number (λ p. p.0) (λ p. refl)
 
 -- the place of a field, if the fault is in one; the name of an item; and the fault
 abbrev pub fault_fields : Fields Fault

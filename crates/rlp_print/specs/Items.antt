@@ -1,11 +1,15 @@
--- What is shown of items of any kind.
-use Rattle.std.specs.Prelude.{ℕ, ◌≡◌, List, map}
-use Rattle.std.proofs.Common.{ap, refl}
-use Rattle.rlp.specs.Format.Item.{Item, Items, string, list, no_items, item_and, items_from}
-use Rattle.rlp.specs.Values.RawItem.{item_within, raw_item_of}
-use Rattle.rlp.specs.Views.View.{View}
-use Rattle.rlp_print.specs.Display.{Display, through}
-use Rattle.rlp_print.specs.Value.{Value, Values, content, array, bytes, no_values, value_and}
+-- What is shown of items: of items of any kind, and of nodes of the trie that are kept in their parents.
+use Rattle.std.specs.Prelude.{ℕ, ◌==◌, if◌then◌else◌, Bool, true, false, List, [], codes, length, map, Option, Some, None}
+use Rattle.std.proofs.Common.{◌≡◌, ◌<◌, ◌∙◌, refl, sym, ap, arith}
+use Rattle.std.proofs.lemmas.Bool.Decides.{nat_tests}
+use Rattle.rlp.specs.Format.Item.{Item, Items, string, list, no_items, item_and, items_from, listed}
+use Rattle.rlp.specs.{Values.RawItem.item_within, Values.RawItem.raw_item_of, Views.View.View}
+use Rattle.rlp_trie.specs.HexPrefix.{ends_in_leaf, path_nibbles}
+use Rattle.rlp_print.specs.Display.{Display, Fields, a_content, derived, end, field, through}
+use Rattle.rlp_print.specs.Value.{Value, Entries, Values, content, object, array, bytes, path, text, nothing, both, field as put, by_form, no_values, value_and}
+use Rattle.rlp_print.specs.{DisplayLemmas.content_bytes, Texts.digits_text}
+
+-- ---- items of any kind
 
 -- a string is its bytes, and a list is an array of its items
 abbrev mutual
@@ -17,28 +21,146 @@ abbrev mutual
   items_values no_items = no_values
   items_values (item_and x xs) = value_and (item_value x) (items_values xs)
 
--- items that are shown alike are equal
+-- ---- nodes that are kept in their parents, which may be any items
+
+-- a hex-prefix encoded path, and in JSON its nibbles
+abbrev pub path_fields : Fields (List ℕ)
+path_fields =
+    field (codes "path") (codes "path") (λ d. d) (a_content path content_bytes (λ d. d) (λ d. refl)) (
+    derived (λ d. by_form nothing (put (codes "nibbles") (codes "nibbles") (content (text (digits_text (path_nibbles d)))))) end)
+
+-- the kind of a node
+abbrev pub kind_entries : List ℕ → Entries
+kind_entries kind = put (codes "node") (codes "node") (content (text kind))
+
+-- the name of the kind of a leaf or an extension, and the name of its value or its child
+abbrev pub kind_of : Bool → List ℕ
+kind_of true = codes "leaf"
+kind_of false = codes "extension"
+
+abbrev pub key_of : Bool → List ℕ
+key_of true = codes "value"
+key_of false = codes "child"
+
+-- a leaf with this path and this value, or an extension with this path and this child
+abbrev pub pair_entries : Bool → List ℕ → Value → Entries
+pair_entries leaf d v = both (kind_entries (kind_of leaf)) (both (path_fields.entries d) (both (put (key_of leaf) (key_of leaf) v) nothing))
+
+-- a branch with these children and this value
+abbrev pub branch_entries : Values → Value → Entries
+branch_entries children v =
+    both (kind_entries (codes "branch")) (
+    both (put (codes "children") (codes "children") (array children)) (both (put (codes "value") (codes "value") v) nothing))
+
+-- the bytes of a string; a list has none
+abbrev pub string_of : Item → List ℕ
+string_of (string d) = d
+string_of (list xs) = []
+
+-- the last item
+abbrev pub last_item : Items → Item
+last_item no_items = string []
+last_item (item_and x no_items) = x
+last_item (item_and x (item_and y ys)) = last_item (item_and y ys)
+
+-- Two items, by whether the string of the first is the path of a leaf, the path of an extension, or none. The value is that of the second item as a node.
+abbrev pub pair_value : Option Bool → Item → Item → Value → Value
+pair_value (Some true) x y v = object (pair_entries true (string_of x) (item_value y))
+pair_value (Some false) x y v = object (pair_entries false (string_of x) v)
+pair_value None x y v = item_value (list (item_and x (item_and y no_items)))
+
+-- A string is the hash of a node, or no bytes where there is no child. A list is a leaf or an extension, a branch if it has 17 items, or else an item of any
+-- kind. All items of a branch but the last are its children, and the last is a value of any kind.
+abbrev mutual
+  pub kept_value : Item → Value
+  kept_value (string d) = content (bytes d)
+  kept_value (list (item_and x (item_and y no_items))) = pair_value (ends_in_leaf (string_of x)) x y (kept_value y)
+  kept_value (list xs) = if length (listed xs) == 17 then object (branch_entries (front_values xs) (item_value (last_item xs))) else item_value (list xs)
+
+  pub front_values : Items → Values
+  front_values (item_and x (item_and y ys)) = value_and (kept_value x) (front_values (item_and y ys))
+  front_values xs = no_values
+
+-- ---- what is shown of an item says what the item is
+
+-- some items, and then others
+abbrev joined : Items → Items → Items
+joined no_items ys = ys
+joined (item_and x xs) ys = item_and x (joined xs ys)
+
+-- The item that a value shows. A node shows a path and an item, or its children and an item.
+abbrev mutual
+  shown_item : Value → Item
+  shown_item (content c) = string (content_bytes c)
+  shown_item (array vs) = list (shown_items vs)
+  shown_item (object (both kind (both first (both (put name json v) nothing)))) = list (shown_first first (item_and (shown_item v) no_items))
+  shown_item (object es) = list no_items
+
+  shown_first : Entries → Items → Items
+  shown_first (both (put name json v) more) xs = item_and (shown_item v) xs
+  shown_first (put name json (array vs)) xs = joined (shown_items vs) xs
+  shown_first es xs = xs
+
+  shown_items : Values → Items
+  shown_items no_values = no_items
+  shown_items (value_and v vs) = item_and (shown_item v) (shown_items vs)
+
 mutual
-  pub item_told : (x y : Item) → item_value x ≡ item_value y → x ≡ y
-  item_told (string b) (string d) is = cc
-  item_told (string b) (list ys) is = absurd cc
-  item_told (list xs) (string d) is = absurd cc
-  item_told (list xs) (list ys) is = ap list (items_told xs ys cc)
+  item_back : (x : Item) → shown_item (item_value x) ≡ x
+  item_back (string d) = refl
+  item_back (list xs) = ap list (items_back xs)
 
-  items_told : (xs ys : Items) → items_values xs ≡ items_values ys → xs ≡ ys
-  items_told no_items no_items is = refl
-  items_told no_items (item_and y ys) is = absurd cc
-  items_told (item_and x xs) no_items is = absurd cc
-  items_told (item_and x xs) (item_and y ys) is = let first = item_told x y cc in let others = items_told xs ys cc in cc
+  items_back : (xs : Items) → shown_items (items_values xs) ≡ xs
+  items_back no_items = refl
+  items_back (item_and x xs) = let first = item_back x in let others = items_back xs in cc
 
--- items
-abbrev pub item_display : Display Item
-item_display = record { value = item_value; Same = λ x y. x ≡ y; told = item_told }
+-- an item that is a path is a string
+path_back : (x : Item) (leaf : Bool) → ends_in_leaf (string_of x) ≡ Some leaf → string (string_of x) ≡ x
+path_back (string d) leaf is = refl
+path_back (list xs) leaf is = absurd cc
+
+pair_back : (kind : Option Bool) (x y : Item) (v : Value) → ends_in_leaf (string_of x) ≡ kind → shown_item v ≡ y
+    → shown_item (pair_value kind x y v) ≡ list (item_and x (item_and y no_items))
+pair_back (Some true) x y v is back = let first = path_back x true is in let second = item_back y in cc
+pair_back (Some false) x y v is back = let first = path_back x false is in cc
+pair_back None x y v is back = item_back (list (item_and x (item_and y no_items)))
+
+list_back : (many : Bool) (xs : Items) → (length (listed xs) == 17) ≡ many
+    → (0 < length (listed xs) → joined (shown_items (front_values xs)) (item_and (last_item xs) no_items) ≡ xs)
+    → shown_item (if many then object (branch_entries (front_values xs) (item_value (last_item xs))) else item_value (list xs)) ≡ list xs
+list_back true xs is front = ap (λ x. list (joined (shown_items (front_values xs)) (item_and x no_items))) (item_back (last_item xs))
+    ∙ ap list (front (grind (arith, nat_tests, is)))
+list_back false xs is front = item_back (list xs)
+
+mutual
+  kept_back : (x : Item) → shown_item (kept_value x) ≡ x
+  kept_back (string d) = refl
+  kept_back (list (item_and x (item_and y no_items))) = pair_back (ends_in_leaf (string_of x)) x y (kept_value y) refl (kept_back y)
+  kept_back (list xs) = list_back (length (listed xs) == 17) xs refl (λ some. front_back xs some)
+
+  front_back : (xs : Items) → 0 < length (listed xs) → joined (shown_items (front_values xs)) (item_and (last_item xs) no_items) ≡ xs
+  front_back no_items some = absurd (omega (arith, some))
+  front_back (item_and x no_items) some = refl
+  front_back (item_and x (item_and y ys)) some = let first = kept_back x in let others = front_back (item_and y ys) (omega arith) in cc
+
+-- items that are shown alike are equal
+pub item_told : (x y : Item) → item_value x ≡ item_value y → x ≡ y
+item_told x y is = sym (item_back x) ∙ ap shown_item is ∙ item_back y
+
+pub kept_told : (x y : Item) → kept_value x ≡ kept_value y → x ≡ y
+kept_told x y is = sym (kept_back x) ∙ ap shown_item is ∙ kept_back y
+
+-- items that are kept as the bytes of their encodings
+abbrev pub raw_item_display : Display (List ℕ)
+raw_item_display = through raw_item_of (record { value = item_value; Same = λ x y. x ≡ y; told = item_told })
+
+-- ---- views
+
+-- an item as an item of any kind, or as a node
+abbrev pub value_by : Bool → Item → Value
+value_by true x = kept_value x
+value_by false x = item_value x
 
 -- the items that views begin with, through at most this number of nested lists
 abbrev pub view_items : ℕ → List View → Items
 view_items most vs = items_from (map (λ (v : View). item_within most v.bytes) vs)
-
--- items that are kept as the bytes of their encodings
-abbrev pub raw_item_display : Display (List ℕ)
-raw_item_display = through raw_item_of item_display

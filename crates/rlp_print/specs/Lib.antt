@@ -16,31 +16,19 @@ pub mod Dump
 pub mod Seen
 -- the numbers of types, and sums of types
 pub mod Types
-pub mod CaseLemmas
 pub mod Cases
--- faults
+-- faults, items, nodes of the trie and node records
 pub mod Faults
--- records
-pub mod Parts
 pub mod Items
+pub mod Nodes
+pub mod NodeRecords
+-- records
 pub mod Records
-pub mod Status
-pub mod StatusLemmas
 pub mod Receipts
-pub mod Headers
 pub mod Transactions
 pub mod Signed
-pub mod SumLemmas
 pub mod Sums
-pub mod Sent
 pub mod Blocks
--- nodes of the trie
-pub mod KeptNodes
-pub mod KeptNodeLemmas
-pub mod Nodes
--- node records
-pub mod NodeRecords
 -- messages
 pub mod P2p
-pub mod EthLemmas
 pub mod Eth

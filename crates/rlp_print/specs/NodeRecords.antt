@@ -1,16 +1,12 @@
 -- What is shown of node records.
 use Rattle.std.specs.Prelude.{ℕ, ◌≡◌, ◌==◌, ◌&&◌, ◌||◌, nat_lt, if◌then◌else◌, Bool, false, List, [], ◌∷◌, codes, length}
-use Rattle.std.specs.Int.Digits.{number_from_digits}
-use Rattle.std.specs.Str.{bytes_eq}
-use Rattle.std.specs.Vec.{vec_items}
+use Rattle.std.specs.{Int.Digits.number_from_digits, Str.bytes_eq, Vec.vec_items}
 use Rattle.rlp.specs.Format.Item.{Item, string, list}
 use Rattle.rlp.specs.Values.RawItem.{raw_item_of}
-use Rattle.rlp_node_record.specs.declared.node_fields.NodeFields.{NodeFields}
-use Rattle.rlp_node_record.specs.declared.node_fields.NodePair.{NodePair}
-use Rattle.rlp_print.specs.Display.{Display, a_list, a_number, an_object, end, field, the_bytes}
-use Rattle.rlp_print.specs.DisplayLemmas.{content_same, word_same}
-use Rattle.rlp_print.specs.Items.{item_told, item_value}
+use Rattle.rlp_node_record.specs.declared.{node_fields.NodeFields.NodeFields, node_fields.NodePair.NodePair}
+use Rattle.rlp_print.specs.Display.{Display, a_list, a_number, a_word, an_object, end, field, the_bytes}
 use Rattle.rlp_print.specs.Value.{Content, Value, content, bytes, ip, number, word}
+use Rattle.rlp_print.specs.{DisplayLemmas.content_same, Items.item_told, Items.item_value}
 
 -- ---- values of the keys that EIP-778 defines
 
@@ -52,15 +48,10 @@ SameKeyValue _ _ = ⊥
 
 pub key_value_told : (p q : List ℕ × Item) → key_value p.0 p.1 ≡ key_value q.0 q.1 → SameKeyValue p q
 key_value_told (key, string d) (other, string e) is = content_same (string_content key d) (string_content other e) is
-key_value_told (key, string d) (other, list ys) is = absurd cc
-key_value_told (key, list xs) (other, string e) is = absurd cc
 key_value_told (key, list xs) (other, list ys) is = let same = item_told (list xs) (list ys) is in cc
+key_value_told _ _ is = absurd cc
 
 -- ---- records
-
--- keys
-abbrev pub a_word : Display (List ℕ)
-a_word = record { value = λ d. content (word d); Same = λ b c. b ≡ c; told = λ b c is. word_same b c (content_same (word b) (word c) is) }
 
 -- values, each with its key
 abbrev pub key_value_display : Display (List ℕ × Item)

@@ -1,23 +1,13 @@
 -- What is shown of nodes of the trie.
 use Rattle.std.specs.Prelude.{◌≡◌, ⊤, codes}
 use Rattle.std.specs.Vec.{vec_items}
-use Rattle.keccak.specs.Keccak.{keccak256}
-use Rattle.rlp.specs.Format.Encoding.{encoding}
-use Rattle.rlp.specs.Format.Item.{Item}
-use Rattle.rlp_trie.specs.BranchChild.{place_item}
-use Rattle.rlp_trie.specs.Child.{child_item}
-use Rattle.rlp_trie.specs.TrieNode.{node_item}
-use Rattle.rlp_trie.specs.declared.branch.Branch.{Branch}
-use Rattle.rlp_trie.specs.declared.branch_child.BranchChild.{BranchChild}
-use Rattle.rlp_trie.specs.declared.child.Child.{Child}
-use Rattle.rlp_trie.specs.declared.extension.Extension.{Extension}
-use Rattle.rlp_trie.specs.declared.leaf.Leaf.{Leaf}
-use Rattle.rlp_trie.specs.declared.trie_node.TrieNode.{TrieNode}
-use Rattle.rlp_trie.specs.declared.trie_node.TrieNode.TheVariants as node
+use Rattle.rlp.specs.{Format.Encoding.encoding, Format.Item.Item}
+use Rattle.rlp_trie.specs.{BranchChild.place_item, Child.child_item, TrieNode.node_item}
+use Rattle.rlp_trie.specs.declared.{branch.Branch.Branch, branch_child.BranchChild.BranchChild, child.Child.Child, extension.Extension.Extension, leaf.Leaf.Leaf, trie_node.TrieNode.TrieNode}
 use Rattle.rlp_print.specs.Display.{Display, Fields, a_list, an_object, derived, end, field, fields_of, the_bytes, through}
-use Rattle.rlp_print.specs.KeptNodeLemmas.{kept_told}
-use Rattle.rlp_print.specs.KeptNodes.{kept_value, kind_entries, path_fields}
-use Rattle.rlp_print.specs.Value.{Entries, bytes, content, field as put}
+use Rattle.rlp_print.specs.Items.{kept_told, kept_value, kind_entries, path_fields}
+use Rattle.rlp_print.specs.{Records.hash_entries, Value.Entries}
+use Rattle.rlp_trie.specs.declared.trie_node.TrieNode.TheVariants as node
 
 -- children of nodes, as items
 abbrev pub kept_display : Display Item
@@ -76,10 +66,6 @@ node_told _ _ is = absurd cc
 abbrev pub node_fields_display : Fields TrieNode
 node_fields_display = record { entries = node_entries; Same = λ n m. SameNode n m; told = node_told }
 
--- the hash of a node
-abbrev pub node_hash_entries : TrieNode → Entries
-node_hash_entries n = put (codes "hash") (codes "hash") (content (bytes (keccak256 (encoding (node_item n)))))
-
 -- nodes with their hashes
 abbrev pub node_display : Display TrieNode
-node_display = an_object (derived node_hash_entries node_fields_display)
+node_display = an_object (derived (λ n. hash_entries (encoding (node_item n))) node_fields_display)

@@ -1,20 +1,38 @@
 -- What is shown of receipts.
-use Rattle.std.specs.Prelude.{refl, codes}
+use Rattle.std.specs.Prelude.{◌≡◌, ⊤, refl, [], ◌∷◌, codes}
 use Rattle.std.specs.Vec.{vec_items}
 use Rattle.rlp_headers.specs.TypedReceipt.{receipt_as_sum}
-use Rattle.rlp_headers.specs.declared.receipt.Receipt.{Receipt}
-use Rattle.rlp_headers.specs.declared.receipt_status.ReceiptStatus.{ReceiptStatus}
-use Rattle.rlp_headers.specs.declared.typed_receipt.TypedReceipt.{TypedReceipt}
-use Rattle.rlp_print.specs.Cases.{and_case, last_case}
+use Rattle.rlp_headers.specs.declared.receipt_status.ReceiptStatus.TheVariants.{Failure, StateRoot, Success}
+use Rattle.rlp_headers.specs.declared.{receipt.Receipt.Receipt, receipt_status.ReceiptStatus.ReceiptStatus, typed_receipt.TypedReceipt.TypedReceipt}
 use Rattle.rlp_print.specs.Display.{Display, Fields, a_list, a_number, an_object, derived, end, field, fields_of, part}
-use Rattle.rlp_print.specs.Parts.{bloom_display}
-use Rattle.rlp_print.specs.Records.{log_display}
-use Rattle.rlp_print.specs.Status.{SameStatus, status_entries}
-use Rattle.rlp_print.specs.StatusLemmas.{status_told}
-use Rattle.rlp_print.specs.Types.{no_type_entries, type_entries}
+use Rattle.rlp_print.specs.Value.{Entries, bytes, by_form, content, field as put, number}
+use Rattle.rlp_print.specs.{Cases.and_case, Cases.last_case, Records.bloom_display, Records.log_display, Types.no_type_entries, Types.type_entries}
+
+-- ---- the status of a receipt
+
+-- In lines it is the bytes of the field. JSON has the status as a number, or before Byzantium the root of the trie of the state.
+abbrev pub status_entries : ReceiptStatus → Entries
+status_entries Failure = by_form (put (codes "status_or_state_root") (codes "status") (content (bytes []))) (put (codes "status_or_state_root") (codes "status") (content (number 0)))
+status_entries Success = by_form (put (codes "status_or_state_root") (codes "status") (content (bytes (1 ∷ [])))) (put (codes "status_or_state_root") (codes "status") (content (number 1)))
+status_entries (StateRoot root) = put (codes "status_or_state_root") (codes "root") (content (bytes root.0))
+
+-- the two are one status, or one root
+abbrev pub SameStatus : ReceiptStatus → ReceiptStatus → Type 0
+SameStatus Failure Failure = ⊤
+SameStatus Success Success = ⊤
+SameStatus (StateRoot r) (StateRoot s) = r.0 ≡ s.0
+SameStatus _ _ = ⊥
+
+pub status_told : (r s : ReceiptStatus) → status_entries r ≡ status_entries s → SameStatus r s
+status_told Failure Failure is = tt
+status_told Success Success is = tt
+status_told (StateRoot r) (StateRoot s) is = cc
+status_told _ _ is = absurd cc
 
 abbrev pub status_display : Fields ReceiptStatus
 status_display = record { entries = status_entries; Same = SameStatus; told = status_told }
+
+-- ---- receipts
 
 -- a receipt, without a type
 abbrev pub receipt_display : Fields Receipt

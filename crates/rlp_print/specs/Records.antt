@@ -1,12 +1,25 @@
--- What is shown of withdrawals, accounts, logs and receipts.
-use Rattle.std.specs.Prelude.{codes}
+-- What is shown of hashes and addresses, and of withdrawals, accounts and logs.
+use Rattle.std.specs.Prelude.{ℕ, List, codes}
 use Rattle.std.specs.Vec.{vec_items}
-use Rattle.rlp_headers.specs.declared.account.Account.{Account}
-use Rattle.rlp_headers.specs.declared.log.Log.{Log}
-use Rattle.rlp_headers.specs.declared.withdrawal.Withdrawal.{Withdrawal}
-use Rattle.rlp_headers.specs.declared.withdrawal.Withdrawals.{Withdrawals}
-use Rattle.rlp_print.specs.Display.{Display, a_list, a_number, an_object, end, field, the_bytes, wide_number}
-use Rattle.rlp_print.specs.Parts.{address_display, hash_display}
+use Rattle.keccak.specs.Keccak.{keccak256}
+use Rattle.rlp_headers.specs.declared.{account.Account.Account, bloom.Bloom.Bloom, log.Log.Log, withdrawal.Withdrawal.Withdrawal, withdrawal.Withdrawals.Withdrawals}
+use Rattle.rlp_records.specs.declared.{address.Address.Address, hash.Hash.Hash}
+use Rattle.rlp_print.specs.Display.{Display, a_list, a_number, a_sparse_string, an_object, end, field, the_bytes, through, wide_number}
+use Rattle.rlp_print.specs.Value.{Entries, bytes, content, field as put}
+
+-- strings of a fixed length
+abbrev pub hash_display : Display Hash
+hash_display = the_bytes (λ (h : Hash). h.0)
+
+abbrev pub address_display : Display Address
+address_display = the_bytes (λ (a : Address). a.0)
+
+abbrev pub bloom_display : Display Bloom
+bloom_display = through (λ (b : Bloom). b.0) a_sparse_string
+
+-- the hash of these bytes, which names what they are
+abbrev pub hash_entries : List ℕ → Entries
+hash_entries hashed = put (codes "hash") (codes "hash") (content (bytes (keccak256 hashed)))
 
 abbrev pub withdrawal_display : Display Withdrawal
 withdrawal_display = an_object (

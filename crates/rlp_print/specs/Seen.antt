@@ -1,14 +1,10 @@
 -- What the code gives to a sink.
-use Rattle.std.specs.Prelude.{◌≡◌}
-use Rattle.std.specs.Int.Digits.{number_from_digits}
-use Rattle.rlp_print.specs.Display.{Display}
-use Rattle.rlp_print.specs.DisplayLemmas.{content_same}
-use Rattle.rlp_print.specs.Value.{Content, content, number, place, quantity, legacy_v, bytes, bytes_or_null, sparse, path, word, ip, type_byte, payload, text, empty_list}
+use Rattle.std.specs.{Prelude.refl, Int.Digits.number_from_digits}
+use Rattle.rlp_print.specs.Display.{Display, a_content}
+use Rattle.rlp_print.specs.Value.{Content, number, place, quantity, legacy_v, bytes, bytes_or_null, sparse, path, word, ip, type_byte, payload, text, empty_list}
 use Rattle.rlp_print.specs.Steps.{Brackets, braces, squares}
-use Rattle.rlp_print.specs.declared.sink.Shown.{Shown}
+use Rattle.rlp_print.specs.declared.sink.{Shown.Shown, Bracket.Bracket, Bracket.TheVariants.Brace, Bracket.TheVariants.Square}
 use Rattle.rlp_print.specs.declared.sink.Shown.TheVariants.{Number, Place, Wide, Quantity, LegacyV, Bytes, BytesOrNull, Sparse, Path, Word, Ip, TypeByte, Payload, Text, EmptyList}
-use Rattle.rlp_print.specs.declared.sink.Bracket.{Bracket}
-use Rattle.rlp_print.specs.declared.sink.Bracket.TheVariants.{Brace, Square}
 
 -- a content
 abbrev pub content_of : Shown → Content
@@ -34,4 +30,4 @@ brackets_of Brace = braces
 brackets_of Square = squares
 
 abbrev pub shown_display : Display Shown
-shown_display = record { value = λ s. content (content_of s); Same = λ s t. content_of s ≡ content_of t; told = λ s t is. content_same (content_of s) (content_of t) is }
+shown_display = a_content content_of (λ c. c) content_of (λ s. refl)

@@ -1,36 +1,19 @@
 -- What is shown of transactions with their signatures.
-use Rattle.std.specs.Prelude.{ℕ, ◌≡◌, ◌==◌, ◌&&◌, if◌then◌else◌, Bool, true, false, List, ◌∷◌, codes, Option, Some, None}
-use Rattle.std.specs.List.{list_all}
+use Rattle.std.specs.Prelude.{ℕ, ◌≡◌, ◌==◌, refl, ◌&&◌, if◌then◌else◌, Bool, true, false, List, ◌∷◌, codes, Option, Some, None}
+use Rattle.std.specs.{List.list_all, Vec.vec_items}
 use Rattle.keccak.specs.Keccak.{keccak256}
-use Rattle.rlp.specs.Format.Encoding.{encoding}
-use Rattle.rlp.specs.Format.Item.{Item, list_of}
-use Rattle.rlp.specs.Uint.{Uint}
-use Rattle.rlp.specs.Values.Value.{bit}
-use Rattle.rlp_print.specs.Display.{Display, Fields, a_bit, a_list, a_number, an_object, derived, end, field, field_if, fields_of, the_bytes, through, wide_number, wide_quantity}
-use Rattle.rlp_print.specs.Parts.{address_display}
-use Rattle.rlp_print.specs.Texts.{said_by}
-use Rattle.rlp_print.specs.Types.{no_type_entries, type_entries}
-use Rattle.rlp_print.specs.Transactions.{access_list_display, access_list_transaction_display, authorization_display, blob_display, fee_market_display, legacy_display}
-use Rattle.rlp_print.specs.Value.{Content, Entries, both, bytes, by_form, content, entries_if, field as put, legacy_v, nothing, number}
-use Rattle.std.specs.Vec.{vec_items}
-use Rattle.rlp_transactions.specs.AccessListTransaction.{access_list_transaction_fields}
-use Rattle.rlp_transactions.specs.Authorization.{authorization_fields}
-use Rattle.rlp_transactions.specs.BlobTransaction.{blob_transaction_fields}
-use Rattle.rlp_transactions.specs.FeeMarketTransaction.{fee_market_transaction_fields}
-use Rattle.rlp_transactions.specs.SetCodeTransaction.{set_code_transaction_fields}
-use Rattle.rlp_transactions.specs.Signatures.{number_of}
-use Rattle.rlp_transactions.specs.UnsignedLegacyTransaction.{unsigned_legacy_transaction}
-use Rattle.rlp_transactions.specs.declared.authorization.Authorization.{Authorization}
-use Rattle.rlp_transactions.specs.declared.eip155.Eip155.{Eip155}
-use Rattle.rlp_transactions.specs.declared.legacy_transaction.LegacyTransaction.{LegacyTransaction}
-use Rattle.rlp_transactions.specs.declared.set_code_transaction.SetCodeTransaction.{SetCodeTransaction}
-use Rattle.rlp_transactions.specs.declared.signed.Signed.{Signed}
-use Rattle.rlp_transactions.specs.declared.transaction.Transaction.{Transaction}
-use Rattle.rlp_transactions.specs.declared.transaction.Transaction.TheVariants.{AccessList, Blob, FeeMarket, Legacy, SetCode}
+use Rattle.rlp.specs.{Format.Encoding.encoding, Format.Item.Item, Format.Item.list_of, Uint.Uint, Values.Value.bit}
+use Rattle.rlp_transactions.specs.{Authorization.authorization_fields, Signatures.number_of, UnsignedLegacyTransaction.unsigned_legacy_transaction}
+use Rattle.rlp_transactions.specs.declared.{eip155.Eip155.Eip155, legacy_transaction.LegacyTransaction.LegacyTransaction, set_code_transaction.SetCodeTransaction.SetCodeTransaction}
+use Rattle.rlp_transactions.specs.declared.{authorization.Authorization.Authorization, signed.Signed.Signed}
+use Rattle.rlp_print.specs.Display.{Display, Fields, a_bit, a_content, a_list, a_number, an_object, derived, end, field, field_if, fields_of, the_bytes, wide_number, wide_quantity}
+use Rattle.rlp_print.specs.Transactions.{access_list_display, authorization_display, legacy_display}
+use Rattle.rlp_print.specs.Value.{Content, Entries, bytes, by_form, content, entries_if, field as put, legacy_v, nothing, number}
+use Rattle.rlp_print.specs.{DisplayLemmas.content_number, Records.address_display, Texts.said_by, Types.no_type_entries, Types.type_entries}
 
 -- the hash that is signed
 abbrev pub signing_entries : List ℕ → Entries
-signing_entries signed = put (codes "signing_hash") (codes "signingHash") (content (bytes (keccak256 signed)))
+signing_entries hash = put (codes "signing_hash") (codes "signingHash") (content (bytes hash))
 
 -- the two numbers of a signature
 abbrev pub signature_display : {T V : Type 0} → Fields (Signed T V) → Fields (Signed T V)
@@ -47,7 +30,7 @@ typed_display {T} tag items f =
     field (codes "y_parity") (codes "yParity") (λ (x : Signed T Bool). x.v) a_bit (
     derived (λ (x : Signed T Bool). by_form nothing (put (codes "v") (codes "v") (content (number (bit x.v))))) (
     signature_display (
-    derived (λ (x : Signed T Bool). signing_entries (tag ∷ encoding (list_of (items x.payload)))) end)))))
+    derived (λ (x : Signed T Bool). signing_entries (keccak256 (tag ∷ encoding (list_of (items x.payload))))) end)))))
 
 -- the signed authorizations of EIP-7702
 abbrev pub signed_authorization_display : Display (Signed Authorization ℕ)
@@ -55,7 +38,7 @@ signed_authorization_display = an_object (
     fields_of (λ (x : Signed Authorization ℕ). x.payload) authorization_display (
     field (codes "y_parity") (codes "yParity") (λ (x : Signed Authorization ℕ). x.v) a_number (
     signature_display (
-    derived (λ (x : Signed Authorization ℕ). signing_entries (5 ∷ encoding (list_of (authorization_fields.items x.payload)))) end))))
+    derived (λ (x : Signed Authorization ℕ). signing_entries (keccak256 (5 ∷ encoding (list_of (authorization_fields.items x.payload))))) end))))
 
 abbrev pub set_code_display : Fields SetCodeTransaction
 set_code_display =
@@ -84,18 +67,12 @@ abbrev pub v_content : Bool → ℕ → Content
 v_content true v = number v
 v_content false v = legacy_v v
 
-pub v_told : (p q : Bool) (m n : ℕ) → content (v_content p m) ≡ content (v_content q n) → m ≡ n
-v_told true true m n is = cc
-v_told true false m n is = absurd cc
-v_told false true m n is = absurd cc
-v_told false false m n is = cc
+pub v_back : (unsigned : Bool) (v : ℕ) → content_number (v_content unsigned v) ≡ v
+v_back true v = refl
+v_back false v = refl
 
 abbrev pub v_display : Display (Signed LegacyTransaction (Uint 32))
-v_display = record {
-  value = λ x. content (v_content (is_unsigned x) (number_of x.v));
-  Same = λ x y. number_of x.v ≡ number_of y.v;
-  told = λ x y is. v_told (is_unsigned x) (is_unsigned y) (number_of x.v) (number_of y.v) is;
-}
+v_display = a_content (λ x. v_content (is_unsigned x) (number_of x.v)) content_number (λ x. number_of x.v) (λ x. v_back (is_unsigned x) (number_of x.v))
 
 -- what `v` says, in JSON: the number of the chain, if it is signed, and the parity
 abbrev pub said_display : Fields Eip155
@@ -106,7 +83,7 @@ said_display =
 -- the hash that is signed, if `v` says what that is
 abbrev pub legacy_signing_entries : LegacyTransaction → Option Eip155 → Entries
 legacy_signing_entries t None = nothing
-legacy_signing_entries t (Some x) = both (signing_entries (encoding (unsigned_legacy_transaction.item (record { payload = t; chain_id = x.chain_id })))) nothing
+legacy_signing_entries t (Some x) = signing_entries (keccak256 (encoding (unsigned_legacy_transaction.item (record { payload = t; chain_id = x.chain_id }))))
 
 abbrev pub signed_legacy_display : Fields (Signed LegacyTransaction (Uint 32))
 signed_legacy_display =
@@ -116,12 +93,3 @@ signed_legacy_display =
     derived (λ (x : Signed LegacyTransaction (Uint 32)). by_form nothing (entries_if said_display.entries (said_of x))) (
     signature_display (
     derived (λ (x : Signed LegacyTransaction (Uint 32)). legacy_signing_entries x.payload (said_of x)) end)))))
-
--- ---- transactions of all types
-
-abbrev pub transaction_entries : Transaction → Entries
-transaction_entries (Legacy t) = signed_legacy_display.entries t
-transaction_entries (AccessList t) = (typed_display 1 access_list_transaction_fields.items access_list_transaction_display).entries t
-transaction_entries (FeeMarket t) = (typed_display 2 fee_market_transaction_fields.items fee_market_display).entries t
-transaction_entries (Blob t) = (typed_display 3 blob_transaction_fields.items blob_display).entries t
-transaction_entries (SetCode t) = (typed_display 4 set_code_transaction_fields.items set_code_display).entries t

@@ -1,13 +1,8 @@
 -- The text of numbers and bytes, and of what some bytes mean.
 use Rattle.std.specs.Prelude.{ℕ, ◌-◌, ◌+◌, ◌/◌, ◌%◌, ◌^◌, ◌==◌, ◌&&◌, ◌||◌, nat_lt, if◌then◌else◌, Bool, false, List, ◌++◌, [], ◌∷◌, codes, decimal, length, map, Option, Some, None}
-use Rattle.std.specs.Char.{is_ascii_digit, is_ascii_lowercase}
-use Rattle.std.specs.Fmt.{digit_glyph}
-use Rattle.std.specs.List.{list_all}
-use Rattle.std.specs.Net.Addr.{segments_of}
-use Rattle.std.specs.Net.Text.{ipv4_text, ipv6_text}
+use Rattle.std.specs.{Char.is_ascii_digit, Char.is_ascii_lowercase, Fmt.digit_glyph, List.list_all, Net.Addr.segments_of, Net.Text.ipv4_text, Net.Text.ipv6_text}
 use Rattle.hex.specs.Hex.{encode_lower}
-use Rattle.rlp.specs.NumberText.{number_text as text_in_base}
-use Rattle.rlp.specs.Values.Value.{bit}
+use Rattle.rlp.specs.{NumberText.number_text as text_in_base, Values.Value.bit}
 use Rattle.rlp_transactions.specs.declared.eip155.Eip155.{Eip155}
 use Rattle.rlp_trie.specs.HexPrefix.{path_nibbles}
 

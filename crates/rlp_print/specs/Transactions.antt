@@ -1,19 +1,12 @@
 -- What is shown of the payloads of transactions, and of access lists and authorizations.
-use Rattle.std.specs.Prelude.{ℕ, ◌≡◌, List, [], codes}
+use Rattle.std.specs.Prelude.{ℕ, List, [], codes, refl}
 use Rattle.std.specs.Vec.{vec_items}
-use Rattle.rlp_print.specs.Display.{Display, Fields, a_list, a_number, an_object, end, field, the_bytes, through, wide_number}
-use Rattle.rlp_print.specs.DisplayLemmas.{bytes_or_null_same, content_same}
-use Rattle.rlp_print.specs.Parts.{address_display, hash_display}
-use Rattle.rlp_print.specs.Value.{bytes_or_null, content}
-use Rattle.rlp_transactions.specs.declared.access.AccessList.{AccessList}
-use Rattle.rlp_transactions.specs.declared.access.AccessListItem.{AccessListItem}
-use Rattle.rlp_transactions.specs.declared.access_list_transaction.AccessListTransaction.{AccessListTransaction}
-use Rattle.rlp_transactions.specs.declared.authorization.Authorization.{Authorization}
-use Rattle.rlp_transactions.specs.declared.blob_transaction.BlobTransaction.{BlobTransaction}
-use Rattle.rlp_transactions.specs.declared.fee_market_transaction.FeeMarketTransaction.{FeeMarketTransaction}
-use Rattle.rlp_transactions.specs.declared.legacy_transaction.LegacyTransaction.{LegacyTransaction}
-use Rattle.rlp_transactions.specs.declared.recipient.Recipient.{Recipient}
-use Rattle.rlp_transactions.specs.declared.recipient.Recipient.TheVariants.{Account, Creation}
+use Rattle.rlp_transactions.specs.declared.{access_list_transaction.AccessListTransaction.AccessListTransaction, fee_market_transaction.FeeMarketTransaction.FeeMarketTransaction}
+use Rattle.rlp_transactions.specs.declared.{blob_transaction.BlobTransaction.BlobTransaction, legacy_transaction.LegacyTransaction.LegacyTransaction, recipient.Recipient.TheVariants.Account}
+use Rattle.rlp_transactions.specs.declared.{access.AccessListItem.AccessListItem, authorization.Authorization.Authorization, recipient.Recipient.TheVariants.Creation}
+use Rattle.rlp_transactions.specs.declared.{access.AccessList.AccessList, recipient.Recipient.Recipient}
+use Rattle.rlp_print.specs.Display.{Display, Fields, a_content, a_list, a_number, an_object, end, field, the_bytes, wide_number}
+use Rattle.rlp_print.specs.{DisplayLemmas.content_bytes, Records.address_display, Records.hash_display, Value.bytes_or_null}
 
 -- the bytes of the recipient, or no bytes for a transaction that creates a contract
 abbrev pub recipient_bytes : Recipient → List ℕ
@@ -21,11 +14,7 @@ recipient_bytes Creation = []
 recipient_bytes (Account address) = address.0
 
 abbrev pub recipient_display : Display Recipient
-recipient_display = through recipient_bytes (record {
-  value = λ b. content (bytes_or_null b);
-  Same = λ b c. b ≡ c;
-  told = λ b c is. bytes_or_null_same b c (content_same (bytes_or_null b) (bytes_or_null c) is);
-})
+recipient_display = a_content (λ r. bytes_or_null (recipient_bytes r)) content_bytes recipient_bytes (λ r. refl)
 
 abbrev pub access_list_item_display : Display AccessListItem
 access_list_item_display = an_object (

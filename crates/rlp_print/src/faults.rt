@@ -2,7 +2,7 @@
 
 ghost use Rattle.rlp_print.specs.Faults.{fault_display, fault_fields, place_display};
 
-use crate::fields::{Named, NamedIf, Object, ShowFields, field, fields, show_object};
+use crate::fields::{Object, ShowFields, give_fields, show_fields};
 use crate::show::Show;
 use crate::sink::{Shown, Sink};
 use std::alloc::{AllocError, Global};
@@ -37,12 +37,11 @@ impl ShowFields for Fault<'_> {
     ghost fields = { fault_fields };
 
     fn give<S: Sink>(&self, alloc: Global, name: &str, sink: &mut S) -> Result<(), AllocError> {
-        let fields = fields!(
+        give_fields!(alloc, name, sink;
             "field" "field" ? &self.field;
             "name" "name" Shown::Text(self.name);
             "fault" "fault" Shown::Text(self.fault);
-        );
-        fields.give(alloc, name, sink)
+        )
     }
 }
 
@@ -50,6 +49,6 @@ impl Show for Fault<'_> {
     ghost display = { fault_display };
 
     fn show<S: Sink>(&self, alloc: Global, name: &str, sink: &mut S) -> Result<(), AllocError> {
-        show_object(alloc, name, sink, &fields!("error" "error" Object(self);))
+        show_fields!(alloc, name, sink; "error" "error" Object(self);)
     }
 }

@@ -1,9 +1,8 @@
 //! Objects, which are shown field by field.
 
 ghost use Rattle.std.specs.Prelude.{◌≡◌, OnOk};
-ghost use Rattle.rlp_print.specs.Steps.{after, after_fields};
+ghost use Rattle.rlp_print.specs.Steps.{after_fields};
 ghost use Rattle.rlp_print.specs.Display.{Fields, an_object, by_lines, end, in_order, named, named_if, part, part_if, through};
-ghost use Rattle.rlp_print.specs.Value.{object};
 
 use crate::names::inside;
 use crate::show::Show;
@@ -11,7 +10,7 @@ use crate::sink::{Bracket, Sink};
 use std::alloc::{AllocError, Global};
 
 /// Fields that are shown one after another, such as the fields of a struct. A pair is the fields of
-/// its first part, and then those of its second part.
+/// its first part, and then those of its second part. A part that may be missing is an `Option`.
 pub trait ShowFields {
     /// The fields, in order, and what values have in common whose fields are shown alike.
     ghost fields: { Fields Self };
@@ -37,14 +36,6 @@ pub struct Named<'a, V> {
 /// Fields that are shown in lines, and fields that are shown in JSON in their place.
 #[derive(Clone, Copy)]
 pub struct ByForm<P, Q>(pub P, pub Q);
-
-/// The fields of a value among those of another.
-#[derive(Clone, Copy)]
-pub struct FieldsOf<'a, T>(pub &'a T);
-
-/// The fields of a value that may be missing.
-#[derive(Clone, Copy)]
-pub struct FieldsIf<'a, T>(pub &'a Option<T>);
 
 /// A field that may be missing.
 #[derive(Clone, Copy)]
@@ -96,19 +87,19 @@ impl<P: ShowFields, Q: ShowFields> ShowFields for ByForm<P, Q> {
     }
 }
 
-impl<T: ShowFields> ShowFields for FieldsOf<'_, T> {
-    ghost fields = { part (λ f. f.0.now) T.fields };
+impl<T: ShowFields> ShowFields for &T {
+    ghost fields = { part (λ f. f.now) T.fields };
 
     fn give<S: Sink>(&self, alloc: Global, name: &str, sink: &mut S) -> Result<(), AllocError> {
-        self.0.give(alloc, name, sink)
+        (**self).give(alloc, name, sink)
     }
 }
 
-impl<T: ShowFields> ShowFields for FieldsIf<'_, T> {
-    ghost fields = { part_if (λ f. f.0.now) T.fields };
+impl<T: ShowFields> ShowFields for Option<T> {
+    ghost fields = { part_if (λ f. f) T.fields };
 
     fn give<S: Sink>(&self, alloc: Global, name: &str, sink: &mut S) -> Result<(), AllocError> {
-        match self.0 {
+        match self {
             Some(fields) => fields.give(alloc, name, sink),
             None => Ok(()),
         }
@@ -139,29 +130,16 @@ impl<T: ShowFields> Show for Object<'_, T> {
     ghost display = { through (λ o. o.0.now) (an_object T.fields) };
 
     fn show<S: Sink>(&self, alloc: Global, name: &str, sink: &mut S) -> Result<(), AllocError> {
-        show_object(alloc, name, sink, self.0)
+        sink.begin(Bracket::Brace)?;
+        self.0.give(alloc, name, sink)?;
+        sink.finish(Bracket::Brace)
     }
-}
-
-/// Gives an object with these fields to a sink.
-pub(crate) fn show_object<F: ShowFields, S: Sink>(
-    alloc: Global,
-    name: &str,
-    sink: &mut S,
-    fields: &F,
-) -> Result<(), AllocError>
-    ensures { OnOk result (S.seen sink.new
-        ≡ after S.steps name.now (object (F.fields.entries fields.now)) (S.seen sink.old)) }
-{
-    sink.begin(Bracket::Brace)?;
-    fields.give(alloc, name, sink)?;
-    sink.finish(Bracket::Brace)
 }
 
 /// A field: its name in lines, its name in JSON, and its value.
 macro_rules! field {
     ($name:literal $json:literal $value:expr) => {
-        Named { name: $name, json: $json, value: $value }
+        $crate::fields::Named { name: $name, json: $json, value: $value }
     };
 }
 
@@ -172,15 +150,34 @@ macro_rules! fields {
         ()
     };
     ($name:literal $json:literal $value:expr; $($rest:tt)*) => {
-        (Named { name: $name, json: $json, value: $value }, fields!($($rest)*))
+        ($crate::fields::field!($name $json $value), $crate::fields::fields!($($rest)*))
     };
     ($name:literal $json:literal ? $value:expr; $($rest:tt)*) => {
-        (NamedIf { name: $name, json: $json, value: $value }, fields!($($rest)*))
+        (
+            $crate::fields::NamedIf { name: $name, json: $json, value: $value },
+            $crate::fields::fields!($($rest)*),
+        )
     };
     ($part:expr; $($rest:tt)*) => {
-        ($part, fields!($($rest)*))
+        ($part, $crate::fields::fields!($($rest)*))
+    };
+}
+
+/// Gives fields to a sink.
+macro_rules! give_fields {
+    ($alloc:expr, $name:expr, $sink:expr; $($fields:tt)*) => {
+        $crate::fields::fields!($($fields)*).give($alloc, $name, $sink)
+    };
+}
+
+/// Gives an object with these fields to a sink.
+macro_rules! show_fields {
+    ($alloc:expr, $name:expr, $sink:expr; $($fields:tt)*) => {
+        $crate::fields::Object(&$crate::fields::fields!($($fields)*)).show($alloc, $name, $sink)
     };
 }
 
 pub(crate) use field;
 pub(crate) use fields;
+pub(crate) use give_fields;
+pub(crate) use show_fields;

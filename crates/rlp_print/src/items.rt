@@ -1,53 +1,109 @@
-//! Items of any kind.
+//! Items of any kind, and nodes of the trie that are kept in their parents.
 
-ghost use Rattle.std.specs.Prelude.{◌≡◌, OnOk};
-ghost use Rattle.rlp.specs.Values.RawItem.{item_within};
-ghost use Rattle.rlp_print.specs.Display.{through};
-ghost use Rattle.rlp_print.specs.Items.{item_display, item_value, raw_item_display};
+ghost use Rattle.std.specs.Prelude.{◌≡◌, ◌≢◌, ◌∷◌, [], IfOk, length, MatchOption, not, OnOk};
+ghost use Rattle.rlp.specs.Format.Item.{list};
+ghost use Rattle.rlp.specs.Format.StringReading.{read_string};
+ghost use Rattle.rlp.specs.Values.RawItem.{item_within, string_or_none};
+ghost use Rattle.rlp.specs.Views.View.{item_views, view_of};
+ghost use Rattle.rlp_trie.specs.HexPrefix.{path_nibbles};
+ghost use Rattle.rlp_print.specs.Display.{a_text, part, through};
+ghost use Rattle.rlp_print.specs.Items.{branch_entries, item_value, kept_value, key_of, kind_of, pair_entries, path_fields, raw_item_display, value_by, view_items};
 ghost use Rattle.rlp_print.specs.Steps.{after};
+ghost use Rattle.rlp_print.specs.Texts.{digits_text};
+ghost use Rattle.rlp_print.specs.Value.{array, object, values_of};
 
-use crate::names::place_in;
+use crate::fields::{ByForm, ShowFields, field, give_fields};
+use crate::names::{inside, place_in};
+use crate::paths::put_digits;
 use crate::show::Show;
 use crate::sink::{Bracket, Shown, Sink};
 use rlp::{RawItem, Rlp};
+use rlp_trie::ends_in_leaf;
 use std::alloc::{AllocError, Global};
 
 impl Show for RawItem {
     ghost display = { raw_item_display };
 
     fn show<S: Sink>(&self, alloc: Global, name: &str, sink: &mut S) -> Result<(), AllocError> {
-        show_within(alloc, name, self.as_bytes(), RawItem::MAX_DEPTH, sink)
+        let bytes = self.as_bytes();
+        show_item(alloc, name, bytes, RawItem::MAX_DEPTH, false, sink)
     }
 }
 
-/// The item that bytes begin with, through at most this number of nested lists.
+/// The nibbles of an encoded path.
 #[derive(Clone, Copy)]
-pub(crate) struct ItemWithin<'a> {
-    /// The bytes.
-    pub(crate) bytes: &'a [u8],
-    /// The number of nested lists.
-    pub(crate) most: usize,
-}
+struct Nibbles<'a>(&'a [u8]);
 
-impl Show for ItemWithin<'_> {
-    ghost display = { through (λ i. item_within i.most i.bytes.now) item_display };
+impl Show for Nibbles<'_> {
+    ghost display = { through (λ n. digits_text (path_nibbles n.0.now)) a_text };
 
     fn show<S: Sink>(&self, alloc: Global, name: &str, sink: &mut S) -> Result<(), AllocError> {
-        show_within(alloc, name, self.bytes, self.most, sink)
+        let mut digits = String::new(alloc);
+        put_digits(self.0, &mut digits)?;
+        sink.put(name, Shown::Text(digits.as_str()))
     }
 }
 
-/// Gives the item that bytes begin with to a sink, through at most this number of nested lists.
-#[tactic(auto, using(crate::proofs::ItemLemmas::items_of_any_kind))]
-pub(crate) fn show_within<S: Sink>(
+/// An encoded path, and in JSON its nibbles too.
+#[derive(Clone, Copy)]
+pub(crate) struct PathFields<'a>(pub(crate) &'a [u8]);
+
+impl ShowFields for PathFields<'_> {
+    ghost fields = { part (λ p. p.0.now) path_fields };
+
+    fn give<S: Sink>(&self, alloc: Global, name: &str, sink: &mut S) -> Result<(), AllocError> {
+        let nibbles = field!("nibbles" "nibbles" Nibbles(self.0));
+        give_fields!(alloc, name, sink; "path" "path" Shown::Path(self.0); ByForm((), nibbles);)
+    }
+}
+
+/// Returns the items of a list.
+fn items_in<'a>(alloc: Global, list: &Rlp<'a>) -> Result<Vec<Rlp<'a>>, AllocError>
+    ensures { IfOk result (λ items. items.items ≡ item_views list.now) }
+{
+    let mut items = Vec::new(alloc);
+    let mut left = list.iter();
+    while let Some(item) = left.next() {
+        items.push(item)?;
+    }
+    Ok(items)
+}
+
+/// Returns the string that bytes begin with, or no bytes.
+fn string_in(bytes: &[u8]) -> &[u8]
+    ensures { result.now ≡ string_or_none (read_string bytes.now) }
+{
+    match Rlp::new(bytes).decoder().string() {
+        Ok(string) => string,
+        Err(_) => &[],
+    }
+}
+
+/// Returns the items of a list of two.
+fn pair_in<'a, 'b>(items: &'b [Rlp<'a>]) -> Option<(&'b Rlp<'a>, &'b Rlp<'a>)>
+    ensures { MatchOption result (length items.now ≢ 2)
+        (λ p. items.now ≡ p.0.now ∷ p.1.now ∷ []) }
+{
+    match items {
+        [first, second] => Some((first, second)),
+        _ => None,
+    }
+}
+
+/// Gives the item that bytes begin with to a sink, through at most this number of nested lists: as
+/// an item of any kind, or as a node that is kept in its parent.
+#[cycle(items)]
+#[tactic(auto, using(crate::proofs::ItemLemmas::items_by_bytes))]
+pub(crate) fn show_item<S: Sink>(
     alloc: Global,
     name: &str,
     bytes: &[u8],
     most: usize,
+    is_node: bool,
     sink: &mut S,
 ) -> Result<(), AllocError>
     ensures { OnOk result (S.seen sink.new ≡ after S.steps name.now
-        (item_value (item_within most bytes.now)) (S.seen sink.old)) }
+        (value_by is_node (item_within most bytes.now)) (S.seen sink.old)) }
 {
     let item = Rlp::new(bytes);
     match item.decoder().string() {
@@ -55,16 +111,128 @@ pub(crate) fn show_within<S: Sink>(
         Err(_) if most == 0 => return sink.put(name, Shown::Bytes(&[])),
         Err(_) => {}
     }
-    let mut items = item.iter();
-    if items.len() == 0 {
+    let items = items_in(alloc, &item)?;
+    if is_node {
+        return show_node(alloc, name, items.as_slice(), most - 1, sink);
+    }
+    show_items(alloc, name, items.as_slice(), most - 1, false, sink)
+}
+
+/// Gives a list of items to a sink, each as an item of any kind or as a node.
+#[cycle(items)]
+#[tactic(auto, using(crate::proofs::ItemLemmas::items_taken))]
+fn show_items<S: Sink>(
+    alloc: Global,
+    name: &str,
+    items: &[Rlp<'_>],
+    most: usize,
+    is_node: bool,
+    sink: &mut S,
+) -> Result<(), AllocError>
+    ensures { OnOk result (S.seen sink.new ≡ after S.steps name.now
+        (array (values_of (λ v. value_by is_node (item_within most v.bytes)) items.now))
+        (S.seen sink.old)) }
+{
+    if items.is_empty() {
         return sink.put(name, Shown::EmptyList);
     }
     sink.begin(Bracket::Square)?;
+    let mut rest = items;
     let mut index = 0;
-    while let Some(next) = items.next() {
+    while let [first, others @ ..] = rest {
         let place = place_in(alloc, name, index)?;
-        show_within(alloc, place.as_str(), next.as_raw(), most - 1, sink)?;
+        show_item(alloc, place.as_str(), first.as_raw(), most, is_node, sink)?;
+        rest = others;
         index += 1;
     }
     sink.finish(Bracket::Square)
+}
+
+/// Gives a list of items to a sink as a node: a leaf, an extension or a branch, or else the list.
+#[cycle(items)]
+#[tactic(auto, using(crate::proofs::ItemLemmas::nodes_by_items))]
+fn show_node<S: Sink>(
+    alloc: Global,
+    name: &str,
+    items: &[Rlp<'_>],
+    most: usize,
+    sink: &mut S,
+) -> Result<(), AllocError>
+    ensures { OnOk result (S.seen sink.new ≡ after S.steps name.now
+        (kept_value (list (view_items most items.now))) (S.seen sink.old)) }
+{
+    let Some((value, children)) = items.split_last() else {
+        return show_items(alloc, name, items, most, false, sink);
+    };
+    if items.len() == 17 {
+        return show_branch(alloc, name, children, value.as_raw(), most, sink);
+    }
+    let Some((first, second)) = pair_in(items) else {
+        return show_items(alloc, name, items, most, false, sink);
+    };
+    let path = string_in(first.as_raw());
+    match ends_in_leaf(path) {
+        Some(is_leaf) => show_pair(alloc, name, is_leaf, path, second.as_raw(), most, sink),
+        None => show_items(alloc, name, items, most, false, sink),
+    }
+}
+
+/// Returns the name of the kind of a leaf or an extension, and the name of its value or its child.
+fn names_of(is_leaf: bool) -> (&'static str, &'static str)
+    ensures { (result.0.now ≡ kind_of is_leaf) × (result.1.now ≡ key_of is_leaf) }
+{
+    if is_leaf {
+        return ("leaf", "value");
+    }
+    ("extension", "child")
+}
+
+/// Gives a leaf or an extension with this path to a sink. Its value or its child is the item that
+/// bytes begin with.
+#[cycle(items)]
+fn show_pair<S: Sink>(
+    alloc: Global,
+    name: &str,
+    is_leaf: bool,
+    path: &[u8],
+    bytes: &[u8],
+    most: usize,
+    sink: &mut S,
+) -> Result<(), AllocError>
+    ensures { OnOk result (S.seen sink.new ≡ after S.steps name.now
+        (object (pair_entries is_leaf path.now
+        (value_by (not is_leaf) (item_within most bytes.now)))) (S.seen sink.old)) }
+{
+    let (kind, key) = names_of(is_leaf);
+    let field = inside(alloc, name, key)?;
+    sink.begin(Bracket::Brace)?;
+    give_fields!(alloc, name, sink; "node" "node" Shown::Text(kind); PathFields(path);)?;
+    sink.key(key)?;
+    show_item(alloc, field.as_str(), bytes, most, !is_leaf, sink)?;
+    sink.finish(Bracket::Brace)
+}
+
+/// Gives a branch with these children to a sink. Its value is the item that bytes begin with.
+#[cycle(items)]
+fn show_branch<S: Sink>(
+    alloc: Global,
+    name: &str,
+    children: &[Rlp<'_>],
+    bytes: &[u8],
+    most: usize,
+    sink: &mut S,
+) -> Result<(), AllocError>
+    ensures { OnOk result (S.seen sink.new ≡ after S.steps name.now
+        (object (branch_entries (values_of (λ v. kept_value (item_within most v.bytes)) children.now)
+        (item_value (item_within most bytes.now)))) (S.seen sink.old)) }
+{
+    let children_name = inside(alloc, name, "children")?;
+    let value_name = inside(alloc, name, "value")?;
+    sink.begin(Bracket::Brace)?;
+    give_fields!(alloc, name, sink; "node" "node" Shown::Text("branch");)?;
+    sink.key("children")?;
+    show_items(alloc, children_name.as_str(), children, most, true, sink)?;
+    sink.key("value")?;
+    show_item(alloc, value_name.as_str(), bytes, most, false, sink)?;
+    sink.finish(Bracket::Brace)
 }

@@ -1,10 +1,8 @@
 //! JSON with the names of Ethereum's execution API.
 
 ghost use Rattle.std.specs.Prelude.{◌≡◌, ◌++◌, [], true, string_bytes, OnOk};
-ghost use Rattle.std.specs.Int.Digits.{number_from_digits};
-ghost use Rattle.rlp_print.specs.Json.{Json as JsonSeen, comma, content_json, json_steps, quoted};
+ghost use Rattle.rlp_print.specs.Json.{Json as JsonSeen, comma, content_json, json_steps};
 ghost use Rattle.rlp_print.specs.Seen.{content_of};
-ghost use Rattle.rlp_print.specs.Texts.{bytes_text, hex_text, ip_text, word_text};
 
 use crate::numbers::{put_bytes, put_hex, put_ip};
 use crate::sink::{Bracket, Shown, Sink};
@@ -22,53 +20,13 @@ pub struct Json {
     pub is_fresh: bool,
 }
 
-/// Appends bytes in quotes.
-fn put_quoted_bytes(bytes: &[u8], out: &mut String) -> Result<(), AllocError>
-    ensures { OnOk result
-        (string_bytes out.new ≡ string_bytes out.old ++ quoted (bytes_text bytes.now)) }
-{
-    out.push('"')?;
-    put_bytes(bytes, out)?;
-    out.push('"')
-}
-
-/// Appends a number in quotes.
-fn put_quoted_hex(number: &Uint<32>, out: &mut String) -> Result<(), AllocError>
-    ensures { OnOk result (string_bytes out.new
-        ≡ string_bytes out.old ++ quoted (hex_text (number_from_digits 256 number.now.bytes))) }
-{
-    out.push('"')?;
-    put_hex(number, out)?;
-    out.push('"')
-}
-
-/// Appends a word or bytes in quotes.
-fn put_quoted_word(bytes: &[u8], out: &mut String) -> Result<(), AllocError>
-    ensures { OnOk result
-        (string_bytes out.new ≡ string_bytes out.old ++ quoted (word_text bytes.now)) }
-{
-    out.push('"')?;
-    put_word_or_bytes(bytes, out)?;
-    out.push('"')
-}
-
-/// Appends an IP address in quotes.
-fn put_quoted_ip(bytes: &[u8], out: &mut String) -> Result<(), AllocError>
-    ensures { OnOk result
-        (string_bytes out.new ≡ string_bytes out.old ++ quoted (ip_text bytes.now)) }
-{
-    out.push('"')?;
-    put_ip(bytes, out)?;
-    out.push('"')
-}
-
-/// Appends a text in quotes.
-fn put_quoted(text: &str, out: &mut String) -> Result<(), AllocError>
-    ensures { OnOk result (string_bytes out.new ≡ string_bytes out.old ++ quoted text.now) }
-{
-    out.push('"')?;
-    out.push_str(text)?;
-    out.push('"')
+/// Appends in quotes what an expression appends.
+macro_rules! put_quoted {
+    ($out:expr, $put:expr) => {{
+        $out.push('"')?;
+        $put?;
+        $out.push('"')
+    }};
 }
 
 /// Appends a content.
@@ -77,19 +35,21 @@ fn put_content(shown: Shown<'_>, out: &mut String) -> Result<(), AllocError>
         (string_bytes out.new ≡ string_bytes out.old ++ content_json (content_of shown.entry)) }
 {
     match shown {
-        Shown::Number(n) => put_quoted_hex(&Uint::from(n), out),
+        Shown::Number(n) => put_quoted!(out, put_hex(&Uint::from(n), out)),
         Shown::Place(n) => write!(out, "{n}"),
-        Shown::Wide(n) | Shown::Quantity(n) | Shown::LegacyV(n) => put_quoted_hex(n, out),
+        Shown::Wide(n) | Shown::Quantity(n) | Shown::LegacyV(n) => {
+            put_quoted!(out, put_hex(n, out))
+        }
         Shown::BytesOrNull([]) => out.push_str("null"),
         Shown::Bytes(b)
         | Shown::BytesOrNull(b)
         | Shown::Sparse(b)
         | Shown::Path(b)
-        | Shown::Payload(b) => put_quoted_bytes(b, out),
-        Shown::Word(bytes) => put_quoted_word(bytes, out),
-        Shown::Ip(bytes) => put_quoted_ip(bytes, out),
-        Shown::TypeByte(n) => put_quoted_hex(&Uint::from(u64::from(n)), out),
-        Shown::Text(text) => put_quoted(text, out),
+        | Shown::Payload(b) => put_quoted!(out, put_bytes(b, out)),
+        Shown::Word(bytes) => put_quoted!(out, put_word_or_bytes(bytes, out)),
+        Shown::Ip(bytes) => put_quoted!(out, put_ip(bytes, out)),
+        Shown::TypeByte(n) => put_quoted!(out, put_hex(&Uint::from(u64::from(n)), out)),
+        Shown::Text(text) => put_quoted!(out, out.push_str(text)),
         Shown::EmptyList => out.push_str("[]"),
     }
 }
@@ -132,7 +92,7 @@ impl Sink for Json {
 
     fn key(&mut self, json: &str) -> Result<(), AllocError> {
         self.put_comma()?;
-        put_quoted(json, &mut self.text)?;
+        put_quoted!(self.text, self.text.push_str(json))?;
         self.text.push(':')?;
         self.is_fresh = true;
         Ok(())

@@ -6,7 +6,7 @@ ghost use Rattle.rlp_print.specs.Display.{through};
 ghost use Rattle.rlp_print.specs.NodeRecords.{is_ip, is_port_key, key_value_display, node_fields_display, node_pair_display, port_content, string_content};
 ghost use Rattle.rlp_print.specs.Seen.{content_of};
 
-use crate::fields::{Named, fields, show_object};
+use crate::fields::show_fields;
 use crate::lists::Items;
 use crate::show::Show;
 use crate::sink::{Shown, Sink};
@@ -74,7 +74,7 @@ struct KeyValue<'a> {
 impl Show for KeyValue<'_> {
     ghost display = { through (λ v. (v.key.now, raw_item_of v.value.now)) key_value_display };
 
-    #[tactic(auto, using(crate::proofs::KeyLemmas::values_of_keys))]
+    #[tactic(auto, using(crate::proofs::ItemLemmas::values_of_keys))]
     fn show<S: Sink>(&self, alloc: Global, name: &str, sink: &mut S) -> Result<(), AllocError> {
         match Rlp::new(self.value.as_bytes()).decoder().string() {
             Ok(string) => sink.put(name, string_at(self.key, string)),
@@ -92,11 +92,10 @@ impl Show for NodePair {
             key,
             value: &self.value,
         };
-        let fields = fields!(
+        show_fields!(alloc, name, sink;
             "key" "key" Shown::Word(key);
             "value" "value" value;
-        );
-        show_object(alloc, name, sink, &fields)
+        )
     }
 }
 
@@ -104,12 +103,11 @@ impl Show for NodeFields {
     ghost display = { node_fields_display };
 
     fn show<S: Sink>(&self, alloc: Global, name: &str, sink: &mut S) -> Result<(), AllocError> {
-        let fields = fields!(
+        show_fields!(alloc, name, sink;
             "signature" "signature" &self.signature;
             "sequence" "sequence" &self.sequence;
             "pairs" "pairs" Items(&self.pairs);
-        );
-        show_object(alloc, name, sink, &fields)
+        )
     }
 }
 

@@ -1,37 +1,25 @@
 //! Nodes of the trie: leaves, extensions, branches and the empty trie.
 
-ghost use Rattle.std.specs.Vec.{vec_items};
-ghost use Rattle.rlp_print.specs.Display.{part};
-ghost use Rattle.rlp_print.specs.KeptNodes.{path_fields};
 ghost use Rattle.rlp_print.specs.Nodes.{branch_child_display, branch_display, child_display, extension_display, leaf_display, node_display, node_fields_display};
 
-use crate::fields::{FieldsOf, Named, ShowFields, field, fields, show_object};
-use crate::kept_nodes::{PathFields, show_kept};
+use crate::fields::{ShowFields, give_fields, show_fields};
+use crate::items::{PathFields, show_item};
 use crate::lists::Slice;
 use crate::show::Show;
 use crate::sink::{Shown, Sink};
 use rlp::RawItem;
-use rlp_trie::{Branch, BranchChild, Child, Extension, Leaf, Path, TrieNode};
+use rlp_trie::{Branch, BranchChild, Child, Extension, Leaf, TrieNode};
 use std::alloc::{AllocError, Global};
-
-impl<const FLAG: u8> ShowFields for Path<FLAG> {
-    ghost fields = { part (λ p. vec_items p.bytes) path_fields };
-
-    fn give<S: Sink>(&self, alloc: Global, name: &str, sink: &mut S) -> Result<(), AllocError> {
-        PathFields(self.bytes.as_slice()).give(alloc, name, sink)
-    }
-}
 
 impl ShowFields for Leaf {
     ghost fields = { leaf_display };
 
     fn give<S: Sink>(&self, alloc: Global, name: &str, sink: &mut S) -> Result<(), AllocError> {
-        let fields = fields!(
+        give_fields!(alloc, name, sink;
             "node" "node" Shown::Text("leaf");
-            FieldsOf(&self.path);
+            PathFields(self.path.bytes.as_slice());
             "value" "value" &self.value;
-        );
-        fields.give(alloc, name, sink)
+        )
     }
 }
 
@@ -43,7 +31,8 @@ impl Show for Child {
         match self {
             Child::Node(hash) => sink.put(name, Shown::Bytes(&hash.0)),
             Child::Inline(node) => {
-                show_kept(alloc, name, node.item.as_bytes(), RawItem::MAX_DEPTH, sink)
+                let bytes = node.item.as_bytes();
+                show_item(alloc, name, bytes, RawItem::MAX_DEPTH, true, sink)
             }
         }
     }
@@ -65,12 +54,11 @@ impl ShowFields for Extension {
     ghost fields = { extension_display };
 
     fn give<S: Sink>(&self, alloc: Global, name: &str, sink: &mut S) -> Result<(), AllocError> {
-        let fields = fields!(
+        give_fields!(alloc, name, sink;
             "node" "node" Shown::Text("extension");
-            FieldsOf(&self.path);
+            PathFields(self.path.bytes.as_slice());
             "child" "child" &self.child;
-        );
-        fields.give(alloc, name, sink)
+        )
     }
 }
 
@@ -78,12 +66,11 @@ impl ShowFields for Branch {
     ghost fields = { branch_display };
 
     fn give<S: Sink>(&self, alloc: Global, name: &str, sink: &mut S) -> Result<(), AllocError> {
-        let fields = fields!(
+        give_fields!(alloc, name, sink;
             "node" "node" Shown::Text("branch");
             "children" "children" Slice(self.children.as_slice());
             "value" "value" &self.value;
-        );
-        fields.give(alloc, name, sink)
+        )
     }
 }
 
@@ -93,9 +80,7 @@ impl ShowFields for TrieNode {
 
     fn give<S: Sink>(&self, alloc: Global, name: &str, sink: &mut S) -> Result<(), AllocError> {
         match self {
-            TrieNode::Empty => {
-                fields!("node" "node" Shown::Text("empty");).give(alloc, name, sink)
-            }
+            TrieNode::Empty => give_fields!(alloc, name, sink; "node" "node" Shown::Text("empty");),
             TrieNode::Leaf(leaf) => leaf.give(alloc, name, sink),
             TrieNode::Extension(extension) => extension.give(alloc, name, sink),
             TrieNode::Branch(branch) => branch.give(alloc, name, sink),
@@ -109,11 +94,6 @@ impl Show for TrieNode {
 
     fn show<S: Sink>(&self, alloc: Global, name: &str, sink: &mut S) -> Result<(), AllocError> {
         let hash = self.hash(alloc)?;
-        show_object(
-            alloc,
-            name,
-            sink,
-            &(field!("hash" "hash" &hash), FieldsOf(self)),
-        )
+        show_fields!(alloc, name, sink; "hash" "hash" &hash; self;)
     }
 }

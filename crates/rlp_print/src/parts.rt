@@ -2,7 +2,7 @@
 
 ghost use Rattle.std.specs.Vec.{vec_items};
 ghost use Rattle.rlp_print.specs.Display.{a_bit, a_number, a_string, the_bytes, wide_number};
-ghost use Rattle.rlp_print.specs.Parts.{address_display, bloom_display, hash_display};
+ghost use Rattle.rlp_print.specs.Records.{address_display, bloom_display, hash_display};
 
 use crate::show::Show;
 use crate::sink::{Shown, Sink};

@@ -11,7 +11,6 @@ use std::alloc::{AllocError, Global};
 
 /// Returns the lines of a value of this name. A whole record has no name, and the lines of its
 /// fields have the names of the fields alone.
-#[tactic(auto, using(crate::proofs::LineLemmas::lines_taken))]
 pub fn lines_of<T: Show>(alloc: Global, name: &str, value: &T) -> Result<String, AllocError>
     ensures { IfOk result (λ text. string_bytes text ≡ lines name.now (T.display.value value.now)) }
 {

@@ -7,11 +7,9 @@ ghost use Rattle.rlp_records.specs.Hashing.{IsHashOf};
 ghost use Rattle.rlp_transactions.specs.UnsignedLegacyTransaction.{unsigned_legacy_transaction};
 ghost use Rattle.rlp_print.specs.Display.{through};
 ghost use Rattle.rlp_print.specs.Steps.{after_fields};
-ghost use Rattle.rlp_print.specs.Signed.{is_unsigned, legacy_signing_entries, said_display, said_of, signed_authorization_display, signed_legacy_display, v_display, typed_display};
+ghost use Rattle.rlp_print.specs.Signed.{is_unsigned, legacy_signing_entries, said_display, said_of, signed_authorization_display, signed_legacy_display, typed_display, v_display};
 
-use crate::fields::{
-    ByForm, FieldsIf, FieldsOf, Named, NamedIf, ShowFields, field, fields, show_object,
-};
+use crate::fields::{ByForm, ShowFields, field, give_fields, show_fields};
 use crate::numbers::{are_zero, said_by};
 use crate::show::Show;
 use crate::sink::{Shown, Sink};
@@ -29,16 +27,15 @@ impl<T: TypedTransaction + ShowFields> ShowFields for Signed<T, bool> {
 
     fn give<S: Sink>(&self, alloc: Global, name: &str, sink: &mut S) -> Result<(), AllocError> {
         let hash = signing_hash(alloc, &self.payload)?;
-        let fields = fields!(
+        give_fields!(alloc, name, sink;
             "type" "type" Shown::TypeByte(T::TAG);
-            FieldsOf(&self.payload);
+            &self.payload;
             "y_parity" "yParity" &self.v;
             ByForm((), field!("v" "v" &self.v));
             "r" "r" Shown::Quantity(&self.r);
             "s" "s" Shown::Quantity(&self.s);
             "signing_hash" "signingHash" &hash;
-        );
-        fields.give(alloc, name, sink)
+        )
     }
 }
 
@@ -47,14 +44,13 @@ impl Show for SignedAuthorization {
 
     fn show<S: Sink>(&self, alloc: Global, name: &str, sink: &mut S) -> Result<(), AllocError> {
         let hash = signing_hash(alloc, &self.payload)?;
-        let fields = fields!(
-            FieldsOf(&self.payload);
+        show_fields!(alloc, name, sink;
+            &self.payload;
             "y_parity" "yParity" &self.v;
             "r" "r" Shown::Quantity(&self.r);
             "s" "s" Shown::Quantity(&self.s);
             "signing_hash" "signingHash" &hash;
-        );
-        show_object(alloc, name, sink, &fields)
+        )
     }
 }
 
@@ -63,11 +59,10 @@ impl ShowFields for Eip155 {
     ghost fields = { said_display };
 
     fn give<S: Sink>(&self, alloc: Global, name: &str, sink: &mut S) -> Result<(), AllocError> {
-        let fields = fields!(
+        give_fields!(alloc, name, sink;
             "chain_id" "chainId" ? &self.chain_id;
             "y_parity" "yParity" &self.y_parity;
-        );
-        fields.give(alloc, name, sink)
+        )
     }
 }
 
@@ -115,7 +110,7 @@ fn show_legacy_signing<S: Sink>(
         return Ok(());
     };
     let hash = legacy_signing_hash(alloc, payload, said.chain_id)?;
-    fields!("signing_hash" "signingHash" &hash;).give(alloc, name, sink)
+    give_fields!(alloc, name, sink; "signing_hash" "signingHash" &hash;)
 }
 
 /// Returns whether a transaction without a type isn't signed: both numbers of its signature are zero,
@@ -156,16 +151,14 @@ impl ShowFields for SignedLegacyTransaction {
 
     fn give<S: Sink>(&self, alloc: Global, name: &str, sink: &mut S) -> Result<(), AllocError> {
         let said = said_of(self);
-        let kind = field!("type" "type" Shown::TypeByte(0));
-        let fields = fields!(
-            ByForm((), kind);
-            FieldsOf(&self.payload);
+        give_fields!(alloc, name, sink;
+            ByForm((), field!("type" "type" Shown::TypeByte(0)));
+            &self.payload;
             "v" "v" LegacyV(self);
-            ByForm((), FieldsIf(&said));
+            ByForm((), &said);
             "r" "r" Shown::Quantity(&self.r);
             "s" "s" Shown::Quantity(&self.s);
-        );
-        fields.give(alloc, name, sink)?;
+        )?;
         show_legacy_signing(alloc, name, &self.payload, said, sink)
     }
 }

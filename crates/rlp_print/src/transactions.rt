@@ -3,7 +3,7 @@
 ghost use Rattle.rlp_print.specs.Signed.{set_code_display};
 ghost use Rattle.rlp_print.specs.Transactions.{access_list_display, access_list_item_display, access_list_transaction_display, authorization_display, blob_display, fee_market_display, legacy_display, recipient_display};
 
-use crate::fields::{Named, ShowFields, fields, show_object};
+use crate::fields::{ShowFields, give_fields, show_fields};
 use crate::lists::Items;
 use crate::show::Show;
 use crate::sink::{Shown, Sink};
@@ -28,11 +28,10 @@ impl Show for AccessListItem {
     ghost display = { access_list_item_display };
 
     fn show<S: Sink>(&self, alloc: Global, name: &str, sink: &mut S) -> Result<(), AllocError> {
-        let fields = fields!(
+        show_fields!(alloc, name, sink;
             "address" "address" &self.address;
             "storage_keys" "storageKeys" Items(&self.storage_keys);
-        );
-        show_object(alloc, name, sink, &fields)
+        )
     }
 }
 
@@ -48,15 +47,14 @@ impl ShowFields for LegacyTransaction {
     ghost fields = { legacy_display };
 
     fn give<S: Sink>(&self, alloc: Global, name: &str, sink: &mut S) -> Result<(), AllocError> {
-        let fields = fields!(
+        give_fields!(alloc, name, sink;
             "nonce" "nonce" &self.nonce;
             "gas_price" "gasPrice" &self.gas_price;
             "gas_limit" "gas" &self.gas_limit;
             "to" "to" &self.to;
             "value" "value" &self.value;
             "data" "input" &self.data;
-        );
-        fields.give(alloc, name, sink)
+        )
     }
 }
 
@@ -64,7 +62,7 @@ impl ShowFields for AccessListTransaction {
     ghost fields = { access_list_transaction_display };
 
     fn give<S: Sink>(&self, alloc: Global, name: &str, sink: &mut S) -> Result<(), AllocError> {
-        let fields = fields!(
+        give_fields!(alloc, name, sink;
             "chain_id" "chainId" &self.chain_id;
             "nonce" "nonce" &self.nonce;
             "gas_price" "gasPrice" &self.gas_price;
@@ -73,8 +71,7 @@ impl ShowFields for AccessListTransaction {
             "value" "value" &self.value;
             "data" "input" &self.data;
             "access_list" "accessList" &self.access_list;
-        );
-        fields.give(alloc, name, sink)
+        )
     }
 }
 
@@ -82,7 +79,7 @@ impl ShowFields for FeeMarketTransaction {
     ghost fields = { fee_market_display };
 
     fn give<S: Sink>(&self, alloc: Global, name: &str, sink: &mut S) -> Result<(), AllocError> {
-        let fields = fields!(
+        give_fields!(alloc, name, sink;
             "chain_id" "chainId" &self.chain_id;
             "nonce" "nonce" &self.nonce;
             "max_priority_fee_per_gas" "maxPriorityFeePerGas" &self.max_priority_fee_per_gas;
@@ -92,8 +89,7 @@ impl ShowFields for FeeMarketTransaction {
             "value" "value" &self.value;
             "data" "input" &self.data;
             "access_list" "accessList" &self.access_list;
-        );
-        fields.give(alloc, name, sink)
+        )
     }
 }
 
@@ -101,7 +97,7 @@ impl ShowFields for BlobTransaction {
     ghost fields = { blob_display };
 
     fn give<S: Sink>(&self, alloc: Global, name: &str, sink: &mut S) -> Result<(), AllocError> {
-        let fields = fields!(
+        give_fields!(alloc, name, sink;
             "chain_id" "chainId" &self.chain_id;
             "nonce" "nonce" &self.nonce;
             "max_priority_fee_per_gas" "maxPriorityFeePerGas" &self.max_priority_fee_per_gas;
@@ -113,8 +109,7 @@ impl ShowFields for BlobTransaction {
             "access_list" "accessList" &self.access_list;
             "max_fee_per_blob_gas" "maxFeePerBlobGas" &self.max_fee_per_blob_gas;
             "blob_versioned_hashes" "blobVersionedHashes" Items(&self.blob_versioned_hashes);
-        );
-        fields.give(alloc, name, sink)
+        )
     }
 }
 
@@ -122,12 +117,11 @@ impl ShowFields for Authorization {
     ghost fields = { authorization_display };
 
     fn give<S: Sink>(&self, alloc: Global, name: &str, sink: &mut S) -> Result<(), AllocError> {
-        let fields = fields!(
+        give_fields!(alloc, name, sink;
             "chain_id" "chainId" &self.chain_id;
             "address" "address" &self.address;
             "nonce" "nonce" &self.nonce;
-        );
-        fields.give(alloc, name, sink)
+        )
     }
 }
 
@@ -135,7 +129,7 @@ impl ShowFields for SetCodeTransaction {
     ghost fields = { set_code_display };
 
     fn give<S: Sink>(&self, alloc: Global, name: &str, sink: &mut S) -> Result<(), AllocError> {
-        let fields = fields!(
+        give_fields!(alloc, name, sink;
             "chain_id" "chainId" &self.chain_id;
             "nonce" "nonce" &self.nonce;
             "max_priority_fee_per_gas" "maxPriorityFeePerGas" &self.max_priority_fee_per_gas;
@@ -146,7 +140,6 @@ impl ShowFields for SetCodeTransaction {
             "data" "input" &self.data;
             "access_list" "accessList" &self.access_list;
             "authorization_list" "authorizationList" Items(&self.authorization_list);
-        );
-        fields.give(alloc, name, sink)
+        )
     }
 }

@@ -1,6 +1,5 @@
 use Rattle.std.proofs.Common.{◌≡◌, OnOk, subst, sym}
-use Rattle.rlp_print.specs.Steps.{after_fields}
-use Rattle.rlp_print.specs.Sums.{transaction_display}
+use Rattle.rlp_print.specs.{Steps.after_fields, Sums.transaction_display}
 use Rattle.rlp_print.proofs.sums.TransactionShowFields.give.Goals as goal
 
 pub returns-in-AccessList : goal.returns-in-AccessList
