@@ -3,7 +3,7 @@ use Rattle.std.specs.Prelude.{ℕ, ◌==◌, Bool, true, false, List, [], ◌∷
 use Rattle.std.specs.List.{AllZip}
 use Rattle.std.proofs.Common.{◌≡◌, ◌∙◌, refl, sym, ap}
 use Rattle.rlp.specs.{Values.Same.SameOption, Values.Value.bit}
-use Rattle.rlp_print.specs.Value.{Content, number, place, quantity, legacy_v, bytes, bytes_or_null, sparse, path, word, text, Value, Entries, Values, content, object, array, nothing, both, field, by_form, value_and, entries_if, values_of}
+use Rattle.rlp_print.specs.Value.{Content, number, place, quantity, legacy_v, bytes, bytes_or_null, sparse, path, word, text, Value, Entries, content, object, array, both, field, by_form, entries_if, values_of}
 
 -- ---- contents
 

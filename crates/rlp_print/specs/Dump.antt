@@ -78,21 +78,21 @@ enter _ s = enter_lists (length s.rest) s
 -- ---- contents
 
 -- the bytes of a content in an encoding; the places and texts that are shown are in none
-abbrev pub content_bytes : Content → List ℕ
-content_bytes (number n) = encoding (number_item n)
-content_bytes (place n) = []
-content_bytes (quantity n) = encoding (number_item n)
-content_bytes (legacy_v n) = encoding (number_item n)
-content_bytes (bytes b) = encoding (string b)
-content_bytes (bytes_or_null b) = encoding (string b)
-content_bytes (sparse b) = encoding (string b)
-content_bytes (path b) = encoding (string b)
-content_bytes (word b) = encoding (string b)
-content_bytes (ip b) = encoding (string b)
-content_bytes (type_byte n) = encoding (string (n ∷ []))
-content_bytes (payload b) = b
-content_bytes (text t) = []
-content_bytes empty_list = 0xc0 ∷ []
+abbrev pub encoded_bytes : Content → List ℕ
+encoded_bytes (number n) = encoding (number_item n)
+encoded_bytes (place n) = []
+encoded_bytes (quantity n) = encoding (number_item n)
+encoded_bytes (legacy_v n) = encoding (number_item n)
+encoded_bytes (bytes b) = encoding (string b)
+encoded_bytes (bytes_or_null b) = encoding (string b)
+encoded_bytes (sparse b) = encoding (string b)
+encoded_bytes (path b) = encoding (string b)
+encoded_bytes (word b) = encoding (string b)
+encoded_bytes (ip b) = encoding (string b)
+encoded_bytes (type_byte n) = encoding (string (n ∷ []))
+encoded_bytes (payload b) = b
+encoded_bytes (text t) = []
+encoded_bytes empty_list = 0xc0 ∷ []
 
 -- the length of the header of a content, whose bytes are these
 abbrev pub content_header : Content → List ℕ → ℕ
@@ -112,7 +112,7 @@ abbrev pub dump_steps : Steps Dump
 dump_steps = record {
   is_json = false;
   key = λ json s. s;
-  put = λ name c s. content_row (line name c) c (content_bytes c) (enter c s);
+  put = λ name c s. content_row (line name c) c (encoded_bytes c) (enter c s);
   begin = λ brackets s. s;
   finish = λ brackets s. s;
 }

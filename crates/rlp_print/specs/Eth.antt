@@ -6,10 +6,10 @@ use Rattle.rlp_eth.specs.declared.{announcements.BlockRangeUpdate.BlockRangeUpda
 use Rattle.rlp_eth.specs.declared.{hash_or_number.HashOrNumber.TheVariants.Hash, hash_or_number.HashOrNumber.TheVariants.Number, with_request_id.WithRequestId.WithRequestId}
 use Rattle.rlp_eth.specs.declared.{hash_or_number.HashOrNumber.HashOrNumber, receipts69.BlockReceipts69.BlockReceipts69, requests.GetBlockHeaders.GetBlockHeaders, status.Status68.Status68}
 use Rattle.rlp_eth.specs.declared.{announcements.NewBlock.NewBlock, announcements.NewBlockHash.NewBlockHash, receipts69.Receipt69.Receipt69, status.ForkId.ForkId, status.Status69.Status69}
-use Rattle.rlp_print.specs.Blocks.{block_display, body_display, header_display}
+use Rattle.rlp_print.specs.Blocks.{block_display}
 use Rattle.rlp_print.specs.Display.{Display, a_bit, a_list, a_number, a_string, an_object, end, field, fields_of, the_bytes, wide_number}
 use Rattle.rlp_print.specs.Value.{content, Content, bytes, number}
-use Rattle.rlp_print.specs.{Receipts.status_display, Receipts.typed_receipt_display, Records.hash_display, Records.log_display, Sums.any_transaction_display}
+use Rattle.rlp_print.specs.{Receipts.status_display, Receipts.typed_receipt_display, Records.hash_display, Records.log_display}
 
 -- ---- what a client knows of the chain
 

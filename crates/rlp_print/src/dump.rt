@@ -1,7 +1,7 @@
 //! Where the contents of a value stand in its encoding.
 
 ghost use Rattle.std.specs.Prelude.{◌≡◌, ◌+◌, ◌≤◌, ◌++◌, [], length, string_bytes, IfOk, OnOk};
-ghost use Rattle.rlp_print.specs.Dump.{Dump as DumpSeen, content_bytes, content_header, dump_of, dump_steps, enter, enter_envelope, enter_lists, list_header, part_text, row, string_header};
+ghost use Rattle.rlp_print.specs.Dump.{Dump as DumpSeen, content_header, dump_of, dump_steps, encoded_bytes, enter, enter_envelope, enter_lists, list_header, part_text, row, string_header};
 ghost use Rattle.rlp_print.specs.Seen.{content_of};
 
 use crate::lines::put_line;
@@ -103,8 +103,8 @@ fn string_header(bytes: &[u8]) -> usize
 }
 
 /// Returns the bytes of a content in an encoding. A place and a text have none.
-fn content_bytes(alloc: Global, shown: Shown<'_>) -> Result<BytesMut, AllocError>
-    ensures { IfOk result (λ b. b.items ≡ content_bytes (content_of shown.entry)) }
+fn encoded_bytes(alloc: Global, shown: Shown<'_>) -> Result<BytesMut, AllocError>
+    ensures { IfOk result (λ b. b.items ≡ encoded_bytes (content_of shown.entry)) }
 {
     match shown {
         Shown::Number(n) => rlp::encode(alloc, &n),
@@ -218,7 +218,7 @@ impl Sink for Dump<'_> {
 
     fn put(&mut self, name: &str, shown: Shown<'_>) -> Result<(), AllocError> {
         self.enter(shown)?;
-        let bytes = content_bytes(self.alloc, shown)?;
+        let bytes = encoded_bytes(self.alloc, shown)?;
         let bytes = bytes.as_slice();
         if !bytes.is_empty() && self.rest.starts_with(bytes) {
             let header_len = content_header(shown, bytes);
