@@ -59,10 +59,13 @@ const call = (body, ...given) => ask(`(${body})(${given.map((each) => JSON.strin
 /** Gives text to a box, and waits until the page has read it. */
 async function give(id, text) {
   await call((box, given) => {
+    document.getElementById("verdict").textContent = "";
     document.getElementById(box).value = given;
     document.getElementById(box).dispatchEvent(new Event("input", { bubbles: true }));
   }, id, text);
-  await pause(220);
+  // A busy machine shows the input late.
+  for (let turns = 0; turns < 100 && (await textOf("verdict")) === ""; turns++) await pause(20);
+  await pause(200);
   return textOf("verdict");
 }
 
