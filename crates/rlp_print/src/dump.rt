@@ -26,7 +26,8 @@ use std::marker::Model;
 /// - - - hash: 0x2ca5..
 /// ```
 ///
-/// Fails with `AllocError` if memory is refused.
+/// If `bytes` isn't the encoding of the value, a content has a place only where its own bytes come
+/// next. Fails with `AllocError` if memory is refused.
 pub fn dump_of<T: Show>(
     alloc: Global,
     bytes: &[u8],

@@ -32,14 +32,14 @@ fn begins_with_letter(bytes: &[u8]) -> bool
 }
 
 /// Returns whether bytes are a word, which begins with a letter.
-pub(crate) fn is_word(bytes: &[u8]) -> bool
+fn is_word(bytes: &[u8]) -> bool
     ensures { result ≡ is_word bytes.now }
 {
     begins_with_letter(bytes) && are_word_bytes(bytes)
 }
 
 /// Appends the letters and digits of a word.
-pub(crate) fn put_word(word: &[u8], out: &mut String) -> Result<(), AllocError>
+fn put_word(word: &[u8], out: &mut String) -> Result<(), AllocError>
     requires { list_all is_word_byte word.now ≡ true }
     ensures { OnOk result (string_bytes out.new ≡ string_bytes out.old ++ word.now) }
 {
