@@ -1,0 +1,13 @@
+use Rattle.std.proofs.Common.{◌≡◌, ◌++◌, length, map}
+use Rattle.rlp_codec.specs.Codec.{and_then, list_of_views, map_value, read_each}
+use Rattle.rlp_reading.proofs.lists.as_list.Given as goal
+
+-- the values so far come before what the items that are left give
+abbrev pub invariant-loop-item : goal.invariant-loop-item
+invariant-loop-item g l =
+    let r = g.T.Decodable.reading in
+    and_then (list_of_views l.rlp) (λ vs. (read_each r.read (length vs) vs).result)
+    ≡ map_value (λ xs. map r.seen l.values.items ++ xs) (read_each r.read (length l.initial.items) l.items).result
+
+abbrev pub decreases-loop-item : goal.decreases-loop-item
+decreases-loop-item g l = length l.items

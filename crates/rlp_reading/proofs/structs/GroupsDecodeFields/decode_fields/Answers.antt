@@ -1,0 +1,15 @@
+use Rattle.std.proofs.Common.{◌≡◌, [], ◌++◌, List, map, ap, rules, ◌∙◌}
+use Rattle.rlp_values.specs.Views.View.{View}
+use Rattle.rlp_codec.specs.Codec.{map_value, take_each}
+use Rattle.rlp_codec.proofs.GroupLaws.{one_pushed, one_turn}
+use Rattle.rlp_reading.proofs.structs.GroupsDecodeFields.decode_fields.Goals as goal
+
+pub loop-turns-preserved : goal.loop-turns-preserved
+loop-turns-preserved g c =
+    let r = g.G.DecodeFields.reading in
+    let some : ¬ (c.loop-turns.fields ≡ []) = search rules in
+    rw c.in-Ok-push.ensures.items
+    (c.loop-turns.invariant
+    ∙ ap (map_value (λ (t : List r.M × List View). (map r.seen c.loop-turns.groups.items ++ t.0, t.1)))
+    (one_turn r.read _ _ _ _ c.loop-turns-test.true some c.in-Ok.ensures.value)
+    ∙ one_pushed r.seen c.loop-turns.groups.items c.in-Ok.group (take_each r.read _ c.decode_fields.new.fields).result)

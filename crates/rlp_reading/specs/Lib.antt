@@ -1,0 +1,2 @@
+-- codecs with their laws
+pub mod Lawful

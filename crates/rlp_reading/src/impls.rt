@@ -1,0 +1,13 @@
+//! The types that are read.
+
+mod boolean;
+mod boxed;
+mod byte_array;
+mod byte_string;
+mod bytes_mut;
+mod bytes_shared;
+mod number;
+mod option;
+mod raw_item;
+mod text;
+mod uint;

@@ -1,0 +1,38 @@
+//! Boxes.
+
+ghost use Rattle.std.specs.Prelude.{false, true};
+ghost use Rattle.std.specs.Box.{box_value};
+ghost use Rattle.rlp_codec.proofs.ListLaws.{holding_lawful, holding_only, holding_read_back};
+ghost use Rattle.rlp_codec.specs.Codec.{held_reading};
+ghost use Rattle.rlp_codec.specs.Laws.{codec_of};
+
+use crate::round_trip::{RoundTrip, Scalar, StrictRead};
+use crate::traits::Decodable;
+use rlp::{DecoderError, Rlp};
+use std::alloc::Global;
+
+impl<T: Decodable> Decodable for Box<T> {
+    ghost reading = { held_reading true box_value T.reading };
+
+    fn decode(alloc: Global, rlp: &Rlp<'_>) -> Result<Box<T>, DecoderError> {
+        match T::decode(alloc, rlp) {
+            Ok(value) => match Box::new(alloc, value) {
+                Ok(boxed) => Ok(boxed),
+                Err(_) => Err(DecoderError::OutOfMemory),
+            },
+            Err(fault) => Err(fault),
+        }
+    }
+}
+
+impl<T: RoundTrip> RoundTrip for Box<T> {
+    ghost round_trip = { holding_read_back (codec_of T.fits T.item T.reading) box_value T.round_trip };
+}
+
+impl<T: Scalar> Scalar for Box<T> {
+    ghost exact = { holding_only (codec_of T.fits T.item T.reading) box_value false T.exact };
+}
+
+impl<T: StrictRead> StrictRead for Box<T> {
+    ghost strict = { holding_lawful (codec_of T.fits T.item T.reading) box_value T.strict };
+}

@@ -1,0 +1,51 @@
+//! Numbers of any width, kept as their bytes.
+
+ghost use Rattle.std.specs.Prelude.{◌≡◌, ◌≤◌, false, length};
+ghost use Rattle.std.specs.Int.Digits.{number_from_digits};
+ghost use Rattle.rlp_codec.proofs.ListLaws.{newtype_only, read_back};
+ghost use Rattle.rlp_codec.proofs.StringLaws.{number_scalar};
+ghost use Rattle.rlp_codec.specs.Codec.{number};
+ghost use Rattle.rlp_reading.specs.Lawful.{uint};
+
+use crate::impls::number::digits_of;
+use crate::round_trip::{RoundTrip, Scalar, StrictRead};
+use crate::traits::Decodable;
+use rlp::{DecoderError, Rlp, Uint};
+use std::alloc::Global;
+
+impl<const N: usize> Decodable for Uint<N> {
+    ghost reading = { (uint N).reading };
+
+    fn decode(_alloc: Global, rlp: &Rlp<'_>) -> Result<Uint<N>, DecoderError> {
+        match digits_of(rlp, N) {
+            Ok(digits) => Ok(Uint {
+                bytes: padded(digits),
+            }),
+            Err(fault) => Err(fault),
+        }
+    }
+}
+
+/// Returns the digits with zeros before them.
+fn padded<const N: usize>(digits: &[u8]) -> [u8; N]
+    requires { length digits.now ≤ N }
+    ensures { number_from_digits 256 result ≡ number_from_digits 256 digits.now }
+{
+    let mut bytes = [0; N];
+    let all = &mut bytes[..];
+    all[N - digits.len()..].copy_from_slice(digits);
+    bytes
+}
+
+impl<const N: usize> RoundTrip for Uint<N> {
+    ghost round_trip = { read_back (uint N).laws };
+}
+
+impl<const N: usize> Scalar for Uint<N> {
+    ghost exact = { newtype_only (number N) (λ (n : Self). number_from_digits 256 n.bytes) false
+        (number_scalar N) };
+}
+
+impl<const N: usize> StrictRead for Uint<N> {
+    ghost strict = { (uint N).laws };
+}

@@ -1,0 +1,83 @@
+//! Encodings are read back, for every type with the law of `RoundTrip`.
+
+ghost use Rattle.std.specs.Prelude.{◌≡◌, ◌++◌, ◌∷◌, ◌⊎◌, List, length, All, IfErr, IfOk, IsOkAnd, IsTrue, Ok, map};
+ghost use Rattle.rlp_format.specs.Format.Encoding.{BeginsWith, encoding};
+ghost use Rattle.rlp_format.specs.Format.Item.{list_of};
+ghost use Rattle.rlp_format.specs.Values.Value.{AreAlike};
+ghost use Rattle.rlp_values.specs.declared.error.DecoderError.{DecoderError};
+ghost use Rattle.rlp_values.specs.declared.error.DecoderError.TheVariants.{OutOfMemory};
+ghost use Rattle.rlp_values.specs.Format.Split.{items};
+ghost use Rattle.rlp_values.specs.Values.ListReading.{FaultsAt, GivesAt};
+ghost use Rattle.rlp_values.specs.Values.RoundTrip.{ReadsBack};
+ghost use Rattle.rlp_values.specs.Views.View.{HoldsItem, view_of};
+ghost use Rattle.rlp_codec.specs.Codec.{Faults, Gives, fault_of};
+
+use crate::round_trip::{RoundTrip, Scalar};
+use crate::traits::Decodable;
+use rlp::{DecoderError, Rlp};
+use std::alloc::Global;
+
+/// A view gives one value, as contracts see it, or has one fault.
+pub fn one_reading<T: Decodable>(rlp: &Rlp<'_>)
+    ensures value { (x y : T) → Gives T.reading rlp.now x → Gives T.reading rlp.now y
+        → T.reading.seen x ≡ T.reading.seen y }
+    ensures fault { (e f : DecoderError) → Faults T.reading rlp.now e → Faults T.reading rlp.now f
+        → fault_of e ≡ fault_of f }
+    ensures not_both { (x : T) (e : DecoderError) → Gives T.reading rlp.now x
+        → ¬ Faults T.reading rlp.now e }
+{}
+
+/// A slice that begins with the encoding of a value gives exactly the values that fit and are alike
+/// to it, and has no fault.
+pub fn encoding_is_read_back<T: RoundTrip>(bytes: &[u8])
+    ensures { (v : T) → T.fits v → HoldsItem (view_of bytes.now) (T.item v)
+        → ReadsBack T.fits T.item (Gives T.reading) (Faults T.reading) (view_of bytes.now) v }
+{}
+
+/// The value that bytes begin with. If they begin with the encoding of a value that fits, the
+/// result is alike to that value, or memory ran out.
+pub fn encoding_is_decoded<T: RoundTrip>(alloc: Global, bytes: &[u8]) -> Result<T, DecoderError>
+    ensures alike { (v : T) → T.fits v → BeginsWith bytes.now (encoding (T.item v))
+        → IfOk result (λ w. T.fits w × AreAlike T.item w v) }
+    ensures memory { (v : T) → T.fits v → BeginsWith bytes.now (encoding (T.item v))
+        → IfErr result (λ e. (e ≡ OutOfMemory) × IsTrue T.reading.takes_memory) }
+{
+    crate::decode(alloc, bytes)
+}
+
+/// The value that bytes begin with. It is alike to a value that fits exactly if they begin with the
+/// encoding of that value. If they do, the call fails only if memory runs out.
+pub fn scalar_is_decoded<T: Scalar>(alloc: Global, bytes: &[u8]) -> Result<T, DecoderError>
+    ensures only { (v : T) → IsOkAnd result (λ w. AreAlike T.item w v)
+        → BeginsWith bytes.now (encoding (T.item v)) }
+    ensures alike { (v : T) → T.fits v → BeginsWith bytes.now (encoding (T.item v))
+        → IfOk result (λ w. T.fits w × AreAlike T.item w v) }
+    ensures memory { (v : T) → T.fits v → BeginsWith bytes.now (encoding (T.item v))
+        → IfErr result (λ e. (e ≡ OutOfMemory) × IsTrue T.reading.takes_memory) }
+{
+    let value = crate::decode(alloc, bytes);
+    value
+}
+
+/// The values of the items of a list. If bytes begin with the encoding of a list of values that
+/// fit, the result has the same number of values, and each fits and is alike to the value in its
+/// place. The call then fails only if memory runs out.
+pub fn list_is_decoded<T: RoundTrip>(alloc: Global, bytes: &[u8]) -> Result<Vec<T>, DecoderError>
+    ensures alike { (vs : List T) → All T.fits vs
+        → BeginsWith bytes.now (encoding (list_of (map T.item vs)))
+        → IfOk result (λ ws. All T.fits ws.items × (map T.item ws.items ≡ map T.item vs)) }
+    ensures memory { (vs : List T) → All T.fits vs
+        → BeginsWith bytes.now (encoding (list_of (map T.item vs)))
+        → IfErr result (λ e. e ≡ OutOfMemory) }
+{
+    crate::decode_list(alloc, bytes)
+}
+
+/// If bytes begin with the encoding of a list of values, each item gives the values that fit and are
+/// alike to the value in its place, no others, and has no fault.
+pub fn list_is_read_back<T: RoundTrip>(bytes: &[u8])
+    ensures each { (before after : List T) (v : T)
+        → BeginsWith bytes.now (encoding (list_of (map T.item (before ++ v ∷ after))))
+        → T.fits v → ReadsBack T.fits T.item (λ w x. GivesAt (Gives T.reading) w (length before) x)
+        (λ w e. FaultsAt (Faults T.reading) w (length before) e) (view_of bytes.now) v }
+{}
