@@ -16,7 +16,7 @@ use Rattle.std.proofs.lemmas.List.Elements.{All-from_recursion, recursion_from_A
 use Rattle.rlp_codec.proofs.ListLaws.{each_told, item_back, items_sized, list_back, list_type_only}
 use Rattle.rlp_values.specs.Values.ListReading.{FaultsAt, GivesAt, GivesEach, GivesList}
 use Rattle.rlp_values.specs.Lemmas.ListRoundTrips.{list_item_reads_back}
-use Rattle.rlp_codec.specs.Codec.{Codec, Fault, Faults, Gives, Reading, fault_of, list_reading}
+use Rattle.rlp_codec.specs.Form.{Form, Fault, Faults, Gives, Reading, fault_of, list_reading}
 use Rattle.std.specs.List.{AllByRecursion}
 use Rattle.rlp_format.specs.Lemmas.Encodings.{front_sized}
 use Rattle.rlp_values.specs.Lemmas.Numbered.{item_views-list}
@@ -39,7 +39,7 @@ one_fault r v e f bad also = let same = sym bad ∙ also in cc
 pub not_both : {A : Type 0} (r : Reading A) (v : View) (x : A) (e : DecoderError) → Gives r v x → ¬ Faults r v e
 not_both r v x e given bad = let same = sym given ∙ bad in cc
 
-module _ {A : Type 0} (c : Codec A) where
+module _ {A : Type 0} (c : Form A) where
   alike_by : IsSeen c → (v : View) (x : A) → c.Fits x → Gives c.reading v x → (w : A) → Gives c.reading v w → c.Fits w × AreAlike c.item w x
   alike_by law v x fit given w also = law.told x w (one_value c.reading v x w given also) fit
 
@@ -115,7 +115,7 @@ module _ {A : Type 0} (c : Codec A) where
 
 -- ---- lists of values
 
-module _ {A : Type 0} (c : Codec A) where
+module _ {A : Type 0} (c : Form A) where
   -- how lists of values of the type are read
   abbrev lists : Reading (List A)
   lists = list_reading (λ xs. xs) c.reading

@@ -1,16 +1,16 @@
--- Fields of one type, one by one as `each` has them, and together as the values of an array.
+-- FieldsForm of one type, one by one as `each` has them, and together as the values of an array.
 use Rattle.std.proofs.Common.{◌≡◌, ℕ, zero, suc, List, [], ◌∷◌, ◌++◌, length, map, get_or, refl, sym, ap, ◌∙◌, subst, arith, append_assoc, length-append}
 use Rattle.std.specs.List.{All, AllByRecursion}
 use Rattle.std.proofs.lemmas.List.Elements.{recursion_from_All}
-use Rattle.rlp_codec.specs.Codec.{Codec, Fields, each}
+use Rattle.rlp_codec.specs.Form.{Form, FieldsForm, each}
 
 get_or-middle : {A : Type 0} (before after : List A) (x d : A) → get_or (before ++ x ∷ after) (length before) d ≡ x
 get_or-middle [] after x d = refl
 get_or-middle (y ∷ before) after x d = get_or-middle before after x d
 
-module _ {A P : Type 0} (d : A) (values : P → List A) (c : Codec A) (more : Fields P) (p : P) where
+module _ {A P : Type 0} (d : A) (values : P → List A) (c : Form A) (more : FieldsForm P) (p : P) where
   -- a number of fields, from place k on
-  abbrev fields_from : ℕ → ℕ → Fields P
+  abbrev fields_from : ℕ → ℕ → FieldsForm P
   fields_from k n = each (λ j p. get_or (values p) j d) c more k n
 
   there : (before after : List A) (x : A) (k : ℕ) → values p ≡ before ++ x ∷ after → length before ≡ k → get_or (values p) k d ≡ x

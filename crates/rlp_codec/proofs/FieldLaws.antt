@@ -1,4 +1,4 @@
--- Fields are read back, and strictly from nothing else.
+-- FieldsForm are read back, and strictly from nothing else.
 use Rattle.std.proofs.Common.{Bool, IfSome, List, None, Ok, Option, Result, Some, [], ap, append-nil, append_assoc, arith, false, le-leb, leb, length, length-append, option_map, refl, subst, suc, sym, true, zero, ℕ, ◌&&◌, ◌++◌, ◌-◌, ◌==◌, ◌||◌, ◌∙◌, ◌∷◌, ◌≡◌}
 use Rattle.std.proofs.lemmas.List.{map-append}
 use Rattle.std.specs.List.{AllByRecursion}
@@ -7,7 +7,7 @@ use Rattle.rlp_format.specs.Format.Item.{Item}
 use Rattle.rlp_format.specs.Values.Value.{items_if}
 use Rattle.rlp_values.specs.Views.View.{View}
 use Rattle.rlp_codec.proofs.ListLaws.{not_faulty, goes_on, is_mapped, item_back, item_only}
-use Rattle.rlp_codec.specs.Codec.{Answer, Codec, Fault, Fields, Taken, and_then, each, end, field, group, map_fault, map_value, one, optional, optional_group, take_both, take_if, take_item}
+use Rattle.rlp_codec.specs.Form.{Answer, Form, Fault, FieldsForm, Taken, and_then, each, end, field, group, map_fault, map_value, one, optional, optional_group, take_both, take_if, take_item}
 use Rattle.rlp_codec.specs.Laws.{AreLawful, AreSeen, GivesOnly, IsLawful, IsSeen, IsStrictPart, ReadsBack, TakesBack, TakesOnly, viewed, views_of}
 
 -- ---- what was taken
@@ -66,7 +66,7 @@ all_first P (x ∷ xs) ys (one, all) = let both = all_first P xs ys all in ((one
 
 -- ---- one field
 
-module _ {A : Type 0} (c : Codec A) where
+module _ {A : Type 0} (c : Form A) where
   pub one_back : (is_strict : Bool) → ReadsBack is_strict c → TakesBack is_strict (one c)
   one_back is_strict law = record {
     counted = λ x fit. refl;
@@ -91,7 +91,7 @@ module _ {A : Type 0} (c : Codec A) where
 
 -- ---- fields of a part, before others
 
-module _ {A P : Type 0} (value : P → A) (f : Fields A) (more : Fields P) (fixed : f.reading.is_fixed ≡ true) where
+module _ {A P : Type 0} (value : P → A) (f : FieldsForm A) (more : FieldsForm P) (fixed : f.reading.is_fixed ≡ true) where
   not_open : f.reading.is_fixed ≡ false → {T : Type 0} → T
   not_open other = absurd (let no : ⊥ = cc in no)
 
@@ -166,7 +166,7 @@ module _ {A P : Type 0} (value : P → A) (f : Fields A) (more : Fields P) (fixe
 
 -- ---- a field before others
 
-module _ {A P : Type 0} (value : P → A) (c : Codec A) (more : Fields P) where
+module _ {A P : Type 0} (value : P → A) (c : Form A) (more : FieldsForm P) where
   pub field_told : IsSeen c → AreSeen more → AreSeen (field value c more)
   field_told law others = group_told value (one c) more refl (one_told c law) others
 
@@ -178,7 +178,7 @@ module _ {A P : Type 0} (value : P → A) (c : Codec A) (more : Fields P) where
 
 -- ---- fields of one type
 
-pub each_lawful : {A P : Type 0} (value : ℕ → P → A) (c : Codec A) (more : Fields P) → IsLawful c → AreLawful more → (k n : ℕ) → AreLawful (each value c more k n)
+pub each_lawful : {A P : Type 0} (value : ℕ → P → A) (c : Form A) (more : FieldsForm P) → IsLawful c → AreLawful more → (k n : ℕ) → AreLawful (each value c more k n)
 each_lawful value c more law others k zero = others
 each_lawful value c more law others k (suc n) =
     field_lawful (value k) c (each value c more (suc k) n) law (each_lawful value c more law others (suc k) n)
@@ -188,7 +188,7 @@ none_left xs is_strict rest none = ap (λ ws. views_of is_strict xs ++ ws) none 
 
 -- ---- last fields that may be missing together
 
-module _ {A P : Type 0} (value : P → Option A) (f : Fields A) where
+module _ {A P : Type 0} (value : P → Option A) (f : FieldsForm A) where
   some_counted : (is_strict : Bool) → TakesBack is_strict f → (o : Option A) → IfSome o f.Fits
       → ((length (items_if f.items o) == 0) || f.reading.accepts (length (items_if f.items o))) ≡ true
   some_counted is_strict law None fit = refl
@@ -254,7 +254,7 @@ module _ {A P : Type 0} (value : P → Option A) (f : Fields A) where
 
 -- ---- a last field that may be missing
 
-module _ {A P : Type 0} (value : P → Option A) (c : Codec A) where
+module _ {A P : Type 0} (value : P → Option A) (c : Form A) where
   pub optional_told : IsSeen c → AreSeen (optional value c)
   optional_told law = optional_group_told value (one c) (one_told c law)
 

@@ -10,13 +10,13 @@ use Rattle.rlp_format.specs.Values.Value.{all_items}
 use Rattle.rlp_values.specs.Lemmas.Groups.{groups_counted, groups_right}
 use Rattle.rlp_values.specs.Views.View.{View}
 use Rattle.rlp_codec.proofs.ListLaws.{goes_on, is_mapped}
-use Rattle.rlp_codec.specs.Codec.{Fault, Fields, Taken, and_then, groups, map_value, take_each}
+use Rattle.rlp_codec.specs.Form.{Fault, FieldsForm, Taken, and_then, groups, map_value, take_each}
 use Rattle.rlp_codec.specs.Laws.{AreLawful, AreSeen, IsStrictPart, TakesBack, TakesOnly, viewed, views_of}
 use Rattle.rlp_codec.proofs.FieldLaws.{all_first, ok_same, views_append}
 
 -- ---- groups at the end
 
-module _ {A P : Type 0} (values : P → List A) (f : Fields A) (fixed : f.reading.is_fixed ≡ true) (some : (0 == f.reading.width) ≡ false) where
+module _ {A P : Type 0} (values : P → List A) (f : FieldsForm A) (fixed : f.reading.is_fixed ≡ true) (some : (0 == f.reading.width) ≡ false) where
   not_zero : 0 < f.reading.width
   not_zero = by f.reading.width some
     where

@@ -18,8 +18,8 @@ use Rattle.rlp_values.specs.Lemmas.Numbered.{item_count-list, item_count-told, i
 use Rattle.rlp_values.specs.Lemmas.StrictLists.{IsPart, item_parts}
 use Rattle.rlp_values.specs.Lemmas.StrictReads.{counted_told, told_whole}
 use Rattle.rlp_values.specs.Lemmas.WholeLists.{strict_item_count, strict_items, whole_list, whole_sized}
-use Rattle.rlp_codec.specs.Codec.{Codec, Fault, and_then, holding, items_of, list_of_views, list_type, map_fault, map_value, newtype, option, read_each, read_option}
-use Rattle.rlp_codec.specs.Codec.{seen_fault}
+use Rattle.rlp_codec.specs.Form.{Form, Fault, and_then, holding, items_of, list_of_views, list_type, map_fault, map_value, newtype, option, read_each, read_option}
+use Rattle.rlp_codec.specs.Form.{seen_fault}
 use Rattle.rlp_codec.specs.Laws.{ReadsBack, GivesOnly, IsLawful, IsReadBack, IsSeen, IsStrictPart, viewed, views_of}
 
 -- ---- the items of a view
@@ -146,7 +146,7 @@ not_faulty f (Err e) x is = absurd (let no : ⊥ = cc in no)
 
 -- ---- one item that is read
 
-module _ {A : Type 0} (c : Codec A) where
+module _ {A : Type 0} (c : Form A) where
   abbrev read : View → Result c.reading.M Fault
   read v = (c.reading.read v).result
 
@@ -326,5 +326,5 @@ module _ {A : Type 0} (c : Codec A) where
     holding_lawful law = record { told = holding_told law.told; back = λ is_strict. holding_back is_strict (law.back is_strict); exact = holding_only true law.exact }
 
 -- a lawful codec is read back
-pub read_back : {A : Type 0} {c : Codec A} → IsLawful c → IsReadBack c
+pub read_back : {A : Type 0} {c : Form A} → IsLawful c → IsReadBack c
 read_back law = record { told = law.told; back = law.back false }

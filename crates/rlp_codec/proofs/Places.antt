@@ -1,7 +1,7 @@
 -- The paths of faults, step by step.
 use Rattle.std.proofs.Common.{◌≡◌, ℕ, ◌-◌, List, [], ◌∷◌, ◌++◌, length, ap, ◌∙◌, arith, length-append, Result, Ok, Err}
 use Rattle.rlp_values.specs.Views.View.{View}
-use Rattle.rlp_codec.specs.Codec.{Answer, Fault, Path, Taken, and_then, map_fault, map_value, path_by, read_each, take_both, take_item}
+use Rattle.rlp_codec.specs.Form.{Answer, Fault, Path, Taken, and_then, map_fault, map_value, path_by, read_each, take_both, take_item}
 use Rattle.rlp_codec.proofs.ListLaws.{goes_on, is_mapped}
 
 -- the answer is this fault with this path

@@ -17,7 +17,7 @@ use Rattle.rlp_values.specs.Views.View.{Holds}
 use Rattle.rlp_values.specs.Lemmas.Depths.{depth_of_item}
 use Rattle.rlp_values.specs.Lemmas.RawItems.{encoding-item_within, raw_encoding, raw_if, shallow_within, view_frame-held}
 use Rattle.rlp_values.proofs.Views.Fronts.{long_header}
-use Rattle.rlp_codec.specs.Codec.{and_then, custom, raw_item, raw_of, seen_fault}
+use Rattle.rlp_codec.specs.Form.{and_then, custom, raw_item, raw_of, seen_fault}
 use Rattle.rlp_codec.specs.Laws.{GivesOnly, IsLawful, ReadsBack, viewed}
 
 -- ---- the first item of a view

@@ -21,9 +21,9 @@ use Rattle.rlp_values.specs.Lemmas.OneReading.{front_bytes, back_bytes, few_digi
 use Rattle.rlp_values.specs.Lemmas.Reading.{Bytes}
 use Rattle.rlp_values.specs.Lemmas.StringsHeld.{ReadsHeld, held_begins, held_only, held_reads}
 use Rattle.rlp_values.specs.Lemmas.Told.{string_sized}
-use Rattle.rlp_codec.specs.Codec.{Fault, and_then, custom, expected_data, invalid_indirection, is_too_big, is_too_short, seen_fault}
-use Rattle.rlp_codec.specs.Codec.{string_of, number_of, bit_of, text_of, fixed_of, begins_with_zero}
-use Rattle.rlp_codec.specs.Codec.{string_type, number, truth_value, byte_string, text, byte_array}
+use Rattle.rlp_codec.specs.Form.{Fault, and_then, custom, expected_data, invalid_indirection, is_too_big, is_too_short, seen_fault}
+use Rattle.rlp_codec.specs.Form.{string_of, number_of, bit_of, text_of, fixed_of, begins_with_zero}
+use Rattle.rlp_codec.specs.Form.{string_type, number, truth_value, byte_string, text, byte_array}
 use Rattle.rlp_codec.specs.Laws.{ReadsBack, GivesOnly, IsLawful}
 
 -- ---- the bytes of a string

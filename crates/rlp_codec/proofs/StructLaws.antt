@@ -7,7 +7,7 @@ use Rattle.rlp_format.specs.Format.Encoding.{IsSized, encoding}
 use Rattle.rlp_format.specs.Format.Item.{list_of}
 use Rattle.rlp_values.specs.Views.View.{View, item_count, item_views, strict_view_of}
 use Rattle.rlp_codec.proofs.ListLaws.{not_faulty, counted_length, goes_on, is_mapped, items_held, items_only, items_sized}
-use Rattle.rlp_codec.specs.Codec.{Answer, Fault, Fields, Path, Taken, and_then, go_on, here, incorrect_list_len, items_of, map_fault, map_value, path_by, path_in, read_struct, seen_fault, struct_of, all_taken}
+use Rattle.rlp_codec.specs.Form.{Answer, Fault, FieldsForm, Path, Taken, and_then, go_on, here, incorrect_list_len, items_of, map_fault, map_value, path_by, path_in, read_struct, seen_fault, struct_of, all_taken}
 use Rattle.rlp_codec.specs.Laws.{AreLawful, AreSeen, GivesOnly, IsLawful, IsSeen, ReadsBack, TakesBack, TakesOnly, viewed, views_of}
 use Rattle.rlp_codec.proofs.FieldLaws.{ok_same}
 
@@ -85,7 +85,7 @@ too_wide w n b wide few = ap (λ c. c && b) (lt-leb w n (omega (arith, wide, few
 
 -- ---- a struct
 
-module _ {P : Type 0} (f : Fields P) where
+module _ {P : Type 0} (f : FieldsForm P) where
   abbrev read_items : List View → Result f.reading.M Fault
   read_items vs = (read_struct f.reading.accepts f.reading.read vs).result
 

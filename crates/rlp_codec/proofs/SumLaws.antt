@@ -16,8 +16,8 @@ use Rattle.rlp_values.specs.Lemmas.Strings.{string_list, string_only}
 use Rattle.rlp_values.specs.Lemmas.Sums.{list_first}
 use Rattle.std.specs.List.{AllByRecursion}
 use Rattle.rlp_format.specs.Values.Value.{FitsBytes, number_item}
-use Rattle.rlp_codec.specs.Codec.{Answer, Codec, Fault, and_then, custom, items_of, map_value, number}
-use Rattle.rlp_codec.specs.Sums.{Cases, Unless, and_case, envelope, envelope_of, enveloped, last_case, list_or_string, read_either, read_first, read_last, read_tagged, sum_map, tagged_list}
+use Rattle.rlp_codec.specs.Form.{Answer, Form, Fault, and_then, custom, items_of, map_value, number}
+use Rattle.rlp_codec.specs.Sums.{CasesForm, Unless, and_case, envelope, envelope_of, enveloped, last_case, list_or_string, read_either, read_first, read_last, read_tagged, sum_map, tagged_list}
 use Rattle.rlp_codec.specs.Laws.{CasesAreLawful, ReadsBack, GivesOnly, IsLawful, IsSeen, IsStrictPart, viewed, views_of}
 use Rattle.rlp_codec.proofs.ListLaws.{goes_on, held_itself, is_mapped, item_back, item_only, items_held, items_only, items_sized}
 use Rattle.rlp_codec.proofs.StringLaws.{ReadsStrings, number_lawful, string_lawful}
@@ -67,7 +67,7 @@ not_right : {M N : Type 0} (r : Result N Fault) (y : M) → map_value {B = M ⊎
 not_right (Ok x) y is = cc
 not_right (Err e) y is = cc
 
-module _ {A B : Type 0} (c : Codec A) (d : Codec B) (lists : (x : A) → is_list (c.item x) ≡ true) (strings : (y : B) → is_list (d.item y) ≡ false) where
+module _ {A B : Type 0} (c : Form A) (d : Form B) (lists : (x : A) → is_list (c.item x) ≡ true) (strings : (y : B) → is_list (d.item y) ≡ false) where
   either_back_by : (is_strict : Bool) → ReadsBack is_strict c → ReadsBack is_strict d → (b : List ℕ) (s : A ⊎ B) → length b < 2 ^ 64 → OnSum c.Fits d.Fits s
       → Holds is_strict b (encoding (sum_item c.item d.item s))
       → (read_either c.reading.read d.reading.read (viewed is_strict b)).result ≡ Ok (sum_map c.reading.seen d.reading.seen s)
@@ -106,7 +106,7 @@ module _ {A B : Type 0} (c : Codec A) (d : Codec B) (lists : (x : A) → is_list
 
 -- ---- tags
 
-module _ {A : Type 0} (unknown : List ℕ) (tag : ℕ) (c : Codec A) where
+module _ {A : Type 0} (unknown : List ℕ) (tag : ℕ) (c : Form A) where
   last_only_by : GivesOnly true c → (k : ℕ) (b : List ℕ) (x : A) (same : Bool) → AreBytes b → length b < 2 ^ 64 → (k == tag) ≡ same
       → (read_last unknown tag c.reading.read k (strict_view_of b)).result ≡ Ok (c.reading.seen x) → c.Fits x × (k ≡ tag) × (b ≡ encoding (c.item x))
   last_only_by law k b x true bytes fits same is =
@@ -122,7 +122,7 @@ module _ {A : Type 0} (unknown : List ℕ) (tag : ℕ) (c : Codec A) where
     only = λ k b x bytes fits is. last_only_by law.exact k b x (k == tag) bytes fits refl is;
   }
 
-module _ {A B : Type 0} (tag : ℕ) (c : Codec A) (more : Cases B) where
+module _ {A B : Type 0} (tag : ℕ) (c : Form A) (more : CasesForm B) where
   first_back : IsLawful c → CasesAreLawful more → (is_strict : Bool) (b : List ℕ) (s : A ⊎ B) → length b < 2 ^ 64 → (and_case tag c more).Fits s
       → Holds is_strict b (encoding ((and_case tag c more).item s))
       → (read_first tag c.reading.read more.read ((and_case tag c more).tag s) (viewed is_strict b)).result ≡ Ok (sum_map c.reading.seen more.seen s)
@@ -182,7 +182,7 @@ module _ {A B : Type 0} (tag : ℕ) (c : Codec A) (more : Cases B) where
 
 -- ---- envelopes
 
-module _ {A : Type 0} (cases : Cases A) (law : CasesAreLawful cases) where
+module _ {A : Type 0} (cases : CasesForm A) (law : CasesAreLawful cases) where
   envelope_only : (d : List ℕ) (x : A) → AreBytes d → length d < 2 ^ 64 → (envelope_of cases.read d).result ≡ Ok (cases.seen x) → cases.Fits x × (d ≡ envelope cases x)
   envelope_only [] x bytes fits is = absurd (let no : ⊥ = cc in no)
   envelope_only (tag ∷ payload) x bytes fits is =
@@ -212,7 +212,7 @@ module _ {A : Type 0} (cases : Cases A) (law : CasesAreLawful cases) where
 
 -- ---- lists of a tag and a payload
 
-module _ {A : Type 0} (width : ℕ) (cases : Cases A) (law : CasesAreLawful cases) where
+module _ {A : Type 0} (width : ℕ) (cases : CasesForm A) (law : CasesAreLawful cases) where
   abbrev read_pair : List View → Result cases.M Fault
   read_pair vs = (read_tagged width cases.read vs).result
 

@@ -1,5 +1,5 @@
 -- how values are written as items and read from views
-pub mod Codec
+pub mod Form
 -- values of several types
 pub mod Sums
 -- the laws of codecs

@@ -7,7 +7,7 @@ use Rattle.rlp_format.specs.Values.Value.{FitsBytes, number_item}
 use Rattle.rlp_values.specs.Format.Split.{begins_as_list}
 use Rattle.rlp_values.specs.Values.Sums.{OnSum, sum_item, sum_tag}
 use Rattle.rlp_values.specs.Views.View.{View, strict_view_of}
-use Rattle.rlp_codec.specs.Codec.{Answer, Codec, Fault, custom, go_on, here, incorrect_list_len, is_too_short, items_of, map_answer, number, string_of, within}
+use Rattle.rlp_codec.specs.Form.{Answer, Form, Fault, custom, go_on, here, incorrect_list_len, is_too_short, items_of, map_answer, number, string_of, within}
 
 -- The value f of a value on the left, or g of a value on the right.
 abbrev pub sum_map : {A B M N : Type 0} → (A → M) → (B → N) → A ⊎ B → M ⊎ N
@@ -21,7 +21,7 @@ abbrev pub read_either : {M N : Type 0} → (View → Answer M Fault) → (View 
 read_either lists strings v = if begins_as_list v.bytes then map_answer inl (lists v) else map_answer inr (strings v)
 
 -- A value of a first type, written as a list, or of a second type, written as a string.
-abbrev pub list_or_string : {A B : Type 0} → Codec A → Codec B → Codec (A ⊎ B)
+abbrev pub list_or_string : {A B : Type 0} → Form A → Form B → Form (A ⊎ B)
 list_or_string c d = record {
   Fits = OnSum c.Fits d.Fits;
   item = sum_item c.item d.item;
@@ -37,7 +37,7 @@ list_or_string c d = record {
 
 -- How the values of a sum are written and read: which values fit, the tag of a value, the item of the payload, what contracts see of a value, what a tag and a
 -- view of a payload give, and whether reading may also fail with `OutOfMemory`.
-pub record Cases (A : Type 0) : Type 1 where
+pub record CasesForm (A : Type 0) : Type 1 where
   pub Fits : A → Type 0
   pub tag : A → ℕ
   pub item : A → Item
@@ -60,7 +60,7 @@ abbrev pub read_first : {M N : Type 0} → ℕ → (View → Answer M Fault) →
 read_first tag read more k v = if k == tag then map_answer inl (read v) else map_answer inr (more k v)
 
 -- The last type of a sum, with a tag, and with the text of the fault of an unknown tag.
-abbrev pub last_case : {A : Type 0} → List ℕ → ℕ → Codec A → Cases A
+abbrev pub last_case : {A : Type 0} → List ℕ → ℕ → Form A → CasesForm A
 last_case unknown tag c = record {
   Fits = c.Fits;
   tag = λ x. tag;
@@ -72,7 +72,7 @@ last_case unknown tag c = record {
 }
 
 -- A type before the other types of a sum, with a tag that no other type has.
-abbrev pub and_case : {A B : Type 0} → ℕ → Codec A → Cases B → Cases (A ⊎ B)
+abbrev pub and_case : {A B : Type 0} → ℕ → Form A → CasesForm B → CasesForm (A ⊎ B)
 and_case tag c more = record {
   Fits = OnSum c.Fits (λ y. Unless (more.tag y == tag) (more.Fits y));
   tag = sum_tag tag more.tag;
@@ -84,7 +84,7 @@ and_case tag c more = record {
 }
 
 -- The bytes of an envelope: the tag, and the encoding of the payload.
-abbrev pub envelope : {A : Type 0} → Cases A → A → List ℕ
+abbrev pub envelope : {A : Type 0} → CasesForm A → A → List ℕ
 envelope cases x = cases.tag x ∷ encoding (cases.item x)
 
 -- What the bytes of an envelope give, with the payload read strictly.
@@ -93,7 +93,7 @@ envelope_of read [] = here (Err is_too_short)
 envelope_of read (tag ∷ payload) = read tag (strict_view_of payload)
 
 -- A sum whose values are written as the strings of the envelopes of EIP-2718.
-abbrev pub enveloped : {A : Type 0} → Cases A → Codec A
+abbrev pub enveloped : {A : Type 0} → CasesForm A → Form A
 enveloped cases = record {
   Fits = cases.Fits;
   item = λ x. string (envelope cases x);
@@ -113,7 +113,7 @@ read_tagged width read (first ∷ second ∷ []) = go_on (within 0 ((number widt
 read_tagged width read (first ∷ second ∷ third ∷ vs) = here (Err incorrect_list_len)
 
 -- A sum whose values are written as lists of a tag, a number of at most `width` bytes, and a payload.
-abbrev pub tagged_list : {A : Type 0} → ℕ → Cases A → Codec A
+abbrev pub tagged_list : {A : Type 0} → ℕ → CasesForm A → Form A
 tagged_list width cases = record {
   Fits = λ x. FitsBytes width (cases.tag x) × cases.Fits x;
   item = λ x. list_of (number_item (cases.tag x) ∷ cases.item x ∷ []);

@@ -1,2 +1,2 @@
 -- codecs with their laws
-pub mod Lawful
+pub mod Codec

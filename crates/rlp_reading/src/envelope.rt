@@ -2,7 +2,7 @@
 
 ghost use Rattle.std.specs.Prelude.{◌≡◌, ◌∷◌, ◌⊎◌, [], Ok, Err, IfErr, IfOk};
 ghost use Rattle.rlp_values.specs.declared.error.DecoderError.TheVariants.{RlpIsTooShort};
-ghost use Rattle.rlp_codec.specs.Codec.{fault_of, string_of};
+ghost use Rattle.rlp_codec.specs.Form.{fault_of, string_of};
 
 use rlp::{DecoderError, Envelope, Rlp};
 

@@ -3,7 +3,7 @@
 ghost use Rattle.std.specs.Prelude.{◌≡◌, ◌↔◌, ◌⊎◌, ◌∷◌, [], List, length, map, Ok, Err, IfOk, IfErr, IsTrue, MatchOption, MatchResult};
 ghost use Rattle.rlp_values.specs.Format.Split.{split};
 ghost use Rattle.rlp_values.specs.Views.View.{View, item_views};
-ghost use Rattle.rlp_codec.specs.Codec.{fault_of, items_of, list_of_views, take_item};
+ghost use Rattle.rlp_codec.specs.Form.{fault_of, items_of, list_of_views, take_item};
 ghost use Rattle.rlp_values.specs.declared.error.DecoderError.TheVariants.{OutOfMemory};
 
 use crate::traits::Decodable;

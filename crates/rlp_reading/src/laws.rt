@@ -10,7 +10,7 @@ ghost use Rattle.rlp_values.specs.Format.Split.{items};
 ghost use Rattle.rlp_values.specs.Values.ListReading.{FaultsAt, GivesAt};
 ghost use Rattle.rlp_values.specs.Values.RoundTrip.{ReadsBack};
 ghost use Rattle.rlp_values.specs.Views.View.{HoldsItem, view_of};
-ghost use Rattle.rlp_codec.specs.Codec.{Faults, Gives, fault_of};
+ghost use Rattle.rlp_codec.specs.Form.{Faults, Gives, fault_of};
 
 use crate::round_trip::{RoundTrip, Scalar};
 use crate::traits::Decodable;

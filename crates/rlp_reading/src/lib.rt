@@ -8,7 +8,7 @@ ghost use Rattle.rlp_format.specs.Format.Item.{list_of};
 ghost use Rattle.rlp_format.specs.Values.Value.{AreAlike};
 ghost use Rattle.rlp_values.specs.declared.error.DecoderError.TheVariants.{OutOfMemory};
 ghost use Rattle.rlp_values.specs.Views.View.{strict_view_of, view_of};
-ghost use Rattle.rlp_codec.specs.Codec.{Faults, Gives, list_reading};
+ghost use Rattle.rlp_codec.specs.Form.{Faults, Gives, list_reading};
 
 mod envelope;
 mod fields;

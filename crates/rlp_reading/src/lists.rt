@@ -3,7 +3,7 @@
 ghost use Rattle.std.specs.Prelude.{◌≡◌, ◌⊎◌, IfOk, IfErr};
 ghost use Rattle.std.specs.Vec.{vec_items};
 ghost use Rattle.rlp_values.specs.declared.error.DecoderError.TheVariants.{OutOfMemory};
-ghost use Rattle.rlp_codec.specs.Codec.{Faults, Gives, list_reading};
+ghost use Rattle.rlp_codec.specs.Form.{Faults, Gives, list_reading};
 
 use crate::fields::Fields;
 use crate::traits::Decodable;

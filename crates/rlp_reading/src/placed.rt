@@ -2,7 +2,7 @@
 
 ghost use Rattle.std.specs.Prelude.{◌≡◌, ◌⊎◌, ◌∷◌, [], Ok, Err, IfOk, IfErr};
 ghost use Rattle.rlp_values.specs.declared.error.DecoderError.TheVariants.{OutOfMemory};
-ghost use Rattle.rlp_codec.specs.Codec.{Faults, Gives, fault_of, struct_reading};
+ghost use Rattle.rlp_codec.specs.Form.{Faults, Gives, fault_of, struct_reading};
 
 use crate::fields::Fields;
 use crate::structs::DecodeFields;

@@ -1,7 +1,7 @@
 //! Types whose values are read back from their encodings.
 
 ghost use Rattle.std.specs.Prelude.{false};
-ghost use Rattle.rlp_codec.specs.Laws.{GivesOnly, IsLawful, IsReadBack, codec_of};
+ghost use Rattle.rlp_codec.specs.Laws.{GivesOnly, IsLawful, IsReadBack, form_of};
 
 use crate::traits::Decodable;
 use rlp::Encodable;
@@ -9,17 +9,17 @@ use rlp::Encodable;
 /// A type whose values are read back from their encodings, even if other bytes follow.
 pub trait RoundTrip: Encodable + Decodable {
     /// A view of a slice that begins with the encoding of a value that fits gives this value.
-    ghost round_trip: { IsReadBack (codec_of Self.fits Self.item Self.reading) };
+    ghost round_trip: { IsReadBack (form_of Self.fits Self.item Self.reading) };
 }
 
 /// A type whose values are read from bytes that begin with their encodings, and from no others.
 pub trait Scalar: RoundTrip {
     /// A lenient view gives a value only if the value fits and the bytes begin with its encoding.
-    ghost exact: { GivesOnly false (codec_of Self.fits Self.item Self.reading) };
+    ghost exact: { GivesOnly false (form_of Self.fits Self.item Self.reading) };
 }
 
 /// A type whose values a strict view gives exactly if its bytes are the encoding of the value.
 pub trait StrictRead: RoundTrip {
     /// A strict view gives a value exactly if the value fits and the bytes are its encoding.
-    ghost strict: { IsLawful (codec_of Self.fits Self.item Self.reading) };
+    ghost strict: { IsLawful (form_of Self.fits Self.item Self.reading) };
 }

@@ -3,7 +3,7 @@
 ghost use Rattle.std.specs.Prelude.{◌≡◌, ◌⊎◌, ◌≤◌, ◌^◌, Ok, Err, IfOk, IfErr, IsTrue, MatchOption, slice_get};
 ghost use Rattle.std.specs.Vec.{vec_items};
 ghost use Rattle.rlp_values.specs.declared.error.DecoderError.TheVariants.{OutOfMemory};
-ghost use Rattle.rlp_codec.specs.Codec.{Faults, FieldsReading, Gives, fault_of, group_before, group_fields, no_fields, one_field, optional_fields, part_fields, struct_reading};
+ghost use Rattle.rlp_codec.specs.Form.{Faults, FieldsReading, Gives, fault_of, group_before, group_fields, no_fields, one_field, optional_fields, part_fields, struct_reading};
 
 use crate::fields::Fields;
 use crate::traits::Decodable;

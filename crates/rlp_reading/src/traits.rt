@@ -2,7 +2,7 @@
 
 ghost use Rattle.std.specs.Prelude.{◌≡◌, ◌⊎◌, IfOk, IfErr, IsTrue};
 ghost use Rattle.rlp_values.specs.declared.error.DecoderError.TheVariants.{OutOfMemory};
-ghost use Rattle.rlp_codec.specs.Codec.{Faults, Gives, Reading};
+ghost use Rattle.rlp_codec.specs.Form.{Faults, Gives, Reading};
 
 use rlp::{DecoderError, Rlp};
 use std::alloc::Global;

@@ -1,6 +1,6 @@
 //! Truth values.
 
-ghost use Rattle.rlp_codec.specs.Codec.{truth_value};
+ghost use Rattle.rlp_codec.specs.Form.{truth_value};
 ghost use Rattle.rlp_codec.proofs.ListLaws.{read_back};
 ghost use Rattle.rlp_codec.proofs.StringLaws.{truth_lawful, truth_scalar};
 

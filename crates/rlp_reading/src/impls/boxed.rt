@@ -3,8 +3,8 @@
 ghost use Rattle.std.specs.Prelude.{false, true};
 ghost use Rattle.std.specs.Box.{box_value};
 ghost use Rattle.rlp_codec.proofs.ListLaws.{holding_lawful, holding_only, holding_read_back};
-ghost use Rattle.rlp_codec.specs.Codec.{held_reading};
-ghost use Rattle.rlp_codec.specs.Laws.{codec_of};
+ghost use Rattle.rlp_codec.specs.Form.{held_reading};
+ghost use Rattle.rlp_codec.specs.Laws.{form_of};
 
 use crate::round_trip::{RoundTrip, Scalar, StrictRead};
 use crate::traits::Decodable;
@@ -26,13 +26,13 @@ impl<T: Decodable> Decodable for Box<T> {
 }
 
 impl<T: RoundTrip> RoundTrip for Box<T> {
-    ghost round_trip = { holding_read_back (codec_of T.fits T.item T.reading) box_value T.round_trip };
+    ghost round_trip = { holding_read_back (form_of T.fits T.item T.reading) box_value T.round_trip };
 }
 
 impl<T: Scalar> Scalar for Box<T> {
-    ghost exact = { holding_only (codec_of T.fits T.item T.reading) box_value false T.exact };
+    ghost exact = { holding_only (form_of T.fits T.item T.reading) box_value false T.exact };
 }
 
 impl<T: StrictRead> StrictRead for Box<T> {
-    ghost strict = { holding_lawful (codec_of T.fits T.item T.reading) box_value T.strict };
+    ghost strict = { holding_lawful (form_of T.fits T.item T.reading) box_value T.strict };
 }

@@ -1,6 +1,6 @@
 //! Byte arrays.
 
-ghost use Rattle.rlp_codec.specs.Codec.{byte_array};
+ghost use Rattle.rlp_codec.specs.Form.{byte_array};
 ghost use Rattle.rlp_codec.proofs.ListLaws.{read_back};
 ghost use Rattle.rlp_codec.proofs.StringLaws.{array_lawful, array_scalar};
 

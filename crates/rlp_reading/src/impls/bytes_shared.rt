@@ -1,6 +1,6 @@
 //! Buffers that are shared without a copy.
 
-ghost use Rattle.rlp_codec.specs.Codec.{byte_string};
+ghost use Rattle.rlp_codec.specs.Form.{byte_string};
 ghost use Rattle.rlp_codec.proofs.ListLaws.{read_back};
 ghost use Rattle.rlp_codec.proofs.StringLaws.{bytes_lawful, bytes_scalar};
 

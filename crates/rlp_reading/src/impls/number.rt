@@ -3,7 +3,7 @@
 ghost use Rattle.std.specs.Prelude.{◌≡◌, ◌≤◌, length, Ok, Err, IfOk, IfErr, MatchResult};
 ghost use Rattle.std.specs.Int.Digits.{number_from_digits};
 ghost use Rattle.rlp_format.specs.Values.Value.{FitsBytes};
-ghost use Rattle.rlp_codec.specs.Codec.{and_then, fault_of, number, number_of, string_of};
+ghost use Rattle.rlp_codec.specs.Form.{and_then, fault_of, number, number_of, string_of};
 ghost use Rattle.rlp_codec.proofs.ListLaws.{read_back};
 ghost use Rattle.rlp_codec.proofs.StringLaws.{number_lawful, number_scalar};
 

@@ -1,8 +1,8 @@
 //! Options.
 
 ghost use Rattle.rlp_codec.proofs.ListLaws.{option_lawful, option_read_back};
-ghost use Rattle.rlp_codec.specs.Codec.{option_reading};
-ghost use Rattle.rlp_codec.specs.Laws.{codec_of};
+ghost use Rattle.rlp_codec.specs.Form.{option_reading};
+ghost use Rattle.rlp_codec.specs.Laws.{form_of};
 
 use crate::fields::Fields;
 use crate::round_trip::{RoundTrip, StrictRead};
@@ -32,9 +32,9 @@ impl<T: Decodable> Decodable for Option<T> {
 }
 
 impl<T: RoundTrip> RoundTrip for Option<T> {
-    ghost round_trip = { option_read_back (codec_of T.fits T.item T.reading) T.round_trip };
+    ghost round_trip = { option_read_back (form_of T.fits T.item T.reading) T.round_trip };
 }
 
 impl<T: StrictRead> StrictRead for Option<T> {
-    ghost strict = { option_lawful (codec_of T.fits T.item T.reading) T.strict };
+    ghost strict = { option_lawful (form_of T.fits T.item T.reading) T.strict };
 }

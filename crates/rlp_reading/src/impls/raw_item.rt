@@ -1,7 +1,7 @@
 //! Items of any kind, kept as the bytes of their encodings.
 
 ghost use Rattle.std.specs.Prelude.{◌≡◌, Ok, Err, IfOk, IfErr};
-ghost use Rattle.rlp_codec.specs.Codec.{fault_of, raw_item, raw_of};
+ghost use Rattle.rlp_codec.specs.Form.{fault_of, raw_item, raw_of};
 
 use crate::traits::Decodable;
 use rlp::{DecoderError, RawItem, Rlp};

@@ -1,7 +1,7 @@
 //! Text.
 
 ghost use Rattle.std.specs.String.{string_bytes};
-ghost use Rattle.rlp_codec.specs.Codec.{text};
+ghost use Rattle.rlp_codec.specs.Form.{text};
 ghost use Rattle.rlp_codec.proofs.ListLaws.{read_back};
 ghost use Rattle.rlp_codec.proofs.StringLaws.{text_lawful, text_scalar};
 

@@ -4,7 +4,7 @@ ghost use Rattle.std.specs.Prelude.{◌≡◌, ◌≤◌, false, length};
 ghost use Rattle.std.specs.Int.Digits.{number_from_digits};
 ghost use Rattle.rlp_codec.proofs.ListLaws.{newtype_only, read_back};
 ghost use Rattle.rlp_codec.proofs.StringLaws.{number_scalar};
-ghost use Rattle.rlp_codec.specs.Codec.{number};
+ghost use Rattle.rlp_codec.specs.Form.{number};
 ghost use Rattle.rlp_reading.specs.Lawful.{uint};
 
 use crate::impls::number::digits_of;

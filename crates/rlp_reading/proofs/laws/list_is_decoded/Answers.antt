@@ -1,13 +1,13 @@
 use Rattle.std.proofs.Common.{arith}
 use Rattle.std.specs.Vec.{vec_items}
-use Rattle.rlp_codec.specs.Laws.{codec_of}
+use Rattle.rlp_codec.specs.Laws.{form_of}
 use Rattle.rlp_codec.proofs.Corollaries.{list_alike, list_memory}
 use Rattle.rlp_reading.proofs.laws.list_is_decoded.Goals as goal
 
 pub returns-clause-alike : goal.returns-clause-alike
 returns-clause-alike g c = λ vs all begins.
-    list_alike (codec_of _ _ _) vec_items g.met.T.RoundTrip.round_trip _ vs _ (omega arith) all begins c.decode_list.ensures.value
+    list_alike (form_of _ _ _) vec_items g.met.T.RoundTrip.round_trip _ vs _ (omega arith) all begins c.decode_list.ensures.value
 
 pub returns-clause-memory : goal.returns-clause-memory
 returns-clause-memory g c = λ vs all begins.
-    list_memory (codec_of _ _ _) g.met.T.RoundTrip.round_trip _ vs _ (omega arith) all begins c.decode_list.ensures.fault
+    list_memory (form_of _ _ _) g.met.T.RoundTrip.round_trip _ vs _ (omega arith) all begins c.decode_list.ensures.fault

@@ -1,5 +1,5 @@
 use Rattle.std.proofs.Common.{◌≡◌, ◌++◌, length, map}
-use Rattle.rlp_codec.specs.Codec.{and_then, list_of_views, map_value, read_each}
+use Rattle.rlp_codec.specs.Form.{and_then, list_of_views, map_value, read_each}
 use Rattle.rlp_reading.proofs.lists.as_list.Given as goal
 
 -- the values so far come before what the items that are left give

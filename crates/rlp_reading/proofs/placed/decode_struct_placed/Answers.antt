@@ -1,5 +1,5 @@
 use Rattle.std.proofs.Common.{◌≡◌, ◌-◌, ◌∷◌, length, inl, inr, ⊎_elim, rules, sym, ap, ◌∙◌, Err}
-use Rattle.rlp_codec.specs.Codec.{fault_of}
+use Rattle.rlp_codec.specs.Form.{fault_of}
 use Rattle.rlp_codec.proofs.StructLaws.{all_read, field_failed, item_left, other_number}
 use Rattle.rlp_reading.proofs.placed.decode_struct_placed.Goals as goal
 

@@ -1,6 +1,6 @@
 use Rattle.std.proofs.Common.{Some, ◌≡◌, ◌-◌, length, inl, inr, ⊎_elim, rules, sym, ap, ◌∙◌}
 use Rattle.std.specs.Prelude.{slice_get}
-use Rattle.rlp_codec.specs.Codec.{Path}
+use Rattle.rlp_codec.specs.Form.{Path}
 use Rattle.rlp_codec.proofs.StructLaws.{all_read, field_failed, item_left, other_number}
 use Rattle.rlp_reading.proofs.structs.decode_struct.Goals as goal
 

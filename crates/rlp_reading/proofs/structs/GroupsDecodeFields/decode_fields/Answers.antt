@@ -1,6 +1,6 @@
 use Rattle.std.proofs.Common.{◌≡◌, [], ◌++◌, List, map, ap, rules, ◌∙◌}
 use Rattle.rlp_values.specs.Views.View.{View}
-use Rattle.rlp_codec.specs.Codec.{map_value, take_each}
+use Rattle.rlp_codec.specs.Form.{map_value, take_each}
 use Rattle.rlp_codec.proofs.GroupLaws.{one_pushed, one_turn}
 use Rattle.rlp_reading.proofs.structs.GroupsDecodeFields.decode_fields.Goals as goal
 

@@ -1,6 +1,6 @@
 use Rattle.std.proofs.Common.{◌≡◌, ◌++◌, List, length, map}
 use Rattle.rlp_values.specs.Views.View.{View}
-use Rattle.rlp_codec.specs.Codec.{map_value, take_each}
+use Rattle.rlp_codec.specs.Form.{map_value, take_each}
 use Rattle.rlp_reading.proofs.structs.GroupsDecodeFields.decode_fields.Given as goal
 
 -- the groups so far come before what the views that are left give

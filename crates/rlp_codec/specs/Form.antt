@@ -197,13 +197,13 @@ held_reading takes_memory value r = record { M = r.M; seen = λ b. r.seen (value
 -- ---- codecs of types
 
 -- How the values of a type are written and read: which values fit, the item of a value, and the reading.
-pub record Codec (A : Type 0) : Type 1 where
+pub record Form (A : Type 0) : Type 1 where
   pub Fits : A → Type 0
   pub item : A → Item
   pub reading : Reading A
 
 -- A type of strings: which values fit, the bytes of a value, what contracts see of a value, what a string gives, and whether reading takes memory.
-abbrev pub string_type : {A M : Type 0} → (A → Type 0) → (A → List ℕ) → (A → M) → (List ℕ → Result M Fault) → Bool → Codec A
+abbrev pub string_type : {A M : Type 0} → (A → Type 0) → (A → List ℕ) → (A → M) → (List ℕ → Result M Fault) → Bool → Form A
 string_type {M = M} Fits bytes seen read takes_memory = record {
   Fits = Fits;
   item = λ x. string (bytes x);
@@ -211,27 +211,27 @@ string_type {M = M} Fits bytes seen read takes_memory = record {
 }
 
 -- Numbers of at most `width` bytes.
-abbrev pub number : ℕ → Codec ℕ
+abbrev pub number : ℕ → Form ℕ
 number width = string_type (FitsBytes width) big_endian (λ n. n) (number_of width) false
 
 -- Truth values.
-abbrev pub truth_value : Codec Bool
+abbrev pub truth_value : Form Bool
 truth_value = string_type (λ b. ⊤) (λ b. big_endian (bit b)) (λ b. b) (λ d. and_then (number_of 1 d) bit_of) false
 
 -- A type that contracts see as byte strings.
-abbrev pub byte_string : {B : Type 0} → (B → List ℕ) → Codec B
+abbrev pub byte_string : {B : Type 0} → (B → List ℕ) → Form B
 byte_string bytes = string_type (λ b. ⊤) bytes bytes (λ d. Ok d) true
 
 -- A type that contracts see as texts.
-abbrev pub text : {B : Type 0} → (B → List ℕ) → Codec B
+abbrev pub text : {B : Type 0} → (B → List ℕ) → Form B
 text bytes = string_type (λ b. IsUtf8 (bytes b)) bytes bytes text_of true
 
 -- Arrays of n bytes.
-abbrev pub byte_array : ℕ → Codec (List ℕ)
+abbrev pub byte_array : ℕ → Form (List ℕ)
 byte_array n = string_type (λ a. length a ≡ n) (λ a. a) (λ a. a) (fixed_of n) false
 
 -- Items of any kind, kept as bytes that are the encoding of the item that the bytes are read as.
-abbrev pub raw_item : Codec (List ℕ)
+abbrev pub raw_item : Form (List ℕ)
 raw_item = record {
   Fits = λ b. b ≡ encoding (raw_item_of b);
   item = raw_item_of;
@@ -239,15 +239,15 @@ raw_item = record {
 }
 
 -- Options of a type.
-abbrev pub option : {A : Type 0} → Codec A → Codec (Option A)
+abbrev pub option : {A : Type 0} → Form A → Form (Option A)
 option c = record { Fits = λ o. IfSome o c.Fits; item = option_item c.item; reading = option_reading c.reading }
 
 -- A type that contracts see as lists of values.
-abbrev pub list_type : {A B : Type 0} → (B → List A) → Codec A → Codec B
+abbrev pub list_type : {A B : Type 0} → (B → List A) → Form A → Form B
 list_type values c = record { Fits = λ b. All c.Fits (values b); item = λ b. list_of (map c.item (values b)); reading = list_reading values c.reading }
 
 -- A type that holds one value, and takes no memory for the value.
-abbrev pub newtype : {A B : Type 0} → (B → A) → Codec A → Codec B
+abbrev pub newtype : {A B : Type 0} → (B → A) → Form A → Form B
 newtype value c = record {
   Fits = λ b. c.Fits (value b);
   item = λ b. c.item (value b);
@@ -255,11 +255,11 @@ newtype value c = record {
 }
 
 -- A type that holds one value in memory, such as a box.
-abbrev pub holding : {A B : Type 0} → (B → A) → Codec A → Codec B
+abbrev pub holding : {A B : Type 0} → (B → A) → Form A → Form B
 holding value c = record { Fits = λ b. c.Fits (value b); item = λ b. c.item (value b); reading = held_reading true value c.reading }
 
 -- Numbers that are kept as n bytes.
-abbrev pub uint : (n : ℕ) → Codec (Uint n)
+abbrev pub uint : (n : ℕ) → Form (Uint n)
 uint n = newtype (λ (u : Uint n). number_from_digits 256 u.bytes) (number n)
 
 -- ---- fields of structs
@@ -280,7 +280,7 @@ pub record FieldsReading (P : Type 0) : Type 1 where
   pub takes_memory : Bool
 
 -- How the fields of a struct are written and read: which values fit, the items of a value, and the reading.
-pub record Fields (P : Type 0) : Type 1 where
+pub record FieldsForm (P : Type 0) : Type 1 where
   pub Fits : P → Type 0
   pub items : P → List Item
   pub reading : FieldsReading P
@@ -404,15 +404,15 @@ part_fields part r = record {
 -- ---- codecs of structs
 
 -- No fields.
-abbrev pub end : {P : Type 0} → Fields P
+abbrev pub end : {P : Type 0} → FieldsForm P
 end = record { Fits = λ p. ⊤; items = λ p. []; reading = no_fields }
 
 -- One field.
-abbrev pub one : {A : Type 0} → Codec A → Fields A
+abbrev pub one : {A : Type 0} → Form A → FieldsForm A
 one c = record { Fits = c.Fits; items = λ x. c.item x ∷ []; reading = one_field c.reading }
 
 -- The fields of a part of a value, always the same number of items, before other fields.
-abbrev pub group : {A P : Type 0} → (P → A) → Fields A → Fields P → Fields P
+abbrev pub group : {A P : Type 0} → (P → A) → FieldsForm A → FieldsForm P → FieldsForm P
 group value f more = record {
   Fits = λ p. f.Fits (value p) × more.Fits p;
   items = λ p. f.items (value p) ++ more.items p;
@@ -420,16 +420,16 @@ group value f more = record {
 }
 
 -- One field before other fields.
-abbrev pub field : {A P : Type 0} → (P → A) → Codec A → Fields P → Fields P
+abbrev pub field : {A P : Type 0} → (P → A) → Form A → FieldsForm P → FieldsForm P
 field value c more = group value (one c) more
 
 -- n fields of one type before other fields: `value k` is the first field, `value (k + 1)` the second, and so on.
-abbrev pub each : {A P : Type 0} → (ℕ → P → A) → Codec A → Fields P → ℕ → ℕ → Fields P
+abbrev pub each : {A P : Type 0} → (ℕ → P → A) → Form A → FieldsForm P → ℕ → ℕ → FieldsForm P
 each value c more k zero = more
 each value c more k (suc n) = field (value k) c (each value c more (suc k) n)
 
 -- Last fields that may be missing together.
-abbrev pub optional_group : {A P : Type 0} → (P → Option A) → Fields A → Fields P
+abbrev pub optional_group : {A P : Type 0} → (P → Option A) → FieldsForm A → FieldsForm P
 optional_group value f = record {
   Fits = λ p. IfSome (value p) f.Fits;
   items = λ p. items_if f.items (value p);
@@ -437,11 +437,11 @@ optional_group value f = record {
 }
 
 -- A last field that may be missing.
-abbrev pub optional : {A P : Type 0} → (P → Option A) → Codec A → Fields P
+abbrev pub optional : {A P : Type 0} → (P → Option A) → Form A → FieldsForm P
 optional value c = optional_group value (one c)
 
 -- Groups at the end, each of the same fields.
-abbrev pub groups : {A P : Type 0} → (P → List A) → Fields A → Fields P
+abbrev pub groups : {A P : Type 0} → (P → List A) → FieldsForm A → FieldsForm P
 groups values f = record {
   Fits = λ p. All f.Fits (values p);
   items = λ p. all_items f.items (values p);
@@ -449,5 +449,5 @@ groups values f = record {
 }
 
 -- A struct, written as the list of the fields.
-abbrev pub struct_of : {P : Type 0} → Fields P → Codec P
+abbrev pub struct_of : {P : Type 0} → FieldsForm P → Form P
 struct_of f = record { Fits = f.Fits; item = λ p. list_of (f.items p); reading = struct_reading f.reading }
