@@ -18,3 +18,5 @@ pub mod RawLaws
 pub mod EachField
 -- the paths of faults
 pub mod Places
+-- types whose values are strings of several kinds
+pub mod KindLaws

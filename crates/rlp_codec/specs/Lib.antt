@@ -4,3 +4,5 @@ pub mod Form
 pub mod Sums
 -- the laws of codecs
 pub mod Laws
+-- strings of several kinds
+pub mod Kinds
