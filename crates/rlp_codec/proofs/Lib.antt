@@ -18,3 +18,5 @@ pub mod RawLaws
 pub mod EachField
 -- the paths of faults
 pub mod Places
+-- types that are read from the whole first item of a view
+pub mod FirstItemLaws

@@ -4,3 +4,5 @@ pub mod Form
 pub mod Sums
 -- the laws of codecs
 pub mod Laws
+-- types that are read from the whole first item of a view
+pub mod FirstItems
