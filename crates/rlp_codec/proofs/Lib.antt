@@ -20,3 +20,5 @@ pub mod EachField
 pub mod Places
 -- types whose values are strings of several kinds
 pub mod KindLaws
+-- types that are read from the whole first item of a view
+pub mod FirstItemLaws

@@ -24,7 +24,7 @@ use Rattle.rlp_codec.specs.Laws.{ReadsBack, GivesOnly, IsLawful, IsReadBack, IsS
 
 -- ---- the items of a view
 
-held_sized : (is_strict : Bool) (b : List ℕ) (x : Item) → length b < 2 ^ 64 → Holds is_strict b (encoding x) → IsSized x
+pub held_sized : (is_strict : Bool) (b : List ℕ) (x : Item) → length b < 2 ^ 64 → Holds is_strict b (encoding x) → IsSized x
 held_sized false b x fits (more, is) = front_sized x b more fits is
 held_sized true b x fits is = whole_sized x b fits is
 

@@ -6,3 +6,5 @@ pub mod Sums
 pub mod Laws
 -- strings of several kinds
 pub mod Kinds
+-- types that are read from the whole first item of a view
+pub mod FirstItems
