@@ -4,6 +4,9 @@ use Rattle.rlp_codec.specs.Form.{Fault, map_value}
 use Rattle.rlp_codec.specs.Kinds.{read_kind}
 use Rattle.rlp_codec.proofs.StringLaws.{ReadsStrings}
 
+same_value : {M : Type 0} (m n : M) → (let r : Result M Fault = Ok m in r) ≡ Ok n → m ≡ n
+same_value m n is = cc
+
 module _ {A K : Type 0} (Fits : A → Type 0) (bytes : A → List ℕ) (kind : A → K) (kind_of : List ℕ → Result K Fault) where
   -- a value fits exactly if its bytes are a string of its kind
   pub record HaveKinds : Type 0 where
@@ -13,8 +16,8 @@ module _ {A K : Type 0} (Fits : A → Type 0) (bytes : A → List ℕ) (kind : A
   only_by d x (Err e) is given = absurd (let r : read_kind kind_of d ≡ Err e = ap (λ r. map_value (λ k. (k, d)) r) is in let no : ⊥ = cc in no)
   only_by d x (Ok k) is given =
       let r : read_kind kind_of d ≡ Ok (k, d) = ap (λ r. map_value (λ k. (k, d)) r) is in
-      let same : Ok (k, d) ≡ Ok (kind x, bytes x) = sym r ∙ given in
-      (is ∙ ap Ok (let first : k ≡ kind x = cc in first), let second : d ≡ bytes x = cc in second)
+      let same : (k, d) ≡ (kind x, bytes x) = same_value _ _ (sym r ∙ given) in
+      (is ∙ ap Ok (ap (λ m. m.0) same), ap (λ m. m.1) same)
 
   pub kinds_read : HaveKinds → ReadsStrings Fits bytes (λ x. (kind x, bytes x)) (read_kind kind_of)
   kinds_read law = record {
