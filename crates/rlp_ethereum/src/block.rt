@@ -2,9 +2,8 @@
 
 ghost use Rattle.rlp_ethereum.specs.Block.{block};
 
-use rlp::{
-    Decodable, DecoderError, Encodable, ListOf, Optional, Rlp, RlpStream, RoundTrip, StrictRead,
-};
+use rlp::{DecoderError, Encodable, ListOf, Optional, Rlp, RlpStream};
+use rlp_reading::{Decodable, RoundTrip, StrictRead};
 use rlp_headers::{Header, Withdrawals};
 use rlp_transactions::AnyTransaction;
 use std::alloc::{AllocError, Global};
@@ -39,14 +38,10 @@ impl Encodable for Block {
 }
 
 impl Decodable for Block {
-    ghost gives = { block.gives };
-
-    ghost faults = { block.faults };
-
-    ghost may_lack_memory = { block.may_lack };
+    ghost reading = { block.reading };
 
     fn decode(alloc: Global, rlp: &Rlp<'_>) -> Result<Block, DecoderError> {
-        rlp::decode_fields!(
+        rlp_reading::decode_fields!(
             alloc,
             rlp,
             Block {

@@ -2,9 +2,8 @@
 
 ghost use Rattle.rlp_ethereum.specs.Body.{body};
 
-use rlp::{
-    Decodable, DecoderError, Encodable, ListOf, Optional, Rlp, RlpStream, RoundTrip, StrictRead,
-};
+use rlp::{DecoderError, Encodable, ListOf, Optional, Rlp, RlpStream};
+use rlp_reading::{Decodable, RoundTrip, StrictRead};
 use rlp_headers::{Header, Withdrawals};
 use rlp_transactions::AnyTransaction;
 use std::alloc::{AllocError, Global};
@@ -36,14 +35,10 @@ impl Encodable for Body {
 }
 
 impl Decodable for Body {
-    ghost gives = { body.gives };
-
-    ghost faults = { body.faults };
-
-    ghost may_lack_memory = { body.may_lack };
+    ghost reading = { body.reading };
 
     fn decode(alloc: Global, rlp: &Rlp<'_>) -> Result<Body, DecoderError> {
-        rlp::decode_fields!(
+        rlp_reading::decode_fields!(
             alloc,
             rlp,
             Body {

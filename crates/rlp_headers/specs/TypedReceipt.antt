@@ -1,8 +1,7 @@
 -- How receipts of transactions of every type are written and read.
 use Rattle.std.specs.Prelude.{◌⊎◌, refl}
 use Rattle.std.proofs.Common.{inl, inr}
-use Rattle.rlp.specs.Codec.{Codec, newtype}
-use Rattle.rlp.specs.Codecs.Sums.{Cases, and_case, enveloped, last_case, list_or_string}
+use Rattle.rlp_reading.specs.Codec.{Cases, Codec, and_case, enveloped, last_case, list_or_string, newtype}
 use Rattle.rlp_headers.specs.declared.receipt.Receipt.{Receipt}
 use Rattle.rlp_headers.specs.declared.typed_receipt.TypedReceipt.{TypedReceipt}
 use Rattle.rlp_headers.specs.declared.typed_receipt.TypedReceipt.TheVariants.{AccessList, Blob, FeeMarket, Legacy, SetCode}
@@ -11,7 +10,7 @@ use Rattle.rlp_records.specs.Alone.{unknown_type}
 
 -- the types of EIP-2718, each with its number; all have one payload
 abbrev pub typed_receipts : Cases (Receipt ⊎ (Receipt ⊎ (Receipt ⊎ Receipt)))
-typed_receipts = and_case 1 receipt (and_case 2 receipt (and_case 3 receipt (last_case 4 receipt)))
+typed_receipts = and_case 1 receipt (and_case 2 receipt (and_case 3 receipt (last_case unknown_type 4 receipt)))
 
 -- the receipt of a transaction of one of these types
 abbrev pub receipt_as_sum : TypedReceipt → Receipt ⊎ (Receipt ⊎ (Receipt ⊎ (Receipt ⊎ Receipt)))
@@ -23,4 +22,4 @@ receipt_as_sum (SetCode r) = inr (inr (inr (inr r)))
 
 -- the receipt of a legacy transaction is a list, and that of a typed one the string of the type and the receipt
 abbrev pub typed_receipt : Codec TypedReceipt
-typed_receipt = newtype receipt_as_sum (list_or_string receipt (enveloped unknown_type typed_receipts) (λ r. refl) (λ r. refl))
+typed_receipt = newtype receipt_as_sum (list_or_string receipt (enveloped typed_receipts) (λ r. refl) (λ r. refl))

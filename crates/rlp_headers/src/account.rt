@@ -2,7 +2,8 @@
 
 ghost use Rattle.rlp_headers.specs.Account.{account};
 
-use rlp::{Decodable, DecoderError, Encodable, Rlp, RlpStream, RoundTrip, StrictRead, Uint};
+use rlp::{DecoderError, Encodable, Rlp, RlpStream, Uint};
+use rlp_reading::{Decodable, RoundTrip, StrictRead};
 use rlp_records::Hash;
 use std::alloc::{AllocError, Global};
 
@@ -39,14 +40,10 @@ impl Encodable for Account {
 }
 
 impl Decodable for Account {
-    ghost gives = { account.gives };
-
-    ghost faults = { account.faults };
-
-    ghost may_lack_memory = { account.may_lack };
+    ghost reading = { account.reading };
 
     fn decode(alloc: Global, rlp: &Rlp<'_>) -> Result<Account, DecoderError> {
-        rlp::decode_fields!(
+        rlp_reading::decode_fields!(
             alloc,
             rlp,
             Account {

@@ -2,7 +2,8 @@
 
 ghost use Rattle.rlp_headers.specs.Bloom.{bloom};
 
-use rlp::{Decodable, DecoderError, Encodable, Rlp, RlpStream, RoundTrip, StrictRead};
+use rlp::{DecoderError, Encodable, Rlp, RlpStream};
+use rlp_reading::{Decodable, RoundTrip, StrictRead};
 use std::alloc::{AllocError, Global};
 
 /// The Bloom filter of logs: 256 bytes.
@@ -25,14 +26,10 @@ impl Encodable for Bloom {
 /// Read as the array of the bytes is. Fails with `RlpIsTooShort` if the string is shorter, and with
 /// `RlpIsTooBig` if it is longer. It doesn't allocate.
 impl Decodable for Bloom {
-    ghost gives = { bloom.gives };
-
-    ghost faults = { bloom.faults };
-
-    ghost may_lack_memory = { bloom.may_lack };
+    ghost reading = { bloom.reading };
 
     fn decode(alloc: Global, rlp: &Rlp<'_>) -> Result<Bloom, DecoderError> {
-        let bytes = rlp.as_val(alloc)?;
+        let bytes = <[u8; 256]>::decode(alloc, rlp)?;
         Ok(Bloom(bytes))
     }
 }

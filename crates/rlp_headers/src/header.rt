@@ -10,10 +10,8 @@ mod forks;
 
 use crate::Bloom;
 pub use forks::{Cancun, London, Shanghai};
-use rlp::{
-    Decodable, DecoderError, Encodable, OptionalGroupOf, Rlp, RlpStream, RoundTrip, StrictRead,
-    Uint,
-};
+use rlp::{DecoderError, Encodable, OptionalGroupOf, Rlp, RlpStream, Uint};
+use rlp_reading::{Decodable, RoundTrip, StrictRead};
 use rlp_records::{Address, Hash, encoding_hash};
 use std::alloc::{AllocError, Global};
 
@@ -110,14 +108,10 @@ impl Encodable for Header {
 }
 
 impl Decodable for Header {
-    ghost gives = { header.gives };
-
-    ghost faults = { header.faults };
-
-    ghost may_lack_memory = { header.may_lack };
+    ghost reading = { header.reading };
 
     fn decode(alloc: Global, rlp: &Rlp<'_>) -> Result<Header, DecoderError> {
-        rlp::decode_fields!(
+        rlp_reading::decode_fields!(
             alloc,
             rlp,
             Header {

@@ -2,7 +2,8 @@
 
 ghost use Rattle.rlp_headers.specs.Log.{log};
 
-use rlp::{Decodable, DecoderError, Encodable, ListOf, Rlp, RlpStream, RoundTrip, StrictRead};
+use rlp::{DecoderError, Encodable, ListOf, Rlp, RlpStream};
+use rlp_reading::{Decodable, RoundTrip, StrictRead};
 use rlp_records::{Address, Hash};
 use std::alloc::{AllocError, Global};
 
@@ -31,14 +32,10 @@ impl Encodable for Log {
 }
 
 impl Decodable for Log {
-    ghost gives = { log.gives };
-
-    ghost faults = { log.faults };
-
-    ghost may_lack_memory = { log.may_lack };
+    ghost reading = { log.reading };
 
     fn decode(alloc: Global, rlp: &Rlp<'_>) -> Result<Log, DecoderError> {
-        rlp::decode_fields!(
+        rlp_reading::decode_fields!(
             alloc,
             rlp,
             Log {

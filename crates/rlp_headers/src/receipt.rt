@@ -3,7 +3,8 @@
 ghost use Rattle.rlp_headers.specs.Receipt.{receipt};
 
 use crate::{Bloom, Log, ReceiptStatus};
-use rlp::{Decodable, DecoderError, Encodable, ListOf, Rlp, RlpStream, RoundTrip, StrictRead};
+use rlp::{DecoderError, Encodable, ListOf, Rlp, RlpStream};
+use rlp_reading::{Decodable, RoundTrip, StrictRead};
 use std::alloc::{AllocError, Global};
 
 /// A receipt: the list of its four fields.
@@ -40,14 +41,10 @@ impl Encodable for Receipt {
 }
 
 impl Decodable for Receipt {
-    ghost gives = { receipt.gives };
-
-    ghost faults = { receipt.faults };
-
-    ghost may_lack_memory = { receipt.may_lack };
+    ghost reading = { receipt.reading };
 
     fn decode(alloc: Global, rlp: &Rlp<'_>) -> Result<Receipt, DecoderError> {
-        rlp::decode_fields!(
+        rlp_reading::decode_fields!(
             alloc,
             rlp,
             Receipt {

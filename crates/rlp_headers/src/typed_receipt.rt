@@ -9,10 +9,8 @@ ghost use Rattle.rlp_headers.specs.TypedReceipt.{typed_receipt, typed_receipts};
 
 use crate::Receipt;
 use bytes::BytesMut;
-use rlp::{
-    Decodable, DecoderError, Encodable, Envelope, Rlp, RlpStream, RoundTrip, StrictRead,
-    write_envelope,
-};
+use rlp::{DecoderError, Encodable, Envelope, Rlp, RlpStream, write_envelope};
+use rlp_reading::{Decodable, RoundTrip, StrictRead};
 use rlp_records::{ACCESS_LIST_TYPE, BLOB_TYPE, FEE_MARKET_TYPE, SET_CODE_TYPE, to_envelope};
 use std::alloc::{AllocError, Global};
 
@@ -136,11 +134,7 @@ impl Encodable for TypedReceipt {
 }
 
 impl Decodable for TypedReceipt {
-    ghost gives = { typed_receipt.gives };
-
-    ghost faults = { typed_receipt.faults };
-
-    ghost may_lack_memory = { typed_receipt.may_lack };
+    ghost reading = { typed_receipt.reading };
 
     fn decode(alloc: Global, rlp: &Rlp<'_>) -> Result<TypedReceipt, DecoderError> {
         if rlp.is_list() {

@@ -2,7 +2,8 @@
 
 ghost use Rattle.rlp_headers.specs.Withdrawal.{withdrawal, withdrawals};
 
-use rlp::{Decodable, DecoderError, Each, Encodable, Rlp, RlpStream, RoundTrip, StrictRead};
+use rlp::{DecoderError, Each, Encodable, Rlp, RlpStream};
+use rlp_reading::{Decodable, RoundTrip, StrictRead, as_list};
 use rlp_records::Address;
 use std::alloc::{AllocError, Global};
 
@@ -36,14 +37,10 @@ impl Encodable for Withdrawal {
 }
 
 impl Decodable for Withdrawal {
-    ghost gives = { withdrawal.gives };
-
-    ghost faults = { withdrawal.faults };
-
-    ghost may_lack_memory = { withdrawal.may_lack };
+    ghost reading = { withdrawal.reading };
 
     fn decode(alloc: Global, rlp: &Rlp<'_>) -> Result<Withdrawal, DecoderError> {
-        rlp::decode_fields!(
+        rlp_reading::decode_fields!(
             alloc,
             rlp,
             Withdrawal {
@@ -79,14 +76,10 @@ impl Encodable for Withdrawals {
 }
 
 impl Decodable for Withdrawals {
-    ghost gives = { withdrawals.gives };
-
-    ghost faults = { withdrawals.faults };
-
-    ghost may_lack_memory = { withdrawals.may_lack };
+    ghost reading = { withdrawals.reading };
 
     fn decode(alloc: Global, rlp: &Rlp<'_>) -> Result<Withdrawals, DecoderError> {
-        let withdrawals = rlp.as_list(alloc)?;
+        let withdrawals = as_list(alloc, rlp)?;
         Ok(Withdrawals(withdrawals))
     }
 }

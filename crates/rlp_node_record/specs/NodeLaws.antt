@@ -13,7 +13,7 @@ use Rattle.rlp.specs.Views.View.{View, Holds, HoldsItem, strict_view_of}
 use Rattle.rlp.specs.Values.RawItem.{raw_item_of, view_frame}
 use Rattle.rlp.specs.Values.Value.{number_item}
 use Rattle.rlp.specs.Values.ValueReading.{GivesValue}
-use Rattle.rlp.specs.Codec.{Codec}
+use Rattle.rlp_reading.specs.Codec.{Codec}
 use Rattle.rlp.specs.Codecs.Exact.{exact_type}
 use Rattle.rlp.specs.Lemmas.Encodings.{encoding_same}
 use Rattle.rlp.specs.Lemmas.RawItems.{view_frame-held}

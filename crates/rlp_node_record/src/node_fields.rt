@@ -5,10 +5,8 @@ ghost use Rattle.rlp.specs.Format.Encoding.{encoding};
 ghost use Rattle.rlp_node_record.specs.NodeFields.{pair_fields, node_fields};
 
 use bytes::BytesMut;
-use rlp::{
-    AppendFields, Decodable, DecodeFields, DecoderError, Encodable, FieldFault, Fields,
-    FixedFields, Flattened, RawItem, Rlp, RlpStream, RoundTrip, StrictRead,
-};
+use rlp::{AppendFields, DecoderError, Encodable, Flattened, RawItem, Rlp, RlpStream};
+use rlp_reading::{Decodable, DecodeFields, Fields, FixedFields, RoundTrip, StrictRead};
 use std::alloc::{AllocError, Global};
 
 /// A key of a node record and its value, as in EIP-778.
@@ -61,7 +59,7 @@ impl DecodeFields for NodePair {
         fields: &mut Fields<'_>,
         len: usize,
     ) -> Result<NodePair, FieldFault> {
-        rlp::decode_fields!(alloc, fields, len, NodePair { key, value })
+        rlp_reading::decode_fields!(alloc, fields, len, NodePair { key, value })
     }
 }
 
@@ -89,14 +87,10 @@ impl Encodable for NodeFields {
 }
 
 impl Decodable for NodeFields {
-    ghost gives = { node_fields.gives };
-
-    ghost faults = { node_fields.faults };
-
-    ghost may_lack_memory = { node_fields.may_lack };
+    ghost reading = { node_fields.reading };
 
     fn decode(alloc: Global, rlp: &Rlp<'_>) -> Result<NodeFields, DecoderError> {
-        rlp::decode_fields!(
+        rlp_reading::decode_fields!(
             alloc,
             rlp,
             NodeFields {

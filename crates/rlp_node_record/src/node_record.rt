@@ -12,10 +12,8 @@ ghost use Rattle.rlp_node_record.specs.NodeLaws.{node_record};
 use crate::lookup::has_id;
 use crate::node_fields::{NodeFields, NodePair};
 use bytes::BytesMut;
-use rlp::{
-    Decodable, DecoderError, Encodable, Flattened, Rlp, RlpStream, RoundTrip, StrictRead,
-    write_struct,
-};
+use rlp::{DecoderError, Encodable, Flattened, Rlp, RlpStream, write_struct};
+use rlp_reading::{Decodable, RoundTrip, StrictRead};
 use std::alloc::{AllocError, Global};
 use std::cmp::Ordering;
 use std::marker::Model;
@@ -171,11 +169,7 @@ impl Encodable for NodeRecord {
 /// [`NodeRecord::MAX_LEN`] bytes, with a fault of its fields, and with
 /// `Custom("keys are not in order")` or `Custom("key id is missing")`.
 impl Decodable for NodeRecord {
-    ghost gives = { node_record.gives };
-
-    ghost faults = { node_record.faults };
-
-    ghost may_lack_memory = { node_record.may_lack };
+    ghost reading = { node_record.reading };
 
     #[tactic(auto, using(crate::specs::NodeLaws::record_reading))]
     fn decode(alloc: Global, rlp: &Rlp<'_>) -> Result<NodeRecord, DecoderError> {

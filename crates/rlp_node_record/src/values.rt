@@ -7,7 +7,8 @@ ghost use Rattle.rlp_node_record.specs.NodeKeys.{GivesArray, GivesKnown, GivesPo
 
 use crate::NodeRecord;
 use crate::lookup::value_among;
-use rlp::{Decodable, DecoderError, RawItem, StrictRead};
+use rlp::{DecoderError, RawItem};
+use rlp_reading::{Decodable, StrictRead};
 use std::alloc::Global;
 
 /// The keys. A getter of a key that EIP-778 defines gives `None` if the record hasn't the key, and
