@@ -76,7 +76,8 @@ fn read_alone(alloc: Global, bytes: &[u8]) -> Result<TypedReceipt, DecoderError>
         ≡ Ok (typed_receipt.reading.seen r)) }
     ensures fault { IfErr result
         (λ e. ((read_alone receipt.reading.read typed_receipts.cases.read bytes.now).result
-        ≡ Err (fault_of e)) ⊎ (e ≡ OutOfMemory)) }
+        ≡ Err (fault_of e))
+        ⊎ ((e ≡ OutOfMemory) × IsTrue typed_receipt.reading.takes_memory)) }
 {
     if Rlp::new(bytes).is_list() {
         return Ok(TypedReceipt::Legacy(decode_strict(alloc, bytes)?));
