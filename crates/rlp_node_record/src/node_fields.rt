@@ -1,6 +1,6 @@
 //! The fields of a node record.
 
-ghost use Rattle.std.specs.Prelude.{◌≡◌, OnOk, IfOk, refl};
+ghost use Rattle.std.specs.Prelude.{◌≡◌, OnOk, IfOk};
 ghost use Rattle.rlp.specs.Format.Encoding.{encoding};
 ghost use Rattle.rlp_node_record.specs.NodeFields.{pair_fields, node_fields};
 
@@ -54,12 +54,8 @@ impl DecodeFields for NodePair {
         len == 2
     }
 
-    fn decode_fields(
-        alloc: Global,
-        fields: &mut Fields<'_>,
-        len: usize,
-    ) -> Result<NodePair, FieldFault> {
-        rlp_reading::decode_fields!(alloc, fields, len, NodePair { key, value })
+    fn decode_fields(alloc: Global, fields: &mut Fields<'_>) -> Result<NodePair, DecoderError> {
+        rlp_reading::decode_fields!(fields alloc, fields, NodePair { key, value })
     }
 }
 
@@ -67,8 +63,6 @@ impl FixedFields for NodePair {
     fn width() -> Option<usize> {
         Some(2)
     }
-
-    ghost none_more = { refl };
 }
 
 impl Encodable for NodeFields {
