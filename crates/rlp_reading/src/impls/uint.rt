@@ -2,10 +2,10 @@
 
 ghost use Rattle.std.specs.Prelude.{◌≡◌, ◌≤◌, false, length};
 ghost use Rattle.std.specs.Int.Digits.{number_from_digits};
-ghost use Rattle.rlp_codec.proofs.ListLaws.{newtype_only, read_back};
+ghost use Rattle.rlp_codec.proofs.ListLaws.{newtype_only};
 ghost use Rattle.rlp_codec.proofs.StringLaws.{number_scalar};
 ghost use Rattle.rlp_codec.specs.Form.{number};
-ghost use Rattle.rlp_reading.specs.Lawful.{uint};
+ghost use Rattle.rlp_reading.specs.Codec.{uint};
 
 use crate::impls::number::digits_of;
 use crate::round_trip::{RoundTrip, Scalar, StrictRead};
@@ -38,7 +38,7 @@ fn padded<const N: usize>(digits: &[u8]) -> [u8; N]
 }
 
 impl<const N: usize> RoundTrip for Uint<N> {
-    ghost round_trip = { read_back (uint N).laws };
+    ghost round_trip = { (uint N).reads_back };
 }
 
 impl<const N: usize> Scalar for Uint<N> {
@@ -47,5 +47,5 @@ impl<const N: usize> Scalar for Uint<N> {
 }
 
 impl<const N: usize> StrictRead for Uint<N> {
-    ghost strict = { (uint N).laws };
+    ghost strict = { (uint N).reads_strictly };
 }
