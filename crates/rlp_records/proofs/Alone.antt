@@ -19,6 +19,11 @@ list_alone : (x : Item) → is_list x ≡ true → bytes_alone x ≡ encoding x
 list_alone (string d) kind = cc
 list_alone (list xs) kind = refl
 
+-- a list by itself begins as a list
+pub list_alone_begins : (x : Item) → is_list x ≡ true → length (bytes_alone x) < 2 ^ 64 → begins_as_list (bytes_alone x) ≡ true
+list_alone_begins x kind short =
+    list_first x (bytes_alone x) short ([], list_alone x kind ∙ sym (append-nil (encoding x))) kind
+
 -- equal answers have equal results
 result_same : {M : Type 0} {a b : Answer M Fault} → a ≡ b → a.result ≡ b.result
 result_same {M} same = ap (λ (a : Answer M Fault). a.result) same
@@ -62,7 +67,7 @@ module _ {A B : Type 0} (c : Form A) (cases : CasesForm B) where
     alone_back (inl x) fit short =
         let d = bytes_alone (c.item x) in
         let whole : d ≡ encoding (c.item x) = list_alone (c.item x) (lists x) in
-        let kind : begins_as_list d ≡ true = list_first (c.item x) d short ([], whole ∙ sym (append-nil (encoding (c.item x)))) (lists x) in
+        let kind : begins_as_list d ≡ true = list_alone_begins (c.item x) (lists x) short in
         result_same (cond-true (begins_as_list d) _ _ kind) ∙ ap (map_value inl) ((law.back true).back d x short fit whole)
     alone_back (inr y) fit short =
         result_same (cond-false (begins_as_list (envelope cases y)) _ _ (lt-leb 0xc0 (cases.tag y) (low y)))

@@ -1,6 +1,6 @@
 -- How authorizations of transactions of type 4 are written and read.
 use Rattle.std.specs.Prelude.{ℕ, refl}
-use Rattle.rlp.specs.Codec.{Codec, Fields, end, field, number, uint}
+use Rattle.rlp_reading.specs.Codec.{Codec, Fields, end, field, number, uint}
 use Rattle.rlp_transactions.specs.declared.authorization.Authorization.{Authorization}
 use Rattle.rlp_records.specs.Address.{address}
 use Rattle.rlp_transactions.specs.Signed.{signed}
@@ -15,4 +15,4 @@ authorization_fields =
 
 -- the list of these fields, and of the signature
 abbrev pub signed_authorization : Codec (Signed Authorization ℕ)
-signed_authorization = signed authorization_fields (λ p. refl) (number 1)
+signed_authorization = signed authorization_fields refl (number 1)

@@ -1,7 +1,7 @@
 -- How transactions of type 3 are written and read.
 use Rattle.std.specs.Prelude.{Bool, refl}
 use Rattle.std.specs.Vec.{vec_items}
-use Rattle.rlp.specs.Codec.{Codec, Fields, byte_string, end, field, list_type, number, truth_value, uint}
+use Rattle.rlp_reading.specs.Codec.{Codec, Fields, byte_string, end, field, list_type, number, truth_value, uint}
 use Rattle.rlp_transactions.specs.declared.blob_transaction.BlobTransaction.{BlobTransaction}
 use Rattle.rlp_transactions.specs.Access.{access_list}
 use Rattle.rlp_records.specs.Address.{address}
@@ -27,4 +27,4 @@ blob_transaction_fields =
 
 -- the list of these fields, and of the signature
 abbrev pub signed_blob_transaction : Codec (Signed BlobTransaction Bool)
-signed_blob_transaction = signed blob_transaction_fields (λ p. refl) truth_value
+signed_blob_transaction = signed blob_transaction_fields refl truth_value

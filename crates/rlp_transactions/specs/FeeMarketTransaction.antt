@@ -1,7 +1,7 @@
 -- How transactions of type 2 are written and read.
 use Rattle.std.specs.Prelude.{Bool, refl}
 use Rattle.std.specs.Vec.{vec_items}
-use Rattle.rlp.specs.Codec.{Codec, Fields, byte_string, end, field, number, truth_value, uint}
+use Rattle.rlp_reading.specs.Codec.{Codec, Fields, byte_string, end, field, number, truth_value, uint}
 use Rattle.rlp_transactions.specs.declared.fee_market_transaction.FeeMarketTransaction.{FeeMarketTransaction}
 use Rattle.rlp_transactions.specs.Access.{access_list}
 use Rattle.rlp_transactions.specs.Recipient.{recipient}
@@ -24,4 +24,4 @@ fee_market_transaction_fields =
 
 -- the list of these fields, and of the signature
 abbrev pub signed_fee_market_transaction : Codec (Signed FeeMarketTransaction Bool)
-signed_fee_market_transaction = signed fee_market_transaction_fields (λ p. refl) truth_value
+signed_fee_market_transaction = signed fee_market_transaction_fields refl truth_value

@@ -1,7 +1,7 @@
 -- How legacy transactions are written and read.
 use Rattle.std.specs.Prelude.{refl}
 use Rattle.std.specs.Vec.{vec_items}
-use Rattle.rlp.specs.Codec.{Codec, Fields, byte_string, end, field, number, struct_of, uint}
+use Rattle.rlp_reading.specs.Codec.{Codec, Fields, byte_string, end, field, number, struct_of, uint}
 use Rattle.rlp_transactions.specs.declared.legacy_transaction.LegacyTransaction.{LegacyTransaction}
 use Rattle.rlp_transactions.specs.Recipient.{recipient}
 use Rattle.rlp.specs.Uint.{Uint}
@@ -20,7 +20,7 @@ legacy_transaction_fields =
 
 -- these fields, and then those of the signature
 abbrev pub signed_legacy_transaction_fields : Fields (Signed LegacyTransaction (Uint 32))
-signed_legacy_transaction_fields = signed_fields legacy_transaction_fields (λ p. refl) (uint 32)
+signed_legacy_transaction_fields = signed_fields legacy_transaction_fields refl (uint 32)
 
 -- the list of all of them
 abbrev pub signed_legacy_transaction : Codec (Signed LegacyTransaction (Uint 32))

@@ -2,9 +2,8 @@
 
 ghost use Rattle.rlp_transactions.specs.Access.{access_list_item, access_list};
 
-use rlp::{
-    Decodable, DecoderError, Each, Encodable, ListOf, Rlp, RlpStream, RoundTrip, StrictRead,
-};
+use rlp::{DecoderError, Each, Encodable, ListOf, Rlp, RlpStream};
+use rlp_reading::{Decodable, RoundTrip, StrictRead};
 use rlp_records::{Address, Hash};
 use std::alloc::{AllocError, Global};
 
@@ -29,14 +28,10 @@ impl Encodable for AccessListItem {
 }
 
 impl Decodable for AccessListItem {
-    ghost gives = { access_list_item.gives };
-
-    ghost faults = { access_list_item.faults };
-
-    ghost may_lack_memory = { access_list_item.may_lack };
+    ghost reading = { access_list_item.reading };
 
     fn decode(alloc: Global, rlp: &Rlp<'_>) -> Result<AccessListItem, DecoderError> {
-        rlp::decode_fields!(
+        rlp_reading::decode_fields!(
             alloc,
             rlp,
             AccessListItem {
@@ -71,14 +66,10 @@ impl Encodable for AccessList {
 }
 
 impl Decodable for AccessList {
-    ghost gives = { access_list.gives };
-
-    ghost faults = { access_list.faults };
-
-    ghost may_lack_memory = { access_list.may_lack };
+    ghost reading = { access_list.reading };
 
     fn decode(alloc: Global, rlp: &Rlp<'_>) -> Result<AccessList, DecoderError> {
-        let items = rlp.as_list(alloc)?;
+        let items = rlp_reading::as_list(alloc, rlp)?;
         Ok(AccessList(items))
     }
 }

@@ -3,7 +3,8 @@
 ghost use Rattle.rlp_transactions.specs.DepositTransaction.{deposit_transaction};
 
 use crate::Recipient;
-use rlp::{Decodable, DecoderError, Encodable, Rlp, RlpStream, RoundTrip, StrictRead, Uint};
+use rlp::{DecoderError, Encodable, Rlp, RlpStream, Uint};
+use rlp_reading::{Decodable, RoundTrip, StrictRead};
 use rlp_records::{Address, Enveloped, Hash};
 use std::alloc::{AllocError, Global};
 
@@ -53,14 +54,10 @@ impl Encodable for DepositTransaction {
 }
 
 impl Decodable for DepositTransaction {
-    ghost gives = { deposit_transaction.gives };
-
-    ghost faults = { deposit_transaction.faults };
-
-    ghost may_lack_memory = { deposit_transaction.may_lack };
+    ghost reading = { deposit_transaction.reading };
 
     fn decode(alloc: Global, rlp: &Rlp<'_>) -> Result<DepositTransaction, DecoderError> {
-        rlp::decode_fields!(
+        rlp_reading::decode_fields!(
             alloc,
             rlp,
             DepositTransaction {

@@ -1,14 +1,14 @@
 //! Transactions without a type.
 
 ghost use Rattle.std.specs.Prelude.{◌≡◌, ◌+◌, ℕ, IfNone, IfSome, Option, refl};
-ghost use Rattle.rlp.specs.Codecs.Parts.{laws_of};
 ghost use Rattle.rlp.specs.Values.Value.{bit};
 ghost use Rattle.rlp_transactions.specs.Eip155.{FitsChain, even_v, v_of};
 ghost use Rattle.rlp_transactions.specs.LegacyTransaction.{legacy_transaction_fields};
 ghost use Rattle.rlp_transactions.specs.Signatures.{IsNoV, SaysChain, number_of};
 
 use crate::{Eip155, Payload, Recipient, Signed};
-use rlp::{AppendFields, DecodeFields, FieldFault, Fields, FixedFields, RlpStream, Uint};
+use rlp::{AppendFields, DecoderError, RlpStream, Uint};
+use rlp_reading::{DecodeFields, Fields, FixedFields};
 use std::alloc::{AllocError, Global};
 
 /// A transaction without a type, with its signature: the list of nine fields. `v` is any number.
@@ -101,12 +101,10 @@ impl DecodeFields for LegacyTransaction {
     fn decode_fields(
         alloc: Global,
         fields: &mut Fields<'_>,
-        len: usize,
-    ) -> Result<LegacyTransaction, FieldFault> {
-        rlp::decode_fields!(
-            alloc,
+    ) -> Result<LegacyTransaction, DecoderError> {
+        rlp_reading::decode_fields!(
+            fields alloc,
             fields,
-            len,
             LegacyTransaction {
                 nonce,
                 gas_price,
@@ -123,10 +121,10 @@ impl FixedFields for LegacyTransaction {
     fn width() -> Option<usize> {
         Some(6)
     }
-
-    ghost none_more = { refl };
 }
 
 impl Payload for LegacyTransaction {
-    ghost laws = { laws_of legacy_transaction_fields (λ p. refl) };
+    ghost laws = { legacy_transaction_fields.laws };
+
+    ghost fixed = { refl };
 }
