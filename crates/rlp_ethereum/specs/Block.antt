@@ -1,6 +1,6 @@
 -- How blocks are written and read.
 use Rattle.std.specs.Vec.{vec_items}
-use Rattle.rlp_reading.specs.Codec.{Codec, Fields, field, list_type, optional, struct_of}
+use Rattle.rlp.specs.Codec.{Codec, Fields, field, list_type, optional, struct_of}
 use Rattle.rlp_ethereum.specs.declared.block.Block.{Block}
 use Rattle.rlp_headers.specs.Header.{header}
 use Rattle.rlp_transactions.specs.AnyTransaction.{any_transaction}

@@ -1,6 +1,6 @@
 -- How bodies of blocks are written and read.
 use Rattle.std.specs.Vec.{vec_items}
-use Rattle.rlp_reading.specs.Codec.{Codec, Fields, field, list_type, optional, struct_of}
+use Rattle.rlp.specs.Codec.{Codec, Fields, field, list_type, optional, struct_of}
 use Rattle.rlp_ethereum.specs.declared.body.Body.{Body}
 use Rattle.rlp_headers.specs.Header.{header}
 use Rattle.rlp_transactions.specs.AnyTransaction.{any_transaction}

@@ -2,8 +2,9 @@
 
 ghost use Rattle.rlp_ethereum.specs.Block.{block};
 
-use rlp::{DecoderError, Encodable, ListOf, Optional, Rlp, RlpStream};
-use rlp_reading::{Decodable, RoundTrip, StrictRead};
+use rlp::{
+    Decodable, DecoderError, Encodable, ListOf, Optional, Rlp, RlpStream, RoundTrip, StrictRead,
+};
 use rlp_headers::{Header, Withdrawals};
 use rlp_transactions::AnyTransaction;
 use std::alloc::{AllocError, Global};
@@ -41,7 +42,7 @@ impl Decodable for Block {
     ghost reading = { block.reading };
 
     fn decode(alloc: Global, rlp: &Rlp<'_>) -> Result<Block, DecoderError> {
-        rlp_reading::decode_fields!(
+        rlp::decode_fields!(
             alloc,
             rlp,
             Block {

@@ -2,8 +2,9 @@
 
 ghost use Rattle.rlp_ethereum.specs.Body.{body};
 
-use rlp::{DecoderError, Encodable, ListOf, Optional, Rlp, RlpStream};
-use rlp_reading::{Decodable, RoundTrip, StrictRead};
+use rlp::{
+    Decodable, DecoderError, Encodable, ListOf, Optional, Rlp, RlpStream, RoundTrip, StrictRead,
+};
 use rlp_headers::{Header, Withdrawals};
 use rlp_transactions::AnyTransaction;
 use std::alloc::{AllocError, Global};
@@ -38,7 +39,7 @@ impl Decodable for Body {
     ghost reading = { body.reading };
 
     fn decode(alloc: Global, rlp: &Rlp<'_>) -> Result<Body, DecoderError> {
-        rlp_reading::decode_fields!(
+        rlp::decode_fields!(
             alloc,
             rlp,
             Body {

@@ -1,7 +1,7 @@
 -- The bytes of a receipt by itself are read back, and no other bytes are read.
 use Rattle.std.proofs.Common.{◌<◌, ◌⊎◌, inl, inr, refl, arith}
 use Rattle.rlp_codec.proofs.StringLaws.{ReadsStrings}
-use Rattle.rlp_reading.specs.Codec.{plain}
+use Rattle.rlp.specs.Codec.{plain}
 use Rattle.rlp_records.proofs.Alone.{alone, alone_strings}
 use Rattle.rlp_records.proofs.Bytes.{strings_held}
 use Rattle.rlp_records.specs.Alone.{bytes_alone}

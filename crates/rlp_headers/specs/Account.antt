@@ -1,5 +1,5 @@
 -- How accounts are written and read.
-use Rattle.rlp_reading.specs.Codec.{Codec, Fields, end, field, number, struct_of, uint}
+use Rattle.rlp.specs.Codec.{Codec, Fields, end, field, number, struct_of, uint}
 use Rattle.rlp_headers.specs.declared.account.Account.{Account}
 use Rattle.rlp_records.specs.Hash.{hash}
 

@@ -1,5 +1,5 @@
 -- How filters of logs are written and read.
-use Rattle.rlp_reading.specs.Codec.{Codec, byte_array, newtype}
+use Rattle.rlp.specs.Codec.{Codec, byte_array, newtype}
 use Rattle.rlp_headers.specs.declared.bloom.Bloom.{Bloom}
 
 -- the string of its 256 bytes

@@ -1,6 +1,6 @@
 -- How the fields that forks added to headers are written and read.
 use Rattle.std.specs.Prelude.{refl}
-use Rattle.rlp_reading.specs.Codec.{Fields, field, number, optional, optional_group, uint}
+use Rattle.rlp.specs.Codec.{Fields, field, number, optional, optional_group, uint}
 use Rattle.rlp_headers.specs.declared.header.forks.Cancun.{Cancun}
 use Rattle.rlp_headers.specs.declared.header.forks.London.{London}
 use Rattle.rlp_headers.specs.declared.header.forks.Shanghai.{Shanghai}

@@ -2,7 +2,7 @@
 use Rattle.std.specs.Option.{option_and_then}
 use Rattle.std.specs.Prelude.{Option, refl}
 use Rattle.std.specs.Vec.{vec_items}
-use Rattle.rlp_reading.specs.Codec.{Codec, Fields, byte_array, byte_string, field, number, optional_group, struct_of, uint}
+use Rattle.rlp.specs.Codec.{Codec, Fields, byte_array, byte_string, field, number, optional_group, struct_of, uint}
 use Rattle.rlp_headers.specs.declared.header.Header.{Header}
 use Rattle.rlp_headers.specs.declared.header.forks.Cancun.{Cancun}
 use Rattle.rlp_headers.specs.declared.header.forks.Shanghai.{Shanghai}

@@ -1,6 +1,6 @@
 -- How logs are written and read.
 use Rattle.std.specs.Vec.{vec_items}
-use Rattle.rlp_reading.specs.Codec.{Codec, Fields, byte_string, end, field, list_type, struct_of}
+use Rattle.rlp.specs.Codec.{Codec, Fields, byte_string, end, field, list_type, struct_of}
 use Rattle.rlp_headers.specs.declared.log.Log.{Log}
 use Rattle.rlp_records.specs.Address.{address}
 use Rattle.rlp_records.specs.Hash.{hash}

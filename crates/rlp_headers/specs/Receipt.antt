@@ -1,6 +1,6 @@
 -- How receipts are written and read.
 use Rattle.std.specs.Vec.{vec_items}
-use Rattle.rlp_reading.specs.Codec.{Codec, Fields, end, field, list_type, number, struct_of}
+use Rattle.rlp.specs.Codec.{Codec, Fields, end, field, list_type, number, struct_of}
 use Rattle.rlp_headers.specs.declared.receipt.Receipt.{Receipt}
 use Rattle.rlp_headers.specs.Bloom.{bloom}
 use Rattle.rlp_headers.specs.Log.{log}

@@ -2,10 +2,10 @@
 use Rattle.std.specs.Prelude.{ℕ, zero, suc, ◌≡◌, ◌≢◌, ◌==◌, ⊤, Bool, true, false, if◌then◌else◌, List, [], ◌∷◌, Option, Some, None, codes, length, refl, Result, Ok, Err}
 use Rattle.std.proofs.Common.{◌↔◌, ◌∙◌, ap, sym, eq-eqb, ne_eqb}
 use Rattle.std.proofs.lemmas.Bool.{cond-true, cond-false, eqb-true}
-use Rattle.rlp_codec.specs.Form.{Fault, custom, map_value}
+use Rattle.rlp.specs.Form.{Fault, custom, map_value}
 use Rattle.rlp_codec.specs.Kinds.{read_kind}
 use Rattle.rlp_codec.proofs.KindLaws.{HaveKinds, kinds_read}
-use Rattle.rlp_reading.specs.Codec.{Codec, string_type}
+use Rattle.rlp.specs.Codec.{Codec, string_type}
 use Rattle.rlp_headers.specs.declared.receipt_status.ReceiptStatus.{ReceiptStatus}
 use Rattle.rlp_headers.specs.declared.receipt_status.ReceiptStatus.TheVariants.{Failure, StateRoot, Success}
 

@@ -2,8 +2,7 @@
 
 ghost use Rattle.rlp_headers.specs.Account.{account};
 
-use rlp::{DecoderError, Encodable, Rlp, RlpStream, Uint};
-use rlp_reading::{Decodable, RoundTrip, StrictRead};
+use rlp::{Decodable, DecoderError, Encodable, Rlp, RlpStream, RoundTrip, StrictRead, Uint};
 use rlp_records::Hash;
 use std::alloc::{AllocError, Global};
 
@@ -43,7 +42,7 @@ impl Decodable for Account {
     ghost reading = { account.reading };
 
     fn decode(alloc: Global, rlp: &Rlp<'_>) -> Result<Account, DecoderError> {
-        rlp_reading::decode_fields!(
+        rlp::decode_fields!(
             alloc,
             rlp,
             Account {

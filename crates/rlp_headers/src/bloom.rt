@@ -2,8 +2,7 @@
 
 ghost use Rattle.rlp_headers.specs.Bloom.{bloom};
 
-use rlp::{DecoderError, Encodable, Rlp, RlpStream};
-use rlp_reading::{Decodable, RoundTrip, StrictRead};
+use rlp::{Decodable, DecoderError, Encodable, Rlp, RlpStream, RoundTrip, StrictRead};
 use std::alloc::{AllocError, Global};
 
 /// The Bloom filter of logs: 256 bytes.
@@ -29,7 +28,7 @@ impl Decodable for Bloom {
     ghost reading = { bloom.reading };
 
     fn decode(alloc: Global, rlp: &Rlp<'_>) -> Result<Bloom, DecoderError> {
-        let bytes = <[u8; 256]>::decode(alloc, rlp)?;
+        let bytes = rlp.as_val(alloc)?;
         Ok(Bloom(bytes))
     }
 }

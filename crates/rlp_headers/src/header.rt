@@ -10,8 +10,10 @@ mod forks;
 
 use crate::Bloom;
 pub use forks::{Cancun, London, Shanghai};
-use rlp::{DecoderError, Encodable, OptionalGroupOf, Rlp, RlpStream, Uint};
-use rlp_reading::{Decodable, RoundTrip, StrictRead};
+use rlp::{
+    Decodable, DecoderError, Encodable, OptionalGroupOf, Rlp, RlpStream, RoundTrip, StrictRead,
+    Uint,
+};
 use rlp_records::{Address, Hash, encoding_hash};
 use std::alloc::{AllocError, Global};
 
@@ -111,7 +113,7 @@ impl Decodable for Header {
     ghost reading = { header.reading };
 
     fn decode(alloc: Global, rlp: &Rlp<'_>) -> Result<Header, DecoderError> {
-        rlp_reading::decode_fields!(
+        rlp::decode_fields!(
             alloc,
             rlp,
             Header {

@@ -2,8 +2,7 @@
 
 ghost use Rattle.rlp_headers.specs.Log.{log};
 
-use rlp::{DecoderError, Encodable, ListOf, Rlp, RlpStream};
-use rlp_reading::{Decodable, RoundTrip, StrictRead};
+use rlp::{Decodable, DecoderError, Encodable, ListOf, Rlp, RlpStream, RoundTrip, StrictRead};
 use rlp_records::{Address, Hash};
 use std::alloc::{AllocError, Global};
 
@@ -35,7 +34,7 @@ impl Decodable for Log {
     ghost reading = { log.reading };
 
     fn decode(alloc: Global, rlp: &Rlp<'_>) -> Result<Log, DecoderError> {
-        rlp_reading::decode_fields!(
+        rlp::decode_fields!(
             alloc,
             rlp,
             Log {

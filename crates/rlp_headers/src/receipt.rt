@@ -3,8 +3,7 @@
 ghost use Rattle.rlp_headers.specs.Receipt.{receipt};
 
 use crate::{Bloom, Log, ReceiptStatus};
-use rlp::{DecoderError, Encodable, ListOf, Rlp, RlpStream};
-use rlp_reading::{Decodable, RoundTrip, StrictRead};
+use rlp::{Decodable, DecoderError, Encodable, ListOf, Rlp, RlpStream, RoundTrip, StrictRead};
 use std::alloc::{AllocError, Global};
 
 /// A receipt: the list of its four fields.
@@ -44,7 +43,7 @@ impl Decodable for Receipt {
     ghost reading = { receipt.reading };
 
     fn decode(alloc: Global, rlp: &Rlp<'_>) -> Result<Receipt, DecoderError> {
-        rlp_reading::decode_fields!(
+        rlp::decode_fields!(
             alloc,
             rlp,
             Receipt {

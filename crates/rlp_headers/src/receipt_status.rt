@@ -1,12 +1,11 @@
 //! Statuses of receipts: a string of one byte, of none, or of 32.
 
 ghost use Rattle.std.specs.Prelude.{◌≡◌, ⊤, Ok, Err, IfErr, IfOk};
-ghost use Rattle.rlp_codec.specs.Form.{fault_of};
+ghost use Rattle.rlp.specs.Form.{fault_of};
 ghost use Rattle.rlp_codec.specs.Kinds.{read_kind};
 ghost use Rattle.rlp_headers.specs.ReceiptStatus.{receipt_status, status_kind};
 
-use rlp::{DecoderError, Encodable, Rlp, RlpStream};
-use rlp_reading::{Decodable, RoundTrip, StrictRead};
+use rlp::{Decodable, DecoderError, Encodable, Rlp, RlpStream, RoundTrip, StrictRead};
 use rlp_records::Hash;
 use std::alloc::{AllocError, Global};
 

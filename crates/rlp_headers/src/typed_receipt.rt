@@ -4,15 +4,16 @@ ghost use Rattle.std.specs.Prelude.{◌≡◌, ◌⊎◌, IfErr, IfOk, Ok, Err, 
 ghost use Rattle.std.proofs.Common.{inr};
 ghost use Rattle.rlp.specs.DecoderError.TheVariants.{OutOfMemory};
 ghost use Rattle.rlp.specs.Views.View.{strict_view_of};
-ghost use Rattle.rlp_codec.specs.Form.{fault_of, map_value};
-ghost use Rattle.rlp_records.specs.Alone.{bytes_alone, read_alone};
-ghost use Rattle.rlp_headers.specs.Receipt.{receipt};
-ghost use Rattle.rlp_headers.specs.TypedReceipt.{typed_receipt, typed_receipts};
+ghost use Rattle.rlp.specs.Form.{fault_of, map_value};
+ghost use Rattle.rlp_records.specs.Alone.{bytes_alone};
+ghost use Rattle.rlp_headers.specs.TypedReceipt.{receipt_alone, typed_receipt, typed_receipts};
 
 use crate::Receipt;
 use bytes::BytesMut;
-use rlp::{DecoderError, Encodable, Envelope, Rlp, RlpStream, write_envelope};
-use rlp_reading::{Decodable, RoundTrip, StrictRead, decode_strict, envelope_in};
+use rlp::{
+    Decodable, DecoderError, Encodable, Envelope, Rlp, RlpStream, RoundTrip, StrictRead,
+    write_envelope,
+};
 use rlp_records::{ACCESS_LIST_TYPE, BLOB_TYPE, FEE_MARKET_TYPE, SET_CODE_TYPE, to_envelope};
 use std::alloc::{AllocError, Global};
 
@@ -56,10 +57,13 @@ impl TypedReceipt {
     /// type, with `RlpIsTooShort` if there are no bytes, and else with the strict fault of the
     /// receipt.
     pub fn from_bytes(alloc: Global, bytes: &[u8]) -> Result<TypedReceipt, DecoderError>
-        ensures value { IfOk result (λ r. typed_receipt.Fits r
+        ensures whole { IfOk result (λ r. typed_receipt.Fits r
             × (bytes.now ≡ bytes_alone (typed_receipt.item r))) }
+        ensures value { IfOk result
+            (λ r. (receipt_alone bytes.now).result
+            ≡ Ok (typed_receipt.reading.seen r)) }
         ensures fault { IfErr result (λ e.
-            ((read_alone receipt.reading.read typed_receipts.cases.read bytes.now).result
+            ((receipt_alone bytes.now).result
             ≡ Err (fault_of e))
             ⊎ ((e ≡ OutOfMemory) × IsTrue typed_receipt.reading.takes_memory)) }
         ensures memory { (r : TypedReceipt) → typed_receipt.Fits r
@@ -72,15 +76,15 @@ impl TypedReceipt {
 // Reads a receipt from its bytes. The clauses of `from_bytes` are about the receipt and its bytes.
 fn read_alone(alloc: Global, bytes: &[u8]) -> Result<TypedReceipt, DecoderError>
     ensures value { IfOk result
-        (λ r. (read_alone receipt.reading.read typed_receipts.cases.read bytes.now).result
+        (λ r. (receipt_alone bytes.now).result
         ≡ Ok (typed_receipt.reading.seen r)) }
     ensures fault { IfErr result
-        (λ e. ((read_alone receipt.reading.read typed_receipts.cases.read bytes.now).result
+        (λ e. ((receipt_alone bytes.now).result
         ≡ Err (fault_of e))
         ⊎ ((e ≡ OutOfMemory) × IsTrue typed_receipt.reading.takes_memory)) }
 {
     if Rlp::new(bytes).is_list() {
-        return Ok(TypedReceipt::Legacy(decode_strict(alloc, bytes)?));
+        return Ok(TypedReceipt::Legacy(rlp::decode_strict(alloc, bytes)?));
     }
     decode_payload(alloc, &Envelope::split(bytes)?)
 }
@@ -94,10 +98,16 @@ fn decode_payload(alloc: Global, envelope: &Envelope<'_>) -> Result<TypedReceipt
         (strict_view_of envelope.now.payload.now)).result ≡ Err (fault_of e)) ⊎ (e ≡ OutOfMemory)) }
 {
     match envelope.tag {
-        ACCESS_LIST_TYPE => Ok(TypedReceipt::AccessList(decode_strict(alloc, envelope.payload)?)),
-        FEE_MARKET_TYPE => Ok(TypedReceipt::FeeMarket(decode_strict(alloc, envelope.payload)?)),
-        BLOB_TYPE => Ok(TypedReceipt::Blob(decode_strict(alloc, envelope.payload)?)),
-        SET_CODE_TYPE => Ok(TypedReceipt::SetCode(decode_strict(alloc, envelope.payload)?)),
+        ACCESS_LIST_TYPE => Ok(TypedReceipt::AccessList(rlp::decode_strict(
+            alloc,
+            envelope.payload,
+        )?)),
+        FEE_MARKET_TYPE => Ok(TypedReceipt::FeeMarket(rlp::decode_strict(
+            alloc,
+            envelope.payload,
+        )?)),
+        BLOB_TYPE => Ok(TypedReceipt::Blob(rlp::decode_strict(alloc, envelope.payload)?)),
+        SET_CODE_TYPE => Ok(TypedReceipt::SetCode(rlp::decode_strict(alloc, envelope.payload)?)),
         _ => Err(DecoderError::Custom("unknown transaction type")),
     }
 }
@@ -123,9 +133,9 @@ impl Decodable for TypedReceipt {
 
     fn decode(alloc: Global, rlp: &Rlp<'_>) -> Result<TypedReceipt, DecoderError> {
         if rlp.is_list() {
-            return Ok(TypedReceipt::Legacy(Receipt::decode(alloc, rlp)?));
+            return Ok(TypedReceipt::Legacy(rlp.as_val(alloc)?));
         }
-        decode_payload(alloc, &envelope_in(rlp)?)
+        decode_payload(alloc, &Envelope::of(rlp)?)
     }
 }
 

@@ -2,8 +2,7 @@
 
 ghost use Rattle.rlp_headers.specs.Withdrawal.{withdrawal, withdrawals};
 
-use rlp::{DecoderError, Each, Encodable, Rlp, RlpStream};
-use rlp_reading::{Decodable, RoundTrip, StrictRead, as_list};
+use rlp::{Decodable, DecoderError, Each, Encodable, Rlp, RlpStream, RoundTrip, StrictRead};
 use rlp_records::Address;
 use std::alloc::{AllocError, Global};
 
@@ -40,7 +39,7 @@ impl Decodable for Withdrawal {
     ghost reading = { withdrawal.reading };
 
     fn decode(alloc: Global, rlp: &Rlp<'_>) -> Result<Withdrawal, DecoderError> {
-        rlp_reading::decode_fields!(
+        rlp::decode_fields!(
             alloc,
             rlp,
             Withdrawal {
@@ -79,7 +78,7 @@ impl Decodable for Withdrawals {
     ghost reading = { withdrawals.reading };
 
     fn decode(alloc: Global, rlp: &Rlp<'_>) -> Result<Withdrawals, DecoderError> {
-        let withdrawals = as_list(alloc, rlp)?;
+        let withdrawals = rlp.as_list(alloc)?;
         Ok(Withdrawals(withdrawals))
     }
 }

@@ -8,7 +8,7 @@ use Rattle.rlp.specs.DecoderError.TheVariants.{OutOfMemory}
 use Rattle.rlp.specs.Format.Encoding.{encoding}
 use Rattle.rlp.specs.Format.WrittenHeader.{AreBytes}
 use Rattle.rlp.specs.Views.View.{strict_view_of}
-use Rattle.rlp_codec.specs.Form.{Faults, custom, fault_of}
+use Rattle.rlp.specs.Form.{Faults, custom, fault_of}
 use Rattle.rlp_codec.proofs.Corollaries.{not_both}
 use Rattle.rlp_node_record.specs.NodeFields.{node_fields}
 use Rattle.rlp_node_record.specs.NodeRecord.{IsNodeRecord}

@@ -8,7 +8,7 @@ use Rattle.rlp.specs.Format.Item.{Item, string}
 use Rattle.rlp.specs.Format.Encoding.{encoding}
 use Rattle.rlp.specs.Values.Value.{FitsBytes, number_item}
 use Rattle.rlp.specs.Views.View.{strict_view_of}
-use Rattle.rlp_codec.specs.Form.{Faults, Gives, Reading}
+use Rattle.rlp.specs.Form.{Faults, Gives, Reading}
 use Rattle.rlp_node_record.specs.declared.node_fields.NodeFields.{NodeFields}
 use Rattle.rlp_node_record.specs.declared.node_fields.NodePair.{NodePair}
 

@@ -9,10 +9,10 @@ use Rattle.rlp.specs.Format.Encoding.{encoding}
 use Rattle.rlp.specs.Format.WrittenHeader.{AreBytes}
 use Rattle.rlp.specs.Views.View.{strict_view_of}
 use Rattle.rlp_codec.specs.FirstItems.{item_type}
-use Rattle.rlp_codec.specs.Form.{Answer, Fault, and_then, custom, fault_of, is_too_big, map_value}
+use Rattle.rlp.specs.Form.{Answer, Fault, and_then, custom, fault_of, is_too_big, map_value}
 use Rattle.rlp_codec.proofs.FirstItemLaws.{ReadsItems, items_lawful}
 use Rattle.rlp_codec.proofs.ListLaws.{goes_on, is_mapped}
-use Rattle.rlp_reading.specs.Codec.{Codec, lawful}
+use Rattle.rlp.specs.Codec.{Codec, lawful}
 use Rattle.rlp_node_record.specs.NodeFields.{node_fields}
 use Rattle.rlp_node_record.specs.NodeKeys.{HasId, has_key, value_among}
 use Rattle.rlp_node_record.specs.NodeRecord.{AreInOrder, AreRecordKeys, IsNodeRecord, keys_of, keys_rise, keys_seen, longest_record, read_record, test_fields, test_keys}

@@ -6,7 +6,7 @@ use Rattle.std.specs.Vec.{vec_items}
 use Rattle.rlp.specs.Format.Encoding.{encoding}
 use Rattle.rlp.specs.Format.WrittenHeader.{AreBytes}
 use Rattle.rlp.specs.Views.View.{strict_view_of}
-use Rattle.rlp_codec.specs.Form.{Answer, Fault, and_then, custom, go_on, here, is_too_big, map_value}
+use Rattle.rlp.specs.Form.{Answer, Fault, and_then, custom, go_on, here, is_too_big, map_value}
 use Rattle.rlp_node_record.specs.NodeFields.{node_fields}
 use Rattle.rlp_node_record.specs.NodeKeys.{HasId, has_key}
 use Rattle.rlp_node_record.specs.declared.node_fields.NodeFields.{NodeFields}

@@ -6,7 +6,7 @@ use Rattle.rlp.specs.DecoderError.{DecoderError}
 use Rattle.rlp.specs.Format.Encoding.{encoding}
 use Rattle.rlp.specs.Format.WrittenHeader.{AreBytes}
 use Rattle.rlp.specs.Views.View.{strict_view_of}
-use Rattle.rlp_codec.specs.Form.{Faults, custom, fault_of}
+use Rattle.rlp.specs.Form.{Faults, custom, fault_of}
 use Rattle.rlp_node_record.specs.NodeFields.{node_fields}
 use Rattle.rlp_node_record.specs.NodeLaws.{node_record}
 use Rattle.rlp_node_record.specs.declared.node_fields.NodeFields.{NodeFields}

@@ -5,8 +5,10 @@ ghost use Rattle.rlp.specs.Format.Encoding.{encoding};
 ghost use Rattle.rlp_node_record.specs.NodeFields.{pair_fields, node_fields};
 
 use bytes::BytesMut;
-use rlp::{AppendFields, DecoderError, Encodable, Flattened, RawItem, Rlp, RlpStream};
-use rlp_reading::{Decodable, DecodeFields, Fields, FixedFields, RoundTrip, StrictRead};
+use rlp::{
+    AppendFields, Decodable, DecodeFields, DecoderError, Encodable, Fields, FixedFields, Flattened,
+    RawItem, Rlp, RlpStream, RoundTrip, StrictRead,
+};
 use std::alloc::{AllocError, Global};
 
 /// A key of a node record and its value, as in EIP-778.
@@ -55,7 +57,7 @@ impl DecodeFields for NodePair {
     }
 
     fn decode_fields(alloc: Global, fields: &mut Fields<'_>) -> Result<NodePair, DecoderError> {
-        rlp_reading::decode_fields!(fields alloc, fields, NodePair { key, value })
+        rlp::decode_fields!(fields alloc, fields, NodePair { key, value })
     }
 }
 
@@ -84,7 +86,7 @@ impl Decodable for NodeFields {
     ghost reading = { node_fields.reading };
 
     fn decode(alloc: Global, rlp: &Rlp<'_>) -> Result<NodeFields, DecoderError> {
-        rlp_reading::decode_fields!(
+        rlp::decode_fields!(
             alloc,
             rlp,
             NodeFields {

@@ -4,7 +4,7 @@ ghost use Rattle.std.specs.Prelude.{◌≡◌, ◌⊎◌, ◌↔◌, Ok, Err, If
 ghost use Rattle.std.specs.Vec.{vec_items};
 ghost use Rattle.rlp.specs.DecoderError.TheVariants.{OutOfMemory};
 ghost use Rattle.rlp.specs.Format.Encoding.{encoding};
-ghost use Rattle.rlp_codec.specs.Form.{fault_of};
+ghost use Rattle.rlp.specs.Form.{fault_of};
 ghost use Rattle.rlp_node_record.specs.NodeFields.{node_fields, signed_item};
 ghost use Rattle.rlp_node_record.specs.NodeRecord.{AreInOrder, AreRecordKeys, IsNodeRecord, keys_of, keys_rise, read_record, test_fields, test_keys};
 ghost use Rattle.rlp_node_record.specs.NodeLaws.{node_record};
@@ -12,8 +12,10 @@ ghost use Rattle.rlp_node_record.specs.NodeLaws.{node_record};
 use crate::lookup::has_id;
 use crate::node_fields::{NodeFields, NodePair};
 use bytes::BytesMut;
-use rlp::{DecoderError, Encodable, Flattened, Rlp, RlpStream, write_struct};
-use rlp_reading::{Decodable, RoundTrip, StrictRead, decode_strict};
+use rlp::{
+    Decodable, DecoderError, Encodable, Flattened, Rlp, RlpStream, RoundTrip, StrictRead,
+    write_struct,
+};
 use std::alloc::{AllocError, Global};
 use std::cmp::Ordering;
 use std::marker::Model;
@@ -140,7 +142,7 @@ fn record_fields(alloc: Global, bytes: &[u8]) -> Result<NodeFields, DecoderError
     if NodeRecord::MAX_LEN < bytes.len() {
         return Err(DecoderError::RlpIsTooBig);
     }
-    let fields = decode_strict::<NodeFields>(alloc, bytes)?;
+    let fields = rlp::decode_strict::<NodeFields>(alloc, bytes)?;
     test_keys(fields.pairs.as_slice())?;
     Ok(fields)
 }

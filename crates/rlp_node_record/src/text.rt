@@ -4,7 +4,7 @@ ghost use Rattle.std.specs.Prelude.{◌≡◌, ◌⊎◌, ◌++◌, IfErr, IfOk,
 ghost use Rattle.std.specs.String.{string_bytes};
 ghost use Rattle.rlp.specs.DecoderError.TheVariants.{OutOfMemory};
 ghost use Rattle.rlp_node_record.specs.NodeRecord.{IsNodeRecord};
-ghost use Rattle.rlp_codec.specs.Form.{custom, fault_of};
+ghost use Rattle.rlp.specs.Form.{custom, fault_of};
 ghost use Rattle.rlp_node_record.specs.NodeText.{HasPrefix, IsNodeTextFault, IsNotBase64, base64_of, node_text, text_of};
 
 use crate::NodeRecord;
@@ -40,7 +40,7 @@ impl NodeRecord {
             Ok(bytes) => bytes,
             Err(fault) => return Err(fault),
         };
-        rlp_reading::decode_whole(alloc, bytes.as_slice())
+        rlp::decode_whole(alloc, bytes.as_slice())
     }
 }
 

@@ -6,8 +6,7 @@ ghost use Rattle.rlp_node_record.specs.NodeKeys.{GivesArray, GivesKnown, GivesPo
 
 use crate::NodeRecord;
 use crate::lookup::value_among;
-use rlp::{DecoderError, RawItem};
-use rlp_reading::{Decodable, StrictRead};
+use rlp::{Decodable, DecoderError, RawItem, StrictRead};
 use std::alloc::Global;
 
 /// The keys. A getter of a key that EIP-778 defines gives `None` if the record hasn't the key, and
@@ -26,7 +25,7 @@ impl NodeRecord {
         ensures { ReadsKey T.reading (value_of key.now self.now) result }
     {
         match self.value(key) {
-            Some(value) => Some(rlp_reading::decode_strict(alloc, value.as_bytes())),
+            Some(value) => Some(rlp::decode_strict(alloc, value.as_bytes())),
             None => None,
         }
     }
@@ -101,7 +100,7 @@ fn known<T: StrictRead>(node: &NodeRecord, key: &[u8]) -> Option<T>
 {
     let alloc = *node.fields().pairs.allocator();
     match node.value(key) {
-        Some(value) => match rlp_reading::decode_whole(alloc, value.as_bytes()) {
+        Some(value) => match rlp::decode_whole(alloc, value.as_bytes()) {
             Ok(value) => Some(value),
             Err(_) => None,
         },

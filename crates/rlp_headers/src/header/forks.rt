@@ -5,8 +5,10 @@
 
 ghost use Rattle.rlp_headers.specs.Forks.{london_fields, shanghai_fields, cancun_fields};
 
-use rlp::{AppendFields, DecoderError, Optional, OptionalGroupOf, RlpStream, Uint};
-use rlp_reading::{DecodeFields, Fields, OptionalField, OptionalGroup};
+use rlp::{
+    AppendFields, DecodeFields, DecoderError, Fields, Optional, OptionalField, OptionalGroup,
+    OptionalGroupOf, RlpStream, Uint,
+};
 use rlp_records::Hash;
 use std::alloc::{AllocError, Global};
 
@@ -49,7 +51,7 @@ impl DecodeFields for London {
     }
 
     fn decode_fields(alloc: Global, fields: &mut Fields<'_>) -> Result<London, DecoderError> {
-        rlp_reading::decode_fields!(
+        rlp::decode_fields!(
             fields alloc,
             fields,
             London {
@@ -91,7 +93,7 @@ impl DecodeFields for Shanghai {
     }
 
     fn decode_fields(alloc: Global, fields: &mut Fields<'_>) -> Result<Shanghai, DecoderError> {
-        rlp_reading::decode_fields!(
+        rlp::decode_fields!(
             fields alloc,
             fields,
             Shanghai {
@@ -149,7 +151,7 @@ impl DecodeFields for Cancun {
     }
 
     fn decode_fields(alloc: Global, fields: &mut Fields<'_>) -> Result<Cancun, DecoderError> {
-        rlp_reading::decode_fields!(
+        rlp::decode_fields!(
             fields alloc,
             fields,
             Cancun {

@@ -4,8 +4,8 @@ use Rattle.rlp_records.proofs.Bytes.{read_memory, read_whole}
 use Rattle.rlp_headers.proofs.Receipts.{receipt_strings}
 use Rattle.rlp_headers.proofs.typed_receipt.TypedReceipt.from_bytes.Goals as goal
 
-pub returns-clause-value : goal.returns-clause-value
-returns-clause-value c =
+pub returns-clause-whole : goal.returns-clause-whole
+returns-clause-whole c =
     read_whole _ _ _ _ receipt_strings c.args.bytes.now (omega arith) (bytes_held c.args.bytes.now c.type_inv.bytes) c.read_alone.result c.read_alone.ensures.value
 
 pub returns-clause-memory : goal.returns-clause-memory
