@@ -2,7 +2,8 @@
 
 ghost use Rattle.rlp_eth.specs.Receipts.{block_receipts, receipts};
 
-use rlp::{Decodable, DecoderError, Each, Encodable, Rlp, RlpStream, RoundTrip, StrictRead};
+use rlp::{DecoderError, Each, Encodable, Rlp, RlpStream};
+use rlp_reading::{Decodable, RoundTrip, StrictRead};
 use rlp_ethereum::TypedReceipt;
 use std::alloc::{AllocError, Global};
 
@@ -21,14 +22,10 @@ impl Encodable for BlockReceipts {
 }
 
 impl Decodable for BlockReceipts {
-    ghost gives = { block_receipts.gives };
-
-    ghost faults = { block_receipts.faults };
-
-    ghost may_lack_memory = { block_receipts.may_lack };
+    ghost reading = { block_receipts.reading };
 
     fn decode(alloc: Global, rlp: &Rlp<'_>) -> Result<BlockReceipts, DecoderError> {
-        let receipts = rlp.as_list(alloc)?;
+        let receipts = rlp_reading::as_list(alloc, rlp)?;
         Ok(BlockReceipts(receipts))
     }
 }
@@ -57,14 +54,10 @@ impl Encodable for Receipts {
 }
 
 impl Decodable for Receipts {
-    ghost gives = { receipts.gives };
-
-    ghost faults = { receipts.faults };
-
-    ghost may_lack_memory = { receipts.may_lack };
+    ghost reading = { receipts.reading };
 
     fn decode(alloc: Global, rlp: &Rlp<'_>) -> Result<Receipts, DecoderError> {
-        let blocks = rlp.as_list(alloc)?;
+        let blocks = rlp_reading::as_list(alloc, rlp)?;
         Ok(Receipts(blocks))
     }
 }

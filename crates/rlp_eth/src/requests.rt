@@ -3,7 +3,8 @@
 ghost use Rattle.rlp_eth.specs.Requests.{get_block_headers, block_headers, get_block_bodies, block_bodies, get_pooled_transactions, get_receipts, pooled_transactions};
 
 use crate::HashOrNumber;
-use rlp::{Decodable, DecoderError, Each, Encodable, Rlp, RlpStream, RoundTrip, StrictRead};
+use rlp::{DecoderError, Each, Encodable, Rlp, RlpStream};
+use rlp_reading::{Decodable, RoundTrip, StrictRead};
 use rlp_ethereum::{AnyTransaction, Body, Hash, Header};
 use std::alloc::{AllocError, Global};
 
@@ -31,14 +32,10 @@ impl Encodable for GetBlockHeaders {
 }
 
 impl Decodable for GetBlockHeaders {
-    ghost gives = { get_block_headers.gives };
-
-    ghost faults = { get_block_headers.faults };
-
-    ghost may_lack_memory = { get_block_headers.may_lack };
+    ghost reading = { get_block_headers.reading };
 
     fn decode(alloc: Global, rlp: &Rlp<'_>) -> Result<GetBlockHeaders, DecoderError> {
-        rlp::decode_fields!(
+        rlp_reading::decode_fields!(
             alloc,
             rlp,
             GetBlockHeaders {
@@ -74,14 +71,10 @@ impl Encodable for BlockHeaders {
 }
 
 impl Decodable for BlockHeaders {
-    ghost gives = { block_headers.gives };
-
-    ghost faults = { block_headers.faults };
-
-    ghost may_lack_memory = { block_headers.may_lack };
+    ghost reading = { block_headers.reading };
 
     fn decode(alloc: Global, rlp: &Rlp<'_>) -> Result<BlockHeaders, DecoderError> {
-        let headers = rlp.as_list(alloc)?;
+        let headers = rlp_reading::as_list(alloc, rlp)?;
         Ok(BlockHeaders(headers))
     }
 }
@@ -109,14 +102,10 @@ impl Encodable for GetBlockBodies {
 }
 
 impl Decodable for GetBlockBodies {
-    ghost gives = { get_block_bodies.gives };
-
-    ghost faults = { get_block_bodies.faults };
-
-    ghost may_lack_memory = { get_block_bodies.may_lack };
+    ghost reading = { get_block_bodies.reading };
 
     fn decode(alloc: Global, rlp: &Rlp<'_>) -> Result<GetBlockBodies, DecoderError> {
-        let hashes = rlp.as_list(alloc)?;
+        let hashes = rlp_reading::as_list(alloc, rlp)?;
         Ok(GetBlockBodies(hashes))
     }
 }
@@ -144,14 +133,10 @@ impl Encodable for BlockBodies {
 }
 
 impl Decodable for BlockBodies {
-    ghost gives = { block_bodies.gives };
-
-    ghost faults = { block_bodies.faults };
-
-    ghost may_lack_memory = { block_bodies.may_lack };
+    ghost reading = { block_bodies.reading };
 
     fn decode(alloc: Global, rlp: &Rlp<'_>) -> Result<BlockBodies, DecoderError> {
-        let bodies = rlp.as_list(alloc)?;
+        let bodies = rlp_reading::as_list(alloc, rlp)?;
         Ok(BlockBodies(bodies))
     }
 }
@@ -180,14 +165,10 @@ impl Encodable for GetPooledTransactions {
 }
 
 impl Decodable for GetPooledTransactions {
-    ghost gives = { get_pooled_transactions.gives };
-
-    ghost faults = { get_pooled_transactions.faults };
-
-    ghost may_lack_memory = { get_pooled_transactions.may_lack };
+    ghost reading = { get_pooled_transactions.reading };
 
     fn decode(alloc: Global, rlp: &Rlp<'_>) -> Result<GetPooledTransactions, DecoderError> {
-        let transactions = rlp.as_list(alloc)?;
+        let transactions = rlp_reading::as_list(alloc, rlp)?;
         Ok(GetPooledTransactions(transactions))
     }
 }
@@ -217,14 +198,10 @@ impl Encodable for PooledTransactions {
 }
 
 impl Decodable for PooledTransactions {
-    ghost gives = { pooled_transactions.gives };
-
-    ghost faults = { pooled_transactions.faults };
-
-    ghost may_lack_memory = { pooled_transactions.may_lack };
+    ghost reading = { pooled_transactions.reading };
 
     fn decode(alloc: Global, rlp: &Rlp<'_>) -> Result<PooledTransactions, DecoderError> {
-        let transactions = rlp.as_list(alloc)?;
+        let transactions = rlp_reading::as_list(alloc, rlp)?;
         Ok(PooledTransactions(transactions))
     }
 }
@@ -252,14 +229,10 @@ impl Encodable for GetReceipts {
 }
 
 impl Decodable for GetReceipts {
-    ghost gives = { get_receipts.gives };
-
-    ghost faults = { get_receipts.faults };
-
-    ghost may_lack_memory = { get_receipts.may_lack };
+    ghost reading = { get_receipts.reading };
 
     fn decode(alloc: Global, rlp: &Rlp<'_>) -> Result<GetReceipts, DecoderError> {
-        let blocks = rlp.as_list(alloc)?;
+        let blocks = rlp_reading::as_list(alloc, rlp)?;
         Ok(GetReceipts(blocks))
     }
 }

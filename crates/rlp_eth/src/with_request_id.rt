@@ -6,7 +6,8 @@ ghost use Rattle.rlp.specs.Values.Value.{FitsBytes, number_item};
 ghost use Rattle.rlp.specs.Codec.{codec_of};
 ghost use Rattle.rlp_eth.specs.WithRequestId.{FaultsWithRequestId, GivesWithRequestId, MayLackWithRequestId, with_request_id};
 
-use rlp::{Decodable, DecoderError, Encodable, Rlp, RlpStream, RoundTrip, StrictRead};
+use rlp::{DecoderError, Encodable, Rlp, RlpStream};
+use rlp_reading::{Decodable, RoundTrip, StrictRead};
 use std::alloc::{AllocError, Global};
 
 /// A request or its answer, with the number that they share: the list of both fields, as in
@@ -31,14 +32,10 @@ impl<T: Encodable> Encodable for WithRequestId<T> {
 }
 
 impl<T: Decodable> Decodable for WithRequestId<T> {
-    ghost gives = { GivesWithRequestId T.gives };
-
-    ghost faults = { FaultsWithRequestId T.gives T.faults };
-
-    ghost may_lack_memory = { MayLackWithRequestId T.gives T.may_lack_memory };
+    ghost reading = { GivesWithRequestId T.reading };
 
     fn decode(alloc: Global, rlp: &Rlp<'_>) -> Result<WithRequestId<T>, DecoderError> {
-        rlp::decode_fields!(
+        rlp_reading::decode_fields!(
             alloc,
             rlp,
             WithRequestId {

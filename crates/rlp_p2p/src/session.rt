@@ -2,7 +2,8 @@
 
 ghost use Rattle.rlp_p2p.specs.Session.{ping, pong};
 
-use rlp::{Decodable, DecoderError, Encodable, Rlp, RlpStream, RoundTrip, StrictRead};
+use rlp::{DecoderError, Encodable, Rlp, RlpStream};
+use rlp_reading::{Decodable, RoundTrip, StrictRead};
 use std::alloc::{AllocError, Global};
 
 /// Asks for a [`Pong`], message 0x02 of `p2p`: the list of no items.
@@ -22,14 +23,10 @@ impl Encodable for Ping {
 }
 
 impl Decodable for Ping {
-    ghost gives = { ping.gives };
-
-    ghost faults = { ping.faults };
-
-    ghost may_lack_memory = { ping.may_lack };
+    ghost reading = { ping.reading };
 
     fn decode(alloc: Global, rlp: &Rlp<'_>) -> Result<Ping, DecoderError> {
-        match rlp::decode_struct(alloc, rlp) {
+        match rlp_reading::decode_struct(alloc, rlp) {
             Ok(()) => Ok(Ping),
             Err(fault) => Err(fault.fault),
         }
@@ -61,14 +58,10 @@ impl Encodable for Pong {
 }
 
 impl Decodable for Pong {
-    ghost gives = { pong.gives };
-
-    ghost faults = { pong.faults };
-
-    ghost may_lack_memory = { pong.may_lack };
+    ghost reading = { pong.reading };
 
     fn decode(alloc: Global, rlp: &Rlp<'_>) -> Result<Pong, DecoderError> {
-        match rlp::decode_struct(alloc, rlp) {
+        match rlp_reading::decode_struct(alloc, rlp) {
             Ok(()) => Ok(Pong),
             Err(fault) => Err(fault.fault),
         }

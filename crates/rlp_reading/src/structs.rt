@@ -293,6 +293,23 @@ macro_rules! decode_fields {
             @call $head $left [$($moves)* let $crate::Groups($field) = $left;] [$($names)* $field]
         )
     };
+    (@next $head:tt $left:ident $moves:tt $names:tt $field:ident: [$($mark:tt),+ $(,)?] $(, $($others:tt)*)?) => {
+        $crate::decode_fields!(@each $head $left $moves $names $field [] [$($mark)+] $($($others)*)?)
+    };
+    // Each value of an array has a name of its own, since the name of a macro's body is new in each
+    // step.
+    (@each $head:tt $left:ident [$($moves:tt)*] [$($names:ident)*] $field:ident [$($values:ident)*] [] $($others:tt)*) => {
+        $crate::decode_fields!(
+            @next $head $left
+            [$($moves)* let $field = [$($values),*];] [$($names)* $field] $($others)*
+        )
+    };
+    (@each $head:tt $left:ident [$($moves:tt)*] $names:tt $field:ident [$($values:ident)*] [_ $($more:tt)*] $($others:tt)*) => {
+        $crate::decode_fields!(
+            @each $head $left
+            [$($moves)* let (value, $left) = $left;] $names $field [$($values)* value] [$($more)*] $($others)*
+        )
+    };
     (@call ($read:expr, [$($part:tt)*] $name:ident {}) $left:ident [$($moves:tt)*] [$($field:ident)*]) => {
         match $read {
             Ok($left) => {

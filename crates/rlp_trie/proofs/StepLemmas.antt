@@ -8,7 +8,7 @@ use Rattle.std.specs.List.{starts_with}
 use Rattle.std.specs.Prelude.{nat_eq}
 use Rattle.std.specs.Str.{bytes_eq}
 use Rattle.std.specs.Vec.{vec_items}
-use Rattle.rlp.specs.Codec.{Codec, Fields, byte_string, each, end, field}
+use Rattle.rlp_reading.specs.Codec.{Codec, Fields, byte_string, each, end, field}
 use Rattle.rlp.specs.Format.Item.{Item, string}
 use Rattle.rlp.specs.Lemmas.Structs.{list_same}
 use Rattle.rlp_trie.specs.BranchChild.{branch_child, place_item}

@@ -3,7 +3,8 @@
 ghost use Rattle.rlp_trie.specs.Trie.{branch};
 
 use crate::BranchChild;
-use rlp::{Decodable, DecoderError, Each, Encodable, Rlp, RlpStream, RoundTrip, StrictRead};
+use rlp::{DecoderError, Each, Encodable, Rlp, RlpStream};
+use rlp_reading::{Decodable, RoundTrip, StrictRead};
 use std::alloc::{AllocError, Global};
 
 /// A node of the trie with a child for each next digit of the path to the base 16: the list of the
@@ -35,14 +36,10 @@ impl Encodable for Branch {
 }
 
 impl Decodable for Branch {
-    ghost gives = { branch.gives };
-
-    ghost faults = { branch.faults };
-
-    ghost may_lack_memory = { branch.may_lack };
+    ghost reading = { branch.reading };
 
     fn decode(alloc: Global, rlp: &Rlp<'_>) -> Result<Branch, DecoderError> {
-        rlp::decode_fields!(
+        rlp_reading::decode_fields!(
             alloc,
             rlp,
             Branch {

@@ -5,7 +5,8 @@ ghost use Rattle.rlp_trie.specs.BranchChild.{branch_child};
 use crate::Child;
 use crate::child::child_of;
 use crate::empty::is_empty_string;
-use rlp::{Decodable, DecoderError, Encodable, Rlp, RlpStream, RoundTrip, StrictRead};
+use rlp::{DecoderError, Encodable, Rlp, RlpStream};
+use rlp_reading::{Decodable, RoundTrip, StrictRead};
 use std::alloc::{AllocError, Global};
 
 /// The child of a branch for one digit of the path, or `None`, which is written as the empty string.
@@ -31,11 +32,7 @@ impl Encodable for BranchChild {
 /// Reads the first item as a [`Child`] is read, or the empty string as none. Fails as reading a
 /// child does.
 impl Decodable for BranchChild {
-    ghost gives = { branch_child.gives };
-
-    ghost faults = { branch_child.faults };
-
-    ghost may_lack_memory = { branch_child.may_lack };
+    ghost reading = { branch_child.reading };
 
     #[tactic(auto, using(crate::specs::BranchChild::place_reading))]
     fn decode(alloc: Global, rlp: &Rlp<'_>) -> Result<BranchChild, DecoderError> {

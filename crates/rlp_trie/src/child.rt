@@ -8,7 +8,8 @@ ghost use Rattle.rlp_trie.specs.ChildLaws.{child};
 ghost use Rattle.rlp_trie.specs.Inline.{IsInlineNode};
 
 use crate::InlineNode;
-use rlp::{Decodable, DecoderError, Encodable, RawItem, Rlp, RlpStream, RoundTrip, StrictRead};
+use rlp::{DecoderError, Encodable, RawItem, Rlp, RlpStream};
+use rlp_reading::{Decodable, RoundTrip, StrictRead};
 use rlp_records::Hash;
 use std::alloc::{AllocError, Global};
 
@@ -46,11 +47,7 @@ impl Encodable for Child {
 /// with `RlpIsTooBig` for a string of more than 32 bytes or a list of 32 bytes or more, and as
 /// [`RawItem::new`] does.
 impl Decodable for Child {
-    ghost gives = { child.gives };
-
-    ghost faults = { child.faults };
-
-    ghost may_lack_memory = { child.may_lack };
+    ghost reading = { child.reading };
 
     #[tactic(auto, using(crate::specs::ChildLaws::child_reading))]
     fn decode(alloc: Global, rlp: &Rlp<'_>) -> Result<Child, DecoderError> {

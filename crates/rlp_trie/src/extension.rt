@@ -3,7 +3,8 @@
 ghost use Rattle.rlp_trie.specs.Trie.{extension};
 
 use crate::{Child, ExtensionPath};
-use rlp::{Decodable, DecoderError, Encodable, Rlp, RlpStream, RoundTrip, StrictRead};
+use rlp::{DecoderError, Encodable, Rlp, RlpStream};
+use rlp_reading::{Decodable, RoundTrip, StrictRead};
 use std::alloc::{AllocError, Global};
 
 /// A node of the trie with one child: the list of a part of the path and the child.
@@ -28,14 +29,10 @@ impl Encodable for Extension {
 }
 
 impl Decodable for Extension {
-    ghost gives = { extension.gives };
-
-    ghost faults = { extension.faults };
-
-    ghost may_lack_memory = { extension.may_lack };
+    ghost reading = { extension.reading };
 
     fn decode(alloc: Global, rlp: &Rlp<'_>) -> Result<Extension, DecoderError> {
-        rlp::decode_fields!(alloc, rlp, Extension { path, child })
+        rlp_reading::decode_fields!(alloc, rlp, Extension { path, child })
     }
 }
 

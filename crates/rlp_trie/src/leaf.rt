@@ -3,7 +3,8 @@
 ghost use Rattle.rlp_trie.specs.Trie.{leaf};
 
 use crate::LeafPath;
-use rlp::{Decodable, DecoderError, Encodable, Rlp, RlpStream, RoundTrip, StrictRead};
+use rlp::{DecoderError, Encodable, Rlp, RlpStream};
+use rlp_reading::{Decodable, RoundTrip, StrictRead};
 use std::alloc::{AllocError, Global};
 
 /// A node of the trie that ends a path: the list of the rest of the path and the value.
@@ -28,14 +29,10 @@ impl Encodable for Leaf {
 }
 
 impl Decodable for Leaf {
-    ghost gives = { leaf.gives };
-
-    ghost faults = { leaf.faults };
-
-    ghost may_lack_memory = { leaf.may_lack };
+    ghost reading = { leaf.reading };
 
     fn decode(alloc: Global, rlp: &Rlp<'_>) -> Result<Leaf, DecoderError> {
-        rlp::decode_fields!(alloc, rlp, Leaf { path, value })
+        rlp_reading::decode_fields!(alloc, rlp, Leaf { path, value })
     }
 }
 

@@ -5,7 +5,8 @@ ghost use Rattle.rlp.specs.DecoderError.TheVariants.{OutOfMemory};
 ghost use Rattle.rlp_trie.specs.HexPrefix.{AreNibbles, IsNibbleFault, IsPath, IsPathFault, ends_in_leaf, hex_prefix, is_empty_extension, is_leaf_flag, path_nibbles};
 
 use crate::hex_prefix::{are_nibbles, ends_in_leaf, hex_prefix, is_empty_extension, path_nibbles};
-use rlp::{Decodable, DecoderError, Encodable, Rlp, RlpStream, RoundTrip, StrictRead};
+use rlp::{DecoderError, Encodable, Rlp, RlpStream};
+use rlp_reading::{Decodable, RoundTrip, StrictRead};
 use std::alloc::{AllocError, Global};
 
 /// The path of a leaf.
@@ -107,11 +108,7 @@ impl<const FLAG: u8> Encodable for Path<FLAG> {
 impl<const FLAG: u8> Decodable for Path<FLAG> {
     ghost use Rattle.rlp_trie.specs.Path.{path};
 
-    ghost gives = { (path FLAG).gives };
-
-    ghost faults = { (path FLAG).faults };
-
-    ghost may_lack_memory = { (path FLAG).may_lack };
+    ghost reading = { (path FLAG).reading };
 
     #[tactic(auto, using(crate::specs::Path::path_reading))]
     fn decode(alloc: Global, rlp: &Rlp<'_>) -> Result<Path<FLAG>, DecoderError> {

@@ -11,7 +11,8 @@ ghost use Rattle.rlp_trie.specs.TrieNodeLaws.{trie_node};
 use crate::empty::is_empty_string;
 use crate::hex_prefix::ends_in_leaf;
 use crate::{Branch, Extension, Leaf};
-use rlp::{Decodable, DecoderError, Encodable, Rlp, RlpStream, RoundTrip, StrictRead};
+use rlp::{DecoderError, Encodable, Rlp, RlpStream};
+use rlp_reading::{Decodable, RoundTrip, StrictRead};
 use rlp_records::{Hash, encoding_hash};
 use std::alloc::{AllocError, Global};
 
@@ -55,11 +56,7 @@ impl Encodable for TrieNode {
 /// else with the strict fault of the branch, the leaf or the extension. A list of two items is a leaf
 /// if it begins with the path of a leaf.
 impl Decodable for TrieNode {
-    ghost gives = { trie_node.gives };
-
-    ghost faults = { trie_node.faults };
-
-    ghost may_lack_memory = { trie_node.may_lack };
+    ghost reading = { trie_node.reading };
 
     #[tactic(auto, using(crate::specs::TrieNodeLaws::node_reading))]
     fn decode(alloc: Global, rlp: &Rlp<'_>) -> Result<TrieNode, DecoderError> {
@@ -91,9 +88,9 @@ fn node_of(alloc: Global, bytes: &[u8]) -> Result<TrieNode, DecoderError>
         return Ok(TrieNode::Empty);
     }
     match Rlp::new_strict(bytes).item_count()? {
-        2 if is_leaf(bytes) => Ok(TrieNode::Leaf(rlp::decode_whole(alloc, bytes)?)),
-        2 => Ok(TrieNode::Extension(rlp::decode_whole(alloc, bytes)?)),
-        17 => Ok(TrieNode::Branch(rlp::decode_whole(alloc, bytes)?)),
+        2 if is_leaf(bytes) => Ok(TrieNode::Leaf(rlp_reading::decode_whole(alloc, bytes)?)),
+        2 => Ok(TrieNode::Extension(rlp_reading::decode_whole(alloc, bytes)?)),
+        17 => Ok(TrieNode::Branch(rlp_reading::decode_whole(alloc, bytes)?)),
         _ => Err(DecoderError::RlpIncorrectListLen),
     }
 }

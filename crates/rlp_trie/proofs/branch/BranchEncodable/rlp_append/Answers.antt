@@ -1,12 +1,12 @@
 use Rattle.std.proofs.Common.{◌≡◌, None, List, ◌++◌, length, map, ap, sym, ◌∙◌, rules}
 use Rattle.std.specs.Vec.{vec_items}
-use Rattle.rlp.specs.Codec.{byte_string, end, field}
+use Rattle.rlp_reading.specs.Codec.{byte_string, end, field}
 use Rattle.rlp.specs.Format.Item.{Item, list_of}
 use Rattle.rlp.specs.Streams.Stream.{put_item}
 use Rattle.rlp_trie.specs.declared.branch.Branch.{Branch}
 use Rattle.rlp_trie.specs.declared.branch_child.BranchChild.{BranchChild}
 use Rattle.rlp_trie.specs.BranchChild.{branch_child}
-use Rattle.rlp.specs.Codecs.EachField.{each_items}
+use Rattle.rlp_codec.proofs.EachField.{each_items}
 use Rattle.rlp_trie.proofs.branch.BranchEncodable.rlp_append.Goals as goal
 
 pub returns-in-Ok-append_fields-clause-ok : goal.returns-in-Ok-append_fields-clause-ok
