@@ -80,10 +80,6 @@ text bytes = lawful (form.text bytes) (text_lawful bytes)
 abbrev pub byte_array : ℕ → Codec (List ℕ)
 byte_array n = lawful (form.byte_array n) (array_lawful n)
 
--- a type of exactly n bytes
-abbrev pub fixed_bytes : {B : Type 0} → ℕ → (B → List ℕ) → Codec B
-fixed_bytes n bytes = newtype bytes (byte_array n)
-
 -- items of any kind, as bytes
 abbrev pub raw_item : Codec (List ℕ)
 raw_item = lawful form.raw_item raw_lawful
@@ -95,6 +91,10 @@ option c = lawful (form.option (plain c)) (option_lawful (plain c) c.reads_stric
 -- a type that holds a value of another type, and takes no memory for that
 abbrev pub newtype : {A B : Type 0} → (B → A) → Codec A → Codec B
 newtype value c = lawful (form.newtype value (plain c)) (newtype_lawful (plain c) value c.reads_strictly)
+
+-- a type of exactly n bytes
+abbrev pub fixed_bytes : {B : Type 0} → ℕ → (B → List ℕ) → Codec B
+fixed_bytes n bytes = newtype bytes (byte_array n)
 
 -- a type that holds a value of another type in memory of its own, such as a box
 abbrev pub holding : {A B : Type 0} → (B → A) → Codec A → Codec B
