@@ -38,6 +38,9 @@ place_back None is sized = cond-true (is_empty_string (encoding (string []))) _ 
 place_back (Some c) is sized =
     cond-false (is_empty_string (encoding (child_item c))) _ _ (other_item (child_item c) sized (child_some c is)) ∙ ap (map_value Some) (child_back c is sized)
 
+some_same : {A : Type 0} (x y : A) → Some x ≡ Some y → x ≡ y
+some_same x y same = cc
+
 none_some : {A : Type 0} (x : A) → (let o : Option A = None in o) ≡ Some x → ⊥
 none_some x same = cc
 
@@ -50,8 +53,7 @@ place_by b None false bytes fits found is =
     let m = is_mapped (child_of b) Some _ (sym (cond-false (is_empty_string b) _ _ found) ∙ is) in absurd (none_some _ (sym m.then))
 place_by b (Some c) false bytes fits found is =
     let m = is_mapped (child_of b) Some _ (sym (cond-false (is_empty_string b) _ _ found) ∙ is) in
-    let then = m.then in
-    child_only b c bytes fits (m.is ∙ ap Ok (let same : m.value ≡ seen_child c = cc in same))
+    child_only b c bytes fits (m.is ∙ ap Ok (some_same m.value (seen_child c) m.then))
 
 place_told : (o p : Option Child) → seen_place o ≡ seen_place p → IsPlace o → IsPlace p × (place_item p ≡ place_item o)
 place_told None None same is = (tt, refl)
@@ -59,7 +61,7 @@ place_told None (Some d) same is = absurd (let no : ⊥ = cc in no)
 place_told (Some c) None same is = absurd (let no : ⊥ = cc in no)
 place_told (Some c) (Some d) same is = child_told c d (let one : seen_child c ≡ seen_child d = cc in one) is
 
-place_items : ReadsItems IsPlace place_item seen_place (λ b. here (place_of b))
+pub place_items : ReadsItems IsPlace place_item seen_place (λ b. here (place_of b))
 place_items = record { back = place_back; only = λ b o bytes fits is. place_by b o (is_empty_string b) bytes fits refl is; told = place_told }
 
 -- the first item

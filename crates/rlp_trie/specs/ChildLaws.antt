@@ -46,13 +46,18 @@ inline_only b x false long is = sym (cond-false (nat_le 32 (length b)) _ _ long)
 left_right : {A B : Type 0} (x : A) (y : B) → (let s : A ⊎ B = inl x in s) ≡ inr y → ⊥
 left_right x y same = cc
 
+same_left : (x y : List ℕ) → (let s : List ℕ ⊎ List ℕ = inl x in s) ≡ inl y → x ≡ y
+same_left x y is = cc
+
+same_right : (x y : List ℕ) → (let s : List ℕ ⊎ List ℕ = inr x in s) ≡ inr y → x ≡ y
+same_right x y is = cc
+
 list_only : (b : List ℕ) (c : Child) → map_value {B = List ℕ ⊎ List ℕ} inr (inline_of b) ≡ Ok (seen_child c) → IsChild c × (b ≡ encoding (child_item c))
 list_only b (Node hash) is = let m = is_mapped (inline_of b) (λ (x : List ℕ). (let s : List ℕ ⊎ List ℕ = inr x in s)) _ is in absurd (left_right _ _ (sym m.then))
 list_only b (Inline node) is =
     let m = is_mapped (inline_of b) (λ (x : List ℕ). (let s : List ℕ ⊎ List ℕ = inr x in s)) _ is in
     let h = raw_of-only b m.value (inline_only b m.value (nat_le 32 (length b)) refl m.is) in
-    let then = m.then in
-    let same : m.value ≡ node.item = cc in
+    let same : m.value ≡ node.item = same_right m.value node.item m.then in
     (subst (λ d. d ≡ encoding (raw_item_of d)) same h.0, h.1 ∙ h.0 ∙ ap (λ d. encoding (raw_item_of d)) same)
 
 string_only : (b : List ℕ) (c : Child) → AreBytes b → length b < 2 ^ 64 → map_value {B = List ℕ ⊎ List ℕ} inl (hash_of b) ≡ Ok (seen_child c)
@@ -60,8 +65,7 @@ string_only : (b : List ℕ) (c : Child) → AreBytes b → length b < 2 ^ 64 �
 string_only b (Node hash) bytes fits is =
     let m = is_mapped (hash_of b) (λ (x : List ℕ). (let s : List ℕ ⊎ List ℕ = inl x in s)) _ is in
     let h = (array_lawful 32).exact.only b m.value bytes fits m.is in
-    let then = m.then in
-    let same : m.value ≡ hash.0 = cc in
+    let same : m.value ≡ hash.0 = same_left m.value hash.0 m.then in
     (subst (λ d. length d ≡ 32) same h.0, h.1 ∙ ap (λ d. encoding (string d)) same)
 string_only b (Inline node) bytes fits is = let m = is_mapped (hash_of b) (λ (x : List ℕ). (let s : List ℕ ⊎ List ℕ = inl x in s)) _ is in absurd (left_right _ _ m.then)
 
@@ -81,7 +85,7 @@ child_told (Inline node) (Node hash) same is = absurd (let no : ⊥ = cc in no)
 child_told (Inline node) (Inline other) same is =
     let bytes : node.item ≡ other.item = cc in (subst (λ d. d ≡ encoding (raw_item_of d)) bytes is, ap raw_item_of (sym bytes))
 
-child_items : ReadsItems IsChild child_item seen_child (λ b. here (child_of b))
+pub child_items : ReadsItems IsChild child_item seen_child (λ b. here (child_of b))
 child_items = record { back = child_back; only = child_only; told = child_told }
 
 -- the first item

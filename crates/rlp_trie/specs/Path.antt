@@ -31,7 +31,7 @@ kind_only false d x (Some false) same true none is = absurd (let no : ⊥ = cc i
 kind_only false d x (Some false) same false none is = cc
 
 -- the bytes of a path are read back, and no others
-path_strings : (flag : ℕ) → ReadsStrings (λ (p : Path flag). ⊤) (λ p. vec_items p.bytes) (λ p. vec_items p.bytes) (path_of (is_leaf_flag flag))
+pub path_strings : (flag : ℕ) → ReadsStrings (λ (p : Path flag). ⊤) (λ p. vec_items p.bytes) (λ p. vec_items p.bytes) (path_of (is_leaf_flag flag))
 path_strings flag = record {
   back = λ p fit short. path_again (is_leaf_flag flag) (vec_items p.bytes) p.encoded p.some_nibble;
   only = λ d p bytes short is.

@@ -14,6 +14,7 @@ use Rattle.rlp_codec.specs.Form.{Answer, Fault, and_then, incorrect_list_len, ma
 use Rattle.rlp_codec.proofs.FirstItemLaws.{ReadsItems, items_lawful}
 use Rattle.rlp_codec.proofs.ListLaws.{goes_on, is_mapped, items_sized}
 use Rattle.rlp_reading.specs.Codec.{Codec, lawful}
+use Rattle.rlp_trie.specs.Child.{child_item}
 use Rattle.rlp_trie.specs.EmptyString.{empty_found, empty_only, is_empty_string, other_item}
 use Rattle.rlp_trie.specs.HexPrefix.{is_leaf_flag}
 use Rattle.rlp_trie.specs.Path.{path}
@@ -59,3 +60,125 @@ leaf_back l fit sized =
     by_len (leaf_fields.items l) sized (λ same. let no : ⊥ = cc in no)
     ∙ whole (cond-true (begins_as_leaf (encoding (leaf.item l))) _ _ (begins_by 2 l.path (string (vec_items l.value)) sized))
     ∙ ap (map_value (λ m. inr (inl m))) ((leaf.reads_strictly.back true).back (encoding (leaf.item l)) l sized fit refl)
+
+extension_back : (e : Extension) → extension.Fits e → IsSized (extension.item e) → (node_of (encoding (extension.item e))).result ≡ Ok (seen_node (node.Extension e))
+extension_back e fit sized =
+    by_len (extension_fields.items e) sized (λ same. let no : ⊥ = cc in no)
+    ∙ whole (cond-false (begins_as_leaf (encoding (extension.item e))) _ _ (begins_by 0 e.path (child_item e.child) sized))
+    ∙ ap (map_value (λ m. inr (inr (inl m)))) ((extension.reads_strictly.back true).back (encoding (extension.item e)) e sized fit refl)
+
+branch_back : (x : Branch) → branch.Fits x → IsSized (branch.item x) → (node_of (encoding (branch.item x))).result ≡ Ok (seen_node (node.Branch x))
+branch_back x fit sized =
+    by_len (branch_fields.items x) sized (λ same. let no : ⊥ = cc in no)
+    ∙ ap (map_value (λ m. inr (inr (inr m)))) ((branch.reads_strictly.back true).back (encoding (branch.item x)) x sized fit refl)
+
+node_back : (n : TrieNode) → IsTrieNode n → IsSized (node_item n) → (node_of (encoding (node_item n))).result ≡ Ok (seen_node n)
+node_back node.Empty fit sized = whole (cond-true (is_empty_string (encoding (string []))) _ _ empty_found)
+node_back (node.Leaf l) fit sized = leaf_back l fit sized
+node_back (node.Extension e) fit sized = extension_back e fit sized
+node_back (node.Branch x) fit sized = branch_back x fit sized
+
+-- ---- and nothing else
+
+abbrev as_leaf : leaf.reading.M → SeenNode
+as_leaf m = inr (inl m)
+
+abbrev as_extension : extension.reading.M → SeenNode
+as_extension m = inr (inr (inl m))
+
+abbrev as_branch : branch.reading.M → SeenNode
+as_branch m = inr (inr (inr m))
+
+module _ (b : List ℕ) (bytes : AreBytes b) (fits : length b < 2 ^ 64) where
+  abbrev IsNode : TrieNode → Type 0
+  IsNode n = IsTrieNode n × (b ≡ encoding (node_item n))
+
+  leaf_only : (n : TrieNode) (m : leaf.reading.M) → (leaf.reading.read (strict_view_of b)).result ≡ Ok m → as_leaf m ≡ seen_node n → IsNode n
+  leaf_only node.Empty m is same = absurd (let no : ⊥ = cc in no)
+  leaf_only (node.Leaf l) m is same = leaf.reads_strictly.exact.only b l bytes fits (is ∙ ap Ok (let one : m ≡ leaf.reading.seen l = cc in one))
+  leaf_only (node.Extension e) m is same = absurd (let no : ⊥ = cc in no)
+  leaf_only (node.Branch x) m is same = absurd (let no : ⊥ = cc in no)
+
+  extension_only : (n : TrieNode) (m : extension.reading.M) → (extension.reading.read (strict_view_of b)).result ≡ Ok m → as_extension m ≡ seen_node n → IsNode n
+  extension_only node.Empty m is same = absurd (let no : ⊥ = cc in no)
+  extension_only (node.Leaf l) m is same = absurd (let no : ⊥ = cc in no)
+  extension_only (node.Extension e) m is same =
+      extension.reads_strictly.exact.only b e bytes fits (is ∙ ap Ok (let one : m ≡ extension.reading.seen e = cc in one))
+  extension_only (node.Branch x) m is same = absurd (let no : ⊥ = cc in no)
+
+  branch_only : (n : TrieNode) (m : branch.reading.M) → (branch.reading.read (strict_view_of b)).result ≡ Ok m → as_branch m ≡ seen_node n → IsNode n
+  branch_only node.Empty m is same = absurd (let no : ⊥ = cc in no)
+  branch_only (node.Leaf l) m is same = absurd (let no : ⊥ = cc in no)
+  branch_only (node.Extension e) m is same = absurd (let no : ⊥ = cc in no)
+  branch_only (node.Branch x) m is same = branch.reads_strictly.exact.only b x bytes fits (is ∙ ap Ok (let one : m ≡ branch.reading.seen x = cc in one))
+
+  pair_only : (n : TrieNode) (kind : Bool) → begins_as_leaf b ≡ kind → (pair_of b).result ≡ Ok (seen_node n) → IsNode n
+  pair_only n true kind is =
+      let m = is_mapped (leaf.reading.read (strict_view_of b)).result as_leaf (seen_node n) (sym (whole (cond-true (begins_as_leaf b) _ _ kind)) ∙ is) in
+      leaf_only n m.value m.is m.then
+  pair_only n false kind is =
+      let m = is_mapped (extension.reading.read (strict_view_of b)).result as_extension (seen_node n) (sym (whole (cond-false (begins_as_leaf b) _ _ kind)) ∙ is) in
+      extension_only n m.value m.is m.then
+
+  many_only : (n : TrieNode) (k : ℕ) (two many : Bool) → (k == 2) ≡ two → (k == 17) ≡ many → (list_of_len b k).result ≡ Ok (seen_node n) → IsNode n
+  many_only n k true many two all is = pair_only n (begins_as_leaf b) refl (sym (whole (cond-true (k == 2) _ _ two)) ∙ is)
+  many_only n k false true two all is =
+      let m = is_mapped (branch.reading.read (strict_view_of b)).result as_branch (seen_node n)
+          (sym (whole (cond-false (k == 2) _ _ two) ∙ whole (cond-true (k == 17) _ _ all)) ∙ is) in
+      branch_only n m.value m.is m.then
+  many_only n k false false two all is =
+      let r : (list_of_len b k).result ≡ Err incorrect_list_len = whole (cond-false (k == 2) _ _ two) ∙ whole (cond-false (k == 17) _ _ all) in
+      absurd (let no : ⊥ = cc in no)
+
+  empty_by : (n : TrieNode) → (let s : Result SeenNode Fault = Ok (inl tt) in s) ≡ Ok (seen_node n) → b ≡ encoding (string []) → IsNode n
+  empty_by node.Empty same is = (tt, is)
+  empty_by (node.Leaf l) same is = absurd (let no : ⊥ = cc in no)
+  empty_by (node.Extension e) same is = absurd (let no : ⊥ = cc in no)
+  empty_by (node.Branch x) same is = absurd (let no : ⊥ = cc in no)
+
+  node_by : (n : TrieNode) (empty : Bool) → is_empty_string b ≡ empty → (node_of b).result ≡ Ok (seen_node n) → IsNode n
+  node_by n true empty is = empty_by n (sym (whole (cond-true (is_empty_string b) _ _ empty)) ∙ is) (empty_only b empty)
+  node_by n false empty is =
+      let g = goes_on (seen_fault (item_count (strict_view_of b))) (λ k. (list_of_len b k).result) (seen_node n)
+          (sym (whole (cond-false (is_empty_string b) _ _ empty)) ∙ is) in
+      many_only n g.value (g.value == 2) (g.value == 17) refl refl g.then
+
+pub node_only : (b : List ℕ) (n : TrieNode) → AreBytes b → length b < 2 ^ 64 → (node_of b).result ≡ Ok (seen_node n) → IsTrieNode n × (b ≡ encoding (node_item n))
+node_only b n bytes fits is = node_by b bytes fits n (is_empty_string b) refl is
+
+-- nodes that are seen alike are written as one item
+node_told : (n m : TrieNode) → seen_node n ≡ seen_node m → IsTrieNode n → IsTrieNode m × (node_item m ≡ node_item n)
+node_told node.Empty node.Empty same fit = (tt, refl)
+node_told node.Empty (node.Leaf m) same fit = absurd (let no : ⊥ = cc in no)
+node_told node.Empty (node.Extension f) same fit = absurd (let no : ⊥ = cc in no)
+node_told node.Empty (node.Branch c) same fit = absurd (let no : ⊥ = cc in no)
+node_told (node.Leaf l) node.Empty same fit = absurd (let no : ⊥ = cc in no)
+node_told (node.Leaf l) (node.Leaf m) same fit = leaf.reads_strictly.told.told l m (let one : leaf.reading.seen l ≡ leaf.reading.seen m = cc in one) fit
+node_told (node.Leaf l) (node.Extension f) same fit = absurd (let no : ⊥ = cc in no)
+node_told (node.Leaf l) (node.Branch c) same fit = absurd (let no : ⊥ = cc in no)
+node_told (node.Extension e) node.Empty same fit = absurd (let no : ⊥ = cc in no)
+node_told (node.Extension e) (node.Leaf m) same fit = absurd (let no : ⊥ = cc in no)
+node_told (node.Extension e) (node.Extension f) same fit =
+    extension.reads_strictly.told.told e f (let one : extension.reading.seen e ≡ extension.reading.seen f = cc in one) fit
+node_told (node.Extension e) (node.Branch c) same fit = absurd (let no : ⊥ = cc in no)
+node_told (node.Branch b) node.Empty same fit = absurd (let no : ⊥ = cc in no)
+node_told (node.Branch b) (node.Leaf m) same fit = absurd (let no : ⊥ = cc in no)
+node_told (node.Branch b) (node.Extension f) same fit = absurd (let no : ⊥ = cc in no)
+node_told (node.Branch b) (node.Branch c) same fit = branch.reads_strictly.told.told b c (let one : branch.reading.seen b ≡ branch.reading.seen c = cc in one) fit
+
+pub node_items : ReadsItems IsTrieNode node_item seen_node node_of
+node_items = record { back = node_back; only = node_only; told = node_told }
+
+-- the first item
+abbrev pub trie_node : Codec TrieNode
+trie_node = lawful (item_type IsTrieNode node_item seen_node node_of true) (items_lawful IsTrieNode node_item seen_node node_of true node_items)
+
+-- ---- what nodes are written as
+
+-- no leaf is written as an extension is
+pub leaf_apart : (l : Leaf) (e : Extension) → leaf.item l ≡ extension.item e → ⊥
+leaf_apart l e same =
+    let is_leaf = l.path.encoded in
+    let is_extension = e.path.encoded in
+    let paths : vec_items l.path.bytes ≡ vec_items e.path.bytes = cc in
+    cc

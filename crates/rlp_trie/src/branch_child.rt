@@ -34,7 +34,6 @@ impl Encodable for BranchChild {
 impl Decodable for BranchChild {
     ghost reading = { branch_child.reading };
 
-    #[tactic(auto, using(crate::specs::BranchChild::place_reading))]
     fn decode(alloc: Global, rlp: &Rlp<'_>) -> Result<BranchChild, DecoderError> {
         let (item, _) = rlp.split_first()?;
         if is_empty_string(item.as_raw()) {
